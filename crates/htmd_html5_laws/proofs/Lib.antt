@@ -90,4 +90,26 @@ pub mod KeptTokens
 pub mod CountedOrder
 pub mod LetterOrderLemmas
 pub mod TextKeptLemmas
+pub mod StrictReferencesLemmas
+pub mod StrictCuts
+pub mod StrictBytes
+pub mod StrictTagsLemmas
+pub mod StrictPieces
+pub mod StrictRawTexts
+pub mod StrictLineFeeds
+pub mod StrictSteps
+pub mod StrictRuns
+pub mod StrictNodes
+pub mod StrictOpen
+pub mod StrictLaid
+pub mod StrictNames
+pub mod StrictSets
+pub mod StrictRules
+pub mod StrictEnds
+pub mod StrictThrough
+pub mod StrictPlainTexts
+pub mod StrictBuilt
+pub mod StrictPages
+pub mod StrictImplied
 mod Examples
+mod StrictExamples

@@ -6,3 +6,6 @@ pub mod HarmlessTags
 pub mod LetterOrder
 pub mod TextKept
 pub mod EndedElements
+pub mod StrictReferences
+pub mod StrictTokens
+pub mod StrictTrees

@@ -4,3 +4,4 @@
 
 pub mod ends;
 pub mod letters;
+pub mod strict;

@@ -1,0 +1,397 @@
+-- The tokens of plain trees build the nodes of these trees below the current node.
+use Rattle.std.proofs.Common.{◌≡◌, ℕ, ◌<◌, Bool, true, false, not, List, [], ◌∷◌, ◌++◌}
+use Rattle.std.proofs.Common.{length, Option, Some, None, refl, sym, ap, ◌∙◌, arith, inl, inr, subst}
+use Rattle.std.proofs.Common.{length-append, codes}
+use Rattle.std.specs.List.{list_all}
+use Rattle.std.proofs.lemmas.Bool.{and_parts}
+use Rattle.std.proofs.lemmas.List.{append-nil}
+use Rattle.htmd_text.specs.WhiteSpace.{is_ascii_white_space}
+use Rattle.htmd_text.proofs.Cases.{test}
+use Rattle.htmd_grammar.specs.ValueTrees.{AttributePair, ValueTree, ValueForest, none, more, document, doctype, text}
+use Rattle.htmd_grammar.specs.ValueTrees.{comment, element}
+use Rattle.htmd_grammar.specs.CharacterClasses.{is_among}
+use Rattle.htmd_grammar.specs.Grammar.{Apart}
+use Rattle.htmd_grammar.specs.Serialisation.{is_void}
+use Rattle.htmd_html5_tokens.specs.Tokens.{TokenValue, start_tag, end_tag}
+use Rattle.htmd_html5_tokens.specs.declared.tokens.Content.TheVariants.{Normal}
+use Rattle.htmd_html5_state.specs.Names.{html, name_of_text}
+use Rattle.htmd_html5_state.specs.Documents.{NodeValue, kind_at, append_children, add, add_text, last_in}
+use Rattle.htmd_html5_state.specs.OpenElements.{OpenValue}
+use Rattle.htmd_html5_state.specs.Insertion.{current, place}
+use Rattle.htmd_html5_state.specs.State.{StateValue}
+use Rattle.htmd_html5.specs.AtOnce.{is_plain}
+use Rattle.htmd_html5.specs.Feeding.{feed}
+use Rattle.htmd_html5_laws.specs.StrictTokens.{content_after, tag_named, SpellsTree, SpellsForest}
+use Rattle.htmd_html5_laws.specs.StrictTokens.{after_feed, content_tokens}
+use Rattle.htmd_html5_laws.specs.StrictTrees.{is_plain_name, is_plain_element, is_plain_tree}
+use Rattle.htmd_html5_laws.specs.StrictTrees.{are_plain}
+use Rattle.htmd_html5_laws.proofs.StrictNodes.{node, tree_nodes, append_length, added, last_text}
+use Rattle.htmd_html5_laws.proofs.StrictNodes.{text_added, new_last_text, kind_after, kinds_kept}
+use Rattle.htmd_html5_laws.proofs.StrictNodes.{with_tree, with_forest, forest_joined, filled, tree_last, is_text, begins_text}
+use Rattle.htmd_html5_laws.proofs.StrictNodes.{no_text_next, with_tree_longer, append_none}
+use Rattle.htmd_html5_laws.proofs.StrictOpen.{Fewer, fewer_same, fewer_trans, entries, Stands, stands_longer}
+use Rattle.htmd_html5_laws.proofs.StrictOpen.{stands_below}
+use Rattle.htmd_html5_laws.proofs.StrictNames.{plain_case, is_formatting_case, void_case}
+use Rattle.htmd_html5_laws.proofs.StrictSets.{plain_content}
+use Rattle.htmd_html5_laws.proofs.StrictSets.{void_keeps, keeps_name}
+use Rattle.htmd_html5_laws.proofs.StrictThrough.{Through, nothing, followed, from_state, one_fed, skip_run}
+use Rattle.htmd_grammar.proofs.NestingLemmas.{one_name}
+use Rattle.htmd_html5_laws.proofs.StrictRawTexts.{normal_content, void_content}
+use Rattle.htmd_html5_laws.proofs.StrictRules.{IsInBody, Fits, within, comment_fed, text_fed, plain_start, formatting_start}
+use Rattle.htmd_html5_laws.proofs.StrictRules.{void_fed, opened_with, pre_start}
+use Rattle.htmd_html5_laws.proofs.StrictEnds.{plain_end, formatting_end, pre_end}
+use Rattle.htmd_html5_tokens.specs.Tokens as tokens
+use Rattle.htmd_html5_state.specs.Documents as documents
+
+abbrev at : StateValue → ℕ
+at s = (current s.stack).node
+
+-- ---- trees that fit
+
+abbrev mutual
+  pub FitsTree : List (List ℕ) → ValueTree → Type 0
+  FitsTree c (text u) = is_plain u ≡ true
+  FitsTree c (element n attributes children) = Fits c n × FitsForest (n ∷ c) children
+  FitsTree c _ = Unit {0}
+
+  -- no two texts are neighbours, and each element may stand in its context
+  pub FitsForest : List (List ℕ) → ValueForest → Type 0
+  FitsForest c none = Unit {0}
+  FitsForest c (more t ts) = Apart t ts × FitsTree c t × FitsForest c ts
+
+module _ (z : Bool) where
+  -- what has been built from a state on
+  pub record Built (c : List (List ℕ)) (xs : List TokenValue) (nodes : List NodeValue) (s new : StateValue) : Type 0
+    where
+      pub through : Through z s xs new
+      pub nodes_are : new.nodes ≡ nodes
+      pub in_body : IsInBody c new
+      pub stack : new.stack ≡ s.stack
+      pub fewer : Fewer new.formatting s.formatting
+
+  abbrev TreeBuilt : ValueTree → Type 0
+  TreeBuilt t = (p : List ℕ) (c : List (List ℕ)) (xs : List TokenValue) (s : StateValue) → SpellsTree t xs
+      → is_plain_tree t ≡ true → FitsTree (p ∷ c) t → IsInBody (p ∷ c) s
+      → (is_text t ≡ true → last_text s.nodes (at s) ≡ None)
+      → (new : StateValue) × Built (p ∷ c) xs (with_tree (at s) t s.nodes) s new
+
+  abbrev ForestBuilt : ValueForest → Type 0
+  ForestBuilt ts = (p : List ℕ) (c : List (List ℕ)) (xs : List TokenValue) (s : StateValue) → SpellsForest ts xs
+      → are_plain ts ≡ true → FitsForest (p ∷ c) ts → IsInBody (p ∷ c) s
+      → (begins_text ts ≡ true → last_text s.nodes (at s) ≡ None)
+      → (new : StateValue) × Built (p ∷ c) xs (with_forest (at s) ts s.nodes) s new
+
+  -- ---- a tree that opens nothing
+
+  -- with these nodes in place of those before
+  grown : (p : List ℕ) (c : List (List ℕ)) (t : ValueTree) (s : StateValue) (nodes : List NodeValue) (ok : Bool)
+      → IsInBody (p ∷ c) s → nodes ≡ with_tree (at s) t s.nodes
+      → IsInBody (p ∷ c) (record s { nodes = nodes; frameset_ok = ok })
+  grown p c t s nodes ok h e = record {
+    mode = h.mode;
+    content = h.content;
+    no_skip = h.no_skip;
+    no_foster = h.no_foster;
+    no_template = h.no_template;
+    listed = h.listed;
+    stands = subst (λ ns. Stands ns (p ∷ c) s.stack) (sym e)
+        (stands_longer s.nodes (with_tree (at s) t s.nodes) (p ∷ c) s.stack (with_tree_longer (at s) t s.nodes)
+        (λ n l. kinds_kept (at s) n (length s.nodes ∷ []) s.nodes (tree_nodes (at s) (length s.nodes) t) l)
+        h.stands);
+  }
+
+  leaf_built : (p : List ℕ) (c : List (List ℕ)) (t : ValueTree) (x : TokenValue) (s : StateValue)
+      (nodes : List NodeValue) (ok : Bool) → IsInBody (p ∷ c) s → content_after z Normal x ≡ Normal
+      → feed x s ≡ record s { nodes = nodes; frameset_ok = ok } → nodes ≡ with_tree (at s) t s.nodes
+      → (new : StateValue) × Built (p ∷ c) (x ∷ []) (with_tree (at s) t s.nodes) s new
+  leaf_built p c t x s nodes ok h k f e = (
+    record s { nodes = nodes; frameset_ok = ok },
+    record {
+      through = one_fed z p c x s _ [] _ h k f nothing;
+      nodes_are = e;
+      in_body = grown p c t s nodes ok h e;
+      stack = refl;
+      fewer = fewer_same s.formatting;
+    },
+  )
+
+  at_end : (p : List ℕ) (c : List (List ℕ)) (s : StateValue) → IsInBody (p ∷ c) s → place s ≡ last_in (at s)
+  at_end p c s h = rw h.no_foster refl
+
+  text_built : (u : List ℕ) → TreeBuilt (text u)
+  text_built u p c xs s k e f h st =
+      let nodes : add_text u (place s) s.nodes ≡ with_tree (at s) (text u) s.nodes =
+      ap (λ there. add_text u there s.nodes) (at_end p c s h) ∙ text_added u (at s) s.nodes (within p c s h)
+      (st refl) in
+      let fed = text_fed p c s h u f in
+      rw k (test (list_all is_ascii_white_space u)
+      (λ t. leaf_built p c (text u) (tokens.text u) s (add_text u (place s) s.nodes) s.frameset_ok h refl
+      (fed ∙ rw t refl) nodes)
+      (λ t. leaf_built p c (text u) (tokens.text u) s (add_text u (place s) s.nodes) false h refl (fed ∙ rw t refl)
+      nodes))
+
+  comment_built : (u : List ℕ) → TreeBuilt (comment u)
+  comment_built u p c xs s k e f h st =
+      rw k (leaf_built p c (comment u) (tokens.comment u) s (add (documents.comment u) (last_in (at s)) s.nodes)
+      s.frameset_ok h refl (comment_fed p c s h u) (added (documents.comment u) (at s) s.nodes (within p c s h)))
+
+  -- the nodes of an element without its content
+  element_added : (p : List ℕ) (c : List (List ℕ)) (n : List ℕ) (attributes : List AttributePair) (s : StateValue)
+      → IsInBody (p ∷ c) s
+      → add (documents.element (html (name_of_text n)) attributes) (place s) s.nodes
+      ≡ append_children (at s) (length s.nodes ∷ []) s.nodes
+      ++ node (documents.element (html (name_of_text n)) attributes) (at s) [] ∷ []
+  element_added p c n attributes s h =
+      ap (λ there. add (documents.element (html (name_of_text n)) attributes) there s.nodes) (at_end p c s h)
+      ∙ added (documents.element (html (name_of_text n)) attributes) (at s) s.nodes (within p c s h)
+
+  void_built : (n : List ℕ) (attributes : List AttributePair) (slash : Bool) (p : List ℕ) (c : List (List ℕ))
+      (s : StateValue) → is_void n ≡ true → not (is_among (codes "col" ∷ []) n) ≡ true → Fits (p ∷ c) n
+      → IsInBody (p ∷ c) s
+      → (new : StateValue) × Built (p ∷ c) (start_tag (tag_named n attributes slash) ∷ [])
+      (with_tree (at s) (element n attributes none) s.nodes) s new
+  void_built n attributes slash p c s v e f h =
+      let fed = void_fed p c s h n (void_case n v e f.inside) f attributes slash in
+      leaf_built p c (element n attributes none) (start_tag (tag_named n attributes slash)) s
+      (add (documents.element (html (name_of_text n)) attributes) (place s) s.nodes) fed.0 h
+      (normal_content z n (void_content z n v) f.inside) fed.1 (element_added p c n attributes s h)
+
+  -- ---- an element with content
+
+  -- the state in which the content comes
+  entered : (p n : List ℕ) (c : List (List ℕ)) (attributes : List AttributePair) (s : StateValue)
+      (list : List (Option ℕ)) (ok : Bool) (h : IsInBody (p ∷ c) s) → Fewer list
+      (Some (length s.nodes) ∷ s.formatting)
+      → IsInBody (n ∷ (p ∷ c)) (opened_with p c s h n attributes list ok)
+  entered p n c attributes s list ok h f =
+      let kind = documents.element (html (name_of_text n)) attributes in
+      let front : List NodeValue = append_children (at s) (length s.nodes ∷ []) s.nodes in
+      let new : NodeValue = node kind (at s) [] in
+      let added_ = element_added p c n attributes s h in
+      let long = append_length (at s) (length s.nodes ∷ []) s.nodes in
+      let l : length s.nodes < length (front ++ new ∷ []) = omega (arith, long, length-append front (new ∷ [])) in
+      let g = grown p c (element n attributes none) s (add kind (place s) s.nodes) ok h added_ in
+      record {
+        mode = h.mode;
+        content = h.content;
+        no_skip = h.no_skip;
+        no_foster = h.no_foster;
+        no_template = h.no_template;
+        listed = fewer_trans list (Some (length s.nodes) ∷ s.formatting) (Some (length s.nodes) ∷ entries s.stack) f
+            (inr (s.formatting, refl, h.listed));
+        stands = (
+          refl,
+          (
+            attributes,
+            ap (λ ns. kind_at ns (length s.nodes)) added_ ∙ kind_after front new [] (length s.nodes)
+                long,
+          ),
+          subst (λ ns. length s.nodes < length ns) (sym added_) l,
+          stands_below s.nodes (p ∷ c) s.stack h.stands,
+          g.stands,
+        );
+      }
+
+  -- the element is closed, and what is listed is no more than before it
+  closed : (p n : List ℕ) (c : List (List ℕ)) (attributes : List AttributePair) (children : ValueForest)
+      (slash : Bool) (whole content : List TokenValue) (s held : StateValue) (list left : List (Option ℕ)) (ok : Bool)
+      (h : IsInBody (p ∷ c) s) → content_after z Normal (start_tag (tag_named n attributes slash)) ≡ Normal
+      → Built (n ∷ (p ∷ c)) content
+      (with_forest (length s.nodes) children (opened_with p c s h n attributes list ok).nodes)
+      (opened_with p c s h n attributes list ok) held
+      → Through z (feed (start_tag (tag_named n attributes slash)) s)
+      (whole ++ (end_tag (tag_named n [] false) ∷ [])) (record held { stack = s.stack; formatting = left })
+      → Fewer left s.formatting
+      → (new : StateValue) × Built (p ∷ c)
+      (start_tag (tag_named n attributes slash) ∷ (whole ++ (end_tag (tag_named n [] false) ∷ [])))
+      (with_tree (at s) (element n attributes children) s.nodes) s new
+  closed p n c attributes children slash whole content s held list left ok h k b run fewer =
+      let new : StateValue = record held { stack = s.stack; formatting = left } in
+      let st = subst (λ stack. Stands held.nodes (n ∷ (p ∷ c)) stack) b.stack b.in_body.stands in (
+        new,
+        record {
+          through = one_fed z p c (start_tag (tag_named n attributes slash)) s _ _ new h k refl run;
+          nodes_are = b.nodes_are
+              ∙ ap (with_forest (length s.nodes) children) (element_added p c n attributes s h)
+              ∙ filled (at s) n attributes children s.nodes;
+          in_body = record {
+            mode = b.in_body.mode;
+            content = b.in_body.content;
+            no_skip = b.in_body.no_skip;
+            no_foster = b.in_body.no_foster;
+            no_template = b.in_body.no_template;
+            listed = fewer_trans left s.formatting (entries s.stack) fewer h.listed;
+            stands = st.4;
+          };
+          stack = refl;
+          fewer = fewer;
+        },
+      )
+
+  -- the content and the end tag
+  to_end : (p n : List ℕ) (c : List (List ℕ)) (content : List TokenValue) (nodes : List NodeValue)
+      (first held new : StateValue) → Built (n ∷ (p ∷ c)) content nodes first held
+      → feed (end_tag (tag_named n [] false)) held ≡ new
+      → Through z first (content ++ (end_tag (tag_named n [] false) ∷ [])) new
+  to_end p n c content nodes first held new b ends =
+      followed z b.through
+      (one_fed z n (p ∷ c) (end_tag (tag_named n [] false)) held new [] new b.in_body refl ends nothing)
+
+  -- an element starts with nothing in it
+  starts_empty : (p n : List ℕ) (c : List (List ℕ)) (attributes : List AttributePair) (s : StateValue)
+      → IsInBody (p ∷ c) s
+      → last_text (add (documents.element (html (name_of_text n)) attributes) (place s) s.nodes)
+      (length s.nodes) ≡ None
+  starts_empty p n c attributes s h =
+      ap (λ ns. last_text ns (length s.nodes)) (element_added p c n attributes s h)
+      ∙ new_last_text (append_children (at s) (length s.nodes ∷ []) s.nodes)
+      (documents.element (html (name_of_text n)) attributes) (at s) (length s.nodes)
+      (append_length (at s) (length s.nodes ∷ []) s.nodes)
+
+  full_built : (n : List ℕ) (attributes : List AttributePair) (children : ValueForest) → ForestBuilt children
+      → (slash : Bool) (content : List TokenValue) (p : List ℕ) (c : List (List ℕ)) (s : StateValue)
+      → is_plain_name n ≡ true → are_plain children ≡ true → SpellsForest children content
+      → Fits (p ∷ c) n → FitsForest (n ∷ (p ∷ c)) children → IsInBody (p ∷ c) s
+      → (new : StateValue) × Built (p ∷ c)
+      (start_tag (tag_named n attributes slash) ∷ (content ++ (end_tag (tag_named n [] false) ∷ [])))
+      (with_tree (at s) (element n attributes children) s.nodes) s new
+  full_built n attributes children ih slash content p c s e g k f ff h =
+      test (is_formatting_case (plain_case n e)) formatted unformatted
+    where
+      formatted : is_formatting_case (plain_case n e) ≡ true
+          → (new : StateValue) × Built (p ∷ c)
+          (start_tag (tag_named n attributes slash) ∷ (content ++ (end_tag (tag_named n [] false) ∷ [])))
+          (with_tree (at s) (element n attributes children) s.nodes) s new
+      formatted t =
+          let started = formatting_start p c s h n (plain_case n e) f t attributes slash in
+          let list : List (Option ℕ) = Some (length s.nodes) ∷ started.0 in
+          let io = entered p n c attributes s list s.frameset_ok h (inr (started.0, refl, started.1)) in
+          let r = ih n (p ∷ c) content (opened_with p c s h n attributes list s.frameset_ok) k g ff io
+          (λ _. starts_empty p n c attributes s h) in
+          let st = subst (λ stack. Stands (r.0).nodes (n ∷ (p ∷ c)) stack) r.1.stack r.1.in_body.stands in
+          let ends = formatting_end n (p ∷ c) r.0 r.1.in_body n (plain_case n e) t (length s.nodes) s.stack (st.1).0
+          started.0 r.1.stack (st.1).1 st.3 r.1.fewer
+          (fewer_trans started.0 s.formatting (entries s.stack) started.1 h.listed) in
+          let run = to_end p n c content _ _ r.0 _ r.1 ends.2 in
+          closed p n c attributes children slash content content s r.0 list ends.0 s.frameset_ok h (plain_content z n e)
+          r.1 (from_state z started.2 run)
+          (fewer_trans ends.0 started.0 s.formatting ends.1 started.1)
+
+      unformatted : is_formatting_case (plain_case n e) ≡ false
+          → (new : StateValue) × Built (p ∷ c)
+          (start_tag (tag_named n attributes slash) ∷ (content ++ (end_tag (tag_named n [] false) ∷ [])))
+          (with_tree (at s) (element n attributes children) s.nodes) s new
+      unformatted t =
+          let started = plain_start p c s h n (plain_case n e) f t attributes slash in
+          let io = entered p n c attributes s s.formatting started.0 h (inl (fewer_same s.formatting)) in
+          let r = ih n (p ∷ c) content (opened_with p c s h n attributes s.formatting started.0) k g ff io
+          (λ _. starts_empty p n c attributes s h) in
+          let ends = plain_end n (p ∷ c) r.0 r.1.in_body n (plain_case n e) t (length s.nodes) s.stack r.1.stack in
+          let run = to_end p n c content _ _ r.0 _ r.1 ends in
+          closed p n c attributes children slash content content s r.0 s.formatting (r.0).formatting started.0 h
+          (plain_content z n e) r.1 (from_state z started.1 run) r.1.fewer
+
+  pre_built : (attributes : List AttributePair) (children : ValueForest) → ForestBuilt children
+      → (slash : Bool) (content : List TokenValue) (p : List ℕ) (c : List (List ℕ)) (s : StateValue)
+      → are_plain children ≡ true → SpellsForest children (after_feed content)
+      → Fits (p ∷ c) (codes "pre") → FitsForest (codes "pre" ∷ (p ∷ c)) children → IsInBody (p ∷ c) s
+      → (new : StateValue) × Built (p ∷ c)
+      (start_tag (tag_named (codes "pre") attributes slash)
+      ∷ (content ++ (end_tag (tag_named (codes "pre") [] false) ∷ [])))
+      (with_tree (at s) (element (codes "pre") attributes children) s.nodes) s new
+  pre_built attributes children ih slash content p c s g k f ff h =
+      let n : List ℕ = codes "pre" in
+      let first : StateValue = opened_with p c s h n attributes s.formatting false in
+      let io = entered p n c attributes s s.formatting false h (inl (fewer_same s.formatting)) in
+      let r = ih n (p ∷ c) (after_feed content) first k g ff io (λ _. starts_empty p n c attributes s h) in
+      let ends = pre_end n (p ∷ c) r.0 r.1.in_body (length s.nodes) s.stack r.1.stack in
+      let new : StateValue = record (r.0) { stack = s.stack } in
+      let run : Through z first (after_feed content ++ (end_tag (tag_named n [] false) ∷ [])) new =
+      to_end p n c (after_feed content) _ first r.0 new r.1 ends in
+      let skipped = skip_run z n (p ∷ c) first io content (tag_named n [] false) new run in
+      closed p n c attributes children slash content (after_feed content) s r.0 s.formatting (r.0).formatting false h
+      refl
+      r.1 (from_state z (pre_start p c s h f attributes slash) skipped) r.1.fewer
+
+  element_built : (n : List ℕ) (attributes : List AttributePair) (children : ValueForest) → ForestBuilt children
+      → TreeBuilt (element n attributes children)
+  element_built n attributes children ih p c xs s k e f h st =
+      let g = and_parts (is_plain_element n) (are_plain children) e in
+      test (is_void n)
+      (λ v. let m = rw v at k.5 in
+      let w = rw v at g.0 in
+      let held : SpellsForest children k.1 = rw (void_keeps n v) at k.4 in
+      let none_held : k.1 ≡ [] = subst (λ ts. SpellsForest ts k.1) m.0 held in
+      let q : xs ≡ start_tag (tag_named n attributes k.0) ∷ [] =
+      k.3 ∙ ap (λ (ys : List TokenValue). start_tag (tag_named n attributes k.0) ∷ (ys ++ k.2)) none_held
+      ∙ ap (λ (ys : List TokenValue). start_tag (tag_named n attributes k.0) ∷ ys) m.1 in
+      rw (q, m.0) (void_built n attributes k.0 p c s v w f.0 h))
+      (λ v. let m = rw v at k.5 in
+      let w = rw v at g.0 in
+      let q : xs ≡ start_tag (tag_named n attributes k.0) ∷ (k.1 ++ (end_tag (tag_named n [] false) ∷ [])) =
+      k.3 ∙ ap (λ (ys : List TokenValue). start_tag (tag_named n attributes k.0) ∷ (k.1 ++ ys)) m.1 in
+      rw q (test (is_plain_name n)
+      (λ t. full_built n attributes children ih k.0 k.1 p c s t g.1 (rw (keeps_name n t) at k.4) f.0 f.1 h)
+      (λ t. let pre : n ≡ codes "pre" = one_name (codes "pre") n (rw t at w) in
+      pre_there n pre attributes children ih k.0 k.1 p c s g.1 k.4 f.0 f.1 h)))
+    where
+      pre_there : (n : List ℕ) → n ≡ codes "pre" → (attributes : List AttributePair) (children : ValueForest)
+          → ForestBuilt children → (slash : Bool) (content : List TokenValue) (p : List ℕ) (c : List (List ℕ))
+          (s : StateValue) → are_plain children ≡ true → SpellsForest children (content_tokens n content)
+          → Fits (p ∷ c) n → FitsForest (n ∷ (p ∷ c)) children → IsInBody (p ∷ c) s
+          → (new : StateValue) × Built (p ∷ c)
+          (start_tag (tag_named n attributes slash) ∷ (content ++ (end_tag (tag_named n [] false) ∷ [])))
+          (with_tree (at s) (element n attributes children) s.nodes) s new
+      pre_there n q attributes children ih slash content p c s g k f ff h =
+          subst (λ m. (new : StateValue) × Built (p ∷ c)
+          (start_tag (tag_named m attributes slash) ∷ (content ++ (end_tag (tag_named m [] false) ∷ [])))
+          (with_tree (at s) (element m attributes children) s.nodes) s new) (sym q)
+          (pre_built attributes children ih slash content p c s g
+          (subst (λ m. SpellsForest children (content_tokens m content)) q k) (subst (Fits (p ∷ c)) q f)
+          (subst (λ m. FitsForest (m ∷ (p ∷ c)) children) q ff) h)
+
+  -- ---- one tree after another
+
+  next_built : (t : ValueTree) (ts : ValueForest) → TreeBuilt t → ForestBuilt ts → ForestBuilt (more t ts)
+  next_built t ts this all p c xs s k e f h st =
+      let g = and_parts (is_plain_tree t) (are_plain ts) e in
+      let first = this p c k.0 s k.3 g.0 f.1 h st in
+      let there : at first.0 ≡ at s = ap (λ (stack : List OpenValue). (current stack).node) first.1.stack in
+      let others = all p c k.1 first.0 k.4 g.1 f.2 first.1.in_body
+      (λ i. ap (last_text (first.0).nodes) there ∙ ap (λ (ns : List NodeValue). last_text ns (at s))
+      first.1.nodes_are
+      ∙ tree_last t (at s) s.nodes (within p c s h) ∙ no_text_next t ts f.0 i) in (
+        others.0,
+        record {
+          through = subst (λ ys. Through z s ys others.0) (sym k.2) (followed z first.1.through others.1.through);
+          nodes_are = others.1.nodes_are ∙ ap (λ m. with_forest m ts (first.0).nodes) there
+              ∙ ap (with_forest (at s) ts) first.1.nodes_are ∙ forest_joined (at s) t ts s.nodes (within p c s h);
+          in_body = others.1.in_body;
+          stack = others.1.stack ∙ first.1.stack;
+          fewer = fewer_trans (others.0).formatting (first.0).formatting s.formatting others.1.fewer first.1.fewer;
+        },
+      )
+
+  mutual
+    tree_built : (t : ValueTree) → TreeBuilt t
+    tree_built (document children) p c xs s k e f h st = absurd k
+    tree_built doctype p c xs s k e f h st = absurd k
+    tree_built (text u) p c xs s k e f h st = text_built u p c xs s k e f h st
+    tree_built (comment u) p c xs s k e f h st = comment_built u p c xs s k e f h st
+    tree_built (element n attributes children) p c xs s k e f h st =
+        element_built n attributes children (forest_built children) p c xs s k e f h st
+
+    pub forest_built : (ts : ValueForest) → ForestBuilt ts
+    forest_built none p c xs s k e f h st = (
+      s,
+      record {
+        through = rw k nothing;
+        nodes_are = sym (append-nil (append_children (at s) [] s.nodes) ∙ append_none (at s) s.nodes
+            (within p c s h));
+        in_body = h;
+        stack = refl;
+        fewer = fewer_same s.formatting;
+      },
+    )
+    forest_built (more t ts) p c xs s k e f h st =
+        next_built t ts (tree_built t) (forest_built ts) p c xs s k e f h st

@@ -1,0 +1,306 @@
+-- A page of the strict grammar without `<body>`: its first token implies `html`, `head` and `body`.
+use Rattle.std.proofs.Common.{◌≡◌, ℕ, suc, Bool, true, false, not, ◌&&◌, ◌||◌, List, [], ◌∷◌, ◌++◌}
+use Rattle.std.proofs.Common.{length, refl, sym, ap, ◌∙◌, arith, subst, inl, codes}
+use Rattle.std.specs.List.{list_all}
+use Rattle.std.proofs.lemmas.Bool.{and_parts, not-true, or_right}
+use Rattle.std.proofs.lemmas.List.{append-nil}
+use Rattle.htmd_text.proofs.Cases.{test}
+use Rattle.htmd_text.specs.WhiteSpace.{is_ascii_white_space}
+use Rattle.htmd_grammar.specs.ValueTrees.{ValueForest, none, more, document, doctype, text}
+use Rattle.htmd_grammar.specs.ValueTrees.{comment, element}
+use Rattle.htmd_grammar.specs.CharacterClasses.{is_among}
+use Rattle.htmd_grammar.specs.Comments.{normalized}
+use Rattle.htmd_grammar.specs.Documents.{skeleton}
+use Rattle.htmd_tree.specs.Items.{greatest_depth}
+use Rattle.htmd_html5_tokens.specs.Tokens.{TagValue, TokenValue, start_tag}
+use Rattle.htmd_html5_tokens.specs.declared.tokens.Content.TheVariants.{Normal}
+use Rattle.htmd_html5_state.specs.Names.{NameValue, known, other, html, name_of_text, text_of_name, spelling}
+use Rattle.htmd_html5_state.specs.Documents.{NodeValue}
+use Rattle.htmd_html5_state.specs.Foreign.{current_is_html, is_math_text_point, is_annotation, is_html_point}
+use Rattle.htmd_html5_state.specs.Insertion.{current}
+use Rattle.htmd_html5_state.specs.State.{StateValue, initial_state}
+use Rattle.htmd_html5_state.specs.declared.names.TagName.{TagName}
+use Rattle.htmd_html5_state.specs.declared.modes.InsertionMode.TheVariants.{BeforeHtml}
+use Rattle.htmd_html5.specs.Answers.{Answer, again, done}
+use Rattle.htmd_html5.specs.BeforeHtml.{with_root, start_before_html, imply_root}
+use Rattle.htmd_html5.specs.BeforeHead.{with_head, start_before_head, imply_head}
+use Rattle.htmd_html5.specs.InHead.{close_head, start_in_head}
+use Rattle.htmd_html5.specs.AfterHead.{with_body, start_after_head, imply_body}
+use Rattle.htmd_html5.specs.BodyStarts.{start_in_body}
+use Rattle.htmd_html5.specs.AtOnce.{is_not_null}
+use Rattle.htmd_html5.specs.Tokens.{StartTagValue}
+use Rattle.htmd_html5.specs.Runs.{is_null}
+use Rattle.htmd_html5.specs.ForeignContent.{goes_to_html, is_for_math_text, is_for_annotation, is_for_html_point}
+use Rattle.htmd_html5.specs.Processing.{by_rules, after_answer, process_within}
+use Rattle.htmd_html5.specs.Texts.{Taken, take_part, put_within}
+use Rattle.htmd_html5.specs.Feeding.{named, feed}
+use Rattle.htmd_html5.specs.Documents.{read_within, state_after, html5_document}
+use Rattle.htmd_html5.specs.Layout.{document_of}
+use Rattle.htmd_html5.proofs.ProcessingLemmas.{by_html}
+use Rattle.htmd_html5_laws.specs.StrictReferences.{IsSettled}
+use Rattle.htmd_html5_laws.specs.StrictTokens.{tag_named, SpellsForest}
+use Rattle.htmd_html5_laws.specs.StrictTrees.{head_names, begins_body, PlainTextsAgree}
+use Rattle.htmd_html5_laws.proofs.StrictPieces.{lines_same}
+use Rattle.htmd_html5_laws.proofs.StrictRuns.{content_read}
+use Rattle.htmd_html5_laws.proofs.StrictNodes.{numbers, node, forest_nodes, with_forest}
+use Rattle.htmd_html5_laws.proofs.StrictOpen.{name_kept}
+use Rattle.htmd_html5_laws.proofs.StrictLaid.{plain_is_content}
+use Rattle.htmd_html5_laws.proofs.StrictRules.{IsInBody}
+use Rattle.htmd_html5_laws.proofs.StrictThrough.{Through, Parts, parts}
+use Rattle.htmd_html5_laws.proofs.StrictBuilt.{FitsForest, forest_built}
+use Rattle.htmd_html5_laws.proofs.StrictPages.{fits_apart, forest_depth}
+use Rattle.htmd_grammar.specs.Documents.{below_body}
+use Rattle.htmd_grammar.specs.Rules.{project}
+use Rattle.htmd_html5_laws.proofs.StrictPages.{plain_is_simple, forest_fits, in_step, root, page_laid}
+use Rattle.htmd_html5_state.specs.declared.names.TagName.TheVariants as tags
+use Rattle.htmd_html5.specs.Tokens as construction
+use Rattle.htmd_html5_tokens.specs.Tokens as tokens
+use Rattle.htmd_html5_state.specs.Documents as documents
+
+-- ---- the states up to the body
+
+abbrev first_state : Bool → StateValue
+first_state z = record (initial_state z) { mode = BeforeHtml; quirks = true }
+
+abbrev root_state : Bool → StateValue
+root_state z = with_root (known tags.Html) [] (first_state z)
+
+abbrev head_state : Bool → StateValue
+head_state z = with_head (known tags.Head) [] (root_state z)
+
+abbrev closed_state : Bool → StateValue
+closed_state z = close_head (head_state z)
+
+abbrev implied_state : Bool → StateValue
+implied_state z = with_body (known tags.Body) [] (closed_state z)
+
+implied_state_is : (z : Bool) → IsInBody (codes "body" ∷ codes "html" ∷ []) (implied_state z)
+implied_state_is z = record {
+  mode = refl;
+  content = refl;
+  no_skip = refl;
+  no_foster = refl;
+  no_template = refl;
+  listed = inl (inl refl);
+  stands = (
+    refl,
+    ([], refl),
+    omega arith,
+    (omega arith, tt),
+    (refl, ([], refl), omega arith, tt, tt),
+  );
+}
+
+-- ---- a start tag that is none of the head
+
+passes : TagName → Bool
+passes tags.Html = false
+passes tags.Head = false
+passes tags.Body = false
+passes tags.FrameSet = false
+passes tags.Base = false
+passes tags.BaseFont = false
+passes tags.BgSound = false
+passes tags.Link = false
+passes tags.Meta = false
+passes tags.NoFrames = false
+passes tags.NoScript = false
+passes tags.Script = false
+passes tags.Style = false
+passes tags.Template = false
+passes tags.Title = false
+passes _ = true
+
+abbrev Passes : NameValue → Type 0
+Passes (known tag) = passes tag ≡ true
+Passes (other t) = Unit {0}
+
+head_name : (tag : TagName) → passes tag ≡ false → is_among head_names (spelling tag) ≡ true
+unfolding passes
+head_name tags.Html e = refl
+head_name tags.Head e = refl
+head_name tags.Body e = refl
+head_name tags.FrameSet e = refl
+head_name tags.Base e = refl
+head_name tags.BaseFont e = refl
+head_name tags.BgSound e = refl
+head_name tags.Link e = refl
+head_name tags.Meta e = refl
+head_name tags.NoFrames e = refl
+head_name tags.NoScript e = refl
+head_name tags.Script e = refl
+head_name tags.Style e = refl
+head_name tags.Template e = refl
+head_name tags.Title e = refl
+head_name _ e = absurd (cc)
+
+name_passes : (n : List ℕ) → is_among head_names n ≡ false → Passes (name_of_text n)
+name_passes n e = by_name (name_of_text n) (name_kept n)
+  where
+    by_name : (name : NameValue) → text_of_name name ≡ n → Passes name
+    by_name (other t) k = tt
+    by_name (known tag) k =
+        test (passes tag) (λ t. t)
+        (λ t. absurd (let q : true ≡ false = sym (head_name tag t) ∙ ap (is_among head_names) k ∙ e in cc))
+
+root_implied : (name : NameValue) (tag : StartTagValue) (s : StateValue) → Passes name
+    → start_before_html name tag s ≡ imply_root s
+unfolding passes
+root_implied (other t) tag s e = refl
+root_implied (known tags.Html) tag s e = absurd (cc)
+root_implied (known _) tag s e = refl
+
+head_implied : (name : NameValue) (tag : StartTagValue) (s : StateValue) → Passes name
+    → start_before_head name tag s ≡ imply_head s
+unfolding passes
+head_implied (other t) tag s e = refl
+head_implied (known tags.Html) tag s e = absurd (cc)
+head_implied (known tags.Head) tag s e = absurd (cc)
+head_implied (known _) tag s e = refl
+
+head_closed : (name : NameValue) (tag : StartTagValue) (s : StateValue) → Passes name
+    → start_in_head name tag s ≡ again (close_head s)
+unfolding passes
+head_closed (other t) tag s e = refl
+head_closed (known tags.Html) tag s e = absurd (cc)
+head_closed (known tags.Base) tag s e = absurd (cc)
+head_closed (known tags.BaseFont) tag s e = absurd (cc)
+head_closed (known tags.BgSound) tag s e = absurd (cc)
+head_closed (known tags.Link) tag s e = absurd (cc)
+head_closed (known tags.Meta) tag s e = absurd (cc)
+head_closed (known tags.Title) tag s e = absurd (cc)
+head_closed (known tags.NoFrames) tag s e = absurd (cc)
+head_closed (known tags.Style) tag s e = absurd (cc)
+head_closed (known tags.Script) tag s e = absurd (cc)
+head_closed (known tags.Template) tag s e = absurd (cc)
+head_closed (known tags.NoScript) tag s e = absurd (cc)
+head_closed (known tags.Head) tag s e = absurd (cc)
+head_closed (known _) tag s e = refl
+
+body_implied : (name : NameValue) (tag : StartTagValue) (s : StateValue) → Passes name
+    → start_after_head name tag s ≡ imply_body s
+unfolding passes
+body_implied (other t) tag s e = refl
+body_implied (known tags.Html) tag s e = absurd (cc)
+body_implied (known tags.Body) tag s e = absurd (cc)
+body_implied (known tags.FrameSet) tag s e = absurd (cc)
+body_implied (known tags.Base) tag s e = absurd (cc)
+body_implied (known tags.BaseFont) tag s e = absurd (cc)
+body_implied (known tags.BgSound) tag s e = absurd (cc)
+body_implied (known tags.Link) tag s e = absurd (cc)
+body_implied (known tags.Meta) tag s e = absurd (cc)
+body_implied (known tags.NoFrames) tag s e = absurd (cc)
+body_implied (known tags.Script) tag s e = absurd (cc)
+body_implied (known tags.Style) tag s e = absurd (cc)
+body_implied (known tags.Template) tag s e = absurd (cc)
+body_implied (known tags.Title) tag s e = absurd (cc)
+body_implied (known tags.Head) tag s e = absurd (cc)
+body_implied (known _) tag s e = refl
+
+goes_html : (token : construction.TokenValue) (s : StateValue) → current_is_html s.stack ≡ true
+    → goes_to_html token s ≡ true
+goes_html token s h =
+    or_right ((is_for_math_text token && is_math_text_point (current s.stack))
+    || (is_for_annotation token && is_annotation (current s.stack))
+    || (is_for_html_point token && is_html_point s.nodes (current s.stack))) (current_is_html s.stack) h
+
+-- one turn
+turn : (k : ℕ) (token : construction.TokenValue) (s : StateValue) (a : Answer) → by_rules token s ≡ a
+    → process_within (suc k) token s ≡ after_answer (process_within k token) a
+turn k token s a e = ap (after_answer (process_within k token)) e
+
+start_implied : (z : Bool) (tag : TagValue) → Passes (name_of_text tag.name)
+    → feed (start_tag tag) (initial_state z) ≡ feed (start_tag tag) (implied_state z)
+start_implied z tag e =
+    let x : StartTagValue = named tag in
+    let token : construction.TokenValue = construction.start_tag x in
+    let html_ = λ (s : StateValue) (h : current_is_html s.stack ≡ true). by_html token s
+    (ap not (goes_html token s h)) in
+    let new : StateValue = start_in_body x (implied_state z) in
+    turn 22 token (initial_state z) _ (html_ (initial_state z) refl)
+    ∙ turn 21 token (first_state z) _ (html_ (first_state z) refl ∙ root_implied x.name x (first_state z) e)
+    ∙ turn 20 token (root_state z) _ (html_ (root_state z) refl ∙ head_implied x.name x (root_state z) e)
+    ∙ turn 19 token (head_state z) _ (html_ (head_state z) refl ∙ head_closed x.name x (head_state z) e)
+    ∙ turn 18 token (closed_state z) _ (html_ (closed_state z) refl ∙ body_implied x.name x (closed_state z) e)
+    ∙ turn 17 token (implied_state z) (done new) (html_ (implied_state z) refl)
+    ∙ sym (turn 24 token (implied_state z) (done new) (html_ (implied_state z) refl))
+
+-- ---- a text that begins with no white space
+
+text_taken : (z : Bool) (b : ℕ) (s : List ℕ) → is_ascii_white_space b ≡ false → is_null b ≡ false
+    → take_part (b ∷ s) (initial_state z) ≡ take_part (b ∷ s) (implied_state z)
+text_taken z b s e f = rw (e, f) refl
+
+text_implied : (z : Bool) (b : ℕ) (s : List ℕ) → is_ascii_white_space b ≡ false → is_null b ≡ false
+    → feed (tokens.text (b ∷ s)) (initial_state z) ≡ feed (tokens.text (b ∷ s)) (implied_state z)
+text_implied z b s e f = ap (λ (t : Taken). put_within (length s) t.rest t.state) (text_taken z b s e f)
+
+-- ---- the first token
+
+First : Bool → List TokenValue → Type 0
+First z xs = (x : TokenValue) × (ys : List TokenValue) × (xs ≡ x ∷ ys)
+    × (feed x (initial_state z) ≡ feed x (implied_state z))
+
+first_token : (z : Bool) (c : List (List ℕ)) (content : ValueForest) (xs : List TokenValue) → SpellsForest content
+    xs
+    → FitsForest c content → begins_body content ≡ true → First z xs
+unfolding First
+first_token z c none xs k f e = absurd (cc)
+first_token z c (more (document children) ts) xs k f e = absurd (cc)
+first_token z c (more doctype ts) xs k f e = absurd (cc)
+first_token z c (more (comment u) ts) xs k f e = absurd (cc)
+first_token z c (more (text []) ts) xs k f e = absurd (cc)
+first_token z c (more (text (b ∷ u)) ts) xs k f e =
+    let plain = and_parts (is_not_null b) (list_all is_not_null u) f.1 in (
+      tokens.text (b ∷ u),
+      k.1,
+      k.2 ∙ ap (λ (ys : List TokenValue). ys ++ k.1) k.3,
+      text_implied z b u (not-true (is_ascii_white_space b) e) (not-true (is_null b) plain.0),
+    )
+first_token z c (more (element n attributes children) ts) xs k f e =
+    let q = k.3 in (
+      start_tag (tag_named n attributes q.0),
+      (q.1 ++ q.2) ++ k.1,
+      k.2 ∙ ap (λ (ys : List TokenValue). ys ++ k.1) q.3,
+      start_implied z (tag_named n attributes q.0) (name_passes n (not-true (is_among head_names n) e)),
+    )
+
+-- ---- the page
+
+implied_nodes : (z : Bool) (content : ValueForest)
+    → with_forest 3 content (implied_state z).nodes ≡ root ∷ forest_nodes 0 1 (skeleton content)
+implied_nodes z content =
+    let held : List NodeValue = forest_nodes 3 4 content in
+    ap (λ (ns : List NodeValue). root ∷ node (documents.element (html (name_of_text (codes "html"))) []) 0
+    (2 ∷ 3 ∷ [])
+    ∷ node (documents.element (html (name_of_text (codes "head"))) []) 1 []
+    ∷ node (documents.element (html (name_of_text (codes "body"))) []) 1 (numbers 4 content) ∷ ns)
+    (sym (append-nil (held ++ []) ∙ append-nil held))
+
+whole_read : (z : Bool) (s : List ℕ) (new : StateValue) → IsSettled s
+    → read_within (length s) s (initial_state z) ≡ new → (m : List ℕ) → m ≡ s
+    → read_within (length m) m (initial_state z) ≡ new
+whole_read z s new k e m q = ap (λ (t : List ℕ). read_within (length t) t (initial_state z)) q ∙ e
+
+pub texts_agree : PlainTextsAgree
+unfolding html5_document First
+texts_agree z s content k mark e begins h =
+    let r = content_read z s content k (plain_is_simple content e) h in
+    let f = forest_fits z content (codes "body" ∷ codes "html" ∷ []) true s k.no_null h in
+    let b = forest_built z content (codes "body") (codes "html" ∷ []) r.0 (implied_state z) r.1 e f
+    (implied_state_is z)
+    (λ t. refl) in
+    let first = first_token z (codes "body" ∷ codes "html" ∷ []) content r.0 r.1 f begins in
+    let run : Parts z (implied_state z) (first.0 ∷ first.1) b.0 =
+    subst (λ xs. Parts z (implied_state z) xs b.0) first.2 (parts z b.1.through) in
+    let from_start : Parts z (initial_state z) (first.0 ∷ first.1) b.0 =
+    (refl, refl, run.2, subst (λ y. Through z y first.1 b.0) (sym first.3) run.3) in
+    let read : read_within (length s) s (initial_state z) ≡ b.0 =
+    in_step z (length s) Normal Normal s [] r.0 (initial_state z) b.0 (codes "body") (codes "html" ∷ []) r.2 refl refl
+    (subst (λ xs. Parts z (initial_state z) xs b.0) (sym first.2) from_start) b.1.in_body (omega arith) in
+    let whole : state_after z s ≡ b.0 =
+    whole_read z s b.0 k read _ (ap normalized mark ∙ lines_same s k.line_feeds) in
+    ap (λ st. document_of greatest_depth st.nodes) whole
+    ∙ ap (document_of greatest_depth) (b.1.nodes_are ∙ implied_nodes z content)
+    ∙ page_laid content (plain_is_content content e) (fits_apart (codes "body" ∷ codes "html" ∷ []) content f)
+    (omega (arith, forest_depth (project z) content below_body true s h (omega arith)))

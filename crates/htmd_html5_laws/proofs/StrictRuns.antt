@@ -1,0 +1,382 @@
+-- The tokens of a text of the strict grammar are those of its trees.
+use Rattle.std.proofs.Common.{◌≡◌, ◌≢◌, ◌⊎◌, ℕ, Bool, true, false, not, List, [], ◌∷◌, ◌++◌}
+use Rattle.std.proofs.Common.{length, drop, Some, refl, sym, ap, ◌∙◌, arith, inl, inr, codes, subst, append_assoc}
+use Rattle.std.specs.Prelude.{◌==◌}
+use Rattle.std.proofs.lemmas.Bool.{and_parts, not-true, eqb-true}
+use Rattle.std.proofs.lemmas.List.{append-nil}
+use Rattle.htmd_text.proofs.Cases.{test}
+use Rattle.htmd_grammar.specs.ValueTrees.{AttributePair, ValueTree, ValueForest, none, more, document, doctype, text}
+use Rattle.htmd_grammar.specs.ValueTrees.{comment, element}
+use Rattle.htmd_grammar.specs.CharacterClasses.{first_is, lacks, up_to}
+use Rattle.htmd_grammar.specs.Grammar.{ReadsForest, reads}
+use Rattle.htmd_grammar.specs.Nesting.{Context, is_outside}
+use Rattle.htmd_grammar.specs.RawContent.{holds_text_alone, ends_text, begins_markup, content_of, drops_line_feed, text_of}
+use Rattle.htmd_grammar.specs.Rules.{named_characters, project}
+use Rattle.htmd_grammar.specs.References.{decode, after_line_feed}
+use Rattle.htmd_grammar.specs.Serialisation.{is_void}
+use Rattle.htmd_grammar.specs.Tags.{IsStartTag, IsEndTag}
+use Rattle.htmd_grammar.specs.Documents.{above_body, below_body}
+use Rattle.htmd_grammar.proofs.NestingLemmas.{allowed_parts}
+use Rattle.htmd_grammar.proofs.Completeness.{end_tag_stops}
+use Rattle.htmd_grammar.proofs.TreeTexts.{Inside}
+use Rattle.htmd_html5_tokens.specs.Tokens.{TokenValue, start_tag, end_tag}
+use Rattle.htmd_html5_tokens.specs.NextToken.{next_token}
+use Rattle.htmd_html5_tokens.specs.declared.tokens.Content.TheVariants.{Normal, Raw}
+use Rattle.htmd_html5_tokens.specs.declared.tokens.RawElement.{RawElement}
+use Rattle.htmd_html5_laws.specs.StrictReferences.{IsSettled}
+use Rattle.htmd_html5_laws.specs.StrictTokens.{content_in, tag_named, SpellsTree, SpellsForest}
+use Rattle.htmd_html5_laws.specs.StrictTokens.{with_text_token, after_feed, content_tokens}
+use Rattle.htmd_html5_laws.specs.StrictTokens.{is_set_aside, is_simple_tree, is_simple, TokensAgree}
+use Rattle.htmd_html5_laws.proofs.StrictCuts.{settled_back}
+use Rattle.htmd_html5_laws.proofs.StrictReferencesLemmas.{Ending}
+use Rattle.htmd_html5_laws.proofs.StrictPieces.{read, start_read, end_read, raw_end_read, text_token_read}
+use Rattle.htmd_html5_laws.proofs.StrictPieces.{settled_before}
+use Rattle.htmd_html5_laws.proofs.StrictRawTexts.{normal_content, void_content, IsRaw, raw_content, pre_plain, raw_keeps}
+use Rattle.htmd_html5_laws.proofs.StrictLineFeeds.{kept_begins, feed_case, dropped_feed, Feed, feed_text}
+use Rattle.htmd_html5_laws.proofs.StrictRawTexts.{raw_children, stop_same, raw_text_next, raw_end_next}
+use Rattle.htmd_html5_tokens.specs.Tokens as tokens
+use Rattle.htmd_html5_tokens.specs.NextToken as next
+use Rattle.htmd_html5_laws.proofs.StrictSteps.{Run, here, onward, joined, from_content, from_text, all_read, Made, shorter}
+use Rattle.htmd_html5_laws.proofs.StrictSteps.{one_token, TreeRun, ForestRun, tag_filled, end_filled, plain_text, text_run}
+use Rattle.htmd_html5_laws.proofs.StrictSteps.{comment_run, no_tbody, text_ending}
+
+module _ (z : Bool) where
+  -- ---- elements
+
+  nothing_content : (n : List ℕ) → content_tokens n [] ≡ []
+  nothing_content n = test (drops_line_feed n) (λ t. rw t refl) (λ t. rw t refl)
+
+  void_run : (n tag rest : List ℕ) (attributes : List AttributePair) → IsStartTag named_characters tag n attributes
+      → is_void n ≡ true → is_outside n ≡ false → IsSettled (tag ++ rest)
+      → Made z (SpellsTree (element n attributes none)) tag rest
+  void_run n tag rest attributes h v o k =
+      let r = start_read tag n rest attributes h k in
+      let now = normal_content z n (void_content z n v) o in (
+        start_tag (tag_named n attributes r.0) ∷ [],
+        (r.0, [], [], refl, nothing_content n, rw v (refl, refl)),
+        one_token z (start_tag (tag_named n attributes r.0)) tag rest (tag_filled z tag n attributes h) r.1 refl now,
+      )
+
+  -- the tokens of the content and of the end tag
+  abbrev Closed : List ℕ → ValueForest → List ℕ → List ℕ → Type 0
+  Closed n ks s rest = (xs : List TokenValue) × SpellsForest ks (content_tokens n xs)
+      × Run z (content_in z n) s (xs ++ (end_tag (tag_named n [] false) ∷ [])) Normal rest
+
+  normal_closed : (n : List ℕ) (ks : ValueForest) → ForestRun z ks → (c : Context) (inner end rest : List ℕ)
+      → ReadsForest (project z) (n ∷ c) true ks inner → IsEndTag end n → drops_line_feed n ≡ false
+      → holds_text_alone z n ≡ false → is_outside n ≡ false → is_simple ks ≡ true
+      → IsSettled (inner ++ (end ++ rest)) → Closed n ks (inner ++ (end ++ rest)) rest
+  normal_closed n ks ih c inner end rest h g d e o i k =
+      let m = settled_back inner (end ++ rest) k in
+      let r = end_read end n rest g m in
+      let inside = ih n c true inner (end ++ rest) h e i k (inr r.1) in
+      let last = one_token z (end_tag (tag_named n [] false)) end rest (end_filled z end n g) r.0 refl refl in (
+        inside.0,
+        rw d inside.1,
+        from_content z (normal_content z n e o) (joined z inside.2 last),
+      )
+
+  raw_closed : (n : List ℕ) (ks : ValueForest) (c : Context) (inner end rest : List ℕ)
+      → ReadsForest (project z) (n ∷ c) true ks inner → IsEndTag end n → holds_text_alone z n ≡ true
+      → is_set_aside n ≡ false → IsSettled (inner ++ (end ++ rest))
+      → Closed n ks (inner ++ (end ++ rest)) rest
+  raw_closed n ks c inner end rest h g e a k = go (raw_children z n c true ks inner h e)
+    where
+      found : (element : RawElement) × IsRaw z n element
+      found = raw_content z n e a
+
+      stops : ends_text z n (end ++ rest) ≡ true
+      stops = end_tag_stops (project z) [] end n rest g
+
+      last : Run z (Raw found.0) (end ++ rest) (end_tag (tag_named n [] false) ∷ []) Normal rest
+      last =
+          let r = raw_end_read end n rest g (settled_back inner (end ++ rest) k) in
+          onward (end_tag (tag_named n [] false)) rest
+          (raw_end_next z n found.0 (end ++ rest) r.0 found.1 e stops r.1 ∙ r.2) refl
+          (shorter z end rest (end_filled z end n g)) here
+
+      go : ((ks ≡ none) × (inner ≡ []))
+          ⊎ ((u : List ℕ) × (ks ≡ more (text u) none) × (inner ≢ []) ×
+          (up_to (ends_text z n) inner ≡ inner)
+          × (text_of (project z) n inner ≡ Some u))
+          → Closed n ks (inner ++ (end ++ rest)) rest
+      go (inl w) = rw (w.0, w.1) ([], nothing_content n, from_content z (found.1).content last)
+      go (inr w) =
+          let m = settled_before inner (end ++ rest)
+          (inr (end_read end n rest g (settled_back inner (end ++ rest) k)).1) k in
+          rw w.1 (
+            tokens.text w.0 ∷ [],
+            rw (raw_keeps z n e a) (tokens.text w.0 ∷ [], [], refl, refl, refl),
+            from_content z (found.1).content
+                (onward (tokens.text w.0) (end ++ rest)
+                (raw_text_next z n found.0 inner w.0 (end ++ rest) found.1 e w.2 w.3 stops w.4 m) refl
+                (shorter z inner (end ++ rest) w.2) last),
+          )
+
+  -- ---- elements that drop a line feed
+
+  after_piece : (b : ℕ) (w r x : List ℕ) → IsSettled ((b ∷ (w ++ r)) ++ x) → IsSettled (r ++ x)
+  after_piece b w r x k =
+      settled_back (b ∷ w) (r ++ x) (subst IsSettled (ap (λ (y : List ℕ). b ∷ y) (append_assoc w r x)) k)
+
+  abbrev Tail : ValueForest → Type 0
+  Tail none = Unit {0}
+  Tail (more t ts) = ForestRun z ts
+
+  abbrev begins_feed : ValueForest → Bool
+  begins_feed (more (text u) ts) = first_is 10 u
+  begins_feed _ = false
+
+  -- tokens that begin with no line feed are as they are
+  feed_kept : (ts : ValueForest) (xs : List TokenValue) → SpellsForest ts xs → begins_feed ts ≡ false →
+      after_feed xs ≡ xs
+  feed_kept none xs h e = rw h refl
+  feed_kept (more (document ks) ts) xs h e = absurd (h.3)
+  feed_kept (more doctype ts) xs h e = absurd (h.3)
+  feed_kept (more (text []) ts) xs h e = rw (h.2, h.3) refl
+  feed_kept (more (text (b ∷ u)) ts) xs h e = rw (h.2, h.3) (rw e refl)
+  feed_kept (more (comment u) ts) xs h e = rw (h.2, h.3) refl
+  feed_kept (more (element n attributes ks) ts) xs h e = rw (h.2, (h.3).3) refl
+
+  no_feed_there : (s rest : List ℕ) → Ending (s ++ rest) → first_is 10 s ≡ false
+  no_feed_there [] rest e = refl
+  no_feed_there (b ∷ s) rest (inl e) = absurd (cc)
+  no_feed_there (b ∷ s) rest (inr e) =
+      let k : b ≡ 60 = eqb-true b 60 (and_parts (b == 60) (next.is_markup (s ++ rest)) e).0 in
+      rw k refl
+
+  begins_no_feed : (ts : ValueForest) (p : List ℕ) (c : Context) (last : Bool) (s rest : List ℕ)
+      → ReadsForest (project z) (p ∷ c) last ts s → holds_text_alone z p ≡ false → is_simple ts ≡ true
+      → IsSettled (s ++ rest) → Ending rest → after_line_feed [] s ≡ s → begins_feed ts ≡ false
+  begins_no_feed none p c last s rest h e o k st a = refl
+  begins_no_feed (more (document ks) ts) p c last s rest h e o k st a = refl
+  begins_no_feed (more doctype ts) p c last s rest h e o k st a = refl
+  begins_no_feed (more (comment u) ts) p c last s rest h e o k st a = refl
+  begins_no_feed (more (element n attributes ks) ts) p c last s rest h e o k st a = refl
+  begins_no_feed (more (text u) ts) p c last s rest h e o k st a =
+      let q : s ++ rest ≡ h.0 ++ (h.1 ++ rest) =
+      ap (λ (y : List ℕ). y ++ rest) h.2 ∙ append_assoc h.0 h.1 rest in
+      let i = subst IsSettled q k in
+      let follows = text_ending z (text u) ts p c last h.1 rest refl h.3 h.5 o (settled_back h.0 (h.1 ++ rest) i) st in
+      let this = settled_before h.0 (h.1 ++ rest) follows i in
+      let d : decode named_characters 0 h.0 ≡ Some u = rw (plain_text z p e) at (h.4).2 in
+      kept_begins h.0 u h.1 this.line_feeds d (no_feed_there h.1 rest follows)
+      (ap (after_line_feed []) (sym h.2) ∙ a ∙ h.2)
+
+  -- what comes after such a start tag, with the end tag
+  abbrev Fed : List ℕ → ValueForest → List ℕ → List ℕ → List ℕ → Type 0
+  Fed n ks s x rest = (xs : List TokenValue) × SpellsForest ks (after_feed xs) × Run z Normal (s ++ x) xs Normal x
+
+  no_line_dropped : (n : List ℕ) (ks : ValueForest) → ForestRun z ks → (c : Context) (s x rest : List ℕ)
+      → ReadsForest (project z) (n ∷ c) true ks s → after_line_feed [] s ≡ s → holds_text_alone z n ≡ false
+      → is_simple ks ≡ true → IsSettled (s ++ x) → Ending x → Fed n ks s x rest
+  no_line_dropped n ks ih c s x rest h a e o k st =
+      let r = ih n c true s x h e o k st in
+      let same = feed_kept ks r.0 r.1 (begins_no_feed ks n c true s x h e o k st a) in
+      (r.0, subst (SpellsForest ks) (sym same) r.1, r.2)
+
+  line_alone : (n : List ℕ) (ks : ValueForest) → ForestRun z ks → (c : Context) (b : ℕ) (w r x rest : List ℕ)
+      → Feed b w r → ReadsForest (project z) (n ∷ c) true ks r → holds_text_alone z n ≡ false
+      → is_simple ks ≡ true → IsSettled ((b ∷ (w ++ r)) ++ x) → Ending (r ++ x) → Ending x
+      → Fed n ks (b ∷ (w ++ r)) x rest
+  line_alone n ks ih c b w r x rest f h e o k begins st =
+      let front : List ℕ = b ∷ (w ++ []) in
+      let q : (b ∷ (w ++ r)) ++ x ≡ front ++ (r ++ x) =
+      ap (λ (y : List ℕ). b ∷ y) (append_assoc w r x ∙ ap (λ (y : List ℕ). y ++ (r ++ x))
+      (sym (append-nil w))) in
+      let i = subst IsSettled q k in
+      let t = feed_text b w r [] r [] f refl refl refl in
+      let token = text_token_read front (10 ∷ []) (r ++ x) (λ y. (let z = y in cc)) t.0 t.1 begins i in
+      let inside = ih n c true r x h e o (settled_back front (r ++ x) i) st in (
+        tokens.text (10 ∷ []) ∷ inside.0,
+        inside.1,
+        from_text z q (onward (tokens.text (10 ∷ [])) (r ++ x) token refl
+            (shorter z front (r ++ x) (λ y. (let z = y in cc)))
+            inside.2),
+      )
+
+  line_dropped : (n : List ℕ) (ks : ValueForest) → ForestRun z ks → Tail ks → (c : Context) (b : ℕ)
+      (w r x rest : List ℕ)
+      → Feed b w r → ReadsForest (project z) (n ∷ c) true ks r → holds_text_alone z n ≡ false
+      → is_simple ks ≡ true → IsSettled ((b ∷ (w ++ r)) ++ x) → Ending x → Fed n ks (b ∷ (w ++ r)) x rest
+  line_dropped n none ih tail c b w r x rest f h e o k st =
+      line_alone n none ih c b w r x rest f h e o k (rw h st) st
+  line_dropped n (more (document ks) ts) ih tail c b w r x rest f h e o k st = absurd (h.4)
+  line_dropped n (more doctype ts) ih tail c b w r x rest f h e o k st = absurd (h.4)
+  line_dropped n (more (comment u) ts) ih tail c b w r x rest f h e o k st =
+      line_alone n (more (comment u) ts) ih c b w r x rest f h e o k
+      (text_ending z (text []) (more (comment u) ts) n c true r x refl tt h o (after_piece b w r x k) st) st
+  line_dropped n (more (element m attributes ks) ts) ih tail c b w r x rest f h e o k st =
+      line_alone n (more (element m attributes ks) ts) ih c b w r x rest f h e o k
+      (text_ending z (text []) (more (element m attributes ks) ts) n c true r x refl tt h o (after_piece b w r x k)
+      st) st
+  line_dropped n (more (text u) ts) ih tail c b w r x rest f h e o k st =
+      let front : List ℕ = b ∷ (w ++ h.0) in
+      let q : (b ∷ (w ++ r)) ++ x ≡ front ++ (h.1 ++ x) =
+      ap (λ (y : List ℕ). b ∷ y) (ap (λ (y : List ℕ). (w ++ y) ++ x) h.2
+      ∙ ap (λ (y : List ℕ). y ++ x) (sym (append_assoc w h.0 h.1)) ∙ append_assoc (w ++ h.0) h.1 x) in
+      let i = subst IsSettled q k in
+      let j = settled_back front (h.1 ++ x) i in
+      let follows = text_ending z (text u) ts n c true h.1 x refl h.3 h.5 o j st in
+      let d : decode named_characters 0 h.0 ≡ Some u = rw (plain_text z n e) at (h.4).2 in
+      let same : (y : List ℕ) → begins_markup y ≡ ends_text z n y = λ y. rw e refl in
+      let l : up_to begins_markup h.0 ≡ h.0 = stop_same begins_markup (ends_text z n) same h.0 ∙ (h.4).1 in
+      let t = feed_text b w r h.0 h.1 u f h.2 d l in
+      let token = text_token_read front (10 ∷ u) (h.1 ++ x) (λ y. (let z = y in cc)) t.0 t.1 follows i in
+      let others = tail n c true h.1 x h.5 e o j st in (
+        tokens.text (10 ∷ u) ∷ others.0,
+        with_first u ts others.0 (h.4).0 others.1,
+        from_text z q (onward (tokens.text (10 ∷ u)) (h.1 ++ x) token refl
+            (shorter z front (h.1 ++ x) (λ y. (let z = y in cc))) others.2),
+      )
+    where
+      with_first : (u : List ℕ) (ts : ValueForest) (xs : List TokenValue) → u ≢ [] → SpellsForest ts xs
+          → SpellsForest (more (text u) ts) (with_text_token u xs)
+      with_first [] ts xs f h = absurd (f refl)
+      with_first (b ∷ u) ts xs f h = (tokens.text (b ∷ u) ∷ [], xs, refl, refl, h)
+
+  feed_closed : (n : List ℕ) (ks : ValueForest) → ForestRun z ks → Tail ks → (c : Context)
+      (inner end rest : List ℕ)
+      → ReadsForest (project z) (n ∷ c) true ks (after_line_feed [] inner) → IsEndTag end n
+      → drops_line_feed n ≡ true → holds_text_alone z n ≡ false → is_outside n ≡ false → is_simple
+      ks ≡ true
+      → IsSettled (inner ++ (end ++ rest)) → Closed n ks (inner ++ (end ++ rest)) rest
+  feed_closed n ks ih tail c inner end rest h g d e o i k = whole (fed inner h k)
+    where
+      r : (next_token Normal false (end ++ rest) ≡ read (end_tag (tag_named n [] false)) rest)
+          × (next.begins_markup (end ++ rest) ≡ true) × ((t : List ℕ) × (end ++ rest ≡ 60 ∷ t))
+      r = end_read end n rest g (settled_back inner (end ++ rest) k)
+
+      fed : (inner : List ℕ) → ReadsForest (project z) (n ∷ c) true ks (after_line_feed [] inner)
+          → IsSettled (inner ++ (end ++ rest)) → Fed n ks inner (end ++ rest) rest
+      fed [] h k = no_line_dropped n ks ih c [] (end ++ rest) rest h refl e i k (inr r.1)
+      fed (b ∷ s) h k = elim (feed_case b s) [
+        | inl a ↦ no_line_dropped n ks ih c (b ∷ s) (end ++ rest) rest
+            (subst (ReadsForest (project z) (n ∷ c) true ks) a h) a e i k (inr r.1)
+        | inr a ↦
+            let cr = not-true (b == 13) (and_parts (not (b == 13)) (lacks 13 (s ++ (end ++ rest))) k.line_feeds).0 in
+            let f = dropped_feed b a.0 s cr a.1 in
+            let whole_ : b ∷ s ≡ b ∷ (f.0 ++ drop a.0 s) = ap (λ (y : List ℕ). b ∷ y) f.1 in
+            subst (λ y. Fed n ks y (end ++ rest) rest) (sym whole_)
+            (line_dropped n ks ih tail c b f.0 (drop a.0 s) (end ++ rest) rest f.2
+            (subst (ReadsForest (project z) (n ∷ c) true ks) a.2 h) e i
+            (subst (λ y. IsSettled (y ++ (end ++ rest))) whole_ k) (inr r.1))
+      ]
+
+      whole : Fed n ks inner (end ++ rest) rest → Closed n ks (inner ++ (end ++ rest)) rest
+      whole f = (
+        f.0,
+        rw d f.1,
+        from_content z (normal_content z n e o) (joined z f.2
+            (one_token z (end_tag (tag_named n [] false)) end rest (end_filled z end n g) r.0 refl refl)),
+      )
+
+  closed_run : (n tag inner end rest : List ℕ) (attributes : List AttributePair) (ks : ValueForest)
+      → IsStartTag named_characters tag n attributes → is_void n ≡ false
+      → IsSettled (tag ++ (inner ++ (end ++ rest))) → Closed n ks (inner ++ (end ++ rest)) rest
+      → Made z (SpellsTree (element n attributes ks)) (tag ++ (inner ++ end)) rest
+  closed_run n tag inner end rest attributes ks h v k w =
+      let r = start_read tag n (inner ++ (end ++ rest)) attributes h k in
+      let no_slash : r.0 ≡ false = test r.0 (λ t. absurd (let f = sym (r.2 t) ∙ v in cc)) (λ t. t) in
+      let q : (tag ++ (inner ++ end)) ++ rest ≡ tag ++ (inner ++ (end ++ rest)) =
+      append_assoc tag (inner ++ end) rest ∙ ap (λ (y : List ℕ). tag ++ y) (append_assoc inner end rest) in (
+        start_tag (tag_named n attributes r.0) ∷ (w.0 ++ (end_tag (tag_named n [] false) ∷ [])),
+        (r.0, w.0, end_tag (tag_named n [] false) ∷ [], refl, w.1, rw v (no_slash, refl)),
+        from_text z q
+            (onward (start_tag (tag_named n attributes r.0)) (inner ++ (end ++ rest)) r.1 refl
+            (shorter z tag (inner ++ (end ++ rest)) (tag_filled z tag n attributes h)) w.2),
+      )
+
+  kept_content : (n s : List ℕ) → drops_line_feed n ≡ false → content_of n s ≡ s
+  kept_content n s d = rw d refl
+
+  element_run : (n : List ℕ) (attributes : List AttributePair) (ks : ValueForest) → ForestRun z ks → Tail ks
+      → TreeRun z (element n attributes ks)
+  element_run n attributes ks ih tail p c last s rest h e o k st = go h.2
+    where
+      parts : (not (is_set_aside n) ≡ true) × (is_simple ks ≡ true)
+      parts = and_parts (not (is_set_aside n)) (is_simple ks) o
+
+      aside : is_set_aside n ≡ false
+      aside = not-true (is_set_aside n) parts.0
+
+      outside : is_outside n ≡ false
+      outside = (allowed_parts z (p ∷ c) n h.0).0
+
+      go : Inside (project z) (p ∷ c) last n attributes ks s → Made z (SpellsTree (element n attributes ks)) s rest
+      go (inl w) =
+          test (is_void n)
+          (λ v. let m = rw v at w.5 in
+          let q : s ≡ w.0 =
+          w.3 ∙ ap (λ (y : List ℕ). w.0 ++ (y ++ w.2)) m.0 ∙ ap (λ (y : List ℕ). w.0 ++ y) m.1 ∙ append-nil
+          w.0 in
+          let i : IsSettled (w.0 ++ rest) = subst (λ (y : List ℕ). IsSettled (y ++ rest)) q k in
+          rw (q, m.2) (void_run n w.0 rest attributes w.4 v outside i))
+          (λ v. let m = rw v at w.5 in
+          let q : s ++ rest ≡ w.0 ++ (w.1 ++ (w.2 ++ rest)) =
+          ap (λ (y : List ℕ). y ++ rest) w.3 ∙ append_assoc w.0 (w.1 ++ w.2) rest
+          ∙ ap (λ (y : List ℕ). w.0 ++ y) (append_assoc w.1 w.2 rest) in
+          let i : IsSettled (w.0 ++ (w.1 ++ (w.2 ++ rest))) = subst IsSettled q k in
+          let j = settled_back w.0 (w.1 ++ (w.2 ++ rest)) i in
+          rw w.3 (closed_run n w.0 w.1 w.2 rest attributes ks w.4 v i
+          (test (drops_line_feed n)
+          (λ d. feed_closed n ks ih tail (p ∷ c) w.1 w.2 rest (rw d at m.0) m.1 d (pre_plain z n d aside) outside
+          parts.1 j)
+          (λ d. let inside = subst (ReadsForest (project z) (n ∷ (p ∷ c)) true ks) (kept_content n w.1 d) m.0 in
+          test (holds_text_alone z n) (λ t. raw_closed n ks (p ∷ c) w.1 w.2 rest inside m.1 t aside j)
+          (λ t. normal_closed n ks ih (p ∷ c) w.1 w.2 rest inside m.1 d t outside parts.1 j)))))
+      go (inr w) = absurd (no_tbody z n aside w.3)
+
+  -- ---- one tree after another
+
+  next_run : (t : ValueTree) (ts : ValueForest) → TreeRun z t → ForestRun z ts → ForestRun z (more t ts)
+  next_run t ts one all p c last s rest h e o k st =
+      let b = and_parts (is_simple_tree t) (is_simple ts) o in
+      let q : s ++ rest ≡ h.0 ++ (h.1 ++ rest) =
+      ap (λ (y : List ℕ). y ++ rest) h.2 ∙ append_assoc h.0 h.1 rest in
+      let i = subst IsSettled q k in
+      let j = settled_back h.0 (h.1 ++ rest) i in
+      let first = one p c _ h.0 (h.1 ++ rest) h.4 e b.0 i
+      (λ f. text_ending z t ts p c last h.1 rest f h.3 h.5 b.1 j st) in
+      let others = all p c last h.1 rest h.5 e b.1 j st in (
+        first.0 ++ others.0,
+        (first.0, others.0, refl, first.1, others.1),
+        from_text z q (joined z first.2 others.2),
+      )
+
+  mutual
+    tree_run : (t : ValueTree) → TreeRun z t
+    tree_run (document ks) p c last s rest h e o k st = absurd h
+    tree_run doctype p c last s rest h e o k st = absurd h
+    tree_run (text u) p c last s rest h e o k st = text_run z u p c last s rest h e o k st
+    tree_run (comment u) p c last s rest h e o k st = comment_run z u p c last s rest h e o k st
+    tree_run (element n attributes ks) p c last s rest h e o k st =
+        element_run n attributes ks (forest_run ks) (tail_run ks) p c last s rest h e o k st
+
+    tail_run : (ts : ValueForest) → Tail ts
+    tail_run none = tt
+    tail_run (more t ts) = forest_run ts
+
+    forest_run : (ts : ValueForest) → ForestRun z ts
+    forest_run none p c last s rest h e o k st = ([], refl, rw h here)
+    forest_run (more t ts) p c last s rest h e o k st =
+        next_run t ts (tree_run t) (forest_run ts) p c last s rest h e o k st
+
+body_plain : (z : Bool) → holds_text_alone z (codes "body") ≡ false
+body_plain true = refl
+body_plain false = refl
+
+-- the tokens that are read of a text
+pub content_read : (z : Bool) (s : List ℕ) (content : ValueForest) → IsSettled s → is_simple content ≡ true
+    → reads (project z) below_body s content
+    → (xs : List TokenValue) × SpellsForest content xs × Run z Normal s xs Normal []
+content_read z s content k o h =
+    let e = append-nil s in
+    let r = forest_run z content (codes "body") above_body true s [] h (body_plain z) o
+    (subst IsSettled (sym e) k) (inl refl) in
+    (r.0, r.1, from_text z (sym e) r.2)
+
+pub tokens_same : TokensAgree
+tokens_same z s content k o h =
+    let r = content_read z s content k o h in
+    subst (SpellsForest content) (sym (all_read z (length s) r.2 refl refl (omega arith))) r.1

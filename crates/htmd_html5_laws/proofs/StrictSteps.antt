@@ -1,0 +1,159 @@
+-- Tokens that are read one after another; a text and a comment of the strict grammar, and what follows a text.
+use Rattle.std.proofs.Common.{◌≡◌, ◌≢◌, ℕ, zero, suc, ◌<◌, ◌≤◌, Bool, true, false, not, List, [], ◌∷◌, ◌++◌}
+use Rattle.std.proofs.Common.{length, Some, refl, sym, ap, ◌∙◌, arith, inl, inr, codes, subst, append_assoc, length-append}
+use Rattle.std.proofs.lemmas.Bool.{and_parts, or_parts, not-true}
+use Rattle.htmd_grammar.specs.ValueTrees.{AttributePair, ValueTree, ValueForest, none, more, document, doctype, text}
+use Rattle.htmd_grammar.specs.ValueTrees.{comment, element}
+use Rattle.htmd_grammar.specs.CharacterClasses.{is_among, up_to}
+use Rattle.htmd_grammar.specs.Grammar.{Apart, may_end_rows, ReadsTree, ReadsForest}
+use Rattle.htmd_grammar.specs.Nesting.{Context, is_tbody}
+use Rattle.htmd_grammar.specs.RawContent.{holds_text_alone, holds_raw_text, ends_text, begins_markup, text_of}
+use Rattle.htmd_grammar.specs.Rules.{named_characters, project}
+use Rattle.htmd_grammar.specs.References.{decode}
+use Rattle.htmd_grammar.specs.Tags.{IsStartTag, IsEndTag}
+use Rattle.htmd_grammar.proofs.NestingLemmas.{one_name}
+use Rattle.htmd_grammar.proofs.TreeTexts.{Inside, IsTextTree}
+use Rattle.htmd_html5_tokens.specs.Tokens.{TokenValue, start_tag, end_tag}
+use Rattle.htmd_html5_tokens.specs.NextToken.{next_token}
+use Rattle.htmd_html5_tokens.specs.declared.tokens.Content.{Content}
+use Rattle.htmd_html5_tokens.specs.declared.tokens.Content.TheVariants.{Normal}
+use Rattle.htmd_html5.specs.Documents.{is_end}
+use Rattle.htmd_html5_laws.specs.StrictReferences.{IsSettled}
+use Rattle.htmd_html5_laws.specs.StrictTokens.{content_after, tokens_within, SpellsTree, SpellsForest}
+use Rattle.htmd_html5_laws.specs.StrictTokens.{is_set_aside, is_simple_tree, is_simple}
+use Rattle.htmd_html5_laws.proofs.StrictReferencesLemmas.{Ending}
+use Rattle.htmd_html5_laws.proofs.StrictPieces.{read, start_read, comment_read, text_token_read}
+use Rattle.htmd_html5_laws.proofs.StrictRawTexts.{text_nothing, stop_same}
+use Rattle.htmd_html5_tokens.specs.Tokens as tokens
+use Rattle.htmd_html5_tokens.specs.NextToken as next
+
+module _ (z : Bool) where
+  -- ---- reading tokens one after another
+
+  -- from one content and text to another these tokens are read
+  pub data Run : Content → List ℕ → List TokenValue → Content → List ℕ → Type 0 where
+    here : {now : Content} {s : List ℕ} → Run now s [] now s
+    onward : {now after : Content} {s left : List ℕ} {tokens : List TokenValue} (token : TokenValue) (rest : List ℕ)
+        → next_token now false s ≡ read token rest → is_end token ≡ false → length rest < length s
+        → Run (content_after z now token) rest tokens after left → Run now s (token ∷ tokens) after left
+
+  pub joined : {a b c : Content} {s t u : List ℕ} {xs ys : List TokenValue} → Run a s xs b t → Run b t ys c u
+      → Run a s (xs ++ ys) c u
+  joined here q = q
+  joined (onward token rest e f l r) q = onward token rest e f l (joined r q)
+
+  pub from_content : {now other after : Content} {s left : List ℕ} {xs : List TokenValue} → other ≡ now
+      → Run now s xs after left → Run other s xs after left
+  from_content e r = rw e r
+
+  pub from_text : {now after : Content} {s t left : List ℕ} {xs : List TokenValue} → t ≡ s → Run now s xs after
+      left
+      → Run now t xs after left
+  from_text e r = rw e r
+
+  pub nothing_left : (k : ℕ) → tokens_within z k Normal [] ≡ []
+  nothing_left zero = refl
+  nothing_left (suc k) = refl
+
+  pub all_read : (k : ℕ) {now after : Content} {s left : List ℕ} {xs : List TokenValue} → Run now s xs after left
+      → after ≡ Normal → left ≡ [] → length s ≤ k → tokens_within z k now s ≡ xs
+  all_read k here e f l = rw (e, f) (nothing_left k)
+  all_read zero (onward token rest e f l r) g h m = absurd (omega arith)
+  all_read (suc k) (onward token rest e f l r) g h m =
+      rw (e, f) (ap (λ (y : List TokenValue). token ∷ y) (all_read k r g h (omega arith)))
+
+  -- the tokens of what stands before the rest
+  abbrev pub Made : (List TokenValue → Type 0) → List ℕ → List ℕ → Type 0
+  Made Spells s rest = (xs : List TokenValue) × Spells xs × Run Normal (s ++ rest) xs Normal rest
+
+  pub shorter : (s x : List ℕ) → s ≢ [] → length x < length (s ++ x)
+  shorter [] x n = absurd (n refl)
+  shorter (b ∷ s) x n = let l = length-append s x in omega arith
+
+  pub one_token : (token : TokenValue) (s rest : List ℕ) → s ≢ [] → next_token Normal false
+      (s ++ rest) ≡ read token rest
+      → is_end token ≡ false → content_after z Normal token ≡ Normal → Run Normal (s ++ rest) (token ∷ [])
+      Normal rest
+  one_token token s rest n e f c =
+      onward token rest e f (shorter s rest n) (from_content c here)
+
+  -- ---- trees
+
+  abbrev pub TreeRun : ValueTree → Type 0
+  TreeRun t = (p : List ℕ) (c : Context) (last : Bool) (s rest : List ℕ) → ReadsTree (project z) (p ∷ c) last t
+      s
+      → holds_text_alone z p ≡ false → is_simple_tree t ≡ true → IsSettled (s ++ rest)
+      → (IsTextTree t ≡ true → Ending rest) → Made (SpellsTree t) s rest
+
+  abbrev pub ForestRun : ValueForest → Type 0
+  ForestRun ts = (p : List ℕ) (c : Context) (last : Bool) (s rest : List ℕ) → ReadsForest (project z) (p ∷ c)
+      last ts s
+      → holds_text_alone z p ≡ false → is_simple ts ≡ true → IsSettled (s ++ rest) → Ending rest
+      → Made (SpellsForest ts) s rest
+
+  pub tag_filled : (tag n : List ℕ) (attributes : List AttributePair) → IsStartTag named_characters tag n attributes
+      → tag ≢ []
+  tag_filled tag n attributes h e = let q = sym (h.2).2 ∙ e in cc
+
+  pub end_filled : (tag n : List ℕ) → IsEndTag tag n → tag ≢ []
+  end_filled tag n h e = let q = sym h.2 ∙ e in cc
+
+  -- ---- texts and comments
+
+  pub plain_text : (p : List ℕ) → holds_text_alone z p ≡ false → (holds_raw_text z p ≡ false)
+  plain_text p e = (or_parts (is_among (codes "title" ∷ codes "textarea" ∷ []) p) (holds_raw_text z p) e).1
+
+  pub text_run : (u : List ℕ) → TreeRun (text u)
+  text_run u p c last s rest h e o k st =
+      let f = plain_text p e in
+      let d : decode named_characters 0 s ≡ Some u = rw f at h.2 in
+      let same : (t : List ℕ) → begins_markup t ≡ ends_text z p t = λ t. rw e refl in
+      let l : up_to begins_markup s ≡ s = stop_same begins_markup (ends_text z p) same s ∙ h.1 in
+      let filled : s ≢ [] = λ q. h.0 (text_nothing z p u (ap (text_of (project z) p) (sym q) ∙ h.2)) in (
+        tokens.text u ∷ [],
+        refl,
+        one_token (tokens.text u) s rest filled (text_token_read s u rest filled d l (st refl) k) refl refl,
+      )
+
+  pub comment_run : (u : List ℕ) → TreeRun (comment u)
+  comment_run u p c last s rest h e o k st =
+      let r = comment_read s u rest h.0 k in
+      let filled : s ≢ [] = λ q. (let w = sym (h.0).2 ∙ q in cc) in
+      (tokens.comment u ∷ [], refl, one_token (tokens.comment u) s rest filled r.0 refl refl)
+
+  -- ---- what follows a text
+
+  pub no_tbody : (n : List ℕ) → is_set_aside n ≡ false → is_tbody n ≡ true → ⊥
+  no_tbody n a e = let w = rw (one_name (codes "tbody") n e) at a in cc
+
+  -- a text ends at the end, or before markup
+  pub text_ending : (t : ValueTree) (ts : ValueForest) (p : List ℕ) (c : Context) (last : Bool) (s rest : List ℕ)
+      → IsTextTree t ≡ true → Apart t ts → ReadsForest (project z) (p ∷ c) last ts s → is_simple ts ≡ true
+      → IsSettled (s ++ rest) → Ending rest → Ending (s ++ rest)
+  text_ending t none p c last s rest i a h o k st = rw h st
+  text_ending (document ks) (more (text v) ts) p c last s rest i a h o k st = absurd (cc)
+  text_ending doctype (more (text v) ts) p c last s rest i a h o k st = absurd (cc)
+  text_ending t (more (document ks) ts) p c last s rest i a h o k st = absurd (h.4)
+  text_ending t (more doctype ts) p c last s rest i a h o k st = absurd (h.4)
+  text_ending (text u) (more (text v) ts) p c last s rest i a h o k st = absurd a
+  text_ending (comment u) (more (text v) ts) p c last s rest i a h o k st = absurd (cc)
+  text_ending (element n attributes ks) (more (text v) ts) p c last s rest i a h o k st = absurd (cc)
+  text_ending t (more (comment v) ts) p c last s rest i a h o k st =
+      let q : s ++ rest ≡ h.0 ++ (h.1 ++ rest) =
+      ap (λ (y : List ℕ). y ++ rest) h.2 ∙ append_assoc h.0 h.1 rest in
+      inr (ap next.begins_markup q ∙ (comment_read h.0 v (h.1 ++ rest) (h.4).0 (subst IsSettled q k)).1)
+  text_ending t (more (element n attributes ks) ts) p c last s rest i a h o k st = go (h.4).2
+    where
+      aside : is_set_aside n ≡ false
+      aside =
+          let b = and_parts (is_simple_tree (element n attributes ks)) (is_simple ts) o in
+          not-true (is_set_aside n) (and_parts (not (is_set_aside n)) (is_simple ks) b.0).0
+
+      go : Inside (project z) (p ∷ c) (may_end_rows last ts h.1) n attributes ks h.0 → Ending (s ++ rest)
+      go (inl w) =
+          let q : s ++ rest ≡ w.0 ++ ((w.1 ++ w.2) ++ (h.1 ++ rest)) =
+          ap (λ (y : List ℕ). y ++ rest) h.2 ∙ append_assoc h.0 h.1 rest
+          ∙ ap (λ (y : List ℕ). y ++ (h.1 ++ rest)) w.3 ∙ append_assoc w.0 (w.1 ++ w.2) (h.1 ++ rest) in
+          inr (ap next.begins_markup q
+          ∙ (start_read w.0 n ((w.1 ++ w.2) ++ (h.1 ++ rest)) attributes w.4 (subst IsSettled q k)).3)
+      go (inr w) = absurd (no_tbody n aside w.3)

@@ -1,0 +1,31 @@
+//! Texts of the strict grammar, as the lenient reader reads them.
+ghost use Rattle.htmd_html5_laws.specs.StrictReferences.{ReferencesAgree};
+ghost use Rattle.htmd_html5_laws.specs.StrictTokens.{TokensAgree};
+ghost use Rattle.htmd_html5_laws.specs.StrictTrees.{PlainPagesAgree, PlainTextsAgree};
+
+/// Characters and references denote the same by the strict grammar and by the lenient reader, where line ends are line
+/// feeds, no U+0000 stands, and each reference by name has its `;`.
+pub fn references_agree()
+    ensures { ReferencesAgree }
+{}
+
+/// The tokens that the lenient reader's tokenizer finds in a text of the strict grammar are those of its trees, in
+/// document order, where line ends are line feeds, no U+0000 stands, each reference by name has its `;`, and no element
+/// is a `textarea`, `script` or `tbody`.
+pub fn tokens_agree()
+    ensures { TokensAgree }
+{}
+
+/// A settled text of the strict grammar whose elements are plain is read after `<body>` as the tree that the strict
+/// grammar gives: `html` with an empty `head`, and a `body` with the content. Plain are all elements but those of
+/// tables, `select`, `form`, `object`, `applet`, `marquee`, parts of `ruby`, `noscript`, those that hold only text, and
+/// those of MathML and SVG.
+pub fn plain_pages_agree()
+    ensures { PlainPagesAgree }
+{}
+
+/// A settled text of the strict grammar whose elements are plain, and whose content begins with a character that is no
+/// white space, or with an element that belongs in no head, is read as that tree without `<body>` too.
+pub fn plain_texts_agree()
+    ensures { PlainTextsAgree }
+{}
