@@ -65,15 +65,14 @@ fn takes_texts(rt: HostRuntime) -> Result<(), Fail> {
     Ok(())
 }
 
-// The Markdown of a page with one handler for `x`, and one for a tag that tells the flag.
+// The Markdown of a page with one handler for `x`, and one that tells the flag for a tag.
 fn flagged(
     alloc: Global,
     handler: Box<dyn ElementHandler>,
-    tag: &str,
-    html: &str,
+    flag: Box<dyn ElementHandler>,
+    (tag, html): (&str, &str),
 ) -> Result<String, Fail> {
     let builder = with_handler(HtmlToMarkdown::builder(alloc)?, &["x"], handler)?;
-    let flag: Box<dyn ElementHandler> = Box::new(alloc, TellsFlag)?;
     let builder = with_handler(builder, &[tag], flag)?;
     page_by(alloc, &builder.build(), html)
 }
@@ -90,11 +89,9 @@ fn tells_flags(rt: HostRuntime) -> Result<(), Fail> {
     ];
     for &(tag, html, markdown) in ROWS {
         let raw: Box<dyn ElementHandler> = Box::new(rt.alloc(), AsRawHtml)?;
-        expect_text(
-            html,
-            flagged(rt.alloc(), raw, tag, html)?.as_str(),
-            markdown,
-        )?;
+        let flag: Box<dyn ElementHandler> = Box::new(rt.alloc(), TellsFlag)?;
+        let answer = flagged(rt.alloc(), raw, flag, (tag, html))?;
+        expect_text(html, answer.as_str(), markdown)?;
     }
     Ok(())
 }
@@ -102,7 +99,8 @@ fn tells_flags(rt: HostRuntime) -> Result<(), Fail> {
 #[test]
 fn tells_flags_of_texts(rt: HostRuntime) -> Result<(), Fail> {
     let unsure: Box<dyn ElementHandler> = Box::new(rt.alloc(), says(rt.alloc(), "x", false)?)?;
-    let answer = flagged(rt.alloc(), unsure, "p", "<p><x></x></p>")?;
+    let flag: Box<dyn ElementHandler> = Box::new(rt.alloc(), TellsFlag)?;
+    let answer = flagged(rt.alloc(), unsure, flag, ("p", "<p><x></x></p>"))?;
     expect_text("p", answer.as_str(), "F")
 }
 
