@@ -6,3 +6,4 @@ pub mod HarmlessTags
 pub mod LetterOrder
 pub mod TextKept
 pub mod EndedElements
+pub mod EndedTurns
