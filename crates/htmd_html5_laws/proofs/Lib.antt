@@ -54,6 +54,8 @@ pub mod EndedTokens
 pub mod EndedRuns
 pub mod EndedPages
 mod EndedExamples
+pub mod EndedTurns
+pub mod EndedRunTurns
 pub mod RootedAdoption
 pub mod PlainBody
 pub mod PlainTables

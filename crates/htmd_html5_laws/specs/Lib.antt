@@ -9,3 +9,4 @@ pub mod EndedElements
 pub mod StrictReferences
 pub mod StrictTokens
 pub mod StrictTrees
+pub mod EndedTurns
