@@ -43,7 +43,8 @@ copy_rooted : (body n last : ℕ) (s : StateValue) → InnerAt (kinds s.nodes) n
 copy_rooted body n last s p h =
     rooted_listed (length s.nodes) (
       number_after body s h,
-      named_added is_inner s.nodes (kind_at s.nodes n) (copy_kinds n last s) (ap (is_named is_inner) (kind_read s.nodes n) ∙ p),
+      named_added is_inner s.nodes (kind_at s.nodes n) (copy_kinds n last s)
+          (ap (is_named is_inner) (kind_read s.nodes n) ∙ p),
     )
     (λ m l. listed_replaced m n (length s.nodes) s.formatting l)
     (rooted_grown (grows_new (kind_at s.nodes n) (copy_kinds n last s)) h)

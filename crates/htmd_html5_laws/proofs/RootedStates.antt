@@ -290,7 +290,8 @@ reopen_all_grown body [] s all h = record { rooted = h; grows = grows_same refl 
 reopen_all_grown body (n ∷ ns) s all h =
     let before : RootedGrown body s (reopen_all ns s) = reopen_all_grown body ns s all.1 h in
     let last = like_grown body (reopen_all ns s) (kind_at (reopen_all ns s).nodes n)
-    (ap (is_named is_inner) (kind_read (reopen_all ns s).nodes n) ∙ before.grows.names is_inner n all.0) before.rooted in
+    (ap (is_named is_inner) (kind_read (reopen_all ns s).nodes n) ∙ before.grows.names is_inner n all.0)
+    before.rooted in
     record { rooted = last.rooted; grows = grows_then before.grows last.grows }
 
 closed_inner : (ks : List KindValue) (stack : List OpenValue) (entries : List (Option ℕ))

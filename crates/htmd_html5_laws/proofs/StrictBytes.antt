@@ -12,7 +12,8 @@ use Rattle.htmd_html5_tokens.specs.Tags as lenient
 pub key_byte : (b : ℕ) → strict.is_attribute_name_byte b ≡ true → lenient.is_attribute_name_byte b ≡ true
 key_byte b e = grind (arith, nat_tests)
 
-pub key_head : (b : ℕ) → strict.is_attribute_name_byte b ≡ true → (is_gap_byte b ≡ false) × ((b == 62) ≡ false)
+pub key_head : (b : ℕ) → strict.is_attribute_name_byte b ≡ true
+    → (is_gap_byte b ≡ false) × ((b == 62) ≡ false)
 key_head b e = (grind (arith, nat_tests), grind (arith, nat_tests))
 
 pub key_no_null : (b : ℕ) → strict.is_attribute_name_byte b ≡ true → not (b == 0) ≡ true
@@ -30,7 +31,8 @@ white_no_slash b e = grind (arith, nat_tests)
 pub ends_key : (b : ℕ) → is_name_byte b ≡ false → lenient.is_attribute_name_byte b ≡ false
 ends_key b e = rw e refl
 
-pub ends_reference : (b : ℕ) → is_name_byte b ≡ false → (is_ascii_alphanumeric b ≡ false) × ((b == 59) ≡ false)
+pub ends_reference : (b : ℕ) → is_name_byte b ≡ false
+    → (is_ascii_alphanumeric b ≡ false) × ((b == 59) ≡ false)
 ends_reference b e = (grind (arith, nat_tests), grind (arith, nat_tests))
 
 pub bare_byte : (b : ℕ) → strict.is_unquoted_byte b ≡ true → lenient.is_unquoted_byte b ≡ true
@@ -40,8 +42,8 @@ pub bare_head : (b : ℕ) → strict.is_unquoted_byte b ≡ true
     → (is_ascii_white_space b ≡ false) × ((b == 34) ≡ false) × ((b == 39) ≡ false)
 bare_head b e = (grind (arith, nat_tests), grind (arith, nat_tests), grind (arith, nat_tests))
 
-pub ends_bare : (b : ℕ) → is_name_byte b ≡ false → strict.is_unquoted_byte b ≡ false → lenient.is_unquoted_byte
-    b ≡ false
+pub ends_bare : (b : ℕ) → is_name_byte b ≡ false → strict.is_unquoted_byte b ≡ false
+    → lenient.is_unquoted_byte b ≡ false
 ends_bare b e f = grind (arith, nat_tests)
 
 pub name_byte : (b : ℕ) → is_tag_name_byte b ≡ true → is_name_byte b ≡ true

@@ -20,8 +20,8 @@ is_markup _ = false
 
 -- A tag, a comment and a doctype are done with in the turns that a token has, in any state.
 abbrev pub MarkupIsDone : Type 0
-MarkupIsDone = (token : TokenValue) (s : StateValue) → is_markup token ≡ true → is_done_within (turns s) token s
-    ≡ true
+MarkupIsDone =
+    (token : TokenValue) (s : StateValue) → is_markup token ≡ true → is_done_within (turns s) token s ≡ true
 
 -- And so is the first run of any text.
 abbrev pub RunIsDone : Type 0
