@@ -110,6 +110,7 @@ pub mod StrictRules
 pub mod StrictEnds
 pub mod StrictThrough
 pub mod StrictPlainTexts
+pub mod StrictOnlyText
 pub mod StrictBuilt
 pub mod StrictPages
 pub mod StrictImplied

@@ -24,7 +24,7 @@ use Rattle.htmd_html5.specs.Feeding.{feed}
 use Rattle.htmd_html5_laws.specs.StrictTokens.{content_after, tag_named, SpellsTree, SpellsForest}
 use Rattle.htmd_html5_laws.specs.StrictTokens.{after_feed, content_tokens}
 use Rattle.htmd_html5_laws.specs.StrictTrees.{is_plain_name, is_plain_element, is_plain_tree}
-use Rattle.htmd_html5_laws.specs.StrictTrees.{are_plain}
+use Rattle.htmd_html5_laws.specs.StrictTrees.{are_plain, text_names}
 use Rattle.htmd_html5_laws.proofs.StrictNodes.{node, tree_nodes, append_length, added, last_text}
 use Rattle.htmd_html5_laws.proofs.StrictNodes.{text_added, new_last_text, kind_after, kinds_kept}
 use Rattle.htmd_html5_laws.proofs.StrictNodes.{with_tree, with_forest, forest_joined, filled, tree_last, is_text, begins_text}
@@ -33,7 +33,9 @@ use Rattle.htmd_html5_laws.proofs.StrictOpen.{Fewer, fewer_same, fewer_trans, en
 use Rattle.htmd_html5_laws.proofs.StrictOpen.{stands_below}
 use Rattle.htmd_html5_laws.proofs.StrictNames.{plain_case, is_formatting_case, void_case}
 use Rattle.htmd_html5_laws.proofs.StrictSets.{plain_content}
-use Rattle.htmd_html5_laws.proofs.StrictSets.{void_keeps, keeps_name}
+use Rattle.htmd_html5_laws.proofs.StrictSets.{void_keeps, keeps_name, text_keeps}
+use Rattle.htmd_html5_laws.proofs.StrictOnlyText.{at, at_end, element_added, starts_empty, IsOneText, Put}
+use Rattle.htmd_html5_laws.proofs.StrictOnlyText.{none_put, text_put}
 use Rattle.htmd_html5_laws.proofs.StrictThrough.{Through, nothing, followed, from_state, one_fed, skip_run}
 use Rattle.htmd_grammar.proofs.NestingLemmas.{one_name}
 use Rattle.htmd_html5_laws.proofs.StrictRawTexts.{normal_content, void_content}
@@ -43,15 +45,13 @@ use Rattle.htmd_html5_laws.proofs.StrictEnds.{plain_end, formatting_end, pre_end
 use Rattle.htmd_html5_tokens.specs.Tokens as tokens
 use Rattle.htmd_html5_state.specs.Documents as documents
 
-abbrev at : StateValue → ℕ
-at s = (current s.stack).node
-
 -- ---- trees that fit
 
 abbrev mutual
   pub FitsTree : List (List ℕ) → ValueTree → Type 0
   FitsTree c (text u) = is_plain u ≡ true
-  FitsTree c (element n attributes children) = Fits c n × FitsForest (n ∷ c) children
+  FitsTree c (element n attributes children) =
+      Fits c n × FitsForest (n ∷ c) children × (is_among text_names n ≡ true → IsOneText children)
   FitsTree c _ = Unit {0}
 
   -- no two texts are neighbours, and each element may stand in its context
@@ -107,16 +107,13 @@ module _ (z : Bool) where
   leaf_built p c t x s nodes ok h k f e = (
     record s { nodes = nodes; frameset_ok = ok },
     record {
-      through = one_fed z p c x s _ [] _ h k f nothing;
+      through = one_fed z p c x s _ [] _ h (h.content ∙ sym k) f nothing;
       nodes_are = e;
       in_body = grown p c t s nodes ok h e;
       stack = refl;
       fewer = fewer_same s.formatting;
     },
   )
-
-  at_end : (p : List ℕ) (c : List (List ℕ)) (s : StateValue) → IsInBody (p ∷ c) s → place s ≡ last_in (at s)
-  at_end p c s h = rw h.no_foster refl
 
   text_built : (u : List ℕ) → TreeBuilt (text u)
   text_built u p c xs s k e f h st =
@@ -134,16 +131,6 @@ module _ (z : Bool) where
   comment_built u p c xs s k e f h st =
       rw k (leaf_built p c (comment u) (tokens.comment u) s (add (documents.comment u) (last_in (at s)) s.nodes)
       s.frameset_ok h refl (comment_fed p c s h u) (added (documents.comment u) (at s) s.nodes (within p c s h)))
-
-  -- the nodes of an element without its content
-  element_added : (p : List ℕ) (c : List (List ℕ)) (n : List ℕ) (attributes : List AttributePair) (s : StateValue)
-      → IsInBody (p ∷ c) s
-      → add (documents.element (html (name_of_text n)) attributes) (place s) s.nodes
-      ≡ append_children (at s) (length s.nodes ∷ []) s.nodes
-      ++ node (documents.element (html (name_of_text n)) attributes) (at s) [] ∷ []
-  element_added p c n attributes s h =
-      ap (λ there. add (documents.element (html (name_of_text n)) attributes) there s.nodes) (at_end p c s h)
-      ∙ added (documents.element (html (name_of_text n)) attributes) (at s) s.nodes (within p c s h)
 
   void_built : (n : List ℕ) (attributes : List AttributePair) (slash : Bool) (p : List ℕ) (c : List (List ℕ))
       (s : StateValue) → is_void n ≡ true → not (is_among (codes "col" ∷ []) n) ≡ true → Fits (p ∷ c) n
@@ -195,7 +182,9 @@ module _ (z : Bool) where
   -- the element is closed, and what is listed is no more than before it
   closed : (p n : List ℕ) (c : List (List ℕ)) (attributes : List AttributePair) (children : ValueForest)
       (slash : Bool) (whole content : List TokenValue) (s held : StateValue) (list left : List (Option ℕ)) (ok : Bool)
-      (h : IsInBody (p ∷ c) s) → content_after z Normal (start_tag (tag_named n attributes slash)) ≡ Normal
+      (h : IsInBody (p ∷ c) s)
+      → (feed (start_tag (tag_named n attributes slash)) s).content
+      ≡ content_after z Normal (start_tag (tag_named n attributes slash))
       → Built (n ∷ (p ∷ c)) content
       (with_forest (length s.nodes) children (opened_with p c s h n attributes list ok).nodes)
       (opened_with p c s h n attributes list ok) held
@@ -231,22 +220,11 @@ module _ (z : Bool) where
   -- the content and the end tag
   to_end : (p n : List ℕ) (c : List (List ℕ)) (content : List TokenValue) (nodes : List NodeValue)
       (first held new : StateValue) → Built (n ∷ (p ∷ c)) content nodes first held
-      → feed (end_tag (tag_named n [] false)) held ≡ new
+      → feed (end_tag (tag_named n [] false)) held ≡ new → new.content ≡ Normal
       → Through z first (content ++ (end_tag (tag_named n [] false) ∷ [])) new
-  to_end p n c content nodes first held new b ends =
+  to_end p n c content nodes first held new b ends k =
       followed z b.through
-      (one_fed z n (p ∷ c) (end_tag (tag_named n [] false)) held new [] new b.in_body refl ends nothing)
-
-  -- an element starts with nothing in it
-  starts_empty : (p n : List ℕ) (c : List (List ℕ)) (attributes : List AttributePair) (s : StateValue)
-      → IsInBody (p ∷ c) s
-      → last_text (add (documents.element (html (name_of_text n)) attributes) (place s) s.nodes)
-      (length s.nodes) ≡ None
-  starts_empty p n c attributes s h =
-      ap (λ ns. last_text ns (length s.nodes)) (element_added p c n attributes s h)
-      ∙ new_last_text (append_children (at s) (length s.nodes ∷ []) s.nodes)
-      (documents.element (html (name_of_text n)) attributes) (at s) (length s.nodes)
-      (append_length (at s) (length s.nodes ∷ []) s.nodes)
+      (one_fed z n (p ∷ c) (end_tag (tag_named n [] false)) held new [] new b.in_body k ends nothing)
 
   full_built : (n : List ℕ) (attributes : List AttributePair) (children : ValueForest) → ForestBuilt children
       → (slash : Bool) (content : List TokenValue) (p : List ℕ) (c : List (List ℕ)) (s : StateValue)
@@ -272,9 +250,9 @@ module _ (z : Bool) where
           let ends = formatting_end n (p ∷ c) r.0 r.1.in_body n (plain_case n e) t (length s.nodes) s.stack (st.1).0
           started.0 r.1.stack (st.1).1 st.3 r.1.fewer
           (fewer_trans started.0 s.formatting (entries s.stack) started.1 h.listed) in
-          let run = to_end p n c content _ _ r.0 _ r.1 ends.2 in
-          closed p n c attributes children slash content content s r.0 list ends.0 s.frameset_ok h (plain_content z n e)
-          r.1 (from_state z started.2 run)
+          let run = to_end p n c content _ _ r.0 _ r.1 ends.2 r.1.in_body.content in
+          closed p n c attributes children slash content content s r.0 list ends.0 s.frameset_ok h
+          (ap (λ (y : StateValue). y.content) started.2 ∙ h.content ∙ sym (plain_content z n e)) r.1 (from_state z started.2 run)
           (fewer_trans ends.0 started.0 s.formatting ends.1 started.1)
 
       unformatted : is_formatting_case (plain_case n e) ≡ false
@@ -287,9 +265,9 @@ module _ (z : Bool) where
           let r = ih n (p ∷ c) content (opened_with p c s h n attributes s.formatting started.0) k g ff io
           (λ _. starts_empty p n c attributes s h) in
           let ends = plain_end n (p ∷ c) r.0 r.1.in_body n (plain_case n e) t (length s.nodes) s.stack r.1.stack in
-          let run = to_end p n c content _ _ r.0 _ r.1 ends in
+          let run = to_end p n c content _ _ r.0 _ r.1 ends r.1.in_body.content in
           closed p n c attributes children slash content content s r.0 s.formatting (r.0).formatting started.0 h
-          (plain_content z n e) r.1 (from_state z started.1 run) r.1.fewer
+          (ap (λ (y : StateValue). y.content) started.1 ∙ h.content ∙ sym (plain_content z n e)) r.1 (from_state z started.1 run) r.1.fewer
 
   pre_built : (attributes : List AttributePair) (children : ValueForest) → ForestBuilt children
       → (slash : Bool) (content : List TokenValue) (p : List ℕ) (c : List (List ℕ)) (s : StateValue)
@@ -302,16 +280,51 @@ module _ (z : Bool) where
   pre_built attributes children ih slash content p c s g k f ff h =
       let n : List ℕ = codes "pre" in
       let first : StateValue = opened_with p c s h n attributes s.formatting false in
+      let started = pre_start p c s h f attributes slash in
       let io = entered p n c attributes s s.formatting false h (inl (fewer_same s.formatting)) in
       let r = ih n (p ∷ c) (after_feed content) first k g ff io (λ _. starts_empty p n c attributes s h) in
       let ends = pre_end n (p ∷ c) r.0 r.1.in_body (length s.nodes) s.stack r.1.stack in
       let new : StateValue = record (r.0) { stack = s.stack } in
       let run : Through z first (after_feed content ++ (end_tag (tag_named n [] false) ∷ [])) new =
-      to_end p n c (after_feed content) _ first r.0 new r.1 ends in
+      to_end p n c (after_feed content) _ first r.0 new r.1 ends r.1.in_body.content in
       let skipped = skip_run z n (p ∷ c) first io content (tag_named n [] false) new run in
       closed p n c attributes children slash content (after_feed content) s r.0 s.formatting (r.0).formatting false h
-      refl
-      r.1 (from_state z (pre_start p c s h f attributes slash) skipped) r.1.fewer
+      (ap (λ (y : StateValue). y.content) started ∙ h.content) r.1 (from_state z started skipped) r.1.fewer
+
+  put_whole : (p : List ℕ) (c : List (List ℕ)) (n : List ℕ) (attributes : List AttributePair)
+      (children : ValueForest) (s : StateValue) (xs : List TokenValue) → IsInBody (p ∷ c) s
+      → Put z s (element n attributes children) xs
+      → (new : StateValue) × Built (p ∷ c) xs (with_tree (at s) (element n attributes children) s.nodes) s new
+  put_whole p c n attributes children s xs h r = (
+    record s { nodes = r.nodes; frameset_ok = r.ok },
+    record {
+      through = r.through;
+      nodes_are = r.nodes_are;
+      in_body = grown p c (element n attributes children) s r.nodes r.ok h r.nodes_are;
+      stack = refl;
+      fewer = fewer_same s.formatting;
+    },
+  )
+
+  -- an element that holds only text
+  text_alone_built : (n : List ℕ) (attributes : List AttributePair) (children : ValueForest) (slash : Bool)
+      (content : List TokenValue) (p : List ℕ) (c : List (List ℕ)) (s : StateValue) → is_among text_names n ≡ true
+      → SpellsForest children content → Fits (p ∷ c) n → FitsForest (n ∷ (p ∷ c)) children → IsOneText children
+      → IsInBody (p ∷ c) s
+      → (new : StateValue) × Built (p ∷ c)
+      (start_tag (tag_named n attributes slash) ∷ (content ++ (end_tag (tag_named n [] false) ∷ [])))
+      (with_tree (at s) (element n attributes children) s.nodes) s new
+  text_alone_built n attributes none slash content p c s e k f ff o h =
+      rw k (put_whole p c n attributes none s _ h (none_put z p c s h n e f attributes slash))
+  text_alone_built n attributes (more (text u) none) slash content p c s e k f ff o h =
+      let q : content ≡ tokens.text u ∷ [] =
+      k.2 ∙ ap (λ (ys : List TokenValue). ys ++ k.1) k.3 ∙ ap (λ (ys : List TokenValue). tokens.text u ∷ ys) k.4 in
+      rw q (put_whole p c n attributes (more (text u) none) s _ h (text_put z p c s h n e f attributes slash u ff.1))
+  text_alone_built n attributes (more (text u) (more t ts)) slash content p c s e k f ff o h = absurd o
+  text_alone_built n attributes (more (document ks) ts) slash content p c s e k f ff o h = absurd o
+  text_alone_built n attributes (more doctype ts) slash content p c s e k f ff o h = absurd o
+  text_alone_built n attributes (more (comment u) ts) slash content p c s e k f ff o h = absurd o
+  text_alone_built n attributes (more (element m attributes_ ks) ts) slash content p c s e k f ff o h = absurd o
 
   element_built : (n : List ℕ) (attributes : List AttributePair) (children : ValueForest) → ForestBuilt children
       → TreeBuilt (element n attributes children)
@@ -332,8 +345,12 @@ module _ (z : Bool) where
       k.3 ∙ ap (λ (ys : List TokenValue). start_tag (tag_named n attributes k.0) ∷ (k.1 ++ ys)) m.1 in
       rw q (test (is_plain_name n)
       (λ t. full_built n attributes children ih k.0 k.1 p c s t g.1 (rw (keeps_name n t) at k.4) f.0 f.1 h)
-      (λ t. let pre : n ≡ codes "pre" = one_name (codes "pre") n (rw t at w) in
-      pre_there n pre attributes children ih k.0 k.1 p c s g.1 k.4 f.0 f.1 h)))
+      (λ t. let x = rw t at w in
+      test (is_among (codes "pre" ∷ []) n)
+      (λ y. pre_there n (one_name (codes "pre") n y) attributes children ih k.0 k.1 p c s g.1 k.4 f.0 f.1 h)
+      (λ y. let there : is_among text_names n ≡ true = rw y at x in
+      let held : SpellsForest children k.1 = rw (text_keeps n there) at k.4 in
+      text_alone_built n attributes children k.0 k.1 p c s there held f.0 f.1 (f.2 there) h))))
     where
       pre_there : (n : List ℕ) → n ≡ codes "pre" → (attributes : List AttributePair) (children : ValueForest)
           → ForestBuilt children → (slash : Bool) (content : List TokenValue) (p : List ℕ) (c : List (List ℕ))

@@ -294,7 +294,11 @@ texts_agree z s content k mark e begins h =
     let run : Parts z (implied_state z) (first.0 ∷ first.1) b.0 =
     subst (λ xs. Parts z (implied_state z) xs b.0) first.2 (parts z b.1.through) in
     let from_start : Parts z (initial_state z) (first.0 ∷ first.1) b.0 =
-    (refl, refl, run.2, subst (λ y. Through z y first.1 b.0) (sym first.3) run.3) in
+    (
+      refl,
+      ap (λ (y : StateValue). y.content) first.3 ∙ run.1,
+      subst (λ y. Through z y first.1 b.0) (sym first.3) run.2,
+    ) in
     let read : read_within (length s) s (initial_state z) ≡ b.0 =
     in_step z (length s) Normal Normal s [] r.0 (initial_state z) b.0 (codes "body") (codes "html" ∷ []) r.2 refl refl
     (subst (λ xs. Parts z (initial_state z) xs b.0) (sym first.2) from_start) b.1.in_body (omega arith) in

@@ -33,18 +33,21 @@ use Rattle.htmd_html5.specs.Documents.{next_read, after_token, read_within, stat
 use Rattle.htmd_html5.specs.Layout.{coming, Layout, document_of, layout_within}
 use Rattle.htmd_html5_laws.specs.StrictReferences.{IsSettled}
 use Rattle.htmd_html5_laws.specs.StrictTokens.{content_after, tag_named, is_simple_tree, is_simple}
-use Rattle.htmd_html5_laws.specs.StrictTrees.{is_plain_element, is_plain_tree, are_plain, PlainPagesAgree}
+use Rattle.htmd_html5_laws.specs.StrictTrees.{is_plain_element, is_plain_tree, are_plain, text_names}
+use Rattle.htmd_html5_laws.specs.StrictTrees.{PlainPagesAgree}
 use Rattle.htmd_html5_laws.proofs.StrictCuts.{lacks_cut}
 use Rattle.htmd_html5_laws.proofs.StrictPlainTexts.{plain_text, content_lacks}
 use Rattle.htmd_html5_laws.proofs.StrictPieces.{read, lines_same}
-use Rattle.htmd_html5_laws.proofs.StrictSteps.{Run, here, onward}
+use Rattle.htmd_html5_laws.proofs.StrictRawTexts.{raw_children}
+use Rattle.htmd_html5_laws.proofs.StrictSteps.{Run, here, onward, no_tbody}
 use Rattle.htmd_html5_laws.proofs.StrictRuns.{content_read}
 use Rattle.htmd_html5_laws.proofs.StrictNodes.{numbers, node, forest_nodes, forest_count, with_forest}
 use Rattle.htmd_html5_laws.proofs.StrictOpen.{the_document, open_met}
 use Rattle.htmd_html5_laws.proofs.StrictLaid.{ApartTree, ApartForest, levels, most_levels}
 use Rattle.htmd_html5_laws.proofs.StrictLaid.{layout, are_content, plain_is_content, forest_laid}
-use Rattle.htmd_html5_laws.proofs.StrictSets.{aside_element}
+use Rattle.htmd_html5_laws.proofs.StrictSets.{aside_element, text_aside, text_alone}
 use Rattle.htmd_html5_laws.proofs.StrictRules.{IsInBody, Fits, end_of_file_fed}
+use Rattle.htmd_html5_laws.proofs.StrictOnlyText.{IsOneText}
 use Rattle.htmd_html5_laws.proofs.StrictBuilt.{FitsTree, FitsForest, forest_built}
 use Rattle.htmd_html5_laws.proofs.StrictThrough.{Parts, parts}
 use Rattle.htmd_html5_state.specs.Documents as documents
@@ -123,6 +126,21 @@ module _ (z : Bool) where
   content_fits n children ih attributes c last s l (inr w) =
       ih (n ∷ c) true w.0 (lacks_cut 0 w.0 w.1 (subst (λ y. lacks 0 y ≡ true) w.2 l)).0 w.6
 
+  -- an element that holds only text holds one at most
+  text_fits : (n : List ℕ) (attributes : List AttributePair) (children : ValueForest) (c : List (List ℕ)) (last : Bool)
+      (s : List ℕ) → is_among text_names n ≡ true
+      → Inside (project z) (c ++ the_document) last n attributes children s → IsOneText children
+  text_fits n attributes children c last s e (inl w) =
+      test (is_void n)
+      (λ v. let m = rw v at w.5 in rw m.2 tt)
+      (λ v. let m = rw v at w.5 in
+      let k = raw_children z n (c ++ the_document) true children (content_of n w.1) m.0 (text_alone z n e) in
+      elim k [
+        | inl a ↦ rw a.0 tt
+        | inr a ↦ rw a.1 tt
+      ])
+  text_fits n attributes children c last s e (inr w) = absurd (no_tbody z n (text_aside n e) w.3)
+
   mutual
     tree_fits : (t : ValueTree) (c : List (List ℕ)) (last : Bool) (s : List ℕ) → lacks 0 s ≡ true
         → ReadsTree (project z) (c ++ the_document) last t s → FitsTree c t
@@ -133,6 +151,7 @@ module _ (z : Bool) where
     tree_fits (element n attributes children) c last s l h = (
       element_fits z c n h.0,
       content_fits n children (λ d i r m k. forest_fits children d i r m k) attributes c last s l h.2,
+      λ e. text_fits n attributes children c last s e h.2,
     )
 
     pub forest_fits : (ts : ValueForest) (c : List (List ℕ)) (last : Bool) (s : List ℕ) → lacks 0 s ≡ true
@@ -153,7 +172,7 @@ nothing_left (suc k) p c s h =
 
 pub in_step : (z : Bool) (k : ℕ) (now after : Content) (page left : List ℕ) (xs : List TokenValue)
     (s new : StateValue)
-    (p : List ℕ) (c : List (List ℕ)) → Run z now page xs after left → now ≡ Normal → left ≡ [] → Parts
+    (p : List ℕ) (c : List (List ℕ)) → Run z now page xs after left → s.content ≡ now → left ≡ [] → Parts
     z s xs new
     → IsInBody (p ∷ c) new
     → length page ≤ k → read_within k page s ≡ new
@@ -161,11 +180,11 @@ in_step z k now after page left xs s new p c here n e r h l = rw (e, r) (nothing
 in_step z zero now after page left xs s new p c (onward token rest f g m q) n e r h l = absurd (omega arith)
 in_step z (suc k) now after page left xs s new p c (onward token rest f g m q) n e r h l =
     let token_read : next_read page s ≡ read token rest =
-    ap (λ c. next_token c (not (current_is_html s.stack)) page) r.0
-    ∙ ap (λ b. next_token Normal (not b) page) r.1 ∙ ap (λ c. next_token c false page) (sym n) ∙ f in
-    let normal : content_after z now token ≡ Normal = ap (λ c. content_after z c token) n ∙ r.2 in
+    ap (λ c. next_token c (not (current_is_html s.stack)) page) n
+    ∙ ap (λ b. next_token now (not b) page) r.0 ∙ f in
+    let told : (feed token s).content ≡ content_after z now token = r.1 ∙ ap (λ c. content_after z c token) n in
     ap (λ x. after_token (read_within k) x s) token_read
-    ∙ rw g (in_step z k _ after rest left _ (feed token s) new p c q normal e (parts z r.3) h (omega (arith, m, l)))
+    ∙ rw g (in_step z k _ after rest left _ (feed token s) new p c q told e (parts z r.2) h (omega (arith, m, l)))
 
 -- ---- the page
 

@@ -106,7 +106,7 @@ module _ (p : List ℕ) (c : List (List ℕ)) (s : StateValue) (h : IsInBody (p 
     within = within;
   }
 
-  nothing_again : reconstruct s ≡ s
+  pub nothing_again : reconstruct s ≡ s
   nothing_again = settled-reconstruct s settles
 
   pub goes : (token : construction.TokenValue) → goes_to_html token s ≡ true
@@ -120,7 +120,7 @@ module _ (p : List ℕ) (c : List (List ℕ)) (s : StateValue) (h : IsInBody (p 
   processed token new f e =
       sym (process_once token s new (sym (by_html token s f ∙ ap (λ m. in_mode m token s) h.mode ∙ e)))
 
-  fed_start : (tag : TagValue) → feed (start_tag tag) s ≡ start_in_body (named tag) s
+  pub fed_start : (tag : TagValue) → feed (start_tag tag) s ≡ start_in_body (named tag) s
   fed_start tag =
       let token : construction.TokenValue = construction.start_tag (named tag) in
       ap (λ (x : StateValue). process token (out_of_text_mode x)) unskipped ∙ ap (process token) stays_out
@@ -157,7 +157,7 @@ module _ (p : List ℕ) (c : List (List ℕ)) (s : StateValue) (h : IsInBody (p 
   abbrev with_stack : List OpenValue → StateValue
   with_stack stack = record s { stack = stack }
 
-  no_p_closed : met (codes "p" ∷ []) [] (p ∷ c) ≡ false → close (Only tags.P) Button s.stack ≡ s.stack
+  pub no_p_closed : met (codes "p" ∷ []) [] (p ∷ c) ≡ false → close (Only tags.P) Button s.stack ≡ s.stack
   no_p_closed e =
       let none_ : is_in_scope (Only tags.P) Button s.stack ≡ false =
       scope_none (Only tags.P) Button (codes "p" ∷ []) [] p_names (λ n f. absurd (cc)) s.nodes (p ∷ c) s.stack

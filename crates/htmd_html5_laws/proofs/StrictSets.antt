@@ -4,7 +4,7 @@ use Rattle.std.proofs.lemmas.Bool.{not-true}
 use Rattle.htmd_text.proofs.Cases.{test}
 use Rattle.htmd_grammar.specs.CharacterClasses.{is_among}
 use Rattle.htmd_grammar.proofs.NestingLemmas.{same_bytes, one_name, among_passes}
-use Rattle.htmd_grammar.specs.RawContent.{drops_line_feed}
+use Rattle.htmd_grammar.specs.RawContent.{drops_line_feed, holds_text_alone}
 use Rattle.htmd_grammar.specs.Serialisation.{is_void, void_elements}
 use Rattle.htmd_html5_tokens.specs.declared.tokens.Content.TheVariants.{Normal}
 use Rattle.htmd_html5_state.specs.Names.{known, html, spelling}
@@ -12,7 +12,7 @@ use Rattle.htmd_html5_state.specs.Sets.{is_of}
 use Rattle.htmd_html5_state.specs.declared.names.TagName.{TagName}
 use Rattle.htmd_html5_state.specs.declared.sets.NameSet.TheVariants.{Only, Headings, DescriptionParts}
 use Rattle.htmd_html5_laws.specs.StrictTrees.{heading_names}
-use Rattle.htmd_html5_laws.specs.StrictTrees.{is_plain_name, is_plain_element}
+use Rattle.htmd_html5_laws.specs.StrictTrees.{is_plain_name, is_plain_element, text_names}
 use Rattle.htmd_html5_laws.specs.StrictTokens.{content_in, is_set_aside}
 use Rattle.htmd_html5_laws.proofs.StrictRawTexts.{is_name}
 use Rattle.htmd_html5_laws.proofs.StrictOpen.{HasNames, has_names}
@@ -96,11 +96,24 @@ void_aside : (n : List ℕ) → is_void n ≡ true → not (is_set_aside n) ≡ 
 unfolding is_void
 void_aside n v = among_passes (λ m. not (is_set_aside m)) void_elements n v refl
 
+-- elements that hold only text
+pub text_aside : (n : List ℕ) → is_among text_names n ≡ true → is_set_aside n ≡ false
+text_aside n e = not-true (is_set_aside n) (among_passes (λ m. not (is_set_aside m)) text_names n e refl)
+
+pub text_keeps : (n : List ℕ) → is_among text_names n ≡ true → drops_line_feed n ≡ false
+text_keeps n e = not-true (drops_line_feed n) (among_passes (λ m. not (drops_line_feed m)) text_names n e refl)
+
+pub text_alone : (z : Bool) (n : List ℕ) → is_among text_names n ≡ true → holds_text_alone z n ≡ true
+text_alone z n e = among_passes (holds_text_alone z) text_names n e refl
+
 pub aside_element : (n : List ℕ) → is_plain_element n ≡ true → is_set_aside n ≡ false
 aside_element n e =
     test (is_void n) (λ v. not-true (is_set_aside n) (void_aside n v))
     (λ v. let w = rw v at e in
-    test (is_plain_name n) (λ t. aside_name n t) (λ t. rw (one_name (codes "pre") n (rw t at w)) refl))
+    test (is_plain_name n) (λ t. aside_name n t)
+    (λ t. let x = rw t at w in
+    test (is_among (codes "pre" ∷ []) n) (λ y. rw (one_name (codes "pre") n y) refl)
+    (λ y. text_aside n (rw y at x))))
 
 -- and none drops a line feed
 pub keeps_name : (n : List ℕ) → is_plain_name n ≡ true → drops_line_feed n ≡ false

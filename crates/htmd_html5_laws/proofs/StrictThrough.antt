@@ -1,4 +1,4 @@
--- Tokens that are fed one after another, each in the mode "in body".
+-- Tokens that are fed one after another, each with the content that the tokenizer was told.
 use Rattle.std.proofs.Common.{◌≡◌, ℕ, Bool, true, false, List, [], ◌∷◌, ◌++◌, refl, sym, ap, ◌∙◌, subst}
 use Rattle.std.specs.Prelude.{◌==◌}
 use Rattle.htmd_text.proofs.Cases.{test}
@@ -12,37 +12,45 @@ use Rattle.htmd_html5_laws.proofs.StrictOpen.{stands_html}
 use Rattle.htmd_html5_laws.proofs.StrictRules.{IsInBody}
 
 module _ (z : Bool) where
-  -- from one state to another these tokens are fed, each outside raw text and foreign content
+  -- from one state to another these tokens are fed, each outside foreign content, and after each the state tells the
+  -- tokenizer what the token says
   pub data Through : StateValue → List TokenValue → StateValue → Type 0 where
     nothing : {s : StateValue} → Through s [] s
-    one : {s new : StateValue} {xs : List TokenValue} (x : TokenValue) → s.content ≡ Normal
-        → current_is_html s.stack ≡ true → content_after z Normal x ≡ Normal → Through (feed x s) xs new
-        → Through s (x ∷ xs) new
+    one : {s new : StateValue} {xs : List TokenValue} (x : TokenValue) → current_is_html s.stack ≡ true
+        → (feed x s).content ≡ content_after z s.content x → Through (feed x s) xs new → Through s (x ∷ xs) new
 
   pub followed : {a b c : StateValue} {xs ys : List TokenValue} → Through a xs b → Through b ys c
       → Through a (xs ++ ys) c
   followed nothing q = q
-  followed (one x h i e r) q = one x h i e (followed r q)
+  followed (one x i e r) q = one x i e (followed r q)
 
   pub from_state : {s t new : StateValue} {xs : List TokenValue} → t ≡ s → Through s xs new → Through t xs new
   from_state e r = rw e r
 
+  -- one that does this
+  pub with_fed : (x : TokenValue) (s new : StateValue) (xs : List TokenValue) (last : StateValue)
+      → current_is_html s.stack ≡ true → new.content ≡ content_after z s.content x → feed x s ≡ new
+      → Through new xs last → Through s (x ∷ xs) last
+  with_fed x s new xs last i e f r =
+      one x i (ap (λ (y : StateValue). y.content) f ∙ e) (subst (λ y. Through y xs last) (sym f) r)
+
   pub one_fed : (p : List ℕ) (c : List (List ℕ)) (x : TokenValue) (s new : StateValue) (xs : List TokenValue)
-      (last : StateValue) → IsInBody (p ∷ c) s → content_after z Normal x ≡ Normal → feed x s ≡ new
+      (last : StateValue) → IsInBody (p ∷ c) s → new.content ≡ content_after z Normal x → feed x s ≡ new
       → Through new xs last → Through s (x ∷ xs) last
   one_fed p c x s new xs last h e f r =
-      one x h.content (stands_html s.nodes (p ∷ c) s.stack h.stands) e (subst (λ y. Through y xs last) (sym f) r)
+      with_fed x s new xs last (stands_html s.nodes (p ∷ c) s.stack h.stands)
+      (e ∙ ap (λ now. content_after z now x) (sym h.content)) f r
 
   -- how it begins
   abbrev pub Parts : StateValue → List TokenValue → StateValue → Type 0
   Parts s [] new = s ≡ new
   Parts s (x ∷ xs) new =
-      (s.content ≡ Normal) × (current_is_html s.stack ≡ true) × (content_after z Normal x ≡ Normal)
+      (current_is_html s.stack ≡ true) × ((feed x s).content ≡ content_after z s.content x)
       × Through (feed x s) xs new
 
   pub parts : {s new : StateValue} {xs : List TokenValue} → Through s xs new → Parts s xs new
   parts nothing = refl
-  parts (one x h i e r) = (h, i, e, r)
+  parts (one x i e r) = (i, e, r)
 
   -- ---- where a line feed that comes next is dropped
 
@@ -61,7 +69,7 @@ module _ (z : Bool) where
         → Through s (x ∷ xs) new → Through (skips s) (x ∷ xs) new
     as_before x xs new e r =
         let k = parts r in
-        one x h.content html_there k.2 (subst (λ y. Through y xs new) (sym e) k.3)
+        with_fed x (skips s) (feed x s) xs new html_there k.1 e k.2
 
     text_same : (u v : List ℕ) → without_line_feed true u ≡ v → feed (text u) (skips s) ≡ feed (text v) s
     text_same u v e =
@@ -81,16 +89,15 @@ module _ (z : Bool) where
     after_text (b ∷ []) ys last new r =
         test (b == 10)
         (λ t. let w : Through s (ys ++ (last ∷ [])) new = rw t at r in
-        one (text (b ∷ [])) h.content html_there refl
-        (subst (λ y. Through y (ys ++ (last ∷ [])) new) (sym (line_feed_fed b t)) w))
+        with_fed (text (b ∷ [])) (skips s) s (ys ++ (last ∷ [])) new html_there refl (line_feed_fed b t) w)
         (λ t. let w : Through s (text (b ∷ []) ∷ (ys ++ (last ∷ []))) new = rw t at r in
         as_before (text (b ∷ [])) (ys ++ (last ∷ [])) new (text_same (b ∷ []) (b ∷ []) (rw t refl)) w)
     after_text (b ∷ d ∷ v) ys last new r =
         test (b == 10)
         (λ t. let w : Through s (text (d ∷ v) ∷ (ys ++ (last ∷ []))) new = rw t at r in
         let k = parts w in
-        one (text (b ∷ d ∷ v)) h.content html_there refl
-        (subst (λ y. Through y (ys ++ (last ∷ [])) new) (sym (text_same (b ∷ d ∷ v) (d ∷ v) (rw t refl))) k.3))
+        with_fed (text (b ∷ d ∷ v)) (skips s) (feed (text (d ∷ v)) s) (ys ++ (last ∷ [])) new html_there k.1
+        (text_same (b ∷ d ∷ v) (d ∷ v) (rw t refl)) k.2)
         (λ t. let w : Through s (text (b ∷ d ∷ v) ∷ (ys ++ (last ∷ []))) new = rw t at r in
         as_before (text (b ∷ d ∷ v)) (ys ++ (last ∷ [])) new
         (text_same (b ∷ d ∷ v) (b ∷ d ∷ v) (rw t refl)) w)

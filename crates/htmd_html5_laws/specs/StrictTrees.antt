@@ -51,10 +51,16 @@ is_plain_name n =
     is_unknown_name (name_of_text n) || is_among ordinary_names n || is_among formatting_names n
     || is_among block_names n || is_among heading_names n || is_among other_names n
 
+-- elements that hold only text, but for `noscript`, `script` and `textarea`
+abbrev pub text_names : List (List ℕ)
+text_names =
+    codes "iframe" ∷ codes "noembed" ∷ codes "noframes" ∷ codes "style" ∷ codes "title" ∷ codes "xmp" ∷ []
+
 -- all void elements but `col`, elements with such names, and `pre`
 abbrev pub is_plain_element : List ℕ → Bool
 is_plain_element n =
-    if is_void n then not (is_among (codes "col" ∷ []) n) else is_plain_name n || is_among (codes "pre" ∷ []) n
+    if is_void n then not (is_among (codes "col" ∷ []) n)
+    else is_plain_name n || is_among (codes "pre" ∷ []) n || is_among text_names n
 
 abbrev mutual
   -- texts, comments, and plain elements with plain trees in them
