@@ -26,7 +26,7 @@ use Rattle.htmd_html5_laws.specs.StrictTokens.{after_feed, content_tokens}
 use Rattle.htmd_html5_laws.specs.StrictTrees.{is_plain_name, is_plain_element, is_plain_tree}
 use Rattle.htmd_html5_laws.specs.StrictTrees.{are_plain, text_names}
 use Rattle.htmd_html5_laws.proofs.StrictNodes.{node, tree_nodes, append_length, added, last_text}
-use Rattle.htmd_html5_laws.proofs.StrictNodes.{text_added, new_last_text, kind_after, kinds_kept}
+use Rattle.htmd_html5_laws.proofs.StrictNodes.{text_added, kind_after, kinds_kept}
 use Rattle.htmd_html5_laws.proofs.StrictNodes.{with_tree, with_forest, forest_joined, filled, tree_last, is_text, begins_text}
 use Rattle.htmd_html5_laws.proofs.StrictNodes.{no_text_next, with_tree_longer, append_none}
 use Rattle.htmd_html5_laws.proofs.StrictOpen.{Fewer, fewer_same, fewer_trans, entries, Stands, stands_longer}
@@ -252,7 +252,8 @@ module _ (z : Bool) where
           (fewer_trans started.0 s.formatting (entries s.stack) started.1 h.listed) in
           let run = to_end p n c content _ _ r.0 _ r.1 ends.2 r.1.in_body.content in
           closed p n c attributes children slash content content s r.0 list ends.0 s.frameset_ok h
-          (ap (λ (y : StateValue). y.content) started.2 ∙ h.content ∙ sym (plain_content z n e)) r.1 (from_state z started.2 run)
+          (ap (λ (y : StateValue). y.content) started.2 ∙ h.content ∙ sym (plain_content z n e)) r.1
+          (from_state z started.2 run)
           (fewer_trans ends.0 started.0 s.formatting ends.1 started.1)
 
       unformatted : is_formatting_case (plain_case n e) ≡ false
@@ -267,7 +268,8 @@ module _ (z : Bool) where
           let ends = plain_end n (p ∷ c) r.0 r.1.in_body n (plain_case n e) t (length s.nodes) s.stack r.1.stack in
           let run = to_end p n c content _ _ r.0 _ r.1 ends r.1.in_body.content in
           closed p n c attributes children slash content content s r.0 s.formatting (r.0).formatting started.0 h
-          (ap (λ (y : StateValue). y.content) started.1 ∙ h.content ∙ sym (plain_content z n e)) r.1 (from_state z started.1 run) r.1.fewer
+          (ap (λ (y : StateValue). y.content) started.1 ∙ h.content ∙ sym (plain_content z n e)) r.1
+          (from_state z started.1 run) r.1.fewer
 
   pre_built : (attributes : List AttributePair) (children : ValueForest) → ForestBuilt children
       → (slash : Bool) (content : List TokenValue) (p : List ℕ) (c : List (List ℕ)) (s : StateValue)
@@ -308,9 +310,9 @@ module _ (z : Bool) where
 
   -- an element that holds only text
   text_alone_built : (n : List ℕ) (attributes : List AttributePair) (children : ValueForest) (slash : Bool)
-      (content : List TokenValue) (p : List ℕ) (c : List (List ℕ)) (s : StateValue) → is_among text_names n ≡ true
-      → SpellsForest children content → Fits (p ∷ c) n → FitsForest (n ∷ (p ∷ c)) children → IsOneText children
-      → IsInBody (p ∷ c) s
+      (content : List TokenValue) (p : List ℕ) (c : List (List ℕ)) (s : StateValue)
+      → is_among text_names n ≡ true → SpellsForest children content → Fits (p ∷ c) n
+      → FitsForest (n ∷ (p ∷ c)) children → IsOneText children → IsInBody (p ∷ c) s
       → (new : StateValue) × Built (p ∷ c)
       (start_tag (tag_named n attributes slash) ∷ (content ++ (end_tag (tag_named n [] false) ∷ [])))
       (with_tree (at s) (element n attributes children) s.nodes) s new
@@ -318,7 +320,8 @@ module _ (z : Bool) where
       rw k (put_whole p c n attributes none s _ h (none_put z p c s h n e f attributes slash))
   text_alone_built n attributes (more (text u) none) slash content p c s e k f ff o h =
       let q : content ≡ tokens.text u ∷ [] =
-      k.2 ∙ ap (λ (ys : List TokenValue). ys ++ k.1) k.3 ∙ ap (λ (ys : List TokenValue). tokens.text u ∷ ys) k.4 in
+      k.2 ∙ ap (λ (ys : List TokenValue). ys ++ k.1) k.3
+      ∙ ap (λ (ys : List TokenValue). tokens.text u ∷ ys) k.4 in
       rw q (put_whole p c n attributes (more (text u) none) s _ h (text_put z p c s h n e f attributes slash u ff.1))
   text_alone_built n attributes (more (text u) (more t ts)) slash content p c s e k f ff o h = absurd o
   text_alone_built n attributes (more (document ks) ts) slash content p c s e k f ff o h = absurd o

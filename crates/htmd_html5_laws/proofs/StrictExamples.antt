@@ -63,6 +63,14 @@ a_table : is_plain_element (codes "table") ≡ false
 unfolding is_void
 a_table = refl
 
+an_element_of_only_text : is_plain_element (codes "style") ≡ true
+unfolding is_void
+an_element_of_only_text = refl
+
+a_script_is_not_plain : is_plain_element (codes "script") ≡ false
+unfolding is_void
+a_script_is_not_plain = refl
+
 a_script_is_set_aside : is_simple (more (trees.element (codes "script") [] none) none) ≡ false
 a_script_is_set_aside = refl
 
@@ -77,3 +85,10 @@ a_text_and_a_paragraph : html5_document false (codes "a<p>b</p>")
     (more (trees.element (codes "p") [] (more (trees.text (codes "b")) none)) none)))
 unfolding html5_document block_rule formatting_rule phrasing_rule text_end_rule
 a_text_and_a_paragraph = refl
+
+-- a `style` stays where it is, and holds only text
+a_style_in_the_body : html5_document false (codes "a<style><b></style>")
+    ≡ document_items (skeleton (more (trees.text (codes "a"))
+    (more (trees.element (codes "style") [] (more (trees.text (codes "<b>")) none)) none)))
+unfolding html5_document block_rule formatting_rule phrasing_rule text_end_rule
+a_style_in_the_body = refl

@@ -293,8 +293,7 @@ texts_agree z s content k mark e begins h =
     let first = first_token z (codes "body" ∷ codes "html" ∷ []) content r.0 r.1 f begins in
     let run : Parts z (implied_state z) (first.0 ∷ first.1) b.0 =
     subst (λ xs. Parts z (implied_state z) xs b.0) first.2 (parts z b.1.through) in
-    let from_start : Parts z (initial_state z) (first.0 ∷ first.1) b.0 =
-    (
+    let from_start : Parts z (initial_state z) (first.0 ∷ first.1) b.0 = (
       refl,
       ap (λ (y : StateValue). y.content) first.3 ∙ run.1,
       subst (λ y. Through z y first.1 b.0) (sym first.3) run.2,

@@ -1,13 +1,12 @@
 -- An element that holds only text, in the mode "in body": its tags and its text put it and its text.
 use Rattle.std.proofs.Common.{◌≡◌, ℕ, ◌<◌, Bool, true, false, List, [], ◌∷◌, ◌++◌, length, None, refl, sym, ap, ◌∙◌}
 use Rattle.std.proofs.Common.{arith, subst, codes, length-append}
-use Rattle.htmd_text.proofs.Cases.{test}
 use Rattle.htmd_grammar.specs.ValueTrees.{AttributePair, ValueTree, ValueForest, none, more, text, element}
 use Rattle.htmd_grammar.specs.CharacterClasses.{is_among, is_empty}
 use Rattle.htmd_html5_tokens.specs.Tokens.{TokenValue, start_tag, end_tag}
 use Rattle.htmd_html5_tokens.specs.declared.tokens.Content.TheVariants.{Normal, Raw}
 use Rattle.htmd_html5_tokens.specs.declared.tokens.RawElement.{RawElement}
-use Rattle.htmd_html5_state.specs.Names.{NameValue, known, html, name_of_text}
+use Rattle.htmd_html5_state.specs.Names.{known, html, name_of_text}
 use Rattle.htmd_html5_state.specs.Documents.{NodeValue, append_children, add, add_text, last_in}
 use Rattle.htmd_html5_state.specs.Foreign.{current_is_html}
 use Rattle.htmd_html5_state.specs.OpenElements.{OpenValue}
@@ -36,12 +35,13 @@ use Rattle.htmd_html5_state.specs.Documents as documents
 abbrev pub at : StateValue → ℕ
 at s = (current s.stack).node
 
-pub at_end : (p : List ℕ) (c : List (List ℕ)) (s : StateValue) → IsInBody (p ∷ c) s → place s ≡ last_in (at s)
+pub at_end : (p : List ℕ) (c : List (List ℕ)) (s : StateValue) → IsInBody (p ∷ c) s
+    → place s ≡ last_in (at s)
 at_end p c s h = rw h.no_foster refl
 
 -- the nodes of an element without its content
-pub element_added : (p : List ℕ) (c : List (List ℕ)) (n : List ℕ) (attributes : List AttributePair) (s : StateValue)
-    → IsInBody (p ∷ c) s
+pub element_added : (p : List ℕ) (c : List (List ℕ)) (n : List ℕ) (attributes : List AttributePair)
+    (s : StateValue) → IsInBody (p ∷ c) s
     → add (documents.element (html (name_of_text n)) attributes) (place s) s.nodes
     ≡ append_children (at s) (length s.nodes ∷ []) s.nodes
     ++ node (documents.element (html (name_of_text n)) attributes) (at s) [] ∷ []
@@ -104,30 +104,31 @@ module _ (z : Bool) where
     all_start = (
       λ f a b. (raw.Iframe, false, refl, refl, fed_start p c s h (tag_named (codes "iframe") a b)),
       (
-      λ f a b. (raw.Noembed, s.frameset_ok, refl, refl, fed_start p c s h (tag_named (codes "noembed") a b)),
-      (
-      λ f a b. (raw.Noframes, s.frameset_ok, refl, refl, fed_start p c s h (tag_named (codes "noframes") a b)),
-      (
-      λ f a b. (raw.Style, s.frameset_ok, refl, refl, fed_start p c s h (tag_named (codes "style") a b)),
-      (
-      λ f a b. (raw.Title, s.frameset_ok, refl, refl, fed_start p c s h (tag_named (codes "title") a b)),
-      (
-      λ f a b. (
-        raw.Xmp,
-        false,
-        refl,
-        refl,
-        fed_start p c s h (tag_named (codes "xmp") a b)
-            ∙ ap (λ stack. no_frameset (insert_raw (known tags.Xmp) raw.Xmp a
-            (reconstruct (record s { stack = stack })))) (no_p_closed p c s h (f.paragraph refl))
-            ∙ ap (λ (y : StateValue). no_frameset (insert_raw (known tags.Xmp) raw.Xmp a y)) (nothing_again p c s h),
+        λ f a b. (raw.Noembed, s.frameset_ok, refl, refl, fed_start p c s h (tag_named (codes "noembed") a b)),
+        (
+          λ f a b. (raw.Noframes, s.frameset_ok, refl, refl, fed_start p c s h (tag_named (codes "noframes") a b)),
+          (
+            λ f a b. (raw.Style, s.frameset_ok, refl, refl, fed_start p c s h (tag_named (codes "style") a b)),
+            (
+              λ f a b. (raw.Title, s.frameset_ok, refl, refl, fed_start p c s h (tag_named (codes "title") a b)),
+              (
+                λ f a b. (
+                  raw.Xmp,
+                  false,
+                  refl,
+                  refl,
+                  fed_start p c s h (tag_named (codes "xmp") a b)
+                      ∙ ap (λ stack. no_frameset (insert_raw (known tags.Xmp) raw.Xmp a
+                      (reconstruct (record s { stack = stack })))) (no_p_closed p c s h (f.paragraph refl))
+                      ∙ ap (λ (y : StateValue). no_frameset (insert_raw (known tags.Xmp) raw.Xmp a y))
+                      (nothing_again p c s h),
+                ),
+                tt,
+              ),
+            ),
+          ),
+        ),
       ),
-      tt,
-    ),
-    ),
-    ),
-    ),
-    ),
     )
 
     starts : (n : List ℕ) → is_among text_names n ≡ true → Starts n
@@ -160,7 +161,8 @@ module _ (z : Bool) where
 
     end_held : (e : OpenValue) (nodes : List NodeValue) (ok : Bool) (kind : RawElement) (n : List ℕ)
         → is_text_mode (Raw kind) ≡ true
-        → feed (end_tag (tag_named n [] false)) (held e nodes ok kind) ≡ record s { nodes = nodes; frameset_ok = ok }
+        → feed (end_tag (tag_named n [] false)) (held e nodes ok kind)
+        ≡ record s { nodes = nodes; frameset_ok = ok }
     end_held e nodes ok kind n m =
         let closed : feed (end_tag (tag_named n [] false)) (held e nodes ok kind)
         ≡ record s { nodes = nodes; frameset_ok = ok; skips_line_feed = false; content = Normal } =

@@ -127,8 +127,8 @@ module _ (z : Bool) where
       ih (n ∷ c) true w.0 (lacks_cut 0 w.0 w.1 (subst (λ y. lacks 0 y ≡ true) w.2 l)).0 w.6
 
   -- an element that holds only text holds one at most
-  text_fits : (n : List ℕ) (attributes : List AttributePair) (children : ValueForest) (c : List (List ℕ)) (last : Bool)
-      (s : List ℕ) → is_among text_names n ≡ true
+  text_fits : (n : List ℕ) (attributes : List AttributePair) (children : ValueForest) (c : List (List ℕ))
+      (last : Bool) (s : List ℕ) → is_among text_names n ≡ true
       → Inside (project z) (c ++ the_document) last n attributes children s → IsOneText children
   text_fits n attributes children c last s e (inl w) =
       test (is_void n)

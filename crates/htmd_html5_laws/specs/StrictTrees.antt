@@ -56,7 +56,7 @@ abbrev pub text_names : List (List ℕ)
 text_names =
     codes "iframe" ∷ codes "noembed" ∷ codes "noframes" ∷ codes "style" ∷ codes "title" ∷ codes "xmp" ∷ []
 
--- all void elements but `col`, elements with such names, and `pre`
+-- all void elements but `col`, elements with these names, and `pre`
 abbrev pub is_plain_element : List ℕ → Bool
 is_plain_element n =
     if is_void n then not (is_among (codes "col" ∷ []) n)
