@@ -17,7 +17,8 @@ module _ (z : Bool) where
   pub data Through : StateValue → List TokenValue → StateValue → Type 0 where
     nothing : {s : StateValue} → Through s [] s
     one : {s new : StateValue} {xs : List TokenValue} (x : TokenValue) → current_is_html s.stack ≡ true
-        → (feed x s).content ≡ content_after z s.content x → Through (feed x s) xs new → Through s (x ∷ xs) new
+        → (feed x s).content ≡ content_after z s.content x → Through (feed x s) xs new
+        → Through s (x ∷ xs) new
 
   pub followed : {a b c : StateValue} {xs ys : List TokenValue} → Through a xs b → Through b ys c
       → Through a (xs ++ ys) c
