@@ -19,7 +19,7 @@ use Rattle.htmd_tree_laws.proofs.KeptBlocks.{all_front, all_behind, not_all, not
 use Rattle.htmd_tree_laws.proofs.KeptChains.{keeps-as, keeps-respaced, keeps-safe, keeps-says, visible_respaced}
 use Rattle.htmd_tree_laws.proofs.KeptChains.{keeps-of_nothing}
 use Rattle.htmd_tree_laws.proofs.KeptMarks.{is_safe, respaced-gone, respaced-append, respaced-same, Respaced}
-use Rattle.htmd_tree_laws.proofs.KeptMeetings.{is_of_fence}
+use Rattle.htmd_tree_laws.proofs.KeptEnds.{is_of_fence}
 use Rattle.htmd_tree_laws.proofs.KeptLines.{safe-append, start_white}
 use Rattle.htmd_tree_laws.proofs.LettersLemmas.{is_white, counted_append, white_ascii, whites_silent, whites_fill}
 use Rattle.htmd_tree_laws.proofs.LettersLemmas.{fillers_ascii}

@@ -47,7 +47,7 @@ use Rattle.htmd_tree_laws.proofs.KeptPieces.{keeps-mark_last, emphasis_parts, di
 use Rattle.htmd_tree_laws.proofs.CountedTexts.{of_visible, part-append, part-of_nothing, holds-own}
 use Rattle.htmd_tree_laws.proofs.LettersLemmas.{Says, counted_append, says-behind}
 use Rattle.htmd_tree_laws.proofs.LiteralPieces.{many_last}
-use Rattle.htmd_tree_laws.proofs.KeptMeetings.{is_of_fence}
+use Rattle.htmd_tree_laws.proofs.KeptEnds.{is_of_fence}
 use Rattle.htmd_tree_laws.proofs.LettersOfTexts.{document_of_white, line_feed_of_white, bytes_high, all_reads}
 use Rattle.htmd_tree_laws.proofs.LinedTexts.{lined-indented, lined-quoted, lined-block}
 

@@ -13,7 +13,8 @@ use Rattle.htmd_tree_laws.specs.Shown.{visible, IsPart}
 use Rattle.htmd_tree_laws.proofs.CountedTexts.{of_visible, part-append, holds-own}
 use Rattle.htmd_tree_laws.proofs.KeptMarks.{is_safe}
 use Rattle.htmd_tree_laws.proofs.KeptChains.{Keeps, keeps-append, keeps-says, keeps-safe, keeps-nil}
-use Rattle.htmd_tree_laws.proofs.KeptMeetings.{is_of_fence, IsEnd, keeps-meeting}
+use Rattle.htmd_tree_laws.proofs.KeptEnds.{is_of_fence, IsEnd}
+use Rattle.htmd_tree_laws.proofs.KeptMeetings.{keeps-meeting}
 use Rattle.htmd_tree_laws.proofs.LettersLemmas.{Says, says-own, says-append, says-in}
 
 -- ---- two ways to cut a text

@@ -59,7 +59,8 @@ use Rattle.htmd_tree_laws.proofs.KeptChains.{Keeps, keeps-append, keeps-is, keep
 use Rattle.htmd_tree_laws.proofs.KeptChains.{keeps-before, keeps-nil, keeps-of_nothing, keeps-ordinary, keeps-literal}
 use Rattle.htmd_tree_laws.proofs.KeptChains.{keeps-first, keeps-last, keeps-says, first_of, last_of, rest_of}
 use Rattle.htmd_tree_laws.proofs.KeptChains.{front_of, first_whole, last_whole, first_fits, last_fits}
-use Rattle.htmd_tree_laws.proofs.KeptMeetings.{IsFront, IsRest, front_text, stops_at_front, rest_opens}
+use Rattle.htmd_tree_laws.proofs.KeptEnds.{IsFront, IsRest}
+use Rattle.htmd_tree_laws.proofs.KeptMeetings.{front_text, stops_at_front, rest_opens}
 use Rattle.htmd_tree_laws.proofs.Literals.{opens, closing}
 use Rattle.htmd_tree_laws.proofs.LiteralPieces.{literal_span, literal_fenced, literal_formula, literal_autolink}
 use Rattle.htmd_tree_laws.proofs.LettersLemmas.{Says, says-before, says-behind, is_white}

@@ -37,6 +37,7 @@ pub mod KeptMarks
 pub mod Literals
 pub mod KeptChains
 pub mod KeptJoints
+pub mod KeptEnds
 pub mod KeptMeetings
 pub mod LiteralPieces
 pub mod KeptLines

@@ -20,7 +20,7 @@ use Rattle.htmd_walk.specs.Seams.{joined_at_seam, begins_with_space, ends_with_s
 use Rattle.htmd_tree_laws.proofs.KeptLines.{rejoin, split_is, spread, feeds-append, first_feeds, quoted_next}
 use Rattle.htmd_tree_laws.proofs.KeptLines.{same_lines, indented_is}
 use Rattle.htmd_tree_laws.proofs.KeptMarks.{Respaced, is_safe}
-use Rattle.htmd_tree_laws.proofs.KeptMeetings.{is_of_fence, line_safe}
+use Rattle.htmd_tree_laws.proofs.KeptEnds.{is_of_fence, line_safe}
 use Rattle.htmd_tree_laws.proofs.LettersLemmas.{is_white}
 use Rattle.htmd_tree_laws.proofs.LettersOfLines.{some_part, last_reads}
 use Rattle.htmd_tree_laws.proofs.LettersOfTexts.{document_of_white, space_of_white, end_white}
