@@ -402,7 +402,8 @@ blanks_end (c ∷ cs) rest some =
     let whole : take_while is_blank (c ∷ cs) ≡ c ∷ take_while is_blank cs =
     take_while-cons is_blank c cs ∙ cond-true (is_blank c) _ _ blank in
     let tail = encode_utf8_all (take_while is_blank cs) in
-    subst (λ (l : List ℕ). is_heading_place (encode_utf8_all l ++ rest) (length (encode_utf8_all l)) ≡ true) (sym whole)
+    subst (λ (l : List ℕ). is_heading_place (encode_utf8_all l ++ rest) (length (encode_utf8_all l)) ≡ true)
+    (sym whole)
     (⊎_elim
     (λ (more : 0 < length tail).
     ap (λ l. is_heading_place l (length (encode_utf8 c ++ tail))) (append_assoc (encode_utf8 c) tail rest)
@@ -415,7 +416,8 @@ blanks_end (c ∷ cs) rest some =
     ∙ one_blank c (tail ++ rest) blank)
     (cases_lt 0 (length tail))))
     (λ (other : is_blank c ≡ false).
-    let none : take_while is_blank (c ∷ cs) ≡ [] = take_while-cons is_blank c cs ∙ cond-false (is_blank c) _ _ other in
+    let none : take_while is_blank (c ∷ cs) ≡ [] =
+    take_while-cons is_blank c cs ∙ cond-false (is_blank c) _ _ other in
     absurd (omega (arith, some, ap (λ l. length (encode_utf8_all l)) none)))
     (cases_Bool (is_blank c))
 

@@ -29,7 +29,8 @@ block_is_punctuation b e = grind (arith, nat_tests)
 colon_is_punctuation : (b : ℕ) (rest : Bool) → ((b == colon) && rest) ≡ true → is_ascii_punctuation b ≡ true
 colon_is_punctuation b rest e = let first = (and_parts (b == colon) rest e).0 in grind (arith, nat_tests)
 
-sign_at_is_punctuation : (s : List ℕ) (k : ℕ) → is_sign_at s k ≡ true → is_ascii_punctuation (slice_index s k) ≡ true
+sign_at_is_punctuation : (s : List ℕ) (k : ℕ) → is_sign_at s k ≡ true
+    → is_ascii_punctuation (slice_index s k) ≡ true
 sign_at_is_punctuation s k e =
     let b = slice_index s k in
     ⊎_elim (block_is_punctuation b) (colon_is_punctuation b _) (or_cases (is_block_sign b) _ e)

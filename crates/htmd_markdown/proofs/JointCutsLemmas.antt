@@ -24,7 +24,8 @@ tail_text [] ys s text e = subst (λ (l : List ℕ). IsUtf8 l) e text
 tail_text (x ∷ xs) ys s text e =
     tail_text xs ys (encode_utf8_all (xs ++ ys)) (IsUtf8-past_char s (encode_utf8_all (xs ++ ys)) x text e) refl
 
-pub cut_between : (s xs ys : List ℕ) → IsUtf8 s → chars s ≡ xs ++ ys → IsCharBoundary s (length (encode_utf8_all xs))
+pub cut_between : (s xs ys : List ℕ) → IsUtf8 s → chars s ≡ xs ++ ys
+    → IsCharBoundary s (length (encode_utf8_all xs))
 cut_between s xs ys text split =
     let whole : s ≡ encode_utf8_all (xs ++ ys) = sym (encodes-chars s text) ∙ ap encode_utf8_all split in
     let parts : s ≡ encode_utf8_all xs ++ encode_utf8_all ys = whole ∙ encodes-append xs ys in
@@ -86,7 +87,8 @@ plain_end-cut s text =
     let split : chars s ≡ reverse others ++ reverse signs =
     sym (reverse-reverse (chars s)) ∙ ap reverse (signs_back back) ∙ reverse-append signs others in
     let bytes : length s ≡ length (encode_utf8_all (reverse others)) + length (encode_utf8_all (reverse signs)) =
-    ap length (sym (encodes-chars s text) ∙ ap encode_utf8_all split ∙ encodes-append (reverse others) (reverse signs))
+    ap length
+    (sym (encodes-chars s text) ∙ ap encode_utf8_all split ∙ encodes-append (reverse others) (reverse signs))
     ∙ length-append (encode_utf8_all (reverse others)) (encode_utf8_all (reverse signs)) in
     let place : length (encode_utf8_all (reverse others)) ≡ length s - plain_end s =
     omega (arith, bytes, length-turned signs) in (

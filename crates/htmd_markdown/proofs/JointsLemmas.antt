@@ -68,7 +68,8 @@ plain_on-stop text rest next len c escaped e other was =
     ap (plain_signs escaped) step ∙ cond-false (is_plain_at escaped c) _ _ other in
     omega (arith, was.answer, ap (λ l. length (encode_utf8_all l)) none)
 
-pub plain_on-end : (text rest : List ℕ) (len : ℕ) (escaped : Bool) → length rest ≡ 0 → PlainOn text rest len escaped
+pub plain_on-end : (text rest : List ℕ) (len : ℕ) (escaped : Bool) → length rest ≡ 0
+    → PlainOn text rest len escaped
     → len ≡ plain_start text
 plain_on-end text [] len escaped none was =
     omega (arith, was.answer, ap (λ l. length (encode_utf8_all (plain_signs escaped l))) chars-nil)
@@ -188,7 +189,8 @@ plain_back-end text (b ∷ rest) start none was = absurd (omega arith)
 pub first_is : (s rest : List ℕ) (c : ℕ) → IsUtf8 s → s ≡ encode_utf8 c ++ rest → first_character s ≡ c
 first_is s rest c text e = ap (λ l. get_or l 0 0) (chars_past_char s rest c text e)
 
-pub last_is : (s rest : List ℕ) (c : ℕ) → IsUtf8 s → IsScalar c → s ≡ rest ++ encode_utf8 c → last_character s ≡ c
+pub last_is : (s rest : List ℕ) (c : ℕ) → IsUtf8 s → IsScalar c → s ≡ rest ++ encode_utf8 c
+    → last_character s ≡ c
 last_is s rest c text scalar e =
     ap (λ l. get_or (reverse l) 0 0) (characters_of s rest c (before_character s rest c text scalar e) scalar e)
     ∙ ap (λ l. get_or l 0 0) (reverse-append (chars rest) (c ∷ []))

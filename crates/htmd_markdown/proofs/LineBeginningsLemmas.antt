@@ -47,7 +47,8 @@ none_looked_at zero = refl
 none_looked_at (suc n) = refl
 
 -- what comes before a character is a text
-pub before_character : (whole rest : List ℕ) (c : ℕ) → IsUtf8 whole → IsScalar c → whole ≡ rest ++ encode_utf8 c
+pub before_character : (whole rest : List ℕ) (c : ℕ) → IsUtf8 whole → IsScalar c
+    → whole ≡ rest ++ encode_utf8 c
     → IsUtf8 rest
 before_character whole rest c text scalar e =
     let cut = IsCharBoundary-at_seam whole rest (encode_utf8 c) e (IsUtf8-encode c scalar) in

@@ -11,11 +11,13 @@ row cells = record { begins_group = false; cells = cells }
 abbrev first_row : List SpannedCell → SpannedRow
 first_row cells = record { begins_group = true; cells = cells }
 
-pub columns_kept : grid (row (cell (codes "AB") 2 1 ∷ []) ∷ row (cell (codes "A") 1 1 ∷ cell (codes "B") 1 1 ∷ []) ∷ [])
+pub columns_kept : grid
+    (row (cell (codes "AB") 2 1 ∷ []) ∷ row (cell (codes "A") 1 1 ∷ cell (codes "B") 1 1 ∷ []) ∷ [])
     ≡ (codes "AB" ∷ [] ∷ []) ∷ (codes "A" ∷ codes "B" ∷ []) ∷ []
 columns_kept = refl
 
-pub row_kept : grid (row (cell (codes "1") 1 2 ∷ cell (codes "2") 1 1 ∷ []) ∷ row (cell (codes "3") 1 1 ∷ []) ∷ [])
+pub row_kept : grid
+    (row (cell (codes "1") 1 2 ∷ cell (codes "2") 1 1 ∷ []) ∷ row (cell (codes "3") 1 1 ∷ []) ∷ [])
     ≡ (codes "1" ∷ codes "2" ∷ []) ∷ ([] ∷ codes "3" ∷ []) ∷ []
 row_kept = refl
 

@@ -205,7 +205,8 @@ fitting_rows bars ws [] covers = tt
 fitting_rows bars ws (cells ∷ rows) covers =
     (fitting_row bars ws cells.items covers.0, fitting_rows bars ws rows covers.1)
 
-fitting_lines : {Z Y : Type 0} (bars : Bars) (ws : List ℕ) (headers : List (String Z)) (rows : List (Vec (String Z) Y))
+fitting_lines : {Z Y : Type 0} (bars : Bars) (ws : List ℕ) (headers : List (String Z))
+    (rows : List (Vec (String Z) Y))
     → CoversAll (map (map (width_of bars)) (texts headers ∷ map row_texts rows)) ws
     → AreLines (Fitting (Own bars) ws) ws (all_lines bars ws (texts headers) (map row_texts rows))
 fitting_lines bars ws [] rows covers = fitting_rows bars ws rows covers.1

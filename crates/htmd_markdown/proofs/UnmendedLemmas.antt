@@ -29,7 +29,8 @@ no_asterisk : (s : List ℕ) → is_guarded (asterisk ∷ s) ≡ true → ⊥
 no_asterisk [] e = false≢true e
 no_asterisk (c ∷ s) e = false≢true e
 
-begins_not : (x : ℕ) → (x == 0) ≡ false → ((s : List ℕ) → is_guarded (x ∷ s) ≡ true → ⊥) → (content : List ℕ)
+begins_not : (x : ℕ) → (x == 0) ≡ false → ((s : List ℕ) → is_guarded (x ∷ s) ≡ true → ⊥)
+    → (content : List ℕ)
     → is_guarded content ≡ true → begins_with x content ≡ false
 begins_not x some never [] e = grind (arith, nat_tests)
 begins_not x some never (b ∷ s) e =
@@ -52,7 +53,8 @@ unmended out content e none =
     let span = begins_not grave_accent refl no_backquote content e in
     let runs : joint_of_runs (ending_run out) (beginning_run content) (take (length out - ending_run out) out)
     (drop (beginning_run content) content) ≡ AsTheyAre =
-    ap (λ n. joint_of_runs n (beginning_run content) (take (length out - n) out) (drop (beginning_run content) content))
+    ap
+    (λ n. joint_of_runs n (beginning_run content) (take (length out - n) out) (drop (beginning_run content) content))
     none
     ∙ ap (λ n. joint_of_runs 0 n (take (length out - 0) out) (drop n content)) (guarded-beginning content e) in
     let joint : joint_of out content ≡ AsTheyAre =

@@ -26,7 +26,8 @@ returns c =
     ∙ between_from_start c.args.out.now (length c.args.out.now - c.ending_run-ending.result) in
     let behind : c.range_from.result.now ≡ drop c.leading_len-beginning.result c.args.content.now = search rules in
     c.joint_of_runs.ensures
-    ∙ joint_told c.args.out.now c.args.content.now c.range.result.now c.range_from.result.now c.ending_run-ending.result
+    ∙ joint_told c.args.out.now c.args.content.now c.range.result.now c.range_from.result.now
+    c.ending_run-ending.result
     c.leading_len-beginning.result (sym c.meets_bracket.ensures ∙ c.if-meets_bracket.false)
     (sym c.backquotes_meet.ensures ∙ c.if-backquotes_meet.false)
     (c.ending_run-ending.ensures.value ∙ ap ending_run c.as_bytes.ensures.value)

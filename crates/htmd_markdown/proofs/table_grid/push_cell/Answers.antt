@@ -19,7 +19,8 @@ loop-column-preserved c = record {
       ∙ ap (λ t. (base ++ replicate count none) ++ column t c.args.cell.rows ∷ []) c.new.ensures.bytes
       ∙ append_assoc base (replicate count none) (none ∷ [])
       ∙ ap (λ l. base ++ l) (replicate_more count none)
-      ∙ ap (λ n. base ++ replicate n none) (omega (arith, c.loop-column.invariant.low, c.loop-column.invariant.high));
+      ∙ ap (λ n. base ++ replicate n none)
+      (omega (arith, c.loop-column.invariant.low, c.loop-column.invariant.high));
   low = omega (arith, c.loop-column.invariant.low);
   high = omega (arith, c.loop-column.invariant.high, c.loop-column-test.true);
 }
