@@ -21,7 +21,8 @@ a_page_in_guarded = refl
 any_page_in_guarded : is_good (record default_struct { reader = 2; mode = 2 }) ≡ true
 any_page_in_guarded = refl
 
-two_is_guarded : options_of (record default_struct { mode = 2 }) ≡ record default_options { translation_mode = Guarded }
+two_is_guarded : options_of (record default_struct { mode = 2 })
+    ≡ record default_options { translation_mode = Guarded }
 two_is_guarded = refl
 
 -- and numbers that are not

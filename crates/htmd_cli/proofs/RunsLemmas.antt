@@ -30,8 +30,8 @@ ends_well T settings contents before after done input markdown written m w a = (
 )
 
 -- the whole input has Markdown, and the sink failed
-pub ends_at_sink : {W : Type 0} (T : Type 0) (settings : Settings) (contents : W → Option (List ℕ)) (before after : W)
-    (input markdown : List ℕ) → Converted settings input markdown
+pub ends_at_sink : {W : Type 0} (T : Type 0) (settings : Settings) (contents : W → Option (List ℕ))
+    (before after : W) (input markdown : List ℕ) → Converted settings input markdown
     → Ends {T = T} settings (Some input) (Some []) contents before after (Err Write)
 ends_at_sink T settings contents before after input markdown m = (refl, (m.0, markdown, m.1))
 

@@ -18,7 +18,6 @@ use Rattle.htmd_tree.specs.Ancestors.{ancestor_of}
 use Rattle.htmd_walk.specs.declared.element_handler.table_layout.TableChild.{TableChild}
 use Rattle.htmd_walk.specs.declared.element_handler.table_layout.TableChild.TheVariants.{TableCaption, TableHead}
 use Rattle.htmd_walk.specs.declared.element_handler.table_layout.TableChild.TheVariants.{TableSection, DirectRow, OtherChild}
-use Rattle.htmd_walk.specs.Groups.{children_at}
 use Rattle.htmd_walk.specs.ElementPlans.{is_tag_among, value_of_first}
 use Rattle.htmd_walk.specs.OtherBlocks.{hidden_tags}
 use Rattle.htmd_walk.specs.TableLayouts.{has_tag, tagged_children, table_child}

@@ -1,5 +1,5 @@
 -- How a table is written in Guarded.
-use Rattle.std.specs.Prelude.{ℕ, Bool, true, ◌||◌, if◌then◌else◌, List, [], ◌∷◌, ◌++◌, length, map, take, drop}
+use Rattle.std.specs.Prelude.{ℕ, Bool, if◌then◌else◌, List, [], ◌∷◌, ◌++◌, length, map, take, drop}
 use Rattle.std.specs.List.{flat_map, zip}
 use Rattle.htmd_text.specs.BlankLines.{blank_line}
 use Rattle.htmd_text.specs.Characters.{line_feed}

@@ -1,27 +1,22 @@
 -- What a table is, and how it is written in Pure and Faithful.
-use Rattle.std.specs.Prelude.{ℕ, Bool, false, not, ◌&&◌, ◌||◌, if◌then◌else◌, List, [], ◌∷◌, length, Option, Some, None}
+use Rattle.std.specs.Prelude.{ℕ, Bool, false, not, ◌&&◌, ◌||◌, List, [], ◌∷◌, length, Option, Some, None}
 use Rattle.std.specs.Prelude.{true, codes, ◌++◌, map, take, drop}
 use Rattle.std.specs.List.{list_any, flat_map}
-use Rattle.std.specs.Option.{option_map}
-use Rattle.htmd_text.specs.Trims.{trimmed_text, is_line_feed, some_text}
-use Rattle.htmd_text.specs.BlankLines.{with_blank_lines, blank_line}
+use Rattle.htmd_text.specs.Trims.{trimmed_text}
+use Rattle.htmd_text.specs.BlankLines.{blank_line}
 use Rattle.htmd_text.specs.Characters.{line_feed}
 use Rattle.htmd_text.specs.WhiteSpace.{is_document_white_space}
 use Rattle.htmd_markdown.specs.Tables.{table}
-use Rattle.htmd_markdown.specs.GuardedTables.{guarded_table}
 use Rattle.htmd_tree.specs.Ancestors.{Ancestor}
 use Rattle.htmd_tree.specs.Items.{Item}
 use Rattle.htmd_tree.specs.NumberedTrees.{NumberedTree, document, doctype, text, comment, element, NumberedForest, none}
 use Rattle.htmd_tree.specs.NumberedTrees.{more}
-use Rattle.htmd_walk.specs.Handling.{ElementView, ResultView, PlanView, HandlerMeaning, contents_of_each, final_result}
-use Rattle.htmd_walk.specs.Handling.{without_definitions, content_of_fallback, OutcomeView, children_too}
-use Rattle.htmd_walk.specs.Outputs.{is_markdown_alone, is_guarded}
+use Rattle.htmd_walk.specs.Handling.{ResultView}
 use Rattle.htmd_walk.specs.declared.element_handler.table_layout.PartKind.{PartKind}
 use Rattle.htmd_walk.specs.declared.element_handler.table_layout.PartKind.TheVariants.{Caption, Headers, Row}
 use Rattle.htmd_walk.specs.Groups.{children_at}
-use Rattle.htmd_walk.specs.ElementPlans.{are_markdown, raw_block_result, unless_attributes, is_tag_among, optional_markdown}
-use Rattle.htmd_walk.specs.ElementPlans.{markdown_result}
-use Rattle.htmd_walk.specs.TableLayouts.{Part, layout_at, nodes_of, has_lines}
+use Rattle.htmd_walk.specs.ElementPlans.{are_markdown, is_tag_among}
+use Rattle.htmd_walk.specs.TableLayouts.{Part}
 use Rattle.htmd_tree.specs.Ancestors as above
 
 abbrev pub header_tags : List (List ℕ)
