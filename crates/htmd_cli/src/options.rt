@@ -83,7 +83,7 @@ pub(crate) const OPTIONS: [OptionRow; 33] = [
         "--guarded",
         "",
         Setting::Translation(TranslationMode::Guarded),
-        "writes Markdown of which a reader shows what a browser shows of the page",
+        "writes Markdown for reading: the text that the page shows, with no cell of a table left out",
     ),
     (
         "--no-scripting",
