@@ -27,6 +27,7 @@ pub fn read_field(field: &[u8], page: &mut Vec<u8>) -> Result<(), AllocError>
 fn escape(behind: &[u8]) -> (u8, usize)
     ensures byte { result.0 ≡ spec.escaped behind.now }
     ensures count { result.1 ≡ spec.escape_length behind.now }
+    ensures within { result.1 ≤ length behind.now }
 {
     let Some((first, more)) = behind.split_first() else {
         return (b'\\', 0);

@@ -5,7 +5,7 @@
 //! `Source` and `Sink` are the two ends of a run, `Input` and `Output` make them from std's readers and
 //! writers, `run` converts by a mode and `run_with` by settings, and `command` is the whole program with its
 //! options and exit statuses. `decoded` is the text of bytes when nothing says how they are encoded.
-#![tactic(auto)]
+#![tactic(auto, using(std::proofs::lemmas::Grind::common_steps))]
 
 mod answers;
 mod conversion;

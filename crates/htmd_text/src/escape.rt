@@ -133,6 +133,13 @@ fn is_special(byte: u8) -> bool
     matches!(byte, b'\\' | b'*' | b'_' | b'`' | b'[' | b']' | b'<')
 }
 
+/// Whether the character gets a backslash wherever it stands.
+fn is_always_marked(byte: u8) -> bool
+    ensures { result ≡ spec.is_always_marked byte }
+{
+    matches!(byte, b'\\' | b'*' | b'_' | b'`' | b'[' | b']')
+}
+
 /// Whether the place gets a backslash.
 fn is_marked(bytes: &[u8], place: usize, marks: Marks) -> bool
     requires { place < length bytes.now }
@@ -146,7 +153,7 @@ fn is_marked(bytes: &[u8], place: usize, marks: Marks) -> bool
             begins_block,
             item_dot,
         } => {
-            matches!(byte, b'\\' | b'*' | b'_' | b'`' | b'[' | b']')
+            is_always_marked(byte)
                 || byte == b'<' && opens_html(behind)
                 || place == 0 && begins_block
                 || item_dot == Some(place)

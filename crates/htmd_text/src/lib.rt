@@ -1,7 +1,7 @@
 //! The texts of the converter: escapes, white space, texts put together and cut, names of block elements and the
 //! beginnings of list items. A text is UTF-8, a place in it counts bytes, and each answer is a definition of `specs/`
 //! on the bytes of the text that is handed in.
-#![tactic(auto)]
+#![tactic(auto, using(std::proofs::lemmas::Grind::common_steps))]
 
 mod blank_lines;
 mod blocks;

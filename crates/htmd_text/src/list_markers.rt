@@ -23,10 +23,9 @@ pub fn index_of_markdown_ordered_item_dot(text: &str) -> Option<usize>
     let numerals = numerals_len(text);
     let dots = leading_len(&bytes[numerals..], b'.');
     let end = numerals + dots;
-    if numerals > 0 && dots > 0 && end < bytes.len() && bytes[end] == b' ' {
-        Some(end - 1)
-    } else {
-        None
+    match &bytes[end..] {
+        [b' ', ..] if numerals > 0 && dots > 0 => Some(end - 1),
+        _ => None,
     }
 }
 

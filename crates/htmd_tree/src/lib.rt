@@ -2,7 +2,7 @@
 //! and nodes are only added, each as the last child of its parent. A node is written as HTML by the serialisation of
 //! its value tree, and as a block of raw HTML, in which references stand for the line ends that would make blank lines.
 //! `body_of` takes the body from a whole page, and `line_and_column` says in which line and column a place is.
-#![tactic(auto)]
+#![tactic(auto, using(std::proofs::lemmas::Grind::common_steps))]
 
 mod children;
 pub mod laws;

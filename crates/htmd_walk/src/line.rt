@@ -22,7 +22,7 @@ fn is_heading(tag: &str) -> bool
 fn is_link(tag: &str, attrs: &[Attribute]) -> bool
     ensures { result ≡ spec.is_link (record { tag = tag.now; attributes = pairs_of attrs.now }) }
 {
-    tag == "a" && last_value(attrs, ["href"].as_slice()).is_some()
+    tag == "a" && last_value(attrs, &["href"]).is_some()
 }
 
 /// Whether a node is a heading, a link, or a table that is written as a table.

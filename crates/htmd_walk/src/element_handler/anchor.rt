@@ -38,7 +38,7 @@ struct Target<'a> {
 pub(crate) fn plan(element: &Element) -> Plan
     ensures { plan_view result ≡ spec.anchor_plan (element_view element.now) }
 {
-    if is_raw_unless_among(element, ["href", "title"].as_slice()) {
+    if is_raw_unless_among(element, &["href", "title"]) {
         return Plan::RawHtml;
     }
     Plan::Children
@@ -173,10 +173,10 @@ pub(crate) fn finish(
     ensures { IfOk result (λ r. answer_view r links.new ≡ finish_answer
         (spec.anchor_finish (element_view element.now) (result_view content) links.old) links.old) }
 {
-    let Some(address) = last_value(element.attrs, ["href"].as_slice()) else {
+    let Some(address) = last_value(element.attrs, &["href"]) else {
         return Ok(Some(content));
     };
-    let title = last_value(element.attrs, ["title"].as_slice());
+    let title = last_value(element.attrs, &["title"]);
     let target = Target { address, title };
     let content = content.content.as_str();
     if is_guarded(element.options) {

@@ -19,6 +19,7 @@ use htmd_markdown::{SpannedCell, SpannedRow, lay_table, write_guarded_table, wri
 use htmd_text::TrimDocumentWhitespace;
 use htmd_tree::{Attribute, NodeData, NodeId, Tree};
 use std::alloc::{AllocError, Global};
+use std::slice;
 
 /// The captions before the first row, the rows, and the later captions.
 #[derive(Drop)]
@@ -169,8 +170,8 @@ fn write_grid(alloc: Global, has_header: bool, grid: &[Vec<String>]) -> Result<S
         [] => Ok(String::new(alloc)),
         [header, rows @ ..] if has_header => write_guarded_table(alloc, header.as_slice(), rows),
         rows => {
-            let empty_header = [String::new(alloc)];
-            write_guarded_table(alloc, empty_header.as_slice(), rows)
+            let empty_header = String::new(alloc);
+            write_guarded_table(alloc, slice::from_ref(&empty_header), rows)
         }
     }
 }

@@ -14,14 +14,14 @@ use std::alloc::{AllocError, Global};
 pub(crate) fn plan(alloc: Global, element: &Element) -> Result<Plan, AllocError>
     ensures { IfOk result (λ p. plan_view p ≡ images.plan (element_view element.now)) }
 {
-    if is_raw_unless_among(element, ["href", "src", "alt", "title"].as_slice()) {
+    if is_raw_unless_among(element, &["href", "src", "alt", "title"]) {
         return Ok(Plan::RawHtml);
     }
-    let Some(address) = last_value(element.attrs, ["href", "src"].as_slice()) else {
+    let Some(address) = last_value(element.attrs, &["href", "src"]) else {
         return Ok(Plan::Skip);
     };
-    let alt = last_value(element.attrs, ["alt"].as_slice());
-    let title = last_value(element.attrs, ["title"].as_slice());
+    let alt = last_value(element.attrs, &["alt"]);
+    let title = last_value(element.attrs, &["title"]);
     let image = if is_guarded(element.options) {
         write_guarded_image(alloc, address, alt, title)?
     } else {

@@ -11,7 +11,7 @@ use super::plans::is_markdown_alone;
 use htmd_tree::Attribute;
 
 /// Whether the name is one of these.
-fn is_among(name: &str, names: &[&str]) -> bool
+pub(crate) fn is_among(name: &str, names: &[&str]) -> bool
     ensures { result ≡ spec.is_among (map (λ n. n.now) names.now) name.now }
 {
     names.contains(&name)

@@ -5,6 +5,7 @@ ghost use Rattle.htmd_walk.specs.ElementPlans.{is_tag_among};
 ghost use Rattle.htmd_walk.specs.OtherBlocks.{hidden_tags, other_blocks};
 ghost use Rattle.htmd_walk.specs.Views.{plan_view, element_view};
 
+use super::link_attributes::is_among;
 use super::plans::{is_guarded, unless_faithful};
 use super::{Element, Plan};
 
@@ -59,7 +60,7 @@ pub(crate) const TAGS: [&str; 43] = [
 pub(crate) fn is_hidden(tag: &str) -> bool
     ensures { result ≡ is_tag_among hidden_tags (Some tag.now) }
 {
-    matches!(tag, "script" | "style" | "title" | "iframe" | "noframes")
+    is_among(tag, &["script", "style", "title", "iframe", "noframes"])
 }
 
 /// The children's content except in Faithful; in Guarded nothing of the elements that a browser doesn't show.

@@ -4,7 +4,7 @@ use Rattle.std.proofs.lemmas.Result.{on_ok_weaker}
 use Rattle.htmd_text.specs.Characters.{asterisk}
 use Rattle.htmd_markdown.specs.CodeSpans.{ends_with}
 use Rattle.htmd_markdown.specs.GuardedText.{guarded_text}
-use Rattle.htmd_markdown.specs.Joints.{mended_ends}
+use Rattle.htmd_markdown.specs.Joints.{mended_ends, with_joint}
 use Rattle.htmd_markdown.proofs.UnmendedLemmas.{text_unmended}
 use Rattle.htmd_walk.proofs.text_node.push_guarded.Goals as goal
 
@@ -27,4 +27,4 @@ returns c =
     (c.as_str.ensures.value ∙ c.in_ok-mend_joint.ensures.content)
     ∙ ap (λ s. s ++ (mended_ends out (string_bytes c.push_guarded_text.new.out)).behind)
     c.in_ok-mend_joint.ensures.out
-    ∙ ap (λ s. (mended_ends out s).front ++ (mended_ends out s).behind) written
+    ∙ ap (with_joint out) written
