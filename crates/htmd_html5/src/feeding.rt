@@ -84,6 +84,7 @@ fn feed_end_tag(state: &mut HtmlState, name: &HtmlName) -> Result<(), AllocError
 }
 
 /// A token.
+#[inline(always)]
 pub(crate) fn feed(state: &mut HtmlState, token: Token<'_>) -> Result<(), AllocError>
     ensures { OnOk result (state.new ≡ spec.feed (value_of token.entry) state.old) }
 {

@@ -44,7 +44,7 @@ fn item_of(added: Result<NodeId, TreeError>) -> Result<NodeId, AllocError>
 }
 
 /// The children of a node; none if there is no such node.
-fn children_of(nodes: &[Node], node: usize) -> &[usize]
+fn children_of(nodes: &[Node], node: usize) -> &[u32]
     ensures { result.now ≡ children_at (nodes_of nodes.now) node }
 {
     match nodes.get(node) {
@@ -54,12 +54,13 @@ fn children_of(nodes: &[Node], node: usize) -> &[usize]
 }
 
 /// Nodes come next under an item, the first of them first.
-fn push_all(coming: &mut Vec<Coming>, nodes: &[usize], under: NodeId) -> Result<(), AllocError>
+fn push_all(coming: &mut Vec<Coming>, nodes: &[u32], under: NodeId) -> Result<(), AllocError>
     ensures { OnOk result (coming.new.items
         ≡ coming.old.items ++ map (coming_under under) (reverse nodes.now)) }
 {
     for node in nodes.iter().rev() {
-        coming.push(Coming { node: *node, under })?;
+        let node = *node as usize;
+        coming.push(Coming { node, under })?;
     }
     Ok(())
 }

@@ -1,5 +1,6 @@
 -- Names and how they are spelled.
-use Rattle.std.proofs.Common.{◌≡◌, ℕ, Bool, true, false, List, [], ◌∷◌, Option, Some, None, refl, sym, ap, ◌∙◌}
+use Rattle.std.proofs.Common.{◌≡◌, ℕ, Bool, true, false, List, [], ◌∷◌, Option, Some, None, refl, sym, ap, ◌∙◌, length}
+use Rattle.std.proofs.lemmas.Slice.Eq.{HasBytesAt, text_from_reads}
 use Rattle.std.specs.Str.{bytes_eq}
 use Rattle.htmd_html5_state.specs.Names.{spelling, known_name, same_tag}
 use Rattle.htmd_html5_state.specs.declared.names.TagName.{TagName}
@@ -236,6 +237,11 @@ known_name-spelling Ul = refl
 known_name-spelling Var = refl
 known_name-spelling Wbr = refl
 known_name-spelling Xmp = refl
+
+-- a text with the bytes of a spelling
+pub spelled_so : (tag : TagName) (s : List ℕ) → length s ≡ length (spelling tag) → HasBytesAt s 0 (spelling tag)
+    → known_name s ≡ Some tag
+spelled_so tag s l h = ap known_name (text_from_reads s (spelling tag) l h) ∙ known_name-spelling tag
 
 pub same_spelling : (t u : TagName) → spelling t ≡ spelling u → t ≡ u
 same_spelling t u e = some_same (sym (known_name-spelling t) ∙ (ap known_name e ∙ known_name-spelling u))

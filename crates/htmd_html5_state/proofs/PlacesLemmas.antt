@@ -19,8 +19,9 @@ use Rattle.htmd_html5_state.specs.OpenViews.{open_of, stack_of}
 use Rattle.htmd_html5_state.specs.Places.{innermost, bounds_in, is_from, bound_of, name_place, has_room, innermost_named}
 use Rattle.htmd_html5_state.specs.Places.{place_of_name}
 use Rattle.htmd_html5_state.specs.Places.{IsAround, IsLinked, HasRoom, AllHaveRoom, IsPlaced}
-use Rattle.htmd_html5_state.specs.Sets.{bounds}
+use Rattle.htmd_html5_state.specs.Sets.{bounds, bounds_known, bounds_list_item, bounds_scope, is_table_context, is_template}
 use Rattle.htmd_html5_state.specs.declared.names.TagName.{TagName}
+use Rattle.htmd_html5_state.specs.declared.names.TagName.TheVariants.{Html, Ol, Table, Template, Ul}
 use Rattle.htmd_html5_state.specs.declared.open_elements.OpenElement.{OpenElement}
 use Rattle.htmd_html5_state.specs.declared.places.Around.{Around}
 use Rattle.htmd_html5_state.specs.declared.places.Bounds.{Bounds}
@@ -29,7 +30,16 @@ use Rattle.htmd_html5_state.specs.declared.places.NamePlaces.{NamePlaces}
 use Rattle.htmd_html5_state.specs.declared.places.Places.{Places}
 use Rattle.htmd_html5_state.specs.declared.sets.NameSet.TheVariants.{Only}
 use Rattle.htmd_html5_state.specs.declared.sets.Scope.{Scope}
-use Rattle.htmd_html5_state.specs.declared.sets.Scope.TheVariants.{Default}
+use Rattle.htmd_html5_state.specs.declared.sets.Scope.TheVariants.{
+  Default,
+  ListItem,
+  Button as ButtonScope,
+  Table as TableScope,
+  Select,
+  Template as TemplateScope,
+  Special,
+  Items,
+}
 use Rattle.htmd_html5_state.specs.SetMembers.{members}
 use Rattle.htmd_html5_state.specs.declared.sets.NameSet.{NameSet}
 use Rattle.htmd_html5_state.proofs.StackLemmas.{stack-around, stack-removed}
@@ -203,6 +213,37 @@ linked-longer around more (e ∷ es) h = (
   (λ d. subst (λ (x : Around). IsAround x e es) (sym (get_or_append_left around more d (length es) h.0)) (h.1 d)),
   linked-longer around more es h.2,
 )
+
+-- a name that bounds neither list items nor buttons bounds at most three scopes
+no_scope : (t : TagName) → bounds_list_item t ≡ false → bounds_scope t ≡ false
+no_scope Ol l = refl
+no_scope Ul l = refl
+no_scope _ l = l
+
+no_table : (t : TagName) → bounds_scope t ≡ false → is_table_context t ≡ false
+no_table Html l = absurd (true≢false l)
+no_table Table l = absurd (true≢false l)
+no_table Template l = absurd (true≢false l)
+no_table _ l = refl
+
+no_template : (t : TagName) → bounds_scope t ≡ false → is_template t ≡ false
+no_template Template l = absurd (true≢false l)
+no_template _ l = refl
+
+pub few_bounds : (b : Bounds) (t : TagName) (place select special items : ℕ) → bounds_known ListItem t ≡ false
+    → bounds_known ButtonScope t ≡ false → select ≡ cond (bounds_known Select t) place b.select
+    → special ≡ cond (bounds_known Special t) place b.special
+    → items ≡ cond (bounds_known Items t) place b.items → (scope : Scope)
+    → bound_of (record b { select = select; special = special; items = items }) scope
+    ≡ cond (bounds scope (html (known t))) place (bound_of b scope)
+few_bounds b t place s p i l u es ep ei Default = rw (no_scope t l) refl
+few_bounds b t place s p i l u es ep ei ListItem = rw l refl
+few_bounds b t place s p i l u es ep ei ButtonScope = rw u refl
+few_bounds b t place s p i l u es ep ei TableScope = rw (no_table t (no_scope t l)) refl
+few_bounds b t place s p i l u es ep ei Select = es
+few_bounds b t place s p i l u es ep ei TemplateScope = rw (no_template t (no_scope t l)) refl
+few_bounds b t place s p i l u es ep ei Special = ep
+few_bounds b t place s p i l u es ep ei Items = ei
 
 -- the bounds among this many elements
 pub no-bounds : (b : Bounds) → ((scope : Scope) → bound_of b scope ≡ 0) → (depth : ℕ) → depth ≡ 0

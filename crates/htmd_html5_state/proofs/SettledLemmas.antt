@@ -254,8 +254,11 @@ none_closed stack (Some n ∷ es) e =
     test (is_open_node n stack) (λ t. (rw t refl, rw t refl)) (λ t. absurd (true≢false (sym (rw t at e))))
 
 -- nothing is reconstructed
-pub settled-reconstruct : (s : StateValue) → Settled s → reconstruct s ≡ s
-settled-reconstruct s h =
-    let none = none_closed s.stack s.formatting h.listed in
+pub none_reopened : (s : StateValue) → is_reconstructed s ≡ true → reconstruct s ≡ s
+none_reopened s h =
+    let none = none_closed s.stack s.formatting h in
     ap (λ (ns : List ℕ). reopen_all ns (on_formatting (after_closed s.stack) s)) none.0
     ∙ ap (λ (es : List (Option ℕ)). record s { formatting = es }) none.1
+
+pub settled-reconstruct : (s : StateValue) → Settled s → reconstruct s ≡ s
+settled-reconstruct s h = none_reopened s h.listed

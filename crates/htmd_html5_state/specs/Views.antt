@@ -34,7 +34,7 @@ numbers_of kept.None = []
 numbers_of (kept.One number) = number ∷ []
 numbers_of (kept.Two numbers) = numbers
 numbers_of (kept.Three numbers) = numbers
-numbers_of (kept.More numbers) = numbers.items
+numbers_of (kept.More numbers) = numbers.value.items
 
 abbrev pub node_of : Node → NodeValue
 node_of node = record { kind = kind_of node.kind; parent = node.parent; children = numbers_of node.children }

@@ -1,13 +1,14 @@
 //! The adoption agency algorithm.
 ghost use Rattle.std.specs.Prelude.{◌≡◌, IfOk, OnOk, true, length};
 ghost use Rattle.htmd_html5_state.specs.Adoption as spec;
-ghost use Rattle.htmd_html5_state.specs.AdoptionViews.{chain_of, round_of_answer, IsCopyAdded};
+ghost use Rattle.htmd_html5_state.specs.AdoptionViews.{chain_of, closes_newest, round_of_answer, IsCopyAdded};
 ghost use Rattle.htmd_html5_state.specs.Names.{element_name_of};
 ghost use Rattle.htmd_html5_state.specs.OpenElements.{is_open_node};
 ghost use Rattle.htmd_html5_state.specs.OpenViews.{stack_of, furthest_of};
 ghost use Rattle.htmd_html5_state.specs.State.{on_nodes, on_formatting};
 
 use crate::document::last_in;
+use crate::formatting_list::is_element;
 use crate::names::{ElementName, HtmlName, TagName};
 use crate::open_elements::{Furthest, OpenElement, furthest_block};
 use crate::sets::NameSet;
@@ -37,6 +38,16 @@ impl HtmlState {
     {
         self.stack.current_is(NameSet::Only(tag))
             && !self.formatting.is_listed(self.stack.current_node())
+    }
+
+    /// Whether the current node is the newest on the list and has this name, as where elements are closed in order.
+    fn closes_newest(&self, tag: TagName) -> bool
+        ensures { result ≡ closes_newest tag self.now }
+    {
+        let node = self.stack.current_node();
+        !self.stack.is_empty()
+            && self.formatting.is_newest(node)
+            && is_element(self.document.kind(node), tag)
     }
 
     /// The newest formatting element with this name since the last marker.
@@ -192,9 +203,15 @@ impl HtmlState {
     }
 
     /// What an end tag of a formatting element does. `Err` means out of memory.
+    #[tactic(auto, using(crate::proofs::AdoptionLemmas::newest_closed))]
     pub fn adoption_agency(&mut self, tag: TagName) -> Result<(), AllocError>
         ensures { OnOk result (self.new ≡ spec.adoption_agency tag self.old) }
     {
+        if self.closes_newest(tag) {
+            self.formatting.remove(self.stack.current_node());
+            self.stack.pop();
+            return Ok(());
+        }
         if self.closes_at_once(tag) {
             self.stack.pop();
             return Ok(());

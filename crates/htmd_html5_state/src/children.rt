@@ -9,18 +9,18 @@ use std::slice;
 #[derive(Debug, Drop)]
 pub enum Children {
     None,
-    One(usize),
-    Two([usize; 2]),
-    Three([usize; 3]),
-    More(Vec<usize>),
+    One(u32),
+    Two([u32; 2]),
+    Three([u32; 3]),
+    More(Box<Vec<u32>>),
 }
 
-/// The room that is made when there are more than three children: 64 bytes with what malloc adds.
-const ROOM: usize = 7;
+/// The room that is made when there are more than three children: 48 bytes with what malloc adds.
+const ROOM: usize = 10;
 
 impl Children {
     /// The numbers, in order.
-    pub fn as_slice(&self) -> &[usize]
+    pub fn as_slice(&self) -> &[u32]
         ensures { result.now ≡ numbers_of self.now }
     {
         match self {
@@ -33,7 +33,7 @@ impl Children {
     }
 
     /// The numbers, with room for more.
-    fn spread(&self, alloc: Global) -> Result<Vec<usize>, AllocError>
+    fn spread(&self, alloc: Global) -> Result<Vec<u32>, AllocError>
         ensures { IfOk result (λ numbers. numbers.items ≡ numbers_of self.now) }
     {
         let mut numbers = Vec::with_capacity(alloc, ROOM)?;
@@ -42,7 +42,7 @@ impl Children {
     }
 
     /// A new last child.
-    pub(crate) fn push(&mut self, alloc: Global, child: usize) -> Result<(), AllocError>
+    pub(crate) fn push(&mut self, alloc: Global, child: u32) -> Result<(), AllocError>
         ensures { OnOk result (numbers_of self.new ≡ numbers_of self.old ++ child ∷ []) }
     {
         match self {
@@ -52,7 +52,7 @@ impl Children {
             Children::Three(_) => {
                 let mut numbers = self.spread(alloc)?;
                 numbers.push(child)?;
-                *self = Children::More(numbers);
+                *self = Children::More(Box::new(alloc, numbers)?);
             }
             Children::More(numbers) => numbers.push(child)?,
         }
@@ -60,7 +60,7 @@ impl Children {
     }
 
     /// New last children.
-    pub(crate) fn extend(&mut self, alloc: Global, children: &[usize]) -> Result<(), AllocError>
+    pub(crate) fn extend(&mut self, alloc: Global, children: &[u32]) -> Result<(), AllocError>
         ensures { OnOk result (numbers_of self.new ≡ numbers_of self.old ++ children.now) }
     {
         for child in children {
@@ -74,7 +74,7 @@ impl Children {
         &mut self,
         alloc: Global,
         index: usize,
-        child: usize,
+        child: u32,
     ) -> Result<(), AllocError>
         requires { index ≤ length (numbers_of self.old) }
         ensures { OnOk result (numbers_of self.new ≡ insert (numbers_of self.old) index child) }
@@ -85,7 +85,7 @@ impl Children {
         }
         let mut numbers = self.spread(alloc)?;
         numbers.insert(index, child)?;
-        *self = Children::More(numbers);
+        *self = Children::More(Box::new(alloc, numbers)?);
         Ok(())
     }
 

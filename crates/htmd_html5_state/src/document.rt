@@ -35,11 +35,11 @@ pub struct OtherElement {
     pub attributes: Vec<Attribute>,
 }
 
-/// A node, with the numbers of its parent and its children.
+/// A node, with the numbers of its parent and its children, which are kept in little room.
 #[derive(Debug, Drop)]
 pub struct Node {
     pub kind: NodeKind,
-    pub parent: Option<usize>,
+    pub parent: Option<u32>,
     pub children: Children,
 }
 
@@ -75,14 +75,31 @@ pub(crate) fn last_in(parent: usize) -> Place
     Place { parent, next: None }
 }
 
+/// A node's number as it is kept. `Err` means that it is too great: so many nodes are more than memory holds.
+fn kept(node: usize) -> Result<u32, AllocError>
+    ensures { IfOk result (λ number. number ≡ node) }
+{
+    u32::try_from(node).map_err(|_| AllocError)
+}
+
+/// A number that is kept, as a node's number.
+fn widened(kept: Option<u32>) -> Option<usize>
+    ensures { result ≡ kept }
+{
+    match kept {
+        Some(number) => Some(number as usize),
+        None => None,
+    }
+}
+
 /// How many children are before this one; all of them if it isn't a child.
-fn index_of(children: &[usize], child: usize) -> usize
+fn index_of(children: &[u32], child: usize) -> usize
     ensures place { result ≡ spec.index_of child children.now }
     ensures within { result ≤ length children.now }
 {
     let mut rest = children;
     while let [before @ .., last] = rest {
-        if *last == child {
+        if *last as usize == child {
             return before.len();
         }
         rest = before;
@@ -90,7 +107,7 @@ fn index_of(children: &[usize], child: usize) -> usize
     children.len()
 }
 
-fn place_index(children: &[usize], next: Option<usize>) -> usize
+fn place_index(children: &[u32], next: Option<usize>) -> usize
     ensures place { result ≡ spec.place_index next children.now }
     ensures within { result ≤ length children.now }
 {
@@ -105,7 +122,7 @@ fn place_index(children: &[usize], next: Option<usize>) -> usize
 fn insert_child(
     alloc: Global,
     children: &mut Children,
-    child: usize,
+    child: u32,
     next: Option<usize>,
 ) -> Result<(), AllocError>
     ensures { OnOk result (numbers_of children.new
@@ -233,12 +250,12 @@ impl Document {
         ensures { result ≡ spec.parent_at self.now node }
     {
         match self.nodes.get(node) {
-            Some(node) => node.parent,
+            Some(node) => widened(node.parent),
             None => None,
         }
     }
 
-    fn children(&self, node: usize) -> &[usize]
+    fn children(&self, node: usize) -> &[u32]
         ensures { result.now ≡ spec.children_at self.now node }
     {
         match self.nodes.get(node) {
@@ -247,7 +264,7 @@ impl Document {
         }
     }
 
-    fn set_parent(&mut self, node: usize, parent: Option<usize>)
+    fn set_parent(&mut self, node: usize, parent: Option<u32>)
         ensures { self.new ≡ spec.with_parent node parent self.old }
     {
         if node < self.nodes.len() {
@@ -273,6 +290,7 @@ impl Document {
         ensures { OnOk result (self.new ≡ spec.put_child child place self.old) }
     {
         if place.parent < self.nodes.len() {
+            let child = kept(child)?;
             let node = &mut self.nodes[place.parent];
             insert_child(self.alloc, &mut node.children, child, place.next)?;
         }
@@ -294,7 +312,8 @@ impl Document {
         ensures { OnOk result (self.new ≡ spec.put node place self.old) }
     {
         self.put_child(node, place)?;
-        self.set_parent(node, Some(place.parent));
+        let parent = kept(place.parent)?;
+        self.set_parent(node, Some(parent));
         Ok(())
     }
 
@@ -344,11 +363,11 @@ impl Document {
     }
 
     /// Makes a node the parent of all children of another one.
-    fn set_parents(&mut self, children: &[usize], parent: usize)
+    fn set_parents(&mut self, children: &[u32], parent: u32)
         ensures { self.new ≡ spec.with_parents parent children.now self.old }
     {
         for child in children {
-            self.set_parent(*child, Some(parent));
+            self.set_parent(*child as usize, Some(parent));
         }
     }
 
@@ -363,7 +382,7 @@ impl Document {
         mem::replace(&mut node.children, Children::None)
     }
 
-    fn append_children(&mut self, node: usize, children: &[usize]) -> Result<(), AllocError>
+    fn append_children(&mut self, node: usize, children: &[u32]) -> Result<(), AllocError>
         ensures { OnOk result (self.new ≡ spec.append_children node children.now self.old) }
     {
         if node < self.nodes.len() {
@@ -377,8 +396,9 @@ impl Document {
     pub(crate) fn move_children(&mut self, from: usize, to: usize) -> Result<(), AllocError>
         ensures { OnOk result (self.new ≡ spec.move_children from to self.old) }
     {
+        let parent = kept(to)?;
         let children = self.take_children(from);
-        self.set_parents(children.as_slice(), to);
+        self.set_parents(children.as_slice(), parent);
         self.append_children(to, children.as_slice())
     }
 
@@ -391,7 +411,7 @@ impl Document {
         if index == 0 {
             return None;
         }
-        children.get(index - 1).copied()
+        widened(children.get(index - 1).copied())
     }
 
     /// Appends text to a text node. Gives false if the node isn't one.

@@ -55,9 +55,13 @@ impl HtmlState {
     }
 
     /// Reconstructs the active formatting elements: opens those again that were closed. `Err` means out of memory.
+    #[tactic(auto, using(crate::proofs::SettledLemmas::none_reopened))]
     pub fn reconstruct(&mut self) -> Result<(), AllocError>
         ensures { OnOk result (self.new ≡ spec.reconstruct self.old) }
     {
+        if self.formatting.is_reconstructed(&self.stack) {
+            return Ok(());
+        }
         let mut closed = self.formatting.take_closed(self.alloc, &self.stack)?;
         while let Some(node) = closed.pop() {
             self.reopen(node)?;

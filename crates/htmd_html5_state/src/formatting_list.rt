@@ -6,7 +6,7 @@ ghost use Rattle.htmd_html5_state.specs.Documents.{same_element, kind_at};
 ghost use Rattle.htmd_html5_state.specs.Formatting as spec;
 ghost use Rattle.htmd_html5_state.specs.Views.{have_same_name, kind_of, kind_seen};
 ghost use Rattle.htmd_html5_state.specs.OpenViews.{stack_of};
-ghost use Rattle.htmd_html5_state.specs.FormattingViews.{entries_of, IsNewest};
+ghost use Rattle.htmd_html5_state.specs.FormattingViews.{entries_of, is_newest, IsNewest};
 
 use crate::attributes::are_same;
 use crate::document::{Document, NodeKind};
@@ -68,7 +68,7 @@ fn are_alike(this: Option<&NodeKind>, that: Option<&NodeKind>) -> bool
 }
 
 /// Whether it is an element with this name.
-fn is_element(kind: Option<&NodeKind>, tag: TagName) -> bool
+pub(crate) fn is_element(kind: Option<&NodeKind>, tag: TagName) -> bool
     ensures { result ≡ adoption.kind_is tag (kind_seen kind.entry) }
 {
     match kind {
@@ -218,6 +218,16 @@ impl FormattingList {
         ensures { result ≡ spec.is_listed node self.now }
     {
         position(&self.entries, node).is_some()
+    }
+
+    /// Whether the newest entry is that of this node.
+    pub(crate) fn is_newest(&self, node: usize) -> bool
+        ensures { result ≡ is_newest node self.now }
+    {
+        match split_newest(&self.entries) {
+            Some((_, entry)) => is_entry(entry, node),
+            None => false,
+        }
     }
 
     /// Whether no element since the last marker is closed, so that there is nothing to reconstruct.

@@ -1,6 +1,6 @@
 //! The state of tree construction and the steps on it (HTML Standard, 13.2.4 and 13.2.6): documents while they are
 //! made, the stack of open elements, the list of active formatting elements, and what the insertion modes do with them.
-#![tactic(auto)]
+#![tactic(auto, using(std::proofs::lemmas::Grind::common_steps))]
 
 mod adoption;
 mod attributes;

@@ -1,5 +1,5 @@
 //! The names of elements.
-ghost use Rattle.std.specs.Prelude.{◌≡◌, ◌<◌, IfOk, find};
+ghost use Rattle.std.specs.Prelude.{◌≡◌, ◌<◌, IfOk, IfSome, Some, find};
 ghost use Rattle.std.specs.Cow.{cow_str_bytes};
 ghost use Rattle.htmd_html5_state.specs.Names as spec;
 ghost use Rattle.htmd_html5_state.specs.Names.{name_of, element_name_of};
@@ -154,6 +154,7 @@ pub enum Namespace {
 
 impl TagName {
     /// How it is spelled.
+    #[inline(always)]
     pub fn text(self) -> &'static str
         ensures { result.now ≡ spec.spelling self }
     {
@@ -460,6 +461,7 @@ fn names_with(first: u8) -> &'static [TagName]
     }
 }
 
+#[inline(always)]
 fn known_in(names: &[TagName], text: &str) -> Option<TagName>
     ensures { result ≡ find (spec.is_spelled text.now) names.now }
 {
@@ -471,8 +473,37 @@ fn known_in(names: &[TagName], text: &str) -> Option<TagName>
     None
 }
 
-/// The name in a rule with this spelling.
-fn known(text: &str) -> Option<TagName>
+/// The names of most tags.
+#[tactic(auto, using(crate::proofs::NamesLemmas::spelled_so))]
+#[inline(always)]
+fn frequent(bytes: &[u8]) -> Option<TagName>
+    ensures { IfSome result (λ tag. spec.known_name bytes.now ≡ Some tag) }
+{
+    match bytes {
+        b"a" => Some(TagName::A),
+        b"b" => Some(TagName::B),
+        b"i" => Some(TagName::I),
+        b"p" => Some(TagName::P),
+        b"br" => Some(TagName::Br),
+        b"dd" => Some(TagName::Dd),
+        b"dt" => Some(TagName::Dt),
+        b"em" => Some(TagName::Em),
+        b"h2" => Some(TagName::H2),
+        b"h3" => Some(TagName::H3),
+        b"li" => Some(TagName::Li),
+        b"td" => Some(TagName::Td),
+        b"th" => Some(TagName::Th),
+        b"tr" => Some(TagName::Tr),
+        b"ul" => Some(TagName::Ul),
+        b"div" => Some(TagName::Div),
+        b"code" => Some(TagName::Code),
+        b"span" => Some(TagName::Span),
+        _ => None,
+    }
+}
+
+/// The name in a rule with this spelling, among those with its first letter.
+fn known_by_letter(text: &str) -> Option<TagName>
     ensures { result ≡ spec.known_name text.now }
 {
     match text.as_bytes() {
@@ -481,8 +512,20 @@ fn known(text: &str) -> Option<TagName>
     }
 }
 
+/// The name in a rule with this spelling.
+#[inline(always)]
+fn known(text: &str) -> Option<TagName>
+    ensures { result ≡ spec.known_name text.now }
+{
+    match frequent(text.as_bytes()) {
+        Some(name) => Some(name),
+        None => known_by_letter(text),
+    }
+}
+
 impl HtmlName {
     /// The name with this spelling, in lower case. `Err` means out of memory.
+    #[inline(always)]
     pub fn from_text(alloc: Global, text: CowStr<'_>) -> Result<HtmlName, AllocError>
         ensures { IfOk result (λ name. name_of name ≡ spec.name_of_text (cow_str_bytes text.entry)) }
     {

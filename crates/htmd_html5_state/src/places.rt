@@ -106,8 +106,8 @@ impl Bounds {
         }
     }
 
-    /// The bounds with one more element, whose name a rule mentions.
-    fn with_tag(self, tag: TagName, place: usize) -> Bounds
+    /// The bounds with one more element, whose name may bound any scope.
+    fn with_any_tag(self, tag: TagName, place: usize) -> Bounds
         ensures { (scope : Scope) → places.bound_of result scope
             ≡ cond (bounds scope (html (known tag))) place (places.bound_of self scope) }
     {
@@ -120,6 +120,23 @@ impl Bounds {
             template: self.of_tag(Scope::Template, tag, place),
             special: self.of_tag(Scope::Special, tag, place),
             items: self.of_tag(Scope::Items, tag, place),
+        }
+    }
+
+    /// The bounds with one more element, whose name a rule mentions. Most names bound at most three scopes.
+    #[tactic(auto, using(crate::proofs::PlacesLemmas::few_bounds))]
+    fn with_tag(self, tag: TagName, place: usize) -> Bounds
+        ensures { (scope : Scope) → places.bound_of result scope
+            ≡ cond (bounds scope (html (known tag))) place (places.bound_of self scope) }
+    {
+        if Scope::ListItem.bounds_known(tag) || Scope::Button.bounds_known(tag) {
+            return self.with_any_tag(tag, place);
+        }
+        Bounds {
+            select: self.of_tag(Scope::Select, tag, place),
+            special: self.of_tag(Scope::Special, tag, place),
+            items: self.of_tag(Scope::Items, tag, place),
+            ..self
         }
     }
 

@@ -86,6 +86,7 @@ fn after_name<'a>(name: &'a str, text: &'a str) -> Part<'a>
 }
 
 /// An attribute, which begins with its name, whatever its first character is.
+#[inline(always)]
 fn attribute(text: &str) -> Part<'_>
     requires { 0 < length text.now }
     ensures { part_of result ≡ attribute_part text.now }
@@ -106,6 +107,7 @@ fn ends_in_slash(bytes: &[u8]) -> bool
 }
 
 /// The next attribute, or the end of the tag.
+#[inline(always)]
 pub(crate) fn next_part(text: &str) -> Part<'_>
     ensures { part_of result ≡ spec.next_part text.now }
 {
@@ -123,6 +125,7 @@ pub(crate) fn next_part(text: &str) -> Part<'_>
 }
 
 /// The form of a tag from just after its name. None if the text ends in the tag; `Err` means out of memory.
+#[inline(always)]
 pub(crate) fn tag_form<'a>(alloc: Global, text: &'a str) -> Result<Option<TagForm<'a>>, AllocError>
     ensures { IfOk result (λ o. MatchOption o (spec.tag_form text.now ≡ spec.unended)
         (λ f. spec.tag_form text.now ≡ spec.ended (all_spelled_of f.attributes.items) f.slash f.rest.now)) }

@@ -3,7 +3,7 @@ ghost use Rattle.std.specs.Prelude.{◌≡◌, ◌<◌, ◌≤◌, ◌++◌, fal
 ghost use Rattle.std.specs.Cow.{cow_str_bytes};
 ghost use Rattle.std.specs.List.{list_all};
 ghost use Rattle.std.specs.Str.{IsUtf8};
-ghost use Rattle.htmd_grammar.specs.CharacterClasses.{leading_run};
+ghost use Rattle.htmd_grammar.specs.CharacterClasses.{leading_run, behind_run};
 ghost use Rattle.htmd_html5_tokens.specs.Contents as spec;
 ghost use Rattle.htmd_html5_tokens.specs.ReferenceViews.{characters_of};
 ghost use Rattle.htmd_html5_tokens.specs.declared.contents.Reading.TheVariants.{Text};
@@ -61,6 +61,14 @@ fn plain_len(bytes: &[u8], reading: Reading) -> usize
         }
     }
     bytes.len()
+}
+
+/// The plain characters with which a text begins, and what follows them.
+pub(crate) fn split_plain(text: &str) -> (&str, &str)
+    ensures front { result.0.now ≡ leading_run (is_plain Text) text.now }
+    ensures rest { result.1.now ≡ behind_run (is_plain Text) text.now }
+{
+    text.split_at(plain_len(text.as_bytes(), Reading::Text))
 }
 
 /// Appends the plain characters with which the text begins, and answers the rest.
@@ -193,20 +201,18 @@ pub(crate) fn decoded(alloc: Global, text: &str, reading: Reading) -> Result<Str
     decoded_pieces(alloc, text, reading)
 }
 
-/// Whether a name stands for itself: no character is an ASCII capital or U+0000. All bytes are looked at, so that a
-/// processor can compare many at once.
+/// Whether a name stands for itself: no character is an ASCII capital or U+0000.
+#[inline(always)]
 fn stands_for_itself(bytes: &[u8]) -> bool
     ensures { result ≡ list_all is_small bytes.now }
 {
-    let mut are_small = true;
-    for byte in bytes {
-        are_small &= *byte != 0 && !byte.is_ascii_uppercase();
-    }
-    are_small
+    bytes
+        .iter()
+        .all(|byte| *byte != 0 && !byte.is_ascii_uppercase())
 }
 
-/// The name of this spelling: in lower case, with U+FFFD for U+0000.
-pub(crate) fn name_of(alloc: Global, text: &str) -> Result<String, AllocError>
+/// A name in lower case, with U+FFFD for U+0000.
+fn lowered(alloc: Global, text: &str) -> Result<String, AllocError>
     ensures { IfOk result (λ t. string_bytes t ≡ spec.name_of text.now) }
 {
     let mut name = decoded(alloc, text, Reading::RawText)?;
@@ -214,13 +220,25 @@ pub(crate) fn name_of(alloc: Global, text: &str) -> Result<String, AllocError>
     Ok(name)
 }
 
+/// The name of an attribute with this spelling.
+#[tactic(auto, using(crate::proofs::ContentsLemmas::name_itself))]
+pub(crate) fn name_of(alloc: Global, text: &str) -> Result<String, AllocError>
+    ensures { IfOk result (λ t. string_bytes t ≡ spec.name_of text.now) }
+{
+    if stands_for_itself(text.as_bytes()) {
+        return String::from_str(alloc, text);
+    }
+    lowered(alloc, text)
+}
+
 /// The name of a tag with this spelling. It is borrowed if it is spelled so.
 #[tactic(auto, using(crate::proofs::ContentsLemmas::name_itself))]
+#[inline(always)]
 pub(crate) fn tag_name_of(alloc: Global, text: &str) -> Result<CowStr<'_>, AllocError>
     ensures { IfOk result (λ t. cow_str_bytes t ≡ spec.name_of text.now) }
 {
     if stands_for_itself(text.as_bytes()) {
         return Ok(CowStr::Borrowed(text));
     }
-    Ok(CowStr::Owned(name_of(alloc, text)?))
+    Ok(CowStr::Owned(lowered(alloc, text)?))
 }

@@ -1,6 +1,6 @@
 //! The tokens of any page, by the HTML Standard (13.2.5): its preprocessing, tags, texts with references, comments,
 //! doctypes and raw texts. Every text has tokens, and no text is refused; only memory may run out.
-#![tactic(auto)]
+#![tactic(auto, using(std::proofs::lemmas::Grind::common_steps))]
 
 mod attributes;
 mod comments;

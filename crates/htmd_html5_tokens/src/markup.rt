@@ -2,10 +2,11 @@
 ghost use Rattle.std.specs.Prelude.{◌≡◌, ◌<◌, ◌≤◌, drop, length, IfOk};
 ghost use Rattle.htmd_grammar.specs.CharacterClasses.{up_to, onward};
 ghost use Rattle.htmd_html5_tokens.specs.NextToken as spec;
+ghost use Rattle.htmd_html5_tokens.specs.Plain as plain;
 ghost use Rattle.htmd_html5_tokens.specs.Readings.{read_of};
 
 use crate::comments::{read_bogus_comment, read_comment};
-use crate::contents::{Reading, decoded};
+use crate::contents::{Reading, decoded, split_plain};
 use crate::doctypes::read_doctype;
 use crate::runs::{strip, strip_byte, strip_in_any_case};
 use crate::tags::read_tag;
@@ -52,11 +53,31 @@ fn split_text(text: &str) -> (&str, &str)
 }
 
 /// The text before markup, and the markup.
-pub(crate) fn read_text(alloc: Global, text: &str) -> Result<(Token<'_>, &str), AllocError>
+fn read_decoded(alloc: Global, text: &str) -> Result<(Token<'_>, &str), AllocError>
     ensures { IfOk result (λ r. read_of r ≡ spec.read_text text.now) }
 {
     let (held, rest) = split_text(text);
     let read = decoded(alloc, held, Reading::Text)?;
+    Ok((Token::Text(read), rest))
+}
+
+/// Whether a text ends here, at the end of the page or before markup.
+fn ends_text(bytes: &[u8]) -> bool
+    ensures { result ≡ plain.ends_text bytes.now }
+{
+    bytes.is_empty() || begins_markup(bytes)
+}
+
+/// The text before markup, and the markup. Mostly all its characters stand for themselves.
+#[inline(always)]
+pub(crate) fn read_text(alloc: Global, text: &str) -> Result<(Token<'_>, &str), AllocError>
+    ensures { IfOk result (λ r. read_of r ≡ spec.read_text text.now) }
+{
+    let (front, rest) = split_plain(text);
+    if !ends_text(rest.as_bytes()) {
+        return read_decoded(alloc, text);
+    }
+    let read = String::from_str(alloc, front)?;
     Ok((Token::Text(read), rest))
 }
 
@@ -81,6 +102,7 @@ fn begins_letter(bytes: &[u8]) -> bool
 }
 
 /// Markup from just after its `<`, and what follows it.
+#[inline(always)]
 pub(crate) fn read_markup(alloc: Global, text: &str) -> Result<(Token<'_>, &str), AllocError>
     ensures { IfOk result (λ r. read_of r ≡ spec.read_markup text.now) }
 {

@@ -21,6 +21,7 @@ pub(crate) enum Class {
     Other(u8),
 }
 
+#[inline(always)]
 fn is_of(byte: u8, class: Class) -> bool
     ensures { result ≡ is_in class byte }
 {
@@ -36,6 +37,7 @@ fn is_of(byte: u8, class: Class) -> bool
 }
 
 #[tactic(auto, using(htmd_tree::proofs::RunsLemmas::run_more, htmd_tree::proofs::RunsLemmas::run_stops))]
+#[inline(always)]
 pub(crate) fn run_len(bytes: &[u8], class: Class) -> usize
     ensures bound { result ≤ length bytes.now }
     ensures value { result ≡ length (leading_run (is_in class) bytes.now) }
@@ -49,6 +51,7 @@ pub(crate) fn run_len(bytes: &[u8], class: Class) -> usize
 }
 
 /// The run at the front of a text, and what follows it.
+#[inline(always)]
 pub(crate) fn split_run(text: &str, class: Class) -> (&str, &str)
     requires { is_ascii class ≡ true }
     ensures run { result.0.now ≡ leading_run (is_in class) text.now }
@@ -58,6 +61,7 @@ pub(crate) fn split_run(text: &str, class: Class) -> (&str, &str)
 }
 
 /// The text after this ASCII character, if it begins with it.
+#[inline(always)]
 pub(crate) fn strip_byte(text: &str, byte: u8) -> Option<&str>
     requires { byte < 128 }
     ensures { MatchOption result (first_is byte text.now ≡ false)
@@ -70,6 +74,7 @@ pub(crate) fn strip_byte(text: &str, byte: u8) -> Option<&str>
 }
 
 /// The text after these ASCII characters, if it begins with them.
+#[inline(always)]
 pub(crate) fn strip<'a>(text: &'a str, characters: &str) -> Option<&'a str>
     requires { list_all (λ c. nat_lt c 128) characters.now ≡ true }
     ensures { MatchOption result (classes.begins_with characters.now text.now ≡ false)

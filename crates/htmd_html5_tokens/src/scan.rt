@@ -11,6 +11,7 @@ pub(crate) fn first_is(bytes: &[u8], byte: u8) -> bool
 }
 
 /// Whether the text begins with these characters.
+#[inline(always)]
 pub(crate) fn begins_with(bytes: &[u8], characters: &[u8]) -> bool
     ensures { result ≡ classes.begins_with characters.now bytes.now }
 {

@@ -101,12 +101,16 @@ fn attributes_of(
 }
 
 /// A tag with this name and form.
+#[inline(always)]
 fn make_tag<'a>(alloc: Global, name: &'a str, form: &TagForm<'_>) -> Result<Tag<'a>, AllocError>
     ensures { IfOk result (λ t. tag_of t
         ≡ spec.tag_value name.now (all_spelled_of form.now.attributes.items) form.now.slash) }
 {
     let name = tag_name_of(alloc, name)?;
-    let attributes = attributes_of(alloc, form.attributes.as_slice())?;
+    let attributes = match form.attributes.as_slice() {
+        [] => Vec::new(alloc),
+        spelled => attributes_of(alloc, spelled)?,
+    };
     Ok(Tag {
         name,
         attributes,
@@ -115,6 +119,7 @@ fn make_tag<'a>(alloc: Global, name: &'a str, form: &TagForm<'_>) -> Result<Tag<
 }
 
 /// A tag from its name on, and what follows it; if the text ends within the tag, the end of the file.
+#[inline(always)]
 fn tag_from_name(alloc: Global, text: &str, ends: bool) -> Result<(Token<'_>, &str), AllocError>
     ensures { IfOk result (λ r. read_of r ≡ spec.tag_from_name (if ends then end_tag else start_tag) text.now) }
 {
@@ -131,11 +136,13 @@ fn tag_from_name(alloc: Global, text: &str, ends: bool) -> Result<(Token<'_>, &s
 }
 
 /// A tag from just after its `<`, and what follows it.
+#[inline(always)]
 pub(crate) fn read_tag(alloc: Global, text: &str) -> Result<(Token<'_>, &str), AllocError>
     ensures { IfOk result (λ r. read_of r ≡ spec.read_tag text.now) }
 {
-    match strip_byte(text, b'/') {
-        Some(name) => tag_from_name(alloc, name, true),
-        None => tag_from_name(alloc, text, false),
-    }
+    let (name, ends) = match strip_byte(text, b'/') {
+        Some(name) => (name, true),
+        None => (text, false),
+    };
+    tag_from_name(alloc, name, ends)
 }

@@ -27,6 +27,7 @@ fn strip_section(text: &str, foreign: bool) -> Option<&str>
 }
 
 /// The token at the beginning of a text, which begins with no empty piece, and what follows it.
+#[inline(always)]
 fn read_piece(alloc: Global, text: &str, foreign: bool) -> Result<(Token<'_>, &str), AllocError>
     ensures { IfOk result (λ r. read_of r ≡ spec.read_piece foreign text.now) }
 {
@@ -66,6 +67,7 @@ fn read_raw(alloc: Global, text: &str, element: RawElement) -> Result<(Token<'_>
 }
 
 /// The next token of a text, and what follows it.
+#[inline(always)]
 fn next_token(
     alloc: Global,
     text: &str,
@@ -110,6 +112,7 @@ impl<'a> Tokenizer<'a> {
     /// Takes the next token. `foreign` says whether the adjusted current node is in foreign content. At the end of the
     /// text, and in a tag that the end cuts off, the token is `EndOfFile`. `Err` means out of memory; nothing is taken
     /// then.
+    #[inline(always)]
     pub fn next(
         &mut self,
         alloc: Global,

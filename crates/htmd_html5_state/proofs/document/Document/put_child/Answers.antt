@@ -3,7 +3,7 @@ use Rattle.std.proofs.Common.{◌≡◌, ◌∙◌, ℕ, List, length, ap, arith
 use Rattle.std.specs.Prelude.{insert}
 use Rattle.htmd_html5_state.specs.Documents.{NodeValue}
 use Rattle.htmd_html5_state.specs.Documents.{place_index}
-use Rattle.htmd_html5_state.specs.Views.{node_of}
+use Rattle.htmd_html5_state.specs.Views.{node_of, numbers_of}
 use Rattle.htmd_html5_state.proofs.DocumentLemmas.{written}
 use Rattle.htmd_html5_state.proofs.document.Document.put_child.Goals as goal
 
@@ -18,4 +18,6 @@ returns-in_ok-insert_child c =
     (λ (x : NodeValue). record x { children = insert x.children (place_index place.next x.children) child })
     c.self.view_is
     (omega arith) c.index_mut-node.ensures.value
-    (ap (λ (cs : List ℕ). record (node_of old) { children = cs }) c.in_ok-insert_child.ensures)
+    (ap (λ (cs : List ℕ). record (node_of old) { children = cs }) (c.in_ok-insert_child.ensures
+    ∙ ap (λ (n : ℕ). insert (numbers_of old.children) (place_index place.next (numbers_of old.children)) n)
+    c.in_ok-child.ensures))
