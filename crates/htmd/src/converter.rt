@@ -62,7 +62,11 @@ impl HtmlToMarkdown {
         ensures handlers { let config = ⟦<ElementHandlers as Registry>⟧.config in
             IfOk result (λ converter. config (handlers_of converter) ≡ built_in default_options) }
     {
-        Ok(HtmlToMarkdown::builder(alloc)?.build())
+        let handlers = ElementHandlers::beside(alloc, Options::default(), Vec::new(alloc))?;
+        Ok(HtmlToMarkdown {
+            handlers,
+            scripting: true,
+        })
     }
 
     /// A builder with the built-in handlers, the default options and scripting on. `Err` means out of memory.
