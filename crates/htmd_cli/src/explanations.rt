@@ -29,20 +29,22 @@ fn sentence(kind: FaultKind) -> &'static str {
             "this tag has two attributes of the same name; leave one out."
         }
         FaultKind::SelfClosing => {
-            "this tag ends in />; only elements that have no end tag, such as br, may."
+            "this tag ends in />; only elements that have no end tag, such as br, may; --html5 reads any page."
         }
         FaultKind::TagOutside => {
-            "this tag has no place in a text; --body converts the body of a whole page."
+            "this tag has no place in a text; --body converts the body of a whole page, and --html5 reads any page."
         }
         FaultKind::NotAllowedHere => {
-            "this element may not stand in those that are open; close them first."
+            "this element may not stand in those that are open; close them first, or let --html5 read the page."
         }
-        FaultKind::StrayEndTag => { "this end tag doesn't fit the innermost open element." }
+        FaultKind::StrayEndTag => {
+            "this end tag doesn't fit the innermost open element; mend it, or let --html5 read the page."
+        }
         FaultKind::StrayText => {
             "this text is between the parts of a table; put it into a cell or the caption."
         }
         FaultKind::Unclosed =>
-            "the input ends here, and an element is still open; write its end tag.",
+            "the input ends here, and an element is still open; write its end tag, or let --html5 read the page.",
         FaultKind::ScriptEscape => {
             "this script has <!-- and later <script; take one of them out."
         }
