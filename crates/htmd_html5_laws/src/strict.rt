@@ -18,8 +18,8 @@ pub fn tokens_agree()
 
 /// A settled text of the strict grammar whose elements are plain is read after `<body>` as the tree that the strict
 /// grammar gives: `html` with an empty `head`, and a `body` with the content. Plain are all elements but those of
-/// tables, `select`, `form`, `object`, `applet`, `marquee`, parts of `ruby`, `noscript`, `script`, `textarea`, and those
-/// of MathML and SVG.
+/// tables, `select`, `form`, `object`, `applet`, `marquee`, parts of `ruby`, `noscript`, `script`, `textarea`, and
+/// those of MathML and SVG.
 pub fn plain_pages_agree()
     ensures { PlainPagesAgree }
 {}
