@@ -180,7 +180,8 @@ closing_low : (b : ℕ) → closing b ≡ true → b < 128
 closing_low b e = grind (arith, nat_tests)
 
 -- up to a byte that is not plain
-pub plain_behind : (x : List ℕ) (b : ℕ) (s : List ℕ) → IsUtf8 (x ++ b ∷ []) → IsUtf8 s → is_safe b ≡ true
+pub plain_behind : (x : List ℕ) (b : ℕ) (s : List ℕ) → IsUtf8 (x ++ b ∷ []) → IsUtf8 s
+    → is_safe b ≡ true
     → b < 128
     → is_plain_behind x b ≡ false → plain_end ((x ++ b ∷ []) ++ s) ≤ length s
 plain_behind x b s pu u safe low stops =
@@ -221,7 +222,8 @@ line_safe (b ∷ t) e =
     let parts = and_parts (is_of_fence b) (list_all is_of_fence t) e in
     and_from (is_safe b) (list_all is_safe t) (of_fence_safe b parts.0) (line_safe t parts.1)
 
-pub line_front : (k : ℕ) (t : List ℕ) → list_all is_of_fence t ≡ true → list_all is_of_fence (take k t) ≡ true
+pub line_front : (k : ℕ) (t : List ℕ) → list_all is_of_fence t ≡ true
+    → list_all is_of_fence (take k t) ≡ true
 line_front zero t e = refl
 line_front (suc k) [] e = refl
 line_front (suc k) (b ∷ t) e =
