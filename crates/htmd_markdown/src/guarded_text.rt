@@ -1,6 +1,6 @@
 //! Text that a reader of Markdown sees as it stands, whatever its neighbours (CommonMark 0.31.2, 2.4).
-ghost use Rattle.std.specs.Prelude.{◌≡◌, ◌++◌, ◌<◌, ◌≤◌, ◌&&◌, ◌||◌, ℕ, IfOk, IsTrue};
-ghost use Rattle.std.specs.Prelude.{List, OnOk, false, length, string_bytes};
+ghost use Rattle.std.specs.Prelude.{◌≡◌, ◌++◌, ◌+◌, ◌<◌, ◌≤◌, ◌&&◌, ◌||◌, ℕ, IfOk, IsTrue};
+ghost use Rattle.std.specs.Prelude.{List, OnOk, drop, false, length, slice_index, string_bytes};
 ghost use Rattle.std.specs.Char.{is_ascii_digit};
 ghost use Rattle.std.specs.List.{list_any, prefix_len};
 ghost use Rattle.htmd_text.specs.EscapeMarks.{is_place};
@@ -160,10 +160,22 @@ fn block_mark(text: &str, begins_line: bool) -> Option<usize>
         return Some(first);
     }
     let number_end = first + digits_len(&bytes[first..]);
-    match &bytes[number_end..] {
-        [b'.' | b')'] | [b'.' | b')', b' ', ..] => Some(number_end),
-        _ => None,
+    if is_item_sign_at(bytes, number_end) {
+        return Some(number_end);
     }
+    None
+}
+
+/// Whether the `.` or `)` of an ordered list item is there, at the end of the text or before a space.
+fn is_item_sign_at(bytes: &[u8], place: usize) -> bool
+    requires { place ≤ length bytes.now }
+    ensures { result ≡ (spec.is_delimiter (slice_index bytes.now place)
+        && spec.ends_or_has_space (drop (place + 1) bytes.now)) }
+{
+    matches!(
+        &bytes[place..],
+        [b'.' | b')'] | [b'.' | b')', b' ', ..]
+    )
 }
 
 /// Whether such a character is there, or the `:-` of a table's line of dashes.
