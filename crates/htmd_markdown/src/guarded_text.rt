@@ -120,11 +120,19 @@ fn is_mark(bytes: &[u8], place: usize, block_mark: Option<usize>) -> bool
     requires { place < length bytes.now }
     ensures { result ≡ (spec.is_mark_anywhere bytes.now place || is_place block_mark place) }
 {
-    let byte = bytes[place];
-    is_always_guarded(byte)
-        || byte == b'&' && is_reference_like(&bytes[place + 1..])
-        || byte == b'#' && is_heading_place(bytes, place)
-        || block_mark == Some(place)
+    is_mark_anywhere(bytes, place) || block_mark == Some(place)
+}
+
+/// Whether the place gets a backslash wherever the text stands.
+fn is_mark_anywhere(bytes: &[u8], place: usize) -> bool
+    requires { place < length bytes.now }
+    ensures { result ≡ spec.is_mark_anywhere bytes.now place }
+{
+    match bytes[place] {
+        b'&' => is_reference_like(&bytes[place + 1..]),
+        b'#' => is_heading_place(bytes, place),
+        byte => is_always_guarded(byte),
+    }
 }
 
 /// Whether the place begins the text or follows a space or U+FEFF.
@@ -172,10 +180,10 @@ fn is_item_sign_at(bytes: &[u8], place: usize) -> bool
     ensures { result ≡ (spec.is_delimiter (slice_index bytes.now place)
         && spec.ends_or_has_space (drop (place + 1) bytes.now)) }
 {
-    matches!(
-        &bytes[place..],
-        [b'.' | b')'] | [b'.' | b')', b' ', ..]
-    )
+    match &bytes[place..] {
+        [b'.' | b')', rest @ ..] => matches!(rest, [] | [b' ', ..]),
+        _ => false,
+    }
 }
 
 /// Whether such a character is there, or the `:-` of a table's line of dashes.
