@@ -24,8 +24,11 @@ cut_twice : (out : List ℕ) (run plain : ℕ) → run + plain ≤ length out
     ≡ length out - run - plain)
 cut_twice out run plain fits =
     let end = length out - run in
-    let size : length (take end out) ≡ end = length-take-le end out (omega arith) in
-    (size, length-take-le (length (take end out) - plain) (take end out) (omega (arith, size)) ∙ ap (λ n. n - plain) size)
+    let size : length (take end out) ≡ end = length-take-le end out (omega arith) in (
+      size,
+      length-take-le (length (take end out) - plain) (take end out) (omega (arith, size))
+          ∙ ap (λ n. n - plain) size,
+    )
 
 moved_front : (out content : List ℕ) (run plain : ℕ) → run + plain ≤ length out
     → take (length out - run - plain) out ++ drop (length out - run) out
@@ -87,7 +90,8 @@ returns-in_ok-insert_str-in-EndMoves-clause-content c =
     c.range-in-EndMoves.ensures.value
     ∙ ap (λ s. take (c.len-in-EndMoves.result - run - (c.len-in-EndMoves.result - run - plain))
     (drop (c.len-in-EndMoves.result - run - plain) s)) c.deref-in-EndMoves.ensures
-    ∙ ap (λ n. take (n - run - (n - run - plain)) (drop (n - run - plain) out)) (c.len-in-EndMoves.ensures ∙ omega arith) in
+    ∙ ap (λ n. take (n - run - (n - run - plain)) (drop (n - run - plain) out))
+    (c.len-in-EndMoves.ensures ∙ omega arith) in
     c.in_ok-insert_str-in-EndMoves.ensures.bytes
     ∙ ap (λ s. s ++ content) piece
     ∙ moved_behind out content run plain fits.1.within

@@ -30,7 +30,8 @@ loop-key-preserved c =
       positions = omega (arith, here.positions, c.in-Some.ensures.cases, c.push.ensures.position);
       room = omega (arith, here.room, c.in-Some.ensures.cases, c.push.ensures.len, c.push.ensures.room);
       whole = ap (λ l. l ++ tags_at index (map tag_of (reverse left))) c.push.ensures.all
-          ∙ append_assoc all (tag_at index (string_bytes c.in-Some.tag) ∷ []) (tags_at index (map tag_of (reverse left)))
+          ∙ append_assoc all (tag_at index (string_bytes c.in-Some.tag) ∷ [])
+          (tags_at index (map tag_of (reverse left)))
           ∙ ap (λ l. all ++ tags_at index (map tag_of l)) (sym reversed)
           ∙ here.whole;
     }
