@@ -176,7 +176,6 @@ fn opens_html(behind: &[u8]) -> bool
 }
 
 /// Whether the first character begins a block or underlines a heading.
-#[tactic(auto)]
 fn begins_block(text: &str) -> bool
     ensures { result ≡ spec.begins_block text.now }
 {

@@ -94,7 +94,6 @@ pub(crate) struct Reader<'a> {
 
 impl<'a> Reader<'a> {
     /// What is kept of the innermost open element.
-    #[tactic(auto)]
     fn top(&self) -> OpenNode
         requires reading { IsReading self.now }
         ensures top { (has_doctype : Bool) (f : OpenElement) (fs : List OpenElement)

@@ -192,7 +192,6 @@ impl<'a, R: Registry> Walk<'a, R> {
     }
 
     /// In Guarded, whether what is below an element is written in one line.
-    #[tactic(auto, using(std::proofs::lemmas::Grind::common_steps))]
     fn is_line_inside(&self, element: &Element) -> bool
         requires { IsElementOf (R.config self.now.registry.now).options self.now.tree.now element.now }
         ensures { result ≡ known_in_line_inside (R.config self.now.registry.now).options

@@ -3,7 +3,7 @@ use Rattle.std.proofs.Common.{◌≡◌, ℕ, Bool, false, List, ◌++◌, sym, 
 use Rattle.htmd_text.specs.Characters.{asterisk}
 use Rattle.htmd_markdown.specs.CodeSpans.{ends_with}
 use Rattle.htmd_markdown.specs.GuardedText.{guarded_text}
-use Rattle.htmd_markdown.specs.Joints.{Ends, mended_ends, with_joint}
+use Rattle.htmd_markdown.specs.Joints.{mended_ends, with_joint}
 use Rattle.htmd_markdown.proofs.UnmendedLemmas.{text_unmended}
 use Rattle.htmd_walk.proofs.text_node.push_guarded.Goals as goal
 
@@ -21,18 +21,15 @@ returns-then-not-ends_with_asterisk c =
     (ap (ends_with asterisk) (sym c.deref.ensures) ∙ sym c.ends_with_asterisk.ensures
     ∙ c.if-not-ends_with_asterisk.true) c.push_guarded_with_room.ensures
 
--- the ends of a text and of a content that is known by another name, put together
-put_together : (f : List ℕ → Ends) (content written front behind pushed : List ℕ) → written ≡ content
-    → front ≡ (f written).front → behind ≡ (f written).behind → pushed ≡ front ++ behind
-    → pushed ≡ (f content).front ++ (f content).behind
-put_together f content written front behind pushed same front_is behind_is all =
-    all ∙ ap (λ s. s ++ behind) front_is ∙ ap (λ s. (f written).front ++ s) behind_is
-    ∙ ap (λ s. (f s).front ++ (f s).behind) same
-
 pub returns : goal.returns
 returns c =
+    let out = string_bytes c.args.out.now in
     let text = guarded_text c.args.begins_line c.args.text.now in
-    put_together (mended_ends (string_bytes c.args.out.now)) text (string_bytes c.push_guarded_text.new.out)
-    (string_bytes c.mend_joint.new.out) c.as_str.result.now (string_bytes c.push_str.new.self)
-    (c.in_ok-push_guarded_text.ensures ∙ ap (λ s. s ++ text) c.take-written.ensures) c.in_ok-mend_joint.ensures.out
-    (c.as_str.ensures.value ∙ c.in_ok-mend_joint.ensures.content) c.in_ok-push_str.ensures.bytes
+    let written : string_bytes c.push_guarded_text.new.out ≡ text =
+    c.in_ok-push_guarded_text.ensures ∙ ap (λ s. s ++ text) c.take-written.ensures in
+    c.in_ok-push_str.ensures.bytes
+    ∙ ap (λ s. string_bytes c.mend_joint.new.out ++ s)
+    (c.as_str.ensures.value ∙ c.in_ok-mend_joint.ensures.content)
+    ∙ ap (λ s. s ++ (mended_ends out (string_bytes c.push_guarded_text.new.out)).behind)
+    c.in_ok-mend_joint.ensures.out
+    ∙ ap (with_joint out) written
