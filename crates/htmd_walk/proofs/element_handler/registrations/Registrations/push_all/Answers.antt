@@ -1,5 +1,5 @@
 -- One more registration, of the last name that is left.
-use Rattle.std.proofs.Common.{List, [], ◌∷◌, ◌++◌, ℕ, map, reverse, All, ◌≡◌, subst, sym, ap, ◌∙◌, append_assoc, arith, rules}
+use Rattle.std.proofs.Common.{List, [], ◌∷◌, ◌++◌, ℕ, map, reverse, All, ◌≡◌, subst, sym, ap, ◌∙◌, append_assoc, arith}
 use Rattle.std.proofs.Common.{string_bytes}
 use Rattle.std.specs.Prelude.{String}
 use Rattle.std.specs.Global.{Global}
