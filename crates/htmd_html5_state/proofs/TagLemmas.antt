@@ -290,7 +290,8 @@ number-within t = let h = is-small t in grind (arith, nat_tests)
 
 -- a table of all spellings has a name's at the name's number
 pub spelled_at : (spellings : List (Bor (List ℕ))) (none : Bor (List ℕ)) (n : ℕ) (t : TagName)
-    → map (λ text. text.now) spellings ≡ map spelling tags → n ≡ number t → (get_or spellings n none).now ≡ spelling t
+    → map (λ text. text.now) spellings ≡ map spelling tags → n ≡ number t
+    → (get_or spellings n none).now ≡ spelling t
 spelled_at spellings none n t e k =
     sym (math.get_or-map (λ text. text.now) spellings n none) ∙ ap (λ xs. get_or xs n none.now) e
     ∙ ap (λ i. get_or (map spelling tags) i none.now) k

@@ -46,7 +46,7 @@ pub not_its_name : (n s : List ℕ) → begins_with n s ≡ false → None ≡ n
 not_its_name n s e = rw (not_front n s (position_or_len (λ b. b == semicolon) s) e) refl
 
 -- where a row is split at its first `;`, if it has one, are its name and what it stands for
-pub split_row : (s : List ℕ) (r : Option (Bor (List ℕ) × Bor (List ℕ))) (whole : Bor (List ℕ) × Bor (List ℕ))
+pub split_row : (s : List ℕ) (r : Option Row) (whole : Row)
     → IsSplitOnceResult semicolon s r → whole.0.now ≡ s → whole.1.now ≡ []
     → ((unwrap_or r whole).0.now ≡ (row_of s).name) × ((unwrap_or r whole).1.now ≡ (row_of s).characters)
 split_row s None whole h e f =
@@ -58,11 +58,13 @@ split_row s (Some x) whole h e f =
     let q = split_once_first semicolon s (Some x) h (omega arith) in (q.1, q.2)
 
 -- a name that is the row's, or isn't
-pub its_name : (s n name characters : List ℕ) → (name ≡ (row_of s).name) × (characters ≡ (row_of s).characters)
+pub its_name : (s n name characters : List ℕ)
+    → (name ≡ (row_of s).name) × (characters ≡ (row_of s).characters)
     → bytes_eq n name ≡ true → Some characters ≡ named_in (row_of s ∷ []) n
 its_name s n name characters p e = rw (sym p.0, e, p.1) refl
 
-pub other_name : (s n name characters : List ℕ) → (name ≡ (row_of s).name) × (characters ≡ (row_of s).characters)
+pub other_name : (s n name characters : List ℕ)
+    → (name ≡ (row_of s).name) × (characters ≡ (row_of s).characters)
     → bytes_eq n name ≡ false → None ≡ named_in (row_of s ∷ []) n
 other_name s n name characters p e = rw (sym p.0, e) refl
 

@@ -1,5 +1,5 @@
--- The named character references (HTML Standard, 13.5), by the first letter of their names, and what they stand for. The
--- tables themselves are in `src/names`.
+-- The named character references (HTML Standard, 13.5), by the first letter of their names, and what they stand for.
+-- The tables themselves are in `src/names`.
 use Rattle.std.specs.Prelude.{ℕ, ◌==◌, if◌then◌else◌, List, [], ◌∷◌, Option, Some, None, map}
 use Rattle.std.specs.List.{before_first, after_first}
 use Rattle.std.specs.Str.{bytes_eq}

@@ -1,5 +1,5 @@
-//! The references by names that begin with capital letters: the name, its `;`, and what it stands for (HTML Standard, 13.5).
-//! The common ones come first.
+//! The references by names that begin with capital letters: the name, its `;`, and what it stands for (HTML Standard,
+//! 13.5). The common ones come first.
 
 pub(crate) static CAPITAL_A: [&str; 19] = [
     "AElig;\u{c6}",
