@@ -44,7 +44,7 @@ pub struct Node {
 }
 
 /// A place for a node: in its parent before a child, or as the last.
-#[derive(Debug, Clone, Copy)]
+#[derive(Clone, Copy)]
 pub(crate) struct Place {
     pub(crate) parent: usize,
     pub(crate) next: Option<usize>,

@@ -15,7 +15,7 @@ use std::alloc::{AllocError, Global};
 use std::marker::Model;
 
 /// An open element: its node and its name.
-#[derive(Debug, Drop)]
+#[derive(Drop)]
 pub(crate) struct OpenElement {
     pub(crate) node: usize,
     pub(crate) name: ElementName,
