@@ -210,11 +210,11 @@ impl OtherElement {
 }
 
 impl Document {
-    /// Only the Document.
-    pub(crate) fn new(alloc: Global) -> Result<Document, AllocError>
+    /// Only the Document, with memory for this many nodes.
+    pub(crate) fn with_capacity(alloc: Global, nodes: usize) -> Result<Document, AllocError>
         ensures { IfOk result (λ d. d ≡ spec.new_node spec.document ∷ []) }
     {
-        let mut nodes = Vec::new(alloc);
+        let mut nodes = Vec::with_capacity(alloc, nodes)?;
         nodes.push(Node {
             kind: NodeKind::Document,
             parent: None,
