@@ -14,8 +14,8 @@ use htmd_tree::Tree;
 use std::alloc::{AllocError, Global};
 use std::borrow::CowStr;
 
-/// Of each page that was measured, the tree has at most about one node for so many bytes. Memory for as many is asked for at once,
-/// since a long list of nodes that grows is copied, and touches new memory each time.
+/// Few pages have more nodes than one for so many bytes. Memory for these is asked for at once, since a list that grows
+/// is copied each time.
 const BYTES_PER_NODE: usize = 16;
 
 fn is_end(token: &Token<'_>) -> bool
