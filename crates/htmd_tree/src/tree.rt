@@ -215,6 +215,7 @@ impl Tree {
     }
 
     /// A new last child. All that takes memory comes before the change.
+    #[inline(always)]
     fn add(&mut self, parent: NodeId, node_data: NodeData) -> Result<NodeId, TreeError>
         requires within { parent < length self.old }
         requires holds { IsTrue (holds_children (data_at self.old parent)) }
@@ -244,6 +245,7 @@ impl Tree {
 
     /// A new last child of a node: a node of its own. The tree must contain the parent, a Document or an element.
     /// `TooDeep` if the child would be below level 1,024, `Memory` when out of memory; the tree is then as it was.
+    #[inline(always)]
     pub(crate) fn add_node(
         &mut self,
         parent: NodeId,
