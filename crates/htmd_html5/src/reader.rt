@@ -16,7 +16,7 @@ use std::borrow::CowStr;
 
 /// Few pages have more nodes than one for so many bytes. Memory for these is asked for at once, since a list that grows
 /// is copied each time.
-const BYTES_PER_NODE: usize = 16;
+const BYTES_PER_NODE: usize = 14;
 
 fn is_end(token: &Token<'_>) -> bool
     ensures { result ≡ spec.is_end (value_of token.now) }
