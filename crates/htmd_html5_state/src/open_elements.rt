@@ -325,6 +325,7 @@ impl OpenElements {
     }
 
     /// Pushes an element that was open before.
+    #[inline(always)]
     pub(crate) fn push_element(&mut self, element: OpenElement) -> Result<(), AllocError>
         ensures { OnOk result (self.new ≡ open_of element ∷ self.old) }
     {
