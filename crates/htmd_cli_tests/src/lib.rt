@@ -18,7 +18,6 @@ mod ends;
 #[cfg(test)]
 mod errors;
 #[cfg(test)]
-#[cfg(test)]
 mod explanations;
 #[cfg(test)]
 mod options;

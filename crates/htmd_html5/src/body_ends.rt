@@ -10,7 +10,7 @@ use htmd_html5_state::{HtmlName, HtmlState, InsertionMode, NameSet, Scope, TagNa
 use std::alloc::AllocError;
 
 /// What an end tag does.
-#[derive(Debug, Clone, Copy)]
+#[derive(Clone, Copy)]
 enum EndRule {
     Body,
     /// `html`.

@@ -17,7 +17,7 @@ use htmd_tree::Attribute;
 use std::alloc::AllocError;
 
 /// What a start tag does.
-#[derive(Debug, Clone, Copy)]
+#[derive(Clone, Copy)]
 enum StartRule {
     /// `html`.
     Root,
@@ -344,13 +344,21 @@ fn start_anchor(state: &mut HtmlState, tag: StartTag) -> Result<(), AllocError>
     start_formatting(state, tag)
 }
 
+/// Closes the `nobr` that is in scope.
+fn close_no_break(state: &mut HtmlState) -> Result<(), AllocError>
+    ensures { OnOk result (state.new ≡ spec.close_no_break state.old) }
+{
+    if state.is_in_scope(NameSet::Only(TagName::NoBr), Scope::Default) {
+        state.adoption_agency(TagName::NoBr)?;
+    }
+    Ok(())
+}
+
 fn start_no_break(state: &mut HtmlState, tag: StartTag) -> Result<(), AllocError>
     ensures { OnOk result (state.new ≡ spec.start_no_break (tag_of tag) state.old) }
 {
     state.reconstruct()?;
-    if state.is_in_scope(NameSet::Only(TagName::NoBr), Scope::Default) {
-        state.adoption_agency(TagName::NoBr)?;
-    }
+    close_no_break(state)?;
     start_formatting(state, tag)
 }
 

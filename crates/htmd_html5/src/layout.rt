@@ -201,7 +201,7 @@ fn first_layout(alloc: Global, nodes: Vec<Node>) -> Result<Layout, AllocError>
     ensures value { IfOk result (λ l. layout_of l ≡ spec.first_layout (nodes_of nodes.items)) }
     ensures holds { IfOk result (λ l. AllMayHold l.tree l.coming.items) }
 {
-    let Ok(tree) = Tree::new(alloc) else {
+    let Ok(tree) = Tree::with_capacity(alloc, nodes.len()) else {
         return Err(AllocError);
     };
     let root = tree.root();

@@ -14,6 +14,10 @@ use htmd_tree::Tree;
 use std::alloc::{AllocError, Global};
 use std::borrow::CowStr;
 
+/// Few pages have more nodes than one for so many bytes. Memory for these is asked for at once, since a list that grows
+/// is copied each time.
+const BYTES_PER_NODE: usize = 14;
+
 fn is_end(token: &Token<'_>) -> bool
     ensures { result ≡ spec.is_end (value_of token.now) }
 {
@@ -40,7 +44,7 @@ fn read_text(alloc: Global, text: &str, scripting: bool) -> Result<Vec<Node>, Al
     ensures { IfOk result (λ nodes. nodes_of nodes.items
         ≡ (spec.read_all text.now (initial_state scripting)).nodes) }
 {
-    let mut state = HtmlState::new(alloc, scripting)?;
+    let mut state = HtmlState::with_capacity(alloc, scripting, text.len() / BYTES_PER_NODE)?;
     read_all(alloc, &mut state, text)?;
     Ok(state.into_nodes())
 }

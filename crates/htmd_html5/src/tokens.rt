@@ -13,7 +13,7 @@ use htmd_tree::Attribute;
 use std::alloc::{AllocError, Global};
 
 /// A start tag, with its name found.
-#[derive(Debug, Drop)]
+#[derive(Drop)]
 pub(crate) struct StartTag {
     pub(crate) name: HtmlName,
     pub(crate) attributes: Vec<Attribute>,
@@ -21,7 +21,7 @@ pub(crate) struct StartTag {
 }
 
 /// What the characters of a run have in common.
-#[derive(Debug, Clone, Copy, PartialEq, Eq)]
+#[derive(Clone, Copy, PartialEq, Eq)]
 pub(crate) enum RunKind {
     White,
     Nulls,

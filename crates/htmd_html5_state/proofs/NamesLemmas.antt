@@ -1,8 +1,7 @@
 -- Names and how they are spelled.
-use Rattle.std.proofs.Common.{◌≡◌, ℕ, Bool, true, false, List, [], ◌∷◌, Option, Some, None, refl, sym, ap, ◌∙◌, length}
+use Rattle.std.proofs.Common.{◌≡◌, ℕ, List, Some, refl, sym, ap, ◌∙◌, length}
 use Rattle.std.proofs.lemmas.Slice.Eq.{HasBytesAt, text_from_reads}
-use Rattle.std.specs.Str.{bytes_eq}
-use Rattle.htmd_html5_state.specs.Names.{spelling, known_name, same_tag}
+use Rattle.htmd_html5_state.specs.Names.{spelling, known_name}
 use Rattle.htmd_html5_state.specs.declared.names.TagName.{TagName}
 use Rattle.htmd_html5_state.specs.declared.names.TagName.TheVariants.{
   A,

@@ -1,7 +1,10 @@
 -- The names that a rule speaks of by number, and the members of sets.
-use Rattle.std.proofs.Common.{◌≡◌, ℕ, zero, suc, ◌<◌, Bool, true, false, not, cond, List, [], ◌∷◌, get_or, refl, sym, ap, ◌∙◌, arith}
+use Rattle.std.proofs.Common.{◌≡◌, ℕ, zero, suc, ◌<◌, Bool, true, false, not, cond, List, [], ◌∷◌, get_or, map, refl, sym, ap, ◌∙◌, arith}
 use Rattle.std.proofs.lemmas.Bool.{true≢false, eq-eqb, ne_eqb}
+use Rattle.std.proofs.Math.ListN as math
 use Rattle.std.proofs.lemmas.Bool.Decides.{nat_tests}
+use Rattle.std.proofs.lemmas.List.{get_or-map}
+use Rattle.std.specs.Borrow.{Bor}
 use Rattle.std.specs.List.{list_any, list_all}
 use Rattle.std.specs.Prelude.{◌==◌, nat_lt}
 use Rattle.htmd_text.proofs.Cases.{test}
@@ -284,6 +287,16 @@ is-small t = for-all (λ u. nat_lt (number u) 114) refl refl t
 
 pub number-within : (t : TagName) → number t < 114
 number-within t = let h = is-small t in grind (arith, nat_tests)
+
+-- a table of all spellings has a name's at the name's number
+pub spelled_at : (spellings : List (Bor (List ℕ))) (none : Bor (List ℕ)) (n : ℕ) (t : TagName)
+    → map (λ text. text.now) spellings ≡ map spelling tags → n ≡ number t
+    → (get_or spellings n none).now ≡ spelling t
+spelled_at spellings none n t e k =
+    sym (math.get_or-map (λ text. text.now) spellings n none) ∙ ap (λ xs. get_or xs n none.now) e
+    ∙ ap (λ i. get_or (map spelling tags) i none.now) k
+    ∙ get_or-map spelling tags (number t) A none.now (number-within t)
+    ∙ ap spelling (tag_at t)
 
 pub same_tag-true : (t u : TagName) → same_tag t u ≡ true → t ≡ u
 same_tag-true t u e = same_spelling t u (same_bytes (spelling t) (spelling u) e)

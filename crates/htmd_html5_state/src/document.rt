@@ -44,7 +44,7 @@ pub struct Node {
 }
 
 /// A place for a node: in its parent before a child, or as the last.
-#[derive(Debug, Clone, Copy)]
+#[derive(Clone, Copy)]
 pub(crate) struct Place {
     pub(crate) parent: usize,
     pub(crate) next: Option<usize>,
@@ -210,11 +210,11 @@ impl OtherElement {
 }
 
 impl Document {
-    /// Only the Document.
-    pub(crate) fn new(alloc: Global) -> Result<Document, AllocError>
+    /// Only the Document, with memory for this many nodes.
+    pub(crate) fn with_capacity(alloc: Global, nodes: usize) -> Result<Document, AllocError>
         ensures { IfOk result (λ d. d ≡ spec.new_node spec.document ∷ []) }
     {
-        let mut nodes = Vec::new(alloc);
+        let mut nodes = Vec::with_capacity(alloc, nodes)?;
         nodes.push(Node {
             kind: NodeKind::Document,
             parent: None,
@@ -308,6 +308,7 @@ impl Document {
     }
 
     /// Puts a node without a parent at a place. After an `Err` it is unknown what is where, here and below.
+    #[inline(always)]
     pub(crate) fn put(&mut self, node: usize, place: Place) -> Result<(), AllocError>
         ensures { OnOk result (self.new ≡ spec.put node place self.old) }
     {
@@ -326,6 +327,7 @@ impl Document {
     }
 
     /// A new node that is at no place yet. Gives its number.
+    #[inline(always)]
     pub(crate) fn push(&mut self, kind: NodeKind) -> Result<usize, AllocError>
         ensures number { IfOk result (λ n. n ≡ length self.old) }
         ensures ok { OnOk result (self.new ≡ self.old ++ spec.new_node (kind_of kind) ∷ []) }
@@ -353,6 +355,7 @@ impl Document {
     }
 
     /// A new node at a place. Gives its number.
+    #[inline(always)]
     pub(crate) fn add(&mut self, kind: NodeKind, place: Place) -> Result<usize, AllocError>
         ensures number { IfOk result (λ n. n ≡ length self.old) }
         ensures ok { OnOk result (self.new ≡ spec.add (kind_of kind) place self.old) }

@@ -103,6 +103,7 @@ impl HtmlState {
     }
 
     /// Inserts an element at a place, which is then open. Gives its node.
+    #[inline(always)]
     fn insert_at(
         &mut self,
         place: Place,
@@ -121,6 +122,7 @@ impl HtmlState {
     }
 
     /// Inserts an element of any namespace, which is then open. Gives its node.
+    #[inline(always)]
     pub(crate) fn insert_named(
         &mut self,
         name: ElementName,

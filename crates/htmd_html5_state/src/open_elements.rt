@@ -15,7 +15,7 @@ use std::alloc::{AllocError, Global};
 use std::marker::Model;
 
 /// An open element: its node and its name.
-#[derive(Debug, Drop)]
+#[derive(Drop)]
 pub(crate) struct OpenElement {
     pub(crate) node: usize,
     pub(crate) name: ElementName,
@@ -325,6 +325,7 @@ impl OpenElements {
     }
 
     /// Pushes an element that was open before.
+    #[inline(always)]
     pub(crate) fn push_element(&mut self, element: OpenElement) -> Result<(), AllocError>
         ensures { OnOk result (self.new ≡ open_of element ∷ self.old) }
     {

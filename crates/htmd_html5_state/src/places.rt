@@ -18,7 +18,7 @@ use std::alloc::{AllocError, Global};
 use std::collections::HashMap;
 
 /// The place of the innermost bound of each scope.
-#[derive(Debug, Clone, Copy)]
+#[derive(Clone, Copy)]
 struct Bounds {
     general: usize,
     list_item: usize,
@@ -32,7 +32,7 @@ struct Bounds {
 
 /// What is known of an open element: the places of the elements around it that have the same name and the same node,
 /// and of the bounds among it and the elements around it.
-#[derive(Debug, Clone, Copy)]
+#[derive(Clone, Copy)]
 struct Around {
     name: usize,
     node: usize,

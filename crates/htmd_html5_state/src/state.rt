@@ -53,13 +53,17 @@ impl Model for HtmlState {
 }
 
 impl HtmlState {
-    /// The state before the first token. `Err` means out of memory.
-    pub fn new(alloc: Global, scripting: bool) -> Result<HtmlState, AllocError>
+    /// The state before the first token, with memory for this many nodes. `Err` means out of memory.
+    pub fn with_capacity(
+        alloc: Global,
+        scripting: bool,
+        nodes: usize,
+    ) -> Result<HtmlState, AllocError>
         ensures { IfOk result (λ s. s ≡ spec.initial_state scripting) }
     {
         Ok(HtmlState {
             alloc,
-            document: Document::new(alloc)?,
+            document: Document::with_capacity(alloc, nodes)?,
             stack: OpenElements::new(alloc),
             formatting: FormattingList::new(alloc),
             mode: InsertionMode::Initial,

@@ -1,9 +1,11 @@
--- The named character references (HTML Standard, 13.5): names without their `;`, by their first letter, and what they
--- stand for. The tables themselves are in `src/names`.
+-- The named character references (HTML Standard, 13.5), by the first letter of their names, and what they stand for.
+-- The tables themselves are in `src/names`.
 use Rattle.std.specs.Prelude.{ℕ, ◌==◌, if◌then◌else◌, List, [], ◌∷◌, Option, Some, None, map}
+use Rattle.std.specs.List.{before_first, after_first}
 use Rattle.std.specs.Str.{bytes_eq}
 use Rattle.std.specs.Char.{is_ascii_uppercase}
 use Rattle.std.specs.Borrow.{Bor}
+use Rattle.htmd_text.specs.Characters.{semicolon}
 use Rattle.htmd_grammar.specs.CharacterClasses.{begins_with}
 use Rattle.htmd_html5_tokens.specs.declared.names.capital_names.TheConstants.{
   CAPITAL_A,
@@ -71,19 +73,16 @@ pub record NamedReference : Type 0 where
   pub name : List ℕ
   pub characters : List ℕ
 
--- a row of a table
-abbrev row_of : record { now : List ℕ } × record { now : List ℕ } → NamedReference
-row_of r = record { name = r.0.now; characters = r.1.now }
+-- a row of a table: the name, its `;`, and what it stands for
+abbrev pub row_of : List ℕ → NamedReference
+row_of s = record { name = before_first (λ b. b == semicolon) s; characters = after_first (λ b. b == semicolon) s }
 
-abbrev rows_of : List (record { now : List ℕ } × record { now : List ℕ }) → List NamedReference
-rows_of rows = map row_of rows
+abbrev rows_of : List (record { now : List ℕ }) → List NamedReference
+rows_of rows = map (λ r. row_of r.now) rows
 
--- the same of a row that the program has
-abbrev pub loan_row : Bor (List ℕ) × Bor (List ℕ) → NamedReference
-loan_row r = record { name = r.0.now; characters = r.1.now }
-
-abbrev pub loan_rows : List (Bor (List ℕ) × Bor (List ℕ)) → List NamedReference
-loan_rows rows = map loan_row rows
+-- the same of rows that the program has
+abbrev pub loan_rows : List (Bor (List ℕ)) → List NamedReference
+loan_rows rows = map (λ r. row_of r.now) rows
 
 -- the names that begin with this capital letter
 unfoldable pub capital_names : ℕ → List NamedReference
@@ -147,9 +146,19 @@ small_names b =
     if b == 0x7A then rows_of SMALL_Z else
     []
 
+-- a row of the table of names that may stand without `;`, and the same of rows that the program has
+abbrev old_row_of : record { now : List ℕ } × record { now : List ℕ } → NamedReference
+old_row_of r = record { name = r.0.now; characters = r.1.now }
+
+abbrev pub old_loan_row : Bor (List ℕ) × Bor (List ℕ) → NamedReference
+old_loan_row r = record { name = r.0.now; characters = r.1.now }
+
+abbrev pub old_loan_rows : List (Bor (List ℕ) × Bor (List ℕ)) → List NamedReference
+old_loan_rows rows = map old_loan_row rows
+
 -- the names that may stand without `;`; none begins another, so a text begins with at most one of them
 unfoldable pub old_names : List NamedReference
-old_names = rows_of OLD_NAMES
+old_names = map old_row_of OLD_NAMES
 
 -- what the reference with this name stands for
 abbrev pub named_in : List NamedReference → List ℕ → Option (List ℕ)

@@ -1,7 +1,7 @@
 //! The names that references may have (HTML Standard, 13.5).
-ghost use Rattle.std.specs.Prelude.{◌≡◌, ◌==◌, map, option_map};
+ghost use Rattle.std.specs.Prelude.{◌≡◌, ◌∷◌, [], map, option_map};
 ghost use Rattle.htmd_html5_tokens.specs.NamedReferences as spec;
-ghost use Rattle.htmd_html5_tokens.specs.NamedReferences.{loan_row, loan_rows};
+ghost use Rattle.htmd_html5_tokens.specs.NamedReferences.{loan_rows, old_loan_row, old_loan_rows};
 
 mod capital_names;
 mod names_a_to_k;
@@ -28,7 +28,7 @@ use crate::scan::begins_with;
 
 /// The names that begin with this capital letter.
 #[tactic(auto, unfolding(crate::specs::NamedReferences::capital_names))]
-fn capital_rows(first: u8) -> &'static [(&'static str, &'static str)]
+fn capital_rows(first: u8) -> &'static [&'static str]
     ensures { loan_rows result.now ≡ spec.capital_names first }
 {
     match first {
@@ -64,7 +64,7 @@ fn capital_rows(first: u8) -> &'static [(&'static str, &'static str)]
 
 /// The names that begin with this small letter.
 #[tactic(auto, unfolding(crate::specs::NamedReferences::small_names))]
-fn small_rows(first: u8) -> &'static [(&'static str, &'static str)]
+fn small_rows(first: u8) -> &'static [&'static str]
     ensures { loan_rows result.now ≡ spec.small_names first }
 {
     match first {
@@ -98,13 +98,28 @@ fn small_rows(first: u8) -> &'static [(&'static str, &'static str)]
     }
 }
 
+/// What this row says that the name stands for, if it is the row's.
+fn named_by(row: &'static str, name: &[u8]) -> Option<&'static str>
+    ensures { option_map (λ t. t.now) result ≡ spec.named_in (spec.row_of row.now ∷ []) name.now }
+{
+    if !begins_with(row.as_bytes(), name) {
+        return None;
+    }
+    let (known, characters) = row.split_once(';').unwrap_or((row, ""));
+    if name == known.as_bytes() {
+        Some(characters)
+    } else {
+        None
+    }
+}
+
 /// What the reference with this name stands for, if it is among these.
-fn named_in(rows: &[(&'static str, &'static str)], name: &[u8]) -> Option<&'static str>
+fn named_in(rows: &[&'static str], name: &[u8]) -> Option<&'static str>
     ensures { option_map (λ t. t.now) result ≡ spec.named_in (loan_rows rows.now) name.now }
 {
-    for (known, characters) in rows {
-        if name == known.as_bytes() {
-            return Some(*characters);
+    for row in rows {
+        if let Some(characters) = named_by(*row, name) {
+            return Some(characters);
         }
     }
     None
@@ -126,7 +141,7 @@ fn first_in(
     rows: &'static [(&'static str, &'static str)],
     text: &[u8],
 ) -> Option<(&'static str, &'static str)>
-    ensures { option_map loan_row result ≡ spec.first_in (loan_rows rows.now) text.now }
+    ensures { option_map old_loan_row result ≡ spec.first_in (old_loan_rows rows.now) text.now }
 {
     for row in rows {
         if begins_with(text, row.0.as_bytes()) {
@@ -139,7 +154,7 @@ fn first_in(
 /// The name at the beginning of the text that may stand without `;`, and what it stands for. There is at most one.
 #[tactic(auto, unfolding(crate::specs::NamedReferences::old_names))]
 pub(crate) fn longest_old(text: &[u8]) -> Option<(&'static str, &'static str)>
-    ensures { option_map loan_row result ≡ spec.longest_old text.now }
+    ensures { option_map old_loan_row result ≡ spec.longest_old text.now }
 {
     first_in(&OLD_NAMES, text)
 }

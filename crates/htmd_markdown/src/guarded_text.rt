@@ -1,6 +1,6 @@
 //! Text that a reader of Markdown sees as it stands, whatever its neighbours (CommonMark 0.31.2, 2.4).
-ghost use Rattle.std.specs.Prelude.{◌≡◌, ◌++◌, ◌<◌, ◌≤◌, ◌&&◌, ◌||◌, ℕ, IfOk, IsTrue};
-ghost use Rattle.std.specs.Prelude.{List, OnOk, false, length, string_bytes};
+ghost use Rattle.std.specs.Prelude.{◌≡◌, ◌++◌, ◌+◌, ◌<◌, ◌≤◌, ◌&&◌, ◌||◌, ℕ, IfOk, IsTrue};
+ghost use Rattle.std.specs.Prelude.{List, OnOk, drop, false, length, slice_index, string_bytes};
 ghost use Rattle.std.specs.Char.{is_ascii_digit};
 ghost use Rattle.std.specs.List.{list_any, prefix_len};
 ghost use Rattle.htmd_text.specs.EscapeMarks.{is_place};
@@ -120,11 +120,19 @@ fn is_mark(bytes: &[u8], place: usize, block_mark: Option<usize>) -> bool
     requires { place < length bytes.now }
     ensures { result ≡ (spec.is_mark_anywhere bytes.now place || is_place block_mark place) }
 {
-    let byte = bytes[place];
-    is_always_guarded(byte)
-        || byte == b'&' && is_reference_like(&bytes[place + 1..])
-        || byte == b'#' && is_heading_place(bytes, place)
-        || block_mark == Some(place)
+    is_mark_anywhere(bytes, place) || block_mark == Some(place)
+}
+
+/// Whether the place gets a backslash wherever the text stands.
+fn is_mark_anywhere(bytes: &[u8], place: usize) -> bool
+    requires { place < length bytes.now }
+    ensures { result ≡ spec.is_mark_anywhere bytes.now place }
+{
+    match bytes[place] {
+        b'&' => is_reference_like(&bytes[place + 1..]),
+        b'#' => is_heading_place(bytes, place),
+        byte => is_always_guarded(byte),
+    }
 }
 
 /// Whether the place begins the text or follows a space or U+FEFF.
@@ -160,9 +168,21 @@ fn block_mark(text: &str, begins_line: bool) -> Option<usize>
         return Some(first);
     }
     let number_end = first + digits_len(&bytes[first..]);
-    match &bytes[number_end..] {
-        [b'.' | b')'] | [b'.' | b')', b' ', ..] => Some(number_end),
-        _ => None,
+    if is_item_sign_at(bytes, number_end) {
+        return Some(number_end);
+    }
+    None
+}
+
+/// Whether the `.` or `)` of an ordered list item is there, at the end of the text or before a space.
+fn is_item_sign_at(bytes: &[u8], place: usize) -> bool
+    requires { place ≤ length bytes.now }
+    ensures { result ≡ (spec.is_delimiter (slice_index bytes.now place)
+        && spec.ends_or_has_space (drop (place + 1) bytes.now)) }
+{
+    match &bytes[place..] {
+        [b'.' | b')', rest @ ..] => matches!(rest, [] | [b' ', ..]),
+        _ => false,
     }
 }
 

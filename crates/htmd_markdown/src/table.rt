@@ -114,6 +114,7 @@ pub fn write_guarded_table(
 }
 
 /// The lines of a table, with its bars written like this.
+#[tactic(auto, using(std::proofs::lemmas::Grind::common_steps))]
 fn write_table_of(
     alloc: Global,
     bars: Bars,

@@ -42,11 +42,25 @@ pub fn lay_table(alloc: Global, rows: Vec<SpannedRow>) -> Result<Vec<Vec<String>
     let mut grid = Vec::with_capacity(alloc, rows.len())?;
     let mut above = Vec::new(alloc);
     for row in rows {
-        let columns = lay_row(alloc, rows_above(&above, row.begins_group), row.cells)?;
-        above = rows_of(alloc, &columns)?;
-        grid.push(into_texts(alloc, columns)?)?;
+        grid.push(lay_texts(alloc, &mut above, row)?)?;
     }
     Ok(grid)
+}
+
+/// The texts of a row, by for how many rows the columns above it are taken. After it those are its own columns.
+fn lay_texts(
+    alloc: Global,
+    above: &mut Vec<u16>,
+    row: SpannedRow,
+) -> Result<Vec<String>, AllocError>
+    ensures texts { IfOk result (λ row_texts. texts row_texts.items
+        ≡ spec.texts_of (spec.columns_of_row above.old.items (row_view row))) }
+    ensures above { OnOk result
+        (above.new.items ≡ spec.rows_of (spec.columns_of_row above.old.items (row_view row))) }
+{
+    let columns = lay_row(alloc, rows_above(above, row.begins_group), row.cells)?;
+    *above = rows_of(alloc, &columns)?;
+    into_texts(alloc, columns)
 }
 
 /// For how many rows the columns above a row are taken: no column goes on where a group begins.

@@ -12,7 +12,6 @@ mod code_blocks;
 #[cfg(test)]
 mod code_spans;
 #[cfg(test)]
-#[cfg(test)]
 mod guarded_pieces;
 #[cfg(test)]
 mod guarded_texts;

@@ -136,6 +136,10 @@ fn tells_of_nodes(rt: HostRuntime) -> Result<(), Fail> {
     let paragraph = tree.add_element(document, "p", attribute(rt.alloc(), "id", "a")?)?;
     let text = tree.add_text(paragraph, "Hi")?;
     expect_that("new", !Tree::new(rt.alloc())?.contains(text))?;
+    expect_that(
+        "with capacity",
+        !Tree::with_capacity(rt.alloc(), 9)?.contains(text),
+    )?;
     expect_that("parent", tree.parent(text) == Some(paragraph))?;
     expect_number("depth", tree.depth(text), 2)?;
     expect_that("tag name", tree.tag_name(paragraph) == Some("p"))?;

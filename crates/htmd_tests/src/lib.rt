@@ -16,7 +16,6 @@ mod depth;
 #[cfg(test)]
 mod errors;
 #[cfg(test)]
-#[cfg(test)]
 mod guarded_parts;
 #[cfg(test)]
 mod handlers;

@@ -1,5 +1,6 @@
 //! The beginnings of a line that Markdown reads as a heading or as an ordered list item.
-ghost use Rattle.std.specs.Prelude.{◌≡◌, ◌==◌, ◌≤◌, length};
+ghost use Rattle.std.specs.Prelude.{◌≡◌, ◌==◌, ◌≤◌, length, slice_index};
+ghost use Rattle.htmd_text.specs.Characters.{space};
 ghost use Rattle.htmd_text.specs.ListMarkers as spec;
 
 use crate::runs::leading_len;
@@ -11,7 +12,14 @@ pub fn is_markdown_atx_heading(text: &str) -> bool
 {
     let bytes = text.as_bytes();
     let level = leading_len(bytes, b'#');
-    level > 0 && level < bytes.len() && bytes[level] == b' '
+    level > 0 && is_space_at(bytes, level)
+}
+
+/// Whether a space is there.
+fn is_space_at(bytes: &[u8], place: usize) -> bool
+    ensures { result ≡ (slice_index bytes.now place == space) }
+{
+    place < bytes.len() && bytes[place] == b' '
 }
 
 /// The place of the last dot, if the text begins with one or more numeric characters (general categories Nd, Nl and
@@ -23,10 +31,10 @@ pub fn index_of_markdown_ordered_item_dot(text: &str) -> Option<usize>
     let numerals = numerals_len(text);
     let dots = leading_len(&bytes[numerals..], b'.');
     let end = numerals + dots;
-    match &bytes[end..] {
-        [b' ', ..] if numerals > 0 && dots > 0 => Some(end - 1),
-        _ => None,
+    if numerals > 0 && dots > 0 && is_space_at(bytes, end) {
+        return Some(end - 1);
     }
+    None
 }
 
 /// How many bytes the numeric characters at the front take.

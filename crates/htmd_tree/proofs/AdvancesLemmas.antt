@@ -74,6 +74,20 @@ name_at reader has_doctype (f ∷ fs) o n attributes t h e =
     ∙ top_data has_doctype f fs)) in
     (cc)
 
+-- it is an element
+pub element_at : (reader : Reader) (has_doctype : Bool) (fs : List OpenElement) (o : OpenNode) → IsTop reader o
+    → Holds reader has_doctype fs
+    → (n : List ℕ) × (attributes : List AttributePair) × (data_at reader.tree o.id ≡ element_node n attributes)
+element_at reader has_doctype [] o t h = absurd h.are_open
+element_at reader has_doctype (f ∷ fs) o t h =
+    let k : o.id ≡ length (stack_items has_doctype fs) = ap (λ (y : OpenNode). y.id) (t has_doctype f fs h) in (
+      f.name,
+      f.attributes,
+      ap (λ (m : ℕ). data_at reader.tree m) k
+          ∙ ap (λ (y : List Item). data_at y (length (stack_items has_doctype fs))) h.tree_is
+          ∙ top_data has_doctype f fs,
+    )
+
 pub deep_at : (reader : Reader) (has_doctype : Bool) (fs : List OpenElement) (o : OpenNode) (n : ℕ)
     → IsTop reader o → Holds reader has_doctype fs → n ≡ depth_at reader.tree o.id
     → nat_le 1024 n ≡ is_too_deep (rules_of reader) above_body fs

@@ -120,6 +120,7 @@ pub fn push_start_tag(out: &mut String, name: &str, attrs: &[Attribute]) -> Resu
 
 /// Appends the end tag of an element to a text (HTML Standard, 13.3). `Err` means out of memory; what the text held
 /// is then still its beginning.
+#[tactic(auto)]
 pub fn push_end_tag(out: &mut String, name: &str) -> Result<(), AllocError>
     ensures ok { OnOk result
         (string_bytes out.new ≡ string_bytes out.old ++ spec.end_tag name.now) }

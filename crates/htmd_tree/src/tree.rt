@@ -111,7 +111,16 @@ impl Tree {
         ensures ok { IfOk result (λ tree. tree ≡ document_item ∷ []) }
         ensures memory { IsOkUnless result TreeError.Memory }
     {
-        let mut entries = Vec::new(alloc);
+        Tree::with_capacity(alloc, 0)
+    }
+
+    /// As `new`, with memory for this many nodes at once: adding as many takes less time. Their texts and attributes
+    /// have memory of their own. `Memory` when out of memory; there is no other error.
+    pub fn with_capacity(alloc: Global, nodes: usize) -> Result<Tree, TreeError>
+        ensures ok { IfOk result (λ tree. tree ≡ document_item ∷ []) }
+        ensures memory { IsOkUnless result TreeError.Memory }
+    {
+        let mut entries = Vec::with_capacity(alloc, nodes)?;
         entries.push(Entry {
             data: NodeData::Document,
             parent: NodeId { index: 0 },
@@ -206,6 +215,7 @@ impl Tree {
     }
 
     /// A new last child. All that takes memory comes before the change.
+    #[inline(always)]
     fn add(&mut self, parent: NodeId, node_data: NodeData) -> Result<NodeId, TreeError>
         requires within { parent < length self.old }
         requires holds { IsTrue (holds_children (data_at self.old parent)) }
@@ -235,6 +245,7 @@ impl Tree {
 
     /// A new last child of a node: a node of its own. The tree must contain the parent, a Document or an element.
     /// `TooDeep` if the child would be below level 1,024, `Memory` when out of memory; the tree is then as it was.
+    #[inline(always)]
     pub(crate) fn add_node(
         &mut self,
         parent: NodeId,

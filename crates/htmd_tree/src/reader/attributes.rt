@@ -140,6 +140,7 @@ fn behind_slash(text: &str) -> Part<'_>
 }
 
 /// The next attribute, or the end of the tag.
+#[tactic(auto)]
 pub(crate) fn next_part(text: &str) -> Part<'_>
     ensures { part_of result ≡ spec.next_part text.now }
 {
