@@ -9,6 +9,12 @@ mod EscapeLemmas
 mod TagNamesLemmas
 pub mod TagsLemmas
 pub mod ReadBackLemmas
+pub mod RunsLemmas
+pub mod CharacterClassesLemmas
+pub mod PreludeLemmas
+pub mod LineEndsLemmas
+pub mod NumbersLemmas
+pub mod NamesLemmas
 pub mod TagReadingLemmas
 pub mod TagSpellingLemmas
 pub mod TextLemmas

@@ -1,17 +1,17 @@
 -- The reader takes a tag apart as the grammar spells it.
-use Rattle.std.proofs.Common.{Bool, List, [], ap, append_assoc, arith, false, inl, inr, length, length-append, not}
-use Rattle.std.proofs.Common.{refl, suc, sym, true, zero, ℕ, ◌&&◌, ◌++◌, ◌<◌, ◌∙◌, ◌∷◌, ◌≡◌, ◌≢◌, ◌⊎◌}
+use Rattle.std.proofs.Common.{Bool, List, [], ap, append_assoc, arith, drop, eqb, false, inl, inr, length, length-append}
+use Rattle.std.proofs.Common.{not, refl, suc, sym, true, zero, ℕ, ◌&&◌, ◌++◌, ◌<◌, ◌∙◌, ◌∷◌, ◌≡◌, ◌≢◌, ◌⊎◌}
 use Rattle.std.proofs.lemmas.Bool.Decides.{nat_tests}
 use Rattle.std.specs.List.{list_all}
 use Rattle.std.specs.Prelude.{◌==◌}
-use Rattle.std.proofs.lemmas.Bool.{not-true, and_parts}
+use Rattle.std.proofs.lemmas.Bool.{not-false, not-true, and_parts}
 use Rattle.htmd_text.specs.WhiteSpace.{is_ascii_white_space}
 use Rattle.htmd_text.proofs.Cases.{test}
 use Rattle.htmd_grammar.specs.CharacterClasses.{behind_run, first_is, is_attribute_name, is_attribute_name_byte}
 use Rattle.htmd_grammar.specs.CharacterClasses.{is_empty, is_tag_name_byte, is_unquoted_byte, lacks, leading_run}
 use Rattle.htmd_grammar.specs.Steps.{body}
 use Rattle.htmd_grammar.specs.TagReading.{attribute, behind_attribute_name, behind_gap, form, form_within, is_other}
-use Rattle.htmd_grammar.specs.TagReading.{next_part, quoted_value, tag_end, value_part}
+use Rattle.htmd_grammar.specs.TagReading.{malformed, next_part, quoted_value, tag_end, value_part}
 use Rattle.htmd_grammar.specs.Tags.{IsTagRest, IsValue, optional_slash}
 use Rattle.htmd_grammar.specs.ValueTrees.{AttributePair}
 
@@ -302,3 +302,27 @@ name_is_key b e = test (is_tag_name_byte b) (λ t. absurd (let k = yes b t in cc
 pub halts_name : (s : List ℕ) → halts is_attribute_name_byte s ≡ true → halts is_tag_name_byte s ≡ true
 halts_name [] h = refl
 halts_name (b ∷ s) h = ap not (name_is_key b (not-true (is_attribute_name_byte b) h))
+
+-- ---- values in quotes
+
+-- what ends a run of other characters
+quote_behind : (q : ℕ) (s : List ℕ)
+    → first_is q (behind_run (is_other q) s) ≡ not (is_empty (behind_run (is_other q) s))
+quote_behind q [] = refl
+quote_behind q (b ∷ s) = test (eqb b q) (λ e. rw (e, e) refl) (λ e. rw e (quote_behind q s))
+
+pub quote_lacks : (q : ℕ) (name s behind : List ℕ) → behind ≡ behind_run (is_other q) s
+    → first_is q behind ≡ false
+    → malformed ≡ quoted_value q name s
+quote_lacks q name s behind e f =
+    let k : not (is_empty (behind_run (is_other q) s)) ≡ false = sym (quote_behind q s) ∙ rw e at f in
+    let m : is_empty (behind_run (is_other q) s) ≡ true = not-false _ k in
+    rw m refl
+
+pub quote_ends : (q : ℕ) (name s value behind rest : List ℕ) → value ≡ leading_run (is_other q) s
+    → behind ≡ behind_run (is_other q) s → first_is q behind ≡ true → rest ≡ drop 1 behind
+    → attribute name value rest ≡ quoted_value q name s
+quote_ends q name s value behind rest d e f g =
+    let k : not (is_empty (behind_run (is_other q) s)) ≡ true = sym (quote_behind q s) ∙ rw e at f in
+    let m : is_empty (behind_run (is_other q) s) ≡ false = not-true _ k in
+    rw (m, d, g, e) refl

@@ -1,7 +1,9 @@
--- The strict grammar, in reading order: value trees and what they are written as; the rules; characters, references,
--- tags, comments, raw content, nesting, the relation, the document; what is read back; the steps of a reader and its
--- open elements; fronts, faults and their names; the laws; last what the serialiser's own functions alone cite.
+-- The strict grammar, in reading order: value trees, what attributes stand for, what trees are written as; the rules;
+-- characters, references, tags, comments, raw content, nesting, the relation, the document; what is read back; the steps
+-- of a reader and its open elements; fronts, faults and their names; the laws; last what the serialiser's own functions
+-- alone cite.
 pub mod ValueTrees
+pub mod Attributes
 pub mod Serialisation
 pub mod RawBlocks
 pub mod CharacterClasses

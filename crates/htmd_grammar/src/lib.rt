@@ -2,7 +2,9 @@
 //! and the laws of these definitions that a reader calls.
 #![tactic(auto)]
 
+mod attribute;
 mod fault;
 pub mod laws;
 
+pub use attribute::Attribute;
 pub use fault::FaultKind;

@@ -3,7 +3,7 @@ use Rattle.std.proofs.Common.{◌≡◌, ◌∙◌, ℕ, zero, suc, ◌<◌, ◌
 use Rattle.std.proofs.Common.{arith, ◌+◌, ◌-◌, ◌==◌}
 use Rattle.htmd_text.proofs.Cases.{test}
 use Rattle.htmd_text.specs.WhiteSpace.{is_ascii_white_space}
-use Rattle.htmd_tree.proofs.TagPartsLemmas.{behind_within}
+use Rattle.htmd_grammar.proofs.RunsLemmas.{behind_within}
 use Rattle.htmd_html5_state.specs.State.{StateValue}
 use Rattle.htmd_html5.specs.Answers.{Answer, answer}
 use Rattle.htmd_html5.specs.Runs.{is_of_kind, kind_of_byte, is_null, first_kind, first_run, after_first_run}

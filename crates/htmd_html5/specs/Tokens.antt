@@ -2,7 +2,7 @@
 use Rattle.std.specs.Prelude.{ℕ, Bool, List}
 use Rattle.htmd_grammar.specs.ValueTrees.{AttributePair}
 use Rattle.htmd_html5_state.specs.Names.{NameValue, name_of}
-use Rattle.htmd_tree.specs.Views.{pairs_of}
+use Rattle.htmd_grammar.specs.Attributes.{pairs_of}
 use Rattle.htmd_html5.specs.declared.tokens.RunKind.{RunKind}
 use Rattle.htmd_html5.specs.declared.tokens.StartTag.{StartTag}
 

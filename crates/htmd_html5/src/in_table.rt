@@ -9,7 +9,7 @@ ghost use Rattle.htmd_html5.specs.BodyStarts.{start_in_body};
 ghost use Rattle.htmd_html5.specs.InBody.{run_in_body};
 ghost use Rattle.htmd_html5.specs.InTable as spec;
 ghost use Rattle.htmd_html5.specs.Tokens.{tag_of};
-ghost use Rattle.htmd_tree.specs.Views.{pairs_of};
+ghost use Rattle.htmd_grammar.specs.Attributes.{pairs_of};
 
 use crate::body_ends::end_in_body;
 use crate::body_starts::{is_hidden, start_in_body};

@@ -83,7 +83,7 @@ fn first_kind(bytes: &[u8]) -> RunKind
     }
 }
 
-#[tactic(auto, using(htmd_tree::proofs::RunsLemmas::run_more, htmd_tree::proofs::RunsLemmas::run_stops))]
+#[tactic(auto, using(htmd_grammar::proofs::RunsLemmas::run_more, htmd_grammar::proofs::RunsLemmas::run_stops))]
 fn run_len(bytes: &[u8], kind: RunKind) -> usize
     ensures bound { result ≤ length bytes.now }
     ensures value { result ≡ length (leading_run (runs.is_of_kind kind) bytes.now) }

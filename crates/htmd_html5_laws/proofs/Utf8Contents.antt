@@ -14,8 +14,8 @@ use Rattle.htmd_text.proofs.Cases.{test}
 use Rattle.htmd_grammar.specs.CharacterClasses.{is_empty, first_is, begins_with, begins_in_any_case, leading_run, behind_run}
 use Rattle.htmd_grammar.specs.References.{number, is_between}
 use Rattle.htmd_grammar.proofs.TagReadingLemmas.{halts, front_all, back_halts}
-use Rattle.htmd_tree.proofs.RunsLemmas.{take_run, drop_run, behind_last}
-use Rattle.htmd_tree.proofs.TagPartsLemmas.{behind_within}
+use Rattle.htmd_grammar.proofs.RunsLemmas.{take_run, drop_run, behind_last}
+use Rattle.htmd_grammar.proofs.RunsLemmas.{behind_within}
 use Rattle.htmd_html5_tokens.specs.NamedReferences.{NamedReference, capital_names, small_names, old_names, named_in, named}
 use Rattle.htmd_html5_tokens.specs.NamedReferences.{first_in, longest_old}
 use Rattle.htmd_html5_tokens.specs.References.{Piece, ampersand_itself, replacement_character, windows_characters}

@@ -13,9 +13,9 @@ use Rattle.htmd_grammar.specs.CharacterClasses.{up_to, onward}
 use Rattle.htmd_grammar.specs.Documents.{byte_order_mark, behind_mark}
 use Rattle.htmd_grammar.specs.TagReading.{is_other}
 use Rattle.htmd_grammar.proofs.BooleanLemmas.{and_false}
-use Rattle.htmd_tree.proofs.RunsLemmas.{take_run, drop_run, behind_last}
-use Rattle.htmd_tree.proofs.CharacterClassesLemmas.{take_up_to, drop_up_to}
-use Rattle.htmd_tree.proofs.PreludeLemmas.{begins_within, lead_behind}
+use Rattle.htmd_grammar.proofs.RunsLemmas.{take_run, drop_run, behind_last}
+use Rattle.htmd_grammar.proofs.CharacterClassesLemmas.{take_up_to, drop_up_to}
+use Rattle.htmd_grammar.proofs.PreludeLemmas.{begins_within, lead_behind}
 use Rattle.htmd_html5_tokens.proofs.RunCuts.{cut_before_ascii}
 use Rattle.htmd_html5_tokens.proofs.ReferencesLemmas.{cut_after_first}
 use Rattle.htmd_html5_tokens.proofs.BeginningsLemmas.{cut_after_beginning, BeginsAscii, cut_up_to, other_drops}

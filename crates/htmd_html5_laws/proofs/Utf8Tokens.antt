@@ -16,8 +16,8 @@ use Rattle.htmd_grammar.specs.CharacterClasses.{up_to, onward}
 use Rattle.htmd_grammar.specs.Comments.{normalized}
 use Rattle.htmd_grammar.specs.Documents.{behind_mark}
 use Rattle.htmd_grammar.specs.TagReading.{TagPart, malformed, tag_end, attribute, is_other, quoted_value}
-use Rattle.htmd_tree.proofs.RunsLemmas.{drop_run}
-use Rattle.htmd_tree.proofs.TagPartsLemmas.{behind_within}
+use Rattle.htmd_grammar.proofs.RunsLemmas.{drop_run}
+use Rattle.htmd_grammar.proofs.RunsLemmas.{behind_within}
 use Rattle.htmd_html5_tokens.specs.Preprocessing.{preprocessed}
 use Rattle.htmd_html5_tokens.specs.Tokens.{Read, TokenValue, text, start_tag, end_tag, comment, doctype, end_of_file}
 use Rattle.htmd_html5_tokens.specs.Comments.{ends_comment, after_comment_end, read_comment}

@@ -1,7 +1,7 @@
 -- What the program's nodes, open elements and entries are.
 use Rattle.std.specs.Prelude.{ℕ, Bool, false, List, [], ◌∷◌, map, string_bytes, Option, Some, None}
 use Rattle.std.specs.Borrow.{Bor}
-use Rattle.htmd_tree.specs.Views.{pairs_of}
+use Rattle.htmd_grammar.specs.Attributes.{pairs_of}
 use Rattle.htmd_html5_state.specs.Names.{element_name_of, html, known, same_element_name}
 use Rattle.htmd_html5_state.specs.Documents.{KindValue, NodeValue, document, doctype, text, comment, element}
 use Rattle.htmd_html5_state.specs.declared.children.Children.{Children}

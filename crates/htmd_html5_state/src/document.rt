@@ -3,12 +3,12 @@ ghost use Rattle.std.specs.Prelude.{◌≡◌, ◌∷◌, ◌++◌, ◌≤◌, [
 ghost use Rattle.htmd_html5_state.specs.Documents as spec;
 ghost use Rattle.htmd_html5_state.specs.Names.{element_name_of};
 ghost use Rattle.htmd_html5_state.specs.Views.{kind_of, kind_seen, nodes_of, numbers_of};
-ghost use Rattle.htmd_tree.specs.Views.{pairs_of};
+ghost use Rattle.htmd_grammar.specs.Attributes.{pairs_of};
 
 use crate::attributes::{add_missing, copy_all};
 use crate::children::Children;
 use crate::names::{ElementName, HtmlName, TagName};
-use htmd_tree::Attribute;
+use htmd_grammar::Attribute;
 use std::alloc::{AllocError, Global};
 use std::marker::Model;
 use std::mem;

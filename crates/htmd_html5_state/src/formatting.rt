@@ -2,13 +2,13 @@
 ghost use Rattle.std.specs.Prelude.{◌≡◌, OnOk};
 ghost use Rattle.htmd_html5_state.specs.Formatting as spec;
 ghost use Rattle.htmd_html5_state.specs.Names.{name_of};
-ghost use Rattle.htmd_tree.specs.Views.{pairs_of};
+ghost use Rattle.htmd_grammar.specs.Attributes.{pairs_of};
 
 use crate::attributes::copy_all;
 use crate::document::NodeKind;
 use crate::names::{ElementName, HtmlName};
 use crate::state::HtmlState;
-use htmd_tree::Attribute;
+use htmd_grammar::Attribute;
 use std::alloc::AllocError;
 
 impl HtmlState {

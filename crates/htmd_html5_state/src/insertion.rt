@@ -5,7 +5,7 @@ ghost use Rattle.htmd_html5_state.specs.Foreign as foreign;
 ghost use Rattle.htmd_html5_state.specs.Insertion as spec;
 ghost use Rattle.htmd_html5_state.specs.Names.{name_of, element_name_of};
 ghost use Rattle.htmd_html5_state.specs.OpenViews.{stack_of};
-ghost use Rattle.htmd_tree.specs.Views.{pairs_of};
+ghost use Rattle.htmd_grammar.specs.Attributes.{pairs_of};
 
 use crate::document::{Document, NodeKind, Place, last_in};
 use crate::foreign::{foreign_attributes, foreign_name};
@@ -13,8 +13,8 @@ use crate::names::{ElementName, HtmlName, Namespace, TagName};
 use crate::open_elements::{OpenElement, split_innermost};
 use crate::sets::NameSet;
 use crate::state::HtmlState;
+use htmd_grammar::Attribute;
 use htmd_html5_tokens::{Content, RawElement};
-use htmd_tree::Attribute;
 use std::alloc::AllocError;
 
 /// The place by a table: before it in its parent, or else in the element that is open around it.

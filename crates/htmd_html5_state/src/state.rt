@@ -9,7 +9,7 @@ ghost use Rattle.htmd_html5_state.specs.Resetting as resetting;
 ghost use Rattle.htmd_html5_state.specs.Settled as settled;
 ghost use Rattle.htmd_html5_state.specs.State as spec;
 ghost use Rattle.htmd_html5_state.specs.Views.{nodes_of};
-ghost use Rattle.htmd_tree.specs.Views.{pairs_of};
+ghost use Rattle.htmd_grammar.specs.Attributes.{pairs_of};
 
 use crate::document::{Document, Node};
 use crate::formatting_list::FormattingList;
@@ -17,8 +17,8 @@ use crate::modes::InsertionMode;
 use crate::names::{ElementName, HtmlName};
 use crate::open_elements::OpenElements;
 use crate::sets::{NameSet, Scope};
+use htmd_grammar::Attribute;
 use htmd_html5_tokens::Content;
-use htmd_tree::Attribute;
 use std::alloc::{AllocError, Global};
 use std::marker::Model;
 

@@ -11,7 +11,7 @@ use Rattle.std.specs.Str.{IsUtf8, IsCharBoundary, IsAscii}
 use Rattle.htmd_text.proofs.Cases.{test}
 use Rattle.htmd_grammar.specs.CharacterClasses.{begins_with, first_is, up_to, behind_run, is_empty}
 use Rattle.htmd_grammar.specs.TagReading.{is_other}
-use Rattle.htmd_tree.proofs.CharacterClassesLemmas.{up_to-le-length, stops_at}
+use Rattle.htmd_grammar.proofs.CharacterClassesLemmas.{up_to-le-length, stops_at}
 use Rattle.htmd_html5_tokens.specs.Comments.{ends_comment}
 use Rattle.htmd_html5_tokens.specs.NextToken.{ends_section, begins_markup}
 

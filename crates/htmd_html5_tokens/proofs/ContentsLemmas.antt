@@ -11,7 +11,7 @@ use Rattle.std.specs.Prelude.{◌==◌, nat_lt}
 use Rattle.std.specs.Str.{IsUtf8, IsCharBoundary}
 use Rattle.htmd_text.proofs.Cases.{test}
 use Rattle.htmd_grammar.specs.CharacterClasses.{leading_run, behind_run, begins_with}
-use Rattle.htmd_tree.proofs.CharacterClassesLemmas.{take_leading_run, drop_leading_run}
+use Rattle.htmd_grammar.proofs.CharacterClassesLemmas.{take_leading_run, drop_leading_run}
 use Rattle.htmd_html5_tokens.specs.References.{Piece, after_ampersand, replacement_character}
 use Rattle.htmd_html5_tokens.specs.Contents.{has_references, is_text, is_value, name_of, piece_at, decoded}
 use Rattle.htmd_html5_tokens.specs.Plain.{is_plain, is_small, HasPushed}

@@ -15,9 +15,9 @@ use Rattle.htmd_text.proofs.Cases.{test}
 use Rattle.htmd_grammar.specs.ValueTrees.{AttributePair}
 use Rattle.htmd_grammar.specs.CharacterClasses.{is_among, are_distinct}
 use Rattle.htmd_grammar.specs.Tags.{attribute_names}
-use Rattle.htmd_tree.specs.declared.tree.Attribute.{Attribute}
-use Rattle.htmd_tree.specs.Views.{pairs_of}
-use Rattle.htmd_tree.proofs.NamesLemmas.{HasNames, name_added}
+use Rattle.htmd_grammar.specs.declared.attribute.Attribute.{Attribute}
+use Rattle.htmd_grammar.specs.Attributes.{pairs_of}
+use Rattle.htmd_grammar.proofs.NamesLemmas.{HasNames, name_added}
 use Rattle.htmd_html5_tokens.specs.Tags.{attribute_of, firsts}
 use Rattle.htmd_html5_tokens.specs.Firsts.{are_first, split_mark, if_marked, those_marked}
 use Rattle.htmd_html5_tokens.specs.TagViews.{spelled_of, all_spelled_of}

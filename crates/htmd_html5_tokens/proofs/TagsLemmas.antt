@@ -11,8 +11,8 @@ use Rattle.htmd_text.proofs.Cases.{test}
 use Rattle.htmd_grammar.specs.ValueTrees.{AttributePair}
 use Rattle.htmd_grammar.specs.CharacterClasses.{is_empty, first_is, leading_run, behind_run}
 use Rattle.htmd_grammar.specs.TagReading.{TagPart, malformed, tag_end, attribute, is_other, quoted_value}
-use Rattle.htmd_tree.proofs.CharacterClassesLemmas.{take_leading_run, drop_leading_run}
-use Rattle.htmd_tree.proofs.TagPartsLemmas.{behind_within}
+use Rattle.htmd_grammar.proofs.CharacterClassesLemmas.{take_leading_run, drop_leading_run}
+use Rattle.htmd_grammar.proofs.RunsLemmas.{behind_within}
 use Rattle.htmd_html5_tokens.specs.Tags.{is_attribute_name_byte, is_unquoted_byte, is_gap_byte, ends_in_slash}
 use Rattle.htmd_html5_tokens.specs.Tags.{value_part, after_attribute_name, after_gap, next_part}
 use Rattle.htmd_html5_tokens.specs.Tags.{TagForm, unended, ended, with_attribute, form_after, form_within}

@@ -2,7 +2,7 @@
 use Rattle.std.specs.Prelude.{ℕ, Bool, List, string_bytes}
 use Rattle.std.specs.Cow.{cow_str_bytes}
 use Rattle.htmd_grammar.specs.ValueTrees.{AttributePair}
-use Rattle.htmd_tree.specs.Views.{pairs_of}
+use Rattle.htmd_grammar.specs.Attributes.{pairs_of}
 use Rattle.htmd_html5_tokens.specs.declared.tokens.Tag.{Tag}
 use Rattle.htmd_html5_tokens.specs.declared.tokens.Token.{Token}
 use Rattle.htmd_html5_tokens.specs.declared.tokens.Token.TheVariants.{

@@ -50,7 +50,7 @@ fn are_plain(bytes: &[u8], reading: Reading) -> bool
 }
 
 /// How many bytes at the beginning are plain.
-#[tactic(auto, using(htmd_tree::proofs::RunsLemmas::run_more, htmd_tree::proofs::RunsLemmas::run_stops))]
+#[tactic(auto, using(htmd_grammar::proofs::RunsLemmas::run_more, htmd_grammar::proofs::RunsLemmas::run_stops))]
 fn plain_len(bytes: &[u8], reading: Reading) -> usize
     ensures bound { result ≤ length bytes.now }
     ensures value { result ≡ length (leading_run (is_plain reading) bytes.now) }

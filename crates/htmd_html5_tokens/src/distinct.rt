@@ -2,10 +2,10 @@
 ghost use Rattle.std.specs.Prelude.{◌≡◌, [], IfOk};
 ghost use Rattle.htmd_grammar.specs.CharacterClasses as classes;
 ghost use Rattle.htmd_grammar.specs.Tags.{attribute_names};
-ghost use Rattle.htmd_tree.specs.Views.{pairs_of};
+ghost use Rattle.htmd_grammar.specs.Attributes.{pairs_of};
 ghost use Rattle.htmd_html5_tokens.specs.Firsts.{are_first};
 
-use htmd_tree::Attribute;
+use htmd_grammar::Attribute;
 use std::alloc::{AllocError, Global};
 use std::collections::BTreeSet;
 

@@ -36,7 +36,7 @@ fn is_of(byte: u8, class: Class) -> bool
     }
 }
 
-#[tactic(auto, using(htmd_tree::proofs::RunsLemmas::run_more, htmd_tree::proofs::RunsLemmas::run_stops))]
+#[tactic(auto, using(htmd_grammar::proofs::RunsLemmas::run_more, htmd_grammar::proofs::RunsLemmas::run_stops))]
 #[inline(always)]
 pub(crate) fn run_len(bytes: &[u8], class: Class) -> usize
     ensures bound { result ≤ length bytes.now }

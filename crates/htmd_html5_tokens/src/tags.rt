@@ -1,6 +1,6 @@
 //! Start tags and end tags.
 ghost use Rattle.std.specs.Prelude.{◌≡◌, ◌++◌, if◌then◌else◌, map, option_map, IfOk, OnOk};
-ghost use Rattle.htmd_tree.specs.Views.{pair_of, pairs_of};
+ghost use Rattle.htmd_grammar.specs.Attributes.{pair_of, pairs_of};
 ghost use Rattle.htmd_html5_tokens.specs.Tags as spec;
 ghost use Rattle.htmd_html5_tokens.specs.Firsts.{split_mark, if_marked, those_marked};
 ghost use Rattle.htmd_html5_tokens.specs.TagViews.{spelled_of, all_spelled_of};
@@ -12,7 +12,7 @@ use crate::contents::{Reading, decoded, name_of, tag_name_of};
 use crate::distinct::{are_distinct, first_marks};
 use crate::runs::{Class, split_run, strip_byte};
 use crate::tokens::{Tag, Token};
-use htmd_tree::Attribute;
+use htmd_grammar::Attribute;
 use std::alloc::{AllocError, Global};
 
 /// What a spelled attribute denotes.

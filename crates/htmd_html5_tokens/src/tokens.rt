@@ -2,7 +2,7 @@
 ghost use Rattle.std.specs.Prelude.{◌≡◌};
 ghost use Rattle.htmd_html5_tokens.specs.RawTexts as raw;
 
-use htmd_tree::Attribute;
+use htmd_grammar::Attribute;
 use std::borrow::CowStr;
 
 /// A start tag or end tag. Of attributes with one name it has only the first. Its name is borrowed if the text has it

@@ -3,7 +3,7 @@ ghost use Rattle.std.specs.Option.{option_copied};
 ghost use Rattle.std.specs.Prelude.{◌≡◌, ◌<◌, ◌&&◌, Some, None, if◌then◌else◌, length, not, true};
 ghost use Rattle.std.specs.Prelude.{codes, string_bytes};
 ghost use Rattle.htmd_tree.specs.Items.{children_of};
-ghost use Rattle.htmd_tree.specs.Views.{pairs_of};
+ghost use Rattle.htmd_grammar.specs.Attributes.{pairs_of};
 ghost use Rattle.htmd.specs.ElementPlans.{attributes_of, is_more_than, value_of_first};
 ghost use Rattle.htmd.specs.Handling.{this_result, raw_html, content_of_children, content_of_fallback};
 ghost use Rattle.htmd.specs.Outputs.{is_markdown_alone};

@@ -13,7 +13,8 @@ use Rattle.std.proofs.lemmas.Bool.{eqb-true, or_parts}
 use Rattle.std.proofs.Math.Bool.{or-true}
 use Rattle.htmd_tree.specs.Bodies.{behind_form, behind_name, first_of, behind_first_start_tag}
 use Rattle.htmd_tree.specs.Bodies.{begins_end_tag, holds_end_tag, before_last_end_tag}
-use Rattle.htmd_tree.proofs.TagPartsLemmas.{part_shorter, form_same, behind_within}
+use Rattle.htmd_grammar.proofs.RunsLemmas.{behind_within}
+use Rattle.htmd_tree.proofs.TagPartsLemmas.{part_shorter, form_same}
 
 -- ---- start tags
 

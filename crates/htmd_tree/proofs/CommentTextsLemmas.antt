@@ -11,7 +11,7 @@ use Rattle.std.specs.Str.{IsUtf8, IsCharBoundary}
 use Rattle.htmd_text.proofs.Cases.{test}
 use Rattle.htmd_grammar.specs.CharacterClasses.{begins_with, up_to, onward}
 use Rattle.htmd_grammar.specs.Comments.{before_comment_end}
-use Rattle.htmd_tree.proofs.CharacterClassesLemmas.{take_up_to, drop_up_to, up_to-le-length, stops_at}
+use Rattle.htmd_grammar.proofs.CharacterClassesLemmas.{take_up_to, drop_up_to, up_to-le-length, stops_at}
 
 abbrev ends : List ℕ → List ℕ
 ends s = up_to (begins_with (codes "-->")) s

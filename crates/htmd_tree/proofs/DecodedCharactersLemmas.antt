@@ -23,41 +23,8 @@ use Rattle.htmd_grammar.specs.References.{named, number_at, behind_ampersand, be
 use Rattle.htmd_grammar.specs.Rules.{character_named, named_characters}
 use Rattle.htmd_grammar.specs.declared.fault.FaultKind.TheVariants.{UnknownReference, BadNumber}
 use Rattle.htmd_tree.specs.DecodedCharacters.{entry, IsPieceEnd}
-use Rattle.htmd_tree.proofs.CharacterClassesLemmas.{take_leading_run, drop_leading_run}
-
-abbrev limit : ℕ
-limit = 0x11_0000
-
--- ---- numbers up to the limit
-
-grows : (base x : ℕ) → 0 < base → x ≤ base * x
-grows base x l = let m = mul-le-mul_left x l' in omega (arith, m)
-  where
-    l' : 1 ≤ base
-    l' = omega arith
-
-capped_step : (base x y d : ℕ) → 0 < base → min x limit ≡ min y limit
-    → min (base * x + d) limit ≡ min (base * y + d) limit
-capped_step base x y d l e = go (cases_lt x limit)
-  where
-    go : (x < limit) ⊎ (limit ≤ x) → min (base * x + d) limit ≡ min (base * y + d) limit
-    go (inl q) = let same : x ≡ y = omega arith in ap (λ z. min (base * z + d) limit) same
-    go (inr q) = omega (arith, grows base x l, grows base y l)
-
-number_capped : (base x y : ℕ) (s : List ℕ) → 0 < base → min x limit ≡ min y limit
-    → min (number base x s) limit ≡ min (number base y s) limit
-number_capped base x y [] l e = e
-number_capped base x y (b ∷ s) l e =
-    number_capped base (base * x + digit_value b) (base * y + digit_value b) s l
-    (capped_step base x y (digit_value b) l e)
-
--- one more digit
-pub number_more : (base sum next i : ℕ) (s : List ℕ) → 0 < base → i < length s
-    → next ≡ min limit (base * sum + digit_value (get_or s i 0))
-    → min (number base next (drop (i + 1) s)) limit ≡ min (number base sum (drop i s)) limit
-number_more base sum next i s l m e =
-    rw (drop_more s i 0 m)
-    (number_capped base next (base * sum + digit_value (get_or s i 0)) (drop (i + 1) s) l (omega arith))
+use Rattle.htmd_grammar.proofs.NumbersLemmas.{limit}
+use Rattle.htmd_grammar.proofs.CharacterClassesLemmas.{take_leading_run, drop_leading_run}
 
 -- ---- the characters that a number may name
 

@@ -10,13 +10,14 @@ use Rattle.std.proofs.lemmas.List.{map_push, append-nil}
 use Rattle.std.proofs.lemmas.Str.{IsUtf8-string_bytes}
 use Rattle.std.specs.Str.{IsUtf8}
 use Rattle.htmd_grammar.specs.ValueTrees.{AttributePair}
-use Rattle.htmd_tree.specs.declared.tree.Attribute.{Attribute}
+use Rattle.htmd_grammar.specs.declared.attribute.Attribute.{Attribute}
 use Rattle.htmd_tree.specs.declared.tree.Entry.{Entry}
 use Rattle.htmd_tree.specs.declared.tree.NodeData.{NodeData}
 use Rattle.htmd_tree.specs.declared.tree.NodeData.TheVariants.{Document, Doctype, Text, Comment, Element}
 use Rattle.htmd_tree.specs.Items.{Item, document_item, is_child, children_of, holds_children, data_at, depth_at}
 use Rattle.htmd_tree.specs.Items.{new_item, greatest_depth, IsTree, HoldsText, HoldTexts}
-use Rattle.htmd_tree.specs.Views.{data_of, pairs_of}
+use Rattle.htmd_grammar.specs.Attributes.{pairs_of}
+use Rattle.htmd_tree.specs.Views.{data_of}
 use Rattle.htmd_tree.specs.Entries.{parent_of, numbers_of, item_of, items_of, IsStored}
 use Rattle.htmd_tree.proofs.ItemsLemmas.{children_from-push, children_from-none, is_child-before, IsTree-added}
 

@@ -6,9 +6,8 @@ pub mod NumberedTreesLemmas
 pub mod AncestorsLemmas
 pub mod LayoutLemmas
 pub mod SerialiserLemmas
-pub mod RunsLemmas
+pub mod ClassesLemmas
 pub mod TagPartsLemmas
-pub mod NamesLemmas
 pub mod OpenNodesLemmas
 pub mod AdvancesLemmas
 pub mod PiecesLemmas
@@ -17,16 +16,13 @@ pub mod ValuesLemmas
 pub mod ContentsLemmas
 pub mod TagStepsLemmas
 pub mod TagAnswersLemmas
-pub mod PreludeLemmas
 pub mod SurroundingsLemmas
 pub mod PartsLemmas
 pub mod RawBlockLemmas
-pub mod CharacterClassesLemmas
 pub mod CommentTextsLemmas
 pub mod DecodedCharactersLemmas
 pub mod RawContentLemmas
 pub mod TextRunsLemmas
-pub mod LineEndsLemmas
 pub mod DecodedValuesLemmas
 pub mod TextsLemmas
 pub mod BodiesLemmas

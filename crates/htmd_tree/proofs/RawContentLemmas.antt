@@ -10,7 +10,7 @@ use Rattle.std.specs.Prelude.{◌==◌}
 use Rattle.std.specs.Str.{IsCharBoundary}
 use Rattle.htmd_grammar.specs.CharacterClasses.{begins_with, begins_in_any_case, holds_in_any_case, up_to}
 use Rattle.htmd_grammar.specs.RawContent.{has_script_escape, begins_own_end, goes_on_with_name}
-use Rattle.htmd_tree.proofs.CharacterClassesLemmas.{up_to-le-length, stops_at}
+use Rattle.htmd_grammar.proofs.CharacterClassesLemmas.{up_to-le-length, stops_at}
 
 -- whether the rest has what is still to come
 abbrev pub goes_on : Bool → List ℕ → Bool

@@ -40,33 +40,9 @@ lower_case_stays (b ∷ s) all =
     let same : to_ascii_lowercase b ≡ b = eqb-true (to_ascii_lowercase b) b parts.0 in
     rw (same, lower_case_stays s parts.1) refl
 
--- ---- values
-
 empty_length : (s : List ℕ) → eqb (length s) 0 ≡ is_empty s
 empty_length [] = refl
 empty_length (b ∷ s) = grind (arith, nat_tests)
-
--- what ends a run of other characters
-quote_behind : (q : ℕ) (s : List ℕ)
-    → first_is q (behind_run (is_other q) s) ≡ not (is_empty (behind_run (is_other q) s))
-quote_behind q [] = refl
-quote_behind q (b ∷ s) = test (eqb b q) (λ e. rw (e, e) refl) (λ e. rw e (quote_behind q s))
-
-pub quote_lacks : (q : ℕ) (name s behind : List ℕ) → behind ≡ behind_run (is_other q) s
-    → first_is q behind ≡ false
-    → malformed ≡ quoted_value q name s
-quote_lacks q name s behind e f =
-    let k : not (is_empty (behind_run (is_other q) s)) ≡ false = sym (quote_behind q s) ∙ rw e at f in
-    let m : is_empty (behind_run (is_other q) s) ≡ true = not-false _ k in
-    rw m refl
-
-pub quote_ends : (q : ℕ) (name s value behind rest : List ℕ) → value ≡ leading_run (is_other q) s
-    → behind ≡ behind_run (is_other q) s → first_is q behind ≡ true → rest ≡ drop 1 behind
-    → attribute name value rest ≡ quoted_value q name s
-quote_ends q name s value behind rest d e f g =
-    let k : not (is_empty (behind_run (is_other q) s)) ≡ true = sym (quote_behind q s) ∙ rw e at f in
-    let m : is_empty (behind_run (is_other q) s) ≡ false = not-true _ k in
-    rw (m, d, g, e) refl
 
 -- ---- attributes
 
@@ -80,11 +56,6 @@ attribute_is_named s name rest d e f g =
     rw (d, e, m, r, h) refl
 
 -- ---- each part takes at least one character
-
-pub behind_within : (p : ℕ → Bool) (s : List ℕ) → length (behind_run p s) ≤ length s
-behind_within p [] = omega arith
-behind_within p (b ∷ s) =
-    test (p b) (λ e. let k = behind_within p s in rw e (omega arith)) (λ e. rw e (omega arith))
 
 -- one more than what is left after a part
 abbrev size_of : TagPart → ℕ

@@ -35,8 +35,8 @@ use Rattle.htmd_tree.specs.declared.reader.Stop.{Stop}
 use Rattle.htmd_tree.specs.declared.reader.Stop.TheVariants.{Memory, Refused}
 use Rattle.htmd_tree.specs.declared.reader.references.Character.{Character}
 use Rattle.htmd_tree.specs.declared.reader.texts.TextSurroundings.{TextSurroundings}
-use Rattle.htmd_tree.proofs.CharacterClassesLemmas.{take_leading_run, drop_leading_run, behind_leading_run}
-use Rattle.htmd_tree.proofs.RunsLemmas.{run_within, behind_last}
+use Rattle.htmd_grammar.proofs.CharacterClassesLemmas.{take_leading_run, drop_leading_run, behind_leading_run}
+use Rattle.htmd_grammar.proofs.RunsLemmas.{run_within, behind_last}
 
 -- ---- where a run may be cut
 

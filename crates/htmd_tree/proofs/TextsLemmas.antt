@@ -27,7 +27,7 @@ use Rattle.htmd_tree.specs.declared.reader.Reader.{Reader}
 use Rattle.htmd_tree.specs.declared.reader.Stop.{Stop}
 use Rattle.htmd_tree.specs.declared.reader.Stop.TheVariants.{Memory, Refused}
 use Rattle.htmd_tree.specs.declared.reader.texts.TextSurroundings.{TextSurroundings}
-use Rattle.htmd_tree.proofs.CharacterClassesLemmas.{take_up_to, drop_up_to}
+use Rattle.htmd_grammar.proofs.CharacterClassesLemmas.{take_up_to, drop_up_to}
 use Rattle.htmd_tree.proofs.PiecesLemmas.{reaches_then}
 
 -- ---- the place of a text

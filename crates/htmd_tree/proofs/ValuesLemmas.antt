@@ -16,8 +16,8 @@ use Rattle.htmd_grammar.specs.Rules.{named_characters}
 use Rattle.htmd_grammar.specs.Tags.{attribute_names, with_value, decode_values}
 use Rattle.htmd_grammar.specs.declared.fault.FaultKind.TheVariants.{DuplicateAttribute}
 use Rattle.htmd_tree.specs.TagParts.{read_attributes, all_spelled_of}
-use Rattle.htmd_tree.specs.Views.{pair_of, pairs_of}
-use Rattle.htmd_tree.specs.declared.tree.Attribute.{Attribute}
+use Rattle.htmd_grammar.specs.Attributes.{pair_of, pairs_of}
+use Rattle.htmd_grammar.specs.declared.attribute.Attribute.{Attribute}
 use Rattle.htmd_tree.specs.declared.reader.attributes.SpelledAttribute.{SpelledAttribute}
 
 -- attributes, and then those of an answer

@@ -11,8 +11,8 @@ mod reader;
 mod serialiser;
 mod tree;
 
-pub use htmd_grammar::FaultKind;
+pub use htmd_grammar::{Attribute, FaultKind};
 pub use lines::line_and_column;
 pub use reader::{ReadError, body_of, read_html};
 pub use serialiser::{is_void, push_end_tag, push_start_tag, raw_block, serialize};
-pub use tree::{Attribute, NodeData, NodeId, Tree, TreeError};
+pub use tree::{NodeData, NodeId, Tree, TreeError};

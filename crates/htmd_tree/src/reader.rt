@@ -14,7 +14,8 @@ ghost use Rattle.htmd_grammar.specs.declared.fault.FaultKind.TheVariants.{TooDee
 ghost use Rattle.htmd_text.specs.Characters.{null};
 ghost use Rattle.htmd_tree.specs.Layout.{document_items};
 ghost use Rattle.std.specs.List.{list_any, position};
-ghost use Rattle.htmd_tree.specs.Views.{data_of, pairs_of};
+ghost use Rattle.htmd_grammar.specs.Attributes.{pairs_of};
+ghost use Rattle.htmd_tree.specs.Views.{data_of};
 ghost use Rattle.htmd_tree.specs.Items.{holds_children, data_at};
 ghost use Rattle.htmd_tree.specs.OpenNodes.{Holds, IsReading, MayOpen, innermost_name, open_node, WhateverIsOpen};
 ghost use Rattle.htmd_tree.specs.Advances.{HasAdded, StopsDeep, IsLeaf, leaf, rules_of, Steps};
@@ -33,10 +34,10 @@ mod tags;
 mod texts;
 
 use crate::reader::surroundings::Surroundings;
-use crate::tree::{Attribute, MAX_DEPTH, NodeData, NodeId, Tree, TreeError};
+use crate::tree::{MAX_DEPTH, NodeData, NodeId, Tree, TreeError};
 pub use body::body_of;
-use htmd_grammar::FaultKind;
 use htmd_grammar::laws::{faults_are_right, steps_read_the_grammar};
+use htmd_grammar::{Attribute, FaultKind};
 use std::alloc::{AllocError, AllocFailed, Global};
 use thiserror::Error;
 

@@ -3,14 +3,15 @@ ghost use Rattle.std.specs.Prelude.{◌≡◌, ◌<◌, ◌++◌, ◌∷◌, fal
 ghost use Rattle.std.specs.Str.{chars, encode_utf8_all};
 ghost use Rattle.htmd_tree.specs.Items.{children_of};
 ghost use Rattle.htmd_tree.specs.NumberedTrees.{tree_of, forest_of, value_tree, value_forest};
-ghost use Rattle.htmd_tree.specs.Views.{pair_of, pairs_of};
+ghost use Rattle.htmd_grammar.specs.Attributes.{pair_of, pairs_of};
 ghost use Rattle.htmd_tree.specs.Parts.{IsReadBack};
 ghost use Rattle.htmd_text.specs.Beginnings.{IsBeginning};
 ghost use Rattle.htmd_grammar.specs.Serialisation as spec;
 ghost use Rattle.htmd_grammar.specs.RawBlocks as blocks;
 ghost use Rattle.htmd_grammar.specs.SerialiserSteps as steps;
 
-use crate::tree::{Attribute, NodeData, NodeId, Tree};
+use crate::tree::{NodeData, NodeId, Tree};
+use htmd_grammar::Attribute;
 use htmd_grammar::laws::raw_html_reads_back;
 use htmd_text::surround_with_blank_lines;
 use std::alloc::{AllocError, Global};

@@ -5,10 +5,12 @@ ghost use Rattle.std.specs.Option.{option_copied};
 ghost use Rattle.htmd_tree.specs.Items.{IsTree, data_at, parent_at, depth_at, children_of, holds_children, tag_of};
 ghost use Rattle.htmd_tree.specs.Items.{new_item, document_item, doctype_node, text_node, comment_node, element_node};
 ghost use Rattle.htmd_tree.specs.Items.{greatest_depth, HoldTexts};
-ghost use Rattle.htmd_tree.specs.Views.{data_of, pairs_of};
+ghost use Rattle.htmd_grammar.specs.Attributes.{pairs_of};
+ghost use Rattle.htmd_tree.specs.Views.{data_of};
 ghost use Rattle.htmd_tree.specs.declared.tree.TreeError.TheVariants.{Memory};
 
 use crate::children::Children;
+use htmd_grammar::Attribute;
 use std::alloc::{AllocError, AllocFailed, Global};
 use std::marker::Model;
 use thiserror::Error;
@@ -30,13 +32,6 @@ impl Model for NodeId {
     ghost view = { λ id. id.index };
 
     ghost inverse = { λ n. record { index = n } };
-}
-
-/// An attribute of an element.
-#[derive(Debug, PartialEq, Eq, Drop)]
-pub struct Attribute {
-    pub name: String,
-    pub value: String,
 }
 
 /// What a node is.

@@ -10,8 +10,8 @@ use Rattle.std.proofs.lemmas.List.{take-append-drop}
 use Rattle.std.proofs.lemmas.List.Sums.{fold-append, fold_more}
 use Rattle.std.proofs.lemmas.List.Folds.{list_any_at, list_any-append}
 use Rattle.std.proofs.lemmas.List.Elements.{All-from_get_or, Contains-get_or, filter_more, filter-append}
-use Rattle.htmd_tree.specs.declared.tree.Attribute.{Attribute}
-use Rattle.htmd_tree.specs.Views.{pairs_of}
+use Rattle.htmd_grammar.specs.declared.attribute.Attribute.{Attribute}
+use Rattle.htmd_grammar.specs.Attributes.{pairs_of}
 use Rattle.htmd_tree.specs.Items.{Item, children_of, IsTree, IsBelow, child}
 use Rattle.htmd_tree.proofs.ItemsLemmas.{child_read}
 use Rattle.std.proofs.lemmas.List.Elements.{All-get_or}

@@ -6,7 +6,7 @@ use Rattle.std.proofs.lemmas.List.{append-nil}
 use Rattle.std.specs.Prelude.{String, Vec}
 use Rattle.std.specs.Global.{Global}
 use Rattle.htmd_tree.specs.ValueTrees.{AttributePair}
-use Rattle.htmd_tree.specs.declared.tree.Attribute.{Attribute}
+use Rattle.htmd_grammar.specs.declared.attribute.Attribute.{Attribute}
 use Rattle.htmd_tree.specs.declared.tree.NodeData.{NodeData}
 use Rattle.htmd_tree.specs.declared.tree.NodeData.TheVariants.{Document, Doctype, Text, Comment, Element}
 use Rattle.htmd_tree.specs.Items.{Item, Data, element_node, IsTree, data_at}

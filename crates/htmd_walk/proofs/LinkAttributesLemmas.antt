@@ -6,8 +6,8 @@ use Rattle.std.specs.List.{list_any}
 use Rattle.std.specs.Option.{option_or}
 use Rattle.std.specs.Str.{bytes_eq}
 use Rattle.htmd_tree.specs.ValueTrees.{AttributePair}
-use Rattle.htmd_tree.specs.declared.tree.Attribute.{Attribute}
-use Rattle.htmd_tree.specs.Views.{pair_of, pairs_of}
+use Rattle.htmd_grammar.specs.declared.attribute.Attribute.{Attribute}
+use Rattle.htmd_grammar.specs.Attributes.{pair_of, pairs_of}
 use Rattle.htmd_walk.specs.LinkAttributes.{is_among, last_value}
 
 pub among_names : (names : List (Bor (List ℕ))) (name : List ℕ)

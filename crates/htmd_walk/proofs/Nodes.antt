@@ -10,7 +10,7 @@ use Rattle.htmd_tree.specs.NumberedTrees.{NumberedTree, document, doctype, text,
 use Rattle.htmd_tree.specs.NumberedTrees.{more, with_children, forest_of, tree_of}
 use Rattle.htmd_tree.specs.Ancestors.{ancestor_of, ancestors_of, chain_from}
 use Rattle.htmd_tree.specs.Views.{data_of}
-use Rattle.htmd_tree.specs.declared.tree.Attribute.{Attribute}
+use Rattle.htmd_grammar.specs.declared.attribute.Attribute.{Attribute}
 use Rattle.htmd_tree.specs.declared.tree.NodeData.{NodeData}
 use Rattle.htmd_tree.specs.declared.tree.NodeData.TheVariants.{Document, Doctype, Text, Comment, Element}
 use Rattle.std.specs.Prelude.{String, Vec}

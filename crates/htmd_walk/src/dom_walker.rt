@@ -9,7 +9,7 @@ ghost use Rattle.std.specs.Option.{option_copied};
 ghost use Rattle.htmd_tree.specs.Items.{data_at, element_node, IsTree};
 ghost use Rattle.htmd_tree.specs.NumberedTrees.{tree_of};
 ghost use Rattle.htmd_tree.specs.Ancestors.{ancestors_of};
-ghost use Rattle.htmd_tree.specs.Views.{pairs_of};
+ghost use Rattle.htmd_grammar.specs.Attributes.{pairs_of};
 ghost use Rattle.htmd_walk.specs.Handling.{IsProper, contents_of_each};
 ghost use Rattle.htmd_walk.specs.OrdinaryText.{in_pre_or_code};
 ghost use Rattle.htmd_walk.specs.Groups.{group_tree, children_at};

@@ -1,7 +1,7 @@
 //! What is written in one line, where no block can stand.
 
 ghost use Rattle.std.specs.Prelude.{◌≡◌, ◌<◌, length};
-ghost use Rattle.htmd_tree.specs.Views.{pairs_of};
+ghost use Rattle.htmd_grammar.specs.Attributes.{pairs_of};
 ghost use Rattle.htmd_walk.specs.LinkAttributes.{is_among};
 ghost use Rattle.htmd_walk.specs.OneLineElements as spec;
 

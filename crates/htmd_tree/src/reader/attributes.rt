@@ -2,7 +2,7 @@
 ghost use Rattle.std.specs.Prelude.{◌≡◌, ◌<◌, suc, length, IfOk, MatchOption, option_map, Ok, Err, MatchResult};
 ghost use Rattle.htmd_grammar.specs.Tags.{attribute_names, decode_values};
 ghost use Rattle.htmd_tree.specs.TagParts.{part_of, all_spelled_of, attribute_part, read_attributes};
-ghost use Rattle.htmd_tree.specs.Views.{pairs_of};
+ghost use Rattle.htmd_grammar.specs.Attributes.{pairs_of};
 ghost use Rattle.std.specs.List.{list_any};
 ghost use Rattle.htmd_grammar.specs.Rules.{named_characters};
 ghost use Rattle.htmd_grammar.specs.CharacterClasses as classes;
@@ -11,8 +11,7 @@ ghost use Rattle.htmd_grammar.specs.OpenElements as steps;
 
 use crate::reader::references;
 use crate::reader::scan::{Class, split_run, strip_byte};
-use crate::tree::Attribute;
-use htmd_grammar::FaultKind;
+use htmd_grammar::{Attribute, FaultKind};
 use std::alloc::{AllocError, Global};
 use std::collections::BTreeSet;
 

@@ -4,7 +4,7 @@ ghost use Rattle.std.specs.Prelude.{◌≡◌, ◌<◌, ◌++◌, IfOk, OnOk, Al
 ghost use Rattle.std.specs.List.{flat_map};
 ghost use Rattle.htmd_markdown.specs.Tables.{texts, row_texts};
 ghost use Rattle.htmd_markdown.specs.TableGridViews.{cell_view};
-ghost use Rattle.htmd_tree.specs.Views.{pairs_of};
+ghost use Rattle.htmd_grammar.specs.Attributes.{pairs_of};
 ghost use Rattle.htmd_walk.specs.Tables.{text_of_cell};
 ghost use Rattle.htmd_walk.specs.GuardedTableLayouts.{attributes_at, line_nodes, nodes_of_lines, table_lines};
 ghost use Rattle.htmd_walk.specs.GuardedTableTexts as spec;

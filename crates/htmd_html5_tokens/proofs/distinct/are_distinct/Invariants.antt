@@ -2,9 +2,9 @@
 use Rattle.std.proofs.Common.{◌≡◌, true, List, ◌++◌, length}
 use Rattle.htmd_grammar.specs.CharacterClasses.{are_distinct}
 use Rattle.htmd_grammar.specs.Tags.{attribute_names}
-use Rattle.htmd_tree.specs.declared.tree.Attribute.{Attribute}
-use Rattle.htmd_tree.specs.Views.{pairs_of}
-use Rattle.htmd_tree.proofs.NamesLemmas.{HasNames}
+use Rattle.htmd_grammar.specs.declared.attribute.Attribute.{Attribute}
+use Rattle.htmd_grammar.specs.Attributes.{pairs_of}
+use Rattle.htmd_grammar.proofs.NamesLemmas.{HasNames}
 use Rattle.htmd_html5_tokens.proofs.distinct.are_distinct.Given as goal
 
 abbrev pub invariant-loop-rest : goal.invariant-loop-rest

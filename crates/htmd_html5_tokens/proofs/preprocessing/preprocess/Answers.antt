@@ -1,7 +1,7 @@
 -- A text without CR stays.
 use Rattle.std.proofs.Common.{sym, lit<}
 use Rattle.std.proofs.lemmas.Str.Pattern.{split_parts}
-use Rattle.htmd_tree.proofs.LineEndsLemmas.{normalized_same}
+use Rattle.htmd_grammar.proofs.LineEndsLemmas.{normalized_same}
 use Rattle.htmd_html5_tokens.proofs.preprocessing.preprocess.Goals as goal
 
 pub returns-in-None : goal.returns-in-None

@@ -1,7 +1,7 @@
 -- What is left to prove of `own_text_len`.
 use Rattle.std.proofs.Common.{arith}
 use Rattle.htmd_grammar.specs.RawContent.{begins_own_end}
-use Rattle.htmd_tree.proofs.CharacterClassesLemmas.{up_to_more}
+use Rattle.htmd_grammar.proofs.CharacterClassesLemmas.{up_to_more}
 use Rattle.htmd_html5_tokens.proofs.raw_texts.own_text_len.Goals as goal
 
 pub loop-len-preserved : goal.loop-len-preserved

@@ -1,6 +1,6 @@
 -- The value is that of the first attribute with this name among those that are left.
 use Rattle.std.proofs.Common.{◌≡◌, drop}
-use Rattle.htmd_tree.specs.Views.{pairs_of}
+use Rattle.htmd_grammar.specs.Attributes.{pairs_of}
 use Rattle.htmd.specs.ElementPlans.{value_of_first}
 use Rattle.htmd_tests.proofs.handlers.value_of.Given as goal
 

@@ -3,10 +3,11 @@ use Rattle.std.proofs.Common.{rules, ◌≡◌, ◌<◌, ◌++◌, length, strin
 use Rattle.std.proofs.Common.{OnOk, codes}
 use Rattle.htmd_tree.specs.Items.{children_of, document_node, doctype_node, text_node, comment_node, element_node}
 use Rattle.htmd_tree.specs.NumberedTrees.{tree_of, forest_of, value_forest}
-use Rattle.htmd_tree.specs.Views.{data_of, pairs_of}
+use Rattle.htmd_grammar.specs.Attributes.{pairs_of}
+use Rattle.htmd_tree.specs.Views.{data_of}
 use Rattle.htmd_grammar.specs.ValueTrees.{AttributePair, ValueForest}
 use Rattle.htmd_grammar.specs.Serialisation.{start_tag, end_tag, is_void, is_raw_text, all_markup_of}
-use Rattle.htmd_tree.specs.declared.tree.Attribute.{Attribute}
+use Rattle.htmd_grammar.specs.declared.attribute.Attribute.{Attribute}
 use Rattle.htmd_tree.proofs.ItemsLemmas.{child_read}
 use Rattle.htmd_tree.proofs.SerialiserLemmas.{OnOk-pushed, OnOk-third, markup_of-node}
 use Rattle.htmd_tree.proofs.serialiser.+serialiser.Goals as goal

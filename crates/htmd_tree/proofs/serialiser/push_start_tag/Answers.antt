@@ -3,8 +3,8 @@ use Rattle.std.proofs.Common.{◌+◌, List, ◌∷◌, ◌++◌, drop, sym, ap,
 use Rattle.std.specs.List.{flat_map}
 use Rattle.std.proofs.lemmas.List.{at_drop_more}
 use Rattle.htmd_grammar.specs.Serialisation.{attribute_text}
-use Rattle.htmd_tree.specs.declared.tree.Attribute.{Attribute}
-use Rattle.htmd_tree.specs.Views.{pair_of, pairs_of}
+use Rattle.htmd_grammar.specs.declared.attribute.Attribute.{Attribute}
+use Rattle.htmd_grammar.specs.Attributes.{pair_of, pairs_of}
 use Rattle.htmd_text.proofs.BeginningsLemmas.{begins-same, begins-pushed, begins-trans}
 use Rattle.htmd_text.proofs.Cases.{OnErr-always}
 use Rattle.htmd_tree.proofs.serialiser.push_start_tag.Goals as goal

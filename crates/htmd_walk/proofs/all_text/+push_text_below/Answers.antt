@@ -1,6 +1,7 @@
 use Rattle.std.proofs.Common.{rules, arith, ◌<◌, ◌++◌, length, sym, ap, ◌∙◌, string_bytes}
 use Rattle.std.proofs.lemmas.List.{append-nil}
-use Rattle.htmd_tree.specs.Views.{pairs_of, data_of}
+use Rattle.htmd_grammar.specs.Attributes.{pairs_of}
+use Rattle.htmd_tree.specs.Views.{data_of}
 use Rattle.htmd_tree.proofs.ItemsLemmas.{child_read}
 use Rattle.htmd_walk.specs.ElementPlans.{is_tag_among}
 use Rattle.htmd_walk.specs.OtherBlocks.{hidden_tags}

@@ -3,11 +3,12 @@ use Rattle.std.proofs.Common.{◌≡◌, ℕ, List, refl, sym, ap, ◌∙◌}
 use Rattle.std.specs.Prelude.{String, Vec, string_bytes}
 use Rattle.std.specs.Global.{Global}
 use Rattle.htmd_grammar.specs.ValueTrees.{AttributePair}
-use Rattle.htmd_tree.specs.declared.tree.Attribute.{Attribute}
+use Rattle.htmd_grammar.specs.declared.attribute.Attribute.{Attribute}
 use Rattle.htmd_tree.specs.declared.tree.NodeData.{NodeData}
 use Rattle.htmd_tree.specs.declared.tree.NodeData.TheVariants.{Document, Doctype, Text, Comment, Element}
 use Rattle.htmd_tree.specs.Items.{element_node}
-use Rattle.htmd_tree.specs.Views.{data_of, pairs_of}
+use Rattle.htmd_grammar.specs.Attributes.{pairs_of}
+use Rattle.htmd_tree.specs.Views.{data_of}
 use Rattle.htmd_tree.proofs.AdvancesLemmas.{name_at, element_at}
 use Rattle.htmd_tree.proofs.reader.Reader.innermost_name.Goals as goal
 

@@ -4,7 +4,7 @@ use Rattle.std.specs.Prelude.{string_bytes}
 use Rattle.htmd_grammar.specs.Documents.{above_body}
 use Rattle.htmd_grammar.specs.Steps.{names_of}
 use Rattle.htmd_tree.specs.Surroundings.{surroundings_of}
-use Rattle.htmd_tree.specs.Views.{pairs_of}
+use Rattle.htmd_grammar.specs.Attributes.{pairs_of}
 use Rattle.htmd_tree.specs.declared.reader.OpenNode.{OpenNode}
 use Rattle.htmd_tree.proofs.AdvancesLemmas.{opened_follows, top_at}
 use Rattle.htmd_tree.proofs.reader.Reader.open_node.Goals as goal

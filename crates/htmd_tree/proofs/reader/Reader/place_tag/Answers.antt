@@ -1,6 +1,6 @@
 -- The element stands in the `tbody` that it implies.
 use Rattle.std.proofs.Common.{sym, ◌∙◌, string_bytes}
-use Rattle.htmd_tree.specs.Views.{pairs_of}
+use Rattle.htmd_grammar.specs.Attributes.{pairs_of}
 use Rattle.htmd_tree.proofs.TagAnswersLemmas.{implied_follows}
 use Rattle.htmd_tree.proofs.reader.Reader.place_tag.Goals as goal
 

@@ -5,7 +5,7 @@ use Rattle.htmd_grammar.specs.CharacterClasses.{is_tag_name_byte}
 use Rattle.htmd_grammar.specs.Documents.{above_body}
 use Rattle.htmd_grammar.specs.Steps.{close_step}
 use Rattle.htmd_tree.specs.Advances.{rules_of}
-use Rattle.htmd_tree.proofs.TagPartsLemmas.{behind_within}
+use Rattle.htmd_grammar.proofs.RunsLemmas.{behind_within}
 use Rattle.htmd_tree.proofs.TagStepsLemmas.{close_within}
 use Rattle.htmd_tree.proofs.TagAnswersLemmas.{shorter_follows}
 use Rattle.htmd_tree.proofs.reader.Reader.read_end_tag.Goals as goal

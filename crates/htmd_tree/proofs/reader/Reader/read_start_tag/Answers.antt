@@ -8,8 +8,9 @@ use Rattle.htmd_grammar.specs.Steps.{place_step}
 use Rattle.htmd_grammar.specs.TagReading.{form, form_within}
 use Rattle.htmd_tree.specs.Advances.{rules_of}
 use Rattle.htmd_tree.specs.TagParts.{all_spelled_of, read_attributes, fault_of_name}
-use Rattle.htmd_tree.specs.Views.{pairs_of}
-use Rattle.htmd_tree.proofs.TagPartsLemmas.{behind_within, form_size}
+use Rattle.htmd_grammar.specs.Attributes.{pairs_of}
+use Rattle.htmd_grammar.proofs.RunsLemmas.{behind_within}
+use Rattle.htmd_tree.proofs.TagPartsLemmas.{form_size}
 use Rattle.htmd_tree.proofs.TagStepsLemmas.{start_read, named_step, place_within}
 use Rattle.htmd_tree.proofs.TagAnswersLemmas.{refused_follows, same_follows, shorter_follows}
 use Rattle.htmd_tree.proofs.reader.Reader.read_start_tag.Goals as goal

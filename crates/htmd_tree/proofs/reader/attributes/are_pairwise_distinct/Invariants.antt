@@ -2,7 +2,7 @@
 use Rattle.std.proofs.Common.{◌≡◌, length}
 use Rattle.htmd_grammar.specs.CharacterClasses.{are_distinct}
 use Rattle.htmd_grammar.specs.Tags.{attribute_names}
-use Rattle.htmd_tree.specs.Views.{pairs_of}
+use Rattle.htmd_grammar.specs.Attributes.{pairs_of}
 use Rattle.htmd_tree.proofs.reader.attributes.are_pairwise_distinct.Given as goal
 
 abbrev pub invariant-loop-rest : goal.invariant-loop-rest

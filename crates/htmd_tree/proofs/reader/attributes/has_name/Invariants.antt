@@ -2,7 +2,7 @@
 use Rattle.std.proofs.Common.{◌≡◌, drop}
 use Rattle.htmd_grammar.specs.CharacterClasses.{is_among}
 use Rattle.htmd_grammar.specs.Tags.{attribute_names}
-use Rattle.htmd_tree.specs.Views.{pairs_of}
+use Rattle.htmd_grammar.specs.Attributes.{pairs_of}
 use Rattle.htmd_tree.proofs.reader.attributes.has_name.Given as goal
 
 abbrev pub invariant-loop-attribute : goal.invariant-loop-attribute

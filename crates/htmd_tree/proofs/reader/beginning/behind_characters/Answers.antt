@@ -1,7 +1,7 @@
 -- After ASCII characters a text may be cut.
 use Rattle.std.proofs.Common.{◌≡◌, true, ◌∙◌, sym, ap}
 use Rattle.htmd_grammar.specs.CharacterClasses.{begins_in_any_case}
-use Rattle.htmd_tree.proofs.PreludeLemmas.{begins_within, lead_behind}
+use Rattle.htmd_grammar.proofs.PreludeLemmas.{begins_within, lead_behind}
 use Rattle.htmd_tree.proofs.reader.beginning.behind_characters.Goals as goal
 
 pub range_from-requires : goal.range_from-requires

@@ -1,7 +1,7 @@
 -- What is left to prove of `behind_doctype`.
 use Rattle.std.proofs.Common.{◌∙◌, sym}
 use Rattle.std.specs.Prelude.{option_map}
-use Rattle.htmd_tree.proofs.PreludeLemmas.{doctype_read}
+use Rattle.htmd_grammar.proofs.PreludeLemmas.{doctype_read}
 use Rattle.htmd_tree.proofs.reader.beginning.behind_doctype.Goals as goal
 
 pub returns : goal.returns

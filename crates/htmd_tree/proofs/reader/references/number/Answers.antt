@@ -1,7 +1,7 @@
 -- What is left to prove of `number`.
 use Rattle.std.proofs.Common.{◌≡◌, ◌+◌, ◌*◌, ◌∙◌, min, get_or, ap, arith}
 use Rattle.htmd_grammar.specs.References.{digit_value}
-use Rattle.htmd_tree.proofs.DecodedCharactersLemmas.{number_more}
+use Rattle.htmd_grammar.proofs.NumbersLemmas.{number_more}
 use Rattle.htmd_tree.proofs.reader.references.number.Goals as goal
 
 pub loop-digit-preserved : goal.loop-digit-preserved

@@ -8,7 +8,8 @@ use Rattle.std.proofs.lemmas.List.{map-append, length-map}
 use Rattle.std.proofs.lemmas.Bool.{eqb-true}
 use Rattle.std.proofs.lemmas.Result.{IfOk-weaker}
 use Rattle.htmd_tree.specs.Items.{Item, Data, IsBelow, data_at, element_node}
-use Rattle.htmd_tree.specs.Views.{data_of, pairs_of}
+use Rattle.htmd_grammar.specs.Attributes.{pairs_of}
+use Rattle.htmd_tree.specs.Views.{data_of}
 use Rattle.htmd_tree.specs.NumberedTrees.{tree_of, height}
 use Rattle.htmd_tree.specs.Ancestors.{ancestor_of, ancestors_of}
 use Rattle.htmd_tree.proofs.NumberedTreesLemmas.{height_pos}

@@ -13,8 +13,8 @@ use denote.Ref.{Bor}
 use Rattle.htmd_text.proofs.Cases.{test}
 use Rattle.htmd_grammar.specs.CharacterClasses.{is_among, are_distinct}
 use Rattle.htmd_grammar.specs.Tags.{attribute_names}
-use Rattle.htmd_tree.specs.declared.tree.Attribute.{Attribute}
-use Rattle.htmd_tree.specs.Views.{pair_of, pairs_of}
+use Rattle.htmd_grammar.specs.declared.attribute.Attribute.{Attribute}
+use Rattle.htmd_grammar.specs.Attributes.{pair_of, pairs_of}
 
 -- the set has these names
 abbrev pub HasNames : BTreeSet (Bor (List ℕ)) → List (List ℕ) → Type 0
