@@ -17,6 +17,7 @@ use Rattle.htmd_grammar.specs.CharacterClasses.{is_unquoted_byte}
 use Rattle.htmd_grammar.specs.TagReading.{TagPart, malformed, tag_end, attribute, is_other, quoted_value, value_part}
 use Rattle.htmd_grammar.specs.TagReading.{unquoted_value, behind_attribute_name, behind_slash, behind_gap, next_part}
 use Rattle.htmd_grammar.specs.TagReading.{TagForm, no_form, form, with_attribute, form_behind, form_within}
+use Rattle.htmd_grammar.proofs.RunsLemmas.{behind_within}
 use Rattle.htmd_grammar.proofs.TagReadingLemmas.{front_all}
 use Rattle.htmd_tree.specs.TagParts.{attribute_part, with_attributes}
 

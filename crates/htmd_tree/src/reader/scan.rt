@@ -119,7 +119,7 @@ fn is_of(byte: u8, class: Class) -> bool
     }
 }
 
-#[tactic(auto, using(crate::proofs::RunsLemmas::run_more, crate::proofs::RunsLemmas::run_stops))]
+#[tactic(auto, using(htmd_grammar::proofs::RunsLemmas::run_more, htmd_grammar::proofs::RunsLemmas::run_stops))]
 fn run_len(bytes: &[u8], class: Class) -> usize
     ensures bound { result ≤ length bytes.now }
     ensures value { result ≡ length (leading_run (is_in class) bytes.now) }
