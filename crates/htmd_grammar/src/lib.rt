@@ -3,8 +3,10 @@
 #![tactic(auto)]
 
 mod attribute;
+mod content;
 mod fault;
 pub mod laws;
 
 pub use attribute::Attribute;
+pub use content::{Content, RawElement};
 pub use fault::FaultKind;

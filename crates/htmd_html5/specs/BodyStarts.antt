@@ -29,7 +29,7 @@ use Rattle.htmd_html5.specs.SharedRules.{with_mode, insert_tag, insert_void_tag,
 use Rattle.htmd_html5.specs.SharedRules.{no_frameset, close_paragraph, add_to_root, insert_head_element}
 use Rattle.htmd_html5_state.specs.declared.names.TagName.TheVariants as tags
 use Rattle.htmd_html5.specs.declared.body_starts.StartRule.TheVariants as rule
-use Rattle.htmd_html5_tokens.specs.declared.tokens.RawElement.TheVariants as raw
+use Rattle.htmd_grammar.specs.declared.content.RawElement.TheVariants as raw
 
 -- ---- which rule a name has
 

@@ -15,9 +15,9 @@ use Rattle.htmd_html5_state.specs.declared.modes.InsertionMode.{InsertionMode}
 use Rattle.htmd_html5_state.specs.declared.names.Namespace.{Namespace}
 use Rattle.htmd_html5_state.specs.declared.sets.NameSet.TheVariants.{Only}
 use Rattle.htmd_html5_state.specs.declared.sets.Scope.TheVariants.{Button as ButtonScope}
-use Rattle.htmd_html5_tokens.specs.declared.tokens.RawElement.{RawElement}
+use Rattle.htmd_grammar.specs.declared.content.RawElement.{RawElement}
 use Rattle.htmd_html5_state.specs.declared.names.TagName.TheVariants as tags
-use Rattle.htmd_html5_tokens.specs.declared.tokens.RawElement.TheVariants as raw
+use Rattle.htmd_grammar.specs.declared.content.RawElement.TheVariants as raw
 
 abbrev pub with_mode : InsertionMode → StateValue → StateValue
 with_mode mode s = record s { mode = mode }

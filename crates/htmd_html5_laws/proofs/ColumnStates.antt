@@ -2,7 +2,7 @@
 use Rattle.std.proofs.Common.{◌≡◌, ℕ, Bool, true, false, List, [], ◌∷◌, length, Option, Some, None, refl, sym, ap, subst}
 use Rattle.std.specs.Prelude.{if◌then◌else◌}
 use Rattle.std.proofs.lemmas.Bool.{true≢false, or_right}
-use Rattle.htmd_html5_tokens.specs.declared.tokens.Content.{Content}
+use Rattle.htmd_grammar.specs.declared.content.Content.{Content}
 use Rattle.htmd_html5_state.specs.Names.{NameValue, known, html}
 use Rattle.htmd_html5_state.specs.Documents.{KindValue, comment as comment_kind, element, last_in}
 use Rattle.htmd_html5_state.specs.OpenElements.{OpenValue, current_is, is_open, first_open, pop}

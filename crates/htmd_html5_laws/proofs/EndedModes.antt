@@ -46,7 +46,7 @@ use Rattle.htmd_html5_state.specs.Insertion.{insert_element, open_again, opened}
 use Rattle.htmd_html5_state.specs.OpenElements.{OpenValue, current_is, has_second, is_in_scope, is_open, pop, without}
 use Rattle.htmd_html5_state.specs.Resetting.{has_modes}
 use Rattle.htmd_html5_state.specs.State.{StateValue, on_stack}
-use Rattle.htmd_html5_tokens.specs.declared.tokens.RawElement.{RawElement}
+use Rattle.htmd_grammar.specs.declared.content.RawElement.{RawElement}
 use Rattle.std.proofs.Common.{ℕ, zero, suc, ◌<◌, length, Option, Some, None, arith, ap}
 use Rattle.htmd_html5_state.specs.Names.{NameValue, known, html}
 use Rattle.htmd_html5_state.specs.Documents.{KindValue}
@@ -62,7 +62,7 @@ use Rattle.htmd_html5_state.specs.declared.modes.InsertionMode.TheVariants.{Afte
 use Rattle.htmd_html5_state.specs.declared.modes.InsertionMode.TheVariants.{AfterAfterFrameset}
 use Rattle.htmd_html5_state.specs.declared.modes.InsertionMode.{InsertionMode}
 use Rattle.htmd_html5_state.specs.declared.names.TagName.TheVariants as tags
-use Rattle.htmd_html5_tokens.specs.declared.tokens.RawElement.TheVariants as raw
+use Rattle.htmd_grammar.specs.declared.content.RawElement.TheVariants as raw
 
 -- ---- before the head
 

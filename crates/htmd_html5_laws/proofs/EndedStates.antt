@@ -24,7 +24,7 @@ use Rattle.htmd_html5_state.specs.OpenElements.{OpenValue, is_open_node}
 use Rattle.htmd_html5_state.specs.State.{StateValue, on_formatting, on_nodes, on_stack}
 use Rattle.htmd_html5_state.specs.declared.modes.InsertionMode.{InsertionMode}
 use Rattle.htmd_html5_state.specs.declared.names.Namespace.{Namespace}
-use Rattle.htmd_html5_tokens.specs.declared.tokens.Content.{Content}
+use Rattle.htmd_grammar.specs.declared.content.Content.{Content}
 use Rattle.htmd_html5_state.specs.Documents.{KindValue, NodeValue, document, doctype, text, comment, element, kind_at}
 use Rattle.htmd_html5_state.specs.Names.{NameValue, ElementNameValue, html}
 use Rattle.htmd_html5_laws.proofs.NamedKinds.{is_named}

@@ -32,7 +32,7 @@ use Rattle.htmd_html5_laws.proofs.KeepingRules.{KeepsAnswer, says, with_mode_kee
 use Rattle.htmd_html5_laws.proofs.KeepingRules.{insert_raw_tag_keeps, add_to_root_keeps, end_template_keeps}
 use Rattle.htmd_html5_laws.proofs.KeepingRules.{insert_head_element_keeps}
 use Rattle.htmd_html5_state.specs.declared.names.TagName.TheVariants as tags
-use Rattle.htmd_html5_tokens.specs.declared.tokens.RawElement.TheVariants as raw
+use Rattle.htmd_grammar.specs.declared.content.RawElement.TheVariants as raw
 
 -- ---- answers
 

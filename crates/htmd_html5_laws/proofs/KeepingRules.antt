@@ -9,7 +9,7 @@ use Rattle.htmd_html5_state.specs.declared.modes.InsertionMode.{InsertionMode}
 use Rattle.htmd_html5_state.specs.declared.names.Namespace.{Namespace}
 use Rattle.htmd_html5_state.specs.declared.sets.NameSet.TheVariants.{Only}
 use Rattle.htmd_html5_state.specs.declared.sets.Scope.TheVariants.{Button as ButtonScope}
-use Rattle.htmd_html5_tokens.specs.declared.tokens.RawElement.{RawElement}
+use Rattle.htmd_grammar.specs.declared.content.RawElement.{RawElement}
 use Rattle.htmd_html5.specs.Tokens.{StartTagValue}
 use Rattle.htmd_html5.specs.Answers.{Answer, answer}
 use Rattle.htmd_html5.specs.SharedRules.{with_mode, insert_tag, insert_void_tag, insert_raw_tag, insert_foreign_tag}
@@ -23,7 +23,7 @@ use Rattle.htmd_html5_laws.proofs.KeepingInsertion.{insert_foreign_keeps, add_mi
 use Rattle.htmd_html5_laws.proofs.KeepingInsertion.{clear_to_marker_keeps, pop_template_mode_keeps}
 use Rattle.htmd_html5_laws.proofs.KeepingInsertion.{reset_insertion_mode_keeps}
 use Rattle.htmd_html5_state.specs.declared.names.TagName.TheVariants as tags
-use Rattle.htmd_html5_tokens.specs.declared.tokens.RawElement.TheVariants as raw
+use Rattle.htmd_grammar.specs.declared.content.RawElement.TheVariants as raw
 
 -- ---- what a mode answers
 

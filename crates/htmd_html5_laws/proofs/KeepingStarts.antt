@@ -31,7 +31,7 @@ use Rattle.htmd_html5_laws.proofs.KeepingRules.{with_mode_keeps, no_frameset_kee
 use Rattle.htmd_html5_laws.proofs.KeepingRules.{insert_void_tag_keeps, insert_raw_tag_keeps, insert_foreign_tag_keeps}
 use Rattle.htmd_html5_laws.proofs.KeepingRules.{close_paragraph_keeps, add_to_root_keeps, insert_head_element_keeps}
 use Rattle.htmd_html5_state.specs.declared.names.TagName.TheVariants as tags
-use Rattle.htmd_html5_tokens.specs.declared.tokens.RawElement.TheVariants as raw
+use Rattle.htmd_grammar.specs.declared.content.RawElement.TheVariants as raw
 
 -- ---- start tags in the body: the structure of the page
 

@@ -18,7 +18,7 @@ use Rattle.htmd_html5_state.specs.declared.sets.NameSet.{NameSet}
 use Rattle.htmd_html5_state.specs.declared.sets.NameSet.TheVariants.{Only, Headings, ImpliedEnd, ImpliedEndInRuby}
 use Rattle.htmd_html5_state.specs.declared.sets.NameSet.TheVariants.{DescriptionParts}
 use Rattle.htmd_html5_state.specs.declared.sets.Scope.TheVariants.{Default, Items, ListItem, Button as ButtonScope}
-use Rattle.htmd_html5_tokens.specs.declared.tokens.RawElement.{RawElement}
+use Rattle.htmd_grammar.specs.declared.content.RawElement.{RawElement}
 use Rattle.htmd_html5.specs.Tokens.{StartTagValue, TokenValue, start_tag, run}
 use Rattle.htmd_html5.specs.Answers.{Answer, answer}
 use Rattle.htmd_html5.specs.SharedRules.{with_mode, insert_tag, insert_void_tag, insert_raw_tag, insert_foreign_tag}
@@ -41,7 +41,7 @@ use Rattle.htmd_html5_laws.proofs.OpenNodes.{close_name_fewer, pop_while_fewer, 
 use Rattle.htmd_html5_laws.proofs.OpenNodes.{close_option_fewer, fewer_then}
 use Rattle.htmd_html5_laws.proofs.HungStates.{Hung}
 use Rattle.htmd_html5_state.specs.declared.names.TagName.TheVariants as tags
-use Rattle.htmd_html5_tokens.specs.declared.tokens.RawElement.TheVariants as raw
+use Rattle.htmd_grammar.specs.declared.content.RawElement.TheVariants as raw
 use Rattle.htmd_html5_laws.proofs.PlainNames.{is_plain}
 use Rattle.htmd_html5_laws.proofs.PlainStates.{is_plain_mode, Plain}
 use Rattle.htmd_html5_laws.proofs.ColumnTags.{IsColumn}

@@ -4,7 +4,7 @@ use Rattle.std.proofs.Common.{Option, Some, None, refl, sym, ap, subst, arith, c
 use Rattle.std.specs.Prelude.{if◌then◌else◌, ◌||◌, not}
 use Rattle.std.proofs.lemmas.Bool.{true≢false, eq-eqb, ne_eqb}
 use Rattle.htmd_grammar.specs.ValueTrees.{AttributePair}
-use Rattle.htmd_html5_tokens.specs.declared.tokens.RawElement.{RawElement}
+use Rattle.htmd_grammar.specs.declared.content.RawElement.{RawElement}
 use Rattle.htmd_html5_state.specs.Names.{NameValue, ElementNameValue, known, html, svg, math}
 use Rattle.htmd_html5_state.specs.Documents.{comment as comment_kind}
 use Rattle.htmd_html5_state.specs.Documents.{NodeValue, kind_at, last_in}
@@ -49,7 +49,7 @@ use Rattle.htmd_html5_laws.proofs.OrderedStates.{insert_void_orders, insert_raw_
 use Rattle.htmd_html5_laws.proofs.OrderedLate.{Late, late_step, by_rules_late}
 use Rattle.htmd_html5_laws.proofs.OrderedBody.{IsOrderly, plain_or_column, by_column_name, no_frameset_orders}
 use Rattle.htmd_html5_state.specs.declared.names.TagName.TheVariants as tags
-use Rattle.htmd_html5_tokens.specs.declared.tokens.RawElement.TheVariants as raw
+use Rattle.htmd_grammar.specs.declared.content.RawElement.TheVariants as raw
 use Rattle.htmd_html5.specs.ForeignContent.{is_for_math_text, is_for_annotation, is_for_html_point}
 use Rattle.htmd_html5_state.specs.Foreign.{is_math_text_point, is_annotation, is_html_point}
 use Rattle.std.specs.Prelude.{◌&&◌}

@@ -3,7 +3,7 @@ use Rattle.std.proofs.Common.{◌≡◌, ℕ, ◌<◌, ◌≤◌, Bool, true, fa
 use Rattle.std.proofs.Common.{refl, sym, subst, arith, Option}
 use Rattle.std.specs.Prelude.{if◌then◌else◌, IsUtf8}
 use Rattle.htmd_grammar.specs.ValueTrees.{AttributePair}
-use Rattle.htmd_html5_tokens.specs.declared.tokens.RawElement.{RawElement}
+use Rattle.htmd_grammar.specs.declared.content.RawElement.{RawElement}
 use Rattle.htmd_html5_state.specs.Names.{NameValue, ElementNameValue, html}
 use Rattle.htmd_html5_state.specs.Documents.{KindValue, NodeValue, document, doctype, text, comment, element, kind_at}
 use Rattle.htmd_html5_state.specs.Documents.{last_in, add, add_text, add_missing, kind_with_missing}

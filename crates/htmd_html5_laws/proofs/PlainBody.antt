@@ -19,7 +19,7 @@ use Rattle.htmd_html5_state.specs.declared.sets.NameSet.{NameSet}
 use Rattle.htmd_html5_state.specs.declared.sets.NameSet.TheVariants.{Only, Headings, ImpliedEnd, ImpliedEndInRuby}
 use Rattle.htmd_html5_state.specs.declared.sets.NameSet.TheVariants.{DescriptionParts}
 use Rattle.htmd_html5_state.specs.declared.sets.Scope.TheVariants.{Default, Items, ListItem, Button as ButtonScope}
-use Rattle.htmd_html5_tokens.specs.declared.tokens.RawElement.{RawElement}
+use Rattle.htmd_grammar.specs.declared.content.RawElement.{RawElement}
 use Rattle.htmd_html5.specs.Tokens.{StartTagValue}
 use Rattle.htmd_html5.specs.Answers.{Answer, answer}
 use Rattle.htmd_html5.specs.SharedRules.{with_mode, insert_tag, insert_void_tag, insert_raw_tag, insert_foreign_tag}
@@ -48,7 +48,7 @@ use Rattle.htmd_html5_laws.proofs.PlainStates.{add_missing_stays, without_entry_
 use Rattle.htmd_html5_laws.proofs.PlainStates.{clear_to_marker_stays, insert_formatting_stays, reconstruct_stays}
 use Rattle.htmd_html5_laws.proofs.PlainAdoption.{adoption_agency_stays}
 use Rattle.htmd_html5_state.specs.declared.names.TagName.TheVariants as tags
-use Rattle.htmd_html5_tokens.specs.declared.tokens.RawElement.TheVariants as raw
+use Rattle.htmd_grammar.specs.declared.content.RawElement.TheVariants as raw
 
 -- ---- what a mode answers
 

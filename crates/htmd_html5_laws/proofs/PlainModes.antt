@@ -58,7 +58,7 @@ use Rattle.htmd_html5_laws.proofs.PlainTables.{start_in_cell_stays, end_in_cell_
 use Rattle.htmd_html5_laws.proofs.PlainTables.{start_in_select_in_table_stays, end_in_select_stays}
 use Rattle.htmd_html5_laws.proofs.PlainTables.{end_in_select_in_table_stays}
 use Rattle.htmd_html5_state.specs.declared.names.TagName.TheVariants as tags
-use Rattle.htmd_html5_tokens.specs.declared.tokens.RawElement.TheVariants as raw
+use Rattle.htmd_grammar.specs.declared.content.RawElement.TheVariants as raw
 
 -- ---- before the head
 

@@ -4,7 +4,7 @@ use Rattle.std.proofs.Common.{subst, inl, inr, ◌⊎◌}
 use Rattle.std.specs.Prelude.{if◌then◌else◌, is_some}
 use Rattle.std.proofs.lemmas.Bool.{true≢false}
 use Rattle.htmd_grammar.specs.ValueTrees.{AttributePair}
-use Rattle.htmd_html5_tokens.specs.declared.tokens.RawElement.{RawElement}
+use Rattle.htmd_grammar.specs.declared.content.RawElement.{RawElement}
 use Rattle.htmd_html5_state.specs.Names.{NameValue, known, other, text_of_name}
 use Rattle.htmd_html5_state.specs.Sets.{has}
 use Rattle.htmd_html5_state.specs.OpenElements.{is_open, first_open, is_in_scope, is_node_in_scope, pop, pop_while}
@@ -52,7 +52,7 @@ use Rattle.htmd_html5_laws.proofs.RootedStates.{reconstruct_roots}
 use Rattle.htmd_html5_laws.proofs.RootedAdoption.{adoption_agency_roots}
 use Rattle.htmd_html5_laws.proofs.OrderedBody.{is_orderly_name}
 use Rattle.htmd_html5_state.specs.declared.names.TagName.TheVariants as tags
-use Rattle.htmd_html5_tokens.specs.declared.tokens.RawElement.TheVariants as raw
+use Rattle.htmd_grammar.specs.declared.content.RawElement.TheVariants as raw
 
 -- ---- what a tag leaves
 

@@ -13,7 +13,7 @@ use Rattle.htmd_grammar.specs.CharacterClasses.{is_among}
 use Rattle.htmd_grammar.specs.Grammar.{Apart}
 use Rattle.htmd_grammar.specs.Serialisation.{is_void}
 use Rattle.htmd_html5_tokens.specs.Tokens.{TokenValue, start_tag, end_tag}
-use Rattle.htmd_html5_tokens.specs.declared.tokens.Content.TheVariants.{Normal}
+use Rattle.htmd_grammar.specs.declared.content.Content.TheVariants.{Normal}
 use Rattle.htmd_html5_state.specs.Names.{html, name_of_text}
 use Rattle.htmd_html5_state.specs.Documents.{NodeValue, kind_at, append_children, add, add_text, last_in}
 use Rattle.htmd_html5_state.specs.OpenElements.{OpenValue}

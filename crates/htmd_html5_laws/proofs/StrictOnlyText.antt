@@ -4,8 +4,8 @@ use Rattle.std.proofs.Common.{arith, subst, codes, length-append}
 use Rattle.htmd_grammar.specs.ValueTrees.{AttributePair, ValueTree, ValueForest, none, more, text, element}
 use Rattle.htmd_grammar.specs.CharacterClasses.{is_among, is_empty}
 use Rattle.htmd_html5_tokens.specs.Tokens.{TokenValue, start_tag, end_tag}
-use Rattle.htmd_html5_tokens.specs.declared.tokens.Content.TheVariants.{Normal, Raw}
-use Rattle.htmd_html5_tokens.specs.declared.tokens.RawElement.{RawElement}
+use Rattle.htmd_grammar.specs.declared.content.Content.TheVariants.{Normal, Raw}
+use Rattle.htmd_grammar.specs.declared.content.RawElement.{RawElement}
 use Rattle.htmd_html5_state.specs.Names.{known, html, name_of_text}
 use Rattle.htmd_html5_state.specs.Documents.{NodeValue, append_children, add, add_text, last_in}
 use Rattle.htmd_html5_state.specs.Foreign.{current_is_html}
@@ -26,7 +26,7 @@ use Rattle.htmd_html5_laws.proofs.StrictOpen.{stands_html}
 use Rattle.htmd_html5_laws.proofs.StrictThrough.{Through, nothing, with_fed}
 use Rattle.htmd_html5_laws.proofs.StrictRules.{IsInBody, Fits, within, fed_start, nothing_again, no_p_closed}
 use Rattle.htmd_html5_tokens.specs.Tokens as tokens
-use Rattle.htmd_html5_tokens.specs.declared.tokens.RawElement.TheVariants as raw
+use Rattle.htmd_grammar.specs.declared.content.RawElement.TheVariants as raw
 use Rattle.htmd_html5_state.specs.declared.names.TagName.TheVariants as tags
 use Rattle.htmd_html5_state.specs.Documents as documents
 

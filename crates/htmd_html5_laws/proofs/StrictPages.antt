@@ -22,8 +22,8 @@ use Rattle.htmd_tree.specs.Items.{document_item, greatest_depth}
 use Rattle.htmd_tree.specs.Layout.{sizes, document_items}
 use Rattle.htmd_html5_tokens.specs.Tokens.{TokenValue, start_tag}
 use Rattle.htmd_html5_tokens.specs.NextToken.{next_token}
-use Rattle.htmd_html5_tokens.specs.declared.tokens.Content.{Content}
-use Rattle.htmd_html5_tokens.specs.declared.tokens.Content.TheVariants.{Normal}
+use Rattle.htmd_grammar.specs.declared.content.Content.{Content}
+use Rattle.htmd_grammar.specs.declared.content.Content.TheVariants.{Normal}
 use Rattle.htmd_html5_state.specs.Names.{html, name_of_text}
 use Rattle.htmd_html5_state.specs.Documents.{NodeValue}
 use Rattle.htmd_html5_state.specs.Foreign.{current_is_html}

@@ -23,8 +23,8 @@ use Rattle.htmd_html5_tokens.specs.Comments.{ends_comment, read_comment}
 use Rattle.htmd_html5_tokens.specs.Tags.{tag_from_name}
 use Rattle.htmd_html5_tokens.specs.RawTexts.{reading_of}
 use Rattle.htmd_html5_tokens.specs.NextToken.{next_token, read_text, read_piece}
-use Rattle.htmd_html5_tokens.specs.declared.tokens.Content.TheVariants.{Normal}
-use Rattle.htmd_html5_tokens.specs.declared.tokens.RawElement.TheVariants.{Style}
+use Rattle.htmd_grammar.specs.declared.content.Content.TheVariants.{Normal}
+use Rattle.htmd_grammar.specs.declared.content.RawElement.TheVariants.{Style}
 use Rattle.htmd_html5_laws.specs.StrictReferences.{IsSettled}
 use Rattle.htmd_html5_laws.specs.StrictTokens.{tag_named}
 use Rattle.htmd_html5_laws.proofs.StrictReferencesLemmas.{Ending, ending_for_both, less_markup, text_read}

@@ -21,15 +21,15 @@ use Rattle.htmd_html5_tokens.specs.RawTexts.{reading_of, raw_text_len, own_text_
 use Rattle.htmd_html5_tokens.specs.Tags.{tag_from_name}
 use Rattle.htmd_html5_tokens.specs.Tokens.{end_tag}
 use Rattle.htmd_html5_tokens.specs.NextToken.{next_token}
-use Rattle.htmd_html5_tokens.specs.declared.tokens.Content.TheVariants.{Normal, Raw}
-use Rattle.htmd_html5_tokens.specs.declared.tokens.RawElement.{RawElement}
+use Rattle.htmd_grammar.specs.declared.content.Content.TheVariants.{Normal, Raw}
+use Rattle.htmd_grammar.specs.declared.content.RawElement.{RawElement}
 use Rattle.htmd_html5_laws.specs.StrictReferences.{IsSettled}
 use Rattle.htmd_html5_laws.specs.StrictTokens.{content_in, is_set_aside}
 use Rattle.htmd_html5_laws.proofs.StrictReferencesLemmas.{references_same}
 use Rattle.htmd_html5_laws.proofs.StrictTagsLemmas.{raw_itself}
 use Rattle.htmd_html5_laws.proofs.StrictPieces.{read, lines_same}
 use Rattle.htmd_html5_tokens.specs.Tokens as tokens
-use Rattle.htmd_html5_tokens.specs.declared.tokens.RawElement.TheVariants as raw
+use Rattle.htmd_grammar.specs.declared.content.RawElement.TheVariants as raw
 
 -- ---- which content an element has
 

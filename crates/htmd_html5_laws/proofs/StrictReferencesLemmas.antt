@@ -25,7 +25,7 @@ use Rattle.htmd_html5_tokens.specs.Contents.{has_references, is_text, decoded}
 use Rattle.htmd_html5_tokens.specs.Tokens.{Read, text}
 use Rattle.htmd_html5_tokens.specs.RawTexts.{reading_of}
 use Rattle.htmd_html5_tokens.specs.NextToken.{goes_on, read_text}
-use Rattle.htmd_html5_tokens.specs.declared.tokens.RawElement.TheVariants.{Title}
+use Rattle.htmd_grammar.specs.declared.content.RawElement.TheVariants.{Title}
 use Rattle.htmd_html5_laws.specs.StrictReferences.{is_bare_reference, has_bare_reference, IsSettled, value_spelled}
 use Rattle.htmd_html5_laws.specs.StrictReferences.{ReferencesAgree}
 use Rattle.htmd_html5_tokens.specs.NextToken as next

@@ -9,7 +9,7 @@ use Rattle.htmd_grammar.specs.ValueTrees.{AttributePair}
 use Rattle.htmd_grammar.specs.CharacterClasses.{is_among}
 use Rattle.htmd_grammar.specs.Nesting.{parent_name, closes_paragraph, excludes_itself, is_outside, is_met_before}
 use Rattle.htmd_html5_tokens.specs.Tokens.{TagValue, start_tag, comment, text, end_of_file}
-use Rattle.htmd_html5_tokens.specs.declared.tokens.Content.TheVariants.{Normal}
+use Rattle.htmd_grammar.specs.declared.content.Content.TheVariants.{Normal}
 use Rattle.htmd_html5_state.specs.Names.{NameValue, known, other, html, name_of_text}
 use Rattle.htmd_html5_state.specs.Documents.{NodeValue, element, add, kind_at}
 use Rattle.htmd_html5_state.specs.OpenElements.{OpenValue, is_in_scope, current_is, close}

@@ -28,7 +28,7 @@ use Rattle.htmd_html5_tokens.specs.Tags.{next_part, ended, form_within, tag_form
 use Rattle.htmd_html5_tokens.specs.Tags.{tag_value, tag_token, tag_from_name}
 use Rattle.htmd_html5_tokens.specs.Tokens.{TagValue, TokenValue, Read}
 use Rattle.htmd_html5_tokens.specs.RawTexts.{reading_of}
-use Rattle.htmd_html5_tokens.specs.declared.tokens.RawElement.TheVariants.{Style}
+use Rattle.htmd_grammar.specs.declared.content.RawElement.TheVariants.{Style}
 use Rattle.htmd_html5_laws.specs.StrictReferences.{IsSettled, value_spelled}
 use Rattle.htmd_html5_laws.specs.StrictTokens.{tag_named}
 use Rattle.htmd_html5_laws.proofs.StrictBytes.{key_byte, key_head, key_no_null, white_gap, white_ends}

@@ -30,9 +30,9 @@ use Rattle.htmd_html5_tokens.specs.NextToken.{begins_section, after_empty_piece,
 use Rattle.htmd_html5_tokens.specs.NextToken.{begins_letter, read_markup, begins_markup, read_text, read_piece}
 use Rattle.htmd_html5_tokens.specs.NextToken.{read_held, read_raw, next_token}
 use Rattle.htmd_html5_tokens.specs.RawTexts.{reading_of, raw_text_len}
-use Rattle.htmd_html5_tokens.specs.declared.tokens.Content.{Content}
-use Rattle.htmd_html5_tokens.specs.declared.tokens.Content.TheVariants.{Normal, Raw}
-use Rattle.htmd_html5_tokens.specs.declared.tokens.RawElement.{RawElement}
+use Rattle.htmd_grammar.specs.declared.content.Content.{Content}
+use Rattle.htmd_grammar.specs.declared.content.Content.TheVariants.{Normal, Raw}
+use Rattle.htmd_grammar.specs.declared.content.RawElement.{RawElement}
 use Rattle.htmd_html5_tokens.proofs.RunCuts.{cut_before_ascii, outside_attribute_name}
 use Rattle.htmd_html5_tokens.proofs.RawTextsLemmas.{raw_cut}
 use Rattle.htmd_html5_tokens.proofs.BeginningsLemmas.{other_ends, comment_end_begins, section_end_begins, markup_begins}

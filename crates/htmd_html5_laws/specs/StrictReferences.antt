@@ -12,7 +12,7 @@ use Rattle.htmd_html5_tokens.specs.Tags.{attribute_of}
 use Rattle.htmd_html5_tokens.specs.RawTexts.{reading_of}
 use Rattle.htmd_html5_tokens.specs.NextToken.{read_text}
 use Rattle.htmd_html5_tokens.specs.Tokens.{text}
-use Rattle.htmd_html5_tokens.specs.declared.tokens.RawElement.TheVariants.{Title}
+use Rattle.htmd_grammar.specs.declared.content.RawElement.TheVariants.{Title}
 
 -- after `&`: a name that may stand without `;`, and no `;` after the letters and digits that come
 abbrev pub is_bare_reference : List ℕ → Bool

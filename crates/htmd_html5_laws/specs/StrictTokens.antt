@@ -13,12 +13,12 @@ use Rattle.htmd_grammar.specs.Grammar.{reads}
 use Rattle.htmd_grammar.specs.Documents.{below_body}
 use Rattle.htmd_html5_tokens.specs.Tokens.{TagValue, TokenValue, start_tag, end_tag, text, comment, Read}
 use Rattle.htmd_html5_tokens.specs.NextToken.{next_token}
-use Rattle.htmd_html5_tokens.specs.declared.tokens.Content.{Content}
-use Rattle.htmd_html5_tokens.specs.declared.tokens.Content.TheVariants.{Normal, Raw}
+use Rattle.htmd_grammar.specs.declared.content.Content.{Content}
+use Rattle.htmd_grammar.specs.declared.content.Content.TheVariants.{Normal, Raw}
 use Rattle.htmd_html5.specs.Documents.{is_end}
 use Rattle.htmd_html5_laws.specs.StrictReferences.{IsSettled}
 use Rattle.htmd_grammar.specs.ValueTrees as trees
-use Rattle.htmd_html5_tokens.specs.declared.tokens.RawElement.TheVariants as raw
+use Rattle.htmd_grammar.specs.declared.content.RawElement.TheVariants as raw
 
 -- ---- the tokenizer, told by each start tag what the element holds (HTML Standard, 13.2.6.4)
 

@@ -1,8 +1,8 @@
 -- Nodes are inserted (HTML Standard, 13.2.6.1).
 use Rattle.std.specs.Prelude.{ℕ, ◌&&◌, if◌then◌else◌, List, [], ◌∷◌, length, Option, Some, None}
 use Rattle.htmd_grammar.specs.ValueTrees.{AttributePair}
-use Rattle.htmd_html5_tokens.specs.declared.tokens.Content.TheVariants.{Raw}
-use Rattle.htmd_html5_tokens.specs.declared.tokens.RawElement.{RawElement}
+use Rattle.htmd_grammar.specs.declared.content.Content.TheVariants.{Raw}
+use Rattle.htmd_grammar.specs.declared.content.RawElement.{RawElement}
 use Rattle.htmd_html5_state.specs.Names.{ElementNameValue, NameValue, html, other}
 use Rattle.htmd_html5_state.specs.Documents.{NodeValue, element, comment, doctype, parent_at, add, add_text}
 use Rattle.htmd_html5_state.specs.Documents.{last_in, before_in}

@@ -13,8 +13,7 @@ use crate::names::{ElementName, HtmlName, Namespace, TagName};
 use crate::open_elements::{OpenElement, split_innermost};
 use crate::sets::NameSet;
 use crate::state::HtmlState;
-use htmd_grammar::Attribute;
-use htmd_html5_tokens::{Content, RawElement};
+use htmd_grammar::{Attribute, Content, RawElement};
 use std::alloc::AllocError;
 
 /// The place by a table: before it in its parent, or else in the element that is open around it.

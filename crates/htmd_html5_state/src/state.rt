@@ -17,8 +17,7 @@ use crate::modes::InsertionMode;
 use crate::names::{ElementName, HtmlName};
 use crate::open_elements::OpenElements;
 use crate::sets::{NameSet, Scope};
-use htmd_grammar::Attribute;
-use htmd_html5_tokens::Content;
+use htmd_grammar::{Attribute, Content};
 use std::alloc::{AllocError, Global};
 use std::marker::Model;
 

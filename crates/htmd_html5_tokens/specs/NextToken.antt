@@ -12,9 +12,9 @@ use Rattle.htmd_html5_tokens.specs.Doctypes.{read_doctype}
 use Rattle.htmd_html5_tokens.specs.RawTexts.{reading_of, raw_text_len}
 use Rattle.htmd_html5_tokens.specs.declared.contents.Reading.{Reading}
 use Rattle.htmd_html5_tokens.specs.declared.contents.Reading.TheVariants.{Text}
-use Rattle.htmd_html5_tokens.specs.declared.tokens.Content.{Content}
-use Rattle.htmd_html5_tokens.specs.declared.tokens.Content.TheVariants.{Normal, Raw}
-use Rattle.htmd_html5_tokens.specs.declared.tokens.RawElement.{RawElement}
+use Rattle.htmd_grammar.specs.declared.content.Content.{Content}
+use Rattle.htmd_grammar.specs.declared.content.Content.TheVariants.{Normal, Raw}
+use Rattle.htmd_grammar.specs.declared.content.RawElement.{RawElement}
 
 abbrev pub at_end : Read
 at_end = record { token = end_of_file; rest = [] }

@@ -19,6 +19,7 @@ mod tags;
 mod tokenizer;
 mod tokens;
 
+pub use htmd_grammar::{Content, RawElement};
 pub use preprocessing::preprocess;
 pub use tokenizer::Tokenizer;
-pub use tokens::{Content, RawElement, Tag, Token};
+pub use tokens::{Tag, Token};

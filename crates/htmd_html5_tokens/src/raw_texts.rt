@@ -5,7 +5,7 @@ ghost use Rattle.htmd_html5_tokens.specs.RawTexts as spec;
 ghost use Rattle.htmd_html5_tokens.specs.declared.raw_texts.Escape.TheVariants.{Unescaped};
 
 use crate::contents::Reading;
-use crate::tokens::RawElement;
+use htmd_grammar::RawElement;
 
 /// How a script is escaped: `<!--` escapes it, and in an escaped one `<script` escapes it doubly.
 #[derive(Clone, Copy)]
@@ -122,6 +122,24 @@ fn script_len(bytes: &[u8]) -> usize
     bytes.len()
 }
 
+/// The name of an element's tags.
+fn name_of(element: RawElement) -> &'static str
+    ensures { result.now ≡ spec.name_of_element element }
+{
+    match element {
+        RawElement::Title => "title",
+        RawElement::Textarea => "textarea",
+        RawElement::Style => "style",
+        RawElement::Xmp => "xmp",
+        RawElement::Iframe => "iframe",
+        RawElement::Noembed => "noembed",
+        RawElement::Noframes => "noframes",
+        RawElement::Noscript => "noscript",
+        RawElement::Script => "script",
+        RawElement::Plaintext => "plaintext",
+    }
+}
+
 /// How many bytes of the text belong to such an element.
 pub(crate) fn raw_text_len(bytes: &[u8], element: RawElement) -> usize
     ensures bound { result ≤ length bytes.now }
@@ -130,7 +148,7 @@ pub(crate) fn raw_text_len(bytes: &[u8], element: RawElement) -> usize
     match element {
         RawElement::Plaintext => bytes.len(),
         RawElement::Script => script_len(bytes),
-        _ => own_text_len(bytes, element.name().as_bytes()),
+        _ => own_text_len(bytes, name_of(element).as_bytes()),
     }
 }
 

@@ -11,7 +11,8 @@ use crate::raw_texts::{raw_text_len, reading_of};
 use crate::runs::{strip, strip_byte};
 use crate::sections::{after_empty_pieces, read_section};
 use crate::tags::read_tag;
-use crate::tokens::{Content, RawElement, Token};
+use crate::tokens::Token;
+use htmd_grammar::{Content, RawElement};
 use std::alloc::{AllocError, Global};
 use std::marker::Model;
 
