@@ -6,7 +6,7 @@ use std::alloc::{AllocError, Global};
 use std::slice;
 
 /// The numbers of the children of a node, in order. Most nodes have few, which need no memory of their own.
-#[derive(Debug, Drop)]
+#[derive(Drop)]
 pub enum Children {
     None,
     One(u32),

@@ -14,7 +14,7 @@ use std::marker::Model;
 use std::mem;
 
 /// What a node is.
-#[derive(Debug, Drop)]
+#[derive(Drop)]
 pub enum NodeKind {
     Document,
     Doctype,
@@ -29,14 +29,14 @@ pub enum NodeKind {
 }
 
 /// An element with another name, or in foreign content.
-#[derive(Debug, Drop)]
+#[derive(Drop)]
 pub struct OtherElement {
     pub name: ElementName,
     pub attributes: Vec<Attribute>,
 }
 
 /// A node, with the numbers of its parent and its children, which are kept in little room.
-#[derive(Debug, Drop)]
+#[derive(Drop)]
 pub struct Node {
     pub kind: NodeKind,
     pub parent: Option<u32>,
