@@ -115,8 +115,7 @@ impl HtmlState {
             ≡ spec.insert_at place (element_name_of name) (pairs_of attributes.items) self.old) }
     {
         let open_name = name.copy()?;
-        let kind = NodeKind::element(self.alloc, name, attributes)?;
-        let node = self.document.add(kind, place)?;
+        let node = self.document.add_element(name, attributes, place)?;
         self.stack.push(node, open_name)?;
         Ok(node)
     }
