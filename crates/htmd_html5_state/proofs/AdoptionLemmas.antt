@@ -6,33 +6,37 @@ use Rattle.std.specs.Prelude.{◌==◌, if◌then◌else◌}
 use Rattle.htmd_text.proofs.Cases.{test}
 use Rattle.htmd_html5_state.specs.Names.{html, known}
 use Rattle.htmd_html5_state.specs.OpenElements.{OpenValue, is_in, pop}
-use Rattle.htmd_html5_state.specs.State.{StateValue, on_stack}
+use Rattle.htmd_html5_state.specs.State.{StateValue, on_nodes, on_formatting, on_stack}
 use Rattle.htmd_html5_state.specs.Insertion.{current, opened}
 use Rattle.htmd_html5_state.specs.Formatting.{without_entry}
-use Rattle.htmd_html5_state.specs.Adoption.{Furthest, Chain, chain, begin_chain, move_last}
-use Rattle.htmd_html5_state.specs.Adoption.{adopt, adopt_by, adoption_agency, node_is, closes_at_once, rounds}
+use Rattle.htmd_html5_state.specs.Adoption.{Furthest, Chain, chain, begin_chain, move_last, wrap_children, with_bookmark}
+use Rattle.htmd_html5_state.specs.Adoption.{adopt, adopt_by, finish, adoption_agency, node_is, closes_at_once, rounds}
 use Rattle.htmd_html5_state.specs.Adoption.{formatting_element, round_of, round_with, last_round, go_on}
-use Rattle.htmd_html5_state.specs.AdoptionViews.{closes_newest, with_formatting}
+use Rattle.htmd_html5_state.specs.AdoptionViews.{closes_newest}
 use Rattle.htmd_html5_state.specs.declared.names.TagName.{TagName}
 use Rattle.htmd_html5_state.specs.declared.sets.NameSet.TheVariants.{Only}
 
 abbrev chain_with : StateValue → List OpenValue → ℕ → Option ℕ → Chain
 chain_with s copies last bookmark = record { state = s; copies = copies; last = last; bookmark = bookmark }
 
-module _ (formatting : ℕ) (tag : TagName) (f : Furthest) (s made listed : StateValue) (copies : List OpenValue)
-    (last : ℕ) (bookmark : Option ℕ) (copy : ℕ) where
+module _ (formatting : ℕ) (tag : TagName) (f : Furthest) (s made moved wrapped listed : StateValue)
+    (copies : List OpenValue) (last : ℕ) (bookmark : Option ℕ) (copy : ℕ) where
   -- the new stack
   abbrev stacked : ℕ → StateValue → StateValue
   stacked k x = record x { stack = f.inner ++ opened k (html (known tag)) ∷ f.block ∷ (copies ++ x.stack) }
 
   pub adopted : chain_with made copies last bookmark ≡ chain 3 f.between (begin_chain f.block.node s)
-      → copy ≡ length (move_last last made).nodes
-      → listed ≡ with_formatting formatting f.block.node bookmark (move_last last made)
+      → moved ≡ move_last last made → copy ≡ length moved.nodes
+      → wrapped ≡ on_nodes (wrap_children formatting f.block.node) moved
+      → listed ≡ on_formatting (with_bookmark formatting copy bookmark) wrapped
       → stacked copy listed ≡ adopt formatting tag f s
-  adopted chained number listing =
+  adopted chained moving number wrapping listing =
       ap (stacked copy) listing
-      ∙ (ap (λ (k : ℕ). stacked k (with_formatting formatting f.block.node bookmark (move_last last made))) number
-      ∙ ap (adopt_by formatting tag f) chained)
+      ∙ (ap (λ (x : StateValue). stacked copy (on_formatting (with_bookmark formatting copy bookmark) x)) wrapping
+      ∙ (ap (λ (k : ℕ). stacked k (on_formatting (with_bookmark formatting k bookmark)
+      (on_nodes (wrap_children formatting f.block.node) moved))) number
+      ∙ (ap (finish formatting tag f (chain_with made copies last bookmark)) moving
+      ∙ ap (adopt_by formatting tag f) chained)))
 
 -- ---- the current node is the newest on the list
 

@@ -1,11 +1,10 @@
 -- What the program's parts of the adoption agency algorithm are.
-use Rattle.std.specs.Prelude.{◌≡◌, ℕ, Bool, true, false, not, ◌&&◌, [], ◌∷◌, ◌++◌, length, Option, Some}
+use Rattle.std.specs.Prelude.{◌≡◌, ℕ, Bool, true, false, not, ◌&&◌, [], ◌∷◌, ◌++◌, Some}
 use Rattle.htmd_html5_state.specs.Names.{ElementNameValue}
 use Rattle.htmd_html5_state.specs.OpenElements.{is_empty}
 use Rattle.htmd_html5_state.specs.State.{StateValue}
 use Rattle.htmd_html5_state.specs.Insertion.{current, opened}
 use Rattle.htmd_html5_state.specs.Adoption.{Chain, Round, last_round, goes_on, or_first, node_is}
-use Rattle.htmd_html5_state.specs.Adoption.{wrap_children, with_bookmark}
 use Rattle.htmd_html5_state.specs.FormattingViews.{is_newest}
 use Rattle.htmd_html5_state.specs.declared.names.TagName.{TagName}
 use Rattle.htmd_html5_state.specs.OpenViews.{all_open_of}
@@ -25,13 +24,6 @@ pub record IsCopyAdded (old new : ChainParts) (node : ℕ) (name : ElementNameVa
   pub copies : all_open_of new.copies.items ≡ all_open_of old.copies.items ++ opened node name ∷ []
   pub last : new.last ≡ node
   pub bookmark : new.bookmark ≡ Some (or_first old.bookmark node)
-
--- a copy of the formatting element is in the furthest block and on the list
-abbrev pub with_formatting : ℕ → ℕ → Option ℕ → StateValue → StateValue
-with_formatting formatting block bookmark s = record s {
-  nodes = wrap_children formatting block s.nodes;
-  formatting = with_bookmark formatting (length s.nodes) bookmark s.formatting;
-}
 
 -- the current node is the newest on the list and has this name, as where elements are closed in order
 abbrev pub closes_newest : TagName → StateValue → Bool

@@ -1,7 +1,7 @@
 //! The adoption agency algorithm.
 ghost use Rattle.std.specs.Prelude.{◌≡◌, IfOk, OnOk, true, length};
 ghost use Rattle.htmd_html5_state.specs.Adoption as spec;
-ghost use Rattle.htmd_html5_state.specs.AdoptionViews.{chain_of, closes_newest, round_of_answer, with_formatting, IsCopyAdded};
+ghost use Rattle.htmd_html5_state.specs.AdoptionViews.{chain_of, closes_newest, round_of_answer, IsCopyAdded};
 ghost use Rattle.htmd_html5_state.specs.Names.{element_name_of};
 ghost use Rattle.htmd_html5_state.specs.OpenElements.{is_open_node};
 ghost use Rattle.htmd_html5_state.specs.OpenViews.{open_of, stack_of, furthest_of};
@@ -147,24 +147,6 @@ impl HtmlState {
         Ok(())
     }
 
-    /// Moves what was made last, and adds a copy of the formatting element. Gives the copy.
-    fn add_formatting(
-        &mut self,
-        formatting: usize,
-        block: usize,
-        last: usize,
-        bookmark: Option<usize>,
-    ) -> Result<usize, AllocError>
-        ensures number { IfOk result (λ n. n ≡ length (spec.move_last last self.old).nodes) }
-        ensures ok { OnOk result (self.new
-            ≡ with_formatting formatting block bookmark (spec.move_last last self.old)) }
-    {
-        self.move_last(last)?;
-        let copy = self.wrap_children(formatting, block)?;
-        self.replace_formatting(formatting, copy, bookmark)?;
-        Ok(copy)
-    }
-
     /// Rearranges what is between a formatting element, which isn't open any more, and the furthest block in it.
     fn adopt(
         &mut self,
@@ -180,11 +162,21 @@ impl HtmlState {
             block,
             between,
         } = furthest;
-        let chain = self.chain(block.node, between)?;
-        let copy = self.add_formatting(formatting, block.node, chain.last, chain.bookmark)?;
-        self.stack.push_copies(chain.copies, block)?;
+        let block_node = block.node;
+        let chain = self.chain(block_node, between)?;
+        let Chain {
+            copies,
+            last,
+            bookmark,
+        } = chain;
+        self.move_last(last)?;
+        let copy = self.wrap_children(formatting, block_node)?;
+        self.replace_formatting(formatting, copy, bookmark)?;
+        self.stack.push_inside_out(copies)?;
+        self.stack.push_element(block)?;
         self.stack
-            .push_with_inner(copy, ElementName::Html(HtmlName::Known(tag)), inner)
+            .push(copy, ElementName::Html(HtmlName::Known(tag)))?;
+        self.stack.append(inner)
     }
 
     /// A round with a formatting element that is open, and in scope. Gives whether the next one follows.

@@ -395,22 +395,6 @@ impl Document {
         Ok(number)
     }
 
-    /// A new element at a place. Gives its number.
-    #[inline(always)]
-    pub(crate) fn add_element(
-        &mut self,
-        name: ElementName,
-        attributes: Vec<Attribute>,
-        place: Place,
-    ) -> Result<usize, AllocError>
-        ensures number { IfOk result (λ n. n ≡ length self.old) }
-        ensures ok { OnOk result (self.new
-            ≡ spec.add (spec.element (element_name_of name) (pairs_of attributes.items)) place self.old) }
-    {
-        let kind = NodeKind::element(self.alloc, name, attributes)?;
-        self.add(kind, place)
-    }
-
     /// Makes a node the parent of all children of another one.
     fn set_parents(&mut self, children: &[u32], parent: u32)
         ensures { self.new ≡ spec.with_parents parent children.now self.old }

@@ -1,5 +1,5 @@
 //! Elements of foreign content: their names, and what the current node is.
-ghost use Rattle.std.specs.Prelude.{◌≡◌, ◌≤◌, ◌-◌, map, length, drop, string_bytes, IfOk};
+ghost use Rattle.std.specs.Prelude.{◌≡◌, ◌≤◌, ◌-◌, map, length, drop, IfOk};
 ghost use Rattle.htmd_html5_state.specs.Documents.{attributes_of};
 ghost use Rattle.htmd_html5_state.specs.Foreign as spec;
 ghost use Rattle.htmd_html5_state.specs.Insertion.{current};
@@ -173,23 +173,6 @@ fn attribute_names(namespace: Namespace) -> &'static [&'static str]
     }
 }
 
-/// An attribute with its name as it is written in the list.
-fn with_capitals(
-    alloc: Global,
-    names: &'static [&'static str],
-    attribute: Attribute,
-) -> Result<Attribute, AllocError>
-    ensures name { IfOk result (λ a. string_bytes a.name
-        ≡ spec.capitalised (map (λ n. n.now) names.now) (string_bytes attribute.name)) }
-    ensures value { IfOk result (λ a. a.value ≡ attribute.value) }
-{
-    let name = String::from_str(alloc, capitalised(names, attribute.name.as_str()))?;
-    Ok(Attribute {
-        name,
-        value: attribute.value,
-    })
-}
-
 /// Its attributes.
 pub(crate) fn foreign_attributes(
     alloc: Global,
@@ -201,8 +184,9 @@ pub(crate) fn foreign_attributes(
 {
     let names = attribute_names(namespace);
     let mut capitals = Vec::with_capacity(alloc, attributes.len())?;
-    for attribute in attributes {
-        capitals.push(with_capitals(alloc, names, attribute)?)?;
+    for Attribute { name, value } in attributes {
+        let name = String::from_str(alloc, capitalised(names, name.as_str()))?;
+        capitals.push(Attribute { name, value })?;
     }
     Ok(capitals)
 }

@@ -115,7 +115,8 @@ impl HtmlState {
             ≡ spec.insert_at place (element_name_of name) (pairs_of attributes.items) self.old) }
     {
         let open_name = name.copy()?;
-        let node = self.document.add_element(name, attributes, place)?;
+        let kind = NodeKind::element(self.alloc, name, attributes)?;
+        let node = self.document.add(kind, place)?;
         self.stack.push(node, open_name)?;
         Ok(node)
     }

@@ -357,32 +357,6 @@ impl OpenElements {
         self.push_inside_out(reversed(elements))
     }
 
-    /// Pushes elements, of which the first becomes the innermost, and one inside them.
-    pub(crate) fn push_copies(
-        &mut self,
-        copies: Vec<OpenElement>,
-        block: OpenElement,
-    ) -> Result<(), AllocError>
-        ensures { OnOk result (self.new ≡ open_of block ∷ (all_open_of copies.items ++ self.old)) }
-    {
-        self.push_inside_out(copies)?;
-        self.push_element(block)
-    }
-
-    /// Pushes an element, and elements inside it, of which the last becomes the innermost.
-    pub(crate) fn push_with_inner(
-        &mut self,
-        node: usize,
-        name: ElementName,
-        inner: Vec<OpenElement>,
-    ) -> Result<(), AllocError>
-        ensures { OnOk result (self.new
-            ≡ stack_of inner.items ++ insertion.opened node (element_name_of name) ∷ self.old) }
-    {
-        self.push(node, name)?;
-        self.append(inner)
-    }
-
     /// Pops the innermost element.
     fn pop_element(&mut self) -> Option<OpenElement>
         ensures { MatchOption result ((self.old ≡ []) × (self.new ≡ []))
