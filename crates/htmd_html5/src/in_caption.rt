@@ -7,6 +7,7 @@ ghost use Rattle.htmd_html5.specs.Tokens.{tag_of};
 
 use crate::body_ends::end_in_body;
 use crate::body_starts::start_in_body;
+use crate::in_cell::leaves_cell;
 use crate::tokens::StartTag;
 use htmd_html5_state::{HtmlName, HtmlState, InsertionMode, NameSet, Scope, TagName};
 use std::alloc::AllocError;
@@ -24,6 +25,7 @@ fn end_caption(state: &mut HtmlState) -> bool
     found
 }
 
+#[tactic(auto, using(crate::proofs::TableTagLemmas::caption_left, crate::proofs::TableTagLemmas::caption_other_start))]
 pub(crate) fn start_in_caption(
     state: &mut HtmlState,
     tag: StartTag,
@@ -33,24 +35,17 @@ pub(crate) fn start_in_caption(
     ensures same { IfOk result (λ again. IfSome again (λ t. tag_of t ≡ tag_of tag)) }
 {
     match tag.name {
-        HtmlName::Known(
-            TagName::Caption
-            | TagName::Col
-            | TagName::ColGroup
-            | TagName::TBody
-            | TagName::Td
-            | TagName::TFoot
-            | TagName::Th
-            | TagName::THead
-            | TagName::Tr,
-        ) => {
+        HtmlName::Known(name) if leaves_cell(name) => {
             if end_caption(state) {
                 return Ok(Some(tag));
             }
+            Ok(None)
         }
-        _ => start_in_body(state, tag)?,
+        _ => {
+            start_in_body(state, tag)?;
+            Ok(None)
+        }
     }
-    Ok(None)
 }
 
 pub(crate) fn end_in_caption(state: &mut HtmlState, name: &HtmlName) -> Result<bool, AllocError>
