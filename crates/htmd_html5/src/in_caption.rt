@@ -48,6 +48,26 @@ pub(crate) fn start_in_caption(
     }
 }
 
+/// Whether its end tag does nothing.
+fn ends_nothing(tag: TagName) -> bool
+    ensures { result ≡ spec.ends_nothing tag }
+{
+    matches!(
+        tag,
+        TagName::Body
+            | TagName::Col
+            | TagName::ColGroup
+            | TagName::Html
+            | TagName::TBody
+            | TagName::Td
+            | TagName::TFoot
+            | TagName::Th
+            | TagName::THead
+            | TagName::Tr
+    )
+}
+
+#[tactic(auto, using(crate::proofs::TableTagLemmas::caption_nothing))]
 pub(crate) fn end_in_caption(state: &mut HtmlState, name: &HtmlName) -> Result<bool, AllocError>
     ensures { IfOk result (λ again. answer state.new again
         ≡ spec.end_in_caption (name_of name.now) state.old) }
@@ -58,18 +78,7 @@ pub(crate) fn end_in_caption(state: &mut HtmlState, name: &HtmlName) -> Result<b
             Ok(false)
         }
         HtmlName::Known(TagName::Table) => Ok(end_caption(state)),
-        HtmlName::Known(
-            TagName::Body
-            | TagName::Col
-            | TagName::ColGroup
-            | TagName::Html
-            | TagName::TBody
-            | TagName::Td
-            | TagName::TFoot
-            | TagName::Th
-            | TagName::THead
-            | TagName::Tr,
-        ) => Ok(false),
+        HtmlName::Known(tag) if ends_nothing(*tag) => Ok(false),
         _ => end_in_body(state, name),
     }
 }
