@@ -1,5 +1,5 @@
 //! The names of elements.
-ghost use Rattle.std.specs.Prelude.{◌≡◌, ◌<◌, [], ◌∷◌, IfOk, IfSome, Some, find, map};
+ghost use Rattle.std.specs.Prelude.{◌≡◌, ◌<◌, IfOk, IfSome, Some, find, map};
 ghost use Rattle.std.specs.Cow.{cow_str_bytes};
 ghost use Rattle.htmd_html5_state.specs.Names as spec;
 ghost use Rattle.htmd_html5_state.specs.Names.{name_of, element_name_of};
@@ -484,41 +484,6 @@ fn known_in(names: &[TagName], text: &str) -> Option<TagName>
     None
 }
 
-/// The names of one letter that most tags have.
-#[inline(always)]
-fn one_letter(letter: u8) -> Option<TagName>
-    ensures { IfSome result (λ tag. spec.known_name (letter ∷ []) ≡ Some tag) }
-{
-    match letter {
-        b'a' => Some(TagName::A),
-        b'b' => Some(TagName::B),
-        b'i' => Some(TagName::I),
-        b'p' => Some(TagName::P),
-        _ => None,
-    }
-}
-
-/// The names of two characters that most tags have.
-#[inline(always)]
-fn two_characters(first: u8, second: u8) -> Option<TagName>
-    ensures { IfSome result (λ tag. spec.known_name (first ∷ second ∷ []) ≡ Some tag) }
-{
-    match (first, second) {
-        (b'b', b'r') => Some(TagName::Br),
-        (b'd', b'd') => Some(TagName::Dd),
-        (b'd', b't') => Some(TagName::Dt),
-        (b'e', b'm') => Some(TagName::Em),
-        (b'h', b'2') => Some(TagName::H2),
-        (b'h', b'3') => Some(TagName::H3),
-        (b'l', b'i') => Some(TagName::Li),
-        (b't', b'd') => Some(TagName::Td),
-        (b't', b'h') => Some(TagName::Th),
-        (b't', b'r') => Some(TagName::Tr),
-        (b'u', b'l') => Some(TagName::Ul),
-        _ => None,
-    }
-}
-
 /// The names of most tags.
 #[tactic(auto, using(crate::proofs::NamesLemmas::spelled_so))]
 #[inline(always)]
@@ -526,8 +491,21 @@ fn frequent(bytes: &[u8]) -> Option<TagName>
     ensures { IfSome result (λ tag. spec.known_name bytes.now ≡ Some tag) }
 {
     match bytes {
-        [letter] => one_letter(*letter),
-        [first, second] => two_characters(*first, *second),
+        b"a" => Some(TagName::A),
+        b"b" => Some(TagName::B),
+        b"i" => Some(TagName::I),
+        b"p" => Some(TagName::P),
+        b"br" => Some(TagName::Br),
+        b"dd" => Some(TagName::Dd),
+        b"dt" => Some(TagName::Dt),
+        b"em" => Some(TagName::Em),
+        b"h2" => Some(TagName::H2),
+        b"h3" => Some(TagName::H3),
+        b"li" => Some(TagName::Li),
+        b"td" => Some(TagName::Td),
+        b"th" => Some(TagName::Th),
+        b"tr" => Some(TagName::Tr),
+        b"ul" => Some(TagName::Ul),
         b"div" => Some(TagName::Div),
         b"code" => Some(TagName::Code),
         b"span" => Some(TagName::Span),
