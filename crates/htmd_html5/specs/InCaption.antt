@@ -1,5 +1,5 @@
 -- The mode "in caption" (HTML Standard, 13.2.6.4.11).
-use Rattle.std.specs.Prelude.{Bool, if◌then◌else◌}
+use Rattle.std.specs.Prelude.{true, false, Bool, if◌then◌else◌}
 use Rattle.htmd_html5_state.specs.Names.{NameValue, known}
 use Rattle.htmd_html5.specs.Tokens.{StartTagValue, TokenValue, start_tag, end_tag}
 use Rattle.htmd_html5_state.specs.OpenElements.{is_in_scope, pop_until}
@@ -13,6 +13,7 @@ use Rattle.htmd_html5.specs.SharedRules.{with_mode}
 use Rattle.htmd_html5.specs.BodyStarts.{start_in_body}
 use Rattle.htmd_html5.specs.BodyEnds.{end_in_body}
 use Rattle.htmd_html5.specs.InBody.{in_body}
+use Rattle.htmd_html5_state.specs.declared.names.TagName.{TagName}
 use Rattle.htmd_html5_state.specs.declared.names.TagName.TheVariants as tags
 
 abbrev pub has_caption : StateValue → Bool
@@ -39,6 +40,20 @@ start_in_caption (known tags.Th) tag s = leave_caption s
 start_in_caption (known tags.THead) tag s = leave_caption s
 start_in_caption (known tags.Tr) tag s = leave_caption s
 start_in_caption _ tag s = done (start_in_body tag s)
+
+-- the end tags that do nothing
+abbrev pub ends_nothing : TagName → Bool
+ends_nothing tags.Body = true
+ends_nothing tags.Col = true
+ends_nothing tags.ColGroup = true
+ends_nothing tags.Html = true
+ends_nothing tags.TBody = true
+ends_nothing tags.Td = true
+ends_nothing tags.TFoot = true
+ends_nothing tags.Th = true
+ends_nothing tags.THead = true
+ends_nothing tags.Tr = true
+ends_nothing tag = false
 
 abbrev pub end_in_caption : NameValue → StateValue → Answer
 end_in_caption (known tags.Caption) s = done (end_caption s)

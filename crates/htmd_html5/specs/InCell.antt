@@ -1,5 +1,5 @@
 -- The mode "in cell" (HTML Standard, 13.2.6.4.15).
-use Rattle.std.specs.Prelude.{if◌then◌else◌}
+use Rattle.std.specs.Prelude.{Bool, true, false, if◌then◌else◌}
 use Rattle.htmd_html5_state.specs.Names.{NameValue, known}
 use Rattle.htmd_html5.specs.Tokens.{StartTagValue, TokenValue, start_tag, end_tag}
 use Rattle.htmd_html5_state.specs.OpenElements.{is_in_scope, pop_until}
@@ -26,6 +26,19 @@ end_cell tag s = if is_in_scope (Only tag) TableScope s.stack then close_cell (O
 -- what can't stand in a cell ends it first, if these are in scope
 abbrev pub leave_cell : NameSet → StateValue → Answer
 leave_cell wanted s = if is_in_scope wanted TableScope s.stack then again (close_cell Cells s) else done s
+
+-- what can't stand in a cell or a caption
+abbrev pub leaves_cell : TagName → Bool
+leaves_cell tags.Caption = true
+leaves_cell tags.Col = true
+leaves_cell tags.ColGroup = true
+leaves_cell tags.TBody = true
+leaves_cell tags.Td = true
+leaves_cell tags.TFoot = true
+leaves_cell tags.Th = true
+leaves_cell tags.THead = true
+leaves_cell tags.Tr = true
+leaves_cell tag = false
 
 abbrev pub start_in_cell : NameValue → StartTagValue → StateValue → Answer
 start_in_cell (known tags.Caption) tag s = leave_cell Cells s

@@ -1,5 +1,5 @@
 -- The mode "in row" (HTML Standard, 13.2.6.4.14).
-use Rattle.std.specs.Prelude.{Bool, if◌then◌else◌}
+use Rattle.std.specs.Prelude.{true, false, Bool, if◌then◌else◌}
 use Rattle.htmd_html5_state.specs.Names.{NameValue, known}
 use Rattle.htmd_html5.specs.Tokens.{StartTagValue, TokenValue, start_tag, end_tag}
 use Rattle.htmd_html5_state.specs.OpenElements.{is_in_scope, pop, clear_to}
@@ -48,6 +48,17 @@ start_in_row (known tags.TFoot) tag s = leave_row s
 start_in_row (known tags.THead) tag s = leave_row s
 start_in_row (known tags.Tr) tag s = leave_row s
 start_in_row name tag s = start_in_table name tag s
+
+-- the end tags that do nothing
+abbrev pub ends_nothing : TagName → Bool
+ends_nothing tags.Body = true
+ends_nothing tags.Caption = true
+ends_nothing tags.Col = true
+ends_nothing tags.ColGroup = true
+ends_nothing tags.Html = true
+ends_nothing tags.Td = true
+ends_nothing tags.Th = true
+ends_nothing tag = false
 
 abbrev pub end_in_row : NameValue → StateValue → Answer
 end_in_row (known tags.Tr) s = done (end_row s)

@@ -1,6 +1,6 @@
 -- The modes "in select" and "in select in table", as the HTML Standard had them until 2025 (13.2.6.4.16 and
 -- 13.2.6.4.17 then).
-use Rattle.std.specs.Prelude.{ℕ, Bool, ◌&&◌, if◌then◌else◌, List}
+use Rattle.std.specs.Prelude.{ℕ, Bool, true, false, ◌&&◌, if◌then◌else◌, List}
 use Rattle.htmd_html5_state.specs.Names.{NameValue, known}
 use Rattle.htmd_html5.specs.Tokens.{doctype, comment, StartTagValue, TokenValue, start_tag, end_tag, run, end_of_file}
 use Rattle.htmd_html5_state.specs.OpenElements.{OpenValue, current_is, is_in_scope, pop, pop_until}
@@ -79,6 +79,18 @@ in_select (end_tag name) s = done (end_in_select name s)
 in_select end_of_file s = end_of_file_in_body s
 
 -- ---- in a table, whose parts end a `select`
+
+-- a part of a table, whose tags leave a `select`
+abbrev pub is_table_part : TagName → Bool
+is_table_part tags.Caption = true
+is_table_part tags.Table = true
+is_table_part tags.TBody = true
+is_table_part tags.Td = true
+is_table_part tags.TFoot = true
+is_table_part tags.Th = true
+is_table_part tags.THead = true
+is_table_part tags.Tr = true
+is_table_part tag = false
 
 abbrev pub start_in_select_in_table : NameValue → StartTagValue → StateValue → Answer
 start_in_select_in_table (known tags.Caption) tag s = again (close_select s)

@@ -23,6 +23,7 @@ use Rattle.htmd_html5.specs.SharedRules.{with_mode, insert_tag, insert_void_tag,
 use Rattle.htmd_html5.specs.BodyStarts.{is_in_template, with_form, is_hidden, start_in_body}
 use Rattle.htmd_html5.specs.BodyEnds.{end_in_body}
 use Rattle.htmd_html5.specs.InBody.{end_of_file_in_body, run_in_body}
+use Rattle.htmd_html5_state.specs.declared.names.TagName.{TagName}
 use Rattle.htmd_html5_state.specs.declared.names.TagName.TheVariants as tags
 
 -- ---- text, which is taken all at once
@@ -125,6 +126,21 @@ start_in_table (known tags.Th) tag s = again (imply_section s)
 start_in_table (known tags.Tr) tag s = again (imply_section s)
 start_in_table (known tags.Table) tag s = start_another_table s
 start_in_table name tag s = done (start_part name tag s)
+
+-- the end tags that do nothing in a table
+abbrev pub ends_nothing : TagName → Bool
+ends_nothing tags.Body = true
+ends_nothing tags.Caption = true
+ends_nothing tags.Col = true
+ends_nothing tags.ColGroup = true
+ends_nothing tags.Html = true
+ends_nothing tags.TBody = true
+ends_nothing tags.Td = true
+ends_nothing tags.TFoot = true
+ends_nothing tags.Th = true
+ends_nothing tags.THead = true
+ends_nothing tags.Tr = true
+ends_nothing tag = false
 
 abbrev pub end_in_table : NameValue → StateValue → StateValue
 end_in_table (known tags.Table) s = end_table s

@@ -1,5 +1,5 @@
 -- The mode "in table body" (HTML Standard, 13.2.6.4.13).
-use Rattle.std.specs.Prelude.{if◌then◌else◌, List, []}
+use Rattle.std.specs.Prelude.{Bool, true, false, if◌then◌else◌, List, []}
 use Rattle.htmd_grammar.specs.ValueTrees.{AttributePair}
 use Rattle.htmd_html5_state.specs.Names.{NameValue, known}
 use Rattle.htmd_html5.specs.Tokens.{StartTagValue, TokenValue, start_tag, end_tag}
@@ -13,6 +13,7 @@ use Rattle.htmd_html5_state.specs.declared.sets.Scope.TheVariants.{Table as Tabl
 use Rattle.htmd_html5.specs.Answers.{Answer, answer, done, again}
 use Rattle.htmd_html5.specs.SharedRules.{with_mode}
 use Rattle.htmd_html5.specs.InTable.{start_in_table, end_in_table, in_table}
+use Rattle.htmd_html5_state.specs.declared.names.TagName.{TagName}
 use Rattle.htmd_html5_state.specs.declared.names.TagName.TheVariants as tags
 
 -- back to the section of the table
@@ -47,6 +48,18 @@ start_in_section (known tags.TBody) tag s = leave_section s
 start_in_section (known tags.TFoot) tag s = leave_section s
 start_in_section (known tags.THead) tag s = leave_section s
 start_in_section name tag s = start_in_table name tag s
+
+-- the end tags that do nothing
+abbrev pub ends_nothing : TagName → Bool
+ends_nothing tags.Body = true
+ends_nothing tags.Caption = true
+ends_nothing tags.Col = true
+ends_nothing tags.ColGroup = true
+ends_nothing tags.Html = true
+ends_nothing tags.Td = true
+ends_nothing tags.Th = true
+ends_nothing tags.Tr = true
+ends_nothing tag = false
 
 abbrev pub end_in_section : NameValue → StateValue → Answer
 end_in_section (known tags.TBody) s = done (end_section (Only tags.TBody) s)

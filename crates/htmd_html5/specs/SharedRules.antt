@@ -1,5 +1,5 @@
 -- Rules that many modes share.
-use Rattle.std.specs.Prelude.{ℕ, false, if◌then◌else◌, List, ◌∷◌, Option, Some, None}
+use Rattle.std.specs.Prelude.{ℕ, Bool, true, false, if◌then◌else◌, List, ◌∷◌, Option, Some, None}
 use Rattle.htmd_grammar.specs.ValueTrees.{AttributePair}
 use Rattle.htmd_html5_state.specs.Names.{NameValue, text_of_name, known}
 use Rattle.htmd_html5_state.specs.Documents.{add_missing}
@@ -13,6 +13,7 @@ use Rattle.htmd_html5_state.specs.Foreign.{insert_foreign}
 use Rattle.htmd_html5_state.specs.declared.modes.InsertionMode.TheVariants.{InTemplate}
 use Rattle.htmd_html5_state.specs.declared.modes.InsertionMode.{InsertionMode}
 use Rattle.htmd_html5_state.specs.declared.names.Namespace.{Namespace}
+use Rattle.htmd_html5_state.specs.declared.names.TagName.{TagName}
 use Rattle.htmd_html5_state.specs.declared.sets.NameSet.TheVariants.{Only}
 use Rattle.htmd_html5_state.specs.declared.sets.Scope.TheVariants.{Button as ButtonScope}
 use Rattle.htmd_grammar.specs.declared.content.RawElement.{RawElement}
@@ -71,6 +72,20 @@ abbrev pub end_template : StateValue → StateValue
 end_template s = if is_open (Only tags.Template) s.stack then leave_template s else s
 
 -- ---- elements of the head (13.2.6.4.4)
+
+-- the elements of the head
+abbrev pub is_head_tag : TagName → Bool
+is_head_tag tags.Base = true
+is_head_tag tags.BaseFont = true
+is_head_tag tags.BgSound = true
+is_head_tag tags.Link = true
+is_head_tag tags.Meta = true
+is_head_tag tags.NoFrames = true
+is_head_tag tags.Script = true
+is_head_tag tags.Style = true
+is_head_tag tags.Template = true
+is_head_tag tags.Title = true
+is_head_tag tag = false
 
 -- `base`, `basefont`, `bgsound`, `link` and `meta` hold nothing
 abbrev pub insert_head_element : NameValue → StartTagValue → StateValue → StateValue

@@ -7,6 +7,7 @@ ghost use Rattle.htmd_html5.specs.Tokens.{tag_of};
 
 use crate::body_ends::end_in_body;
 use crate::body_starts::start_in_body;
+use crate::in_cell::leaves_cell;
 use crate::tokens::StartTag;
 use htmd_html5_state::{HtmlName, HtmlState, InsertionMode, NameSet, Scope, TagName};
 use std::alloc::AllocError;
@@ -24,6 +25,7 @@ fn end_caption(state: &mut HtmlState) -> bool
     found
 }
 
+#[tactic(auto, using(crate::proofs::TableTagLemmas::caption_left, crate::proofs::TableTagLemmas::caption_other_start))]
 pub(crate) fn start_in_caption(
     state: &mut HtmlState,
     tag: StartTag,
@@ -33,26 +35,39 @@ pub(crate) fn start_in_caption(
     ensures same { IfOk result (λ again. IfSome again (λ t. tag_of t ≡ tag_of tag)) }
 {
     match tag.name {
-        HtmlName::Known(
-            TagName::Caption
+        HtmlName::Known(name) if leaves_cell(name) => {
+            if end_caption(state) {
+                return Ok(Some(tag));
+            }
+            Ok(None)
+        }
+        _ => {
+            start_in_body(state, tag)?;
+            Ok(None)
+        }
+    }
+}
+
+/// Whether its end tag does nothing.
+fn ends_nothing(tag: TagName) -> bool
+    ensures { result ≡ spec.ends_nothing tag }
+{
+    matches!(
+        tag,
+        TagName::Body
             | TagName::Col
             | TagName::ColGroup
+            | TagName::Html
             | TagName::TBody
             | TagName::Td
             | TagName::TFoot
             | TagName::Th
             | TagName::THead
-            | TagName::Tr,
-        ) => {
-            if end_caption(state) {
-                return Ok(Some(tag));
-            }
-        }
-        _ => start_in_body(state, tag)?,
-    }
-    Ok(None)
+            | TagName::Tr
+    )
 }
 
+#[tactic(auto, using(crate::proofs::TableTagLemmas::caption_nothing))]
 pub(crate) fn end_in_caption(state: &mut HtmlState, name: &HtmlName) -> Result<bool, AllocError>
     ensures { IfOk result (λ again. answer state.new again
         ≡ spec.end_in_caption (name_of name.now) state.old) }
@@ -63,18 +78,7 @@ pub(crate) fn end_in_caption(state: &mut HtmlState, name: &HtmlName) -> Result<b
             Ok(false)
         }
         HtmlName::Known(TagName::Table) => Ok(end_caption(state)),
-        HtmlName::Known(
-            TagName::Body
-            | TagName::Col
-            | TagName::ColGroup
-            | TagName::Html
-            | TagName::TBody
-            | TagName::Td
-            | TagName::TFoot
-            | TagName::Th
-            | TagName::THead
-            | TagName::Tr,
-        ) => Ok(false),
+        HtmlName::Known(tag) if ends_nothing(*tag) => Ok(false),
         _ => end_in_body(state, name),
     }
 }

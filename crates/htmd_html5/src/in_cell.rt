@@ -33,6 +33,25 @@ fn leave_cell(state: &mut HtmlState, wanted: NameSet) -> bool
     found
 }
 
+/// Whether it is a part of a table that can't stand in a cell or a caption.
+pub(crate) fn leaves_cell(tag: TagName) -> bool
+    ensures { result ≡ spec.leaves_cell tag }
+{
+    matches!(
+        tag,
+        TagName::Caption
+            | TagName::Col
+            | TagName::ColGroup
+            | TagName::TBody
+            | TagName::Td
+            | TagName::TFoot
+            | TagName::Th
+            | TagName::THead
+            | TagName::Tr
+    )
+}
+
+#[tactic(auto, using(crate::proofs::TableTagLemmas::cell_left, crate::proofs::TableTagLemmas::cell_other_start))]
 pub(crate) fn start_in_cell(
     state: &mut HtmlState,
     tag: StartTag,
@@ -42,24 +61,17 @@ pub(crate) fn start_in_cell(
     ensures same { IfOk result (λ again. IfSome again (λ t. tag_of t ≡ tag_of tag)) }
 {
     match tag.name {
-        HtmlName::Known(
-            TagName::Caption
-            | TagName::Col
-            | TagName::ColGroup
-            | TagName::TBody
-            | TagName::Td
-            | TagName::TFoot
-            | TagName::Th
-            | TagName::THead
-            | TagName::Tr,
-        ) => {
+        HtmlName::Known(name) if leaves_cell(name) => {
             if leave_cell(state, NameSet::Cells) {
                 return Ok(Some(tag));
             }
+            Ok(None)
         }
-        _ => start_in_body(state, tag)?,
+        _ => {
+            start_in_body(state, tag)?;
+            Ok(None)
+        }
     }
-    Ok(None)
 }
 
 pub(crate) fn end_in_cell(state: &mut HtmlState, name: &HtmlName) -> Result<bool, AllocError>

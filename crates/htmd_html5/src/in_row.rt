@@ -72,6 +72,23 @@ pub(crate) fn start_in_row(
     }
 }
 
+/// Whether its end tag does nothing.
+fn ends_nothing(tag: TagName) -> bool
+    ensures { result ≡ spec.ends_nothing tag }
+{
+    matches!(
+        tag,
+        TagName::Body
+            | TagName::Caption
+            | TagName::Col
+            | TagName::ColGroup
+            | TagName::Html
+            | TagName::Td
+            | TagName::Th
+    )
+}
+
+#[tactic(auto, using(crate::proofs::TableTagLemmas::row_nothing))]
 pub(crate) fn end_in_row(state: &mut HtmlState, name: &HtmlName) -> Result<bool, AllocError>
     ensures { IfOk result (λ again. answer state.new again
         ≡ spec.end_in_row (name_of name.now) state.old) }
@@ -85,15 +102,7 @@ pub(crate) fn end_in_row(state: &mut HtmlState, name: &HtmlName) -> Result<bool,
         HtmlName::Known(tag @ (TagName::TBody | TagName::TFoot | TagName::THead)) => {
             Ok(end_row_of(state, *tag))
         }
-        HtmlName::Known(
-            TagName::Body
-            | TagName::Caption
-            | TagName::Col
-            | TagName::ColGroup
-            | TagName::Html
-            | TagName::Td
-            | TagName::Th,
-        ) => Ok(false),
+        HtmlName::Known(tag) if ends_nothing(*tag) => Ok(false),
         _ => {
             end_in_table(state, name)?;
             Ok(false)

@@ -118,6 +118,23 @@ pub(crate) fn put_run_in_select(
     }
 }
 
+fn is_table_part(tag: TagName) -> bool
+    ensures { result ≡ spec.is_table_part tag }
+{
+    matches!(
+        tag,
+        TagName::Caption
+            | TagName::Table
+            | TagName::TBody
+            | TagName::Td
+            | TagName::TFoot
+            | TagName::Th
+            | TagName::THead
+            | TagName::Tr
+    )
+}
+
+#[tactic(auto, using(crate::proofs::InSelectLemmas::start_left, crate::proofs::InSelectLemmas::start_as_in_select))]
 pub(crate) fn start_in_select_in_table(
     state: &mut HtmlState,
     tag: StartTag,
@@ -127,16 +144,7 @@ pub(crate) fn start_in_select_in_table(
     ensures same { IfOk result (λ again. IfSome again (λ t. tag_of t ≡ tag_of tag)) }
 {
     match tag.name {
-        HtmlName::Known(
-            TagName::Caption
-            | TagName::Table
-            | TagName::TBody
-            | TagName::Td
-            | TagName::TFoot
-            | TagName::Th
-            | TagName::THead
-            | TagName::Tr,
-        ) => {
+        HtmlName::Known(name) if is_table_part(name) => {
             close_select(state);
             Ok(Some(tag))
         }
@@ -155,17 +163,12 @@ fn leave_select(state: &mut HtmlState, tag: TagName) -> bool
     found
 }
 
+#[tactic(auto, using(crate::proofs::InSelectLemmas::part_left, crate::proofs::InSelectLemmas::as_in_select))]
 pub(crate) fn end_in_select_in_table(state: &mut HtmlState, name: &HtmlName) -> bool
     ensures { answer state.new result ≡ spec.end_in_select_in_table (name_of name.now) state.old }
 {
     match name {
-        HtmlName::Known(tag @ (TagName::Caption | TagName::Table)) => leave_select(state, *tag),
-        HtmlName::Known(tag @ (TagName::TBody | TagName::TFoot | TagName::THead)) => {
-            leave_select(state, *tag)
-        }
-        HtmlName::Known(tag @ (TagName::Tr | TagName::Td | TagName::Th)) => {
-            leave_select(state, *tag)
-        }
+        HtmlName::Known(tag) if is_table_part(*tag) => leave_select(state, *tag),
         _ => {
             end_in_select(state, name);
             false

@@ -249,16 +249,13 @@ pub(crate) fn start_in_table(
     Ok(Some(tag))
 }
 
-pub(crate) fn end_in_table(state: &mut HtmlState, name: &HtmlName) -> Result<(), AllocError>
-    ensures { OnOk result (state.new ≡ spec.end_in_table (name_of name.now) state.old) }
+/// Whether its end tag does nothing in a table.
+fn ends_nothing(tag: TagName) -> bool
+    ensures { result ≡ spec.ends_nothing tag }
 {
-    match name {
-        HtmlName::Known(TagName::Table) => {
-            end_table(state);
-            Ok(())
-        }
-        HtmlName::Known(
-            TagName::Body
+    matches!(
+        tag,
+        TagName::Body
             | TagName::Caption
             | TagName::Col
             | TagName::ColGroup
@@ -268,8 +265,20 @@ pub(crate) fn end_in_table(state: &mut HtmlState, name: &HtmlName) -> Result<(),
             | TagName::TFoot
             | TagName::Th
             | TagName::THead
-            | TagName::Tr,
-        ) => Ok(()),
+            | TagName::Tr
+    )
+}
+
+#[tactic(auto, using(crate::proofs::TableTagLemmas::table_nothing))]
+pub(crate) fn end_in_table(state: &mut HtmlState, name: &HtmlName) -> Result<(), AllocError>
+    ensures { OnOk result (state.new ≡ spec.end_in_table (name_of name.now) state.old) }
+{
+    match name {
+        HtmlName::Known(TagName::Table) => {
+            end_table(state);
+            Ok(())
+        }
+        HtmlName::Known(tag) if ends_nothing(*tag) => Ok(()),
         HtmlName::Known(TagName::Template) => {
             end_template(state);
             Ok(())

@@ -83,6 +83,24 @@ pub(crate) fn start_in_section(
     }
 }
 
+/// Whether its end tag does nothing.
+fn ends_nothing(tag: TagName) -> bool
+    ensures { result ≡ spec.ends_nothing tag }
+{
+    matches!(
+        tag,
+        TagName::Body
+            | TagName::Caption
+            | TagName::Col
+            | TagName::ColGroup
+            | TagName::Html
+            | TagName::Td
+            | TagName::Th
+            | TagName::Tr
+    )
+}
+
+#[tactic(auto, using(crate::proofs::TableTagLemmas::section_nothing))]
 pub(crate) fn end_in_section(state: &mut HtmlState, name: &HtmlName) -> Result<bool, AllocError>
     ensures { IfOk result (λ again. answer state.new again
         ≡ spec.end_in_section (name_of name.now) state.old) }
@@ -93,16 +111,7 @@ pub(crate) fn end_in_section(state: &mut HtmlState, name: &HtmlName) -> Result<b
             Ok(false)
         }
         HtmlName::Known(TagName::Table) => Ok(end_section(state, NameSet::TableSections)),
-        HtmlName::Known(
-            TagName::Body
-            | TagName::Caption
-            | TagName::Col
-            | TagName::ColGroup
-            | TagName::Html
-            | TagName::Td
-            | TagName::Th
-            | TagName::Tr,
-        ) => Ok(false),
+        HtmlName::Known(tag) if ends_nothing(*tag) => Ok(false),
         _ => {
             end_in_table(state, name)?;
             Ok(false)

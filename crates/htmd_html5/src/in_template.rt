@@ -5,7 +5,7 @@ ghost use Rattle.htmd_html5.specs.Answers.{answer};
 ghost use Rattle.htmd_html5.specs.InTemplate as spec;
 ghost use Rattle.htmd_html5.specs.Tokens.{tag_of};
 
-use crate::shared_rules::{end_template, insert_head_element};
+use crate::shared_rules::{end_template, insert_head_element, is_head_tag};
 use crate::tokens::StartTag;
 use htmd_html5_state::{HtmlName, HtmlState, InsertionMode, TagName};
 use std::alloc::AllocError;
@@ -34,6 +34,7 @@ fn mode_of_content(name: &HtmlName) -> InsertionMode
     }
 }
 
+#[tactic(auto, using(crate::proofs::HeadTagLemmas::head_in_template, crate::proofs::HeadTagLemmas::other_in_template))]
 pub(crate) fn start_in_template(
     state: &mut HtmlState,
     tag: StartTag,
@@ -43,18 +44,7 @@ pub(crate) fn start_in_template(
     ensures same { IfOk result (λ again. IfSome again (λ t. tag_of t ≡ tag_of tag)) }
 {
     match tag.name {
-        HtmlName::Known(
-            TagName::Base
-            | TagName::BaseFont
-            | TagName::BgSound
-            | TagName::Link
-            | TagName::Meta
-            | TagName::NoFrames
-            | TagName::Script
-            | TagName::Style
-            | TagName::Template
-            | TagName::Title,
-        ) => {
+        HtmlName::Known(name) if is_head_tag(name) => {
             insert_head_element(state, tag)?;
             Ok(None)
         }

@@ -17,7 +17,7 @@ use std::mem;
 const MAX_DEPTH: usize = 1024;
 
 /// A node that is to come, and its parent in the tree.
-#[derive(Debug, Clone, Copy)]
+#[derive(Clone, Copy)]
 pub(crate) struct Coming {
     node: usize,
     under: NodeId,

@@ -99,6 +99,25 @@ pub(crate) fn end_template(state: &mut HtmlState)
     }
 }
 
+/// Whether it is an element of the head.
+pub(crate) fn is_head_tag(tag: TagName) -> bool
+    ensures { result ≡ spec.is_head_tag tag }
+{
+    matches!(
+        tag,
+        TagName::Base
+            | TagName::BaseFont
+            | TagName::BgSound
+            | TagName::Link
+            | TagName::Meta
+            | TagName::NoFrames
+            | TagName::Script
+            | TagName::Style
+            | TagName::Template
+            | TagName::Title
+    )
+}
+
 /// An element of the head.
 pub(crate) fn insert_head_element(state: &mut HtmlState, tag: StartTag) -> Result<(), AllocError>
     ensures { OnOk result (state.new

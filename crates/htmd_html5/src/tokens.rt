@@ -21,7 +21,7 @@ pub(crate) struct StartTag {
 }
 
 /// What the characters of a run have in common.
-#[derive(Clone, Copy, PartialEq, Eq)]
+#[derive(Clone, Copy)]
 pub(crate) enum RunKind {
     White,
     Nulls,

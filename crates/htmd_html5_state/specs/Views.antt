@@ -1,5 +1,5 @@
 -- What the program's nodes, open elements and entries are.
-use Rattle.std.specs.Prelude.{ℕ, Bool, false, List, [], ◌∷◌, map, string_bytes, Option, Some, None}
+use Rattle.std.specs.Prelude.{ℕ, Bool, true, false, List, [], ◌∷◌, map, string_bytes, Option, Some, None}
 use Rattle.std.specs.Borrow.{Bor}
 use Rattle.htmd_grammar.specs.Attributes.{pairs_of}
 use Rattle.htmd_html5_state.specs.Names.{element_name_of, html, known, same_element_name}
@@ -22,6 +22,10 @@ kind_of (Other e) = element (element_name_of e.value.name) (pairs_of e.value.att
 abbrev pub kind_seen : Option (Bor NodeKind) → KindValue
 kind_seen None = document
 kind_seen (Some kind) = kind_of kind.now
+
+abbrev pub is_element : KindValue → Bool
+is_element (element name attributes) = true
+is_element _ = false
 
 -- whether both are elements with the same name
 abbrev pub have_same_name : KindValue → KindValue → Bool

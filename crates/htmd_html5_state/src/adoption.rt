@@ -4,7 +4,7 @@ ghost use Rattle.htmd_html5_state.specs.Adoption as spec;
 ghost use Rattle.htmd_html5_state.specs.AdoptionViews.{chain_of, closes_newest, round_of_answer, IsCopyAdded};
 ghost use Rattle.htmd_html5_state.specs.Names.{element_name_of};
 ghost use Rattle.htmd_html5_state.specs.OpenElements.{is_open_node};
-ghost use Rattle.htmd_html5_state.specs.OpenViews.{stack_of, furthest_of};
+ghost use Rattle.htmd_html5_state.specs.OpenViews.{open_of, stack_of, furthest_of};
 ghost use Rattle.htmd_html5_state.specs.State.{on_nodes, on_formatting};
 
 use crate::document::last_in;
@@ -68,7 +68,26 @@ impl HtmlState {
         Ok(copy)
     }
 
-    /// Copies the elements between the furthest block and the formatting element, or lets them go.
+    /// Copies an element between the furthest block and the formatting element, or lets it go.
+    fn chain_next(
+        &mut self,
+        left: usize,
+        element: OpenElement,
+        chain: &mut Chain,
+    ) -> Result<(), AllocError>
+        ensures { OnOk result (chain_of chain.new self.new
+            ≡ spec.with_next left (open_of element) (chain_of chain.old self.old)) }
+    {
+        let OpenElement { node, name } = element;
+        if left > 0 && self.formatting.is_listed(node) {
+            let copy = self.copy_into(node, chain.last)?;
+            return chain.add(copy, name);
+        }
+        self.formatting.remove(node);
+        Ok(())
+    }
+
+    /// Copies the elements between, or lets them go.
     fn chain(&mut self, block: usize, mut between: Vec<OpenElement>) -> Result<Chain, AllocError>
         ensures { IfOk result (λ c. chain_of c self.new
             ≡ spec.chain 3 (stack_of between.items) (spec.begin_chain block self.old)) }
@@ -79,13 +98,8 @@ impl HtmlState {
             bookmark: None,
         };
         let mut left = COPIED;
-        while let Some(OpenElement { node, name }) = between.pop() {
-            if left > 0 && self.formatting.is_listed(node) {
-                let copy = self.copy_into(node, chain.last)?;
-                chain.add(copy, name)?;
-            } else {
-                self.formatting.remove(node);
-            }
+        while let Some(element) = between.pop() {
+            self.chain_next(left, element, &mut chain)?;
             left = left.saturating_sub(1);
         }
         Ok(chain)

@@ -6,7 +6,7 @@ use std::alloc::{AllocError, Global};
 use std::slice;
 
 /// The numbers of the children of a node, in order. Most nodes have few, which need no memory of their own.
-#[derive(Debug, Drop)]
+#[derive(Drop)]
 pub enum Children {
     None,
     One(u32),
@@ -41,21 +41,39 @@ impl Children {
         Ok(numbers)
     }
 
+    /// More than three children: these, with a new one before the one at this place.
+    fn with(&self, alloc: Global, index: usize, child: u32) -> Result<Children, AllocError>
+        requires { index ≤ length (numbers_of self.now) }
+        ensures { IfOk result (λ more. numbers_of more ≡ insert (numbers_of self.now) index child) }
+    {
+        let mut numbers = self.spread(alloc)?;
+        numbers.insert(index, child)?;
+        Ok(Children::More(Box::new(alloc, numbers)?))
+    }
+
+    /// These, with a new last child.
+    #[tactic(auto, using(crate::proofs::DocumentLemmas::insert_last))]
+    #[inline(always)]
+    fn with_last(&self, alloc: Global, child: u32) -> Result<Children, AllocError>
+        ensures { IfOk result (λ more. numbers_of more ≡ numbers_of self.now ++ child ∷ []) }
+    {
+        match self {
+            Children::None => Ok(Children::One(child)),
+            Children::One(first) => Ok(Children::Two([*first, child])),
+            Children::Two(numbers) => Ok(Children::Three([numbers[0], numbers[1], child])),
+            _ => self.with(alloc, self.as_slice().len(), child),
+        }
+    }
+
     /// A new last child.
     pub(crate) fn push(&mut self, alloc: Global, child: u32) -> Result<(), AllocError>
         ensures { OnOk result (numbers_of self.new ≡ numbers_of self.old ++ child ∷ []) }
     {
-        match self {
-            Children::None => *self = Children::One(child),
-            Children::One(first) => *self = Children::Two([*first, child]),
-            Children::Two(numbers) => *self = Children::Three([numbers[0], numbers[1], child]),
-            Children::Three(_) => {
-                let mut numbers = self.spread(alloc)?;
-                numbers.push(child)?;
-                *self = Children::More(Box::new(alloc, numbers)?);
-            }
-            Children::More(numbers) => numbers.push(child)?,
+        if let Children::More(numbers) = self {
+            numbers.push(child)?;
+            return Ok(());
         }
+        *self = self.with_last(alloc, child)?;
         Ok(())
     }
 
@@ -83,9 +101,7 @@ impl Children {
             numbers.insert(index, child)?;
             return Ok(());
         }
-        let mut numbers = self.spread(alloc)?;
-        numbers.insert(index, child)?;
-        *self = Children::More(Box::new(alloc, numbers)?);
+        *self = self.with(alloc, index, child)?;
         Ok(())
     }
 
@@ -94,24 +110,23 @@ impl Children {
         requires { index < length (numbers_of self.old) }
         ensures { numbers_of self.new ≡ remove (numbers_of self.old) index }
     {
-        match self {
+        let left = match self {
             Children::None => unreachable!(),
-            Children::One(_) => *self = Children::None,
-            Children::Two(numbers) => {
-                let left = if index == 0 { numbers[1] } else { numbers[0] };
-                *self = Children::One(left);
-            }
-            Children::Three(numbers) => {
-                let left = match index {
-                    0 => [numbers[1], numbers[2]],
-                    1 => [numbers[0], numbers[2]],
-                    _ => [numbers[0], numbers[1]],
-                };
-                *self = Children::Two(left);
-            }
+            Children::One(_) => Children::None,
+            Children::Two(numbers) => match index {
+                0 => Children::One(numbers[1]),
+                _ => Children::One(numbers[0]),
+            },
+            Children::Three(numbers) => match index {
+                0 => Children::Two([numbers[1], numbers[2]]),
+                1 => Children::Two([numbers[0], numbers[2]]),
+                _ => Children::Two([numbers[0], numbers[1]]),
+            },
             Children::More(numbers) => {
                 numbers.remove(index);
+                return;
             }
-        }
+        };
+        *self = left;
     }
 }

@@ -1,8 +1,8 @@
 //! Documents while they are made: nodes by number, each with its parent and its children.
-ghost use Rattle.std.specs.Prelude.{◌≡◌, ◌∷◌, ◌++◌, ◌≤◌, [], insert, length, string_bytes, IfOk, OnOk, MatchBool, Some, None};
+ghost use Rattle.std.specs.Prelude.{◌≡◌, ◌∷◌, ◌++◌, ◌≤◌, [], insert, length, string_bytes, IfOk, OnOk, MatchBool, MatchOption, Some, None, false};
 ghost use Rattle.htmd_html5_state.specs.Documents as spec;
 ghost use Rattle.htmd_html5_state.specs.Names.{element_name_of};
-ghost use Rattle.htmd_html5_state.specs.Views.{kind_of, kind_seen, nodes_of, numbers_of};
+ghost use Rattle.htmd_html5_state.specs.Views.{is_element, kind_of, kind_seen, nodes_of, numbers_of};
 ghost use Rattle.htmd_grammar.specs.Attributes.{pairs_of};
 
 use crate::attributes::{add_missing, copy_all};
@@ -14,7 +14,7 @@ use std::marker::Model;
 use std::mem;
 
 /// What a node is.
-#[derive(Debug, Drop)]
+#[derive(Drop)]
 pub enum NodeKind {
     Document,
     Doctype,
@@ -29,14 +29,14 @@ pub enum NodeKind {
 }
 
 /// An element with another name, or in foreign content.
-#[derive(Debug, Drop)]
+#[derive(Drop)]
 pub struct OtherElement {
     pub name: ElementName,
     pub attributes: Vec<Attribute>,
 }
 
 /// A node, with the numbers of its parent and its children, which are kept in little room.
-#[derive(Debug, Drop)]
+#[derive(Drop)]
 pub struct Node {
     pub kind: NodeKind,
     pub parent: Option<u32>,
@@ -176,7 +176,24 @@ impl NodeKind {
         }
     }
 
-    fn copy(&self, alloc: Global) -> Result<NodeKind, AllocError>
+    /// A copy of the element, if it is one.
+    fn element_copy(&self, alloc: Global) -> Result<Option<OtherElement>, AllocError>
+        ensures { IfOk result (λ copy. MatchOption copy (is_element (kind_of self.now) ≡ false)
+            (λ e. kind_of self.now ≡ spec.element (element_name_of e.name) (pairs_of e.attributes.items))) }
+    {
+        match self {
+            NodeKind::Known { name, attributes } => Ok(Some(OtherElement {
+                name: ElementName::Html(HtmlName::Known(*name)),
+                attributes: copy_all(alloc, attributes)?,
+            })),
+            NodeKind::Other(element) => Ok(Some(element.copy(alloc)?)),
+            _ => Ok(None),
+        }
+    }
+
+    /// A copy of what is no element.
+    fn plain_copy(&self) -> Result<NodeKind, AllocError>
+        requires { is_element (kind_of self.now) ≡ false }
         ensures { IfOk result (λ copy. kind_of copy ≡ kind_of self.now) }
     {
         match self {
@@ -184,14 +201,16 @@ impl NodeKind {
             NodeKind::Doctype => Ok(NodeKind::Doctype),
             NodeKind::Text(text) => Ok(NodeKind::Text(text.clone()?)),
             NodeKind::Comment(text) => Ok(NodeKind::Comment(text.clone()?)),
-            NodeKind::Known { name, attributes } => Ok(NodeKind::Known {
-                name: *name,
-                attributes: copy_all(alloc, attributes)?,
-            }),
-            NodeKind::Other(element) => {
-                let copy = element.copy(alloc)?;
-                Ok(NodeKind::Other(Box::new(alloc, copy)?))
-            }
+            _ => unreachable!(),
+        }
+    }
+
+    fn copy(&self, alloc: Global) -> Result<NodeKind, AllocError>
+        ensures { IfOk result (λ copy. kind_of copy ≡ kind_of self.now) }
+    {
+        match self.element_copy(alloc)? {
+            Some(copy) => NodeKind::element(alloc, copy.name, copy.attributes),
+            None => self.plain_copy(),
         }
     }
 }
@@ -243,6 +262,17 @@ impl Document {
         match self.nodes.get(node) {
             Some(node) => Some(&node.kind),
             None => None,
+        }
+    }
+
+    /// A copy of a node, if it is an element.
+    pub(crate) fn element_copy(&self, node: usize) -> Result<Option<OtherElement>, AllocError>
+        ensures { IfOk result (λ copy. MatchOption copy (is_element (spec.kind_at self.now node) ≡ false)
+            (λ e. spec.kind_at self.now node ≡ spec.element (element_name_of e.name) (pairs_of e.attributes.items))) }
+    {
+        match self.kind(node) {
+            Some(kind) => kind.element_copy(self.alloc),
+            None => Ok(None),
         }
     }
 

@@ -4,9 +4,7 @@ ghost use Rattle.htmd_html5_state.specs.Formatting as spec;
 ghost use Rattle.htmd_html5_state.specs.Names.{name_of};
 ghost use Rattle.htmd_grammar.specs.Attributes.{pairs_of};
 
-use crate::attributes::copy_all;
-use crate::document::NodeKind;
-use crate::names::{ElementName, HtmlName};
+use crate::names::HtmlName;
 use crate::state::HtmlState;
 use htmd_grammar::Attribute;
 use std::alloc::AllocError;
@@ -29,18 +27,8 @@ impl HtmlState {
     fn insert_like(&mut self, node: usize) -> Result<(), AllocError>
         ensures { OnOk result (self.new ≡ spec.insert_copy node self.old) }
     {
-        match self.document.kind(node) {
-            Some(NodeKind::Known { name, attributes }) => {
-                let name = ElementName::Html(HtmlName::Known(*name));
-                let attributes = copy_all(self.alloc, attributes)?;
-                self.insert_named(name, attributes)?;
-            }
-            Some(NodeKind::Other(element)) => {
-                let name = element.name.copy()?;
-                let attributes = copy_all(self.alloc, &element.attributes)?;
-                self.insert_named(name, attributes)?;
-            }
-            _ => {}
+        if let Some(element) = self.document.element_copy(node)? {
+            self.insert_named(element.name, element.attributes)?;
         }
         Ok(())
     }

@@ -1,7 +1,7 @@
 //! The insertion modes.
 
 /// An insertion mode.
-#[derive(Debug, Clone, Copy, PartialEq, Eq)]
+#[derive(Clone, Copy)]
 pub enum InsertionMode {
     Initial,
     BeforeHtml,

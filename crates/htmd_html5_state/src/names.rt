@@ -9,7 +9,7 @@ use std::alloc::{AllocError, Global};
 use std::borrow::CowStr;
 
 /// A name of HTML that a rule of parsing mentions.
-#[derive(Debug, Clone, Copy, PartialEq, Eq)]
+#[derive(Clone, Copy)]
 pub enum TagName {
     A,
     Address,
@@ -249,14 +249,14 @@ static SPELLINGS: [&str; TAGS] = [
 ];
 
 /// A name of HTML.
-#[derive(Debug, PartialEq, Eq, Drop)]
+#[derive(Drop)]
 pub enum HtmlName {
     Known(TagName),
     Other(String),
 }
 
 /// The name of an element, with its namespace.
-#[derive(Debug, PartialEq, Eq, Drop)]
+#[derive(Drop)]
 pub enum ElementName {
     Html(HtmlName),
     Svg(String),
@@ -264,7 +264,7 @@ pub enum ElementName {
 }
 
 /// A namespace of foreign content.
-#[derive(Debug, Clone, Copy, PartialEq, Eq)]
+#[derive(Clone, Copy)]
 pub enum Namespace {
     Svg,
     MathMl,
@@ -580,7 +580,7 @@ impl TagName {
     pub(crate) fn is(self, other: TagName) -> bool
         ensures { result ≡ spec.same_tag self other }
     {
-        self == other
+        self.number() == other.number()
     }
 
     /// Its number among the known names.

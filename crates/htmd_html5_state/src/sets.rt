@@ -8,7 +8,7 @@ ghost use Rattle.htmd_html5_state.specs.Sets as spec;
 use crate::names::{ElementName, HtmlName, TagName};
 
 /// A set of names of HTML.
-#[derive(Debug, Clone, Copy)]
+#[derive(Clone, Copy)]
 pub enum NameSet {
     Only(TagName),
     Headings,
@@ -32,7 +32,7 @@ pub enum NameSet {
 }
 
 /// What a search in the stack of open elements doesn't leave.
-#[derive(Debug, Clone, Copy)]
+#[derive(Clone, Copy)]
 pub enum Scope {
     Default,
     ListItem,

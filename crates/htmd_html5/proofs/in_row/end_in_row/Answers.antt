@@ -1,0 +1,12 @@
+-- Other names are read as in a table.
+use Rattle.std.proofs.Common.{◌≡◌, ◌∙◌, false, ap, rules}
+use Rattle.htmd_html5_state.specs.Names.{name_of}
+use Rattle.htmd_html5.specs.Answers.{done}
+use Rattle.htmd_html5.proofs.TableTagLemmas.{is_end_in_row, row_other_end}
+use Rattle.htmd_html5.proofs.in_row.end_in_row.Goals as goal
+
+pub returns-in_ok-end_in_table-in_default : goal.returns-in_ok-end_in_table-in_default
+returns-in_ok-end_in_table-in_default c =
+    let none : is_end_in_row (name_of c.args.name.now) ≡ false = search rules in
+    ap done c.in_ok-end_in_table-in_default.ensures
+    ∙ row_other_end (name_of c.args.name.now) c.args.state.now none
