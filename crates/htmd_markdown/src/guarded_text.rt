@@ -180,10 +180,16 @@ fn is_item_sign_at(bytes: &[u8], place: usize) -> bool
     ensures { result ≡ (spec.is_delimiter (slice_index bytes.now place)
         && spec.ends_or_has_space (drop (place + 1) bytes.now)) }
 {
-    match &bytes[place..] {
-        [b'.' | b')', rest @ ..] => matches!(rest, [] | [b' ', ..]),
-        _ => false,
-    }
+    place < bytes.len()
+        && matches!(bytes[place], b'.' | b')')
+        && ends_or_has_space(&bytes[place + 1..])
+}
+
+/// Whether the text ends here, or has a space.
+fn ends_or_has_space(rest: &[u8]) -> bool
+    ensures { result ≡ spec.ends_or_has_space rest.now }
+{
+    matches!(rest, [] | [b' ', ..])
 }
 
 /// Whether such a character is there, or the `:-` of a table's line of dashes.
