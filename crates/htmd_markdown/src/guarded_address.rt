@@ -74,8 +74,7 @@ pub(crate) fn push_guarded(
             from = i;
         }
     }
-    out.push_str(&text[from..])?;
-    Ok(())
+    out.push_str(&text[from..])
 }
 
 /// Whether a backslash goes before this place.

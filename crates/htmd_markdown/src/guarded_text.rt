@@ -89,8 +89,7 @@ pub fn push_guarded_text(out: &mut String, text: &str, begins_line: bool) -> Res
             from = i;
         }
     }
-    out.push_str(&text[from..])?;
-    Ok(())
+    out.push_str(&text[from..])
 }
 
 /// Whether a character may get a backslash wherever it stands. All bytes are looked at, so that a processor can compare
