@@ -16,19 +16,11 @@ pub(crate) fn all_text(alloc: Global, element: &Element) -> Result<String, Alloc
     ensures { IfOk result (λ text. string_bytes text ≡ spec.all_text_of (element_view element.now)) }
 {
     let mut out = String::new(alloc);
-    push_all_text(&mut out, element)?;
-    Ok(out)
-}
-
-/// Appends all text of an element.
-fn push_all_text(out: &mut String, element: &Element) -> Result<(), AllocError>
-    ensures { OnOk result
-        (string_bytes out.new ≡ string_bytes out.old ++ spec.all_text_of (element_view element.now)) }
-{
     match element.text {
-        Some(text) => out.push_str(text),
-        None => push_text_below(out, element.tree, element.node),
+        Some(text) => out.push_str(text)?,
+        None => push_text_below(&mut out, element.tree, element.node)?,
     }
+    Ok(out)
 }
 
 /// Appends the texts below a node, and a line feed for each `br`.

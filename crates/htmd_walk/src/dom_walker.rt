@@ -149,15 +149,6 @@ impl<'a, R: Registry> Walk<'a, R> {
         if joined.is_some() {
             return None;
         }
-        self.known(node)
-    }
-
-    /// What is remembered of a node.
-    fn known(&self, node: NodeId) -> Option<&Remembered>
-        ensures { IfSome result (λ known.
-            AlwaysGives (conversion_of (R.config self.now.registry.now) self.now.tree.now) node
-            (optional_result known.now.result)) }
-    {
         let Ok(at) = self
             .remembered
             .binary_search_by_key(&node, |known| known.node)
@@ -191,30 +182,13 @@ impl<'a, R: Registry> Walk<'a, R> {
             (AreRemembered (R.config self.now.registry.now) self.now.tree.now remembered.new.items) }
     {
         if adds_none {
-            self.remember(node, &given, remembered)?;
+            let result = copied(self.alloc, &given)?;
+            remembered.push(Remembered { node, result })?;
         }
         let mut out = empty_result(self.alloc, self.spare);
         let is_guarded = is_guarded(self.registry.options());
         append_result(&mut out, given, whole, is_guarded, self.alloc, self.spare)?;
         Ok(out)
-    }
-
-    /// Remembers what an element gives by itself.
-    fn remember(
-        &self,
-        node: NodeId,
-        given: &Option<HandlerResult>,
-        remembered: &mut Vec<Remembered>,
-    ) -> Result<(), AllocError>
-        requires right { AlwaysGives (conversion_of (R.config self.now.registry.now) self.now.tree.now) node
-            (optional_result given.now) }
-        requires remembered { AreRemembered (R.config self.now.registry.now) self.now.tree.now remembered.old.items }
-        ensures { OnOk result
-            (AreRemembered (R.config self.now.registry.now) self.now.tree.now remembered.new.items) }
-    {
-        let result = copied(self.alloc, given)?;
-        remembered.push(Remembered { node, result })?;
-        Ok(())
     }
 
     /// In Guarded, whether what is below an element is written in one line.

@@ -145,24 +145,9 @@ fn refer_guarded(
 {
     let number = links.lines.len() + 1;
     let reference = write_guarded_reference(alloc, number, content)?;
-    define_guarded(alloc, number, target, links)?;
-    Ok(reference)
-}
-
-/// Puts the definition of a reference after those of the conversion so far, as Guarded writes it.
-fn define_guarded(
-    alloc: Global,
-    number: usize,
-    target: Target,
-    links: &mut Links,
-) -> Result<(), AllocError>
-    ensures { OnOk result (links.new ≡ links.old
-        ++ guarded.guarded_definition number target.entry.address.now (option_copied target.entry.title)
-        ∷ []) }
-{
     let line = write_guarded_definition(alloc, number, target.address, target.title)?;
     links.lines.push(line)?;
-    Ok(())
+    Ok(reference)
 }
 
 /// The content as a link of Guarded.
