@@ -2,7 +2,7 @@
 ghost use Rattle.std.specs.Prelude.{◌≡◌, ◌++◌, false, IfOk, IfSome, OnOk, codes, string_bytes};
 ghost use Rattle.std.specs.Fmt.{decimal};
 ghost use Rattle.std.specs.Option.{option_copied, option_map};
-ghost use Rattle.htmd_markdown.specs.Addresses.{escaped_address, holds_backslash, HoldsAddress};
+ghost use Rattle.htmd_markdown.specs.Addresses.{holds_backslash, HoldsAddress};
 ghost use Rattle.htmd_markdown.specs.Links as spec;
 ghost use Rattle.htmd_markdown.specs.Titles.{title_text};
 
@@ -90,30 +90,10 @@ pub fn write_inline_link(
         .saturating_add(words)
         .saturating_add(MARKS_AROUND);
     let mut link = String::with_capacity(alloc, room)?;
-    push_inline_link(
-        &mut link,
-        content,
-        address,
-        title,
-        white_space.unwrap_or(""),
-    )?;
+    push_in_brackets(&mut link, content)?;
+    push_resource(&mut link, address, title)?;
+    link.push_str(white_space.unwrap_or(""))?;
     Ok(link)
-}
-
-/// Appends a link around the content, and the white space after it.
-fn push_inline_link(
-    out: &mut String,
-    content: &str,
-    address: &str,
-    title: Option<&str>,
-    white_space: &str,
-) -> Result<(), AllocError>
-    ensures { OnOk result (string_bytes out.new ≡ string_bytes out.old
-        ++ spec.in_brackets content.now ++ spec.resource address.now (option_copied title.entry) ++ white_space.now) }
-{
-    push_in_brackets(out, content)?;
-    push_resource(out, address, title)?;
-    out.push_str(white_space)
 }
 
 /// An autolink, if the content is the address as it is written. `Err` means out of memory.
@@ -172,37 +152,16 @@ pub fn write_definition(
         (title_text (option_copied title.entry)) (string_bytes s)) }
 {
     let mut line = String::with_capacity(alloc, content.len() + 24)?;
-    push_label(&mut line, style, number, content)?;
-    push_target(&mut line, address, title)?;
-    Ok(line)
-}
-
-/// Appends the label of a definition between brackets.
-fn push_label(
-    out: &mut String,
-    style: LinkReferenceStyle,
-    number: usize,
-    content: &str,
-) -> Result<(), AllocError>
-    ensures { OnOk result (string_bytes out.new
-        ≡ string_bytes out.old ++ spec.in_brackets (spec.label style number content.now)) }
-{
     match style {
-        LinkReferenceStyle::Full => push_number_in_brackets(out, number),
+        LinkReferenceStyle::Full => push_number_in_brackets(&mut line, number)?,
         LinkReferenceStyle::Collapsed | LinkReferenceStyle::Shortcut => {
-            push_in_brackets(out, content)
+            push_in_brackets(&mut line, content)?
         }
     }
-}
-
-/// Appends the address and the title of a definition.
-fn push_target(out: &mut String, address: &str, title: Option<&str>) -> Result<(), AllocError>
-    ensures { OnOk result (string_bytes out.new ≡ string_bytes out.old
-        ++ codes ": " ++ escaped_address address.now ++ title_text (option_copied title.entry)) }
-{
-    out.push_str(": ")?;
-    push_address(out, address)?;
-    push_title(out, title)
+    line.push_str(": ")?;
+    push_address(&mut line, address)?;
+    push_title(&mut line, title)?;
+    Ok(line)
 }
 
 /// Appends the text between brackets.

@@ -14,4 +14,4 @@ pub returns-clause-address : goal.returns-clause-address
 returns-clause-address c =
     let start = definition_start c.args.style c.args.number c.args.content.now in
     λ none. holds_address start c.args.address.now (title_text (option_copied c.args.title))
-    (string_bytes c.push_target.new.out) none (returns-clause-text c)
+    (string_bytes c.push_title.new.out) none (returns-clause-text c)

@@ -16,4 +16,4 @@ returns-clause-address c =
     let address = c.args.address.now in
     let title = option_copied c.args.title in
     λ none. holds_address (inline_link_start content address) address (inline_link_end content address title)
-    (string_bytes c.push_inline_link.new.out) none (returns-clause-text c ∙ inline_link-parts content address title)
+    (string_bytes c.push_str.new.self) none (returns-clause-text c ∙ inline_link-parts content address title)
