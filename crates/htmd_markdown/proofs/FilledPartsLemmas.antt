@@ -1,7 +1,7 @@
 -- Parts of a text that are written one by one, empty ones left out, with a space between each two.
 use Rattle.std.proofs.Common.{◌≡◌, ℕ, ◌+◌, ◌<◌, Bool, true, false, List, [], ◌∷◌, ◌++◌, length, get_or, take, map, refl}
 use Rattle.std.proofs.Common.{sym, ap, ◌∙◌, arith, append_assoc}
-use Rattle.std.specs.Prelude.{◌==◌, filter}
+use Rattle.std.specs.Prelude.{◌==◌, not, filter}
 use Rattle.std.proofs.lemmas.Bool.Decides.{nat_tests}
 use Rattle.std.proofs.lemmas.List.{take_more, map_push, map-id, append-nil, length_push}
 use Rattle.std.proofs.lemmas.List.Elements.{filter-append}
@@ -10,6 +10,7 @@ use Rattle.htmd_text.specs.Joins.{joined_texts}
 use Rattle.htmd_text.specs.Trims.{is_space}
 use Rattle.htmd_text.proofs.JoinsLemmas.{item_joined}
 use Rattle.htmd_text.proofs.TrimsLemmas.{OfAscii}
+use Rattle.htmd_markdown.specs.CodeSpans.{space_if}
 use Rattle.htmd_markdown.specs.Titles.{is_filled}
 
 pub space_of_ascii : OfAscii is_space
@@ -72,7 +73,7 @@ joining_empty cut parts before out is_first n x here empty was =
       begun = was.begun ∙ ap (λ l. length l == 0) (sym same);
     }
 
-pub joining_first : (cut : List ℕ → List ℕ) (parts : List (List ℕ)) (before out : List ℕ) (is_first : Bool)
+joining_first : (cut : List ℕ → List ℕ) (parts : List (List ℕ)) (before out : List ℕ) (is_first : Bool)
     (n : ℕ) (x : List ℕ)
     → (n < length parts) × (x ≡ get_or parts n x) → (length (cut x) == 0) ≡ false
     → is_first ≡ true → Joining cut parts before out is_first n
@@ -89,7 +90,7 @@ joining_first cut parts before out is_first n x here some first was =
       begun = sym (ap (λ l. length l == 0) one);
     }
 
-pub joining_later : (cut : List ℕ → List ℕ) (parts : List (List ℕ)) (before out : List ℕ) (is_first : Bool)
+joining_later : (cut : List ℕ → List ℕ) (parts : List (List ℕ)) (before out : List ℕ) (is_first : Bool)
     (n : ℕ) (x : List ℕ)
     → (n < length parts) × (x ≡ get_or parts n x) → (length (cut x) == 0) ≡ false
     → is_first ≡ false → Joining cut parts before out is_first n
@@ -108,3 +109,14 @@ joining_later cut parts before out is_first n x here some later was =
       out_is = rw (more, plain, was.out_is) (simp append_assoc);
       begun = some_more ours (cut x) ∙ ap (λ l. length l == 0) (sym more);
     }
+
+-- one more part that is not empty, after a space unless it is the first
+pub joining_filled : (cut : List ℕ → List ℕ) (parts : List (List ℕ)) (before out : List ℕ) (is_first : Bool)
+    (n : ℕ) (x : List ℕ)
+    → (n < length parts) × (x ≡ get_or parts n x) → (length (cut x) == 0) ≡ false
+    → Joining cut parts before out is_first n
+    → Joining cut parts before ((out ++ space_if (not is_first)) ++ cut x) false (n + 1)
+joining_filled cut parts before out true n x here some was =
+    rw (append-nil out) (joining_first cut parts before out true n x here some refl was)
+joining_filled cut parts before out false n x here some was =
+    joining_later cut parts before out false n x here some refl was

@@ -38,8 +38,7 @@ pub(crate) fn push_escaped(
             from = i;
         }
     }
-    out.push_str(&text[from..])?;
-    Ok(())
+    out.push_str(&text[from..])
 }
 
 /// Whether the byte is one of these.

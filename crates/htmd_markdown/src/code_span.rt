@@ -70,14 +70,21 @@ fn push_delimited(out: &mut String, text: &str, preformatted_code: bool) -> Resu
     out.reserve(room.saturating_add(MOST_SPACES))?;
     push_repeated(out, '`', delimiter)?;
     push_space_if(out, padded)?;
-    if preformatted_code {
-        push_in_one_line(out, text)?;
-    } else {
-        out.push_str(text)?;
-    }
+    push_content(out, text, preformatted_code)?;
     push_space_if(out, padded)?;
-    push_repeated(out, '`', delimiter)?;
-    Ok(())
+    push_repeated(out, '`', delimiter)
+}
+
+/// Appends the text, in one line with `preformatted_code`.
+fn push_content(out: &mut String, text: &str, preformatted_code: bool) -> Result<(), AllocError>
+    ensures { OnOk result (string_bytes out.new ≡ string_bytes out.old
+        ++ (if preformatted_code then spec.in_one_line text.now else text.now)) }
+{
+    if preformatted_code {
+        push_in_one_line(out, text)
+    } else {
+        out.push_str(text)
+    }
 }
 
 /// How many backquotes are before and after the text.

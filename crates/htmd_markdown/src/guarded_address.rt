@@ -1,6 +1,6 @@
 //! The address of a link or image, written so that a reader finds it again (CommonMark 0.31.2, 6.3), and backslashes
 //! before some characters and before what looks like a character reference.
-ghost use Rattle.std.specs.Prelude.{◌≡◌, ◌<◌, ◌++◌, IsTrue, OnOk, length, string_bytes};
+ghost use Rattle.std.specs.Prelude.{◌≡◌, ◌<◌, [], ◌++◌, if◌then◌else◌, IsTrue, OnOk, codes, length, string_bytes};
 ghost use Rattle.std.specs.Char.{is_ascii};
 ghost use Rattle.std.specs.List.{list_all};
 ghost use Rattle.htmd_markdown.specs.GuardedAddresses as spec;
@@ -21,12 +21,23 @@ pub(crate) fn push_guarded_destination(
         (string_bytes out.new ≡ string_bytes out.old ++ spec.guarded_destination address.now) }
 {
     let bare = with_line_ends_as(alloc, address, "")?;
-    let bare = bare.as_ref();
-    let is_apart = needs_brackets(bare);
-    out.push_str(if is_apart { "<" } else { "" })?;
+    push_bare(out, bare.as_ref())
+}
+
+/// Appends the address, which has no line ends, its delimiters after backslashes; between `<` and `>` if it needs them.
+fn push_bare(out: &mut String, bare: &str) -> Result<(), AllocError>
+    ensures { let is_apart = spec.needs_brackets bare.now in
+        let opening = if is_apart then codes "<" else [] in
+        let closing = if is_apart then codes ">" else [] in
+        OnOk result (string_bytes out.new ≡ string_bytes out.old
+        ++ (opening ++ spec.guarded_among (codes "\\()<>") bare.now) ++ closing) }
+{
+    if !needs_brackets(bare) {
+        return push_guarded(out, bare, b"\\()<>");
+    }
+    out.push('<')?;
     push_guarded(out, bare, b"\\()<>")?;
-    out.push_str(if is_apart { ">" } else { "" })?;
-    Ok(())
+    out.push('>')
 }
 
 /// Whether a destination stands between `<` and `>`.
@@ -63,8 +74,7 @@ pub(crate) fn push_guarded(
             from = i;
         }
     }
-    out.push_str(&text[from..])?;
-    Ok(())
+    out.push_str(&text[from..])
 }
 
 /// Whether a backslash goes before this place.

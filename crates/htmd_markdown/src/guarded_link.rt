@@ -41,11 +41,25 @@ pub fn write_guarded_image(
         (title_line title.now) (codes "\")") (string_bytes s))) }
 {
     let mut image = String::with_capacity(alloc, address.len().saturating_add(8))?;
-    image.push_str("![")?;
-    push_guarded_description(alloc, &mut image, alt)?;
-    image.push(']')?;
-    push_guarded_resource(alloc, &mut image, address, title)?;
+    push_guarded_image(alloc, &mut image, address, alt, title)?;
     Ok(image)
+}
+
+/// Appends an image, its description in one line as text.
+fn push_guarded_image(
+    alloc: Global,
+    out: &mut String,
+    address: &str,
+    alt: Option<&str>,
+    title: Option<&str>,
+) -> Result<(), AllocError>
+    ensures { OnOk result (string_bytes out.new ≡ string_bytes out.old
+        ++ spec.guarded_image address.now (option_copied alt.entry) (option_copied title.entry)) }
+{
+    out.push_str("![")?;
+    push_guarded_description(alloc, out, alt)?;
+    out.push(']')?;
+    push_guarded_resource(alloc, out, address, title)
 }
 
 /// A link around the content in one line. White space at the content's ends stands outside of the link, as one space.

@@ -89,8 +89,7 @@ pub fn push_guarded_text(out: &mut String, text: &str, begins_line: bool) -> Res
             from = i;
         }
     }
-    out.push_str(&text[from..])?;
-    Ok(())
+    out.push_str(&text[from..])
 }
 
 /// Whether a character may get a backslash wherever it stands. All bytes are looked at, so that a processor can compare
@@ -180,10 +179,16 @@ fn is_item_sign_at(bytes: &[u8], place: usize) -> bool
     ensures { result ≡ (spec.is_delimiter (slice_index bytes.now place)
         && spec.ends_or_has_space (drop (place + 1) bytes.now)) }
 {
-    match &bytes[place..] {
-        [b'.' | b')', rest @ ..] => matches!(rest, [] | [b' ', ..]),
-        _ => false,
-    }
+    place < bytes.len()
+        && matches!(bytes[place], b'.' | b')')
+        && ends_or_has_space(&bytes[place + 1..])
+}
+
+/// Whether the text ends here, or has a space.
+fn ends_or_has_space(rest: &[u8]) -> bool
+    ensures { result ≡ spec.ends_or_has_space rest.now }
+{
+    matches!(rest, [] | [b' ', ..])
 }
 
 /// Whether such a character is there, or the `:-` of a table's line of dashes.

@@ -3,6 +3,7 @@ ghost use Rattle.std.specs.Prelude.{◌≡◌, ◌++◌, IfOk, OnOk, string_byte
 ghost use Rattle.std.specs.Option.{option_copied};
 ghost use Rattle.htmd_markdown.specs.GuardedTitles as spec;
 
+use crate::code_span::push_space_if;
 use crate::guarded_address::push_guarded;
 use crate::line_ends::push_with_line_ends_as;
 use htmd_text::TrimDocumentWhitespace;
@@ -36,9 +37,7 @@ fn title_line(alloc: Global, title: &str) -> Result<String, AllocError>
     for part in title.split('\n') {
         let part = part.trim_document_whitespace();
         if !part.is_empty() {
-            if !is_first {
-                line.push(' ')?;
-            }
+            push_space_if(&mut line, !is_first)?;
             push_with_line_ends_as(&mut line, part, " ")?;
             is_first = false;
         }

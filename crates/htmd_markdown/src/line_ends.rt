@@ -48,8 +48,7 @@ pub(crate) fn push_with_line_ends_as(
             from = i + 1;
         }
     }
-    out.push_str(&text[from..])?;
-    Ok(())
+    out.push_str(&text[from..])
 }
 
 /// What is in place of the first byte, if that is not the byte itself: of a carriage return and a line feed, the second

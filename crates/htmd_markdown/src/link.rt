@@ -47,11 +47,24 @@ pub fn write_image(
         .saturating_add(words)
         .saturating_add(MARKS_AROUND);
     let mut image = String::with_capacity(alloc, room)?;
-    image.push_str("![")?;
-    push_description(&mut image, alt)?;
-    image.push(']')?;
-    push_resource(&mut image, address, title)?;
+    push_image(&mut image, address, alt, title)?;
     Ok(image)
+}
+
+/// Appends an image with its description and title.
+fn push_image(
+    out: &mut String,
+    address: &str,
+    alt: Option<&str>,
+    title: Option<&str>,
+) -> Result<(), AllocError>
+    ensures { OnOk result (string_bytes out.new ≡ string_bytes out.old
+        ++ spec.image address.now (option_copied alt.entry) (option_copied title.entry)) }
+{
+    out.push_str("![")?;
+    push_description(out, alt)?;
+    out.push(']')?;
+    push_resource(out, address, title)
 }
 
 /// A link around the content. White space at the content's start goes, and white space at its end stands after the

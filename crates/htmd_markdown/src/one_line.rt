@@ -3,6 +3,7 @@ ghost use Rattle.std.specs.Prelude.{◌≡◌, ◌++◌, false, IfOk, OnOk, stri
 ghost use Rattle.htmd_text.specs.Trims.{trimmed_text, is_space};
 ghost use Rattle.htmd_markdown.specs.OneLine as spec;
 
+use crate::code_span::push_space_if;
 use htmd_text::runs::{leading_len, trailing_len};
 use std::alloc::{AllocError, Global};
 
@@ -27,9 +28,7 @@ pub(crate) fn push_one_line(out: &mut String, text: &str) -> Result<(), AllocErr
     for part in text.split('\n') {
         let part = without_spaces_around(part);
         if !part.is_empty() {
-            if !is_first {
-                out.push(' ')?;
-            }
+            push_space_if(out, !is_first)?;
             out.push_str(part)?;
             is_first = false;
         }

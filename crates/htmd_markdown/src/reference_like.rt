@@ -15,11 +15,20 @@ fn behind_name_or_number(rest: &[u8]) -> Option<u8>
     ensures { result ≡ spec.behind_name_or_number rest.now }
 {
     match rest {
-        [b'#', b'x' | b'X', digits @ ..] => behind_hexadecimal_digits(digits),
-        [b'#', digits @ ..] => behind_digits(digits),
+        [b'#', number @ ..] => behind_number(number),
         [first, name @ ..] if first.is_ascii_alphabetic() => behind_alphanumerics(name),
         [other, ..] => Some(*other),
         [] => None,
+    }
+}
+
+/// The same after a `#`.
+fn behind_number(number: &[u8]) -> Option<u8>
+    ensures { result ≡ spec.behind_number number.now }
+{
+    match number {
+        [b'x' | b'X', digits @ ..] => behind_hexadecimal_digits(digits),
+        digits => behind_digits(digits),
     }
 }
 

@@ -115,6 +115,14 @@ writing_all marked s out from i past was =
     rw piece (ap (λ l. out ++ l) (sym (append-nil (between from i s)) ∙ ap (λ l. between from i s ++ l) (sym ended))
     ∙ was.whole)
 
+-- nothing was written, and the text is at its end
+pub writing_nothing : (marked : ℕ → Bool) (s out : List ℕ) (from i : ℕ) → length s ≤ i → length out ≡ 0
+    → Writing marked s out from i → s ≡ with_backslashes marked 0 s
+writing_nothing marked s [] from i past none was =
+    sym (between_to_end s 0 (length s) (omega arith))
+    ∙ ap (λ k. between k (length s) s) (sym (was.not_begun refl)) ∙ writing_all marked s [] from i past was
+writing_nothing marked s (b ∷ out) from i past none was = absurd (omega arith)
+
 -- ---- a text without special characters has no mark
 
 pub special_at : (s : List ℕ) (k : ℕ) → list_any is_special s ≡ false → is_special (slice_index s k) ≡ false

@@ -1,7 +1,7 @@
 -- How far the numeric characters at the front of a text go, one character at a time.
 use Rattle.std.proofs.Common.{◌≡◌, ℕ, ◌+◌, ◌<◌, ◌≤◌, true, false, List, [], ◌∷◌, ◌++◌, length, get_or, take, drop, sym}
 use Rattle.std.proofs.Common.{ap, ◌∙◌, arith, refl}
-use Rattle.std.specs.Prelude.{encode_utf8_all}
+use Rattle.std.specs.Prelude.{◌-◌, ◌&&◌, ◌==◌, nat_lt, if◌then◌else◌, slice_index, encode_utf8_all, Option, Some, None}
 use Rattle.std.specs.List.{prefix_len}
 use Rattle.std.specs.Char.{len_utf8, is_ascii_digit}
 use Rattle.std.specs.Bool.{beq}
@@ -13,7 +13,8 @@ use Rattle.unicode.specs.GeneralCategory.{general_category}
 use Rattle.unicode.proofs.CategoryComputing.{ucd_category}
 use Rattle.unicode.proofs.GeneralCategoryLemmas.{general_category_stepped}
 use Rattle.unicode.proofs.Facts.{Stepped-below, same_from_beq}
-use Rattle.htmd_text.specs.ListMarkers.{is_number, is_numeric, numerals_len}
+use Rattle.htmd_text.specs.Characters.{space}
+use Rattle.htmd_text.specs.ListMarkers.{is_number, is_numeric, numerals_len, dots_len, ordered_item_dot}
 
 -- in ASCII the numeric characters are the digits
 pub numeric-ascii : (c : ℕ) → c < 128 → is_numeric c ≡ is_ascii_digit c
@@ -73,3 +74,16 @@ numeric_end s n len past was =
     let step = prefix_len-drop_all is_numeric (chars s) n past in
     let stops : n ≡ prefix_len is_numeric (chars s) = omega (arith, was.numeric) in
     was.size ∙ ap (taken (chars s)) stops
+
+abbrev dot_after : List ℕ → ℕ → ℕ → Option ℕ
+dot_after s numerals dots =
+    if nat_lt 0 numerals && nat_lt 0 dots && (slice_index s (numerals + dots) == space)
+    then Some (numerals + dots - 1)
+    else None
+
+-- where the last dot is in the text
+pub dot_told : (s bytes : List ℕ) (numerals dots : ℕ) → bytes ≡ s → numerals ≡ numerals_len s → dots ≡ dots_len s
+    → dot_after bytes numerals dots ≡ ordered_item_dot s
+dot_told s bytes numerals dots same number full =
+    ap (λ l. dot_after l numerals dots) same ∙ ap (λ n. dot_after s n dots) number
+    ∙ ap (dot_after s (numerals_len s)) full

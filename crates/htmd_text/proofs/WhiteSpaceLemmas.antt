@@ -6,8 +6,9 @@ use Rattle.std.specs.List.{between}
 use Rattle.std.specs.Str.{IsCharBoundary, IsUtf8}
 use Rattle.std.proofs.lemmas.Bool.{and_parts, cases_Bool, false_from_ne_true, false≢true}
 use Rattle.std.proofs.lemmas.Bool.Decides.{nat_tests}
-use Rattle.std.proofs.lemmas.List.{drop_more, drop-drop, get_or-drop}
+use Rattle.std.proofs.lemmas.List.{drop_more, drop_all, drop-drop, get_or-drop, append-nil}
 use Rattle.std.proofs.lemmas.List.Edits.{between_more, between_none}
+use Rattle.std.proofs.lemmas.Slice.{between_to_end}
 use Rattle.std.proofs.lemmas.Str.{IsCharBoundary-start, IsCharBoundary-after_ascii}
 use Rattle.htmd_text.specs.Characters.{space}
 use Rattle.htmd_text.specs.WhiteSpace.{is_ascii_white_space, begins_with_white_space, squeezed_text}
@@ -86,6 +87,14 @@ squeezing_stays start s out from i lt stays was = record {
 
 pub white_is_ascii : (b : ℕ) → is_ascii_white_space b ≡ true → b < 128
 white_is_ascii b white = grind (arith, nat_tests)
+
+pub squeezing_all : (start s out : List ℕ) (from i : ℕ) → length s ≤ i → Squeezing start s out from i
+    → out ++ drop from s ≡ start ++ squeezed_text s
+squeezing_all start s out from i past was =
+    let piece : drop from s ≡ between from i s = sym (between_to_end s from i past) in
+    let none : squeezed_text (drop i s) ≡ [] = ap squeezed_text (drop_all i s past) in
+    ap (λ l. out ++ l) (piece ∙ sym (append-nil (between from i s)) ∙ ap (λ l. between from i s ++ l) (sym none))
+    ∙ was.whole
 
 pub squeezing_replaced : (start s out instead : List ℕ) (from i : ℕ) → IsUtf8 s → i < length s
     → IsReplaced (drop i s) instead

@@ -1,5 +1,5 @@
 //! The beginnings of a line that Markdown reads as a heading or as an ordered list item.
-ghost use Rattle.std.specs.Prelude.{◌≡◌, ◌==◌, ◌≤◌, length, slice_index};
+ghost use Rattle.std.specs.Prelude.{◌≡◌, ◌==◌, ◌&&◌, ◌≤◌, ◌+◌, ◌-◌, None, Some, if◌then◌else◌, length, nat_lt, slice_index};
 ghost use Rattle.htmd_text.specs.Characters.{space};
 ghost use Rattle.htmd_text.specs.ListMarkers as spec;
 
@@ -30,6 +30,16 @@ pub fn index_of_markdown_ordered_item_dot(text: &str) -> Option<usize>
     let bytes = text.as_bytes();
     let numerals = numerals_len(text);
     let dots = leading_len(&bytes[numerals..], b'.');
+    last_dot(bytes, numerals, dots)
+}
+
+/// The place of the last of this many dots after these numerals, if a space follows them.
+fn last_dot(bytes: &[u8], numerals: usize, dots: usize) -> Option<usize>
+    requires { numerals + dots ≤ length bytes.now }
+    ensures { result ≡ (if nat_lt 0 numerals && nat_lt 0 dots && (slice_index bytes.now (numerals + dots) == space)
+        then Some (numerals + dots - 1)
+        else None) }
+{
     let end = numerals + dots;
     if numerals > 0 && dots > 0 && is_space_at(bytes, end) {
         return Some(end - 1);

@@ -5,6 +5,7 @@ use Rattle.std.proofs.lemmas.Slice.{between_to_end}
 use Rattle.std.proofs.lemmas.Str.{IsCharBoundary-before_ascii}
 use Rattle.std.specs.String.{string_bytes}
 use Rattle.std.specs.List.{between}
+use Rattle.htmd_text.proofs.Cases.{pushed}
 use Rattle.htmd_text.specs.Characters.{backslash}
 use Rattle.htmd_markdown.specs.GuardedAddresses.{is_guarded_mark}
 use Rattle.htmd_markdown.proofs.AddressesLemmas.{escaping_none, escaping_plain, escaping_marked, escaping_all}
@@ -52,7 +53,9 @@ returns c =
     let all = escaping_all marked s (string_bytes c.args.out.now) (string_bytes c.loop-i.out) c.loop-i.from c.loop-i.i
     (omega (arith, ap length c.as_bytes-bytes.ensures.value)) c.loop-i.invariant in
     let rest = c.range_from.ensures.value ∙ sym (between_to_end s c.loop-i.from (length s) (omega arith)) in
-    c.in_ok-push_str-2.ensures.bytes ∙ ap (λ l. string_bytes c.loop-i.out ++ l) rest ∙ all
+    pushed c.push_str-2.result (string_bytes c.push_str-2.new.self)
+    (string_bytes c.loop-i.out ++ c.range_from.result.now) (string_bytes c.loop-i.out) c.push_str-2.ensures.bytes
+    (ap (λ l. string_bytes c.loop-i.out ++ l) rest ∙ all)
 
 pub range-requires-clause-end_boundary : goal.range-requires-clause-end_boundary
 range-requires-clause-end_boundary c =

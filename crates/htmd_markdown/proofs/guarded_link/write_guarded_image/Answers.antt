@@ -11,7 +11,7 @@ pub returns-clause-text : goal.returns-clause-text
 returns-clause-text c = search rules
 
 pub returns-clause-description : goal.returns-clause-description
-returns-clause-description c = image_description c.args.address.now (string_bytes c.push_guarded_resource.new.out)
+returns-clause-description c = image_description c.args.address.now (string_bytes c.push_guarded_image.new.out)
     c.args.alt (option_copied c.args.title) (returns-clause-text c)
 
 pub returns-clause-address : goal.returns-clause-address
@@ -20,9 +20,9 @@ returns-clause-address c =
     let alt = option_copied c.args.alt in
     let title = option_copied c.args.title in
     holds_guarded_address (guarded_image_start address alt) address (guarded_image_end address title)
-    (string_bytes c.push_guarded_resource.new.out)
+    (string_bytes c.push_guarded_image.new.out)
     (returns-clause-text c ∙ image-around_address address alt title)
 
 pub returns-clause-title : goal.returns-clause-title
-returns-clause-title c = image_title c.args.address.now (string_bytes c.push_guarded_resource.new.out)
+returns-clause-title c = image_title c.args.address.now (string_bytes c.push_guarded_image.new.out)
     (option_copied c.args.alt) c.args.title (returns-clause-text c)

@@ -73,7 +73,9 @@ returns c =
     let all = escaping_all marked s (string_bytes c.args.out.now) (string_bytes c.loop-i.out) c.loop-i.from c.loop-i.i
     (omega (arith, ap length c.as_bytes-bytes.ensures.value)) c.loop-i.invariant in
     let rest = c.range_from.ensures.value ∙ sym (between_to_end s c.loop-i.from (length s) (omega arith)) in
-    c.in_ok-push_str-2.ensures.bytes ∙ ap (λ l. string_bytes c.loop-i.out ++ l) rest ∙ all
+    pushed c.push_str-2.result (string_bytes c.push_str-2.new.self)
+    (string_bytes c.loop-i.out ++ c.range_from.result.now) (string_bytes c.loop-i.out) c.push_str-2.ensures.bytes
+    (ap (λ l. string_bytes c.loop-i.out ++ l) rest ∙ all)
 
 pub range-requires-clause-end_boundary : goal.range-requires-clause-end_boundary
 range-requires-clause-end_boundary c =

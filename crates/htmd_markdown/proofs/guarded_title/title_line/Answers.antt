@@ -1,6 +1,6 @@
 -- One more line, empty or not.
 use Rattle.std.proofs.Common.{◌≡◌, [], ◌∷◌, ◌++◌, length, lit<, take, map, ap, sym, ◌∙◌, arith}
-use Rattle.std.specs.Prelude.{◌==◌}
+use Rattle.std.specs.Prelude.{◌==◌, not}
 use Rattle.std.specs.List.{slice_split}
 use Rattle.std.specs.String.{string_bytes}
 use Rattle.std.proofs.lemmas.List.{length_push, take_all}
@@ -9,12 +9,12 @@ use Rattle.std.proofs.lemmas.Iterator.Consumers.{YieldsList-turn, YieldsList-end
 use Rattle.htmd_text.specs.Characters.{line_feed, space}
 use Rattle.htmd_text.specs.Trims.{trimmed_text}
 use Rattle.htmd_text.specs.WhiteSpace.{is_document_white_space}
+use Rattle.htmd_markdown.specs.CodeSpans.{space_if}
 use Rattle.htmd_markdown.specs.GuardedTitles.{title_part}
 use Rattle.htmd_markdown.specs.LineEnds.{line_ends_as}
 use Rattle.htmd_markdown.specs.OneLine.{with_spaces_between}
-use Rattle.htmd_markdown.proofs.FilledPartsLemmas.{joining_none, joining_empty, joining_first, joining_later}
+use Rattle.htmd_markdown.proofs.FilledPartsLemmas.{joining_none, joining_empty, joining_filled}
 use Rattle.htmd_markdown.proofs.LineEndsLemmas.{spaced_empty}
-use Rattle.htmd_markdown.proofs.guarded_title.title_line.Goals.{then-not-is_first+in_ok-push, else-not-is_first}
 use Rattle.htmd_markdown.proofs.guarded_title.title_line.Goals as goal
 
 pub loop-part-init : goal.loop-part-init
@@ -29,22 +29,13 @@ loop-part-preserved-then-not-is_empty c =
     let part = c.trim_document_whitespace-part.ensures in
     let some = spaced_empty (trimmed_text is_document_white_space c.in-Some.part.now)
     ∙ ap (λ l. length l == 0) (sym part) ∙ sym c.is_empty.ensures ∙ c.if-not-is_empty.true in
+    let mark = string_bytes c.loop-part.line ++ space_if (not c.loop-part.is_first) in
     let written = c.in_ok-push_with_line_ends_as.ensures
-    ∙ ap (λ l. string_bytes c.if-not-is_first.line ++ line_ends_as (space ∷ []) l) part in
-    elim c.if-not-is_first.branch [
-      | then-not-is_first+in_ok-push w ↦
-          let mark = ap string_bytes w.line-is ∙ w.in_ok-push.ensures.bytes
-          ∙ ap (λ l. string_bytes c.loop-part.line ++ l)
-          (w.in_ok-push.ensures.ascii (lit< tt)) in
-          let step = joining_later title_part parts [] (string_bytes c.loop-part.line) c.loop-part.is_first
-          (length c.loop-part.yielded) c.in-Some.part.now turn some w.if-not-is_first.true c.loop-part.invariant in
-          rw (written, mark, length_push c.loop-part.yielded c.in-Some.part) step
-      | else-not-is_first w ↦
-          let kept = ap string_bytes w.line-is in
-          let step = joining_first title_part parts [] (string_bytes c.loop-part.line) c.loop-part.is_first
-          (length c.loop-part.yielded) c.in-Some.part.now turn some w.if-not-is_first.false c.loop-part.invariant in
-          rw (written, kept, length_push c.loop-part.yielded c.in-Some.part) step
-    ]
+    ∙ ap (λ l. l ++ line_ends_as (space ∷ []) c.trim_document_whitespace-part.result.now) c.in_ok-push_space_if.ensures
+    ∙ ap (λ l. mark ++ line_ends_as (space ∷ []) l) part in
+    let step = joining_filled title_part parts [] (string_bytes c.loop-part.line) c.loop-part.is_first
+    (length c.loop-part.yielded) c.in-Some.part.now turn some c.loop-part.invariant in
+    rw (written, length_push c.loop-part.yielded c.in-Some.part) step
 
 pub loop-part-preserved : goal.loop-part-preserved
 loop-part-preserved c =

@@ -3,6 +3,7 @@ use Rattle.std.proofs.Common.{◌≡◌, ℕ, List, ◌++◌, take, drop, length
 use Rattle.std.specs.String.{string_bytes}
 use Rattle.std.specs.List.{between}
 use Rattle.std.proofs.lemmas.Slice.{between_to_end}
+use Rattle.htmd_text.proofs.Cases.{pushed}
 use Rattle.htmd_markdown.specs.LineEnds.{line_ends_as}
 use Rattle.htmd_markdown.specs.Rewriting.{StandsFor}
 use Rattle.htmd_markdown.proofs.RewritingLemmas.{rewriting_none, rewriting_stays, rewriting_replaced, rewriting_all}
@@ -50,7 +51,8 @@ returns c =
     let size : length c.as_bytes-bytes.result.now ≡ length s = ap length c.as_bytes-bytes.ensures.value in
     let piece : c.range_from.result.now ≡ between c.loop-i.from (length s) s = c.range_from.ensures.value
     ∙ sym (between_to_end s c.loop-i.from (length s) (omega arith)) in
-    c.in_ok-push_str-3.ensures.bytes
-    ∙ ap (λ l. string_bytes c.loop-i.out ++ l) piece
-    ∙ rewriting_all (line_ends_as c.args.instead.now) s (string_bytes c.args.out.now) (string_bytes c.loop-i.out)
-    c.loop-i.from c.loop-i.i (omega arith) refl c.loop-i.invariant
+    let out = string_bytes c.loop-i.out in
+    pushed c.push_str-2.result (string_bytes c.push_str-2.new.self) (out ++ c.range_from.result.now) out
+    c.push_str-2.ensures.bytes
+    (ap (λ l. out ++ l) piece ∙ rewriting_all (line_ends_as c.args.instead.now) s (string_bytes c.args.out.now) out
+    c.loop-i.from c.loop-i.i (omega arith) refl c.loop-i.invariant)

@@ -16,4 +16,4 @@ returns-clause-address c =
     let alt = option_copied c.args.alt in
     let title = option_copied c.args.title in
     λ none. holds_address (image_start address alt) address (resource_end address title)
-    (string_bytes c.push_resource.new.out) none (returns-clause-text c ∙ image-parts address alt title)
+    (string_bytes c.push_image.new.out) none (returns-clause-text c ∙ image-parts address alt title)

@@ -1,6 +1,6 @@
 -- One more part, empty or not.
 use Rattle.std.proofs.Common.{◌≡◌, ◌++◌, length, lit<, take, map, ap, sym, ◌∙◌, arith}
-use Rattle.std.specs.Prelude.{◌==◌}
+use Rattle.std.specs.Prelude.{◌==◌, not}
 use Rattle.std.specs.List.{slice_split}
 use Rattle.std.specs.String.{string_bytes}
 use Rattle.std.proofs.lemmas.List.{length_push, take_all}
@@ -8,9 +8,9 @@ use Rattle.std.proofs.lemmas.Iterator.Splits.{YieldsList-from_str_split}
 use Rattle.std.proofs.lemmas.Iterator.Consumers.{YieldsList-turn, YieldsList-end}
 use Rattle.htmd_text.specs.Characters.{line_feed}
 use Rattle.htmd_text.specs.Trims.{trimmed_text, is_space}
+use Rattle.htmd_markdown.specs.CodeSpans.{space_if}
 use Rattle.htmd_markdown.specs.OneLine.{with_spaces_between}
-use Rattle.htmd_markdown.proofs.FilledPartsLemmas.{joining_none, joining_empty, joining_first, joining_later}
-use Rattle.htmd_markdown.proofs.one_line.push_one_line.Goals.{then-not-is_first+in_ok-push, else-not-is_first}
+use Rattle.htmd_markdown.proofs.FilledPartsLemmas.{joining_none, joining_empty, joining_filled}
 use Rattle.htmd_markdown.proofs.one_line.push_one_line.Goals as goal
 
 pub loop-part-init : goal.loop-part-init
@@ -24,23 +24,13 @@ loop-part-preserved-then-not-is_empty c =
     c.loop-part.yielded _ c.loop-part.yielded_by _ _ c.in-Some.part c.in-Some.is c.next.ensures.steps in
     let part = c.without_spaces_around-part.ensures in
     let some = ap (λ l. length l == 0) (sym part) ∙ sym c.is_empty.ensures ∙ c.if-not-is_empty.true in
-    let written = c.in_ok-push_str.ensures.bytes ∙ ap (λ l. string_bytes c.if-not-is_first.out ++ l) part in
-    elim c.if-not-is_first.branch [
-      | then-not-is_first+in_ok-push w ↦
-          let mark = ap string_bytes w.out-is ∙ w.in_ok-push.ensures.bytes
-          ∙ ap (λ l. string_bytes c.loop-part.out ++ l)
-          (w.in_ok-push.ensures.ascii (lit< tt)) in
-          let step = joining_later (trimmed_text is_space) parts (string_bytes c.args.out.now)
-          (string_bytes c.loop-part.out) c.loop-part.is_first (length c.loop-part.yielded) c.in-Some.part.now turn some
-          w.if-not-is_first.true c.loop-part.invariant in
-          rw (written, mark, length_push c.loop-part.yielded c.in-Some.part) step
-      | else-not-is_first w ↦
-          let kept = ap string_bytes w.out-is in
-          let step = joining_first (trimmed_text is_space) parts (string_bytes c.args.out.now)
-          (string_bytes c.loop-part.out) c.loop-part.is_first (length c.loop-part.yielded) c.in-Some.part.now turn some
-          w.if-not-is_first.false c.loop-part.invariant in
-          rw (written, kept, length_push c.loop-part.yielded c.in-Some.part) step
-    ]
+    let mark = string_bytes c.loop-part.out ++ space_if (not c.loop-part.is_first) in
+    let written = c.in_ok-push_str.ensures.bytes ∙ ap (λ l. l ++ c.without_spaces_around-part.result.now)
+    c.in_ok-push_space_if.ensures ∙ ap (λ l. mark ++ l) part in
+    let step = joining_filled (trimmed_text is_space) parts (string_bytes c.args.out.now)
+    (string_bytes c.loop-part.out) c.loop-part.is_first (length c.loop-part.yielded) c.in-Some.part.now turn some
+    c.loop-part.invariant in
+    rw (written, length_push c.loop-part.yielded c.in-Some.part) step
 
 pub loop-part-preserved : goal.loop-part-preserved
 loop-part-preserved c =

@@ -1,10 +1,12 @@
 -- What is left to prove of `with_backslashes`.
 use Rattle.std.proofs.Common.{◌≡◌, [], ◌∷◌, ◌++◌, true, false, length, arith, lit<, ◌∙◌, ap, sym}
+use Rattle.std.proofs.lemmas.Bool.Decides.{nat_tests}
+use Rattle.std.proofs.lemmas.Slice.{between_to_end}
 use Rattle.std.specs.String.{string_bytes}
 use Rattle.std.specs.List.{between}
 use Rattle.htmd_text.specs.Characters.{backslash}
 use Rattle.htmd_text.specs.Marks.{is_marked_by, is_plain}
-use Rattle.htmd_text.proofs.EscapeMarksLemmas.{grows, writing_none, writing_plain, writing_marked, plain_stays}
+use Rattle.htmd_text.proofs.EscapeMarksLemmas.{grows, writing_none, writing_plain, writing_marked, writing_nothing, writing_all, plain_stays}
 use Rattle.htmd_text.proofs.escape.with_backslashes.Goals as goal
 use Rattle.htmd_text.proofs.escape.with_backslashes.Goals.{then-is_marked+in_ok-push_str+in_ok-push}
 use Rattle.htmd_text.proofs.escape.with_backslashes.Goals.{then-is_empty+in_ok-reserve, else-is_empty, else-is_marked}
@@ -60,3 +62,18 @@ returns-then-is_plain-clause-text c =
     let plain = ap (is_plain c.args.marks) (sym c.as_bytes-bytes.ensures.value) ∙ sym c.is_plain.ensures
     ∙ c.if-is_plain.true in
     sym (plain_stays c.args.marks c.args.text.now plain)
+
+pub returns-then-is_empty-2-clause-text : goal.returns-then-is_empty-2-clause-text
+returns-then-is_empty-2-clause-text c =
+    let s = c.args.text.now in
+    let none : length (string_bytes c.loop-i.escaped) ≡ 0 = grind (arith, nat_tests) in
+    writing_nothing (is_marked_by c.args.marks s) s (string_bytes c.loop-i.escaped) c.loop-i.from c.loop-i.i
+    (omega (arith, ap length c.as_bytes-bytes.ensures.value)) none c.loop-i.invariant
+
+pub returns-clause-text : goal.returns-clause-text
+returns-clause-text c =
+    let s = c.args.text.now in
+    let rest = c.range_from.ensures.value ∙ sym (between_to_end s c.loop-i.from (length s) (omega arith)) in
+    c.in_ok-push_str-2.ensures.bytes ∙ ap (λ l. string_bytes c.loop-i.escaped ++ l) rest
+    ∙ writing_all (is_marked_by c.args.marks s) s (string_bytes c.loop-i.escaped) c.loop-i.from c.loop-i.i
+    (omega (arith, ap length c.as_bytes-bytes.ensures.value)) c.loop-i.invariant

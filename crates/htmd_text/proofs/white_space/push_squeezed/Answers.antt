@@ -5,7 +5,8 @@ use Rattle.std.specs.List.{between}
 use Rattle.std.proofs.lemmas.Slice.{between_to_end}
 use Rattle.htmd_text.specs.WhiteSpace.{squeezed_text}
 use Rattle.htmd_text.specs.Replacement.{IsReplaced}
-use Rattle.htmd_text.proofs.WhiteSpaceLemmas.{squeezing_none, squeezing_stays, squeezing_replaced}
+use Rattle.htmd_text.proofs.Cases.{pushed}
+use Rattle.htmd_text.proofs.WhiteSpaceLemmas.{squeezing_none, squeezing_stays, squeezing_replaced, squeezing_all}
 use Rattle.htmd_text.proofs.white_space.push_squeezed.Goals as goal
 use Rattle.htmd_text.proofs.white_space.push_squeezed.Goals.{in-Some+in_ok-push_str+in_ok-push_str-2, in_default}
 
@@ -38,3 +39,12 @@ loop-i-preserved c =
           (omega arith) stays c.loop-i.invariant in
           rw (w.out-is, w.from-is) step
     ]
+
+pub returns : goal.returns
+returns c =
+    let s = c.args.text.now in
+    let out = string_bytes c.loop-i.out in
+    pushed c.push_str-2.result (string_bytes c.push_str-2.new.self) (out ++ c.range_from.result.now) out
+    c.push_str-2.ensures.bytes
+    (ap (λ l. out ++ l) c.range_from.ensures.value ∙ squeezing_all (string_bytes c.args.out.now) s out c.loop-i.from
+    c.loop-i.i (omega (arith, ap length c.as_bytes-bytes.ensures.value)) c.loop-i.invariant)
