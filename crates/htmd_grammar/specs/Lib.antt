@@ -1,5 +1,5 @@
 -- The strict grammar, in reading order: value trees, what attributes stand for, what trees are written as; the rules;
--- characters, references, tags, comments, raw content, nesting, the relation, the document; what is read back; the steps
+-- characters, references, tags, comments, raw content, nesting, the relation, the document; what is read back; steps
 -- of a reader and its open elements; fronts, faults and their names; the laws; last what the serialiser's own functions
 -- alone cite.
 pub mod ValueTrees

@@ -53,7 +53,8 @@ pub caption_other_start : (t : TagName) (tag : StartTagValue) (s : StateValue) �
     → start_in_caption (known t) tag s ≡ done (start_in_body tag s)
 caption_other_start t tag s e = search rules
 
-pub table_nothing : (t : TagName) (s : StateValue) → InTable.ends_nothing t ≡ true → end_in_table (known t) s ≡ s
+pub table_nothing : (t : TagName) (s : StateValue) → InTable.ends_nothing t ≡ true
+    → end_in_table (known t) s ≡ s
 table_nothing t s e = search rules
 
 -- the end tags that a table has a rule for
@@ -68,7 +69,8 @@ pub table_other_end : (name : NameValue) (s : StateValue) → is_end_in_table na
 table_other_end (known t) s e = search rules
 table_other_end (other text) s e = search rules
 
-pub caption_nothing : (t : TagName) (s : StateValue) → InCaption.ends_nothing t ≡ true → end_in_caption (known t) s ≡ done s
+pub caption_nothing : (t : TagName) (s : StateValue) → InCaption.ends_nothing t ≡ true
+    → end_in_caption (known t) s ≡ done s
 caption_nothing t s e = search rules
 
 -- the end tags that a caption has a rule for
@@ -101,7 +103,8 @@ pub row_other_end : (name : NameValue) (s : StateValue) → is_end_in_row name �
 row_other_end (known t) s e = search rules
 row_other_end (other text) s e = search rules
 
-pub section_nothing : (t : TagName) (s : StateValue) → InTableBody.ends_nothing t ≡ true → end_in_section (known t) s ≡ done s
+pub section_nothing : (t : TagName) (s : StateValue) → InTableBody.ends_nothing t ≡ true
+    → end_in_section (known t) s ≡ done s
 section_nothing t s e = search rules
 
 -- the end tags that a section has a rule for

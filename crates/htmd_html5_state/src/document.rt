@@ -268,7 +268,8 @@ impl Document {
     /// A copy of a node, if it is an element.
     pub(crate) fn element_copy(&self, node: usize) -> Result<Option<OtherElement>, AllocError>
         ensures { IfOk result (λ copy. MatchOption copy (is_element (spec.kind_at self.now node) ≡ false)
-            (λ e. spec.kind_at self.now node ≡ spec.element (element_name_of e.name) (pairs_of e.attributes.items))) }
+            (λ e. spec.kind_at self.now node
+            ≡ spec.element (element_name_of e.name) (pairs_of e.attributes.items))) }
     {
         match self.kind(node) {
             Some(kind) => kind.element_copy(self.alloc),

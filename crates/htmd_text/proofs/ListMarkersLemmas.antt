@@ -82,8 +82,8 @@ dot_after s numerals dots =
     else None
 
 -- where the last dot is in the text
-pub dot_told : (s bytes : List ℕ) (numerals dots : ℕ) → bytes ≡ s → numerals ≡ numerals_len s → dots ≡ dots_len s
-    → dot_after bytes numerals dots ≡ ordered_item_dot s
+pub dot_told : (s bytes : List ℕ) (numerals dots : ℕ) → bytes ≡ s → numerals ≡ numerals_len s
+    → dots ≡ dots_len s → dot_after bytes numerals dots ≡ ordered_item_dot s
 dot_told s bytes numerals dots same number full =
     ap (λ l. dot_after l numerals dots) same ∙ ap (λ n. dot_after s n dots) number
     ∙ ap (dot_after s (numerals_len s)) full

@@ -8,4 +8,5 @@ use Rattle.htmd_html5.proofs.body_starts.start_button.Goals as goal
 pub returns : goal.returns
 returns c =
     c.set_frameset_ok.ensures
-    ∙ ap no_frameset (c.in_ok-start_ordinary.ensures ∙ ap (start_ordinary (tag_of c.args.tag)) c.close.ensures.closed)
+    ∙ ap no_frameset
+    (c.in_ok-start_ordinary.ensures ∙ ap (start_ordinary (tag_of c.args.tag)) c.close.ensures.closed)

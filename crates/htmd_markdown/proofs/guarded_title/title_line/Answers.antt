@@ -31,7 +31,8 @@ loop-part-preserved-then-not-is_empty c =
     ∙ ap (λ l. length l == 0) (sym part) ∙ sym c.is_empty.ensures ∙ c.if-not-is_empty.true in
     let mark = string_bytes c.loop-part.line ++ space_if (not c.loop-part.is_first) in
     let written = c.in_ok-push_with_line_ends_as.ensures
-    ∙ ap (λ l. l ++ line_ends_as (space ∷ []) c.trim_document_whitespace-part.result.now) c.in_ok-push_space_if.ensures
+    ∙ ap (λ l. l ++ line_ends_as (space ∷ []) c.trim_document_whitespace-part.result.now)
+    c.in_ok-push_space_if.ensures
     ∙ ap (λ l. mark ++ line_ends_as (space ∷ []) l) part in
     let step = joining_filled title_part parts [] (string_bytes c.loop-part.line) c.loop-part.is_first
     (length c.loop-part.yielded) c.in-Some.part.now turn some c.loop-part.invariant in

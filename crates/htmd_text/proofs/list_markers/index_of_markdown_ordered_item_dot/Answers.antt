@@ -23,7 +23,8 @@ returns c =
     let bytes = c.as_bytes-bytes.result.now in
     let from = c.numerals_len-numerals.result in
     let same = c.as_bytes-bytes.ensures.value in
-    let rest : between from (length bytes) bytes ≡ drop from s = between_to_end bytes from (length bytes) (omega arith)
+    let rest : between from (length bytes) bytes ≡ drop from s =
+    between_to_end bytes from (length bytes) (omega arith)
     ∙ ap (drop from) same in
     let dots : c.leading_len-dots.result ≡ dots_len s = c.leading_len-dots.ensures.value
     ∙ ap (prefix_len (λ b. b == full_stop)) (rest ∙ ap (λ n. drop n s) c.numerals_len-numerals.ensures.value) in
