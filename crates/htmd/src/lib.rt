@@ -19,8 +19,7 @@ pub mod laws {
 
 pub use conversion::{ConvertError, convert};
 pub use converter::{AddFnRefused, AddRefused, HtmlToMarkdown, HtmlToMarkdownBuilder, SkipRefused};
-pub use htmd_tree::{
-    Attribute, FaultKind, NodeData, NodeId, ReadError, Tree, TreeError, body_of, line_and_column,
-};
+pub use htmd_reader::{FaultKind, ReadError, body_of, line_and_column};
+pub use htmd_tree::{Attribute, NodeData, NodeId, Tree, TreeError};
 pub use htmd_walk::element_handler::Element;
 pub use htmd_walk::{element_handler, options};

@@ -1,8 +1,9 @@
 -- What the items of a document that is laid out denote.
 use Rattle.std.proofs.Common.{◌≡◌, ◌≢◌, ℕ, suc, ◌+◌, ◌<◌, ◌≤◌, true, false, eqb, List, [], ◌∷◌, ◌++◌, refl, sym, ap}
-use Rattle.std.proofs.Common.{◌∙◌, arith}
+use Rattle.std.proofs.Common.{◌∙◌, arith, length}
 use Rattle.std.proofs.lemmas.Bool.Decides.{nat_tests}
-use Rattle.std.proofs.lemmas.List.{append_assoc, append-nil}
+use Rattle.std.proofs.lemmas.List.{append_assoc, append-nil, length-append}
+use Rattle.htmd_tree.specs.Items.{item_at}
 use Rattle.htmd_tree.specs.Items.{Data, document_node, doctype_node, text_node, comment_node, element_node, Item}
 use Rattle.htmd_tree.specs.NumberedTrees.{with_children, forest_from, tree_of, value_forest}
 use Rattle.htmd_tree.specs.NumberedTrees as numbered
@@ -101,3 +102,24 @@ document_items-denotes children =
     ap (λ x. document (value_forest (forest_from 1 x 0))) (sym (append-nil (forest_items 1 0 1 children)))
     ∙ ap document (forest_items-denotes children 1 0 1 (1 + sizes children) [] refl (omega arith) (λ q m k. refl)
     refl)
+
+-- ---- how many items there are
+
+mutual
+  pub length-tree_items : (t : ValueTree) (d p b : ℕ) → length (tree_items d p b t) ≡ size t
+  length-tree_items (document children) d p b = ap suc (length-forest_items children (suc d) b (suc b))
+  length-tree_items doctype d p b = refl
+  length-tree_items (text s) d p b = refl
+  length-tree_items (comment s) d p b = refl
+  length-tree_items (element name attributes children) d p b =
+      ap suc (length-forest_items children (suc d) b (suc b))
+
+  pub length-forest_items : (ts : ValueForest) (d p b : ℕ) → length (forest_items d p b ts) ≡ sizes ts
+  length-forest_items none d p b = refl
+  length-forest_items (more t ts) d p b =
+      length-append (tree_items d p b t) (forest_items d p (b + size t) ts)
+      ∙ rw (length-tree_items t d p b, length-forest_items ts d p (b + size t)) refl
+
+pub item_at-middle : (items rest : List Item) (x : Item) → item_at (items ++ x ∷ rest) (length items) ≡ x
+item_at-middle [] rest x = refl
+item_at-middle (i ∷ items) rest x = item_at-middle items rest x

@@ -1,7 +1,7 @@
 -- Which part of a document each node of its layout is.
 use Rattle.std.proofs.Common.{◌≡◌, ℕ, zero, suc, ◌+◌, ◌<◌, ◌≤◌, Bool, true, false, ◌&&◌, List, [], ◌∷◌, ◌++◌, length}
 use Rattle.std.proofs.Common.{map}
-use Rattle.std.proofs.Common.{refl, sym, ap, ◌∙◌, subst, arith, inl, inr, Some, codes}
+use Rattle.std.proofs.Common.{refl, sym, ap, ◌∙◌, subst, arith, inl, inr, Option, Some, None, is_some, codes}
 use Rattle.std.proofs.lemmas.Bool.{cases_lt, and_parts}
 use Rattle.std.proofs.lemmas.List.{append_assoc, append-nil, length-append}
 use Rattle.htmd_grammar.specs.ValueTrees.{ValueTree, document, doctype, text, comment, element, ValueForest, none, more}
@@ -19,13 +19,25 @@ use Rattle.htmd_tree.specs.Items.{Data, document_node, doctype_node, text_node, 
 use Rattle.htmd_tree.specs.Items.{document_item, item_at, parent_at, depth_at, data_at}
 use Rattle.htmd_tree.specs.NumberedTrees.{forest_from, tree_of, value_tree, value_forest}
 use Rattle.htmd_tree.specs.NumberedTrees as numbered
-use Rattle.htmd_tree.specs.OpenNodes.{items_above, stack_items}
+use Rattle.htmd_tree.specs.OpenItems.{items_above, stack_items}
 use Rattle.htmd_tree.specs.Ancestors.{ancestor_of, ancestors_up, ancestors_of}
-use Rattle.htmd_tree.specs.Layout.{size, sizes, item_under, tree_items, forest_items}
+use Rattle.htmd_grammar.specs.Documents.{with_doctype, skeleton}
+use Rattle.htmd_tree.specs.Layout.{size, sizes, item_under, tree_items, forest_items, document_items}
 use Rattle.htmd_tree.specs.Parts.{ancestor_names, value_at}
 use Rattle.htmd_tree.proofs.LayoutLemmas.{HasNoChildren, other_first, renumbered, forest_items-skip}
 use Rattle.htmd_tree.proofs.LayoutLemmas.{forest_items-denotes}
-use Rattle.htmd_tree.proofs.OpenNodesLemmas.{item_at-middle, length-tree_items, length-forest_items}
+use Rattle.htmd_tree.proofs.LayoutLemmas.{item_at-middle, length-tree_items, length-forest_items}
+
+-- a document is laid out as the items of `body`, which is open
+pub laid_out : (o : Option (List ℕ)) (content : ValueForest)
+    → stack_items (is_some o) (with_children body content ∷ [])
+    ≡ document_items (with_doctype o (skeleton content))
+laid_out None content =
+    let items : List Item = forest_items 3 3 4 content in
+    ap (λ (y : List Item). stack_items false (body ∷ []) ++ y) (sym (append-nil (items ++ []) ∙ append-nil items))
+laid_out (Some rest) content =
+    let items : List Item = forest_items 3 4 5 content in
+    ap (λ (y : List Item). stack_items true (body ∷ []) ++ y) (sym (append-nil (items ++ []) ∙ append-nil items))
 
 -- ---- content
 

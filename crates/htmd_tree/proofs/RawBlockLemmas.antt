@@ -18,10 +18,9 @@ use Rattle.htmd_tree.specs.Items.{Data, Item, element_node, data_at, depth_at}
 use Rattle.htmd_tree.specs.NumberedTrees.{forest_from, tree_of, value_tree, value_forest}
 use Rattle.htmd_tree.specs.NumberedTrees as numbered
 use Rattle.htmd_tree.specs.Layout.{document_items}
-use Rattle.htmd_tree.specs.OpenNodes.{stack_items}
+use Rattle.htmd_tree.specs.OpenItems.{stack_items}
 use Rattle.htmd_tree.specs.Parts.{ancestor_names, value_at}
-use Rattle.htmd_tree.proofs.DocumentsLemmas.{laid_out}
-use Rattle.htmd_tree.proofs.PartsLemmas.{are_content, parts_with, parts_without, forest_is_content}
+use Rattle.htmd_tree.proofs.PartsLemmas.{laid_out, are_content, parts_with, parts_without, forest_is_content}
 
 -- a node below others has a parent
 mutual

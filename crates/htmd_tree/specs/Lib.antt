@@ -9,15 +9,6 @@ pub mod NumberedTrees
 pub mod Ancestors
 pub mod Views
 pub mod Layout
-pub mod Bodies
-pub mod BodyLaws
-pub mod Lines
+pub mod OpenItems
 pub mod Parts
 pub mod Entries
-pub mod DecodedCharacters
-pub mod Surroundings
-pub mod OpenNodes
-pub mod Advances
-pub mod Classes
-pub mod TagParts
-pub mod TextRuns

@@ -16,7 +16,7 @@ use std::marker::Model;
 use thiserror::Error;
 
 /// The greatest depth of a node; the Document is at depth 0.
-pub(crate) const MAX_DEPTH: usize = 1024;
+pub const MAX_DEPTH: usize = 1024;
 
 /// A node of a tree, by its number in order of addition.
 #[derive(Debug, Clone, Copy, PartialEq, Eq, PartialOrd, Ord)]
@@ -241,11 +241,7 @@ impl Tree {
     /// A new last child of a node: a node of its own. The tree must contain the parent, a Document or an element.
     /// `TooDeep` if the child would be below level 1,024, `Memory` when out of memory; the tree is then as it was.
     #[inline(always)]
-    pub(crate) fn add_node(
-        &mut self,
-        parent: NodeId,
-        node_data: NodeData,
-    ) -> Result<NodeId, TreeError>
+    pub fn add_node(&mut self, parent: NodeId, node_data: NodeData) -> Result<NodeId, TreeError>
         requires within { parent < length self.old }
         requires holds { IsTrue (holds_children (data_at self.old parent)) }
         ensures id { IfOk result (λ id. id ≡ length self.old) }

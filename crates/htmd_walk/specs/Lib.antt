@@ -7,8 +7,6 @@ pub use Rattle.htmd_tree.specs.ValueTrees
 pub use Rattle.htmd_tree.specs.Items
 pub use Rattle.htmd_tree.specs.NumberedTrees
 pub use Rattle.htmd_tree.specs.Ancestors
-pub use Rattle.htmd_tree.specs.Bodies
-pub use Rattle.htmd_tree.specs.Lines
 pub use Rattle.htmd_grammar.specs.CharacterClasses
 pub use Rattle.htmd_grammar.specs.declared.fault.FaultKind
 pub use Rattle.htmd_markdown.specs.declared.heading.HeadingStyle

@@ -1,0 +1,21 @@
+-- How the reader's calls take the grammar's steps; bodies and lines.
+pub mod ClassesLemmas
+pub mod TagPartsLemmas
+pub mod OpenNodesLemmas
+pub mod AdvancesLemmas
+pub mod PiecesLemmas
+pub mod DocumentsLemmas
+pub mod ValuesLemmas
+pub mod ContentsLemmas
+pub mod TagStepsLemmas
+pub mod TagAnswersLemmas
+pub mod SurroundingsLemmas
+pub mod CommentTextsLemmas
+pub mod DecodedCharactersLemmas
+pub mod RawContentLemmas
+pub mod TextRunsLemmas
+pub mod DecodedValuesLemmas
+pub mod TextsLemmas
+pub mod BodiesLemmas
+pub mod BodyLawsLemmas
+pub mod LinesLemmas

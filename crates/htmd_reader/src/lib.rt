@@ -1,0 +1,11 @@
+//! The strict reader of HTML: the tree that a text denotes by the grammar, or the first fault of any other text.
+//! `body_of` takes the body from a whole page, and `line_and_column` says in which line and column a place is.
+#![tactic(auto, using(std::proofs::lemmas::Grind::common_steps))]
+
+pub mod laws;
+mod lines;
+mod reader;
+
+pub use htmd_grammar::FaultKind;
+pub use lines::line_and_column;
+pub use reader::{ReadError, body_of, read_html};
