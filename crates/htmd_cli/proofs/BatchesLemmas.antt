@@ -8,12 +8,12 @@ use Rattle.std.proofs.KnownBytes.{Appends-nil, Appends-trans, Consumes-trans}
 use Rattle.std.specs.Str.{bytes_eq}
 use Rattle.std.specs.Io.KnownBytes.{Appends, Consumes, IsAtEnd}
 use Rattle.htmd.specs.Characters.{line_feed}
-use Rattle.htmd_cli.specs.Failures.{AppendsSome}
+use Rattle.htmd_streams.specs.Ends.{AppendsSome}
 use Rattle.htmd_cli.specs.Settings.{Settings}
-use Rattle.htmd_cli.specs.Lines.{lacks, rows, before_end, end_mark}
+use Rattle.htmd_streams.specs.Lines.{lacks, rows, before_end, end_mark}
 use Rattle.htmd_cli.specs.Rows.{IsRowAnswer, AreAnswers, FirstRowsOf, ConvertsRows, StopsAtRow, StopsInRows, counted}
 use Rattle.htmd_cli.specs.Batches.{Answers, rows_from, rows_left, followed}
-use Rattle.htmd_cli.proofs.LinesLemmas.{lacks-append, lines-open, rows-line, rows-end}
+use Rattle.htmd_streams.proofs.LinesLemmas.{lacks-append, lines-open, rows-line, rows-end}
 
 -- ---- answers
 

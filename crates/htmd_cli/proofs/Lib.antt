@@ -1,11 +1,7 @@
--- Lemmas of runs, options, encodings, conversions and rows, and worked rows.
-pub mod AppendsLemmas
-pub mod DecodingLemmas
+-- Lemmas of runs, options, conversions and rows, and worked rows.
 pub mod ConversionLemmas
 pub mod RunsLemmas
 pub mod OptionsLemmas
-pub mod LinesLemmas
-pub mod FieldsLemmas
 pub mod RowsLemmas
 pub mod BatchesLemmas
 mod Examples

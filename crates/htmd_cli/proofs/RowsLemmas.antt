@@ -6,8 +6,8 @@ use Rattle.htmd.specs.Characters.{line_feed}
 use Rattle.htmd.specs.FaultKind.{FaultKind}
 use Rattle.htmd_cli.specs.Settings.{Settings}
 use Rattle.htmd_cli.specs.Conversion.{IsMarkdownBy, IsReadable, IsRefusedBy, reads_any, text_in}
-use Rattle.htmd_cli.specs.Fields.{null, read_field, written_field}
-use Rattle.htmd_cli.specs.Lines.{other_fields, last_field}
+use Rattle.htmd_streams.specs.Fields.{null, read_field, written_field}
+use Rattle.htmd_streams.specs.Lines.{other_fields, last_field}
 use Rattle.htmd_cli.specs.Rows.{IsPageAnswer, IsFieldAnswer, IsRowAnswer}
 use Rattle.htmd_cli.proofs.ConversionLemmas.{match_false}
 

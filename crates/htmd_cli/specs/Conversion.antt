@@ -10,7 +10,7 @@ use Rattle.htmd.specs.Markdown.{markdown}
 use Rattle.htmd.specs.Conversions.{IsMarkdownOf, IsMarkdownOfPage, IsRefused, IsPageRefused, IsHtml5Markdown}
 use Rattle.htmd.specs.Converters.{handlers_of, scripting_of}
 use Rattle.htmd.specs.declared.converter.HtmlToMarkdown.{HtmlToMarkdown}
-use Rattle.htmd_cli.specs.Decoding.{decoded}
+use Rattle.htmd_streams.specs.Decoding.{decoded}
 use Rattle.htmd_cli.specs.Settings.{Settings}
 
 -- the Document, and under it a `p`

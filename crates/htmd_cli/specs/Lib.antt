@@ -1,13 +1,14 @@
 -- The definitions that the contracts cite, in reading order; the last two are cited only by private functions.
+pub use Rattle.htmd_streams.specs.Ends
+pub use Rattle.htmd_streams.specs.Windows1252
+pub use Rattle.htmd_streams.specs.Utf16
+pub use Rattle.htmd_streams.specs.Decoding
+pub use Rattle.htmd_streams.specs.Lines
+pub use Rattle.htmd_streams.specs.Fields
 pub mod Failures
 pub mod Settings
-pub mod Windows1252
-pub mod Utf16
-pub mod Decoding
 pub mod Conversion
 pub mod Runs
-pub mod Lines
-pub mod Fields
 pub mod Options
 pub mod Rows
 pub mod OptionRows

@@ -8,10 +8,10 @@ use Rattle.htmd.specs.FaultKind.{FaultKind}
 use Rattle.htmd_cli.specs.Settings.{Settings}
 use Rattle.htmd_cli.specs.Options.{Request}
 use Rattle.htmd_cli.specs.Runs.{Converts}
-use Rattle.htmd_cli.specs.Failures.{AppendsSome}
+use Rattle.htmd_streams.specs.Ends.{AppendsSome}
 use Rattle.htmd_cli.specs.Conversion.{IsMarkdownBy, IsReadable, IsRefusedBy, reads_any, text_in}
-use Rattle.htmd_cli.specs.Fields.{null, read_field, written_field}
-use Rattle.htmd_cli.specs.Lines.{rows, other_fields, last_field}
+use Rattle.htmd_streams.specs.Fields.{null, read_field, written_field}
+use Rattle.htmd_streams.specs.Lines.{rows, other_fields, last_field}
 
 -- the page holds a text, and this is its Markdown as a field
 abbrev pub IsConverted : Settings → List ℕ → List ℕ → Type 0

@@ -1,17 +1,16 @@
 //! What is written for a row.
 ghost use Rattle.std.specs.Prelude.{◌≡◌, ◌++◌, [], List, ℕ, OnOk, IfOk, IfErr, string_bytes};
 ghost use Rattle.htmd_cli.specs.Conversion.{GoesBy};
-ghost use Rattle.htmd_cli.specs.Fields.{null, written_field};
+ghost use Rattle.htmd_streams.specs.Fields.{null, written_field};
 ghost use Rattle.htmd_cli.specs.Rows.{IsFieldAnswer, IsPageAnswer, IsRowAnswer};
 ghost use Rattle.htmd_cli.specs.Settings.{settings_in};
 
 use crate::conversion::{markdown_by, text_of};
 use crate::faults::RunError;
-use crate::fields::{NULL, read_field, write_field};
-use crate::lines::fields_of;
 use crate::settings::Settings;
 use htmd::element_handler::Registry;
 use htmd::{ConvertError, HtmlToMarkdown};
+use htmd_streams::{NULL, fields_of, read_field, write_field};
 use std::alloc::{AllocError, Global};
 
 /// Appends what is written for a row to an answer, and the page of its last field to an empty page. The result is

@@ -8,12 +8,12 @@ ghost use Rattle.htmd.specs.FaultKind.{FaultKind};
 ghost use Rattle.htmd_cli.specs.Conversion.{GoesBy, IsMarkdownBy, IsReadable, IsRefusedBy, text_in};
 ghost use Rattle.htmd_cli.specs.Settings.{settings_in};
 
-use crate::decoding::decoded;
 use crate::paragraph::paragraph;
 use crate::settings::Settings;
 use htmd::element_handler::{Registrar, Registry};
 use htmd::options::Options;
 use htmd::{ConvertError, HtmlToMarkdown, HtmlToMarkdownBuilder};
+use htmd_streams::decoded;
 use std::alloc::{AllocError, Global};
 use std::borrow::CowStr;
 

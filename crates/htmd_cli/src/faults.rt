@@ -7,10 +7,6 @@ use htmd::{ConvertError, FaultKind};
 use std::alloc::AllocError;
 use thiserror::Error;
 
-/// A read or a write failed.
-#[derive(Debug, Clone, Copy, PartialEq, Eq)]
-pub struct Failed;
-
 /// Why a run did not succeed.
 #[derive(Debug, PartialEq, Eq, Drop, Error)]
 pub enum RunError {

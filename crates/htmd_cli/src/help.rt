@@ -1,9 +1,8 @@
 //! What is written in place of a conversion: the help and the version.
-ghost use Rattle.htmd_cli.specs.Failures.{FailsAtErr};
+ghost use Rattle.htmd_streams.specs.Ends.{FailsAtErr};
 
-use crate::faults::Failed;
 use crate::options::{OPTIONS, OptionRow};
-use crate::sinks::{Sink, write_all};
+use htmd_streams::{Failed, Sink, write_all};
 
 const USAGE: &str = "\
 Usage: htmd [OPTION..] < page.html > page.md

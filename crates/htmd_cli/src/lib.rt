@@ -9,12 +9,9 @@
 
 mod answers;
 mod conversion;
-mod decoding;
 mod explanations;
 mod faults;
-mod fields;
 mod help;
-mod lines;
 mod options;
 mod paragraph;
 mod pipeline;
@@ -22,16 +19,11 @@ mod program;
 mod reports;
 mod rows;
 mod settings;
-mod sinks;
-mod sources;
 mod values;
 
-pub use decoding::decoded;
-pub use faults::{Failed, RowFault, RunError};
-pub use fields::{read_field, write_field};
+pub use faults::{RowFault, RunError};
+pub use htmd_streams::{Failed, Input, Output, Sink, Source, decoded, read_field, write_field};
 pub use pipeline::{run, run_with};
 pub use program::command;
 pub use rows::run_rows;
 pub use settings::{Mode, Settings};
-pub use sinks::{Output, Sink};
-pub use sources::{Input, Source};

@@ -5,15 +5,14 @@ ghost use Rattle.std.specs.Io.KnownBytes.{Appends, Consumes, IsAtEnd};
 ghost use Rattle.htmd.specs.Characters.{line_feed};
 ghost use Rattle.htmd.specs.FaultKind.{FaultKind};
 ghost use Rattle.htmd_cli.specs.Conversion.{IsMarkdownBy, IsReadable, IsRefusedBy, reads_any, text_in};
-ghost use Rattle.htmd_cli.specs.Failures.{FailsAtErr};
+ghost use Rattle.htmd_streams.specs.Ends.{FailsAtErr};
 ghost use Rattle.htmd_cli.specs.Runs.{Ends};
 ghost use Rattle.htmd_cli.specs.Settings.{settings_in, settings_of};
 
 use crate::conversion::{markdown_of, text_of};
-use crate::faults::{Failed, RunError};
+use crate::faults::RunError;
 use crate::settings::{Mode, Settings, settings_by};
-use crate::sinks::{Sink, write_all};
-use crate::sources::Source;
+use htmd_streams::{Failed, Sink, Source, write_all};
 use std::alloc::Global;
 
 /// Reads the whole source, then converts it, then writes the Markdown and one line feed to the sink

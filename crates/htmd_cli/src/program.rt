@@ -1,7 +1,7 @@
 //! The program: its options, its statuses, and its lines on the sink for errors.
 ghost use Rattle.std.specs.Prelude.{◌≡◌, ◌≢◌, ◌≤◌, ◌↔◌, false, true};
 ghost use Rattle.std.specs.Io.KnownBytes.{IsAtEnd, Keeps};
-ghost use Rattle.htmd_cli.specs.Failures.{FailsAtErr};
+ghost use Rattle.htmd_streams.specs.Ends.{FailsAtErr};
 ghost use Rattle.htmd_cli.specs.Rows.{AnswersFirst, AnswersSome, ConvertsRows, Succeeds};
 ghost use Rattle.htmd_cli.specs.Runs.{Converts};
 ghost use Rattle.htmd_cli.specs.OptionRows.{request_in};
@@ -9,15 +9,14 @@ ghost use Rattle.htmd_cli.specs.Options.{are_known, request_by};
 ghost use Rattle.htmd_cli.specs.Settings.{settings_in};
 
 use crate::explanations::explain;
-use crate::faults::{Failed, RunError};
+use crate::faults::RunError;
 use crate::help::{write_help, write_version};
 use crate::options::{Notice, OptionFault, Request, request_of};
 use crate::pipeline::run_over;
 use crate::reports::Lines;
 use crate::rows::run_rows;
 use crate::settings::Settings;
-use crate::sinks::Sink;
-use crate::sources::Source;
+use htmd_streams::{Failed, Sink, Source};
 use std::alloc::Global;
 use std::fmt::Write;
 

@@ -4,7 +4,7 @@ ghost use Rattle.std.specs.Io.KnownBytes.{Appends};
 
 use crate::explanations::explain;
 use crate::faults::RunError;
-use crate::sinks::{Sink, write_all};
+use htmd_streams::{Sink, write_all};
 use std::fmt;
 use std::fmt::Write;
 

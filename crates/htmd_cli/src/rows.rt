@@ -5,21 +5,20 @@ ghost use Rattle.std.specs.Io.KnownBytes.{Appends};
 ghost use Rattle.htmd.specs.Characters.{line_feed};
 ghost use Rattle.htmd_cli.specs.Batches.{Answers, followed, rows_from, rows_left};
 ghost use Rattle.htmd_cli.specs.Conversion.{GoesBy};
-ghost use Rattle.htmd_cli.specs.Failures.{AppendsSome, FailsAtErr, IsRowFault};
-ghost use Rattle.htmd_cli.specs.Lines.{lacks, rows};
+ghost use Rattle.htmd_streams.specs.Ends.{AppendsSome, FailsAtErr};
+ghost use Rattle.htmd_cli.specs.Failures.{IsRowFault};
+ghost use Rattle.htmd_streams.specs.Lines.{lacks, rows};
 ghost use Rattle.htmd_cli.specs.Rows.{ConvertsRows, IsRowAnswer, StopsAtRow, StopsInRows, counted};
 ghost use Rattle.htmd_cli.specs.Settings.{settings_in};
 
 use crate::answers::answer_row;
 use crate::conversion::converter_by;
-use crate::faults::{Failed, RowFault, RunError};
-use crate::lines::parted;
+use crate::faults::{RowFault, RunError};
 use crate::reports::report;
 use crate::settings::Settings;
-use crate::sinks::{Sink, write_all};
-use crate::sources::Source;
 use htmd::HtmlToMarkdown;
 use htmd::element_handler::Registry;
+use htmd_streams::{Failed, Sink, Source, parted, write_all};
 use std::alloc::{AllocError, Global};
 
 const BUFFER_SIZE: usize = 65536;

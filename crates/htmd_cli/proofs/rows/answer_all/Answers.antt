@@ -4,7 +4,7 @@ use Rattle.std.specs.Io.KnownBytes.{IsAtEnd}
 use Rattle.htmd.specs.Characters.{line_feed}
 use Rattle.htmd_cli.specs.Batches.{Answers, followed, rows_from, rows_left}
 use Rattle.htmd_cli.specs.Settings.{settings_in}
-use Rattle.htmd_cli.specs.Lines.{lacks}
+use Rattle.htmd_streams.specs.Lines.{lacks}
 use Rattle.htmd_cli.specs.Rows.{counted}
 use Rattle.htmd_cli.proofs.BatchesLemmas.{Progress-step, Progress-kept, batch_rests, batch_breaks, batch_ends}
 use Rattle.htmd_cli.proofs.BatchesLemmas.{batch_stops, some_rest, none_read}

@@ -2,7 +2,7 @@
 use Rattle.std.proofs.Common.{◌≡◌, [], true, false, vec_items}
 use Rattle.htmd.specs.Characters.{line_feed}
 use Rattle.htmd_cli.specs.Settings.{settings_in}
-use Rattle.htmd_cli.specs.Lines.{lacks}
+use Rattle.htmd_streams.specs.Lines.{lacks}
 use Rattle.htmd_cli.proofs.BatchesLemmas.{Progress}
 use Rattle.htmd_cli.proofs.rows.answer_all.Given as goal
 

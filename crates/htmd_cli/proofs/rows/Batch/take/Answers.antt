@@ -4,7 +4,7 @@ use Rattle.std.specs.Str.{bytes_eq}
 use Rattle.htmd.specs.Characters.{line_feed}
 use Rattle.htmd_cli.specs.Batches.{rows_from}
 use Rattle.htmd_cli.specs.Settings.{settings_in}
-use Rattle.htmd_cli.specs.Lines.{end_mark, lacks}
+use Rattle.htmd_streams.specs.Lines.{end_mark, lacks}
 use Rattle.htmd_cli.proofs.BatchesLemmas.{Answers-none, Answers-row, Answers-then, Answers-like, stopped}
 use Rattle.htmd_cli.proofs.BatchesLemmas.{row_ends, data_ends, lacks_on}
 use Rattle.htmd_cli.proofs.rows.Batch.take.Goals as goal

@@ -3,7 +3,7 @@ use Rattle.std.proofs.Common.{◌≡◌, ◌++◌, true, length, vec_items}
 use Rattle.htmd.specs.Characters.{line_feed}
 use Rattle.htmd_cli.specs.Batches.{Answers, rows_from}
 use Rattle.htmd_cli.specs.Settings.{settings_in}
-use Rattle.htmd_cli.specs.Lines.{lacks}
+use Rattle.htmd_streams.specs.Lines.{lacks}
 use Rattle.htmd_cli.proofs.rows.Batch.take.Given as goal
 
 abbrev pub invariant-loop-front : goal.invariant-loop-front

@@ -1,6 +1,0 @@
--- A write that is interrupted appends nothing.
-use Rattle.std.specs.Io.KnownBytes.{Keeps}
-use Rattle.htmd_cli.proofs.sinks.write_uninterrupted.Given as goal
-
-abbrev pub invariant-loop : goal.invariant-loop
-invariant-loop g l = Keeps (g.W.Write.contents l.initial.writer) (g.W.Write.contents l.writer)

@@ -1,6 +1,0 @@
--- A read that is interrupted consumes nothing.
-use Rattle.std.specs.Io.KnownBytes.{Keeps}
-use Rattle.htmd_cli.proofs.sources.read_uninterrupted.Given as goal
-
-abbrev pub invariant-loop : goal.invariant-loop
-invariant-loop g l = Keeps (g.R.Read.remaining l.initial.reader) (g.R.Read.remaining l.reader)
