@@ -1,7 +1,7 @@
 -- How large the answers to an input are.
 use Rattle.std.specs.Prelude.{◌≡◌, ℕ, List, true, length}
 use Rattle.htmd_text.specs.EscapeMarks.{escaped_markdown}
-use Rattle.htmd_text.specs.WhiteSpace.{squeezed_text}
+use Rattle.htmd_text.specs.SqueezedTexts.{squeezed_text}
 use Rattle.htmd_tree.specs.Items.{Item, children_of}
 use Rattle.htmd.specs.BuiltIn.{built_in}
 use Rattle.htmd.specs.Conversions.{IsTreeOf, IsMarkdownOf}

@@ -2,11 +2,18 @@
 use Rattle.std.proofs.Common.{◌≡◌, ℕ, ◌+◌, ◌-◌, ◌<◌, ◌≤◌, Bool, true, false, List, []}
 use Rattle.std.proofs.Common.{◌∷◌, length, take, drop, get_or}
 use Rattle.std.proofs.Common.{refl, ap, sym, ◌∙◌, arith}
+use Rattle.std.proofs.lemmas.Bool.Decides.{nat_tests}
 use Rattle.std.proofs.lemmas.List.{drop_more}
 use Rattle.std.proofs.lemmas.Slice.{between_to_end}
-use Rattle.htmd_text.proofs.Cases.{test}
+use Rattle.htmd_grammar.proofs.Cases.{test}
 use Rattle.htmd_grammar.specs.CharacterClasses.{leading_run, behind_run, up_to, onward, begins_in_any_case}
 use Rattle.htmd_grammar.specs.RawContent.{goes_on_with_name}
+use Rattle.htmd_grammar.specs.WhiteSpace.{is_ascii_white_space}
+
+-- ---- white space
+
+pub white_is_ascii : (b : ℕ) → is_ascii_white_space b ≡ true → b < 128
+white_is_ascii b white = grind (arith, nat_tests)
 
 -- ---- runs of characters that pass a test
 

@@ -3,7 +3,7 @@ use Rattle.std.proofs.Common.{Bool, Err, List, Ok, [], ap, arith, false, length,
 use Rattle.std.proofs.Common.{zero, ℕ, ◌&&◌, ◌+◌, ◌<◌, ◌∙◌, ◌≡◌}
 use Rattle.std.proofs.lemmas.Bool.Decides.{nat_tests}
 use Rattle.std.specs.Prelude.{nat_le}
-use Rattle.htmd_text.specs.Characters.{null}
+use Rattle.htmd_grammar.specs.Characters.{null}
 use Rattle.htmd_grammar.specs.CharacterClasses.{is_empty, lacks}
 use Rattle.htmd_grammar.specs.Documents.{ReadsDocument, above_body, document_tree}
 use Rattle.htmd_grammar.specs.Faults.{IsFault}

@@ -12,7 +12,7 @@ use Rattle.htmd_grammar.specs.Rules.{character_named}
 use Rattle.htmd_grammar.specs.Serialisation.{escaped_html, is_no_break_space, text_byte, value_byte}
 use Rattle.htmd_grammar.proofs.BooleanLemmas.{lacks-append}
 use Rattle.htmd_grammar.proofs.ReferencedLineFeeds.{refers_first, refers_nothing, refers_plain, refers_split}
-use Rattle.htmd_text.proofs.Cases.{test}
+use Rattle.htmd_grammar.proofs.Cases.{test}
 
 -- the names that the serialiser writes
 pub record HasEscapes (names : Names) : Type 0 where

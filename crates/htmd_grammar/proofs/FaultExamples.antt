@@ -3,7 +3,7 @@ use lib.Utf8.{encode}
 use Rattle.std.proofs.Common.{Err, List, [], arith, codes, false, inl, length, refl, true, ℕ, ◌&&◌, ◌++◌, ◌+◌, ◌<◌, ◌≡◌}
 use Rattle.std.proofs.lemmas.Bool.Decides.{nat_tests}
 use Rattle.std.specs.Prelude.{nat_le}
-use Rattle.htmd_text.specs.Characters.{null}
+use Rattle.htmd_grammar.specs.Characters.{null}
 use Rattle.htmd_grammar.specs.CharacterClasses.{is_empty, lacks}
 use Rattle.htmd_grammar.specs.Documents.{above_body, byte_order_mark}
 use Rattle.htmd_grammar.specs.Faults.{IsFault}

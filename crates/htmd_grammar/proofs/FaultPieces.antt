@@ -7,10 +7,10 @@ use Rattle.std.specs.Char.{to_ascii_lowercase}
 use Rattle.std.specs.List.{list_any}
 use Rattle.std.proofs.lemmas.Bool.{not-true, and_parts, or_parts}
 use Rattle.std.proofs.Math.Bool.{or-true}
-use Rattle.htmd_text.specs.Characters.{ampersand, carriage_return, exclamation_mark, greater_than_sign, hyphen}
-use Rattle.htmd_text.specs.Characters.{less_than_sign, line_feed, number_sign, semicolon, slash}
-use Rattle.htmd_text.specs.WhiteSpace.{is_ascii_white_space}
-use Rattle.htmd_text.proofs.Cases.{test}
+use Rattle.htmd_grammar.specs.Characters.{ampersand, carriage_return, exclamation_mark, greater_than_sign, hyphen}
+use Rattle.htmd_grammar.specs.Characters.{less_than_sign, line_feed, number_sign, semicolon, slash}
+use Rattle.htmd_grammar.specs.WhiteSpace.{is_ascii_white_space}
+use Rattle.htmd_grammar.proofs.Cases.{test}
 use Rattle.htmd_grammar.specs.CharacterClasses.{begins_in_any_case, begins_with, behind_run, first_is, is_tag_name}
 use Rattle.htmd_grammar.specs.CharacterClasses.{is_tag_name_byte, lacks, leading_run}
 use Rattle.htmd_grammar.specs.Comments.{before_comment_end, is_comment_text}

@@ -19,7 +19,7 @@ use Rattle.htmd_grammar.proofs.NestingLemmas.{no_text_alone, one_name, tbody_pla
 use Rattle.htmd_grammar.proofs.TagReadingLemmas.{halts_name, rest_halts}
 use Rattle.htmd_grammar.proofs.TextLemmas.{Stops, name_cut, name_head, no_tag, run_not_stop}
 use Rattle.htmd_grammar.proofs.TreeTexts.{Inside, IsTextTree, node_no_title, row_start, stops_after}
-use Rattle.htmd_text.proofs.Cases.{test}
+use Rattle.htmd_grammar.proofs.Cases.{test}
 
 -- a text comes last
 abbrev pub ends_in_text : ValueForest → Bool

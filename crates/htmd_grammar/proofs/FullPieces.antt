@@ -13,7 +13,7 @@ use Rattle.htmd_grammar.specs.References.{wrong}
 use Rattle.htmd_grammar.specs.Rules.{character_named}
 use Rattle.htmd_grammar.proofs.BooleanLemmas.{and_false, if_then}
 use Rattle.htmd_grammar.proofs.ReferencesLemmas.{stands_same}
-use Rattle.htmd_text.proofs.Cases.{test}
+use Rattle.htmd_grammar.proofs.Cases.{test}
 
 encode_full : (c : ℕ) → encode c ≢ []
 unfolding encode

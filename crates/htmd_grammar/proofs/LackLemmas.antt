@@ -23,7 +23,7 @@ use Rattle.htmd_grammar.proofs.BooleanLemmas.{all_pass, lacks-append}
 use Rattle.htmd_grammar.proofs.NestingLemmas.{one_name}
 use Rattle.htmd_grammar.proofs.TagsLemmas.{AreTreeKeys, IsTreeName, decoded_names, tree_keys, tree_name}
 use Rattle.htmd_grammar.proofs.TreeTexts.{Inside}
-use Rattle.htmd_text.proofs.Cases.{test}
+use Rattle.htmd_grammar.proofs.Cases.{test}
 
 abbrev mutual
   -- the texts, comments and values of a tree lack the byte

@@ -1,4 +1,5 @@
 -- The lemmas of the grammar: what is written and read back, the steps of a reader, fronts, faults, and worked examples.
+pub mod Cases
 pub mod SerialisationLemmas
 pub mod RawBlocksLemmas
 mod Examples

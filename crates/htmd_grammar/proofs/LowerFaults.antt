@@ -3,8 +3,8 @@ use Rattle.std.proofs.Common.{Bool, List, None, [], ap, arith, codes, false, inl
 use Rattle.std.proofs.Common.{ℕ, ◌<◌, ◌∙◌, ◌∷◌, ◌≡◌, ◌≤◌, ◌⊎◌}
 use Rattle.std.specs.Char.{is_ascii_alphabetic}
 use Rattle.std.specs.List.{list_all, list_any}
-use Rattle.htmd_text.specs.Characters.{exclamation_mark, less_than_sign, slash}
-use Rattle.htmd_text.specs.WhiteSpace.{is_ascii_white_space}
+use Rattle.htmd_grammar.specs.Characters.{exclamation_mark, less_than_sign, slash}
+use Rattle.htmd_grammar.specs.WhiteSpace.{is_ascii_white_space}
 use Rattle.htmd_grammar.specs.CharacterClasses.{are_distinct, begins_with, up_to}
 use Rattle.htmd_grammar.specs.Documents.{above_body}
 use Rattle.htmd_grammar.specs.Faults.{HasComment, HasEndTag, HasPiece, HasTagForm, Applies, begins_tag, context_for}

@@ -11,7 +11,7 @@ use Rattle.htmd_grammar.specs.Nesting.{is_outside, is_row, is_table, is_table_pa
 use Rattle.htmd_grammar.specs.RawContent.{holds_text_alone}
 use Rattle.htmd_grammar.specs.Serialisation.{is_void}
 use Rattle.htmd_grammar.proofs.BooleanLemmas.{and_false}
-use Rattle.htmd_text.proofs.Cases.{test}
+use Rattle.htmd_grammar.proofs.Cases.{test}
 
 pub same_bytes : (n m : List ℕ) → bytes_eq n m ≡ true → n ≡ m
 same_bytes n m e = (bytes_eq-Decides n m).0 e

@@ -8,8 +8,8 @@ use Rattle.std.specs.Str.{IsUtf8}
 use Rattle.std.proofs.lemmas.Bool.Decides.{nat_tests}
 use Rattle.std.proofs.lemmas.Str.{lead_after_ascii}
 use Rattle.std.proofs.lemmas.Bool.{and_parts}
-use Rattle.htmd_text.proofs.Cases.{test}
-use Rattle.htmd_text.specs.WhiteSpace.{is_ascii_white_space}
+use Rattle.htmd_grammar.proofs.Cases.{test}
+use Rattle.htmd_grammar.specs.WhiteSpace.{is_ascii_white_space}
 use Rattle.htmd_grammar.specs.CharacterClasses.{is_empty, begins_in_any_case, leading_run, behind_run}
 use Rattle.htmd_grammar.specs.Comments.{white_space_and_name, doctype_name, behind_doctype}
 

@@ -9,13 +9,13 @@ use Rattle.std.specs.Char.{is_whitespace}
 use Rattle.std.specs.List.{list_any, list_all}
 use Rattle.std.specs.Str.{IsUtf8, chars, encode_utf8_all}
 use lib.Utf8.{encode}
-use Rattle.htmd_text.specs.Characters.{line_feed, carriage_return}
-use Rattle.htmd_text.specs.BlankLines.{with_blank_lines}
+use Rattle.htmd_grammar.specs.Characters.{line_feed, carriage_return}
+use Rattle.htmd_grammar.specs.BlankLines.{with_blank_lines}
 use Rattle.htmd_grammar.specs.RawBlocks.{line_feed_reference, begins_line, without_blank_lines, raw_block, HasBlankLine}
 use Rattle.htmd_grammar.specs.RawBlocks.{has_carriage_return, raw_html_from, raw_html, RefersToLineFeeds, nothing, same}
 use Rattle.htmd_grammar.specs.RawBlocks.{reference, IsRawBlock}
 use Rattle.htmd_grammar.specs.SerialiserSteps.{has_blank_line_from, has_blank_line}
-use Rattle.htmd_text.proofs.Cases.{test}
+use Rattle.htmd_grammar.proofs.Cases.{test}
 
 -- ---- texts without CR
 

@@ -6,8 +6,8 @@ use Rattle.std.proofs.lemmas.Str.{encodes-chars}
 use Rattle.std.specs.List.{list_any}
 use Rattle.std.specs.Str.{IsUtf8, chars, encode_utf8_all}
 use lib.Utf8.{encode}
-use Rattle.htmd_text.specs.BlankLines.{with_blank_lines}
-use Rattle.htmd_text.proofs.Cases.{test}
+use Rattle.htmd_grammar.specs.BlankLines.{with_blank_lines}
+use Rattle.htmd_grammar.proofs.Cases.{test}
 use Rattle.htmd_grammar.specs.CharacterClasses.{lacks}
 use Rattle.htmd_grammar.specs.RawBlocks.{RefersToLineFeeds, raw_block, raw_html}
 use Rattle.htmd_grammar.proofs.RawBlocksLemmas.{raw_block-raw_html}

@@ -3,8 +3,8 @@ use Rattle.std.proofs.Common.{Bool, List, [], codes, false, inl, inr, refl, subs
 use Rattle.std.specs.Prelude.{if◌then◌else◌, ◌==◌}
 use Rattle.std.proofs.lemmas.Bool.{eqb-true}
 use lib.Utf8.{encode}
-use Rattle.htmd_text.specs.Characters.{line_feed}
-use Rattle.htmd_text.proofs.Cases.{test}
+use Rattle.htmd_grammar.specs.Characters.{line_feed}
+use Rattle.htmd_grammar.proofs.Cases.{test}
 use Rattle.htmd_grammar.specs.Documents.{above_body, below_body}
 use Rattle.htmd_grammar.specs.Grammar.{reads}
 use Rattle.htmd_grammar.specs.Nesting.{is_allowed}

@@ -25,7 +25,7 @@ use Rattle.htmd_grammar.proofs.EscapeLemmas.{HasEscapes, text_back}
 use Rattle.htmd_grammar.proofs.NestingLemmas.{one_name, tbody_not_void}
 use Rattle.htmd_grammar.proofs.ReferencedLineFeeds.{refers_nothing, refers_split}
 use Rattle.htmd_grammar.proofs.TagsLemmas.{IsTreeName, end_tag_back, start_tag_back, tree_name}
-use Rattle.htmd_text.proofs.Cases.{test}
+use Rattle.htmd_grammar.proofs.Cases.{test}
 
 -- without `<` there is no markup
 pub no_markup : (b : ℕ) (s : List ℕ) → (b == 60) ≡ false → begins_markup (b ∷ s) ≡ false

@@ -15,7 +15,7 @@ use Rattle.htmd_grammar.specs.Steps.{has_unknown_reference, is_unknown}
 use Rattle.htmd_grammar.proofs.BooleanLemmas.{if_then, lacks-append}
 use Rattle.htmd_grammar.proofs.TagReadingLemmas.{back_split}
 use Rattle.htmd_grammar.proofs.TagSpellingLemmas.{at_head}
-use Rattle.htmd_text.proofs.Cases.{test}
+use Rattle.htmd_grammar.proofs.Cases.{test}
 
 -- what is in no piece after its first byte
 pub record IsBound (c : ℕ) : Type 0 where

@@ -27,7 +27,7 @@ use Rattle.htmd_grammar.proofs.Readings.{Middle, conf_start, kept}
 use Rattle.htmd_grammar.proofs.Soundness.{IsConf, flag, not_none, not_stops}
 use Rattle.htmd_grammar.proofs.StepFaults.{step_faulty}
 use Rattle.htmd_grammar.proofs.TreeTexts.{IsTextTree, node_no_title}
-use Rattle.htmd_text.proofs.Cases.{test}
+use Rattle.htmd_grammar.proofs.Cases.{test}
 
 module _ (rules : Rules) where
   -- if elements could stand there, a list of trees ends with something other than a text

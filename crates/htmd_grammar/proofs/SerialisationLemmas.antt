@@ -9,7 +9,7 @@ use Rattle.std.proofs.lemmas.Bool.{cases_eq, cases_lt}
 use Rattle.std.proofs.lemmas.Str.{encode_ascii}
 use Rattle.htmd_grammar.specs.Serialisation.{is_no_break_space, text_byte, value_byte, escaped_html}
 use Rattle.htmd_grammar.specs.SerialiserSteps.{escaped_html_char}
-use Rattle.htmd_text.proofs.Cases.{test}
+use Rattle.htmd_grammar.proofs.Cases.{test}
 
 -- one more piece of a text is after what was written
 pub turn : (out new piece rest total : List ℕ) → new ≡ out ++ piece → out ++ (piece ++ rest) ≡ total

@@ -7,10 +7,10 @@ use Rattle.std.specs.List.{list_all, list_any}
 use Rattle.std.specs.Str.{bytes_eq}
 use Rattle.std.proofs.lemmas.Bool.{not-true, not-false, and_parts, eqb-true, ltb-true}
 use Rattle.std.proofs.Math.Bool.{or-false}
-use Rattle.htmd_text.specs.Characters.{exclamation_mark, greater_than_sign, hyphen, less_than_sign, question_mark}
-use Rattle.htmd_text.specs.Characters.{slash}
-use Rattle.htmd_text.specs.WhiteSpace.{is_ascii_white_space}
-use Rattle.htmd_text.proofs.Cases.{test}
+use Rattle.htmd_grammar.specs.Characters.{exclamation_mark, greater_than_sign, hyphen, less_than_sign, question_mark}
+use Rattle.htmd_grammar.specs.Characters.{slash}
+use Rattle.htmd_grammar.specs.WhiteSpace.{is_ascii_white_space}
+use Rattle.htmd_grammar.proofs.Cases.{test}
 use Rattle.htmd_grammar.specs.CharacterClasses.{are_distinct, begins_with, behind_run, first_is, is_empty, is_tag_name}
 use Rattle.htmd_grammar.specs.CharacterClasses.{is_tag_name_byte, leading_run, onward, up_to}
 use Rattle.htmd_grammar.specs.Comments.{before_comment_end, is_comment_text, normalized}

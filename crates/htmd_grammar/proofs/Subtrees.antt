@@ -18,7 +18,7 @@ use Rattle.htmd_grammar.proofs.LackLemmas.{ser_no_carriage_return}
 use Rattle.htmd_grammar.proofs.RawReadBack.{block_refers}
 use Rattle.htmd_grammar.proofs.ReadBackLemmas.{node_back}
 use Rattle.htmd_grammar.proofs.Uniqueness.{unique_in}
-use Rattle.htmd_text.proofs.Cases.{test}
+use Rattle.htmd_grammar.proofs.Cases.{test}
 
 module _ (rules : Rules) (d : Context) (k : List ℕ) (attributes : List AttributePair) (us : ValueForest) where
   abbrev Sought : ValueTree

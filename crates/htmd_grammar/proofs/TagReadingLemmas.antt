@@ -5,8 +5,8 @@ use Rattle.std.proofs.lemmas.Bool.Decides.{nat_tests}
 use Rattle.std.specs.List.{list_all}
 use Rattle.std.specs.Prelude.{◌==◌}
 use Rattle.std.proofs.lemmas.Bool.{not-false, not-true, and_parts}
-use Rattle.htmd_text.specs.WhiteSpace.{is_ascii_white_space}
-use Rattle.htmd_text.proofs.Cases.{test}
+use Rattle.htmd_grammar.specs.WhiteSpace.{is_ascii_white_space}
+use Rattle.htmd_grammar.proofs.Cases.{test}
 use Rattle.htmd_grammar.specs.CharacterClasses.{behind_run, first_is, is_attribute_name, is_attribute_name_byte}
 use Rattle.htmd_grammar.specs.CharacterClasses.{is_empty, is_tag_name_byte, is_unquoted_byte, lacks, leading_run}
 use Rattle.htmd_grammar.specs.Steps.{body}

@@ -20,7 +20,7 @@ use Rattle.htmd_grammar.proofs.BooleanLemmas.{and_false}
 use Rattle.htmd_grammar.proofs.Completeness.{at_piece, nodes_read}
 use Rattle.htmd_grammar.proofs.NestingLemmas.{one_name, same_bytes, text_alone_passes}
 use Rattle.htmd_grammar.proofs.TextLemmas.{Stops, begins_name-lower, name_cut}
-use Rattle.htmd_text.proofs.Cases.{test}
+use Rattle.htmd_grammar.proofs.Cases.{test}
 
 -- what ends any text there, and isn't a tag
 abbrev bar : Bool → List ℕ → List ℕ

@@ -4,7 +4,7 @@ use Rattle.std.specs.Prelude.{ℕ, Bool, true, false, not, ◌&&◌, ◌||◌, �
 use Rattle.std.specs.List.{list_any, list_all}
 use Rattle.std.specs.Str.{bytes_eq}
 use Rattle.std.specs.Char.{to_ascii_lowercase, is_ascii_alphabetic, is_ascii_alphanumeric, is_ascii_control}
-use Rattle.htmd_text.specs.Characters.{
+use Rattle.htmd_grammar.specs.Characters.{
   quotation_mark,
   apostrophe,
   hyphen,
@@ -17,7 +17,7 @@ use Rattle.htmd_text.specs.Characters.{
   underscore,
   grave_accent,
 }
-use Rattle.htmd_text.specs.WhiteSpace.{is_ascii_white_space}
+use Rattle.htmd_grammar.specs.WhiteSpace.{is_ascii_white_space}
 
 -- ---- how a text begins
 

@@ -1,8 +1,8 @@
 -- Comments (HTML Standard, 13.1.6) and the doctype (13.1.1).
 use Rattle.std.specs.Prelude.{◌≡◌, ℕ, Bool, true, not, ◌&&◌, ◌==◌, if◌then◌else◌, List, [], ◌∷◌, ◌++◌, drop, Option}
 use Rattle.std.specs.Prelude.{Some, None, option_map, codes}
-use Rattle.htmd_text.specs.Characters.{line_feed, carriage_return, greater_than_sign}
-use Rattle.htmd_text.specs.WhiteSpace.{is_ascii_white_space}
+use Rattle.htmd_grammar.specs.Characters.{line_feed, carriage_return, greater_than_sign}
+use Rattle.htmd_grammar.specs.WhiteSpace.{is_ascii_white_space}
 use Rattle.htmd_grammar.specs.CharacterClasses.{first_is, begins_with, begins_in_any_case, behind_run, holds}
 
 -- a text without references, where CR LF and a lone CR are a line feed

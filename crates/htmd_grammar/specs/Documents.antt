@@ -1,6 +1,6 @@
 -- A whole document: a byte order mark, a doctype, and the content of `body`.
 use Rattle.std.specs.Prelude.{◌≡◌, ℕ, true, if◌then◌else◌, List, [], ◌∷◌, drop, Option, Some, None, codes}
-use Rattle.htmd_text.specs.Characters.{null}
+use Rattle.htmd_grammar.specs.Characters.{null}
 use Rattle.htmd_grammar.specs.ValueTrees.{ValueTree, document, doctype, element, ValueForest, none, more}
 use Rattle.htmd_grammar.specs.CharacterClasses.{begins_with, lacks}
 use Rattle.htmd_grammar.specs.Rules.{Rules}

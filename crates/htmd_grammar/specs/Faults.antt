@@ -3,8 +3,8 @@ use Rattle.std.specs.Prelude.{◌≡◌, ◌≢◌, ◌⊎◌, ℕ, ◌<◌, ◌
 use Rattle.std.specs.Prelude.{[], ◌∷◌, ◌++◌, length, codes, None}
 use Rattle.std.specs.List.{list_any, list_all}
 use Rattle.std.specs.Char.{is_ascii_alphabetic}
-use Rattle.htmd_text.specs.Characters.{null, slash, less_than_sign}
-use Rattle.htmd_text.specs.WhiteSpace.{is_ascii_white_space}
+use Rattle.htmd_grammar.specs.Characters.{null, slash, less_than_sign}
+use Rattle.htmd_grammar.specs.WhiteSpace.{is_ascii_white_space}
 use Rattle.htmd_grammar.specs.ValueTrees.{AttributePair, ValueForest, none}
 use Rattle.htmd_grammar.specs.CharacterClasses.{begins_with, lacks, up_to, are_distinct}
 use Rattle.htmd_grammar.specs.Rules.{Rules}

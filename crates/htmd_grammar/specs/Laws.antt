@@ -1,6 +1,6 @@
 -- The laws of a reader's steps and of their faults.
 use Rattle.std.specs.Prelude.{◌≡◌, ℕ, ◌+◌, ◌≤◌, ◌<◌, true, false, ◌&&◌, List, [], ◌∷◌, ◌++◌, length, Err}
-use Rattle.htmd_text.specs.Characters.{null}
+use Rattle.htmd_grammar.specs.Characters.{null}
 use Rattle.htmd_grammar.specs.ValueTrees.{ValueTree, ValueForest}
 use Rattle.htmd_grammar.specs.CharacterClasses.{lacks}
 use Rattle.htmd_grammar.specs.Rules.{Rules}

@@ -1,7 +1,10 @@
--- The strict grammar, in reading order: value trees, what attributes stand for, what trees are written as; the rules;
--- characters, references, tags, comments, raw content, nesting, the relation, the document; what is read back; steps
--- of a reader and its open elements; fronts, faults and their names; the laws; last what the serialiser's own functions
--- alone cite.
+-- The strict grammar, in reading order: characters and white space; value trees, what attributes stand for, what
+-- trees are written as; the rules; characters, references, tags, comments, raw content, nesting, the relation, the
+-- document; what is read back; steps of a reader and its open elements; fronts, faults and their names; the laws;
+-- last what the serialiser's own functions alone cite.
+pub mod Characters
+pub mod WhiteSpace
+pub mod BlankLines
 pub mod ValueTrees
 pub mod Attributes
 pub mod Serialisation

@@ -3,7 +3,7 @@ use Rattle.std.specs.Prelude.{ℕ, Bool, true, false, ◌&&◌, ◌||◌, ◌==�
 use Rattle.std.specs.Prelude.{◌∷◌, map, codes}
 use Rattle.std.specs.Str.{bytes_eq}
 use Rattle.std.specs.Char.{to_ascii_lowercase}
-use Rattle.htmd_text.specs.Characters.{slash, less_than_sign}
+use Rattle.htmd_grammar.specs.Characters.{slash, less_than_sign}
 use Rattle.htmd_grammar.specs.ValueTrees.{AttributePair, ValueTree, element, ValueForest, none, more}
 use Rattle.htmd_grammar.specs.CharacterClasses.{leading_run}
 use Rattle.htmd_grammar.specs.CharacterClasses.{is_tag_name_byte}

@@ -3,8 +3,8 @@
 use Rattle.std.specs.Prelude.{◌≡◌, ◌⊎◌, ℕ, Bool, true, false, not, ◌&&◌, ◌||◌, List, [], ◌∷◌, codes}
 use Rattle.std.specs.List.{list_all}
 use Rattle.std.specs.Str.{IsUtf8}
-use Rattle.htmd_text.specs.BlankLines.{with_blank_lines}
-use Rattle.htmd_text.specs.Characters.{carriage_return}
+use Rattle.htmd_grammar.specs.BlankLines.{with_blank_lines}
+use Rattle.htmd_grammar.specs.Characters.{carriage_return}
 use Rattle.htmd_grammar.specs.ValueTrees.{AttributePair, ValueTree, document, doctype, text, comment, element}
 use Rattle.htmd_grammar.specs.ValueTrees.{ValueForest, none, more}
 use Rattle.htmd_grammar.specs.CharacterClasses.{lacks, is_among}

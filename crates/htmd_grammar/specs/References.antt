@@ -4,7 +4,7 @@ use Rattle.std.specs.Prelude.{ℕ, zero, suc, ◌+◌, ◌-◌, ◌*◌, Bool, n
 use Rattle.std.specs.Prelude.{[], ◌∷◌, ◌++◌, length, drop, Option, Some, None, codes}
 use Rattle.std.specs.Str.{bytes_eq}
 use Rattle.std.specs.Char.{encode_utf8, to_ascii_lowercase, is_ascii_digit, is_ascii_hexdigit, is_ascii_alphanumeric}
-use Rattle.htmd_text.specs.Characters.{
+use Rattle.htmd_grammar.specs.Characters.{
   line_feed,
   carriage_return,
   number_sign,

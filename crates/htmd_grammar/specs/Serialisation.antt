@@ -3,8 +3,8 @@
 use Rattle.std.specs.Prelude.{ℕ, Bool, false, ◌&&◌, ◌==◌, if◌then◌else◌, List, [], ◌∷◌, ◌++◌, codes}
 use Rattle.std.specs.List.{flat_map, list_any}
 use Rattle.std.specs.Str.{bytes_eq}
-use Rattle.htmd_text.specs.Characters.{quotation_mark, ampersand, less_than_sign, greater_than_sign}
-use Rattle.htmd_text.specs.Characters.{no_break_space_first_byte, no_break_space_second_byte}
+use Rattle.htmd_grammar.specs.Characters.{quotation_mark, ampersand, less_than_sign, greater_than_sign}
+use Rattle.htmd_grammar.specs.Characters.{no_break_space_first_byte, no_break_space_second_byte}
 use Rattle.htmd_grammar.specs.ValueTrees.{AttributePair, ValueTree, document, doctype, text, comment, element}
 use Rattle.htmd_grammar.specs.ValueTrees.{ValueForest, none, more}
 

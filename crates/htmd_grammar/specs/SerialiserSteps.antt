@@ -1,7 +1,7 @@
 -- What only the clauses of the serialiser's own functions say: one character, and a test for blank lines.
 use Rattle.std.specs.Prelude.{ℕ, Bool, true, false, ◌&&◌, ◌||◌, ◌==◌, if◌then◌else◌, List, [], ◌∷◌, codes}
 use Rattle.std.specs.Char.{encode_utf8, is_ascii, is_whitespace}
-use Rattle.htmd_text.specs.Characters.{line_feed, no_break_space}
+use Rattle.htmd_grammar.specs.Characters.{line_feed, no_break_space}
 
 -- what `escaped_html` writes for a character
 abbrev pub escaped_html_char : (ℕ → List ℕ) → ℕ → List ℕ

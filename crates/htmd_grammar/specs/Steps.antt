@@ -5,8 +5,8 @@ use Rattle.std.specs.Prelude.{◌∷◌, ◌++◌, length, map, drop, Option, So
 use Rattle.std.specs.List.{list_any, list_all}
 use Rattle.std.specs.Str.{bytes_eq}
 use Rattle.std.specs.Char.{to_ascii_lowercase}
-use Rattle.htmd_text.specs.Characters.{exclamation_mark, slash, greater_than_sign, question_mark}
-use Rattle.htmd_text.specs.WhiteSpace.{is_ascii_white_space}
+use Rattle.htmd_grammar.specs.Characters.{exclamation_mark, slash, greater_than_sign, question_mark}
+use Rattle.htmd_grammar.specs.WhiteSpace.{is_ascii_white_space}
 use Rattle.htmd_grammar.specs.ValueTrees.{AttributePair, ValueTree, text, comment, element, ValueForest, none}
 use Rattle.htmd_grammar.specs.CharacterClasses.{is_empty, first_is, begins_with, leading_run, behind_run, up_to, onward}
 use Rattle.htmd_grammar.specs.CharacterClasses.{is_tag_name_byte, is_tag_name, are_distinct}

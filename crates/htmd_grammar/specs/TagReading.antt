@@ -2,8 +2,8 @@
 -- that says what a text denotes spells tags by itself.
 use Rattle.std.specs.Prelude.{ℕ, zero, suc, Bool, true, false, not, ◌&&◌, ◌==◌, if◌then◌else◌, List, [], ◌∷◌, map, drop}
 use Rattle.std.specs.Char.{to_ascii_lowercase}
-use Rattle.htmd_text.specs.Characters.{quotation_mark, apostrophe, slash, equals_sign, greater_than_sign}
-use Rattle.htmd_text.specs.WhiteSpace.{is_ascii_white_space}
+use Rattle.htmd_grammar.specs.Characters.{quotation_mark, apostrophe, slash, equals_sign, greater_than_sign}
+use Rattle.htmd_grammar.specs.WhiteSpace.{is_ascii_white_space}
 use Rattle.htmd_grammar.specs.ValueTrees.{AttributePair}
 use Rattle.htmd_grammar.specs.CharacterClasses.{is_empty, first_is, leading_run, behind_run, is_attribute_name_byte}
 use Rattle.htmd_grammar.specs.CharacterClasses.{is_attribute_name, is_unquoted_byte}

@@ -2,9 +2,9 @@
 use Rattle.std.specs.Prelude.{◌≡◌, ◌≢◌, ◌⊎◌, ℕ, Bool, true, if◌then◌else◌, List, [], ◌∷◌, ◌++◌, map, Option, Some, None}
 use Rattle.std.specs.List.{list_all}
 use Rattle.std.specs.Char.{to_ascii_lowercase}
-use Rattle.htmd_text.specs.Characters.{quotation_mark, apostrophe, slash, less_than_sign, equals_sign}
-use Rattle.htmd_text.specs.Characters.{greater_than_sign}
-use Rattle.htmd_text.specs.WhiteSpace.{is_ascii_white_space}
+use Rattle.htmd_grammar.specs.Characters.{quotation_mark, apostrophe, slash, less_than_sign, equals_sign}
+use Rattle.htmd_grammar.specs.Characters.{greater_than_sign}
+use Rattle.htmd_grammar.specs.WhiteSpace.{is_ascii_white_space}
 use Rattle.htmd_grammar.specs.ValueTrees.{AttributePair}
 use Rattle.htmd_grammar.specs.CharacterClasses.{is_tag_name, is_attribute_name, is_unquoted_byte, leading_run, lacks}
 use Rattle.htmd_grammar.specs.CharacterClasses.{are_distinct}

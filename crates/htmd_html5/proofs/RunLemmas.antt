@@ -3,7 +3,7 @@ use Rattle.std.proofs.Common.{◌≡◌, ℕ, ◌<◌, true, false, List, length
 use Rattle.std.proofs.lemmas.Bool.Decides.{nat_tests}
 use Rattle.std.specs.Str.{IsUtf8, IsCharBoundary}
 use Rattle.htmd_grammar.specs.CharacterClasses.{leading_run}
-use Rattle.htmd_text.proofs.WhiteSpaceLemmas.{white_is_ascii}
+use Rattle.htmd_grammar.proofs.CharacterClassesLemmas.{white_is_ascii}
 use Rattle.htmd_grammar.proofs.RunsLemmas.{behind_last}
 use Rattle.htmd_html5_tokens.proofs.RunCuts.{cut_before_ascii}
 use Rattle.htmd_html5.specs.Runs.{is_of_kind}

@@ -1,7 +1,7 @@
 -- What a token of the tokenizer does; the mode "text" (HTML Standard, 13.2.6.4.8).
 use Rattle.std.specs.Prelude.{ℕ, Bool, true, false, ◌&&◌, if◌then◌else◌, List, drop}
 use Rattle.htmd_grammar.specs.CharacterClasses.{is_empty, first_is}
-use Rattle.htmd_text.specs.Characters.{line_feed}
+use Rattle.htmd_grammar.specs.Characters.{line_feed}
 use Rattle.htmd_html5_state.specs.Names.{NameValue, name_of_text}
 use Rattle.htmd_html5.specs.Tokens.{doctype, comment, StartTagValue, start_tag, end_tag, end_of_file}
 use Rattle.htmd_html5_state.specs.OpenElements.{pop}

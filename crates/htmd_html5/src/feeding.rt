@@ -1,6 +1,6 @@
 //! What a token of the tokenizer does.
 ghost use Rattle.std.specs.Prelude.{◌≡◌, true, false, drop, string_bytes, IfOk, MatchOption, OnOk};
-ghost use Rattle.htmd_text.specs.Characters.{line_feed};
+ghost use Rattle.htmd_grammar.specs.Characters.{line_feed};
 ghost use Rattle.htmd_grammar.specs.CharacterClasses.{first_is};
 ghost use Rattle.htmd_html5_state.specs.Names.{name_of};
 ghost use Rattle.htmd_html5.specs.Feeding as spec;

@@ -1,7 +1,7 @@
 //! The modes "in table" and "in table text".
 ghost use Rattle.std.specs.Prelude.{◌≡◌, ◌++◌, is_some, length, string_bytes, IfOk, IfSome, OnOk};
 ghost use Rattle.std.specs.List.{list_all};
-ghost use Rattle.htmd_text.specs.WhiteSpace.{is_ascii_white_space};
+ghost use Rattle.htmd_grammar.specs.WhiteSpace.{is_ascii_white_space};
 ghost use Rattle.htmd_html5_state.specs.Names.{name_of};
 ghost use Rattle.htmd_html5.specs.Answers.{answer};
 ghost use Rattle.htmd_html5.specs.BodyEnds.{end_in_body};

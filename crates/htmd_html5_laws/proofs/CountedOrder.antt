@@ -6,8 +6,8 @@ use Rattle.std.specs.Prelude.{◌==◌, filter, count_by, IsUtf8}
 use Rattle.std.specs.Str.{chars}
 use Rattle.std.proofs.lemmas.Bool.{true≢false, eqb-true}
 use Rattle.std.proofs.lemmas.List.Sums.{sum_by-cons}
-use Rattle.htmd_text.proofs.Cases.{test}
-use Rattle.htmd_text.specs.Characters.{null}
+use Rattle.htmd_grammar.proofs.Cases.{test}
+use Rattle.htmd_grammar.specs.Characters.{null}
 use Rattle.htmd_html5_tokens.specs.References.{replacement_character}
 use Rattle.htmd_html5.specs.Documents.{state_after, html5_document}
 use Rattle.htmd_tree.specs.Items.{greatest_depth}

@@ -4,7 +4,7 @@ use Rattle.std.proofs.Common.{zero, ℕ, ◌++◌, ◌∙◌, ◌∷◌, ◌≡�
 use Rattle.std.proofs.lemmas.Bool.{and_parts}
 use Rattle.std.specs.List.{list_any}
 use Rattle.std.specs.Prelude.{if◌then◌else◌, nat_lt, not, ◌&&◌, ◌-◌}
-use Rattle.htmd_text.proofs.Cases.{test}
+use Rattle.htmd_grammar.proofs.Cases.{test}
 use Rattle.htmd_html5_laws.proofs.EndedStacks.{Anchor, Has, around_has, close_name_has, firm_name, is_any, is_common}
 use Rattle.htmd_html5_laws.proofs.EndedStacks.{is_common_tag, is_firm, only_spares, popped_has, spared}
 use Rattle.htmd_html5_laws.proofs.EndedStates.{CommonAt, Ends, Guarded, Whole, apart, common_named, grown_guarded}

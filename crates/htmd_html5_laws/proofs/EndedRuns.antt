@@ -23,7 +23,7 @@ use Rattle.htmd_html5.specs.Tokens.{run}
 use Rattle.htmd_html5.specs.Processing.{by_rules, turns}
 use Rattle.htmd_html5_state.specs.Names.{known}
 use Rattle.htmd_html5_laws.proofs.EndedBody.{body_white, body_characters, run_in_body_ends, no_frameset_ends}
-use Rattle.htmd_text.specs.WhiteSpace.{is_ascii_white_space}
+use Rattle.htmd_grammar.specs.WhiteSpace.{is_ascii_white_space}
 use Rattle.std.specs.List.{list_all}
 use Rattle.htmd_grammar.specs.CharacterClasses.{is_empty}
 use Rattle.htmd_html5_state.specs.declared.names.TagName.TheVariants as tags

@@ -3,7 +3,7 @@ use Rattle.std.proofs.Common.{Bool, List, [], ap, false, inl, inr, refl, sym, tr
 use Rattle.std.proofs.lemmas.Bool.{and_parts, true≢false}
 use Rattle.std.specs.List.{list_any}
 use Rattle.std.specs.Prelude.{if◌then◌else◌, not, ◌&&◌, ◌==◌, ◌||◌}
-use Rattle.htmd_text.proofs.Cases.{test}
+use Rattle.htmd_grammar.proofs.Cases.{test}
 use Rattle.htmd_html5.specs.BodyStarts.{close_option}
 use Rattle.htmd_html5.specs.InSelect.{close_group, close_option_in_group}
 use Rattle.htmd_html5_laws.proofs.OpenNodes.{EachOpen}

@@ -1,6 +1,6 @@
 -- Whatever processes a token again goes forward in the order of the modes for that token or closes an element.
 use Rattle.std.proofs.lemmas.Bool.{true≢false}
-use Rattle.htmd_text.proofs.Cases.{test}
+use Rattle.htmd_grammar.proofs.Cases.{test}
 use Rattle.htmd_html5.specs.AfterBody.{back_to_body, end_after_body, start_after_body}
 use Rattle.htmd_html5.specs.AfterHead.{end_after_head, start_after_head}
 use Rattle.htmd_html5.specs.BeforeHead.{end_before_head, start_before_head}

@@ -5,7 +5,7 @@ use Rattle.std.proofs.Common.{inr, ◌⊎◌}
 use Rattle.std.specs.Prelude.{◌==◌, insert}
 use Rattle.std.proofs.lemmas.Bool.{eqb-true, eqb-false, eq-eqb, ne_eqb}
 use Rattle.std.proofs.lemmas.List.{length-set, length-append}
-use Rattle.htmd_text.proofs.Cases.{test}
+use Rattle.htmd_grammar.proofs.Cases.{test}
 use Rattle.htmd_html5_state.specs.Documents.{NodeValue, KindValue, new_node, parent_at, children_at, with_kind}
 use Rattle.htmd_html5_state.specs.Documents.{with_parent, with_children, with_parents, index_of, place_index}
 use Rattle.htmd_html5_state.specs.Documents.{without_child, remove_child, detach_from, detach, put_child, put, attach}

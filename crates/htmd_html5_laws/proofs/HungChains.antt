@@ -5,7 +5,7 @@ use Rattle.std.proofs.Common.{length, refl, sym, ap, subst, arith, Option, Some,
 use Rattle.std.specs.Prelude.{◌==◌, ◌&&◌, if◌then◌else◌, nat_lt}
 use Rattle.std.proofs.lemmas.Bool.{true≢false, and_parts, eqb-true, eqb-false}
 use Rattle.std.proofs.lemmas.List.{length-set}
-use Rattle.htmd_text.proofs.Cases.{test}
+use Rattle.htmd_grammar.proofs.Cases.{test}
 use Rattle.htmd_html5_state.specs.Documents.{NodeValue, KindValue, kind_at, parent_at, children_at, new_node, last_in}
 use Rattle.htmd_html5_state.specs.Documents.{detach, detach_from, remove_child}
 use Rattle.htmd_html5_state.specs.OpenElements.{OpenValue, is_open_node, inside, around}

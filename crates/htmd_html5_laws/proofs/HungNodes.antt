@@ -5,7 +5,7 @@ use Rattle.std.specs.Prelude.{◌==◌, insert, remove}
 use Rattle.std.specs.List.{list_any}
 use Rattle.std.proofs.lemmas.Bool.{true≢false, eqb-true, eqb-false, eq-eqb, ne_eqb}
 use Rattle.std.proofs.lemmas.List.{length-set}
-use Rattle.htmd_text.proofs.Cases.{test}
+use Rattle.htmd_grammar.proofs.Cases.{test}
 use Rattle.htmd_html5_state.specs.Documents.{NodeValue, KindValue, document, doctype, text, comment, element, new_node}
 use Rattle.htmd_html5_state.specs.Documents.{kind_at, parent_at, children_at, with_parent, with_children, is_number}
 use Rattle.htmd_html5_state.specs.Documents.{index_of, without_child, remove_child, detach_from, detach, with_parents}

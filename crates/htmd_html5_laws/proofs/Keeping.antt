@@ -4,7 +4,7 @@ use Rattle.std.proofs.Common.{Option, refl, sym, ap, subst, arith, All, inl, inr
 use Rattle.std.specs.Prelude.{if◌then◌else◌, IsUtf8, ◌==◌}
 use Rattle.std.proofs.lemmas.Bool.{true≢false, eqb-true}
 use Rattle.std.proofs.lemmas.List.{length-map}
-use Rattle.htmd_text.proofs.Cases.{test}
+use Rattle.htmd_grammar.proofs.Cases.{test}
 use Rattle.htmd_html5_state.specs.Names.{ElementNameValue}
 use Rattle.htmd_html5_state.specs.Documents.{KindValue, NodeValue, document}
 use Rattle.htmd_html5_state.specs.OpenElements.{OpenValue, is_open_node}

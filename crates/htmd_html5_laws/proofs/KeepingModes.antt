@@ -3,7 +3,7 @@ use Rattle.std.proofs.Common.{◌≡◌, ℕ, zero, suc, Bool, true, false, List
 use Rattle.std.proofs.Common.{refl}
 use Rattle.std.specs.Prelude.{if◌then◌else◌}
 use Rattle.std.proofs.lemmas.Bool.{true≢false}
-use Rattle.htmd_text.proofs.Cases.{test}
+use Rattle.htmd_grammar.proofs.Cases.{test}
 use Rattle.htmd_html5_state.specs.Names.{NameValue, text_of_name}
 use Rattle.htmd_html5_state.specs.OpenElements.{OpenValue}
 use Rattle.htmd_html5_state.specs.State.{StateValue, on_stack}

@@ -4,8 +4,8 @@ use Rattle.std.proofs.Common.{refl, sym, ap, arith, cond}
 use Rattle.std.specs.Prelude.{IsUtf8, if◌then◌else◌}
 use Rattle.std.specs.List.{list_all}
 use Rattle.std.proofs.lemmas.Bool.{true≢false, and_parts}
-use Rattle.htmd_text.specs.WhiteSpace.{is_ascii_white_space}
-use Rattle.htmd_text.proofs.Cases.{test}
+use Rattle.htmd_grammar.specs.WhiteSpace.{is_ascii_white_space}
+use Rattle.htmd_grammar.proofs.Cases.{test}
 use Rattle.htmd_grammar.specs.CharacterClasses.{is_empty, behind_run}
 use Rattle.htmd_html5_state.specs.OpenElements.{OpenValue, current_is}
 use Rattle.htmd_html5_state.specs.State.{StateValue}

@@ -6,8 +6,8 @@ use Rattle.std.specs.List.{list_all}
 use Rattle.std.specs.Char.{encode_utf8}
 use Rattle.std.proofs.lemmas.Bool.{true≢false, and_parts, eqb-true}
 use Rattle.std.proofs.lemmas.Str.{chars_past_char, encode_ascii}
-use Rattle.htmd_text.specs.Characters.{line_feed}
-use Rattle.htmd_text.specs.WhiteSpace.{is_ascii_white_space}
+use Rattle.htmd_grammar.specs.Characters.{line_feed}
+use Rattle.htmd_grammar.specs.WhiteSpace.{is_ascii_white_space}
 use Rattle.htmd_grammar.specs.CharacterClasses.{first_is, behind_run}
 use Rattle.htmd_html5_tokens.specs.Preprocessing.{preprocessed}
 use Rattle.htmd_html5_tokens.specs.Tokens.{TokenValue, text, start_tag, end_tag, comment, doctype, end_of_file}

@@ -5,7 +5,7 @@ use Rattle.std.proofs.Common.{length-append}
 use Rattle.std.specs.Prelude.{◌==◌, insert, IsUtf8}
 use Rattle.std.proofs.lemmas.Bool.{eqb-true, eqb-false, eq-eqb, ne_eqb}
 use Rattle.std.proofs.Math.Seq.{take-length, drop-length}
-use Rattle.htmd_text.proofs.Cases.{test}
+use Rattle.htmd_grammar.proofs.Cases.{test}
 use Rattle.htmd_html5_state.specs.Documents.{NodeValue, KindValue, text, new_node}
 use Rattle.htmd_html5_state.specs.Documents.{kind_at, parent_at, children_at, with_children, last_in}
 use Rattle.htmd_html5_state.specs.Documents.{add}

@@ -4,7 +4,7 @@ use Rattle.std.proofs.Common.{refl, sym, ap, subst, arith, cond, Option, Some, N
 use Rattle.std.specs.Prelude.{◌==◌, ◌&&◌, not, insert}
 use Rattle.std.proofs.lemmas.Bool.{true≢false, and_parts, eqb-true, eqb-false, eq-eqb, ne_eqb}
 use Rattle.std.proofs.lemmas.List.{length-set}
-use Rattle.htmd_text.proofs.Cases.{test}
+use Rattle.htmd_grammar.proofs.Cases.{test}
 use Rattle.htmd_html5_state.specs.Documents.{NodeValue, KindValue, new_node, kind_at, parent_at, children_at}
 use Rattle.htmd_html5_state.specs.Documents.{with_children, with_parents, index_of, without_child, remove_child}
 use Rattle.htmd_html5_state.specs.Documents.{detach_from, detach, move_children}

@@ -6,9 +6,9 @@ use Rattle.std.specs.List.{list_all}
 use Rattle.std.specs.Char.{encode_utf8}
 use Rattle.std.proofs.lemmas.Bool.{true≢false, and_parts, eqb-true}
 use Rattle.std.proofs.lemmas.Str.{chars-IsAscii, chars-nil, chars_past_char}
-use Rattle.htmd_text.proofs.WhiteSpaceLemmas.{white_is_ascii}
-use Rattle.htmd_text.specs.WhiteSpace.{is_ascii_white_space}
-use Rattle.htmd_text.specs.Characters.{null}
+use Rattle.htmd_grammar.proofs.CharacterClassesLemmas.{white_is_ascii}
+use Rattle.htmd_grammar.specs.WhiteSpace.{is_ascii_white_space}
+use Rattle.htmd_grammar.specs.Characters.{null}
 use Rattle.htmd_html5_tokens.specs.References.{replacement_character}
 use Rattle.htmd_html5_state.specs.Documents.{NodeValue, KindValue, document, doctype, text, comment, element, new_node}
 use Rattle.htmd_html5_state.specs.Documents.{kind_at, children_at, last_in, add_text, or_add, joined_with, joined_to, preceding}

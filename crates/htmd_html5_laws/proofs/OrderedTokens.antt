@@ -53,7 +53,7 @@ use Rattle.htmd_html5_laws.proofs.WhiteRuns.{Dark, dark_whole, behind_twice, whi
 use Rattle.htmd_html5_laws.specs.TextKept.{is_before_head, drops_white, without_white, kept_text, with_kept_text, kept_after}
 use Rattle.htmd_html5_laws.specs.TextKept.{kept_within, kept_texts, is_head_name, is_after_head, comes_late, early_after}
 use Rattle.htmd_html5_laws.specs.TextKept.{early_within, no_tag_comes_late, has_no_null, no_null_comes}
-use Rattle.htmd_text.specs.WhiteSpace.{is_ascii_white_space}
+use Rattle.htmd_grammar.specs.WhiteSpace.{is_ascii_white_space}
 use Rattle.htmd_grammar.specs.CharacterClasses.{behind_run}
 use Rattle.htmd_html5_state.specs.declared.names.TagName.TheVariants as tags
 use Rattle.htmd_html5_tokens.specs.Tokens as tokens

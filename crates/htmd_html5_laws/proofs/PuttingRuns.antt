@@ -5,7 +5,7 @@ use Rattle.std.specs.List.{list_all}
 use Rattle.std.proofs.lemmas.Bool.{true≢false}
 use Rattle.std.proofs.lemmas.Bool.Decides.{nat_tests}
 use Rattle.std.proofs.lemmas.Str.{IsUtf8-nil}
-use Rattle.htmd_text.proofs.WhiteSpaceLemmas.{white_is_ascii}
+use Rattle.htmd_grammar.proofs.CharacterClassesLemmas.{white_is_ascii}
 use Rattle.htmd_html5_state.specs.Documents.{KindValue, document, doctype, text, comment, element, kind_at}
 use Rattle.htmd_html5_state.specs.OpenElements.{OpenValue, current_is}
 use Rattle.htmd_html5_state.specs.State.{StateValue, on_formatting}

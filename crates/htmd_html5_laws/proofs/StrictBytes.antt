@@ -3,7 +3,7 @@ use Rattle.std.proofs.Common.{◌≡◌, ℕ, true, false, not, refl, arith}
 use Rattle.std.specs.Prelude.{◌==◌}
 use Rattle.std.specs.Char.{is_ascii_alphanumeric}
 use Rattle.std.proofs.lemmas.Bool.Decides.{nat_tests}
-use Rattle.htmd_text.specs.WhiteSpace.{is_ascii_white_space}
+use Rattle.htmd_grammar.specs.WhiteSpace.{is_ascii_white_space}
 use Rattle.htmd_grammar.specs.CharacterClasses.{is_tag_name_byte}
 use Rattle.htmd_html5_tokens.specs.Tags.{is_name_byte, is_gap_byte}
 use Rattle.htmd_grammar.specs.CharacterClasses as strict

@@ -4,8 +4,8 @@ use Rattle.std.proofs.Common.{length, refl, sym, ap, ◌∙◌, arith, subst, in
 use Rattle.std.specs.List.{list_all}
 use Rattle.std.proofs.lemmas.Bool.{and_parts, not-true, or_right}
 use Rattle.std.proofs.lemmas.List.{append-nil}
-use Rattle.htmd_text.proofs.Cases.{test}
-use Rattle.htmd_text.specs.WhiteSpace.{is_ascii_white_space}
+use Rattle.htmd_grammar.proofs.Cases.{test}
+use Rattle.htmd_grammar.specs.WhiteSpace.{is_ascii_white_space}
 use Rattle.htmd_grammar.specs.ValueTrees.{ValueForest, none, more, document, doctype, text}
 use Rattle.htmd_grammar.specs.ValueTrees.{comment, element}
 use Rattle.htmd_grammar.specs.CharacterClasses.{is_among}

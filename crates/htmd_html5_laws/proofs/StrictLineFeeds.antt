@@ -6,7 +6,7 @@ use Rattle.std.specs.Char.{encode_utf8, is_ascii_alphanumeric, is_ascii_digit, i
 use Rattle.std.specs.List.{list_all}
 use Rattle.std.specs.Str.{bytes_eq}
 use Rattle.std.proofs.lemmas.Bool.{and_parts, not-true, eqb-true}
-use Rattle.htmd_text.proofs.Cases.{test}
+use Rattle.htmd_grammar.proofs.Cases.{test}
 use Rattle.htmd_grammar.specs.CharacterClasses.{first_is, begins_in_any_case, leading_run, behind_run, lacks, up_to}
 use Rattle.htmd_grammar.specs.References.{Piece, stands, wrong, number, number_at, numbered, may_be_numbered, named}
 use Rattle.htmd_grammar.specs.References.{behind_number_sign, behind_ampersand, piece_at, decode, after_line_feed}

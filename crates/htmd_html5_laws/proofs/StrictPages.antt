@@ -3,7 +3,7 @@ use Rattle.std.proofs.Common.{◌≡◌, ℕ, zero, suc, ◌+◌, ◌≤◌, Boo
 use Rattle.std.proofs.Common.{length, map, None, refl, sym, ap, ◌∙◌, arith, inl, inr, codes, subst}
 use Rattle.std.proofs.lemmas.Bool.{and_parts, not-true}
 use Rattle.std.proofs.lemmas.List.{append-nil}
-use Rattle.htmd_text.proofs.Cases.{test}
+use Rattle.htmd_grammar.proofs.Cases.{test}
 use Rattle.htmd_grammar.specs.ValueTrees.{AttributePair, ValueTree, ValueForest, none, more, document, doctype, text}
 use Rattle.htmd_grammar.specs.ValueTrees.{comment, element}
 use Rattle.htmd_grammar.specs.CharacterClasses.{is_among, lacks}

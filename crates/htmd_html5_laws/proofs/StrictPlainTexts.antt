@@ -7,7 +7,7 @@ use Rattle.std.specs.List.{list_all}
 use Rattle.std.specs.Str.{bytes_eq}
 use Rattle.std.proofs.lemmas.Bool.{and_parts, not-true}
 use Rattle.std.proofs.lemmas.Bool.Decides.{nat_tests}
-use Rattle.htmd_text.proofs.Cases.{test}
+use Rattle.htmd_grammar.proofs.Cases.{test}
 use Rattle.htmd_grammar.specs.CharacterClasses.{is_among, is_empty, first_is, begins_in_any_case, leading_run}
 use Rattle.htmd_grammar.specs.CharacterClasses.{behind_run, lacks}
 use Rattle.htmd_grammar.specs.Comments.{normalized}

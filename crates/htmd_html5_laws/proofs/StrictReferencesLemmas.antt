@@ -8,7 +8,7 @@ use Rattle.std.specs.Str.{bytes_eq}
 use Rattle.std.proofs.lemmas.Bool.{and_parts, or_parts, not-true}
 use Rattle.std.proofs.lemmas.Bool.Decides.{nat_tests}
 use Rattle.std.proofs.lemmas.List.{append-nil}
-use Rattle.htmd_text.proofs.Cases.{test}
+use Rattle.htmd_grammar.proofs.Cases.{test}
 use Rattle.htmd_grammar.specs.CharacterClasses.{is_empty, first_is, begins_with, begins_in_any_case, leading_run}
 use Rattle.htmd_grammar.specs.CharacterClasses.{behind_run, lacks, up_to, onward}
 use Rattle.htmd_grammar.specs.References.{stands, number, number_at, numbered, may_be_numbered, named, is_between}

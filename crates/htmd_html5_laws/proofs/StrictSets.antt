@@ -1,7 +1,7 @@
 -- Which names a set has, and what plain names are none of.
 use Rattle.std.proofs.Common.{◌≡◌, ℕ, Bool, true, false, not, List, [], ◌∷◌, refl, sym, codes}
 use Rattle.std.proofs.lemmas.Bool.{not-true}
-use Rattle.htmd_text.proofs.Cases.{test}
+use Rattle.htmd_grammar.proofs.Cases.{test}
 use Rattle.htmd_grammar.specs.CharacterClasses.{is_among}
 use Rattle.htmd_grammar.proofs.NestingLemmas.{same_bytes, one_name, among_passes}
 use Rattle.htmd_grammar.specs.RawContent.{drops_line_feed, holds_text_alone}

@@ -1,7 +1,7 @@
 -- Characters and references of the strict grammar, as the lenient reader reads them.
 use Rattle.std.specs.Prelude.{◌≡◌, ℕ, Bool, true, false, not, ◌&&◌, ◌||◌, ◌==◌, List, [], ◌∷◌, Some, is_some}
 use Rattle.std.specs.Char.{is_ascii_alphanumeric}
-use Rattle.htmd_text.specs.Characters.{null, carriage_return, ampersand, semicolon}
+use Rattle.htmd_grammar.specs.Characters.{null, carriage_return, ampersand, semicolon}
 use Rattle.htmd_grammar.specs.CharacterClasses.{first_is, behind_run, lacks, up_to}
 use Rattle.htmd_grammar.specs.References.{decode}
 use Rattle.htmd_grammar.specs.RawContent.{begins_markup}

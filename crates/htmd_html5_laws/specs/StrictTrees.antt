@@ -1,7 +1,7 @@
 -- Texts of the strict grammar with plain elements, as the lenient reader reads them.
 use Rattle.std.specs.Prelude.{◌≡◌, ℕ, Bool, true, false, not, ◌&&◌, ◌||◌, if◌then◌else◌, List, [], ◌∷◌, ◌++◌}
 use Rattle.std.specs.Prelude.{codes}
-use Rattle.htmd_text.specs.WhiteSpace.{is_ascii_white_space}
+use Rattle.htmd_grammar.specs.WhiteSpace.{is_ascii_white_space}
 use Rattle.htmd_grammar.specs.ValueTrees.{ValueTree, ValueForest, none, more, document, doctype, text, comment, element}
 use Rattle.htmd_grammar.specs.CharacterClasses.{is_among}
 use Rattle.htmd_grammar.specs.Rules.{project}

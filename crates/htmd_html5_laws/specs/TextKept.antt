@@ -3,8 +3,8 @@ use Rattle.std.specs.Prelude.{◌≡◌, ℕ, zero, suc, Bool, true, false, not,
 use Rattle.std.specs.Prelude.{length, filter, IsUtf8}
 use Rattle.std.specs.List.{list_all}
 use Rattle.std.specs.Str.{chars}
-use Rattle.htmd_text.specs.WhiteSpace.{is_ascii_white_space}
-use Rattle.htmd_text.specs.Characters.{null}
+use Rattle.htmd_grammar.specs.WhiteSpace.{is_ascii_white_space}
+use Rattle.htmd_grammar.specs.Characters.{null}
 use Rattle.htmd_grammar.specs.CharacterClasses.{behind_run}
 use Rattle.htmd_html5_tokens.specs.Preprocessing.{preprocessed}
 use Rattle.htmd_html5_tokens.specs.References.{replacement_character}

@@ -10,7 +10,7 @@ use Rattle.std.specs.Map.{update}
 use Rattle.std.specs.Prelude.{◌==◌, nat_lt, unwrap_or, is_some, remove}
 use Rattle.std.specs.Str.{bytes_eq}
 use Rattle.htmd_grammar.proofs.NestingLemmas.{same_bytes}
-use Rattle.htmd_text.proofs.Cases.{test}
+use Rattle.htmd_grammar.proofs.Cases.{test}
 use Rattle.htmd_html5_state.specs.Adoption.{bounds_any}
 use Rattle.htmd_html5_state.specs.Names.{NameValue, ElementNameValue, html, svg, math, known, other, same_element_name}
 use Rattle.htmd_html5_state.specs.OpenElements.{OpenValue, is_in, is_node, has_name, inside, scope_has, is_node_in_scope}

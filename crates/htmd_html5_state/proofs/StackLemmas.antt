@@ -8,7 +8,7 @@ use Rattle.std.proofs.lemmas.List.Folds.{list_any-append}
 use Rattle.std.proofs.lemmas.Bool.Decides.{nat_tests}
 use Rattle.std.specs.List.{list_any}
 use Rattle.std.specs.Prelude.{◌==◌, remove}
-use Rattle.htmd_text.proofs.Cases.{test}
+use Rattle.htmd_grammar.proofs.Cases.{test}
 use Rattle.htmd_html5_state.specs.OpenElements.{OpenValue, is_in, is_open_node, is_node, without}
 use Rattle.htmd_html5_state.specs.OpenElements.{outermost, first_open, second_open}
 use Rattle.htmd_html5_state.specs.Adoption.{Furthest, furthest_block, is_special_element}

@@ -7,7 +7,7 @@ use Rattle.std.proofs.lemmas.List.{get_or-map}
 use Rattle.std.specs.Borrow.{Bor}
 use Rattle.std.specs.List.{list_any, list_all}
 use Rattle.std.specs.Prelude.{◌==◌, nat_lt}
-use Rattle.htmd_text.proofs.Cases.{test}
+use Rattle.htmd_grammar.proofs.Cases.{test}
 use Rattle.htmd_grammar.proofs.NestingLemmas.{bytes_same, same_bytes}
 use Rattle.htmd_html5_state.specs.Names.{spelling, same_tag, NameValue, ElementNameValue, html, svg, math, known, other}
 use Rattle.htmd_html5_state.specs.Names.{same_name}

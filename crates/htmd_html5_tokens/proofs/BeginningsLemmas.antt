@@ -8,7 +8,7 @@ use Rattle.std.proofs.lemmas.Str.{IsCharBoundary-from_take, IsUtf8-from_ascii}
 use Rattle.std.specs.List.{list_all}
 use Rattle.std.specs.Prelude.{nat_lt, ◌==◌}
 use Rattle.std.specs.Str.{IsUtf8, IsCharBoundary, IsAscii}
-use Rattle.htmd_text.proofs.Cases.{test}
+use Rattle.htmd_grammar.proofs.Cases.{test}
 use Rattle.htmd_grammar.specs.CharacterClasses.{begins_with, first_is, up_to, behind_run, is_empty}
 use Rattle.htmd_grammar.specs.TagReading.{is_other}
 use Rattle.htmd_grammar.proofs.CharacterClassesLemmas.{up_to-le-length, stops_at}

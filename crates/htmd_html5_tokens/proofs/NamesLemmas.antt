@@ -7,8 +7,8 @@ use Rattle.std.specs.Borrow.{Bor}
 use Rattle.std.specs.List.{position_or_len}
 use Rattle.std.specs.Option.{unwrap_or}
 use Rattle.std.specs.Str.{bytes_eq}
-use Rattle.htmd_text.proofs.Cases.{test}
-use Rattle.htmd_text.specs.Characters.{semicolon}
+use Rattle.htmd_grammar.proofs.Cases.{test}
+use Rattle.htmd_grammar.specs.Characters.{semicolon}
 use Rattle.htmd_grammar.specs.CharacterClasses.{begins_with}
 use Rattle.htmd_html5_tokens.specs.NamedReferences.{
   row_of,

@@ -6,7 +6,7 @@ use Rattle.std.proofs.lemmas.Slice.{between_to_end}
 use Rattle.std.proofs.lemmas.Str.{IsCharBoundary-end}
 use Rattle.std.specs.Prelude.{◌==◌}
 use Rattle.std.specs.Str.{IsCharBoundary}
-use Rattle.htmd_text.proofs.Cases.{test}
+use Rattle.htmd_grammar.proofs.Cases.{test}
 use Rattle.htmd_grammar.specs.RawContent.{begins_own_end}
 use Rattle.htmd_html5_tokens.specs.RawTexts.{ends_script, escape_after, script_len, own_text_len, raw_text_len}
 use Rattle.htmd_html5_tokens.specs.declared.raw_texts.Escape.{Escape}

@@ -10,7 +10,7 @@ use Rattle.std.specs.Char.{encode_utf8, InScalarRange, OutOfScalarRange, is_asci
 use Rattle.std.specs.List.{list_all, slice_index}
 use Rattle.std.specs.Prelude.{nat_lt}
 use Rattle.std.specs.Str.{IsUtf8, IsCharBoundary}
-use Rattle.htmd_text.proofs.Cases.{test}
+use Rattle.htmd_grammar.proofs.Cases.{test}
 use Rattle.htmd_grammar.specs.CharacterClasses.{is_empty, first_is, begins_with, leading_run}
 use Rattle.htmd_grammar.specs.CharacterClasses.{behind_run}
 use Rattle.htmd_grammar.specs.References.{number, is_between}

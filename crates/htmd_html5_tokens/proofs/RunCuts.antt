@@ -6,7 +6,7 @@ use Rattle.std.specs.Str.{IsUtf8, IsCharBoundary}
 use Rattle.std.specs.Prelude.{nat_lt}
 use Rattle.htmd_grammar.specs.CharacterClasses.{leading_run}
 use Rattle.htmd_grammar.specs.TagReading.{is_other}
-use Rattle.htmd_text.proofs.WhiteSpaceLemmas.{white_is_ascii}
+use Rattle.htmd_grammar.proofs.CharacterClassesLemmas.{white_is_ascii}
 use Rattle.htmd_grammar.proofs.CharacterClassesLemmas.{behind_leading_run}
 use Rattle.htmd_grammar.proofs.RunsLemmas.{run_within, behind_last}
 use Rattle.htmd_html5_tokens.specs.Tags.{is_name_byte, is_attribute_name_byte, is_unquoted_byte, is_gap_byte}

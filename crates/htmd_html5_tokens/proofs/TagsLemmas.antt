@@ -6,8 +6,8 @@ use Rattle.std.proofs.lemmas.Slice.{between_to_end}
 use Rattle.std.proofs.lemmas.Str.{IsCharBoundary-from_rest}
 use Rattle.std.specs.Prelude.{◌==◌}
 use Rattle.std.specs.Str.{IsCharBoundary}
-use Rattle.htmd_text.specs.WhiteSpace.{is_ascii_white_space}
-use Rattle.htmd_text.proofs.Cases.{test}
+use Rattle.htmd_grammar.specs.WhiteSpace.{is_ascii_white_space}
+use Rattle.htmd_grammar.proofs.Cases.{test}
 use Rattle.htmd_grammar.specs.ValueTrees.{AttributePair}
 use Rattle.htmd_grammar.specs.CharacterClasses.{is_empty, first_is, leading_run, behind_run}
 use Rattle.htmd_grammar.specs.TagReading.{TagPart, malformed, tag_end, attribute, is_other, quoted_value}

@@ -1,6 +1,6 @@
 -- Comments (HTML Standard, 13.2.5.41 to 13.2.5.52).
 use Rattle.std.specs.Prelude.{ℕ, Bool, ◌||◌, if◌then◌else◌, List, [], ◌∷◌, drop, codes}
-use Rattle.htmd_text.specs.Characters.{greater_than_sign}
+use Rattle.htmd_grammar.specs.Characters.{greater_than_sign}
 use Rattle.htmd_grammar.specs.CharacterClasses.{is_among, begins_with, leading_run, behind_run, up_to}
 use Rattle.htmd_grammar.specs.CharacterClasses.{onward}
 use Rattle.htmd_grammar.specs.TagReading.{is_other}

@@ -2,7 +2,7 @@
 use Rattle.std.specs.Prelude.{ℕ, zero, suc, Bool, true, false, not, ◌&&◌, ◌==◌, if◌then◌else◌, List, [], ◌∷◌, ◌++◌, codes}
 use Rattle.std.specs.Prelude.{map}
 use Rattle.std.specs.Char.{encode_utf8, to_ascii_lowercase}
-use Rattle.htmd_text.specs.Characters.{null, ampersand, less_than_sign}
+use Rattle.htmd_grammar.specs.Characters.{null, ampersand, less_than_sign}
 use Rattle.htmd_grammar.specs.CharacterClasses.{begins_with}
 use Rattle.htmd_html5_tokens.specs.References.{Piece, replacement_character, after_ampersand}
 use Rattle.htmd_html5_tokens.specs.declared.contents.Reading.{Reading}

@@ -5,7 +5,7 @@ use Rattle.std.specs.List.{before_first, after_first}
 use Rattle.std.specs.Str.{bytes_eq}
 use Rattle.std.specs.Char.{is_ascii_uppercase}
 use Rattle.std.specs.Borrow.{Bor}
-use Rattle.htmd_text.specs.Characters.{semicolon}
+use Rattle.htmd_grammar.specs.Characters.{semicolon}
 use Rattle.htmd_grammar.specs.CharacterClasses.{begins_with}
 use Rattle.htmd_html5_tokens.specs.declared.names.capital_names.TheConstants.{
   CAPITAL_A,

@@ -2,7 +2,7 @@
 use Rattle.std.specs.Prelude.{ℕ, zero, suc, Bool, false, not, ◌&&◌, ◌||◌, ◌==◌, if◌then◌else◌, List, [], ◌∷◌}
 use Rattle.std.specs.Prelude.{drop, take, length, codes, Option, Some, None}
 use Rattle.std.specs.Char.{is_ascii_alphabetic}
-use Rattle.htmd_text.specs.Characters.{exclamation_mark, slash, less_than_sign, greater_than_sign, question_mark}
+use Rattle.htmd_grammar.specs.Characters.{exclamation_mark, slash, less_than_sign, greater_than_sign, question_mark}
 use Rattle.htmd_grammar.specs.CharacterClasses.{is_empty, first_is, begins_with, begins_in_any_case, up_to, onward}
 use Rattle.htmd_html5_tokens.specs.Tokens.{text, end_of_file, Read}
 use Rattle.htmd_html5_tokens.specs.Contents.{decoded}

@@ -1,7 +1,7 @@
 -- How characters are appended to others.
 use Rattle.std.specs.Prelude.{◌≡◌, ℕ, Bool, not, ◌&&◌, ◌||◌, ◌==◌, List, ◌++◌}
 use Rattle.std.specs.Char.{is_ascii_uppercase}
-use Rattle.htmd_text.specs.Characters.{null, ampersand, less_than_sign}
+use Rattle.htmd_grammar.specs.Characters.{null, ampersand, less_than_sign}
 use Rattle.htmd_grammar.specs.CharacterClasses.{is_empty}
 use Rattle.htmd_html5_tokens.specs.Contents.{decoded}
 use Rattle.htmd_html5_tokens.specs.NextToken.{begins_markup}

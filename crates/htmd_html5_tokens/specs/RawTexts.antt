@@ -1,7 +1,7 @@
 -- Elements that hold only text, up to their own end tag (HTML Standard, 13.2.5.2 to 13.2.5.5 and 13.2.5.9 to
 -- 13.2.5.31).
 use Rattle.std.specs.Prelude.{ℕ, suc, Bool, false, ◌&&◌, ◌==◌, if◌then◌else◌, List, [], ◌∷◌, length, codes}
-use Rattle.htmd_text.specs.Characters.{less_than_sign}
+use Rattle.htmd_grammar.specs.Characters.{less_than_sign}
 use Rattle.htmd_grammar.specs.CharacterClasses.{begins_with, up_to}
 use Rattle.htmd_grammar.specs.RawContent.{goes_on_with_name, begins_own_end}
 use Rattle.htmd_html5_tokens.specs.declared.contents.Reading.{Reading}

@@ -3,7 +3,7 @@
 use Rattle.std.specs.Prelude.{ℕ, suc, ◌+◌, ◌-◌, Bool, false, ◌&&◌, ◌||◌, ◌==◌, nat_lt, if◌then◌else◌, List, [], ◌∷◌}
 use Rattle.std.specs.Prelude.{length, drop, slice_index, Option, Some, None, codes}
 use Rattle.std.specs.Char.{encode_utf8, is_ascii_digit, is_ascii_hexdigit, is_ascii_alphanumeric}
-use Rattle.htmd_text.specs.Characters.{number_sign, ampersand, semicolon, equals_sign}
+use Rattle.htmd_grammar.specs.Characters.{number_sign, ampersand, semicolon, equals_sign}
 use Rattle.htmd_grammar.specs.CharacterClasses.{is_empty, first_is, begins_in_any_case, leading_run}
 use Rattle.htmd_grammar.specs.CharacterClasses.{behind_run}
 use Rattle.htmd_grammar.specs.References.{number, is_between}

@@ -7,7 +7,7 @@ ghost use Rattle.htmd_grammar.specs.CharacterClasses.{leading_run, behind_run};
 ghost use Rattle.htmd_html5_tokens.specs.Contents as spec;
 ghost use Rattle.htmd_html5_tokens.specs.ReferenceViews.{characters_of};
 ghost use Rattle.htmd_html5_tokens.specs.declared.contents.Reading.TheVariants.{Text};
-ghost use Rattle.htmd_text.specs.Characters.{ampersand, less_than_sign};
+ghost use Rattle.htmd_grammar.specs.Characters.{ampersand, less_than_sign};
 ghost use Rattle.htmd_html5_tokens.specs.Plain.{is_plain, is_small, HasPushed};
 
 use crate::references::{Characters, read_reference};

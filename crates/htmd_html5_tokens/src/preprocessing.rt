@@ -1,7 +1,7 @@
 //! What is read of a page (HTML Standard, 13.2.3.5).
 ghost use Rattle.std.specs.Prelude.{◌≡◌, ◌++◌, ◌∷◌, IfOk, OnOk, string_bytes};
 ghost use Rattle.std.specs.Cow.{cow_str_bytes};
-ghost use Rattle.htmd_text.specs.Characters.{carriage_return};
+ghost use Rattle.htmd_grammar.specs.Characters.{carriage_return};
 ghost use Rattle.htmd_grammar.specs.Comments.{normalized};
 ghost use Rattle.htmd_grammar.specs.Documents.{behind_mark};
 ghost use Rattle.htmd_html5_tokens.specs.Preprocessing as spec;

@@ -1,7 +1,7 @@
 //! Character references (HTML Standard, 13.2.5.72 to 13.2.5.80).
 ghost use Rattle.std.specs.Prelude.{◌≡◌, ◌≤◌, ◌<◌, ◌+◌, ℕ, Bool, length, drop, min, true};
 ghost use Rattle.std.specs.Str.{IsCharBoundary};
-ghost use Rattle.htmd_text.specs.Characters.{number_sign};
+ghost use Rattle.htmd_grammar.specs.Characters.{number_sign};
 ghost use Rattle.htmd_grammar.specs.CharacterClasses.{leading_run, first_is};
 ghost use Rattle.htmd_grammar.specs.References as grammar;
 ghost use Rattle.htmd_html5_tokens.specs.NamedReferences.{longest_old};

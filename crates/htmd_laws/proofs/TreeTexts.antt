@@ -4,7 +4,7 @@ use Rattle.std.proofs.Common.{Option, Some, None, IsSome, refl, sym, ap, subst, 
 use Rattle.std.proofs.lemmas.Bool.{true≢false, eqb-true, eqb-false, eq-eqb, ne_eqb}
 use Rattle.std.proofs.lemmas.List.{get_or_at, get_or-append-add, length-append, length_push}
 use Rattle.std.proofs.lemmas.List.Sums.{sum_by-append, sum_by-cons}
-use Rattle.htmd_text.proofs.Cases.{test}
+use Rattle.htmd_grammar.proofs.Cases.{test}
 use Rattle.htmd_tree.specs.Items.{Data, document_node, doctype_node, text_node, comment_node, element_node, Item}
 use Rattle.htmd_tree.specs.Items.{document_item, item_at, parent_at, is_child, holds_children, IsTree}
 use Rattle.htmd_tree.specs.NumberedTrees.{NumberedForest, none, with_children, forest_from, tree_of}

@@ -12,9 +12,9 @@ use Rattle.std.proofs.lemmas.List.{append-nil, reverse-append}
 use Rattle.std.proofs.lemmas.List.Folds.{list_all-append}
 use Rattle.std.proofs.lemmas.List.Concat.{flat_map-append}
 use Rattle.std.proofs.lemmas.Str.{IsUtf8-nil, IsUtf8-append, IsUtf8-take, IsUtf8-drop, encode_ascii, inside_one}
-use Rattle.htmd_text.specs.Characters.{line_feed, carriage_return, space, vertical_bar}
+use Rattle.htmd_grammar.specs.Characters.{line_feed, carriage_return, space, vertical_bar}
 use Rattle.htmd_text.specs.Trims.{trimmed_text, trimmed_start}
-use Rattle.htmd_text.specs.WhiteSpace.{is_document_white_space}
+use Rattle.htmd_grammar.specs.WhiteSpace.{is_document_white_space}
 use Rattle.htmd_text.proofs.TrimsLemmas.{start_boundary, end_boundary, document_of_ascii}
 use Rattle.htmd_markdown.specs.Tables.{in_cell, normalised_cell}
 use Rattle.htmd_markdown.proofs.TrimmedTexts.{Begins, IsBare, trimmed_is, trimmed_between}

@@ -12,7 +12,7 @@ use Rattle.std.proofs.lemmas.List.{drop_more, drop_all}
 use Rattle.std.proofs.lemmas.List.Sums.{sum_by-append}
 use Rattle.std.proofs.lemmas.Str.{chars_from_encodes}
 use Rattle.htmd_text.specs.Trims.{trimmed_text}
-use Rattle.htmd_text.specs.WhiteSpace.{is_document_white_space}
+use Rattle.htmd_grammar.specs.WhiteSpace.{is_document_white_space}
 use Rattle.htmd_markdown.specs.declared.table.Bars.{Bars}
 use Rattle.htmd_markdown.specs.CellBytes.{begins_character, byte_width, piece, pieces, escapes_next, cell_of}
 use Rattle.htmd_markdown.proofs.PiecesLemmas.{pieces_are, cell_is_text}

@@ -5,7 +5,7 @@ use Rattle.std.specs.Prelude.{not, ◌||◌, ◌==◌, replicate, Option, None, 
 use Rattle.std.specs.Option.{option_copied, unwrap_or}
 use denote.Ref.{Bor}
 use Rattle.std.specs.List.{list_any}
-use Rattle.htmd_text.specs.Characters.{carriage_return, line_feed}
+use Rattle.htmd_grammar.specs.Characters.{carriage_return, line_feed}
 use Rattle.htmd_markdown.specs.declared.fence.CodeBlockFence.{CodeBlockFence}
 use Rattle.htmd_markdown.specs.declared.fence.CodeBlockFence.TheVariants.{Tildes, Backticks}
 use Rattle.htmd_markdown.specs.CodeBlocks.{code_of}

@@ -5,7 +5,7 @@ use Rattle.std.specs.Prelude.{◌==◌, not, filter}
 use Rattle.std.proofs.lemmas.Bool.Decides.{nat_tests}
 use Rattle.std.proofs.lemmas.List.{take_more, map_push, map-id, append-nil, length_push}
 use Rattle.std.proofs.lemmas.List.Elements.{filter-append}
-use Rattle.htmd_text.specs.Characters.{space}
+use Rattle.htmd_grammar.specs.Characters.{space}
 use Rattle.htmd_text.specs.Joins.{joined_texts}
 use Rattle.htmd_text.specs.Trims.{is_space}
 use Rattle.htmd_text.proofs.JoinsLemmas.{item_joined}

@@ -4,7 +4,7 @@ use Rattle.std.specs.Prelude.{not, ◌||◌, ◌==◌, Option, Some, None}
 use Rattle.std.specs.List.{list_any}
 use Rattle.std.proofs.lemmas.Bool.{or_parts}
 use Rattle.std.proofs.lemmas.Bool.Decides.{nat_tests}
-use Rattle.htmd_text.specs.Characters.{carriage_return, line_feed, is_one_of}
+use Rattle.htmd_grammar.specs.Characters.{carriage_return, line_feed, is_one_of}
 use Rattle.htmd_markdown.specs.declared.fence.CodeBlockFence.{CodeBlockFence}
 use Rattle.htmd_markdown.specs.declared.fence.CodeBlockFence.TheVariants.{Tildes, Backticks}
 use Rattle.htmd_markdown.specs.Fences.{symbol_of, info_string, fits_fence}

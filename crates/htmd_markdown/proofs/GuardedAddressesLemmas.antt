@@ -6,7 +6,7 @@ use Rattle.std.specs.List.{list_all}
 use Rattle.std.specs.Char.{is_ascii, is_ascii_punctuation}
 use Rattle.std.proofs.lemmas.Bool.{or_cases, or_parts, or_right, and_parts, not_from_false, cases_Bool, false≢true}
 use Rattle.std.proofs.lemmas.Bool.Decides.{nat_tests}
-use Rattle.htmd_text.specs.Characters.{ampersand, backslash, is_one_of}
+use Rattle.htmd_grammar.specs.Characters.{ampersand, backslash, is_one_of}
 use Rattle.htmd_text.specs.EscapeMarks.{with_backslashes}
 use Rattle.htmd_text.specs.Unescape.{unescape}
 use Rattle.htmd_text.specs.PlainText.{each_bare}

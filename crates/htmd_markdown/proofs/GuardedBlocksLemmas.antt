@@ -16,7 +16,7 @@ use Rattle.std.proofs.Math.Seq.{take-append_seam}
 use Rattle.std.proofs.lemmas.List.Sums.{prefix_len_passes, prefix_len_is, take_while-cons}
 use Rattle.std.proofs.lemmas.Str.{encodes-append, encodes-chars, encodes_same, chars-append, NoCharPasses-byte}
 use Rattle.std.proofs.lemmas.Str.{IsUtf8-take, IsCharBoundary-before_ascii}
-use Rattle.htmd_text.specs.Characters.{backslash, number_sign, space, colon, hyphen, byte_order_mark}
+use Rattle.htmd_grammar.specs.Characters.{backslash, number_sign, space, colon, hyphen, byte_order_mark}
 use Rattle.htmd_text.specs.EscapeMarks.{with_backslashes}
 use Rattle.htmd_text.proofs.PlainTextLemmas.{chars_ascii}
 use Rattle.htmd_markdown.specs.GuardedText.{is_blank, first_place, number_end, is_block_sign, is_delimiter}

@@ -13,7 +13,7 @@ use Rattle.htmd_markdown.specs.GuardedLinks.{guarded_image, guarded_image_start,
 use Rattle.htmd_markdown.specs.GuardedLinks.{guarded_image_before_title, guarded_description, guarded_resource}
 use Rattle.htmd_markdown.specs.GuardedText.{guarded_text}
 use Rattle.htmd_markdown.specs.OneLine.{one_line}
-use Rattle.htmd_text.specs.WhiteSpace.{squeezed_text}
+use Rattle.htmd_text.specs.SqueezedTexts.{squeezed_text}
 use Rattle.htmd_markdown.proofs.GuardedAddressesLemmas.{holds_guarded_title}
 use Rattle.htmd_markdown.proofs.GuardedReadingLemmas.{guarded-reads_back, guarded-is_guarded}
 

@@ -5,7 +5,7 @@ use Rattle.std.specs.Prelude.{◌==◌, ◌&&◌, ◌||◌, slice_index}
 use Rattle.std.specs.Char.{is_ascii, is_ascii_punctuation}
 use Rattle.std.proofs.lemmas.Bool.{or_cases, or_parts, and_parts}
 use Rattle.std.proofs.lemmas.Bool.Decides.{nat_tests}
-use Rattle.htmd_text.specs.Characters.{ampersand, number_sign, colon, backslash}
+use Rattle.htmd_grammar.specs.Characters.{ampersand, number_sign, colon, backslash}
 use Rattle.htmd_text.proofs.MarksLemmas.{punctuation_is_ascii}
 use Rattle.htmd_markdown.specs.ReferenceLike.{is_reference_like}
 use Rattle.htmd_markdown.specs.GuardedText.{is_always_guarded, is_heading_mark, is_mark_anywhere, is_block_sign}

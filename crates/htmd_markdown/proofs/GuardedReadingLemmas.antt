@@ -10,7 +10,7 @@ use Rattle.std.proofs.lemmas.Bool.{or_from, and_left, and_right, cases_Bool, not
 use Rattle.std.proofs.lemmas.Bool.{false≢true, cond-true, cond-false}
 use Rattle.std.proofs.lemmas.Bool.Decides.{nat_tests}
 use Rattle.std.proofs.lemmas.List.{append-nil}
-use Rattle.htmd_text.specs.Characters.{ampersand, backslash, number_sign, semicolon, space, is_one_of}
+use Rattle.htmd_grammar.specs.Characters.{ampersand, backslash, number_sign, semicolon, space, is_one_of}
 use Rattle.htmd_text.specs.EscapeMarks.{with_backslashes}
 use Rattle.htmd_text.specs.Unescape.{unescape}
 use Rattle.htmd_text.proofs.PlainTextLemmas.{tail_part, bare_first, escaped_first}

@@ -6,9 +6,9 @@ use Rattle.std.specs.Prelude.{not, ◌&&◌, ◌==◌, replicate}
 use Rattle.std.specs.List.{onto_first}
 use Rattle.std.specs.Str.{chars}
 use Rattle.std.proofs.lemmas.Bool.{and_parts, cases_Bool, not-true, eqb-true}
-use Rattle.htmd_text.specs.Characters.{line_feed, space, vertical_bar, backslash}
+use Rattle.htmd_grammar.specs.Characters.{line_feed, space, vertical_bar, backslash}
 use Rattle.htmd_text.specs.Trims.{trimmed_text}
-use Rattle.htmd_text.specs.WhiteSpace.{is_document_white_space}
+use Rattle.htmd_grammar.specs.WhiteSpace.{is_document_white_space}
 use Rattle.htmd_markdown.specs.Tables.{padded_cell, barred_cells, line, line_cells_by}
 use Rattle.htmd_markdown.specs.GuardedTables.{cell_line, is_escaping, escaped_bars, guarded_cell, guarded_row}
 use Rattle.htmd_markdown.specs.GuardedTableReading.{parts_between, bars_read, read_guarded_row}

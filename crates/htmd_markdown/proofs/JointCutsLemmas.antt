@@ -13,7 +13,7 @@ use Rattle.std.proofs.lemmas.List.Sums.{prefix_len_passes, prefix_len-le-length,
 use Rattle.std.proofs.lemmas.Str.{encodes-append, encodes-chars, IsUtf8-past_char}
 use Rattle.std.proofs.lemmas.Str.{IsCharBoundary-from_drop, IsCharBoundary-after_ascii}
 use Rattle.std.proofs.lemmas.Str.{IsCharBoundary-before_ascii, IsCharBoundary-start, IsCharBoundary-end}
-use Rattle.htmd_text.specs.Characters.{backslash}
+use Rattle.htmd_grammar.specs.Characters.{backslash}
 use Rattle.htmd_markdown.specs.Joints.{is_asterisk, is_plain_at, is_plain_behind, plain_signs, plain_signs_back}
 use Rattle.htmd_markdown.specs.Joints.{plain_start, plain_end, escapes_next, ending_run, beginning_run}
 

@@ -3,7 +3,7 @@ use Rattle.std.proofs.Common.{◌≡◌, refl, true, false, codes}
 use lib.Utf8.{encode}
 use Rattle.std.specs.Str.{chars}
 use Rattle.unicode.proofs.CategoryComputing.{ucd_category}
-use Rattle.htmd_text.specs.Characters.{right_parenthesis, right_square_bracket, greater_than_sign, grave_accent}
+use Rattle.htmd_grammar.specs.Characters.{right_parenthesis, right_square_bracket, greater_than_sign, grave_accent}
 use Rattle.htmd_markdown.specs.Joints.{closes_link, with_joint}
 
 pub runs_go : with_joint (codes "*a*") (codes "*b*") ≡ codes "*ab*"

@@ -7,7 +7,7 @@ use Rattle.std.proofs.lemmas.Bool.{and_parts, cond_both, eqb-true}
 use Rattle.std.proofs.lemmas.List.{length-take-le}
 use Rattle.std.proofs.lemmas.List.Sums.{prefix_len-le-length}
 use Rattle.std.proofs.lemmas.Str.{IsUtf8-take, IsUtf8-drop, IsCharBoundary-from_rest, IsCharBoundary-before_ascii}
-use Rattle.htmd_text.specs.Characters.{exclamation_mark}
+use Rattle.htmd_grammar.specs.Characters.{exclamation_mark}
 use Rattle.htmd_markdown.specs.CodeSpans.{ends_with}
 use Rattle.htmd_markdown.specs.declared.joint.Joint.{Joint}
 use Rattle.htmd_markdown.specs.declared.joint.Joint.TheVariants.{AsTheyAre, MarkBeforeBracket, SpaceBetween}

@@ -10,7 +10,7 @@ use Rattle.std.proofs.lemmas.List.{reverse-append, reverse-reverse, length-appen
 use Rattle.std.proofs.lemmas.Str.{chars_past_char, chars-nil, length-encode}
 use Rattle.std.proofs.lemmas.Str.{encodes-chars, IsUtf8-past_char}
 use Rattle.std.proofs.lemmas.Str.{len_utf8_bounds, drop_past_char}
-use Rattle.htmd_text.specs.Characters.{backslash}
+use Rattle.htmd_grammar.specs.Characters.{backslash}
 use Rattle.htmd_markdown.specs.Joints.{is_plain_at, is_plain_behind, plain_signs, plain_signs_back, plain_start}
 use Rattle.htmd_markdown.specs.Joints.{plain_end, first_character, last_character, begins_word, ends_word}
 use Rattle.htmd_markdown.specs.Joints.{word_first}

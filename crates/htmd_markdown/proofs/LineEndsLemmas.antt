@@ -4,7 +4,7 @@ use Rattle.std.specs.Prelude.{◌&&◌, ◌||◌, ◌==◌, slice_index}
 use Rattle.std.proofs.lemmas.Bool.{or_parts, and_parts, false≢true}
 use Rattle.std.proofs.lemmas.List.Folds.{list_any-append}
 use Rattle.std.proofs.lemmas.Bool.Decides.{nat_tests}
-use Rattle.htmd_text.specs.Characters.{carriage_return, line_feed, space}
+use Rattle.htmd_grammar.specs.Characters.{carriage_return, line_feed, space}
 use Rattle.htmd_markdown.specs.FenceReading.{is_line_end}
 use Rattle.htmd_markdown.specs.Titles.{is_filled}
 use Rattle.htmd_markdown.specs.CodeSpanReading.{line_ends_as_spaces}

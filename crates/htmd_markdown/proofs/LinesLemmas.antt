@@ -6,7 +6,7 @@ use Rattle.std.specs.Prelude.{◌||◌, filter}
 use Rattle.std.specs.List.{list_any, slice_split, onto_first, flat_map, prefix_len}
 use Rattle.std.proofs.lemmas.Bool.{or_parts}
 use Rattle.std.proofs.lemmas.List.Folds.{list_any-append}
-use Rattle.htmd_text.specs.Characters.{space}
+use Rattle.htmd_grammar.specs.Characters.{space}
 use Rattle.htmd_text.specs.Joins.{joined_texts}
 use Rattle.htmd_text.specs.Trims.{trimmed_text, trimmed_start, is_line_feed, is_space}
 use Rattle.htmd_markdown.specs.OneLine.{one_line, with_spaces_between, holds_line_feed}

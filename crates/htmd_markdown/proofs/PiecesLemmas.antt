@@ -14,9 +14,9 @@ use Rattle.std.proofs.lemmas.List.Edits.{between_more, between_none}
 use Rattle.std.proofs.lemmas.Slice.{between_to_end}
 use Rattle.std.proofs.lemmas.Str.{IsUtf8-nil, IsUtf8-append, IsUtf8-from_ascii, encode_ascii, inside_one}
 use Rattle.std.proofs.lemmas.Str.{IsCharBoundary-start, IsCharBoundary-after_ascii}
-use Rattle.htmd_text.specs.Characters.{line_feed, carriage_return, vertical_bar, backslash, space}
+use Rattle.htmd_grammar.specs.Characters.{line_feed, carriage_return, vertical_bar, backslash, space}
 use Rattle.htmd_text.specs.Trims.{trimmed_text}
-use Rattle.htmd_text.specs.WhiteSpace.{is_document_white_space}
+use Rattle.htmd_grammar.specs.WhiteSpace.{is_document_white_space}
 use Rattle.htmd_markdown.specs.declared.table.Bars.{Bars}
 use Rattle.htmd_markdown.specs.declared.table.Bars.TheVariants.{References, Backslashes}
 use Rattle.htmd_markdown.specs.Tables.{in_cell}

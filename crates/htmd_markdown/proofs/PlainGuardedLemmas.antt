@@ -3,7 +3,7 @@ use Rattle.std.proofs.Common.{◌≡◌, ℕ, zero, suc, Bool, true, false, List
 use Rattle.std.specs.Prelude.{◌==◌, ◌&&◌, ◌||◌, slice_index, Option, is_none}
 use Rattle.std.specs.List.{list_any}
 use Rattle.std.proofs.lemmas.Bool.{or_parts, or_from, and_left}
-use Rattle.htmd_text.specs.Characters.{ampersand, number_sign}
+use Rattle.htmd_grammar.specs.Characters.{ampersand, number_sign}
 use Rattle.htmd_text.specs.EscapeMarks.{is_place}
 use Rattle.htmd_text.proofs.EscapeMarksLemmas.{no_place, unmarked_stays}
 use Rattle.htmd_markdown.specs.GuardedText.{is_always_guarded, is_mark_anywhere, is_block_mark, is_guarded_mark}

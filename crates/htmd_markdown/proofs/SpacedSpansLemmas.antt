@@ -8,8 +8,8 @@ use Rattle.std.specs.Option.{option_map}
 use Rattle.std.proofs.lemmas.Bool.{cases_Bool}
 use Rattle.std.proofs.lemmas.List.{append-nil, drop-append-le}
 use Rattle.std.proofs.lemmas.List.Sums.{prefix_len-le-length}
-use Rattle.htmd_text.specs.Characters.{space}
-use Rattle.htmd_text.specs.WhiteSpace.{is_document_white_space}
+use Rattle.htmd_grammar.specs.Characters.{space}
+use Rattle.htmd_grammar.specs.WhiteSpace.{is_document_white_space}
 use Rattle.htmd_markdown.specs.FenceReading.{is_line_end}
 use Rattle.htmd_markdown.specs.CodeSpans.{space_if, code_span}
 use Rattle.htmd_markdown.specs.CodeSpanReading.{is_backquote, before_run, line_ends_as_spaces, without_padding}

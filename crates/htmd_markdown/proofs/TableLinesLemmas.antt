@@ -12,7 +12,7 @@ use Rattle.std.proofs.lemmas.List.Elements.{All-nil, All-cons}
 use Rattle.std.proofs.lemmas.List.Splits.{slice_split_at}
 use Rattle.std.proofs.lemmas.List.Folds.{list_all-append}
 use Rattle.std.proofs.lemmas.Str.{IsUtf8-nil, IsUtf8-append, IsUtf8-from_ascii}
-use Rattle.htmd_text.specs.Characters.{line_feed, space, vertical_bar}
+use Rattle.htmd_grammar.specs.Characters.{line_feed, space, vertical_bar}
 use Rattle.htmd_markdown.specs.Tables as spec
 use Rattle.htmd_markdown.specs.TableReading.{IsTableLine}
 use Rattle.htmd_markdown.specs.GuardedTables.{line_width}

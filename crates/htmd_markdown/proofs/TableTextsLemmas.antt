@@ -9,8 +9,8 @@ use Rattle.std.proofs.Common.{lit<}
 use Rattle.std.proofs.lemmas.Bool.{and_parts, not-true, cond-true, cond-false, cond_both, cases_lt, lt-ltb, le-ltb}
 use Rattle.std.proofs.lemmas.List.{append-nil, length-map, length-replicate}
 use Rattle.std.proofs.lemmas.Str.{IsUtf8-nil, IsUtf8-string_bytes, IsUtf8-from_ascii, chars-IsAscii}
-use Rattle.htmd_text.specs.Characters.{line_feed, space, hyphen, vertical_bar}
-use Rattle.htmd_text.specs.WhiteSpace.{is_document_white_space}
+use Rattle.htmd_grammar.specs.Characters.{line_feed, space, hyphen, vertical_bar}
+use Rattle.htmd_grammar.specs.WhiteSpace.{is_document_white_space}
 use Rattle.htmd_markdown.specs.Tables as spec
 use Rattle.htmd_markdown.specs.TableReading.{column_count, IsTableLine, IsEven}
 use Rattle.htmd_markdown.specs.declared.table.Bars.{Bars}

@@ -7,7 +7,7 @@ use Rattle.std.proofs.lemmas.Bool.{and_left, and_right, cond-false, false_from_n
 use Rattle.std.proofs.lemmas.Bool.Decides.{nat_tests}
 use Rattle.std.proofs.lemmas.List.{take_all}
 use Rattle.std.proofs.lemmas.List.Sums.{suffix_len-take_no}
-use Rattle.htmd_text.specs.Characters.{asterisk, left_square_bracket, grave_accent, exclamation_mark}
+use Rattle.htmd_grammar.specs.Characters.{asterisk, left_square_bracket, grave_accent, exclamation_mark}
 use Rattle.htmd_markdown.specs.CodeSpans.{begins_with, ends_with}
 use Rattle.htmd_markdown.specs.GuardedText.{is_guarded, guarded_text}
 use Rattle.htmd_markdown.specs.declared.joint.Joint.TheVariants.{AsTheyAre}

@@ -1,7 +1,7 @@
 -- Cells byte by byte, as the code goes through them; only the contracts of private functions cite it.
 use Rattle.std.specs.Prelude.{◌≡◌, ◌==◌, if◌then◌else◌, ℕ, ◌<◌, Bool, not, ◌&&◌, List, [], ◌∷◌, ◌++◌, nat_le, nat_lt}
 use Rattle.std.specs.Prelude.{count_by, min, map, length, replicate}
-use Rattle.htmd_text.specs.Characters.{vertical_bar, backslash, carriage_return}
+use Rattle.htmd_grammar.specs.Characters.{vertical_bar, backslash, carriage_return}
 use Rattle.htmd_markdown.specs.declared.table.Bars.{Bars}
 use Rattle.htmd_markdown.specs.declared.table.Bars.TheVariants.{References, Backslashes}
 use Rattle.htmd_markdown.specs.Tables.{in_cell, normalised_cell, cell_width, column_widths_by}

@@ -2,7 +2,7 @@
 use Rattle.std.specs.Prelude.{◌≡◌, ℕ, ◌+◌, Bool, true, not, ◌&&◌, ◌||◌, ◌==◌, nat_le, if◌then◌else◌, List, [], ◌∷◌}
 use Rattle.std.specs.Prelude.{◌++◌, drop, slice_index, codes}
 use Rattle.std.specs.List.{list_any}
-use Rattle.htmd_text.specs.Characters.{space, ampersand, is_one_of}
+use Rattle.htmd_grammar.specs.Characters.{space, ampersand, is_one_of}
 use Rattle.htmd_text.specs.EscapeMarks.{with_backslashes}
 use Rattle.htmd_text.specs.Unescape.{unescape}
 use Rattle.htmd_text.specs.PlainText.{each_bare}

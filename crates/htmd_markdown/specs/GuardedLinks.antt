@@ -6,9 +6,9 @@ use Rattle.std.specs.Prelude.{slice_index, Option, Some, None, codes}
 use Rattle.std.specs.Char.{is_ascii_alphabetic, is_ascii_alphanumeric}
 use Rattle.std.specs.Fmt.{decimal}
 use Rattle.std.specs.List.{list_all, list_any, prefix_len}
-use Rattle.htmd_text.specs.Characters.{line_feed, space, ampersand, colon, is_one_of}
+use Rattle.htmd_grammar.specs.Characters.{line_feed, space, ampersand, colon, is_one_of}
 use Rattle.htmd_text.specs.Unescape.{unescape}
-use Rattle.htmd_text.specs.WhiteSpace.{squeezed_text}
+use Rattle.htmd_text.specs.SqueezedTexts.{squeezed_text}
 use Rattle.htmd_markdown.specs.CodeSpans.{space_if}
 use Rattle.htmd_markdown.specs.GuardedText.{guarded_text, is_guarded}
 use Rattle.htmd_markdown.specs.OneLine.{one_line}

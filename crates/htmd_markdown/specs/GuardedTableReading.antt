@@ -4,9 +4,9 @@ use Rattle.std.specs.Prelude.{length, take, drop, All}
 use Rattle.std.specs.List.{onto_first}
 use Rattle.std.specs.Str.{chars}
 use Rattle.std.specs.Str.Lines.{lines}
-use Rattle.htmd_text.specs.Characters.{vertical_bar, backslash}
+use Rattle.htmd_grammar.specs.Characters.{vertical_bar, backslash}
 use Rattle.htmd_text.specs.Trims.{trimmed_text}
-use Rattle.htmd_text.specs.WhiteSpace.{is_document_white_space}
+use Rattle.htmd_grammar.specs.WhiteSpace.{is_document_white_space}
 
 -- the parts of a text that is cut at each bar after an even number of backslashes; it stands itself after an odd
 -- number of them, or not

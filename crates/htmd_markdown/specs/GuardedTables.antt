@@ -4,9 +4,9 @@ use Rattle.std.specs.Prelude.{ℕ, ◌+◌, Bool, false, not, ◌&&◌, ◌==◌
 use Rattle.std.specs.Prelude.{length, replicate}
 use Rattle.std.specs.List.{flat_map}
 use Rattle.std.specs.Str.{chars}
-use Rattle.htmd_text.specs.Characters.{line_feed, carriage_return, space, vertical_bar, backslash}
+use Rattle.htmd_grammar.specs.Characters.{line_feed, carriage_return, space, vertical_bar, backslash}
 use Rattle.htmd_text.specs.Trims.{trimmed_text}
-use Rattle.htmd_text.specs.WhiteSpace.{is_document_white_space}
+use Rattle.htmd_grammar.specs.WhiteSpace.{is_document_white_space}
 use Rattle.htmd_markdown.specs.Tables.{row_by, table_of_widths_by, column_widths_by}
 
 -- what stands for a byte of a cell's line: a line feed becomes a space, and a carriage return goes

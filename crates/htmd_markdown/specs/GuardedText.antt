@@ -5,8 +5,8 @@ use Rattle.std.specs.Prelude.{reverse, slice_index, codes, encode_utf8_all, take
 use Rattle.std.specs.List.{list_all, prefix_len}
 use Rattle.std.specs.Char.{is_ascii_digit}
 use Rattle.std.specs.Str.{chars}
-use Rattle.htmd_text.specs.Characters.{space, line_feed, ampersand, number_sign, colon, hyphen, byte_order_mark}
-use Rattle.htmd_text.specs.Characters.{is_one_of}
+use Rattle.htmd_grammar.specs.Characters.{space, line_feed, ampersand, number_sign, colon, hyphen, byte_order_mark}
+use Rattle.htmd_grammar.specs.Characters.{is_one_of}
 use Rattle.htmd_text.specs.EscapeMarks.{with_backslashes}
 use Rattle.htmd_text.specs.PlainText.{each_bare}
 use Rattle.htmd_markdown.specs.ReferenceLike.{is_reference_like}

@@ -1,8 +1,8 @@
 -- Titles, written so that a reader finds them again (CommonMark 0.31.2, 6.3, 2.4 and 2.5).
 use Rattle.std.specs.Prelude.{ℕ, List, [], ◌∷◌, ◌++◌, map, Option, Some, None, codes}
 use Rattle.std.specs.List.{slice_split}
-use Rattle.htmd_text.specs.Characters.{space}
-use Rattle.htmd_text.specs.WhiteSpace.{is_document_white_space}
+use Rattle.htmd_grammar.specs.Characters.{space}
+use Rattle.htmd_grammar.specs.WhiteSpace.{is_document_white_space}
 use Rattle.htmd_text.specs.Trims.{trimmed_text, is_line_feed}
 use Rattle.htmd_markdown.specs.GuardedAddresses.{guarded_among}
 use Rattle.htmd_markdown.specs.LineEnds.{line_ends_as}

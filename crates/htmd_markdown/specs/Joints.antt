@@ -8,8 +8,8 @@ use Rattle.std.specs.Str.{chars}
 use Rattle.unicode.specs.declared.properties.GeneralCategoryGroup.TheVariants.{Letter, Mark, Number, Punctuation}
 use Rattle.unicode.specs.GeneralCategory.{general_category}
 use Rattle.unicode.specs.GeneralCategoryGroup.{in_group}
-use Rattle.htmd_text.specs.Characters.{asterisk, backslash, exclamation_mark, grave_accent, left_square_bracket}
-use Rattle.htmd_text.specs.Characters.{right_square_bracket, right_parenthesis, greater_than_sign, line_feed, is_one_of}
+use Rattle.htmd_grammar.specs.Characters.{asterisk, backslash, exclamation_mark, grave_accent, left_square_bracket}
+use Rattle.htmd_grammar.specs.Characters.{right_square_bracket, right_parenthesis, greater_than_sign, line_feed, is_one_of}
 use Rattle.htmd_markdown.specs.declared.joint.Joint.{Joint}
 use Rattle.htmd_markdown.specs.declared.joint.Joint.TheVariants.{AsTheyAre, MarkBeforeBracket, SpaceBetween}
 use Rattle.htmd_markdown.specs.declared.joint.Joint.TheVariants.{RunsGo, StartMoves, StartLosesRuns}

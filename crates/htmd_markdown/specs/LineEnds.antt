@@ -1,7 +1,7 @@
 -- Line ends of a text (CommonMark 0.31.2, 2.1) as something else.
 use Rattle.std.specs.Prelude.{ℕ, Bool, ◌&&◌, ◌==◌, if◌then◌else◌, List, [], ◌∷◌, ◌++◌, slice_index}
 use Rattle.std.specs.List.{list_any}
-use Rattle.htmd_text.specs.Characters.{carriage_return, line_feed}
+use Rattle.htmd_grammar.specs.Characters.{carriage_return, line_feed}
 use Rattle.htmd_markdown.specs.FenceReading.{is_line_end}
 
 -- the text with this in place of each line end: a line feed, a carriage return, or both in this order

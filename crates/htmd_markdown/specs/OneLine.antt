@@ -1,7 +1,7 @@
 -- A text in one line, as what is in a heading, in a link or in a title.
 use Rattle.std.specs.Prelude.{ℕ, Bool, List, [], ◌∷◌, map, filter}
 use Rattle.std.specs.List.{list_any, slice_split}
-use Rattle.htmd_text.specs.Characters.{space}
+use Rattle.htmd_grammar.specs.Characters.{space}
 use Rattle.htmd_text.specs.Trims.{trimmed_text, is_line_feed, is_space}
 use Rattle.htmd_text.specs.Joins.{joined_texts}
 use Rattle.htmd_markdown.specs.Titles.{is_filled}

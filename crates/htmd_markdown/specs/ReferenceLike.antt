@@ -5,7 +5,7 @@ use Rattle.std.specs.Prelude.{drop}
 use Rattle.std.specs.Prelude.{Option, Some, None, codes}
 use Rattle.std.specs.Char.{is_ascii_alphabetic, is_ascii_alphanumeric, is_ascii_digit, is_ascii_hexdigit}
 use Rattle.std.specs.List.{find}
-use Rattle.htmd_text.specs.Characters.{number_sign, semicolon, is_one_of}
+use Rattle.htmd_grammar.specs.Characters.{number_sign, semicolon, is_one_of}
 
 -- the first byte of another kind, None if there is none
 abbrev pub behind_digits : List ℕ → Option ℕ

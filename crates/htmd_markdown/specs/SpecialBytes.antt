@@ -1,6 +1,6 @@
 -- Which texts are written as they are in Guarded, as the code tells it; only private clauses cite this.
 use Rattle.std.specs.Prelude.{ℕ, Bool, ◌||◌, ◌==◌}
-use Rattle.htmd_text.specs.Characters.{ampersand, number_sign}
+use Rattle.htmd_grammar.specs.Characters.{ampersand, number_sign}
 use Rattle.htmd_markdown.specs.GuardedText.{is_always_guarded}
 
 -- the character may get a backslash wherever it stands

@@ -4,7 +4,7 @@ ghost use Rattle.std.specs.Prelude.{◌≡◌, ◌++◌, IfOk, IfSome, OnOk, cod
 ghost use Rattle.std.specs.List.{list_all, list_any};
 ghost use Rattle.std.specs.Option.{option_copied};
 ghost use Rattle.htmd_markdown.specs.GuardedAddresses.{bare_address, closing, delimiters, HoldsGuarded};
-ghost use Rattle.htmd_text.specs.WhiteSpace.{squeezed_text};
+ghost use Rattle.htmd_text.specs.SqueezedTexts.{squeezed_text};
 ghost use Rattle.htmd_markdown.specs.GuardedLinks as spec;
 ghost use Rattle.htmd_markdown.specs.OneLine.{one_line};
 ghost use Rattle.htmd_markdown.specs.GuardedTitles.{guarded_title_text, title_line};

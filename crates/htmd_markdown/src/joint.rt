@@ -2,7 +2,7 @@
 //! markup (CommonMark 0.31.2, 6.1, 6.2 and 6.4).
 ghost use Rattle.std.specs.Prelude.{◌≡◌, ◌==◌, ◌&&◌, not, ◌≤◌, ◌-◌, ◌++◌, OnOk, length, take, drop, string_bytes};
 ghost use Rattle.std.specs.Str.{IsCharBoundary};
-ghost use Rattle.htmd_text.specs.Characters.{backslash};
+ghost use Rattle.htmd_grammar.specs.Characters.{backslash};
 ghost use Rattle.htmd_markdown.specs.Joints as spec;
 ghost use Rattle.htmd_markdown.specs.JointFits.{Fits};
 

@@ -4,7 +4,7 @@ use Rattle.std.proofs.Common.{[], ◌∷◌}
 use Rattle.std.proofs.Common.{length, take, drop, get_or, eqb, refl, sym, ◌∙◌, ap, subst, arith, add-one}
 use Rattle.std.proofs.Common.{None}
 use Rattle.std.proofs.lemmas.List.{drop_more, get_or-take}
-use Rattle.htmd_text.proofs.Cases.{test}
+use Rattle.htmd_grammar.proofs.Cases.{test}
 use Rattle.htmd_grammar.specs.CharacterClasses.{first_is, behind_run}
 use Rattle.htmd_grammar.specs.TagReading.{TagPart, attribute, is_other, next_part, TagForm, no_form, form}
 use Rattle.htmd_grammar.specs.TagReading.{with_attribute}

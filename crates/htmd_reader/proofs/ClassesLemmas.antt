@@ -6,7 +6,7 @@ use Rattle.std.specs.Prelude.{nat_lt}
 use Rattle.htmd_grammar.specs.CharacterClasses.{leading_run, is_tag_name_byte, is_attribute_name_byte, is_unquoted_byte}
 use Rattle.htmd_grammar.specs.TagReading.{is_other}
 use Rattle.htmd_grammar.proofs.RunsLemmas.{run_within, stop_at, behind_last}
-use Rattle.htmd_text.proofs.WhiteSpaceLemmas.{white_is_ascii}
+use Rattle.htmd_grammar.proofs.CharacterClassesLemmas.{white_is_ascii}
 use Rattle.htmd_reader.specs.declared.reader.scan.Class.{Class}
 use Rattle.htmd_reader.specs.declared.reader.scan.Class.TheVariants.{TagName, WhiteSpace, AttributeName, UnquotedValue}
 use Rattle.htmd_reader.specs.declared.reader.scan.Class.TheVariants.{Other}

@@ -8,7 +8,7 @@ use Rattle.std.proofs.lemmas.List.{get_or-drop, length-drop, drop-drop}
 use Rattle.std.proofs.lemmas.Str.{IsCharBoundary-before_ascii, IsCharBoundary-after_ascii}
 use Rattle.std.specs.Prelude.{◌==◌, ◌&&◌}
 use Rattle.std.specs.Str.{IsUtf8, IsCharBoundary}
-use Rattle.htmd_text.proofs.Cases.{test}
+use Rattle.htmd_grammar.proofs.Cases.{test}
 use Rattle.htmd_grammar.specs.CharacterClasses.{begins_with, up_to, onward}
 use Rattle.htmd_grammar.specs.Comments.{before_comment_end}
 use Rattle.htmd_grammar.proofs.CharacterClassesLemmas.{take_up_to, drop_up_to, up_to-le-length, stops_at}

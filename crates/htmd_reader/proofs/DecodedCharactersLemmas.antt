@@ -15,7 +15,7 @@ use Rattle.std.specs.Char.{OutOfScalarRange}
 use Rattle.std.specs.Option.{MatchOption, SomeIff}
 use Rattle.std.specs.Prelude.{◌==◌, ◌&&◌, not}
 use Rattle.std.specs.Str.{bytes_eq}
-use Rattle.htmd_text.proofs.Cases.{test}
+use Rattle.htmd_grammar.proofs.Cases.{test}
 use Rattle.htmd_grammar.specs.CharacterClasses.{first_is, leading_run, behind_run, begins_in_any_case}
 use Rattle.htmd_grammar.specs.References.{stands, wrong, number, digit_value, may_be_numbered, is_between}
 use Rattle.htmd_grammar.specs.References.{numbered}

@@ -2,8 +2,8 @@
 use Rattle.std.proofs.Common.{◌≡◌, ℕ, suc, ◌<◌, ◌≤◌, Bool, true, false, cond, ◌&&◌, ◌==◌, List, [], ◌∷◌, length}
 use Rattle.std.proofs.Common.{refl, sym, ap, ◌∙◌, subst, arith, Ok, Err, Option, Some, None, drop, OnOk, codes}
 use Rattle.std.proofs.Math.Bool.{and-false}
-use Rattle.htmd_text.proofs.Cases.{test}
-use Rattle.htmd_text.specs.Characters.{less_than_sign}
+use Rattle.htmd_grammar.proofs.Cases.{test}
+use Rattle.htmd_grammar.specs.Characters.{less_than_sign}
 use Rattle.htmd_grammar.specs.ValueTrees.{AttributePair, text}
 use Rattle.htmd_grammar.specs.CharacterClasses.{is_empty, first_is, onward}
 use Rattle.htmd_grammar.specs.Rules.{Rules, project}

@@ -4,7 +4,7 @@ use Rattle.std.proofs.Common.{Ok, Err, OnOk}
 use Rattle.htmd_grammar.specs.Documents.{above_body}
 use Rattle.std.specs.Prelude.{◌&&◌, cond, codes}
 use Rattle.std.specs.Str.{bytes_eq}
-use Rattle.htmd_text.proofs.Cases.{test}
+use Rattle.htmd_grammar.proofs.Cases.{test}
 use Rattle.htmd_grammar.specs.ValueTrees.{AttributePair}
 use Rattle.htmd_grammar.specs.Rules.{project}
 use Rattle.htmd_grammar.specs.Nesting.{is_row}

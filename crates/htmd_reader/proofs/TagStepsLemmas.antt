@@ -5,9 +5,9 @@ use Rattle.std.specs.Prelude.{codes, ⊤}
 use Rattle.std.specs.List.{list_any}
 use Rattle.std.specs.Str.{bytes_eq}
 use Rattle.std.specs.Char.{to_ascii_lowercase}
-use Rattle.htmd_text.proofs.Cases.{test}
-use Rattle.htmd_text.specs.Characters.{line_feed}
-use Rattle.htmd_text.specs.WhiteSpace.{is_ascii_white_space}
+use Rattle.htmd_grammar.proofs.Cases.{test}
+use Rattle.htmd_grammar.specs.Characters.{line_feed}
+use Rattle.htmd_grammar.specs.WhiteSpace.{is_ascii_white_space}
 use Rattle.htmd_grammar.specs.ValueTrees.{AttributePair, ValueTree, element, none}
 use Rattle.htmd_grammar.specs.CharacterClasses.{first_is, leading_run, behind_run, is_tag_name, is_tag_name_byte}
 use Rattle.htmd_grammar.specs.CharacterClasses.{are_distinct}

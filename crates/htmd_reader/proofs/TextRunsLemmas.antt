@@ -12,9 +12,9 @@ use Rattle.std.specs.Char.{encode_utf8, is_ascii_whitespace}
 use Rattle.std.specs.List.{list_all}
 use Rattle.std.specs.Prelude.{◌==◌, ◌&&◌, not, slice_index}
 use Rattle.std.specs.Str.{IsUtf8, IsCharBoundary}
-use Rattle.htmd_text.proofs.Cases.{test}
-use Rattle.htmd_text.specs.WhiteSpace.{is_ascii_white_space}
-use Rattle.htmd_text.proofs.WhiteSpaceLemmas.{white_is_ascii}
+use Rattle.htmd_grammar.proofs.Cases.{test}
+use Rattle.htmd_grammar.specs.WhiteSpace.{is_ascii_white_space}
+use Rattle.htmd_grammar.proofs.CharacterClassesLemmas.{white_is_ascii}
 use Rattle.htmd_grammar.specs.CharacterClasses.{is_empty, leading_run, behind_run}
 use Rattle.htmd_grammar.specs.Documents.{above_body}
 use Rattle.htmd_grammar.specs.Nesting.{parent_name, holds_parts}

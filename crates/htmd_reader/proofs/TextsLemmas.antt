@@ -5,7 +5,7 @@ use Rattle.std.proofs.Common.{◌∙◌, arith, codes, take, drop}
 use Rattle.std.proofs.lemmas.Bool.{or_right}
 use Rattle.std.specs.Prelude.{◌&&◌, ◌||◌}
 use Rattle.std.specs.Str.{bytes_eq}
-use Rattle.htmd_text.proofs.Cases.{test}
+use Rattle.htmd_grammar.proofs.Cases.{test}
 use Rattle.htmd_grammar.specs.ValueTrees.{text}
 use Rattle.htmd_grammar.specs.CharacterClasses.{is_empty, is_among, up_to, onward}
 use Rattle.htmd_grammar.specs.Comments.{normalized}

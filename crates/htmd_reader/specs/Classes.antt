@@ -1,6 +1,6 @@
 -- Which class of the grammar each class of the reader is.
 use Rattle.std.specs.Prelude.{ℕ, Bool, true, nat_lt}
-use Rattle.htmd_text.specs.WhiteSpace.{is_ascii_white_space}
+use Rattle.htmd_grammar.specs.WhiteSpace.{is_ascii_white_space}
 use Rattle.htmd_grammar.specs.CharacterClasses.{is_tag_name_byte, is_attribute_name_byte, is_unquoted_byte}
 use Rattle.htmd_grammar.specs.TagReading.{is_other}
 use Rattle.htmd_reader.specs.declared.reader.scan.Class.{Class}

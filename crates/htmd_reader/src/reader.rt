@@ -11,7 +11,7 @@ ghost use Rattle.htmd_grammar.specs.Rules.{project};
 ghost use Rattle.htmd_grammar.specs.ValueTrees.{ValueTree, ValueForest, document};
 ghost use Rattle.htmd_grammar.specs.declared.fault.FaultKind.{FaultKind};
 ghost use Rattle.htmd_grammar.specs.declared.fault.FaultKind.TheVariants.{TooDeep};
-ghost use Rattle.htmd_text.specs.Characters.{null};
+ghost use Rattle.htmd_grammar.specs.Characters.{null};
 ghost use Rattle.htmd_tree.specs.Layout.{document_items};
 ghost use Rattle.std.specs.List.{list_any, position};
 ghost use Rattle.htmd_grammar.specs.Attributes.{pairs_of};

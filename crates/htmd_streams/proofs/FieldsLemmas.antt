@@ -5,7 +5,7 @@ use Rattle.std.proofs.Common.{if◌then◌else◌, List, [], ◌∷◌, ◌++◌
 use Rattle.std.proofs.lemmas.List.{drop_more, drop_all, take_all, take_more, take_rest}
 use Rattle.std.proofs.lemmas.Bool.{lt-ltb, le-ltb}
 use Rattle.std.specs.Prelude.{nat_lt}
-use Rattle.htmd_text.specs.Characters.{backslash}
+use Rattle.htmd_grammar.specs.Characters.{backslash}
 use Rattle.htmd_streams.specs.Fields.{digit_value, digits, number_behind, escaped, escape_length}
 use Rattle.htmd_streams.specs.Fields.{read_behind, read_field, written_byte, written_field}
 use Rattle.htmd_streams.specs.Lines.{lacks}

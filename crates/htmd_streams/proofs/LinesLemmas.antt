@@ -7,7 +7,7 @@ use Rattle.std.proofs.lemmas.List.{drop_more, take_more, take_rest}
 use Rattle.std.proofs.lemmas.Bool.{ne_eqb}
 use Rattle.std.proofs.lemmas.List.Elements.{All-head, All-tail}
 use Rattle.std.specs.Str.{bytes_eq}
-use Rattle.htmd_text.specs.Characters.{line_feed, tab}
+use Rattle.htmd_grammar.specs.Characters.{line_feed, tab}
 use Rattle.htmd_streams.specs.Lines.{lacks, lines, before_lines, rows, end_mark, other_fields, last_field}
 
 -- ---- where a byte doesn't occur

@@ -12,7 +12,7 @@ use Rattle.std.proofs.lemmas.List.Edits.{between_more, between_none}
 use Rattle.std.proofs.lemmas.Slice.{between_to_end}
 use Rattle.std.proofs.lemmas.Str.{IsCharBoundary-start, IsCharBoundary-before_ascii}
 use Rattle.htmd_text.specs.EscapeMarks.{with_backslashes, is_always_marked, is_place}
-use Rattle.htmd_text.specs.Characters.{backslash, less_than_sign}
+use Rattle.htmd_grammar.specs.Characters.{backslash, less_than_sign}
 use Rattle.htmd_text.specs.declared.escape.Marks.{Marks}
 use Rattle.htmd_text.specs.declared.escape.Marks.TheVariants.{Html, Markdown}
 use Rattle.htmd_text.specs.Marks.{is_marked_by, is_special, is_plain}

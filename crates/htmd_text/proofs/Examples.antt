@@ -5,9 +5,9 @@ use Rattle.std.specs.Str.{chars}
 use Rattle.unicode.proofs.CategoryComputing.{ucd_category}
 use Rattle.htmd_text.specs.ListMarkers.{is_atx_heading}
 use Rattle.htmd_text.specs.EscapeMarks.{escaped_markdown, escaped_angle_brackets, escaped_pre_text}
-use Rattle.htmd_text.specs.WhiteSpace.{squeezed_text}
+use Rattle.htmd_text.specs.SqueezedTexts.{squeezed_text}
 use Rattle.htmd_text.specs.Blocks.{is_block}
-use Rattle.htmd_text.specs.BlankLines.{with_blank_lines}
+use Rattle.htmd_grammar.specs.BlankLines.{with_blank_lines}
 
 pub bullet : escaped_markdown (codes "- x") ≡ codes "\\- x"
 bullet = refl

@@ -1,6 +1,5 @@
 -- Worked rows, and the lemmas on each module of definitions.
 pub mod Examples
-pub mod Cases
 pub mod BeginningsLemmas
 pub mod ListMarkersLemmas
 pub mod BlocksLemmas

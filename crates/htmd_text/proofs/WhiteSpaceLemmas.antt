@@ -10,8 +10,10 @@ use Rattle.std.proofs.lemmas.List.{drop_more, drop_all, drop-drop, get_or-drop, 
 use Rattle.std.proofs.lemmas.List.Edits.{between_more, between_none}
 use Rattle.std.proofs.lemmas.Slice.{between_to_end}
 use Rattle.std.proofs.lemmas.Str.{IsCharBoundary-start, IsCharBoundary-after_ascii}
-use Rattle.htmd_text.specs.Characters.{space}
-use Rattle.htmd_text.specs.WhiteSpace.{is_ascii_white_space, begins_with_white_space, squeezed_text}
+use Rattle.htmd_grammar.specs.Characters.{space}
+use Rattle.htmd_grammar.specs.WhiteSpace.{is_ascii_white_space, begins_with_white_space}
+use Rattle.htmd_text.specs.SqueezedTexts.{squeezed_text}
+use Rattle.htmd_grammar.proofs.CharacterClassesLemmas.{white_is_ascii}
 use Rattle.htmd_text.specs.Replacement.{IsReplaced, is_squeezed}
 
 shorter : (w v : Bool) (b : ℕ) (s rest : List ℕ) → length rest ≤ length s
@@ -84,9 +86,6 @@ squeezing_stays start s out from i lt stays was = record {
       ap (λ l. l ++ rest) piece ∙ append_assoc (between from i s) (get_or s i 0 ∷ []) rest in
       ap (λ l. out ++ l) (grown ∙ ap (λ l. between from i s ++ l) (sym first)) ∙ was.whole;
 }
-
-pub white_is_ascii : (b : ℕ) → is_ascii_white_space b ≡ true → b < 128
-white_is_ascii b white = grind (arith, nat_tests)
 
 pub squeezing_all : (start s out : List ℕ) (from i : ℕ) → length s ≤ i → Squeezing start s out from i
     → out ++ drop from s ≡ start ++ squeezed_text s

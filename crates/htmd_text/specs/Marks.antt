@@ -2,7 +2,7 @@
 use Rattle.std.specs.Prelude.{◌≡◌, ℕ, ◌<◌, true, length, Bool, not, ◌&&◌, ◌||◌, ◌==◌, List, slice_index, is_none}
 use Rattle.std.specs.Char.{is_ascii}
 use Rattle.std.specs.List.{list_any}
-use Rattle.htmd_text.specs.Characters.{less_than_sign}
+use Rattle.htmd_grammar.specs.Characters.{less_than_sign}
 use Rattle.htmd_text.specs.declared.escape.Marks.{Marks}
 use Rattle.htmd_text.specs.declared.escape.Marks.TheVariants.{Html, Markdown}
 use Rattle.htmd_text.specs.EscapeMarks.{is_always_marked, is_html_mark, is_html_mark_alone, is_place}

@@ -1,6 +1,6 @@
 //! The beginnings of a line that Markdown reads as a heading or as an ordered list item.
 ghost use Rattle.std.specs.Prelude.{◌≡◌, ◌==◌, ◌&&◌, ◌≤◌, ◌+◌, ◌-◌, None, Some, if◌then◌else◌, length, nat_lt, slice_index};
-ghost use Rattle.htmd_text.specs.Characters.{space};
+ghost use Rattle.htmd_grammar.specs.Characters.{space};
 ghost use Rattle.htmd_text.specs.ListMarkers as spec;
 
 use crate::runs::leading_len;

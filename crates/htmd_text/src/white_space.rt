@@ -1,7 +1,8 @@
 //! White space of a text.
 ghost use Rattle.std.specs.Prelude.{◌≡◌, ◌++◌, true, false, IfOk, OnOk, IsOkAnd, MatchOption, take, drop, string_bytes};
 ghost use Rattle.std.specs.Cow.{cow_str_bytes, IsBorrowedStr};
-ghost use Rattle.htmd_text.specs.WhiteSpace as spec;
+ghost use Rattle.htmd_grammar.specs.WhiteSpace as white;
+ghost use Rattle.htmd_text.specs.SqueezedTexts as spec;
 ghost use Rattle.htmd_text.specs.Replacement.{IsReplaced, is_squeezed};
 
 use std::alloc::{AllocError, Global};
@@ -82,7 +83,7 @@ fn replacement(bytes: &[u8]) -> Option<&'static str>
 
 /// Whether the text begins with ASCII white space.
 fn begins_with_white_space(bytes: &[u8]) -> bool
-    ensures { result ≡ spec.begins_with_white_space bytes.now }
+    ensures { result ≡ white.begins_with_white_space bytes.now }
 {
     match bytes {
         [b, ..] => b.is_ascii_whitespace(),

@@ -8,7 +8,7 @@ use Rattle.htmd_tree.specs.Items.{document_item, item_at, parent_at, data_at, is
 use Rattle.htmd_tree.specs.Items.{holds_children, IsTree, IsBelow, child, deeper}
 use Rattle.htmd_tree.specs.NumberedTrees.{NumberedTree, document, doctype, text, comment, element, NumberedForest}
 use Rattle.htmd_tree.specs.NumberedTrees.{with_children, forest_from, tree_of, forest_of, height, tallest}
-use Rattle.htmd_text.proofs.Cases.{test}
+use Rattle.htmd_grammar.proofs.Cases.{test}
 use Rattle.htmd_tree.proofs.ItemsLemmas.{is_child-before, child_read}
 
 -- items that name another parent give no trees

@@ -14,7 +14,7 @@ use Rattle.std.proofs.lemmas.List.Sums.{take_while-cons}
 use Rattle.std.proofs.lemmas.Str.{IsUtf8-encode, chars-nil, chars-append, chars_past_char, encode_ascii}
 use Rattle.std.proofs.lemmas.Str.{length-encode, len_utf8_bounds, chars_from_encodes}
 use Rattle.std.proofs.Math.Utf8.{low_scalar}
-use Rattle.htmd_text.specs.Characters.{space, number_sign}
+use Rattle.htmd_grammar.specs.Characters.{space, number_sign}
 use Rattle.htmd_markdown.specs.GuardedText.{is_blank, first_place, number_end, is_block_sign, is_delimiter}
 use Rattle.htmd_markdown.specs.GuardedText.{ends_or_has_space}
 use Rattle.htmd_tree_laws.specs.TextLaws.{begins_block}

@@ -9,7 +9,7 @@ use Rattle.std.proofs.lemmas.Bool.{and_parts, and_from, cases_Bool, eqb-true, fa
 use Rattle.std.proofs.lemmas.List.{append-nil, take-append-drop}
 use Rattle.std.proofs.lemmas.Str.{IsUtf8-append, IsUtf8-from_ascii, chars-IsAscii}
 use Rattle.std.proofs.lemmas.Bool.Decides.{nat_tests}
-use Rattle.htmd_text.specs.Characters.{line_feed, tilde}
+use Rattle.htmd_grammar.specs.Characters.{line_feed, tilde}
 use Rattle.htmd_text.specs.Trims.{trimmed_start, trimmed_end}
 use Rattle.htmd_tree_laws.specs.Shown.{visible, IsPart, is_visible}
 use Rattle.htmd_tree_laws.proofs.CountedTexts.{of_visible, part-append, part-then, holds-own}

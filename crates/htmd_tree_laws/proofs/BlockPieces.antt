@@ -13,12 +13,12 @@ use Rattle.std.proofs.lemmas.Bool.{and_parts, and_from, cases_lt, cond_both}
 use Rattle.std.proofs.lemmas.Bool.Decides.{nat_tests}
 use Rattle.std.proofs.lemmas.List.{append-nil}
 use Rattle.std.proofs.lemmas.Str.{IsUtf8-append, encode_ascii}
-use Rattle.htmd_text.specs.BlankLines.{blank_line, with_blank_lines}
-use Rattle.htmd_text.specs.Characters.{space, line_feed, full_stop, tilde}
+use Rattle.htmd_grammar.specs.BlankLines.{blank_line, with_blank_lines}
+use Rattle.htmd_grammar.specs.Characters.{space, line_feed, full_stop, tilde}
 use Rattle.htmd_text.specs.Joins.{join_block, joined_blocks}
 use Rattle.htmd_text.specs.Trims.{trimmed_start, trimmed_text, is_line_feed, some_text, white_space_at_start}
 use Rattle.htmd_text.specs.Trims.{white_space_at_end}
-use Rattle.htmd_text.specs.WhiteSpace.{is_document_white_space}
+use Rattle.htmd_grammar.specs.WhiteSpace.{is_document_white_space}
 use Rattle.htmd_markdown.specs.declared.emphasis.Emphasis.{Emphasis}
 use Rattle.htmd_markdown.specs.declared.list.BulletListMarker.{BulletListMarker}
 use Rattle.htmd_markdown.specs.Emphases.{mark, holds_blank_line, guarded_emphasis, between}

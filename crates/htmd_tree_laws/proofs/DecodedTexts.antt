@@ -9,7 +9,7 @@ use Rattle.std.proofs.Math.Utf8.{scalar}
 use Rattle.std.proofs.lemmas.Bool.{and_parts, eqb-true}
 use Rattle.std.proofs.lemmas.Bool.Decides.{nat_tests}
 use Rattle.std.proofs.lemmas.Str.{IsUtf8-append, IsUtf8-encode}
-use Rattle.htmd_text.proofs.Cases.{test}
+use Rattle.htmd_grammar.proofs.Cases.{test}
 use Rattle.htmd_grammar.specs.CharacterClasses.{first_is, leading_run, begins_in_any_case, is_among}
 use Rattle.htmd_grammar.specs.CharacterClasses as class
 use Rattle.htmd_grammar.specs.Rules.{Rules, NamedCharacter, character_named, named_characters}

@@ -23,7 +23,7 @@ use Rattle.htmd_grammar.proofs.Readings.{named_front}
 use Rattle.htmd_grammar.proofs.TagReadingLemmas.{filled}
 use Rattle.htmd_grammar.proofs.TextLemmas.{Stops, markup-append}
 use Rattle.htmd_grammar.proofs.TreeTexts.{IsTextTree, RowTag, row_start, start_tag_begins, stops_after}
-use Rattle.htmd_text.proofs.Cases.{test}
+use Rattle.htmd_grammar.proofs.Cases.{test}
 
 text_last : (t : ValueTree) → IsTextTree t ≡ true → ends_in_text (more t none) ≡ true
 text_last (document ks) e = absurd (cc)

@@ -10,10 +10,10 @@ use Rattle.std.proofs.lemmas.Bool.{false≢true, cond-true, cond-false, or_from}
 use Rattle.std.proofs.lemmas.Bool.Decides.{nat_tests}
 use Rattle.std.proofs.lemmas.List.{append-nil}
 use Rattle.std.proofs.lemmas.List.Elements.{All-head}
-use Rattle.htmd_text.specs.Characters.{ampersand, backslash, line_feed, number_sign, is_one_of}
+use Rattle.htmd_grammar.specs.Characters.{ampersand, backslash, line_feed, number_sign, is_one_of}
 use Rattle.htmd_text.specs.PlainText.{each_bare}
 use Rattle.htmd_text.specs.Trims.{trimmed_end}
-use Rattle.htmd_text.specs.WhiteSpace.{is_document_white_space}
+use Rattle.htmd_grammar.specs.WhiteSpace.{is_document_white_space}
 use Rattle.htmd_text.proofs.PlainTextLemmas.{bare_first}
 use Rattle.htmd_markdown.specs.ReferenceLike.{is_reference_like, behind_number, ends_reference}
 use Rattle.htmd_markdown.specs.GuardedText.{is_always_guarded, begins_no_markup, is_guarded}

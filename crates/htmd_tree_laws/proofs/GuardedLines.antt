@@ -9,10 +9,11 @@ use Rattle.std.proofs.lemmas.Bool.Decides.{nat_tests}
 use Rattle.std.proofs.lemmas.List.Sums.{prefix_len_passes}
 use Rattle.std.proofs.lemmas.List.Elements.{All-nil, All-cons, All-head, All-tail, All-take, All-drop, All-append, All-weaker}
 use Rattle.std.proofs.lemmas.Str.{IsUtf8-append, IsUtf8-nil}
-use Rattle.htmd_text.specs.BlankLines.{with_blank_lines, blank_line}
-use Rattle.htmd_text.specs.Characters.{backslash, line_feed, space}
+use Rattle.htmd_grammar.specs.BlankLines.{with_blank_lines, blank_line}
+use Rattle.htmd_grammar.specs.Characters.{backslash, line_feed, space}
 use Rattle.htmd_text.specs.Trims.{trimmed_start, trimmed_end, trimmed_text, is_line_feed, is_space}
-use Rattle.htmd_text.specs.WhiteSpace.{is_document_white_space, squeezed_text}
+use Rattle.htmd_grammar.specs.WhiteSpace.{is_document_white_space}
+use Rattle.htmd_text.specs.SqueezedTexts.{squeezed_text}
 use Rattle.htmd_markdown.specs.GuardedText as reader
 use Rattle.htmd_markdown.specs.GuardedText.{guarded_text, is_guarded_mark, begins_line}
 use Rattle.htmd_tree_laws.specs.TextLaws.{begins_block}

@@ -8,7 +8,7 @@ use Rattle.std.proofs.Math.Seq.{take-append_seam}
 use Rattle.std.proofs.lemmas.Bool.{cases_Bool, cases_lt, cond-true, cond-false, false≢true, eqb-true}
 use Rattle.std.proofs.lemmas.List.{reverse-append, length-append, length-reverse}
 use Rattle.std.proofs.lemmas.List.Sums.{suffix_len-le-length}
-use Rattle.htmd_text.specs.Characters.{asterisk, backslash}
+use Rattle.htmd_grammar.specs.Characters.{asterisk, backslash}
 use Rattle.htmd_markdown.specs.GuardedText.{is_guarded}
 use Rattle.htmd_markdown.specs.Joints.{is_asterisk, is_backslash, escapes_next, ending_run}
 use Rattle.htmd_tree_laws.proofs.GuardedEnds.{guarded-tail}

@@ -16,7 +16,7 @@ use Rattle.std.proofs.lemmas.List.Sums.{suffix_len-le-length}
 use Rattle.std.proofs.lemmas.Str.{encodes-append, encodes-chars, encode_ascii, char_from_byte, length-encode}
 use Rattle.std.proofs.lemmas.Str.{len_utf8_bounds, IsUtf8-drop, IsUtf8-take}
 use Rattle.unicode.proofs.CategoryComputing.{ucd_category}
-use Rattle.htmd_text.specs.Characters.{asterisk, backslash, exclamation_mark}
+use Rattle.htmd_grammar.specs.Characters.{asterisk, backslash, exclamation_mark}
 use Rattle.htmd_markdown.specs.CodeSpans.{ends_with}
 use Rattle.htmd_markdown.specs.Joints.{is_asterisk, is_backslash, ending_run, beginning_run, plain_start, plain_end, ends, Ends}
 use Rattle.htmd_markdown.specs.Joints.{joint_between, joint_at_start, joint_at_end, begins_word, ends_word, are_alike}

@@ -7,7 +7,7 @@ use Rattle.std.specs.Str.{IsUtf8}
 use Rattle.std.proofs.lemmas.Bool.{and_parts, and_from, cases_Bool, false≢true, true≢false}
 use Rattle.std.proofs.lemmas.List.{append-nil}
 use Rattle.std.proofs.lemmas.Str.{IsUtf8-append}
-use Rattle.htmd_text.specs.Characters.{line_feed, tilde}
+use Rattle.htmd_grammar.specs.Characters.{line_feed, tilde}
 use Rattle.htmd_markdown.specs.Joints.{with_joint}
 use Rattle.htmd_tree_laws.specs.Shown.{visible, IsPart}
 use Rattle.htmd_tree_laws.proofs.CountedTexts.{of_visible, part-append, holds-own}

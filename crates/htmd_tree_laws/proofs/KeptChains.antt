@@ -9,7 +9,7 @@ use Rattle.std.proofs.lemmas.Bool.{and_parts, and_from, not-true, false≢true}
 use Rattle.std.proofs.lemmas.Bool.Decides.{nat_tests}
 use Rattle.std.proofs.lemmas.List.{append-nil}
 use Rattle.std.proofs.lemmas.Str.{IsUtf8-append, chars-nil, encodes-chars, scalars-chars, chars-encodes}
-use Rattle.htmd_text.specs.Characters.{is_one_of, line_feed}
+use Rattle.htmd_grammar.specs.Characters.{is_one_of, line_feed}
 use Rattle.htmd_tree_laws.specs.Shown.{is_visible, visible, IsPart}
 use Rattle.htmd_tree_laws.proofs.CountedTexts.{of_visible, part-append, part-then, part-of_nothing, holds-own}
 use Rattle.htmd_tree_laws.proofs.KeptMarks.{even, seen, ends, seen_all, Ordinary, ordinary-append, ordinary-respaced}

@@ -16,7 +16,7 @@ use Rattle.std.proofs.lemmas.List.Sums.{suffix_len-le-length}
 use Rattle.std.proofs.lemmas.Str.{encodes-chars, chars-append, chars_past_char, encode_ascii}
 use Rattle.std.proofs.lemmas.Str.{IsUtf8-append}
 use Rattle.unicode.proofs.CategoryComputing.{ucd_category}
-use Rattle.htmd_text.specs.Characters.{line_feed, tilde, is_one_of}
+use Rattle.htmd_grammar.specs.Characters.{line_feed, tilde, is_one_of}
 use Rattle.htmd_markdown.specs.Joints.{is_asterisk, ending_run, beginning_run, plain_start, plain_end}
 use Rattle.htmd_markdown.specs.Joints.{escapes_next}
 use Rattle.htmd_markdown.specs.Joints.{begins_word, ends_word}

@@ -14,7 +14,7 @@ use Rattle.std.proofs.lemmas.List.{append-nil, take-append-drop, length-take-le,
 use Rattle.std.proofs.lemmas.Str.{encodes-append, encodes-chars, encode_ascii, chars-append, chars-IsAscii}
 use Rattle.std.proofs.lemmas.Str.{IsUtf8-from_ascii, chars-nil, IsUtf8-drop, IsUtf8-take, IsUtf8-append, IsUtf8-nil}
 use Rattle.unicode.proofs.CategoryComputing.{ucd_category}
-use Rattle.htmd_text.specs.Characters.{asterisk, backslash, exclamation_mark}
+use Rattle.htmd_grammar.specs.Characters.{asterisk, backslash, exclamation_mark}
 use Rattle.htmd_markdown.specs.CodeSpans.{ends_with}
 use Rattle.htmd_markdown.specs.Joints.{is_asterisk, is_backslash, ending_run, beginning_run, plain_start, ends, Ends}
 use Rattle.htmd_markdown.specs.Joints.{begins_word}

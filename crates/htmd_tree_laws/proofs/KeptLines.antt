@@ -9,12 +9,12 @@ use Rattle.std.proofs.lemmas.Bool.{and_parts, and_from, cond_both, cond-false, c
 use Rattle.std.proofs.lemmas.Bool.Decides.{nat_tests}
 use Rattle.std.proofs.lemmas.List.{append-nil, take-append-drop, length-drop, length-take-le}
 use Rattle.std.proofs.lemmas.List.Sums.{suffix_len-le-length, prefix_len-le-length, list_all-from_AllPass}
-use Rattle.htmd_text.specs.BlankLines.{blank_line, with_blank_lines}
-use Rattle.htmd_text.specs.Characters.{space, line_feed}
+use Rattle.htmd_grammar.specs.BlankLines.{blank_line, with_blank_lines}
+use Rattle.htmd_grammar.specs.Characters.{space, line_feed}
 use Rattle.htmd_text.specs.Indents.{line_text, next_line, indented_lines, indented_text}
 use Rattle.htmd_text.specs.Joins.{joined_texts, join_block}
 use Rattle.htmd_text.specs.Trims.{trimmed_start, trimmed_end, trimmed_text, cut_end, is_line_feed, is_space}
-use Rattle.htmd_text.specs.WhiteSpace.{is_document_white_space}
+use Rattle.htmd_grammar.specs.WhiteSpace.{is_document_white_space}
 use Rattle.htmd_markdown.specs.OneLine.{with_spaces_between, one_line}
 use Rattle.htmd_markdown.specs.Quotes.{quoted_line, quoted_lines, quoted_content, quote}
 use Rattle.htmd_markdown.specs.Titles.{is_filled}

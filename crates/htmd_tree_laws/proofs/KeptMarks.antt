@@ -13,7 +13,7 @@ use Rattle.std.proofs.lemmas.List.{append-nil}
 use Rattle.std.proofs.lemmas.List.Elements.{filter-append}
 use Rattle.std.proofs.lemmas.Str.{encode_ascii, encodes-append, encodes-chars, scalars-chars, chars-encodes, chars-append}
 use Rattle.std.proofs.lemmas.Str.{IsUtf8-append, IsUtf8-nil, chars-nil}
-use Rattle.htmd_text.specs.Characters.{backslash, line_feed}
+use Rattle.htmd_grammar.specs.Characters.{backslash, line_feed}
 use Rattle.htmd_markdown.specs.Joints.{is_asterisk, is_backslash}
 use Rattle.htmd_tree_laws.specs.Shown.{is_visible, IsPart}
 use Rattle.htmd_tree_laws.proofs.CountedTexts.{part-behind, part-append, part-then}

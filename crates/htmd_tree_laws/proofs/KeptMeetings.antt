@@ -13,7 +13,7 @@ use Rattle.std.proofs.lemmas.List.{take-append-le, drop-append-le}
 use Rattle.std.proofs.lemmas.List.Sums.{prefix_len-le-length}
 use Rattle.std.proofs.lemmas.Str.{IsUtf8-drop}
 use Rattle.std.proofs.lemmas.Str.{IsUtf8-append, IsUtf8-nil, IsCharBoundary-from_drop}
-use Rattle.htmd_text.specs.Characters.{exclamation_mark, line_feed, tilde}
+use Rattle.htmd_grammar.specs.Characters.{exclamation_mark, line_feed, tilde}
 use Rattle.htmd_markdown.specs.CodeSpans.{ends_with}
 use Rattle.htmd_markdown.specs.Joints.{is_asterisk, ending_run, beginning_run, plain_start, plain_end, ends, Ends}
 use Rattle.htmd_markdown.specs.Joints.{joint_between, joint_at_start, joint_at_end, joint_of_runs}

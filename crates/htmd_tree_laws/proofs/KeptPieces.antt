@@ -17,12 +17,12 @@ use Rattle.std.proofs.lemmas.List.{append-nil}
 use Rattle.std.proofs.lemmas.Nat.{mod_below}
 use Rattle.std.proofs.lemmas.Str.{chars-encodes, encodes-append, encodes-chars, scalars-chars, chars-append}
 use Rattle.std.proofs.lemmas.Str.{encode_ascii, IsUtf8-append, IsUtf8-past_char}
-use Rattle.htmd_text.specs.BlankLines.{with_blank_lines}
-use Rattle.htmd_text.specs.Characters.{space, line_feed, full_stop, hyphen, backslash}
+use Rattle.htmd_grammar.specs.BlankLines.{with_blank_lines}
+use Rattle.htmd_grammar.specs.Characters.{space, line_feed, full_stop, hyphen, backslash}
 use Rattle.htmd_text.specs.Joins.{join_block, joined_blocks}
 use Rattle.htmd_text.specs.Trims.{trimmed_start, trimmed_text, is_line_feed, some_text, white_space_at_start}
 use Rattle.htmd_text.specs.Trims.{white_space_at_end}
-use Rattle.htmd_text.specs.WhiteSpace.{is_document_white_space}
+use Rattle.htmd_grammar.specs.WhiteSpace.{is_document_white_space}
 use Rattle.htmd_markdown.specs.declared.emphasis.Emphasis.{Emphasis}
 use Rattle.htmd_markdown.specs.declared.emphasis.Emphasis.TheVariants.{Regular, Strong}
 use Rattle.htmd_markdown.specs.declared.fence.CodeBlockFence.TheVariants.{Backticks}

@@ -1,7 +1,7 @@
 -- What is promised of a text by where it stands: blocks between tildes may be in it if its line feeds stay.
 use Rattle.std.proofs.Common.{◌≡◌, ℕ, Bool, true, false, List, [], ◌∷◌, ◌++◌, refl, subst, map, Option, Some, None}
 use Rattle.std.specs.Prelude.{◌&&◌, not}
-use Rattle.htmd_text.specs.BlankLines.{with_blank_lines}
+use Rattle.htmd_grammar.specs.BlankLines.{with_blank_lines}
 use Rattle.htmd_text.specs.Trims.{trimmed_end, trimmed_text, is_line_feed}
 use Rattle.htmd_markdown.specs.declared.emphasis.Emphasis.{Emphasis}
 use Rattle.htmd_markdown.specs.declared.list.BulletListMarker.{BulletListMarker}

@@ -10,10 +10,10 @@ use Rattle.std.proofs.lemmas.Bool.Decides.{nat_tests}
 use Rattle.std.proofs.lemmas.List.{append-nil, length-append, length-map, length-replicate}
 use Rattle.std.proofs.lemmas.Str.{encode_ascii, encodes-chars, scalars-chars, chars-encodes}
 use Rattle.std.specs.Char.{IsScalar}
-use Rattle.htmd_text.specs.BlankLines.{blank_line}
-use Rattle.htmd_text.specs.Characters.{space, line_feed, carriage_return, vertical_bar, hyphen, backslash, is_one_of}
+use Rattle.htmd_grammar.specs.BlankLines.{blank_line}
+use Rattle.htmd_grammar.specs.Characters.{space, line_feed, carriage_return, vertical_bar, hyphen, backslash, is_one_of}
 use Rattle.htmd_text.specs.Trims.{trimmed_text}
-use Rattle.htmd_text.specs.WhiteSpace.{is_document_white_space}
+use Rattle.htmd_grammar.specs.WhiteSpace.{is_document_white_space}
 use Rattle.htmd_markdown.specs.GuardedTables.{cell_line, is_escaping, escaped_bars, guarded_cell, guarded_widths}
 use Rattle.htmd_markdown.specs.GuardedTables.{guarded_table}
 use Rattle.htmd_markdown.specs.GuardedTables as guarded

@@ -9,10 +9,10 @@ use Rattle.std.proofs.lemmas.Bool.{true≢false, false_from_ne_true}
 use Rattle.std.proofs.lemmas.Bool.Decides.{nat_tests}
 use Rattle.std.proofs.lemmas.List.{append-nil}
 use Rattle.std.proofs.lemmas.Str.{encode_ascii, encodes-chars, scalars-chars, chars-encodes}
-use Rattle.htmd_text.specs.Characters.{backslash, asterisk}
+use Rattle.htmd_grammar.specs.Characters.{backslash, asterisk}
 use Rattle.htmd_text.specs.EscapeMarks.{with_backslashes}
 use Rattle.htmd_text.specs.Trims.{is_space}
-use Rattle.htmd_text.specs.WhiteSpace.{squeezed_text}
+use Rattle.htmd_text.specs.SqueezedTexts.{squeezed_text}
 use Rattle.htmd_markdown.specs.GuardedText.{is_guarded_mark, is_mark_anywhere, is_always_guarded, guarded_text}
 use Rattle.htmd_markdown.specs.GuardedText.{begins_line}
 use Rattle.htmd_markdown.specs.Joints.{is_asterisk, is_backslash}

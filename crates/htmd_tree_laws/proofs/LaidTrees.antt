@@ -13,7 +13,7 @@ use Rattle.htmd_grammar.specs.Grammar.{ReadsTree, ReadsForest, may_end_rows}
 use Rattle.htmd_grammar.specs.RawContent.{content_of}
 use Rattle.htmd_grammar.specs.Serialisation.{is_void}
 use Rattle.htmd_grammar.proofs.TreeTexts.{Inside}
-use Rattle.htmd_text.proofs.Cases.{test}
+use Rattle.htmd_grammar.proofs.Cases.{test}
 use Rattle.htmd_tree.specs.Items.{Data, document_node, doctype_node, text_node, comment_node, element_node, Item}
 use Rattle.htmd_tree.specs.Items.{document_item, item_at, depth_at, data_at, parent_at, holds_children, new_item}
 use Rattle.htmd_tree.specs.Items.{greatest_depth, IsTree, IsUnder, HoldsText, HoldTexts}

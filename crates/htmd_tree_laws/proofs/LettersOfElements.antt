@@ -35,7 +35,7 @@ use Rattle.htmd_walk.specs.Preformatted.{block_plan, guarded_preformatted}
 use Rattle.htmd_walk.specs.Code.{is_code_block, language, shows_language}
 use Rattle.htmd_walk.specs.Preformatted.{guarded_language}
 use Rattle.htmd_walk.specs.Lists.{lists}
-use Rattle.htmd_text.specs.BlankLines.{with_blank_lines}
+use Rattle.htmd_grammar.specs.BlankLines.{with_blank_lines}
 use Rattle.htmd_text.specs.Trims.{trimmed_text, some_text, is_line_feed}
 use Rattle.std.specs.Option.{option_map}
 use Rattle.htmd_walk.specs.Tables.{has_table_form}

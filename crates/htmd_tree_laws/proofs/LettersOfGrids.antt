@@ -5,9 +5,9 @@ use Rattle.std.specs.Prelude.{replicate}
 use Rattle.std.specs.List.{prefix_len}
 use Rattle.std.proofs.lemmas.Bool.{cond_both}
 use Rattle.std.proofs.lemmas.List.{append-nil, length-replicate}
-use Rattle.htmd_text.specs.BlankLines.{blank_line}
-use Rattle.htmd_text.specs.Characters.{line_feed}
-use Rattle.htmd_text.specs.WhiteSpace.{is_document_white_space}
+use Rattle.htmd_grammar.specs.BlankLines.{blank_line}
+use Rattle.htmd_grammar.specs.Characters.{line_feed}
+use Rattle.htmd_grammar.specs.WhiteSpace.{is_document_white_space}
 use Rattle.htmd_markdown.specs.GuardedTables.{guarded_cell, guarded_cell_width, guarded_widths, guarded_table}
 use Rattle.htmd_markdown.specs.GuardedTables.{narrowest}
 use Rattle.htmd_markdown.specs.OneLine.{one_line}

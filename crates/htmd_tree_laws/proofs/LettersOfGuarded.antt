@@ -10,9 +10,10 @@ use Rattle.std.specs.Str.{IsUtf8}
 use Rattle.std.proofs.lemmas.Bool.{and_parts, cond_both, ltb-true}
 use Rattle.std.proofs.lemmas.Bool.Decides.{nat_tests}
 use Rattle.std.proofs.lemmas.List.{append-nil}
-use Rattle.htmd_text.specs.Characters.{space, line_feed, carriage_return}
+use Rattle.htmd_grammar.specs.Characters.{space, line_feed, carriage_return}
 use Rattle.htmd_text.specs.Trims.{trimmed_text, is_line_feed, is_space}
-use Rattle.htmd_text.specs.WhiteSpace.{is_document_white_space, squeezed_text}
+use Rattle.htmd_grammar.specs.WhiteSpace.{is_document_white_space}
+use Rattle.htmd_text.specs.SqueezedTexts.{squeezed_text}
 use Rattle.htmd_markdown.specs.declared.emphasis.Emphasis.{Emphasis}
 use Rattle.htmd_markdown.specs.declared.fence.CodeBlockFence.{CodeBlockFence}
 use Rattle.htmd_markdown.specs.declared.heading.HeadingStyle.{HeadingStyle}

@@ -14,7 +14,7 @@ use Rattle.std.proofs.lemmas.List.{drop-take}
 use Rattle.std.proofs.lemmas.List.Sums.{prefix_len_passes, suffix_len-le-length}
 use Rattle.std.proofs.lemmas.Str.{IsUtf8-take, IsUtf8-drop, IsUtf8-past_char, encode_ascii, chars_past_char, chars-IsAscii}
 use Rattle.std.proofs.lemmas.Str.{IsCharBoundary-before_ascii}
-use Rattle.htmd_text.specs.Characters.{asterisk, exclamation_mark}
+use Rattle.htmd_grammar.specs.Characters.{asterisk, exclamation_mark}
 use Rattle.htmd_markdown.specs.CodeSpans.{ends_with}
 use Rattle.htmd_markdown.specs.Joints.{is_asterisk, ending_run, beginning_run, plain_start, plain_end, ends, Ends}
 use Rattle.htmd_markdown.specs.Joints.{joint_between, joint_at_start, joint_at_end, begins_word, ends_word, are_alike}

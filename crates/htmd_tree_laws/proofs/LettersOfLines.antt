@@ -14,9 +14,9 @@ use Rattle.std.proofs.lemmas.List.{append-nil, take-append-drop, length-drop, ge
 use Rattle.std.proofs.lemmas.List.Elements.{filter-append}
 use Rattle.std.proofs.lemmas.Str.{chars-nil, inside_one, encodes-chars, scalars-chars}
 use Rattle.std.proofs.lemmas.Str.{encode_ascii}
-use Rattle.htmd_text.specs.Characters.{space, line_feed}
+use Rattle.htmd_grammar.specs.Characters.{space, line_feed}
 use Rattle.htmd_text.specs.Trims.{trimmed_start, is_line_feed}
-use Rattle.htmd_text.specs.WhiteSpace.{is_document_white_space}
+use Rattle.htmd_grammar.specs.WhiteSpace.{is_document_white_space}
 use Rattle.htmd_text.specs.Joins.{joined_texts, join_block, joined_blocks}
 use Rattle.htmd_text.specs.Indents.{line_text, next_line, indented_lines, indented_text}
 use Rattle.htmd_markdown.specs.Quotes.{quoted_line, quoted_content, quote}

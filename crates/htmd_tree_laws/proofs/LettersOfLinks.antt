@@ -13,9 +13,9 @@ use Rattle.std.proofs.lemmas.Bool.{and_from, cond_both, agree_below_at}
 use Rattle.std.proofs.lemmas.Bool.Decides.{nat_tests}
 use Rattle.std.proofs.lemmas.Nat.{mod_below}
 use Rattle.std.proofs.lemmas.List.{append-nil}
-use Rattle.htmd_text.specs.Characters.{space, line_feed, full_stop, is_one_of}
+use Rattle.htmd_grammar.specs.Characters.{space, line_feed, full_stop, is_one_of}
 use Rattle.htmd_text.specs.Trims.{trimmed_start, trimmed_text, some_text, is_line_feed}
-use Rattle.htmd_text.specs.WhiteSpace.{is_document_white_space}
+use Rattle.htmd_grammar.specs.WhiteSpace.{is_document_white_space}
 use Rattle.htmd_markdown.specs.declared.link.LinkReferenceStyle.{LinkReferenceStyle}
 use Rattle.htmd_markdown.specs.declared.link.LinkReferenceStyle.TheVariants.{Full, Collapsed, Shortcut}
 use Rattle.htmd_markdown.specs.declared.list.BulletListMarker.{BulletListMarker}

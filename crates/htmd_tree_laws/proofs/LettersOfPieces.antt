@@ -12,10 +12,10 @@ use Rattle.std.proofs.lemmas.Bool.{eqb-true}
 use Rattle.std.proofs.lemmas.List.{append-nil, length-append, take-append-le}
 use Rattle.std.proofs.lemmas.List.Elements.{filter-append}
 use Rattle.std.proofs.lemmas.Str.{chars-encodes, encodes-append, encodes-chars, scalars-chars}
-use Rattle.htmd_text.specs.Characters.{space, line_feed, hyphen, grave_accent}
+use Rattle.htmd_grammar.specs.Characters.{space, line_feed, hyphen, grave_accent}
 use Rattle.htmd_text.specs.Trims.{trimmed_text, is_line_feed, is_space}
 use Rattle.htmd_text.specs.Trims.{white_space_at_start, white_space_at_end}
-use Rattle.htmd_text.specs.WhiteSpace.{is_document_white_space}
+use Rattle.htmd_grammar.specs.WhiteSpace.{is_document_white_space}
 use Rattle.htmd_markdown.specs.declared.emphasis.Emphasis.{Emphasis}
 use Rattle.htmd_markdown.specs.declared.emphasis.Emphasis.TheVariants.{Regular, Strong}
 use Rattle.htmd_markdown.specs.declared.heading.HeadingStyle.{HeadingStyle}

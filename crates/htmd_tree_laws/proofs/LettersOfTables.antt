@@ -7,10 +7,10 @@ use Rattle.std.specs.Str.{chars}
 use Rattle.std.proofs.lemmas.Bool.{and_parts, and_from, cond_both}
 use Rattle.std.proofs.lemmas.Bool.Decides.{nat_tests}
 use Rattle.std.proofs.lemmas.List.{append-nil, length-map, length-replicate}
-use Rattle.htmd_text.specs.BlankLines.{blank_line}
-use Rattle.htmd_text.specs.Characters.{space, line_feed, carriage_return, vertical_bar, hyphen, backslash}
+use Rattle.htmd_grammar.specs.BlankLines.{blank_line}
+use Rattle.htmd_grammar.specs.Characters.{space, line_feed, carriage_return, vertical_bar, hyphen, backslash}
 use Rattle.htmd_text.specs.Trims.{trimmed_text}
-use Rattle.htmd_text.specs.WhiteSpace.{is_document_white_space}
+use Rattle.htmd_grammar.specs.WhiteSpace.{is_document_white_space}
 use Rattle.htmd_markdown.specs.GuardedTables.{cell_line, is_escaping, escaped_bars, guarded_cell}
 use Rattle.htmd_markdown.specs.GuardedTables as guarded
 use Rattle.htmd_markdown.specs.Tables.{in_cell, normalised_cell, cell_width, line_cells_by, padded_cell}

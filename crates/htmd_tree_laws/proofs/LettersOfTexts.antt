@@ -14,12 +14,12 @@ use Rattle.std.proofs.lemmas.List.Sums.{prefix_len_passes, suffix_len-le-length}
 use Rattle.std.proofs.lemmas.Str.{IsUtf8-encode, encode_ascii}
 use Rattle.std.proofs.lemmas.Str.{chars-nil, chars_past_char, inside_one, encodes-chars, scalars-chars}
 use Rattle.std.proofs.lemmas.Str.Ascii.{IsAscii-nil, IsAscii-cons}
-use Rattle.htmd_text.specs.BlankLines.{blank_line, with_blank_lines}
-use Rattle.htmd_text.specs.Characters.{space, carriage_return, backslash}
+use Rattle.htmd_grammar.specs.BlankLines.{blank_line, with_blank_lines}
+use Rattle.htmd_grammar.specs.Characters.{space, carriage_return, backslash}
 use Rattle.htmd_text.specs.EscapeMarks.{with_backslashes, is_marked, escaped_markdown, escaped_pre_text}
 use Rattle.htmd_text.specs.Trims.{trimmed_start, trimmed_end, trimmed_text, cut_end, is_line_feed, is_space}
-use Rattle.htmd_text.specs.WhiteSpace.{is_document_white_space, is_ascii_white_space, begins_with_white_space}
-use Rattle.htmd_text.specs.WhiteSpace.{squeezed_text}
+use Rattle.htmd_grammar.specs.WhiteSpace.{is_document_white_space, is_ascii_white_space, begins_with_white_space}
+use Rattle.htmd_text.specs.SqueezedTexts.{squeezed_text}
 use Rattle.htmd_text.proofs.MarksLemmas.{marked_is_punctuation}
 use Rattle.htmd_tree_laws.specs.Shown.{is_visible}
 use Rattle.htmd_tree_laws.proofs.CountedTexts.{Law, of_letters, of_visible, counts, Holds, holds-own, holds-as, holds-none}

@@ -11,11 +11,11 @@ use Rattle.std.proofs.lemmas.Bool.{not-true}
 use Rattle.std.proofs.lemmas.Bool.Decides.{nat_tests}
 use Rattle.std.proofs.lemmas.List.{append-nil, take-append-drop, length-append, length-drop, length-take-le}
 use Rattle.std.proofs.lemmas.List.Sums.{suffix_len-le-length, prefix_len-le-length, list_all-from_AllPass}
-use Rattle.htmd_text.specs.Characters.{space, line_feed}
+use Rattle.htmd_grammar.specs.Characters.{space, line_feed}
 use Rattle.htmd_text.specs.Indents.{line_text, next_line, indented_text}
 use Rattle.htmd_text.specs.Joins.{join_block}
 use Rattle.htmd_text.specs.Trims.{trimmed_start, trimmed_end, cut_end, is_line_feed, is_space}
-use Rattle.htmd_text.specs.WhiteSpace.{is_document_white_space}
+use Rattle.htmd_grammar.specs.WhiteSpace.{is_document_white_space}
 use Rattle.htmd_walk.specs.Seams.{joined_at_seam, begins_with_space, ends_with_space}
 use Rattle.htmd_tree_laws.proofs.KeptLines.{rejoin, split_is, spread, feeds-append, first_feeds, quoted_next}
 use Rattle.htmd_tree_laws.proofs.KeptLines.{same_lines, indented_is}

@@ -17,7 +17,7 @@ use Rattle.std.proofs.lemmas.List.{append-nil, reverse-append, replicate_more, l
 use Rattle.std.proofs.lemmas.List.{take_more}
 use Rattle.std.proofs.lemmas.List.Sums.{prefix_len_stops, suffix_len-le-length}
 use Rattle.std.proofs.lemmas.Slice.Zip.{length-zip}
-use Rattle.htmd_text.specs.Characters.{line_feed, space, full_stop}
+use Rattle.htmd_grammar.specs.Characters.{line_feed, space, full_stop}
 use Rattle.htmd_text.specs.Digits.{digits}
 use Rattle.htmd_text.specs.Trims.{trimmed_start, trimmed_end, trimmed_text, some_text, is_line_feed}
 use Rattle.htmd_text.specs.Indents.{indented_text}

@@ -6,9 +6,9 @@ use Rattle.std.specs.List.{list_any, prefix_len}
 use Rattle.std.proofs.lemmas.Bool.{and_parts, and_from, or_parts, cond_both, cond-false, not-true, false≢true}
 use Rattle.std.proofs.lemmas.Bool.{eqb-true}
 use Rattle.std.proofs.lemmas.Bool.Decides.{nat_tests}
-use Rattle.htmd_text.specs.Characters.{is_one_of, grave_accent, line_feed, carriage_return, space}
+use Rattle.htmd_grammar.specs.Characters.{is_one_of, grave_accent, line_feed, carriage_return, space}
 use Rattle.htmd_text.specs.Trims.{trimmed_text}
-use Rattle.htmd_text.specs.WhiteSpace.{is_document_white_space}
+use Rattle.htmd_grammar.specs.WhiteSpace.{is_document_white_space}
 use Rattle.htmd_markdown.specs.declared.fence.CodeBlockFence.TheVariants.{Backticks}
 use Rattle.htmd_markdown.specs.CodeSpans.{space_if, delimiter_len, delimited_text, code_span, meets_delimiter}
 use Rattle.htmd_markdown.specs.CodeSpans.{span_content, is_between_spaces, smallest_unused_len}

@@ -7,7 +7,7 @@ use Rattle.std.proofs.Math.Seq.{take-append_seam, get_or-append_seam}
 use Rattle.std.proofs.lemmas.Bool.{and_parts, and_from, or_from, cond-true, cond-false, eqb-true, false≢true}
 use Rattle.std.proofs.lemmas.Bool.{not-true, false_from_ne_true}
 use Rattle.std.proofs.lemmas.List.{length-append}
-use Rattle.htmd_text.specs.Characters.{is_one_of, grave_accent, line_feed}
+use Rattle.htmd_grammar.specs.Characters.{is_one_of, grave_accent, line_feed}
 use Rattle.htmd_markdown.specs.Joints.{is_plain_behind, is_plain_sign, is_word_character, escapes_next, ends_bare}
 use Rattle.htmd_markdown.specs.Joints.{up_to_of, up_to, without_last, up_to_backquote_of, may_end_code, ends_autolink}
 use Rattle.htmd_markdown.specs.Joints.{closes_link, is_plain_at}

@@ -7,9 +7,9 @@ use Rattle.std.proofs.lemmas.List.{append-nil}
 use Rattle.std.specs.List.{list_all}
 use Rattle.std.specs.Prelude.{if◌then◌else◌}
 use Rattle.std.proofs.lemmas.Bool.{not-true, and_parts, eqb-true, ltb-true}
-use Rattle.htmd_text.specs.Characters.{null}
-use Rattle.htmd_text.specs.WhiteSpace.{is_ascii_white_space}
-use Rattle.htmd_text.proofs.Cases.{test}
+use Rattle.htmd_grammar.specs.Characters.{null}
+use Rattle.htmd_grammar.specs.WhiteSpace.{is_ascii_white_space}
+use Rattle.htmd_grammar.proofs.Cases.{test}
 use Rattle.htmd_grammar.specs.CharacterClasses.{first_is, is_empty, lacks}
 use Rattle.htmd_grammar.specs.Documents.{above_body, body_text}
 use Rattle.htmd_grammar.specs.Faults.{HasPiece, IsFirstNul, IsPieceFault, IsTextWithReferences, Applies}

@@ -18,7 +18,7 @@ use Rattle.htmd_grammar.specs.ValueTrees.{more, none, text}
 use Rattle.htmd_grammar.proofs.ReferencesLemmas.{put_parts}
 use Rattle.htmd_grammar.proofs.TagsLemmas.{values_parts}
 use Rattle.htmd_grammar.proofs.TreeTexts.{Inside}
-use Rattle.htmd_text.proofs.Cases.{test}
+use Rattle.htmd_grammar.proofs.Cases.{test}
 
 module _ (few many : Names) (has : (n : List ℕ) (c : ℕ) → character_named few n ≡ Some c
     → character_named many n ≡ Some c) where

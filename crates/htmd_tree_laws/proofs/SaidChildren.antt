@@ -7,7 +7,7 @@ use Rattle.std.proofs.lemmas.Bool.{cond_both}
 use Rattle.std.proofs.lemmas.List.{append-nil}
 use Rattle.htmd_text.specs.Trims.{is_space}
 use Rattle.htmd_markdown.specs.GuardedText.{begins_line, guarded_text}
-use Rattle.htmd_text.specs.WhiteSpace.{squeezed_text}
+use Rattle.htmd_text.specs.SqueezedTexts.{squeezed_text}
 use Rattle.htmd_tree.specs.NumberedTrees.{NumberedTree, NumberedForest, none}
 use Rattle.htmd_tree.specs.NumberedTrees.{more}
 use Rattle.htmd_tree.specs.Ancestors.{Ancestor}

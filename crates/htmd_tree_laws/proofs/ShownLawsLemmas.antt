@@ -5,7 +5,7 @@ use Rattle.std.specs.Str.{bytes_eq}
 use Rattle.std.proofs.lemmas.Bool.{cond_both, true≢false, cases_Bool}
 use Rattle.std.proofs.lemmas.List.{append-nil}
 use Rattle.htmd_text.specs.Trims.{trimmed_end, is_line_feed}
-use Rattle.htmd_text.specs.WhiteSpace.{is_document_white_space}
+use Rattle.htmd_grammar.specs.WhiteSpace.{is_document_white_space}
 use Rattle.htmd_tree.specs.Items.{Item, data_at, children_of, IsTree, HoldsText, HoldTexts}
 use Rattle.htmd_tree.specs.NumberedTrees.{NumberedTree, document, doctype, text, comment, element, NumberedForest}
 use Rattle.htmd_tree.specs.NumberedTrees.{forest_of, tree_of, height, tallest}

@@ -9,8 +9,8 @@ use Rattle.std.proofs.lemmas.Bool.{and_from, not-true, true≢false, false≢tru
 use Rattle.std.proofs.lemmas.List.{append-nil}
 use Rattle.std.proofs.lemmas.Slice.Eq.{bytes_eq-Decides}
 use Rattle.std.proofs.lemmas.Str.{chars-IsAscii}
-use Rattle.htmd_text.specs.WhiteSpace.{is_document_white_space}
-use Rattle.htmd_text.specs.Characters.{line_feed}
+use Rattle.htmd_grammar.specs.WhiteSpace.{is_document_white_space}
+use Rattle.htmd_grammar.specs.Characters.{line_feed}
 use Rattle.htmd_markdown.specs.Titles.{is_filled}
 use Rattle.htmd_tree.specs.ValueTrees.{AttributePair}
 use Rattle.htmd_tree.specs.Items.{Data, document_node, doctype_node, text_node, comment_node, element_node, Item}

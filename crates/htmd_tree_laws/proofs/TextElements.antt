@@ -9,7 +9,7 @@ use Rattle.std.proofs.lemmas.Bool.{and_parts, or_cases, not-true, false≢true, 
 use Rattle.std.proofs.lemmas.Bool.{eqb-true}
 use Rattle.std.proofs.lemmas.List.{append-nil}
 use Rattle.std.proofs.lemmas.Slice.Eq.{bytes_eq-Decides}
-use Rattle.htmd_text.specs.BlankLines.{with_blank_lines}
+use Rattle.htmd_grammar.specs.BlankLines.{with_blank_lines}
 use Rattle.htmd_text.specs.Blocks.{is_block}
 use Rattle.htmd_text.specs.Trims.{trimmed_text, is_line_feed}
 use Rattle.htmd_tree.specs.ValueTrees.{AttributePair}

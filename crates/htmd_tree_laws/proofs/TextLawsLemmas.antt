@@ -2,10 +2,11 @@
 use Rattle.std.proofs.Common.{◌≡◌, ℕ, Bool, true, List, [], ◌∷◌, ◌++◌, refl, sym, ap, ◌∙◌, subst}
 use Rattle.std.specs.Str.{IsUtf8}
 use Rattle.std.proofs.lemmas.Str.{IsUtf8-append, IsUtf8-nil}
-use Rattle.htmd_text.specs.BlankLines.{with_blank_lines}
-use Rattle.htmd_text.specs.Characters.{line_feed}
+use Rattle.htmd_grammar.specs.BlankLines.{with_blank_lines}
+use Rattle.htmd_grammar.specs.Characters.{line_feed}
 use Rattle.htmd_text.specs.Trims.{trimmed_text, is_space, is_line_feed}
-use Rattle.htmd_text.specs.WhiteSpace.{is_document_white_space, squeezed_text}
+use Rattle.htmd_grammar.specs.WhiteSpace.{is_document_white_space}
+use Rattle.htmd_text.specs.SqueezedTexts.{squeezed_text}
 use Rattle.htmd_tree.specs.Items.{Item, HoldTexts, HoldsText, data_at, text_node}
 use Rattle.htmd_markdown.specs.GuardedText as reader
 use Rattle.htmd_markdown.proofs.GuardedReadingLemmas.{guarded-is_guarded}

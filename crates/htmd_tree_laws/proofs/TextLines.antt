@@ -12,7 +12,7 @@ use Rattle.std.proofs.lemmas.List.Folds.{list_all-append}
 use Rattle.std.proofs.lemmas.List.Sums.{take_while-cons}
 use Rattle.std.proofs.lemmas.List.Elements.{All-head, All-tail}
 use Rattle.std.proofs.lemmas.Str.{chars-append, IsUtf8-append}
-use Rattle.htmd_text.specs.Characters.{space, line_feed}
+use Rattle.htmd_grammar.specs.Characters.{space, line_feed}
 use Rattle.htmd_text.specs.Trims.{trimmed_start, is_space, is_line_feed}
 use Rattle.htmd_text.proofs.PlainTextLemmas.{chars_ascii}
 use Rattle.htmd_tree_laws.specs.TextLaws.{begins_block}

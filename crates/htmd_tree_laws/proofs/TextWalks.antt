@@ -4,10 +4,11 @@ use Rattle.std.proofs.Common.{codes, refl, sym, ap, ◌∙◌, subst, arith, ⊎
 use Rattle.std.specs.Prelude.{◌||◌}
 use Rattle.std.proofs.lemmas.Bool.{or_cases, cond-true}
 use Rattle.std.proofs.lemmas.List.{append-nil}
-use Rattle.htmd_text.specs.BlankLines.{with_blank_lines}
+use Rattle.htmd_grammar.specs.BlankLines.{with_blank_lines}
 use Rattle.htmd_text.specs.Blocks.{is_block}
 use Rattle.htmd_text.specs.Trims.{trimmed_text, trimmed_end, is_space, is_line_feed}
-use Rattle.htmd_text.specs.WhiteSpace.{is_document_white_space, squeezed_text}
+use Rattle.htmd_grammar.specs.WhiteSpace.{is_document_white_space}
+use Rattle.htmd_text.specs.SqueezedTexts.{squeezed_text}
 use Rattle.htmd_tree.specs.ValueTrees.{AttributePair}
 use Rattle.htmd_tree.specs.Items.{Data, document_node, doctype_node, text_node, comment_node, element_node, Item}
 use Rattle.htmd_tree.specs.Items.{data_at}

@@ -9,8 +9,8 @@ use Rattle.std.specs.Char.{to_ascii_lowercase, encode_utf8}
 use Rattle.std.proofs.lemmas.Bool.{and_parts, eqb-true}
 use Rattle.std.proofs.lemmas.Bool.Decides.{nat_tests}
 use Rattle.std.proofs.lemmas.Str.{IsUtf8-past_char}
-use Rattle.htmd_text.specs.WhiteSpace.{is_ascii_white_space}
-use Rattle.htmd_text.proofs.Cases.{test}
+use Rattle.htmd_grammar.specs.WhiteSpace.{is_ascii_white_space}
+use Rattle.htmd_grammar.proofs.Cases.{test}
 use Rattle.htmd_grammar.specs.CharacterClasses.{begins_with, begins_in_any_case, first_is}
 use Rattle.htmd_grammar.specs.CharacterClasses as class
 use Rattle.htmd_grammar.specs.ValueTrees.{document}

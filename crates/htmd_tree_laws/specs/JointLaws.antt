@@ -1,7 +1,7 @@
 -- The law of joints in Guarded: where two texts meet, only marks go.
 use Rattle.std.specs.Prelude.{◌≡◌, ℕ, Bool, true, false, not, ◌&&◌, ◌||◌, ◌==◌, if◌then◌else◌, List, [], ◌∷◌, ◌++◌, IsUtf8}
 use Rattle.std.specs.Char.{is_ascii_punctuation}
-use Rattle.htmd_text.specs.Characters.{asterisk, backslash}
+use Rattle.htmd_grammar.specs.Characters.{asterisk, backslash}
 use Rattle.htmd_markdown.specs.Joints.{with_joint}
 use Rattle.htmd_tree_laws.specs.Shown.{IsPart}
 

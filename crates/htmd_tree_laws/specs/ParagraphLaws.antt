@@ -3,10 +3,10 @@ use Rattle.std.specs.Prelude.{◌≡◌, ℕ, false, ◌&&◌, ◌==◌, if◌th
 use Rattle.std.specs.Prelude.{Option, Some, None}
 use Rattle.std.specs.List.{filter, onto_first}
 use Rattle.std.specs.Option.{unwrap_or}
-use Rattle.htmd_text.specs.Characters.{line_feed}
+use Rattle.htmd_grammar.specs.Characters.{line_feed}
 use Rattle.htmd_text.specs.Trims.{trimmed_start, trimmed_end, is_space}
 use Rattle.htmd_text.specs.Unescape.{unescape}
-use Rattle.htmd_text.specs.WhiteSpace.{squeezed_text}
+use Rattle.htmd_text.specs.SqueezedTexts.{squeezed_text}
 use Rattle.htmd_tree.specs.ValueTrees.{ValueTree, document, text, element, ValueForest, none, more}
 use Rattle.htmd_tree.specs.Items.{Item, IsTree}
 use Rattle.htmd_tree.specs.NumberedTrees.{tree_of, value_tree}

@@ -5,7 +5,7 @@ use Rattle.std.specs.List.{list_all, slice_split}
 use Rattle.std.specs.Option.{is_some}
 use Rattle.std.specs.Str.{bytes_eq}
 use Rattle.htmd_text.specs.Blocks.{is_block}
-use Rattle.htmd_text.specs.Characters.{line_feed}
+use Rattle.htmd_grammar.specs.Characters.{line_feed}
 use Rattle.htmd_text.specs.Trims.{is_line_feed}
 use Rattle.htmd_tree.specs.ValueTrees.{AttributePair, ValueTree, document, doctype, text, comment, element}
 use Rattle.htmd_tree.specs.ValueTrees.{ValueForest, none, more}

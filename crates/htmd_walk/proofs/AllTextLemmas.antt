@@ -3,7 +3,7 @@ use Rattle.std.proofs.Common.{◌≡◌, ℕ, ◌+◌, ◌<◌, List, [], ◌∷
 use Rattle.std.proofs.Common.{true, false, cond, codes, Some}
 use Rattle.std.proofs.lemmas.List.{drop_more, append_assoc}
 use Rattle.std.specs.Str.{bytes_eq}
-use Rattle.htmd_text.specs.Characters.{line_feed}
+use Rattle.htmd_grammar.specs.Characters.{line_feed}
 use Rattle.htmd_tree.specs.ValueTrees.{AttributePair}
 use Rattle.htmd_tree.specs.Items.{Item, IsTree, data_at, document_node, doctype_node, text_node, comment_node}
 use Rattle.htmd_tree.specs.Items.{element_node}

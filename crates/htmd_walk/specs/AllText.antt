@@ -1,7 +1,7 @@
 -- All text of an element, whatever is between its texts: what a reader of the page sees of code.
 use Rattle.std.specs.Prelude.{ℕ, if◌then◌else◌, List, [], ◌∷◌, ◌++◌, Option, Some, None, codes}
 use Rattle.std.specs.Str.{bytes_eq}
-use Rattle.htmd_text.specs.Characters.{line_feed}
+use Rattle.htmd_grammar.specs.Characters.{line_feed}
 use Rattle.htmd_tree.specs.NumberedTrees.{NumberedTree, document, doctype, text, comment, element}
 use Rattle.htmd_tree.specs.NumberedTrees.{NumberedForest, none, more}
 use Rattle.htmd_walk.specs.Handling.{ElementView}

@@ -4,7 +4,7 @@ use Rattle.std.specs.Prelude.{codes, drop, ◌==◌}
 use Rattle.std.specs.List.{list_all, slice_split, starts_with}
 use Rattle.std.specs.Str.{bytes_eq}
 use Rattle.std.specs.Option.{is_some, option_or}
-use Rattle.htmd_text.specs.Characters.{space}
+use Rattle.htmd_grammar.specs.Characters.{space}
 use Rattle.htmd_markdown.specs.CodeSpans.{code_span}
 use Rattle.htmd_markdown.specs.Fences.{fenced_code_block}
 use Rattle.htmd_markdown.specs.IndentedCode.{indented_code_block}

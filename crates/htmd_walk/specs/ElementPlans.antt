@@ -4,7 +4,7 @@ use Rattle.std.specs.Prelude.{Some, None, true, ℤ, pos, negsuc}
 use Rattle.std.specs.List.{list_any, list_all}
 use Rattle.std.specs.Str.{bytes_eq}
 use Rattle.htmd_text.specs.Trims.{trimmed_text, is_line_feed}
-use Rattle.htmd_text.specs.BlankLines.{with_blank_lines}
+use Rattle.htmd_grammar.specs.BlankLines.{with_blank_lines}
 use Rattle.htmd_tree.specs.ValueTrees.{AttributePair}
 use Rattle.htmd_tree.specs.NumberedTrees.{tree_of, value_tree}
 use Rattle.htmd_tree.specs.Serialisation.{serialisation}

@@ -5,10 +5,10 @@ use Rattle.std.specs.Char.{is_ascii_digit}
 use Rattle.std.specs.List.{list_any, prefix_len, flat_map}
 use Rattle.std.specs.Option.{unwrap_or}
 use Rattle.std.specs.Str.{bytes_eq}
-use Rattle.htmd_text.specs.Characters.{tab, line_feed, form_feed, carriage_return, space, plus_sign, hyphen}
-use Rattle.htmd_text.specs.Characters.{digit_zero}
+use Rattle.htmd_grammar.specs.Characters.{tab, line_feed, form_feed, carriage_return, space, plus_sign, hyphen}
+use Rattle.htmd_grammar.specs.Characters.{digit_zero}
 use Rattle.htmd_text.specs.Trims.{trimmed_start}
-use Rattle.htmd_text.specs.WhiteSpace.{is_document_white_space}
+use Rattle.htmd_grammar.specs.WhiteSpace.{is_document_white_space}
 use Rattle.htmd_tree.specs.ValueTrees.{AttributePair}
 use Rattle.htmd_tree.specs.Items.{Item, Data, document_node, doctype_node, text_node, comment_node, element_node}
 use Rattle.htmd_tree.specs.Items.{data_at, children_of, tag_of}

@@ -1,7 +1,7 @@
 -- What Markdown a tree becomes, in reading order: what a handler is and answers, which handlers a tag has, how texts
 -- are put together, what an element and a node give by them, what a whole conversion gives; then the
 -- built-in handlers and the registry; last what only private contracts mention.
-pub use Rattle.htmd_text.specs.Characters
+pub use Rattle.htmd_grammar.specs.Characters
 pub use Rattle.htmd_text.specs.Blocks
 pub use Rattle.htmd_tree.specs.ValueTrees
 pub use Rattle.htmd_tree.specs.Items

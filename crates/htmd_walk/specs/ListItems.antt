@@ -1,6 +1,6 @@
 -- The handler of li.
 use Rattle.std.specs.Prelude.{ℕ, Bool, if◌then◌else◌, List, [], ◌∷◌, Option, codes}
-use Rattle.htmd_text.specs.BlankLines.{with_blank_lines}
+use Rattle.htmd_grammar.specs.BlankLines.{with_blank_lines}
 use Rattle.htmd_text.specs.Trims.{trimmed_text, is_line_feed}
 use Rattle.htmd_markdown.specs.ListItems.{bullet_item, guarded_bullet_item, unnumbered_item}
 use Rattle.htmd_walk.specs.Handling.{ElementView, ResultView, HandlerMeaning, of_plan}

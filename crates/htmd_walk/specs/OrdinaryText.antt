@@ -3,7 +3,7 @@ use Rattle.std.specs.Prelude.{ℕ, Bool, false, ◌&&◌, ◌||◌, if◌then◌
 use Rattle.std.specs.List.{list_any}
 use Rattle.std.specs.Str.{bytes_eq}
 use Rattle.htmd_text.specs.EscapeMarks.{escaped_markdown, escaped_pre_text}
-use Rattle.htmd_text.specs.WhiteSpace.{squeezed_text}
+use Rattle.htmd_text.specs.SqueezedTexts.{squeezed_text}
 use Rattle.htmd_tree.specs.Ancestors.{Ancestor}
 use Rattle.htmd_markdown.specs.GuardedText.{guarded_text, begins_line}
 use Rattle.htmd_markdown.specs.Joints.{with_joint}

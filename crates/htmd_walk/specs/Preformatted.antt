@@ -2,7 +2,7 @@
 use Rattle.std.specs.Prelude.{ℕ, Bool, false, ◌&&◌, ◌||◌, if◌then◌else◌, List, [], ◌∷◌, Option, Some, None, true, codes}
 use Rattle.std.specs.Prelude.{filter, option_and_then}
 use Rattle.std.specs.Option.{option_or}
-use Rattle.htmd_text.specs.BlankLines.{with_blank_lines}
+use Rattle.htmd_grammar.specs.BlankLines.{with_blank_lines}
 use Rattle.htmd_markdown.specs.GuardedCode.{guarded_span_in_line, guarded_code_block}
 use Rattle.htmd_tree.specs.Items.{Item, Data, document_node, doctype_node, text_node, comment_node, element_node}
 use Rattle.htmd_tree.specs.Items.{data_at, children_of}

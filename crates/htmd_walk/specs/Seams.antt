@@ -3,7 +3,7 @@ use Rattle.std.specs.Prelude.{ℕ, ◌+◌, min, max, Bool, false, ◌&&◌, ◌
 use Rattle.std.specs.Prelude.{length}
 use Rattle.std.specs.Prelude.{drop, replicate}
 use Rattle.std.specs.List.{prefix_len, suffix_len}
-use Rattle.htmd_text.specs.Characters.{line_feed}
+use Rattle.htmd_grammar.specs.Characters.{line_feed}
 use Rattle.htmd_markdown.specs.Joints.{mended_ends}
 use Rattle.htmd_text.specs.Trims.{trimmed_start, trimmed_end, is_line_feed, is_space}
 

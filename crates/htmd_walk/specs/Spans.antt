@@ -3,7 +3,7 @@ use Rattle.std.specs.Prelude.{ℕ, Bool, ◌&&◌, ◌||◌, if◌then◌else◌
 use Rattle.std.specs.List.{list_any}
 use Rattle.std.specs.Option.{is_some}
 use Rattle.std.specs.Str.{bytes_eq}
-use Rattle.htmd_text.specs.Characters.{is_one_of}
+use Rattle.htmd_grammar.specs.Characters.{is_one_of}
 use Rattle.htmd_text.specs.Trims.{trimmed_text, is_line_feed}
 use Rattle.htmd_tree.specs.ValueTrees.{AttributePair}
 use Rattle.htmd_walk.specs.Handling.{ElementView, ResultView, PlanView, content_of_children, HandlerMeaning, of_plan}

@@ -3,9 +3,9 @@ use Rattle.std.specs.Prelude.{ℕ, Bool, false, not, ◌&&◌, ◌||◌, List, [
 use Rattle.std.specs.Prelude.{true, codes, ◌++◌, map, take, drop}
 use Rattle.std.specs.List.{list_any, flat_map}
 use Rattle.htmd_text.specs.Trims.{trimmed_text}
-use Rattle.htmd_text.specs.BlankLines.{blank_line}
-use Rattle.htmd_text.specs.Characters.{line_feed}
-use Rattle.htmd_text.specs.WhiteSpace.{is_document_white_space}
+use Rattle.htmd_grammar.specs.BlankLines.{blank_line}
+use Rattle.htmd_grammar.specs.Characters.{line_feed}
+use Rattle.htmd_grammar.specs.WhiteSpace.{is_document_white_space}
 use Rattle.htmd_markdown.specs.Tables.{table}
 use Rattle.htmd_tree.specs.Ancestors.{Ancestor}
 use Rattle.htmd_tree.specs.Items.{Item}

@@ -2,7 +2,7 @@
 use Rattle.std.specs.Prelude.{Bool, ◌&&◌, if◌then◌else◌, None, [], codes}
 use Rattle.std.specs.List.{list_any}
 use Rattle.std.specs.Str.{bytes_eq}
-use Rattle.htmd_text.specs.BlankLines.{with_blank_lines}
+use Rattle.htmd_grammar.specs.BlankLines.{with_blank_lines}
 use Rattle.htmd_markdown.specs.declared.thematic_break.HrStyle.{HrStyle}
 use Rattle.htmd_markdown.specs.declared.thematic_break.HrStyle.TheVariants.{Underscores}
 use Rattle.htmd_markdown.specs.ThematicBreaks.{thematic_break}

@@ -3,8 +3,8 @@
 ghost use Rattle.std.specs.Prelude.{◌≡◌, ◌++◌, Bool, false, IsTrue, OnOk, if◌then◌else◌, string_bytes};
 ghost use Rattle.std.specs.Result.{is_ok};
 ghost use Rattle.htmd_text.specs.EscapeMarks.{escaped_markdown};
-ghost use Rattle.htmd_text.specs.WhiteSpace.{squeezed_text};
-ghost use Rattle.htmd_text.specs.Characters.{asterisk};
+ghost use Rattle.htmd_text.specs.SqueezedTexts.{squeezed_text};
+ghost use Rattle.htmd_grammar.specs.Characters.{asterisk};
 ghost use Rattle.htmd_markdown.specs.CodeSpans.{ends_with};
 ghost use Rattle.htmd_markdown.specs.GuardedText.{guarded_text};
 ghost use Rattle.htmd_markdown.specs.Joints.{with_joint};

@@ -3,7 +3,7 @@
 ghost use Rattle.std.specs.Prelude.{◌≡◌, ◌<◌, Some, None, true, drop, if◌then◌else◌, length, nat_lt, option_map, ◌≢◌};
 ghost use Rattle.std.specs.Prelude.{◌∷◌, [], IfOk, IfErr, is_some};
 ghost use Rattle.std.specs.List.{list_all};
-ghost use Rattle.htmd_text.specs.WhiteSpace.{is_ascii_white_space};
+ghost use Rattle.htmd_grammar.specs.WhiteSpace.{is_ascii_white_space};
 ghost use Rattle.htmd_grammar.specs.Documents.{behind_mark, body_text};
 ghost use Rattle.htmd_grammar.specs.Steps.{body};
 ghost use Rattle.htmd_tree.specs.OpenItems.{stack_items};

@@ -3,7 +3,7 @@
 ghost use Rattle.std.specs.Prelude.{◌≡◌, ◌≤◌, [], length, codes, ◌++◌, ◌∷◌, IfOk, OnOk, string_bytes, ◌<◌, true};
 ghost use Rattle.std.specs.Prelude.{false};
 ghost use Rattle.htmd_grammar.specs.CharacterClasses.{begins_with, up_to, is_empty, onward};
-ghost use Rattle.htmd_text.specs.Characters.{carriage_return};
+ghost use Rattle.htmd_grammar.specs.Characters.{carriage_return};
 ghost use Rattle.htmd_grammar.specs.Documents.{above_body};
 ghost use Rattle.htmd_grammar.specs.RawContent.{ends_text, holds_raw_text, text_of};
 ghost use Rattle.htmd_grammar.specs.Steps.{raw_text_step};

@@ -3,7 +3,7 @@ ghost use Rattle.std.specs.Prelude.{◌≡◌, ◌≤◌, ◌<◌, ◌+◌, ℕ,
 ghost use Rattle.std.specs.Prelude.{false, IfOk, slice_index, ⊤, MatchOption, option_map, string_bytes};
 ghost use Rattle.std.specs.Char.{is_ascii_digit};
 ghost use Rattle.htmd_grammar.specs.CharacterClasses.{first_is, leading_run};
-ghost use Rattle.htmd_text.specs.Characters.{number_sign, semicolon};
+ghost use Rattle.htmd_grammar.specs.Characters.{number_sign, semicolon};
 ghost use Rattle.htmd_reader.specs.DecodedCharacters.{entry, piece_of, IsPieceEnd, is_itself, HasPushed};
 ghost use Rattle.std.specs.Str.{IsUtf8};
 ghost use Rattle.htmd_grammar.specs.OpenElements.{has_unknown_reference, is_unknown};

@@ -2,7 +2,7 @@
 //! names is ASCII, and so one byte.
 ghost use Rattle.std.specs.Prelude.{◌≡◌, ◌≤◌, length, ◌<◌, true, false, drop, slice_index, MatchOption};
 ghost use Rattle.std.specs.Char.{is_ascii_alphanumeric, is_ascii_digit, is_ascii_hexdigit};
-ghost use Rattle.htmd_text.specs.WhiteSpace.{is_ascii_white_space};
+ghost use Rattle.htmd_grammar.specs.WhiteSpace.{is_ascii_white_space};
 ghost use Rattle.htmd_grammar.specs.CharacterClasses.{first_is, leading_run, behind_run};
 ghost use Rattle.htmd_reader.specs.Classes.{is_in, is_ascii};
 ghost use Rattle.htmd_grammar.specs.CharacterClasses as classes;

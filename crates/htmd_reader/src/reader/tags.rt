@@ -9,7 +9,7 @@ ghost use Rattle.htmd_grammar.specs.CharacterClasses.{leading_run, behind_run, i
 ghost use Rattle.htmd_grammar.specs.CharacterClasses.{first_is};
 ghost use Rattle.htmd_grammar.specs.References.{after_line_feed};
 ghost use Rattle.std.specs.Str.{bytes_eq};
-ghost use Rattle.htmd_text.specs.Characters.{less_than_sign};
+ghost use Rattle.htmd_grammar.specs.Characters.{less_than_sign};
 ghost use Rattle.htmd_grammar.specs.Documents.{above_body};
 ghost use Rattle.htmd_grammar.specs.Nesting.{is_allowed, is_row};
 ghost use Rattle.htmd_grammar.specs.Steps.{names_of, start_tag_step, place_step, open_step, end_tag_step, close_step};

@@ -2,7 +2,7 @@
 
 ghost use Rattle.std.specs.Prelude.{◌≡◌, ◌<◌, ◌++◌, not, IfOk, OnOk, All, true, length, map, fold, codes};
 ghost use Rattle.std.specs.List.{list_any};
-ghost use Rattle.htmd_text.specs.WhiteSpace.{is_document_white_space};
+ghost use Rattle.htmd_grammar.specs.WhiteSpace.{is_document_white_space};
 ghost use Rattle.htmd_tree.specs.Items.{data_at, IsTree};
 ghost use Rattle.htmd_tree.specs.NumberedTrees.{tree_of};
 ghost use Rattle.htmd_walk.specs.Groups.{children_at};

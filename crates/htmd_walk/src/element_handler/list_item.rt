@@ -1,7 +1,7 @@
 //! The handler of `li`.
 
 ghost use Rattle.std.specs.Prelude.{◌≡◌, IfOk, OnOk, string_bytes};
-ghost use Rattle.htmd_text.specs.BlankLines.{with_blank_lines};
+ghost use Rattle.htmd_grammar.specs.BlankLines.{with_blank_lines};
 ghost use Rattle.htmd_text.specs.Trims.{trimmed_text, is_line_feed};
 ghost use Rattle.htmd_walk.specs.ElementPlans as spec;
 ghost use Rattle.htmd_walk.specs.ListItems.{bullet_item_of, item_result, list_tags};

@@ -1,6 +1,6 @@
 -- The first length that no run has, or the one after the longest.
 use Rattle.std.proofs.Common.{◌≡◌, ◌+◌, ◌-◌, false, sym, ap, ◌∙◌, arith}
-use Rattle.htmd_text.specs.Characters.{grave_accent}
+use Rattle.htmd_grammar.specs.Characters.{grave_accent}
 use Rattle.htmd_markdown.specs.Runs.{longest_run, has_run}
 use Rattle.htmd_markdown.specs.CodeSpans.{delimiter_len, meets_delimiter}
 use Rattle.htmd_markdown.proofs.CodeSpansLemmas.{first_unused}

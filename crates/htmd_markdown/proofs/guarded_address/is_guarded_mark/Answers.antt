@@ -4,7 +4,7 @@ use Rattle.std.specs.Prelude.{◌==◌}
 use Rattle.std.specs.List.{between}
 use Rattle.std.proofs.lemmas.Slice.{between_to_end}
 use Rattle.std.proofs.lemmas.Bool.Decides.{nat_tests}
-use Rattle.htmd_text.specs.Characters.{ampersand, is_one_of}
+use Rattle.htmd_grammar.specs.Characters.{ampersand, is_one_of}
 use Rattle.htmd_markdown.specs.ReferenceLike.{is_reference_like}
 use Rattle.htmd_markdown.proofs.guarded_address.is_guarded_mark.Goals as goal
 

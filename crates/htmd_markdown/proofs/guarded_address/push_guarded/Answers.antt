@@ -5,8 +5,8 @@ use Rattle.std.proofs.lemmas.Slice.{between_to_end}
 use Rattle.std.proofs.lemmas.Str.{IsCharBoundary-before_ascii}
 use Rattle.std.specs.String.{string_bytes}
 use Rattle.std.specs.List.{between}
-use Rattle.htmd_text.proofs.Cases.{pushed}
-use Rattle.htmd_text.specs.Characters.{backslash}
+use Rattle.htmd_grammar.proofs.Cases.{pushed}
+use Rattle.htmd_grammar.specs.Characters.{backslash}
 use Rattle.htmd_markdown.specs.GuardedAddresses.{is_guarded_mark}
 use Rattle.htmd_markdown.proofs.AddressesLemmas.{escaping_none, escaping_plain, escaping_marked, escaping_all}
 use Rattle.htmd_markdown.proofs.GuardedAddressesLemmas.{mark_is_ascii}

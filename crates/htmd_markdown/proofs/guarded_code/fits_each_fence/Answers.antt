@@ -3,7 +3,7 @@ use Rattle.std.proofs.Common.{rules, tests, ap, codes}
 use Rattle.std.specs.Prelude.{not}
 use Rattle.std.proofs.lemmas.Iterator.{YieldsList-from_slice}
 use Rattle.std.proofs.lemmas.Iterator.Search.{any_from_yields_List}
-use Rattle.htmd_text.specs.Characters.{is_one_of}
+use Rattle.htmd_grammar.specs.Characters.{is_one_of}
 use Rattle.htmd_markdown.proofs.guarded_code.fits_each_fence.Goals as goal
 
 pub returns : goal.returns

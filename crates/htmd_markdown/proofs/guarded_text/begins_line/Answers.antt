@@ -3,7 +3,7 @@ use Rattle.std.proofs.Common.{rules, ◌≡◌, ◌+◌, ◌-◌, suc, true, fal
 use Rattle.std.proofs.Common.{sym, subst, arith}
 use Rattle.std.specs.Prelude.{◌==◌}
 use Rattle.std.proofs.lemmas.Bool.Decides.{nat_tests}
-use Rattle.htmd_text.specs.Characters.{line_feed}
+use Rattle.htmd_grammar.specs.Characters.{line_feed}
 use Rattle.htmd_markdown.specs.GuardedText.{may_stand_before}
 use Rattle.htmd_markdown.proofs.LineBeginningsLemmas.{LookingBack, looking_none, looking_line_feed, looking_stops}
 use Rattle.htmd_markdown.proofs.LineBeginningsLemmas.{looking_start, looking_done}

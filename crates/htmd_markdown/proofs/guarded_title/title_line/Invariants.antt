@@ -3,7 +3,7 @@ use Rattle.std.proofs.Common.{length, []}
 use Rattle.std.specs.Prelude.{◌==◌}
 use Rattle.std.specs.List.{slice_split}
 use Rattle.std.specs.String.{string_bytes}
-use Rattle.htmd_text.specs.Characters.{line_feed}
+use Rattle.htmd_grammar.specs.Characters.{line_feed}
 use Rattle.htmd_markdown.specs.GuardedTitles.{title_part}
 use Rattle.htmd_markdown.proofs.FilledPartsLemmas.{Joining}
 use Rattle.htmd_markdown.proofs.guarded_title.title_line.Given as goal

@@ -3,7 +3,7 @@ use Rattle.std.proofs.Common.{◌≡◌, ℕ, List, ◌++◌, take, drop, length
 use Rattle.std.specs.String.{string_bytes}
 use Rattle.std.specs.List.{between}
 use Rattle.std.proofs.lemmas.Slice.{between_to_end}
-use Rattle.htmd_text.proofs.Cases.{pushed}
+use Rattle.htmd_grammar.proofs.Cases.{pushed}
 use Rattle.htmd_markdown.specs.LineEnds.{line_ends_as}
 use Rattle.htmd_markdown.specs.Rewriting.{StandsFor}
 use Rattle.htmd_markdown.proofs.RewritingLemmas.{rewriting_none, rewriting_stays, rewriting_replaced, rewriting_all}

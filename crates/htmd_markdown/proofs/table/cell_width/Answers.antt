@@ -1,6 +1,6 @@
 use Rattle.std.proofs.Common.{◌≡◌, ◌+◌, false, min, ap, ◌∙◌}
 use Rattle.htmd_text.specs.Trims.{trimmed_text}
-use Rattle.htmd_text.specs.WhiteSpace.{is_document_white_space}
+use Rattle.htmd_grammar.specs.WhiteSpace.{is_document_white_space}
 use Rattle.htmd_markdown.specs.CellBytes.{pieces}
 use Rattle.htmd_markdown.proofs.CharacterCounts.{characters, counting_none, counting_more, counting_all, width_counted}
 use Rattle.htmd_markdown.proofs.table.cell_width.Goals as goal

@@ -4,7 +4,7 @@ use Rattle.std.proofs.lemmas.Bool.Decides.{nat_tests}
 use Rattle.std.proofs.lemmas.Slice.{between_to_end}
 use Rattle.std.specs.String.{string_bytes}
 use Rattle.std.specs.List.{between}
-use Rattle.htmd_text.specs.Characters.{backslash}
+use Rattle.htmd_grammar.specs.Characters.{backslash}
 use Rattle.htmd_text.specs.Marks.{is_marked_by, is_plain}
 use Rattle.htmd_text.proofs.EscapeMarksLemmas.{grows, writing_none, writing_plain, writing_marked, writing_nothing, writing_all, plain_stays}
 use Rattle.htmd_text.proofs.escape.with_backslashes.Goals as goal

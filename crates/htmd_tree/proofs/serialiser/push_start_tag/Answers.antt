@@ -6,7 +6,7 @@ use Rattle.htmd_grammar.specs.Serialisation.{attribute_text}
 use Rattle.htmd_grammar.specs.declared.attribute.Attribute.{Attribute}
 use Rattle.htmd_grammar.specs.Attributes.{pair_of, pairs_of}
 use Rattle.htmd_text.proofs.BeginningsLemmas.{begins-same, begins-pushed, begins-trans}
-use Rattle.htmd_text.proofs.Cases.{OnErr-always}
+use Rattle.htmd_grammar.proofs.Cases.{OnErr-always}
 use Rattle.htmd_tree.proofs.serialiser.push_start_tag.Goals as goal
 
 pub returns-in_err-push_str-clause-err : goal.returns-in_err-push_str-clause-err

@@ -1,6 +1,6 @@
 -- One more character of a value, or the refusal of its memory.
 use Rattle.std.proofs.Common.{string_bytes, refl, rules}
-use Rattle.htmd_text.proofs.Cases.{OnErr-always}
+use Rattle.htmd_grammar.proofs.Cases.{OnErr-always}
 use Rattle.std.specs.Str.Iter.{chars_rest}
 use Rattle.htmd_text.proofs.BeginningsLemmas.{begins-same, begins-pushed, begins-trans}
 use Rattle.htmd_grammar.specs.Serialisation.{value_byte}

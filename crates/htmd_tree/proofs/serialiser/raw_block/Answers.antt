@@ -2,7 +2,7 @@
 use Rattle.std.proofs.Common.{◌≡◌, ◌∙◌, sym, ap, subst, false, List, ℕ, string_bytes, chars}
 use Rattle.std.specs.Str.{IsUtf8, encode_utf8_all}
 use Rattle.std.proofs.lemmas.Str.{IsUtf8-string_bytes}
-use Rattle.htmd_text.specs.BlankLines.{with_blank_lines}
+use Rattle.htmd_grammar.specs.BlankLines.{with_blank_lines}
 use Rattle.htmd_grammar.specs.RawBlocks.{raw_block, without_blank_lines}
 use Rattle.htmd_grammar.specs.Serialisation.{serialisation}
 use Rattle.htmd_grammar.proofs.RawBlocksLemmas.{raw_block-raw_html}

@@ -1,7 +1,7 @@
 use Rattle.std.proofs.Common.{◌≡◌, ◌++◌, ◌∙◌, ◌||◌, ap, sym, string_bytes, ltb}
 use Rattle.std.specs.List.{suffix_len}
 use Rattle.std.proofs.lemmas.Result.{on_ok_weaker}
-use Rattle.htmd_text.specs.WhiteSpace.{squeezed_text}
+use Rattle.htmd_text.specs.SqueezedTexts.{squeezed_text}
 use Rattle.htmd_text.specs.Trims.{is_space}
 use Rattle.htmd_markdown.specs.GuardedText.{guarded_text, begins_line}
 use Rattle.htmd_markdown.specs.Joints.{with_joint}

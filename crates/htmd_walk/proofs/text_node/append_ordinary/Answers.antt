@@ -1,9 +1,9 @@
 use Rattle.std.proofs.Common.{◌≡◌, ◌++◌, ◌∙◌, ◌||◌, ap, sym, string_bytes, ltb}
 use Rattle.std.specs.List.{suffix_len}
 use Rattle.std.proofs.lemmas.Result.{on_ok_weaker}
-use Rattle.htmd_text.proofs.Cases.{pushed}
+use Rattle.htmd_grammar.proofs.Cases.{pushed}
 use Rattle.htmd_text.specs.EscapeMarks.{escaped_markdown}
-use Rattle.htmd_text.specs.WhiteSpace.{squeezed_text}
+use Rattle.htmd_text.specs.SqueezedTexts.{squeezed_text}
 use Rattle.htmd_text.specs.Trims.{is_space}
 use Rattle.htmd_walk.specs.Seams.{ends_with_space}
 use Rattle.htmd_walk.specs.OrdinaryText.{without_first_space}

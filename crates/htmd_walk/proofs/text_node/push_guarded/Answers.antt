@@ -1,6 +1,6 @@
 -- A guarded text by itself begins with no mark.
 use Rattle.std.proofs.Common.{◌≡◌, ℕ, Bool, false, List, ◌++◌, sym, ap, ◌∙◌, string_bytes, Result, Ok, Err, OnOk}
-use Rattle.htmd_text.specs.Characters.{asterisk}
+use Rattle.htmd_grammar.specs.Characters.{asterisk}
 use Rattle.htmd_markdown.specs.CodeSpans.{ends_with}
 use Rattle.htmd_markdown.specs.GuardedText.{guarded_text}
 use Rattle.htmd_markdown.specs.Joints.{mended_ends, with_joint}

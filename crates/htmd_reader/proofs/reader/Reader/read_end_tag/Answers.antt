@@ -1,6 +1,6 @@
 -- What is left is shorter.
 use Rattle.std.proofs.Common.{◌<◌, length, ap, arith, length-drop}
-use Rattle.htmd_text.specs.WhiteSpace.{is_ascii_white_space}
+use Rattle.htmd_grammar.specs.WhiteSpace.{is_ascii_white_space}
 use Rattle.htmd_grammar.specs.CharacterClasses.{is_tag_name_byte}
 use Rattle.htmd_grammar.specs.Documents.{above_body}
 use Rattle.htmd_grammar.specs.Steps.{close_step}

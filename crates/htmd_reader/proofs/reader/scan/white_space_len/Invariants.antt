@@ -1,6 +1,6 @@
 -- What the loop of `white_space_len` keeps.
 use Rattle.std.proofs.Common.{◌≡◌, ◌≤◌, ◌+◌, ◌-◌, length, drop}
-use Rattle.htmd_text.specs.WhiteSpace.{is_ascii_white_space}
+use Rattle.htmd_grammar.specs.WhiteSpace.{is_ascii_white_space}
 use Rattle.htmd_grammar.specs.CharacterClasses.{leading_run}
 use Rattle.htmd_reader.proofs.reader.scan.white_space_len.Given as goal
 

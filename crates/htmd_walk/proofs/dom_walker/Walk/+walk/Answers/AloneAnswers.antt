@@ -27,7 +27,7 @@ use Rattle.htmd_walk.proofs.RememberingLemmas.{given-always, result_put}
 use Rattle.htmd_walk.proofs.WalkingLemmas.{following, contents_more}
 use Rattle.htmd_walk.proofs.WalkingLemmas.{text_alone, below_lower}
 use Rattle.htmd_walk.proofs.dom_walker.Walk.+walk.Goals as goal
-use Rattle.htmd_text.proofs.Cases.{test}
+use Rattle.htmd_grammar.proofs.Cases.{test}
 
 pub walk_alone-returns : goal.walk_alone-returns
 walk_alone-returns g t c =

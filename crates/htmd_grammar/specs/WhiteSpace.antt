@@ -1,7 +1,7 @@
--- White space of a text, and the text with each run of it squeezed.
-use Rattle.std.specs.Prelude.{ℕ, Bool, false, ◌||◌, ◌==◌, if◌then◌else◌, List, [], ◌∷◌}
+-- White space of a text.
+use Rattle.std.specs.Prelude.{ℕ, Bool, false, ◌||◌, ◌==◌, List, [], ◌∷◌}
 use Rattle.std.specs.Char.{is_ascii_whitespace}
-use Rattle.htmd_text.specs.Characters.{space, tab, line_feed, carriage_return}
+use Rattle.htmd_grammar.specs.Characters.{space, tab, line_feed, carriage_return}
 
 -- ASCII white space of HTML: tab, line feed, form feed, carriage return and space (Infra standard, 4.5)
 abbrev pub is_ascii_white_space : ℕ → Bool
@@ -15,12 +15,3 @@ is_document_white_space b = (b == tab) || (b == line_feed) || (b == carriage_ret
 abbrev pub begins_with_white_space : List ℕ → Bool
 begins_with_white_space [] = false
 begins_with_white_space (b ∷ s) = is_ascii_white_space b
-
--- The text with each maximal run of ASCII white space as one space:
--- the last of a run becomes a space, and the others go.
-abbrev pub squeezed_text : List ℕ → List ℕ
-squeezed_text [] = []
-squeezed_text (b ∷ s) =
-    if is_ascii_white_space b
-    then (if begins_with_white_space s then squeezed_text s else space ∷ squeezed_text s)
-    else b ∷ squeezed_text s

@@ -1,6 +1,6 @@
 -- Blank lines, which part blocks (CommonMark 0.31.2, 4.9).
 use Rattle.std.specs.Prelude.{ℕ, List, [], ◌∷◌, ◌++◌}
-use Rattle.htmd_text.specs.Characters.{line_feed}
+use Rattle.htmd_grammar.specs.Characters.{line_feed}
 
 -- the end of a line, and a line with nothing in it
 abbrev pub blank_line : List ℕ
