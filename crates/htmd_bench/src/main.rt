@@ -31,30 +31,54 @@ const ROUNDS: u32 = 10;
 
 fn main(rt: HostRuntime) -> Result<(), Fault> {
     let input = io::read_to_string(rt.alloc(), rt.stdin())?;
-    let is_timed = has_word(&rt, "--time")?;
     let rounds = if has_word(&rt, "--once")? { 1 } else { ROUNDS };
     if has_word(&rt, "--rows")? {
         return tell_rows(&rt, &input, rounds);
     }
-    let registered = registered(&rt)?;
-    let takes_all = env::args(&rt)?
+    tell_works(&rt, &input, rounds)
+}
+
+/// Tells of each work that the program was called with, or of all if it was called with none.
+fn tell_works(rt: &HostRuntime, input: &str, rounds: u32) -> Result<(), Fault> {
+    let is_timed = has_word(rt, "--time")?;
+    let registered = registered(rt)?;
+    let takes_all = env::args(rt)?
         .skip(1)
         .all(|word| word.as_str().starts_with("--"));
     for work in WORKS {
-        if !takes_all && !has_word(&rt, work.name())? {
+        if !takes_all && !has_word(rt, work.name())? {
             continue;
         }
-        let name = work.name();
         if is_timed {
-            // Before the length is found, so that the first round of the first work is done in new memory.
-            let speed = speed_of(&rt, work, &input, registered, rounds)?;
-            let len = answer_len(rt.alloc(), work, &input)?;
-            println!(rt; "{name}: {len}, {speed}")?;
+            tell_speed(rt, work, input, registered, rounds)?;
         } else {
-            let len = answer_len(rt.alloc(), work, &input)?;
-            println!(rt; "{name}: {len}")?;
+            tell_len(rt, work, input)?;
         }
     }
+    Ok(())
+}
+
+/// Tells how long the answer is, and how long it took.
+fn tell_speed(
+    rt: &HostRuntime,
+    work: Work,
+    input: &str,
+    registered: usize,
+    rounds: u32,
+) -> Result<(), Fault> {
+    // Before the length is found, so that the first round of the first work is done in new memory.
+    let speed = speed_of(rt, work, input, registered, rounds)?;
+    let len = answer_len(rt.alloc(), work, input)?;
+    let name = work.name();
+    println!(rt; "{name}: {len}, {speed}")?;
+    Ok(())
+}
+
+/// Tells how long the answer is.
+fn tell_len(rt: &HostRuntime, work: Work, input: &str) -> Result<(), Fault> {
+    let len = answer_len(rt.alloc(), work, input)?;
+    let name = work.name();
+    println!(rt; "{name}: {len}")?;
     Ok(())
 }
 

@@ -26,6 +26,16 @@ pub(crate) fn push_run(
         push_encoded(answers, written)?;
         return Ok(());
     }
+    push_failure(alloc, answers, status, said)
+}
+
+/// Appends the status of a run that failed, and what it said.
+fn push_failure(
+    alloc: Global,
+    answers: &mut String,
+    status: u8,
+    said: &str,
+) -> Result<(), LineFault> {
     let front = format!(in alloc; "!{status} ")?;
     answers.push_str(&front)?;
     push_encoded(answers, said)?;
