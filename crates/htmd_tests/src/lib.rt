@@ -1,6 +1,6 @@
-//! Tests of the converter that need code: handlers of your own, the registry, trees, and refused memory. Rows that are
-//! a text and its answer are families of `htmd_cases`. What is expected is written by hand from the rules, and never
-//! taken from the program's own output.
+//! Tests of the converter and the program that need code: handlers of your own, the registry, trees, refused memory,
+//! and runs of the program. Rows that are a text and its answer are families of `htmd_cases`. What is expected is
+//! written by hand from the rules, and never taken from the program's own output.
 #![tactic(auto)]
 
 #[cfg(test)]
@@ -31,6 +31,8 @@ mod nodes;
 mod pages;
 #[cfg(test)]
 mod passing;
+#[cfg(test)]
+mod program;
 #[cfg(test)]
 mod refusals;
 #[cfg(test)]

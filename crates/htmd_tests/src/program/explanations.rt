@@ -1,5 +1,5 @@
 //! What the program says of long lines and bad bytes that are refused. Other refusals are a family of `htmd_cases`.
-use crate::calls::called;
+use super::calls::called;
 use htmd_expected::expect_text;
 use std::alloc::{AllocError, Global};
 use std::test::Fail;

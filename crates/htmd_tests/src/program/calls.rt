@@ -1,5 +1,5 @@
 //! Calls of the program on options and bytes, and what they leave.
-use crate::doubles::{Dripping, Narrow};
+use super::doubles::{Dripping, Narrow};
 use htmd_cli::{Sink, Source, command};
 use htmd_expected::{expect_number, expect_text, expect_that};
 use std::alloc::{AllocError, Global};
@@ -44,11 +44,15 @@ pub fn called_within(
     );
     Ok(Outcome {
         status,
-        stdout: String::from_str(alloc, str::from_utf8(sink.bytes())?)?,
-        stderr: String::from_str(alloc, str::from_utf8(errors.bytes())?)?,
+        stdout: text_of(alloc, sink.bytes())?,
+        stderr: text_of(alloc, errors.bytes())?,
         unread: source.rest().len(),
         has_failed: source.failed() || sink.failed(),
     })
+}
+
+fn text_of(alloc: Global, bytes: &[u8]) -> Result<String, Fail> {
+    Ok(String::from_str(alloc, str::from_utf8(bytes)?)?)
 }
 
 pub fn called(alloc: Global, options: &[&str], stdin: &[u8]) -> Result<Outcome, Fail> {
