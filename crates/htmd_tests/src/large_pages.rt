@@ -8,7 +8,7 @@ use std::alloc::{AllocError, Global};
 use std::test::Fail;
 
 // A text, as many times.
-fn repeated(alloc: Global, text: &str, times: usize) -> Result<String, AllocError> {
+pub(crate) fn repeated(alloc: Global, text: &str, times: usize) -> Result<String, AllocError> {
     let mut all = String::new(alloc);
     for _ in 0..times {
         all.push_str(text)?;

@@ -1,5 +1,6 @@
 //! What the program says of long lines and bad bytes that are refused. Other refusals are a family of `htmd_cases`.
 use super::calls::called;
+use crate::large_pages::repeated;
 use htmd_expected::expect_text;
 use std::alloc::{AllocError, Global};
 use std::test::Fail;
@@ -15,15 +16,6 @@ fn explained(alloc: Global, options: &[&str], stdin: &[u8]) -> Result<String, Fa
 
 const UNKNOWN: &str =
     "an unknown &name; is here, or in the tag that begins here; write the character, or &amp; for the &.";
-
-// A text this many times over.
-fn repeated(alloc: Global, text: &str, times: usize) -> Result<String, AllocError> {
-    let mut all = String::new(alloc);
-    for _ in 0..times {
-        all.push_str(text)?;
-    }
-    Ok(all)
-}
 
 // A reference after and before so many of these texts.
 fn line_of(
