@@ -5,12 +5,12 @@ use Rattle.htmd_grammar.specs.Documents.{ReadsDocument}
 use Rattle.htmd_grammar.specs.Rules.{project}
 use Rattle.htmd_grammar.specs.Faults.{IsFault}
 use Rattle.htmd_grammar.specs.declared.fault.FaultKind.{FaultKind}
-use Rattle.htmd_tree.specs.Items.{Item, IsTree, HoldTexts}
+use Rattle.htmd_nodes.specs.Items.{Item, IsTree, HoldTexts}
 use Rattle.htmd_html5.specs.Documents.{html5_document}
-use Rattle.htmd_reader.specs.Bodies.{body_part, body_place}
-use Rattle.htmd_tree.specs.Layout.{document_items}
-use Rattle.htmd_reader.specs.declared.reader.ReadError.{ReadError}
-use Rattle.htmd_reader.specs.declared.reader.ReadError.TheVariants as read
+use Rattle.htmd_tree.specs.Bodies.{body_part, body_place}
+use Rattle.htmd_nodes.specs.Layout.{document_items}
+use Rattle.htmd_tree.specs.declared.reader.ReadError.{ReadError}
+use Rattle.htmd_tree.specs.declared.reader.ReadError.TheVariants as read
 use Rattle.htmd.specs.declared.conversion.ConvertError.{ConvertError}
 use Rattle.htmd.specs.declared.conversion.ConvertError.TheVariants as convert
 use Rattle.htmd_walk.specs.Choice.{Config}

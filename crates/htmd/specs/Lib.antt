@@ -6,8 +6,8 @@ pub use Rattle.htmd_walk.specs.ValueTrees
 pub use Rattle.htmd_walk.specs.Items
 pub use Rattle.htmd_walk.specs.NumberedTrees
 pub use Rattle.htmd_walk.specs.Ancestors
-pub use Rattle.htmd_reader.specs.Bodies
-pub use Rattle.htmd_reader.specs.Lines
+pub use Rattle.htmd_tree.specs.Bodies
+pub use Rattle.htmd_tree.specs.Lines
 pub use Rattle.htmd_walk.specs.CharacterClasses
 pub use Rattle.htmd_walk.specs.FaultKind
 pub use Rattle.htmd_walk.specs.HeadingStyle

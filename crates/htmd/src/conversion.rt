@@ -8,7 +8,7 @@ ghost use Rattle.htmd_walk.specs.Defaults.{default_options};
 ghost use Rattle.htmd.specs.declared.conversion.ConvertError.TheVariants.{Memory};
 
 use crate::converter::HtmlToMarkdown;
-use htmd_reader::{FaultKind, ReadError};
+use htmd_tree::{FaultKind, ReadError};
 use std::alloc::{AllocError, AllocFailed, Global};
 use thiserror::Error;
 

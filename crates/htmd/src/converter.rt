@@ -11,8 +11,8 @@ ghost use Rattle.htmd_walk.specs.Markdown.{markdown};
 
 use crate::conversion::ConvertError;
 use htmd_html5::parse_html5;
-use htmd_reader::{body_of, read_html};
-use htmd_tree::{NodeId, Tree};
+use htmd_nodes::{NodeId, Tree};
+use htmd_tree::{body_of, read_html};
 use htmd_walk::element_handler::{
     Answering, ElementHandler, ElementHandlers, Layered, Registrar, Registry,
 };

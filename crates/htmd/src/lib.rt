@@ -19,7 +19,7 @@ pub mod laws {
 
 pub use conversion::{ConvertError, convert};
 pub use converter::{AddFnRefused, AddRefused, HtmlToMarkdown, HtmlToMarkdownBuilder, SkipRefused};
-pub use htmd_reader::{FaultKind, ReadError, body_of, line_and_column};
-pub use htmd_tree::{Attribute, NodeData, NodeId, Tree, TreeError};
+pub use htmd_nodes::{Attribute, NodeData, NodeId, Tree, TreeError};
+pub use htmd_tree::{FaultKind, ReadError, body_of, line_and_column};
 pub use htmd_walk::element_handler::Element;
 pub use htmd_walk::{element_handler, options};

@@ -1,6 +1,6 @@
 -- Lemmas of specs/Work.antt.
 use Rattle.std.proofs.Common.{◌≡◌, subst, refl, ℕ, Bool, List, true, length}
-use Rattle.htmd_tree.specs.Items.{Item}
+use Rattle.htmd_nodes.specs.Items.{Item}
 use Rattle.htmd.specs.BuiltIn.{built_in}
 use Rattle.htmd.specs.Choice.{Config}
 use Rattle.htmd.specs.Conversions.{IsTreeOf}

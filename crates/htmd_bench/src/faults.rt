@@ -2,7 +2,7 @@
 
 use htmd::ConvertError;
 use htmd_cli::RowFault;
-use htmd_reader::ReadError;
+use htmd_tree::ReadError;
 use std::alloc::AllocError;
 use std::io;
 use std::num::ParseIntError;

@@ -6,8 +6,8 @@ use crate::faults::Fault;
 use crate::speed::Speed;
 use htmd::{HtmlToMarkdown, convert};
 use htmd_html5::parse_html5;
-use htmd_reader::read_html;
 use htmd_text::{compress_whitespace, escape_if_needed};
+use htmd_tree::read_html;
 use std::alloc::{AllocError, Global};
 use std::time::{Duration, Instant};
 

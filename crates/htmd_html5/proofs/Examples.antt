@@ -1,8 +1,8 @@
 -- Worked rows: pages and their trees.
 use Rattle.std.proofs.Common.{◌≡◌, ℕ, List, [], codes, true, refl}
 use Rattle.htmd_grammar.specs.ValueTrees.{ValueTree, ValueForest, text, element, none, more}
-use Rattle.htmd_tree.specs.Items.{Item}
-use Rattle.htmd_tree.specs.Layout.{document_items}
+use Rattle.htmd_nodes.specs.Items.{Item}
+use Rattle.htmd_nodes.specs.Layout.{document_items}
 use Rattle.htmd_html5_state.specs.Adoption.{move_last, wrap_children}
 use Rattle.htmd_html5.specs.BodyEnds.{text_end_rule}
 use Rattle.htmd_html5.specs.BodyStarts.{block_rule, formatting_rule, phrasing_rule}

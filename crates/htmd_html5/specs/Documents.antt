@@ -6,7 +6,7 @@ use Rattle.htmd_html5_state.specs.Foreign.{current_is_html}
 use Rattle.htmd_html5_tokens.specs.Tokens.{Read}
 use Rattle.htmd_html5_tokens.specs.NextToken.{next_token}
 use Rattle.htmd_html5_tokens.specs.Preprocessing.{preprocessed}
-use Rattle.htmd_tree.specs.Items.{Item, greatest_depth}
+use Rattle.htmd_nodes.specs.Items.{Item, greatest_depth}
 use Rattle.htmd_html5.specs.Feeding.{feed}
 use Rattle.htmd_html5_tokens.specs.Tokens as tokens
 

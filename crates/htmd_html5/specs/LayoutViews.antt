@@ -1,6 +1,6 @@
 -- What the program's layout is, and what holds for it.
 use Rattle.std.specs.Prelude.{◌≡◌, ℕ, ◌<◌, List, map, reverse, length, true, All}
-use Rattle.htmd_tree.specs.Items.{Item, data_at, depth_at, greatest_depth, holds_children}
+use Rattle.htmd_nodes.specs.Items.{Item, data_at, depth_at, greatest_depth, holds_children}
 use Rattle.htmd_html5_state.specs.Views.{nodes_of}
 use Rattle.htmd_html5.specs.Layout.{Coming, Layout}
 use Rattle.htmd_html5.specs.declared.layout.Coming as program

@@ -10,7 +10,7 @@ ghost use Rattle.htmd_grammar.specs.Attributes.{pairs_of};
 use crate::shared_rules::{add_to_root, end_template, insert_head_element, insert_tag};
 use crate::tokens::StartTag;
 use htmd_html5_state::{HtmlName, HtmlState, InsertionMode, TagName};
-use htmd_tree::Attribute;
+use htmd_nodes::Attribute;
 use std::alloc::AllocError;
 
 fn put_body(

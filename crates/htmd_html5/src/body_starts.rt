@@ -13,7 +13,7 @@ use crate::shared_rules::{
 use crate::tokens::StartTag;
 use htmd_html5_state::{HtmlName, HtmlState, InsertionMode, NameSet, Namespace, Scope, TagName};
 use htmd_html5_tokens::RawElement;
-use htmd_tree::Attribute;
+use htmd_nodes::Attribute;
 use std::alloc::AllocError;
 
 /// What a start tag does.

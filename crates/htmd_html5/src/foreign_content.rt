@@ -12,7 +12,7 @@ use crate::modes::{end_by_mode, start_by_mode};
 use crate::shared_rules::insert_foreign_tag;
 use crate::tokens::{RunKind, StartTag};
 use htmd_html5_state::{HtmlName, HtmlState, TagName};
-use htmd_tree::Attribute;
+use htmd_nodes::Attribute;
 use std::alloc::{AllocError, Global};
 
 // ---- which tokens go there

@@ -17,7 +17,7 @@ use crate::in_body::put_run_in_body;
 use crate::shared_rules::{end_template, insert_head_element, insert_tag, insert_void_tag};
 use crate::tokens::{RunKind, StartTag, split_run};
 use htmd_html5_state::{HtmlName, HtmlState, InsertionMode, NameSet, Scope, TagName};
-use htmd_tree::Attribute;
+use htmd_nodes::Attribute;
 use std::alloc::{AllocError, Global};
 
 // ---- text, which is taken all at once

@@ -11,7 +11,7 @@ ghost use Rattle.htmd_grammar.specs.Attributes.{pairs_of};
 use crate::in_table::{end_in_table, start_in_table};
 use crate::tokens::StartTag;
 use htmd_html5_state::{HtmlName, HtmlState, InsertionMode, NameSet, Scope, TagName};
-use htmd_tree::Attribute;
+use htmd_nodes::Attribute;
 use std::alloc::AllocError;
 
 fn start_row(

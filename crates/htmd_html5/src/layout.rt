@@ -4,12 +4,12 @@ ghost use Rattle.htmd_html5_state.specs.Documents.{children_at, kind_at};
 ghost use Rattle.htmd_html5_state.specs.Views.{kind_of, nodes_of};
 ghost use Rattle.htmd_html5.specs.Layout as spec;
 ghost use Rattle.htmd_html5.specs.LayoutViews.{coming_of, coming_under, layout_of, work_of, AllMayHold, MayHold};
-ghost use Rattle.htmd_tree.specs.Items.{comment_node, doctype_node, element_node, text_node, greatest_depth};
+ghost use Rattle.htmd_nodes.specs.Items.{comment_node, doctype_node, element_node, text_node, greatest_depth};
 ghost use Rattle.htmd_grammar.specs.Attributes.{pairs_of};
-ghost use Rattle.htmd_tree.specs.declared.tree.TreeError.TheVariants.{TooDeep};
+ghost use Rattle.htmd_nodes.specs.declared.tree.TreeError.TheVariants.{TooDeep};
 
 use htmd_html5_state::{Node, NodeKind, OtherElement};
-use htmd_tree::{Attribute, NodeId, Tree, TreeError};
+use htmd_nodes::{Attribute, NodeId, Tree, TreeError};
 use std::alloc::{AllocError, Global};
 use std::mem;
 

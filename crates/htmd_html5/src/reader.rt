@@ -10,7 +10,7 @@ use crate::feeding::feed;
 use crate::layout::lay_out;
 use htmd_html5_state::{HtmlState, Node};
 use htmd_html5_tokens::{Token, Tokenizer, preprocess};
-use htmd_tree::Tree;
+use htmd_nodes::Tree;
 use std::alloc::{AllocError, Global};
 use std::borrow::CowStr;
 

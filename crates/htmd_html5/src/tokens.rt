@@ -9,7 +9,7 @@ ghost use Rattle.htmd_html5_tokens.specs.Tokens as tokens;
 
 use htmd_html5_state::HtmlName;
 use htmd_html5_tokens::Tag;
-use htmd_tree::Attribute;
+use htmd_nodes::Attribute;
 use std::alloc::{AllocError, Global};
 
 /// A start tag, with its name found.

@@ -10,7 +10,7 @@ use Rattle.htmd_grammar.proofs.Cases.{test}
 use Rattle.htmd_grammar.specs.Characters.{null}
 use Rattle.htmd_html5_tokens.specs.References.{replacement_character}
 use Rattle.htmd_html5.specs.Documents.{state_after, html5_document}
-use Rattle.htmd_tree.specs.Items.{greatest_depth}
+use Rattle.htmd_nodes.specs.Items.{greatest_depth}
 use Rattle.htmd_html5_laws.specs.PageLetters.{is_character, occurrences, occurrences_in, texts_of}
 use Rattle.htmd_html5_laws.specs.LetterOrder.{all_tags_are_orderly}
 use Rattle.htmd_html5_laws.specs.TextKept.{kept_texts, no_tag_comes_late, no_null_comes}

@@ -1,7 +1,7 @@
 -- Which characters are letters, the texts of a tree, and pages whose letters are lost.
 use Rattle.std.proofs.Common.{◌≡◌, true, false, [], ◌∷◌, refl}
 use Rattle.std.specs.Prelude.{codes, Some}
-use Rattle.htmd_tree.specs.Items.{document_item, text_node, comment_node}
+use Rattle.htmd_nodes.specs.Items.{document_item, text_node, comment_node}
 use Rattle.htmd_html5_state.specs.Adoption.{move_last, wrap_children}
 use Rattle.htmd_html5.specs.BodyEnds.{text_end_rule}
 use Rattle.htmd_html5.specs.BodyStarts.{block_rule, formatting_rule, phrasing_rule}

@@ -1,7 +1,7 @@
 -- Letters of a page without a start tag of `frameset` or `template`.
 use Rattle.std.proofs.Common.{arith}
 use Rattle.htmd_html5.specs.Documents.{state_after, html5_document}
-use Rattle.htmd_tree.specs.Items.{greatest_depth}
+use Rattle.htmd_nodes.specs.Items.{greatest_depth}
 use Rattle.htmd_html5_laws.specs.HarmlessTags.{HarmlessLettersAreTaken, HarmlessLettersAreKept}
 use Rattle.htmd_html5_laws.proofs.LetterLemmas.{letter_tests}
 use Rattle.htmd_html5_laws.proofs.PuttingTokens.{state_grew, letters_taken}

@@ -4,7 +4,7 @@ use Rattle.std.specs.Prelude.{IsUtf8, if◌then◌else◌, ◌&&◌, ◌||◌, �
 use Rattle.std.specs.List.{list_all}
 use Rattle.std.proofs.lemmas.Bool.{true≢false, and_parts}
 use Rattle.htmd_grammar.specs.Characters.{null}
-use Rattle.htmd_tree.specs.Items.{greatest_depth}
+use Rattle.htmd_nodes.specs.Items.{greatest_depth}
 use Rattle.htmd_html5_tokens.specs.Preprocessing.{preprocessed}
 use Rattle.htmd_html5_tokens.specs.References.{replacement_character}
 use Rattle.htmd_html5_tokens.specs.Tokens.{Read}

@@ -9,7 +9,7 @@ use Rattle.htmd_html5_state.specs.Documents.{node_at, children_at, with_kind}
 use Rattle.htmd_html5_state.specs.OpenElements.{OpenValue}
 use Rattle.htmd_html5.specs.Layout.{Coming, coming, Layout, next_texts, with_text, with_kind_of, without_node, put_next}
 use Rattle.htmd_html5.specs.Layout.{layout_within, first_layout, document_of, is_deepest}
-use Rattle.htmd_tree.specs.Items.{Data, doctype_node, text_node, comment_node, element_node, new_item}
+use Rattle.htmd_nodes.specs.Items.{Data, doctype_node, text_node, comment_node, element_node, new_item}
 use Rattle.htmd_html5_laws.specs.PageLetters.{occurrences, occurrences_in, texts_of}
 use Rattle.htmd_html5_laws.proofs.NodeTexts.{kinds, texts, is_element}
 use Rattle.htmd_html5_laws.proofs.NodeParts.{children_of_kind}

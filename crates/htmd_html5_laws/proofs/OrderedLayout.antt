@@ -13,7 +13,7 @@ use Rattle.htmd_html5_state.specs.Documents.{children_at, with_kind, text_of}
 use Rattle.htmd_html5.specs.Layout.{Coming, coming, Layout, text_under, or_text, next_texts, after_next_texts, with_text}
 use Rattle.htmd_html5.specs.Layout.{with_kind_of, without_node, put_next, layout_within, first_layout, document_of}
 use Rattle.htmd_html5.specs.Layout.{is_deepest}
-use Rattle.htmd_tree.specs.Items.{Item, Data, doctype_node, text_node, comment_node, element_node, new_item}
+use Rattle.htmd_nodes.specs.Items.{Item, Data, doctype_node, text_node, comment_node, element_node, new_item}
 use Rattle.htmd_html5_laws.specs.PageLetters.{texts_of, with_text_in}
 use Rattle.htmd_html5_laws.proofs.NodeParts.{children_of_kind}
 use Rattle.htmd_html5_laws.proofs.PendingNodes.{numbers, numbers_coming}

@@ -6,7 +6,7 @@ use Rattle.htmd_grammar.specs.Serialisation.{is_void}
 use Rattle.htmd_html5_tokens.specs.NamedReferences.{old_names}
 use Rattle.htmd_html5_tokens.specs.Tokens.{start_tag, end_tag, text, comment}
 use Rattle.htmd_grammar.specs.Documents.{skeleton}
-use Rattle.htmd_tree.specs.Layout.{document_items}
+use Rattle.htmd_nodes.specs.Layout.{document_items}
 use Rattle.htmd_html5.specs.BodyEnds.{text_end_rule}
 use Rattle.htmd_html5.specs.BodyStarts.{block_rule, formatting_rule, phrasing_rule}
 use Rattle.htmd_html5.specs.Documents.{html5_document}

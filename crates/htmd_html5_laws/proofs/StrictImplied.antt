@@ -11,7 +11,7 @@ use Rattle.htmd_grammar.specs.ValueTrees.{comment, element}
 use Rattle.htmd_grammar.specs.CharacterClasses.{is_among}
 use Rattle.htmd_grammar.specs.Comments.{normalized}
 use Rattle.htmd_grammar.specs.Documents.{skeleton}
-use Rattle.htmd_tree.specs.Items.{greatest_depth}
+use Rattle.htmd_nodes.specs.Items.{greatest_depth}
 use Rattle.htmd_html5_tokens.specs.Tokens.{TagValue, TokenValue, start_tag}
 use Rattle.htmd_grammar.specs.declared.content.Content.TheVariants.{Normal}
 use Rattle.htmd_html5_state.specs.Names.{NameValue, known, other, html, name_of_text, text_of_name, spelling}

@@ -8,9 +8,9 @@ use Rattle.std.proofs.lemmas.Bool.Decides.{nat_tests}
 use Rattle.std.proofs.lemmas.List.{append-nil}
 use Rattle.htmd_grammar.specs.ValueTrees.{AttributePair, ValueTree, ValueForest, none, more, document, doctype, text}
 use Rattle.htmd_grammar.specs.ValueTrees.{comment, element}
-use Rattle.htmd_tree.specs.Items.{Data, text_node, comment_node, element_node, Item, depth_at, new_item}
-use Rattle.htmd_tree.specs.Layout.{size, sizes, item_under, tree_items, forest_items}
-use Rattle.htmd_tree.proofs.LayoutLemmas.{item_at-middle, length-tree_items}
+use Rattle.htmd_nodes.specs.Items.{Data, text_node, comment_node, element_node, Item, depth_at, new_item}
+use Rattle.htmd_nodes.specs.Layout.{size, sizes, item_under, tree_items, forest_items}
+use Rattle.htmd_nodes.proofs.LayoutLemmas.{item_at-middle, length-tree_items}
 use Rattle.htmd_html5_state.specs.Names.{ElementNameValue, html, name_of_text, text_of_name, text_of_element_name}
 use Rattle.htmd_html5_state.specs.Documents.{text_of, NodeValue, kind_at, children_at, with_kind}
 use Rattle.htmd_html5.specs.Layout.{next_text, next_texts, after_next_texts, parent_of_children}

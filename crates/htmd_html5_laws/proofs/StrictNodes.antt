@@ -6,7 +6,7 @@ use Rattle.std.proofs.lemmas.List.{append-nil}
 use Rattle.htmd_grammar.specs.ValueTrees.{AttributePair, ValueTree, ValueForest, none, more, document, doctype, text}
 use Rattle.htmd_grammar.specs.ValueTrees.{comment, element}
 use Rattle.htmd_grammar.specs.Grammar.{Apart}
-use Rattle.htmd_tree.specs.Layout.{size, sizes}
+use Rattle.htmd_nodes.specs.Layout.{size, sizes}
 use Rattle.htmd_html5_state.specs.Names.{html, name_of_text}
 use Rattle.htmd_html5_state.specs.Documents.{KindValue, NodeValue, node_at, kind_at, children_at, text_of, new_node}
 use Rattle.htmd_html5_state.specs.Documents.{with_children, append_children, add, add_text, last_in, preceding, child_before}

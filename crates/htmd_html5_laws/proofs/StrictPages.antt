@@ -18,8 +18,8 @@ use Rattle.htmd_grammar.specs.RawContent.{holds_text_alone, content_of}
 use Rattle.htmd_grammar.specs.Documents.{below_body, skeleton}
 use Rattle.htmd_grammar.proofs.NestingLemmas.{allowed_parts}
 use Rattle.htmd_grammar.proofs.TreeTexts.{Inside}
-use Rattle.htmd_tree.specs.Items.{document_item, greatest_depth}
-use Rattle.htmd_tree.specs.Layout.{sizes, document_items}
+use Rattle.htmd_nodes.specs.Items.{document_item, greatest_depth}
+use Rattle.htmd_nodes.specs.Layout.{sizes, document_items}
 use Rattle.htmd_html5_tokens.specs.Tokens.{TokenValue, start_tag}
 use Rattle.htmd_html5_tokens.specs.NextToken.{next_token}
 use Rattle.htmd_grammar.specs.declared.content.Content.{Content}

@@ -10,7 +10,7 @@ use Rattle.htmd_html5_state.specs.Documents.{KindValue, NodeValue, document, doc
 use Rattle.htmd_html5_state.specs.Documents.{children_at, parent_at, with_kind, text_of, is_number}
 use Rattle.htmd_html5.specs.Layout.{Coming, coming, Layout, next_texts, with_text}
 use Rattle.htmd_html5.specs.Layout.{with_kind_of, without_node}
-use Rattle.htmd_tree.specs.Items.{Item, Data, doctype_node, text_node, comment_node, element_node, new_item}
+use Rattle.htmd_nodes.specs.Items.{Item, Data, doctype_node, text_node, comment_node, element_node, new_item}
 use Rattle.htmd_html5_laws.specs.PageLetters.{occurrences}
 use Rattle.htmd_html5_laws.specs.KeptLetters.{is_element_kind, holds_node, hangs_by, hangs, texts_hang}
 use Rattle.htmd_html5_laws.proofs.NodeTexts.{is_element}

@@ -5,7 +5,7 @@ use Rattle.std.specs.List.{count_by, sum_by}
 use Rattle.std.specs.Str.{chars}
 use Rattle.htmd_grammar.specs.WhiteSpace.{is_ascii_white_space}
 use Rattle.htmd_grammar.specs.Characters.{null}
-use Rattle.htmd_tree.specs.Items.{Item, Data, text_node}
+use Rattle.htmd_nodes.specs.Items.{Item, Data, text_node}
 use Rattle.htmd_html5_tokens.specs.Preprocessing.{preprocessed}
 use Rattle.htmd_html5_tokens.specs.References.{replacement_character}
 use Rattle.htmd_html5_tokens.specs.Tokens.{TokenValue, Read, text}

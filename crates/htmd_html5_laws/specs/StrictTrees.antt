@@ -8,7 +8,7 @@ use Rattle.htmd_grammar.specs.Rules.{project}
 use Rattle.htmd_grammar.specs.Serialisation.{is_void}
 use Rattle.htmd_grammar.specs.Grammar.{reads}
 use Rattle.htmd_grammar.specs.Documents.{behind_mark, below_body, skeleton}
-use Rattle.htmd_tree.specs.Layout.{document_items}
+use Rattle.htmd_nodes.specs.Layout.{document_items}
 use Rattle.htmd_html5_state.specs.Names.{NameValue, known, other, name_of_text}
 use Rattle.htmd_html5.specs.Documents.{html5_document}
 use Rattle.htmd_html5_laws.specs.StrictReferences.{IsSettled}

@@ -2,10 +2,10 @@
 use Rattle.std.proofs.Common.{◌≡◌, sym, subst, refl, ℕ, Bool, true, false, List, [], ◌∷◌, codes, arith}
 use Rattle.std.specs.Str.{IsUtf8}
 use Rattle.std.specs.List.{All}
-use Rattle.htmd_tree.specs.ValueTrees.{AttributePair}
-use Rattle.htmd_tree.specs.Items.{Item, document_item, new_item, element_node, text_node, IsTree, HoldTexts}
-use Rattle.htmd_reader.specs.Bodies.{body_part}
-use Rattle.htmd_tree.proofs.ItemsLemmas.{IsTree-added}
+use Rattle.htmd_nodes.specs.ValueTrees.{AttributePair}
+use Rattle.htmd_nodes.specs.Items.{Item, document_item, new_item, element_node, text_node, IsTree, HoldTexts}
+use Rattle.htmd_tree.specs.Bodies.{body_part}
+use Rattle.htmd_nodes.proofs.ItemsLemmas.{IsTree-added}
 use Rattle.htmd_walk.specs.Choice.{Config}
 use Rattle.htmd_walk.specs.declared.options.Options.{Options}
 use Rattle.htmd_walk.specs.Markdown.{markdown}

@@ -1,6 +1,6 @@
 -- Worked rows of texts that aren't shown. Each holds by computing.
 use Rattle.std.proofs.Common.{◌≡◌, true, false, List, [], ◌∷◌, codes, refl}
-use Rattle.htmd_tree.specs.NumberedTrees.{NumberedTree, document, text, element, none, more}
+use Rattle.htmd_nodes.specs.NumberedTrees.{NumberedTree, document, text, element, none, more}
 use Rattle.htmd_laws.specs.PageLetters.{texts_in, hidden_in}
 
 -- <script>x</script>y<b>z</b>

@@ -2,7 +2,7 @@
 -- written.
 use Rattle.std.proofs.Common.{◌≡◌, ℕ, true, List, arith}
 use Rattle.std.specs.Str.{chars}
-use Rattle.htmd_tree.specs.NumberedTrees.{tree_of}
+use Rattle.htmd_nodes.specs.NumberedTrees.{tree_of}
 use Rattle.htmd_walk.specs.Outputs.{is_guarded}
 use Rattle.htmd_html5.specs.Documents.{html5_document}
 use Rattle.htmd_html5_laws.specs.PageLetters.{occurrences}

@@ -6,9 +6,9 @@ use Rattle.std.specs.Str.{chars, bytes_eq}
 use Rattle.std.proofs.lemmas.Bool.{true≢false, eqb-true}
 use Rattle.std.proofs.lemmas.List.Sums.{sum_by-append, sum_by-cons}
 use Rattle.htmd_grammar.proofs.Cases.{test}
-use Rattle.htmd_tree.specs.Items.{Item}
-use Rattle.htmd_tree.specs.NumberedTrees.{NumberedTree, document, doctype, text, comment, element}
-use Rattle.htmd_tree.specs.NumberedTrees.{NumberedForest, none, more}
+use Rattle.htmd_nodes.specs.Items.{Item}
+use Rattle.htmd_nodes.specs.NumberedTrees.{NumberedTree, document, doctype, text, comment, element}
+use Rattle.htmd_nodes.specs.NumberedTrees.{NumberedForest, none, more}
 use Rattle.htmd_walk.specs.declared.options.Options.{Options}
 use Rattle.htmd_walk.specs.Elements.{view_at}
 use Rattle.htmd_walk.specs.GuardedTableLayouts.{is_written_as_table}

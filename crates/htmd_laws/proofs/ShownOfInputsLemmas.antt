@@ -1,6 +1,6 @@
 -- What is shown of texts, pages and runs: that of the Markdown of a tree, and the tree holds texts.
 use Rattle.std.proofs.Common.{◌≡◌, ◌∙◌, refl, sym, ap, subst, ℕ, List}
-use Rattle.htmd_tree.specs.NumberedTrees.{tree_of}
+use Rattle.htmd_nodes.specs.NumberedTrees.{tree_of}
 use Rattle.htmd_walk.specs.BuiltIn.{built_in}
 use Rattle.htmd_walk.specs.Markdown.{markdown}
 use Rattle.htmd_html5.specs.Documents.{html5_document}

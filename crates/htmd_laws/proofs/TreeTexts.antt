@@ -5,9 +5,9 @@ use Rattle.std.proofs.lemmas.Bool.{true≢false, eqb-true, eqb-false, eq-eqb, ne
 use Rattle.std.proofs.lemmas.List.{get_or_at, get_or-append-add, length-append, length_push}
 use Rattle.std.proofs.lemmas.List.Sums.{sum_by-append, sum_by-cons}
 use Rattle.htmd_grammar.proofs.Cases.{test}
-use Rattle.htmd_tree.specs.Items.{Data, document_node, doctype_node, text_node, comment_node, element_node, Item}
-use Rattle.htmd_tree.specs.Items.{document_item, item_at, parent_at, is_child, holds_children, IsTree}
-use Rattle.htmd_tree.specs.NumberedTrees.{NumberedForest, none, with_children, forest_from, tree_of}
+use Rattle.htmd_nodes.specs.Items.{Data, document_node, doctype_node, text_node, comment_node, element_node, Item}
+use Rattle.htmd_nodes.specs.Items.{document_item, item_at, parent_at, is_child, holds_children, IsTree}
+use Rattle.htmd_nodes.specs.NumberedTrees.{NumberedForest, none, with_children, forest_from, tree_of}
 use Rattle.htmd_html5_laws.specs.PageLetters.{occurrences, occurrences_in, with_text_in, texts_of}
 use Rattle.htmd_laws.specs.PageLetters.{texts_in, texts_among}
 

@@ -1,7 +1,7 @@
 -- The law of what is read: a tree whose texts are UTF-8, as the laws of letters and of what is shown require.
 use Rattle.std.specs.Prelude.{◌≡◌, ℕ, Bool, List, IsUtf8, MatchBool}
-use Rattle.htmd_tree.specs.Items.{Item, IsTree, HoldTexts}
-use Rattle.htmd_reader.specs.Bodies.{body_part}
+use Rattle.htmd_nodes.specs.Items.{Item, IsTree, HoldTexts}
+use Rattle.htmd_tree.specs.Bodies.{body_part}
 use Rattle.htmd_walk.specs.Markdown.{markdown}
 use Rattle.htmd.specs.Conversions.{IsTreeOf}
 use Rattle.htmd_html5.specs.Documents.{html5_document}

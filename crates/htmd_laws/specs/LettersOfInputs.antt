@@ -1,7 +1,7 @@
 -- The law of letters for texts, pages and runs.
 use Rattle.std.specs.Prelude.{◌≡◌, ℕ, Bool, true, List, IsUtf8}
-use Rattle.htmd_tree.specs.Items.{Item}
-use Rattle.htmd_reader.specs.Bodies.{body_part}
+use Rattle.htmd_nodes.specs.Items.{Item}
+use Rattle.htmd_tree.specs.Bodies.{body_part}
 use Rattle.htmd_walk.specs.declared.options.LinkStyle.TheVariants.{Inlined}
 use Rattle.htmd_walk.specs.declared.options.Options.{Options}
 use Rattle.htmd_walk.specs.Outputs.{is_markdown_alone}

@@ -1,8 +1,8 @@
 -- The law of what is shown, for texts, pages and runs.
 use Rattle.std.specs.Prelude.{◌≡◌, ℕ, Bool, true, List, IsUtf8}
-use Rattle.htmd_tree.specs.Items.{Item}
-use Rattle.htmd_tree.specs.NumberedTrees.{tree_of}
-use Rattle.htmd_reader.specs.Bodies.{body_part}
+use Rattle.htmd_nodes.specs.Items.{Item}
+use Rattle.htmd_nodes.specs.NumberedTrees.{tree_of}
+use Rattle.htmd_tree.specs.Bodies.{body_part}
 use Rattle.htmd_walk.specs.declared.options.Options.{Options}
 use Rattle.htmd_walk.specs.Outputs.{is_markdown_alone, is_guarded}
 use Rattle.htmd_walk.specs.BuiltIn.{built_in}

@@ -1,6 +1,6 @@
 //! The body of a page, and the line and column of a place, written by hand.
 use htmd_expected::{expect_number, expect_text};
-use htmd_reader::{body_of, line_and_column};
+use htmd_tree::{body_of, line_and_column};
 use std::alloc::{AllocError, Global};
 use std::test::Fail;
 

@@ -1,7 +1,7 @@
 //! Texts of the greatest depth, and a page cut short and without each of its characters. What small texts denote, and
 //! where they are refused, is a family of `htmd_cases`.
 use htmd_expected::{expect_text, expect_that};
-use htmd_reader::{FaultKind, ReadError, read_html};
+use htmd_tree::{FaultKind, ReadError, read_html};
 use std::alloc::Global;
 use std::test::Fail;
 

@@ -1,9 +1,9 @@
 //! What no clause says: that calls succeed if there is memory, and small serialisations, written by hand.
 ghost use Rattle.std.specs.Prelude.{◌<◌, length, IsTrue};
-ghost use Rattle.htmd_tree.specs.Items.{data_at, holds_children};
+ghost use Rattle.htmd_nodes.specs.Items.{data_at, holds_children};
 
 use htmd_expected::{expect_number, expect_text, expect_that};
-use htmd_tree::*;
+use htmd_nodes::*;
 use std::alloc::{AllocError, Global};
 use std::test::Fail;
 

@@ -1,6 +1,6 @@
 -- What the handlers of the tests ask for.
 use Rattle.std.specs.Prelude.{ℕ, zero, suc, true, ◌==◌, if◌then◌else◌, List, [], ◌∷◌, Option, Some, None, codes}
-use Rattle.htmd_tree.specs.Items.{Item, children_of}
+use Rattle.htmd_nodes.specs.Items.{Item, children_of}
 use Rattle.htmd.specs.Handling.{ElementView, PlanView, nothing, this_result, content_of_descendant, content_of_fallback}
 use Rattle.htmd.specs.ElementPlans.{attributes_of, value_of_first}
 

@@ -2,7 +2,7 @@
 ghost use Rattle.std.specs.Option.{option_copied};
 ghost use Rattle.std.specs.Prelude.{◌≡◌, ◌<◌, ◌&&◌, Some, None, if◌then◌else◌, length, not, true};
 ghost use Rattle.std.specs.Prelude.{codes, string_bytes};
-ghost use Rattle.htmd_tree.specs.Items.{children_of};
+ghost use Rattle.htmd_nodes.specs.Items.{children_of};
 ghost use Rattle.htmd_grammar.specs.Attributes.{pairs_of};
 ghost use Rattle.htmd.specs.ElementPlans.{attributes_of, is_more_than, value_of_first};
 ghost use Rattle.htmd.specs.Handling.{this_result, raw_html, content_of_children, content_of_fallback};

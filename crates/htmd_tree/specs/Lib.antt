@@ -1,14 +1,12 @@
--- What a tree is: its nodes in order of addition, the value tree of a node, its ancestors, what the texts and
--- attributes of the source stand for, how a document is laid out as a tree. The last, how a tree lies in memory, serves
--- private functions alone. The value trees and what they are written as are those of the grammar.
-pub use Rattle.htmd_grammar.specs.ValueTrees
-pub use Rattle.htmd_grammar.specs.Serialisation
-pub use Rattle.htmd_grammar.specs.RawBlocks
-pub mod Items
-pub mod NumberedTrees
-pub mod Ancestors
-pub mod Views
-pub mod Layout
-pub mod OpenItems
-pub mod Parts
-pub mod Entries
+-- What the reader answers: the body of a page, and lines and columns. The others serve private functions alone: the
+-- reader's places and open elements as those of the grammar's steps, and the parts of tags and texts.
+pub mod Bodies
+pub mod BodyLaws
+pub mod Lines
+pub mod DecodedCharacters
+pub mod Surroundings
+pub mod OpenNodes
+pub mod Advances
+pub mod Classes
+pub mod TagParts
+pub mod TextRuns

@@ -8,10 +8,10 @@ use Rattle.std.proofs.lemmas.Bool.{cond_both, cond-true, cond-false, cases_Bool,
 use Rattle.std.proofs.lemmas.Bool.{false_from_ne_true, false≢true, true≢false}
 use Rattle.std.proofs.lemmas.List.Folds.{list_any-append}
 use Rattle.std.proofs.lemmas.Slice.Eq.{bytes_eq-Decides}
-use Rattle.htmd_tree.specs.Items.{Item, data_at, parent_at, children_of}
-use Rattle.htmd_tree.specs.Items as tree
-use Rattle.htmd_tree.specs.NumberedTrees.{NumberedTree, NumberedForest}
-use Rattle.htmd_tree.specs.Ancestors.{Ancestor, ancestor_of}
+use Rattle.htmd_nodes.specs.Items.{Item, data_at, parent_at, children_of}
+use Rattle.htmd_nodes.specs.Items as tree
+use Rattle.htmd_nodes.specs.NumberedTrees.{NumberedTree, NumberedForest}
+use Rattle.htmd_nodes.specs.Ancestors.{Ancestor, ancestor_of}
 use Rattle.htmd_markdown.specs.declared.emphasis.Emphasis.TheVariants as kind
 use Rattle.htmd_walk.specs.declared.options.Options.{Options}
 use Rattle.htmd_walk.specs.Handling.{ElementView, PlanView, content_of_children, contents_of_each, HandlerMeaning}

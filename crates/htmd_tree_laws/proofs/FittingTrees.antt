@@ -7,9 +7,9 @@ use Rattle.htmd_walk.specs.ElementPlans.{is_tag_among}
 use Rattle.htmd_walk.specs.OtherBlocks.{hidden_tags}
 use Rattle.std.proofs.lemmas.Str.{IsUtf8-append, IsUtf8-nil}
 use Rattle.htmd_grammar.specs.Characters.{line_feed}
-use Rattle.htmd_tree.specs.ValueTrees.{AttributePair}
-use Rattle.htmd_tree.specs.NumberedTrees.{NumberedTree, document, doctype, text, comment, element, NumberedForest, none}
-use Rattle.htmd_tree.specs.NumberedTrees.{more}
+use Rattle.htmd_nodes.specs.ValueTrees.{AttributePair}
+use Rattle.htmd_nodes.specs.NumberedTrees.{NumberedTree, document, doctype, text, comment, element, NumberedForest, none}
+use Rattle.htmd_nodes.specs.NumberedTrees.{more}
 use Rattle.htmd_walk.specs.Groups.{only_text, with_only_text, with_text, text_of, joint_text, joint_with, is_joinable}
 use Rattle.htmd_walk.specs.Groups.{in_front, Joint, joint_of, both_join, may_join}
 use Rattle.std.proofs.lemmas.Bool.{false≢true, and_parts}

@@ -3,7 +3,7 @@ use Rattle.std.proofs.Common.{◌≡◌, ℕ, Bool, true, false, List, [], ◌�
 use Rattle.std.proofs.Common.{refl, sym, ap, ◌∙◌, subst, cond}
 use Rattle.std.specs.List.{flat_map}
 use Rattle.std.proofs.lemmas.List.{append-nil}
-use Rattle.htmd_tree.specs.NumberedTrees.{NumberedTree, NumberedForest, none, more}
+use Rattle.htmd_nodes.specs.NumberedTrees.{NumberedTree, NumberedForest, none, more}
 use Rattle.htmd_walk.specs.Groups.{is_joinable, text_of, with_text, groups_of, in_front}
 use Rattle.htmd_tree_laws.specs.GroupLaws.{trees_in, laid_out, IsRun, AreRuns, AreMaximal, IsCut, StandsFor}
 use Rattle.htmd_tree_laws.specs.GroupLaws.{AreGroups, ChildrenAreCut}

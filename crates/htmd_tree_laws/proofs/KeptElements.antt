@@ -22,11 +22,11 @@ use Rattle.htmd_markdown.specs.ListItems.{guarded_spaces}
 use Rattle.htmd_markdown.specs.declared.thematic_break.HrStyle.{HrStyle}
 use Rattle.htmd_markdown.specs.declared.thematic_break.HrStyle.TheVariants.{Dashes, Asterisks, Underscores}
 use Rattle.htmd_markdown.specs.ThematicBreaks.{thematic_break}
-use Rattle.htmd_tree.specs.Items.{Item, data_at, children_of}
-use Rattle.htmd_tree.specs.Items as tree
-use Rattle.htmd_tree.specs.ValueTrees.{AttributePair}
-use Rattle.htmd_tree.specs.NumberedTrees.{NumberedTree, NumberedForest}
-use Rattle.htmd_tree.specs.Ancestors.{Ancestor, ancestor_of}
+use Rattle.htmd_nodes.specs.Items.{Item, data_at, children_of}
+use Rattle.htmd_nodes.specs.Items as tree
+use Rattle.htmd_nodes.specs.ValueTrees.{AttributePair}
+use Rattle.htmd_nodes.specs.NumberedTrees.{NumberedTree, NumberedForest}
+use Rattle.htmd_nodes.specs.Ancestors.{Ancestor, ancestor_of}
 use Rattle.htmd_walk.proofs.TableOrdersLemmas.{lines_in_order}
 use Rattle.htmd_walk.specs.declared.options.LinkStyle.{LinkStyle}
 use Rattle.htmd_walk.specs.declared.options.LinkStyle.TheVariants.{Inlined, InlinedPreferAutolinks, Referenced}

@@ -10,12 +10,12 @@ use Rattle.std.specs.Prelude.{◌&&◌, ◌||◌, not}
 use Rattle.htmd_text.specs.Trims.{is_line_feed}
 use Rattle.htmd_grammar.specs.WhiteSpace.{is_document_white_space}
 use Rattle.htmd_text.specs.Blocks.{is_block}
-use Rattle.htmd_tree.specs.Items.{Item, data_at, children_of, IsTree, HoldsText}
-use Rattle.htmd_tree.specs.NumberedTrees.{NumberedTree, document, doctype, text, comment, element, NumberedForest}
-use Rattle.htmd_tree.specs.NumberedTrees.{none, more, forest_of, tree_of, height, tallest}
-use Rattle.htmd_tree.specs.Ancestors.{Ancestor, ancestor_of, ancestors_of}
-use Rattle.htmd_tree.proofs.NumberedTreesLemmas.{height_pos}
-use Rattle.htmd_tree.specs.ValueTrees.{AttributePair}
+use Rattle.htmd_nodes.specs.Items.{Item, data_at, children_of, IsTree, HoldsText}
+use Rattle.htmd_nodes.specs.NumberedTrees.{NumberedTree, document, doctype, text, comment, element, NumberedForest}
+use Rattle.htmd_nodes.specs.NumberedTrees.{none, more, forest_of, tree_of, height, tallest}
+use Rattle.htmd_nodes.specs.Ancestors.{Ancestor, ancestor_of, ancestors_of}
+use Rattle.htmd_nodes.proofs.NumberedTreesLemmas.{height_pos}
+use Rattle.htmd_nodes.specs.ValueTrees.{AttributePair}
 use Rattle.htmd_walk.specs.LinkAttributes.{is_among, last_value}
 use Rattle.htmd_walk.specs.OneLineElements.{heading_tags, is_link, is_one_line_tag, is_in_one_line, stands_in_line}
 use Rattle.htmd_walk.specs.declared.options.Options.{Options}

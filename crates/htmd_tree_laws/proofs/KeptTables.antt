@@ -22,7 +22,7 @@ use Rattle.htmd_markdown.specs.TableGrids.{SpannedCell, SpannedRow, Column, colu
 use Rattle.htmd_markdown.specs.TableGrids.{laid_row, texts_of, rows_of, columns_of_row, grid_below, grid}
 use Rattle.htmd_markdown.specs.Tables.{line_cells_by, padded_cell, barred_cells, line, row_by, dashes, separator}
 use Rattle.htmd_markdown.specs.Tables.{head_by}
-use Rattle.htmd_tree.specs.Items.{Item}
+use Rattle.htmd_nodes.specs.Items.{Item}
 use Rattle.htmd_walk.specs.GuardedTableLayouts.{TableLine, caption, row, nodes_of_lines, begins_with_header}
 use Rattle.htmd_walk.specs.GuardedTableTexts.{GuardedTexts, no_guarded_texts, spanned_cells, with_caption, with_lines}
 use Rattle.htmd_walk.specs.GuardedTableTexts.{grid_text, with_blank_line, guarded_table_text, guarded_table_of}

@@ -17,8 +17,8 @@ use Rattle.htmd_markdown.specs.GuardedText.{is_guarded_mark, is_mark_anywhere, i
 use Rattle.htmd_markdown.specs.GuardedText.{begins_line}
 use Rattle.htmd_markdown.specs.Joints.{is_asterisk, is_backslash}
 use Rattle.htmd_markdown.proofs.GuardedMarksLemmas.{mark_is_punctuation}
-use Rattle.htmd_tree.specs.Ancestors.{Ancestor}
-use Rattle.htmd_tree.specs.NumberedTrees.{NumberedTree, NumberedForest, none, more}
+use Rattle.htmd_nodes.specs.Ancestors.{Ancestor}
+use Rattle.htmd_nodes.specs.NumberedTrees.{NumberedTree, NumberedForest, none, more}
 use Rattle.htmd_walk.specs.Children.{is_block_tree, before_child, trim_after, write_children}
 use Rattle.htmd_walk.specs.OrdinaryText.{in_pre_or_code, without_first_space}
 use Rattle.htmd_walk.specs.Outputs.{Output, Context, Writes, context_of}

@@ -14,11 +14,11 @@ use Rattle.htmd_grammar.specs.RawContent.{content_of}
 use Rattle.htmd_grammar.specs.Serialisation.{is_void}
 use Rattle.htmd_grammar.proofs.TreeTexts.{Inside}
 use Rattle.htmd_grammar.proofs.Cases.{test}
-use Rattle.htmd_tree.specs.Items.{Data, document_node, doctype_node, text_node, comment_node, element_node, Item}
-use Rattle.htmd_tree.specs.Items.{document_item, item_at, depth_at, data_at, parent_at, holds_children, new_item}
-use Rattle.htmd_tree.specs.Items.{greatest_depth, IsTree, IsUnder, HoldsText, HoldTexts}
-use Rattle.htmd_tree.specs.Layout.{size, sizes, item_under, tree_items, forest_items, document_items}
-use Rattle.htmd_tree.proofs.ItemsLemmas.{IsTree-added}
+use Rattle.htmd_nodes.specs.Items.{Data, document_node, doctype_node, text_node, comment_node, element_node, Item}
+use Rattle.htmd_nodes.specs.Items.{document_item, item_at, depth_at, data_at, parent_at, holds_children, new_item}
+use Rattle.htmd_nodes.specs.Items.{greatest_depth, IsTree, IsUnder, HoldsText, HoldTexts}
+use Rattle.htmd_nodes.specs.Layout.{size, sizes, item_under, tree_items, forest_items, document_items}
+use Rattle.htmd_nodes.proofs.ItemsLemmas.{IsTree-added}
 use Rattle.htmd_tree_laws.proofs.TextsRead.{ValuesAreUtf8, TextsAreUtf8, AllTextsAreUtf8}
 
 -- ---- how many items a tree has

@@ -3,10 +3,10 @@ use Rattle.std.proofs.Common.{◌≡◌, ℕ, List, [], ◌∷◌, codes, refl}
 use Rattle.std.specs.Str.{chars}
 use Rattle.htmd_text.specs.Blocks.{is_block}
 use Rattle.htmd_grammar.specs.Characters.{no_break_space_first_byte, no_break_space_second_byte}
-use Rattle.htmd_tree.specs.ValueTrees.{AttributePair, ValueTree, ValueForest, text, element, none, more}
-use Rattle.htmd_tree.specs.NumberedTrees.{tree_of, forest_from}
-use Rattle.htmd_tree.specs.Ancestors.{ancestors_of, ancestors_up}
-use Rattle.htmd_tree.specs.Layout.{document_items}
+use Rattle.htmd_nodes.specs.ValueTrees.{AttributePair, ValueTree, ValueForest, text, element, none, more}
+use Rattle.htmd_nodes.specs.NumberedTrees.{tree_of, forest_from}
+use Rattle.htmd_nodes.specs.Ancestors.{ancestors_of, ancestors_up}
+use Rattle.htmd_nodes.specs.Layout.{document_items}
 use Rattle.htmd_walk.specs.Defaults.{default_options}
 use Rattle.htmd_tree_laws.specs.Letters.{said, said_within}
 use Rattle.htmd_walk.specs.OneLineElements.{stands_in_line, in_line_up}

@@ -7,9 +7,9 @@ use Rattle.std.specs.Str.{IsUtf8, bytes_eq}
 use Rattle.std.proofs.Math.Bool.{and_comm}
 use Rattle.std.proofs.lemmas.Bool.{cond_both, cond-false, or_from}
 use Rattle.std.proofs.lemmas.Bool.{and_left}
-use Rattle.htmd_tree.specs.Items.{Item, data_at, children_of}
-use Rattle.htmd_tree.specs.NumberedTrees.{NumberedTree, NumberedForest}
-use Rattle.htmd_tree.specs.Ancestors.{Ancestor, ancestor_of}
+use Rattle.htmd_nodes.specs.Items.{Item, data_at, children_of}
+use Rattle.htmd_nodes.specs.NumberedTrees.{NumberedTree, NumberedForest}
+use Rattle.htmd_nodes.specs.Ancestors.{Ancestor, ancestor_of}
 use Rattle.htmd_walk.specs.declared.options.Options.{Options}
 use Rattle.htmd_walk.specs.Handling.{ElementView, PlanView, nothing, content_of_children, contents_of_each, HandlerMeaning}
 use Rattle.htmd_walk.specs.Handling.{content_of_fallback}

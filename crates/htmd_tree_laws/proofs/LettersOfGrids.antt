@@ -14,7 +14,7 @@ use Rattle.htmd_markdown.specs.OneLine.{one_line}
 use Rattle.htmd_markdown.specs.Tables.{column_widths_by}
 use Rattle.htmd_markdown.specs.TableGrids.{SpannedCell, SpannedRow, Column, column, columns_of, goes_on, below, laid_row}
 use Rattle.htmd_markdown.specs.TableGrids.{texts_of, rows_of, columns_of_row, grid_below, grid}
-use Rattle.htmd_tree.specs.Items.{Item}
+use Rattle.htmd_nodes.specs.Items.{Item}
 use Rattle.htmd_walk.specs.Handling.{ResultView}
 use Rattle.htmd_walk.specs.Tables.{text_of_cell}
 use Rattle.htmd_walk.specs.GuardedTableLayouts.{TableLine, caption, row, nodes_of_lines, begins_with_header}

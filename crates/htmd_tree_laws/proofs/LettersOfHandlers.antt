@@ -24,7 +24,7 @@ use Rattle.htmd_markdown.specs.ListItems.{guarded_spacing, guarded_bullet_item}
 use Rattle.htmd_markdown.specs.LineBreaks.{line_break}
 use Rattle.htmd_markdown.specs.Lists.{list_block}
 use Rattle.htmd_markdown.specs.ThematicBreaks.{thematic_break}
-use Rattle.htmd_tree.specs.ValueTrees.{AttributePair}
+use Rattle.htmd_nodes.specs.ValueTrees.{AttributePair}
 use Rattle.htmd_walk.specs.declared.options.CodeBlockStyle.{CodeBlockStyle}
 use Rattle.htmd_walk.specs.declared.options.CodeBlockStyle.TheVariants.{Indented, Fenced}
 use Rattle.htmd_walk.specs.declared.options.LinkStyle.{LinkStyle}

@@ -4,12 +4,12 @@ use Rattle.std.proofs.Common.{refl, sym, ◌∙◌, arith, subst}
 use Rattle.std.specs.Prelude.{◌||◌}
 use Rattle.std.proofs.lemmas.Bool.{cond_both, false≢true}
 use Rattle.std.proofs.lemmas.List.{get_or_default}
-use Rattle.htmd_tree.specs.Items.{Data, document_node, doctype_node, text_node, comment_node, element_node, Item}
-use Rattle.htmd_tree.specs.Items.{tag_of, data_at, children_of, IsTree}
-use Rattle.htmd_tree.specs.NumberedTrees.{NumberedTree, document, doctype, text, comment, element, NumberedForest}
-use Rattle.htmd_tree.specs.NumberedTrees.{none, more, with_children, forest_of, tree_of, height}
-use Rattle.htmd_tree.proofs.NumberedTreesLemmas.{tree-open, height_pos, lower_child, IsLower}
-use Rattle.htmd_tree.proofs.ItemsLemmas.{child_read}
+use Rattle.htmd_nodes.specs.Items.{Data, document_node, doctype_node, text_node, comment_node, element_node, Item}
+use Rattle.htmd_nodes.specs.Items.{tag_of, data_at, children_of, IsTree}
+use Rattle.htmd_nodes.specs.NumberedTrees.{NumberedTree, document, doctype, text, comment, element, NumberedForest}
+use Rattle.htmd_nodes.specs.NumberedTrees.{none, more, with_children, forest_of, tree_of, height}
+use Rattle.htmd_nodes.proofs.NumberedTreesLemmas.{tree-open, height_pos, lower_child, IsLower}
+use Rattle.htmd_nodes.proofs.ItemsLemmas.{child_read}
 use Rattle.htmd_walk.specs.ElementPlans.{is_tag_among}
 use Rattle.htmd_walk.specs.Groups.{with_only_text, with_text, text_of, is_joinable, in_front, groups_of, children_at}
 use Rattle.htmd_walk.specs.OneLineElements.{is_in_one_line, stands_in_line}

@@ -30,7 +30,7 @@ use Rattle.htmd_markdown.specs.ListColumns.{HasGuardedColumns}
 use Rattle.htmd_markdown.proofs.ListsLemmas.{items_in, item_count-append}
 use Rattle.htmd_markdown.proofs.ListColumnsLemmas.{columns_kept, columns_equal, digit_first}
 use Rattle.htmd_markdown.proofs.SpacedSpansLemmas.{one_more}
-use Rattle.htmd_tree.specs.Items.{Item, children_of, tag_of, data_at}
+use Rattle.htmd_nodes.specs.Items.{Item, children_of, tag_of, data_at}
 use Rattle.htmd_walk.specs.Handling.{ElementView, ResultView}
 use Rattle.htmd_walk.specs.Outputs.{is_markdown_alone, is_guarded}
 use Rattle.htmd_walk.specs.Children.{content_alone, descendant_tree}

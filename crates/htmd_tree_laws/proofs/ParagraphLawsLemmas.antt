@@ -9,14 +9,14 @@ use Rattle.htmd_grammar.specs.BlankLines.{with_blank_lines}
 use Rattle.htmd_text.specs.EscapeMarks.{escaped_markdown}
 use Rattle.htmd_text.specs.Trims.{trimmed_end, trimmed_text, is_space, is_line_feed}
 use Rattle.htmd_grammar.specs.WhiteSpace.{is_document_white_space}
-use Rattle.htmd_tree.specs.ValueTrees as value
-use Rattle.htmd_tree.specs.Items.{Data, document_node, doctype_node, text_node, comment_node, element_node, Item}
-use Rattle.htmd_tree.specs.Items.{IsTree, data_at, children_of}
-use Rattle.htmd_tree.specs.NumberedTrees.{NumberedTree, document, doctype, text, comment, element, NumberedForest}
-use Rattle.htmd_tree.specs.NumberedTrees.{none, more, with_children, forest_from, forest_of, tree_of, height, tallest}
-use Rattle.htmd_tree.specs.NumberedTrees.{value_tree, value_forest}
-use Rattle.htmd_tree.specs.Ancestors.{Ancestor, ancestor_of, ancestors_up, ancestors_of}
-use Rattle.htmd_tree.proofs.NumberedTreesLemmas.{tree-open}
+use Rattle.htmd_nodes.specs.ValueTrees as value
+use Rattle.htmd_nodes.specs.Items.{Data, document_node, doctype_node, text_node, comment_node, element_node, Item}
+use Rattle.htmd_nodes.specs.Items.{IsTree, data_at, children_of}
+use Rattle.htmd_nodes.specs.NumberedTrees.{NumberedTree, document, doctype, text, comment, element, NumberedForest}
+use Rattle.htmd_nodes.specs.NumberedTrees.{none, more, with_children, forest_from, forest_of, tree_of, height, tallest}
+use Rattle.htmd_nodes.specs.NumberedTrees.{value_tree, value_forest}
+use Rattle.htmd_nodes.specs.Ancestors.{Ancestor, ancestor_of, ancestors_up, ancestors_of}
+use Rattle.htmd_nodes.proofs.NumberedTreesLemmas.{tree-open}
 use Rattle.htmd_walk.specs.declared.options.Options.{Options}
 use Rattle.htmd_walk.specs.Handling.{HandlerMeaning, PlanView, raw_html, content_of_children}
 use Rattle.htmd_walk.specs.Choice.{indexes, handlers_at}

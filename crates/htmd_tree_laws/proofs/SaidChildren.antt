@@ -8,9 +8,9 @@ use Rattle.std.proofs.lemmas.List.{append-nil}
 use Rattle.htmd_text.specs.Trims.{is_space}
 use Rattle.htmd_markdown.specs.GuardedText.{begins_line, guarded_text}
 use Rattle.htmd_text.specs.SqueezedTexts.{squeezed_text}
-use Rattle.htmd_tree.specs.NumberedTrees.{NumberedTree, NumberedForest, none}
-use Rattle.htmd_tree.specs.NumberedTrees.{more}
-use Rattle.htmd_tree.specs.Ancestors.{Ancestor}
+use Rattle.htmd_nodes.specs.NumberedTrees.{NumberedTree, NumberedForest, none}
+use Rattle.htmd_nodes.specs.NumberedTrees.{more}
+use Rattle.htmd_nodes.specs.Ancestors.{Ancestor}
 use Rattle.htmd_walk.specs.OrdinaryText.{in_pre_or_code, parent_is_pre, without_first_space}
 use Rattle.htmd_walk.specs.Seams.{ends_with_space}
 use Rattle.htmd_walk.specs.Outputs.{Output, Context, context_of}

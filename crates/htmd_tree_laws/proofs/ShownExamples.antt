@@ -5,11 +5,11 @@ use Rattle.std.specs.Prelude.{◌||◌, not}
 use Rattle.std.specs.Str.{chars}
 use Rattle.std.proofs.lemmas.Bool.{or_parts, not-true}
 use Rattle.std.proofs.lemmas.List.{append-nil}
-use Rattle.htmd_tree.specs.ValueTrees.{ValueTree}
-use Rattle.htmd_tree.specs.Items.{Item}
-use Rattle.htmd_tree.specs.NumberedTrees.{NumberedTree, NumberedForest, none, more, tree_of, forest_from}
-use Rattle.htmd_tree.specs.Ancestors.{ancestors_of, ancestors_up}
-use Rattle.htmd_tree.specs.Layout.{document_items}
+use Rattle.htmd_nodes.specs.ValueTrees.{ValueTree}
+use Rattle.htmd_nodes.specs.Items.{Item}
+use Rattle.htmd_nodes.specs.NumberedTrees.{NumberedTree, NumberedForest, none, more, tree_of, forest_from}
+use Rattle.htmd_nodes.specs.Ancestors.{ancestors_of, ancestors_up}
+use Rattle.htmd_nodes.specs.Layout.{document_items}
 use Rattle.htmd_walk.specs.declared.options.Options.{Options}
 use Rattle.htmd_walk.specs.Defaults.{default_options}
 use Rattle.htmd_walk.proofs.GuardedExamples.{guarded}

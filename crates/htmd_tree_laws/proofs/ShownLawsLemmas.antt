@@ -6,11 +6,11 @@ use Rattle.std.proofs.lemmas.Bool.{cond_both, true≢false, cases_Bool}
 use Rattle.std.proofs.lemmas.List.{append-nil}
 use Rattle.htmd_text.specs.Trims.{trimmed_end, is_line_feed}
 use Rattle.htmd_grammar.specs.WhiteSpace.{is_document_white_space}
-use Rattle.htmd_tree.specs.Items.{Item, data_at, children_of, IsTree, HoldsText, HoldTexts}
-use Rattle.htmd_tree.specs.NumberedTrees.{NumberedTree, document, doctype, text, comment, element, NumberedForest}
-use Rattle.htmd_tree.specs.NumberedTrees.{forest_of, tree_of, height, tallest}
-use Rattle.htmd_tree.specs.Ancestors.{Ancestor, ancestors_of}
-use Rattle.htmd_tree.proofs.NumberedTreesLemmas.{height_pos}
+use Rattle.htmd_nodes.specs.Items.{Item, data_at, children_of, IsTree, HoldsText, HoldTexts}
+use Rattle.htmd_nodes.specs.NumberedTrees.{NumberedTree, document, doctype, text, comment, element, NumberedForest}
+use Rattle.htmd_nodes.specs.NumberedTrees.{forest_of, tree_of, height, tallest}
+use Rattle.htmd_nodes.specs.Ancestors.{Ancestor, ancestors_of}
+use Rattle.htmd_nodes.proofs.NumberedTreesLemmas.{height_pos}
 use Rattle.htmd_walk.specs.declared.options.Options.{Options}
 use Rattle.htmd_walk.specs.BuiltIn.{built_in}
 use Rattle.htmd_walk.specs.Children.{write_groups, content_alone, descendant_tree, trims_first}
@@ -33,7 +33,7 @@ use Rattle.htmd_tree_laws.proofs.LettersOfHandlers.{SaysResult}
 use Rattle.htmd_tree_laws.proofs.ElementsByTag.{EachSays}
 use Rattle.htmd_tree_laws.proofs.FittingTrees as fitting
 use Rattle.htmd_tree_laws.proofs.KeptLawsLemmas.{content_is_kept}
-use Rattle.htmd_tree.specs.ValueTrees.{AttributePair}
+use Rattle.htmd_nodes.specs.ValueTrees.{AttributePair}
 use Rattle.htmd_walk.specs.Children.{content_inside}
 use Rattle.htmd_tree_laws.specs.Shown.{is_empty_element, is_one_text}
 use Rattle.htmd_tree_laws.proofs.ShownTrees.{shown_inside, in_tree}

@@ -9,9 +9,9 @@ use Rattle.std.proofs.Math.Bool.{and_comm}
 use Rattle.std.proofs.lemmas.Bool.{cond_both, cond-false, or_from, and_left}
 use Rattle.std.proofs.lemmas.List.{append-nil}
 use Rattle.std.proofs.lemmas.Slice.Eq.{bytes_eq-Decides}
-use Rattle.htmd_tree.specs.Items.{Item, data_at, children_of}
-use Rattle.htmd_tree.specs.NumberedTrees.{NumberedForest}
-use Rattle.htmd_tree.specs.Ancestors.{Ancestor, ancestor_of}
+use Rattle.htmd_nodes.specs.Items.{Item, data_at, children_of}
+use Rattle.htmd_nodes.specs.NumberedTrees.{NumberedForest}
+use Rattle.htmd_nodes.specs.Ancestors.{Ancestor, ancestor_of}
 use Rattle.htmd_markdown.specs.Addresses.{escaped_address}
 use Rattle.htmd_markdown.specs.LineBreaks.{line_break}
 use Rattle.htmd_markdown.specs.Links.{inline_link, autolink, resource}

@@ -12,12 +12,12 @@ use Rattle.std.proofs.lemmas.Str.{chars-IsAscii}
 use Rattle.htmd_grammar.specs.WhiteSpace.{is_document_white_space}
 use Rattle.htmd_grammar.specs.Characters.{line_feed}
 use Rattle.htmd_markdown.specs.Titles.{is_filled}
-use Rattle.htmd_tree.specs.ValueTrees.{AttributePair}
-use Rattle.htmd_tree.specs.Items.{Data, document_node, doctype_node, text_node, comment_node, element_node, Item}
-use Rattle.htmd_tree.specs.Items.{data_at, children_of, IsTree, tag_of}
-use Rattle.htmd_tree.specs.NumberedTrees.{NumberedTree, document, doctype, text, comment, element, NumberedForest, none}
-use Rattle.htmd_tree.specs.NumberedTrees.{more, with_children, forest_of, tree_of}
-use Rattle.htmd_tree.proofs.NumberedTreesLemmas.{tree-open, lower_child}
+use Rattle.htmd_nodes.specs.ValueTrees.{AttributePair}
+use Rattle.htmd_nodes.specs.Items.{Data, document_node, doctype_node, text_node, comment_node, element_node, Item}
+use Rattle.htmd_nodes.specs.Items.{data_at, children_of, IsTree, tag_of}
+use Rattle.htmd_nodes.specs.NumberedTrees.{NumberedTree, document, doctype, text, comment, element, NumberedForest, none}
+use Rattle.htmd_nodes.specs.NumberedTrees.{more, with_children, forest_of, tree_of}
+use Rattle.htmd_nodes.proofs.NumberedTreesLemmas.{tree-open, lower_child}
 use Rattle.htmd_walk.specs.declared.options.Options.{Options}
 use Rattle.htmd_walk.specs.AllText.{all_text, all_text_among}
 use Rattle.htmd_walk.specs.BuiltIn.{built_in}

@@ -7,13 +7,13 @@ use Rattle.std.proofs.lemmas.Bool.{cond_both, or_cases, and_parts, true≢false,
 use Rattle.std.proofs.lemmas.List.{append-nil}
 use Rattle.std.proofs.lemmas.Slice.Eq.{bytes_eq-Decides}
 use Rattle.htmd_text.specs.Blocks.{is_block}
-use Rattle.htmd_tree.specs.ValueTrees.{AttributePair}
-use Rattle.htmd_tree.specs.Items.{Data, document_node, doctype_node, text_node, comment_node, element_node, Item}
-use Rattle.htmd_tree.specs.Items.{data_at, children_of, HoldsText, IsTree}
-use Rattle.htmd_tree.specs.NumberedTrees.{NumberedTree, document, doctype, text, comment, element, NumberedForest, none}
-use Rattle.htmd_tree.specs.NumberedTrees.{more, with_children, forest_of, tree_of, height, tallest}
-use Rattle.htmd_tree.specs.Ancestors.{ancestor_of}
-use Rattle.htmd_tree.proofs.NumberedTreesLemmas.{tree-open, height_pos, lower_child, IsLower}
+use Rattle.htmd_nodes.specs.ValueTrees.{AttributePair}
+use Rattle.htmd_nodes.specs.Items.{Data, document_node, doctype_node, text_node, comment_node, element_node, Item}
+use Rattle.htmd_nodes.specs.Items.{data_at, children_of, HoldsText, IsTree}
+use Rattle.htmd_nodes.specs.NumberedTrees.{NumberedTree, document, doctype, text, comment, element, NumberedForest, none}
+use Rattle.htmd_nodes.specs.NumberedTrees.{more, with_children, forest_of, tree_of, height, tallest}
+use Rattle.htmd_nodes.specs.Ancestors.{ancestor_of}
+use Rattle.htmd_nodes.proofs.NumberedTreesLemmas.{tree-open, height_pos, lower_child, IsLower}
 use Rattle.htmd_walk.specs.declared.options.Options.{Options}
 use Rattle.htmd_walk.specs.BuiltIn.{built_in}
 use Rattle.htmd_walk.specs.Elements.{view_at}

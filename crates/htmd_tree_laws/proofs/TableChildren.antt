@@ -7,8 +7,8 @@ use Rattle.std.specs.Str.{bytes_eq}
 use Rattle.std.proofs.lemmas.Bool.{cond_both, or_cases, false≢true}
 use Rattle.std.proofs.lemmas.Slice.Eq.{bytes_eq-Decides}
 use Rattle.htmd_markdown.specs.Titles.{is_filled}
-use Rattle.htmd_tree.specs.Items.{Item, data_at, children_of, tag_of}
-use Rattle.htmd_tree.specs.NumberedTrees.{tree_of}
+use Rattle.htmd_nodes.specs.Items.{Item, data_at, children_of, tag_of}
+use Rattle.htmd_nodes.specs.NumberedTrees.{tree_of}
 use Rattle.htmd_walk.specs.CaptionsAndCells.{cells_below, caption_itself}
 use Rattle.htmd_walk.specs.ElementPlans.{is_tag_among}
 use Rattle.htmd_walk.specs.GuardedTableLayouts.{is_seen, row_shows_more, section_shows_more, child_shows_more, child_at}

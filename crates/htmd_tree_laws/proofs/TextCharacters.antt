@@ -12,12 +12,12 @@ use Rattle.htmd_grammar.specs.Characters.{line_feed}
 use Rattle.htmd_text.specs.Trims.{trimmed_text, is_line_feed}
 use Rattle.htmd_grammar.specs.WhiteSpace.{is_document_white_space}
 use Rattle.htmd_text.specs.SqueezedTexts.{squeezed_text}
-use Rattle.htmd_tree.specs.ValueTrees.{AttributePair}
-use Rattle.htmd_tree.specs.Items.{Data, document_node, doctype_node, text_node, comment_node, element_node, Item}
-use Rattle.htmd_tree.specs.Items.{data_at}
-use Rattle.htmd_tree.specs.NumberedTrees.{NumberedTree, document, doctype, text, comment, element, NumberedForest, none}
-use Rattle.htmd_tree.specs.NumberedTrees.{more, with_children, forest_from, tree_of, height, tallest, value_tree}
-use Rattle.htmd_tree.specs.Ancestors.{Ancestor, ancestors_of}
+use Rattle.htmd_nodes.specs.ValueTrees.{AttributePair}
+use Rattle.htmd_nodes.specs.Items.{Data, document_node, doctype_node, text_node, comment_node, element_node, Item}
+use Rattle.htmd_nodes.specs.Items.{data_at}
+use Rattle.htmd_nodes.specs.NumberedTrees.{NumberedTree, document, doctype, text, comment, element, NumberedForest, none}
+use Rattle.htmd_nodes.specs.NumberedTrees.{more, with_children, forest_from, tree_of, height, tallest, value_tree}
+use Rattle.htmd_nodes.specs.Ancestors.{Ancestor, ancestors_of}
 use Rattle.htmd_markdown.specs.GuardedText as reader
 use Rattle.htmd_markdown.proofs.GuardedReadingLemmas.{guarded-is_guarded}
 use Rattle.htmd_walk.specs.declared.options.Options.{Options}

@@ -12,10 +12,10 @@ use Rattle.std.proofs.lemmas.Slice.Eq.{bytes_eq-Decides}
 use Rattle.htmd_grammar.specs.BlankLines.{with_blank_lines}
 use Rattle.htmd_text.specs.Blocks.{is_block}
 use Rattle.htmd_text.specs.Trims.{trimmed_text, is_line_feed}
-use Rattle.htmd_tree.specs.ValueTrees.{AttributePair}
-use Rattle.htmd_tree.specs.Items.{Item, data_at, element_node}
-use Rattle.htmd_tree.specs.NumberedTrees.{NumberedForest}
-use Rattle.htmd_tree.specs.Ancestors.{Ancestor, ancestor_of}
+use Rattle.htmd_nodes.specs.ValueTrees.{AttributePair}
+use Rattle.htmd_nodes.specs.Items.{Item, data_at, element_node}
+use Rattle.htmd_nodes.specs.NumberedTrees.{NumberedForest}
+use Rattle.htmd_nodes.specs.Ancestors.{Ancestor, ancestor_of}
 use Rattle.htmd_walk.specs.declared.options.Options.{Options}
 use Rattle.htmd_walk.specs.declared.options.TranslationMode.{TranslationMode}
 use Rattle.htmd_walk.specs.declared.options.TranslationMode.TheVariants.{Pure, Faithful, Guarded}

@@ -3,9 +3,9 @@ use Rattle.std.proofs.Common.{◌≡◌, ℕ, List, [], ◌∷◌, ◌++◌, tru
 use Rattle.std.specs.Str.{chars}
 use Rattle.htmd_text.specs.Blocks.{is_block}
 use Rattle.htmd_grammar.specs.Characters.{line_feed}
-use Rattle.htmd_tree.specs.Items.{Item, document_item, new_item, element_node, text_node}
-use Rattle.htmd_tree.specs.NumberedTrees.{tree_of, forest_from, value_tree}
-use Rattle.htmd_tree.specs.Ancestors.{ancestors_of, ancestors_up}
+use Rattle.htmd_nodes.specs.Items.{Item, document_item, new_item, element_node, text_node}
+use Rattle.htmd_nodes.specs.NumberedTrees.{tree_of, forest_from, value_tree}
+use Rattle.htmd_nodes.specs.Ancestors.{ancestors_of, ancestors_up}
 use Rattle.htmd_walk.specs.BuiltIn.{built_in}
 use Rattle.htmd_walk.specs.Rendering.{written_within}
 use Rattle.htmd_walk.specs.Markdown.{markdown}

@@ -7,7 +7,7 @@ use Rattle.htmd_grammar.specs.Characters.{line_feed}
 use Rattle.htmd_text.specs.Trims.{trimmed_text, is_space, is_line_feed}
 use Rattle.htmd_grammar.specs.WhiteSpace.{is_document_white_space}
 use Rattle.htmd_text.specs.SqueezedTexts.{squeezed_text}
-use Rattle.htmd_tree.specs.Items.{Item, HoldTexts, HoldsText, data_at, text_node}
+use Rattle.htmd_nodes.specs.Items.{Item, HoldTexts, HoldsText, data_at, text_node}
 use Rattle.htmd_markdown.specs.GuardedText as reader
 use Rattle.htmd_markdown.proofs.GuardedReadingLemmas.{guarded-is_guarded}
 use Rattle.htmd_walk.specs.OrdinaryText.{without_first_space}

@@ -4,12 +4,12 @@ use Rattle.std.proofs.Common.{Option, Some, None}
 use Rattle.std.proofs.Common.{ap, ◌∙◌, arith}
 use Rattle.std.specs.Prelude.{◌||◌}
 use Rattle.std.proofs.lemmas.Bool.{and_parts, cond_both, false≢true}
-use Rattle.htmd_tree.specs.ValueTrees.{AttributePair}
-use Rattle.htmd_tree.specs.Items.{Data, document_node, doctype_node, text_node, comment_node, element_node, Item}
-use Rattle.htmd_tree.specs.Items.{item_at, data_at, is_child}
-use Rattle.htmd_tree.specs.NumberedTrees.{NumberedTree, document, doctype, text, comment, element, NumberedForest}
-use Rattle.htmd_tree.specs.NumberedTrees.{none, more, with_children, forest_from, height, tallest}
-use Rattle.htmd_tree.specs.NumberedTrees.{value_tree, value_forest}
+use Rattle.htmd_nodes.specs.ValueTrees.{AttributePair}
+use Rattle.htmd_nodes.specs.Items.{Data, document_node, doctype_node, text_node, comment_node, element_node, Item}
+use Rattle.htmd_nodes.specs.Items.{item_at, data_at, is_child}
+use Rattle.htmd_nodes.specs.NumberedTrees.{NumberedTree, document, doctype, text, comment, element, NumberedForest}
+use Rattle.htmd_nodes.specs.NumberedTrees.{none, more, with_children, forest_from, height, tallest}
+use Rattle.htmd_nodes.specs.NumberedTrees.{value_tree, value_forest}
 use Rattle.htmd_walk.specs.Choice.{Config}
 use Rattle.htmd_walk.specs.Groups.{only_text, with_only_text, with_text, text_of, joint_text, joint_with, is_joinable}
 use Rattle.htmd_walk.specs.Groups.{in_front, groups_of}

@@ -20,11 +20,11 @@ use Rattle.htmd_grammar.specs.Comments.{behind_doctype, white_space_and_name, do
 use Rattle.htmd_grammar.specs.Documents.{byte_order_mark, behind_mark, below_body, body_text, behind_prelude, skeleton}
 use Rattle.htmd_grammar.specs.Documents.{with_doctype, ReadsDocument}
 use Rattle.htmd_grammar.proofs.BooleanLemmas.{and_false}
-use Rattle.htmd_tree.specs.Items.{IsTree, HoldTexts}
-use Rattle.htmd_tree.specs.Layout.{document_items}
-use Rattle.htmd_reader.specs.Bodies.{behind_start_tag, first_of, behind_first_start_tag, begins_end_tag, holds_end_tag}
-use Rattle.htmd_reader.specs.Bodies.{before_last_end_tag, part_behind, body_part, is_body_name}
-use Rattle.htmd_reader.proofs.BodyLawsLemmas.{start_tags_are_forms}
+use Rattle.htmd_nodes.specs.Items.{IsTree, HoldTexts}
+use Rattle.htmd_nodes.specs.Layout.{document_items}
+use Rattle.htmd_tree.specs.Bodies.{behind_start_tag, first_of, behind_first_start_tag, begins_end_tag, holds_end_tag}
+use Rattle.htmd_tree.specs.Bodies.{before_last_end_tag, part_behind, body_part, is_body_name}
+use Rattle.htmd_tree.proofs.BodyLawsLemmas.{start_tags_are_forms}
 use Rattle.htmd_tree_laws.proofs.Utf8Cuts.{behind, AsciiFront, behind_front, EndsTag, BeginsTag, parts}
 use Rattle.htmd_tree_laws.proofs.DecodedTexts.{project_scalar}
 use Rattle.htmd_tree_laws.proofs.TextsRead.{white_low, ends_behind, rest_ends, AllTextsAreUtf8, forest_utf8}

@@ -3,9 +3,9 @@
 use Rattle.std.proofs.Common.{◌≡◌, ℕ, Bool, true, false, cond, List, [], ◌∷◌, refl, sym, ap, ◌∙◌, subst}
 use Rattle.std.proofs.Common.{Option}
 use Rattle.std.proofs.lemmas.Bool.{cond_both, cond-true, true≢false}
-use Rattle.htmd_tree.specs.Items.{Item, children_of}
-use Rattle.htmd_tree.specs.NumberedTrees.{NumberedTree, NumberedForest}
-use Rattle.htmd_tree.specs.Ancestors.{Ancestor}
+use Rattle.htmd_nodes.specs.Items.{Item, children_of}
+use Rattle.htmd_nodes.specs.NumberedTrees.{NumberedTree, NumberedForest}
+use Rattle.htmd_nodes.specs.Ancestors.{Ancestor}
 use Rattle.htmd_walk.proofs.TableOrdersLemmas.{lines_in_order}
 use Rattle.htmd_walk.specs.declared.options.Options.{Options}
 use Rattle.htmd_walk.specs.BuiltIn.{built_in}

@@ -2,7 +2,7 @@
 use Rattle.std.specs.Prelude.{◌≡◌, ℕ, List, [], ◌∷◌, length}
 use Rattle.std.specs.List.{prefix_len, suffix_len}
 use Rattle.htmd_text.specs.Trims.{is_line_feed}
-use Rattle.htmd_tree.specs.Items.{Item}
+use Rattle.htmd_nodes.specs.Items.{Item}
 use Rattle.htmd_walk.specs.Handling.{HandlerMeaning}
 use Rattle.htmd_walk.specs.Choice.{Config, indexes, with_handler}
 use Rattle.htmd_walk.specs.Markdown.{walked_content}

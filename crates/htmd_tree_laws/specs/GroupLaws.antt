@@ -1,7 +1,7 @@
 -- The law of the cut into groups.
 use Rattle.std.specs.Prelude.{◌≡◌, true, false, List, [], ◌∷◌, ◌++◌}
 use Rattle.std.specs.List.{flat_map}
-use Rattle.htmd_tree.specs.NumberedTrees.{NumberedTree, NumberedForest, none, more}
+use Rattle.htmd_nodes.specs.NumberedTrees.{NumberedTree, NumberedForest, none, more}
 use Rattle.htmd_walk.specs.Groups.{is_joinable, text_of, with_text, groups_of}
 
 abbrev pub trees_in : NumberedForest → List NumberedTree

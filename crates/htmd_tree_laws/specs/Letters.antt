@@ -3,9 +3,9 @@ use Rattle.std.specs.Prelude.{◌≡◌, ℕ, zero, suc, Bool, true, false, not,
 use Rattle.std.specs.Prelude.{filter, Option, Some, None, codes}
 use Rattle.std.specs.Char.{is_whitespace, is_ascii_punctuation, is_ascii_digit}
 use Rattle.std.specs.Str.{chars, bytes_eq}
-use Rattle.htmd_tree.specs.Items.{Item, children_of, HoldTexts}
-use Rattle.htmd_tree.specs.NumberedTrees.{NumberedTree, document, doctype, text, comment, element}
-use Rattle.htmd_tree.specs.NumberedTrees.{NumberedForest, none, more, tree_of, height}
+use Rattle.htmd_nodes.specs.Items.{Item, children_of, HoldTexts}
+use Rattle.htmd_nodes.specs.NumberedTrees.{NumberedTree, document, doctype, text, comment, element}
+use Rattle.htmd_nodes.specs.NumberedTrees.{NumberedForest, none, more, tree_of, height}
 use Rattle.htmd_walk.specs.declared.options.LinkStyle.{LinkStyle}
 use Rattle.htmd_walk.specs.declared.options.LinkStyle.TheVariants.{Inlined, InlinedPreferAutolinks, Referenced}
 use Rattle.htmd_walk.specs.declared.options.Options.{Options}

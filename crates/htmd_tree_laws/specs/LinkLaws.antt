@@ -8,7 +8,7 @@ use Rattle.htmd_markdown.specs.Links.{definition_start, definition}
 use Rattle.htmd_markdown.specs.GuardedLinks.{guarded_reference, guarded_definition}
 use Rattle.htmd_markdown.specs.Titles.{title_text}
 use Rattle.htmd_markdown.specs.declared.link.LinkReferenceStyle.TheVariants.{Full}
-use Rattle.htmd_tree.specs.Items.{Item}
+use Rattle.htmd_nodes.specs.Items.{Item}
 use Rattle.htmd_walk.specs.declared.options.LinkStyle.{LinkStyle}
 use Rattle.htmd_walk.specs.declared.options.LinkStyle.TheVariants.{Inlined, InlinedPreferAutolinks, Referenced}
 use Rattle.htmd_walk.specs.declared.options.Options.{Options}

@@ -3,7 +3,7 @@ use Rattle.std.specs.Prelude.{◌≡◌, ℕ, Bool, true, false, List, [], ◌�
 use Rattle.std.specs.List.{filter}
 use Rattle.htmd_markdown.specs.Lists.{Block, item, item_count, highest_number, guarded_first_number}
 use Rattle.htmd_markdown.specs.ListColumns.{HasEqualColumns, HasGuardedColumns}
-use Rattle.htmd_tree.specs.Items.{Item, data_at, children_of, tag_of}
+use Rattle.htmd_nodes.specs.Items.{Item, data_at, children_of, tag_of}
 use Rattle.htmd_walk.specs.Handling.{ElementView, ResultView}
 use Rattle.htmd_walk.specs.Outputs.{is_guarded}
 use Rattle.htmd_walk.specs.ElementPlans.{is_tag_among}

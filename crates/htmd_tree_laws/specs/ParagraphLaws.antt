@@ -7,9 +7,9 @@ use Rattle.htmd_grammar.specs.Characters.{line_feed}
 use Rattle.htmd_text.specs.Trims.{trimmed_start, trimmed_end, is_space}
 use Rattle.htmd_text.specs.Unescape.{unescape}
 use Rattle.htmd_text.specs.SqueezedTexts.{squeezed_text}
-use Rattle.htmd_tree.specs.ValueTrees.{ValueTree, document, text, element, ValueForest, none, more}
-use Rattle.htmd_tree.specs.Items.{Item, IsTree}
-use Rattle.htmd_tree.specs.NumberedTrees.{tree_of, value_tree}
+use Rattle.htmd_nodes.specs.ValueTrees.{ValueTree, document, text, element, ValueForest, none, more}
+use Rattle.htmd_nodes.specs.Items.{Item, IsTree}
+use Rattle.htmd_nodes.specs.NumberedTrees.{tree_of, value_tree}
 use Rattle.htmd_walk.specs.declared.options.Options.{Options}
 use Rattle.htmd_walk.specs.BuiltIn.{built_in}
 use Rattle.htmd_walk.specs.Markdown.{markdown}

@@ -4,10 +4,10 @@ use Rattle.std.specs.Prelude.{filter, codes, length, Option, Some, None}
 use Rattle.std.specs.Char.{is_whitespace}
 use Rattle.std.specs.Option.{is_some}
 use Rattle.std.specs.Str.{chars, bytes_eq}
-use Rattle.htmd_tree.specs.ValueTrees.{AttributePair}
-use Rattle.htmd_tree.specs.Items.{Item, IsTree, HoldTexts}
-use Rattle.htmd_tree.specs.NumberedTrees.{NumberedTree, document, doctype, text, comment, element}
-use Rattle.htmd_tree.specs.NumberedTrees.{NumberedForest, none, more, tree_of}
+use Rattle.htmd_nodes.specs.ValueTrees.{AttributePair}
+use Rattle.htmd_nodes.specs.Items.{Item, IsTree, HoldTexts}
+use Rattle.htmd_nodes.specs.NumberedTrees.{NumberedTree, document, doctype, text, comment, element}
+use Rattle.htmd_nodes.specs.NumberedTrees.{NumberedForest, none, more, tree_of}
 use Rattle.htmd_walk.specs.declared.options.Options.{Options}
 use Rattle.htmd_walk.specs.Handling.{ElementView}
 use Rattle.htmd_walk.specs.Anchors.{anchor_address, is_autolinked}

@@ -7,11 +7,11 @@ use Rattle.std.specs.Str.{bytes_eq}
 use Rattle.htmd_text.specs.Blocks.{is_block}
 use Rattle.htmd_grammar.specs.Characters.{line_feed}
 use Rattle.htmd_text.specs.Trims.{is_line_feed}
-use Rattle.htmd_tree.specs.ValueTrees.{AttributePair, ValueTree, document, doctype, text, comment, element}
-use Rattle.htmd_tree.specs.ValueTrees.{ValueForest, none, more}
-use Rattle.htmd_tree.specs.Items.{Item, HoldTexts}
-use Rattle.htmd_tree.specs.NumberedTrees.{NumberedTree, NumberedForest, tree_of, value_tree}
-use Rattle.htmd_tree.specs.NumberedTrees as numbered
+use Rattle.htmd_nodes.specs.ValueTrees.{AttributePair, ValueTree, document, doctype, text, comment, element}
+use Rattle.htmd_nodes.specs.ValueTrees.{ValueForest, none, more}
+use Rattle.htmd_nodes.specs.Items.{Item, HoldTexts}
+use Rattle.htmd_nodes.specs.NumberedTrees.{NumberedTree, NumberedForest, tree_of, value_tree}
+use Rattle.htmd_nodes.specs.NumberedTrees as numbered
 use Rattle.htmd_markdown.specs.GuardedText as reader
 use Rattle.htmd_walk.specs.declared.options.Options.{Options}
 use Rattle.htmd_walk.specs.Choice.{Config, indexes}

@@ -4,11 +4,11 @@ use Rattle.std.proofs.Common.{true, false, cond, codes, Some}
 use Rattle.std.proofs.lemmas.List.{drop_more, append_assoc}
 use Rattle.std.specs.Str.{bytes_eq}
 use Rattle.htmd_grammar.specs.Characters.{line_feed}
-use Rattle.htmd_tree.specs.ValueTrees.{AttributePair}
-use Rattle.htmd_tree.specs.Items.{Item, IsTree, data_at, document_node, doctype_node, text_node, comment_node}
-use Rattle.htmd_tree.specs.Items.{element_node}
-use Rattle.htmd_tree.specs.NumberedTrees.{with_children, tree_of, forest_of}
-use Rattle.htmd_tree.proofs.NumberedTreesLemmas.{tree-open}
+use Rattle.htmd_nodes.specs.ValueTrees.{AttributePair}
+use Rattle.htmd_nodes.specs.Items.{Item, IsTree, data_at, document_node, doctype_node, text_node, comment_node}
+use Rattle.htmd_nodes.specs.Items.{element_node}
+use Rattle.htmd_nodes.specs.NumberedTrees.{with_children, tree_of, forest_of}
+use Rattle.htmd_nodes.proofs.NumberedTreesLemmas.{tree-open}
 use Rattle.htmd_walk.specs.AllText.{all_text, all_text_among}
 use Rattle.htmd_walk.specs.Groups.{children_at}
 use Rattle.htmd_walk.specs.ElementPlans.{is_tag_among}

@@ -12,8 +12,8 @@ use Rattle.std.proofs.lemmas.List.Folds.{list_any_at, list_any-append}
 use Rattle.std.proofs.lemmas.List.Elements.{All-from_get_or, Contains-get_or, filter_more, filter-append}
 use Rattle.htmd_grammar.specs.declared.attribute.Attribute.{Attribute}
 use Rattle.htmd_grammar.specs.Attributes.{pairs_of}
-use Rattle.htmd_tree.specs.Items.{Item, children_of, IsTree, IsBelow, child}
-use Rattle.htmd_tree.proofs.ItemsLemmas.{child_read}
+use Rattle.htmd_nodes.specs.Items.{Item, children_of, IsTree, IsBelow, child}
+use Rattle.htmd_nodes.proofs.ItemsLemmas.{child_read}
 use Rattle.std.proofs.lemmas.List.Elements.{All-get_or}
 use Rattle.std.proofs.lemmas.Slice.Zip.{length-zip, get_or-zip}
 use Rattle.htmd_walk.specs.declared.element_handler.HandlerResult.{HandlerResult}

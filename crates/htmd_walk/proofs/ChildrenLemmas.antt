@@ -4,18 +4,18 @@ use Rattle.std.proofs.Common.{refl, sym, ap, ◌∙◌}
 use Rattle.std.proofs.Common.{Bool, false, eqb, arith, All, subst, IsSome, IfSome}
 use Rattle.std.specs.Borrow.{Bor}
 use Rattle.std.specs.Option.{option_copied}
-use Rattle.htmd_tree.specs.Items.{Data, document_node, doctype_node, text_node, comment_node, element_node, data_at}
-use Rattle.htmd_tree.specs.NumberedTrees.{with_children}
-use Rattle.htmd_tree.proofs.NumberedTreesLemmas.{tree-open}
+use Rattle.htmd_nodes.specs.Items.{Data, document_node, doctype_node, text_node, comment_node, element_node, data_at}
+use Rattle.htmd_nodes.specs.NumberedTrees.{with_children}
+use Rattle.htmd_nodes.proofs.NumberedTreesLemmas.{tree-open}
 use Rattle.std.proofs.lemmas.List.{get_or_default}
 use Rattle.std.proofs.lemmas.List.Elements.{All-from_get_or, All-get_or}
-use Rattle.htmd_tree.specs.Items.{Item, IsTree, children_of, parent_at}
-use Rattle.htmd_tree.specs.NumberedTrees.{NumberedTree, NumberedForest, document, doctype, text, comment, element, more}
-use Rattle.htmd_tree.specs.NumberedTrees.{forest_of, tree_of, height}
-use Rattle.htmd_tree.specs.Ancestors.{ancestors_of, chain_from}
-use Rattle.htmd_tree.proofs.NumberedTreesLemmas.{lower_child}
-use Rattle.htmd_tree.proofs.AncestorsLemmas.{ancestors-open}
-use Rattle.htmd_tree.proofs.ItemsLemmas.{child_read}
+use Rattle.htmd_nodes.specs.Items.{Item, IsTree, children_of, parent_at}
+use Rattle.htmd_nodes.specs.NumberedTrees.{NumberedTree, NumberedForest, document, doctype, text, comment, element, more}
+use Rattle.htmd_nodes.specs.NumberedTrees.{forest_of, tree_of, height}
+use Rattle.htmd_nodes.specs.Ancestors.{ancestors_of, chain_from}
+use Rattle.htmd_nodes.proofs.NumberedTreesLemmas.{lower_child}
+use Rattle.htmd_nodes.proofs.AncestorsLemmas.{ancestors-open}
+use Rattle.htmd_nodes.proofs.ItemsLemmas.{child_read}
 use Rattle.htmd_walk.specs.Choice.{Config}
 use Rattle.htmd_walk.specs.OrdinaryText.{in_pre_or_code}
 use Rattle.htmd_walk.specs.Groups.{group_tree, group_text, group_length, groups_of, with_text, only_text, children_at}

@@ -5,7 +5,7 @@ use Rattle.std.specs.List.{list_all}
 use Rattle.std.specs.Option.{option_or}
 use Rattle.std.specs.Str.{bytes_eq}
 use Rattle.htmd_grammar.specs.declared.attribute.Attribute.{Attribute}
-use Rattle.htmd_tree.specs.Items.{Item}
+use Rattle.htmd_nodes.specs.Items.{Item}
 use Rattle.htmd_grammar.specs.Attributes.{pairs_of}
 use Rattle.htmd_walk.proofs.Steps.{stepped}
 use Rattle.htmd_walk.specs.ElementPlans.{is_tag_among, tag_at}

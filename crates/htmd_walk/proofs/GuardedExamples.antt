@@ -1,10 +1,10 @@
 -- Worked examples of Guarded.
 use Rattle.std.proofs.Common.{◌≡◌, ℕ, List, [], ◌∷◌, ◌++◌, true, false, codes, refl}
 use Rattle.htmd_text.specs.Blocks.{is_block}
-use Rattle.htmd_tree.specs.ValueTrees.{AttributePair}
-use Rattle.htmd_tree.specs.Items.{Item, document_item, new_item, element_node, text_node, comment_node}
-use Rattle.htmd_tree.specs.NumberedTrees.{tree_of, forest_from}
-use Rattle.htmd_tree.specs.Ancestors.{ancestors_of, ancestors_up}
+use Rattle.htmd_nodes.specs.ValueTrees.{AttributePair}
+use Rattle.htmd_nodes.specs.Items.{Item, document_item, new_item, element_node, text_node, comment_node}
+use Rattle.htmd_nodes.specs.NumberedTrees.{tree_of, forest_from}
+use Rattle.htmd_nodes.specs.Ancestors.{ancestors_of, ancestors_up}
 use Rattle.htmd_walk.specs.declared.options.Options.{Options}
 use Rattle.htmd_walk.specs.declared.options.TranslationMode.TheVariants.{Guarded}
 use Rattle.htmd_walk.specs.Defaults.{default_options}

@@ -6,8 +6,8 @@ use Rattle.std.proofs.lemmas.Grind.{flat_map-append}
 use Rattle.std.proofs.lemmas.List.{append-nil}
 use Rattle.std.proofs.Props.{props}
 use Rattle.std.proofs.lemmas.List.Elements.{All-append, All-filter, All-weaker}
-use Rattle.htmd_tree.specs.Items.{Item, children_of, IsBelow, IsTree}
-use Rattle.htmd_tree.proofs.NumberedTreesLemmas.{lower_below}
+use Rattle.htmd_nodes.specs.Items.{Item, children_of, IsBelow, IsTree}
+use Rattle.htmd_nodes.proofs.NumberedTreesLemmas.{lower_below}
 use Rattle.htmd_walk.specs.declared.element_handler.table_layout.TableChild.{TableChild}
 use Rattle.htmd_walk.specs.declared.element_handler.table_layout.TableChild.TheVariants.{TableCaption, TableHead}
 use Rattle.htmd_walk.specs.declared.element_handler.table_layout.TableChild.TheVariants.{TableSection, DirectRow, OtherChild}

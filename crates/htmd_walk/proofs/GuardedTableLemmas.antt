@@ -4,7 +4,7 @@ use Rattle.std.proofs.Common.{sym, ap, ◌∙◌, All, subst}
 use Rattle.std.proofs.lemmas.List.{drop_more, drop_all, take_min, drop_min, append-nil}
 use Rattle.std.proofs.lemmas.List.Elements.{All-nil, All-cons, All-head, All-tail}
 use Rattle.std.proofs.lemmas.Grind.{flat_map-append}
-use Rattle.htmd_tree.specs.Items.{Item}
+use Rattle.htmd_nodes.specs.Items.{Item}
 use Rattle.htmd_walk.specs.declared.element_handler.HandlerResult.{HandlerResult}
 use Rattle.htmd_walk.specs.declared.element_handler.guarded_table_layout.TableLine as code
 use Rattle.htmd_walk.specs.Handling.{ResultView}

@@ -2,10 +2,10 @@
 use Rattle.std.proofs.Common.{◌≡◌, ℕ, ◌<◌, List, [], ◌∷◌, length, refl, sym, ap, ◌∙◌, Bool, true, false, ◌||◌}
 use Rattle.std.proofs.Common.{codes}
 use Rattle.std.specs.List.{list_any}
-use Rattle.htmd_tree.specs.Items.{Item, Data, document_node, doctype_node, text_node, comment_node, element_node}
-use Rattle.htmd_tree.specs.Items.{IsTree, data_at, children_of, holds_children, tag_of}
-use Rattle.htmd_tree.specs.NumberedTrees.{NumberedForest, with_children, tree_of, forest_of}
-use Rattle.htmd_tree.proofs.NumberedTreesLemmas.{tree-open}
+use Rattle.htmd_nodes.specs.Items.{Item, Data, document_node, doctype_node, text_node, comment_node, element_node}
+use Rattle.htmd_nodes.specs.Items.{IsTree, data_at, children_of, holds_children, tag_of}
+use Rattle.htmd_nodes.specs.NumberedTrees.{NumberedForest, with_children, tree_of, forest_of}
+use Rattle.htmd_nodes.proofs.NumberedTreesLemmas.{tree-open}
 use Rattle.htmd_walk.specs.Groups.{children_at}
 use Rattle.htmd_walk.specs.ElementPlans.{is_tag_among}
 use Rattle.htmd_walk.specs.TableLayouts.{has_tag}

@@ -1,5 +1,5 @@
 -- The lemmas of the conversion, each module over those before it; and of the items of a tree, for crates above.
-pub use Rattle.htmd_tree.proofs.ItemsLemmas
+pub use Rattle.htmd_nodes.proofs.ItemsLemmas
 pub mod Cuts
 pub mod SeamsLemmas
 pub mod PlainTextsLemmas

@@ -5,7 +5,7 @@ use Rattle.std.proofs.lemmas.List.{take_more, map-append}
 use Rattle.std.specs.List.{list_any}
 use Rattle.std.specs.Option.{option_or}
 use Rattle.std.specs.Str.{bytes_eq}
-use Rattle.htmd_tree.specs.ValueTrees.{AttributePair}
+use Rattle.htmd_nodes.specs.ValueTrees.{AttributePair}
 use Rattle.htmd_grammar.specs.declared.attribute.Attribute.{Attribute}
 use Rattle.htmd_grammar.specs.Attributes.{pair_of, pairs_of}
 use Rattle.htmd_walk.specs.LinkAttributes.{is_among, last_value}

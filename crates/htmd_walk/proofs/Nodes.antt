@@ -4,20 +4,20 @@ use Rattle.std.proofs.Common.{Bool, ◌||◌, not, ◌&&◌, true, false, codes}
 use Rattle.std.specs.Str.{bytes_eq}
 use Rattle.htmd_text.specs.Blocks.{is_block}
 use Rattle.htmd_text.proofs.BlocksLemmas.{block-nil}
-use Rattle.htmd_tree.specs.Items.{Item, Data, document_node, doctype_node, text_node, comment_node, element_node}
-use Rattle.htmd_tree.specs.Items.{IsTree, data_at, parent_at, tag_of}
-use Rattle.htmd_tree.specs.NumberedTrees.{NumberedTree, document, doctype, text, comment, element, NumberedForest, none}
-use Rattle.htmd_tree.specs.NumberedTrees.{more, with_children, forest_of, tree_of}
-use Rattle.htmd_tree.specs.Ancestors.{ancestor_of, ancestors_of, chain_from}
-use Rattle.htmd_tree.specs.Views.{data_of}
+use Rattle.htmd_nodes.specs.Items.{Item, Data, document_node, doctype_node, text_node, comment_node, element_node}
+use Rattle.htmd_nodes.specs.Items.{IsTree, data_at, parent_at, tag_of}
+use Rattle.htmd_nodes.specs.NumberedTrees.{NumberedTree, document, doctype, text, comment, element, NumberedForest, none}
+use Rattle.htmd_nodes.specs.NumberedTrees.{more, with_children, forest_of, tree_of}
+use Rattle.htmd_nodes.specs.Ancestors.{ancestor_of, ancestors_of, chain_from}
+use Rattle.htmd_nodes.specs.Views.{data_of}
 use Rattle.htmd_grammar.specs.declared.attribute.Attribute.{Attribute}
-use Rattle.htmd_tree.specs.declared.tree.NodeData.{NodeData}
-use Rattle.htmd_tree.specs.declared.tree.NodeData.TheVariants.{Document, Doctype, Text, Comment, Element}
+use Rattle.htmd_nodes.specs.declared.tree.NodeData.{NodeData}
+use Rattle.htmd_nodes.specs.declared.tree.NodeData.TheVariants.{Document, Doctype, Text, Comment, Element}
 use Rattle.std.specs.Prelude.{String, Vec}
 use Rattle.std.specs.Global.{Global}
 use Rattle.std.proofs.Math.Bool.{and-false, and-true}
-use Rattle.htmd_tree.proofs.NumberedTreesLemmas.{tree-open}
-use Rattle.htmd_tree.proofs.AncestorsLemmas.{ancestors-open}
+use Rattle.htmd_nodes.proofs.NumberedTreesLemmas.{tree-open}
+use Rattle.htmd_nodes.proofs.AncestorsLemmas.{ancestors-open}
 use Rattle.htmd_walk.specs.OrdinaryText.{is_pre_or_code, in_pre_or_code, parent_is_pre}
 use Rattle.htmd_walk.specs.Groups.{only_text, children_at}
 use Rattle.htmd_walk.specs.Children.{is_block_tree, trims_first}

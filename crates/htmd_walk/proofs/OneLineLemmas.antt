@@ -2,9 +2,9 @@
 use Rattle.std.proofs.Common.{◌≡◌, ℕ, suc, ◌<◌, length, Option, Some, None, refl, sym, ap, ◌∙◌}
 use Rattle.std.proofs.Common.{true, false, ◌||◌, ◌&&◌, arith}
 use Rattle.std.specs.Prelude.{List}
-use Rattle.htmd_tree.specs.Items.{Item, document_node, data_at, parent_at, depth_at, IsTree}
-use Rattle.htmd_tree.specs.Ancestors.{ancestor_of}
-use Rattle.htmd_tree.proofs.AncestorsLemmas.{no_parent}
+use Rattle.htmd_nodes.specs.Items.{Item, document_node, data_at, parent_at, depth_at, IsTree}
+use Rattle.htmd_nodes.specs.Ancestors.{ancestor_of}
+use Rattle.htmd_nodes.proofs.AncestorsLemmas.{no_parent}
 use Rattle.htmd_walk.specs.declared.options.Options.{Options}
 use Rattle.htmd_walk.specs.Outputs.{is_guarded}
 use Rattle.htmd_walk.specs.OneLineElements.{is_in_one_line, parent_in_line, in_line_up, stands_in_line, known_in_line}

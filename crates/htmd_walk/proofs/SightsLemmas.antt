@@ -4,10 +4,10 @@ use Rattle.std.proofs.Common.{Option, Some, None, codes}
 use Rattle.std.specs.Prelude.{if◌then◌else◌}
 use Rattle.std.specs.List.{list_any}
 use Rattle.std.specs.Str.{bytes_eq}
-use Rattle.htmd_tree.specs.Items.{Item, Data, document_node, doctype_node, text_node, comment_node, element_node}
-use Rattle.htmd_tree.specs.Items.{IsTree, data_at, children_of}
-use Rattle.htmd_tree.specs.NumberedTrees.{NumberedForest, with_children, tree_of, forest_of}
-use Rattle.htmd_tree.proofs.NumberedTreesLemmas.{tree-open}
+use Rattle.htmd_nodes.specs.Items.{Item, Data, document_node, doctype_node, text_node, comment_node, element_node}
+use Rattle.htmd_nodes.specs.Items.{IsTree, data_at, children_of}
+use Rattle.htmd_nodes.specs.NumberedTrees.{NumberedForest, with_children, tree_of, forest_of}
+use Rattle.htmd_nodes.proofs.NumberedTreesLemmas.{tree-open}
 use Rattle.htmd_walk.specs.Groups.{children_at}
 use Rattle.htmd_walk.specs.ElementPlans.{is_tag_among}
 use Rattle.htmd_walk.specs.OtherBlocks.{hidden_tags}

@@ -3,12 +3,12 @@ use Rattle.std.proofs.Common.{◌≡◌, ℕ, zero, suc, Bool, true, false, cond
 use Rattle.std.proofs.Common.{refl, sym, ap, ◌∙◌, drop}
 use Rattle.std.proofs.lemmas.List.{append-nil, append_assoc, append_cancel_left}
 use Rattle.htmd_text.specs.Blocks.{is_block}
-use Rattle.htmd_tree.specs.Items.{Data, document_node, doctype_node, text_node, comment_node, element_node, data_at}
-use Rattle.htmd_tree.specs.NumberedTrees.{NumberedTree, document, doctype, text, comment, element, NumberedForest, none}
-use Rattle.htmd_tree.specs.NumberedTrees.{more}
-use Rattle.htmd_tree.specs.Ancestors.{Ancestor}
-use Rattle.htmd_tree.specs.Serialisation.{comment_of, start_tag}
-use Rattle.htmd_tree.specs.ValueTrees.{AttributePair}
+use Rattle.htmd_nodes.specs.Items.{Data, document_node, doctype_node, text_node, comment_node, element_node, data_at}
+use Rattle.htmd_nodes.specs.NumberedTrees.{NumberedTree, document, doctype, text, comment, element, NumberedForest, none}
+use Rattle.htmd_nodes.specs.NumberedTrees.{more}
+use Rattle.htmd_nodes.specs.Ancestors.{Ancestor}
+use Rattle.htmd_nodes.specs.Serialisation.{comment_of, start_tag}
+use Rattle.htmd_nodes.specs.ValueTrees.{AttributePair}
 use Rattle.htmd_walk.proofs.BeginningsLemmas.{IsBeginning}
 use Rattle.htmd_walk.specs.Handling.{ElementView, ResultView, PlanView, nothing, this_result, raw_html, content_of_children}
 use Rattle.htmd_walk.specs.Handling.{content_of_descendant, content_of_fallback, contents_of_each, OutcomeView}

@@ -2,13 +2,13 @@
 use Rattle.std.proofs.Common.{◌≡◌, ℕ, ◌<◌, List, [], ◌∷◌, length, refl, sym, ap, ◌∙◌, arith, Bool, true, false}
 use Rattle.std.proofs.Common.{not, ◌&&◌, ◌||◌, Some, None, codes}
 use Rattle.std.specs.List.{list_any}
-use Rattle.htmd_tree.specs.Items.{Item, Data, document_node, doctype_node, text_node, comment_node, element_node}
-use Rattle.htmd_tree.specs.Items.{IsTree, data_at, parent_at, children_of, holds_children, tag_of}
-use Rattle.htmd_tree.specs.NumberedTrees.{NumberedForest, with_children, tree_of, forest_of}
-use Rattle.htmd_tree.specs.Ancestors.{Ancestor, ancestor_of, ancestors_of, chain_from}
-use Rattle.htmd_tree.proofs.NumberedTreesLemmas.{tree-open}
-use Rattle.htmd_tree.proofs.AncestorsLemmas.{ancestors-open}
-use Rattle.htmd_tree.proofs.ItemsLemmas.{child_read}
+use Rattle.htmd_nodes.specs.Items.{Item, Data, document_node, doctype_node, text_node, comment_node, element_node}
+use Rattle.htmd_nodes.specs.Items.{IsTree, data_at, parent_at, children_of, holds_children, tag_of}
+use Rattle.htmd_nodes.specs.NumberedTrees.{NumberedForest, with_children, tree_of, forest_of}
+use Rattle.htmd_nodes.specs.Ancestors.{Ancestor, ancestor_of, ancestors_of, chain_from}
+use Rattle.htmd_nodes.proofs.NumberedTreesLemmas.{tree-open}
+use Rattle.htmd_nodes.proofs.AncestorsLemmas.{ancestors-open}
+use Rattle.htmd_nodes.proofs.ItemsLemmas.{child_read}
 use Rattle.htmd_walk.specs.Groups.{children_at}
 use Rattle.htmd_walk.specs.ElementPlans.{is_tag_among}
 use Rattle.htmd_walk.specs.TableLayouts.{has_tag}

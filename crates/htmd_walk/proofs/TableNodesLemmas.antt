@@ -6,7 +6,7 @@ use Rattle.std.proofs.Math.Logic.{∥∥₁_elim}
 use Rattle.std.proofs.lemmas.Grind.{flat_map-append}
 use Rattle.std.proofs.lemmas.List.{append-nil}
 use Rattle.std.proofs.lemmas.List.Elements.{All-from_get_or, All-append, All-filter, Contains-get_or}
-use Rattle.htmd_tree.specs.Items.{Item, children_of, data_at, tag_of, IsBelow, deeper}
+use Rattle.htmd_nodes.specs.Items.{Item, children_of, data_at, tag_of, IsBelow, deeper}
 use Rattle.htmd_walk.specs.declared.element_handler.table_layout.PartKind.{PartKind}
 use Rattle.htmd_walk.specs.declared.element_handler.table_layout.PartKind.TheVariants.{Caption, Headers, Row}
 use Rattle.htmd_walk.specs.declared.element_handler.table_layout.TableChild.{TableChild}

@@ -7,7 +7,7 @@ use Rattle.std.specs.List.{flat_map}
 use Rattle.std.proofs.lemmas.Bool.{cond-true, cond-false, cases_Bool, false≢true}
 use Rattle.std.proofs.lemmas.List.{append-nil}
 use Rattle.htmd_markdown.specs.Titles.{is_filled}
-use Rattle.htmd_tree.specs.Items.{Item, children_of}
+use Rattle.htmd_nodes.specs.Items.{Item, children_of}
 use Rattle.htmd_walk.specs.declared.element_handler.table_layout.TableChild.{TableChild}
 use Rattle.htmd_walk.specs.declared.element_handler.table_layout.TableChild.TheVariants.{TableCaption, TableHead}
 use Rattle.htmd_walk.specs.declared.element_handler.table_layout.TableChild.TheVariants.{TableSection, DirectRow, OtherChild}

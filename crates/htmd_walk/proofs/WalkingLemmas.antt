@@ -3,14 +3,14 @@ use Rattle.std.proofs.Common.{◌≡◌, ℕ, zero, suc, ◌+◌, ◌<◌, List,
 use Rattle.std.proofs.Common.{None, refl, sym, ap, ◌∙◌, ◌≤◌, arith, subst, IsSome}
 use Rattle.std.proofs.Common.{Bool, Result, Ok, Err, IfOk}
 use Rattle.std.proofs.lemmas.List.{drop_more, append_assoc}
-use Rattle.htmd_tree.specs.ValueTrees.{AttributePair}
-use Rattle.htmd_tree.specs.Items.{Item, element_node, data_at, IsTree, IsBelow}
-use Rattle.htmd_tree.proofs.NumberedTreesLemmas.{tree-open, height_pos, IsLower}
+use Rattle.htmd_nodes.specs.ValueTrees.{AttributePair}
+use Rattle.htmd_nodes.specs.Items.{Item, element_node, data_at, IsTree, IsBelow}
+use Rattle.htmd_nodes.proofs.NumberedTreesLemmas.{tree-open, height_pos, IsLower}
 use Rattle.htmd_walk.proofs.RenderingLemmas.{proper_lower}
 use Rattle.std.specs.Option.{is_some}
-use Rattle.htmd_tree.specs.NumberedTrees.{NumberedForest, none, more, document, doctype, text, comment, element}
-use Rattle.htmd_tree.specs.NumberedTrees.{with_children, tree_of, height, tallest}
-use Rattle.htmd_tree.specs.Ancestors.{Ancestor}
+use Rattle.htmd_nodes.specs.NumberedTrees.{NumberedForest, none, more, document, doctype, text, comment, element}
+use Rattle.htmd_nodes.specs.NumberedTrees.{with_children, tree_of, height, tallest}
+use Rattle.htmd_nodes.specs.Ancestors.{Ancestor}
 use Rattle.htmd_walk.specs.declared.options.Options.{Options}
 use Rattle.htmd_walk.specs.Handling.{ElementView, ResultView, PlanView, content_of_descendant, IsProper}
 use Rattle.htmd_walk.specs.Groups.{only_text, group_children, children_at}

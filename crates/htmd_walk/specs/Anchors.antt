@@ -10,8 +10,8 @@ use Rattle.htmd_grammar.specs.WhiteSpace.{is_document_white_space}
 use Rattle.htmd_markdown.specs.Links.{inline_link, autolink, reference, definition}
 use Rattle.htmd_markdown.specs.GuardedLinks.{guarded_link, is_autolink_address, guarded_autolink, guarded_reference}
 use Rattle.htmd_markdown.specs.GuardedLinks.{guarded_definition}
-use Rattle.htmd_tree.specs.NumberedTrees.{NumberedTree, document, doctype, text, comment, element}
-use Rattle.htmd_tree.specs.NumberedTrees.{NumberedForest, none, more}
+use Rattle.htmd_nodes.specs.NumberedTrees.{NumberedTree, document, doctype, text, comment, element}
+use Rattle.htmd_nodes.specs.NumberedTrees.{NumberedForest, none, more}
 use Rattle.htmd_walk.specs.declared.options.LinkStyle.{LinkStyle}
 use Rattle.htmd_walk.specs.declared.options.LinkStyle.TheVariants.{Inlined, InlinedPreferAutolinks, Referenced}
 use Rattle.htmd_walk.specs.Handling.{ElementView, ResultView, PlanView, raw_html, content_of_children, Finish}

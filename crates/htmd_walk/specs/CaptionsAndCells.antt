@@ -2,7 +2,7 @@
 use Rattle.std.specs.Prelude.{ℕ, if◌then◌else◌, List, [], ◌∷◌, ◌++◌, codes}
 use Rattle.std.specs.List.{flat_map}
 use Rattle.htmd_markdown.specs.Titles.{is_filled}
-use Rattle.htmd_tree.specs.Items.{Item}
+use Rattle.htmd_nodes.specs.Items.{Item}
 use Rattle.htmd_walk.specs.declared.element_handler.table_layout.TableChild.{TableChild}
 use Rattle.htmd_walk.specs.declared.element_handler.table_layout.TableChild.TheVariants.{TableCaption, TableHead}
 use Rattle.htmd_walk.specs.declared.element_handler.table_layout.TableChild.TheVariants.{TableSection, DirectRow, OtherChild}

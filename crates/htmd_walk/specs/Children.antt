@@ -3,10 +3,10 @@ use Rattle.std.specs.Prelude.{ℕ, Bool, true, false, not, ◌&&◌, if◌then�
 use Rattle.std.specs.Prelude.{Option, Some, None}
 use Rattle.htmd_text.specs.Blocks.{is_block}
 use Rattle.htmd_text.specs.Trims.{trimmed_end, is_space}
-use Rattle.htmd_tree.specs.Items.{Item}
-use Rattle.htmd_tree.specs.NumberedTrees.{NumberedTree, document, doctype, text, comment, element, tree_of}
-use Rattle.htmd_tree.specs.NumberedTrees.{NumberedForest, none, more}
-use Rattle.htmd_tree.specs.Ancestors.{Ancestor, ancestors_of}
+use Rattle.htmd_nodes.specs.Items.{Item}
+use Rattle.htmd_nodes.specs.NumberedTrees.{NumberedTree, document, doctype, text, comment, element, tree_of}
+use Rattle.htmd_nodes.specs.NumberedTrees.{NumberedForest, none, more}
+use Rattle.htmd_nodes.specs.Ancestors.{Ancestor, ancestors_of}
 use Rattle.htmd_walk.specs.OrdinaryText.{in_pre_or_code}
 use Rattle.htmd_walk.specs.Groups.{groups_of}
 use Rattle.htmd_walk.specs.Outputs.{Conversion, Output, replace_text, empty_output, context_of, Writes}

@@ -9,9 +9,9 @@ use Rattle.htmd_markdown.specs.CodeSpans.{code_span}
 use Rattle.htmd_markdown.specs.Fences.{fenced_code_block}
 use Rattle.htmd_markdown.specs.IndentedCode.{indented_code_block}
 use Rattle.htmd_markdown.specs.GuardedCode.{guarded_code}
-use Rattle.htmd_tree.specs.ValueTrees.{AttributePair}
-use Rattle.htmd_tree.specs.Items.{Item, data_at, parent_at, children_of}
-use Rattle.htmd_tree.specs.Ancestors.{ancestor_of}
+use Rattle.htmd_nodes.specs.ValueTrees.{AttributePair}
+use Rattle.htmd_nodes.specs.Items.{Item, data_at, parent_at, children_of}
+use Rattle.htmd_nodes.specs.Ancestors.{ancestor_of}
 use Rattle.htmd_walk.specs.Handling.{ElementView, ResultView, PlanView, raw_html, content_of_children, HandlerMeaning}
 use Rattle.htmd_walk.specs.Handling.{of_plan}
 use Rattle.htmd_walk.specs.Outputs.{is_markdown_alone, is_guarded}

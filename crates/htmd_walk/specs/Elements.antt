@@ -1,11 +1,11 @@
 -- What the handlers of an element's tag make of it.
 use Rattle.std.specs.Prelude.{ℕ, Bool, true, false, if◌then◌else◌, List, [], ◌∷◌, ◌++◌, drop, Option, Some, None}
 use Rattle.htmd_text.specs.Blocks.{is_block}
-use Rattle.htmd_tree.specs.Items.{Data, element_node, data_at}
-use Rattle.htmd_tree.specs.NumberedTrees.{NumberedForest, tree_of, value_tree}
-use Rattle.htmd_tree.specs.Ancestors.{Ancestor}
-use Rattle.htmd_tree.specs.Serialisation.{serialisation, start_tag, end_tag, is_void}
-use Rattle.htmd_tree.specs.RawBlocks.{raw_block}
+use Rattle.htmd_nodes.specs.Items.{Data, element_node, data_at}
+use Rattle.htmd_nodes.specs.NumberedTrees.{NumberedForest, tree_of, value_tree}
+use Rattle.htmd_nodes.specs.Ancestors.{Ancestor}
+use Rattle.htmd_nodes.specs.Serialisation.{serialisation, start_tag, end_tag, is_void}
+use Rattle.htmd_nodes.specs.RawBlocks.{raw_block}
 use Rattle.htmd_walk.specs.Handling.{ElementView, ResultView, PlanView, nothing, this_result, raw_html}
 use Rattle.htmd_walk.specs.Handling.{content_of_children, content_of_descendant, content_of_fallback, contents_of_each}
 use Rattle.htmd_walk.specs.Handling.{OutcomeView, final_result, children_too, Finish, HandlerMeaning}

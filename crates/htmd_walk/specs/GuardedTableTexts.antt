@@ -8,7 +8,7 @@ use Rattle.htmd_grammar.specs.WhiteSpace.{is_document_white_space}
 use Rattle.htmd_markdown.specs.OneLine.{one_line}
 use Rattle.htmd_markdown.specs.GuardedTables.{guarded_table}
 use Rattle.htmd_markdown.specs.TableGrids.{SpannedCell, SpannedRow, grid}
-use Rattle.htmd_tree.specs.Items.{Item}
+use Rattle.htmd_nodes.specs.Items.{Item}
 use Rattle.htmd_walk.specs.Handling.{ResultView}
 use Rattle.htmd_walk.specs.Tables.{text_of_cell}
 use Rattle.htmd_walk.specs.GuardedTableLayouts.{TableLine, caption, row, line_nodes, attributes_at, column_span, row_span}

@@ -1,9 +1,9 @@
 -- What the handlers of an element's tag make of it where it stands in a tree.
 use Rattle.std.specs.Prelude.{ℕ, Bool, List}
-use Rattle.htmd_tree.specs.Items.{Item, Data, document_node, doctype_node, text_node, comment_node, element_node}
-use Rattle.htmd_tree.specs.Items.{data_at}
-use Rattle.htmd_tree.specs.NumberedTrees.{tree_of, height}
-use Rattle.htmd_tree.specs.Ancestors.{ancestor_of}
+use Rattle.htmd_nodes.specs.Items.{Item, Data, document_node, doctype_node, text_node, comment_node, element_node}
+use Rattle.htmd_nodes.specs.Items.{data_at}
+use Rattle.htmd_nodes.specs.NumberedTrees.{tree_of, height}
+use Rattle.htmd_nodes.specs.Ancestors.{ancestor_of}
 use Rattle.htmd_walk.specs.Choice.{Config}
 use Rattle.htmd_walk.specs.Groups.{children_at}
 use Rattle.htmd_walk.specs.Outputs.{Conversion, conversion_of}

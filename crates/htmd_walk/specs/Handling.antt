@@ -1,6 +1,6 @@
 -- What a handler means: what it asks for, what it makes of what it asked for, what it puts after a conversion.
 use Rattle.std.specs.Prelude.{ℕ, List, [], Option, None, Bool, All}
-use Rattle.htmd_tree.specs.Items.{Item, IsBelow}
+use Rattle.htmd_nodes.specs.Items.{Item, IsBelow}
 use Rattle.htmd_walk.specs.declared.options.Options.{Options}
 
 -- what a handler is shown of an element: the tree, the element, the text of its only child, the options,

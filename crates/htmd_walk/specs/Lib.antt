@@ -3,10 +3,10 @@
 -- built-in handlers and the registry; last what only private contracts mention.
 pub use Rattle.htmd_grammar.specs.Characters
 pub use Rattle.htmd_text.specs.Blocks
-pub use Rattle.htmd_tree.specs.ValueTrees
-pub use Rattle.htmd_tree.specs.Items
-pub use Rattle.htmd_tree.specs.NumberedTrees
-pub use Rattle.htmd_tree.specs.Ancestors
+pub use Rattle.htmd_nodes.specs.ValueTrees
+pub use Rattle.htmd_nodes.specs.Items
+pub use Rattle.htmd_nodes.specs.NumberedTrees
+pub use Rattle.htmd_nodes.specs.Ancestors
 pub use Rattle.htmd_grammar.specs.CharacterClasses
 pub use Rattle.htmd_grammar.specs.declared.fault.FaultKind
 pub use Rattle.htmd_markdown.specs.declared.heading.HeadingStyle

@@ -5,15 +5,15 @@ use Rattle.std.specs.List.{list_any, zip}
 use Rattle.std.specs.Str.{bytes_eq}
 use Rattle.htmd_markdown.specs.Lists.{first_number, Block, item, other, ordered_list, guarded_ordered_list}
 use Rattle.htmd_markdown.specs.Lists.{unnumbered_list, list_block}
-use Rattle.htmd_tree.specs.ValueTrees.{AttributePair}
-use Rattle.htmd_tree.specs.Items.{Item, data_at, children_of}
+use Rattle.htmd_nodes.specs.ValueTrees.{AttributePair}
+use Rattle.htmd_nodes.specs.Items.{Item, data_at, children_of}
 use Rattle.htmd_walk.specs.Handling.{ElementView, ResultView, PlanView, raw_html, content_of_children, HandlerMeaning}
 use Rattle.htmd_walk.specs.Handling.{contents_of_each, final_result, without_definitions}
 use Rattle.htmd_walk.specs.Outputs.{is_markdown_alone, is_guarded}
 use Rattle.htmd_walk.specs.ElementPlans.{tag_of, attributes_of, parent_tag, value_of_first, are_markdown, raw_block_result}
 use Rattle.htmd_walk.specs.ElementPlans.{is_raw_html_due, is_tag_among, optional_markdown}
 use Rattle.htmd_walk.specs.OneLineElements.{is_in_line}
-use Rattle.htmd_tree.specs.Items as tree
+use Rattle.htmd_nodes.specs.Items as tree
 
 -- how many attributes a list may have: `start`, if it comes first
 abbrev pub allowed_attributes : List AttributePair → ℕ

@@ -4,7 +4,7 @@ use Rattle.std.specs.List.{list_any}
 use Rattle.std.specs.Str.{bytes_eq}
 use Rattle.htmd_text.specs.EscapeMarks.{escaped_markdown, escaped_pre_text}
 use Rattle.htmd_text.specs.SqueezedTexts.{squeezed_text}
-use Rattle.htmd_tree.specs.Ancestors.{Ancestor}
+use Rattle.htmd_nodes.specs.Ancestors.{Ancestor}
 use Rattle.htmd_markdown.specs.GuardedText.{guarded_text, begins_line}
 use Rattle.htmd_markdown.specs.Joints.{with_joint}
 use Rattle.htmd_walk.specs.Seams.{begins_with_space, ends_with_space}

@@ -1,8 +1,8 @@
 -- What a conversion goes by, and what it has written so far.
 use Rattle.std.specs.Prelude.{ℕ, Bool, true, false, List, [], ◌++◌}
-use Rattle.htmd_tree.specs.Items.{Item}
-use Rattle.htmd_tree.specs.NumberedTrees.{NumberedTree}
-use Rattle.htmd_tree.specs.Ancestors.{Ancestor}
+use Rattle.htmd_nodes.specs.Items.{Item}
+use Rattle.htmd_nodes.specs.NumberedTrees.{NumberedTree}
+use Rattle.htmd_nodes.specs.Ancestors.{Ancestor}
 use Rattle.htmd_walk.specs.declared.options.Options.{Options}
 use Rattle.htmd_walk.specs.declared.options.TranslationMode.{TranslationMode}
 use Rattle.htmd_walk.specs.declared.options.TranslationMode.TheVariants.{Pure, Faithful, Guarded}

@@ -1,7 +1,7 @@
 -- The handlers of html, and of head and body.
 use Rattle.std.specs.Prelude.{ℕ, Bool, false, List, [], ◌∷◌, Option, Some, None, true, codes}
-use Rattle.htmd_tree.specs.Items.{Item, Data, document_node, doctype_node, text_node, comment_node, element_node}
-use Rattle.htmd_tree.specs.Items.{data_at, parent_at}
+use Rattle.htmd_nodes.specs.Items.{Item, Data, document_node, doctype_node, text_node, comment_node, element_node}
+use Rattle.htmd_nodes.specs.Items.{data_at, parent_at}
 use Rattle.htmd_walk.specs.Handling.{ElementView, PlanView, HandlerMeaning, of_plan}
 use Rattle.htmd_walk.specs.ElementPlans.{plan_if, plan_under, wrapped_result}
 

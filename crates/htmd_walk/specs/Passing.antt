@@ -1,6 +1,6 @@
 -- Where the walk may go past an element's handlers: what they would give is known without asking them.
 use Rattle.std.specs.Prelude.{◌≡◌, Bool, true, false, List, [], ◌∷◌}
-use Rattle.htmd_tree.specs.Items.{Data, document_node, doctype_node, text_node, comment_node, element_node}
+use Rattle.htmd_nodes.specs.Items.{Data, document_node, doctype_node, text_node, comment_node, element_node}
 use Rattle.htmd_walk.specs.Handling.{HandlerMeaning}
 use Rattle.htmd_walk.specs.Choice.{Config, indexes, handlers_at}
 use Rattle.htmd_walk.specs.Outputs.{is_markdown_alone}

@@ -4,8 +4,8 @@ use Rattle.std.specs.Prelude.{filter, option_and_then}
 use Rattle.std.specs.Option.{option_or}
 use Rattle.htmd_grammar.specs.BlankLines.{with_blank_lines}
 use Rattle.htmd_markdown.specs.GuardedCode.{guarded_span_in_line, guarded_code_block}
-use Rattle.htmd_tree.specs.Items.{Item, Data, document_node, doctype_node, text_node, comment_node, element_node}
-use Rattle.htmd_tree.specs.Items.{data_at, children_of}
+use Rattle.htmd_nodes.specs.Items.{Item, Data, document_node, doctype_node, text_node, comment_node, element_node}
+use Rattle.htmd_nodes.specs.Items.{data_at, children_of}
 use Rattle.htmd_walk.specs.Handling.{ElementView, ResultView, PlanView, HandlerMeaning, of_plan}
 use Rattle.htmd_walk.specs.Outputs.{is_markdown_alone, is_guarded}
 use Rattle.htmd_walk.specs.AllText.{all_text_of}

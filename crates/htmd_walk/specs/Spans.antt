@@ -5,7 +5,7 @@ use Rattle.std.specs.Option.{is_some}
 use Rattle.std.specs.Str.{bytes_eq}
 use Rattle.htmd_grammar.specs.Characters.{is_one_of}
 use Rattle.htmd_text.specs.Trims.{trimmed_text, is_line_feed}
-use Rattle.htmd_tree.specs.ValueTrees.{AttributePair}
+use Rattle.htmd_nodes.specs.ValueTrees.{AttributePair}
 use Rattle.htmd_walk.specs.Handling.{ElementView, ResultView, PlanView, content_of_children, HandlerMeaning, of_plan}
 use Rattle.htmd_walk.specs.OrdinaryText.{in_pre_or_code}
 use Rattle.htmd_walk.specs.ElementPlans.{attributes_of, ancestors_of, unless_faithful, markdown_plan}

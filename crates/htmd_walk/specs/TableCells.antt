@@ -1,8 +1,8 @@
 -- The handler of td and th.
 use Rattle.std.specs.Prelude.{ℕ, Bool, not, ◌&&◌, if◌then◌else◌, List, [], ◌∷◌, codes}
 use Rattle.std.specs.List.{list_any}
-use Rattle.htmd_tree.specs.NumberedTrees.{tree_of}
-use Rattle.htmd_tree.specs.Items.{Item, children_of}
+use Rattle.htmd_nodes.specs.NumberedTrees.{tree_of}
+use Rattle.htmd_nodes.specs.Items.{Item, children_of}
 use Rattle.htmd_walk.specs.Handling.{ElementView, PlanView, raw_html, HandlerMeaning, of_plan}
 use Rattle.htmd_walk.specs.Outputs.{is_markdown_alone}
 use Rattle.htmd_walk.specs.Children.{is_block_tree}

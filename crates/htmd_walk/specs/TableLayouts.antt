@@ -3,7 +3,7 @@ use Rattle.std.specs.Prelude.{ℕ, Bool, false, not, ◌&&◌, ◌||◌, if◌th
 use Rattle.std.specs.Prelude.{Some, None, true, codes, ◌++◌, filter, fold}
 use Rattle.std.specs.Str.{bytes_eq}
 use Rattle.std.specs.List.{flat_map}
-use Rattle.htmd_tree.specs.Items.{Item, data_at, children_of}
+use Rattle.htmd_nodes.specs.Items.{Item, data_at, children_of}
 use Rattle.htmd_walk.specs.Handling.{ElementView}
 use Rattle.htmd_walk.specs.declared.element_handler.table_layout.PartKind.{PartKind}
 use Rattle.htmd_walk.specs.declared.element_handler.table_layout.PartKind.TheVariants.{Caption, Headers, Row}
@@ -11,7 +11,7 @@ use Rattle.htmd_walk.specs.declared.element_handler.table_layout.TableChild.{Tab
 use Rattle.htmd_walk.specs.declared.element_handler.table_layout.TableChild.TheVariants.{TableCaption, TableHead}
 use Rattle.htmd_walk.specs.declared.element_handler.table_layout.TableChild.TheVariants.{TableSection, DirectRow, OtherChild}
 use Rattle.htmd_walk.specs.ElementPlans.{is_tag_among}
-use Rattle.htmd_tree.specs.Items as tree
+use Rattle.htmd_nodes.specs.Items as tree
 
 -- a caption, the header cells of a table, or the cells of a row
 pub record Part : Type 0 where

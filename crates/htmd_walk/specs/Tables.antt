@@ -7,17 +7,17 @@ use Rattle.htmd_grammar.specs.BlankLines.{blank_line}
 use Rattle.htmd_grammar.specs.Characters.{line_feed}
 use Rattle.htmd_grammar.specs.WhiteSpace.{is_document_white_space}
 use Rattle.htmd_markdown.specs.Tables.{table}
-use Rattle.htmd_tree.specs.Ancestors.{Ancestor}
-use Rattle.htmd_tree.specs.Items.{Item}
-use Rattle.htmd_tree.specs.NumberedTrees.{NumberedTree, document, doctype, text, comment, element, NumberedForest, none}
-use Rattle.htmd_tree.specs.NumberedTrees.{more}
+use Rattle.htmd_nodes.specs.Ancestors.{Ancestor}
+use Rattle.htmd_nodes.specs.Items.{Item}
+use Rattle.htmd_nodes.specs.NumberedTrees.{NumberedTree, document, doctype, text, comment, element, NumberedForest, none}
+use Rattle.htmd_nodes.specs.NumberedTrees.{more}
 use Rattle.htmd_walk.specs.Handling.{ResultView}
 use Rattle.htmd_walk.specs.declared.element_handler.table_layout.PartKind.{PartKind}
 use Rattle.htmd_walk.specs.declared.element_handler.table_layout.PartKind.TheVariants.{Caption, Headers, Row}
 use Rattle.htmd_walk.specs.Groups.{children_at}
 use Rattle.htmd_walk.specs.ElementPlans.{are_markdown, is_tag_among}
 use Rattle.htmd_walk.specs.TableLayouts.{Part}
-use Rattle.htmd_tree.specs.Ancestors as above
+use Rattle.htmd_nodes.specs.Ancestors as above
 
 abbrev pub header_tags : List (List ℕ)
 header_tags = codes "th" ∷ codes "thead" ∷ []

@@ -6,7 +6,7 @@ use Rattle.htmd_grammar.specs.BlankLines.{with_blank_lines}
 use Rattle.htmd_markdown.specs.declared.thematic_break.HrStyle.{HrStyle}
 use Rattle.htmd_markdown.specs.declared.thematic_break.HrStyle.TheVariants.{Underscores}
 use Rattle.htmd_markdown.specs.ThematicBreaks.{thematic_break}
-use Rattle.htmd_tree.specs.Ancestors.{Ancestor}
+use Rattle.htmd_nodes.specs.Ancestors.{Ancestor}
 use Rattle.htmd_walk.specs.Handling.{ElementView, PlanView, HandlerMeaning, of_plan}
 use Rattle.htmd_walk.specs.Outputs.{is_guarded}
 use Rattle.htmd_walk.specs.ElementPlans.{ancestors_of, markdown_plan, text_plan}

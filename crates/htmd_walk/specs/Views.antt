@@ -2,7 +2,7 @@
 use Rattle.std.specs.Prelude.{ℕ, List, map, Option, Some, None, string_bytes, String}
 use Rattle.std.specs.Global.{Global}
 use Rattle.std.specs.Option.{option_copied}
-use Rattle.htmd_tree.specs.NumberedTrees.{NumberedForest}
+use Rattle.htmd_nodes.specs.NumberedTrees.{NumberedForest}
 use Rattle.htmd_walk.specs.declared.element_handler.Element.{Element}
 use Rattle.htmd_walk.specs.declared.element_handler.HandlerResult.{HandlerResult}
 use Rattle.htmd_walk.specs.declared.element_handler.Plan.{Plan}

@@ -1,9 +1,9 @@
 -- The definitions that only private clauses use: what the walk refers to on its way.
 use Rattle.std.specs.Prelude.{◌≡◌, ℕ, suc, ◌≤◌, ◌<◌, Bool, false, List, Option, Result, All, IfOk, IfSome, IsSome, length}
 use Rattle.std.specs.Option.{option_copied}
-use Rattle.htmd_tree.specs.Items.{Item, data_at, parent_at}
-use Rattle.htmd_tree.specs.NumberedTrees.{NumberedForest, tree_of, height}
-use Rattle.htmd_tree.specs.Ancestors.{ancestor_of, ancestors_of}
+use Rattle.htmd_nodes.specs.Items.{Item, data_at, parent_at}
+use Rattle.htmd_nodes.specs.NumberedTrees.{NumberedForest, tree_of, height}
+use Rattle.htmd_nodes.specs.Ancestors.{ancestor_of, ancestors_of}
 use Rattle.htmd_walk.specs.declared.dom_walker.Remembered.{Remembered}
 use Rattle.htmd_walk.specs.declared.dom_walker.visit.Visit.{Visit}
 use Rattle.htmd_walk.specs.declared.element_handler.Element.{Element}

@@ -7,7 +7,7 @@ ghost use Rattle.htmd_walk.specs.Views.{element_view};
 
 use crate::element_handler::Element;
 use crate::element_handler::other_block::is_hidden;
-use htmd_tree::{NodeData, NodeId, Tree};
+use htmd_nodes::{NodeData, NodeId, Tree};
 use std::alloc::{AllocError, Global};
 
 /// All text of an element: the one text that it shows, or the texts below it in order, and a line feed for each `br`;

@@ -6,9 +6,9 @@ mod visit;
 ghost use Rattle.std.specs.Prelude.{◌≡◌, ◌<◌, ℕ, List, None, true, false, IfOk, IfSome, IsTrue, OnOk};
 ghost use Rattle.std.specs.Prelude.{length, string_bytes};
 ghost use Rattle.std.specs.Option.{option_copied};
-ghost use Rattle.htmd_tree.specs.Items.{data_at, element_node, IsTree};
-ghost use Rattle.htmd_tree.specs.NumberedTrees.{tree_of};
-ghost use Rattle.htmd_tree.specs.Ancestors.{ancestors_of};
+ghost use Rattle.htmd_nodes.specs.Items.{data_at, element_node, IsTree};
+ghost use Rattle.htmd_nodes.specs.NumberedTrees.{tree_of};
+ghost use Rattle.htmd_nodes.specs.Ancestors.{ancestors_of};
 ghost use Rattle.htmd_grammar.specs.Attributes.{pairs_of};
 ghost use Rattle.htmd_walk.specs.Handling.{IsProper, contents_of_each};
 ghost use Rattle.htmd_walk.specs.OrdinaryText.{in_pre_or_code};
@@ -39,10 +39,10 @@ use crate::node_util::{
 };
 use crate::spare_texts::SpareTexts;
 use crate::text_node::{Context, append_text};
+use htmd_nodes::{Attribute, NodeData, NodeId, Tree, raw_block};
 use htmd_text::{
     is_block_element, trim_end_document_white_space, trim_end_line_feeds, trim_newlines,
 };
-use htmd_tree::{Attribute, NodeData, NodeId, Tree, raw_block};
 use results::{
     append_copy, append_result, between_tags, copied, cut_before_child, empty_result, lent,
     push_comment, raw_result, text_shown, trim_after,

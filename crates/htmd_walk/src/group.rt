@@ -1,15 +1,15 @@
 //! Neighbours that join.
 
 ghost use Rattle.std.specs.Prelude.{◌≡◌, ◌<◌, ◌≤◌, All, IfOk, length};
-ghost use Rattle.htmd_tree.specs.NumberedTrees.{tree_of};
+ghost use Rattle.htmd_nodes.specs.NumberedTrees.{tree_of};
 ghost use Rattle.htmd_grammar.specs.Attributes.{pairs_of};
 ghost use Rattle.htmd_walk.specs.Groups as spec;
 ghost use Rattle.htmd_walk.specs.Joints.{joint_view, optional_joint};
 ghost use Rattle.htmd_walk.specs.Views.{optional_text};
 
 use crate::node_util::only_text;
+use htmd_nodes::{Attribute, NodeData, NodeId, Tree};
 use htmd_text::is_block_element;
-use htmd_tree::{Attribute, NodeData, NodeId, Tree};
 use std::alloc::{AllocError, Global};
 
 fn is_em(name: &str) -> bool

@@ -9,7 +9,7 @@ use crate::element_handler::guarded_table_layout::is_written_as_table;
 use crate::element_handler::link_attributes::last_value;
 use crate::element_handler::plans::is_guarded;
 use crate::options::Options;
-use htmd_tree::{Attribute, NodeData, NodeId, Tree};
+use htmd_nodes::{Attribute, NodeData, NodeId, Tree};
 
 /// Whether this is the tag of a heading.
 fn is_heading(tag: &str) -> bool

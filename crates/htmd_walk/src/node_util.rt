@@ -2,16 +2,16 @@
 
 ghost use Rattle.std.specs.Prelude.{◌≡◌, ◌<◌, ◌||◌, true, false, length};
 ghost use Rattle.std.specs.Option.{option_copied};
-ghost use Rattle.htmd_tree.specs.Items.{data_at, IsTree};
-ghost use Rattle.htmd_tree.specs.NumberedTrees.{tree_of};
-ghost use Rattle.htmd_tree.specs.Ancestors.{ancestor_of, ancestors_of};
+ghost use Rattle.htmd_nodes.specs.Items.{data_at, IsTree};
+ghost use Rattle.htmd_nodes.specs.NumberedTrees.{tree_of};
+ghost use Rattle.htmd_nodes.specs.Ancestors.{ancestor_of, ancestors_of};
 ghost use Rattle.htmd_walk.specs.OrdinaryText.{is_pre_or_code, in_pre_or_code, parent_is_pre};
 ghost use Rattle.htmd_walk.specs.Groups.{only_text, children_at};
 ghost use Rattle.htmd_walk.specs.Children.{is_block_tree, trims_first};
 ghost use Rattle.htmd_walk.specs.Rendering.{is_text, inside_of};
 
+use htmd_nodes::{NodeData, NodeId, Tree};
 use htmd_text::is_block_element;
-use htmd_tree::{NodeData, NodeId, Tree};
 
 /// Whether a node is `pre` or `code`.
 pub(crate) fn is_pre_or_code(tree: &Tree, node: NodeId) -> bool

@@ -5,7 +5,7 @@ ghost use Rattle.std.specs.Prelude.{◌++◌, nat_lt, if◌then◌else◌, lengt
 ghost use Rattle.std.specs.Option.{option_copied};
 ghost use Rattle.htmd_text.specs.Trims.{trimmed_end, is_space};
 ghost use Rattle.htmd_grammar.specs.Attributes.{pairs_of};
-ghost use Rattle.htmd_tree.specs.Serialisation.{start_tag, comment_of};
+ghost use Rattle.htmd_nodes.specs.Serialisation.{start_tag, comment_of};
 ghost use Rattle.htmd_walk.specs.Groups.{only_text, group_children, children_at};
 ghost use Rattle.htmd_walk.specs.Elements.{raw_result, end_of_element};
 ghost use Rattle.htmd_walk.specs.Rendering.{with_result};
@@ -15,8 +15,8 @@ use crate::element_handler::HandlerResult;
 use crate::node_util::only_text;
 use crate::seam::append_normalized_content;
 use crate::spare_texts::SpareTexts;
+use htmd_nodes::{Attribute, NodeId, Tree, is_void, push_end_tag, push_start_tag};
 use htmd_text::trim_end_spaces;
-use htmd_tree::{Attribute, NodeId, Tree, is_void, push_end_tag, push_start_tag};
 use std::alloc::{AllocError, Global};
 
 /// Cuts the spaces at the end of the text before a block element.

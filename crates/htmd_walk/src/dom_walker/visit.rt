@@ -1,7 +1,7 @@
 //! A node that the walk comes to.
 
 use crate::text_node::Context;
-use htmd_tree::NodeId;
+use htmd_nodes::NodeId;
 
 /// A node that the walk comes to, and what is known of where it stands.
 #[derive(Drop)]

@@ -23,8 +23,8 @@ use htmd_markdown::{
     write_guarded_definition, write_guarded_link, write_guarded_reference, write_inline_link,
     write_reference,
 };
+use htmd_nodes::{NodeId, Tree};
 use htmd_text::TrimDocumentWhitespace;
-use htmd_tree::{NodeId, Tree};
 use std::alloc::{AllocError, Global};
 
 /// Where a link leads, and its title.

@@ -2,7 +2,7 @@
 
 ghost use Rattle.std.specs.Prelude.{◌≡◌, ◌<◌, Some, IfOk, true, length};
 ghost use Rattle.std.specs.Option.{option_copied};
-ghost use Rattle.htmd_tree.specs.Items.{parent_at};
+ghost use Rattle.htmd_nodes.specs.Items.{parent_at};
 ghost use Rattle.htmd_grammar.specs.Attributes.{pairs_of};
 ghost use Rattle.htmd_walk.specs.Code as spec;
 ghost use Rattle.htmd_walk.specs.Views.{plan_view, element_view, result_view, optional_result};
@@ -13,7 +13,7 @@ use crate::all_text::all_text;
 use crate::node_util::is_text;
 use crate::options::CodeBlockStyle;
 use htmd_markdown::{write_fence, write_guarded_code, write_indented_code, write_span};
-use htmd_tree::{Attribute, NodeData, NodeId, Tree};
+use htmd_nodes::{Attribute, NodeData, NodeId, Tree};
 use std::alloc::{AllocError, Global};
 
 /// The language that a class names.

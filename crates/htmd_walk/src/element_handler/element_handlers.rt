@@ -18,7 +18,7 @@ use super::span::formula_mark;
 use super::{Element, ElementHandler, HandlerResult, Links, Plan};
 use crate::dom_walker::handle_element;
 use crate::options::Options;
-use htmd_tree::{NodeData, NodeId, Tree};
+use htmd_nodes::{NodeData, NodeId, Tree};
 use std::alloc::{AllocError, Global};
 
 /// A handler, as it is registered.
@@ -223,7 +223,7 @@ impl ElementHandlers {
 }
 
 impl ElementHandlers {
-    ghost use Rattle.htmd_tree.specs.Items.{data_at};
+    ghost use Rattle.htmd_nodes.specs.Items.{data_at};
     ghost use Rattle.htmd_walk.specs.HandlerAnswers.{IsElement, handled};
     ghost use Rattle.htmd_walk.specs.Views.{answer_view};
 

@@ -16,8 +16,8 @@ use super::guarded_table_layout::{TableLine, begins_with_header, table_lines};
 use super::table::cell_text;
 use super::table_spans::{column_span, row_span};
 use htmd_markdown::{SpannedCell, SpannedRow, lay_table, write_guarded_table, write_one_line};
+use htmd_nodes::{Attribute, NodeData, NodeId, Tree};
 use htmd_text::TrimDocumentWhitespace;
-use htmd_tree::{Attribute, NodeData, NodeId, Tree};
 use std::alloc::{AllocError, Global};
 use std::slice;
 

@@ -3,8 +3,8 @@
 ghost use Rattle.std.specs.Prelude.{◌≡◌, ◌<◌, ◌++◌, not, IfOk, OnOk, All, true, length, map, fold, codes};
 ghost use Rattle.std.specs.List.{list_any};
 ghost use Rattle.htmd_grammar.specs.WhiteSpace.{is_document_white_space};
-ghost use Rattle.htmd_tree.specs.Items.{data_at, IsTree};
-ghost use Rattle.htmd_tree.specs.NumberedTrees.{tree_of};
+ghost use Rattle.htmd_nodes.specs.Items.{data_at, IsTree};
+ghost use Rattle.htmd_nodes.specs.NumberedTrees.{tree_of};
 ghost use Rattle.htmd_walk.specs.Groups.{children_at};
 ghost use Rattle.htmd_walk.specs.GuardedTableLayouts as spec;
 ghost use Rattle.htmd_walk.specs.GuardedTableViews.{line_view, lines_view};
@@ -13,7 +13,7 @@ ghost use Rattle.htmd_walk.specs.TableLayouts.{tagged_children};
 use super::other_block::is_hidden;
 use super::table::{has_table_form, is_cell};
 use super::table_layout::{TableChild, has_tag, table_child};
-use htmd_tree::{NodeData, NodeId, Tree};
+use htmd_nodes::{NodeData, NodeId, Tree};
 use std::alloc::{AllocError, Global};
 
 /// A line of a table.

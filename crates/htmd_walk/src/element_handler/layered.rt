@@ -8,7 +8,7 @@ use super::registrar::Registrar;
 use super::registry::{Outcome, Registry, Request};
 use super::{Element, HandlerResult, Links};
 use crate::options::Options;
-use htmd_tree::{NodeId, Tree};
+use htmd_nodes::{NodeId, Tree};
 use std::alloc::{AllocError, Global};
 
 /// A registry in which a handler that isn't boxed answers in place of one that gives nothing.

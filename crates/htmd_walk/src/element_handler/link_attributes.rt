@@ -8,7 +8,7 @@ ghost use Rattle.htmd_walk.specs.Views.{element_view};
 
 use super::Element;
 use super::plans::is_markdown_alone;
-use htmd_tree::Attribute;
+use htmd_nodes::Attribute;
 
 /// Whether the name is one of these.
 pub(crate) fn is_among(name: &str, names: &[&str]) -> bool

@@ -3,7 +3,7 @@
 ghost use Rattle.std.specs.Prelude.{◌≡◌, ◌<◌, IfOk, All, length, map, string_bytes};
 ghost use Rattle.std.specs.List.{list_any};
 ghost use Rattle.htmd_markdown.specs.Lists.{block_of};
-ghost use Rattle.htmd_tree.specs.Items.{children_of, data_at, tag_of};
+ghost use Rattle.htmd_nodes.specs.Items.{children_of, data_at, tag_of};
 ghost use Rattle.htmd_grammar.specs.Attributes.{pairs_of};
 ghost use Rattle.htmd_walk.specs.Handling.{IsProper};
 ghost use Rattle.htmd_walk.specs.Lists as spec;
@@ -19,7 +19,7 @@ use htmd_markdown::{
     ListBlock, first_number, write_guarded_ordered_list, write_list_block, write_ordered_list,
     write_unnumbered_list,
 };
-use htmd_tree::{Attribute, NodeId, Tree};
+use htmd_nodes::{Attribute, NodeId, Tree};
 use std::alloc::{AllocError, Global};
 
 /// How many attributes a list may have: `start`, if it comes first.

@@ -2,12 +2,12 @@
 
 ghost use Rattle.std.specs.Prelude.{◌≡◌};
 ghost use Rattle.htmd_walk.specs.Pages as spec;
-ghost use Rattle.htmd_tree.specs.Items.{parent_at};
+ghost use Rattle.htmd_nodes.specs.Items.{parent_at};
 ghost use Rattle.htmd_walk.specs.Views.{plan_view, element_view};
 
 use super::plans::{parent_tag, plan_if};
 use super::{Element, Plan};
-use htmd_tree::NodeData;
+use htmd_nodes::NodeData;
 
 /// Whether the parent is the Document.
 fn is_under_document(element: &Element) -> bool

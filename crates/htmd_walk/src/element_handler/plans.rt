@@ -10,8 +10,8 @@ ghost use Rattle.htmd_walk.specs.Views.{plan_view, element_view, result_view, re
 
 use super::{Element, HandlerResult, Plan};
 use crate::options::{Options, TranslationMode};
+use htmd_nodes::{Attribute, raw_block};
 use htmd_text::{surround_with_blank_lines, trim_newlines};
-use htmd_tree::{Attribute, raw_block};
 use std::alloc::{AllocError, Global};
 
 /// Whether only Markdown is written.

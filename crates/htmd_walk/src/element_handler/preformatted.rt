@@ -3,7 +3,7 @@
 ghost use Rattle.std.specs.Prelude.{◌≡◌, ◌<◌, true, not, IfOk, IfSome, length, string_bytes};
 ghost use Rattle.std.specs.Option.{option_copied};
 ghost use Rattle.htmd_walk.specs.Outputs.{is_guarded};
-ghost use Rattle.htmd_tree.specs.Items.{IsTree, children_of, data_at};
+ghost use Rattle.htmd_nodes.specs.Items.{IsTree, children_of, data_at};
 ghost use Rattle.htmd_walk.specs.Preformatted as spec;
 ghost use Rattle.htmd_walk.specs.Views.{plan_view, element_view, result_view, optional_result};
 
@@ -12,8 +12,8 @@ use super::plans::{is_guarded, is_markdown_alone, is_plain, plan_if, raw_block_r
 use super::{Element, HandlerResult, Plan};
 use crate::all_text::all_text;
 use htmd_markdown::{write_guarded_code_block, write_guarded_span_in_line};
+use htmd_nodes::{NodeData, NodeId, Tree};
 use htmd_text::surround_with_blank_lines;
-use htmd_tree::{NodeData, NodeId, Tree};
 use std::alloc::{AllocError, Global};
 
 /// Whether the only child is `code`.

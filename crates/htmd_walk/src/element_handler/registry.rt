@@ -2,7 +2,7 @@
 
 ghost use Rattle.std.specs.Prelude.{◌≡◌, ◌+◌, ◌^◌, ◌<◌, IfOk, IfSome, IsTrue};
 ghost use Rattle.std.specs.Prelude.{length, slice_get, string_bytes};
-ghost use Rattle.htmd_tree.specs.Items.{data_at};
+ghost use Rattle.htmd_nodes.specs.Items.{data_at};
 ghost use Rattle.htmd_walk.specs.Handling.{IsProper};
 ghost use Rattle.htmd_walk.specs.Choice.{Config, handler_at, indexes};
 ghost use Rattle.htmd_walk.specs.Elements.{finish_answer};
@@ -14,7 +14,7 @@ ghost use Rattle.htmd_walk.specs.Walking.{request_view, outcome_view};
 
 use super::{Element, HandlerResult, Links, Plan};
 use crate::options::Options;
-use htmd_tree::{NodeId, Tree};
+use htmd_nodes::{NodeId, Tree};
 use std::alloc::{AllocError, Global};
 
 /// What a handler asks for; a built-in one may ask for more.

@@ -9,8 +9,8 @@ ghost use Rattle.htmd_walk.specs.Views.{plan_view, element_view, result_view, op
 use super::plans::{is_guarded, unless_faithful};
 use super::{Element, HandlerResult, Plan};
 use crate::node_util::is_in_pre_or_code;
+use htmd_nodes::Attribute;
 use htmd_text::trim_newlines;
-use htmd_tree::Attribute;
 use std::alloc::{AllocError, Global};
 
 /// The mark on both sides of a formula of this class.

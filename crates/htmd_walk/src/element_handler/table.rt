@@ -2,8 +2,8 @@
 
 ghost use Rattle.std.specs.Prelude.{◌≡◌, ◌<◌, ◌++◌, IfOk, OnOk, map, length, string_bytes};
 ghost use Rattle.std.specs.List.{list_any, flat_map};
-ghost use Rattle.htmd_tree.specs.NumberedTrees.{tree_of};
-ghost use Rattle.htmd_tree.specs.Ancestors.{ancestors_of};
+ghost use Rattle.htmd_nodes.specs.NumberedTrees.{tree_of};
+ghost use Rattle.htmd_nodes.specs.Ancestors.{ancestors_of};
 ghost use Rattle.htmd_walk.specs.Groups.{children_at};
 ghost use Rattle.htmd_walk.specs.Handling.{IsProper, contents_of_each};
 ghost use Rattle.htmd_walk.specs.GuardedTableLayouts.{nodes_of_lines, table_lines};
@@ -21,8 +21,8 @@ use super::registry::{Outcome, Request};
 use super::table_layout::{Part, PartKind, has_tag, layout_of, nodes_of};
 use super::{Element, HandlerResult, Plan};
 use htmd_markdown::write_table;
+use htmd_nodes::{NodeId, Tree};
 use htmd_text::{TrimDocumentWhitespace, surround_with_blank_lines, trim_newlines};
-use htmd_tree::{NodeId, Tree};
 use std::alloc::{AllocError, Global};
 
 /// The texts of a table's parts, and whether all of its cells are Markdown.

@@ -2,7 +2,7 @@
 
 ghost use Rattle.std.specs.Prelude.{◌≡◌};
 ghost use Rattle.std.specs.List.{list_any};
-ghost use Rattle.htmd_tree.specs.Items.{children_of};
+ghost use Rattle.htmd_nodes.specs.Items.{children_of};
 ghost use Rattle.htmd_walk.specs.TableCells as spec;
 ghost use Rattle.htmd_walk.specs.Views.{plan_view, element_view};
 

@@ -2,11 +2,11 @@
 
 ghost use Rattle.std.specs.Prelude.{◌≡◌, ◌<◌, OnOk, IfOk, [], ◌∷◌, length, fold};
 ghost use Rattle.std.specs.Prelude.{codes};
-ghost use Rattle.htmd_tree.specs.Items.{data_at, tag_of};
+ghost use Rattle.htmd_nodes.specs.Items.{data_at, tag_of};
 ghost use Rattle.htmd_walk.specs.TableLayouts as spec;
 ghost use Rattle.htmd_walk.specs.TableViews.{layout_view, parts_view};
 
-use htmd_tree::{NodeId, Tree};
+use htmd_nodes::{NodeId, Tree};
 use std::alloc::{AllocError, Global};
 
 /// What the nodes of a part are.

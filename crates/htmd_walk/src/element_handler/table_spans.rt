@@ -8,7 +8,7 @@ ghost use Rattle.htmd_grammar.specs.Attributes.{pairs_of};
 ghost use Rattle.htmd_walk.specs.GuardedTableLayouts as spec;
 
 use super::plans::find_value;
-use htmd_tree::Attribute;
+use htmd_nodes::Attribute;
 
 /// The greatest number of rows.
 const MOST_ROWS: u16 = 65534;

@@ -2,8 +2,8 @@
 
 ghost use Rattle.std.specs.Prelude.{◌≡◌, ◌<◌, ◌∷◌, [], IfOk, length, codes};
 ghost use Rattle.std.specs.List.{list_any};
-ghost use Rattle.htmd_tree.specs.Ancestors.{ancestors_of};
-ghost use Rattle.htmd_tree.specs.Items.{data_at, tag_of};
+ghost use Rattle.htmd_nodes.specs.Ancestors.{ancestors_of};
+ghost use Rattle.htmd_nodes.specs.Items.{data_at, tag_of};
 ghost use Rattle.htmd_walk.specs.ElementPlans.{is_tag_among};
 ghost use Rattle.htmd_walk.specs.ThematicBreaks.{is_item, thematic_break_style_of, thematic_breaks};
 ghost use Rattle.htmd_walk.specs.Views.{plan_view, element_view};
@@ -11,7 +11,7 @@ ghost use Rattle.htmd_walk.specs.Views.{plan_view, element_view};
 use super::plans::{is_guarded, is_plain};
 use super::{Element, HandlerResult, Plan};
 use htmd_markdown::{HrStyle, write_thematic_break};
-use htmd_tree::{NodeId, Tree};
+use htmd_nodes::{NodeId, Tree};
 use std::alloc::{AllocError, Global};
 
 /// Whether a node is `li`.

@@ -2,7 +2,7 @@
 use Rattle.std.proofs.Common.{◌≡◌, ◌≤◌, ◌∙◌, length, Some, sym, arith, rules}
 use Rattle.std.proofs.lemmas.List.{length-map}
 use Rattle.std.proofs.lemmas.List.Elements.{All-pop}
-use Rattle.htmd_tree.specs.Items.{greatest_depth}
+use Rattle.htmd_nodes.specs.Items.{greatest_depth}
 use Rattle.htmd_html5_state.specs.Views.{node_of, nodes_of}
 use Rattle.htmd_html5.specs.Layout.{first_layout}
 use Rattle.htmd_html5.specs.LayoutViews.{coming_of, layout_of, work_of, MayHold}

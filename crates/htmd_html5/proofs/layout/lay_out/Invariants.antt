@@ -1,5 +1,5 @@
 -- What is left to lay out is what was at first.
-use Rattle.htmd_tree.specs.Items.{greatest_depth}
+use Rattle.htmd_nodes.specs.Items.{greatest_depth}
 use Rattle.htmd_html5_state.specs.Views.{nodes_of}
 use Rattle.htmd_html5.specs.Layout.{first_layout}
 use Rattle.htmd_html5.specs.LayoutViews.{layout_of, AllMayHold}

@@ -1,6 +1,6 @@
 -- What the loop of `greatest_depth` keeps.
 use Rattle.std.proofs.Common.{◌<◌, length, IsTrue}
-use Rattle.htmd_tree.specs.Items.{data_at, holds_children}
+use Rattle.htmd_nodes.specs.Items.{data_at, holds_children}
 use Rattle.htmd_piece_tests.proofs.trees.greatest_depth.Given as goal
 
 -- the last node is there, and takes a child

@@ -1,5 +1,5 @@
 use Rattle.std.proofs.Common.{◌∙◌, arith, ap, length, List}
-use Rattle.htmd_tree.specs.Items.{Item, children_of}
+use Rattle.htmd_nodes.specs.Items.{Item, children_of}
 use Rattle.htmd_walk.specs.Views.{element_view}
 use Rattle.htmd_tree_laws.proofs.ListLawsLemmas.{items_begin}
 use Rattle.htmd_tree_laws.proofs.conversion.items_begin_in_one_column.Goals as goal

@@ -1,8 +1,8 @@
 use Rattle.std.proofs.Common.{rules, arith, ◌<◌, ◌++◌, length, sym, ap, ◌∙◌, string_bytes}
 use Rattle.std.proofs.lemmas.List.{append-nil}
 use Rattle.htmd_grammar.specs.Attributes.{pairs_of}
-use Rattle.htmd_tree.specs.Views.{data_of}
-use Rattle.htmd_tree.proofs.ItemsLemmas.{child_read}
+use Rattle.htmd_nodes.specs.Views.{data_of}
+use Rattle.htmd_nodes.proofs.ItemsLemmas.{child_read}
 use Rattle.htmd_walk.specs.ElementPlans.{is_tag_among}
 use Rattle.htmd_walk.specs.OtherBlocks.{hidden_tags}
 use Rattle.htmd_walk.proofs.AllTextLemmas.{said-more, text_said, comment_said, doctype_said, document_said, break_said}

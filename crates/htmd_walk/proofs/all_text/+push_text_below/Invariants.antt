@@ -1,5 +1,5 @@
 use Rattle.std.proofs.Common.{◌≡◌, ◌-◌, ◌++◌, length, drop, string_bytes}
-use Rattle.htmd_tree.specs.NumberedTrees.{tree_of, forest_of}
+use Rattle.htmd_nodes.specs.NumberedTrees.{tree_of, forest_of}
 use Rattle.htmd_walk.specs.AllText.{all_text_among}
 use Rattle.htmd_walk.proofs.all_text.+push_text_below.Given as goal
 

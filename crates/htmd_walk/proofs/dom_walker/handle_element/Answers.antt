@@ -2,10 +2,10 @@
 use Rattle.std.proofs.Common.{◌≡◌, ℕ, List, ◌∙◌, ap, sym, subst, suc, ◌≤◌, arith}
 use Rattle.std.specs.Option.{option_copied}
 use Rattle.std.proofs.lemmas.Result.{IfOk-weaker}
-use Rattle.htmd_tree.specs.Items.{Item, Data, data_at}
-use Rattle.htmd_tree.specs.NumberedTrees.{tree_of, height}
-use Rattle.htmd_tree.specs.Ancestors.{ancestor_of}
-use Rattle.htmd_tree.specs.Views.{data_of}
+use Rattle.htmd_nodes.specs.Items.{Item, Data, data_at}
+use Rattle.htmd_nodes.specs.NumberedTrees.{tree_of, height}
+use Rattle.htmd_nodes.specs.Ancestors.{ancestor_of}
+use Rattle.htmd_nodes.specs.Views.{data_of}
 use Rattle.htmd_walk.specs.Groups.{group_children, children_at}
 use Rattle.htmd_walk.specs.Outputs.{conversion_of}
 use Rattle.htmd_walk.specs.Elements.{Occurrence, Answer, answer_after}

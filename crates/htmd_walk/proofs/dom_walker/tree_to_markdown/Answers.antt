@@ -1,7 +1,7 @@
 use Rattle.std.proofs.Common.{List, ℕ, ◌++◌, ◌∙◌, ap, string_bytes, arith}
 use Rattle.htmd_text.specs.Trims.{trimmed_text, trimmed_end, is_line_feed}
-use Rattle.htmd_tree.specs.Items.{Item}
-use Rattle.htmd_tree.specs.NumberedTrees.{tree_of, height}
+use Rattle.htmd_nodes.specs.Items.{Item}
+use Rattle.htmd_nodes.specs.NumberedTrees.{tree_of, height}
 use Rattle.htmd_walk.specs.Choice.{Config}
 use Rattle.htmd_walk.specs.Outputs.{Output, conversion_of}
 use Rattle.htmd_walk.specs.Children.{content_alone}

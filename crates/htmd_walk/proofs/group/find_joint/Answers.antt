@@ -1,7 +1,7 @@
 use Rattle.std.proofs.Common.{List, ℕ, Option, Some, None, sym, ap, ◌∙◌, string_bytes}
-use Rattle.htmd_tree.specs.ValueTrees.{AttributePair}
+use Rattle.htmd_nodes.specs.ValueTrees.{AttributePair}
 use Rattle.htmd_grammar.specs.Attributes.{pairs_of}
-use Rattle.htmd_tree.specs.Views.{data_of}
+use Rattle.htmd_nodes.specs.Views.{data_of}
 use Rattle.htmd_walk.specs.Groups.{Joint}
 use Rattle.htmd_walk.specs.Joints.{optional_joint}
 use Rattle.htmd_walk.proofs.GroupsLemmas.{joint-element, joint-other}

@@ -1,7 +1,7 @@
 -- One more node that joins.
 use Rattle.std.proofs.Common.{◌≡◌, ℕ, suc, ◌+◌, ◌<◌, List, ◌∷◌, length, get_or, drop, cond, true, sym, ap, ◌∙◌, arith}
 use Rattle.std.proofs.lemmas.List.{drop_more, get_or_default}
-use Rattle.htmd_tree.specs.NumberedTrees.{NumberedTree, tree_of}
+use Rattle.htmd_nodes.specs.NumberedTrees.{NumberedTree, tree_of}
 use Rattle.htmd_walk.specs.Groups.{group_length, is_joinable, both_join, joint_of}
 use Rattle.htmd_walk.specs.Joints.{optional_joint}
 use Rattle.htmd_walk.proofs.group.group_length.Goals as goal

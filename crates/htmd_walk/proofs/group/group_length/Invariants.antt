@@ -1,5 +1,5 @@
 use Rattle.std.proofs.Common.{◌≡◌, ◌+◌, ◌-◌, ◌<◌, length, drop, get_or}
-use Rattle.htmd_tree.specs.NumberedTrees.{tree_of}
+use Rattle.htmd_nodes.specs.NumberedTrees.{tree_of}
 use Rattle.htmd_walk.specs.Groups.{group_length, joint_of}
 use Rattle.htmd_walk.specs.Joints.{optional_joint}
 use Rattle.htmd_walk.proofs.group.group_length.Given as goal

@@ -1,6 +1,6 @@
 use Rattle.std.proofs.Common.{Some, ap, ◌∙◌}
 use Rattle.std.proofs.lemmas.List.{take_all}
-use Rattle.htmd_tree.specs.NumberedTrees.{tree_of}
+use Rattle.htmd_nodes.specs.NumberedTrees.{tree_of}
 use Rattle.htmd_walk.specs.Groups.{texts_of}
 use Rattle.htmd_walk.proofs.GroupsLemmas.{group_text-some}
 use Rattle.htmd_walk.proofs.group.joined_text.Goals as goal

@@ -1,5 +1,5 @@
 use Rattle.std.proofs.Common.{◌≡◌, take, string_bytes}
-use Rattle.htmd_tree.specs.NumberedTrees.{tree_of}
+use Rattle.htmd_nodes.specs.NumberedTrees.{tree_of}
 use Rattle.htmd_walk.specs.Groups.{texts_of}
 use Rattle.htmd_walk.proofs.group.joined_text.Given as goal
 

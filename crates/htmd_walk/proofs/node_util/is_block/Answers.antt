@@ -1,6 +1,6 @@
 use Rattle.std.proofs.Common.{sym, ap, ◌∙◌}
 use Rattle.htmd_text.specs.Blocks.{is_block}
-use Rattle.htmd_tree.specs.Views.{data_of}
+use Rattle.htmd_nodes.specs.Views.{data_of}
 use Rattle.htmd_walk.proofs.Nodes.{is_block_tree-open, is_block_content, not_block}
 use Rattle.htmd_walk.proofs.node_util.is_block.Goals as goal
 

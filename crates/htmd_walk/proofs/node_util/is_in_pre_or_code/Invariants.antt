@@ -1,5 +1,5 @@
 use Rattle.std.proofs.Common.{◌≡◌, ◌<◌, length}
-use Rattle.htmd_tree.specs.Ancestors.{ancestors_of}
+use Rattle.htmd_nodes.specs.Ancestors.{ancestors_of}
 use Rattle.htmd_walk.specs.OrdinaryText.{in_pre_or_code}
 use Rattle.htmd_walk.proofs.node_util.is_in_pre_or_code.Given as goal
 

@@ -1,6 +1,6 @@
 use Rattle.std.proofs.Common.{sym, ap, ◌∙◌, arith, codes}
 use Rattle.std.specs.Str.{bytes_eq}
-use Rattle.htmd_tree.specs.Views.{data_of}
+use Rattle.htmd_nodes.specs.Views.{data_of}
 use Rattle.htmd_walk.proofs.Nodes.{parent_pre-root, parent_pre-up, not_pre}
 use Rattle.htmd_walk.proofs.node_util.is_parent_pre.Goals as goal
 

@@ -1,7 +1,7 @@
 use Rattle.std.proofs.Common.{sym, ◌∙◌, ap, arith, Some}
-use Rattle.htmd_tree.specs.Views.{data_of}
-use Rattle.htmd_tree.specs.NumberedTrees.{forest_of, tree_of}
-use Rattle.htmd_tree.proofs.ItemsLemmas.{child_read}
+use Rattle.htmd_nodes.specs.Views.{data_of}
+use Rattle.htmd_nodes.specs.NumberedTrees.{forest_of, tree_of}
+use Rattle.htmd_nodes.proofs.ItemsLemmas.{child_read}
 use Rattle.htmd_walk.specs.Groups.{only_text}
 use Rattle.htmd_walk.specs.Rendering.{is_text}
 use Rattle.htmd_walk.proofs.Nodes.{only_text-one, only_text-other, only_text-none, not_text}

@@ -1,6 +1,6 @@
 use Rattle.std.proofs.Common.{sym, ap, ◌∙◌}
 use Rattle.htmd_text.specs.Blocks.{is_block}
-use Rattle.htmd_tree.specs.Items.{data_at}
+use Rattle.htmd_nodes.specs.Items.{data_at}
 use Rattle.htmd_walk.proofs.Nodes.{tag_some, tag_none, no_trim, trims_by}
 use Rattle.htmd_walk.proofs.node_util.trims_first.Goals as goal
 

@@ -2,7 +2,7 @@
 use Rattle.std.proofs.Common.{arith, ◌≡◌, ◌≢◌, ◌∙◌, sym, ap, subst, refl, ℕ, zero, suc, List, [], ◌∷◌}
 use Rattle.std.proofs.lemmas.Bool.{eqb-false}
 use Rattle.std.specs.List.{Contains}
-use Rattle.htmd_tree.specs.Items.{Item, children_of, IsBelow, child, deeper}
+use Rattle.htmd_nodes.specs.Items.{Item, children_of, IsBelow, child, deeper}
 use Rattle.htmd_tests.specs.Plans.{down, first_or}
 use Rattle.htmd_tests.proofs.handlers.FirstBelowElementHandler.plan.Goals as goal
 

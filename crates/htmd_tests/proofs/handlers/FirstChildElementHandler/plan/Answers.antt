@@ -3,7 +3,7 @@ use Rattle.std.proofs.Common.{◌≡◌, ◌∙◌, sym, ap, subst, ℕ, List, S
 use Rattle.std.specs.List.{Contains, slice_get}
 use Rattle.std.specs.Option.{option_copied}
 use Rattle.std.proofs.lemmas.Option.{slice_get_within, get_or_from_slice_get}
-use Rattle.htmd_tree.specs.Items.{Item, children_of, child}
+use Rattle.htmd_nodes.specs.Items.{Item, children_of, child}
 use Rattle.htmd_tests.proofs.handlers.FirstChildElementHandler.plan.Goals as goal
 
 -- what is got at a place is contained

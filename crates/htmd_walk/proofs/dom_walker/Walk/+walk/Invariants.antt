@@ -1,5 +1,5 @@
 use Rattle.std.proofs.Common.{◌≡◌, ℕ, suc, ◌+◌, ◌-◌, ◌*◌, ◌≤◌, length, drop, All}
-use Rattle.htmd_tree.specs.NumberedTrees.{forest_of, tree_of, height}
+use Rattle.htmd_nodes.specs.NumberedTrees.{forest_of, tree_of, height}
 use Rattle.htmd_walk.specs.Choice.{Config}
 use Rattle.htmd_walk.specs.Groups.{groups_of, children_at}
 use Rattle.htmd_walk.specs.Outputs.{conversion_of}

@@ -1,5 +1,5 @@
 use Rattle.std.proofs.Common.{rules, ◌<◌, length, sym, ◌∙◌}
-use Rattle.htmd_tree.proofs.ItemsLemmas.{child_read}
+use Rattle.htmd_nodes.proofs.ItemsLemmas.{child_read}
 use Rattle.htmd_walk.proofs.ChildListsLemmas.{any_here, none_more, none_all, child_within}
 use Rattle.htmd_walk.proofs.ImagesLemmas.{shows_image, image-any, image-here, image-below}
 use Rattle.htmd_walk.proofs.element_handler.anchor.+holds_image.Goals as goal

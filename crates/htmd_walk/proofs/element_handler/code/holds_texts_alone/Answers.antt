@@ -2,8 +2,8 @@
 use Rattle.std.proofs.Common.{◌&&◌, ◌+◌, ap, sym, ◌∙◌, drop}
 use Rattle.std.specs.List.{list_all}
 use Rattle.std.proofs.lemmas.List.{drop_all}
-use Rattle.htmd_tree.specs.Items.{data_at}
-use Rattle.htmd_tree.proofs.ItemsLemmas.{child_read}
+use Rattle.htmd_nodes.specs.Items.{data_at}
+use Rattle.htmd_nodes.proofs.ItemsLemmas.{child_read}
 use Rattle.htmd_walk.specs.Rendering.{is_text}
 use Rattle.htmd_walk.proofs.CodeLemmas.{all-step}
 use Rattle.htmd_walk.proofs.element_handler.code.holds_texts_alone.Goals as goal

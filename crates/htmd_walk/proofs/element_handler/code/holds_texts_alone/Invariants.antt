@@ -1,7 +1,7 @@
 -- The children so far are texts.
 use Rattle.std.proofs.Common.{◌≡◌, drop}
 use Rattle.std.specs.List.{list_all}
-use Rattle.htmd_tree.specs.Items.{data_at}
+use Rattle.htmd_nodes.specs.Items.{data_at}
 use Rattle.htmd_walk.specs.Rendering.{is_text}
 use Rattle.htmd_walk.proofs.element_handler.code.holds_texts_alone.Given as goal
 

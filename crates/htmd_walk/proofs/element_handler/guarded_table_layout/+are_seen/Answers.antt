@@ -1,5 +1,5 @@
 use Rattle.std.proofs.Common.{rules, ◌≡◌, ◌<◌, length, sym, ap, ◌∙◌, Some, false}
-use Rattle.htmd_tree.proofs.ItemsLemmas.{child_read}
+use Rattle.htmd_nodes.proofs.ItemsLemmas.{child_read}
 use Rattle.htmd_walk.proofs.ChildListsLemmas.{any_here, none_more, none_all, child_within}
 use Rattle.htmd_walk.proofs.SightsLemmas.{is_seen_at, seen-any, sight-own, sight-below}
 use Rattle.htmd_walk.proofs.element_handler.guarded_table_layout.+are_seen.Goals as goal

@@ -1,6 +1,6 @@
 use Rattle.std.proofs.Common.{◌≡◌, map}
 use Rattle.htmd_markdown.specs.Lists.{block_of}
-use Rattle.htmd_tree.specs.Items.{tag_of, data_at}
+use Rattle.htmd_nodes.specs.Items.{tag_of, data_at}
 use Rattle.htmd_walk.specs.Lists.{block_of_child}
 use Rattle.htmd_walk.specs.Views.{result_view}
 use Rattle.htmd_walk.proofs.element_handler.list.list_blocks.Given as goal

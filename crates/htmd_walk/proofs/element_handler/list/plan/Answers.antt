@@ -1,5 +1,5 @@
 use Rattle.std.proofs.Common.{sym, ◌∙◌, subst, All}
-use Rattle.htmd_tree.specs.Items.{IsBelow}
+use Rattle.htmd_nodes.specs.Items.{IsBelow}
 use Rattle.htmd_walk.proofs.ChildListsLemmas.{children_proper}
 use Rattle.htmd_walk.proofs.element_handler.list.plan.Goals as goal
 

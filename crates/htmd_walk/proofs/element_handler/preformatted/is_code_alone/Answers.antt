@@ -1,5 +1,5 @@
 use Rattle.std.proofs.Common.{arith}
-use Rattle.htmd_tree.proofs.ItemsLemmas.{child_read}
+use Rattle.htmd_nodes.proofs.ItemsLemmas.{child_read}
 use Rattle.htmd_walk.proofs.element_handler.preformatted.is_code_alone.Goals as goal
 
 pub tag_name-requires : goal.tag_name-requires

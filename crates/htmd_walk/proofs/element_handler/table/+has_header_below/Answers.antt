@@ -1,5 +1,5 @@
 use Rattle.std.proofs.Common.{rules, ◌<◌, length, sym, ◌∙◌}
-use Rattle.htmd_tree.proofs.ItemsLemmas.{child_read}
+use Rattle.htmd_nodes.proofs.ItemsLemmas.{child_read}
 use Rattle.htmd_walk.proofs.ChildListsLemmas.{any_here, none_more, none_all, child_within}
 use Rattle.htmd_walk.proofs.TableHeadersLemmas.{shows_header_deeper, header_below-any, shown_deeper, table_shown}
 use Rattle.htmd_walk.proofs.TableHeadersLemmas.{other_shown}

@@ -1,5 +1,5 @@
 use Rattle.std.proofs.Common.{sym, ◌∙◌, arith}
-use Rattle.htmd_tree.specs.Items.{data_at}
+use Rattle.htmd_nodes.specs.Items.{data_at}
 use Rattle.htmd_walk.specs.Tables.{is_cell}
 use Rattle.htmd_walk.proofs.TableHeadersLemmas.{cell-tag, any-root, any-hit, any-miss}
 use Rattle.htmd_walk.proofs.element_handler.table.is_in_cell.Goals as goal

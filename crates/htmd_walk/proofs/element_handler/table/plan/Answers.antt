@@ -1,5 +1,5 @@
 use Rattle.std.proofs.Common.{sym, ap, ◌∙◌, subst, All}
-use Rattle.htmd_tree.specs.Items.{IsBelow}
+use Rattle.htmd_nodes.specs.Items.{IsBelow}
 use Rattle.htmd_walk.specs.TableLayouts.{Layout, nodes_of}
 use Rattle.htmd_walk.specs.TableViews.{parts_view}
 use Rattle.htmd_walk.proofs.TableNodesLemmas.{layout-proper}

@@ -1,5 +1,5 @@
 use Rattle.std.proofs.Common.{sym, ap, ◌∙◌, subst, All, map}
-use Rattle.htmd_tree.specs.Items.{IsBelow}
+use Rattle.htmd_nodes.specs.Items.{IsBelow}
 use Rattle.htmd_walk.specs.GuardedTableLayouts.{nodes_of_lines}
 use Rattle.htmd_walk.specs.GuardedTableViews.{line_view}
 use Rattle.htmd_walk.proofs.GuardedNodesLemmas.{lines-proper}

@@ -1,8 +1,8 @@
 use Rattle.std.proofs.Common.{◌≡◌, [], ◌∷◌, codes, refl, sym, ◌∙◌, arith}
 use Rattle.std.proofs.lemmas.Grind.{common_steps}
-use Rattle.htmd_tree.specs.Items.{Data, document_node, doctype_node, text_node, comment_node, element_node}
-use Rattle.htmd_tree.specs.Items.{data_at, tag_of}
-use Rattle.htmd_tree.specs.Ancestors.{ancestor_of}
+use Rattle.htmd_nodes.specs.Items.{Data, document_node, doctype_node, text_node, comment_node, element_node}
+use Rattle.htmd_nodes.specs.Items.{data_at, tag_of}
+use Rattle.htmd_nodes.specs.Ancestors.{ancestor_of}
 use Rattle.htmd_walk.specs.ElementPlans.{is_tag_among}
 use Rattle.htmd_walk.specs.ThematicBreaks.{is_item}
 use Rattle.htmd_walk.proofs.TableHeadersLemmas.{any-root, any-hit, any-miss}

@@ -1,6 +1,6 @@
 use Rattle.std.proofs.Common.{◌≡◌, ◌<◌, length}
 use Rattle.std.specs.List.{list_any}
-use Rattle.htmd_tree.specs.Ancestors.{ancestors_of}
+use Rattle.htmd_nodes.specs.Ancestors.{ancestors_of}
 use Rattle.htmd_walk.specs.ThematicBreaks.{is_item}
 use Rattle.htmd_walk.proofs.element_handler.thematic_break.is_below_item.Given as goal
 

@@ -7,12 +7,12 @@ use Rattle.std.specs.Option.{option_copied, is_some}
 use Rattle.std.proofs.lemmas.List.{map-append, length-map}
 use Rattle.std.proofs.lemmas.Bool.{eqb-true}
 use Rattle.std.proofs.lemmas.Result.{IfOk-weaker}
-use Rattle.htmd_tree.specs.Items.{Item, Data, IsBelow, data_at, element_node}
+use Rattle.htmd_nodes.specs.Items.{Item, Data, IsBelow, data_at, element_node}
 use Rattle.htmd_grammar.specs.Attributes.{pairs_of}
-use Rattle.htmd_tree.specs.Views.{data_of}
-use Rattle.htmd_tree.specs.NumberedTrees.{tree_of, height}
-use Rattle.htmd_tree.specs.Ancestors.{ancestor_of, ancestors_of}
-use Rattle.htmd_tree.proofs.NumberedTreesLemmas.{height_pos}
+use Rattle.htmd_nodes.specs.Views.{data_of}
+use Rattle.htmd_nodes.specs.NumberedTrees.{tree_of, height}
+use Rattle.htmd_nodes.specs.Ancestors.{ancestor_of, ancestors_of}
+use Rattle.htmd_nodes.proofs.NumberedTreesLemmas.{height_pos}
 use Rattle.htmd_walk.specs.Handling.{ResultView}
 use Rattle.htmd_walk.specs.OrdinaryText.{in_pre_or_code, with_written_text}
 use Rattle.htmd_walk.specs.Outputs.{Output, conversion_of, context_of, empty_output, is_guarded}

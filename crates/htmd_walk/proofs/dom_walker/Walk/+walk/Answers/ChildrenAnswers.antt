@@ -6,7 +6,7 @@ use Rattle.std.proofs.Common.{string_bytes}
 use Rattle.std.specs.Option.{option_copied}
 use Rattle.std.proofs.lemmas.List.Elements.{All-drop}
 use Rattle.std.proofs.Math.Nat.{mul-le-mul_right}
-use Rattle.htmd_tree.specs.NumberedTrees.{forest_of, tree_of}
+use Rattle.htmd_nodes.specs.NumberedTrees.{forest_of, tree_of}
 use Rattle.htmd_walk.specs.OrdinaryText.{in_pre_or_code}
 use Rattle.htmd_walk.specs.Groups.{groups_of, group_length, group_text, children_at}
 use Rattle.htmd_walk.specs.Outputs.{conversion_of}

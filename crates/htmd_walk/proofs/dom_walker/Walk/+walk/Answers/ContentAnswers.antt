@@ -5,8 +5,8 @@ use Rattle.std.proofs.Common.{Some, sym, ap, subst, length, codes}
 use Rattle.std.proofs.Common.{string_bytes}
 use Rattle.std.specs.Option.{option_copied}
 use Rattle.std.specs.Str.{bytes_eq}
-use Rattle.htmd_tree.specs.Items.{Item, element_node, data_at}
-use Rattle.htmd_tree.specs.Ancestors.{ancestor_of, ancestors_of}
+use Rattle.htmd_nodes.specs.Items.{Item, element_node, data_at}
+use Rattle.htmd_nodes.specs.Ancestors.{ancestor_of, ancestors_of}
 use Rattle.htmd_grammar.specs.Attributes.{pairs_of}
 use Rattle.htmd_walk.specs.OrdinaryText.{in_pre_or_code, parent_is_pre, with_written_text}
 use Rattle.htmd_walk.specs.Groups.{only_text, group_children, children_at}

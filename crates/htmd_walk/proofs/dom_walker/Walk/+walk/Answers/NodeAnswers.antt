@@ -5,12 +5,12 @@ use Rattle.std.proofs.Common.{sym, ap, subst}
 use Rattle.std.proofs.Common.{string_bytes}
 use Rattle.std.specs.Option.{option_copied}
 use Rattle.std.proofs.lemmas.Result.{on_ok_weaker}
-use Rattle.htmd_tree.specs.Serialisation.{comment_of}
-use Rattle.htmd_tree.specs.Items.{data_at, element_node}
-use Rattle.htmd_tree.specs.NumberedTrees.{tree_of, height}
-use Rattle.htmd_tree.specs.Ancestors.{ancestors_of}
+use Rattle.htmd_nodes.specs.Serialisation.{comment_of}
+use Rattle.htmd_nodes.specs.Items.{data_at, element_node}
+use Rattle.htmd_nodes.specs.NumberedTrees.{tree_of, height}
+use Rattle.htmd_nodes.specs.Ancestors.{ancestors_of}
 use Rattle.htmd_grammar.specs.Attributes.{pairs_of}
-use Rattle.htmd_tree.specs.Views.{data_of}
+use Rattle.htmd_nodes.specs.Views.{data_of}
 use Rattle.htmd_walk.specs.OrdinaryText.{parent_is_pre, with_written_text}
 use Rattle.htmd_walk.specs.Groups.{group_children, children_at}
 use Rattle.htmd_walk.specs.Outputs.{Output, conversion_of, context_of, is_markdown_alone, is_guarded}

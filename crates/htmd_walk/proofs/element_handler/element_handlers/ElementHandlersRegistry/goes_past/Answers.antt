@@ -1,9 +1,9 @@
 -- Where the walk goes past, the registrations of the tag say what its handlers would give.
 use Rattle.std.proofs.Common.{◌∙◌, ap, sym, refl, not}
 use Rattle.std.specs.Option.{is_some}
-use Rattle.htmd_tree.specs.Items.{element_node}
+use Rattle.htmd_nodes.specs.Items.{element_node}
 use Rattle.htmd_grammar.specs.Attributes.{pairs_of}
-use Rattle.htmd_tree.specs.Views.{data_of}
+use Rattle.htmd_nodes.specs.Views.{data_of}
 use Rattle.htmd_walk.specs.Handling.{of_functions}
 use Rattle.htmd_walk.specs.RegisteredHandlers.{handler_meaning}
 use Rattle.htmd_walk.specs.Registries.{config_of}

@@ -1,0 +1,11 @@
+-- What an addition changes; how the value tree and the ancestors of a node are made of those of others; what a document
+-- that is laid out denotes; how a node is written, and what its raw HTML reads back as.
+pub mod ItemsLemmas
+pub mod EntriesLemmas
+pub mod NumberedTreesLemmas
+pub mod AncestorsLemmas
+pub mod LayoutLemmas
+pub mod SerialiserLemmas
+pub mod PartsLemmas
+pub mod RawBlockLemmas
+mod Examples

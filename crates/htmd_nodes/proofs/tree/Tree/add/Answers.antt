@@ -1,0 +1,99 @@
+-- What is left to prove of `add`.
+use Rattle.std.proofs.Common.{◌≡◌, ◌<◌, ◌∷◌, [], ◌++◌, List, length, get_or, set, arith, rules, refl, sym, ap, ◌∙◌}
+use Rattle.std.proofs.Common.{subst, ◌+◌, ℕ}
+use Rattle.std.proofs.lemmas.List.{length-map}
+use Rattle.htmd_nodes.specs.declared.children.Children.TheVariants as kept
+use Rattle.htmd_nodes.specs.declared.tree.Entry.{Entry}
+use Rattle.htmd_nodes.specs.Items.{Item, new_item}
+use Rattle.htmd_nodes.specs.Views.{data_of}
+use Rattle.htmd_nodes.specs.Entries.{item_of, items_of, numbers_of, IsStored}
+use Rattle.htmd_nodes.proofs.EntriesLemmas.{items_of-set, items_of-added, IsStored-kept, IsStored-added, last_item}
+use Rattle.htmd_nodes.proofs.tree.Tree.add.Goals as goal
+
+pub invariant_of-self-in_err-push_child : goal.invariant_of-self-in_err-push_child
+invariant_of-self-in_err-push_child c =
+    let entries : List Entry = c.reserve.new.self.items in
+    let i : ℕ = c.parent-2.inside.index in
+    let old : Entry = c.index_mut.result.now in
+    let children = c.push_child.new.self in
+    let new : Entry = record { «data» = old.data; parent = old.parent; depth = old.depth; children = children }
+    in
+    let items : items_of entries ≡ c.args.self.now = ap items_of c.reserve.ensures.items ∙ c.self.view_is in
+    let stored : IsStored entries = subst IsStored (sym c.reserve.ensures.items) c.self.invariant in
+    let at : i ≡ c.args.parent = c.parent-2.view_is in
+    let within : i < length entries = omega (arith, length-map entries item_of, ap length items, c.requires.within) in
+    IsStored-kept entries i old new within c.index_mut.ensures.value refl c.in_err-push_child.ensures.err stored
+
+pub returns-in_err-push_child-clause-err : goal.returns-in_err-push_child-clause-err
+returns-in_err-push_child-clause-err c =
+    let entries : List Entry = c.reserve.new.self.items in
+    let i : ℕ = c.parent-2.inside.index in
+    let old : Entry = c.index_mut.result.now in
+    let children = c.push_child.new.self in
+    let new : Entry = record { «data» = old.data; parent = old.parent; depth = old.depth; children = children }
+    in
+    let items : items_of entries ≡ c.args.self.now = ap items_of c.reserve.ensures.items ∙ c.self.view_is in
+    let stored : IsStored entries = subst IsStored (sym c.reserve.ensures.items) c.self.invariant in
+    let at : i ≡ c.args.parent = c.parent-2.view_is in
+    let within : i < length entries = omega (arith, length-map entries item_of, ap length items, c.requires.within) in
+    let same : items_of (set entries i new) ≡ c.args.self.now =
+    items_of-set entries i old new c.index_mut.ensures.value refl ∙ items in
+    search (rules, same)
+
+pub invariant_of-self-2 : goal.invariant_of-self-2
+invariant_of-self-2 c =
+    let entries : List Entry = c.reserve.new.self.items in
+    let i : ℕ = c.parent-2.inside.index in
+    let old : Entry = c.index_mut.result.now in
+    let children = c.push_child.new.self in
+    let new : Entry = record { «data» = old.data; parent = old.parent; depth = old.depth; children = children }
+    in
+    let items : items_of entries ≡ c.args.self.now = ap items_of c.reserve.ensures.items ∙ c.self.view_is in
+    let stored : IsStored entries = subst IsStored (sym c.reserve.ensures.items) c.self.invariant in
+    let at : i ≡ c.args.parent = c.parent-2.view_is in
+    let within : i < length entries = omega (arith, length-map entries item_of, ap length items, c.requires.within) in
+    let last : Entry = record {
+      «data» = c.args.node_data;
+      parent = c.args.parent;
+      depth = c.index.result.now.depth
+          + 1;
+      children = kept.None;
+    } in
+    let read : c.index.result.now ≡ get_or entries i c.index.result.now = c.index.ensures
+    ∙ (ap (λ (x : List Entry). get_or x c.parent.inside.index c.index.result.now) (sym c.reserve.ensures.items)
+    ∙ ap (λ n. get_or entries n c.index.result.now) (c.parent.view_is ∙ sym at)) in
+    let this : item_of last ≡ new_item (items_of entries) i (data_of c.args.node_data) =
+    last_item entries i c.index.result.now last within read (sym at) refl in
+    let number : c.len.result ≡ length entries = c.len.ensures ∙ search rules in
+    subst IsStored (sym c.in_ok-push.ensures.items)
+    (IsStored-added entries i old new last within c.index_mut.ensures.value refl (c.in_ok-push_child.ensures.ok
+    ∙ ap (λ n. numbers_of old.children ++ n ∷ []) number)
+    this refl (rw (items, at) c.requires.holds) (rw (items, at) c.requires.shallow) stored)
+
+pub returns-clause-ok : goal.returns-clause-ok
+returns-clause-ok c =
+    let entries : List Entry = c.reserve.new.self.items in
+    let i : ℕ = c.parent-2.inside.index in
+    let old : Entry = c.index_mut.result.now in
+    let children = c.push_child.new.self in
+    let new : Entry = record { «data» = old.data; parent = old.parent; depth = old.depth; children = children }
+    in
+    let items : items_of entries ≡ c.args.self.now = ap items_of c.reserve.ensures.items ∙ c.self.view_is in
+    let stored : IsStored entries = subst IsStored (sym c.reserve.ensures.items) c.self.invariant in
+    let at : i ≡ c.args.parent = c.parent-2.view_is in
+    let within : i < length entries = omega (arith, length-map entries item_of, ap length items, c.requires.within) in
+    let last : Entry = record {
+      «data» = c.args.node_data;
+      parent = c.args.parent;
+      depth = c.index.result.now.depth
+          + 1;
+      children = kept.None;
+    } in
+    let read : c.index.result.now ≡ get_or entries i c.index.result.now = c.index.ensures
+    ∙ (ap (λ (x : List Entry). get_or x c.parent.inside.index c.index.result.now) (sym c.reserve.ensures.items)
+    ∙ ap (λ n. get_or entries n c.index.result.now) (c.parent.view_is ∙ sym at)) in
+    let this : item_of last ≡ new_item (items_of entries) i (data_of c.args.node_data) =
+    last_item entries i c.index.result.now last within read (sym at) refl in
+    ap items_of c.in_ok-push.ensures.items
+    ∙ (items_of-added entries i old new last c.index_mut.ensures.value refl
+    ∙ (ap (λ (x : Item). items_of entries ++ x ∷ []) this ∙ rw (items, at) refl))

@@ -1,0 +1,13 @@
+//! Trees of HTML nodes. A tree is its nodes in order of addition; a node denotes a value tree and a list of ancestors,
+//! and nodes are only added, each as the last child of its parent. A node is written as HTML by the serialisation of
+//! its value tree, and as a block of raw HTML, in which references stand for the line ends that would make blank lines.
+#![tactic(auto, using(std::proofs::lemmas::Grind::common_steps))]
+
+mod children;
+pub mod laws;
+mod serialiser;
+mod tree;
+
+pub use htmd_grammar::Attribute;
+pub use serialiser::{is_void, push_end_tag, push_start_tag, raw_block, serialize};
+pub use tree::{MAX_DEPTH, NodeData, NodeId, Tree, TreeError};

@@ -1,8 +1,0 @@
--- What is left to prove of `allows`.
-use Rattle.std.proofs.Common.{◌∙◌}
-use Rattle.htmd_reader.proofs.SurroundingsLemmas.{flags_allow-is}
-use Rattle.htmd_reader.proofs.reader.surroundings.Surroundings.allows.Goals as goal
-
-pub returns : goal.returns
-returns c = λ scripting above e.
-    c.fits.ensures ∙ flags_allow-is scripting above c.args.self c.args.name.now e

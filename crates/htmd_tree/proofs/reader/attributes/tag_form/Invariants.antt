@@ -1,0 +1,17 @@
+-- The attributes so far, and the form of what is left.
+use Rattle.std.proofs.Common.{◌≡◌, suc, length}
+use denote.Text.{Utf8}
+use denote.Shadow.{shadow}
+use Rattle.htmd_grammar.specs.TagReading.{form_within}
+use Rattle.htmd_tree.specs.TagParts.{all_spelled_of, with_attributes}
+use Rattle.htmd_tree.proofs.reader.attributes.tag_form.Given as goal
+
+abbrev pub invariant-loop-attributes : goal.invariant-loop-attributes
+invariant-loop-attributes l = record {
+  is_text : shadow (Utf8 l.behind);
+  whole : with_attributes (all_spelled_of l.attributes.items) (form_within (suc (length l.behind)) l.behind)
+      ≡ form_within (suc (length l.text)) l.text;
+}
+
+abbrev pub decreases-loop-attributes : goal.decreases-loop-attributes
+decreases-loop-attributes l = length l.behind

@@ -1,0 +1,16 @@
+-- What the loop of `normalized` keeps.
+use denote.Shadow.{shadow}
+use denote.Text.{Utf8}
+use Rattle.std.proofs.Common.{◌≡◌, ◌++◌, length}
+use Rattle.std.specs.String.{string_bytes}
+use Rattle.htmd_grammar.specs.Comments.{normalized}
+use Rattle.htmd_tree.proofs.reader.raw_text.normalized.Given as goal
+
+abbrev pub invariant-loop-line : goal.invariant-loop-line
+invariant-loop-line l = record {
+  text : shadow (Utf8 l.rest);
+  reads : string_bytes l.lines ++ normalized l.rest ≡ normalized l.text;
+}
+
+abbrev pub decreases-loop-line : goal.decreases-loop-line
+decreases-loop-line l = length l.rest

@@ -1,0 +1,8 @@
+-- What is left to prove of `allows`.
+use Rattle.std.proofs.Common.{◌∙◌}
+use Rattle.htmd_tree.proofs.SurroundingsLemmas.{flags_allow-is}
+use Rattle.htmd_tree.proofs.reader.surroundings.Surroundings.allows.Goals as goal
+
+pub returns : goal.returns
+returns c = λ scripting above e.
+    c.fits.ensures ∙ flags_allow-is scripting above c.args.self c.args.name.now e

@@ -1,8 +1,0 @@
--- The texts of a tree are strings.
-use Rattle.std.proofs.Common.{subst}
-use Rattle.htmd_tree.specs.Items.{HoldTexts}
-use Rattle.htmd_tree.proofs.EntriesLemmas.{texts_hold}
-use Rattle.htmd_tree.proofs.tree.Tree.root.Goals as goal
-
-pub returns-clause-texts : goal.returns-clause-texts
-returns-clause-texts c = subst HoldTexts c.self.view_is (texts_hold c.self.inside.entries.items)

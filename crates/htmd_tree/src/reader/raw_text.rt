@@ -1,0 +1,139 @@
+//! Content of elements that hold only text (HTML Standard, 13.1.2): text without references, up to the element's own
+//! end tag.
+ghost use Rattle.std.specs.Prelude.{◌≡◌, ◌≤◌, [], length, codes, ◌++◌, ◌∷◌, IfOk, OnOk, string_bytes, ◌<◌, true};
+ghost use Rattle.std.specs.Prelude.{false};
+ghost use Rattle.htmd_grammar.specs.CharacterClasses.{begins_with, up_to, is_empty, onward};
+ghost use Rattle.htmd_grammar.specs.Characters.{carriage_return};
+ghost use Rattle.htmd_grammar.specs.Documents.{above_body};
+ghost use Rattle.htmd_grammar.specs.RawContent.{ends_text, holds_raw_text, text_of};
+ghost use Rattle.htmd_grammar.specs.Steps.{raw_text_step};
+ghost use Rattle.htmd_tree.specs.OpenNodes.{IsReading, innermost_name, WhateverIsOpen};
+ghost use Rattle.htmd_tree.specs.Advances.{Follows, rules_of};
+ghost use Rattle.htmd_grammar.specs.RawContent as spec;
+ghost use Rattle.htmd_grammar.specs.Comments as comments;
+
+use crate::reader::scan::{begins_in_any_case, first_is};
+use crate::reader::{Reader, Stop};
+use htmd_grammar::FaultKind;
+use htmd_nodes::NodeData;
+use std::alloc::{AllocError, Global};
+
+/// Whether a tag's name ends here: white space, `/` or `>`.
+fn ends_name(bytes: &[u8]) -> bool
+    ensures { result ≡ spec.goes_on_with_name [] bytes.now }
+{
+    match bytes {
+        [first, ..] => first.is_ascii_whitespace() || *first == b'/' || *first == b'>',
+        [] => false,
+    }
+}
+
+/// Whether the text begins with this name, in any ASCII case, and it ends there.
+fn goes_on_with_name(bytes: &[u8], name: &[u8]) -> bool
+    ensures { result ≡ spec.goes_on_with_name name.now bytes.now }
+{
+    let mut rest = bytes;
+    for character in name {
+        match rest {
+            [first, behind @ ..] if first.to_ascii_lowercase() == *character => rest = behind,
+            _ => return false,
+        }
+    }
+    ends_name(rest)
+}
+
+/// Whether the end of raw content of an element with this name begins here.
+pub(crate) fn begins_own_end(bytes: &[u8], name: &[u8]) -> bool
+    ensures { result ≡ spec.begins_own_end name.now bytes.now }
+{
+    match bytes {
+        [b'<', b'/', behind @ ..] => goes_on_with_name(behind, name),
+        _ => false,
+    }
+}
+
+/// How many bytes are before the end of raw content of an element with this name.
+pub(crate) fn raw_content_len(bytes: &[u8], name: &[u8]) -> usize
+    ensures bound { result ≤ length bytes.now }
+    ensures value { result ≡ length (up_to (spec.begins_own_end name.now) bytes.now) }
+{
+    let mut len = 0;
+    while len < bytes.len() && !begins_own_end(&bytes[len..], name) {
+        len += 1;
+    }
+    len
+}
+
+/// Whether the text begins with `<!--`.
+fn begins_comment(bytes: &[u8]) -> bool
+    ensures { result ≡ begins_with (codes "<!--") bytes.now }
+{
+    matches!(bytes, [b'<', b'!', b'-', b'-', ..])
+}
+
+/// Whether the text has `<!--`, and later `<script` in any case.
+pub(crate) fn has_script_escape(bytes: &[u8]) -> bool
+    ensures { result ≡ spec.has_script_escape bytes.now }
+{
+    let mut escaped = false;
+    for i in 0..bytes.len() {
+        let rest = &bytes[i..];
+        if !escaped {
+            escaped = begins_comment(rest);
+        } else if begins_in_any_case(rest, b"<script") {
+            return true;
+        }
+    }
+    false
+}
+
+/// Appends the line end of a CR to lines: none if it is part of CR LF.
+fn push_line_end(lines: &mut String, behind: &str) -> Result<(), AllocError>
+    ensures { OnOk result (string_bytes lines.new ++ comments.normalized behind.now
+        ≡ string_bytes lines.old ++ comments.normalized (carriage_return ∷ behind.now)) }
+{
+    if first_is(behind.as_bytes(), b'\n') {
+        Ok(())
+    } else {
+        lines.push('\n')
+    }
+}
+
+/// The text with a line feed for each CR LF and each lone CR.
+pub(crate) fn normalized(alloc: Global, text: &str) -> Result<String, AllocError>
+    ensures { IfOk result (λ t. string_bytes t ≡ comments.normalized text.now) }
+{
+    let mut lines = String::new(alloc);
+    let mut rest = text;
+    while let Some((line, behind)) = rest.split_once('\r') {
+        lines.push_str(line)?;
+        push_line_end(&mut lines, behind)?;
+        rest = behind;
+    }
+    lines.push_str(rest)?;
+    Ok(lines)
+}
+
+impl<'a> Reader<'a> {
+    /// Reads text without references, up to what ends it.
+    pub(super) fn read_raw_text(&mut self) -> Result<(), Stop>
+        requires reading { IsReading self.old }
+        requires more { is_empty self.old.rest.now ≡ false }
+        ensures follows { WhateverIsOpen self.old (λ has_doctype fs.
+            holds_raw_text self.old.scripting (innermost_name fs) ≡ true
+            → Follows self.old self.new has_doctype result (raw_text_step (rules_of self.old) above_body fs
+            (text_of (rules_of self.old) (innermost_name fs)
+            (up_to (ends_text self.old.scripting (innermost_name fs)) self.old.rest.now))
+            (onward (ends_text self.old.scripting (innermost_name fs)) self.old.rest.now))) }
+        ensures reading { OnOk result (IsReading self.new) }
+    {
+        let name = self.innermost_name();
+        let len = raw_content_len(self.rest.as_bytes(), name.as_bytes());
+        let (content, rest) = self.rest.split_at(len);
+        if name == "script" && has_script_escape(content.as_bytes()) {
+            return Err(self.refused(FaultKind::ScriptEscape));
+        }
+        let text = normalized(self.alloc, content)?;
+        self.add_leaf(NodeData::Text(text), rest)
+    }
+}

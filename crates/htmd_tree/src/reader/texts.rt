@@ -1,0 +1,220 @@
+//! Texts: runs of characters and references.
+ghost use Rattle.std.specs.Prelude.{◌≡◌, ◌<◌, ◌≤◌, Bool, List, ℕ, false, length, slice_index, string_bytes, IfOk};
+ghost use Rattle.std.specs.Prelude.{OnOk, MatchResult};
+ghost use Rattle.std.specs.Str.{IsUtf8};
+ghost use Rattle.htmd_grammar.specs.CharacterClasses.{leading_run, is_empty};
+ghost use Rattle.htmd_grammar.specs.Steps.{OpenElement};
+ghost use Rattle.htmd_tree.specs.declared.reader.Stop.TheVariants.{Refused};
+ghost use Rattle.htmd_tree.specs.TextRuns.{is_plain, is_run_end, TellsOfText, Pushes, ReadsRun, IsCharacterIn};
+ghost use Rattle.htmd_tree.specs.TextRuns.{IsFaultIn};
+ghost use Rattle.htmd_tree.specs.OpenNodes.{IsReading, innermost_name, WhateverIsOpen};
+ghost use Rattle.htmd_tree.specs.Advances.{Advances, IsAtText};
+
+use crate::reader::raw_text::begins_own_end;
+use crate::reader::references::{Character, character_at};
+use crate::reader::scan::begins_markup;
+use crate::reader::{Reader, Stop};
+use htmd_grammar::FaultKind;
+use htmd_nodes::NodeData;
+use std::alloc::Global;
+
+/// What is kept of the open elements for a text in them.
+#[derive(Clone, Copy, Drop)]
+pub(crate) struct TextSurroundings {
+    /// Its element's own end tag ends it; elsewhere markup does.
+    pub(crate) alone: bool,
+    /// The text is between the parts of a table, and is white space.
+    pub(crate) parts: bool,
+    /// A text there would be too deep.
+    pub(crate) too_deep: bool,
+}
+
+/// Whether a character stands for itself and may be there, as its first byte tells.
+fn is_plain(byte: u8, parts: bool) -> bool
+    ensures { result ≡ is_plain parts byte }
+{
+    if parts {
+        byte.is_ascii_whitespace() && byte != b'\r'
+    } else {
+        byte != b'<' && byte != b'&' && byte != b'\r'
+    }
+}
+
+/// How many bytes at the beginning are plain.
+fn plain_len(bytes: &[u8], parts: bool) -> usize
+    ensures bound { result ≤ length bytes.now }
+    ensures value { result ≡ length (leading_run (is_plain parts) bytes.now) }
+{
+    let mut len = 0;
+    while len < bytes.len() && is_plain(bytes[len], parts) {
+        len += 1;
+    }
+    len
+}
+
+/// Whether a run ends here, in an element with this name.
+fn is_run_end(bytes: &[u8], name: &[u8], alone: bool) -> bool
+    ensures { result ≡ is_run_end alone name.now bytes.now }
+{
+    if bytes.is_empty() {
+        return true;
+    }
+    if alone {
+        begins_own_end(bytes, name)
+    } else {
+        begins_markup(bytes)
+    }
+}
+
+/// The character where the text begins, if it may be there.
+fn character_in(bytes: &[u8], parts: bool) -> Result<Character, FaultKind>
+    requires more { 0 < length bytes.now }
+    requires special { is_plain parts (slice_index bytes.now 0) ≡ false }
+    ensures { MatchResult result (IsCharacterIn parts bytes.now) (IsFaultIn parts bytes.now) }
+{
+    let (first, behind) = (bytes[0], &bytes[1..]);
+    if !first.is_ascii() {
+        return Err(FaultKind::StrayText);
+    }
+    let character = character_at(first, behind)?;
+    if parts && !character.value.is_ascii_whitespace() {
+        return Err(FaultKind::StrayText);
+    }
+    Ok(character)
+}
+
+/// The stop for a fault where the text begins.
+fn refused(text: &str, kind: FaultKind) -> Stop
+    ensures { result ≡ Refused (length text.now) kind }
+{
+    Stop::Refused {
+        left: text.len(),
+        kind,
+    }
+}
+
+/// Appends the plain characters with which the text begins to a run. What is left is answered.
+fn push_plain<'a>(
+    run: &mut String,
+    around: TextSurroundings,
+    text: &'a str,
+    len: usize,
+) -> Result<&'a str, Stop>
+    requires some { 0 < len }
+    requires plain { len ≡ length (leading_run (is_plain around.parts) text.now) }
+    ensures steps { (scripting : Bool) (n : List ℕ) (fs : List OpenElement)
+        → TellsOfText scripting around n fs
+        → Pushes scripting fs (string_bytes run.old) text.now (string_bytes run.new) result }
+    ensures shorter { IfOk result (λ rest. length rest.now < length text.now) }
+    ensures text { IfOk result (λ rest. IsUtf8 rest.now) }
+    ensures longer { OnOk result (0 < length (string_bytes run.new)) }
+    ensures deep { OnOk result (around.too_deep ≡ false) }
+{
+    if around.too_deep {
+        return Err(refused(text, FaultKind::TooDeep));
+    }
+    let (front, rest) = text.split_at(len);
+    run.push_str(front)?;
+    Ok(rest)
+}
+
+/// Appends the character with which the text begins, which isn't plain, to a run. What is left is answered.
+fn push_special<'a>(
+    run: &mut String,
+    around: TextSurroundings,
+    text: &'a str,
+) -> Result<&'a str, Stop>
+    requires more { 0 < length text.now }
+    requires special { is_plain around.parts (slice_index text.now 0) ≡ false }
+    ensures steps { (scripting : Bool) (n : List ℕ) (fs : List OpenElement)
+        → TellsOfText scripting around n fs → is_run_end around.alone n text.now ≡ false
+        → Pushes scripting fs (string_bytes run.old) text.now (string_bytes run.new) result }
+    ensures shorter { IfOk result (λ rest. length rest.now < length text.now) }
+    ensures text { IfOk result (λ rest. IsUtf8 rest.now) }
+    ensures longer { OnOk result (0 < length (string_bytes run.new)) }
+    ensures deep { OnOk result (around.too_deep ≡ false) }
+{
+    match character_in(text.as_bytes(), around.parts) {
+        Ok(character) => {
+            if around.too_deep {
+                return Err(refused(text, FaultKind::TooDeep));
+            }
+            run.push(character.value)?;
+            Ok(&text[1 + character.behind..])
+        }
+        Err(kind) => Err(refused(text, kind)),
+    }
+}
+
+/// Appends what comes next in a text to a run: plain characters, or one other. What is left is answered.
+fn push_next<'a>(run: &mut String, around: TextSurroundings, text: &'a str) -> Result<&'a str, Stop>
+    requires more { 0 < length text.now }
+    ensures steps { (scripting : Bool) (n : List ℕ) (fs : List OpenElement)
+        → TellsOfText scripting around n fs → is_run_end around.alone n text.now ≡ false
+        → Pushes scripting fs (string_bytes run.old) text.now (string_bytes run.new) result }
+    ensures shorter { IfOk result (λ rest. length rest.now < length text.now) }
+    ensures text { IfOk result (λ rest. IsUtf8 rest.now) }
+    ensures longer { OnOk result (0 < length (string_bytes run.new)) }
+    ensures deep { OnOk result (around.too_deep ≡ false) }
+{
+    let len = plain_len(text.as_bytes(), around.parts);
+    if len == 0 {
+        push_special(run, around, text)
+    } else {
+        push_plain(run, around, text, len)
+    }
+}
+
+/// What the characters and references denote up to what ends them, and what is left.
+pub(crate) fn read_run<'a>(
+    alloc: Global,
+    text: &'a str,
+    name: &[u8],
+    around: TextSurroundings,
+) -> Result<(String, &'a str), Stop>
+    requires more { 0 < length text.now }
+    ensures steps { (scripting : Bool) (fs : List OpenElement) → TellsOfText scripting around name.now fs
+        → is_run_end around.alone name.now text.now ≡ false
+        → ReadsRun scripting fs around name.now text.now result }
+    ensures shorter { IfOk result (λ r. length r.1.now < length text.now) }
+    ensures longer { IfOk result (λ r. 0 < length (string_bytes r.0)) }
+    ensures deep { OnOk result (around.too_deep ≡ false) }
+{
+    let mut run = String::new(alloc);
+    let mut rest = push_next(&mut run, around, text)?;
+    while !is_run_end(rest.as_bytes(), name, around.alone) {
+        rest = push_next(&mut run, around, rest)?;
+    }
+    Ok((run, rest))
+}
+
+impl<'a> Reader<'a> {
+    /// What the innermost open element asks of its texts.
+    fn text_surroundings(&self) -> TextSurroundings
+        requires reading { IsReading self.now }
+        ensures { WhateverIsOpen self.now (λ has_doctype fs. IsAtText self.now fs
+            → TellsOfText self.now.scripting result (innermost_name fs) fs) }
+    {
+        let around = self.top().surroundings;
+        TextSurroundings {
+            alone: around.text_alone,
+            parts: around.parts,
+            too_deep: self.is_too_deep(),
+        }
+    }
+
+    /// Reads a text with references, up to what ends it.
+    pub(super) fn read_text(&mut self) -> Result<(), Stop>
+        requires reading { IsReading self.old }
+        requires more { is_empty self.old.rest.now ≡ false }
+        ensures advances { WhateverIsOpen self.old (λ has_doctype fs.
+            IsAtText self.old fs → Advances self.old self.new has_doctype fs result) }
+        ensures reading { OnOk result (IsReading self.new) }
+        ensures shorter { OnOk result (length self.new.rest.now < length self.old.rest.now) }
+    {
+        let around = self.text_surroundings();
+        let name = self.innermost_name().as_bytes();
+        let (run, rest) = read_run(self.alloc, self.rest, name, around)?;
+        self.add_leaf(NodeData::Text(run), rest)
+    }
+}
