@@ -1,7 +1,7 @@
 -- A part of a settled text is settled, if it ends where no reference goes on.
 use Rattle.std.proofs.Common.{◌≡◌, ℕ, Bool, true, false, not, ◌&&◌, List, [], ◌∷◌, ◌++◌, Option, Some, None, length}
 use Rattle.std.proofs.Common.{drop, map, refl, sym, ap, ◌∙◌, codes, append_assoc, subst, arith}
-use Rattle.std.specs.Prelude.{◌==◌, ◌||◌, if◌then◌else◌}
+use Rattle.std.specs.Prelude.{◌==◌, if◌then◌else◌}
 use Rattle.std.specs.Char.{is_ascii_alphanumeric, is_ascii_alphabetic, to_ascii_lowercase}
 use Rattle.std.specs.List.{list_all}
 use Rattle.std.specs.Str.{bytes_eq}
@@ -9,7 +9,7 @@ use Rattle.std.proofs.lemmas.Bool.{and_parts, or_parts, not-true, eqb-true, true
 use Rattle.std.proofs.lemmas.Bool.Decides.{nat_tests}
 use Rattle.htmd_grammar.proofs.Cases.{test}
 use Rattle.htmd_grammar.specs.CharacterClasses.{first_is, begins_with, begins_in_any_case, behind_run, lacks, up_to}
-use Rattle.htmd_grammar.specs.CharacterClasses.{is_tag_name, is_tag_name_byte}
+use Rattle.htmd_grammar.specs.CharacterClasses.{is_tag_name}
 use Rattle.htmd_grammar.specs.RawContent.{begins_markup}
 use Rattle.htmd_grammar.specs.Rules.{named_characters}
 use Rattle.htmd_grammar.specs.Tags.{IsStartTag, IsEndTag, IsTagRest, optional_slash}
@@ -21,7 +21,7 @@ use Rattle.htmd_html5_tokens.specs.NamedReferences.{NamedReference, first_in, ol
 use Rattle.htmd_html5_tokens.specs.References.{goes_on}
 use Rattle.htmd_html5_laws.specs.StrictReferences.{Place, outside, in_tag, after_title, is_in_tag, begins_letter, place_after}
 use Rattle.htmd_html5_laws.specs.StrictReferences.{counts, is_bare_reference, has_bare_reference, IsSettledAt, IsSettled}
-use Rattle.htmd_html5_laws.proofs.StrictPlaces.{covers, covers_tag, covers_itself, begins_title, place_covered, bare_covered}
+use Rattle.htmd_html5_laws.proofs.StrictPlaces.{covers, covers_tag, covers_itself, place_covered, bare_covered}
 use Rattle.htmd_html5_laws.proofs.StrictPlaces.{covered, stays_outside}
 use Rattle.htmd_html5_laws.proofs.StrictReferencesLemmas.{Ending, ending_for_both}
 
