@@ -1,7 +1,10 @@
 /* Tests of the library from C: what no clause can say of the header, of the linking and of real calls. With one request
  * for memory refused after the other it is linked so that malloc and realloc are those below. */
+#define _POSIX_C_SOURCE 200112L
+
 #include "htmd.h"
 
+#include <pthread.h>
 #include <stdio.h>
 #include <stdlib.h>
 #include <string.h>
@@ -208,6 +211,68 @@ static void test_places(void) {
     CHECK(line == 0 && column == 0);
 }
 
+/* Tags that stand around a text so often that it is on one of the last of 1,024 levels. */
+struct nesting {
+    const char *open;
+    const char *close;
+    int levels;
+};
+
+static const struct nesting NESTINGS[] = {
+    {"<div>", "</div>", 1},
+    {"<b>", "</b>", 1},
+    {"<my-tag>", "</my-tag>", 1},
+    {"<ol><li>", "</li></ol>", 2},
+    {"<table><caption>", "</caption></table>", 2},
+    {"<table><tbody><tr><td>", "</td></tr></tbody></table>", 4},
+};
+
+static char *nested(const struct nesting *nesting) {
+    int times = 1021 / nesting->levels; /* of html, body and the text there is one level each */
+    size_t open = strlen(nesting->open), close = strlen(nesting->close);
+    char *html = malloc(times * (open + close) + 2);
+    if (html == NULL)
+        abort();
+    char *end = html;
+    for (int i = 0; i < times; i++, end += open)
+        memcpy(end, nesting->open, open);
+    *end++ = 'x';
+    for (int i = 0; i < times; i++, end += close)
+        memcpy(end, nesting->close, close);
+    *end = 0;
+    return html;
+}
+
+/* Each nesting by each reader and in each mode: that the call ends, whatever the Markdown is. */
+static void *convert_nestings(void *unused) {
+    for (size_t i = 0; i < sizeof NESTINGS / sizeof NESTINGS[0]; i++) {
+        char *html = nested(&NESTINGS[i]);
+        htmd_options options = defaults();
+        for (int way = 0; way < 6; way++) {
+            options.reader = way % 2 == 0 ? HTMD_STRICT : HTMD_HTML5;
+            options.mode = (uint8_t)(way / 2);
+            uint8_t out[1];
+            size_t needed, place;
+            uint8_t kind;
+            uint32_t status =
+                htmd_convert((uint8_t *)html, strlen(html), &options, out, 0, &needed, &place, &kind);
+            CHECK(status == HTMD_TOO_SMALL && needed > 0);
+        }
+        free(html);
+    }
+    return unused;
+}
+
+static void test_stack(void) {
+    pthread_attr_t attributes;
+    pthread_t thread;
+    CHECK(pthread_attr_init(&attributes) == 0);
+    CHECK(pthread_attr_setstacksize(&attributes, HTMD_STACK) == 0);
+    CHECK(pthread_create(&thread, &attributes, convert_nestings, NULL) == 0);
+    CHECK(pthread_join(thread, NULL) == 0);
+    CHECK(pthread_attr_destroy(&attributes) == 0);
+}
+
 #ifdef REFUSE_MEMORY
 static long refused_request = 0;
 static long requests = 0;
@@ -268,6 +333,7 @@ int main(void) {
     test_numbers();
     test_utf8();
     test_places();
+    test_stack();
     test_memory();
     return failures == 0 ? EXIT_SUCCESS : EXIT_FAILURE;
 }
