@@ -44,7 +44,7 @@ pub use self::indented_code::write_indented_code;
 pub use self::joint::mend_joint;
 pub use self::line_break::{BrStyle, write_line_break};
 pub use self::link::{
-    LinkReferenceStyle, write_autolink, write_definition, write_image, write_inline_link,
+    LinkReferenceStyle, LinkStyle, write_autolink, write_definition, write_image, write_inline_link,
     write_reference,
 };
 pub use self::list::{
