@@ -3,7 +3,7 @@ use crate::handlers::PassesOn;
 use htmd::element_handler::{ElementHandler, ElementHandlers, Registry};
 use htmd::options::{Options, TranslationMode};
 use htmd_expected::expect_that;
-use htmd_nodes::{Attribute, NodeId, Tree};
+use htmd_tree::{Attribute, NodeId, Tree};
 use std::alloc::Global;
 use std::test::Fail;
 
