@@ -3,8 +3,7 @@
 ghost use Rattle.std.specs.Prelude.{◌≡◌};
 
 pub use htmd_markdown::{
-    BrStyle, BulletListMarker, CodeBlockFence, HeadingStyle, HrStyle, LinkReferenceStyle,
-    LinkStyle,
+    BrStyle, BulletListMarker, CodeBlockFence, HeadingStyle, HrStyle, LinkReferenceStyle, LinkStyle,
 };
 
 /// How a code block is written.
