@@ -51,6 +51,21 @@ html_leaves_foreign_content : html5_document true (codes "<svg><g><p>a")
 unfolding html5_document block_rule formatting_rule phrasing_rule
 html_leaves_foreign_content = refl
 
+-- an `hr` in a `select` ends an option, and a group of options
+an_hr_ends_an_option : html5_document true (codes "<select><option>a<hr><option>b")
+    ≡ page (one (with (codes "select")
+    (more (with (codes "option") (one (text (codes "a")))) (more (with (codes "hr") none)
+    (one (with (codes "option") (one (text (codes "b")))))))))
+unfolding html5_document block_rule formatting_rule phrasing_rule
+an_hr_ends_an_option = refl
+
+an_hr_ends_a_group : html5_document true (codes "<select><optgroup><option>a<hr>b")
+    ≡ page (one (with (codes "select")
+    (more (with (codes "optgroup") (one (with (codes "option") (one (text (codes "a"))))))
+    (more (with (codes "hr") none) (one (text (codes "b")))))))
+unfolding html5_document block_rule formatting_rule phrasing_rule
+an_hr_ends_a_group = refl
+
 -- at the deepest level, here the fourth, an element keeps no children, and texts are joined
 the_deepest_level : document_of 4 (state_after true (codes "<i><u>a</u>b<s>c</s></i>d")).nodes
     ≡ page (more (with (codes "i")

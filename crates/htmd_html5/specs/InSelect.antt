@@ -13,7 +13,7 @@ use Rattle.htmd_html5_state.specs.declared.sets.Scope.TheVariants.{Table as Tabl
 use Rattle.htmd_html5.specs.declared.tokens.RunKind.{RunKind}
 use Rattle.htmd_html5.specs.declared.tokens.RunKind.TheVariants.{Nulls}
 use Rattle.htmd_html5.specs.Answers.{Answer, answer, done, again}
-use Rattle.htmd_html5.specs.SharedRules.{insert_tag, add_to_root, end_template, insert_head_element}
+use Rattle.htmd_html5.specs.SharedRules.{insert_tag, insert_void_tag, add_to_root, end_template, insert_head_element}
 use Rattle.htmd_html5.specs.BodyStarts.{close_option}
 use Rattle.htmd_html5.specs.InBody.{end_of_file_in_body}
 use Rattle.htmd_html5_state.specs.declared.names.TagName.TheVariants as tags
@@ -26,6 +26,10 @@ start_option tag s = insert_tag tag (on_stack close_option s)
 
 abbrev pub start_group : StartTagValue → StateValue → StateValue
 start_group tag s = insert_tag tag (on_stack (λ stack. close_group (close_option stack)) s)
+
+-- an `hr` separates options, as in browsers since 2023
+abbrev pub start_separator : StartTagValue → StateValue → StateValue
+start_separator tag s = insert_void_tag tag (on_stack (λ stack. close_group (close_option stack)) s)
 
 abbrev pub close_option_in_group : List OpenValue → List OpenValue
 close_option_in_group stack =
@@ -51,6 +55,7 @@ abbrev pub start_in_select : NameValue → StartTagValue → StateValue → Answ
 start_in_select (known tags.Html) tag s = done (add_to_root tag s)
 start_in_select (known tags.OptionTag) tag s = done (start_option tag s)
 start_in_select (known tags.OptGroup) tag s = done (start_group tag s)
+start_in_select (known tags.Hr) tag s = done (start_separator tag s)
 start_in_select (known tags.Select) tag s = done (end_select s)
 start_in_select (known tags.Input) tag s = leave_select s
 start_in_select (known tags.KeyGen) tag s = leave_select s

@@ -7,7 +7,9 @@ ghost use Rattle.htmd_html5.specs.InSelect as spec;
 ghost use Rattle.htmd_html5.specs.Tokens.{tag_of};
 
 use crate::body_starts::close_option;
-use crate::shared_rules::{add_to_root, end_template, insert_head_element, insert_tag};
+use crate::shared_rules::{
+    add_to_root, end_template, insert_head_element, insert_tag, insert_void_tag,
+};
 use crate::tokens::{RunKind, StartTag};
 use htmd_html5_state::{HtmlName, HtmlState, NameSet, Scope, TagName};
 use std::alloc::AllocError;
@@ -33,6 +35,14 @@ fn start_group(state: &mut HtmlState, tag: StartTag) -> Result<(), AllocError>
     close_option(state);
     close_group(state);
     insert_tag(state, tag)
+}
+
+fn start_separator(state: &mut HtmlState, tag: StartTag) -> Result<(), AllocError>
+    ensures { OnOk result (state.new ≡ spec.start_separator (tag_of tag) state.old) }
+{
+    close_option(state);
+    close_group(state);
+    insert_void_tag(state, tag)
 }
 
 fn end_group(state: &mut HtmlState)
@@ -77,6 +87,7 @@ pub(crate) fn start_in_select(
         HtmlName::Known(TagName::Html) => add_to_root(state, tag)?,
         HtmlName::Known(TagName::OptionTag) => start_option(state, tag)?,
         HtmlName::Known(TagName::OptGroup) => start_group(state, tag)?,
+        HtmlName::Known(TagName::Hr) => start_separator(state, tag)?,
         HtmlName::Known(TagName::Select) => {
             end_select(state);
         }

@@ -424,6 +424,7 @@ pub start_in_select_ends : (name : NameValue) (tag : StartTagValue) → AnswerEn
 start_in_select_ends (known tags.Html) tag = says_still (add_to_root_ends tag)
 start_in_select_ends (known tags.OptionTag) tag = says_still (then_ends (insert_tag_ends tag) option_ends)
 start_in_select_ends (known tags.OptGroup) tag = says_still (then_ends (insert_tag_ends tag) option_and_group_ends)
+start_in_select_ends (known tags.Hr) tag = says_still (then_ends (insert_void_tag_ends tag) option_and_group_ends)
 start_in_select_ends (known tags.Select) tag = says end_select_turns
 start_in_select_ends (known tags.Input) tag = says end_select_turns
 start_in_select_ends (known tags.KeyGen) tag = says end_select_turns

@@ -9,11 +9,12 @@ use Rattle.htmd_html5.specs.BodyStarts.{close_option}
 use Rattle.htmd_html5.specs.InSelect.{close_group, start_group, close_option_in_group, end_group, close_select}
 use Rattle.htmd_html5.specs.InSelect.{has_select, end_select, leave_select, start_in_select, end_in_select}
 use Rattle.htmd_html5.specs.InSelect.{start_in_select_in_table, leave_select_in, end_in_select_in_table, start_option}
+use Rattle.htmd_html5.specs.InSelect.{start_separator}
 use Rattle.htmd_html5_laws.proofs.OpenNodes.{pop_until_fewer, close_option_fewer, option_and_group_fewer, group_fewer}
 use Rattle.htmd_html5_laws.proofs.Keeping.{Keeps, after, nothing, by_test, on_stack_keeps}
 use Rattle.htmd_html5_laws.proofs.KeepingInsertion.{reset_insertion_mode_keeps}
 use Rattle.htmd_html5_laws.proofs.KeepingRules.{KeepsAnswer, says, answers_by_test, insert_tag_keeps, add_to_root_keeps}
-use Rattle.htmd_html5_laws.proofs.KeepingRules.{end_template_keeps, insert_head_element_keeps}
+use Rattle.htmd_html5_laws.proofs.KeepingRules.{end_template_keeps, insert_head_element_keeps, insert_void_tag_keeps}
 use Rattle.htmd_html5_state.specs.declared.names.TagName.TheVariants as tags
 
 -- ---- select
@@ -24,6 +25,11 @@ select_option_keeps tag = after (insert_tag_keeps tag) (on_stack_keeps close_opt
 pub start_group_keeps : (tag : StartTagValue) → Keeps (start_group tag)
 start_group_keeps tag =
     after (insert_tag_keeps tag) (on_stack_keeps (λ stack. close_group (close_option stack)) option_and_group_fewer)
+
+select_separator_keeps : (tag : StartTagValue) → Keeps (start_separator tag)
+select_separator_keeps tag =
+    after (insert_void_tag_keeps tag)
+    (on_stack_keeps (λ stack. close_group (close_option stack)) option_and_group_fewer)
 
 pub end_group_keeps : Keeps end_group
 end_group_keeps =
@@ -44,6 +50,7 @@ pub start_in_select_keeps : (name : NameValue) (tag : StartTagValue) → KeepsAn
 start_in_select_keeps (known tags.Html) tag = says (add_to_root_keeps tag)
 start_in_select_keeps (known tags.OptionTag) tag = says (select_option_keeps tag)
 start_in_select_keeps (known tags.OptGroup) tag = says (start_group_keeps tag)
+start_in_select_keeps (known tags.Hr) tag = says (select_separator_keeps tag)
 start_in_select_keeps (known tags.Select) tag = says end_select_keeps
 start_in_select_keeps (known tags.Input) tag = leave_select_keeps
 start_in_select_keeps (known tags.KeyGen) tag = leave_select_keeps

@@ -42,7 +42,7 @@ use Rattle.htmd_html5_laws.proofs.OrderedStates.{ordered_fewer, insert_comment_o
 use Rattle.htmd_html5_laws.proofs.OrderedStates.{insert_comment_root_orders}
 use Rattle.htmd_html5_laws.proofs.OrderedBody.{IsOrderly, plain_or_column, by_column_name, OrdersAnswer, says_ordered, with_mode_orders}
 use Rattle.htmd_html5_laws.proofs.OrderedBody.{end_template_orders, add_to_root_orders, insert_foreign_tag_orders, start_orders}
-use Rattle.htmd_html5_laws.proofs.OrderedBody.{insert_tag_orders, insert_head_element_orders}
+use Rattle.htmd_html5_laws.proofs.OrderedBody.{insert_tag_orders, insert_void_tag_orders, insert_head_element_orders}
 use Rattle.htmd_html5_laws.proofs.OrderedBody.{end_in_body_orders}
 use Rattle.htmd_html5_state.specs.declared.names.TagName.TheVariants as tags
 use Rattle.htmd_html5_state.specs.Foreign as foreign
@@ -122,6 +122,9 @@ module _ (choice : Choice) where
       (on_stack_orders choice close_option close_option_fewer))
   start_in_select_orders tag p (known tags.OptGroup) =
       says_ordered choice (then_orders choice (insert_tag_orders choice tag p)
+      (on_stack_orders choice (λ stack. close_group (close_option stack)) option_and_group_fewer))
+  start_in_select_orders tag p (known tags.Hr) =
+      says_ordered choice (then_orders choice (insert_void_tag_orders choice tag p)
       (on_stack_orders choice (λ stack. close_group (close_option stack)) option_and_group_fewer))
   start_in_select_orders tag p (known tags.Select) = says_ordered choice end_select_orders
   start_in_select_orders tag p (known tags.Input) = says_ordered choice end_select_orders

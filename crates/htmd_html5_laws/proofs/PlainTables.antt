@@ -328,6 +328,9 @@ module _ (tag : StartTagValue) (p : is_plain_name tag.name ≡ true) where
   start_in_select_stays (known tags.OptGroup) =
       says_plain (then_stays (insert_tag_stays tag p)
       (on_stack_stays (λ stack. close_group (close_option stack)) option_and_group_fewer))
+  start_in_select_stays (known tags.Hr) =
+      says_plain (then_stays (insert_void_tag_stays tag p)
+      (on_stack_stays (λ stack. close_group (close_option stack)) option_and_group_fewer))
   start_in_select_stays (known tags.Select) = says_plain end_select_stays
   start_in_select_stays (known tags.Input) = leave_select_stays
   start_in_select_stays (known tags.KeyGen) = leave_select_stays

@@ -34,6 +34,7 @@ use Rattle.htmd_html5_laws.proofs.RootedStacks.{close_group_rooted, option_in_gr
 use Rattle.htmd_html5_laws.proofs.RootedStacks.{RootedEnd, foreign_end_rooted}
 use Rattle.htmd_html5_laws.proofs.RootedStates.{RootedAt, Roots, then_roots, rooted_still, roots_by_state, rooted_stack}
 use Rattle.htmd_html5_laws.proofs.RootedStates.{rooted_mode, on_stack_roots, insert_comment_in_roots, insert_comment_roots}
+use Rattle.htmd_html5_laws.proofs.RootedStates.{insert_void_roots}
 use Rattle.htmd_html5_laws.proofs.RootedRules.{with_mode_roots, end_template_roots, insert_foreign_tag_roots}
 use Rattle.htmd_html5_laws.proofs.RootedRules.{add_to_root_roots, insert_tag_roots, insert_head_element_roots}
 use Rattle.htmd_html5_laws.proofs.RootedRules.{start_in_body_roots, AnswerRooted, AnswerRoots, says_rooted, tag_rooted}
@@ -85,6 +86,8 @@ start_in_select_roots tag (known tags.OptionTag) e q =
     (on_stack_roots close_option close_option_rooted))
 start_in_select_roots tag (known tags.OptGroup) e q =
     says_rooted (then_roots (insert_tag_roots tag (ap is_inner_name e)) option_and_group_roots)
+start_in_select_roots tag (known tags.Hr) e q =
+    says_rooted (then_roots (insert_void_roots tag.name tag.attributes) option_and_group_roots)
 start_in_select_roots tag (known tags.Select) e q = says_rooted end_select_roots
 start_in_select_roots tag (known tags.Input) e q = says_rooted end_select_roots
 start_in_select_roots tag (known tags.KeyGen) e q = says_rooted end_select_roots

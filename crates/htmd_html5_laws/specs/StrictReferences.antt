@@ -18,7 +18,8 @@ use Rattle.htmd_grammar.specs.declared.content.RawElement.TheVariants.{Title}
 abbrev pub is_bare_reference : List ℕ → Bool
 is_bare_reference s = is_some (longest_old s) && not (first_is semicolon (behind_run is_ascii_alphanumeric s))
 
--- somewhere in the text such a name stands without `;`: the strict grammar leaves it as it is
+-- Somewhere in the text such a name stands without `;`: the strict grammar leaves it as it is. The value of an attribute
+-- counts too, even where no reference is read in it, as in `?a=1&section=2`.
 abbrev pub has_bare_reference : List ℕ → Bool
 has_bare_reference [] = false
 has_bare_reference (b ∷ s) = (b == ampersand && is_bare_reference s) || has_bare_reference s

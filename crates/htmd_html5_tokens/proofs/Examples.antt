@@ -179,6 +179,11 @@ token-doctype_3_2 : token (codes "<!DOCTYPE HTML PUBLIC \"-//W3C//DTD HTML 3.2//
 unfolding quirky_identifiers quirky_beginnings
 token-doctype_3_2 = refl
 
+token-doctype_html_pro : token (codes "<!DOCTYPE HTML PUBLIC \"+//Silmaril//dtd html Pro v0r11 19970101//EN\">")
+    ≡ doctype true
+unfolding quirky_identifiers quirky_beginnings
+token-doctype_html_pro = refl
+
 -- a system identifier keeps HTML 4.01 Transitional from quirks mode
 token-doctype_transitional : token (codes "<!DOCTYPE HTML PUBLIC \"-//W3C//DTD HTML 4.01 Transitional//EN\">")
     ≡ doctype true

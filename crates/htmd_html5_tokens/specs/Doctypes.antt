@@ -25,7 +25,8 @@ quirky_identifiers =
 -- beginnings of public identifiers
 unfoldable pub quirky_beginnings : List (List ℕ)
 quirky_beginnings =
-    codes "-//advasoft ltd//dtd html 3.0 aswedit + extensions//"
+    codes "+//silmaril//dtd html pro v0r11 19970101//"
+    ∷ codes "-//advasoft ltd//dtd html 3.0 aswedit + extensions//"
     ∷ codes "-//as//dtd html 3.0 aswedit + extensions//"
     ∷ codes "-//ietf//dtd html 2.0 level 1//"
     ∷ codes "-//ietf//dtd html 2.0 level 2//"

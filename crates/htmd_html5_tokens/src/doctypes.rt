@@ -18,7 +18,8 @@ static QUIRKY_IDENTIFIERS: [&str; 3] = [
 ];
 
 /// Beginnings of such identifiers.
-static QUIRKY_BEGINNINGS: [&str; 54] = [
+static QUIRKY_BEGINNINGS: [&str; 55] = [
+    "+//silmaril//dtd html pro v0r11 19970101//",
     "-//advasoft ltd//dtd html 3.0 aswedit + extensions//",
     "-//as//dtd html 3.0 aswedit + extensions//",
     "-//ietf//dtd html 2.0 level 1//",
