@@ -92,6 +92,7 @@ pub mod KeptTokens
 pub mod CountedOrder
 pub mod LetterOrderLemmas
 pub mod TextKeptLemmas
+pub mod StrictPlaces
 pub mod StrictReferencesLemmas
 pub mod StrictCuts
 pub mod StrictBytes

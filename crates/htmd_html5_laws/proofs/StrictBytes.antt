@@ -1,6 +1,6 @@
 -- Which bytes of a tag are of which class by the strict grammar and by the lenient reader.
 use Rattle.std.proofs.Common.{◌≡◌, ℕ, true, false, not, refl, arith}
-use Rattle.std.specs.Prelude.{◌==◌}
+use Rattle.std.specs.Prelude.{◌==◌, ◌||◌}
 use Rattle.std.specs.Char.{is_ascii_alphanumeric}
 use Rattle.std.proofs.lemmas.Bool.Decides.{nat_tests}
 use Rattle.htmd_grammar.specs.WhiteSpace.{is_ascii_white_space}
@@ -32,8 +32,8 @@ pub ends_key : (b : ℕ) → is_name_byte b ≡ false → lenient.is_attribute_n
 ends_key b e = rw e refl
 
 pub ends_reference : (b : ℕ) → is_name_byte b ≡ false
-    → (is_ascii_alphanumeric b ≡ false) × ((b == 59) ≡ false)
-ends_reference b e = (grind (arith, nat_tests), grind (arith, nat_tests))
+    → (is_ascii_alphanumeric b ≡ false) × ((b == 59) ≡ false) × (((b == 61) || is_ascii_alphanumeric b) ≡ false)
+ends_reference b e = (grind (arith, nat_tests), grind (arith, nat_tests), grind (arith, nat_tests))
 
 pub bare_byte : (b : ℕ) → strict.is_unquoted_byte b ≡ true → lenient.is_unquoted_byte b ≡ true
 bare_byte b e = grind (arith, nat_tests)

@@ -10,25 +10,42 @@ use Rattle.htmd_nodes.specs.Layout.{document_items}
 use Rattle.htmd_html5.specs.BodyEnds.{text_end_rule}
 use Rattle.htmd_html5.specs.BodyStarts.{block_rule, formatting_rule, phrasing_rule}
 use Rattle.htmd_html5.specs.Documents.{html5_document}
-use Rattle.htmd_html5_laws.specs.StrictReferences.{has_bare_reference}
+use Rattle.htmd_html5_laws.specs.StrictReferences.{outside, has_bare_reference}
 use Rattle.htmd_html5_laws.specs.StrictTokens.{tokens_of_text, tag_named, after_feed, is_simple}
 use Rattle.htmd_html5_laws.specs.StrictTrees.{is_plain_element, are_plain}
 use Rattle.htmd_grammar.specs.ValueTrees as trees
 
 -- ---- references by name
 
-without_its_semicolon : has_bare_reference (codes "a &amp b") ≡ true
+without_its_semicolon : has_bare_reference outside (codes "a &amp b") ≡ true
 unfolding old_names
 without_its_semicolon = refl
 
-with_it : has_bare_reference (codes "a &amp; b") ≡ false
+with_it : has_bare_reference outside (codes "a &amp; b") ≡ false
 unfolding old_names
 with_it = refl
 
 -- `AT` is no name
-a_bare_ampersand : has_bare_reference (codes "AT&T") ≡ false
+a_bare_ampersand : has_bare_reference outside (codes "AT&T") ≡ false
 unfolding old_names
 a_bare_ampersand = refl
+
+-- a name that more letters or `=` follow, in a value and in a text
+in_an_address : has_bare_reference outside (codes "<a href=\"?a=1&section=2&copy=3\">b</a>") ≡ false
+unfolding old_names
+in_an_address = refl
+
+in_a_text : has_bare_reference outside (codes "<b>?a=1&section=2</b>") ≡ true
+unfolding old_names
+in_a_text = refl
+
+at_the_end_of_a_value : has_bare_reference outside (codes "<a href=\"?a&copy\">b</a>") ≡ true
+unfolding old_names
+at_the_end_of_a_value = refl
+
+after_a_title : has_bare_reference outside (codes "<title></title><a href=\"?a&section=2\">b</a>") ≡ true
+unfolding old_names
+after_a_title = refl
 
 -- ---- tokens
 

@@ -25,11 +25,11 @@ use Rattle.htmd_html5_tokens.specs.RawTexts.{reading_of}
 use Rattle.htmd_html5_tokens.specs.NextToken.{next_token, read_text, read_piece}
 use Rattle.htmd_grammar.specs.declared.content.Content.TheVariants.{Normal}
 use Rattle.htmd_grammar.specs.declared.content.RawElement.TheVariants.{Style}
-use Rattle.htmd_html5_laws.specs.StrictReferences.{IsSettled}
+use Rattle.htmd_html5_laws.specs.StrictReferences.{Place, outside, in_tag, IsSettledAt, IsSettled}
 use Rattle.htmd_html5_laws.specs.StrictTokens.{tag_named}
 use Rattle.htmd_html5_laws.proofs.StrictReferencesLemmas.{Ending, ending_for_both, less_markup, text_read}
 use Rattle.htmd_html5_laws.proofs.StrictTagsLemmas.{tag_read, raw_itself}
-use Rattle.htmd_html5_laws.proofs.StrictCuts.{settled_back, settled_front}
+use Rattle.htmd_html5_laws.proofs.StrictCuts.{settled_back, settled_front, EndsInSign, sign_before}
 use Rattle.htmd_grammar.specs.RawContent as strict
 use Rattle.htmd_html5_tokens.specs.NextToken as next
 
@@ -70,14 +70,14 @@ name_next (b ∷ name) s e =
 
 -- a start tag is one token, and markup
 pub start_read : (tag n x : List ℕ) (attributes : List AttributePair) → IsStartTag named_characters tag n attributes
-    → IsSettled (tag ++ x)
+    → IsSettledAt in_tag (tag ++ x)
     → (slash : Bool) × (next_token Normal false (tag ++ x) ≡ read (start_tag (tag_named n attributes slash)) x)
     × (slash ≡ true → is_void n ≡ true) × (next.begins_markup (tag ++ x) ≡ true)
 start_read tag n x attributes h k =
     let f = h.2 in
     let e : tag ++ x ≡ 60 ∷ (f.0 ++ (f.1 ++ x)) =
     ap (λ (y : List ℕ). y ++ x) f.2 ∙ ap (λ (y : List ℕ). 60 ∷ y) (append_assoc f.0 f.1 x) in
-    let m = settled_back f.0 (f.1 ++ x) (settled_back (60 ∷ []) (f.0 ++ (f.1 ++ x)) (subst IsSettled e k)) in
+    let m = settled_back f.0 (f.1 ++ x) (settled_back (60 ∷ []) (f.0 ++ (f.1 ++ x)) (subst (IsSettledAt in_tag) e k)) in
     let w = name_next f.0 (f.1 ++ x) f.3 in (
       h.1,
       ap (next_token Normal false) e ∙ w.0
@@ -87,7 +87,7 @@ start_read tag n x attributes h k =
     )
 
 -- and so is an end tag
-pub end_read : (tag n x : List ℕ) → IsEndTag tag n → IsSettled (tag ++ x)
+pub end_read : (tag n x : List ℕ) → IsEndTag tag n → IsSettledAt in_tag (tag ++ x)
     → (next_token Normal false (tag ++ x) ≡ read (end_tag (tag_named n [] false)) x)
     × (next.begins_markup (tag ++ x) ≡ true)
     × ((t : List ℕ) × (tag ++ x ≡ 60 ∷ t))
@@ -95,7 +95,7 @@ end_read tag n x h k =
     let gap : List ℕ = h.1 ++ 62 ∷ [] in
     let e : tag ++ x ≡ 60 ∷ 47 ∷ (h.0 ++ (gap ++ x)) =
     ap (λ (y : List ℕ). y ++ x) h.2 ∙ ap (λ (y : List ℕ). 60 ∷ 47 ∷ y) (append_assoc h.0 gap x) in
-    let m = settled_back h.0 (gap ++ x) (settled_back (60 ∷ 47 ∷ []) (h.0 ++ (gap ++ x)) (subst IsSettled e k)) in
+    let m = settled_back h.0 (gap ++ x) (settled_back (60 ∷ 47 ∷ []) (h.0 ++ (gap ++ x)) (subst (IsSettledAt in_tag) e k)) in
     let w = name_next h.0 (gap ++ x) h.3 in (
       ap (next_token Normal false) e ∙ w.1
           ∙ tag_read end_tag h.0 n [] [] false gap x h.3 h.5 (h.1, refl, h.4) m refl refl,
@@ -104,14 +104,14 @@ end_read tag n x h k =
     )
 
 -- the same from an end tag's name on, where it ends raw text
-pub raw_end_read : (tag n x : List ℕ) → IsEndTag tag n → IsSettled (tag ++ x)
+pub raw_end_read : (tag n x : List ℕ) → IsEndTag tag n → IsSettledAt in_tag (tag ++ x)
     → (s : List ℕ) × (tag ++ x ≡ 60 ∷ 47 ∷ s) ×
     (tag_from_name end_tag s ≡ read (end_tag (tag_named n [] false)) x)
 raw_end_read tag n x h k =
     let gap : List ℕ = h.1 ++ 62 ∷ [] in
     let e : tag ++ x ≡ 60 ∷ 47 ∷ (h.0 ++ (gap ++ x)) =
     ap (λ (y : List ℕ). y ++ x) h.2 ∙ ap (λ (y : List ℕ). 60 ∷ 47 ∷ y) (append_assoc h.0 gap x) in
-    let m = settled_back h.0 (gap ++ x) (settled_back (60 ∷ 47 ∷ []) (h.0 ++ (gap ++ x)) (subst IsSettled e k)) in (
+    let m = settled_back h.0 (gap ++ x) (settled_back (60 ∷ 47 ∷ []) (h.0 ++ (gap ++ x)) (subst (IsSettledAt in_tag) e k)) in (
       h.0 ++ (gap ++ x),
       e,
       tag_read end_tag h.0 n [] [] false gap x h.3 h.5 (h.1, refl, h.4) m refl refl,
@@ -226,7 +226,7 @@ lines_same (b ∷ s) e =
     rw (not-true (b == 13) k.0, lines_same s k.1) refl
 
 -- a comment is one token
-pub comment_read : (s u x : List ℕ) → IsComment s u → IsSettled (s ++ x)
+pub comment_read : (s u x : List ℕ) → IsComment s u → IsSettledAt in_tag (s ++ x)
     → (next_token Normal false (s ++ x) ≡ read (comment u) x) × (next.begins_markup (s ++ x) ≡ true)
 comment_read s u x h k =
     let body : List ℕ = h.1 in
@@ -238,12 +238,19 @@ comment_read s u x h k =
     let q = and_parts (not (begins_with (codes ">") body)) (not (begins_with (codes "->") body)) p.0 in
     let once = not_at_once body x (not-true _ q.0) (not-true _ q.1) in
     let run = comment_run body x (ap before_comment_end (sym split) ∙ h.3) (not-true _ p.1) in
-    let b : IsSettled body = settled_front body (codes "-->" ++ x)
-    (settled_back (codes "<!--") (body ++ (codes "-->" ++ x)) (subst IsSettled e k)) refl refl in
+    let b : IsSettledAt in_tag body = settled_front body (codes "-->" ++ x)
+    (settled_back (codes "<!--") (body ++ (codes "-->" ++ x)) (subst (IsSettledAt in_tag) e k)) refl refl refl in
     let same : u ≡ body = h.5 ∙ lines_same body b.line_feeds in
     let token : read_comment (body ++ (codes "-->" ++ x)) ≡ read (comment u) x =
     rw (once.0, once.1, run.0, run.1, raw_itself (reading_of Style) refl refl body b.no_null, same) refl in
     (ap (next_token Normal false) e ∙ token, ap next.begins_markup e)
+
+pub comment_sign : (s u : List ℕ) → IsComment s u → EndsInSign s
+comment_sign s u h =
+    let split : h.0 ≡ h.1 ++ codes "-->" = close_split h.0 h.1 h.3 in
+    let e : s ≡ codes "<!--" ++ (h.1 ++ codes "-->") = h.2 ∙ ap (λ (y : List ℕ). codes "<!--" ++ y) split in
+    subst EndsInSign (sym e)
+    (sign_before (codes "<!--") (h.1 ++ codes "-->") (sign_before h.1 (codes "-->") (codes "--", refl)))
 
 -- ---- texts
 
@@ -264,12 +271,12 @@ text_next : (b : ℕ) (s : List ℕ) → strict.begins_markup (b ∷ s) ≡ fals
 text_next b s e = piece_next (b ∷ s) (no_piece b s e) ∙ rw (less_markup (b ∷ s) e) refl
 
 -- what comes before markup, or the end, is settled
-pub settled_before : (s x : List ℕ) → Ending x → IsSettled (s ++ x) → IsSettled s
-settled_before s x (inl e) k = subst IsSettled (ap (λ (y : List ℕ). s ++ y) e ∙ append-nil s) k
-settled_before s [] (inr e) k = absurd (cc)
-settled_before s (b ∷ x) (inr e) k =
+pub settled_before : (here : Place) (s x : List ℕ) → Ending x → IsSettledAt here (s ++ x) → IsSettledAt here s
+settled_before here s x (inl e) k = subst (IsSettledAt here) (ap (λ (y : List ℕ). s ++ y) e ∙ append-nil s) k
+settled_before here s [] (inr e) k = absurd (cc)
+settled_before here s (b ∷ x) (inr e) k =
     let q : b ≡ 60 = eqb-true b 60 (and_parts (b == 60) (next.is_markup x) e).0 in
-    settled_front s (b ∷ x) k (rw q refl) (rw q refl)
+    settled_front s (b ∷ x) k (rw q refl) (rw q refl) (rw q refl)
 
 -- a text before markup, or at the end, is one token
 pub text_token_read : (s u x : List ℕ) → s ≢ [] → decode named_characters 0 s ≡ Some u
@@ -278,4 +285,4 @@ pub text_token_read : (s u x : List ℕ) → s ≢ [] → decode named_character
 text_token_read [] u x n e l h k = absurd (n refl)
 text_token_read (b ∷ s) u x n e l h k =
     let p = stops_not false [] b s x (ending_for_both x h) (run_head strict.begins_markup b s l).0 in
-    text_next b (s ++ x) p ∙ text_read (b ∷ s) u x (settled_before (b ∷ s) x h k) e l h
+    text_next b (s ++ x) p ∙ text_read (b ∷ s) u x (settled_before outside (b ∷ s) x h k) e l h

@@ -1,6 +1,6 @@
 -- References of the strict grammar stand for the same characters by the lenient reader.
 use Rattle.std.proofs.Common.{◌≡◌, ◌⊎◌, ℕ, zero, suc, ◌+◌, Bool, true, false, not, ◌&&◌, ◌||◌, List, [], ◌∷◌, ◌++◌}
-use Rattle.std.proofs.Common.{length, drop, Option, Some, None, is_some, refl, sym, ap, ◌∙◌, arith, inl, inr, codes}
+use Rattle.std.proofs.Common.{length, drop, Option, Some, None, refl, sym, ap, ◌∙◌, arith, inl, inr, codes}
 use Rattle.std.specs.Prelude.{◌==◌}
 use Rattle.std.specs.Char.{encode_utf8, is_ascii_alphanumeric, is_ascii_digit, is_ascii_hexdigit, is_ascii_alphabetic}
 use Rattle.std.specs.List.{list_all}
@@ -26,8 +26,9 @@ use Rattle.htmd_html5_tokens.specs.Tokens.{Read, text}
 use Rattle.htmd_html5_tokens.specs.RawTexts.{reading_of}
 use Rattle.htmd_html5_tokens.specs.NextToken.{goes_on, read_text}
 use Rattle.htmd_grammar.specs.declared.content.RawElement.TheVariants.{Title}
-use Rattle.htmd_html5_laws.specs.StrictReferences.{is_bare_reference, has_bare_reference, IsSettled, value_spelled}
-use Rattle.htmd_html5_laws.specs.StrictReferences.{ReferencesAgree}
+use Rattle.htmd_html5_laws.specs.StrictReferences.{in_tag, after_title, counts, is_bare_reference, IsSettledAt, IsSettled}
+use Rattle.htmd_html5_laws.specs.StrictReferences.{value_spelled, ReferencesAgree}
+use Rattle.htmd_html5_laws.proofs.StrictPlaces.{has_bare_in, in_title, in_any_value, in_text}
 use Rattle.htmd_html5_tokens.specs.NextToken as next
 use Rattle.htmd_html5_tokens.specs.NamedReferences as table
 use Rattle.htmd_html5_tokens.specs.References as lenient
@@ -147,18 +148,22 @@ none_at_semicolon (b ∷ s) e =
     is_that : (b : ℕ) → (b == 59) ≡ true → b ≡ 59
     is_that b e = grind (arith, nat_tests)
 
-none_there : (o : Option NamedReference) → is_some o ≡ false → o ≡ None
-none_there None e = refl
-none_there (Some r) e = absurd (cc)
-
-not_bare : (s : List ℕ) → is_bare_reference s ≡ false → first_is 59
+not_bare : (z : Bool) (s : List ℕ) → is_bare_reference z s ≡ false → first_is 59
     (behind_run is_ascii_alphanumeric s) ≡ false
-    → longest_old s ≡ None
-not_bare s e f = none_there (longest_old s) (only (is_some (longest_old s)) (rw f at e))
+    → counts z (longest_old s) s ≡ false
+not_bare z s e f = only (counts z (longest_old s) s) (rw f at e)
   where
     only : (x : Bool) → (x && true) ≡ false → x ≡ false
     only true e = e
     only false e = refl
+
+-- a name that doesn't count leaves `&` as it is
+no_reference : (z : Bool) (o : Option NamedReference) (s : List ℕ) → counts z o s ≡ false
+    → lenient.old_reference z o s ≡ lenient.ampersand_itself
+no_reference z None s e = refl
+no_reference z (Some r) s e =
+    test (z && lenient.goes_on (drop (length r.name) s))
+    (λ t. rw t refl) (λ t. absurd (let w = rw t at e in cc))
 
 run_empty : (p : ℕ → Bool) (s : List ℕ) → first_is 59 s ≡ true → p 59 ≡ false
     → leading_run p s ≡ []
@@ -169,7 +174,7 @@ run_empty p (b ∷ s) e f = let k : b ≡ 59 = is_that b e in rw (k, f) refl
     is_that b e = grind (arith, nat_tests)
 
 ampersand_same : (in_value : Bool) (s v : List ℕ) (m : ℕ) → behind_ampersand named_characters s ≡ stands m v
-    → is_bare_reference s ≡ false → after_ampersand in_value s ≡ piece m v
+    → is_bare_reference in_value s ≡ false → after_ampersand in_value s ≡ piece m v
 ampersand_same z s v m e b =
     test (first_is 35 s)
     (λ t. let w = rw t at e in rw t (number_sign_same (drop 1 s) v m w))
@@ -185,13 +190,13 @@ ampersand_same z s v m e b =
     rw (t, q, parts.1, parts.0) refl))
     (λ q. let y = rw q at w in
     let parts = stands_same 0 m (38 ∷ []) v y in
-    rw (t, q, not_bare s b q, ← parts.0, ← parts.1) refl))
+    rw (t, q) (no_reference z (longest_old s) s (not_bare z s b q) ∙ rw (← parts.0, ← parts.1) refl)))
 
 -- ---- what begins at a byte
 
 piece_same : (r : _) (b : ℕ) (s v : List ℕ) (m : ℕ) → has_references r ≡ true
     → piece_at named_characters b s ≡ stands m v
-    → (b == 13) ≡ false → (b == 0) ≡ false → (b == 38 && is_bare_reference s) ≡ false
+    → (b == 13) ≡ false → (b == 0) ≡ false → (b == 38 && is_bare_reference (contents.is_value r) s) ≡ false
     → (is_text r ≡ true → (b == 60 && begins_with (codes "/>") s) ≡ false)
     → contents.piece_at r b s ≡ piece m v
 piece_same r b s v m refs e cr null bare less =
@@ -225,14 +230,14 @@ no_slash b (c ∷ s) e =
     letter c q e = grind (arith, nat_tests)
 
 decoded_same : (r : _) → has_references r ≡ true → (n : ℕ) (s u : List ℕ)
-    → lacks 13 s ≡ true → lacks 0 s ≡ true → has_bare_reference s ≡ false
+    → lacks 13 s ≡ true → lacks 0 s ≡ true → has_bare_in (contents.is_value r) s ≡ false
     → (is_text r ≡ true → up_to begins_markup s ≡ s)
     → decode named_characters n s ≡ Some u → decoded r n s ≡ u
 decoded_same r refs n [] u cr null bare less e = cc
 decoded_same r refs zero (b ∷ s) u cr null bare less e =
     let c = and_parts (not (b == 13)) (lacks 13 s) cr in
     let z = and_parts (not (b == 0)) (lacks 0 s) null in
-    let a = or_parts (b == 38 && is_bare_reference s) (has_bare_reference s) bare in
+    let a = or_parts (b == 38 && is_bare_reference (contents.is_value r) s) (has_bare_in (contents.is_value r) s) bare in
     let p = put_parts (piece_at named_characters b s) (λ n. decode named_characters n s) u e in
     let here = piece_same r b s p.1 p.0 refs p.3 (not-true (b == 13) c.0) (not-true (b == 0) z.0) a.0
     (λ t. no_slash b s (run_head begins_markup b s (less t)).0) in
@@ -241,7 +246,7 @@ decoded_same r refs zero (b ∷ s) u cr null bare less e =
 decoded_same r refs (suc n) (b ∷ s) u cr null bare less e =
     let c = and_parts (not (b == 13)) (lacks 13 s) cr in
     let z = and_parts (not (b == 0)) (lacks 0 s) null in
-    let a = or_parts (b == 38 && is_bare_reference s) (has_bare_reference s) bare in
+    let a = or_parts (b == 38 && is_bare_reference (contents.is_value r) s) (has_bare_in (contents.is_value r) s) bare in
     decoded_same r refs n s u c.1 z.1 a.1 (λ t. (run_head begins_markup b s (less t)).1) e
 
 -- ---- the token of a text
@@ -279,12 +284,13 @@ text_run (b ∷ s) rest e h =
     let i = text_run s rest p.1 h in
     (rw (q, i.0) refl, rw (q, i.1) refl)
 
-text_same : (r : _) (s u rest : List ℕ) → has_references r ≡ true → IsSettled s
+text_same : (r : _) (s u rest : List ℕ) → has_references r ≡ true → contents.is_value r ≡ false → IsSettled s
     → decode named_characters 0 s ≡ Some u → up_to begins_markup s ≡ s
     → ◌≡◌ {A = Read} (record { token = text (decoded r 0 s); rest = rest })
     (record { token = text u; rest = rest })
-text_same r s u rest f h e l =
-    rw (decoded_same r f 0 s u h.line_feeds h.no_null h.references_end (λ t. l) e) refl
+text_same r s u rest f z h e l =
+    let bare : has_bare_in (contents.is_value r) s ≡ false = rw z (in_text s l h.references_end) in
+    rw (decoded_same r f 0 s u h.line_feeds h.no_null bare (λ t. l) e) refl
 
 pub text_read : (s u rest : List ℕ) → IsSettled s → decode named_characters 0 s ≡ Some u
     → up_to begins_markup s ≡ s → Ending rest
@@ -293,17 +299,23 @@ text_read s u rest h e l k =
     let r = text_run s rest l k in
     rw (r.0, r.1) (search (text_same, h, e, l))
 
-value_any : (r : _) (s u : List ℕ) → has_references r ≡ true → is_text r ≡ false → IsSettled s
-    → decode named_characters 0 s ≡ Some u → decoded r 0 s ≡ u
-value_any r s u f t h e =
-    decoded_same r f 0 s u h.line_feeds h.no_null h.references_end (λ q. absurd (let w = sym t ∙ q in cc)) e
+value_any : (r : _) (s u : List ℕ) → has_references r ≡ true → is_text r ≡ false → contents.is_value r ≡ true
+    → IsSettledAt in_tag s → decode named_characters 0 s ≡ Some u → decoded r 0 s ≡ u
+value_any r s u f t z h e =
+    let bare : has_bare_in (contents.is_value r) s ≡ false = rw z (in_any_value in_tag s h.references_end) in
+    decoded_same r f 0 s u h.line_feeds h.no_null bare (λ q. absurd (let w = sym t ∙ q in cc)) e
 
-value_same : (s u : List ℕ) → IsSettled s → decode named_characters 0 s ≡ Some u → value_spelled s ≡ u
+pub value_same : (s u : List ℕ) → IsSettledAt in_tag s → decode named_characters 0 s ≡ Some u → value_spelled s ≡ u
 value_same s u h e = search (value_any, h, e)
 
+pub title_same : (s u : List ℕ) → IsSettledAt after_title s → decode named_characters 0 s ≡ Some u
+    → decoded (reading_of Title) 0 s ≡ u
+title_same s u h e =
+    decoded_same (reading_of Title) refl 0 s u h.line_feeds h.no_null (in_title s h.references_end) (λ t. absurd (cc)) e
+
 pub references_same : ReferencesAgree
-references_same s u h e = (
-  λ l. ap read_text (sym (append-nil s)) ∙ text_read s u [] h e l (inl refl),
-  decoded_same (reading_of Title) refl 0 s u h.line_feeds h.no_null h.references_end (λ t. absurd (cc)) e,
-  value_same s u h e,
+references_same s u e = (
+  λ h l. ap read_text (sym (append-nil s)) ∙ text_read s u [] h e l (inl refl),
+  λ h. title_same s u h e,
+  λ h. value_same s u h e,
 )

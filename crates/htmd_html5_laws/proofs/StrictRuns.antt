@@ -18,16 +18,16 @@ use Rattle.htmd_grammar.specs.Tags.{IsStartTag, IsEndTag}
 use Rattle.htmd_grammar.specs.Documents.{above_body, below_body}
 use Rattle.htmd_grammar.proofs.NestingLemmas.{allowed_parts}
 use Rattle.htmd_grammar.proofs.Completeness.{end_tag_stops}
-use Rattle.htmd_grammar.proofs.TreeTexts.{Inside}
+use Rattle.htmd_grammar.proofs.TreeTexts.{Inside, IsTextTree}
 use Rattle.htmd_html5_tokens.specs.Tokens.{TokenValue, start_tag, end_tag}
 use Rattle.htmd_html5_tokens.specs.NextToken.{next_token}
 use Rattle.htmd_grammar.specs.declared.content.Content.TheVariants.{Normal, Raw}
 use Rattle.htmd_grammar.specs.declared.content.RawElement.{RawElement}
-use Rattle.htmd_html5_laws.specs.StrictReferences.{IsSettled}
+use Rattle.htmd_html5_laws.specs.StrictReferences.{outside, in_tag, IsSettledAt, IsSettled}
 use Rattle.htmd_html5_laws.specs.StrictTokens.{content_in, tag_named, SpellsTree, SpellsForest}
 use Rattle.htmd_html5_laws.specs.StrictTokens.{with_text_token, after_feed, content_tokens}
 use Rattle.htmd_html5_laws.specs.StrictTokens.{is_set_aside, is_simple_tree, is_simple, TokensAgree}
-use Rattle.htmd_html5_laws.proofs.StrictCuts.{settled_back}
+use Rattle.htmd_html5_laws.proofs.StrictCuts.{settled_back, settled_in_tag, settled_past, settled_inside, settled_outside, content_place}
 use Rattle.htmd_html5_laws.proofs.StrictReferencesLemmas.{Ending}
 use Rattle.htmd_html5_laws.proofs.StrictPieces.{read, start_read, end_read, raw_end_read, text_token_read}
 use Rattle.htmd_html5_laws.proofs.StrictPieces.{settled_before}
@@ -38,7 +38,7 @@ use Rattle.htmd_html5_tokens.specs.Tokens as tokens
 use Rattle.htmd_html5_tokens.specs.NextToken as next
 use Rattle.htmd_html5_laws.proofs.StrictSteps.{Run, here, onward, joined, from_content, from_text, all_read, Made, shorter}
 use Rattle.htmd_html5_laws.proofs.StrictSteps.{one_token, TreeRun, ForestRun, tag_filled, end_filled, plain_text, text_run}
-use Rattle.htmd_html5_laws.proofs.StrictSteps.{comment_run, no_tbody, text_ending}
+use Rattle.htmd_html5_laws.proofs.StrictSteps.{comment_run, no_tbody, text_ending, settled_after}
 
 module _ (z : Bool) where
   -- ---- elements
@@ -50,7 +50,7 @@ module _ (z : Bool) where
       → is_void n ≡ true → is_outside n ≡ false → IsSettled (tag ++ rest)
       → Made z (SpellsTree (element n attributes none)) tag rest
   void_run n tag rest attributes h v o k =
-      let r = start_read tag n rest attributes h k in
+      let r = start_read tag n rest attributes h (settled_in_tag (tag ++ rest) k) in
       let now = normal_content z n (void_content z n v) o in (
         start_tag (tag_named n attributes r.0) ∷ [],
         (r.0, [], [], refl, nothing_content n, rw v (refl, refl)),
@@ -78,7 +78,7 @@ module _ (z : Bool) where
 
   raw_closed : (n : List ℕ) (ks : ValueForest) (c : Context) (inner end rest : List ℕ)
       → ReadsForest (project z) (n ∷ c) true ks inner → IsEndTag end n → holds_text_alone z n ≡ true
-      → is_set_aside n ≡ false → IsSettled (inner ++ (end ++ rest))
+      → is_set_aside n ≡ false → IsSettledAt (content_place n) (inner ++ (end ++ rest))
       → Closed n ks (inner ++ (end ++ rest)) rest
   raw_closed n ks c inner end rest h g e a k = go (raw_children z n c true ks inner h e)
     where
@@ -102,7 +102,7 @@ module _ (z : Bool) where
           → Closed n ks (inner ++ (end ++ rest)) rest
       go (inl w) = rw (w.0, w.1) ([], nothing_content n, from_content z (found.1).content last)
       go (inr w) =
-          let m = settled_before inner (end ++ rest)
+          let m = settled_before (content_place n) inner (end ++ rest)
           (inr (end_read end n rest g (settled_back inner (end ++ rest) k)).1) k in
           rw w.1 (
             tokens.text w.0 ∷ [],
@@ -115,7 +115,7 @@ module _ (z : Bool) where
 
   -- ---- elements that drop a line feed
 
-  after_piece : (b : ℕ) (w r x : List ℕ) → IsSettled ((b ∷ (w ++ r)) ++ x) → IsSettled (r ++ x)
+  after_piece : (b : ℕ) (w r x : List ℕ) → IsSettled ((b ∷ (w ++ r)) ++ x) → IsSettledAt in_tag (r ++ x)
   after_piece b w r x k =
       settled_back (b ∷ w) (r ++ x) (subst IsSettled (ap (λ (y : List ℕ). b ∷ y) (append_assoc w r x)) k)
 
@@ -158,7 +158,7 @@ module _ (z : Bool) where
       ap (λ (y : List ℕ). y ++ rest) h.2 ∙ append_assoc h.0 h.1 rest in
       let i = subst IsSettled q k in
       let follows = text_ending z (text u) ts p c last h.1 rest refl h.3 h.5 o (settled_back h.0 (h.1 ++ rest) i) st in
-      let this = settled_before h.0 (h.1 ++ rest) follows i in
+      let this = settled_before outside h.0 (h.1 ++ rest) follows i in
       let d : decode named_characters 0 h.0 ≡ Some u = rw (plain_text z p e) at (h.4).2 in
       kept_begins h.0 u h.1 this.line_feeds d (no_feed_there h.1 rest follows)
       (ap (after_line_feed []) (sym h.2) ∙ a ∙ h.2)
@@ -187,7 +187,7 @@ module _ (z : Bool) where
       let i = subst IsSettled q k in
       let t = feed_text b w r [] r [] f refl refl refl in
       let token = text_token_read front (10 ∷ []) (r ++ x) (λ y. (let z = y in cc)) t.0 t.1 begins i in
-      let inside = ih n c true r x h e o (settled_back front (r ++ x) i) st in (
+      let inside = ih n c true r x h e o (settled_past front (r ++ x) t.1 begins i) st in (
         tokens.text (10 ∷ []) ∷ inside.0,
         inside.1,
         from_text z q (onward (tokens.text (10 ∷ [])) (r ++ x) token refl
@@ -216,14 +216,13 @@ module _ (z : Bool) where
       ap (λ (y : List ℕ). b ∷ y) (ap (λ (y : List ℕ). (w ++ y) ++ x) h.2
       ∙ ap (λ (y : List ℕ). y ++ x) (sym (append_assoc w h.0 h.1)) ∙ append_assoc (w ++ h.0) h.1 x) in
       let i = subst IsSettled q k in
-      let j = settled_back front (h.1 ++ x) i in
-      let follows = text_ending z (text u) ts n c true h.1 x refl h.3 h.5 o j st in
+      let follows = text_ending z (text u) ts n c true h.1 x refl h.3 h.5 o (settled_back front (h.1 ++ x) i) st in
       let d : decode named_characters 0 h.0 ≡ Some u = rw (plain_text z n e) at (h.4).2 in
       let same : (y : List ℕ) → begins_markup y ≡ ends_text z n y = λ y. rw e refl in
       let l : up_to begins_markup h.0 ≡ h.0 = stop_same begins_markup (ends_text z n) same h.0 ∙ (h.4).1 in
       let t = feed_text b w r h.0 h.1 u f h.2 d l in
       let token = text_token_read front (10 ∷ u) (h.1 ++ x) (λ y. (let z = y in cc)) t.0 t.1 follows i in
-      let others = tail n c true h.1 x h.5 e o j st in (
+      let others = tail n c true h.1 x h.5 e o (settled_past front (h.1 ++ x) t.1 follows i) st in (
         tokens.text (10 ∷ u) ∷ others.0,
         with_first u ts others.0 (h.4).0 others.1,
         from_text z q (onward (tokens.text (10 ∷ u)) (h.1 ++ x) token refl
@@ -276,7 +275,8 @@ module _ (z : Bool) where
       → IsSettled (tag ++ (inner ++ (end ++ rest))) → Closed n ks (inner ++ (end ++ rest)) rest
       → Made z (SpellsTree (element n attributes ks)) (tag ++ (inner ++ end)) rest
   closed_run n tag inner end rest attributes ks h v k w =
-      let r = start_read tag n (inner ++ (end ++ rest)) attributes h k in
+      let r = start_read tag n (inner ++ (end ++ rest)) attributes h
+      (settled_in_tag (tag ++ (inner ++ (end ++ rest))) k) in
       let no_slash : r.0 ≡ false = test r.0 (λ t. absurd (let f = sym (r.2 t) ∙ v in cc)) (λ t. t) in
       let q : (tag ++ (inner ++ end)) ++ rest ≡ tag ++ (inner ++ (end ++ rest)) =
       append_assoc tag (inner ++ end) rest ∙ ap (λ (y : List ℕ). tag ++ y) (append_assoc inner end rest) in (
@@ -317,13 +317,14 @@ module _ (z : Bool) where
           ap (λ (y : List ℕ). y ++ rest) w.3 ∙ append_assoc w.0 (w.1 ++ w.2) rest
           ∙ ap (λ (y : List ℕ). w.0 ++ y) (append_assoc w.1 w.2 rest) in
           let i : IsSettled (w.0 ++ (w.1 ++ (w.2 ++ rest))) = subst IsSettled q k in
-          let j = settled_back w.0 (w.1 ++ (w.2 ++ rest)) i in
+          let content = settled_inside w.0 n (w.1 ++ (w.2 ++ rest)) attributes w.4 i in
+          let j = settled_outside n (w.1 ++ (w.2 ++ rest)) content in
           rw w.3 (closed_run n w.0 w.1 w.2 rest attributes ks w.4 v i
           (test (drops_line_feed n)
           (λ d. feed_closed n ks ih tail (p ∷ c) w.1 w.2 rest (rw d at m.0) m.1 d (pre_plain z n d aside) outside
           parts.1 j)
           (λ d. let inside = subst (ReadsForest (project z) (n ∷ (p ∷ c)) true ks) (kept_content n w.1 d) m.0 in
-          test (holds_text_alone z n) (λ t. raw_closed n ks (p ∷ c) w.1 w.2 rest inside m.1 t aside j)
+          test (holds_text_alone z n) (λ t. raw_closed n ks (p ∷ c) w.1 w.2 rest inside m.1 t aside content)
           (λ t. normal_closed n ks ih (p ∷ c) w.1 w.2 rest inside m.1 d t outside parts.1 j)))))
       go (inr w) = absurd (no_tbody z n aside w.3)
 
@@ -335,9 +336,10 @@ module _ (z : Bool) where
       let q : s ++ rest ≡ h.0 ++ (h.1 ++ rest) =
       ap (λ (y : List ℕ). y ++ rest) h.2 ∙ append_assoc h.0 h.1 rest in
       let i = subst IsSettled q k in
-      let j = settled_back h.0 (h.1 ++ rest) i in
-      let first = one p c _ h.0 (h.1 ++ rest) h.4 e b.0 i
-      (λ f. text_ending z t ts p c last h.1 rest f h.3 h.5 b.1 j st) in
+      let follows : IsTextTree t ≡ true → Ending (h.1 ++ rest) =
+      λ f. text_ending z t ts p c last h.1 rest f h.3 h.5 b.1 (settled_back h.0 (h.1 ++ rest) i) st in
+      let j = settled_after z t p c _ h.0 (h.1 ++ rest) h.4 e b.0 follows i in
+      let first = one p c _ h.0 (h.1 ++ rest) h.4 e b.0 i follows in
       let others = all p c last h.1 rest h.5 e b.1 j st in (
         first.0 ++ others.0,
         (first.0, others.0, refl, first.1, others.1),

@@ -2,6 +2,7 @@
 use Rattle.std.proofs.Common.{◌≡◌, ◌≢◌, ℕ, zero, suc, ◌<◌, ◌≤◌, Bool, true, false, not, List, [], ◌∷◌, ◌++◌}
 use Rattle.std.proofs.Common.{length, Some, refl, sym, ap, ◌∙◌, arith, inl, inr, codes, subst, append_assoc, length-append}
 use Rattle.std.proofs.lemmas.Bool.{and_parts, or_parts, not-true}
+use Rattle.std.proofs.lemmas.List.{append-nil}
 use Rattle.htmd_grammar.specs.ValueTrees.{AttributePair, ValueTree, ValueForest, none, more, document, doctype, text}
 use Rattle.htmd_grammar.specs.ValueTrees.{comment, element}
 use Rattle.htmd_grammar.specs.CharacterClasses.{is_among, up_to}
@@ -11,6 +12,8 @@ use Rattle.htmd_grammar.specs.RawContent.{holds_text_alone, holds_raw_text, ends
 use Rattle.htmd_grammar.specs.Rules.{named_characters, project}
 use Rattle.htmd_grammar.specs.References.{decode}
 use Rattle.htmd_grammar.specs.Tags.{IsStartTag, IsEndTag}
+use Rattle.htmd_grammar.specs.Serialisation.{is_void}
+use Rattle.htmd_grammar.proofs.Cases.{test}
 use Rattle.htmd_grammar.proofs.NestingLemmas.{one_name}
 use Rattle.htmd_grammar.proofs.TreeTexts.{Inside, IsTextTree}
 use Rattle.htmd_html5_tokens.specs.Tokens.{TokenValue, start_tag, end_tag}
@@ -18,11 +21,13 @@ use Rattle.htmd_html5_tokens.specs.NextToken.{next_token}
 use Rattle.htmd_grammar.specs.declared.content.Content.{Content}
 use Rattle.htmd_grammar.specs.declared.content.Content.TheVariants.{Normal}
 use Rattle.htmd_html5.specs.Documents.{is_end}
-use Rattle.htmd_html5_laws.specs.StrictReferences.{IsSettled}
+use Rattle.htmd_html5_laws.specs.StrictReferences.{in_tag, IsSettledAt, IsSettled}
 use Rattle.htmd_html5_laws.specs.StrictTokens.{content_after, tokens_within, SpellsTree, SpellsForest}
 use Rattle.htmd_html5_laws.specs.StrictTokens.{is_set_aside, is_simple_tree, is_simple}
 use Rattle.htmd_html5_laws.proofs.StrictReferencesLemmas.{Ending}
-use Rattle.htmd_html5_laws.proofs.StrictPieces.{read, start_read, comment_read, text_token_read}
+use Rattle.htmd_html5_laws.proofs.StrictCuts.{settled_in_tag, settled_past, settled_behind, EndsInSign, sign_before}
+use Rattle.htmd_html5_laws.proofs.StrictCuts.{start_sign, end_sign}
+use Rattle.htmd_html5_laws.proofs.StrictPieces.{read, start_read, comment_read, comment_sign, text_token_read}
 use Rattle.htmd_html5_laws.proofs.StrictRawTexts.{text_nothing, stop_same}
 use Rattle.htmd_html5_tokens.specs.Tokens as tokens
 use Rattle.htmd_html5_tokens.specs.NextToken as next
@@ -117,7 +122,7 @@ module _ (z : Bool) where
 
   pub comment_run : (u : List ℕ) → TreeRun (comment u)
   comment_run u p c last s rest h e o k st =
-      let r = comment_read s u rest h.0 k in
+      let r = comment_read s u rest h.0 (settled_in_tag (s ++ rest) k) in
       let filled : s ≢ [] = λ q. (let w = sym (h.0).2 ∙ q in cc) in
       (tokens.comment u ∷ [], refl, one_token (tokens.comment u) s rest filled r.0 refl refl)
 
@@ -129,7 +134,7 @@ module _ (z : Bool) where
   -- a text ends at the end, or before markup
   pub text_ending : (t : ValueTree) (ts : ValueForest) (p : List ℕ) (c : Context) (last : Bool) (s rest : List ℕ)
       → IsTextTree t ≡ true → Apart t ts → ReadsForest (project z) (p ∷ c) last ts s → is_simple ts ≡ true
-      → IsSettled (s ++ rest) → Ending rest → Ending (s ++ rest)
+      → IsSettledAt in_tag (s ++ rest) → Ending rest → Ending (s ++ rest)
   text_ending t none p c last s rest i a h o k st = rw h st
   text_ending (document ks) (more (text v) ts) p c last s rest i a h o k st = absurd (cc)
   text_ending doctype (more (text v) ts) p c last s rest i a h o k st = absurd (cc)
@@ -141,7 +146,7 @@ module _ (z : Bool) where
   text_ending t (more (comment v) ts) p c last s rest i a h o k st =
       let q : s ++ rest ≡ h.0 ++ (h.1 ++ rest) =
       ap (λ (y : List ℕ). y ++ rest) h.2 ∙ append_assoc h.0 h.1 rest in
-      inr (ap next.begins_markup q ∙ (comment_read h.0 v (h.1 ++ rest) (h.4).0 (subst IsSettled q k)).1)
+      inr (ap next.begins_markup q ∙ (comment_read h.0 v (h.1 ++ rest) (h.4).0 (subst (IsSettledAt in_tag) q k)).1)
   text_ending t (more (element n attributes ks) ts) p c last s rest i a h o k st = go (h.4).2
     where
       aside : is_set_aside n ≡ false
@@ -155,5 +160,33 @@ module _ (z : Bool) where
           ap (λ (y : List ℕ). y ++ rest) h.2 ∙ append_assoc h.0 h.1 rest
           ∙ ap (λ (y : List ℕ). y ++ (h.1 ++ rest)) w.3 ∙ append_assoc w.0 (w.1 ++ w.2) (h.1 ++ rest) in
           inr (ap next.begins_markup q
-          ∙ (start_read w.0 n ((w.1 ++ w.2) ++ (h.1 ++ rest)) attributes w.4 (subst IsSettled q k)).3)
+          ∙ (start_read w.0 n ((w.1 ++ w.2) ++ (h.1 ++ rest)) attributes w.4 (subst (IsSettledAt in_tag) q k)).3)
+      go (inr w) = absurd (no_tbody n aside w.3)
+
+  -- what follows a tree is settled
+  pub settled_after : (t : ValueTree) (p : List ℕ) (c : Context) (last : Bool) (s x : List ℕ)
+      → ReadsTree (project z) (p ∷ c) last t s → holds_text_alone z p ≡ false → is_simple_tree t ≡ true
+      → (IsTextTree t ≡ true → Ending x) → IsSettled (s ++ x) → IsSettled x
+  settled_after (document ks) p c last s x h e o st k = absurd h
+  settled_after doctype p c last s x h e o st k = absurd h
+  settled_after (text u) p c last s x h e o st k =
+      let same : (t : List ℕ) → begins_markup t ≡ ends_text z p t = λ t. rw e refl in
+      let l : up_to begins_markup s ≡ s = stop_same begins_markup (ends_text z p) same s ∙ h.1 in
+      settled_past s x l (st refl) k
+  settled_after (comment u) p c last s x h e o st k = settled_behind s x (comment_sign s u h.0) k
+  settled_after (element n attributes ks) p c last s x h e o st k = go h.2
+    where
+      aside : is_set_aside n ≡ false
+      aside = not-true (is_set_aside n) (and_parts (not (is_set_aside n)) (is_simple ks) o).0
+
+      go : Inside (project z) (p ∷ c) last n attributes ks s → IsSettled x
+      go (inl w) =
+          test (is_void n)
+          (λ v. let m = rw v at w.5 in
+          let q : s ≡ w.0 =
+          w.3 ∙ ap (λ (y : List ℕ). w.0 ++ (y ++ w.2)) m.0 ∙ ap (λ (y : List ℕ). w.0 ++ y) m.1 ∙ append-nil w.0 in
+          settled_behind s x (subst EndsInSign (sym q) (start_sign w.0 n attributes w.4)) k)
+          (λ v. let m = rw v at w.5 in
+          settled_behind s x (subst EndsInSign (sym w.3)
+          (sign_before w.0 (w.1 ++ w.2) (sign_before w.1 w.2 (end_sign w.2 n m.1)))) k)
       go (inr w) = absurd (no_tbody n aside w.3)

@@ -2,7 +2,7 @@
 use Rattle.std.proofs.Common.{◌≡◌, ◌≢◌, ◌⊎◌, ℕ, zero, suc, ◌<◌, Bool, true, false, not, ◌&&◌, List, [], ◌∷◌, ◌++◌}
 use Rattle.std.proofs.Common.{length, map, Option, Some, refl, sym, ap, ◌∙◌, arith, inl, inr}
 use Rattle.std.proofs.Common.{append_assoc, length-append, subst}
-use Rattle.std.specs.Prelude.{◌==◌}
+use Rattle.std.specs.Prelude.{◌==◌, ◌||◌}
 use Rattle.std.specs.Char.{is_ascii_alphanumeric, is_ascii_alphabetic, to_ascii_lowercase}
 use Rattle.std.specs.List.{list_all}
 use Rattle.std.proofs.lemmas.Bool.{and_parts, not-true}
@@ -22,6 +22,7 @@ use Rattle.htmd_grammar.proofs.TagReadingLemmas.{halts, front_cut, front_whole, 
 use Rattle.htmd_grammar.proofs.TagReadingLemmas.{white_back}
 use Rattle.htmd_grammar.proofs.TagsLemmas.{values_parts, decoded_names}
 use Rattle.htmd_html5_tokens.proofs.FirstsLemmas.{distinct_firsts}
+use Rattle.htmd_html5_tokens.specs.References.{goes_on}
 use Rattle.htmd_html5_tokens.specs.Contents.{has_references, is_text, decoded, name_of}
 use Rattle.htmd_html5_tokens.specs.Tags.{is_name_byte, is_gap_byte, ends_in_slash, value_part, after_attribute_name}
 use Rattle.htmd_html5_tokens.specs.Tags.{next_part, ended, form_within, tag_form, attribute_of, firsts, attributes_of}
@@ -29,12 +30,12 @@ use Rattle.htmd_html5_tokens.specs.Tags.{tag_value, tag_token, tag_from_name}
 use Rattle.htmd_html5_tokens.specs.Tokens.{TagValue, TokenValue, Read}
 use Rattle.htmd_html5_tokens.specs.RawTexts.{reading_of}
 use Rattle.htmd_grammar.specs.declared.content.RawElement.TheVariants.{Style}
-use Rattle.htmd_html5_laws.specs.StrictReferences.{IsSettled, value_spelled}
+use Rattle.htmd_html5_laws.specs.StrictReferences.{in_tag, IsSettledAt, value_spelled}
 use Rattle.htmd_html5_laws.specs.StrictTokens.{tag_named}
 use Rattle.htmd_html5_laws.proofs.StrictBytes.{key_byte, key_head, key_no_null, white_gap, white_ends}
 use Rattle.htmd_html5_laws.proofs.StrictBytes.{white_no_slash, ends_key, ends_reference, bare_byte, bare_head}
 use Rattle.htmd_html5_laws.proofs.StrictBytes.{ends_bare, name_byte}
-use Rattle.htmd_html5_laws.proofs.StrictReferencesLemmas.{references_same}
+use Rattle.htmd_html5_laws.proofs.StrictReferencesLemmas.{value_same}
 use Rattle.htmd_html5_laws.proofs.StrictCuts.{settled_back, settled_front}
 use Rattle.htmd_grammar.specs.CharacterClasses as strict
 use Rattle.htmd_html5_tokens.specs.Tags as lenient
@@ -71,6 +72,7 @@ record Ends (s x : List ℕ) : Type 0 where
   value : halts strict.is_unquoted_byte s ≡ true → halts lenient.is_unquoted_byte (s ++ x) ≡ true
   letter : halts is_ascii_alphanumeric (s ++ x) ≡ true
   semicolon : first_is 59 (s ++ x) ≡ false
+  further : goes_on (s ++ x) ≡ false
 
 rest_ends : (attributes : List AttributePair) (present : Bool) (s x : List ℕ) → IsTagRest attributes present s
     → Ends s x
@@ -83,6 +85,7 @@ rest_ends attributes present s x h =
       value = λ k. ap not (ends_bare f.0 f.3 (not-true (strict.is_unquoted_byte f.0) k));
       letter = ap not r.0;
       semicolon = r.1;
+      further = r.2;
     })
 
 -- ---- an attribute
@@ -283,8 +286,8 @@ form_read (a ∷ spelled) present (suc k) s x h l =
       rw (key_same a h.1 h.7 h.8, i.2) refl,
     )
 
-value_settled : (value r x v : List ℕ) → IsValue value r v → Ends r x → IsSettled (value ++ (r ++ x)) →
-    IsSettled v
+value_settled : (value r x v : List ℕ) → IsValue value r v → Ends r x → IsSettledAt in_tag (value ++ (r ++ x))
+    → IsSettledAt in_tag v
 value_settled value r x v (inl h) n k =
     rw h.1 (record { line_feeds = refl; no_null = refl; references_end = refl })
 value_settled value r x v (inr (inl h)) n k =
@@ -293,19 +296,21 @@ value_settled value r x v (inr (inl h)) n k =
     ∙ ap (λ (y : List ℕ). h.0 ++ (h.1 ∷ y)) (append_assoc v (h.1 ∷ []) (r ++ x)) in
     let q = quote h.4 in
     let m = settled_back (h.1 ∷ []) (v ++ (h.1 ∷ (r ++ x)))
-    (settled_back h.0 (h.1 ∷ (v ++ (h.1 ∷ (r ++ x)))) (subst IsSettled e k)) in
-    settled_front v (h.1 ∷ (r ++ x)) m (ap not q.0) q.1
+    (settled_back h.0 (h.1 ∷ (v ++ (h.1 ∷ (r ++ x)))) (subst (IsSettledAt in_tag) e k)) in
+    settled_front v (h.1 ∷ (r ++ x)) m (ap not q.0) q.1 q.2
   where
-    quote : {q : ℕ} → (q ≡ 34) ⊎ (q ≡ 39) → (is_ascii_alphanumeric q ≡ false) × ((q == 59) ≡ false)
-    quote (inl e) = rw e (refl, refl)
-    quote (inr e) = rw e (refl, refl)
+    quote : {q : ℕ} → (q ≡ 34) ⊎ (q ≡ 39)
+        → (is_ascii_alphanumeric q ≡ false) × ((q == 59) ≡ false) × (((q == 61) || is_ascii_alphanumeric q) ≡ false)
+    quote (inl e) = rw e (refl, refl, refl)
+    quote (inr e) = rw e (refl, refl, refl)
 value_settled value r x v (inr (inr h)) n k =
     let e : value ++ (r ++ x) ≡ h.0 ++ (v ++ (r ++ x)) =
     ap (λ (y : List ℕ). y ++ (r ++ x)) h.1 ∙ append_assoc h.0 v (r ++ x) in
-    settled_front v (r ++ x) (settled_back h.0 (v ++ (r ++ x)) (subst IsSettled e k)) n.letter n.semicolon
+    settled_front v (r ++ x) (settled_back h.0 (v ++ (r ++ x)) (subst (IsSettledAt in_tag) e k)) n.letter
+    n.semicolon n.further
 
 values_same : (spelled : List AttributePair) (present : Bool) (s x : List ℕ) (attributes : List AttributePair)
-    → IsTagRest spelled present s → IsSettled (s ++ x) → decode_values named_characters spelled ≡ Some
+    → IsTagRest spelled present s → IsSettledAt in_tag (s ++ x) → decode_values named_characters spelled ≡ Some
     attributes
     → map valued spelled ≡ attributes
 values_same [] present s x attributes h k e = nothing e
@@ -320,11 +325,11 @@ values_same (a ∷ spelled) present s x attributes h k e =
     ap (λ (y : List ℕ). y ++ x) h.4 ∙ append_assoc h.0 (h.1 ++ (h.2 ++ h.3)) x
     ∙ ap (λ (y : List ℕ). h.0 ++ y) (append_assoc h.1 (h.2 ++ h.3) x)
     ∙ ap (λ (y : List ℕ). h.0 ++ (h.1 ++ y)) (append_assoc h.2 h.3 x) in
-    let m = settled_back h.1 (h.2 ++ (h.3 ++ x)) (settled_back h.0 (h.1 ++ (h.2 ++ (h.3 ++ x))) (subst IsSettled q k))
-    in
-    let v = references_same a.value w.0 (value_settled h.2 h.3 x a.value h.9 n m) w.2 in
+    let m = settled_back h.1 (h.2 ++ (h.3 ++ x))
+    (settled_back h.0 (h.1 ++ (h.2 ++ (h.3 ++ x))) (subst (IsSettledAt in_tag) q k)) in
+    let v = value_same a.value w.0 (value_settled h.2 h.3 x a.value h.9 n m) w.2 in
     let i = values_same spelled present h.3 x w.1 h.10 (settled_back h.2 (h.3 ++ x) m) w.3 in
-    rw (v.2, i) (sym w.4)
+    rw (v, i) (sym w.4)
 
 -- ---- the tag
 
@@ -352,8 +357,8 @@ read token rest = record { token = token; rest = rest }
 -- a tag from its name on
 pub tag_read : (kind : TagValue → TokenValue) (name n : List ℕ) (spelled attributes : List AttributePair)
     (present : Bool) (s x : List ℕ)
-    → is_tag_name name ≡ true → map to_ascii_lowercase name ≡ n → IsTagRest spelled present s → IsSettled
-    (s ++ x)
+    → is_tag_name name ≡ true → map to_ascii_lowercase name ≡ n → IsTagRest spelled present s
+    → IsSettledAt in_tag (s ++ x)
     → decode_values named_characters spelled ≡ Some attributes → are_distinct (attribute_names spelled) ≡ true
     → tag_from_name kind (name ++ (s ++ x)) ≡ read (kind (tag_named n attributes present)) x
 tag_read kind name n spelled attributes present s x t l h k d distinct =

@@ -4,7 +4,8 @@ ghost use Rattle.htmd_html5_laws.specs.StrictTokens.{TokensAgree};
 ghost use Rattle.htmd_html5_laws.specs.StrictTrees.{PlainPagesAgree, PlainTextsAgree};
 
 /// Characters and references denote the same by the strict grammar and by the lenient reader, where line ends are line
-/// feeds, no U+0000 stands, and each reference by name has its `;`, in the values of attributes too.
+/// feeds, no U+0000 stands, and each reference by name has its `;`; in the value of an attribute it needs none before
+/// `=`, a letter or a digit.
 pub fn references_agree()
     ensures { ReferencesAgree }
 {}
