@@ -72,7 +72,7 @@ pub use Rattle.htmd_walk.specs.TableViews
 pub use Rattle.htmd_walk.specs.PlainTexts
 pub use Rattle.htmd_walk.specs.GuardedTableViews
 pub use Rattle.htmd_walk.specs.declared.options.Options
-pub use Rattle.htmd_walk.specs.declared.options.LinkStyle
+pub use Rattle.htmd_markdown.specs.declared.link.LinkStyle
 pub use Rattle.htmd_walk.specs.declared.options.CodeBlockStyle
 pub use Rattle.htmd_walk.specs.declared.options.TranslationMode
 pub mod Converters

@@ -9,8 +9,7 @@ use htmd::options::{Options, TranslationMode};
 use htmd::{ConvertError, FaultKind, HtmlToMarkdown, HtmlToMarkdownBuilder};
 use htmd_cli::{Input, Mode, Output, RunError, run};
 use htmd_html5::parse_html5;
-use htmd_nodes::serialize;
-use htmd_tree::{ReadError, read_html};
+use htmd_tree::{ReadError, read_html, serialize};
 use std::alloc::{AllocError, Global};
 
 /// Appends the answer to a text.

@@ -1,5 +1,5 @@
 //! The text form of a tree: a row for each node and each attribute, as in html5lib's tests.
-use htmd_nodes::{Attribute, NodeData, NodeId, Tree};
+use htmd_tree::{Attribute, NodeData, NodeId, Tree};
 use std::alloc::{AllocError, Global};
 
 /// The rows of all nodes but the Document, in document order, with a line feed between each two. A row begins with a

@@ -1,6 +1,6 @@
 //! The converter from HTML to Markdown as a program: it reads a source to its end, converts what it
 //! read, and writes the Markdown and one line feed to a sink. What is written is a stated function of
-//! what was read, and nothing is written before the conversion has succeeded.
+//! what was read, and nothing is written of a page before its conversion has succeeded.
 //!
 //! `Source` and `Sink` are the two ends of a run, `Input` and `Output` make them from std's readers and
 //! writers, `run` converts by a mode and `run_with` by settings, and `command` is the whole program with its

@@ -5,7 +5,6 @@ mod abbreviations;
 mod clauses;
 mod closures;
 mod either;
-mod highlight;
 mod pages;
 mod settings;
 mod skipping;
@@ -14,7 +13,6 @@ use abbreviations::spelled_out_page;
 use clauses::{as_file, is_html, of_any_page, with_every_letter};
 use closures::shouted;
 use either::site_heading;
-use highlight::highlighted;
 use htmd::{ConvertError, Tree, TreeError, convert};
 use pages::three_pages;
 use settings::{faithful, underlined};
@@ -59,11 +57,9 @@ fn main(rt: HostRuntime) -> io::Result<()> {
             Err(error) => eprintln!(rt; "{error}")?,
         }
     }
-    for answer in [built(alloc), highlighted(alloc)] {
-        match answer {
-            Ok(markdown) => println!(rt; "{markdown}")?,
-            Err(error) => eprintln!(rt; "{error}")?,
-        }
+    match built(alloc) {
+        Ok(markdown) => println!(rt; "{markdown}")?,
+        Err(error) => eprintln!(rt; "{error}")?,
     }
     match of_any_page(alloc, "<ul><li>left<li>open") {
         Ok(markdown) => println!(rt; "{markdown}")?,

@@ -2,7 +2,7 @@
 use Rattle.std.specs.Prelude.{◌≡◌, ℕ, Bool, true, List, IsUtf8}
 use Rattle.htmd_nodes.specs.Items.{Item}
 use Rattle.htmd_tree.specs.Bodies.{body_part}
-use Rattle.htmd_walk.specs.declared.options.LinkStyle.TheVariants.{Inlined}
+use Rattle.htmd_markdown.specs.declared.link.LinkStyle.TheVariants.{Inlined}
 use Rattle.htmd_walk.specs.declared.options.Options.{Options}
 use Rattle.htmd_walk.specs.Outputs.{is_markdown_alone}
 use Rattle.htmd_walk.specs.BuiltIn.{built_in}

@@ -227,10 +227,10 @@ code_span-reads_back s some = trimmed_back s (trimmed_text is_document_white_spa
 
 -- ---- the first unused length
 
-pub first_unused : (s : List ℕ) (k : ℕ) → meets_delimiter s ≡ false → k ≤ longest_run grave_accent s
+pub first_unused : (s : List ℕ) (k : ℕ) → k ≤ longest_run grave_accent s
     → ((i : ℕ) → 1 ≤ i → i < 1 + k → has_run grave_accent i s ≡ true)
-    → (k < longest_run grave_accent s → has_run grave_accent (1 + k) s ≡ false) → 1 + k ≡ delimiter_len s
-first_unused s k apart le taken free =
+    → (k < longest_run grave_accent s → has_run grave_accent (1 + k) s ≡ false) → 1 + k ≡ smallest_unused_len s
+first_unused s k le taken free =
     let size = range_length 1 (longest_run grave_accent s) in
     let first : position_or_len (λ m. not (has_run grave_accent m s))
     (range_with_len 1 (longest_run grave_accent s)) ≡ k =
@@ -240,4 +240,4 @@ first_unused s k apart le taken free =
     ∙ ap not (taken (1 + i) (omega arith) (omega arith)))
     (λ lt. ap (λ m. not (has_run grave_accent m s)) (range_at 1 (longest_run grave_accent s) k (omega (arith, size)))
     ∙ ap not (free (omega (arith, size)))) in
-    rw apart (ap (λ m. 1 + m) (sym first))
+    ap (λ m. 1 + m) (sym first)

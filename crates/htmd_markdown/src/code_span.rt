@@ -91,10 +91,18 @@ fn push_content(out: &mut String, text: &str, preformatted_code: bool) -> Result
 fn delimiter_len(text: &str) -> usize
     ensures { result ≡ spec.delimiter_len text.now }
 {
-    let longest = longest_run(text, b'`');
     if meets_delimiter(text) {
-        return longest + 1;
+        longest_run(text, b'`') + 1
+    } else {
+        smallest_unused_len(text)
     }
+}
+
+/// The smallest length of 1 or more that no run of backquotes in the text has.
+pub fn smallest_unused_len(text: &str) -> usize
+    ensures { result ≡ spec.smallest_unused_len text.now }
+{
+    let longest = longest_run(text, b'`');
     for len in 1..longest + 1 {
         if !has_run(text, b'`', len) {
             return len;

@@ -1,5 +1,5 @@
 //! Fenced code blocks (CommonMark 0.31.2, 4.5).
-ghost use Rattle.std.specs.Prelude.{◌≡◌, ◌<◌, ℕ, true, drop, replicate, Some, IfOk, string_bytes};
+ghost use Rattle.std.specs.Prelude.{◌≡◌, ◌<◌, ◌++◌, ℕ, true, drop, replicate, Some, IfOk, OnOk, string_bytes};
 ghost use Rattle.std.specs.Option.{option_copied};
 ghost use Rattle.htmd_markdown.specs.CodeBlocks.{code_of};
 ghost use Rattle.htmd_markdown.specs.FenceReading.{read_fence, symbols_at_start};
@@ -55,20 +55,36 @@ fn write_between_fences(
         (replicate (spec.fence_len (spec.symbol_of fence) code.now) (spec.symbol_of fence))
         info.now code.now) }
 {
+    let mut block = String::new(alloc);
+    push_between_fences(&mut block, code, info, fence)?;
+    Ok(block)
+}
+
+/// Appends the code between two fences, with the info string after the first one. A fence has three of its symbol, or
+/// one more than the longest run of it in the code. `Err` means out of memory.
+pub fn push_between_fences(
+    out: &mut String,
+    code: &str,
+    info: &str,
+    fence: CodeBlockFence,
+) -> Result<(), AllocError>
+    ensures { OnOk result (string_bytes out.new ≡ string_bytes out.old ++ spec.between_fences
+        (replicate (spec.fence_len (spec.symbol_of fence) code.now) (spec.symbol_of fence))
+        info.now code.now) }
+{
     let symbol = symbol_of(fence);
     let len = LEAST_LEN.max(longest_run(code, symbol as u8) + 1);
     let room = len
         .saturating_mul(2)
         .saturating_add(info.len())
         .saturating_add(code.len());
-    let mut block = String::with_capacity(alloc, room.saturating_add(LINE_ENDS))?;
-    push_repeated(&mut block, symbol, len)?;
-    block.push_str(info)?;
-    block.push('\n')?;
-    block.push_str(code)?;
-    block.push('\n')?;
-    push_repeated(&mut block, symbol, len)?;
-    Ok(block)
+    out.reserve(room.saturating_add(LINE_ENDS))?;
+    push_repeated(out, symbol, len)?;
+    out.push_str(info)?;
+    out.push('\n')?;
+    out.push_str(code)?;
+    out.push('\n')?;
+    push_repeated(out, symbol, len)
 }
 
 /// The line ends beside the code.

@@ -28,9 +28,9 @@ mod table_grid;
 mod thematic_break;
 mod title;
 
-pub use self::code_span::write_span;
+pub use self::code_span::{smallest_unused_len, write_span};
 pub use self::emphasis::{Emphasis, write_emphasis, write_guarded_emphasis};
-pub use self::fence::{CodeBlockFence, write_fence};
+pub use self::fence::{CodeBlockFence, push_between_fences, write_fence};
 pub use self::guarded_code::{
     write_guarded_code, write_guarded_code_block, write_guarded_span_in_line,
 };
@@ -44,8 +44,8 @@ pub use self::indented_code::write_indented_code;
 pub use self::joint::mend_joint;
 pub use self::line_break::{BrStyle, write_line_break};
 pub use self::link::{
-    LinkReferenceStyle, write_autolink, write_definition, write_image, write_inline_link,
-    write_reference,
+    LinkReferenceStyle, LinkStyle, write_autolink, write_definition, write_image,
+    write_inline_link, write_reference,
 };
 pub use self::list::{
     BulletListMarker, ListBlock, first_number, write_bullet_item, write_guarded_bullet_item,

@@ -11,6 +11,17 @@ use crate::title::{push_description, push_title};
 use htmd_text::StripWhitespace;
 use std::alloc::{AllocError, Global};
 
+/// How a link is written (CommonMark 0.31.2, 6.3).
+#[derive(Debug, Clone, Copy, PartialEq)]
+pub enum LinkStyle {
+    /// `[text](address "title")`
+    Inlined,
+    /// `<address>` if the text is the address, else as in `Inlined` (CommonMark 0.31.2, 6.5).
+    InlinedPreferAutolinks,
+    /// A reference, whose definition stands at the end.
+    Referenced,
+}
+
 /// How a link names the definition of its address.
 #[derive(Debug, Clone, Copy, PartialEq)]
 pub enum LinkReferenceStyle {

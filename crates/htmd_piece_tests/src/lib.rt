@@ -1,5 +1,5 @@
 //! Each function of `htmd_text`, each writer of `htmd_markdown`, trees, bodies, the reader and the serialiser of
-//! `htmd_nodes`, and the tokens of `htmd_html5_tokens`, on rows of their rules. Expected values are written by hand from
+//! `htmd_tree`, and the tokens of `htmd_html5_tokens`, on rows of their rules. Expected values are written by hand from
 //! the rules, and never taken from the code.
 #![tactic(auto)]
 

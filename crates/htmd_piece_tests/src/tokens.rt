@@ -2,7 +2,7 @@
 //! request of the first test in turn.
 use htmd_expected::{expect_number, expect_text, expect_that};
 use htmd_html5_tokens::*;
-use htmd_nodes::Attribute;
+use htmd_tree::Attribute;
 use std::alloc::{AllocError, Global};
 use std::borrow::CowStr;
 use std::test::Fail;

@@ -3,7 +3,7 @@ ghost use Rattle.std.specs.Prelude.{◌<◌, length, IsTrue};
 ghost use Rattle.htmd_nodes.specs.Items.{data_at, holds_children};
 
 use htmd_expected::{expect_number, expect_text, expect_that};
-use htmd_nodes::*;
+use htmd_tree::*;
 use std::alloc::{AllocError, Global};
 use std::test::Fail;
 

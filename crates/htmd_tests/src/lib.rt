@@ -30,8 +30,6 @@ mod nodes;
 #[cfg(test)]
 mod pages;
 #[cfg(test)]
-mod passing;
-#[cfg(test)]
 mod program;
 #[cfg(test)]
 mod refusals;

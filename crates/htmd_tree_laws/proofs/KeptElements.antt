@@ -28,8 +28,8 @@ use Rattle.htmd_nodes.specs.ValueTrees.{AttributePair}
 use Rattle.htmd_nodes.specs.NumberedTrees.{NumberedTree, NumberedForest}
 use Rattle.htmd_nodes.specs.Ancestors.{Ancestor, ancestor_of}
 use Rattle.htmd_walk.proofs.TableOrdersLemmas.{lines_in_order}
-use Rattle.htmd_walk.specs.declared.options.LinkStyle.{LinkStyle}
-use Rattle.htmd_walk.specs.declared.options.LinkStyle.TheVariants.{Inlined, InlinedPreferAutolinks, Referenced}
+use Rattle.htmd_markdown.specs.declared.link.LinkStyle.{LinkStyle}
+use Rattle.htmd_markdown.specs.declared.link.LinkStyle.TheVariants.{Inlined, InlinedPreferAutolinks, Referenced}
 use Rattle.htmd_walk.specs.declared.options.Options.{Options}
 use Rattle.htmd_walk.specs.AllText.{text_or_all, all_text_of}
 use Rattle.htmd_walk.specs.Anchors.{anchors, anchor_address, finish_at, guarded_link_finish, is_autolinked}

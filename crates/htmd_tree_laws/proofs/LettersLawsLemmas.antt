@@ -16,8 +16,8 @@ use Rattle.htmd_nodes.specs.Ancestors.{Ancestor, ancestor_of, ancestors_of}
 use Rattle.htmd_walk.specs.declared.options.Options.{Options}
 use Rattle.htmd_walk.specs.Handling.{ElementView, ResultView, HandlerMeaning}
 use Rattle.htmd_walk.specs.Choice.{handler_at}
-use Rattle.htmd_walk.specs.declared.options.LinkStyle.{LinkStyle}
-use Rattle.htmd_walk.specs.declared.options.LinkStyle.TheVariants.{Inlined, InlinedPreferAutolinks, Referenced}
+use Rattle.htmd_markdown.specs.declared.link.LinkStyle.{LinkStyle}
+use Rattle.htmd_markdown.specs.declared.link.LinkStyle.TheVariants.{Inlined, InlinedPreferAutolinks, Referenced}
 use Rattle.htmd_walk.specs.Anchors.{anchors, anchor_address, finish_at, link_finish, guarded_link_finish}
 use Rattle.htmd_tree_laws.proofs.KeepingLemmas.{keeps-within}
 use Rattle.htmd_walk.specs.OrdinaryText.{in_pre_or_code}

@@ -9,8 +9,8 @@ use Rattle.htmd_markdown.specs.Links.{definition_start, definition}
 use Rattle.htmd_markdown.specs.Titles.{title_text}
 use Rattle.htmd_markdown.proofs.AddressesLemmas.{holds_address}
 use Rattle.htmd_markdown.proofs.LinksLemmas.{image-parts, inline_link-parts}
-use Rattle.htmd_walk.specs.declared.options.LinkStyle.{LinkStyle}
-use Rattle.htmd_walk.specs.declared.options.LinkStyle.TheVariants.{Inlined, InlinedPreferAutolinks, Referenced}
+use Rattle.htmd_markdown.specs.declared.link.LinkStyle.{LinkStyle}
+use Rattle.htmd_markdown.specs.declared.link.LinkStyle.TheVariants.{Inlined, InlinedPreferAutolinks, Referenced}
 use Rattle.htmd_walk.specs.Handling.{ElementView, ResultView, PlanView, this_result, raw_html}
 use Rattle.htmd_markdown.specs.GuardedLinks.{guarded_image}
 use Rattle.htmd_walk.specs.ElementPlans.{markdown_plan}

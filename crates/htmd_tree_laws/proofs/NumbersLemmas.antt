@@ -7,8 +7,8 @@ use Rattle.htmd_markdown.specs.Links.{definition}
 use Rattle.htmd_markdown.specs.GuardedLinks.{guarded_definition}
 use Rattle.htmd_markdown.specs.declared.link.LinkReferenceStyle.TheVariants.{Full}
 use Rattle.htmd_nodes.specs.NumberedTrees.{tree_of, height}
-use Rattle.htmd_walk.specs.declared.options.LinkStyle.{LinkStyle}
-use Rattle.htmd_walk.specs.declared.options.LinkStyle.TheVariants.{Inlined, InlinedPreferAutolinks, Referenced}
+use Rattle.htmd_markdown.specs.declared.link.LinkStyle.{LinkStyle}
+use Rattle.htmd_markdown.specs.declared.link.LinkStyle.TheVariants.{Inlined, InlinedPreferAutolinks, Referenced}
 use Rattle.htmd_walk.specs.Handling.{ElementView, ResultView, PlanView, HandlerMeaning, of_functions}
 use Rattle.htmd_walk.specs.Choice.{Config, handler_at, with_handler, no_handler}
 use Rattle.htmd_walk.specs.Layers.{with_functions}

@@ -17,8 +17,8 @@ use Rattle.htmd_markdown.specs.LineBreaks.{line_break}
 use Rattle.htmd_markdown.specs.Links.{inline_link, autolink, resource}
 use Rattle.htmd_walk.specs.declared.options.CodeBlockStyle.{CodeBlockStyle}
 use Rattle.htmd_walk.specs.declared.options.CodeBlockStyle.TheVariants.{Indented, Fenced}
-use Rattle.htmd_walk.specs.declared.options.LinkStyle.{LinkStyle}
-use Rattle.htmd_walk.specs.declared.options.LinkStyle.TheVariants.{Inlined, InlinedPreferAutolinks, Referenced}
+use Rattle.htmd_markdown.specs.declared.link.LinkStyle.{LinkStyle}
+use Rattle.htmd_markdown.specs.declared.link.LinkStyle.TheVariants.{Inlined, InlinedPreferAutolinks, Referenced}
 use Rattle.htmd_walk.specs.declared.options.Options.{Options}
 use Rattle.htmd_walk.specs.Anchors.{anchors, anchor_address, finish_at, link_finish}
 use Rattle.htmd_walk.specs.BuiltIn.{built_in}

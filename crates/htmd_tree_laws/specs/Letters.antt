@@ -6,8 +6,8 @@ use Rattle.std.specs.Str.{chars, bytes_eq}
 use Rattle.htmd_nodes.specs.Items.{Item, children_of, HoldTexts}
 use Rattle.htmd_nodes.specs.NumberedTrees.{NumberedTree, document, doctype, text, comment, element}
 use Rattle.htmd_nodes.specs.NumberedTrees.{NumberedForest, none, more, tree_of, height}
-use Rattle.htmd_walk.specs.declared.options.LinkStyle.{LinkStyle}
-use Rattle.htmd_walk.specs.declared.options.LinkStyle.TheVariants.{Inlined, InlinedPreferAutolinks, Referenced}
+use Rattle.htmd_markdown.specs.declared.link.LinkStyle.{LinkStyle}
+use Rattle.htmd_markdown.specs.declared.link.LinkStyle.TheVariants.{Inlined, InlinedPreferAutolinks, Referenced}
 use Rattle.htmd_walk.specs.declared.options.Options.{Options}
 use Rattle.htmd_walk.specs.Handling.{ElementView}
 use Rattle.htmd_walk.specs.Groups.{groups_of}

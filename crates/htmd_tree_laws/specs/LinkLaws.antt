@@ -9,8 +9,8 @@ use Rattle.htmd_markdown.specs.GuardedLinks.{guarded_reference, guarded_definiti
 use Rattle.htmd_markdown.specs.Titles.{title_text}
 use Rattle.htmd_markdown.specs.declared.link.LinkReferenceStyle.TheVariants.{Full}
 use Rattle.htmd_nodes.specs.Items.{Item}
-use Rattle.htmd_walk.specs.declared.options.LinkStyle.{LinkStyle}
-use Rattle.htmd_walk.specs.declared.options.LinkStyle.TheVariants.{Inlined, InlinedPreferAutolinks, Referenced}
+use Rattle.htmd_markdown.specs.declared.link.LinkStyle.{LinkStyle}
+use Rattle.htmd_markdown.specs.declared.link.LinkStyle.TheVariants.{Inlined, InlinedPreferAutolinks, Referenced}
 use Rattle.htmd_walk.specs.declared.options.Options.{Options}
 use Rattle.htmd_walk.specs.Handling.{ElementView, ResultView, PlanView, this_result, Finish, HandlerMeaning, of_functions}
 use Rattle.htmd_walk.specs.Choice.{Config, handler_at, with_handler, with_options, no_handler}

@@ -13,8 +13,8 @@ use Rattle.htmd_walk.specs.declared.element_handler.built_in.BuiltIn.TheVariants
 use Rattle.htmd_walk.specs.declared.element_handler.built_in.BuiltIn.TheVariants.{Page, Span, OtherBlock}
 use Rattle.htmd_walk.specs.declared.element_handler.element_handlers.Handler.{Handler}
 use Rattle.htmd_walk.specs.declared.element_handler.element_handlers.Handler.TheVariants as registered
-use Rattle.htmd_walk.specs.declared.options.LinkStyle.{LinkStyle}
-use Rattle.htmd_walk.specs.declared.options.LinkStyle.TheVariants.{Inlined, InlinedPreferAutolinks, Referenced}
+use Rattle.htmd_markdown.specs.declared.link.LinkStyle.{LinkStyle}
+use Rattle.htmd_markdown.specs.declared.link.LinkStyle.TheVariants.{Inlined, InlinedPreferAutolinks, Referenced}
 use Rattle.htmd_walk.specs.Handling.{ElementView, ResultView, PlanView, HandlerMeaning}
 use Rattle.htmd_walk.specs.Choice.{Config, handler_at, no_handler}
 use Rattle.htmd_walk.specs.Layers.{with_functions, put_at}

@@ -5,7 +5,7 @@ use Rattle.std.proofs.Common.{zero, suc, ◌<◌, length, map, get_or, arith}
 use Rattle.std.specs.Borrow.{Bor}
 use Rattle.std.specs.Option.{is_some, option_copied}
 use Rattle.std.proofs.lemmas.List.{append-nil, append_assoc}
-use Rattle.htmd_text.specs.Trims.{trimmed_text, is_line_feed}
+use Rattle.htmd_grammar.proofs.Cases.{test}
 use Rattle.htmd_nodes.specs.ValueTrees.{AttributePair}
 use Rattle.htmd_nodes.specs.Items.{Data, element_node, data_at}
 use Rattle.std.proofs.lemmas.Slice.Eq.{bytes_eq-Decides}
@@ -20,11 +20,7 @@ use Rattle.htmd_walk.specs.ElementPlans.{ancestors_of}
 use Rattle.htmd_walk.specs.Elements.{Occurrence, Answer, content_of, first_answer, answer_after, plan_answer, answer_of}
 use Rattle.htmd_walk.specs.Elements.{raw_answer}
 use Rattle.htmd_walk.specs.Spans.{is_span, formula_mark, has_math_class, formula_plan, spans}
-use Rattle.htmd_walk.specs.Passing.{IsPlain, IsPassed}
-
--- the text of a content: that of a span, kept whole or not
-abbrev pub passed_text : Bool → Bool → List ℕ → List ℕ
-passed_text is_span whole s = cond is_span (cond whole s (trimmed_text is_line_feed s)) s
+use Rattle.htmd_walk.specs.Passing.{IsPlain, IsPassed, passed_text}
 
 -- in Guarded and in preformatted text a span's content is kept whole
 abbrev pub is_whole : ElementView → Bool
@@ -88,32 +84,53 @@ module _ (at : Occurrence) (name : List ℕ) (attributes : List AttributePair) (
   passed_answer h d o = sym (by_span (is_span name) h.1 d h.0 (ap is_markdown_alone o ∙ h.0))
 
 -- a span is neither pre nor code
-span_tag : (tag : List ℕ) → is_span tag ≡ true → tag ≡ codes "span"
+pub span_tag : (tag : List ℕ) → is_span tag ≡ true → tag ≡ codes "span"
 span_tag tag e = (bytes_eq-Decides tag (codes "span")).0 e
 
-pub span-inside : (tag : List ℕ) (attributes : List AttributePair) (above : List Ancestor) → is_span tag ≡ true
+span-inside : (tag : List ℕ) (attributes : List AttributePair) (above : List Ancestor) → is_span tag ≡ true
     → in_pre_or_code (record { tag = tag; attributes = attributes } ∷ above) ≡ in_pre_or_code above
 span-inside tag attributes above e = ap (λ t. in_pre_or_code (record { tag = t; attributes = attributes } ∷ above))
     (span_tag tag e)
 
--- ---- how the registry finds it out
+-- so for its content it is the same whether it or only what is above it is asked
+pub passed-inside : (tag : List ℕ) (attributes : List AttributePair) (above : List Ancestor) (guarded : Bool)
+    (s : List ℕ)
+    → passed_text (is_span tag) (guarded || in_pre_or_code (record { tag = tag; attributes = attributes } ∷ above)) s
+    ≡ passed_text (is_span tag) (guarded || in_pre_or_code above) s
+passed-inside tag attributes above guarded s =
+    let inside = in_pre_or_code (record { tag = tag; attributes = attributes } ∷ above) in
+    test (is_span tag)
+    (λ is. ap (λ b. passed_text (is_span tag) (guarded || b) s) (span-inside tag attributes above is))
+    (λ other. ap (λ b. passed_text b (guarded || inside) s) other
+    ∙ sym (ap (λ b. passed_text b (guarded || in_pre_or_code above) s) other))
 
-pub passed-span : (config : Config) (name : List ℕ) (attributes : List AttributePair) (d : Data) (index : ℕ)
-    → d ≡ element_node name attributes → is_markdown_alone config.options ≡ true
+-- ---- how the walk finds it out
+
+pub no_handlers : (config : Config) (name : List ℕ) → None ≡ slice_get (indexes name config.registered) 0
+    → handlers_at config.handlers (indexes name config.registered) ≡ []
+no_handlers config name h =
+    ap (handlers_at config.handlers) (drop_at_none (indexes name config.registered) 0 h)
+
+pub one_handler : (config : Config) (name : List ℕ) (index : ℕ) (handler : HandlerMeaning)
     → Some index ≡ slice_get (indexes name config.registered) 0
     → None ≡ slice_get (indexes name config.registered) 1
-    → is_span name ≡ true → handler_at config.handlers index ≡ spans → has_math_class attributes ≡ false
+    → handler_at config.handlers index ≡ handler
+    → handlers_at config.handlers (indexes name config.registered) ≡ handler ∷ []
+one_handler config name index handler h k m =
+    ap (handlers_at config.handlers) (drop_at_some (indexes name config.registered) 0 index h
+    ∙ ap (λ x. index ∷ x) (drop_at_none (indexes name config.registered) 1 k))
+    ∙ ap (λ x. x ∷ []) m
+
+-- an element with these handlers
+pub passed-plain : (config : Config) (name : List ℕ) (attributes : List AttributePair) (d : Data) (span : Bool)
+    → d ≡ element_node name attributes → is_markdown_alone config.options ≡ true → is_span name ≡ span
+    → IsPlain (handlers_at config.handlers (indexes name config.registered)) span (has_math_class attributes)
     → IsPassed config d
-passed-span config name attributes d index e p h k s m a =
+passed-plain config name attributes d span e p s plain =
     subst (IsPassed config) (sym e) (
       p,
       subst (λ b. IsPlain (handlers_at config.handlers (indexes name config.registered)) b
-          (has_math_class attributes)) (sym s) (
-            ap (handlers_at config.handlers) (drop_at_some (indexes name config.registered) 0 index h
-                ∙ ap (λ x. index ∷ x) (drop_at_none (indexes name config.registered) 1 k))
-                ∙ ap (λ x. x ∷ []) m,
-            a,
-          ),
+          (has_math_class attributes)) (sym s) plain,
     )
 
 pub none_after : {A : Type 0} (o : Option A) → is_some o ≡ false → None ≡ o
@@ -130,6 +147,10 @@ append_texts-push (x ∷ hs) h ds = ap (λ s. append_text (x.append ds) ++ s) (a
 pub not-false : {b : Bool} → not b ≡ false → b ≡ true
 not-false {b = true} e = refl
 not-false {b = false} e = cc
+
+pub not-true : {b : Bool} → not b ≡ true → b ≡ false
+not-true {b = true} e = cc
+not-true {b = false} e = refl
 
 pub no_value : {A : Type 0} (o : Option (Bor A)) → is_some o ≡ false → is_some (option_copied o) ≡ false
 no_value None e = refl

@@ -3,7 +3,7 @@ use Rattle.std.specs.Prelude.{false}
 use Rattle.htmd_markdown.specs.declared.heading.HeadingStyle.TheVariants.{Atx}
 use Rattle.htmd_markdown.specs.declared.thematic_break.HrStyle.TheVariants.{Asterisks}
 use Rattle.htmd_markdown.specs.declared.line_break.BrStyle.TheVariants.{TwoSpaces}
-use Rattle.htmd_walk.specs.declared.options.LinkStyle.TheVariants.{Inlined}
+use Rattle.htmd_markdown.specs.declared.link.LinkStyle.TheVariants.{Inlined}
 use Rattle.htmd_markdown.specs.declared.link.LinkReferenceStyle.TheVariants.{Full}
 use Rattle.htmd_walk.specs.declared.options.CodeBlockStyle.TheVariants.{Fenced}
 use Rattle.htmd_markdown.specs.declared.fence.CodeBlockFence.TheVariants.{Backticks}

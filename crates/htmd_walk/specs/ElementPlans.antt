@@ -68,10 +68,11 @@ unless_attributes view plan = if is_raw_html_due view 0 then raw_html else plan
 abbrev pub plain_plan : ElementView → PlanView
 plain_plan view = unless_attributes view content_of_children
 
--- the children's content in Pure, or if this holds
+-- the children's content, unless the mode is Faithful and this doesn't hold
 abbrev pub plan_if : Bool → ElementView → PlanView
 plan_if holds view = if is_markdown_alone view.options || holds then content_of_children else raw_html
 
+-- the children's content, unless the mode is Faithful
 abbrev pub unless_faithful : ElementView → PlanView
 unless_faithful view = plan_if false view
 

@@ -1,5 +1,6 @@
 -- Where the walk may go past an element's handlers: what they would give is known without asking them.
-use Rattle.std.specs.Prelude.{◌≡◌, Bool, true, false, List, [], ◌∷◌}
+use Rattle.std.specs.Prelude.{◌≡◌, ℕ, Bool, true, false, if◌then◌else◌, List, [], ◌∷◌}
+use Rattle.htmd_text.specs.Trims.{trimmed_text, is_line_feed}
 use Rattle.htmd_nodes.specs.Items.{Data, document_node, doctype_node, text_node, comment_node, element_node}
 use Rattle.htmd_walk.specs.Handling.{HandlerMeaning}
 use Rattle.htmd_walk.specs.Choice.{Config, indexes, handlers_at}
@@ -19,3 +20,7 @@ IsPassed config document_node = ⊥
 IsPassed config doctype_node = ⊥
 IsPassed config (text_node s) = ⊥
 IsPassed config (comment_node s) = ⊥
+
+-- what is handed on of a content: all of it, or that of a `span` without line feeds at its ends if it isn't kept whole
+abbrev pub passed_text : Bool → Bool → List ℕ → List ℕ
+passed_text is_span whole s = if is_span then (if whole then s else trimmed_text is_line_feed s) else s

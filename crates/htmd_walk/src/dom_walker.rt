@@ -1,23 +1,26 @@
 //! The walk over a tree.
 
 mod results;
+#[cfg(test)]
+mod tests;
 mod visit;
 
 ghost use Rattle.std.specs.Prelude.{◌≡◌, ◌<◌, ℕ, List, None, true, false, IfOk, IfSome, IsTrue, OnOk};
-ghost use Rattle.std.specs.Prelude.{length, string_bytes};
+ghost use Rattle.std.specs.Prelude.{◌∷◌, [], codes, length, string_bytes};
 ghost use Rattle.std.specs.Option.{option_copied};
 ghost use Rattle.htmd_nodes.specs.Items.{data_at, element_node, IsTree};
 ghost use Rattle.htmd_nodes.specs.NumberedTrees.{tree_of};
 ghost use Rattle.htmd_nodes.specs.Ancestors.{ancestors_of};
 ghost use Rattle.htmd_grammar.specs.Attributes.{pairs_of};
 ghost use Rattle.htmd_walk.specs.Handling.{IsProper, contents_of_each};
+ghost use Rattle.htmd_walk.specs.Choice.{indexes, handlers_at};
 ghost use Rattle.htmd_walk.specs.OrdinaryText.{in_pre_or_code};
 ghost use Rattle.htmd_walk.specs.Groups.{group_tree, children_at};
 ghost use Rattle.htmd_walk.specs.Outputs.{conversion_of, context_of, empty_output, is_guarded};
 ghost use Rattle.htmd_walk.specs.Children.{write_groups, content_alone};
 ghost use Rattle.htmd_walk.specs.Elements.{content_of, contents_alone, answer_after, raw_answer};
 ghost use Rattle.htmd_walk.specs.Passing.{IsPassed};
-ghost use Rattle.htmd_walk.specs.Spans.{is_span};
+ghost use Rattle.htmd_walk.specs.Spans.{spans};
 ghost use Rattle.htmd_walk.specs.Rendering.{is_text, inside_of, with_result};
 ghost use Rattle.htmd_walk.specs.Markdown.{markdown};
 ghost use Rattle.htmd_walk.specs.Staying.{HandlersStay};
@@ -31,6 +34,7 @@ ghost use Rattle.htmd_walk.specs.OneLineElements.{known_in_line, known_in_line_i
 use crate::element_handler::code::{language_above, language_inside};
 use crate::element_handler::plans::{is_guarded, is_markdown_alone};
 use crate::element_handler::registry::{Outcome, Registry, Request};
+use crate::element_handler::span::formula_mark;
 use crate::element_handler::{Element, HandlerResult, Links, Plan};
 use crate::group::{group_length, joined_text};
 use crate::line::{is_in_one_line, is_known_in_line};
@@ -45,7 +49,7 @@ use htmd_text::{
 };
 use results::{
     append_copy, append_result, between_tags, copied, cut_before_child, empty_result, lent,
-    push_comment, raw_result, text_shown, trim_after,
+    passed_on, push_comment, raw_result, text_shown, trim_after,
 };
 use std::alloc::{AllocError, Global};
 use visit::Visit;
@@ -230,14 +234,41 @@ impl<'a, R: Registry> Walk<'a, R> {
         false
     }
 
-    /// Whether an element is a `span` whose handlers needn't be asked.
-    fn goes_past(&self, element: &Element) -> bool
-        requires { IsElementOf (R.config self.now.registry.now).options self.now.tree.now element.now }
-        ensures span { IsTrue result → is_span element.now.tag.now ≡ true }
-        ensures passed { IsTrue result
-            → IsPassed (R.config self.now.registry.now) (data_at self.now.tree.now element.now.node) }
+    /// Whether `span` has the built-in handler alone.
+    fn has_span_handler_alone(&self) -> bool
+        ensures { let config = R.config self.now.registry.now in
+            IsTrue result
+            → handlers_at config.handlers (indexes (codes "span") config.registered) ≡ spans ∷ [] }
     {
-        element.tag == "span" && self.registry.goes_past(self.tree, element.node)
+        let Some(index) = self.registry.find("span", 0) else {
+            return false;
+        };
+        if self.registry.find("span", 1).is_some() {
+            return false;
+        }
+        self.registry.is_span_handler_at(index)
+    }
+
+    /// Whether the walk goes past an element without asking its handlers, as in Pure and Guarded past a tag without
+    /// registrations, and past a `span` that is no formula and has the built-in handler alone.
+    fn goes_past(&self, tree: &Tree, node: NodeId) -> bool
+        requires { node < length tree.now }
+        ensures { IsTrue result → IsPassed (R.config self.now.registry.now) (data_at tree.now node) }
+    {
+        let NodeData::Element { name, attrs } = tree.data(node) else {
+            return false;
+        };
+        if !is_markdown_alone(self.registry.options()) {
+            return false;
+        }
+        let tag = name.as_str();
+        if tag != "span" {
+            return self.registry.find(tag, 0).is_none();
+        }
+        if !self.has_span_handler_alone() {
+            return false;
+        }
+        formula_mark(attrs.as_slice()).is_none()
     }
 
     /// What the handlers of an element's tag make of it, from the one after this many newer ones on.
@@ -320,7 +351,7 @@ impl<'a, R: Registry> Walk<'a, R> {
         }
     }
 
-    /// What an element gives: the content of a `span` if its handlers needn't be asked.
+    /// What an element gives: what its handlers make of it, or its content if the walk goes past them.
     #[cycle(walk)]
     fn walk_element(
         &self,
@@ -332,14 +363,11 @@ impl<'a, R: Registry> Walk<'a, R> {
         ensures { ElementGives (R.config self.now.registry.now) self.now.tree.now element.now
             (λ at. answer_after 0 element.now.tag.now at links.old) (λ r. answer_view r links.new) result }
     {
-        if !self.goes_past(element) {
+        if !self.goes_past(self.tree, element.node) {
             return self.handle(element, 0, links);
         }
-        let mut content = self.content(element, links)?;
-        if !element.preformatted && !is_guarded(self.registry.options()) {
-            trim_newlines(&mut content.content);
-        }
-        Ok(Some(content))
+        let content = self.content(element, links)?;
+        Ok(Some(passed_on(element, content)))
     }
 
     /// The raw HTML of an element.

@@ -38,7 +38,7 @@ mod preformatted;
 pub(crate) mod registrar;
 mod registrations;
 pub(crate) mod registry;
-mod span;
+pub(crate) mod span;
 pub(crate) mod table;
 mod table_cell;
 pub(crate) mod table_layout;

@@ -3,19 +3,8 @@
 ghost use Rattle.std.specs.Prelude.{◌≡◌};
 
 pub use htmd_markdown::{
-    BrStyle, BulletListMarker, CodeBlockFence, HeadingStyle, HrStyle, LinkReferenceStyle,
+    BrStyle, BulletListMarker, CodeBlockFence, HeadingStyle, HrStyle, LinkReferenceStyle, LinkStyle,
 };
-
-/// How a link is written (CommonMark 0.31.2, 6.3).
-#[derive(Debug, Clone, Copy, PartialEq)]
-pub enum LinkStyle {
-    /// `[text](address "title")`
-    Inlined,
-    /// `<address>` if the text is the address, else as in `Inlined` (CommonMark 0.31.2, 6.5).
-    InlinedPreferAutolinks,
-    /// A reference, whose definition stands at the end.
-    Referenced,
-}
 
 /// How a code block is written.
 #[derive(Debug, Clone, Copy, PartialEq)]

@@ -1,22 +1,26 @@
 //! What an element gives, and how it is appended to what is written so far.
 
 ghost use Rattle.std.specs.Prelude.{◌≡◌, ◌<◌, ℕ, List, true, IfOk, IfSome, IsSome, OnOk};
-ghost use Rattle.std.specs.Prelude.{◌++◌, nat_lt, if◌then◌else◌, length, string_bytes, []};
+ghost use Rattle.std.specs.Prelude.{◌++◌, ◌||◌, nat_lt, if◌then◌else◌, length, string_bytes, []};
 ghost use Rattle.std.specs.Option.{option_copied};
 ghost use Rattle.htmd_text.specs.Trims.{trimmed_end, is_space};
 ghost use Rattle.htmd_grammar.specs.Attributes.{pairs_of};
 ghost use Rattle.htmd_nodes.specs.Serialisation.{start_tag, comment_of};
 ghost use Rattle.htmd_walk.specs.Groups.{only_text, group_children, children_at};
 ghost use Rattle.htmd_walk.specs.Elements.{raw_result, end_of_element};
+ghost use Rattle.htmd_walk.specs.Outputs.{is_guarded};
+ghost use Rattle.htmd_walk.specs.Passing.{passed_text};
 ghost use Rattle.htmd_walk.specs.Rendering.{with_result};
+ghost use Rattle.htmd_walk.specs.Spans.{is_span};
 ghost use Rattle.htmd_walk.specs.Views.{optional_text, optional_result, output_view, result_view};
 
-use crate::element_handler::HandlerResult;
+use crate::element_handler::plans::is_guarded;
+use crate::element_handler::{Element, HandlerResult};
 use crate::node_util::only_text;
 use crate::seam::append_normalized_content;
 use crate::spare_texts::SpareTexts;
 use htmd_nodes::{Attribute, NodeId, Tree, is_void, push_end_tag, push_start_tag};
-use htmd_text::trim_end_spaces;
+use htmd_text::{trim_end_spaces, trim_newlines};
 use std::alloc::{AllocError, Global};
 
 /// Cuts the spaces at the end of the text before a block element.
@@ -77,6 +81,19 @@ pub(crate) fn text_shown<'t>(
         Some(text) => Some(text),
         None => only_text(tree, node),
     }
+}
+
+/// What an element that the walk goes past hands on: its content; that of a `span` without line feeds at its ends, unless
+/// it is preformatted or the mode is Guarded.
+pub(crate) fn passed_on(element: &Element, mut content: HandlerResult) -> HandlerResult
+    ensures content { string_bytes result.content ≡ passed_text (is_span element.now.tag.now)
+        (is_guarded element.now.options.now || element.now.preformatted) (string_bytes content.content) }
+    ensures markdown_translated { result.markdown_translated ≡ content.markdown_translated }
+{
+    if element.tag == "span" && !element.preformatted && !is_guarded(element.options) {
+        trim_newlines(&mut content.content);
+    }
+    content
 }
 
 /// A text that isn't Markdown.

@@ -11,14 +11,12 @@ ghost use Rattle.htmd_walk.specs.RegisteredHandlers.{handler_meaning};
 ghost use Rattle.htmd_walk.specs.Spans.{spans};
 
 use super::built_in::{BuiltIn, HANDLERS_AND_TAGS};
-use super::plans::is_markdown_alone;
 use super::registrations::Registrations;
 use super::registry::{Outcome, Registry, Request};
-use super::span::formula_mark;
 use super::{Element, ElementHandler, HandlerResult, Links, Plan};
 use crate::dom_walker::handle_element;
 use crate::options::Options;
-use htmd_nodes::{NodeData, NodeId, Tree};
+use htmd_nodes::{NodeId, Tree};
 use std::alloc::{AllocError, Global};
 
 /// A handler, as it is registered.
@@ -289,27 +287,8 @@ impl Registry for ElementHandlers {
         self.registered.find(tag, skipped)
     }
 
-    fn goes_past(&self, tree: &Tree, node: NodeId) -> bool {
-        let NodeData::Element { name, attrs } = tree.data(node) else {
-            return false;
-        };
-        if !is_markdown_alone(&self.options) {
-            return false;
-        }
-        let tag = name.as_str();
-        if tag != "span" {
-            return false;
-        }
-        let Some(index) = self.find(tag, 0) else {
-            return false;
-        };
-        if self.find(tag, 1).is_some() {
-            return false;
-        }
-        if !is_span_handler(&self.handlers[index]) {
-            return false;
-        }
-        formula_mark(attrs.as_slice()).is_none()
+    fn is_span_handler_at(&self, index: usize) -> bool {
+        is_span_handler(&self.handlers[index])
     }
 
     fn plan(&self, alloc: Global, index: usize, element: &Element) -> Result<Request, AllocError> {

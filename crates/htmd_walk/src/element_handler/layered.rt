@@ -8,7 +8,6 @@ use super::registrar::Registrar;
 use super::registry::{Outcome, Registry, Request};
 use super::{Element, HandlerResult, Links};
 use crate::options::Options;
-use htmd_nodes::{NodeId, Tree};
 use std::alloc::{AllocError, Global};
 
 /// A registry in which a handler that isn't boxed answers in place of one that gives nothing.
@@ -48,9 +47,8 @@ impl<R: Registry, H: Answering> Registry for Layered<R, H> {
         self.rest.find(tag, skipped)
     }
 
-    // The handlers are asked each time; they give what the content stands for.
-    fn goes_past(&self, _tree: &Tree, _node: NodeId) -> bool {
-        false
+    fn is_span_handler_at(&self, index: usize) -> bool {
+        index != self.index && self.rest.is_span_handler_at(index)
     }
 
     fn plan(&self, alloc: Global, index: usize, element: &Element) -> Result<Request, AllocError> {

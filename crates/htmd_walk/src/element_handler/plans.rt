@@ -69,7 +69,7 @@ pub(crate) fn plain_plan(element: &Element) -> Plan
     }
 }
 
-/// The children's content in Pure, or if this holds.
+/// The children's content, unless the mode is Faithful and this doesn't hold.
 pub(crate) fn plan_if(holds: bool, element: &Element) -> Plan
     ensures { plan_view result ≡ spec.plan_if holds (element_view element.now) }
 {
@@ -80,7 +80,7 @@ pub(crate) fn plan_if(holds: bool, element: &Element) -> Plan
     }
 }
 
-/// The children's content, only in Pure.
+/// The children's content, unless the mode is Faithful.
 pub(crate) fn unless_faithful(element: &Element) -> Plan
     ensures { plan_view result ≡ spec.unless_faithful (element_view element.now) }
 {

@@ -2,19 +2,18 @@
 
 ghost use Rattle.std.specs.Prelude.{◌≡◌, ◌+◌, ◌^◌, ◌<◌, IfOk, IfSome, IsTrue};
 ghost use Rattle.std.specs.Prelude.{length, slice_get, string_bytes};
-ghost use Rattle.htmd_nodes.specs.Items.{data_at};
 ghost use Rattle.htmd_walk.specs.Handling.{IsProper};
 ghost use Rattle.htmd_walk.specs.Choice.{Config, handler_at, indexes};
 ghost use Rattle.htmd_walk.specs.Elements.{finish_answer};
 ghost use Rattle.htmd_walk.specs.Markdown.{append_texts};
-ghost use Rattle.htmd_walk.specs.Passing.{IsPassed};
+ghost use Rattle.htmd_walk.specs.Spans.{spans};
 ghost use Rattle.htmd_walk.specs.Staying.{HandlersStay};
 ghost use Rattle.htmd_walk.specs.Views.{result_view, results_view, answer_view, element_view};
 ghost use Rattle.htmd_walk.specs.Walking.{request_view, outcome_view};
 
 use super::{Element, HandlerResult, Links, Plan};
 use crate::options::Options;
-use htmd_nodes::{NodeId, Tree};
+use htmd_nodes::NodeId;
 use std::alloc::{AllocError, Global};
 
 /// What a handler asks for; a built-in one may ask for more.
@@ -57,10 +56,10 @@ pub trait Registry {
         ensures fits { IfSome result (λ _. skipped + 1 < 2 ^ 64) }
         ensures within { IfSome result (λ index. index < length (config self.now).handlers) };
 
-    /// Whether the content of an element stands for what its handlers would give.
-    fn goes_past(&self, tree: &Tree, node: NodeId) -> bool
-        requires { node < length tree.now }
-        ensures { IsTrue result → IsPassed (config self.now) (data_at tree.now node) };
+    /// Whether the handler at an index is the built-in one of `span`.
+    fn is_span_handler_at(&self, index: usize) -> bool
+        requires { index < length (config self.now).handlers }
+        ensures { IsTrue result → handler_at (config self.now).handlers index ≡ spans };
 
     /// What the handler at an index asks for. `Err` means out of memory.
     fn plan(&self, alloc: Global, index: usize, element: &Element) -> Result<Request, AllocError>

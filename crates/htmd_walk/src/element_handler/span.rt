@@ -43,7 +43,7 @@ fn is_read_in_formula(text: &str) -> bool
         .any(|b| matches!(*b, b'<' | b'&' | b'`' | b'[' | b']' | b'\n'))
 }
 
-/// A formula between its marks, else the children's content, only in Pure.
+/// A formula between its marks, else the children's content, unless the mode is Faithful.
 pub(crate) fn plan(alloc: Global, element: &Element) -> Result<Plan, AllocError>
     ensures { IfOk result (λ p. plan_view p ≡ spans.plan (element_view element.now)) }
 {

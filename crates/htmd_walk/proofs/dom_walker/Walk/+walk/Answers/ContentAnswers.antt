@@ -1,6 +1,6 @@
 -- The content of an element, with its handlers passed over, as raw HTML or where it is asked for.
 use Rattle.std.proofs.Common.{◌≡◌, ◌<◌, ◌∙◌, ℕ, List, [], ◌∷◌, Bool}
-use Rattle.std.proofs.Common.{true, false, ◌||◌, refl}
+use Rattle.std.proofs.Common.{◌||◌}
 use Rattle.std.proofs.Common.{Some, sym, ap, subst, length, codes}
 use Rattle.std.proofs.Common.{string_bytes}
 use Rattle.std.specs.Option.{option_copied}
@@ -14,18 +14,13 @@ use Rattle.htmd_walk.specs.Outputs.{Output, conversion_of, is_guarded}
 use Rattle.htmd_walk.specs.Children.{trims_first}
 use Rattle.htmd_walk.specs.Elements.{Occurrence, Answer}
 use Rattle.htmd_walk.specs.Rendering.{inside_of}
-use Rattle.htmd_walk.specs.Views.{answer_view}
 use Rattle.htmd_walk.specs.Views.{element_children}
 use Rattle.htmd_walk.specs.Walking.{occurrence_of}
 use Rattle.htmd_walk.proofs.WalkingLemmas.{two_levels, text_inside}
-use Rattle.htmd_walk.specs.Passing.{IsPassed}
+use Rattle.htmd_walk.specs.Passing.{IsPassed, passed_text}
 use Rattle.htmd_walk.specs.Spans.{is_span}
-use Rattle.htmd_walk.proofs.PassingLemmas.{passed_answer, passed_text, passed_result, span-inside}
+use Rattle.htmd_walk.proofs.PassingLemmas.{passed_answer, passed_result, passed-inside}
 use Rattle.htmd_walk.proofs.dom_walker.Walk.+walk.Goals as goal
-use Rattle.htmd_walk.proofs.dom_walker.Walk.+walk.Goals.{walk_element-then-not-element+then-not-is_guarded}
-use Rattle.htmd_walk.proofs.dom_walker.Walk.+walk.Goals.{walk_element-else-not-element}
-use Rattle.htmd_walk.proofs.dom_walker.Walk.+walk.Goals.{walk_element-else-not-element-via-then-not-element+else-not-is_guarded}
-use Rattle.htmd_walk.proofs.dom_walker.Walk.+walk.Goals.{walk_element-else-not-element-via-else-not-element}
 
 pub content-returns-in-Some : goal.content-returns-in-Some
 content-returns-in-Some g t c =
@@ -68,58 +63,35 @@ content-returns-in-Some g t c =
     c.args.element.now.tag.now (pairs_of c.args.element.now.attrs.now) (option_copied c.args.element.now.text)
     c.in-Some.text.now n element here l)
 
-whole-text : (guarded : Bool) (s : List ℕ) → passed_text true (guarded || true) s ≡ s
-whole-text true s = refl
-whole-text false s = refl
-
 pub walk_element-returns : goal.walk_element-returns
 walk_element-returns g t c =
     let v = conversion_of (g.R.Registry.config c.args.self.now.registry.now) c.args.self.now.tree.now in
     let e = c.args.element.now in
     let at : ℕ → Occurrence = λ n. occurrence_of n v e in
-    let passed : IsPassed v.config (element_node c.args.element.now.tag.now (pairs_of c.args.element.now.attrs.now)) =
-    subst (IsPassed v.config) (sym (ap (λ (x : List Item). data_at x c.args.element.now.node) c.requires.here.tree)
-    ∙ c.args.element.now.is_element) (c.goes_past.ensures.passed c.if-not-goes_past.false) in
-    let text = string_bytes c.in_ok-content.content.content in
     let tag = c.args.element.now.tag.now in
+    let attributes = pairs_of c.args.element.now.attrs.now in
     let above = ancestors_of c.args.element.now.tree.now c.args.element.now.node in
     let guarded = is_guarded c.args.element.now.options.now in
     let whole = guarded || in_pre_or_code above in
-    let span : is_span tag ≡ true = c.goes_past.ensures.span c.if-not-goes_past.false in
-    let inside : c.args.element.now.preformatted ≡ in_pre_or_code above =
+    let text = string_bytes c.in_ok-content.content.content in
+    let passed : IsPassed v.config (element_node tag attributes) =
+    subst (IsPassed v.config) (sym (ap (λ (x : List Item). data_at x c.args.element.now.node) c.requires.here.tree)
+    ∙ c.args.element.now.is_element) (c.goes_past.ensures c.if-not-goes_past.false) in
+    let inside : c.args.element.now.preformatted
+    ≡ in_pre_or_code (record { tag = tag; attributes = attributes } ∷ above) =
     c.requires.here.inside
     ∙ ap (λ (x : List Item). in_pre_or_code (inside_of x c.args.element.now.node)) (sym c.requires.here.tree)
-    ∙ ap (λ x. in_pre_or_code (ancestor_of x ∷ above)) c.args.element.now.is_element
-    ∙ span-inside tag (pairs_of c.args.element.now.attrs.now) above span in
+    ∙ ap (λ x. in_pre_or_code (ancestor_of x ∷ above)) c.args.element.now.is_element in
     let kept : List ℕ → Bool → Answer = λ s b. record {
       result = Some (record { content = s; markdown_translated = b });
       definitions = c.content.new.links;
     } in
-    let written : List ℕ → Answer = λ s. kept s c.in_ok-content.content.markdown_translated in
-    let made : answer_view (Some c.if-not-element.content) c.content.new.links
-    ≡ written (passed_text true whole text) =
-    elim c.if-not-element.branch [
-      | walk_element-then-not-element+then-not-is_guarded w ↦
-          (let bare : guarded ≡ false = ap is_guarded (c.requires.here.options ∙ sym w.options.ensures.value)
-          ∙ sym w.is_guarded.ensures ∙ w.if-not-is_guarded.true in
-          let outside : in_pre_or_code above ≡ false = sym inside ∙ w.if-not-element.true in
-          ap (λ r. answer_view (Some r) c.content.new.links) w.content-is
-          ∙ ap written (w.trim_newlines.ensures
-          ∙ sym (ap (λ b. passed_text true (b || in_pre_or_code above) text) bare
-          ∙ ap (λ p. passed_text true p text) outside)))
-      | walk_element-else-not-element w ↦ ap (λ r. answer_view (Some r) c.content.new.links) w.content-is
-          ∙ ap written (sym (elim w.else-not-element.branch as (λ _. passed_text true whole text ≡ text) [
-            | walk_element-else-not-element-via-then-not-element+else-not-is_guarded w' ↦
-                (let held : guarded ≡ true = ap is_guarded (c.requires.here.options ∙ sym w'.options.ensures.value)
-                ∙ sym w'.is_guarded.ensures ∙ w'.if-not-is_guarded.false in
-                ap (λ b. passed_text true (b || in_pre_or_code above) text) held)
-            | walk_element-else-not-element-via-else-not-element w' ↦
-                ap (λ p. passed_text true (guarded || p) text) (sym inside ∙ w'.if-not-element.false)
-                ∙ whole-text guarded text
-          ]))
-    ] in
-    λ n l. made
-    ∙ ap (λ b. written (passed_text b whole text)) (sym span)
+    let written : string_bytes c.passed_on.result.content ≡ passed_text (is_span tag) whole text =
+    c.passed_on.ensures.content
+    ∙ ap (λ b. passed_text (is_span tag) (guarded || b) text) inside
+    ∙ passed-inside tag attributes above guarded text in
+    λ n l. ap (λ s. kept s c.passed_on.result.markdown_translated) written
+    ∙ ap (kept (passed_text (is_span tag) whole text)) c.passed_on.ensures.markdown_translated
     ∙ ap (passed_result (is_span tag) whole) (c.in_ok-content.ensures n l)
-    ∙ (passed_answer (at n) tag (pairs_of c.args.element.now.attrs.now) c.args.links.now
-    passed c.args.element.now.is_element c.requires.here.options)
+    ∙ passed_answer (at n) tag attributes c.args.links.now passed c.args.element.now.is_element
+    c.requires.here.options

@@ -3,11 +3,10 @@ ghost use Rattle.std.specs.Prelude.{◌++◌, Some, None, true, codes};
 ghost use Rattle.htmd.specs.Handling.{content_of_children};
 
 use htmd::element_handler::{Element, ElementHandler, HandlerResult, Plan};
-use htmd::{HtmlToMarkdown, Tree, TreeError};
 use std::alloc::{AllocError, Global};
 
 #[derive(Drop)]
-struct Highlight;
+pub(crate) struct Highlight;
 
 impl ElementHandler for Highlight {
     ghost plan_of = { λ _ _. content_of_children };
@@ -36,19 +35,4 @@ impl ElementHandler for Highlight {
         let text = format!(in alloc; "=={}==", content.content)?;
         Ok(Some(HandlerResult::from_string(text)))
     }
-}
-
-/// The Markdown of `<p>A <mark>new</mark> word</p>`.
-pub(crate) fn highlighted(alloc: Global) -> Result<String, TreeError> {
-    let mut tree = Tree::new(alloc)?;
-    let paragraph = tree.add_element(tree.root(), "p", Vec::new(alloc))?;
-    tree.add_text(paragraph, "A ")?;
-    let mark = tree.add_element(paragraph, "mark", Vec::new(alloc))?;
-    tree.add_text(mark, "new")?;
-    tree.add_text(paragraph, " word")?;
-    let handler: Box<dyn ElementHandler> = Box::new(alloc, Highlight)?;
-    let Ok(builder) = HtmlToMarkdown::builder(alloc)?.add_handler(&["mark"], handler) else {
-        return Err(TreeError::Memory);
-    };
-    Ok(builder.build().tree_to_markdown(alloc, &tree, tree.root())?)
 }

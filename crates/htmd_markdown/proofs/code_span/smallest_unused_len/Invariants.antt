@@ -2,7 +2,7 @@
 use Rattle.std.proofs.Common.{◌≡◌, ℕ, ◌≤◌, ◌<◌, true}
 use Rattle.htmd_grammar.specs.Characters.{grave_accent}
 use Rattle.htmd_markdown.specs.Runs.{has_run}
-use Rattle.htmd_markdown.proofs.code_span.delimiter_len.Given as goal
+use Rattle.htmd_markdown.proofs.code_span.smallest_unused_len.Given as goal
 
 abbrev pub invariant-loop-len : goal.invariant-loop-len
 invariant-loop-len l = (k : ℕ) → 1 ≤ k → k < l.len → has_run grave_accent k l.text ≡ true
