@@ -56,6 +56,7 @@ pub use Rattle.htmd_walk.specs.LinkAttributes
 pub use Rattle.htmd_walk.specs.Images
 pub use Rattle.htmd_walk.specs.Anchors
 pub use Rattle.htmd_walk.specs.BuiltIn
+pub use Rattle.htmd_walk.specs.ParagraphLaws
 pub use Rattle.htmd_walk.specs.Views
 pub use Rattle.htmd_walk.specs.RegisteredHandlers
 pub use Rattle.htmd_walk.specs.Registries

@@ -8,6 +8,7 @@ ghost use Rattle.htmd.specs.Conversions.{IsRefused, IsMarkdownOf, IsTreeOf, IsMa
 ghost use Rattle.htmd.specs.Conversions.{IsPageRefused, IsHtml5Markdown};
 ghost use Rattle.htmd_walk.specs.Defaults.{default_options};
 ghost use Rattle.htmd_walk.specs.Markdown.{markdown};
+ghost use Rattle.htmd_walk.specs.ParagraphLaws.{ParagraphsReadBack};
 
 use crate::conversion::ConvertError;
 use htmd_html5::parse_html5;
@@ -149,8 +150,10 @@ impl<R: Registry> HtmlToMarkdown<R> {
     ) -> Result<String, AllocError>
         requires ready { R.ready (handlers_of self.now) }
         requires within { node < length tree.now }
-        ensures { IfOk result
+        ensures markdown { IfOk result
             (λ text. string_bytes text ≡ markdown (R.config (handlers_of self.now)) tree.now node) }
+        ensures paragraphs { IfOk result
+            (λ text. ParagraphsReadBack (R.config (handlers_of self.now)) tree.now node (string_bytes text)) }
     {
         htmd_walk::tree_to_markdown(&self.handlers, alloc, tree, node)
     }

@@ -11,8 +11,8 @@ ghost use Rattle.htmd_laws.specs.PageLetters.{PageLettersAreWritten};
 pub use htmd_tree_laws::conversion::{
     Emphasis, anchors_take_the_next_number, children_are_cut, content_is_trimmed,
     each_item_takes_a_number, images_hold_addresses, items_begin_in_one_column,
-    joints_take_marks_alone, links_hold_addresses, marks_stand_inside, paragraphs_read_back,
-    references_are_numbered, repeats_are_kept, text_stays_text,
+    joints_take_marks_alone, links_hold_addresses, marks_stand_inside, references_are_numbered,
+    repeats_are_kept, text_stays_text,
 };
 
 /// What a text denotes, or what an input is taken for, is a tree whose texts and values are UTF-8, as the text is; for

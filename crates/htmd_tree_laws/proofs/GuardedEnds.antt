@@ -17,7 +17,7 @@ use Rattle.htmd_grammar.specs.WhiteSpace.{is_document_white_space}
 use Rattle.htmd_text.proofs.PlainTextLemmas.{bare_first}
 use Rattle.htmd_markdown.specs.ReferenceLike.{is_reference_like, behind_number, ends_reference}
 use Rattle.htmd_markdown.specs.GuardedText.{is_always_guarded, begins_no_markup, is_guarded}
-use Rattle.htmd_tree_laws.proofs.TextEnds.{Passes, end_parts, end_passes}
+use Rattle.htmd_walk.proofs.TextEnds.{Passes, end_parts, end_passes}
 
 -- ---- one continuation for another
 

@@ -22,10 +22,9 @@ use Rattle.htmd_walk.specs.OrdinaryText.{without_first_space}
 use Rattle.htmd_walk.specs.Seams.{begins_with_space, ends_with_space, joined_by_white_space, joined_at_seam}
 use Rattle.htmd_walk.specs.Seams.{guarded_at_seam}
 use Rattle.htmd_tree_laws.proofs.Utf8Cuts.{alone}
-use Rattle.htmd_tree_laws.proofs.TextEnds.{Passes, end_parts, end_passes}
-use Rattle.htmd_tree_laws.proofs.ShownTexts.{IsPlain, squeezed_is_plain, each_written, plain_without, white_too, IsNoLineFeed}
-use Rattle.htmd_tree_laws.proofs.GuardedSeams.{feed_is_white}
-use Rattle.htmd_tree_laws.proofs.ParagraphTexts.{space_is_white}
+use Rattle.htmd_walk.proofs.TextEnds.{Passes, end_parts, end_passes}
+use Rattle.htmd_walk.proofs.ShownTexts.{IsPlain, squeezed_is_plain, each_written, plain_without, white_too, IsNoLineFeed}
+use Rattle.htmd_walk.proofs.ParagraphTexts.{feed_is_white, space_is_white}
 use Rattle.htmd_tree_laws.proofs.CountedTexts.{of_letters}
 use Rattle.htmd_tree_laws.proofs.LettersLemmas.{says-own}
 use Rattle.htmd_tree_laws.proofs.LettersOfTexts.{OfWhite, space_of_white, line_feed_of_white, document_of_white}

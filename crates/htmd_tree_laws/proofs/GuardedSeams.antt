@@ -17,7 +17,8 @@ use Rattle.htmd_markdown.specs.Joints.{Ends, with_joint}
 use Rattle.htmd_markdown.proofs.UnmendedLemmas.{unmended}
 use Rattle.htmd_walk.specs.Seams.{begins_with_space, ends_with_space, joined_by_line_feeds, joined_by_white_space, joined_at_seam}
 use Rattle.htmd_walk.specs.Seams.{guarded_at_seam}
-use Rattle.htmd_tree_laws.proofs.TextEnds.{first_cut, start_stays}
+use Rattle.htmd_walk.proofs.ParagraphTexts.{feed_is_white}
+use Rattle.htmd_walk.proofs.TextEnds.{first_cut, start_stays}
 use Rattle.htmd_tree_laws.proofs.GuardedRuns.{guarded-ending}
 use Rattle.htmd_tree_laws.proofs.GuardedEnds.{IsLine, guarded-append, guarded-line, line-append, trimmed_end-line, guarded-tail}
 
@@ -31,9 +32,6 @@ feeds (suc n) = guarded-append (line_feed ∷ []) (replicate n line_feed) refl (
 lines_behind : (s : List ℕ) (n : ℕ) → 0 < n → IsLine s → is_guarded (s ++ replicate n line_feed) ≡ true
 lines_behind s zero some line = absurd (omega arith)
 lines_behind s (suc n) some line = line-append s (replicate n line_feed) line (feeds n)
-
-pub feed_is_white : (b : ℕ) → is_line_feed b ≡ true → is_document_white_space b ≡ true
-feed_is_white b e = grind (arith, nat_tests)
 
 feed_is_no_backslash : (b : ℕ) → is_line_feed b ≡ true → (b == backslash) ≡ false
 feed_is_no_backslash b e = grind (arith, nat_tests)

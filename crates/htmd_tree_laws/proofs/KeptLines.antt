@@ -27,7 +27,7 @@ use Rattle.htmd_tree_laws.proofs.LettersLemmas.{is_white}
 use Rattle.htmd_tree_laws.proofs.LettersOfLines.{some_part, last_reads}
 use Rattle.htmd_tree_laws.proofs.LettersOfTexts.{OfWhite, document_of_white, line_feed_of_white, space_of_white}
 use Rattle.htmd_tree_laws.proofs.LettersOfTexts.{end_white}
-use Rattle.htmd_tree_laws.proofs.TextEnds.{end_passes}
+use Rattle.htmd_walk.proofs.TextEnds.{end_passes}
 
 -- ---- one exchange after another
 

@@ -14,11 +14,6 @@ pub mod ListLawsLemmas
 pub mod ContentLawsLemmas
 pub mod GroupCuts
 pub mod EmphasisLawsLemmas
-pub mod TextEnds
-pub mod ShownTexts
-pub mod ParagraphTexts
-pub mod ParagraphSeams
-pub mod ParagraphLawsLemmas
 pub mod GuardedEnds
 pub mod GuardedRuns
 pub mod GuardedSeams
@@ -72,7 +67,6 @@ pub mod ShownTables
 pub mod KeptLawsLemmas
 pub mod ShownLawsLemmas
 pub mod TextCharacters
-mod ParagraphExamples
 mod TextExamples
 mod LettersExamples
 mod ShownExamples

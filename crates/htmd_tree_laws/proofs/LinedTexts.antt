@@ -24,7 +24,7 @@ use Rattle.htmd_tree_laws.proofs.KeptEnds.{is_of_fence, line_safe}
 use Rattle.htmd_tree_laws.proofs.LettersLemmas.{is_white}
 use Rattle.htmd_tree_laws.proofs.LettersOfLines.{some_part, last_reads}
 use Rattle.htmd_tree_laws.proofs.LettersOfTexts.{document_of_white, space_of_white, end_white}
-use Rattle.htmd_tree_laws.proofs.TextEnds.{end_passes}
+use Rattle.htmd_walk.proofs.TextEnds.{end_passes}
 
 abbrev pub is_no_feed : ℕ → Bool
 is_no_feed b = not (is_line_feed b)

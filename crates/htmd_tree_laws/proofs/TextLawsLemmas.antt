@@ -18,7 +18,7 @@ use Rattle.htmd_markdown.specs.Joints.{with_joint}
 use Rattle.htmd_tree_laws.proofs.GuardedEnds.{IsLine, guarded-line, trimmed_end-line}
 use Rattle.htmd_tree_laws.proofs.GuardedSeams.{joint-guarded, seam-guarded, wrapped-seam, trimmed-line, wrapped-guarded}
 use Rattle.htmd_tree_laws.proofs.GuardedSeams.{nothing_mended, nothing_joined, guarded_ended}
-use Rattle.htmd_tree_laws.proofs.ParagraphTexts.{space_is_white}
+use Rattle.htmd_walk.proofs.ParagraphTexts.{space_is_white}
 use Rattle.htmd_tree_laws.proofs.LettersLawsLemmas.{plain_at}
 use Rattle.htmd_tree_laws.proofs.TextLines.{no_blocks-is}
 use Rattle.htmd_tree_laws.proofs.GuardedLines.{IsFree, free-nil, free-spaces_cut, free-white_cut, free-trimmed, free-seam}

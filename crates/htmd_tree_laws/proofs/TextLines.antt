@@ -18,10 +18,10 @@ use Rattle.htmd_text.proofs.PlainTextLemmas.{chars_ascii}
 use Rattle.htmd_tree_laws.specs.TextLaws.{begins_block}
 use Rattle.htmd_markdown.specs.GuardedText.{begins_line, last_line_back, may_stand_before}
 use Rattle.htmd_tree_laws.proofs.Utf8Cuts.{around, behind, alone}
-use Rattle.htmd_tree_laws.proofs.TextEnds.{first_cut, start_stays}
+use Rattle.htmd_walk.proofs.TextEnds.{first_cut, start_stays}
 use Rattle.htmd_tree_laws.proofs.BlockBeginnings.{no_block-nil, no_block-append, no_block-cut, no_block-space, no_block-stays}
 use Rattle.htmd_tree_laws.proofs.BlockBeginnings.{is_leading}
-use Rattle.htmd_tree_laws.proofs.ShownTexts.{IsNoLineFeed}
+use Rattle.htmd_walk.proofs.ShownTexts.{IsNoLineFeed}
 
 -- ---- read from left to right
 

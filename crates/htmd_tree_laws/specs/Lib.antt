@@ -1,4 +1,4 @@
--- The laws, in reading order: of the grammar; of the content, of children, emphasis, links, lists and paragraphs; of
+-- The laws, in reading order: of the grammar; of the content, of children, emphasis, links and lists; of
 -- letters and of what is shown; of texts in Guarded, and of where they meet.
 pub mod GrammarLaws
 pub mod ContentLaws
@@ -6,7 +6,6 @@ pub mod GroupLaws
 pub mod EmphasisLaws
 pub mod LinkLaws
 pub mod ListLaws
-pub mod ParagraphLaws
 pub mod Letters
 pub mod Shown
 pub mod TextLaws

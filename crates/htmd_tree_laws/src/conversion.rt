@@ -5,7 +5,6 @@ ghost use Rattle.htmd_tree_laws.specs.EmphasisLaws.{MarksStandInside};
 ghost use Rattle.htmd_tree_laws.specs.LinkLaws.{AnchorsTakeTheNextNumber, ReferencesAreNumbered};
 ghost use Rattle.htmd_tree_laws.specs.LinkLaws.{ImagesHoldAddresses, LinksHoldAddresses};
 ghost use Rattle.htmd_tree_laws.specs.ListLaws.{EachItemTakesANumber, ItemsBeginInOneColumn};
-ghost use Rattle.htmd_tree_laws.specs.ParagraphLaws.{ParagraphsReadBack};
 ghost use Rattle.htmd_tree_laws.specs.JointLaws.{JointsTakeMarksAlone};
 ghost use Rattle.htmd_tree_laws.specs.Letters.{LettersOfContent, LettersOfMarkdown};
 ghost use Rattle.htmd_tree_laws.specs.Shown.{ShownInContent, ShownInMarkdown};
@@ -77,14 +76,6 @@ pub fn items_begin_in_one_column(element: &Element)
 /// Each `li` among the children of `ol` takes the next number, even one that gives nothing, as when `li` is skipped.
 pub fn each_item_takes_a_number()
     ensures { EachItemTakesANumber }
-{}
-
-/// In Pure and Faithful, if the Document's children are `p` without attributes, each holding at most one text, and all
-/// handlers are built in, the Markdown of the whole tree reads back: cut at its blank lines, without the backslashes
-/// that escape, it is the texts, squeezed and without leading space, without the empty ones, the last one without its
-/// final space.
-pub fn paragraphs_read_back()
-    ensures { ParagraphsReadBack }
 {}
 
 /// In Guarded, if a node's tree holds only texts, in elements that hand their content on or put it between blank lines,

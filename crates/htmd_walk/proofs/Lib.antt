@@ -27,7 +27,13 @@ pub mod ChildListsLemmas
 pub mod TableNodesLemmas
 pub mod TableHeadersLemmas
 pub mod TableTextsLemmas
+pub mod TextEnds
+pub mod ShownTexts
+pub mod ParagraphTexts
+pub mod ParagraphSeams
+pub mod ParagraphLawsLemmas
 mod Examples
+mod ParagraphExamples
 pub mod GuardedExamples
 pub mod ImagesLemmas
 pub mod SightsLemmas

@@ -1,6 +1,7 @@
 -- What Markdown a tree becomes, in reading order: what a handler is and answers, which handlers a tag has, how texts
 -- are put together, what an element and a node give by them, what a whole conversion gives; then the
--- built-in handlers and the registry; last what only private contracts mention.
+-- built-in handlers, what a document of paragraphs reads back as, and the registry; last what only private contracts
+-- mention.
 pub use Rattle.htmd_grammar.specs.Characters
 pub use Rattle.htmd_text.specs.Blocks
 pub use Rattle.htmd_nodes.specs.ValueTrees
@@ -55,6 +56,7 @@ pub mod LinkAttributes
 pub mod Images
 pub mod Anchors
 pub mod BuiltIn
+pub mod ParagraphLaws
 pub mod Views
 pub mod RegisteredHandlers
 pub mod Registries

@@ -23,6 +23,7 @@ ghost use Rattle.htmd_walk.specs.Passing.{IsPassed};
 ghost use Rattle.htmd_walk.specs.Spans.{spans};
 ghost use Rattle.htmd_walk.specs.Rendering.{is_text, inside_of, with_result};
 ghost use Rattle.htmd_walk.specs.Markdown.{markdown};
+ghost use Rattle.htmd_walk.specs.ParagraphLaws.{ParagraphsReadBack};
 ghost use Rattle.htmd_walk.specs.Staying.{HandlersStay};
 ghost use Rattle.htmd_walk.specs.HandlerAnswers.{IsElement, handled};
 ghost use Rattle.htmd_walk.specs.Views.{optional_result, output_view, answer_view, contents_view};
@@ -249,8 +250,8 @@ impl<'a, R: Registry> Walk<'a, R> {
         self.registry.is_span_handler_at(index)
     }
 
-    /// Whether the walk goes past an element without asking its handlers, as in Pure and Guarded past a tag without
-    /// registrations, and past a `span` that is no formula and has the built-in handler alone.
+    /// Whether the walk goes past an element without asking its handlers: unless the mode is Faithful, past a tag
+    /// without registrations, and past a `span` that is no formula and has the built-in handler alone.
     fn goes_past(&self, tree: &Tree, node: NodeId) -> bool
         requires { node < length tree.now }
         ensures { IsTrue result → IsPassed (R.config self.now.registry.now) (data_at tree.now node) }
@@ -700,7 +701,9 @@ pub fn tree_to_markdown<R: Registry>(
 ) -> Result<String, AllocError>
     requires ready { R.ready registry.now }
     requires within { node < length tree.now }
-    ensures { IfOk result (λ text. string_bytes text ≡ markdown (R.config registry.now) tree.now node) }
+    ensures markdown { IfOk result (λ text. string_bytes text ≡ markdown (R.config registry.now) tree.now node) }
+    ensures paragraphs { IfOk result
+        (λ text. ParagraphsReadBack (R.config registry.now) tree.now node (string_bytes text)) }
 {
     let spare = SpareTexts::new(alloc);
     let walk = Walk::new(registry, alloc, tree, &spare);

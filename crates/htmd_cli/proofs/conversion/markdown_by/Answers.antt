@@ -9,7 +9,7 @@ pub returns-then-settings-clause-ok : goal.returns-then-settings-clause-ok
 returns-then-settings-clause-ok g c =
     by_text (settings_in c.args.settings.now) _ c.args.input.now (string_bytes c.in_ok-tree_to_markdown.field-0) _ _
     c.requires.goes_by.1 c.if-settings.true c.in_ok-tree.ensures c.root.ensures.value
-    c.in_ok-tree_to_markdown.ensures
+    c.in_ok-tree_to_markdown.ensures.markdown
 
 pub returns-then-settings-2-clause-ok : goal.returns-then-settings-2-clause-ok
 returns-then-settings-2-clause-ok g c =

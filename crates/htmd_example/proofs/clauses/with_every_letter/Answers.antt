@@ -15,4 +15,4 @@ returns c =
     ap letters (e ∙ ap (λ config. markdown config tree c.root.result) c.in_ok-converter.ensures.handlers
     ∙ ap (λ node. markdown (built_in default_options) tree node) c.root.ensures.value)
     ∙ c.every_letter_once.ensures.markdown default_options tree 0 refl refl c.root.ensures.texts)
-    c.tree_to_markdown.ensures
+    c.tree_to_markdown.ensures.markdown

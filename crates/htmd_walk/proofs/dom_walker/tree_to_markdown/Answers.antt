@@ -1,17 +1,19 @@
-use Rattle.std.proofs.Common.{List, ℕ, ◌++◌, ◌∙◌, ap, string_bytes, arith}
+use Rattle.std.proofs.Common.{List, ℕ, ◌++◌, ◌∙◌, ap, sym, subst, string_bytes, arith}
 use Rattle.htmd_text.specs.Trims.{trimmed_text, trimmed_end, is_line_feed}
-use Rattle.htmd_nodes.specs.Items.{Item}
+use Rattle.htmd_nodes.specs.Items.{Item, IsTree}
 use Rattle.htmd_nodes.specs.NumberedTrees.{tree_of, height}
 use Rattle.htmd_walk.specs.Choice.{Config}
 use Rattle.htmd_walk.specs.Outputs.{Output, conversion_of}
 use Rattle.htmd_walk.specs.Children.{content_alone}
 use Rattle.htmd_walk.specs.Rendering.{written_within}
 use Rattle.htmd_walk.specs.Markdown.{append_texts, markdown}
+use Rattle.htmd_walk.specs.ParagraphLaws.{ParagraphsReadBack}
+use Rattle.htmd_walk.proofs.ParagraphLawsLemmas.{paragraphs_read_back}
 use Rattle.htmd_walk.proofs.dom_walker.tree_to_markdown.Goals as goal
 
-pub returns : goal.returns
+pub returns-clause-markdown : goal.returns-clause-markdown
 unfolding markdown
-returns g c =
+returns-clause-markdown g c =
     let config = g.R.Registry.config c.args.registry.now in
     let node = c.args.node in
     let there : Config → List Item → List (List ℕ) → Output =
@@ -29,3 +31,10 @@ returns g c =
     ∙ c.trim_end_line_feeds.ensures ∙ ap (trimmed_end is_line_feed) c.in_ok-appended.ensures)
     ∙ ap (λ (o : Output). trimmed_text is_line_feed o.text ++ trimmed_end is_line_feed
     (append_texts config.handlers o.definitions)) walked
+
+pub returns-clause-paragraphs : goal.returns-clause-paragraphs
+returns-clause-paragraphs g c =
+    let config = g.R.Registry.config c.args.registry.now in
+    let items = c.args.tree.now in
+    subst (ParagraphsReadBack config items c.args.node) (sym (returns-clause-markdown g c))
+    (paragraphs_read_back config items c.args.node (subst IsTree c.new-walk.ensures.tree c.new-walk.result.is_tree))

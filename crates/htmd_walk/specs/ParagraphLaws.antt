@@ -1,4 +1,4 @@
--- The law of paragraphs.
+-- What the Markdown of a document of paragraphs reads back as.
 use Rattle.std.specs.Prelude.{◌≡◌, ℕ, false, ◌&&◌, ◌==◌, if◌then◌else◌, nat_lt, List, [], ◌∷◌, length, map, codes}
 use Rattle.std.specs.Prelude.{Option, Some, None}
 use Rattle.std.specs.List.{filter, onto_first}
@@ -8,11 +8,11 @@ use Rattle.htmd_text.specs.Trims.{trimmed_start, trimmed_end, is_space}
 use Rattle.htmd_text.specs.Unescape.{unescape}
 use Rattle.htmd_text.specs.SqueezedTexts.{squeezed_text}
 use Rattle.htmd_nodes.specs.ValueTrees.{ValueTree, document, text, element, ValueForest, none, more}
-use Rattle.htmd_nodes.specs.Items.{Item, IsTree}
+use Rattle.htmd_nodes.specs.Items.{Item}
 use Rattle.htmd_nodes.specs.NumberedTrees.{tree_of, value_tree}
 use Rattle.htmd_walk.specs.declared.options.Options.{Options}
+use Rattle.htmd_walk.specs.Choice.{Config}
 use Rattle.htmd_walk.specs.BuiltIn.{built_in}
-use Rattle.htmd_walk.specs.Markdown.{markdown}
 use Rattle.htmd_walk.specs.Outputs.{is_guarded}
 
 -- ---- documents of paragraphs
@@ -66,13 +66,12 @@ with_last_trimmed (s ∷ t ∷ texts) = s ∷ with_last_trimmed (t ∷ texts)
 abbrev pub texts_shown : List (List ℕ) → List (List ℕ)
 texts_shown texts = with_last_trimmed (filter (λ s. nat_lt 0 (length s)) (map text_shown texts))
 
--- In Pure and Faithful, if the Document's children are `p` without attributes, each holding at most one text, and
--- all handlers are built in, the Markdown of the whole tree reads back as the texts as they are shown; no text counts
--- as the empty one.
-abbrev pub ParagraphsReadBack : Type 0
-ParagraphsReadBack =
-    (options : Options) (items : List Item) (texts : List (Option (List ℕ))) → is_guarded options ≡ false
-    → IsTree items
-    → value_tree (tree_of items 0) ≡ document (paragraphs texts)
-    → texts_read (markdown (built_in options) items 0)
-    ≡ texts_shown (map (λ held. unwrap_or held []) texts)
+-- If all handlers are built in, the mode is Pure or Faithful, and the node is a Document whose children are `p` without
+-- attributes, each holding at most one text, this Markdown reads back as the texts as they are shown; no text counts as
+-- the empty one.
+abbrev pub ParagraphsReadBack : Config → List Item → ℕ → List ℕ → Type 0
+ParagraphsReadBack config items node markdown =
+    (options : Options) (texts : List (Option (List ℕ)))
+    → config ≡ built_in options → is_guarded options ≡ false
+    → node ≡ 0 → value_tree (tree_of items node) ≡ document (paragraphs texts)
+    → texts_read markdown ≡ texts_shown (map (λ held. unwrap_or held []) texts)

@@ -12,11 +12,11 @@ use Rattle.htmd_text.specs.Trims.{trimmed_start, trimmed_end, trimmed_text, is_s
 use Rattle.htmd_grammar.specs.WhiteSpace.{is_document_white_space}
 use Rattle.htmd_text.specs.EscapeMarks.{escaped_markdown}
 use Rattle.htmd_walk.specs.Seams.{joined_at_seam, joined_by_line_feeds}
-use Rattle.htmd_tree_laws.specs.ParagraphLaws.{text_shown, texts_shown, texts_read}
+use Rattle.htmd_walk.specs.ParagraphLaws.{text_shown, texts_shown, texts_read}
 use Rattle.htmd_walk.proofs.SeamsLemmas.{joined_by_drop}
-use Rattle.htmd_tree_laws.proofs.TextEnds.{EndsBare, Passes, end_stays, ends_behind, start_stays, first_cut}
-use Rattle.htmd_tree_laws.proofs.ShownTexts.{IsShown, shown, IsNoLineFeed, escaped_without, some_escaped}
-use Rattle.htmd_tree_laws.proofs.ParagraphTexts.{blocks, none_first, all_trimmed, all_read}
+use Rattle.htmd_walk.proofs.TextEnds.{EndsBare, Passes, end_stays, ends_behind, start_stays, first_cut}
+use Rattle.htmd_walk.proofs.ShownTexts.{IsShown, shown, IsNoLineFeed, escaped_without, some_escaped}
+use Rattle.htmd_walk.proofs.ParagraphTexts.{blocks, none_first, all_trimmed, all_read}
 
 -- ---- the seam after a blank line
 

@@ -14,12 +14,11 @@ use Rattle.htmd_grammar.specs.WhiteSpace.{is_document_white_space}
 use Rattle.htmd_text.specs.EscapeMarks.{is_marked, escaped_markdown}
 use Rattle.htmd_text.specs.Unescape.{unescape}
 use Rattle.htmd_text.proofs.UnescapeLemmas.{unescape-escaped}
-use Rattle.htmd_tree_laws.specs.ParagraphLaws.{cut_at_blank_lines, parts_of, texts_read, with_last_trimmed}
-use Rattle.htmd_tree_laws.proofs.TextEnds.{EndsBare, Passes, end_cut, end_stays, ends_behind, start_cut}
-use Rattle.htmd_tree_laws.proofs.ShownTexts.{IsShown, front_of, cut_of, escaped_parts, front_reads_back, IsNoLineFeed}
-use Rattle.htmd_tree_laws.proofs.ShownTexts.{escaped_without, front_without, some_front, some_escaped, written_ends_bare}
-use Rattle.htmd_tree_laws.proofs.ShownTexts.{left_ends_bare, end_cut_of}
-use Rattle.htmd_tree_laws.proofs.GuardedSeams.{feed_is_white}
+use Rattle.htmd_walk.specs.ParagraphLaws.{cut_at_blank_lines, parts_of, texts_read, with_last_trimmed}
+use Rattle.htmd_walk.proofs.TextEnds.{EndsBare, Passes, end_cut, end_stays, ends_behind, start_cut}
+use Rattle.htmd_walk.proofs.ShownTexts.{IsShown, front_of, cut_of, escaped_parts, front_reads_back, IsNoLineFeed}
+use Rattle.htmd_walk.proofs.ShownTexts.{escaped_without, front_without, some_front, some_escaped, written_ends_bare}
+use Rattle.htmd_walk.proofs.ShownTexts.{left_ends_bare, end_cut_of}
 
 -- each text with a blank line after it
 abbrev pub blocks : List (List ℕ) → List ℕ
@@ -46,6 +45,9 @@ pub none_first : (s t : List ℕ) → 0 < length s → All IsNoLineFeed s → pr
 none_first [] t some all = absurd (omega arith)
 none_first (b ∷ s) t some all =
     cond-false (is_line_feed b) (1 + prefix_len is_line_feed (s ++ t)) 0 (All-head IsNoLineFeed b s all)
+
+pub feed_is_white : (b : ℕ) → is_line_feed b ≡ true → is_document_white_space b ≡ true
+feed_is_white b e = grind (arith, nat_tests)
 
 pub space_is_white : (b : ℕ) → is_space b ≡ true → is_document_white_space b ≡ true
 space_is_white b e = grind (arith, nat_tests)

@@ -17,9 +17,9 @@ use Rattle.htmd_text.specs.Unescape.{unescape}
 use Rattle.htmd_text.proofs.MarksLemmas.{marked_is_punctuation, unmarked_is_no_backslash}
 use Rattle.htmd_text.proofs.UnescapeLemmas.{reads_back}
 use Rattle.htmd_text.proofs.WhiteSpaceLemmas.{other_stays}
-use Rattle.htmd_tree_laws.specs.ParagraphLaws.{text_shown}
+use Rattle.htmd_walk.specs.ParagraphLaws.{text_shown}
 use Rattle.htmd_walk.specs.Seams.{begins_with_space}
-use Rattle.htmd_tree_laws.proofs.TextEnds.{EndsBare, Passes, end_is_bare, end_passes, end_parts, ends_behind, start_is_bare}
+use Rattle.htmd_walk.proofs.TextEnds.{EndsBare, Passes, end_is_bare, end_passes, end_parts, ends_behind, start_is_bare}
 
 -- ---- squeezed texts
 

@@ -19,7 +19,7 @@ use Rattle.htmd_nodes.specs.Ancestors.{Ancestor, ancestor_of, ancestors_up, ance
 use Rattle.htmd_nodes.proofs.NumberedTreesLemmas.{tree-open}
 use Rattle.htmd_walk.specs.declared.options.Options.{Options}
 use Rattle.htmd_walk.specs.Handling.{HandlerMeaning, PlanView, raw_html, content_of_children}
-use Rattle.htmd_walk.specs.Choice.{indexes, handlers_at}
+use Rattle.htmd_walk.specs.Choice.{Config, indexes, handlers_at}
 use Rattle.htmd_walk.specs.Seams.{joined_at_seam}
 use Rattle.htmd_walk.specs.Groups.{Joint, joint_with, joint_of, both_join, is_joinable, only_text, with_text, text_of}
 use Rattle.htmd_walk.specs.Groups.{in_front, groups_of}
@@ -34,10 +34,10 @@ use Rattle.htmd_walk.specs.Rendering.{with_answer, end_of_document, written_with
 use Rattle.htmd_walk.specs.Paragraphs.{paragraphs}
 use Rattle.htmd_walk.specs.BuiltIn.{built_in}
 use Rattle.htmd_walk.specs.Markdown.{append_texts, walked_node, markdown}
-use Rattle.htmd_tree_laws.specs.ParagraphLaws as law
-use Rattle.htmd_tree_laws.specs.ParagraphLaws.{text_shown, ParagraphsReadBack}
-use Rattle.htmd_tree_laws.proofs.ShownTexts.{shown_is}
-use Rattle.htmd_tree_laws.proofs.ParagraphSeams.{put_behind, all_put, put_read}
+use Rattle.htmd_walk.specs.ParagraphLaws as law
+use Rattle.htmd_walk.specs.ParagraphLaws.{text_shown, ParagraphsReadBack}
+use Rattle.htmd_walk.proofs.ShownTexts.{shown_is}
+use Rattle.htmd_walk.proofs.ParagraphSeams.{put_behind, all_put, put_read}
 
 -- ---- the trees
 
@@ -281,8 +281,11 @@ module _ (options : Options) (pure : is_guarded options ≡ false) (items : List
       ++ trimmed_end is_line_feed (append_texts (built_in options).handlers o.definitions)) e
       ∙ append-nil (trimmed_text is_line_feed s)
 
-pub paragraphs_read_back : ParagraphsReadBack
-paragraphs_read_back options items texts pure t e =
+root_reads_back : (options : Options) (items : List Item) (texts : List (Option (List ℕ)))
+    → is_guarded options ≡ false → IsTree items
+    → value_tree (tree_of items 0) ≡ value.document (law.paragraphs texts)
+    → law.texts_read (markdown (built_in options) items 0) ≡ law.texts_shown (map read_of texts)
+root_reads_back options items texts pure t e =
     let trees = forest_of (tree_of items) (children_of items 0) in
     let is : tree_of items 0 ≡ document 0 trees =
     tree-open items 0 t t.not_empty ∙ ap (λ (i : Item). with_children 0 i.node_data trees) t.first in
@@ -295,3 +298,10 @@ paragraphs_read_back options items texts pure t e =
     ap law.texts_read (markdown_is options pure items
     (trimmed_end is_document_white_space (all_put [] (map text_shown (map read_of texts)))) walked)
     ∙ put_read (map read_of texts)
+
+pub paragraphs_read_back : (config : Config) (items : List Item) (node : ℕ) → IsTree items
+    → ParagraphsReadBack config items node (markdown config items node)
+paragraphs_read_back config items node t options texts built pure first e =
+    let read : Config → ℕ → List (List ℕ) = λ c n. law.texts_read (markdown c items n) in
+    ap (λ c. read c node) built ∙ ap (read (built_in options)) first
+    ∙ root_reads_back options items texts pure t (sym (ap (λ n. value_tree (tree_of items n)) first) ∙ e)

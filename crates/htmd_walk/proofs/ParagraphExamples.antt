@@ -9,7 +9,7 @@ use Rattle.htmd_walk.specs.Defaults.{default_options}
 use Rattle.htmd_walk.specs.BuiltIn.{built_in}
 use Rattle.htmd_walk.specs.Rendering.{written_within}
 use Rattle.htmd_walk.specs.Markdown.{markdown}
-use Rattle.htmd_tree_laws.specs.ParagraphLaws.{paragraphs, cut_at_blank_lines, parts_of, texts_read, texts_shown}
+use Rattle.htmd_walk.specs.ParagraphLaws.{paragraphs, cut_at_blank_lines, parts_of, texts_read, texts_shown}
 
 -- a Document of these, each under its parent
 one : List Item
