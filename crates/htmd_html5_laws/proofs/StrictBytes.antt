@@ -32,7 +32,8 @@ pub ends_key : (b : ℕ) → is_name_byte b ≡ false → lenient.is_attribute_n
 ends_key b e = rw e refl
 
 pub ends_reference : (b : ℕ) → is_name_byte b ≡ false
-    → (is_ascii_alphanumeric b ≡ false) × ((b == 59) ≡ false) × (((b == 61) || is_ascii_alphanumeric b) ≡ false)
+    → (is_ascii_alphanumeric b ≡ false) × ((b == 59) ≡ false)
+    × (((b == 61) || is_ascii_alphanumeric b) ≡ false)
 ends_reference b e = (grind (arith, nat_tests), grind (arith, nat_tests), grind (arith, nat_tests))
 
 pub bare_byte : (b : ℕ) → strict.is_unquoted_byte b ≡ true → lenient.is_unquoted_byte b ≡ true

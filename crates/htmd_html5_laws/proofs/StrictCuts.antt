@@ -145,8 +145,9 @@ settled_back s t h = record {
 }
 
 -- its beginning, before what is no letter, digit, `;` or `=`
-pub settled_front : {here : Place} (s t : List ℕ) → IsSettledAt here (s ++ t) → halts is_ascii_alphanumeric t ≡ true
-    → first_is 59 t ≡ false → goes_on t ≡ false → IsSettledAt here s
+pub settled_front : {here : Place} (s t : List ℕ) → IsSettledAt here (s ++ t)
+    → halts is_ascii_alphanumeric t ≡ true → first_is 59 t ≡ false → goes_on t ≡ false
+    → IsSettledAt here s
 settled_front s t h k e g = record {
   line_feeds = (lacks_cut 13 s t h.line_feeds).0;
   no_null = (lacks_cut 0 s t h.no_null).0;
@@ -166,8 +167,8 @@ settled_in_tag s h = settled_less _ in_tag s (covers_tag _) h
 
 -- ---- what follows a text
 
-past_text : (s t : List ℕ) → up_to begins_markup s ≡ s → Ending t → has_bare_reference outside (s ++ t) ≡ false
-    → has_bare_reference outside t ≡ false
+past_text : (s t : List ℕ) → up_to begins_markup s ≡ s → Ending t
+    → has_bare_reference outside (s ++ t) ≡ false → has_bare_reference outside t ≡ false
 past_text [] t l h e = e
 past_text (b ∷ s) t l h e =
     let p = run_head begins_markup b s l in
@@ -260,7 +261,8 @@ past_title [] t e = e
 past_title (b ∷ s) t e = past_title s t (or_parts (b == 38 && is_bare_reference false (s ++ t)) _ e).1
 
 title_opened : (name rest x : List ℕ) → is_tag_name name ≡ true → map to_ascii_lowercase name ≡ codes "title"
-    → has_bare_reference outside (60 ∷ (name ++ (rest ++ x))) ≡ false → has_bare_reference after_title x ≡ false
+    → has_bare_reference outside (60 ∷ (name ++ (rest ++ x))) ≡ false
+    → has_bare_reference after_title x ≡ false
 title_opened name rest x t n e =
     let w = rw (name_letter name (rest ++ x) t, named_so (codes "title") name (rest ++ x) n) at e in
     past_title rest x (past_title name (rest ++ x) w)

@@ -77,7 +77,8 @@ start_read tag n x attributes h k =
     let f = h.2 in
     let e : tag ++ x ≡ 60 ∷ (f.0 ++ (f.1 ++ x)) =
     ap (λ (y : List ℕ). y ++ x) f.2 ∙ ap (λ (y : List ℕ). 60 ∷ y) (append_assoc f.0 f.1 x) in
-    let m = settled_back f.0 (f.1 ++ x) (settled_back (60 ∷ []) (f.0 ++ (f.1 ++ x)) (subst (IsSettledAt in_tag) e k)) in
+    let m = settled_back f.0 (f.1 ++ x) (settled_back (60 ∷ []) (f.0 ++ (f.1 ++ x))
+    (subst (IsSettledAt in_tag) e k)) in
     let w = name_next f.0 (f.1 ++ x) f.3 in (
       h.1,
       ap (next_token Normal false) e ∙ w.0
@@ -95,7 +96,8 @@ end_read tag n x h k =
     let gap : List ℕ = h.1 ++ 62 ∷ [] in
     let e : tag ++ x ≡ 60 ∷ 47 ∷ (h.0 ++ (gap ++ x)) =
     ap (λ (y : List ℕ). y ++ x) h.2 ∙ ap (λ (y : List ℕ). 60 ∷ 47 ∷ y) (append_assoc h.0 gap x) in
-    let m = settled_back h.0 (gap ++ x) (settled_back (60 ∷ 47 ∷ []) (h.0 ++ (gap ++ x)) (subst (IsSettledAt in_tag) e k)) in
+    let m = settled_back h.0 (gap ++ x) (settled_back (60 ∷ 47 ∷ []) (h.0 ++ (gap ++ x))
+    (subst (IsSettledAt in_tag) e k)) in
     let w = name_next h.0 (gap ++ x) h.3 in (
       ap (next_token Normal false) e ∙ w.1
           ∙ tag_read end_tag h.0 n [] [] false gap x h.3 h.5 (h.1, refl, h.4) m refl refl,
@@ -111,7 +113,8 @@ raw_end_read tag n x h k =
     let gap : List ℕ = h.1 ++ 62 ∷ [] in
     let e : tag ++ x ≡ 60 ∷ 47 ∷ (h.0 ++ (gap ++ x)) =
     ap (λ (y : List ℕ). y ++ x) h.2 ∙ ap (λ (y : List ℕ). 60 ∷ 47 ∷ y) (append_assoc h.0 gap x) in
-    let m = settled_back h.0 (gap ++ x) (settled_back (60 ∷ 47 ∷ []) (h.0 ++ (gap ++ x)) (subst (IsSettledAt in_tag) e k)) in (
+    let m = settled_back h.0 (gap ++ x) (settled_back (60 ∷ 47 ∷ []) (h.0 ++ (gap ++ x))
+    (subst (IsSettledAt in_tag) e k)) in (
       h.0 ++ (gap ++ x),
       e,
       tag_read end_tag h.0 n [] [] false gap x h.3 h.5 (h.1, refl, h.4) m refl refl,

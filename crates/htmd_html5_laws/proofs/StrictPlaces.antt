@@ -57,8 +57,8 @@ moved_covered q p b s t c l f =
     past = test (b == 62) (λ z. rw z refl) (λ z. rw z c)
 
 -- after the same byte too
-pub place_covered : (q p : Place) (b : ℕ) (s t : List ℕ) → covers q p ≡ true → begins_letter s ≡ begins_letter t
-    → (begins_title t ≡ true → begins_title s ≡ true)
+pub place_covered : (q p : Place) (b : ℕ) (s t : List ℕ) → covers q p ≡ true
+    → begins_letter s ≡ begins_letter t → (begins_title t ≡ true → begins_title s ≡ true)
     → covers (place_after q b s) (place_after p b t) ≡ true
 place_covered after_title p b s t c l f = refl
 place_covered outside outside b s t c l f = moved_covered outside outside b s t c l f
@@ -70,7 +70,8 @@ place_covered in_tag after_title b s t c l f = absurd (true≢false (sym c))
 
 -- ---- what counts
 
-counts_less : (z : Bool) (o : Option NamedReference) (s : List ℕ) → counts false o s ≡ false → counts z o s ≡ false
+counts_less : (z : Bool) (o : Option NamedReference) (s : List ℕ) → counts false o s ≡ false
+    → counts z o s ≡ false
 counts_less z None s e = refl
 counts_less z (Some r) s e = absurd (true≢false e)
 
@@ -109,10 +110,12 @@ in_title (b ∷ s) e =
     let k = or_parts (b == 38 && is_bare_reference false s) (has_bare_reference after_title s) e in
     rw (k.0, in_title s k.1) refl
 
-pub in_any_value : (here : Place) (s : List ℕ) → has_bare_reference here s ≡ false → has_bare_in true s ≡ false
+pub in_any_value : (here : Place) (s : List ℕ) → has_bare_reference here s ≡ false
+    → has_bare_in true s ≡ false
 in_any_value here [] e = refl
 in_any_value here (b ∷ s) e =
-    let k = or_parts (b == 38 && is_bare_reference (is_in_tag here) s) (has_bare_reference (place_after here b s) s) e in
+    let k = or_parts (b == 38 && is_bare_reference (is_in_tag here) s)
+    (has_bare_reference (place_after here b s) s) e in
     let i = in_any_value (place_after here b s) s k.1 in
     test (b == 38)
     (λ x. let w = rw x at k.0 in rw (x, bare_covered here in_tag s (covers_tag here) w, i) refl)
@@ -130,7 +133,8 @@ no_tag b (c ∷ s) e =
         → is_ascii_alphabetic c ≡ false
     letter c e = grind (arith, nat_tests)
 
-pub stays_outside : (b : ℕ) (s : List ℕ) → begins_markup (b ∷ s) ≡ false → place_after outside b s ≡ outside
+pub stays_outside : (b : ℕ) (s : List ℕ) → begins_markup (b ∷ s) ≡ false
+    → place_after outside b s ≡ outside
 stays_outside b s e = rw (no_tag b s e) (test (b == 62) (λ x. rw x refl) (λ x. rw x refl))
 
 pub in_text : (s : List ℕ) → up_to begins_markup s ≡ s → has_bare_reference outside s ≡ false

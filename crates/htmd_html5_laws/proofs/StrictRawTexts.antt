@@ -70,15 +70,15 @@ void_content z n e = no (holds_text_alone z n) (void_holds_none z n e)
 pub record IsRaw (z : Bool) (n : List ℕ) (kind : RawElement) : Type 0 where
   pub content : content_in z n ≡ Raw kind
   pub size : (s : List ℕ) → raw_text_len kind s ≡ own_text_len n s
-  pub text : (s u : List ℕ) → IsSettledAt (content_place n) s → text_of (project z) n s ≡ Some u → decoded (reading_of kind) 0
-      s ≡ u
+  pub text : (s u : List ℕ) → IsSettledAt (content_place n) s → text_of (project z) n s ≡ Some u
+      → decoded (reading_of kind) 0 s ≡ u
 
 title_text : (z : Bool) → holds_raw_text z (codes "title") ≡ false
 title_text true = refl
 title_text false = refl
 
-is_title : (z : Bool) (s u : List ℕ) → IsSettledAt after_title s → text_of (project z) (codes "title") s ≡ Some u
-    → decoded (reading_of raw.Title) 0 s ≡ u
+is_title : (z : Bool) (s u : List ℕ) → IsSettledAt after_title s
+    → text_of (project z) (codes "title") s ≡ Some u → decoded (reading_of raw.Title) 0 s ≡ u
 is_title z s u k e = let w = rw (title_text z) at e in title_same s u k w
 
 plain : (kind : RawElement) (s u : List ℕ) → IsSettledAt outside s → Some (normalized s) ≡ Some u

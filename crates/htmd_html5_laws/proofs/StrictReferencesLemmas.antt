@@ -237,7 +237,8 @@ decoded_same r refs n [] u cr null bare less e = cc
 decoded_same r refs zero (b ∷ s) u cr null bare less e =
     let c = and_parts (not (b == 13)) (lacks 13 s) cr in
     let z = and_parts (not (b == 0)) (lacks 0 s) null in
-    let a = or_parts (b == 38 && is_bare_reference (contents.is_value r) s) (has_bare_in (contents.is_value r) s) bare in
+    let a = or_parts (b == 38 && is_bare_reference (contents.is_value r) s)
+    (has_bare_in (contents.is_value r) s) bare in
     let p = put_parts (piece_at named_characters b s) (λ n. decode named_characters n s) u e in
     let here = piece_same r b s p.1 p.0 refs p.3 (not-true (b == 13) c.0) (not-true (b == 0) z.0) a.0
     (λ t. no_slash b s (run_head begins_markup b s (less t)).0) in
@@ -246,7 +247,8 @@ decoded_same r refs zero (b ∷ s) u cr null bare less e =
 decoded_same r refs (suc n) (b ∷ s) u cr null bare less e =
     let c = and_parts (not (b == 13)) (lacks 13 s) cr in
     let z = and_parts (not (b == 0)) (lacks 0 s) null in
-    let a = or_parts (b == 38 && is_bare_reference (contents.is_value r) s) (has_bare_in (contents.is_value r) s) bare in
+    let a = or_parts (b == 38 && is_bare_reference (contents.is_value r) s)
+    (has_bare_in (contents.is_value r) s) bare in
     decoded_same r refs n s u c.1 z.1 a.1 (λ t. (run_head begins_markup b s (less t)).1) e
 
 -- ---- the token of a text
@@ -284,8 +286,8 @@ text_run (b ∷ s) rest e h =
     let i = text_run s rest p.1 h in
     (rw (q, i.0) refl, rw (q, i.1) refl)
 
-text_same : (r : _) (s u rest : List ℕ) → has_references r ≡ true → contents.is_value r ≡ false → IsSettled s
-    → decode named_characters 0 s ≡ Some u → up_to begins_markup s ≡ s
+text_same : (r : _) (s u rest : List ℕ) → has_references r ≡ true → contents.is_value r ≡ false
+    → IsSettled s → decode named_characters 0 s ≡ Some u → up_to begins_markup s ≡ s
     → ◌≡◌ {A = Read} (record { token = text (decoded r 0 s); rest = rest })
     (record { token = text u; rest = rest })
 text_same r s u rest f z h e l =
@@ -299,19 +301,22 @@ text_read s u rest h e l k =
     let r = text_run s rest l k in
     rw (r.0, r.1) (search (text_same, h, e, l))
 
-value_any : (r : _) (s u : List ℕ) → has_references r ≡ true → is_text r ≡ false → contents.is_value r ≡ true
-    → IsSettledAt in_tag s → decode named_characters 0 s ≡ Some u → decoded r 0 s ≡ u
+value_any : (r : _) (s u : List ℕ) → has_references r ≡ true → is_text r ≡ false
+    → contents.is_value r ≡ true → IsSettledAt in_tag s → decode named_characters 0 s ≡ Some u
+    → decoded r 0 s ≡ u
 value_any r s u f t z h e =
     let bare : has_bare_in (contents.is_value r) s ≡ false = rw z (in_any_value in_tag s h.references_end) in
     decoded_same r f 0 s u h.line_feeds h.no_null bare (λ q. absurd (let w = sym t ∙ q in cc)) e
 
-pub value_same : (s u : List ℕ) → IsSettledAt in_tag s → decode named_characters 0 s ≡ Some u → value_spelled s ≡ u
+pub value_same : (s u : List ℕ) → IsSettledAt in_tag s → decode named_characters 0 s ≡ Some u
+    → value_spelled s ≡ u
 value_same s u h e = search (value_any, h, e)
 
 pub title_same : (s u : List ℕ) → IsSettledAt after_title s → decode named_characters 0 s ≡ Some u
     → decoded (reading_of Title) 0 s ≡ u
 title_same s u h e =
-    decoded_same (reading_of Title) refl 0 s u h.line_feeds h.no_null (in_title s h.references_end) (λ t. absurd (cc)) e
+    decoded_same (reading_of Title) refl 0 s u h.line_feeds h.no_null (in_title s h.references_end)
+    (λ t. absurd (cc)) e
 
 pub references_same : ReferencesAgree
 references_same s u e = (

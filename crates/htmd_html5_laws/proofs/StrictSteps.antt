@@ -184,7 +184,8 @@ module _ (z : Bool) where
           test (is_void n)
           (λ v. let m = rw v at w.5 in
           let q : s ≡ w.0 =
-          w.3 ∙ ap (λ (y : List ℕ). w.0 ++ (y ++ w.2)) m.0 ∙ ap (λ (y : List ℕ). w.0 ++ y) m.1 ∙ append-nil w.0 in
+          w.3 ∙ ap (λ (y : List ℕ). w.0 ++ (y ++ w.2)) m.0 ∙ ap (λ (y : List ℕ). w.0 ++ y) m.1
+          ∙ append-nil w.0 in
           settled_behind s x (subst EndsInSign (sym q) (start_sign w.0 n attributes w.4)) k)
           (λ v. let m = rw v at w.5 in
           settled_behind s x (subst EndsInSign (sym w.3)

@@ -300,7 +300,8 @@ value_settled value r x v (inr (inl h)) n k =
     settled_front v (h.1 ∷ (r ++ x)) m (ap not q.0) q.1 q.2
   where
     quote : {q : ℕ} → (q ≡ 34) ⊎ (q ≡ 39)
-        → (is_ascii_alphanumeric q ≡ false) × ((q == 59) ≡ false) × (((q == 61) || is_ascii_alphanumeric q) ≡ false)
+        → (is_ascii_alphanumeric q ≡ false) × ((q == 59) ≡ false)
+        × (((q == 61) || is_ascii_alphanumeric q) ≡ false)
     quote (inl e) = rw e (refl, refl, refl)
     quote (inr e) = rw e (refl, refl, refl)
 value_settled value r x v (inr (inr h)) n k =
