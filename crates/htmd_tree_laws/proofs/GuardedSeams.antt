@@ -11,7 +11,6 @@ use Rattle.std.proofs.lemmas.List.Sums.{prefix_len_passes}
 use Rattle.htmd_grammar.specs.BlankLines.{with_blank_lines}
 use Rattle.htmd_grammar.specs.Characters.{backslash, line_feed}
 use Rattle.htmd_text.specs.Trims.{trimmed_start, trimmed_end, trimmed_text, is_line_feed, is_space}
-use Rattle.htmd_grammar.specs.WhiteSpace.{is_document_white_space}
 use Rattle.htmd_markdown.specs.GuardedText.{is_guarded}
 use Rattle.htmd_markdown.specs.Joints.{Ends, with_joint}
 use Rattle.htmd_markdown.proofs.UnmendedLemmas.{unmended}

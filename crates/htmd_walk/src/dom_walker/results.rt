@@ -83,8 +83,8 @@ pub(crate) fn text_shown<'t>(
     }
 }
 
-/// What an element that the walk goes past hands on: its content; that of a `span` without line feeds at its ends, unless
-/// it is preformatted or the mode is Guarded.
+/// What an element that the walk goes past hands on: its content; that of a `span` without line feeds at its ends,
+/// unless it is preformatted or the mode is Guarded.
 pub(crate) fn passed_on(element: &Element, mut content: HandlerResult) -> HandlerResult
     ensures content { string_bytes result.content ≡ passed_text (is_span element.now.tag.now)
         (is_guarded element.now.options.now || element.now.preformatted) (string_bytes content.content) }
