@@ -1,8 +1,8 @@
 -- What a conversion gives, by equal handlers and equal trees.
-use Rattle.std.proofs.Common.{◌≡◌, ◌∙◌, ap, sym, subst, ℕ, Bool, true, false, not, ◌&&◌, List, [], ◌∷◌, length, map, eqb}
+use Rattle.std.proofs.Common.{◌≡◌, ◌∙◌, ap, sym, subst, ℕ, Bool, true, false, List, [], ◌∷◌, length, map, eqb}
 use Rattle.std.proofs.Common.{MatchBool, arith, refl}
 use Rattle.std.proofs.lemmas.Bool.Decides.{nat_tests}
-use Rattle.std.proofs.Common.{Option, Some}
+use Rattle.std.proofs.Common.{Some}
 use Rattle.std.specs.Borrow.{Bor}
 use Rattle.std.specs.Str.{IsUtf8}
 use Rattle.htmd_encodings.specs.Decoding.{page_text}
@@ -94,7 +94,8 @@ refused_all settings scripting input place kind s b r =
 -- ---- the text that the bytes of an input hold
 
 -- of any page
-pub readable_page : (settings : Settings) (any : Bool) (input text : List ℕ) → any ≡ reads_any settings → any ≡ true
+pub readable_page : (settings : Settings) (any : Bool) (input text : List ℕ) → any ≡ reads_any settings
+    → any ≡ true
     → page_text settings.encoding input ≡ Some text
     → IsReadable settings input × (text ≡ text_in settings input)
 readable_page settings any input text a t e =
@@ -102,7 +103,8 @@ readable_page settings any input text a t e =
     (match_true _ _ (reads_any settings) reads (rw e refl), rw (reads, e) refl)
 
 -- of UTF-8 alone
-pub readable_utf8 : (settings : Settings) (any : Bool) (input text : List ℕ) → any ≡ reads_any settings → any ≡ false
+pub readable_utf8 : (settings : Settings) (any : Bool) (input text : List ℕ) → any ≡ reads_any settings
+    → any ≡ false
     → IsUtf8 input → text ≡ input
     → IsReadable settings input × (text ≡ text_in settings input)
 readable_utf8 settings any input text a f u e =
@@ -111,13 +113,7 @@ readable_utf8 settings any input text a f u e =
 
 -- it has this Markdown, and so has the input
 pub of_readable : (settings : Settings) (input text found s : List ℕ)
-    → IsReadable settings input × (text ≡ text_in settings input) → found ≡ text → IsMarkdownBy settings found s
+    → IsReadable settings input × (text ≡ text_in settings input) → found ≡ text
+    → IsMarkdownBy settings found s
     → IsReadable settings input × IsMarkdownBy settings (text_in settings input) s
 of_readable settings input text found s (r, t) f m = (r, subst (λ x. IsMarkdownBy settings x s) (f ∙ t) m)
-
--- what is read where no page is read otherwise
-pub strict_text : (settings : Settings) (input text : List ℕ) → settings.html5 ≡ false
-    → IsReadable settings input × (text ≡ text_in settings input) → IsUtf8 input × (text ≡ input)
-strict_text settings input text h (r, t) =
-    let strict : reads_any settings ≡ false = ap (λ x. x && not settings.text) h in
-    (rw strict at r, rw strict at t)

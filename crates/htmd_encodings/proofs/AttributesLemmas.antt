@@ -1,6 +1,6 @@
 -- The parts of a tag, and that each is shorter than what it stands in.
-use Rattle.std.proofs.Common.{◌≡◌, ℕ, zero, suc, ◌+◌, ◌-◌, ◌<◌, ◌≤◌, Bool, true, false, List, [], ◌∷◌, length, take}
-use Rattle.std.proofs.Common.{drop, get_or, refl, sym, ◌∙◌, ap, arith, length-drop, Option, Some, None}
+use Rattle.std.proofs.Common.{◌≡◌, ℕ, zero, suc, ◌+◌, ◌-◌, ◌<◌, ◌≤◌, true, false, List, [], ◌∷◌, length, take}
+use Rattle.std.proofs.Common.{drop, refl, sym, ◌∙◌, ap, arith, length-drop, Some, None}
 use Rattle.std.specs.Prelude.{◌==◌}
 use Rattle.htmd_grammar.specs.WhiteSpace.{is_ascii_white_space}
 use Rattle.htmd_grammar.proofs.Cases.{test}
@@ -34,7 +34,8 @@ attribute_cut (b ∷ t) more l h = let k = run_within is_name_byte t in rw h (om
 
 -- ---- after a gap
 
-pub gap_end : (s rest : List ℕ) → first_is 62 s ≡ true → rest ≡ drop 1 s → tag_end false rest ≡ after_gap s
+pub gap_end : (s rest : List ℕ) → first_is 62 s ≡ true → rest ≡ drop 1 s
+    → tag_end false rest ≡ after_gap s
 gap_end [] rest e f = absurd (cc)
 gap_end (b ∷ s) rest e f = rw (e, f) refl
 
@@ -105,7 +106,8 @@ tag_same (suc j) (suc k) a s l m =
     by_part (next_part s) refl (λ b rest o. tag_same j k b rest (omega arith) (omega arith))
   where
     by_part : (p : TagPart) → p ≡ next_part s
-        → ((b : Attributes) (rest : List ℕ) → length rest < length s → tag_within j b rest ≡ tag_within k b rest)
+        → ((b : Attributes) (rest : List ℕ) → length rest < length s
+        → tag_within j b rest ≡ tag_within k b rest)
         → tag_after p a (tag_within j) ≡ tag_after p a (tag_within k)
     by_part malformed e go = refl
     by_part (tag_end slash t) e go = refl
@@ -121,14 +123,6 @@ tag_more s name value rest a b whole e f h =
     sym (ap (λ (p : TagPart). tag_after p a (tag_within (length s))) e) in
     let same = tag_same (suc (length rest)) (length s) (with_attribute a name value) rest (omega arith) l in
     ap (λ (x : Attributes). tag_within (suc (length rest)) x rest) f ∙ (same ∙ (sym g ∙ h))
-
--- the end of the tag, or of the bytes
-pub tag_ends : (s rest : List ℕ) (slash : Bool) (a : Attributes) → tag_end slash rest ≡ next_part s
-    → Some (a, rest) ≡ tag_within (suc (length s)) a s
-tag_ends s rest slash a e = ap (λ (p : TagPart). tag_after p a (tag_within (length s))) e
-
-pub tag_breaks : (s : List ℕ) (a : Attributes) → malformed ≡ next_part s → None ≡ tag_within (suc (length s)) a s
-tag_breaks s a e = ap (λ (p : TagPart). tag_after p a (tag_within (length s))) e
 
 -- what follows a tag is no longer than what follows its name
 abbrev pub size_of_rest : Tag → ℕ

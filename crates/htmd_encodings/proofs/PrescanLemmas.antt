@@ -1,5 +1,5 @@
 -- The search goes on from ever shorter bytes.
-use Rattle.std.proofs.Common.{◌≡◌, ℕ, zero, suc, ◌<◌, ◌≤◌, ◌&&◌, ◌||◌, Bool, true, false, List, [], ◌∷◌, length, drop, refl, sym}
+use Rattle.std.proofs.Common.{◌≡◌, ℕ, zero, suc, ◌<◌, ◌≤◌, ◌&&◌, ◌||◌, List, [], ◌∷◌, length, drop, refl}
 use Rattle.std.proofs.Common.{◌∙◌, ap, arith, length-drop, Option, Some, None, codes}
 use Rattle.htmd_grammar.proofs.Cases.{test}
 use Rattle.htmd_grammar.proofs.RunsLemmas.{behind_within}
@@ -8,7 +8,7 @@ use Rattle.htmd_grammar.specs.Characters.{exclamation_mark, question_mark, slash
 use Rattle.htmd_grammar.specs.TagReading.{is_other}
 use Rattle.htmd_encodings.specs.declared.encodings.Named.{Named}
 use Rattle.htmd_encodings.specs.Attributes.{Tag, tag, is_unquoted_byte}
-use Rattle.htmd_encodings.specs.Declarations.{after_first, in_attributes}
+use Rattle.htmd_encodings.specs.Declarations.{in_attributes}
 use Rattle.htmd_encodings.specs.Prescan.{Found, said, onward, said_or, found_in_meta, behind_tag, begins_with_gap, is_tag}
 use Rattle.htmd_encodings.specs.Prescan.{found_after, after_sign, search_found, search_at, search_within}
 use Rattle.htmd_encodings.proofs.AttributesLemmas.{size_of_rest, tag_size}
@@ -85,20 +85,6 @@ search_same (suc j) (suc k) s l m =
 abbrev pub at_sign : List ℕ → List ℕ
 at_sign s = behind_run (is_other less_than_sign) s
 
--- there is none
-pub search_ends : (s sign : List ℕ) → sign ≡ at_sign s → length sign < 1 → None ≡ search_within (suc (length s)) s
-search_ends s [] e l = ap (λ t. search_at t (search_within (length s))) e
-search_ends s (b ∷ t) e l = absurd (omega arith)
-
--- an encoding is said there
-pub search_says : (s sign after : List ℕ) (encoding : Named) → sign ≡ at_sign s → 1 ≤ length sign
-    → after ≡ drop 1 sign → said encoding ≡ found_after after
-    → Some encoding ≡ search_within (suc (length s)) s
-search_says s [] after encoding e l d f = absurd (omega arith)
-search_says s (b ∷ t) after encoding e l d f =
-    ap (λ x. search_found x (search_within (length s))) (f ∙ ap found_after d)
-    ∙ ap (λ t. search_at t (search_within (length s))) e
-
 -- the search goes on after it
 pub search_more : (s sign after rest : List ℕ) (whole : Option Named) → sign ≡ at_sign s → 1 ≤ length sign
     → after ≡ drop 1 sign → onward rest ≡ found_after after
@@ -114,7 +100,8 @@ search_more s (b ∷ t) after rest whole e l d f h =
     same ∙ (ap (λ x. search_found x (search_within (length s))) (f ∙ ap found_after d)
     ∙ (ap (λ t. search_at t (search_within (length s))) e ∙ h))
 
-pub search_smaller : (s sign after rest : List ℕ) → sign ≡ at_sign s → 1 ≤ length sign → after ≡ drop 1 sign
+pub search_smaller : (s sign after rest : List ℕ) → sign ≡ at_sign s → 1 ≤ length sign
+    → after ≡ drop 1 sign
     → onward rest ≡ found_after after → length rest < length s
 search_smaller s [] after rest e l d f = absurd (omega arith)
 search_smaller s (b ∷ t) after rest e l d f =

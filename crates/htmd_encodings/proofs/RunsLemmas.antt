@@ -1,9 +1,9 @@
 -- How bytes begin, and what follows the first of some bytes.
-use Rattle.std.proofs.Common.{◌≡◌, ℕ, zero, suc, ◌<◌, ◌≤◌, true, false, List, [], ◌∷◌, length, drop, refl, sym, arith}
+use Rattle.std.proofs.Common.{◌≡◌, ℕ, ◌<◌, ◌≤◌, true, false, List, [], ◌∷◌, length, drop, refl, arith}
 use Rattle.std.proofs.Common.{length-drop}
 use Rattle.std.proofs.lemmas.Bool.{and_parts}
 use Rattle.std.specs.Prelude.{◌==◌}
-use Rattle.htmd_grammar.specs.CharacterClasses.{begins_with, begins_in_any_case, onward, behind_run}
+use Rattle.htmd_grammar.specs.CharacterClasses.{begins_with, onward}
 use Rattle.htmd_grammar.proofs.Cases.{test}
 use Rattle.htmd_encodings.specs.Declarations.{after_first}
 
@@ -19,33 +19,7 @@ begins_front (c ∷ p) [] e = absurd (cc)
 begins_front (c ∷ p) (b ∷ s) e =
     let h = begins_front p s (and_parts (b == c) (begins_with p s) e).1 in omega arith
 
-pub begins_front_in_any_case : (p s : List ℕ) → begins_in_any_case p s ≡ true → length p ≤ length s
-begins_front_in_any_case [] s e = omega arith
-begins_front_in_any_case (c ∷ p) [] e = absurd (cc)
-begins_front_in_any_case (c ∷ p) (b ∷ s) e =
-    let h = begins_front_in_any_case p s (and_parts _ (begins_in_any_case p s) e).1 in omega arith
-
 -- ---- what follows the first of some bytes
-
--- they are here
-pub first_here : (p s : List ℕ) → 0 < length s → begins_with p s ≡ true → drop (length p) s ≡ after_first p s
-first_here p [] l e = absurd (omega arith)
-first_here p (b ∷ s) l e = rw e refl
-
--- they aren't
-pub first_further : (p s : List ℕ) → 0 < length s → begins_with p s ≡ false
-    → after_first p (drop 1 s) ≡ after_first p s
-first_further p [] l e = absurd (omega arith)
-first_further p (b ∷ s) l e = rw e refl
-
-drop_nothing : (n : ℕ) → drop {A = ℕ} n [] ≡ []
-drop_nothing zero = refl
-drop_nothing (suc n) = refl
-
--- nothing is left
-pub first_nowhere : (p s : List ℕ) → length s < 1 → s ≡ after_first p s
-first_nowhere p [] l = sym (drop_nothing (length p))
-first_nowhere p (b ∷ s) l = absurd (omega arith)
 
 onward_within : (p s : List ℕ) → length (onward (begins_with p) s) ≤ length s
 onward_within p [] = omega arith

@@ -49,8 +49,8 @@ after_gap (b ∷ s) =
 abbrev pub next_part : List ℕ → TagPart
 next_part s = after_gap (behind_run is_gap_byte s)
 
--- ---- what the attributes say of the encoding: what the first `charset` names, and the first `content`, and whether the
--- first `http-equiv` is `content-type`
+-- ---- what the attributes say of the encoding: what the first `charset` names, and the first `content`, and whether
+-- the first `http-equiv` is `content-type`
 
 abbrev pub no_attributes : Attributes
 no_attributes = record { charset = None; content = None; http_equiv = None }

@@ -1,5 +1,5 @@
--- The label in the attribute `content` of a `meta`: the HTML Standard, 2.4.2, "extracting a character encoding from a meta
--- element".
+-- The label in the attribute `content` of a `meta`: the HTML Standard, 2.4.2, "extracting a character encoding from a
+-- meta element".
 use Rattle.std.specs.Prelude.{ℕ, Bool, not, ◌&&◌, ◌||◌, ◌==◌, if◌then◌else◌, List, [], ◌∷◌, drop, codes, Option, Some, None}
 use Rattle.htmd_grammar.specs.Characters.{quotation_mark, apostrophe, equals_sign, semicolon}
 use Rattle.htmd_grammar.specs.WhiteSpace.{is_ascii_white_space}

@@ -1,6 +1,6 @@
 -- What a page says of its encoding: in a `meta` (the HTML Standard, 13.2.3.2, step 4 of the prescan), and in an XML
 -- declaration ("get an XML encoding").
-use Rattle.std.specs.Prelude.{ℕ, Bool, true, false, not, ◌&&◌, nat_le, if◌then◌else◌, List, [], ◌∷◌, drop, length, codes}
+use Rattle.std.specs.Prelude.{ℕ, Bool, true, not, ◌&&◌, nat_le, if◌then◌else◌, List, drop, length, codes}
 use Rattle.std.specs.Prelude.{Option, Some, None, option_map, option_and_then}
 use Rattle.htmd_grammar.specs.Characters.{quotation_mark, apostrophe, equals_sign, greater_than_sign}
 use Rattle.htmd_grammar.specs.CharacterClasses.{is_empty, first_is, begins_with, onward, behind_run}

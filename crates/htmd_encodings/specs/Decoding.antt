@@ -1,6 +1,6 @@
 -- The text of a page's bytes: the Encoding Standard, 6.1, "decode" and "BOM sniff", and the HTML Standard, 13.2.3.2.
 use Rattle.std.specs.Prelude.{ℕ, Bool, true, false, not, ◌&&◌, ◌||◌, nat_le, ◌-◌, if◌then◌else◌, List, [], ◌∷◌, drop, take, map}
-use Rattle.std.specs.Prelude.{slice_index, encode_utf8_all, Option, Some, None, option_map}
+use Rattle.std.specs.Prelude.{slice_index, encode_utf8_all, Option, Some, None}
 use Rattle.std.specs.Str.{is_utf8}
 use Rattle.std.specs.Str.Lossy.{utf8_lossy}
 use Rattle.htmd_grammar.specs.CharacterClasses.{begins_with}

@@ -1,5 +1,5 @@
--- The indexes of the single-byte encodings: the Encoding Standard, 5, "Indexes". Each has the characters of the bytes 80
--- to FF; a byte without a character is U+FFFD.
+-- The indexes of the single-byte encodings: the Encoding Standard, 5, "Indexes". Each has the characters of the bytes
+-- 80 to FF; a byte without a character is U+FFFD.
 use Rattle.std.specs.Prelude.{ℕ, List, [], ◌∷◌}
 use Rattle.htmd_encodings.specs.declared.encodings.SingleByte.{SingleByte}
 use Rattle.htmd_encodings.specs.declared.encodings.SingleByte.TheVariants as single_byte

@@ -1,7 +1,7 @@
 -- The search for what a page says of its encoding: the HTML Standard, 13.2.3.2, "prescan a byte stream to determine its
 -- encoding".
-use Rattle.std.specs.Prelude.{ℕ, zero, suc, Bool, false, ◌&&◌, ◌||◌, ◌==◌, if◌then◌else◌, List, [], ◌∷◌}
-use Rattle.std.specs.Prelude.{drop, take, length, codes, Option, Some, None}
+use Rattle.std.specs.Prelude.{ℕ, zero, suc, Bool, false, ◌&&◌, ◌||◌, if◌then◌else◌, List, [], ◌∷◌}
+use Rattle.std.specs.Prelude.{drop, length, codes, Option, Some, None}
 use Rattle.std.specs.Char.{is_ascii_alphabetic}
 use Rattle.std.specs.Option.{option_or}
 use Rattle.htmd_grammar.specs.Characters.{exclamation_mark, question_mark, slash, less_than_sign, greater_than_sign}

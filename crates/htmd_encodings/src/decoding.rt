@@ -106,7 +106,7 @@ fn said_or_default(said: Option<Named>) -> Named
 }
 
 // The text of bytes that are UTF-8, unless what the page says outweighs that.
-#[tactic(auto, using(crate::proofs::DecodingLemmas::believed_utf8, crate::proofs::DecodingLemmas::believed_other, crate::proofs::DecodingLemmas::believed_said))]
+#[tactic(auto, using(crate::proofs::DecodingLemmas::believed_other, crate::proofs::DecodingLemmas::believed_said))]
 fn as_utf8(bytes: &[u8], said: Option<Named>) -> Option<&str>
     ensures { MatchOption result (spec.believed said bytes.now ≡ spec.said_or_default said)
         (λ text. (spec.believed said bytes.now ≡ held_named.Supported held.Utf8) × (text.now ≡ bytes.now)
@@ -153,7 +153,8 @@ fn text_in(alloc: Global, named: Named, bytes: &[u8]) -> Result<CowStr<'_>, Deco
 /// The text in an encoding.
 fn decoded(alloc: Global, encoding: Encoding, bytes: &[u8]) -> Result<CowStr<'_>, AllocError>
     ensures ok { IfOk result (λ text. cow_str_bytes text ≡ spec.decoded encoding bytes.now) }
-    ensures utf8 { IsUtf8 bytes.now → encoding ≡ held.Utf8 → IsOkAnd result (λ text. cow_str_bytes text ≡ bytes.now) }
+    ensures utf8 { IsUtf8 bytes.now → encoding ≡ held.Utf8
+        → IsOkAnd result (λ text. cow_str_bytes text ≡ bytes.now) }
 {
     match encoding {
         Encoding::Utf8 => utf8(alloc, bytes),

@@ -80,8 +80,8 @@ fn reads_utf8_alone_otherwise(rt: HostRuntime) -> Result<(), Fail> {
 // Each row is read in its own encoding, and none is refused but for that.
 #[test]
 fn answers_rows(rt: HostRuntime) -> Result<(), Fail> {
-    let rows =
-        b"1\t<p>a<p>b\n2\t<p><div>\n\\N\n4\t\\377\\376\\x61\\0\n5\t\xE9\n6\t<b>c\\n<i>d\\0\n7\t<meta charset=big5>\xE9\n";
+    let rows = b"1\t<p>a<p>b\n2\t<p><div>\n\\N\n4\t\\377\\376\\x61\\0\n5\t\xE9\n6\t<b>c\\n<i>d\\0\n\
+          7\t<meta charset=big5>\xE9\n";
     let wanted = "1\ta\\n\\nb\n2\t\n\\N\n4\ta\n5\t\u{E9}\n6\t**c *d***\n7\t\\N\n";
     let big5 =
         "htmd: row 7: the page says big5, which is not supported: convert it to UTF-8 first, or give --encoding\n";

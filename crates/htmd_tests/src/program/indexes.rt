@@ -1,7 +1,7 @@
-//! The characters of the bytes 80 to FF in each single-byte encoding, by its label. They are those of Python's decoders,
-//! and by the Encoding Standard in x-user-defined, at CA in windows-1255, at AE and BE in koi8-u, and in windows-874 and
-//! windows-1250 to windows-1258, where bytes below A0 without a character are controls. A byte without a character is
-//! U+FFFD.
+//! The characters of the bytes 80 to FF in each single-byte encoding, by its label. They are those of Python's
+//! decoders, and by the Encoding Standard in x-user-defined, at CA in windows-1255, at AE and BE in koi8-u, and in
+//! windows-874 and windows-1250 to windows-1258, where bytes below A0 without a character are controls. A byte without
+//! a character is U+FFFD.
 
 pub(super) const INDEXES: &[(&str, &str)] = &[
     (

@@ -17,5 +17,5 @@ returns c =
     let bytes = c.args.bytes.now in
     let run = c.split_run.ensures.run ∙ ap (leading_run is_name_byte) (take_rest bytes 1) in
     c.after_name.ensures
-    ∙ attribute_split bytes c.split_run.result.0.now c.split_at.result.0.now c.split_at.result.1.now (search rules) run
-    c.split_at.ensures.front c.split_at.ensures.back
+    ∙ attribute_split bytes c.split_run.result.0.now c.split_at.result.0.now c.split_at.result.1.now (search rules)
+    run c.split_at.ensures.front c.split_at.ensures.back
