@@ -1,8 +1,11 @@
 -- What a conversion gives, by equal handlers and equal trees.
-use Rattle.std.proofs.Common.{◌≡◌, ◌∙◌, ap, sym, subst, ℕ, Bool, true, false, not, ◌&&◌, List, [], ◌∷◌, length, map, eqb}
+use Rattle.std.proofs.Common.{◌≡◌, ◌∙◌, ap, sym, subst, ℕ, Bool, true, false, List, [], ◌∷◌, length, map, eqb}
 use Rattle.std.proofs.Common.{MatchBool, arith, refl}
 use Rattle.std.proofs.lemmas.Bool.Decides.{nat_tests}
+use Rattle.std.proofs.Common.{Some}
 use Rattle.std.specs.Borrow.{Bor}
+use Rattle.std.specs.Str.{IsUtf8}
+use Rattle.htmd_encodings.specs.Decoding.{page_text}
 use Rattle.htmd.specs.Items.{Item}
 use Rattle.htmd.specs.Choice.{Config, no_handler, with_handler}
 use Rattle.htmd.specs.Markdown.{markdown}
@@ -88,16 +91,29 @@ pub refused_all : (settings : Settings) (scripting : Bool) (input : List ℕ) (p
 refused_all settings scripting input place kind s b r =
     match_false _ _ settings.body b (subst (λ x. IsRefused x input place kind) s r)
 
--- which bytes are read, as far as the first of two tests decides it
-pub any_by : (html5 text first any : Bool) → html5 ≡ first → any ≡ (first && not text)
-    → any ≡ (html5 && not text)
-any_by html5 text first any h e = e ∙ sym (ap (λ x. x && not text) h)
+-- ---- the text that the bytes of an input hold
 
--- the text that the bytes of an input hold has this Markdown, and so has the input
-pub of_readable : (settings : Settings) (any : Bool) (input text found s : List ℕ) → any ≡ reads_any settings
-    → IsReadable any input × (text ≡ text_in any input) → found ≡ text → IsMarkdownBy settings found s
-    → IsReadable (reads_any settings) input × IsMarkdownBy settings (text_in (reads_any settings) input) s
-of_readable settings any input text found s a (r, t) f m = (
-  subst (λ b. IsReadable b input) a r,
-  subst (λ x. IsMarkdownBy settings x s) (f ∙ t ∙ ap (λ b. text_in b input) a) m,
-)
+-- of any page
+pub readable_page : (settings : Settings) (any : Bool) (input text : List ℕ) → any ≡ reads_any settings
+    → any ≡ true
+    → page_text settings.encoding input ≡ Some text
+    → IsReadable settings input × (text ≡ text_in settings input)
+readable_page settings any input text a t e =
+    let reads : reads_any settings ≡ true = sym a ∙ t in
+    (match_true _ _ (reads_any settings) reads (rw e refl), rw (reads, e) refl)
+
+-- of UTF-8 alone
+pub readable_utf8 : (settings : Settings) (any : Bool) (input text : List ℕ) → any ≡ reads_any settings
+    → any ≡ false
+    → IsUtf8 input → text ≡ input
+    → IsReadable settings input × (text ≡ text_in settings input)
+readable_utf8 settings any input text a f u e =
+    let strict : reads_any settings ≡ false = sym a ∙ f in
+    (match_false _ _ (reads_any settings) strict u, rw strict e)
+
+-- it has this Markdown, and so has the input
+pub of_readable : (settings : Settings) (input text found s : List ℕ)
+    → IsReadable settings input × (text ≡ text_in settings input) → found ≡ text
+    → IsMarkdownBy settings found s
+    → IsReadable settings input × IsMarkdownBy settings (text_in settings input) s
+of_readable settings input text found s (r, t) f m = (r, subst (λ x. IsMarkdownBy settings x s) (f ∙ t) m)

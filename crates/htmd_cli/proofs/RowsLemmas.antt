@@ -1,11 +1,10 @@
 -- What is written for a field and a row.
-use Rattle.std.proofs.Common.{◌≡◌, ◌∙◌, ap, subst, refl, ℕ, Bool, false, not, ◌&&◌, List, [], ◌∷◌, ◌++◌}
-use Rattle.std.proofs.Common.{Result, Ok, Err, OnOk, append_assoc, inl, inr}
+use Rattle.std.proofs.Common.{◌≡◌, ◌∙◌, ap, subst, refl, ℕ, false, List, [], ◌∷◌, ◌++◌}
+use Rattle.std.proofs.Common.{Result, Ok, Err, OnOk, append_assoc, inl}
 use Rattle.std.specs.Str.{bytes_eq}
 use Rattle.htmd.specs.Characters.{line_feed}
-use Rattle.htmd.specs.FaultKind.{FaultKind}
 use Rattle.htmd_cli.specs.Settings.{Settings}
-use Rattle.htmd_cli.specs.Conversion.{IsMarkdownBy, IsReadable, IsRefusedBy, reads_any, text_in}
+use Rattle.htmd_cli.specs.Conversion.{IsMarkdownBy, IsReadable, text_in}
 use Rattle.htmd_streams.specs.Fields.{null, read_field, written_field}
 use Rattle.htmd_streams.specs.Lines.{other_fields, last_field}
 use Rattle.htmd_cli.specs.Rows.{IsPageAnswer, IsFieldAnswer, IsRowAnswer}
@@ -13,27 +12,9 @@ use Rattle.htmd_cli.proofs.ConversionLemmas.{match_false}
 
 -- a page whose text has this Markdown
 pub page_answer : (settings : Settings) (page s : List ℕ)
-    → IsReadable (reads_any settings) page × IsMarkdownBy settings (text_in (reads_any settings) page) s
+    → IsReadable settings page × IsMarkdownBy settings (text_in settings page) s
     → IsPageAnswer settings page (written_field s)
 page_answer settings page s (r, m) = inl (r, s, m, refl)
-
--- a page whose text is outside the grammar, where no page is read otherwise
-pub page_refused : (settings : Settings) (any : Bool) (page text found : List ℕ) (place : ℕ) (kind : FaultKind)
-    → any ≡ reads_any settings → IsReadable any page × (text ≡ text_in any page) → found ≡ text
-    → settings.text ≡ false
-    → settings.html5 ≡ false → IsRefusedBy settings found place kind → IsPageAnswer settings page null
-page_refused settings any page text found place kind a (r, t) f p q e =
-    let strict : reads_any settings ≡ false = ap (λ x. x && not settings.text) q in
-    inr (
-      match_false _ _ (reads_any settings) strict (inr (
-        subst (λ b. IsReadable b page) (a ∙ strict) r,
-        p,
-        place,
-        kind,
-        subst (λ x. IsRefusedBy settings x place kind) (f ∙ t ∙ ap (λ b. text_in b page) (a ∙ strict)) e,
-      )),
-      refl,
-    )
 
 -- a field that isn't null, by the page that it stands for
 pub field_answer : {T E : Type 0} (settings : Settings) (field page read before old new : List ℕ) (r : Result T E)

@@ -6,17 +6,17 @@ use Rattle.std.specs.Str.{IsUtf8}
 use Rattle.std.specs.Io.KnownBytes.{Appends, Consumes, IsAtEnd}
 use Rattle.htmd.specs.Characters.{line_feed}
 use Rattle.htmd.specs.FaultKind.{FaultKind}
+use Rattle.htmd_encodings.specs.declared.encodings.UnsupportedEncoding.{UnsupportedEncoding}
 use Rattle.htmd_cli.specs.declared.faults.RunError.{RunError}
-use Rattle.htmd_cli.specs.declared.faults.RunError.TheVariants.{NotUtf8, Refused, Memory, Read, Write}
+use Rattle.htmd_cli.specs.declared.faults.RunError.TheVariants.{NotUtf8, Unsupported, Refused, Memory, Read, Write}
 use Rattle.htmd_cli.specs.Settings.{Settings}
-use Rattle.htmd_cli.specs.Conversion.{IsMarkdownBy, IsReadable, IsRefusedBy, reads_any, text_in}
+use Rattle.htmd_cli.specs.Conversion.{IsMarkdownBy, IsReadable, IsRefusedBy, IsUnsupported, reads_any, text_in}
 use Rattle.htmd_cli.specs.Runs.{Ends, IsConvertible, Writes}
 
 -- the bytes hold a text, and this is its Markdown
 abbrev pub Converted : Settings → List ℕ → List ℕ → Type 0
 Converted settings input markdown =
-    let any = reads_any settings in
-    IsReadable any input × IsMarkdownBy settings (text_in any input) markdown
+    IsReadable settings input × IsMarkdownBy settings (text_in settings input) markdown
 
 -- the whole input was converted, and that was written
 pub ends_well : {W : Type 0} (T : Type 0) (settings : Settings) (contents : W → Option (List ℕ)) (before after : W)
@@ -39,31 +39,36 @@ ends_at_sink T settings contents before after input markdown m = (refl, (m.0, ma
 pub ends_early : {W : Type 0} (T : Type 0) (settings : Settings) (contents : W → Option (List ℕ)) (before after : W)
     (input : List ℕ) (e : RunError) → (e ≡ NotUtf8 → ¬ IsUtf8 input)
     → (e ≡ NotUtf8 → reads_any settings ≡ false)
+    → ((encoding : UnsupportedEncoding) → e ≡ Unsupported encoding → IsUnsupported settings input encoding)
     → ((place : ℕ) (kind : FaultKind) → e ≡ Refused place kind → settings.text ≡ false)
     → ((place : ℕ) (kind : FaultKind) → e ≡ Refused place kind → settings.html5 ≡ false)
     → ((place : ℕ) (kind : FaultKind) → e ≡ Refused place kind → IsRefusedBy settings input place kind)
     → ((place : ℕ) (kind : FaultKind) → e ≡ Refused place kind → IsUtf8 input)
     → e ≢ Write → after ≡ before
     → Ends {T = T} settings (Some input) (Some []) contents before after (Err e)
-ends_early T settings contents before after input NotUtf8 n s h g r u w k = (refl, s refl, n refl, k)
-ends_early T settings contents before after input (Refused place kind) n s h g r u w k =
+ends_early T settings contents before after input NotUtf8 n s v h g r u w k = (refl, s refl, n refl, k)
+ends_early T settings contents before after input (Unsupported encoding) n s v h g r u w k =
+    (refl, v encoding refl, k)
+ends_early T settings contents before after input (Refused place kind) n s v h g r u w k =
     (refl, h place kind refl, g place kind refl, (u place kind refl, r place kind refl), k)
-ends_early T settings contents before after input Memory n s h g r u w k = k
-ends_early T settings contents before after input Read n s h g r u w k = k
-ends_early T settings contents before after input Write n s h g r u w k = absurd (w refl)
+ends_early T settings contents before after input Memory n s v h g r u w k = k
+ends_early T settings contents before after input Read n s v h g r u w k = k
+ends_early T settings contents before after input Write n s v h g r u w k = absurd (w refl)
 
 -- a run whose source or memory failed while it was read
 pub ends_unread : {W : Type 0} (T : Type 0) (settings : Settings) (old new : Option (List ℕ))
     (contents : W → Option (List ℕ))
     (before after : W) (e : RunError)
-    → (e ≢ Write) × (e ≢ NotUtf8) × ((place : ℕ) (kind : FaultKind) → e ≢ Refused place kind)
+    → (e ≢ Write) × (e ≢ NotUtf8) × ((encoding : UnsupportedEncoding) → e ≢ Unsupported encoding)
+    × ((place : ℕ) (kind : FaultKind) → e ≢ Refused place kind)
     → after ≡ before
     → Ends {T = T} settings old new contents before after (Err e)
-ends_unread T settings old new contents before after NotUtf8 (w, n, r) k = absurd (n refl)
-ends_unread T settings old new contents before after (Refused place kind) (w, n, r) k = absurd (r place kind refl)
-ends_unread T settings old new contents before after Memory (w, n, r) k = k
-ends_unread T settings old new contents before after Read (w, n, r) k = k
-ends_unread T settings old new contents before after Write (w, n, r) k = absurd (w refl)
+ends_unread T settings old new contents before after NotUtf8 (w, n, v, r) k = absurd (n refl)
+ends_unread T settings old new contents before after (Unsupported encoding) (w, n, v, r) k = absurd (v encoding refl)
+ends_unread T settings old new contents before after (Refused place kind) (w, n, v, r) k = absurd (r place kind refl)
+ends_unread T settings old new contents before after Memory (w, n, v, r) k = k
+ends_unread T settings old new contents before after Read (w, n, v, r) k = k
+ends_unread T settings old new contents before after Write (w, n, v, r) k = absurd (w refl)
 
 -- how a run ends that has read its whole source, by what that held
 pub ends_over : {W T : Type 0} (settings : Settings) (old new : Option (List ℕ)) (items input : List ℕ)
@@ -82,6 +87,9 @@ ends_over settings old new items input contents before after (Err NotUtf8) c e i
       (subst (λ bytes. ¬ IsUtf8 bytes) i h.2),
   h.3,
 )
+ends_over settings old new items input contents before after (Err (Unsupported encoding)) c e i h =
+    let P : List ℕ → Type 0 = λ bytes. IsUnsupported settings bytes encoding in
+    (e, Consumes-whole old new items P c e (subst P i h.1), h.2)
 ends_over settings old new items input contents before after (Err (Refused place kind)) c e i h =
     let P : List ℕ → Type 0 = λ bytes. IsUtf8 bytes × IsRefusedBy settings bytes place kind in
     (e, h.1, h.2, Consumes-whole old new items P c e (subst P i h.3), h.4)

@@ -1,5 +1,7 @@
 -- The Markdown of an input by settings, and what a refusal of it says.
-use Rattle.std.specs.Prelude.{◌≡◌, ◌&&◌, ℕ, Bool, not, if◌then◌else◌, List, [], ◌∷◌, ◌++◌, codes, MatchBool, IsUtf8, ⊤}
+use Rattle.std.specs.Prelude.{◌≡◌, ◌&&◌, ℕ, Bool, true, not, if◌then◌else◌, List, [], ◌∷◌, ◌++◌, codes, MatchBool}
+use Rattle.std.specs.Prelude.{IsUtf8, IsSome}
+use Rattle.std.specs.Option.{unwrap_or}
 use Rattle.htmd.specs.Characters.{line_feed}
 use Rattle.htmd.specs.FaultKind.{FaultKind}
 use Rattle.htmd.specs.Items.{Item, document_item, new_item, element_node, text_node}
@@ -10,7 +12,9 @@ use Rattle.htmd.specs.Markdown.{markdown}
 use Rattle.htmd.specs.Conversions.{IsMarkdownOf, IsMarkdownOfPage, IsRefused, IsPageRefused, IsHtml5Markdown}
 use Rattle.htmd.specs.Converters.{handlers_of, scripting_of}
 use Rattle.htmd.specs.declared.converter.HtmlToMarkdown.{HtmlToMarkdown}
-use Rattle.htmd_streams.specs.Decoding.{decoded}
+use Rattle.htmd_encodings.specs.declared.encodings.UnsupportedEncoding.{UnsupportedEncoding}
+use Rattle.htmd_encodings.specs.declared.encodings.Named.TheVariants.{Unsupported}
+use Rattle.htmd_encodings.specs.Decoding.{encoding_of, page_text}
 use Rattle.htmd_cli.specs.Settings.{Settings}
 
 -- the Document, and under it a `p`
@@ -39,17 +43,24 @@ paragraph_markdown config text = markdown config (paragraph text) 0
 abbrev pub paragraph_output : Config → List ℕ → List ℕ
 paragraph_output config text = paragraph_markdown config text ++ line_feed ∷ []
 
--- the bytes of an input are read as browsers read them, and no page is refused
+-- the bytes of an input are read as browsers read them, in any encoding that is supported
 abbrev pub reads_any : Settings → Bool
 reads_any settings = settings.html5 && not settings.text
 
--- the bytes hold a text: any bytes if all are read, else only UTF-8
-abbrev pub IsReadable : Bool → List ℕ → Type 0
-IsReadable any bytes = MatchBool any ⊤ (IsUtf8 bytes)
+-- the bytes hold a text: in their encoding if all are read, else only in UTF-8
+abbrev pub IsReadable : Settings → List ℕ → Type 0
+IsReadable settings bytes =
+    MatchBool (reads_any settings) (IsSome (page_text settings.encoding bytes)) (IsUtf8 bytes)
 
 -- the text that they hold
-abbrev pub text_in : Bool → List ℕ → List ℕ
-text_in any bytes = if any then decoded bytes else bytes
+abbrev pub text_in : Settings → List ℕ → List ℕ
+text_in settings bytes =
+    if reads_any settings then unwrap_or (page_text settings.encoding bytes) [] else bytes
+
+-- the bytes are a page in this encoding, which isn't supported
+abbrev pub IsUnsupported : Settings → List ℕ → UnsupportedEncoding → Type 0
+IsUnsupported settings bytes encoding =
+    (reads_any settings ≡ true) × (encoding_of settings.encoding bytes ≡ Unsupported encoding)
 
 -- this is the Markdown of an input: of one paragraph where it is taken for a text, else of any page as browsers read
 -- it, of a page's body or of all

@@ -1,7 +1,9 @@
--- What a refused conversion is to a run, and what ends a batch.
-use Rattle.std.specs.Prelude.{◌≡◌, ◌⊎◌}
+-- What a refused conversion and bytes that aren't decoded are to a run, and what ends a batch.
+use Rattle.std.specs.Prelude.{◌≡◌, ◌⊎◌, ⊤}
 use Rattle.htmd.specs.declared.conversion.ConvertError.{ConvertError}
 use Rattle.htmd.specs.declared.conversion.ConvertError.TheVariants as conversion
+use Rattle.htmd_encodings.specs.declared.decoding.DecodeError.{DecodeError}
+use Rattle.htmd_encodings.specs.declared.decoding.DecodeError.TheVariants as decoding
 use Rattle.htmd_cli.specs.declared.faults.RunError.{RunError}
 use Rattle.htmd_cli.specs.declared.faults.RunError.TheVariants as run
 
@@ -10,6 +12,18 @@ abbrev pub run_error : ConvertError → RunError
 run_error (conversion.Refused place kind) = run.Refused place kind
 run_error conversion.Memory = run.Memory
 
+-- bytes that aren't decoded keep their encoding
+abbrev pub decode_error : DecodeError → RunError
+decode_error (decoding.Unsupported encoding) = run.Unsupported encoding
+decode_error decoding.Memory = run.Memory
+
 -- what a batch ends at: its source, its sink or the memory failed
 abbrev pub IsRowFault : RunError → Type 0
 IsRowFault error = (error ≡ run.Read) ⊎ ((error ≡ run.Write) ⊎ (error ≡ run.Memory))
+
+-- what an input without a text ends at
+abbrev pub IsTextFault : RunError → Type 0
+IsTextFault (run.Refused place kind) = ⊥
+IsTextFault run.Read = ⊥
+IsTextFault run.Write = ⊥
+IsTextFault _ = ⊤

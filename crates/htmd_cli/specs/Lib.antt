@@ -1,8 +1,7 @@
 -- The definitions that the contracts cite, in reading order; the last two are cited only by private functions.
 pub use Rattle.htmd_streams.specs.Ends
-pub use Rattle.htmd_streams.specs.Windows1252
-pub use Rattle.htmd_streams.specs.Utf16
-pub use Rattle.htmd_streams.specs.Decoding
+pub use Rattle.htmd_encodings.specs.Labels
+pub use Rattle.htmd_encodings.specs.Decoding
 pub use Rattle.htmd_streams.specs.Lines
 pub use Rattle.htmd_streams.specs.Fields
 pub mod Failures

@@ -9,12 +9,14 @@ use Rattle.htmd_cli.specs.declared.options.Setting.TheVariants as setting
 use Rattle.htmd_cli.specs.declared.options.Request as held
 use Rattle.htmd_cli.specs.declared.options.OptionFault as held_fault
 use Rattle.htmd_cli.specs.declared.options.OptionFault.TheVariants as fault
+use Rattle.htmd_encodings.specs.Labels.{encoding_named}
 use Rattle.htmd_cli.specs.Settings.{settings_in}
 use Rattle.htmd_cli.specs.Options.{Request, KnownOption, sets, sets_option, skips, takes_rows, shows_instead, number}
 use Rattle.htmd_cli.specs.Options.{parts, is_filled, are_known}
 
 -- the setting is told by a value
 abbrev pub takes_value : Setting → Bool
+takes_value setting.Encoding = true
 takes_value setting.BulletSpacing = true
 takes_value setting.NumberSpacing = true
 takes_value setting.Skip = true
@@ -25,6 +27,8 @@ abbrev pub effect_of : Setting → List ℕ → Option (Request → Request)
 effect_of setting.Text value = Some (sets (λ settings. record settings { text = true }))
 effect_of setting.Body value = Some (sets (λ settings. record settings { body = true }))
 effect_of setting.Html5 value = Some (sets (λ settings. record settings { html5 = true }))
+effect_of setting.Encoding value =
+    option_map (λ e. sets (λ settings. record settings { encoding = Some e })) (encoding_named value)
 effect_of setting.Rows value = Some takes_rows
 effect_of setting.NoScripting value = Some (sets (λ settings. record settings { scripting = false }))
 effect_of (setting.Translation mode) value = Some (sets_option (λ options. record options { translation_mode = mode }))

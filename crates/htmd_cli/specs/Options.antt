@@ -20,6 +20,8 @@ use Rattle.htmd.specs.LinkStyle.TheVariants as link
 use Rattle.htmd.specs.CodeBlockStyle.TheVariants as code_block
 use Rattle.htmd.specs.TranslationMode.TheVariants as translation
 use Rattle.htmd.specs.Options.{Options}
+use Rattle.htmd_encodings.specs.declared.encodings.Encoding.{Encoding}
+use Rattle.htmd_encodings.specs.Labels.{encoding_named}
 use Rattle.htmd_cli.specs.Settings.{Settings, default_settings}
 
 -- what the options ask for: the settings, whether the source is rows with a page each, and whether the help or the
@@ -95,6 +97,11 @@ plain name effect = record { name = name; takes_value = false; effect = λ value
 abbrev pub numbered : List ℕ → (ℕ → Request → Request) → KnownOption
 numbered name effect = record { name = name; takes_value = true; effect = λ value. option_map effect (number value) }
 
+-- an option that ends with the label of an encoding that is supported
+abbrev pub labelled : List ℕ → (Encoding → Request → Request) → KnownOption
+labelled name effect =
+    record { name = name; takes_value = true; effect = λ value. option_map effect (encoding_named value) }
+
 -- an option that ends with names between commas, none of them empty
 abbrev pub named : List ℕ → (List (List ℕ) → Request → Request) → KnownOption
 named name effect = record {
@@ -108,6 +115,7 @@ known_options =
     plain (codes "--text") (sets (λ settings. record settings { text = true }))
     ∷ plain (codes "--body") (sets (λ settings. record settings { body = true }))
     ∷ plain (codes "--html5") (sets (λ settings. record settings { html5 = true }))
+    ∷ labelled (codes "--encoding=") (λ e. sets (λ settings. record settings { encoding = Some e }))
     ∷ plain (codes "--rows") takes_rows
     ∷ plain (codes "--faithful")
     (sets_option (λ options. record options { translation_mode = translation.Faithful }))

@@ -5,25 +5,25 @@ use Rattle.std.specs.Str.{bytes_eq}
 use Rattle.std.specs.Io.KnownBytes.{Appends}
 use Rattle.htmd.specs.Characters.{line_feed}
 use Rattle.htmd.specs.FaultKind.{FaultKind}
+use Rattle.htmd_encodings.specs.declared.encodings.UnsupportedEncoding.{UnsupportedEncoding}
 use Rattle.htmd_cli.specs.Settings.{Settings}
 use Rattle.htmd_cli.specs.Options.{Request}
 use Rattle.htmd_cli.specs.Runs.{Converts}
 use Rattle.htmd_streams.specs.Ends.{AppendsSome}
-use Rattle.htmd_cli.specs.Conversion.{IsMarkdownBy, IsReadable, IsRefusedBy, reads_any, text_in}
+use Rattle.htmd_cli.specs.Conversion.{IsMarkdownBy, IsReadable, IsRefusedBy, IsUnsupported, reads_any, text_in}
 use Rattle.htmd_streams.specs.Fields.{null, read_field, written_field}
 use Rattle.htmd_streams.specs.Lines.{rows, other_fields, last_field}
 
 -- the page holds a text, and this is its Markdown as a field
 abbrev pub IsConverted : Settings → List ℕ → List ℕ → Type 0
 IsConverted settings page field =
-    IsReadable (reads_any settings) page × (markdown : List ℕ)
-    × IsMarkdownBy settings (text_in (reads_any settings) page) markdown
+    IsReadable settings page × (markdown : List ℕ) × IsMarkdownBy settings (text_in settings page) markdown
     × (field ≡ written_field markdown)
 
--- the page isn't UTF-8, or it is HTML outside the grammar; if any page is read, none is refused
+-- the page isn't UTF-8, or it is HTML outside the grammar; if any page is read, its encoding isn't supported
 abbrev pub IsRefusedPage : Settings → List ℕ → Type 0
 IsRefusedPage settings page =
-    MatchBool (reads_any settings) ⊥
+    MatchBool (reads_any settings) ((encoding : UnsupportedEncoding) × IsUnsupported settings page encoding)
     ((¬ IsUtf8 page)
     ⊎
     (IsUtf8 page × (settings.text ≡ false) × (place : ℕ) × (kind : FaultKind)

@@ -3,22 +3,20 @@ use Rattle.std.specs.Prelude.{◌≡◌, ℕ, List, [], ◌∷◌, ◌++◌, fal
 use Rattle.std.specs.Io.KnownBytes.{Appends, IsAtEnd}
 use Rattle.htmd.specs.Characters.{line_feed}
 use Rattle.htmd_cli.specs.declared.faults.RunError.{RunError}
-use Rattle.htmd_cli.specs.declared.faults.RunError.TheVariants.{NotUtf8, Refused, Memory, Read, Write}
+use Rattle.htmd_cli.specs.declared.faults.RunError.TheVariants.{NotUtf8, Unsupported, Refused, Memory, Read, Write}
 use Rattle.htmd_cli.specs.Settings.{Settings}
-use Rattle.htmd_cli.specs.Conversion.{IsMarkdownBy, IsReadable, IsRefusedBy, reads_any, text_in}
+use Rattle.htmd_cli.specs.Conversion.{IsMarkdownBy, IsReadable, IsRefusedBy, IsUnsupported, reads_any, text_in}
 
 -- the bytes hold a text, and its Markdown and a line feed were written
 abbrev pub Writes : Settings → Option (List ℕ) → Option (List ℕ) → List ℕ → Type 0
 Writes settings before after bytes =
-    let any = reads_any settings in
-    IsReadable any bytes × (markdown : List ℕ) × IsMarkdownBy settings (text_in any bytes) markdown
+    IsReadable settings bytes × (markdown : List ℕ) × IsMarkdownBy settings (text_in settings bytes) markdown
     × Appends before after (markdown ++ line_feed ∷ [])
 
 -- the bytes hold a text, which has Markdown
 abbrev pub IsConvertible : Settings → List ℕ → Type 0
 IsConvertible settings bytes =
-    let any = reads_any settings in
-    IsReadable any bytes × (markdown : List ℕ) × IsMarkdownBy settings (text_in any bytes) markdown
+    IsReadable settings bytes × (markdown : List ℕ) × IsMarkdownBy settings (text_in settings bytes) markdown
 
 -- the whole input was converted by the settings
 abbrev pub Converts : Settings → Option (List ℕ) → Option (List ℕ) → Option (List ℕ) → Type 0
@@ -34,6 +32,9 @@ Ends settings input rest contents before after (Ok done) =
 -- all was read and is not UTF-8, which any page may be; nothing was written
 Ends settings input rest contents before after (Err NotUtf8) =
     IsAtEnd rest × (reads_any settings ≡ false) × IfSome input (λ bytes. ¬ IsUtf8 bytes) × (after ≡ before)
+-- all was read and is a page in an encoding that isn't supported; nothing was written
+Ends settings input rest contents before after (Err (Unsupported encoding)) =
+    IsAtEnd rest × IfSome input (λ bytes. IsUnsupported settings bytes encoding) × (after ≡ before)
 -- all was read and is UTF-8, was taken for HTML of the strict grammar, and is outside it; nothing was written
 Ends settings input rest contents before after (Err (Refused place kind)) =
     IsAtEnd rest × (settings.text ≡ false) × (settings.html5 ≡ false)

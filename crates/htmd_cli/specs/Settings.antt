@@ -1,5 +1,6 @@
 -- What a run takes its input for, and how it converts it.
-use Rattle.std.specs.Prelude.{Bool, true, false, if◌then◌else◌, List, [], ℕ, map}
+use Rattle.std.specs.Prelude.{Bool, true, false, if◌then◌else◌, List, [], ℕ, map, Option, None}
+use Rattle.htmd_encodings.specs.declared.encodings.Encoding.{Encoding}
 use Rattle.htmd.specs.Options.{Options}
 use Rattle.htmd.specs.TranslationMode.TheVariants.{Pure, Faithful}
 use Rattle.htmd.specs.Defaults.{default_options}
@@ -12,6 +13,8 @@ pub record Settings : Type 0 where
   pub body : Bool
   -- the input is any page, as browsers read it
   pub html5 : Bool
+  -- the encoding of bytes without a mark, if it is given
+  pub encoding : Option Encoding
   pub scripting : Bool
   pub options : Options
   -- elements with these names give nothing
@@ -23,6 +26,7 @@ settings_in settings = record {
   text = settings.text;
   body = settings.body;
   html5 = settings.html5;
+  encoding = settings.encoding;
   scripting = settings.scripting;
   options = settings.options;
   skipped = map (λ name. name.now) settings.skipped.items;
@@ -34,6 +38,7 @@ default_settings = record {
   text = false;
   body = false;
   html5 = false;
+  encoding = None;
   scripting = true;
   options = default_options;
   skipped = [];

@@ -95,8 +95,10 @@ fn page_markdown<H: Registry>(
     ensures refused { IfOk result (λ outcome. IfErr outcome
         (λ _. IsPageAnswer (settings_in settings.now) page.now null)) }
 {
-    let Some(text) = text_of(alloc, page, settings.html5 && !settings.text)? else {
-        return Ok(Err(RunError::NotUtf8));
+    let text = match text_of(alloc, settings, page) {
+        Ok(text) => text,
+        Err(RunError::Memory) => return Err(AllocError),
+        Err(error) => return Ok(Err(error)),
     };
     match markdown_by(alloc, converter, settings, &text) {
         Ok(markdown) => Ok(Ok(markdown)),

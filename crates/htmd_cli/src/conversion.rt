@@ -1,19 +1,24 @@
 //! The conversion of an input by settings.
-ghost use Rattle.std.specs.Prelude.{◌≡◌, ℕ, false, Err, None, IfOk, IfSome, IsUtf8, string_bytes};
+ghost use Rattle.std.specs.Prelude.{◌≡◌, ℕ, false, Err, IfErr, IfOk, IsUtf8, string_bytes};
 ghost use Rattle.std.specs.Cow.{cow_str_bytes};
 ghost use Rattle.htmd.specs.BuiltIn.{built_in};
 ghost use Rattle.htmd.specs.Converters.{handlers_built};
 ghost use Rattle.htmd.specs.Defaults.{default_options};
 ghost use Rattle.htmd.specs.FaultKind.{FaultKind};
-ghost use Rattle.htmd_cli.specs.Conversion.{GoesBy, IsMarkdownBy, IsReadable, IsRefusedBy, text_in};
+ghost use Rattle.htmd_cli.specs.Conversion.{GoesBy, IsMarkdownBy, IsReadable, IsRefusedBy, IsUnsupported};
+ghost use Rattle.htmd_cli.specs.Conversion.{text_in};
+ghost use Rattle.htmd_cli.specs.Conversion as spec;
+ghost use Rattle.htmd_encodings.specs.declared.encodings.UnsupportedEncoding.{UnsupportedEncoding};
+ghost use Rattle.htmd_cli.specs.Failures.{IsTextFault};
 ghost use Rattle.htmd_cli.specs.Settings.{settings_in};
 
+use crate::faults::RunError;
 use crate::paragraph::paragraph;
 use crate::settings::Settings;
 use htmd::element_handler::{Registrar, Registry};
 use htmd::options::Options;
 use htmd::{ConvertError, HtmlToMarkdown, HtmlToMarkdownBuilder};
-use htmd_streams::decoded;
+use htmd_encodings::page_text;
 use std::alloc::{AllocError, Global};
 use std::borrow::CowStr;
 
@@ -41,22 +46,34 @@ pub(crate) fn converter_by<H: Registrar + Drop>(
     Ok(converter)
 }
 
-/// The text that the bytes of an input hold: any bytes if all are read, else only UTF-8. `Err` means out of memory.
-pub(crate) fn text_of(
-    alloc: Global,
-    input: &[u8],
-    any: bool,
-) -> Result<Option<CowStr<'_>>, AllocError>
-    ensures some { IfOk result (λ found. IfSome found
-        (λ text. IsReadable any input.now × (cow_str_bytes text ≡ text_in any input.now))) }
-    ensures none { IfOk result (λ found. found ≡ None → (any ≡ false) × (¬ IsUtf8 input.now)) }
+/// Whether the bytes of an input are read as browsers read them.
+fn reads_any(settings: &Settings<'_>) -> bool
+    ensures { result ≡ spec.reads_any (settings_in settings.now) }
 {
-    if any {
-        return Ok(Some(decoded(alloc, input)?));
+    settings.html5 && !settings.text
+}
+
+/// The text that the bytes of an input hold: in their encoding if any page is read, else only in UTF-8.
+#[tactic(auto, using(crate::proofs::ConversionLemmas::readable_page, crate::proofs::ConversionLemmas::readable_utf8))]
+pub(crate) fn text_of<'a>(
+    alloc: Global,
+    settings: &Settings<'_>,
+    input: &'a [u8],
+) -> Result<CowStr<'a>, RunError>
+    ensures ok { IfOk result (λ text. IsReadable (settings_in settings.now) input.now
+        × (cow_str_bytes text ≡ text_in (settings_in settings.now) input.now)) }
+    ensures not_utf8 { result ≡ Err RunError.NotUtf8
+        → (spec.reads_any (settings_in settings.now) ≡ false) × (¬ IsUtf8 input.now) }
+    ensures unsupported { (encoding : UnsupportedEncoding) → result ≡ Err (RunError.Unsupported encoding)
+        → IsUnsupported (settings_in settings.now) input.now encoding }
+    ensures others { IfErr result IsTextFault }
+{
+    if reads_any(settings) {
+        return Ok(page_text(alloc, settings.encoding, input)?);
     }
     match str::from_utf8(input) {
-        Ok(text) => Ok(Some(CowStr::Borrowed(text))),
-        Err(_) => Ok(None),
+        Ok(text) => Ok(CowStr::Borrowed(text)),
+        Err(_) => Err(RunError::NotUtf8),
     }
 }
 

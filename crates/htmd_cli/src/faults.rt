@@ -1,9 +1,10 @@
 //! What can go wrong in a run.
 ghost use Rattle.std.specs.Prelude.{◌≡◌};
 ghost use Rattle.htmd_cli.specs.declared.faults.RunError.TheVariants.{Memory};
-ghost use Rattle.htmd_cli.specs.Failures.{run_error};
+ghost use Rattle.htmd_cli.specs.Failures.{decode_error, run_error};
 
 use htmd::{ConvertError, FaultKind};
+use htmd_encodings::{DecodeError, UnsupportedEncoding};
 use std::alloc::AllocError;
 use thiserror::Error;
 
@@ -16,6 +17,9 @@ pub enum RunError {
     /// The input is not UTF-8.
     #[error("not UTF-8")]
     NotUtf8,
+    /// The input is a page in an encoding that isn't supported.
+    #[error("the page says {encoding}, which is not supported: convert it to UTF-8 first, or give --encoding")]
+    Unsupported { encoding: UnsupportedEncoding },
     /// Out of memory.
     #[error("out of memory")]
     Memory,
@@ -50,6 +54,17 @@ impl From<ConvertError> for RunError {
         match e {
             ConvertError::Refused { place, kind } => RunError::Refused { place, kind },
             ConvertError::Memory => RunError::Memory,
+        }
+    }
+}
+
+impl From<DecodeError> for RunError {
+    ghost from_gives = { λ e error. error ≡ decode_error e };
+
+    fn from(e: DecodeError) -> RunError {
+        match e {
+            DecodeError::Unsupported(encoding) => RunError::Unsupported { encoding },
+            DecodeError::Memory => RunError::Memory,
         }
     }
 }

@@ -4,7 +4,7 @@
 //!
 //! `Source` and `Sink` are the two ends of a run, `Input` and `Output` make them from std's readers and
 //! writers, `run` converts by a mode and `run_with` by settings, and `command` is the whole program with its
-//! options and exit statuses. `decoded` is the text of bytes when nothing says how they are encoded.
+//! options and exit statuses. `page_text` is the text of a page's bytes, whatever their encoding is.
 #![tactic(auto, using(std::proofs::lemmas::Grind::common_steps))]
 
 mod answers;
@@ -22,7 +22,10 @@ mod settings;
 mod values;
 
 pub use faults::{RowFault, RunError};
-pub use htmd_streams::{Failed, Input, Output, Sink, Source, decoded, read_field, write_field};
+pub use htmd_encodings::{
+    ByteOrder, DecodeError, Encoding, SingleByte, UnsupportedEncoding, encoding_named, page_text,
+};
+pub use htmd_streams::{Failed, Input, Output, Sink, Source, read_field, write_field};
 pub use pipeline::{run, run_with};
 pub use program::command;
 pub use rows::run_rows;

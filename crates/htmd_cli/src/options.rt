@@ -10,6 +10,7 @@ use htmd::options::{
     BrStyle, BulletListMarker, CodeBlockFence, CodeBlockStyle, HeadingStyle, HrStyle,
     LinkReferenceStyle, LinkStyle, TranslationMode,
 };
+use htmd_encodings::encoding_named;
 use std::alloc::{AllocError, Global};
 
 /// What is written in place of a conversion.
@@ -25,6 +26,7 @@ pub(crate) enum Setting {
     Text,
     Body,
     Html5,
+    Encoding,
     Rows,
     NoScripting,
     Translation(TranslationMode),
@@ -48,7 +50,7 @@ pub(crate) enum Setting {
 pub(crate) type OptionRow = (&'static str, &'static str, Setting, &'static str);
 
 /// The options that are known.
-pub(crate) const OPTIONS: [OptionRow; 33] = [
+pub(crate) const OPTIONS: [OptionRow; 34] = [
     (
         "--text",
         "",
@@ -66,6 +68,12 @@ pub(crate) const OPTIONS: [OptionRow; 33] = [
         "",
         Setting::Html5,
         "reads any page or piece of one as browsers read it, and refuses none",
+    ),
+    (
+        "--encoding=",
+        "LABEL",
+        Setting::Encoding,
+        "with --html5: the encoding, in place of what the page says; a mark at its beginning counts first",
     ),
     (
         "--rows",
@@ -273,7 +281,7 @@ fn takes_value(setting: Setting) -> bool
 {
     matches!(
         setting,
-        Setting::BulletSpacing | Setting::NumberSpacing | Setting::Skip
+        Setting::Encoding | Setting::BulletSpacing | Setting::NumberSpacing | Setting::Skip
     )
 }
 
@@ -340,6 +348,10 @@ impl<'a> Request<'a> {
             Setting::Text => self.settings.text = true,
             Setting::Body => self.settings.body = true,
             Setting::Html5 => self.settings.html5 = true,
+            Setting::Encoding => match encoding_named(value.as_bytes()) {
+                Some(encoding) => self.settings.encoding = Some(encoding),
+                None => return Ok(false),
+            },
             Setting::Rows => self.rows = true,
             Setting::NoScripting => self.settings.scripting = false,
             Setting::Translation(mode) => options.translation_mode = mode,

@@ -4,7 +4,8 @@ ghost use Rattle.std.specs.Prelude.{OnOk, IfOk, IfErr, IsErrOf};
 ghost use Rattle.std.specs.Io.KnownBytes.{Appends, Consumes, IsAtEnd};
 ghost use Rattle.htmd.specs.Characters.{line_feed};
 ghost use Rattle.htmd.specs.FaultKind.{FaultKind};
-ghost use Rattle.htmd_cli.specs.Conversion.{IsMarkdownBy, IsReadable, IsRefusedBy, reads_any, text_in};
+ghost use Rattle.htmd_cli.specs.Conversion.{IsMarkdownBy, IsReadable, IsRefusedBy, IsUnsupported, reads_any, text_in};
+ghost use Rattle.htmd_encodings.specs.declared.encodings.UnsupportedEncoding.{UnsupportedEncoding};
 ghost use Rattle.htmd_streams.specs.Ends.{FailsAtErr};
 ghost use Rattle.htmd_cli.specs.Runs.{Ends};
 ghost use Rattle.htmd_cli.specs.Settings.{settings_in, settings_of};
@@ -18,7 +19,8 @@ use std::alloc::Global;
 /// Reads the whole source, then converts it, then writes the Markdown and one line feed to the sink
 /// and flushes it. The source and the sink must not have failed before. The first fault is answered:
 /// `Read` or `Write` if the source or the sink failed, `NotUtf8` if all was read and isn't UTF-8,
-/// `Refused` if it is HTML outside the grammar, `Memory` when out of memory. The sink is not touched
+/// `Unsupported` if it is a page in an encoding that isn't supported, `Refused` if it is HTML outside
+/// the grammar, `Memory` when out of memory. The sink is not touched
 /// before the conversion has succeeded; after `Write` nothing is known of how much went out.
 pub fn run<R: Source, W: Sink>(
     alloc: Global,
@@ -83,6 +85,7 @@ fn read_all<R: Source>(alloc: Global, source: &mut R) -> Result<Vec<u8>, RunErro
     ensures end { OnOk result (IsAtEnd (R.remaining source.new)) }
     ensures read_failed { IsErrOf result RunError.Read ↔ IsTrue (R.has_failed source.new) }
     ensures others { IfErr result (λ error. (error ≢ RunError.Write) × (error ≢ RunError.NotUtf8)
+        × ((encoding : UnsupportedEncoding) → error ≢ RunError.Unsupported encoding)
         × ((place : ℕ) (kind : FaultKind) → error ≢ RunError.Refused place kind)) }
 {
     let mut input = Vec::new(alloc);
@@ -119,11 +122,13 @@ fn convert_into<W: Sink>(
 
 // The Markdown of the text that an input holds.
 fn converted(alloc: Global, input: &[u8], settings: &Settings<'_>) -> Result<String, RunError>
-    ensures ok { IfOk result (λ markdown. IsReadable (reads_any (settings_in settings.now)) input.now
+    ensures ok { IfOk result (λ markdown. IsReadable (settings_in settings.now) input.now
         × IsMarkdownBy (settings_in settings.now)
-        (text_in (reads_any (settings_in settings.now)) input.now) (string_bytes markdown)) }
+        (text_in (settings_in settings.now) input.now) (string_bytes markdown)) }
     ensures not_utf8 { IsErrOf result RunError.NotUtf8 → ¬ IsUtf8 input.now }
     ensures not_utf8_strict { IsErrOf result RunError.NotUtf8 → reads_any (settings_in settings.now) ≡ false }
+    ensures unsupported { (encoding : UnsupportedEncoding) → result ≡ Err (RunError.Unsupported encoding)
+        → IsUnsupported (settings_in settings.now) input.now encoding }
     ensures refused_html { (place : ℕ) (kind : FaultKind) → result ≡ Err (RunError.Refused place kind)
         → settings.now.text ≡ false }
     ensures refused_strict { (place : ℕ) (kind : FaultKind) → result ≡ Err (RunError.Refused place kind)
@@ -134,9 +139,7 @@ fn converted(alloc: Global, input: &[u8], settings: &Settings<'_>) -> Result<Str
         → IsUtf8 input.now }
     ensures others { IfErr result (λ error. error ≢ RunError.Read × error ≢ RunError.Write) }
 {
-    let Some(text) = text_of(alloc, input, settings.html5 && !settings.text)? else {
-        return Err(RunError::NotUtf8);
-    };
+    let text = text_of(alloc, settings, input)?;
     Ok(markdown_of(alloc, settings, &text)?)
 }
 

@@ -3,6 +3,7 @@ ghost use Rattle.std.specs.Prelude.{◌≡◌};
 ghost use Rattle.htmd_cli.specs.Settings.{default_settings, settings_in, settings_of};
 
 use htmd::options::{Options, TranslationMode};
+use htmd_encodings::Encoding;
 use std::alloc::Global;
 
 /// What a run takes its input for, and how it writes what Markdown cannot say.
@@ -17,13 +18,16 @@ pub struct Mode {
 /// What a run takes its input for, and how it converts it.
 #[derive(Drop)]
 pub struct Settings<'a> {
-    /// The input is the text of one paragraph, and not HTML. Then `body`, `html5` and `scripting` have no effect.
+    /// The input is the text of one paragraph, and not HTML. Then `body`, `html5`, `encoding` and `scripting` have no
+    /// effect.
     pub text: bool,
     /// The input is a whole page, and what is between the tags of its body is converted.
     pub body: bool,
-    /// The input is any page, as browsers read it: bytes that aren't UTF-8 are decoded, and nothing is refused. Then
-    /// `body` has no effect.
+    /// The input is any page, as browsers read it: bytes that aren't UTF-8 are decoded, and nothing is refused but an
+    /// encoding that isn't supported. Then `body` has no effect.
     pub html5: bool,
+    /// The encoding of any page whose bytes have no mark, if it is known. Else what the page says of it counts.
+    pub encoding: Option<Encoding>,
     /// The content of `noscript` is one text, else it is nodes.
     pub scripting: bool,
     pub options: Options,
@@ -41,6 +45,7 @@ impl<'a> Settings<'a> {
             text: false,
             body: false,
             html5: false,
+            encoding: None,
             scripting: true,
             options: Options::default(),
             skipped: Vec::new(alloc),

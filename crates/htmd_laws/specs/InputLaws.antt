@@ -6,7 +6,7 @@ use Rattle.htmd_walk.specs.Markdown.{markdown}
 use Rattle.htmd.specs.Conversions.{IsTreeOf}
 use Rattle.htmd_html5.specs.Documents.{html5_document}
 use Rattle.htmd_cli.specs.Settings.{Settings}
-use Rattle.htmd_cli.specs.Conversion.{config_of, paragraph, IsMarkdownBy, IsReadable, reads_any, text_in}
+use Rattle.htmd_cli.specs.Conversion.{config_of, paragraph, IsMarkdownBy, IsReadable, text_in}
 
 -- What a text in UTF-8 denotes is a tree whose texts and values are UTF-8.
 abbrev pub TreesHoldTexts : Type 0
@@ -16,7 +16,7 @@ TreesHoldTexts =
 
 -- the text that the bytes of an input hold
 abbrev pub text_by : Settings → List ℕ → List ℕ
-text_by settings input = text_in (reads_any settings) input
+text_by settings input = text_in settings input
 
 -- the tree of a text by what an input is taken for: of one paragraph, of any page as browsers read it, of a page's
 -- body, or of all
@@ -30,7 +30,7 @@ IsTreeBy settings text tree =
 -- The Markdown of the text that an input holds is that of such a tree, whose texts and values are UTF-8.
 abbrev pub InputsHoldTexts : Type 0
 InputsHoldTexts =
-    (settings : Settings) (input s : List ℕ) → IsReadable (reads_any settings) input
+    (settings : Settings) (input s : List ℕ) → IsReadable settings input
     → IsMarkdownBy settings (text_by settings input) s
     → (tree : List Item) × IsTreeBy settings (text_by settings input) tree × IsTree tree × HoldTexts tree
     × (s ≡ markdown (config_of settings) tree 0)

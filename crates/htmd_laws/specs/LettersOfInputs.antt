@@ -9,7 +9,7 @@ use Rattle.htmd_walk.specs.BuiltIn.{built_in}
 use Rattle.htmd.specs.Conversions.{IsTreeOf, IsMarkdownOf, IsMarkdownOfPage, IsHtml5Markdown}
 use Rattle.htmd_html5.specs.Documents.{html5_document}
 use Rattle.htmd_cli.specs.Settings.{Settings}
-use Rattle.htmd_cli.specs.Conversion.{config_of, IsMarkdownBy, IsReadable, reads_any}
+use Rattle.htmd_cli.specs.Conversion.{config_of, IsMarkdownBy, IsReadable}
 use Rattle.htmd_cli.specs.Fields.{read_field}
 use Rattle.htmd_cli.specs.Rows.{IsConverted}
 use Rattle.htmd_tree_laws.specs.Letters.{letters, said}
@@ -51,7 +51,7 @@ abbrev pub LettersOfInput : Type 0
 LettersOfInput =
     (options : Options) (settings : Settings) (input s : List ℕ) → is_markdown_alone options ≡ true
     → options.link_style ≡ Inlined → config_of settings ≡ built_in options
-    → IsReadable (reads_any settings) input
+    → IsReadable settings input
     → IsMarkdownBy settings (text_by settings input) s → SaysEveryLetterBy options settings input s
 
 -- The same holds for the page of each row, in what its field says.

@@ -9,7 +9,7 @@ use Rattle.htmd_walk.specs.BuiltIn.{built_in}
 use Rattle.htmd.specs.Conversions.{IsTreeOf, IsMarkdownOf, IsMarkdownOfPage, IsHtml5Markdown}
 use Rattle.htmd_html5.specs.Documents.{html5_document}
 use Rattle.htmd_cli.specs.Settings.{Settings}
-use Rattle.htmd_cli.specs.Conversion.{config_of, IsMarkdownBy, IsReadable, reads_any}
+use Rattle.htmd_cli.specs.Conversion.{config_of, IsMarkdownBy, IsReadable}
 use Rattle.htmd_cli.specs.Fields.{read_field}
 use Rattle.htmd_cli.specs.Rows.{IsConverted}
 use Rattle.htmd_tree_laws.specs.Shown.{IsPart, shown, visible, tables_fit}
@@ -56,7 +56,7 @@ LosesNothingBy options settings input s =
 abbrev pub ShownInInput : Type 0
 ShownInInput =
     (options : Options) (settings : Settings) (input s : List ℕ) → is_markdown_alone options ≡ true
-    → config_of settings ≡ built_in options → IsReadable (reads_any settings) input
+    → config_of settings ≡ built_in options → IsReadable settings input
     → IsMarkdownBy settings (text_by settings input) s
     → LosesNothingBy options settings input s
 

@@ -9,6 +9,7 @@ mod doubles;
 mod ends;
 mod errors;
 mod explanations;
+mod indexes;
 mod options;
 mod runs;
 mod statuses;

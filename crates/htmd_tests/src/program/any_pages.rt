@@ -29,6 +29,42 @@ fn reads_each_encoding(rt: HostRuntime) -> Result<(), Fail> {
     Ok(())
 }
 
+// What a page says of its encoding, and what the option says, which counts first but for a mark. An encoding that isn't
+// supported is named.
+#[test]
+fn finds_the_encoding(rt: HostRuntime) -> Result<(), Fail> {
+    let gbk =
+        "htmd: the page says gbk, which is not supported: convert it to UTF-8 first, or give --encoding\n";
+    let rows: [(&[&str], &[u8], (u8, &str, &str)); 6] = [
+        (
+            &["--html5"],
+            b"<meta charset=koi8-r><p>\xC1",
+            (0, "\u{430}\n", ""),
+        ),
+        (&["--html5"], b"<meta charset=gbk><p>\xC1", (1, "", gbk)),
+        (
+            &["--html5", "--encoding=latin2"],
+            b"<meta charset=gbk><p>\xB1",
+            (0, "\u{105}\n", ""),
+        ),
+        (
+            &["--encoding= KOI8-R", "--html5"],
+            b"<p>\xD0\xB0",
+            (0, "\u{43F}\u{255F}\n", ""),
+        ),
+        (
+            &["--html5", "--encoding=koi8-r"],
+            b"\xEF\xBB\xBF<p>\xD0\xB0",
+            (0, "\u{430}\n", ""),
+        ),
+        (&["--encoding=koi8-r"], b"<p>a</p>", (0, "a\n", "")),
+    ];
+    for (options, page, wanted) in rows {
+        expect_called(rt.alloc(), options, page, wanted)?;
+    }
+    Ok(())
+}
+
 // Without the option, and for a text, only UTF-8 is read.
 #[test]
 fn reads_utf8_alone_otherwise(rt: HostRuntime) -> Result<(), Fail> {
@@ -41,14 +77,16 @@ fn reads_utf8_alone_otherwise(rt: HostRuntime) -> Result<(), Fail> {
     Ok(())
 }
 
-// No row is refused, and each is read in its own encoding.
+// Each row is read in its own encoding, and none is refused but for that.
 #[test]
 fn answers_rows(rt: HostRuntime) -> Result<(), Fail> {
-    let rows =
-        b"1\t<p>a<p>b\n2\t<p><div>\n\\N\n4\t\\377\\376\\x61\\0\n5\t\xE9\n6\t<b>c\\n<i>d\\0\n";
-    let wanted = "1\ta\\n\\nb\n2\t\n\\N\n4\ta\n5\t\u{E9}\n6\t**c *d***\n";
+    let rows = b"1\t<p>a<p>b\n2\t<p><div>\n\\N\n4\t\\377\\376\\x61\\0\n5\t\xE9\n6\t<b>c\\n<i>d\\0\n\
+          7\t<meta charset=big5>\xE9\n";
+    let wanted = "1\ta\\n\\nb\n2\t\n\\N\n4\ta\n5\t\u{E9}\n6\t**c *d***\n7\t\\N\n";
+    let big5 =
+        "htmd: row 7: the page says big5, which is not supported: convert it to UTF-8 first, or give --encoding\n";
     for options in [["--html5", "--rows"], ["--rows", "--html5"]] {
-        expect_called(rt.alloc(), options.as_slice(), rows, (0, wanted, ""))?;
+        expect_called(rt.alloc(), options.as_slice(), rows, (0, wanted, big5))?;
     }
     Ok(())
 }

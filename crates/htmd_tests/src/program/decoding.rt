@@ -1,57 +1,23 @@
-//! Bytes when nothing says how they are encoded, by the Encoding Standard. `checks/refused_memory`, a part of the gate,
-//! refuses each request of the first two tests in turn, which then end out of memory, and all requests of the third,
-//! which passes.
-use htmd_cli::decoded;
+//! The text of pages in each encoding, by the Encoding Standard and the HTML Standard. `checks/refused_memory`, a part
+//! of the gate, refuses each request of the first two tests in turn, which then end out of memory, and all requests of
+//! the third, which passes.
+use super::indexes::INDEXES;
+use htmd_cli::{DecodeError, encoding_named, page_text};
 use htmd_expected::{expect_text, expect_that};
 use std::borrow::CowStr;
 use std::test::Fail;
 
-// The standard's index of windows-1252, from 80 to 9F.
-const INDEX: &[(u8, &str)] = &[
-    (0x80, "\u{20AC}"),
-    (0x81, "\u{81}"),
-    (0x82, "\u{201A}"),
-    (0x83, "\u{192}"),
-    (0x84, "\u{201E}"),
-    (0x85, "\u{2026}"),
-    (0x86, "\u{2020}"),
-    (0x87, "\u{2021}"),
-    (0x88, "\u{2C6}"),
-    (0x89, "\u{2030}"),
-    (0x8A, "\u{160}"),
-    (0x8B, "\u{2039}"),
-    (0x8C, "\u{152}"),
-    (0x8D, "\u{8D}"),
-    (0x8E, "\u{17D}"),
-    (0x8F, "\u{8F}"),
-    (0x90, "\u{90}"),
-    (0x91, "\u{2018}"),
-    (0x92, "\u{2019}"),
-    (0x93, "\u{201C}"),
-    (0x94, "\u{201D}"),
-    (0x95, "\u{2022}"),
-    (0x96, "\u{2013}"),
-    (0x97, "\u{2014}"),
-    (0x98, "\u{2DC}"),
-    (0x99, "\u{2122}"),
-    (0x9A, "\u{161}"),
-    (0x9B, "\u{203A}"),
-    (0x9C, "\u{153}"),
-    (0x9D, "\u{9D}"),
-    (0x9E, "\u{17E}"),
-    (0x9F, "\u{178}"),
-];
-
 #[test]
 fn reads_windows_1252(rt: HostRuntime) -> Result<(), Fail> {
-    let text = decoded(rt.alloc(), b"caf\xE9 \x80\xFF")?;
+    let text = page_text(rt.alloc(), None, b"caf\xE9 \x80\xFF")?;
     expect_text("text", text.as_str(), "caf\u{E9} \u{20AC}\u{FF}")
 }
 
 #[test]
 fn reads_utf16(rt: HostRuntime) -> Result<(), Fail> {
-    let text = decoded(
+    let text = page_text(
         rt.alloc(),
+        None,
         b"\xFE\xFF\x20\xAC\x20\xAC\x20\xAC\xD8\x3D\xDE\x00",
     )?;
     expect_text("text", text.as_str(), "\u{20AC}\u{20AC}\u{20AC}\u{1F600}")
@@ -60,7 +26,7 @@ fn reads_utf16(rt: HostRuntime) -> Result<(), Fail> {
 #[test]
 fn borrows_utf8(rt: HostRuntime) -> Result<(), Fail> {
     for bytes in [b"".as_slice(), b"a\0\x7F", b"\xC3\xA9", b"\xEF\xBB\xBFa"] {
-        let CowStr::Borrowed(text) = decoded(rt.alloc(), bytes)? else {
+        let CowStr::Borrowed(text) = page_text(rt.alloc(), None, bytes)? else {
             return Err(Fail::from("the text is copied"));
         };
         expect_that(text, text.as_bytes() == bytes)?;
@@ -68,16 +34,24 @@ fn borrows_utf8(rt: HostRuntime) -> Result<(), Fail> {
     Ok(())
 }
 
+// The bytes 80 to FF in each encoding.
 #[test]
-fn knows_the_index(rt: HostRuntime) -> Result<(), Fail> {
-    for &(byte, text) in INDEX {
-        expect_text(text, decoded(rt.alloc(), &[byte])?.as_str(), text)?;
+fn knows_each_index(rt: HostRuntime) -> Result<(), Fail> {
+    let mut bytes = Vec::new(rt.alloc());
+    for byte in 0x80..=0xFF {
+        bytes.push(byte)?;
+    }
+    for &(label, characters) in INDEXES {
+        let encoding = encoding_named(label.as_bytes());
+        expect_that(label, encoding.is_some())?;
+        let text = page_text(rt.alloc(), encoding, bytes.as_slice())?;
+        expect_text(label, text.as_str(), characters)?;
     }
     Ok(())
 }
 
 // Pairs in both orders, surrogates without partners, an odd byte, and such a byte after a surrogate, which are one
-// error. Only the first mark is left out.
+// error. Only the first mark is left out. After the mark of UTF-8, what isn't UTF-8 is U+FFFD, part by part.
 #[test]
 fn reads_units(rt: HostRuntime) -> Result<(), Fail> {
     const ROWS: &[(&[u8], &str)] = &[
@@ -96,10 +70,102 @@ fn reads_units(rt: HostRuntime) -> Result<(), Fail> {
         (b"\xFE\xFF\xD8\x00a", "\u{FFFD}"),
         (b"\xFE\xFF\xFE\xFF\0a", "\u{FEFF}a"),
         (b"\xFE", "\u{FE}"),
-        (b"\xEF\xBB\xBF\xFF", "\u{EF}\u{BB}\u{BF}\u{FF}"),
+        (b"\xEF\xBB\xBF\xFF", "\u{FEFF}\u{FFFD}"),
+        (
+            b"\xEF\xBB\xBFa\xE2\x82b\xF0\x9F\x98\xC0\xAF",
+            "\u{FEFF}a\u{FFFD}b\u{FFFD}\u{FFFD}\u{FFFD}",
+        ),
     ];
     for &(bytes, text) in ROWS {
-        expect_text(text, decoded(rt.alloc(), bytes)?.as_str(), text)?;
+        expect_text(text, page_text(rt.alloc(), None, bytes)?.as_str(), text)?;
+    }
+    Ok(())
+}
+
+// What a page says of itself counts, if its bytes aren't UTF-8: here the last byte is C1.
+#[test]
+fn searches_pages(rt: HostRuntime) -> Result<(), Fail> {
+    const ROWS: &[(&[u8], &str)] = &[
+        (b"<meta charset=koi8-r>\xC1", "\u{430}"),
+        (b"<META\n/Charset = ' KOI8-R\n'>\xC1", "\u{430}"),
+        (
+            b"<!doctype html><html lang='>'><meta name=x charset=koi8-r charset=latin1>\xC1",
+            "\u{430}",
+        ),
+        (
+            b"<meta http-equiv=Content-Type content=\"text/html; charset=koi8-r\">\xC1",
+            "\u{430}",
+        ),
+        (
+            b"<meta content='charset charset = koi8-r;x' http-equiv=content-type>\xC1",
+            "\u{430}",
+        ),
+        (b"<meta content='text/html; charset=koi8-r'>\xC1", "\u{C1}"),
+        (
+            b"<meta charset=x content='charset=koi8-r' http-equiv=content-type>\xC1",
+            "\u{C1}",
+        ),
+        (b"<meta charset=x><meta charset=koi8-r>\xC1", "\u{430}"),
+        (
+            b"<!--<meta charset=latin1>--><meta charset=koi8-r>\xC1",
+            "\u{430}",
+        ),
+        (b"<!--><meta charset=koi8-r>\xC1", "\u{430}"),
+        (b"<!-- <meta charset=koi8-r>\xC1", "\u{C1}"),
+        (
+            b"</p title='<meta charset=latin1>'><?x?><meta charset=koi8-r>\xC1",
+            "\u{430}",
+        ),
+        (b"<metadata charset=koi8-r>\xC1", "\u{C1}"),
+        (b"<meta charset=koi8-r \xC1", "\u{C1}"),
+        (b"<?xml version='1.0' encoding='koi8-r'?>\xC1", "\u{430}"),
+        (
+            b"<?xml encoding='koi8-r'?><meta charset=latin2>\xC1",
+            "\u{C1}",
+        ),
+        (b"<?xml encoding=' koi8-r'?>\xC1", "\u{C1}"),
+        (b"<meta charset=utf-16>\xC1", "\u{FFFD}"),
+        (b"<meta charset=x-user-defined>\xC1", "\u{C1}"),
+    ];
+    for &(page, end) in ROWS {
+        let text = page_text(rt.alloc(), None, page)?;
+        expect_that(end, text.as_str().ends_with(end))?;
+    }
+    Ok(())
+}
+
+// Only the first 1,024 bytes are searched.
+#[test]
+fn searches_the_front(rt: HostRuntime) -> Result<(), Fail> {
+    for (before, end) in [(1003, "\u{430}"), (1004, "\u{C1}")] {
+        let mut page = Vec::new(rt.alloc());
+        for _ in 0..before {
+            page.push(b'x')?;
+        }
+        page.extend_from_slice(b"<meta charset=koi8-r>\xC1")?;
+        let text = page_text(rt.alloc(), None, page.as_slice())?;
+        expect_that(end, text.as_str().ends_with(end))?;
+    }
+    Ok(())
+}
+
+// An encoding that isn't supported, unless the bytes are UTF-8; ISO-2022-JP even then.
+#[test]
+fn names_unsupported_encodings(rt: HostRuntime) -> Result<(), Fail> {
+    const ROWS: &[(&[u8], &str)] = &[
+        (b"<meta charset=x-sjis>\xC1", "shift_jis"),
+        (b"<meta charset=gb2312>\xC1", "gbk"),
+        (b"<meta charset=hz-gb-2312>\xC1", "replacement"),
+        (b"<meta charset=iso-2022-jp>", "iso-2022-jp"),
+        (b"<meta charset=x-sjis>", ""),
+    ];
+    for &(page, name) in ROWS {
+        let found = match page_text(rt.alloc(), None, page) {
+            Ok(_) => "",
+            Err(DecodeError::Unsupported(encoding)) => encoding.name(),
+            Err(DecodeError::Memory) => "memory",
+        };
+        expect_text(name, found, name)?;
     }
     Ok(())
 }

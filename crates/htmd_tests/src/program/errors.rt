@@ -1,6 +1,6 @@
 //! The texts of errors of runs, as they are displayed and for debugging.
 use htmd::{ConvertError, FaultKind};
-use htmd_cli::{Failed, Mode, RunError};
+use htmd_cli::{DecodeError, Failed, Mode, RunError, UnsupportedEncoding};
 use htmd_expected::expect_text;
 use std::test::Fail;
 
@@ -15,6 +15,12 @@ fn tells_errors_of_runs(rt: HostRuntime) -> Result<(), Fail> {
         ),
         (RunError::from(ConvertError::Memory), "out of memory Memory"),
         (RunError::NotUtf8, "not UTF-8 NotUtf8"),
+        (
+            RunError::from(DecodeError::Unsupported(UnsupportedEncoding::EucKr)),
+            "the page says euc-kr, which is not supported: convert it to UTF-8 first, or give --encoding Unsupported { \
+             encoding: EucKr }",
+        ),
+        (RunError::from(DecodeError::Memory), "out of memory Memory"),
         (RunError::Memory, "out of memory Memory"),
         (RunError::Read, "read failed Read"),
         (RunError::Write, "write failed Write"),

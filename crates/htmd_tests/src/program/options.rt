@@ -25,6 +25,11 @@ fn refuses_options(rt: HostRuntime) -> Result<(), Fail> {
         "--body=1",
         "--html5=1",
         "--html",
+        "--encoding",
+        "--encoding=",
+        "--encoding=utf-7",
+        "--encoding=gbk",
+        "--encoding=replacement",
         "page.html",
         "-h",
         "--skip",
@@ -79,7 +84,7 @@ fn options_in(help: &str) -> Result<usize, Fail> {
 
 // Fails unless the help has a line for each option.
 fn expect_help(help: &str) -> Result<(), Fail> {
-    expect_number("options", options_in(help)?, 33)?;
+    expect_number("options", options_in(help)?, 34)?;
     let usage = "Usage: htmd [OPTION..] < page.html > page.md\n";
     expect_that(usage, help.starts_with(usage))?;
     for line in [

@@ -11,7 +11,8 @@ returns-in_err-markdown-clause-ends g c =
     let p = err_from_is_err_and c.from_residual.result c.from_residual.ensures.1 in
     rw (p.1, p.2) (ends_early (Unit {0}) (settings_in c.args.settings.now) g.W.Sink.contents c.args.sink.now
     c.args.sink.now c.args.input.now c.in_err-markdown.field-0.0 (λ q. said.not_utf8 (ap Err q))
-    (λ q. said.not_utf8_strict (ap Err q)) (λ place kind q. said.refused_html place kind (ap Err q))
+    (λ q. said.not_utf8_strict (ap Err q)) (λ encoding q. said.unsupported encoding (ap Err q))
+    (λ place kind q. said.refused_html place kind (ap Err q))
     (λ place kind q. said.refused_strict place kind (ap Err q)) (λ place kind q. said.refused place kind (ap Err q))
     (λ place kind q. said.utf8_refused place kind (ap Err q)) said.others.1 refl)
 

@@ -1,0 +1,10 @@
+-- The value ends where its quote stands again.
+use Rattle.htmd_grammar.proofs.TagReadingLemmas.{quote_lacks, quote_ends}
+use Rattle.htmd_encodings.proofs.attributes.quoted_value.Goals as goal
+
+pub returns-in-None : goal.returns-in-None
+returns-in-None c = quote_lacks _ _ _ _ c.split_run.ensures.rest c.in-None.ensures
+
+pub returns-in-Some : goal.returns-in-Some
+returns-in-Some c =
+    quote_ends _ _ _ _ _ _ c.split_run.ensures.run c.split_run.ensures.rest c.in-Some.ensures.0 c.in-Some.ensures.1

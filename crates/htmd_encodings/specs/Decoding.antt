@@ -1,0 +1,93 @@
+-- The text of a page's bytes: the Encoding Standard, 6.1, "decode" and "BOM sniff", and the HTML Standard, 13.2.3.2.
+use Rattle.std.specs.Prelude.{ℕ, Bool, true, false, not, ◌&&◌, ◌||◌, nat_le, ◌-◌, if◌then◌else◌, List, [], ◌∷◌, drop, take, map}
+use Rattle.std.specs.Prelude.{slice_index, encode_utf8_all, Option, Some, None}
+use Rattle.std.specs.Str.{is_utf8}
+use Rattle.std.specs.Str.Lossy.{utf8_lossy}
+use Rattle.htmd_grammar.specs.CharacterClasses.{begins_with}
+use Rattle.htmd_encodings.specs.declared.encodings.ByteOrder.TheVariants.{BigEndian, LittleEndian}
+use Rattle.htmd_encodings.specs.declared.encodings.SingleByte.TheVariants.{Windows1252}
+use Rattle.htmd_encodings.specs.declared.encodings.UnsupportedEncoding.TheVariants.{Iso2022Jp}
+use Rattle.htmd_encodings.specs.declared.encodings.Encoding.{Encoding}
+use Rattle.htmd_encodings.specs.declared.encodings.Encoding.TheVariants.{Utf8, Utf16, SingleByte}
+use Rattle.htmd_encodings.specs.declared.encodings.Named.{Named}
+use Rattle.htmd_encodings.specs.declared.encodings.Named.TheVariants.{Supported, Unsupported}
+use Rattle.htmd_encodings.specs.Indexes.{index}
+use Rattle.htmd_encodings.specs.Prescan.{prescan}
+use Rattle.htmd_encodings.specs.Utf16.{utf16_text}
+
+-- ---- the text in an encoding
+
+-- the character of a byte by an index (the Encoding Standard, 9.1, "single-byte decoder")
+abbrev pub character : List ℕ → ℕ → ℕ
+character characters b = if nat_le 0x80 b then slice_index characters (b - 0x80) else b
+
+-- the text of bytes by an index
+abbrev pub text_by : List ℕ → List ℕ → List ℕ
+text_by characters bytes = encode_utf8_all (map (character characters) bytes)
+
+-- bytes without the mark of UTF-16
+abbrev pub unmarked : List ℕ → List ℕ
+unmarked bytes =
+    if begins_with (0xFE ∷ 0xFF ∷ []) bytes || begins_with (0xFF ∷ 0xFE ∷ []) bytes then drop 2 bytes else bytes
+
+-- the text of bytes: the mark of UTF-16 is left out, that of UTF-8 stays; each longest beginning of a character that
+-- isn't UTF-8 is U+FFFD (8.1.1, "UTF-8 decoder")
+abbrev pub decoded : Encoding → List ℕ → List ℕ
+decoded Utf8 bytes = utf8_lossy bytes
+decoded (Utf16 order) bytes = utf16_text order (unmarked bytes)
+decoded (SingleByte encoding) bytes = text_by (index encoding) bytes
+
+-- ---- the encoding
+
+-- the encoding that a mark says, which stands over all
+abbrev pub marked : List ℕ → Option Encoding
+marked bytes =
+    if begins_with (0xEF ∷ 0xBB ∷ 0xBF ∷ []) bytes then Some Utf8
+    else if begins_with (0xFE ∷ 0xFF ∷ []) bytes then Some (Utf16 BigEndian)
+    else if begins_with (0xFF ∷ 0xFE ∷ []) bytes then Some (Utf16 LittleEndian)
+    else None
+
+-- what a page says is believed even if its bytes are UTF-8: bytes of UTF-16 and of ISO-2022-JP may be so by chance
+abbrev pub outweighs_utf8 : Option Named → Bool
+outweighs_utf8 (Some (Supported (Utf16 order))) = true
+outweighs_utf8 (Some (Unsupported Iso2022Jp)) = true
+outweighs_utf8 _ = false
+
+-- what a page says, or windows-1252
+abbrev pub said_or_default : Option Named → Named
+said_or_default None = Supported (SingleByte Windows1252)
+said_or_default (Some encoding) = encoding
+
+-- the encoding when nothing is given and no mark is there, by what the page says
+abbrev pub believed : Option Named → List ℕ → Named
+believed said bytes =
+    if is_utf8 bytes && not (outweighs_utf8 said) then Supported Utf8 else said_or_default said
+
+-- what a page says: the first 1,024 bytes are searched
+abbrev pub said : List ℕ → Option Named
+said bytes = prescan (take 1024 bytes)
+
+-- the encoding when nothing is given and no mark is there
+abbrev pub guessed : List ℕ → Named
+guessed bytes = believed (said bytes) bytes
+
+-- the encoding of bytes without a mark
+abbrev pub given_or_guessed : Option Encoding → List ℕ → Named
+given_or_guessed None bytes = guessed bytes
+given_or_guessed (Some given) bytes = Supported given
+
+abbrev pub marked_or_given : Option Encoding → Option Encoding → List ℕ → Named
+marked_or_given None given bytes = given_or_guessed given bytes
+marked_or_given (Some mark) given bytes = Supported mark
+
+-- the encoding of bytes: a mark decides, else what is given, else what the page says, and what its bytes can be
+abbrev pub encoding_of : Option Encoding → List ℕ → Named
+encoding_of given bytes = marked_or_given (marked bytes) given bytes
+
+abbrev pub text_in : Named → List ℕ → Option (List ℕ)
+text_in (Supported encoding) bytes = Some (decoded encoding bytes)
+text_in (Unsupported encoding) bytes = None
+
+-- the text of a page's bytes, if their encoding is supported
+abbrev pub page_text : Option Encoding → List ℕ → Option (List ℕ)
+page_text given bytes = text_in (encoding_of given bytes) bytes

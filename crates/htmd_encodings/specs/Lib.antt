@@ -1,0 +1,13 @@
+-- How the text of a page's bytes is found, in reading order: labels, the indexes of single-byte encodings, UTF-16, the
+-- label in a text, a tag's attributes, what they say, the search, the encoding and the text. The last two modules serve
+-- private functions alone.
+pub mod Labels
+pub mod Indexes
+pub mod Utf16
+pub mod ContentLabels
+pub mod Attributes
+pub mod Declarations
+pub mod Prescan
+pub mod Decoding
+pub mod Views
+pub mod PrescanViews

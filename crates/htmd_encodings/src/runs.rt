@@ -1,0 +1,114 @@
+//! How bytes begin: the longest run of one class, and characters of ASCII.
+ghost use Rattle.std.specs.Prelude.{◌≡◌, ◌≤◌, true, false, length, drop, MatchOption};
+ghost use Rattle.htmd_grammar.specs.CharacterClasses.{first_is, leading_run, behind_run};
+ghost use Rattle.htmd_grammar.specs.CharacterClasses as classes;
+ghost use Rattle.htmd_encodings.specs.Declarations as declarations;
+ghost use Rattle.htmd_encodings.specs.Views.{is_in};
+
+/// What the bytes of a run have in common.
+#[derive(Clone, Copy)]
+pub(crate) enum Class {
+    White,
+    /// White space or `/`.
+    Gap,
+    AttributeName,
+    UnquotedValue,
+    /// Of a label that ends at white space or `;`.
+    Label,
+    /// A control or a space.
+    Control,
+    /// Any but those.
+    Visible,
+    /// Any but this one.
+    Other(u8),
+}
+
+fn is_of(byte: u8, class: Class) -> bool
+    ensures { result ≡ is_in class byte }
+{
+    match class {
+        Class::White => byte.is_ascii_whitespace(),
+        Class::Gap => byte.is_ascii_whitespace() || byte == b'/',
+        Class::AttributeName => !(byte.is_ascii_whitespace() || matches!(byte, b'/' | b'=' | b'>')),
+        Class::UnquotedValue => !(byte.is_ascii_whitespace() || byte == b'>'),
+        Class::Label => !(byte.is_ascii_whitespace() || byte == b';'),
+        Class::Control => byte <= b' ',
+        Class::Visible => byte > b' ',
+        Class::Other(other) => byte != other,
+    }
+}
+
+#[tactic(auto, using(htmd_grammar::proofs::RunsLemmas::run_more, htmd_grammar::proofs::RunsLemmas::run_stops))]
+fn run_len(bytes: &[u8], class: Class) -> usize
+    ensures bound { result ≤ length bytes.now }
+    ensures value { result ≡ length (leading_run (is_in class) bytes.now) }
+{
+    for (len, byte) in bytes.iter().enumerate() {
+        if !is_of(*byte, class) {
+            return len;
+        }
+    }
+    bytes.len()
+}
+
+/// The run at the front of the bytes, and what follows it.
+pub(crate) fn split_run(bytes: &[u8], class: Class) -> (&[u8], &[u8])
+    ensures run { result.0.now ≡ leading_run (is_in class) bytes.now }
+    ensures rest { result.1.now ≡ behind_run (is_in class) bytes.now }
+{
+    bytes.split_at(run_len(bytes, class))
+}
+
+/// The bytes after this one, if they begin with it.
+pub(crate) fn strip_byte(bytes: &[u8], byte: u8) -> Option<&[u8]>
+    ensures { MatchOption result (first_is byte bytes.now ≡ false)
+        (λ rest. (first_is byte bytes.now ≡ true) × (rest.now ≡ drop 1 bytes.now)) }
+{
+    match bytes {
+        [first, after @ ..] if *first == byte => Some(after),
+        _ => None,
+    }
+}
+
+/// Whether the bytes begin with these ones.
+pub(crate) fn begins_with(bytes: &[u8], beginning: &[u8]) -> bool
+    ensures { result ≡ classes.begins_with beginning.now bytes.now }
+{
+    let mut rest = bytes;
+    for byte in beginning {
+        match rest {
+            [first, after @ ..] if *first == *byte => rest = after,
+            _ => return false,
+        }
+    }
+    true
+}
+
+/// The same in any ASCII case; the beginning is given in lower case.
+pub(crate) fn begins_in_any_case(bytes: &[u8], beginning: &[u8]) -> bool
+    ensures { result ≡ classes.begins_in_any_case beginning.now bytes.now }
+{
+    let mut rest = bytes;
+    for byte in beginning {
+        match rest {
+            [first, after @ ..] if first.to_ascii_lowercase() == *byte => rest = after,
+            _ => return false,
+        }
+    }
+    true
+}
+
+/// What follows the first such bytes, or nothing if there are none.
+pub(crate) fn after_first<'a>(bytes: &'a [u8], searched: &[u8]) -> &'a [u8]
+    ensures { result.now ≡ declarations.after_first searched.now bytes.now }
+{
+    let mut rest = bytes;
+    while let [_, after @ ..] = rest {
+        if begins_with(rest, searched) {
+            let (_, after) = rest.split_at(searched.len());
+            return after;
+        }
+        rest = after;
+    }
+    rest
+}
