@@ -10,4 +10,4 @@ returns-in_ok-markdown-in-Walk c =
     subst (λ work. HasLength work c.args.input.now (length markdown)) (sym c.in-Walk.is)
     (markdown_of_tree _ _ c.args.input.now markdown _ _ c.in_ok-converter-in-Walk.ensures.handlers
     c.in_ok-converter-in-Walk.ensures.scripting c.in_ok-tree-in-Walk.ensures.ok c.root-in-Walk.ensures.value
-    (c.as_str-in-Walk.ensures.value ∙ c.in_ok-markdown-in-Walk.ensures))
+    (c.as_str-in-Walk.ensures.value ∙ c.in_ok-markdown-in-Walk.ensures.markdown))
