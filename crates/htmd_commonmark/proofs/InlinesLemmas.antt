@@ -1,0 +1,43 @@
+-- Inlines that are written one after the other.
+use Rattle.std.proofs.Common.{◌≡◌, ℕ, ◌+◌, ◌<◌, ◌≤◌, false, List, [], ◌∷◌, length, drop, get_or}
+use Rattle.std.proofs.Common.{refl, sym, ap, ◌∙◌, arith}
+use Rattle.std.specs.Prelude.{◌||◌, nat_eq, Option}
+use Rattle.std.specs.List.{starts_with}
+use Rattle.std.proofs.lemmas.List.{drop_more}
+use Rattle.htmd_document.specs.declared.document.Inline.{Inline}
+use Rattle.htmd_document.specs.DocumentViews.{inline_of, inlines_of}
+use Rattle.htmd_commonmark.specs.declared.inline_ends.Following.{Following}
+use Rattle.htmd_commonmark.specs.declared.line.Line.{Line}
+use Rattle.htmd_commonmark.specs.InlineEnds.{follows}
+use Rattle.htmd_commonmark.specs.InlineMarkdown.{written, with_inline, holds, is_text_alone}
+use Rattle.htmd_commonmark.specs.WrittenText.{Written}
+
+-- what is left after an inline is written with it
+pub written-next : (line : Line) (w next : Written) (closing : Option ℕ) (xs : List Inline) (i : ℕ) (x : Inline)
+    (f : Following) → i < length xs → x ≡ get_or xs i x
+    → f ≡ follows line.kind closing (inlines_of (drop (i + 1) xs))
+    → next ≡ with_inline line w f (inline_of x)
+    → written line next closing (inlines_of (drop (i + 1) xs)) ≡ written line w closing (inlines_of (drop i xs))
+written-next line w next closing xs i x f within is behind wrote =
+    let rest = inlines_of (drop (i + 1) xs) in
+    let split : drop i xs ≡ get_or xs i x ∷ drop (i + 1) xs = drop_more xs i x within in
+    ap (λ v. written line v closing rest)
+    (wrote ∙ ap (λ g. with_inline line w g (inline_of x)) behind
+    ∙ ap (λ y. with_inline line w (follows line.kind closing rest) (inline_of y)) is)
+    ∙ sym (ap (λ l. written line w closing (inlines_of l)) split)
+
+-- where the signs don't begin, the rest holds them or none does
+pub holds-more : (signs s : List ℕ) (i : ℕ) → i < length s → starts_with nat_eq (drop i s) signs ≡ false
+    → holds signs (drop (i + 1) s) ≡ holds signs (drop i s)
+holds-more signs s i within none =
+    let split : drop i s ≡ get_or s i 0 ∷ drop (i + 1) s = drop_more s i 0 within in
+    let begins : starts_with nat_eq (get_or s i 0 ∷ drop (i + 1) s) signs ≡ false =
+    ap (λ l. starts_with nat_eq l signs) (sym split) ∙ none in
+    sym (ap (holds signs) split ∙ ap (λ b. b || holds signs (drop (i + 1) s)) begins)
+
+-- a text with something after it isn't alone
+pub not_alone : (address : List ℕ) (xs : List Inline) → 2 ≤ length xs
+    → false ≡ is_text_alone address (inlines_of xs)
+not_alone address [] two = absurd (omega arith)
+not_alone address (x ∷ []) two = absurd (omega arith)
+not_alone address (x ∷ y ∷ xs) two = refl

@@ -1,0 +1,44 @@
+-- The line has its prefix, and then the text.
+use Rattle.std.proofs.Common.{◌≡◌, ◌++◌, List, ℕ, length, drop, replicate, sym, ap, ◌∙◌, append_assoc, rules, string_bytes, string_len}
+use Rattle.htmd_grammar.specs.Characters.{space}
+use Rattle.htmd_commonmark.specs.Pages.{Page, wrote}
+use Rattle.htmd_commonmark.proofs.PagesLemmas.{pushed_page, text_pushed}
+use Rattle.htmd_commonmark.proofs.lines.Lines.push_in_line.Goals as goal
+
+pub returns : goal.returns
+returns c =
+    let s = c.args.text.now in
+    let inside = c.self.inside in
+    let page : Page = record {
+      out = string_bytes inside.out;
+      prefix = string_bytes inside.prefix;
+      written = inside.written;
+      gap = inside.gap;
+    } in
+    let gap = replicate inside.gap space in
+    let prefix : c.range_from.result.now ≡ drop inside.written (string_bytes inside.prefix) =
+    c.range_from.ensures.value ∙ ap (drop inside.written) c.deref.ensures in
+    let text : string_bytes c.push_str.new.self
+    ≡ string_bytes inside.out ++ (gap ++ drop inside.written (string_bytes inside.prefix)) =
+    c.in_ok-push_str.ensures.bytes ∙ ap (λ l. l ++ c.range_from.result.now) c.in_ok-push_repeated.ensures.ok
+    ∙ ap (λ l. (string_bytes inside.out ++ gap) ++ l) prefix
+    ∙ append_assoc (string_bytes inside.out) gap (drop inside.written (string_bytes inside.prefix)) in
+    let size : string_len inside.prefix ≡ length (string_bytes inside.prefix) = search rules in
+    let as_page : List ℕ → Page = λ l. record {
+      out = l;
+      prefix = string_bytes inside.prefix;
+      written = c.len-self-inside.result;
+      gap = 0;
+    } in
+    pushed_page c.push_str-2.result as_page (string_bytes c.push_str-2.new.self)
+    (string_bytes c.push_str.new.self ++ s) (string_bytes c.push_str.new.self) (wrote c.args.self.now s)
+    c.push_str-2.ensures.bytes
+    (ap (λ l. as_page (l ++ s)) text
+    ∙ ap (λ n. record {
+      out = (string_bytes inside.out ++ (gap ++ drop inside.written (string_bytes inside.prefix))) ++ s;
+      prefix = string_bytes inside.prefix;
+      written = n;
+      gap = 0;
+    }) (c.len-self-inside.ensures ∙ size)
+    ∙ text_pushed page s (sym c.is_empty.ensures ∙ c.if-is_empty.false) c.requires
+    ∙ ap (λ p. wrote p s) c.self.view_is)

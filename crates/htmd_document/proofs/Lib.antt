@@ -1,0 +1,4 @@
+-- Lemmas on documents.
+pub mod DocumentsLemmas
+pub mod MdastLemmas
+pub mod MdastPlainLemmas

@@ -1,0 +1,231 @@
+-- Lemmas on documents in the form of mdast.
+use Rattle.std.proofs.Common.{◌≡◌, ℕ, zero, suc, ◌+◌, ◌<◌, ◌&&◌, ◌==◌, Bool, true, false, List, [], ◌∷◌, ◌++◌, map, length}
+use Rattle.std.proofs.Common.{if◌then◌else◌, ◌≤◌, Option, Vec, Global, codes, take, get_or, refl, sym, ◌∙◌, ap, arith}
+use Rattle.std.proofs.lemmas.Bool.Decides.{nat_tests}
+use Rattle.std.proofs.lemmas.List.{length-map, length-take-le, take_all}
+use Rattle.serde_json.specs.Data as json
+use Rattle.serde_json.specs.Data.{Data}
+use Rattle.serde_json.specs.View.{view, items_of, items_view}
+use Rattle.serde_json.specs.declared.value.Value as declared_value
+use Rattle.htmd_grammar.specs.Characters.{space}
+use Rattle.htmd_document.specs.Mdast.{without_space}
+use Rattle.htmd_document.specs.declared.document.Inline as declared_inline
+use Rattle.htmd_document.specs.declared.document.Inline.TheVariants.{Emphasis, Strong, Deleted, Superscript, Subscript}
+use Rattle.htmd_document.specs.declared.document.Inline.TheVariants.{rolls-Emphasis, rolls-Strong, rolls-Deleted, rolls-Superscript, rolls-Subscript}
+use Rattle.htmd_document.specs.declared.document.Inline.TheFolds.{fold-roll-Inline}
+use Rattle.htmd_document.specs.declared.document.Inline.TheOpen.{Inline-F}
+use Rattle.htmd_document.specs.declared.document.Block.TheVariants.{rolls-List}
+use Rattle.htmd_document.specs.declared.document.Block.TheVariants as built_block
+use Rattle.htmd_document.specs.declared.document.Block.TheFolds.{fold-roll-Block}
+use Rattle.htmd_document.specs.declared.document.Block.TheOpen.{Block-F}
+use Rattle.htmd_document.specs.declared.document.Block as declared_block
+use Rattle.htmd_document.specs.Documents as value
+use Rattle.htmd_document.specs.Documents.{Inline, Inlines, no_inlines, inline, Block, Blocks, no_blocks, block}
+use Rattle.htmd_document.specs.DocumentViews.{inline_step, inline_of, inlines_of, block_step, block_of, blocks_of}
+use Rattle.htmd_document.specs.Mdast.{beside, one_item, with_value, between, node_data, children_data, inlines_data, block_data, within_data}
+use Rattle.htmd_document.specs.Mdast.{blocks_data, items_data, item_data, checked_data}
+use Rattle.htmd_document.proofs.DocumentsLemmas.{map-append, take-step}
+
+-- ---- values after others
+
+pub beside-none : (cs : json.Items) → beside cs json.no_items ≡ cs
+beside-none json.no_items = refl
+beside-none (json.item c cs) = ap (json.item c) (beside-none cs)
+
+pub beside-assoc : (cs ds es : json.Items) → beside (beside cs ds) es ≡ beside cs (beside ds es)
+beside-assoc json.no_items ds es = refl
+beside-assoc (json.item c cs) ds es = ap (json.item c) (beside-assoc cs ds es)
+
+items-append : (cs ds : List Data) → items_of (cs ++ ds) ≡ beside (items_of cs) (items_of ds)
+items-append [] ds = refl
+items-append (c ∷ cs) ds = ap (json.item c) (items-append cs ds)
+
+pub view-append : (vs ws : List declared_value.Value) → items_view (vs ++ ws) ≡ beside (items_view vs) (items_view ws)
+view-append vs ws = ap items_of (map-append view vs ws) ∙ items-append (map view vs) (map view ws)
+
+pub view-push : (vs : List declared_value.Value) (v : declared_value.Value)
+    → items_view (vs ++ v ∷ []) ≡ beside (items_view vs) (one_item (view v))
+view-push vs v = view-append vs (v ∷ [])
+
+pub between-pushed : (old mid mid' new children : List declared_value.Value) (v w : declared_value.Value)
+    (before after : List ℕ) → mid ≡ old ++ v ∷ [] → mid' ≡ mid ++ children → new ≡ mid' ++ w ∷ []
+    → view v ≡ with_value (codes "html") before → view w ≡ with_value (codes "html") after
+    → items_view new ≡ beside (items_view old) (between before (items_view children) after)
+between-pushed old mid mid' new children v w before after p q r e f =
+    let first : json.Items = one_item (view v) in
+    let last : json.Items = one_item (view w) in
+    let kids : json.Items = items_view children in
+    ap items_view r ∙ (view-push mid' w
+    ∙ (ap (λ cs. beside cs last) (ap items_view q ∙ view-append mid children)
+    ∙ (ap (λ cs. beside (beside cs kids) last) (ap items_view p ∙ view-push old v)
+    ∙ (beside-assoc (beside (items_view old) first) kids last
+    ∙ (beside-assoc (items_view old) first (beside kids last)
+    ∙ (ap (λ d. beside (items_view old) (json.item d (beside kids last))) e
+    ∙ ap (λ d. beside (items_view old) (json.item (with_value (codes "html") before) (beside kids (one_item d)))) f))))))
+
+map-map : {A B C : Type 0} (f : B → C) (g : A → B) (xs : List A) → map (λ x. f (g x)) xs ≡ map f (map g xs)
+map-map f g [] = refl
+map-map f g (x ∷ xs) = ap (λ ys. f (g x) ∷ ys) (map-map f g xs)
+
+get_or-same : {A : Type 0} (xs : List A) (i : ℕ) (d e : A) → i < length xs → get_or xs i d ≡ get_or xs i e
+get_or-same [] i d e h = absurd (omega arith)
+get_or-same (x ∷ xs) zero d e h = refl
+get_or-same (x ∷ xs) (suc i) d e h = get_or-same xs i d e (omega arith)
+
+-- one more of what is mapped
+pub mapped-step : {A : Type 0} (f : A → Data) (xs : List A) (i : ℕ) (x : A) (old new : List declared_value.Value)
+    (v : declared_value.Value) → i < length xs → x ≡ get_or xs i x → view v ≡ f x
+    → items_view old ≡ items_of (take i (map f xs)) → new ≡ old ++ v ∷ []
+    → items_view new ≡ items_of (take (i + 1) (map f xs))
+mapped-step f xs i x old new v h e m p q =
+    ap items_view q ∙ (view-push old v
+    ∙ (ap (λ cs. beside cs (one_item (view v))) p
+    ∙ (ap (λ d. beside (items_of (take i (map f xs))) (one_item d)) m
+    ∙ (sym (items-append (take i (map f xs)) (f x ∷ []))
+    ∙ ap items_of (sym (take-step f xs i x h e))))))
+
+pub mapped-copy : {A : Type 0} (f : A → Data) (xs : List A) (i : ℕ) (d : A) (old new : List declared_value.Value)
+    (v : declared_value.Value) → i < length xs → view v ≡ f (get_or xs i d)
+    → items_view old ≡ items_of (take i (map f xs)) → new ≡ old ++ v ∷ []
+    → items_view new ≡ items_of (take (i + 1) (map f xs))
+mapped-copy f xs i d old new v h m p q =
+    mapped-step f xs i (get_or xs i d) old new v h (get_or-same xs i d (get_or xs i d) h) m p q
+
+-- one more of what is mapped, after a first
+pub headed-step : {A : Type 0} (f : A → Data) (xs : List A) (i : ℕ) (x : A) (d : Data)
+    (old new : List declared_value.Value) (v : declared_value.Value) → i < length xs → x ≡ get_or xs i x → view v ≡ f x
+    → items_view old ≡ json.item d (items_of (take i (map f xs))) → new ≡ old ++ v ∷ []
+    → items_view new ≡ json.item d (items_of (take (i + 1) (map f xs)))
+headed-step f xs i x d old new v h e m p q =
+    ap items_view q ∙ (view-push old v
+    ∙ (ap (λ cs. beside cs (one_item (view v))) p
+    ∙ ap (json.item d) (ap (λ g. beside (items_of (take i (map f xs))) (one_item g)) m
+    ∙ (sym (items-append (take i (map f xs)) (f x ∷ []))
+    ∙ ap items_of (sym (take-step f xs i x h e))))))
+
+-- all that is mapped, by way of what the source keeps
+pub mapped-whole : {A B : Type 0} (f : B → Data) (g : A → B) (xs : List A) (i : ℕ) → length xs ≤ i
+    → items_of (take i (map (λ x. f (g x)) xs)) ≡ items_of (map f (map g xs))
+mapped-whole f g xs i h =
+    ap items_of (take_all i (map (λ x. f (g x)) xs) (simp length-map h) ∙ map-map f g xs)
+
+-- ---- one more inline
+
+inlines-more : (xs : List Inline) (x : Inline) → inlines_data (value.inlines_of (xs ++ x ∷ []))
+    ≡ beside (inlines_data (value.inlines_of xs)) (node_data x (children_data x))
+inlines-more [] x = beside-none (node_data x (children_data x))
+inlines-more (y ∷ xs) x = ap (beside (node_data y (children_data y))) (inlines-more xs x)
+    ∙ sym (beside-assoc (node_data y (children_data y)) (inlines_data (value.inlines_of xs)) (node_data x (children_data x)))
+
+pub inlines-step : (xs : List declared_inline.Inline) (i : ℕ) (x : declared_inline.Inline) (old new children : json.Items)
+    → i < length xs → x ≡ get_or xs i x → children ≡ children_data (inline_of x)
+    → old ≡ inlines_data (value.inlines_of (take i (map inline_of xs)))
+    → new ≡ beside old (node_data (inline_of x) children)
+    → new ≡ inlines_data (value.inlines_of (take (i + 1) (map inline_of xs)))
+inlines-step xs i x old new children h e c p q =
+    q ∙ (ap (λ ds. beside ds (node_data (inline_of x) children)) p
+    ∙ (ap (λ ds. beside (inlines_data (value.inlines_of (take i (map inline_of xs)))) (node_data (inline_of x) ds)) c
+    ∙ (sym (inlines-more (take i (map inline_of xs)) (inline_of x))
+    ∙ ap (λ ys. inlines_data (value.inlines_of ys)) (sym (take-step inline_of xs i x h e)))))
+
+-- ---- one more block
+
+later-blocks : (bs : List Block) (b : Block) → blocks_data false (value.blocks_of (bs ++ b ∷ []))
+    ≡ beside (blocks_data false (value.blocks_of bs)) (one_item (block_data false b (within_data b)))
+later-blocks [] b = refl
+later-blocks (c ∷ bs) b = ap (json.item (block_data false c (within_data c))) (later-blocks bs b)
+
+blocks-more : (in_item : Bool) (bs : List Block) (b : Block) → blocks_data in_item (value.blocks_of (bs ++ b ∷ []))
+    ≡ beside (blocks_data in_item (value.blocks_of bs))
+    (one_item (block_data (in_item && (length bs == 0)) b (within_data b)))
+blocks-more true [] b = refl
+blocks-more false [] b = refl
+blocks-more true (c ∷ bs) b =
+    let none : (length (c ∷ bs) == 0) ≡ false = grind (arith, nat_tests) in
+    ap (json.item (block_data true c (within_data c))) (later-blocks bs b)
+    ∙ ap (λ r. beside (blocks_data true (value.blocks_of (c ∷ bs))) (one_item (block_data r b (within_data b)))) (sym none)
+blocks-more false (c ∷ bs) b = ap (json.item (block_data false c (within_data c))) (later-blocks bs b)
+
+pub blocks-step : (in_item is_first : Bool) (bs : List declared_block.Block) (i : ℕ) (b : declared_block.Block)
+    (old new children : json.Items) (made : Data)
+    → i < length bs → b ≡ get_or bs i b → children ≡ within_data (block_of b) → is_first ≡ (in_item && (i == 0))
+    → made ≡ block_data is_first (block_of b) children
+    → old ≡ blocks_data in_item (value.blocks_of (take i (map block_of bs)))
+    → new ≡ beside old (one_item made)
+    → new ≡ blocks_data in_item (value.blocks_of (take (i + 1) (map block_of bs)))
+blocks-step in_item is_first bs i b old new children made h e c f m p q =
+    let front : List Block = take i (map block_of bs) in
+    let size : length front ≡ i = length-take-le i (map block_of bs) (rw (length-map bs block_of) (omega arith)) in
+    let first : is_first ≡ (in_item && (length front == 0)) = f ∙ ap (λ n. in_item && (n == 0)) (sym size) in
+    let whole : made ≡ block_data (in_item && (length front == 0)) (block_of b) (within_data (block_of b)) =
+    m ∙ (ap (λ r. block_data r (block_of b) children) first
+    ∙ ap (block_data (in_item && (length front == 0)) (block_of b)) c) in
+    q ∙ (ap (λ ds. beside ds (one_item made)) p
+    ∙ (ap (λ d. beside (blocks_data in_item (value.blocks_of front)) (one_item d)) whole
+    ∙ (sym (blocks-more in_item front (block_of b))
+    ∙ ap (λ cs. blocks_data in_item (value.blocks_of cs)) (sym (take-step block_of bs i b h e)))))
+
+-- ---- one more item
+
+items-more : (is_tight : Bool) (items : List Blocks) (bs : Blocks) → items_data is_tight (value.items_of (items ++ bs ∷ []))
+    ≡ beside (items_data is_tight (value.items_of items))
+    (one_item (item_data is_tight (checked_data bs) (blocks_data true bs)))
+items-more is_tight [] bs = refl
+items-more is_tight (cs ∷ items) bs =
+    ap (json.item (item_data is_tight (checked_data cs) (blocks_data true cs))) (items-more is_tight items bs)
+
+pub items-step : (is_tight : Bool) (items : List (Vec declared_block.Block Global)) (i : ℕ)
+    (bs : Vec declared_block.Block Global) (old new : json.Items) (checked made : Data) (children : json.Items)
+    → i < length items → bs ≡ get_or items i bs → checked ≡ checked_data (blocks_of bs.items)
+    → children ≡ blocks_data true (blocks_of bs.items) → made ≡ item_data is_tight checked children
+    → old ≡ items_data is_tight (value.items_of (take i (map (λ b. blocks_of b.items) items)))
+    → new ≡ beside old (one_item made)
+    → new ≡ items_data is_tight (value.items_of (take (i + 1) (map (λ b. blocks_of b.items) items)))
+items-step is_tight items i bs old new checked made children h e k c m p q =
+    let front : List Blocks = take i (map (λ b. blocks_of b.items) items) in
+    let whole : made ≡ item_data is_tight (checked_data (blocks_of bs.items)) (blocks_data true (blocks_of bs.items)) =
+    m ∙ (ap (λ d. item_data is_tight d children) k ∙ ap (item_data is_tight (checked_data (blocks_of bs.items))) c) in
+    q ∙ (ap (λ ds. beside ds (one_item made)) p
+    ∙ (ap (λ d. beside (items_data is_tight (value.items_of front)) (one_item d)) whole
+    ∙ (sym (items-more is_tight front (blocks_of bs.items))
+    ∙ ap (λ cs. items_data is_tight (value.items_of cs)) (sym (take-step (λ b. blocks_of b.items) items i bs h e)))))
+
+-- ---- an inline by its variant
+
+pub inline-emphasis : (xs : Vec declared_inline.Inline Global)
+    → inline_of (Emphasis xs) ≡ value.formatted value.emphasis (inlines_of xs.items)
+inline-emphasis xs = ap inline_of (sym (rolls-Emphasis xs)) ∙ fold-roll-Inline Inline inline_step (Inline-F.Emphasis xs)
+
+pub inline-strong : (xs : Vec declared_inline.Inline Global)
+    → inline_of (Strong xs) ≡ value.formatted value.strong (inlines_of xs.items)
+inline-strong xs = ap inline_of (sym (rolls-Strong xs)) ∙ fold-roll-Inline Inline inline_step (Inline-F.Strong xs)
+
+pub inline-deleted : (xs : Vec declared_inline.Inline Global)
+    → inline_of (Deleted xs) ≡ value.formatted value.deleted (inlines_of xs.items)
+inline-deleted xs = ap inline_of (sym (rolls-Deleted xs)) ∙ fold-roll-Inline Inline inline_step (Inline-F.Deleted xs)
+
+pub inline-superscript : (xs : Vec declared_inline.Inline Global)
+    → inline_of (Superscript xs) ≡ value.formatted value.superscript (inlines_of xs.items)
+inline-superscript xs = ap inline_of (sym (rolls-Superscript xs)) ∙ fold-roll-Inline Inline inline_step (Inline-F.Superscript xs)
+
+pub inline-subscript : (xs : Vec declared_inline.Inline Global)
+    → inline_of (Subscript xs) ≡ value.formatted value.subscript (inlines_of xs.items)
+inline-subscript xs = ap inline_of (sym (rolls-Subscript xs)) ∙ fold-roll-Inline Inline inline_step (Inline-F.Subscript xs)
+
+pub block-list : (start : Option ℕ) (tight : Bool) (items : Vec (Vec declared_block.Block Global) Global)
+    → block_of (built_block.List start tight items)
+    ≡ value.list start tight (value.items_of (map (λ bs. blocks_of bs.items) items.items))
+block-list start tight items = ap block_of (sym (rolls-List start tight items))
+    ∙ (fold-roll-Block Block block_step (Block-F.List start tight items)
+    ∙ ap (λ xs. value.list start tight (value.items_of xs)) (sym (map-map (λ bs. value.blocks_of bs.items) _ items.items)))
+
+-- ---- a text that no space begins
+
+no-space-at : (b : ℕ) (s : List ℕ) (is_space : Bool) → (b == space) ≡ is_space
+    → ((rest : List ℕ) → (b ∷ s) ≡ space ∷ rest → ⊥) → (b ∷ s) ≡ (if is_space then s else b ∷ s)
+no-space-at b s true e h = absurd (h s (ap (λ c. c ∷ s) (grind (arith, nat_tests, e))))
+no-space-at b s false e h = refl
+
+pub no-space : (s : List ℕ) → ((rest : List ℕ) → s ≡ space ∷ rest → ⊥) → s ≡ without_space s
+no-space [] h = refl
+no-space (b ∷ s) h = no-space-at b s (b == space) refl h

@@ -1,0 +1,76 @@
+//! Documents, their blocks and their inlines.
+
+/// What a reader sees of a page, from top to bottom.
+#[derive(Drop)]
+pub struct Document {
+    pub blocks: Vec<Block>,
+}
+
+/// A block of a document.
+#[derive(Drop)]
+pub enum Block {
+    /// Text that flows.
+    Paragraph(Vec<Inline>),
+    /// A heading of level 1 to 6, in one line.
+    Heading {
+        level: u8,
+        content: Vec<Inline>,
+    },
+    /// A text that keeps its lines, without a last line end, and the language that it is in.
+    CodeBlock {
+        language: Option<String>,
+        text: String,
+    },
+    /// A block quote.
+    Quote(Vec<Block>),
+    /// A thematic break.
+    ThematicBreak,
+    /// Items, each of blocks. A list with a start is numbered from it, and one without has bullets. The items of a tight
+    /// list stand close together.
+    List {
+        start: Option<u32>,
+        tight: bool,
+        items: Vec<Vec<Block>>,
+    },
+    /// A header and rows of cells, each with one cell for each column, and how the columns are aligned.
+    Table {
+        alignments: Vec<Alignment>,
+        header: Vec<Vec<Inline>>,
+        rows: Vec<Vec<Vec<Inline>>>,
+    },
+}
+
+/// A part of a line of text.
+#[derive(Drop)]
+pub enum Inline {
+    Text(String),
+    Code(String),
+    Emphasis(Vec<Inline>),
+    Strong(Vec<Inline>),
+    Deleted(Vec<Inline>),
+    Superscript(Vec<Inline>),
+    Subscript(Vec<Inline>),
+    Link {
+        address: String,
+        title: Option<String>,
+        content: Vec<Inline>,
+    },
+    /// An image; the description stands in its place where it isn't shown.
+    Image {
+        address: String,
+        title: Option<String>,
+        description: String,
+    },
+    LineBreak,
+    /// The box at the beginning of a task, and whether it is checked.
+    Task(bool),
+}
+
+/// How the cells of a column are aligned.
+#[derive(Debug, Clone, Copy, PartialEq, Eq)]
+pub enum Alignment {
+    None,
+    Left,
+    Center,
+    Right,
+}
