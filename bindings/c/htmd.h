@@ -29,7 +29,7 @@ extern "C" {
 #define HTMD_OPTIONS_VERSION 1
 
 /* The bytes of stack that a call needs at most. That is measured, and not proved: a tree has at most 1,024 levels, and
- * texts with all of them took up to 3.1 megabytes in Pure and Guarded, and 2.7 in Faithful. */
+ * texts with all of them took up to 3.1 megabytes in Pure, and 2.7 in Faithful. */
 #define HTMD_STACK (4 * 1024 * 1024)
 
 /* Further readers and values may come with numbers that are bad options today; no number changes what it says. */
@@ -41,11 +41,17 @@ enum {
     HTMD_HTML5 = 2   /* any page, as browsers read it; none is refused */
 };
 
-/* mode: what becomes of what Markdown has no form for, and how much of a text is escaped */
+/* mode: what is written of a page */
 enum {
-    HTMD_PURE = 0,     /* its content */
-    HTMD_FAITHFUL = 1, /* that stays HTML */
-    HTMD_GUARDED = 2   /* its content, and texts are escaped so that a reader shows them as texts */
+    HTMD_PURE = 0,     /* the Markdown of the Rust crate htmd */
+    HTMD_FAITHFUL = 1, /* the same, but what Markdown has no form for stays HTML */
+    HTMD_GUARDED = 2   /* what a reader sees, so that its Markdown is read back as the same */
+};
+
+/* output: the form in which it is written */
+enum {
+    HTMD_MARKDOWN = 0, /* Markdown */
+    HTMD_MDAST = 1     /* what a reader sees, in JSON as mdast has it; the mode and the styles don't count then */
 };
 
 enum { HTMD_HEADING_ATX = 0, HTMD_HEADING_SETEXT = 1 };
@@ -71,10 +77,11 @@ typedef struct htmd_options {
     uint8_t code_block_style;
     uint8_t code_block_fence;
     uint8_t bullet_list_marker;
-    uint8_t ul_bullet_spacing; /* any number; the spaces after the marker of an item of a bullet list */
-    uint8_t ol_number_spacing; /* any number; the spaces after the longest number of an ordered list */
+    uint8_t ul_bullet_spacing; /* any number; the spaces after the marker of an item of a bullet list; Guarded 1 to 4 */
+    uint8_t ol_number_spacing; /* any number; the spaces after the longest number of an ordered list; Guarded 1 to 4 */
     uint8_t preformatted_code; /* 1: the white space of a code span is kept; 0: it is not */
-    uint8_t reserved[17];      /* 0 */
+    uint8_t output;
+    uint8_t reserved[16];      /* 0 */
 } htmd_options;
 
 /* What a call answers. */
@@ -106,14 +113,14 @@ enum {
     HTMD_TOO_DEEP = 15
 };
 
-/* Writes the default options: strict, Pure, scripting on, spacings of 3 and 2, and 0 in all else. */
+/* Writes the default options: strict, Pure, scripting on, spacings of 3 and 2, and 0 in all else, so Markdown. */
 void htmd_default_options(htmd_options *options);
 
 /*
- * Writes the Markdown of a text to the front of out, and answers what was done. The options are looked at first, then
- * whether the bytes are UTF-8.
+ * Writes the Markdown of a text, or its JSON, to the front of out, and answers what was done. The options are looked at
+ * first, then whether the bytes are UTF-8.
  *
- * needed: of HTMD_DONE and HTMD_TOO_SMALL the length of the Markdown, else 0.
+ * needed: of HTMD_DONE and HTMD_TOO_SMALL the length of what is to be written, else 0.
  * place: of HTMD_REFUSED where the text is wrong first, of HTMD_NOT_UTF8 the first bad byte, else 0.
  * kind: of HTMD_REFUSED the kind, else 0.
  *

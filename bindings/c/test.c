@@ -78,7 +78,8 @@ static void test_struct(void) {
     CHECK(memcmp(&options, wanted, sizeof wanted) == 0);
     CHECK(offsetof(htmd_options, version) == 0);
     CHECK(offsetof(htmd_options, ul_bullet_spacing) == 12);
-    CHECK(offsetof(htmd_options, reserved) == 15);
+    CHECK(offsetof(htmd_options, output) == 15);
+    CHECK(offsetof(htmd_options, reserved) == 16);
 }
 
 static void test_sizes(void) {
@@ -155,15 +156,19 @@ static void test_modes(void) {
     CHECK(says(&pure, "103 &copy;"));
     options.mode = HTMD_GUARDED;
     struct answer guarded = call(html, strlen(html), &options, ROOM);
-    CHECK(says(&guarded, "103 \\&copy;"));
+    CHECK(says(&guarded, "10<sup>3</sup> \\&copy;"));
     options.mode = HTMD_FAITHFUL;
     struct answer faithful = call(html, strlen(html), &options, ROOM);
     CHECK(says(&faithful, "10<sup>3</sup> &copy;"));
+    options.output = HTMD_MDAST;
+    struct answer mdast = call("<p>a<br>b</p>", 13, &options, ROOM);
+    CHECK(says(&mdast, "{\"children\":[{\"children\":[{\"type\":\"text\",\"value\":\"a\"},{\"type\":\"break\"},"
+                       "{\"type\":\"text\",\"value\":\"b\"}],\"type\":\"paragraph\"}],\"type\":\"root\"}"));
 }
 
 /* Each number of each byte of the struct: all but the good ones answer the status for them, and write nothing. */
 static void test_numbers(void) {
-    const int counts[32] = {0, 3, 3, 2, 2, 3, 2, 3, 3, 2, 2, 2, 256, 256, 2};
+    const int counts[32] = {0, 3, 3, 2, 2, 3, 2, 3, 3, 2, 2, 2, 256, 256, 2, 2};
     for (int at = 0; at < 32; at++) {
         for (int number = 0; number < 256; number++) {
             htmd_options options = defaults();

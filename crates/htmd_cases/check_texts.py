@@ -6,7 +6,7 @@
 Each rule below is written from the sentence that its comment quotes, and not from the code or the definitions. The rows
 are those of the stored run and of the families in `data` that ask for the Markdown of one text (the setting `text`, or
 `program` with the option `--text`), or of HTML that is paragraphs and texts between them and nothing else, with any
-settings but Guarded and skipped tags. A row of one text with a setting that isn't known here counts as failed.
+settings but skipped tags. A row of one text with a setting that isn't known here counts as failed.
 
 With `--others` it checks nothing, and names each row that it doesn't know the answer to: a person has to judge these.
 
@@ -146,11 +146,13 @@ def rows():
 def answer_by_rules(settings, text):
     """What the rules answer to a case; `...` if it asks for something else, nothing if its settings aren't known."""
     words = settings.split(" ")
+    if {"--guarded", "--web", "--mdast"}.intersection(words):
+        return ...
     if "text" in words or "--text" in words:
         end = question(settings)
         return None if end is None else markdown(text) + end
     asks_for_more = (
-        words[0] in ("read", "tree", "program", "html5", "nodes") or "Guarded" in settings or "skip_tags" in settings
+        words[0] in ("read", "tree", "seen-tree", "program", "html5", "document", "nodes") or "skip_tags" in settings
     )
     texts = None if asks_for_more else paragraphs(text)
     return ... if texts is None else markdown_of_paragraphs(texts)

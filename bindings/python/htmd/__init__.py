@@ -3,8 +3,10 @@
 >>> import htmd
 >>> htmd.convert("<h1>Tea</h1><p>Use <b>fresh</b> water.</p>")
 '# Tea\\n\\nUse **fresh** water.'
+>>> [node["type"] for node in htmd.document("<h1>Tea</h1><p>Use <b>fresh</b> water.</p>")["children"]]
+['heading', 'paragraph']
 """
 
-from htmd._convert import Refused, convert
+from htmd._convert import Refused, convert, document
 
-__all__ = ["Refused", "convert"]
+__all__ = ["Refused", "convert", "document"]

@@ -2,7 +2,8 @@
 
 import ctypes
 import functools
-from typing import Literal, Mapping, Tuple, Union
+import json
+from typing import Any, Dict, Literal, Mapping, Tuple, Union
 
 from htmd import _library
 
@@ -29,9 +30,10 @@ VALUES: Mapping[str, Mapping[str, int]] = {
     "code_block_style": {"fenced": 0, "indented": 1},
     "code_block_fence": {"backticks": 0, "tildes": 1},
     "bullet_list_marker": {"asterisk": 0, "dash": 1},
+    "output": {"markdown": 0, "mdast": 1},
 }
 
-# The bytes of the buffer beyond those of the page. Markdown that doesn't fit is made a second time.
+# The bytes of the buffer beyond those of the page. What doesn't fit is made a second time.
 _SPARE = 1024
 
 
@@ -74,11 +76,11 @@ def convert(
 ) -> str:
     """Converts a page, a text or its bytes in UTF-8, to Markdown.
 
-    mode: "guarded" for pages that someone reads; "faithful" keeps HTML where Markdown has no form; "pure" gives the
-        Markdown of the Rust crate htmd
+    mode: "guarded" writes what a reader sees of the page, so that its Markdown is read back as the same; "pure" gives
+        the Markdown of the Rust crate htmd; "faithful" is as "pure", but keeps HTML where Markdown has no form
     reader: "html5" reads any page as browsers do and refuses none; "page" reads what stands between the tags of the
         body by a strict grammar, and "strict" the whole text
-    scripting: whether the content of `noscript` is one text, as in a browser that runs scripts, or elements
+    scripting: whether scripts run: then "guarded" leaves `noscript` out, and to "pure" its content is one text
     heading_style: "atx" or "setext"
     hr_style: "asterisks", "dashes" or "underscores"
     br_style: "two-spaces" or "backslash"
@@ -87,21 +89,22 @@ def convert(
     code_block_style: "fenced" or "indented"
     code_block_fence: "backticks" or "tildes"
     bullet_list_marker: "asterisk" or "dash"
-    ul_bullet_spacing, ol_number_spacing: the spaces after a bullet and after a number, 0 to 255
+    ul_bullet_spacing, ol_number_spacing: the spaces after a bullet and after a number, 0 to 255; in "guarded" 1 to 4
     preformatted_code: whether the white space of code spans is kept
+
+    "guarded" doesn't ask for link_reference_style, code_block_style and preformatted_code: references are full, code
+    blocks fenced, and the white space of code spans is squeezed.
 
     Raises `Refused` for a page outside the strict grammar (never with "html5"), `UnicodeError` for bytes that are not
     UTF-8, `ValueError` and `TypeError` for an unknown option or value, and `MemoryError`. Calls from several threads
     run side by side.
     """
-    text = html.encode("utf-8") if isinstance(html, str) else html
-    if not isinstance(text, bytes):
-        raise TypeError(f"html is of type {type(html).__name__}, and not str or bytes")
     options = _options(
         scripting,
         ul_bullet_spacing,
         ol_number_spacing,
         preformatted_code,
+        output="markdown",
         reader=reader,
         mode=mode,
         heading_style=heading_style,
@@ -113,6 +116,27 @@ def convert(
         code_block_fence=code_block_fence,
         bullet_list_marker=bullet_list_marker,
     )
+    return _written(html, options)
+
+
+def document(html: Union[str, bytes], *, reader: Reader = "html5", scripting: bool = True) -> Dict[str, Any]:
+    """What a reader sees of a page, a text or its bytes in UTF-8, as mdast 4 has it: dicts and lists.
+
+    The answer is the `root`; each node is a dict with its `type` and, as the type has them, `children`, `value` and
+    other members. `docs/DOCUMENT.md` of the repository says what becomes what. Of these values a program may take
+    headings, links or tables; `convert` writes them as Markdown. `reader` and `scripting` mean what they mean there.
+
+    Raises what `convert` raises.
+    """
+    options = _options(scripting, 3, 2, False, output="mdast", reader=reader, mode="guarded")
+    return json.loads(_written(html, options))
+
+
+def _written(html: Union[str, bytes], options: _library.Options) -> str:
+    """What a page becomes by the options."""
+    text = html.encode("utf-8") if isinstance(html, str) else html
+    if not isinstance(text, bytes):
+        raise TypeError(f"html is of type {type(html).__name__}, and not str or bytes")
     status, out, needed, place, kind = _call(text, options, len(text) + _SPARE)
     if status == _library.TOO_SMALL:
         status, out, needed, place, kind = _call(text, options, needed)

@@ -51,7 +51,8 @@ class Options(ctypes.Structure):
         ("ul_bullet_spacing", ctypes.c_uint8),
         ("ol_number_spacing", ctypes.c_uint8),
         ("preformatted_code", ctypes.c_uint8),
-        ("reserved", ctypes.c_uint8 * 17),
+        ("output", ctypes.c_uint8),
+        ("reserved", ctypes.c_uint8 * 16),
     ]
 
 

@@ -76,8 +76,8 @@ class Conversions(unittest.TestCase):
 
     def test_modes(self):
         html = "<p>10<sup>3</sup> &amp;copy;</p>"
-        self.assertEqual(htmd.convert(html), "103 \\&copy;")
-        self.assertEqual(htmd.convert(html, mode="guarded"), "103 \\&copy;")
+        self.assertEqual(htmd.convert(html), "10<sup>3</sup> \\&copy;")
+        self.assertEqual(htmd.convert(html, mode="guarded"), "10<sup>3</sup> \\&copy;")
         self.assertEqual(htmd.convert(html, mode="pure"), "103 &copy;")
         self.assertEqual(htmd.convert(html, mode="faithful"), "10<sup>3</sup> &copy;")
 
@@ -97,6 +97,32 @@ class Conversions(unittest.TestCase):
 
     def test_markdown_longer_than_its_page(self):
         self.assertEqual(htmd.convert("<p>" + "x*y*z " * 5000 + "</p>"), ("x\\*y\\*z " * 5000).strip())
+
+
+class Documents(unittest.TestCase):
+    def test_page(self):
+        text = {"type": "text", "value": "Hi"}
+        heading = {"type": "heading", "depth": 1, "children": [text]}
+        self.assertEqual(htmd.document(PAGE), {"type": "root", "children": [heading]})
+        self.assertEqual(htmd.document(PAGE.encode(), reader="page"), htmd.document(PAGE))
+        self.assertEqual(htmd.document(""), {"type": "root", "children": []})
+
+    def test_scripting(self):
+        html = "a<noscript>b</noscript>"
+        self.assertEqual(htmd.document(html)["children"][0]["children"], [{"type": "text", "value": "a"}])
+        paragraph = htmd.document(html, scripting=False)["children"][0]
+        self.assertEqual(paragraph["children"], [{"type": "text", "value": "ab"}])
+
+    def test_refusals(self):
+        with self.assertRaises(htmd.Refused) as raised:
+            htmd.document(PAGE, reader="strict")
+        self.assertEqual((raised.exception.place, raised.exception.kind), (15, "TagOutside"))
+        with self.assertRaises(UnicodeDecodeError):
+            htmd.document(b"<p>\xff</p>")
+
+    def test_longer_than_its_page(self):
+        page = "<p>a<br>b</p>" * 1000
+        self.assertEqual(len(htmd.document(page)["children"]), 1000)
 
 
 class Refusals(unittest.TestCase):
@@ -132,7 +158,7 @@ class Refusals(unittest.TestCase):
             htmd.convert("<p>\ud800</p>")
 
     def test_unknown_options(self):
-        for name in _convert.VALUES:
+        for name in _convert.VALUES.keys() - {"output"}:
             with self.subTest(name=name), self.assertRaises(ValueError):
                 htmd.convert("", **{name: "no-such"})
         for name in ("ul_bullet_spacing", "ol_number_spacing"):
@@ -193,6 +219,7 @@ class Header(unittest.TestCase):
             "code_block_style": "CODE_",
             "code_block_fence": "FENCE_",
             "bullet_list_marker": "BULLET_",
+            "output": "",
         }
         for name, values in _convert.VALUES.items():
             for value, number in values.items():

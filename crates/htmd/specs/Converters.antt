@@ -1,7 +1,8 @@
--- What a converter and a builder hold: their handlers, and whether scripting is on.
-use Rattle.std.specs.Prelude.{Bool}
+-- What a converter and a builder hold: their handlers, whether scripting is on, and the tags that are skipped.
+use Rattle.std.specs.Prelude.{ℕ, Bool, List, map, string_bytes}
 use Rattle.htmd.specs.declared.converter.HtmlToMarkdown.{HtmlToMarkdown}
 use Rattle.htmd.specs.declared.converter.HtmlToMarkdownBuilder.{HtmlToMarkdownBuilder}
+use Rattle.htmd.specs.declared.skipped_tags.SkippedTags.{SkippedTags}
 
 abbrev pub handlers_of : {R : Type 0} → HtmlToMarkdown R → R
 handlers_of converter = converter.handlers
@@ -14,3 +15,12 @@ scripting_of converter = converter.scripting
 
 abbrev pub scripting_built : {R : Type 0} → HtmlToMarkdownBuilder R → Bool
 scripting_built builder = builder.scripting
+
+abbrev pub names_in : SkippedTags → List (List ℕ)
+names_in tags = map string_bytes tags.names.items
+
+abbrev pub skipped_of : {R : Type 0} → HtmlToMarkdown R → List (List ℕ)
+skipped_of converter = names_in converter.skipped
+
+abbrev pub skipped_built : {R : Type 0} → HtmlToMarkdownBuilder R → List (List ℕ)
+skipped_built builder = names_in builder.skipped

@@ -1,5 +1,5 @@
--- What a converter holds, and what a text of HTML becomes; and all definitions of `htmd_walk`, for crates above: what
--- Markdown a tree becomes, the handlers and the options.
+-- What a converter holds, and what a text of HTML becomes; and for crates above all definitions of `htmd_walk`: what
+-- Markdown a tree becomes, the handlers and the options; and those of documents and of what is written of them.
 pub use Rattle.htmd_walk.specs.Characters
 pub use Rattle.htmd_walk.specs.Blocks
 pub use Rattle.htmd_walk.specs.ValueTrees
@@ -28,7 +28,6 @@ pub use Rattle.htmd_walk.specs.Rendering
 pub use Rattle.htmd_walk.specs.Markdown
 pub use Rattle.htmd_walk.specs.HandlerAnswers
 pub use Rattle.htmd_walk.specs.ElementPlans
-pub use Rattle.htmd_walk.specs.AllText
 pub use Rattle.htmd_walk.specs.Headings
 pub use Rattle.htmd_walk.specs.Paragraphs
 pub use Rattle.htmd_walk.specs.BlockQuotes
@@ -39,16 +38,11 @@ pub use Rattle.htmd_walk.specs.LineBreaks
 pub use Rattle.htmd_walk.specs.Emphases
 pub use Rattle.htmd_walk.specs.Spans
 pub use Rattle.htmd_walk.specs.Code
-pub use Rattle.htmd_walk.specs.OneLineElements
 pub use Rattle.htmd_walk.specs.Preformatted
 pub use Rattle.htmd_walk.specs.Lists
 pub use Rattle.htmd_walk.specs.ListItems
 pub use Rattle.htmd_walk.specs.TableLayouts
-pub use Rattle.htmd_walk.specs.TableOrder
 pub use Rattle.htmd_walk.specs.Tables
-pub use Rattle.htmd_walk.specs.GuardedTableLayouts
-pub use Rattle.htmd_walk.specs.GuardedTableTexts
-pub use Rattle.htmd_walk.specs.CaptionsAndCells
 pub use Rattle.htmd_walk.specs.TableElements
 pub use Rattle.htmd_walk.specs.TableCells
 pub use Rattle.htmd_walk.specs.TableParts
@@ -71,10 +65,15 @@ pub use Rattle.htmd_walk.specs.Staying
 pub use Rattle.htmd_walk.specs.Walking
 pub use Rattle.htmd_walk.specs.TableViews
 pub use Rattle.htmd_walk.specs.PlainTexts
-pub use Rattle.htmd_walk.specs.GuardedTableViews
 pub use Rattle.htmd_walk.specs.declared.options.Options
 pub use Rattle.htmd_markdown.specs.declared.link.LinkStyle
 pub use Rattle.htmd_walk.specs.declared.options.CodeBlockStyle
 pub use Rattle.htmd_walk.specs.declared.options.TranslationMode
+pub use Rattle.htmd_document.specs.Documents
+pub use Rattle.htmd_document.specs.DocumentViews
+pub use Rattle.htmd_document.specs.TreeDocuments
+pub use Rattle.htmd_document.specs.Mdast
+pub use Rattle.htmd_commonmark.specs.DocumentMarkdown
 pub mod Converters
 pub mod Conversions
+pub mod PageDocuments

@@ -1,16 +1,25 @@
 //! The converter and its builder.
 
-ghost use Rattle.std.specs.Prelude.{◌≡◌, ◌<◌, ℕ, true, None, Err, IfOk, IfErr, MatchResult, map, length, string_bytes};
+ghost use Rattle.std.specs.Prelude.{◌≡◌, ◌<◌, ◌++◌, [], ℕ, true, None, Err, IfOk, IfErr, MatchResult, map, length};
+ghost use Rattle.std.specs.Prelude.{string_bytes};
+ghost use Rattle.htmd_document.specs.DocumentViews.{document_of};
+ghost use Rattle.htmd_tree.specs.Bodies.{body_part};
 ghost use Rattle.htmd_grammar.specs.declared.fault.FaultKind.{FaultKind};
 ghost use Rattle.htmd_walk.specs.Handling.{of_functions};
 ghost use Rattle.htmd_walk.specs.Choice.{no_handler, with_handler, with_options};
 ghost use Rattle.htmd.specs.Conversions.{IsRefused, IsMarkdownOf, IsTreeOf, IsMarkdownOfPage};
 ghost use Rattle.htmd.specs.Conversions.{IsPageRefused, IsHtml5Markdown};
+ghost use Rattle.htmd.specs.PageDocuments as spec;
+ghost use Rattle.htmd.specs.PageDocuments.{document_of_items, html5_page_document};
 ghost use Rattle.htmd_walk.specs.Defaults.{default_options};
 ghost use Rattle.htmd_walk.specs.Markdown.{markdown};
 ghost use Rattle.htmd_walk.specs.ParagraphLaws.{ParagraphsReadBack};
 
 use crate::conversion::ConvertError;
+use crate::documents::document_options;
+use crate::skipped_tags::SkippedTags;
+use htmd_commonmark::DocumentOptions;
+use htmd_document::Document;
 use htmd_html5::parse_html5;
 use htmd_nodes::{NodeId, Tree};
 use htmd_tree::{body_of, read_html};
@@ -25,6 +34,7 @@ use std::alloc::{AllocError, Global};
 pub struct HtmlToMarkdown<R = ElementHandlers> {
     handlers: R,
     scripting: bool,
+    skipped: SkippedTags,
 }
 
 /// Makes a converter.
@@ -32,6 +42,7 @@ pub struct HtmlToMarkdown<R = ElementHandlers> {
 pub struct HtmlToMarkdownBuilder<R = ElementHandlers> {
     handlers: R,
     scripting: bool,
+    skipped: SkippedTags,
 }
 
 /// Out of memory, with the builder as it was.
@@ -56,11 +67,13 @@ pub struct AddFnRefused<R, H> {
 
 impl HtmlToMarkdown {
     ghost use Rattle.htmd.specs.Converters.{handlers_of, handlers_built, scripting_of, scripting_built};
+    ghost use Rattle.htmd.specs.Converters.{skipped_of, skipped_built};
     ghost use Rattle.htmd_walk.specs.BuiltIn.{built_in};
 
     /// A converter with the built-in handlers, the default options and scripting on. `Err` means out of memory.
     pub fn new(alloc: Global) -> Result<HtmlToMarkdown, AllocError>
         ensures scripting { IfOk result (λ converter. scripting_of converter ≡ true) }
+        ensures skipped { IfOk result (λ converter. skipped_of converter ≡ []) }
         ensures handlers { let config = ⟦<ElementHandlers as Registry>⟧.config in
             IfOk result (λ converter. config (handlers_of converter) ≡ built_in default_options) }
     {
@@ -68,12 +81,14 @@ impl HtmlToMarkdown {
         Ok(HtmlToMarkdown {
             handlers,
             scripting: true,
+            skipped: SkippedTags::new(alloc),
         })
     }
 
     /// A builder with the built-in handlers, the default options and scripting on. `Err` means out of memory.
     pub fn builder(alloc: Global) -> Result<HtmlToMarkdownBuilder, AllocError>
         ensures scripting { IfOk result (λ builder. scripting_built builder ≡ true) }
+        ensures skipped { IfOk result (λ builder. skipped_built builder ≡ []) }
         ensures handlers { let config = ⟦<ElementHandlers as Registry>⟧.config in
             IfOk result (λ builder. config (handlers_built builder) ≡ built_in default_options) }
     {
@@ -82,7 +97,7 @@ impl HtmlToMarkdown {
 }
 
 impl<R: Registry> HtmlToMarkdown<R> {
-    ghost use Rattle.htmd.specs.Converters.{handlers_of, scripting_of};
+    ghost use Rattle.htmd.specs.Converters.{handlers_of, scripting_of, skipped_of};
 
     /// The tree of a text of HTML, by the strict grammar. `Refused` for each text outside the grammar, with the byte
     /// place and the kind of its first fault; `Memory` when out of memory.
@@ -107,11 +122,27 @@ impl<R: Registry> HtmlToMarkdown<R> {
         Ok(self.tree_to_markdown(alloc, &tree, tree.root())?)
     }
 
-    /// The Markdown of a whole page: of what is between the tags of its body, as `body_of` gives it, or of the whole
-    /// text if it has no start tag of a body. `Refused` if that part is outside the grammar, with the kind of its first
+    /// The tree of a whole page: of what is between the tags of its body, as `body_of` gives it, or of the whole text
+    /// if it has no start tag of a body. `Refused` if that part is outside the grammar, with the kind of its first
     /// fault and its byte place in the page; `Memory` when out of memory. If the body is cut at a wrong tag, such as
     /// one in a comment or a script of its head, the right start tag is refused at its place, if it stands in the part
-    /// outside of comments and raw text (`body_of`). `Memory` when out of memory.
+    /// outside of comments and raw text (`body_of`).
+    pub fn page_to_tree(&self, alloc: Global, page: &str) -> Result<Tree, ConvertError>
+        ensures ok { IfOk result (λ tree. IsTreeOf (scripting_of self.now) (body_part page.now) tree) }
+        ensures refused { (place : ℕ) (kind : FaultKind) → result ≡ Err (ConvertError.Refused place kind)
+            → IsPageRefused (scripting_of self.now) page.now place kind }
+    {
+        let (body, start) = body_of(page);
+        match self.html_to_tree(alloc, body) {
+            Err(ConvertError::Refused { place, kind }) => Err(ConvertError::Refused {
+                place: start + place,
+                kind,
+            }),
+            other => other,
+        }
+    }
+
+    /// The Markdown of a whole page: of the tree that `page_to_tree` gives, and refused as there.
     pub fn convert_page(&self, alloc: Global, page: &str) -> Result<String, ConvertError>
         requires ready { R.ready (handlers_of self.now) }
         ensures ok { IfOk result (λ text. IsMarkdownOfPage (R.config (handlers_of self.now))
@@ -119,14 +150,8 @@ impl<R: Registry> HtmlToMarkdown<R> {
         ensures refused { (place : ℕ) (kind : FaultKind) → result ≡ Err (ConvertError.Refused place kind)
             → IsPageRefused (scripting_of self.now) page.now place kind }
     {
-        let (body, start) = body_of(page);
-        match self.convert(alloc, body) {
-            Err(ConvertError::Refused { place, kind }) => Err(ConvertError::Refused {
-                place: start + place,
-                kind,
-            }),
-            other => other,
-        }
+        let tree = self.page_to_tree(alloc, page)?;
+        Ok(self.tree_to_markdown(alloc, &tree, tree.root())?)
     }
 
     /// The Markdown of any page, as browsers read it: of the whole Document by the HTML Standard. No page is refused;
@@ -157,15 +182,44 @@ impl<R: Registry> HtmlToMarkdown<R> {
     {
         htmd_walk::tree_to_markdown(&self.handlers, alloc, tree, node)
     }
+
+    /// What a reader sees of any page, as browsers read it. Elements of skipped tags give nothing; handlers of your own
+    /// aren't asked. No page is refused; `Err` means out of memory.
+    pub fn document(&self, alloc: Global, html: &str) -> Result<Document, AllocError>
+        ensures ok { IfOk result (λ document. document_of document
+            ≡ html5_page_document (scripting_of self.now) (skipped_of self.now) html.now) }
+    {
+        let page = parse_html5(alloc, html, self.scripting)?;
+        self.tree_to_document(alloc, &page)
+    }
+
+    /// What a reader sees of a tree. Elements of skipped tags give nothing; handlers of your own aren't asked. `Err`
+    /// means out of memory.
+    pub fn tree_to_document(&self, alloc: Global, tree: &Tree) -> Result<Document, AllocError>
+        ensures ok { IfOk result (λ document. document_of document
+            ≡ document_of_items (scripting_of self.now) (skipped_of self.now) tree.now) }
+    {
+        let skipped = self.skipped.names(alloc)?;
+        Document::of_tree(alloc, tree, self.scripting, skipped.as_slice())
+    }
+
+    /// The options that count for a document.
+    pub fn document_options(&self) -> DocumentOptions
+        ensures { result ≡ spec.document_options (R.config (handlers_of self.now)).options }
+    {
+        document_options(self.handlers.options())
+    }
 }
 
 impl HtmlToMarkdownBuilder {
     ghost use Rattle.htmd.specs.Converters.{handlers_of, handlers_built, scripting_of, scripting_built};
+    ghost use Rattle.htmd.specs.Converters.{skipped_of, skipped_built};
     ghost use Rattle.htmd_walk.specs.BuiltIn.{built_in};
 
     /// A builder with the built-in handlers, the default options and scripting on. `Err` means out of memory.
     pub fn new(alloc: Global) -> Result<HtmlToMarkdownBuilder, AllocError>
         ensures scripting { IfOk result (λ builder. scripting_built builder ≡ true) }
+        ensures skipped { IfOk result (λ builder. skipped_built builder ≡ []) }
         ensures handlers { let config = ⟦<ElementHandlers as Registry>⟧.config in
             IfOk result (λ builder. config (handlers_built builder) ≡ built_in default_options) }
     {
@@ -173,6 +227,7 @@ impl HtmlToMarkdownBuilder {
         Ok(HtmlToMarkdownBuilder {
             handlers,
             scripting: true,
+            skipped: SkippedTags::new(alloc),
         })
     }
 
@@ -192,6 +247,8 @@ impl HtmlToMarkdownBuilder {
             IfErr result (λ refused. config (handlers_built refused.builder) ≡ config (handlers_built self)) }
         ensures scripting { MatchResult result (λ builder. scripting_built builder ≡ scripting_built self)
             (λ refused. scripting_built refused.builder ≡ scripting_built self) }
+        ensures skipped { MatchResult result (λ builder. skipped_built builder ≡ skipped_built self)
+            (λ refused. skipped_built refused.builder ≡ skipped_built self) }
         ensures handler { IfErr result (λ refused. refused.handler ≡ handler) }
     {
         match self.handlers.add_handler(tags, handler) {
@@ -205,7 +262,7 @@ impl HtmlToMarkdownBuilder {
 }
 
 impl<R: Registrar> HtmlToMarkdownBuilder<R> {
-    ghost use Rattle.htmd.specs.Converters.{handlers_of, handlers_built, scripting_built};
+    ghost use Rattle.htmd.specs.Converters.{handlers_of, handlers_built, scripting_built, skipped_built};
 
     /// The same builder with these options.
     pub fn options(mut self, options: Options) -> Self
@@ -213,6 +270,7 @@ impl<R: Registrar> HtmlToMarkdownBuilder<R> {
         ensures config { R.config (handlers_built result) ≡ with_options (R.config (handlers_built self)) options }
         ensures ready { R.ready (handlers_built result) }
         ensures scripting { scripting_built result ≡ scripting_built self }
+        ensures skipped { skipped_built result ≡ skipped_built self }
     {
         self.handlers.take_options(options);
         self
@@ -231,10 +289,20 @@ impl<R: Registrar> HtmlToMarkdownBuilder<R> {
         ensures builder_ready { IfErr result (λ refused. R.ready (handlers_built refused.builder)) }
         ensures scripting { MatchResult result (λ builder. scripting_built builder ≡ scripting_built self)
             (λ refused. scripting_built refused.builder ≡ scripting_built self) }
+        ensures skipped { MatchResult result
+            (λ builder. skipped_built builder ≡ skipped_built self ++ map (λ t. t.now) tags.now)
+            (λ refused. skipped_built refused.builder ≡ skipped_built self) }
     {
+        let count = self.skipped.len();
+        if self.skipped.add(tags).is_err() {
+            return Err(SkipRefused { builder: self });
+        }
         match self.handlers.take_skipping(tags) {
             Ok(_) => Ok(self),
-            Err(_) => Err(SkipRefused { builder: self }),
+            Err(_) => {
+                self.skipped.truncate(count);
+                Err(SkipRefused { builder: self })
+            }
         }
     }
 
@@ -260,11 +328,14 @@ impl<R: Registrar> HtmlToMarkdownBuilder<R> {
         ensures builder_ready { IfErr result (λ refused. R.ready (handlers_built refused.builder)) }
         ensures scripting { MatchResult result (λ builder. scripting_built builder ≡ scripting_built self)
             (λ refused. scripting_built refused.builder ≡ scripting_built self) }
+        ensures skipped { MatchResult result (λ builder. skipped_built builder ≡ skipped_built self)
+            (λ refused. skipped_built refused.builder ≡ skipped_built self) }
     {
         match self.handlers.take_skipping(tags) {
             Ok(index) => Ok(HtmlToMarkdownBuilder {
                 handlers: Layered::new(self.handlers, index, handler),
                 scripting: self.scripting,
+                skipped: self.skipped,
             }),
             Err(_) => Err(AddFnRefused {
                 builder: self,
@@ -276,6 +347,7 @@ impl<R: Registrar> HtmlToMarkdownBuilder<R> {
 
 impl<R: Registry> HtmlToMarkdownBuilder<R> {
     ghost use Rattle.htmd.specs.Converters.{handlers_of, handlers_built, scripting_of, scripting_built};
+    ghost use Rattle.htmd.specs.Converters.{skipped_of, skipped_built};
 
     /// The same builder with scripting on or off: if it is on, the content of `noscript` is one text, else it is nodes.
     pub fn scripting_enabled(mut self, scripting: bool) -> Self
@@ -283,6 +355,7 @@ impl<R: Registry> HtmlToMarkdownBuilder<R> {
         ensures config { R.config (handlers_built result) ≡ R.config (handlers_built self) }
         ensures ready { R.ready (handlers_built result) }
         ensures scripting { scripting_built result ≡ scripting }
+        ensures skipped { skipped_built result ≡ skipped_built self }
     {
         self.scripting = scripting;
         self
@@ -294,10 +367,12 @@ impl<R: Registry> HtmlToMarkdownBuilder<R> {
         ensures config { R.config (handlers_of result) ≡ R.config (handlers_built self) }
         ensures ready { R.ready (handlers_of result) }
         ensures scripting { scripting_of result ≡ scripting_built self }
+        ensures skipped { skipped_of result ≡ skipped_built self }
     {
         HtmlToMarkdown {
             handlers: self.handlers,
             scripting: self.scripting,
+            skipped: self.skipped,
         }
     }
 }

@@ -6,11 +6,14 @@
 //! ```
 //!
 //! answers `# Hello, *world*`. `HtmlToMarkdown` has options, skipped tags and handlers of your own, and reads any page
-//! as browsers do; its `tree_to_markdown` converts trees that are built by calls.
+//! as browsers do; its `tree_to_markdown` converts trees that are built by calls. Its `document` is what a reader sees
+//! of a page, and `to_markdown` writes that so that a reader of CommonMark reads it back.
 #![tactic(auto)]
 
 mod conversion;
 mod converter;
+mod documents;
+mod skipped_tags;
 
 /// The writers of pieces that read back: what they promise of a piece holds for what a handler writes.
 pub mod laws {
@@ -19,6 +22,9 @@ pub mod laws {
 
 pub use conversion::{ConvertError, convert};
 pub use converter::{AddFnRefused, AddRefused, HtmlToMarkdown, HtmlToMarkdownBuilder, SkipRefused};
+pub use documents::document_options;
+pub use htmd_commonmark::{DocumentOptions, to_markdown};
+pub use htmd_document::{Alignment, Block, Document, Inline};
 pub use htmd_nodes::{Attribute, NodeData, NodeId, Tree, TreeError};
 pub use htmd_tree::{FaultKind, ReadError, body_of, line_and_column};
 pub use htmd_walk::element_handler::Element;

@@ -1,12 +1,15 @@
 -- Lemmas of specs/Work.antt.
-use Rattle.std.proofs.Common.{◌≡◌, subst, refl, ℕ, Bool, List, true, length}
+use Rattle.std.proofs.Common.{◌≡◌, ◌∙◌, ap, subst, refl, ℕ, Bool, List, [], true, length}
 use Rattle.htmd_nodes.specs.Items.{Item}
 use Rattle.htmd.specs.BuiltIn.{built_in}
 use Rattle.htmd.specs.Choice.{Config}
 use Rattle.htmd.specs.Conversions.{IsTreeOf}
 use Rattle.htmd.specs.Defaults.{default_options}
+use Rattle.htmd.specs.Documents.{Blocks}
+use Rattle.htmd.specs.DocumentMarkdown.{markdown_of}
 use Rattle.htmd.specs.Markdown.{markdown}
-use Rattle.htmd_bench.specs.Work.{HasMarkdownLength}
+use Rattle.htmd.specs.PageDocuments.{document_of_items, document_options}
+use Rattle.htmd_bench.specs.Work.{HasMarkdownLength, HasDocumentLength}
 
 -- what is made of the page's tree, from the Document, by the built-in handlers is the page's Markdown
 pub markdown_of_tree : (config : Config) (scripting : Bool) (page text : List ℕ) (tree : List Item) (node : ℕ)
@@ -20,4 +23,20 @@ markdown_of_tree config scripting page text tree node built on is_tree root is_m
     subst (λ m. text ≡ markdown m tree 0) built (subst (λ n. text ≡ markdown config tree n) root is_markdown),
   ),
   refl,
+)
+
+-- what is written of the page's document, by the options of the built-in handlers, has the length of its Markdown
+pub document_of_page : (config : Config) (scripting : Bool) (skipped : List (List ℕ)) (page text : List ℕ)
+    (tree : List Item) (document : Blocks) → config ≡ built_in default_options → scripting ≡ true → skipped ≡ []
+    → IsTreeOf scripting page tree → document ≡ document_of_items scripting skipped tree
+    → text ≡ markdown_of (document_options config.options) document → HasDocumentLength page (length text)
+document_of_page config scripting skipped page text tree document built on none is_tree seen is_text = (
+  document,
+  (
+    tree,
+    subst (λ b. IsTreeOf b page tree) on is_tree,
+    subst (λ names. document ≡ document_of_items true names tree) none
+        (subst (λ b. document ≡ document_of_items b skipped tree) on seen),
+  ),
+  ap length (is_text ∙ ap (λ (c : Config). markdown_of (document_options c.options) document) built),
 )

@@ -16,13 +16,14 @@ use crate::work::{Work, answer_len, speed_of};
 use std::{env, io};
 
 /// The works, in the order in which they are told.
-const WORKS: [Work; 7] = [
+const WORKS: [Work; 8] = [
     Work::Copy,
     Work::Escape,
     Work::Squeeze,
     Work::Read,
     Work::ReadAny,
     Work::Walk,
+    Work::Document,
     Work::Convert,
 ];
 

@@ -4,7 +4,7 @@ ghost use Rattle.htmd_bench.specs.Work.{HasLength};
 
 use crate::faults::Fault;
 use crate::speed::Speed;
-use htmd::{HtmlToMarkdown, convert};
+use htmd::{HtmlToMarkdown, convert, to_markdown};
 use htmd_html5::parse_html5;
 use htmd_text::{compress_whitespace, escape_if_needed};
 use htmd_tree::read_html;
@@ -20,6 +20,7 @@ pub(crate) enum Work {
     Read,
     ReadAny,
     Walk,
+    Document,
     Convert,
 }
 
@@ -32,6 +33,7 @@ impl Work {
             Work::Read => "read_html",
             Work::ReadAny => "parse_html5",
             Work::Walk => "tree_to_markdown",
+            Work::Document => "document",
             Work::Convert => "convert",
         }
     }
@@ -59,6 +61,12 @@ pub(crate) fn answer_len(alloc: Global, work: Work, input: &str) -> Result<usize
             let markdown = converter.tree_to_markdown(alloc, &tree, tree.root())?;
             Ok(markdown.as_str().len())
         }
+        Work::Document => {
+            let converter = HtmlToMarkdown::new(alloc)?;
+            let tree = converter.html_to_tree(alloc, input)?;
+            let document = converter.tree_to_document(alloc, &tree)?;
+            Ok(to_markdown(alloc, &document, &converter.document_options())?.len())
+        }
         Work::Convert => Ok(convert(alloc, input)?.len()),
     }
 }
@@ -77,6 +85,16 @@ fn walk_time(rt: &HostRuntime, input: &str, registered: usize) -> Result<Duratio
     let tree = converter.html_to_tree(rt.alloc(), input)?;
     let start = Instant::now(rt)?;
     converter.tree_to_markdown(rt.alloc(), &tree, tree.root())?;
+    Ok(start.elapsed(rt)?)
+}
+
+/// How long it takes once to make the document of a tree and to write it.
+fn document_time(rt: &HostRuntime, input: &str) -> Result<Duration, Fault> {
+    let converter = HtmlToMarkdown::new(rt.alloc())?;
+    let tree = converter.html_to_tree(rt.alloc(), input)?;
+    let start = Instant::now(rt)?;
+    let document = converter.tree_to_document(rt.alloc(), &tree)?;
+    to_markdown(rt.alloc(), &document, &converter.document_options())?;
     Ok(start.elapsed(rt)?)
 }
 
@@ -99,6 +117,7 @@ fn time_of(
             Ok(start.elapsed(rt)?)
         }
         Work::Walk => walk_time(rt, input, registered),
+        Work::Document => document_time(rt, input),
         _ => {
             let start = Instant::now(rt)?;
             answer_len(rt.alloc(), work, input)?;

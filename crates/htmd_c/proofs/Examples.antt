@@ -1,8 +1,8 @@
 -- Worked examples of the definitions.
 use Rattle.std.proofs.Common.{◌≡◌, true, false, refl}
-use Rattle.htmd.specs.TranslationMode.TheVariants.{Guarded}
+use Rattle.htmd.specs.TranslationMode.TheVariants.{Faithful}
 use Rattle.htmd.specs.Defaults.{default_options}
-use Rattle.htmd_c.specs.Options.{default_struct, is_good, is_scripting, options_of}
+use Rattle.htmd_c.specs.Options.{default_struct, is_good, is_scripting, options_of, writes_document}
 
 -- the struct that a caller begins with stands for the defaults
 the_default_struct_is_good : is_good default_struct ≡ true
@@ -15,15 +15,31 @@ the_default_struct_has_scripting : is_scripting default_struct ≡ true
 the_default_struct_has_scripting = refl
 
 -- numbers that are good
-a_page_in_guarded : is_good (record default_struct { reader = 1; mode = 2 }) ≡ true
-a_page_in_guarded = refl
+a_page_in_faithful : is_good (record default_struct { reader = 1; mode = 1 }) ≡ true
+a_page_in_faithful = refl
+
+any_page_in_faithful : is_good (record default_struct { reader = 2; mode = 1 }) ≡ true
+any_page_in_faithful = refl
 
 any_page_in_guarded : is_good (record default_struct { reader = 2; mode = 2 }) ≡ true
 any_page_in_guarded = refl
 
-two_is_guarded : options_of (record default_struct { mode = 2 })
-    ≡ record default_options { translation_mode = Guarded }
-two_is_guarded = refl
+any_page_as_json : is_good (record default_struct { reader = 2; output = 1 }) ≡ true
+any_page_as_json = refl
+
+-- what they stand for
+the_default_struct_writes_no_document : writes_document default_struct ≡ false
+the_default_struct_writes_no_document = refl
+
+guarded_writes_a_document : writes_document (record default_struct { mode = 2 }) ≡ true
+guarded_writes_a_document = refl
+
+json_is_a_document : writes_document (record default_struct { output = 1 }) ≡ true
+json_is_a_document = refl
+
+one_is_faithful : options_of (record default_struct { mode = 1 })
+    ≡ record default_options { translation_mode = Faithful }
+one_is_faithful = refl
 
 -- and numbers that are not
 no_reader_three : is_good (record default_struct { reader = 3 }) ≡ false
@@ -34,3 +50,6 @@ no_version_two = refl
 
 no_fourth_mode : is_good (record default_struct { mode = 3 }) ≡ false
 no_fourth_mode = refl
+
+no_third_output : is_good (record default_struct { output = 2 }) ≡ false
+no_third_output = refl

@@ -1,6 +1,6 @@
 -- What the numbers of the struct of options mean. For each field 0 is the default of `convert`, except for the version,
 -- scripting, which is on by default, and the spacings.
-use Rattle.std.specs.Prelude.{ℕ, Bool, ◌&&◌, ◌==◌, nat_lt, if◌then◌else◌, replicate}
+use Rattle.std.specs.Prelude.{ℕ, Bool, ◌&&◌, ◌||◌, ◌==◌, nat_lt, if◌then◌else◌, replicate}
 use Rattle.std.specs.List.{list_all}
 use Rattle.htmd.specs.HeadingStyle.{HeadingStyle}
 use Rattle.htmd.specs.HeadingStyle.TheVariants.{Atx, Setex}
@@ -19,7 +19,7 @@ use Rattle.htmd.specs.LinkStyle.TheVariants.{Inlined, InlinedPreferAutolinks, Re
 use Rattle.htmd.specs.CodeBlockStyle.{CodeBlockStyle}
 use Rattle.htmd.specs.CodeBlockStyle.TheVariants.{Fenced, Indented}
 use Rattle.htmd.specs.TranslationMode.{TranslationMode}
-use Rattle.htmd.specs.TranslationMode.TheVariants.{Pure, Faithful, Guarded}
+use Rattle.htmd.specs.TranslationMode.TheVariants.{Pure, Faithful}
 use Rattle.htmd.specs.Options.{Options}
 use Rattle.htmd_c.specs.declared.options.HtmdOptions.{HtmdOptions}
 
@@ -36,6 +36,13 @@ page = 1
 
 abbrev pub html5 : ℕ
 html5 = 2
+
+-- the mode that writes what a reader sees of the text, and the output that is this as JSON
+abbrev pub guarded : ℕ
+guarded = 2
+
+abbrev pub mdast : ℕ
+mdast = 1
 
 -- the struct that a caller begins with
 abbrev pub default_struct : HtmdOptions
@@ -55,7 +62,8 @@ default_struct = record {
   ul_bullet_spacing = 3;
   ol_number_spacing = 2;
   preformatted_code = 0;
-  reserved = replicate 17 0;
+  output = 0;
+  reserved = replicate 16 0;
 }
 
 -- what a text is read as, and what becomes of what Markdown has no form for, have numbers that are known
@@ -69,11 +77,11 @@ are_lines_known given =
     nat_lt given.heading_style 2 && nat_lt given.hr_style 3 && nat_lt given.br_style 2
     && nat_lt given.link_style 3 && nat_lt given.link_reference_style 3
 
--- the styles of code and of lists have numbers that are known; a spacing is any number
+-- the styles of code and of lists and the output have numbers that are known; a spacing is any number
 abbrev pub are_blocks_known : HtmdOptions → Bool
 are_blocks_known given =
     nat_lt given.code_block_style 2 && nat_lt given.code_block_fence 2 && nat_lt given.bullet_list_marker 2
-    && nat_lt given.preformatted_code 2
+    && nat_lt given.preformatted_code 2 && nat_lt given.output 2
 
 -- the version is known, each number is one of its field's, and what is reserved is 0
 abbrev pub is_good : HtmdOptions → Bool
@@ -81,7 +89,7 @@ is_good given =
     is_reading_known given && are_lines_known given && are_blocks_known given && list_all (λ b. b == 0) given.reserved
 
 abbrev pub mode : ℕ → TranslationMode
-mode n = if n == 1 then Faithful else if n == 2 then Guarded else Pure
+mode n = if n == 1 then Faithful else Pure
 
 abbrev pub heading_style : ℕ → HeadingStyle
 heading_style n = if n == 1 then Setex else Atx
@@ -123,6 +131,10 @@ options_of given = record {
   preformatted_code = given.preformatted_code == 1;
   translation_mode = mode given.mode;
 }
+
+-- what a reader sees of the text is written
+abbrev pub writes_document : HtmdOptions → Bool
+writes_document given = (given.mode == guarded) || (given.output == mdast)
 
 -- scripting is on
 abbrev pub is_scripting : HtmdOptions → Bool

@@ -1,16 +1,19 @@
-//! The conversion of bytes by a struct of options.
+//! What bytes become by a struct of options.
 ghost use Rattle.std.specs.Prelude.{◌≡◌, ◌↔◌, ℕ, true, false, Err, IfOk, IfErr, IsErrOf, IsUtf8, string_bytes};
 ghost use Rattle.std.specs.Str.{IsValidUpTo};
 ghost use Rattle.htmd_grammar.specs.declared.fault.FaultKind.{FaultKind};
 ghost use Rattle.htmd_c.specs.Options.{is_good};
-ghost use Rattle.htmd_c.specs.Answers.{IsMarkdownBy, IsRefusedBy};
+ghost use Rattle.htmd.specs.DocumentViews as value;
+ghost use Rattle.htmd_c.specs.Answers as spec;
+ghost use Rattle.htmd_c.specs.Answers.{GoesBy, IsDocumentBy, IsMarkdownBy, IsOutputBy, IsRefusedBy};
 ghost use Rattle.htmd_c.specs.declared.conversion.Failure.TheVariants.{Memory};
 
-use crate::options::{HtmdOptions, PAGE, STRICT, is_good, options_of};
-use htmd::{ConvertError, FaultKind, HtmlToMarkdown};
-use std::alloc::Global;
+use crate::options::{HtmdOptions, MDAST, PAGE, STRICT, is_good, options_of, writes_document};
+use htmd::element_handler::Registry;
+use htmd::{ConvertError, Document, FaultKind, HtmlToMarkdown, document_options, to_markdown};
+use std::alloc::{AllocError, Global};
 
-/// Why bytes have no Markdown.
+/// Why bytes become nothing.
 #[derive(Drop)]
 pub(crate) enum Failure {
     BadOptions,
@@ -20,16 +23,18 @@ pub(crate) enum Failure {
     Memory,
 }
 
-/// The Markdown of a text, by options that are good.
-fn converted(alloc: Global, html: &str, options: &HtmdOptions) -> Result<String, ConvertError>
+/// The Markdown of a text by the handlers, by options that are good.
+fn converted<H: Registry>(
+    alloc: Global,
+    converter: &HtmlToMarkdown<H>,
+    html: &str,
+    options: &HtmdOptions,
+) -> Result<String, ConvertError>
+    requires goes_by { GoesBy H.ready H.config converter.now options.now }
     ensures ok { IfOk result (λ text. IsMarkdownBy options.now html.now (string_bytes text)) }
     ensures refused { (place : ℕ) (kind : FaultKind) → result ≡ Err (ConvertError.Refused place kind)
         → IsRefusedBy options.now html.now place kind }
 {
-    let converter = HtmlToMarkdown::builder(alloc)?
-        .options(options_of(options))
-        .scripting_enabled(options.scripting == 1)
-        .build();
     if options.reader == STRICT {
         return converter.convert(alloc, html);
     }
@@ -39,13 +44,64 @@ fn converted(alloc: Global, html: &str, options: &HtmdOptions) -> Result<String,
     Ok(converter.convert_html5(alloc, html)?)
 }
 
-/// The Markdown of bytes. The options are checked first, and then whether the bytes are UTF-8.
-pub(crate) fn markdown_of(
+/// What a reader sees of a text, by options that are good.
+fn document_of<H: Registry>(
+    alloc: Global,
+    converter: &HtmlToMarkdown<H>,
+    html: &str,
+    options: &HtmdOptions,
+) -> Result<Document, ConvertError>
+    requires goes_by { GoesBy H.ready H.config converter.now options.now }
+    ensures ok { IfOk result (λ document. IsDocumentBy options.now html.now (value.document_of document)) }
+    ensures refused { (place : ℕ) (kind : FaultKind) → result ≡ Err (ConvertError.Refused place kind)
+        → IsRefusedBy options.now html.now place kind }
+{
+    if options.reader == STRICT {
+        let tree = converter.html_to_tree(alloc, html)?;
+        return Ok(converter.tree_to_document(alloc, &tree)?);
+    }
+    if options.reader == PAGE {
+        let tree = converter.page_to_tree(alloc, html)?;
+        return Ok(converter.tree_to_document(alloc, &tree)?);
+    }
+    Ok(converter.document(alloc, html)?)
+}
+
+/// A document as it is written. `Err` means out of memory.
+fn written(alloc: Global, document: &Document, options: &HtmdOptions) -> Result<String, AllocError>
+    ensures { IfOk result
+        (λ text. string_bytes text ≡ spec.written options.now (value.document_of document.now)) }
+{
+    if options.output == MDAST {
+        return document.to_mdast(alloc);
+    }
+    to_markdown(alloc, document, &document_options(&options_of(options)))
+}
+
+/// What a text becomes, by options that are good.
+fn text_output(alloc: Global, html: &str, options: &HtmdOptions) -> Result<String, ConvertError>
+    ensures ok { IfOk result (λ text. IsOutputBy options.now html.now (string_bytes text)) }
+    ensures refused { (place : ℕ) (kind : FaultKind) → result ≡ Err (ConvertError.Refused place kind)
+        → IsRefusedBy options.now html.now place kind }
+{
+    let converter = HtmlToMarkdown::builder(alloc)?
+        .options(options_of(options))
+        .scripting_enabled(options.scripting == 1)
+        .build();
+    if !writes_document(options) {
+        return converted(alloc, &converter, html, options);
+    }
+    let document = document_of(alloc, &converter, html, options)?;
+    Ok(written(alloc, &document, options)?)
+}
+
+/// What bytes become. The options are checked first, and then whether the bytes are UTF-8.
+pub(crate) fn output_of(
     alloc: Global,
     html: &[u8],
     options: &HtmdOptions,
 ) -> Result<String, Failure>
-    ensures ok { IfOk result (λ text. IsMarkdownBy options.now html.now (string_bytes text)) }
+    ensures ok { IfOk result (λ text. IsOutputBy options.now html.now (string_bytes text)) }
     ensures good { IfOk result (λ _. IsUtf8 html.now) }
     ensures options { IsErrOf result Failure.BadOptions ↔ (is_good options.now ≡ false) }
     ensures not_utf8 { (place : ℕ) → result ≡ Err (Failure.NotUtf8 place)
@@ -64,8 +120,8 @@ pub(crate) fn markdown_of(
             });
         }
     };
-    match converted(alloc, text, options) {
-        Ok(markdown) => Ok(markdown),
+    match text_output(alloc, text, options) {
+        Ok(output) => Ok(output),
         Err(ConvertError::Refused { place, kind }) => Err(Failure::Refused { place, kind }),
         Err(ConvertError::Memory) => Err(Failure::Memory),
     }

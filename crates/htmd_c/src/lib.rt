@@ -12,15 +12,15 @@ ghost use Rattle.htmd_c.specs.Answers.{IsWritten, IsTooLong, IsRefusedAt};
 mod conversion;
 mod options;
 
-use conversion::{Failure, markdown_of};
+use conversion::{Failure, output_of};
 use htmd::line_and_column;
 pub use options::HtmdOptions;
 use options::default_struct;
 use std::alloc::Global;
 
-/// The Markdown was written.
+/// What the text becomes was written.
 pub const DONE: u32 = 0;
-/// The buffer is shorter than the Markdown.
+/// The buffer is shorter than what is to be written.
 pub const TOO_SMALL: u32 = 1;
 /// The text is outside the grammar.
 pub const REFUSED: u32 = 2;
@@ -53,8 +53,8 @@ fn write_front(text: &[u8], out: &mut [u8]) -> u32
     DONE
 }
 
-/// Writes the Markdown of bytes by the options to the front of the buffer. The status says what was done; only `DONE`
-/// writes to the buffer, and `needed`, `place` and `kind` are 0 where they say nothing.
+/// Writes what bytes become by the options, Markdown or JSON, to the front of the buffer. The status says what was
+/// done; only `DONE` writes to the buffer, and `needed`, `place` and `kind` are 0 where they say nothing.
 #[unsafe(no_mangle)]
 pub extern "C" fn htmd_convert(
     alloc: Global,
@@ -79,10 +79,10 @@ pub extern "C" fn htmd_convert(
     *needed = 0;
     *place = 0;
     *kind = 0;
-    match markdown_of(alloc, html, options) {
-        Ok(markdown) => {
-            *needed = markdown.len();
-            write_front(markdown.as_bytes(), out)
+    match output_of(alloc, html, options) {
+        Ok(output) => {
+            *needed = output.len();
+            write_front(output.as_bytes(), out)
         }
         Err(
             Failure::Refused {

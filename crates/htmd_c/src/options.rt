@@ -17,6 +17,12 @@ pub(crate) const STRICT: u8 = 0;
 /// What is between the tags of a page's body is read.
 pub(crate) const PAGE: u8 = 1;
 
+/// What a reader sees of the text is written, so that a reader of CommonMark reads it back.
+const GUARDED: u8 = 2;
+
+/// What a reader sees of the text is written as JSON, in the form of mdast.
+pub(crate) const MDAST: u8 = 1;
+
 /// What a conversion goes by, in numbers. A new field will take the place of a reserved byte, whose 0 then stands for
 /// what is done without it; a new value of a field will be a number that is not good yet.
 #[repr(C)]
@@ -37,7 +43,8 @@ pub struct HtmdOptions {
     pub ul_bullet_spacing: u8,
     pub ol_number_spacing: u8,
     pub preformatted_code: u8,
-    pub reserved: [u8; 17],
+    pub output: u8,
+    pub reserved: [u8; 16],
 }
 
 /// The struct for what `convert` goes by.
@@ -60,7 +67,8 @@ pub(crate) fn default_struct() -> HtmdOptions
         ul_bullet_spacing: 3,
         ol_number_spacing: 2,
         preformatted_code: 0,
-        reserved: [0; 17],
+        output: 0,
+        reserved: [0; 16],
     }
 }
 
@@ -68,6 +76,13 @@ fn is_reading_known(given: &HtmdOptions) -> bool
     ensures { result ≡ spec.is_reading_known given.now }
 {
     given.version == VERSION && given.reader < 3 && given.mode < 3 && given.scripting < 2
+}
+
+/// Whether what a reader sees of the text is written, as Markdown or as JSON.
+pub(crate) fn writes_document(given: &HtmdOptions) -> bool
+    ensures { result ≡ spec.writes_document given.now }
+{
+    given.mode == GUARDED || given.output == MDAST
 }
 
 fn are_lines_known(given: &HtmdOptions) -> bool
@@ -87,6 +102,7 @@ fn are_blocks_known(given: &HtmdOptions) -> bool
         && given.code_block_fence < 2
         && given.bullet_list_marker < 2
         && given.preformatted_code < 2
+        && given.output < 2
 }
 
 fn are_zero(bytes: &[u8]) -> bool
@@ -110,7 +126,6 @@ fn mode(number: u8) -> TranslationMode
 {
     match number {
         1 => TranslationMode::Faithful,
-        2 => TranslationMode::Guarded,
         _ => TranslationMode::Pure,
     }
 }

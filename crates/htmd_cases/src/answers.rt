@@ -6,7 +6,7 @@ use crate::program::push_run;
 use crate::settings::{Question, Settings};
 use crate::trees::tree_of;
 use htmd::options::{Options, TranslationMode};
-use htmd::{ConvertError, FaultKind, HtmlToMarkdown, HtmlToMarkdownBuilder};
+use htmd::{ConvertError, Document, FaultKind, HtmlToMarkdown, HtmlToMarkdownBuilder, to_markdown};
 use htmd_cli::{Input, Mode, Output, RunError, run};
 use htmd_html5::parse_html5;
 use htmd_tree::{ReadError, read_html, serialize};
@@ -30,9 +30,11 @@ pub(crate) fn push_answer(
             let tree = parse_html5(alloc, text, settings.scripting)?;
             push_text(answers, &rows_of(alloc, &tree)?)
         }
-        Question::Tree | Question::Html5 | Question::Convert => push_markdown(
-            alloc, answers, settings, text,
-        ),
+        Question::Tree
+        | Question::SeenTree
+        | Question::Html5
+        | Question::Document
+        | Question::Convert => push_markdown(alloc, answers, settings, text),
     }
 }
 
@@ -94,6 +96,15 @@ fn push_markdown(
     match question {
         Question::Tree => push_tree(alloc, answers, &converter, text),
         Question::Html5 => push_text(answers, &converter.convert_html5(alloc, text)?),
+        Question::SeenTree => {
+            let tree = tree_of(alloc, text)?;
+            let document = converter.tree_to_document(alloc, &tree)?;
+            push_document(alloc, answers, &converter, &document)
+        }
+        Question::Document => {
+            let document = converter.document(alloc, text)?;
+            push_document(alloc, answers, &converter, &document)
+        }
         _ => push_conversion(alloc, answers, &converter, text),
     }
 }
@@ -120,6 +131,19 @@ fn push_conversion(
         return Err(LineFault::TreeDiffers);
     }
     push_text(answers, &markdown)
+}
+
+/// Appends the Markdown of what a reader sees.
+fn push_document(
+    alloc: Global,
+    answers: &mut String,
+    converter: &HtmlToMarkdown,
+    document: &Document,
+) -> Result<(), LineFault> {
+    push_text(
+        answers,
+        &to_markdown(alloc, document, &converter.document_options())?,
+    )
 }
 
 /// Appends the Markdown of the tree that an outline shows; a second conversion gives the same.

@@ -117,7 +117,6 @@ fn translation_mode(value: &str) -> Option<TranslationMode> {
     match value {
         "Pure" => Some(TranslationMode::Pure),
         "Faithful" => Some(TranslationMode::Faithful),
-        "Guarded" => Some(TranslationMode::Guarded),
         _ => None,
     }
 }

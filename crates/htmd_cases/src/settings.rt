@@ -13,10 +13,14 @@ pub(crate) enum Question {
     Read,
     /// the Markdown of the tree that has this text as its outline
     Tree,
+    /// the Markdown of what a reader sees of the tree that has this text as its outline
+    SeenTree,
     /// the tree of this text, as browsers read it
     Nodes,
     /// the Markdown of this text, as browsers read it
     Html5,
+    /// the Markdown of what a reader sees of this page
+    Document,
     /// what the program makes of this text
     Program,
     /// the Markdown of the Document that this text denotes
@@ -51,8 +55,10 @@ impl Settings {
                 "text" => settings.question = Question::Text,
                 "read" => settings.question = Question::Read,
                 "tree" => settings.question = Question::Tree,
+                "seen-tree" => settings.question = Question::SeenTree,
                 "nodes" => settings.question = Question::Nodes,
                 "html5" => settings.question = Question::Html5,
+                "document" => settings.question = Question::Document,
                 "program" => settings.question = Question::Program,
                 _ if word.starts_with("--") => {
                     settings.words.push(String::from_str(alloc, word)?)?;

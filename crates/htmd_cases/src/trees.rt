@@ -55,7 +55,10 @@ fn add_node(
 /// The attributes that are written with a space between each two.
 fn attributes_of(alloc: Global, values: &str) -> Result<Vec<Attribute>, AllocError> {
     let mut attributes = Vec::new(alloc);
-    for word in values.split_whitespace() {
+    for word in values.split(' ') {
+        if word.is_empty() {
+            continue;
+        }
         let (name, value) = word.split_once('=').unwrap_or((word, ""));
         attributes.push(Attribute {
             name: String::from_str(alloc, name)?,

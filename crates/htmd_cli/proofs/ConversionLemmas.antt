@@ -13,7 +13,7 @@ use Rattle.htmd.specs.FaultKind.{FaultKind}
 use Rattle.htmd.specs.Conversions.{IsMarkdownOf, IsMarkdownOfPage, IsHtml5Markdown, IsRefused, IsPageRefused}
 use Rattle.htmd_cli.specs.Settings.{Settings}
 use Rattle.htmd_cli.specs.Conversion.{paragraph, paragraph_markdown, skipping, config_of, IsMarkdownBy, IsRefusedBy}
-use Rattle.htmd_cli.specs.Conversion.{IsReadable, reads_any, text_in}
+use Rattle.htmd_cli.specs.Conversion.{IsReadable, reads_any, text_in, IsOutputBy}
 
 -- one equation after the other
 pub then_same : (x y z : Config) → x ≡ y → y ≡ z → x ≡ z
@@ -31,6 +31,10 @@ pub skips_some : (names : List (Bor (List ℕ))) (config : Config) → eqb (leng
     → with_handler config (texts names) no_handler ≡ skipping (texts names) config
 skips_some [] config e = absurd (grind (arith, nat_tests))
 skips_some (name ∷ names) config e = refl
+
+pub no_names : (names : List (Bor (List ℕ))) → eqb (length names) 0 ≡ true → [] ≡ texts names
+no_names [] e = refl
+no_names (name ∷ names) e = absurd (grind (arith, nat_tests))
 
 pub match_true : (P Q : Type 0) (b : Bool) → b ≡ true → P → MatchBool b P Q
 match_true P Q true e p = p
@@ -111,9 +115,9 @@ readable_utf8 settings any input text a f u e =
     let strict : reads_any settings ≡ false = sym a ∙ f in
     (match_false _ _ (reads_any settings) strict u, rw strict e)
 
--- it has this Markdown, and so has the input
+-- it becomes this, and so does the input
 pub of_readable : (settings : Settings) (input text found s : List ℕ)
     → IsReadable settings input × (text ≡ text_in settings input) → found ≡ text
-    → IsMarkdownBy settings found s
-    → IsReadable settings input × IsMarkdownBy settings (text_in settings input) s
-of_readable settings input text found s (r, t) f m = (r, subst (λ x. IsMarkdownBy settings x s) (f ∙ t) m)
+    → IsOutputBy settings found s
+    → IsReadable settings input × IsOutputBy settings (text_in settings input) s
+of_readable settings input text found s (r, t) f m = (r, subst (λ x. IsOutputBy settings x s) (f ∙ t) m)

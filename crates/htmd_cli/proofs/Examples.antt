@@ -8,6 +8,7 @@ use Rattle.htmd.specs.Markdown.{markdown}
 use Rattle.htmd.specs.Choice.{Config}
 use Rattle.htmd.specs.BuiltIn.{built_in}
 use Rattle.htmd_cli.specs.Settings.{options_of}
+use Rattle.htmd_cli.specs.Options.{Request, after, meaning, known_options}
 use Rattle.htmd_cli.specs.Conversion.{paragraph_markdown, paragraph_output}
 
 abbrev plain : Config
@@ -28,3 +29,13 @@ faithful_paragraphs : (text : List ℕ) → paragraph_output faithful text ≡ p
 unfolding paragraph_markdown markdown written_within tree_of forest_from ancestors_of ancestors_up is_block
 faithful_paragraphs [] = refl
 faithful_paragraphs (b ∷ s) = refl
+
+-- what is asked for after this option
+abbrev by : List ℕ → Request → Request
+by given = after (meaning known_options given)
+
+-- `--web` is `--html5` and `--guarded` in one word; of `--guarded` and `--faithful` the last one counts
+options : (request : Request) → (by (codes "--web") request ≡ by (codes "--guarded") (by (codes "--html5") request))
+    × ((by (codes "--faithful") (by (codes "--guarded") request)).settings.guarded ≡ false)
+    × ((by (codes "--guarded") (by (codes "--faithful") request)).settings.guarded ≡ true)
+options request = (refl, refl, refl)

@@ -4,15 +4,15 @@ use Rattle.std.proofs.Common.{Result, Ok, Err, OnOk, append_assoc, inl}
 use Rattle.std.specs.Str.{bytes_eq}
 use Rattle.htmd.specs.Characters.{line_feed}
 use Rattle.htmd_cli.specs.Settings.{Settings}
-use Rattle.htmd_cli.specs.Conversion.{IsMarkdownBy, IsReadable, text_in}
+use Rattle.htmd_cli.specs.Conversion.{IsOutputBy, IsReadable, text_in}
 use Rattle.htmd_streams.specs.Fields.{null, read_field, written_field}
 use Rattle.htmd_streams.specs.Lines.{other_fields, last_field}
 use Rattle.htmd_cli.specs.Rows.{IsPageAnswer, IsFieldAnswer, IsRowAnswer}
 use Rattle.htmd_cli.proofs.ConversionLemmas.{match_false}
 
--- a page whose text has this Markdown
+-- a page whose text becomes this
 pub page_answer : (settings : Settings) (page s : List ℕ)
-    → IsReadable settings page × IsMarkdownBy settings (text_in settings page) s
+    → IsReadable settings page × IsOutputBy settings (text_in settings page) s
     → IsPageAnswer settings page (written_field s)
 page_answer settings page s (r, m) = inl (r, s, m, refl)
 

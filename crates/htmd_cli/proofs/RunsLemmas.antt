@@ -10,13 +10,13 @@ use Rattle.htmd_encodings.specs.declared.encodings.UnsupportedEncoding.{Unsuppor
 use Rattle.htmd_cli.specs.declared.faults.RunError.{RunError}
 use Rattle.htmd_cli.specs.declared.faults.RunError.TheVariants.{NotUtf8, Unsupported, Refused, Memory, Read, Write}
 use Rattle.htmd_cli.specs.Settings.{Settings}
-use Rattle.htmd_cli.specs.Conversion.{IsMarkdownBy, IsReadable, IsRefusedBy, IsUnsupported, reads_any, text_in}
+use Rattle.htmd_cli.specs.Conversion.{IsOutputBy, IsReadable, IsRefusedBy, IsUnsupported, reads_any, text_in}
 use Rattle.htmd_cli.specs.Runs.{Ends, IsConvertible, Writes}
 
--- the bytes hold a text, and this is its Markdown
+-- the bytes hold a text, and this is what it becomes
 abbrev pub Converted : Settings → List ℕ → List ℕ → Type 0
 Converted settings input markdown =
-    IsReadable settings input × IsMarkdownBy settings (text_in settings input) markdown
+    IsReadable settings input × IsOutputBy settings (text_in settings input) markdown
 
 -- the whole input was converted, and that was written
 pub ends_well : {W : Type 0} (T : Type 0) (settings : Settings) (contents : W → Option (List ℕ)) (before after : W)
@@ -29,7 +29,7 @@ ends_well T settings contents before after done input markdown written m w a = (
   (m.0, markdown, m.1, subst (λ z. Appends (contents before) (contents after) (z ++ line_feed ∷ [])) w a),
 )
 
--- the whole input has Markdown, and the sink failed
+-- the whole input becomes something, and the sink failed
 pub ends_at_sink : {W : Type 0} (T : Type 0) (settings : Settings) (contents : W → Option (List ℕ))
     (before after : W) (input markdown : List ℕ) → Converted settings input markdown
     → Ends {T = T} settings (Some input) (Some []) contents before after (Err Write)

@@ -1,5 +1,5 @@
--- The Markdown of an input by settings, and what a refusal of it says.
-use Rattle.std.specs.Prelude.{◌≡◌, ◌&&◌, ℕ, Bool, true, not, if◌then◌else◌, List, [], ◌∷◌, ◌++◌, codes, MatchBool}
+-- What an input becomes by settings, and what a refusal of it says.
+use Rattle.std.specs.Prelude.{◌≡◌, ◌&&◌, ◌||◌, ℕ, Bool, true, not, if◌then◌else◌, List, [], ◌∷◌, ◌++◌, codes, MatchBool}
 use Rattle.std.specs.Prelude.{IsUtf8, IsSome}
 use Rattle.std.specs.Option.{unwrap_or}
 use Rattle.htmd.specs.Characters.{line_feed}
@@ -10,7 +10,12 @@ use Rattle.htmd.specs.Defaults.{default_options}
 use Rattle.htmd.specs.BuiltIn.{built_in}
 use Rattle.htmd.specs.Markdown.{markdown}
 use Rattle.htmd.specs.Conversions.{IsMarkdownOf, IsMarkdownOfPage, IsRefused, IsPageRefused, IsHtml5Markdown}
-use Rattle.htmd.specs.Converters.{handlers_of, scripting_of}
+use Rattle.htmd.specs.Bodies.{body_part}
+use Rattle.htmd.specs.PageDocuments.{document_of_items, html5_page_document, IsDocumentOf, document_options}
+use Rattle.htmd.specs.Documents.{Blocks}
+use Rattle.htmd.specs.Mdast.{mdast_of}
+use Rattle.htmd.specs.DocumentMarkdown.{markdown_of}
+use Rattle.htmd.specs.Converters.{handlers_of, scripting_of, skipped_of}
 use Rattle.htmd.specs.declared.converter.HtmlToMarkdown.{HtmlToMarkdown}
 use Rattle.htmd_encodings.specs.declared.encodings.UnsupportedEncoding.{UnsupportedEncoding}
 use Rattle.htmd_encodings.specs.declared.encodings.Named.TheVariants.{Unsupported}
@@ -62,14 +67,47 @@ abbrev pub IsUnsupported : Settings → List ℕ → UnsupportedEncoding → Typ
 IsUnsupported settings bytes encoding =
     (reads_any settings ≡ true) × (encoding_of settings.encoding bytes ≡ Unsupported encoding)
 
--- this is the Markdown of an input: of one paragraph where it is taken for a text, else of any page as browsers read
--- it, of a page's body or of all
+-- this is the Markdown of an input by the handlers: of one paragraph where it is taken for a text, else of any page
+-- as browsers read it, of a page's body or of all
 abbrev pub IsMarkdownBy : Settings → List ℕ → List ℕ → Type 0
 IsMarkdownBy settings input text =
     MatchBool settings.text (text ≡ paragraph_markdown (config_of settings) input)
     (MatchBool settings.html5 (IsHtml5Markdown (config_of settings) settings.scripting input text)
     (MatchBool settings.body (IsMarkdownOfPage (config_of settings) settings.scripting input text)
     (IsMarkdownOf (config_of settings) settings.scripting input text)))
+
+-- what a reader sees of a tree
+abbrev pub document_in : Settings → List Item → Blocks
+document_in settings tree = document_of_items settings.scripting settings.skipped tree
+
+-- what of an input the strict reader reads
+abbrev pub strict_part : Settings → List ℕ → List ℕ
+strict_part settings input = if settings.body then body_part input else input
+
+-- this is what a reader sees of an input: of one paragraph where it is taken for a text, else of any page as browsers
+-- read it, of a page's body or of all
+abbrev pub IsDocumentBy : Settings → List ℕ → Blocks → Type 0
+IsDocumentBy settings input document =
+    MatchBool settings.text (document ≡ document_in settings (paragraph input))
+    (MatchBool settings.html5 (document ≡ html5_page_document settings.scripting settings.skipped input)
+    (IsDocumentOf settings.scripting settings.skipped (strict_part settings input) document))
+
+-- what a reader sees is written, as Markdown or as JSON
+abbrev pub writes_document : Settings → Bool
+writes_document settings = settings.guarded || settings.mdast
+
+-- what is written of a document
+unfoldable pub written : Settings → Blocks → List ℕ
+written settings document =
+    if settings.mdast then mdast_of document
+    else markdown_of (document_options settings.options) document
+
+-- this is what an input becomes: its document as it is written, or its Markdown by the handlers
+abbrev pub IsOutputBy : Settings → List ℕ → List ℕ → Type 0
+IsOutputBy settings input output =
+    MatchBool (writes_document settings)
+    ((document : Blocks) × IsDocumentBy settings input document × (output ≡ written settings document))
+    (IsMarkdownBy settings input output)
 
 -- the input, or its body, is outside the grammar, and this place of the input and this kind are right
 abbrev pub IsRefusedBy : Settings → List ℕ → ℕ → FaultKind → Type 0
@@ -81,4 +119,4 @@ IsRefusedBy settings input place kind =
 abbrev pub GoesBy : {H : Type 0} → (H → Type 0) → (H → Config) → HtmlToMarkdown H → Settings → Type 0
 GoesBy ready config converter settings =
     ready (handlers_of converter) × (config (handlers_of converter) ≡ config_of settings)
-    × (scripting_of converter ≡ settings.scripting)
+    × (scripting_of converter ≡ settings.scripting) × (skipped_of converter ≡ settings.skipped)

@@ -75,6 +75,17 @@ sets_option change = sets (λ settings. record settings { options = change setti
 abbrev pub skips : List (List ℕ) → Request → Request
 skips names = sets (λ settings. record settings { skipped = settings.skipped ++ names })
 
+-- any page, and what a reader sees of it is written
+abbrev pub takes_any_page_guarded : Request → Request
+takes_any_page_guarded = sets (λ settings. record settings { html5 = true; guarded = true })
+
+-- Faithful, in place of what a reader sees
+abbrev pub takes_faithful : Request → Request
+takes_faithful = sets (λ settings. record settings {
+  guarded = false;
+  options = record settings.options { translation_mode = translation.Faithful };
+})
+
 abbrev pub takes_rows : Request → Request
 takes_rows request = record request { rows = true }
 
@@ -112,14 +123,15 @@ named name effect = record {
 
 abbrev pub known_options : List KnownOption
 known_options =
-    plain (codes "--text") (sets (λ settings. record settings { text = true }))
+    plain (codes "--web") takes_any_page_guarded
+    ∷ plain (codes "--text") (sets (λ settings. record settings { text = true }))
     ∷ plain (codes "--body") (sets (λ settings. record settings { body = true }))
     ∷ plain (codes "--html5") (sets (λ settings. record settings { html5 = true }))
     ∷ labelled (codes "--encoding=") (λ e. sets (λ settings. record settings { encoding = Some e }))
     ∷ plain (codes "--rows") takes_rows
-    ∷ plain (codes "--faithful")
-    (sets_option (λ options. record options { translation_mode = translation.Faithful }))
-    ∷ plain (codes "--guarded") (sets_option (λ options. record options { translation_mode = translation.Guarded }))
+    ∷ plain (codes "--guarded") (sets (λ settings. record settings { guarded = true }))
+    ∷ plain (codes "--faithful") takes_faithful
+    ∷ plain (codes "--mdast") (sets (λ settings. record settings { mdast = true }))
     ∷ plain (codes "--no-scripting") (sets (λ settings. record settings { scripting = false }))
     ∷ named (codes "--skip=") skips
     ∷ plain (codes "--heading-style=atx") (sets_option (λ options. record options { heading_style = heading.Atx }))

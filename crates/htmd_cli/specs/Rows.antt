@@ -10,15 +10,15 @@ use Rattle.htmd_cli.specs.Settings.{Settings}
 use Rattle.htmd_cli.specs.Options.{Request}
 use Rattle.htmd_cli.specs.Runs.{Converts}
 use Rattle.htmd_streams.specs.Ends.{AppendsSome}
-use Rattle.htmd_cli.specs.Conversion.{IsMarkdownBy, IsReadable, IsRefusedBy, IsUnsupported, reads_any, text_in}
+use Rattle.htmd_cli.specs.Conversion.{IsOutputBy, IsReadable, IsRefusedBy, IsUnsupported, reads_any, text_in}
 use Rattle.htmd_streams.specs.Fields.{null, read_field, written_field}
 use Rattle.htmd_streams.specs.Lines.{rows, other_fields, last_field}
 
--- the page holds a text, and this is its Markdown as a field
+-- the page holds a text, and this is what it becomes, as a field
 abbrev pub IsConverted : Settings → List ℕ → List ℕ → Type 0
 IsConverted settings page field =
-    IsReadable settings page × (markdown : List ℕ) × IsMarkdownBy settings (text_in settings page) markdown
-    × (field ≡ written_field markdown)
+    IsReadable settings page × (output : List ℕ) × IsOutputBy settings (text_in settings page) output
+    × (field ≡ written_field output)
 
 -- the page isn't UTF-8, or it is HTML outside the grammar; if any page is read, its encoding isn't supported
 abbrev pub IsRefusedPage : Settings → List ℕ → Type 0
@@ -29,7 +29,7 @@ IsRefusedPage settings page =
     (IsUtf8 page × (settings.text ≡ false) × (place : ℕ) × (kind : FaultKind)
     × IsRefusedBy settings page place kind))
 
--- this is written for a page: its Markdown, or null if it is refused
+-- this is written for a page: what it becomes, or null if it is refused
 abbrev pub IsPageAnswer : Settings → List ℕ → List ℕ → Type 0
 IsPageAnswer settings page field = IsConverted settings page field ⊎ (IsRefusedPage settings page × (field ≡ null))
 

@@ -5,18 +5,18 @@ use Rattle.htmd.specs.Characters.{line_feed}
 use Rattle.htmd_cli.specs.declared.faults.RunError.{RunError}
 use Rattle.htmd_cli.specs.declared.faults.RunError.TheVariants.{NotUtf8, Unsupported, Refused, Memory, Read, Write}
 use Rattle.htmd_cli.specs.Settings.{Settings}
-use Rattle.htmd_cli.specs.Conversion.{IsMarkdownBy, IsReadable, IsRefusedBy, IsUnsupported, reads_any, text_in}
+use Rattle.htmd_cli.specs.Conversion.{IsOutputBy, IsReadable, IsRefusedBy, IsUnsupported, reads_any, text_in}
 
--- the bytes hold a text, and its Markdown and a line feed were written
+-- the bytes hold a text, and what it becomes and a line feed were written
 abbrev pub Writes : Settings → Option (List ℕ) → Option (List ℕ) → List ℕ → Type 0
 Writes settings before after bytes =
-    IsReadable settings bytes × (markdown : List ℕ) × IsMarkdownBy settings (text_in settings bytes) markdown
-    × Appends before after (markdown ++ line_feed ∷ [])
+    IsReadable settings bytes × (output : List ℕ) × IsOutputBy settings (text_in settings bytes) output
+    × Appends before after (output ++ line_feed ∷ [])
 
--- the bytes hold a text, which has Markdown
+-- the bytes hold a text, which becomes something
 abbrev pub IsConvertible : Settings → List ℕ → Type 0
 IsConvertible settings bytes =
-    IsReadable settings bytes × (markdown : List ℕ) × IsMarkdownBy settings (text_in settings bytes) markdown
+    IsReadable settings bytes × (output : List ℕ) × IsOutputBy settings (text_in settings bytes) output
 
 -- the whole input was converted by the settings
 abbrev pub Converts : Settings → Option (List ℕ) → Option (List ℕ) → Option (List ℕ) → Type 0
@@ -26,7 +26,7 @@ Converts settings input before after = IfSome input (Writes settings before afte
 abbrev pub Ends : {W T : Type 0} → Settings → Option (List ℕ) → Option (List ℕ)
     → (W → Option (List ℕ)) → W → W
     → Result T RunError → Type 0
--- all was read, and the Markdown of it and a line feed were written
+-- all was read, and what it becomes and a line feed were written
 Ends settings input rest contents before after (Ok done) =
     IsAtEnd rest × Converts settings input (contents before) (contents after)
 -- all was read and is not UTF-8, which any page may be; nothing was written
@@ -43,5 +43,5 @@ Ends settings input rest contents before after (Err (Refused place kind)) =
 Ends settings input rest contents before after (Err Memory) = after ≡ before
 -- the source failed; nothing was written
 Ends settings input rest contents before after (Err Read) = after ≡ before
--- all was read, and has Markdown, and the sink failed
+-- all was read, and becomes something, and the sink failed
 Ends settings input rest contents before after (Err Write) = IsAtEnd rest × IfSome input (IsConvertible settings)

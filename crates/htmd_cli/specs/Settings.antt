@@ -15,6 +15,10 @@ pub record Settings : Type 0 where
   pub html5 : Bool
   -- the encoding of bytes without a mark, if it is given
   pub encoding : Option Encoding
+  -- what a reader sees of the page is written
+  pub guarded : Bool
+  -- that is written as JSON, in the form of mdast
+  pub mdast : Bool
   pub scripting : Bool
   pub options : Options
   -- elements with these names give nothing
@@ -27,6 +31,8 @@ settings_in settings = record {
   body = settings.body;
   html5 = settings.html5;
   encoding = settings.encoding;
+  guarded = settings.guarded;
+  mdast = settings.mdast;
   scripting = settings.scripting;
   options = settings.options;
   skipped = map (λ name. name.now) settings.skipped.items;
@@ -39,6 +45,8 @@ default_settings = record {
   body = false;
   html5 = false;
   encoding = None;
+  guarded = false;
+  mdast = false;
   scripting = true;
   options = default_options;
   skipped = [];

@@ -5,7 +5,7 @@ ghost use Rattle.htmd_streams.specs.Fields.{null, written_field};
 ghost use Rattle.htmd_cli.specs.Rows.{IsFieldAnswer, IsPageAnswer, IsRowAnswer};
 ghost use Rattle.htmd_cli.specs.Settings.{settings_in};
 
-use crate::conversion::{markdown_by, text_of};
+use crate::conversion::{output_by, text_of};
 use crate::faults::RunError;
 use crate::settings::Settings;
 use htmd::element_handler::Registry;
@@ -82,7 +82,7 @@ fn answer_page<H: Registry>(
     }
 }
 
-// The Markdown of a page, or why it is refused. `Err` means out of memory.
+// What a page becomes, or why it is refused. `Err` means out of memory.
 fn page_markdown<H: Registry>(
     alloc: Global,
     converter: &HtmlToMarkdown<H>,
@@ -100,7 +100,7 @@ fn page_markdown<H: Registry>(
         Err(RunError::Memory) => return Err(AllocError),
         Err(error) => return Ok(Err(error)),
     };
-    match markdown_by(alloc, converter, settings, &text) {
+    match output_by(alloc, converter, settings, &text) {
         Ok(markdown) => Ok(Ok(markdown)),
         Err(ConvertError::Refused { place, kind }) => Ok(Err(RunError::Refused { place, kind })),
         Err(ConvertError::Memory) => Err(AllocError),

@@ -1,12 +1,14 @@
 //! The conversion of an input by settings.
-ghost use Rattle.std.specs.Prelude.{◌≡◌, ℕ, false, Err, IfErr, IfOk, IsUtf8, string_bytes};
+ghost use Rattle.std.specs.Prelude.{◌≡◌, [], ℕ, false, Err, IfErr, IfOk, IsUtf8, string_bytes};
 ghost use Rattle.std.specs.Cow.{cow_str_bytes};
 ghost use Rattle.htmd.specs.BuiltIn.{built_in};
-ghost use Rattle.htmd.specs.Converters.{handlers_built};
+ghost use Rattle.htmd.specs.Conversions.{IsTreeOf};
+ghost use Rattle.htmd.specs.Converters.{handlers_built, skipped_built};
+ghost use Rattle.htmd.specs.DocumentViews.{document_of};
 ghost use Rattle.htmd.specs.Defaults.{default_options};
 ghost use Rattle.htmd.specs.FaultKind.{FaultKind};
-ghost use Rattle.htmd_cli.specs.Conversion.{GoesBy, IsMarkdownBy, IsReadable, IsRefusedBy, IsUnsupported};
-ghost use Rattle.htmd_cli.specs.Conversion.{text_in};
+ghost use Rattle.htmd_cli.specs.Conversion.{GoesBy, IsMarkdownBy, IsDocumentBy, IsOutputBy, IsReadable};
+ghost use Rattle.htmd_cli.specs.Conversion.{IsRefusedBy, IsUnsupported, text_in};
 ghost use Rattle.htmd_cli.specs.Conversion as spec;
 ghost use Rattle.htmd_encodings.specs.declared.encodings.UnsupportedEncoding.{UnsupportedEncoding};
 ghost use Rattle.htmd_cli.specs.Failures.{IsTextFault};
@@ -17,7 +19,10 @@ use crate::paragraph::paragraph;
 use crate::settings::Settings;
 use htmd::element_handler::{Registrar, Registry};
 use htmd::options::Options;
-use htmd::{ConvertError, HtmlToMarkdown, HtmlToMarkdownBuilder};
+use htmd::{
+    ConvertError, Document, HtmlToMarkdown, HtmlToMarkdownBuilder, Tree, document_options,
+    to_markdown,
+};
 use htmd_encodings::page_text;
 use std::alloc::{AllocError, Global};
 use std::borrow::CowStr;
@@ -29,6 +34,7 @@ pub(crate) fn converter_by<H: Registrar + Drop>(
 ) -> Result<HtmlToMarkdown<H>, AllocError>
     requires ready { H.ready (handlers_built builder) }
     requires default { H.config (handlers_built builder) ≡ built_in default_options }
+    requires none_skipped { skipped_built builder ≡ [] }
     ensures { IfOk result (λ converter. GoesBy H.ready H.config converter (settings_in settings.now)) }
 {
     let options = Options { ..settings.options };
@@ -77,8 +83,8 @@ pub(crate) fn text_of<'a>(
     }
 }
 
-/// The Markdown of an input by a converter that goes by the settings.
-pub(crate) fn markdown_by<H: Registry>(
+/// The Markdown of an input by the handlers of a converter that goes by the settings.
+fn markdown_by<H: Registry>(
     alloc: Global,
     converter: &HtmlToMarkdown<H>,
     settings: &Settings<'_>,
@@ -107,14 +113,108 @@ pub(crate) fn markdown_by<H: Registry>(
     converter.convert(alloc, input)
 }
 
+/// The tree of an input by the strict reader.
+fn strict_tree<H: Registry>(
+    alloc: Global,
+    converter: &HtmlToMarkdown<H>,
+    settings: &Settings<'_>,
+    input: &str,
+) -> Result<Tree, ConvertError>
+    requires goes_by { GoesBy H.ready H.config converter.now (settings_in settings.now) }
+    ensures ok { let part = spec.strict_part (settings_in settings.now) input.now in
+        IfOk result (λ tree. IsTreeOf settings.now.scripting part tree) }
+    ensures refused { (place : ℕ) (kind : FaultKind) → result ≡ Err (ConvertError.Refused place kind)
+        → IsRefusedBy (settings_in settings.now) input.now place kind }
+{
+    if settings.body {
+        converter.page_to_tree(alloc, input)
+    } else {
+        converter.html_to_tree(alloc, input)
+    }
+}
+
+/// What a reader sees of an input, by a converter that goes by the settings.
+fn document_by<H: Registry>(
+    alloc: Global,
+    converter: &HtmlToMarkdown<H>,
+    settings: &Settings<'_>,
+    input: &str,
+) -> Result<Document, ConvertError>
+    requires goes_by { GoesBy H.ready H.config converter.now (settings_in settings.now) }
+    ensures ok { IfOk result
+        (λ document. IsDocumentBy (settings_in settings.now) input.now (document_of document)) }
+    ensures refused_html { (place : ℕ) (kind : FaultKind) → result ≡ Err (ConvertError.Refused place kind)
+        → settings.now.text ≡ false }
+    ensures refused_strict { (place : ℕ) (kind : FaultKind) → result ≡ Err (ConvertError.Refused place kind)
+        → settings.now.html5 ≡ false }
+    ensures refused { (place : ℕ) (kind : FaultKind) → result ≡ Err (ConvertError.Refused place kind)
+        → IsRefusedBy (settings_in settings.now) input.now place kind }
+{
+    if settings.text {
+        let tree = paragraph(alloc, input)?;
+        return Ok(converter.tree_to_document(alloc, &tree)?);
+    }
+    if settings.html5 {
+        return Ok(converter.document(alloc, input)?);
+    }
+    let tree = strict_tree(alloc, converter, settings, input)?;
+    Ok(converter.tree_to_document(alloc, &tree)?)
+}
+
+/// Whether what a reader sees is written.
+fn writes_document(settings: &Settings<'_>) -> bool
+    ensures { result ≡ spec.writes_document (settings_in settings.now) }
+{
+    settings.guarded || settings.mdast
+}
+
+/// A document as it is written. `Err` means out of memory.
+fn written(
+    alloc: Global,
+    settings: &Settings<'_>,
+    document: &Document,
+) -> Result<String, AllocError>
+    ensures { IfOk result
+        (λ text. string_bytes text ≡ spec.written (settings_in settings.now) (document_of document.now)) }
+{
+    if settings.mdast {
+        return document.to_mdast(alloc);
+    }
+    to_markdown(alloc, document, &document_options(&settings.options))
+}
+
+/// What an input becomes by a converter that goes by the settings.
+pub(crate) fn output_by<H: Registry>(
+    alloc: Global,
+    converter: &HtmlToMarkdown<H>,
+    settings: &Settings<'_>,
+    input: &str,
+) -> Result<String, ConvertError>
+    requires goes_by { GoesBy H.ready H.config converter.now (settings_in settings.now) }
+    ensures ok { IfOk result
+        (λ output. IsOutputBy (settings_in settings.now) input.now (string_bytes output)) }
+    ensures refused_html { (place : ℕ) (kind : FaultKind) → result ≡ Err (ConvertError.Refused place kind)
+        → settings.now.text ≡ false }
+    ensures refused_strict { (place : ℕ) (kind : FaultKind) → result ≡ Err (ConvertError.Refused place kind)
+        → settings.now.html5 ≡ false }
+    ensures refused { (place : ℕ) (kind : FaultKind) → result ≡ Err (ConvertError.Refused place kind)
+        → IsRefusedBy (settings_in settings.now) input.now place kind }
+{
+    if !writes_document(settings) {
+        return markdown_by(alloc, converter, settings, input);
+    }
+    let document = document_by(alloc, converter, settings, input)?;
+    Ok(written(alloc, settings, &document)?)
+}
+
 /// The same by a converter of its own.
-pub(crate) fn markdown_of(
+pub(crate) fn output_of(
     alloc: Global,
     settings: &Settings<'_>,
     input: &str,
 ) -> Result<String, ConvertError>
     ensures ok { IfOk result
-        (λ markdown. IsMarkdownBy (settings_in settings.now) input.now (string_bytes markdown)) }
+        (λ output. IsOutputBy (settings_in settings.now) input.now (string_bytes output)) }
     ensures refused_html { (place : ℕ) (kind : FaultKind) → result ≡ Err (ConvertError.Refused place kind)
         → settings.now.text ≡ false }
     ensures refused_strict { (place : ℕ) (kind : FaultKind) → result ≡ Err (ConvertError.Refused place kind)
@@ -123,5 +223,5 @@ pub(crate) fn markdown_of(
         → IsRefusedBy (settings_in settings.now) input.now place kind }
 {
     let converter = converter_by(HtmlToMarkdown::builder(alloc)?, settings)?;
-    markdown_by(alloc, &converter, settings, input)
+    output_by(alloc, &converter, settings, input)
 }

@@ -8,7 +8,7 @@ const USAGE: &str = "\
 Usage: htmd [OPTION..] < page.html > page.md
 
 Reads a page from standard input and writes it as Markdown to standard output; it takes no file names.
-If two options set the same thing, the last one counts. For most pages take --html5 --guarded.
+If two options set the same thing, the last one counts. For most pages take --web.
 
 ";
 

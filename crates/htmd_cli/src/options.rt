@@ -2,13 +2,13 @@
 ghost use Rattle.std.specs.Prelude.{◌≡◌, true, false, None, is_some, map, length, drop, MatchOption, MatchResult};
 ghost use Rattle.std.specs.Prelude.{IfOk, IfErr};
 ghost use Rattle.htmd_cli.specs.Options as spec;
-ghost use Rattle.htmd_cli.specs.OptionRows.{IsOptionFault, takes_value, effect_of, option_of, request_in};
+ghost use Rattle.htmd_cli.specs.OptionRows.{IsOptionFault, takes_value, styled, effect_of, option_of, request_in};
 
 use crate::settings::Settings;
 use crate::values::{are_names, number, push_names};
 use htmd::options::{
     BrStyle, BulletListMarker, CodeBlockFence, CodeBlockStyle, HeadingStyle, HrStyle,
-    LinkReferenceStyle, LinkStyle, TranslationMode,
+    LinkReferenceStyle, LinkStyle, Options, TranslationMode,
 };
 use htmd_encodings::encoding_named;
 use std::alloc::{AllocError, Global};
@@ -20,16 +20,9 @@ pub(crate) enum Notice {
     Version,
 }
 
-/// What an option sets.
+/// How something is written.
 #[derive(Clone, Copy, Drop)]
-pub(crate) enum Setting {
-    Text,
-    Body,
-    Html5,
-    Encoding,
-    Rows,
-    NoScripting,
-    Translation(TranslationMode),
+pub(crate) enum Style {
     Heading(HeadingStyle),
     Rule(HrStyle),
     LineBreak(BrStyle),
@@ -38,6 +31,22 @@ pub(crate) enum Setting {
     CodeBlock(CodeBlockStyle),
     Fence(CodeBlockFence),
     Bullet(BulletListMarker),
+}
+
+/// What an option sets.
+#[derive(Clone, Copy, Drop)]
+pub(crate) enum Setting {
+    Text,
+    Body,
+    Html5,
+    Web,
+    Encoding,
+    Rows,
+    Faithful,
+    Guarded,
+    Mdast,
+    NoScripting,
+    Style(Style),
     BulletSpacing,
     NumberSpacing,
     PreformattedCode,
@@ -50,7 +59,13 @@ pub(crate) enum Setting {
 pub(crate) type OptionRow = (&'static str, &'static str, Setting, &'static str);
 
 /// The options that are known.
-pub(crate) const OPTIONS: [OptionRow; 34] = [
+pub(crate) const OPTIONS: [OptionRow; 36] = [
+    (
+        "--web",
+        "",
+        Setting::Web,
+        "--html5 and --guarded in one word: for any page that people read",
+    ),
     (
         "--text",
         "",
@@ -82,16 +97,22 @@ pub(crate) const OPTIONS: [OptionRow; 34] = [
         "reads and writes lines with fields between tabs; the last field is the page",
     ),
     (
+        "--guarded",
+        "",
+        Setting::Guarded,
+        "writes what a reader sees, so that its Markdown is read back as the same",
+    ),
+    (
         "--faithful",
         "",
-        Setting::Translation(TranslationMode::Faithful),
+        Setting::Faithful,
         "writes as HTML what Markdown has no form for",
     ),
     (
-        "--guarded",
+        "--mdast",
         "",
-        Setting::Translation(TranslationMode::Guarded),
-        "writes Markdown for reading: the text that the page shows, with no cell of a table left out",
+        Setting::Mdast,
+        "writes what a reader sees as JSON, in the form of mdast, in place of Markdown",
     ),
     (
         "--no-scripting",
@@ -108,115 +129,115 @@ pub(crate) const OPTIONS: [OptionRow; 34] = [
     (
         "--heading-style=atx",
         "",
-        Setting::Heading(HeadingStyle::Atx),
+        Setting::Style(Style::Heading(HeadingStyle::Atx)),
         "headings begin with number signs (default)",
     ),
     (
         "--heading-style=setext",
         "",
-        Setting::Heading(HeadingStyle::Setex),
+        Setting::Style(Style::Heading(HeadingStyle::Setex)),
         "headings of the first two levels are underlined",
     ),
     (
         "--hr-style=dashes",
         "",
-        Setting::Rule(HrStyle::Dashes),
+        Setting::Style(Style::Rule(HrStyle::Dashes)),
         "thematic breaks are dashes",
     ),
     (
         "--hr-style=asterisks",
         "",
-        Setting::Rule(HrStyle::Asterisks),
+        Setting::Style(Style::Rule(HrStyle::Asterisks)),
         "thematic breaks are asterisks (default)",
     ),
     (
         "--hr-style=underscores",
         "",
-        Setting::Rule(HrStyle::Underscores),
+        Setting::Style(Style::Rule(HrStyle::Underscores)),
         "thematic breaks are underscores",
     ),
     (
         "--br-style=two-spaces",
         "",
-        Setting::LineBreak(BrStyle::TwoSpaces),
+        Setting::Style(Style::LineBreak(BrStyle::TwoSpaces)),
         "a hard line break is two spaces (default)",
     ),
     (
         "--br-style=backslash",
         "",
-        Setting::LineBreak(BrStyle::Backslash),
+        Setting::Style(Style::LineBreak(BrStyle::Backslash)),
         "a hard line break is a backslash",
     ),
     (
         "--link-style=inlined",
         "",
-        Setting::Link(LinkStyle::Inlined),
+        Setting::Style(Style::Link(LinkStyle::Inlined)),
         "links have their addresses beside them (default)",
     ),
     (
         "--link-style=inlined-prefer-autolinks",
         "",
-        Setting::Link(LinkStyle::InlinedPreferAutolinks),
+        Setting::Style(Style::Link(LinkStyle::InlinedPreferAutolinks)),
         "the same, but an address as its own text is an autolink",
     ),
     (
         "--link-style=referenced",
         "",
-        Setting::Link(LinkStyle::Referenced),
+        Setting::Style(Style::Link(LinkStyle::Referenced)),
         "links are references, and their definitions stand at the end",
     ),
     (
         "--link-reference-style=full",
         "",
-        Setting::Reference(LinkReferenceStyle::Full),
+        Setting::Style(Style::Reference(LinkReferenceStyle::Full)),
         "references are numbered (default)",
     ),
     (
         "--link-reference-style=collapsed",
         "",
-        Setting::Reference(LinkReferenceStyle::Collapsed),
+        Setting::Style(Style::Reference(LinkReferenceStyle::Collapsed)),
         "references are collapsed, as [text][]",
     ),
     (
         "--link-reference-style=shortcut",
         "",
-        Setting::Reference(LinkReferenceStyle::Shortcut),
+        Setting::Style(Style::Reference(LinkReferenceStyle::Shortcut)),
         "references are shortcuts, as [text]",
     ),
     (
         "--code-block-style=indented",
         "",
-        Setting::CodeBlock(CodeBlockStyle::Indented),
+        Setting::Style(Style::CodeBlock(CodeBlockStyle::Indented)),
         "code blocks are indented by four spaces",
     ),
     (
         "--code-block-style=fenced",
         "",
-        Setting::CodeBlock(CodeBlockStyle::Fenced),
+        Setting::Style(Style::CodeBlock(CodeBlockStyle::Fenced)),
         "code blocks stand between fences (default)",
     ),
     (
         "--code-block-fence=tildes",
         "",
-        Setting::Fence(CodeBlockFence::Tildes),
+        Setting::Style(Style::Fence(CodeBlockFence::Tildes)),
         "fences are tildes",
     ),
     (
         "--code-block-fence=backticks",
         "",
-        Setting::Fence(CodeBlockFence::Backticks),
+        Setting::Style(Style::Fence(CodeBlockFence::Backticks)),
         "fences are backticks (default)",
     ),
     (
         "--bullet-list-marker=asterisk",
         "",
-        Setting::Bullet(BulletListMarker::Asterisk),
+        Setting::Style(Style::Bullet(BulletListMarker::Asterisk)),
         "items of bullet lists begin with asterisks (default)",
     ),
     (
         "--bullet-list-marker=dash",
         "",
-        Setting::Bullet(BulletListMarker::Dash),
+        Setting::Style(Style::Bullet(BulletListMarker::Dash)),
         "items of bullet lists begin with dashes",
     ),
     (
@@ -322,6 +343,21 @@ fn setting_of(given: &str) -> Option<(Setting, &str)>
     setting_in(given, &OPTIONS)
 }
 
+fn set_style(options: &mut Options, style: Style)
+    ensures { options.new ≡ styled style options.old }
+{
+    match style {
+        Style::Heading(style) => options.heading_style = style,
+        Style::Rule(style) => options.hr_style = style,
+        Style::LineBreak(style) => options.br_style = style,
+        Style::Link(style) => options.link_style = style,
+        Style::Reference(style) => options.link_reference_style = style,
+        Style::CodeBlock(style) => options.code_block_style = style,
+        Style::Fence(symbol) => options.code_block_fence = symbol,
+        Style::Bullet(marker) => options.bullet_list_marker = marker,
+    }
+}
+
 impl<'a> Request<'a> {
     /// What is asked for without any option.
     fn new(alloc: Global) -> Request<'a>
@@ -348,21 +384,23 @@ impl<'a> Request<'a> {
             Setting::Text => self.settings.text = true,
             Setting::Body => self.settings.body = true,
             Setting::Html5 => self.settings.html5 = true,
+            Setting::Web => {
+                self.settings.html5 = true;
+                self.settings.guarded = true;
+            }
             Setting::Encoding => match encoding_named(value.as_bytes()) {
                 Some(encoding) => self.settings.encoding = Some(encoding),
                 None => return Ok(false),
             },
             Setting::Rows => self.rows = true,
+            Setting::Faithful => {
+                options.translation_mode = TranslationMode::Faithful;
+                self.settings.guarded = false;
+            }
+            Setting::Guarded => self.settings.guarded = true,
+            Setting::Mdast => self.settings.mdast = true,
             Setting::NoScripting => self.settings.scripting = false,
-            Setting::Translation(mode) => options.translation_mode = mode,
-            Setting::Heading(style) => options.heading_style = style,
-            Setting::Rule(style) => options.hr_style = style,
-            Setting::LineBreak(style) => options.br_style = style,
-            Setting::Link(style) => options.link_style = style,
-            Setting::Reference(style) => options.link_reference_style = style,
-            Setting::CodeBlock(style) => options.code_block_style = style,
-            Setting::Fence(symbol) => options.code_block_fence = symbol,
-            Setting::Bullet(marker) => options.bullet_list_marker = marker,
+            Setting::Style(style) => set_style(options, style),
             Setting::BulletSpacing => match number(value) {
                 Some(number) => options.ul_bullet_spacing = number,
                 None => return Ok(false),

@@ -4,13 +4,13 @@ ghost use Rattle.std.specs.Prelude.{OnOk, IfOk, IfErr, IsErrOf};
 ghost use Rattle.std.specs.Io.KnownBytes.{Appends, Consumes, IsAtEnd};
 ghost use Rattle.htmd.specs.Characters.{line_feed};
 ghost use Rattle.htmd.specs.FaultKind.{FaultKind};
-ghost use Rattle.htmd_cli.specs.Conversion.{IsMarkdownBy, IsReadable, IsRefusedBy, IsUnsupported, reads_any, text_in};
+ghost use Rattle.htmd_cli.specs.Conversion.{IsOutputBy, IsReadable, IsRefusedBy, IsUnsupported, reads_any, text_in};
 ghost use Rattle.htmd_encodings.specs.declared.encodings.UnsupportedEncoding.{UnsupportedEncoding};
 ghost use Rattle.htmd_streams.specs.Ends.{FailsAtErr};
 ghost use Rattle.htmd_cli.specs.Runs.{Ends};
 ghost use Rattle.htmd_cli.specs.Settings.{settings_in, settings_of};
 
-use crate::conversion::{markdown_of, text_of};
+use crate::conversion::{output_of, text_of};
 use crate::faults::RunError;
 use crate::settings::{Mode, Settings, settings_by};
 use htmd_streams::{Failed, Sink, Source, write_all};
@@ -120,10 +120,10 @@ fn convert_into<W: Sink>(
     }
 }
 
-// The Markdown of the text that an input holds.
+// What the text that an input holds becomes.
 fn converted(alloc: Global, input: &[u8], settings: &Settings<'_>) -> Result<String, RunError>
     ensures ok { IfOk result (λ markdown. IsReadable (settings_in settings.now) input.now
-        × IsMarkdownBy (settings_in settings.now)
+        × IsOutputBy (settings_in settings.now)
         (text_in (settings_in settings.now) input.now) (string_bytes markdown)) }
     ensures not_utf8 { IsErrOf result RunError.NotUtf8 → ¬ IsUtf8 input.now }
     ensures not_utf8_strict { IsErrOf result RunError.NotUtf8 → reads_any (settings_in settings.now) ≡ false }
@@ -140,7 +140,7 @@ fn converted(alloc: Global, input: &[u8], settings: &Settings<'_>) -> Result<Str
     ensures others { IfErr result (λ error. error ≢ RunError.Read × error ≢ RunError.Write) }
 {
     let text = text_of(alloc, settings, input)?;
-    Ok(markdown_of(alloc, settings, &text)?)
+    Ok(output_of(alloc, settings, &text)?)
 }
 
 // Writes the Markdown and a line feed, and flushes.

@@ -22,7 +22,7 @@ use std::fmt::Write;
 
 /// The program: reads its options, converts the source into the sink, and answers the exit status. 0 is
 /// success, 1 a run that did not succeed and 2 an option that is not known. If the options ask for the
-/// help or the version, that is written to the sink in place of the Markdown, and nothing is read. What
+/// help or the version, that is written to the sink in place of a conversion, and nothing is read. What
 /// went wrong is a line on the sink for errors; with `--explain`, if an input is refused or isn't UTF-8,
 /// that sink also gets where and why. Faults of that sink are ignored. The source and the sink must not
 /// have failed before.

@@ -26,7 +26,7 @@ const BUFFER_SIZE: usize = 65536;
 /// The line that ends the data.
 const END_MARK: &[u8] = b"\\.";
 
-/// Reads rows, and writes each again with the Markdown of its last field in that field's place. Rows go
+/// Reads rows, and writes each again with what its last field becomes in that field's place. Rows go
 /// out before the next read, and nothing is written of a row that isn't answered. A page that is refused
 /// gets a line on the sink for errors, and the row's last field is then null; with `explains` that sink
 /// gets more. An `Err` has the number of the row at which the run ended, from 1: the first one that

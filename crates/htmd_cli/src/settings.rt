@@ -28,6 +28,10 @@ pub struct Settings<'a> {
     pub html5: bool,
     /// The encoding of any page whose bytes have no mark, if it is known. Else what the page says of it counts.
     pub encoding: Option<Encoding>,
+    /// What a reader sees of the page is written, so that a reader of CommonMark reads it back.
+    pub guarded: bool,
+    /// What a reader sees of the page is written as JSON, in the form of mdast. Then `guarded` has no effect.
+    pub mdast: bool,
     /// The content of `noscript` is one text, else it is nodes.
     pub scripting: bool,
     pub options: Options,
@@ -36,8 +40,8 @@ pub struct Settings<'a> {
 }
 
 impl<'a> Settings<'a> {
-    /// The settings if no option is given: the input is HTML of the strict grammar, the options are the default ones,
-    /// scripting is on, and no element is skipped.
+    /// The settings if no option is given: the input is HTML of the strict grammar, its Markdown is that of the Rust
+    /// crate by the default options, scripting is on, and no element is skipped.
     pub fn new(alloc: Global) -> Settings<'a>
         ensures { settings_in result ≡ default_settings }
     {
@@ -46,6 +50,8 @@ impl<'a> Settings<'a> {
             body: false,
             html5: false,
             encoding: None,
+            guarded: false,
+            mdast: false,
             scripting: true,
             options: Options::default(),
             skipped: Vec::new(alloc),

@@ -25,8 +25,8 @@ piece signs b s =
     then backslash ∷ b ∷ []
     else (if (b == ampersand) && is_reference s then codes "&amp;" else b ∷ [])
 
--- The text with a backslash before each of the signs, and before each backslash that would escape; the `&` of what would
--- be a character reference stands as one.
+-- The text with a backslash before each of the signs, and before each backslash that would escape; the `&` of what
+-- would be a character reference stands as one.
 abbrev pub escaped_in : List ℕ → List ℕ → List ℕ
 escaped_in signs [] = []
 escaped_in signs (b ∷ s) = piece signs b s ++ escaped_in signs s

@@ -175,10 +175,11 @@ abbrev pub item_count : Items → ℕ
 item_count no_items = 0
 item_count (item first rest) = suc (item_count rest)
 
--- the markers of a list of so many items with this start or none, by the sign of the list before it and by the item that
--- it begins
+-- the markers of a list of so many items with this start or none, by the sign of the list before it and by the item
+-- that it begins
 abbrev pub markers_of : DocumentOptions → Option Sign → Option Sign → Option ℕ → ℕ → Markers
-markers_of options before outer None count = Bullets (bullet_of options.bullet_list_marker before outer) options.ul_bullet_spacing
+markers_of options before outer None count =
+    Bullets (bullet_of options.bullet_list_marker before outer) options.ul_bullet_spacing
 markers_of options before outer (Some start) count =
     Numbers start (start + count - 1) (delimiter_of before) options.ol_number_spacing
 

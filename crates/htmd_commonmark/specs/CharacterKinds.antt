@@ -1,4 +1,4 @@
--- The characters at the ends of a text, and what a character is to the marks beside it (CommonMark 0.31.2, 2.1 and 6.2).
+-- The characters at the ends of a text, and what a character is to the marks beside it (CommonMark 0.31.2, 2.1, 6.2).
 use Rattle.std.specs.Prelude.{ℕ, Bool, true, false, not, ◌||◌, List, Option, reverse, slice_get}
 use Rattle.std.specs.Char.{is_ascii_punctuation, is_ascii_whitespace}
 use Rattle.std.specs.Str.{chars}

@@ -23,8 +23,8 @@ abbrev pub gap : ℕ → List ℕ → List ℕ
 gap spaces [] = []
 gap spaces (b ∷ s) = replicate spaces space
 
--- An item: the marker and this many spaces before the first line, and as many as both take before the others that aren't
--- empty (5.2).
+-- An item: the marker and this many spaces before the first line, and as many as both take before the others that
+-- aren't empty (5.2).
 abbrev pub indented : List ℕ → ℕ → List ℕ → List ℕ
 indented marker spaces s =
     marker ++ gap spaces s ++ indented_lines (length marker + spaces) (slice_split is_line_feed s)

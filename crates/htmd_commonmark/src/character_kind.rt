@@ -1,4 +1,4 @@
-//! The characters at the ends of a text, and what a character is to the marks beside it (CommonMark 0.31.2, 2.1 and 6.2).
+//! The characters at the ends of a text, and what a character is to the marks beside it (CommonMark 0.31.2, 2.1, 6.2).
 ghost use Rattle.std.specs.Prelude.{◌≡◌, length};
 ghost use Rattle.std.specs.Str.{chars};
 ghost use Rattle.htmd_commonmark.specs.CharacterKinds as spec;
@@ -37,7 +37,7 @@ pub(crate) fn is_space(c: char) -> bool
         )
 }
 
-/// Whether a mark can stand beside the character in the eyes of any reader: it is no white space, punctuation or symbol.
+/// Whether a mark can stand beside the character for any reader: it is no white space, punctuation or symbol.
 pub(crate) fn is_word(c: char) -> bool
     ensures { result ≡ spec.is_word c }
 {

@@ -14,8 +14,8 @@ use std::marker::Model;
 /// What stands before a line of a quote.
 const QUOTE: &str = "> ";
 
-/// What was written so far, and what is due on the line. The prefix is written when the first character of a line comes;
-/// an empty line gets it without the spaces at its end.
+/// What was written so far, and what is due on the line. The prefix is written when the first character of a line
+/// comes; an empty line gets it without the spaces at its end.
 #[derive(Drop)]
 pub(crate) struct Lines {
     out: String,
@@ -166,8 +166,8 @@ impl Lines {
     }
 }
 
-/// Appends what is due on a line on which nothing follows: spaces, and of the prefix what the line doesn't have, without
-/// spaces at its end.
+/// Appends what is due on a line on which nothing follows: spaces, and of the prefix what the line doesn't have,
+/// without spaces at its end.
 fn push_bare_prefix(
     out: &mut String,
     prefix: &str,

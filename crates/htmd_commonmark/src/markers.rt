@@ -1,12 +1,10 @@
 //! The markers of a list's items (CommonMark 0.31.2, 5.2 and 5.3).
-ghost use Rattle.std.specs.Prelude.{◌≡◌, ◌<◌, ◌≤◌, ◌^◌, OnOk, string_bytes};
-ghost use Rattle.htmd_markdown.specs.ListItems as items;
+ghost use Rattle.std.specs.Prelude.{◌≡◌, ◌<◌, ◌^◌, OnOk, string_bytes};
 ghost use Rattle.htmd_commonmark.specs.BlockMarkdown as spec;
 ghost use Rattle.htmd_commonmark.specs.Pages.{IsMarker};
 
 use crate::options::DocumentOptions;
-use htmd_markdown::BulletListMarker;
-use htmd_text::digits;
+use htmd_markdown::{BulletListMarker, aligned_spaces};
 use std::alloc::AllocError;
 
 /// A bullet, or what ends a number.
@@ -61,8 +59,8 @@ pub(crate) enum Markers {
 }
 
 impl Markers {
-    /// The markers of a list of so many items, numbered from the start if there is one. `before` is the sign of the list
-    /// that stands before, `outer` the bullet of the item that begins with this list.
+    /// The markers of a list of so many items, numbered from the start if there is one. `before` is the sign of the
+    /// list that stands before, `outer` the bullet of the item that begins with this list.
     pub(crate) fn of(
         options: &DocumentOptions,
         start: Option<u32>,
@@ -191,12 +189,4 @@ fn delimiter(before: Option<Sign>) -> Sign
     } else {
         Sign::FullStop
     }
-}
-
-/// The spaces after the sign of a number: as many as asked for, and one for each digit more that the highest number has.
-fn aligned_spaces(spacing: u8, highest: usize, number: usize) -> usize
-    ensures bound { result ≤ 275 }
-    ensures value { result ≡ items.aligned_spaces spacing highest number }
-{
-    spacing as usize + digits(highest).saturating_sub(digits(number))
 }

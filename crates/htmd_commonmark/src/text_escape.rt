@@ -1,4 +1,4 @@
-//! A text with a backslash before each character that a reader would take for more than itself (CommonMark 0.31.2, 2.4).
+//! A text with a backslash before each character that a reader would take for more (CommonMark 0.31.2, 2.4).
 ghost use Rattle.std.specs.Prelude.{◌≡◌, ◌<◌, ◌++◌, ◌-◌, ◌&&◌, ◌||◌, ◌==◌, ℕ, not, OnOk, length, slice_index, string_bytes};
 ghost use Rattle.htmd_grammar.specs.Characters.{underscore};
 ghost use Rattle.htmd_text.specs.EscapeMarks.{is_place};

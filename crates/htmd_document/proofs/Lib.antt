@@ -1,4 +1,34 @@
 -- Lemmas on documents.
-pub mod DocumentsLemmas
+pub mod RolesLemmas
+pub mod AttributesLemmas
+pub mod WordsLemmas
+pub mod ShownLemmas
+pub mod NestingLemmas
+pub mod NestLemmas
+pub mod LevelsLemmas
+pub mod FlowLemmas
+pub mod FlowBlocksLemmas
+pub mod FlowLeavesLemmas
+pub mod CodeTextsLemmas
+mod TreeExamples
+pub mod ShownTextsLemmas
+pub mod SpacesLemmas
+pub mod ParagraphsLemmas
+pub mod ListsLemmas
+pub mod TablesLemmas
+pub mod AllTextsLemmas
+pub mod FlowLoopsLemmas
+pub mod FlowContentLemmas
+pub mod FlowItemsLemmas
+pub mod FlowPartsLemmas
+pub mod FlowTablesLemmas
+pub mod FlowElementLemmas
+pub mod FlowStepsLemmas
+pub mod GridsLemmas
+pub mod BlanksLemmas
+pub mod TableLinesLemmas
+pub mod GroupsLemmas
+mod ParagraphExamples
+pub mod ListBlocksLemmas
 pub mod MdastLemmas
 pub mod MdastPlainLemmas

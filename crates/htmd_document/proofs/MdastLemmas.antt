@@ -24,7 +24,7 @@ use Rattle.htmd_document.specs.Documents.{Inline, Inlines, no_inlines, inline, B
 use Rattle.htmd_document.specs.DocumentViews.{inline_step, inline_of, inlines_of, block_step, block_of, blocks_of}
 use Rattle.htmd_document.specs.Mdast.{beside, one_item, with_value, between, node_data, children_data, inlines_data, block_data, within_data}
 use Rattle.htmd_document.specs.Mdast.{blocks_data, items_data, item_data, checked_data}
-use Rattle.htmd_document.proofs.DocumentsLemmas.{map-append, take-step}
+use Rattle.htmd_document.proofs.NestLemmas.{map-append, take-step}
 
 -- ---- values after others
 
@@ -61,7 +61,8 @@ between-pushed old mid mid' new children v w before after p q r e f =
     ∙ (beside-assoc (beside (items_view old) first) kids last
     ∙ (beside-assoc (items_view old) first (beside kids last)
     ∙ (ap (λ d. beside (items_view old) (json.item d (beside kids last))) e
-    ∙ ap (λ d. beside (items_view old) (json.item (with_value (codes "html") before) (beside kids (one_item d)))) f))))))
+    ∙ ap (λ d. beside (items_view old) (json.item (with_value (codes "html") before) (beside kids (one_item d))))
+    f))))))
 
 map-map : {A B C : Type 0} (f : B → C) (g : A → B) (xs : List A) → map (λ x. f (g x)) xs ≡ map f (map g xs)
 map-map f g [] = refl
@@ -115,9 +116,11 @@ inlines-more : (xs : List Inline) (x : Inline) → inlines_data (value.inlines_o
     ≡ beside (inlines_data (value.inlines_of xs)) (node_data x (children_data x))
 inlines-more [] x = beside-none (node_data x (children_data x))
 inlines-more (y ∷ xs) x = ap (beside (node_data y (children_data y))) (inlines-more xs x)
-    ∙ sym (beside-assoc (node_data y (children_data y)) (inlines_data (value.inlines_of xs)) (node_data x (children_data x)))
+    ∙ sym (beside-assoc (node_data y (children_data y)) (inlines_data (value.inlines_of xs))
+    (node_data x (children_data x)))
 
-pub inlines-step : (xs : List declared_inline.Inline) (i : ℕ) (x : declared_inline.Inline) (old new children : json.Items)
+pub inlines-step : (xs : List declared_inline.Inline) (i : ℕ) (x : declared_inline.Inline)
+    (old new children : json.Items)
     → i < length xs → x ≡ get_or xs i x → children ≡ children_data (inline_of x)
     → old ≡ inlines_data (value.inlines_of (take i (map inline_of xs)))
     → new ≡ beside old (node_data (inline_of x) children)
@@ -143,7 +146,8 @@ blocks-more false [] b = refl
 blocks-more true (c ∷ bs) b =
     let none : (length (c ∷ bs) == 0) ≡ false = grind (arith, nat_tests) in
     ap (json.item (block_data true c (within_data c))) (later-blocks bs b)
-    ∙ ap (λ r. beside (blocks_data true (value.blocks_of (c ∷ bs))) (one_item (block_data r b (within_data b)))) (sym none)
+    ∙ ap (λ r. beside (blocks_data true (value.blocks_of (c ∷ bs))) (one_item (block_data r b (within_data b))))
+    (sym none)
 blocks-more false (c ∷ bs) b = ap (json.item (block_data false c (within_data c))) (later-blocks bs b)
 
 pub blocks-step : (in_item is_first : Bool) (bs : List declared_block.Block) (i : ℕ) (b : declared_block.Block)
@@ -167,7 +171,8 @@ blocks-step in_item is_first bs i b old new children made h e c f m p q =
 
 -- ---- one more item
 
-items-more : (is_tight : Bool) (items : List Blocks) (bs : Blocks) → items_data is_tight (value.items_of (items ++ bs ∷ []))
+items-more : (is_tight : Bool) (items : List Blocks) (bs : Blocks) → items_data is_tight
+    (value.items_of (items ++ bs ∷ []))
     ≡ beside (items_data is_tight (value.items_of items))
     (one_item (item_data is_tight (checked_data bs) (blocks_data true bs)))
 items-more is_tight [] bs = refl
@@ -206,18 +211,21 @@ inline-deleted xs = ap inline_of (sym (rolls-Deleted xs)) ∙ fold-roll-Inline I
 
 pub inline-superscript : (xs : Vec declared_inline.Inline Global)
     → inline_of (Superscript xs) ≡ value.formatted value.superscript (inlines_of xs.items)
-inline-superscript xs = ap inline_of (sym (rolls-Superscript xs)) ∙ fold-roll-Inline Inline inline_step (Inline-F.Superscript xs)
+inline-superscript xs =
+    ap inline_of (sym (rolls-Superscript xs)) ∙ fold-roll-Inline Inline inline_step (Inline-F.Superscript xs)
 
 pub inline-subscript : (xs : Vec declared_inline.Inline Global)
     → inline_of (Subscript xs) ≡ value.formatted value.subscript (inlines_of xs.items)
-inline-subscript xs = ap inline_of (sym (rolls-Subscript xs)) ∙ fold-roll-Inline Inline inline_step (Inline-F.Subscript xs)
+inline-subscript xs =
+    ap inline_of (sym (rolls-Subscript xs)) ∙ fold-roll-Inline Inline inline_step (Inline-F.Subscript xs)
 
 pub block-list : (start : Option ℕ) (tight : Bool) (items : Vec (Vec declared_block.Block Global) Global)
     → block_of (built_block.List start tight items)
     ≡ value.list start tight (value.items_of (map (λ bs. blocks_of bs.items) items.items))
 block-list start tight items = ap block_of (sym (rolls-List start tight items))
     ∙ (fold-roll-Block Block block_step (Block-F.List start tight items)
-    ∙ ap (λ xs. value.list start tight (value.items_of xs)) (sym (map-map (λ bs. value.blocks_of bs.items) _ items.items)))
+    ∙ ap (λ xs. value.list start tight (value.items_of xs)) (sym
+    (map-map (λ bs. value.blocks_of bs.items) _ items.items)))
 
 -- ---- a text that no space begins
 

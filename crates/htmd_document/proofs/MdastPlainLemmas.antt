@@ -73,7 +73,8 @@ mutual
 mapped-plain : {A : Type 0} (f : A → Data) → ((x : A) → has_float (f x) ≡ false) → (xs : List A)
     → items_have_float (items_of (map f xs)) ≡ false
 mapped-plain f h [] = refl
-mapped-plain f h (x ∷ xs) = or-false (has_float (f x)) (items_have_float (items_of (map f xs))) (h x) (mapped-plain f h xs)
+mapped-plain f h (x ∷ xs) =
+    or-false (has_float (f x)) (items_have_float (items_of (map f xs))) (h x) (mapped-plain f h xs)
 
 row-plain : (cells : List Inlines) → has_float (row_data cells) ≡ false
 row-plain cells = rw (mapped-plain cell_data (λ cell. rw (inlines-plain cell) refl) cells) refl
@@ -93,7 +94,12 @@ block-plain is_first (quote bs) cs h = rw h refl
 block-plain is_first thematic_break cs h = refl
 block-plain is_first (value.list start is_tight items) cs h = rw (h, start-plain start) refl
 block-plain is_first (table alignments header rows) cs h =
-    rw (mapped-plain alignment_data alignment-plain alignments, row-plain header, mapped-plain row_data row-plain rows) refl
+    rw (
+      mapped-plain alignment_data alignment-plain alignments,
+      row-plain header,
+      mapped-plain row_data row-plain
+          rows,
+    ) refl
 
 first-plain : (x : Inline) (xs : Inlines) (bs : Blocks)
     → has_float (checked_data (block (paragraph (inline x xs)) bs)) ≡ false
@@ -129,11 +135,13 @@ mutual
   blocks-plain : (in_item : Bool) (bs : Blocks) → items_have_float (blocks_data in_item bs) ≡ false
   blocks-plain in_item no_blocks = refl
   blocks-plain in_item (block b bs) = or-false (has_float (block_data in_item b (within_data b)))
-      (items_have_float (blocks_data false bs)) (block-plain in_item b (within_data b) (within-plain b)) (blocks-plain false bs)
+      (items_have_float (blocks_data false bs)) (block-plain in_item b (within_data b) (within-plain b))
+      (blocks-plain false bs)
 
   items-plain : (is_tight : Bool) (items : value.Items) → items_have_float (items_data is_tight items) ≡ false
   items-plain is_tight value.no_items = refl
-  items-plain is_tight (value.item bs items) = rw (checked-plain bs, blocks-plain true bs, items-plain is_tight items) refl
+  items-plain is_tight (value.item bs items) = rw (checked-plain bs, blocks-plain true bs, items-plain is_tight items)
+      refl
 
 pub root-plain : (bs : Blocks) → has_float (root_data bs) ≡ false
 root-plain bs = rw (blocks-plain false bs) refl

@@ -1,4 +1,30 @@
--- What a document is, and what it is as JSON.
+-- What a document is, and what is the document of a tree.
 pub mod Documents
 pub mod DocumentViews
+pub mod Parts
+pub mod PartViews
+pub mod ShownTexts
+pub mod Spaces
+pub mod SpaceViews
+pub mod Nesting
+pub mod NestViews
+pub mod Paragraphs
+pub mod Roles
+pub mod Shown
+pub mod SightFacts
+pub mod SightViews
+pub mod Attributes
+pub mod AllTexts
+pub mod Contexts
+pub mod Tables
+pub mod Grids
+pub mod GridViews
+pub mod Lists
+pub mod ListViews
+pub mod GroupViews
+pub mod Flows
+pub mod TableViews
+pub mod FlowViews
+pub mod TreeDocuments
+pub mod ParagraphViews
 pub mod Mdast

@@ -2,6 +2,7 @@
 use Rattle.std.specs.Prelude.{ℕ, Bool, true, false, not, List, [], ◌∷◌, ◌==◌, map, codes, Option, Some, None, if◌then◌else◌}
 use Rattle.serde_json.specs.Data as json
 use Rattle.serde_json.specs.View.{items_of}
+use Rattle.serde_json.specs.Written.{compact_text}
 use Rattle.serde_json.specs.Data.{Data, null, boolean, number, unsigned, string, array, object}
 use Rattle.htmd_grammar.specs.Characters.{space}
 use Rattle.htmd_document.specs.Documents as value
@@ -194,3 +195,7 @@ abbrev mutual
 -- the whole document
 abbrev pub root_data : Blocks → Data
 root_data bs = parent (codes "root") (blocks_data false bs)
+
+-- its JSON
+abbrev pub mdast_of : Blocks → List ℕ
+mdast_of bs = compact_text (root_data bs)

@@ -25,8 +25,8 @@ pub enum Block {
     Quote(Vec<Block>),
     /// A thematic break.
     ThematicBreak,
-    /// Items, each of blocks. A list with a start is numbered from it, and one without has bullets. The items of a tight
-    /// list stand close together.
+    /// Items, each of blocks. A list with a start is numbered from it, and one without has bullets. The items of a
+    /// tight list stand close together.
     List {
         start: Option<u32>,
         tight: bool,

@@ -2,13 +2,11 @@
 ghost use Rattle.std.specs.Prelude.{◌≡◌, ◌++◌, ◌∷◌, [], ℕ, List, Ok, IfOk, true, false, string_bytes};
 ghost use Rattle.htmd.specs.BuiltIn.{built_in};
 ghost use Rattle.htmd.specs.Characters.{line_feed};
-ghost use Rattle.htmd.specs.Conversions.{DenotesNothing, IsMarkdownOf};
+ghost use Rattle.htmd.specs.Conversions.{DenotesNothing, IsMarkdownOf, html5_markdown};
 ghost use Rattle.htmd.specs.Defaults.{default_options};
-ghost use Rattle.htmd_html5.specs.Documents.{html5_document};
-ghost use Rattle.htmd_laws.specs.Letters.{letters, said};
 
-use htmd::{ConvertError, HtmlToMarkdown, Tree, convert};
-use htmd_laws::conversion::every_letter_once;
+use htmd::{ConvertError, HtmlToMarkdown, convert};
+use htmd_laws::grammar::at_most_one_tree;
 use std::alloc::{AllocError, Global};
 
 /// The Markdown of a text, and a line feed after it.
@@ -35,21 +33,20 @@ pub(crate) fn is_html(alloc: Global, html: &str) -> Result<bool, AllocError>
     }
 }
 
-/// The Markdown of a tree: it says each letter of the tree once, in order.
-pub(crate) fn with_every_letter(alloc: Global, tree: &Tree) -> Result<String, AllocError>
-    ensures { IfOk result (λ text. letters (string_bytes text) ≡ said default_options tree.now 0) }
+/// The Markdown of a text: no other text is its Markdown.
+pub(crate) fn the_markdown(alloc: Global, html: &str) -> Result<String, ConvertError>
+    ensures { IfOk result (λ text. (other : List ℕ)
+        → IsMarkdownOf (built_in default_options) true html.now other → other ≡ string_bytes text) }
 {
-    every_letter_once();
-    let converter = HtmlToMarkdown::new(alloc)?;
-    converter.tree_to_markdown(alloc, tree, tree.root())
+    at_most_one_tree();
+    convert(alloc, html)
 }
 
-/// The Markdown of any page, as browsers read it: it says each letter of the page's tree once, in order.
+/// The Markdown of any page, as browsers read it.
 pub(crate) fn of_any_page(alloc: Global, html: &str) -> Result<String, AllocError>
-    ensures { IfOk result (λ text. letters (string_bytes text)
-        ≡ said default_options (html5_document true html.now) 0) }
+    ensures { IfOk result (λ text. string_bytes text
+        ≡ html5_markdown (built_in default_options) true html.now) }
 {
-    every_letter_once();
     let converter = HtmlToMarkdown::new(alloc)?;
     converter.convert_html5(alloc, html)
 }

@@ -4,16 +4,18 @@
 mod abbreviations;
 mod clauses;
 mod closures;
+mod documents;
 mod either;
 mod pages;
 mod settings;
 mod skipping;
 
 use abbreviations::spelled_out_page;
-use clauses::{as_file, is_html, of_any_page, with_every_letter};
+use clauses::{as_file, is_html, of_any_page, the_markdown};
 use closures::shouted;
+use documents::{what_shows, with_note};
 use either::site_heading;
-use htmd::{ConvertError, Tree, TreeError, convert};
+use htmd::{ConvertError, HtmlToMarkdown, Tree, TreeError, convert};
 use pages::three_pages;
 use settings::{faithful, underlined};
 use skipping::without_asides;
@@ -35,7 +37,8 @@ fn built(alloc: Global) -> Result<String, TreeError> {
     let mut tree = Tree::new(alloc)?;
     let heading = tree.add_element(tree.root(), "h1", Vec::new(alloc))?;
     tree.add_text(heading, "Hello, *world*")?;
-    Ok(with_every_letter(alloc, &tree)?)
+    let converter = HtmlToMarkdown::new(alloc)?;
+    Ok(converter.tree_to_markdown(alloc, &tree, tree.root())?)
 }
 
 fn main(rt: HostRuntime) -> io::Result<()> {
@@ -48,6 +51,7 @@ fn main(rt: HostRuntime) -> io::Result<()> {
         without_asides(alloc),
         shouted(alloc),
         as_file(alloc, "<p>A file</p>"),
+        the_markdown(alloc, "<p>No other</p>"),
         three_pages(alloc),
         spelled_out_page(alloc),
         site_heading(alloc),
@@ -64,6 +68,15 @@ fn main(rt: HostRuntime) -> io::Result<()> {
     match of_any_page(alloc, "<ul><li>left<li>open") {
         Ok(markdown) => println!(rt; "{markdown}")?,
         Err(error) => eprintln!(rt; "{error}")?,
+    }
+    for answer in [
+        what_shows(alloc, "<ul><li>one</ul><ul><li>x<sup>2</sup></ul>"),
+        with_note(alloc, "<hr><h2>Two</h2>", "1. From *htmd*"),
+    ] {
+        match answer {
+            Ok(markdown) => println!(rt; "{markdown}")?,
+            Err(error) => eprintln!(rt; "{error}")?,
+        }
     }
     for html in ["<p>closed</p>", "<p>open"] {
         match is_html(alloc, html) {

@@ -3,7 +3,6 @@
 //! has what it says. The program is built without them.
 #![tactic(auto)]
 
-pub mod conversion;
 pub mod runs;
 
-pub use htmd_tree_laws::grammar;
+pub use htmd_tree_laws::{conversion, grammar};

@@ -2,9 +2,8 @@
 ghost use Rattle.htmd_laws.specs.FieldLaws.{FieldsReadBack};
 ghost use Rattle.htmd_laws.specs.OneParagraphLaws.{ParagraphReadsBack};
 
-/// In Pure and Faithful, what a run writes for the text of one paragraph, without its final line feed, reads back:
-/// without the backslashes that escape, it is the text, its white space squeezed and cut at both ends. It is nothing if
-/// that is empty.
+/// What a run writes for the text of one paragraph, without its final line feed, reads back: without the backslashes
+/// that escape, it is the text, its white space squeezed and cut at both ends. It is nothing if that is empty.
 pub fn paragraph_reads_back()
     ensures { ParagraphReadsBack }
 {}

@@ -1,22 +1,26 @@
 -- What a normalised cell holds.
-use Rattle.std.proofs.Common.{◌≡◌, ℕ, suc, ◌<◌, ◌≤◌, Bool, true, false, List, [], ◌∷◌, ◌++◌, length, get_or}
-use Rattle.std.proofs.Common.{refl, sym, ap, ◌∙◌, subst, arith, ⊎_elim, codes}
+use Rattle.std.proofs.Common.{◌≡◌, ℕ, suc, ◌+◌, ◌<◌, ◌≤◌, Bool, true, false, List, [], ◌∷◌, ◌++◌, length, get_or, drop}
+use Rattle.std.proofs.Common.{append_assoc, refl, sym, ap, ◌∙◌, subst, arith, ⊎_elim, codes}
 use Rattle.std.specs.Prelude.{reverse, not, ◌&&◌, ◌==◌, nat_lt}
-use Rattle.std.specs.List.{flat_map, list_all}
-use Rattle.std.specs.Str.{IsUtf8, all_scalars, encode_utf8_all}
+use Rattle.std.specs.List.{between, flat_map, list_all}
+use Rattle.std.specs.Str.{IsCharBoundary, IsUtf8, all_scalars, encode_utf8_all}
 use Rattle.std.specs.Char.{encode_utf8}
 use lib.Utf8.{encode, scalar, low_scalar}
 use Rattle.std.proofs.lemmas.Bool.{and_parts, cases_Bool, false≢true, eqb-true}
 use Rattle.std.proofs.lemmas.Bool.Decides.{nat_tests}
-use Rattle.std.proofs.lemmas.List.{append-nil, reverse-append}
+use Rattle.std.proofs.lemmas.List.{append-nil, reverse-append, drop_more, drop_all}
+use Rattle.std.proofs.lemmas.List.Edits.{between_more, between_none}
+use Rattle.std.proofs.lemmas.Slice.{between_to_end}
 use Rattle.std.proofs.lemmas.List.Folds.{list_all-append}
 use Rattle.std.proofs.lemmas.List.Concat.{flat_map-append}
 use Rattle.std.proofs.lemmas.Str.{IsUtf8-nil, IsUtf8-append, IsUtf8-take, IsUtf8-drop, encode_ascii, inside_one}
+use Rattle.std.proofs.lemmas.Str.{IsCharBoundary-start, IsCharBoundary-after_ascii}
 use Rattle.htmd_grammar.specs.Characters.{line_feed, carriage_return, space, vertical_bar}
 use Rattle.htmd_text.specs.Trims.{trimmed_text, trimmed_start}
 use Rattle.htmd_grammar.specs.WhiteSpace.{is_document_white_space}
 use Rattle.htmd_text.proofs.TrimsLemmas.{start_boundary, end_boundary, document_of_ascii}
 use Rattle.htmd_markdown.specs.Tables.{in_cell, normalised_cell}
+use Rattle.htmd_markdown.specs.CellBytes.{IsReplaced}
 use Rattle.htmd_markdown.proofs.TrimmedTexts.{Begins, IsBare, trimmed_is, trimmed_between}
 
 -- what stands for a byte, case by case
@@ -164,7 +168,7 @@ low_text b low =
     (λ is. (codes "&#124;", (refl, refl)))
     (λ f r v. (b ∷ [], (ap (λ t. t && true) (low_scalar b (omega arith)), ap (λ l. l ++ []) (encode_ascii b low))))
 
-pub high_byte : (x c : ℕ) → 128 ≤ c → (x < 128 → c ≡ x) → 128 ≤ x
+high_byte : (x c : ℕ) → 128 ≤ c → (x < 128 → c ≡ x) → 128 ≤ x
 high_byte x c high same =
     ⊎_elim
     (λ (yes : nat_lt x 128 ≡ true).
@@ -198,7 +202,7 @@ characters_in_cells (c ∷ cs) good =
 text_in_cells : (s : List ℕ) → IsUtf8 s → IsUtf8 (flat_map in_cell s)
 text_in_cells s (cs, (good, e)) = subst (λ (l : List ℕ). IsUtf8 (flat_map in_cell l)) e (characters_in_cells cs good)
 
-pub trimmed_is_text : (s : List ℕ) → IsUtf8 s → IsUtf8 (trimmed_text is_document_white_space s)
+trimmed_is_text : (s : List ℕ) → IsUtf8 s → IsUtf8 (trimmed_text is_document_white_space s)
 trimmed_is_text s text =
     let rest = trimmed_start is_document_white_space s in
     IsUtf8-take rest _ (IsUtf8-drop s _ text (start_boundary is_document_white_space s text document_of_ascii))
@@ -220,3 +224,58 @@ normalised_is_cell cell text = record {
   line_feeds = ap (lacks line_feed) (normalised_is cell) ∙ all_in_cells (λ b. not (b == line_feed)) no_line_feed
       (trimmed_text is_document_white_space cell);
 }
+
+-- ---- a cell, byte by byte
+
+-- as far as i the cell is written, but for what stands from `from` on
+pub record Normalising (cell old out : List ℕ) (from i : ℕ) : Type 0 where
+  pub in_order : from ≤ i
+  pub cut : IsCharBoundary cell from
+  pub whole : out ++ (between from i cell ++ flat_map in_cell (drop i cell)) ≡ old ++ flat_map in_cell cell
+
+pub normalising_none : (cell old : List ℕ) → IsUtf8 cell → Normalising cell old old 0 0
+normalising_none cell old text = record {
+  in_order = omega arith;
+  cut = IsCharBoundary-start cell text;
+  whole = refl;
+}
+
+pub normalising_stays : (cell old out : List ℕ) (from i : ℕ) → i < length cell
+    → in_cell (get_or cell i 0) ≡ get_or cell i 0 ∷ [] → Normalising cell old out from i
+    → Normalising cell old out from (i + 1)
+normalising_stays cell old out from i lt stays was = record {
+  in_order = omega (arith, was.in_order);
+  cut = was.cut;
+  whole =
+      let b = get_or cell i 0 in
+      let rest = flat_map in_cell (drop (i + 1) cell) in
+      let first : flat_map in_cell (drop i cell) ≡ b ∷ rest = ap (flat_map in_cell) (drop_more cell i 0 lt)
+      ∙ ap (λ l. l ++ rest) stays in
+      let grown : between from (i + 1) cell ++ rest ≡ between from i cell ++ b ∷ rest =
+      ap (λ l. l ++ rest) (between_more cell from i 0 was.in_order lt)
+      ∙ append_assoc (between from i cell) (b ∷ []) rest in
+      ap (λ l. out ++ l) (grown ∙ ap (λ l. between from i cell ++ l) (sym first)) ∙ was.whole;
+}
+
+pub normalising_replaced : (cell old out instead : List ℕ) (from i : ℕ) → IsUtf8 cell → i < length cell
+    → IsReplaced (get_or cell i 0) instead → Normalising cell old out from i
+    → Normalising cell old ((out ++ between from i cell) ++ instead) (i + 1) (i + 1)
+normalising_replaced cell old out instead from i text lt here was = record {
+  in_order = omega arith;
+  cut = IsCharBoundary-after_ascii cell i text lt here.ascii;
+  whole =
+      let rest = flat_map in_cell (drop (i + 1) cell) in
+      let first : flat_map in_cell (drop i cell) ≡ instead ++ rest = ap (flat_map in_cell) (drop_more cell i 0 lt)
+      ∙ ap (λ l. l ++ rest) here.text in
+      rw (between_none cell (i + 1), append_assoc, append_assoc)
+      (ap (λ l. out ++ (between from i cell ++ l)) (sym first) ∙ was.whole);
+}
+
+pub normalising_all : (cell old out : List ℕ) (from i : ℕ) → length cell ≤ i → Normalising cell old out from i
+    → out ++ between from (length cell) cell ≡ old ++ flat_map in_cell cell
+normalising_all cell old out from i past was =
+    let piece : between from (length cell) cell ≡ between from i cell =
+    between_to_end cell from (length cell) (omega arith) ∙ sym (between_to_end cell from i past) in
+    let ended : flat_map in_cell (drop i cell) ≡ [] = ap (flat_map in_cell) (drop_all i cell past) in
+    rw piece (ap (λ l. out ++ l) (sym (append-nil (between from i cell))
+    ∙ ap (λ l. between from i cell ++ l) (sym ended)) ∙ was.whole)

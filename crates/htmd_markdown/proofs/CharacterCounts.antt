@@ -1,21 +1,20 @@
 -- Characters of a text, counted by the bytes that begin one.
-use Rattle.std.proofs.Common.{◌≡◌, ℕ, Bool, min, drop, get_or, ◌+◌, ◌/◌, ◌%◌, ◌<◌, ◌≤◌, true, false, List, [], ◌∷◌}
-use Rattle.std.proofs.Common.{◌++◌, length, refl, sym, ap}
+use Rattle.std.proofs.Common.{◌≡◌, ℕ, ◌+◌, ◌/◌, ◌%◌, ◌<◌, ◌≤◌, true, false, List, [], ◌∷◌, ◌++◌, length, refl, sym, ap}
 use Rattle.std.proofs.Common.{◌∙◌, arith, ⊎_elim}
-use Rattle.std.specs.Prelude.{nat_lt, count_by, cond}
+use Rattle.std.specs.Prelude.{nat_lt, count_by, sum_by, cond}
+use Rattle.std.specs.List.{flat_map}
 use Rattle.std.specs.Str.{IsUtf8, encode_utf8_all, chars}
 use Rattle.std.specs.Char.{encode_utf8}
 use lib.Utf8.{encode}
 use Rattle.std.proofs.lemmas.Bool.{cases_Bool}
 use Rattle.std.proofs.lemmas.Bool.Decides.{nat_tests}
-use Rattle.std.proofs.lemmas.List.{drop_more, drop_all}
-use Rattle.std.proofs.lemmas.List.Sums.{sum_by-append}
+use Rattle.std.proofs.lemmas.List.Sums.{sum_by-cons, sum_by-append}
 use Rattle.std.proofs.lemmas.Str.{chars_from_encodes}
 use Rattle.htmd_text.specs.Trims.{trimmed_text}
 use Rattle.htmd_grammar.specs.WhiteSpace.{is_document_white_space}
-use Rattle.htmd_markdown.specs.declared.table.Bars.{Bars}
-use Rattle.htmd_markdown.specs.CellBytes.{begins_character, byte_width, piece, pieces, escapes_next, cell_of}
-use Rattle.htmd_markdown.proofs.PiecesLemmas.{pieces_are, cell_is_text}
+use Rattle.htmd_markdown.specs.CellBytes.{begins_character, byte_width}
+use Rattle.htmd_markdown.specs.Tables.{in_cell, normalised_cell, cell_width}
+use Rattle.htmd_markdown.proofs.CellsLemmas.{normalised_is, normalised_is_cell}
 
 -- how many bytes begin a character
 abbrev pub characters : List ℕ → ℕ
@@ -87,38 +86,18 @@ pub characters_are : (s : List ℕ) → IsUtf8 s → characters s ≡ length (ch
 characters_are s (cs, (good, e)) =
     ap characters (sym e) ∙ encoded cs ∙ ap length (chars_from_encodes cs s (cs, (good, e)) e)
 
--- As far as i the characters of a cell are counted, up to what a `usize` holds.
-pub record Counting (bars : Bars) (s : List ℕ) (width i : ℕ) (escaped : Bool) : Type 0 where
-  pub fits : width ≤ 0xFFFF_FFFF_FFFF_FFFF
-  pub counted : min (width + characters (pieces bars escaped (drop i s))) 0xFFFF_FFFF_FFFF_FFFF
-      ≡ min (characters (pieces bars false s)) 0xFFFF_FFFF_FFFF_FFFF
+counted : (s : List ℕ) → sum_by byte_width s ≡ characters (flat_map in_cell s)
+counted [] = refl
+counted (b ∷ s) =
+    let here = sum_by-cons byte_width b s in
+    let both = characters-append (in_cell b) (flat_map in_cell s) in
+    let rest = counted s in
+    omega (arith, here, both, rest)
 
-pub counting_none : (bars : Bars) (s : List ℕ) → Counting bars s 0 0 false
-counting_none bars s = record { fits = omega arith; counted = omega arith }
-
-pub counting_more : (bars : Bars) (s : List ℕ) (width next i : ℕ) (escaped : Bool) → i < length s
-    → next ≡ min (width + byte_width bars escaped (get_or s i 0)) 0xFFFF_FFFF_FFFF_FFFF
-    → Counting bars s width i escaped
-    → Counting bars s next (i + 1) (escapes_next escaped (get_or s i 0))
-counting_more bars s width next i escaped lt is was =
-    let b = get_or s i 0 in
-    let rest = pieces bars (escapes_next escaped b) (drop (i + 1) s) in
-    let first : pieces bars escaped (drop i s) ≡ piece bars escaped b ++ rest =
-    ap (pieces bars escaped) (drop_more s i 0 lt) in
-    let both = ap characters first ∙ characters-append (piece bars escaped b) rest in
-    record { fits = omega (arith, is); counted = omega (arith, both, is, was.counted) }
-
-pub counting_all : (bars : Bars) (s : List ℕ) (width i : ℕ) (escaped : Bool) → length s ≤ i
-    → Counting bars s width i escaped
-    → width ≡ min (characters (pieces bars false s)) 0xFFFF_FFFF_FFFF_FFFF
-counting_all bars s width i escaped past was =
-    let none : characters (pieces bars escaped (drop i s)) ≡ 0 =
-    ap (λ l. characters (pieces bars escaped l)) (drop_all i s past) in
-    omega (arith, none, was.fits, was.counted)
-
-pub width_counted : (bars : Bars) (cell : List ℕ) → IsUtf8 cell
-    → characters (pieces bars false (trimmed_text is_document_white_space cell))
-    ≡ length (chars (cell_of bars cell))
-width_counted bars cell text =
-    ap characters (pieces_are bars cell)
-    ∙ characters_are (cell_of bars cell) (cell_is_text bars cell text)
+-- a cell's width, byte by byte
+pub width_counted : (cell : List ℕ) → IsUtf8 cell → sum_by byte_width (trimmed_text is_document_white_space cell)
+    ≡ cell_width cell
+width_counted cell text =
+    counted (trimmed_text is_document_white_space cell)
+    ∙ ap characters (sym (normalised_is cell))
+    ∙ characters_are (normalised_cell cell) (normalised_is_cell cell text).text

@@ -9,9 +9,8 @@ use Rattle.std.proofs.lemmas.Str.{length-le-encodes, encodes-chars, chars-nil}
 use Rattle.htmd_grammar.specs.Characters.{space, vertical_bar}
 use Rattle.htmd_markdown.specs.Tables as spec
 use Rattle.htmd_markdown.specs.TableReading.{column_count}
-use Rattle.htmd_markdown.specs.declared.table.Bars.{Bars}
-use Rattle.htmd_markdown.specs.declared.table.Bars.TheVariants.{References, Backslashes}
-use Rattle.htmd_markdown.specs.CellBytes.{held, held_widths, cell_of, width_of}
+use Rattle.htmd_markdown.specs.CellBytes.{held, held_widths}
+use Rattle.htmd_markdown.proofs.TablesLemmas.{AreCells}
 use Rattle.htmd_markdown.proofs.TableLinesLemmas.{Fit}
 
 -- ---- one more line
@@ -84,19 +83,19 @@ held_wider (w ∷ ws) (v ∷ vs) =
     ap (λ x. x ∷ map held (spec.wider ws vs)) (held_max w v)
     ∙ ap (λ l. max (held w) (held v) ∷ l) (held_wider ws vs)
 
-held_lines : (bars : Bars) (start : List ℕ) (lines : List (List (List ℕ)))
-    → fold spec.wider (map held start) (map (held_widths bars) lines)
-    ≡ map held (fold spec.wider start (map (map (width_of bars)) lines))
-held_lines bars start [] = refl
-held_lines bars start (cells ∷ lines) =
-    ap (λ l. fold spec.wider l (map (held_widths bars) lines)) (sym (held_wider start (map (width_of bars) cells)))
-    ∙ held_lines bars (spec.wider start (map (width_of bars) cells)) lines
+held_lines : (start : List ℕ) (lines : List (List (List ℕ)))
+    → fold spec.wider (map held start) (map held_widths lines)
+    ≡ map held (fold spec.wider start (map (map spec.cell_width) lines))
+held_lines start [] = refl
+held_lines start (cells ∷ lines) =
+    ap (λ l. fold spec.wider l (map held_widths lines)) (sym (held_wider start (map spec.cell_width cells)))
+    ∙ held_lines (spec.wider start (map spec.cell_width cells)) lines
 
 -- the widths as the code has them
-pub held_columns : (bars : Bars) (headers : List (List ℕ)) (rows : List (List (List ℕ)))
-    → fold spec.wider (held_widths bars headers) (map (held_widths bars) rows)
-    ≡ map held (spec.column_widths_by (width_of bars) (headers ∷ rows))
-held_columns bars headers rows = held_lines bars [] (headers ∷ rows)
+pub held_columns : (headers : List (List ℕ)) (rows : List (List (List ℕ)))
+    → fold spec.wider (held_widths headers) (map held_widths rows)
+    ≡ map held (spec.column_widths (headers ∷ rows))
+held_columns headers rows = held_lines [] (headers ∷ rows)
 
 small : (w : ℕ) → held w < 0xFFFF_FFFF_FFFF_FFFF → held w ≡ w
 small w lt = omega arith
@@ -114,20 +113,15 @@ padded_long cell w text =
     let outer = length-append pad (space ∷ []) in
     omega (arith, size, fits, inner, outer)
 
--- each is a text
-abbrev pub AreTexts : List (List ℕ) → Type 0
-AreTexts [] = Unit {0}
-AreTexts (cell ∷ cells) = IsUtf8 cell × AreTexts cells
-
--- if a line of such widths was written, none of them was cut
-pub held_same : (cells : List (List ℕ)) (ws : List ℕ) → AreTexts cells → length ws ≤ length cells
+-- where a line of such widths was written, none of them was cut
+pub held_same : (cells : List (List ℕ)) (ws : List ℕ) → AreCells cells → length ws ≤ length cells
     → length (spec.barred_cells cells (map held ws)) ≤ 0xFFFF_FFFF_FFFF_FFFF → map held ws ≡ ws
 held_same cells [] are le fits = refl
 held_same [] (w ∷ ws) are le fits = absurd (omega arith)
 held_same (cell ∷ cells) (w ∷ ws) are le fits =
     let rest = spec.barred_cells cells (map held ws) in
     let size = length-append (spec.padded_cell cell (held w)) (vertical_bar ∷ rest) in
-    let long = padded_long cell (held w) are.0 in
+    let long = padded_long cell (held w) are.0.text in
     let one = small w (omega (arith, size, long, fits)) in
     ap (λ x. x ∷ map held ws) one
     ∙ ap (λ l. w ∷ l) (held_same cells ws are.1 (omega arith) (omega (arith, size, fits)))
@@ -179,20 +173,15 @@ empty_fit [] (suc n) same = absurd (omega arith)
 empty_fit (w ∷ ws) zero same = tt
 empty_fit (w ∷ ws) (suc n) same = (omega (arith, ap length chars-nil), empty_fit ws n (omega arith))
 
--- a cell is no wider than it makes its column
-wide_enough : (bars : Bars) (cell : List ℕ) → length (chars (cell_of bars cell)) ≤ width_of bars cell
-wide_enough References cell = omega arith
-wide_enough Backslashes cell = omega arith
-
-pub line_fit : (bars : Bars) (cells : List (List ℕ)) (ws : List ℕ) → Covers (map (width_of bars) cells) ws
-    → Fit (spec.line_cells_by (cell_of bars) (length ws) cells) ws
-line_fit bars [] ws covers = empty_fit ws (length ws - 0) (omega arith)
-line_fit bars (cell ∷ cells) [] covers = absurd covers
-line_fit bars (cell ∷ cells) (w ∷ ws) covers =
+pub line_fit : (cells : List (List ℕ)) (ws : List ℕ) → Covers (map spec.cell_width cells) ws
+    → Fit (spec.line_cells (length ws) cells) ws
+line_fit [] ws covers = empty_fit ws (length ws - 0) (omega arith)
+line_fit (cell ∷ cells) [] covers = absurd covers
+line_fit (cell ∷ cells) (w ∷ ws) covers =
     let count : suc (length ws) - suc (length cells) ≡ length ws - length cells = omega arith in (
-      omega (arith, covers.0, wide_enough bars cell),
-      subst (λ (n : ℕ). Fit (map (cell_of bars) cells ++ replicate n []) ws) (sym count)
-          (line_fit bars cells ws covers.1),
+      covers.0,
+      subst (λ (n : ℕ). Fit (map spec.normalised_cell cells ++ replicate n []) ws) (sym count)
+          (line_fit cells ws covers.1),
     )
 
 -- as many columns as the longest line has cells
@@ -201,16 +190,16 @@ wider-length [] vs = omega arith
 wider-length (w ∷ ws) [] = omega arith
 wider-length (w ∷ ws) (v ∷ vs) = omega (arith, wider-length ws vs)
 
-count_from : (width : List ℕ → ℕ) (ws : List ℕ) (lines : List (List (List ℕ)))
-    → length (fold spec.wider ws (map (map width) lines))
-    ≡ fold (λ count cells. max count (length cells)) (length ws) lines
-count_from width ws [] = refl
-count_from width ws (cells ∷ lines) =
-    let size : length (spec.wider ws (map width cells)) ≡ max (length ws) (length cells) =
-    wider-length ws (map width cells) ∙ ap (max (length ws)) (length-map cells width) in
-    count_from width (spec.wider ws (map width cells)) lines
+count_from : (ws : List ℕ) (lines : List (List (List ℕ)))
+    → length (fold spec.wider ws (map (map spec.cell_width) lines))
+    ≡ fold (λ count cells. max count (length cells))
+    (length ws) lines
+count_from ws [] = refl
+count_from ws (cells ∷ lines) =
+    let size : length (spec.wider ws (map spec.cell_width cells)) ≡ max (length ws) (length cells) =
+    wider-length ws (map spec.cell_width cells) ∙ ap (max (length ws)) (length-map cells spec.cell_width) in
+    count_from (spec.wider ws (map spec.cell_width cells)) lines
     ∙ ap (λ n. fold (λ count cs. max count (length cs)) n lines) size
 
-pub columns_counted : (width : List ℕ → ℕ) (lines : List (List (List ℕ)))
-    → length (spec.column_widths_by width lines) ≡ column_count lines
-columns_counted width lines = count_from width [] lines
+pub columns_counted : (lines : List (List (List ℕ))) → length (spec.column_widths lines) ≡ column_count lines
+columns_counted lines = count_from [] lines

@@ -1,20 +1,16 @@
 -- The white space at the ends of a text, and what is between.
 use Rattle.std.proofs.Common.{◌≡◌, ◌≢◌, ℕ, ◌+◌, ◌-◌, ◌<◌, ◌≤◌, List, [], ◌∷◌, ◌++◌, length, get_or, take, drop, min}
-use Rattle.std.proofs.Common.{refl, sym, ap, ◌∙◌, subst, arith, append_assoc, length-append, length-drop, Some, None}
-use Rattle.std.proofs.Common.{Bool, true, false}
-use Rattle.std.specs.Prelude.{not, ◌&&◌}
+use Rattle.std.proofs.Common.{refl, sym, ap, ◌∙◌, subst, arith, append_assoc, length-append, length-drop, Some}
 use Rattle.std.specs.Char.{is_not_whitespace, encode_utf8}
 use Rattle.std.specs.List.{insert_slice}
 use Rattle.std.specs.Str.{IsUtf8, IsTrimStart, IsTrimEnd, EmptyOrStartsWithPassing, encode_utf8_all, IsCharBoundary}
-use Rattle.std.specs.Str.{trim, trim_start, trim_end}
+use Rattle.std.specs.Str.{trim_start, trim_end}
 use Rattle.std.specs.String.Boundary.{IsSplitPoint}
 use Rattle.std.proofs.Math.Seq.{take-append_seam, drop-append_seam}
 use Rattle.std.proofs.lemmas.List.{take_min, drop_min, take-append-drop, length-take-le, get_or_append_left}
 use Rattle.std.proofs.lemmas.Str.{encode_same, IsCharBoundary-from_rest}
 use Rattle.htmd_text.proofs.TrimsLemmas.{rest_boundary, front_boundary}
-use Rattle.htmd_text.specs.Trims.{white_space_at_start, white_space_at_end}
 use Rattle.htmd_markdown.specs.Emphases as spec
-use Rattle.htmd_markdown.specs.Titles.{is_filled}
 use Rattle.htmd_markdown.specs.Emphases.{IsTight, AreMarksInside, IsWhiteSpace, between, emphasised_text}
 use Rattle.htmd_markdown.specs.declared.emphasis.Emphasis.{Emphasis}
 
@@ -181,20 +177,3 @@ start_may_take s rest middle mark marked start end text filled cut_start cut_end
     let there : IsCharBoundary s start = subst (λ (k : ℕ). IsCharBoundary s k) (sym first) here in
     let begins = there.1 (omega arith) in
     (omega arith, λ _ _. subst (λ (b : ℕ). 128 ≤ b → 192 ≤ b) (sym same) begins)
-
-filled_between : (mark before middle after : List ℕ) → is_filled middle ≡ true
-    → between mark before middle after ≢ None
-filled_between mark before [] after filled = absurd (cc)
-filled_between mark before (b ∷ middle) after filled = λ none. cc
-
-both_true : (a b : Bool) → (a && b) ≡ true → b ≡ true
-both_true true b e = e
-both_true false b e = absurd (cc)
-
--- content that takes marks gets them
-pub takes_marked : (emphasis : Emphasis) (s : List ℕ) (is_marked : Bool) → spec.takes_marks s ≡ true
-    → (is_marked ≡ false → emphasised_text emphasis s ≡ None) → is_marked ≡ true
-takes_marked emphasis s true takes none = refl
-takes_marked emphasis s false takes none =
-    absurd (filled_between (spec.mark emphasis) (white_space_at_start s) (trim s) (white_space_at_end (trim_start s))
-    (both_true (not (spec.holds_blank_line s)) (is_filled (trim s)) takes) (none refl))

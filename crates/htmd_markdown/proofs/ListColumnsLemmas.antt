@@ -20,10 +20,9 @@ use Rattle.htmd_text.specs.Trims.{trimmed_start, trimmed_end, cut_end, is_line_f
 use Rattle.htmd_text.specs.Indents.{indented_text}
 use Rattle.htmd_text.specs.Joins.{block_separator, join_block, joined_blocks}
 use Rattle.htmd_text.proofs.DigitsLemmas.{digits_more, digits_one}
-use Rattle.htmd_markdown.specs.ListItems.{number_marker, numbered_item, aligned_spaces}
-use Rattle.htmd_markdown.specs.Lists.{Block, item, item_count, numbered_blocks, highest_number}
-use Rattle.htmd_markdown.specs.Lists.{ordered_list_by}
-use Rattle.htmd_markdown.specs.ListColumns.{item_content, StandsInColumn, HasColumns, HasEqualColumns}
+use Rattle.htmd_markdown.specs.ListItems.{number_marker, numbered_item}
+use Rattle.htmd_markdown.specs.Lists.{Block, item, item_count, numbered_blocks, highest_number, ordered_list}
+use Rattle.htmd_markdown.specs.ListColumns.{item_content, StandsInColumn, HasEqualColumns}
 use Rattle.htmd_markdown.proofs.ListsLemmas.{numbered-append, item_count-append}
 
 -- ---- what is at the end of two texts
@@ -190,14 +189,16 @@ digits_grow (suc most) m n bound le =
     ))
     (cases_lt m 10)
 
-length-number_marker : (spaces number : ℕ) → number < 2 ^ 64
-    → length (number_marker spaces number) ≡ digits number + 1 + spaces
-length-number_marker spaces number small =
+length-number_marker : (spacing highest number : ℕ) → number < 2 ^ 64 → number ≤ highest
+    → length (number_marker spacing highest number) ≡ spacing + digits highest + 1
+length-number_marker spacing highest number small le =
+    let spaces = spacing + (digits highest - digits number) in
     omega (
       arith,
       length-append (decimal number) (full_stop ∷ replicate spaces space),
       length-decimal number small,
       length-replicate spaces space,
+      digits_grow highest number highest (omega arith) le,
     )
 
 spaces_none : (k : ℕ) → suffix_len is_line_feed (replicate k space) ≡ 0
@@ -207,57 +208,47 @@ spaces_none (suc k) =
     sym (replicate_more k space ∙ ap (λ n. replicate n space) (add-one k)) in
     ap (suffix_len is_line_feed) last ∙ suffix_len-push is_line_feed (replicate k space) space refl
 
-number_marker-end : (spaces number : ℕ) → suffix_len is_line_feed (number_marker spaces number) ≡ 0
-number_marker-end spaces number =
-    ap (suffix_len is_line_feed) (sym (append_assoc (decimal number) (full_stop ∷ []) (replicate spaces space)))
-    ∙ suffix_len-append is_line_feed (decimal number ++ full_stop ∷ []) (replicate spaces space)
+number_marker-end : (spacing highest number : ℕ)
+    → suffix_len is_line_feed (number_marker spacing highest number) ≡ 0
+number_marker-end spacing highest number =
+    let spaces = replicate (spacing + (digits highest - digits number)) space in
+    ap (suffix_len is_line_feed) (sym (append_assoc (decimal number) (full_stop ∷ []) spaces))
+    ∙ suffix_len-append is_line_feed (decimal number ++ full_stop ∷ []) spaces
     (suffix_len-push is_line_feed (decimal number) full_stop refl)
-    ∙ spaces_none spaces
+    ∙ spaces_none (spacing + (digits highest - digits number))
 
-pub digit_first : (b : ℕ) → 48 ≤ b → is_line_feed b ≡ false
+digit_first : (b : ℕ) → 48 ≤ b → is_line_feed b ≡ false
 digit_first b le = grind (arith, nat_tests)
 
 -- ---- each item
 
-pub columns_kept : (spaces : ℕ → ℕ) (first : ℕ) (blocks : List Block) → first + item_count blocks < 2 ^ 64
-    → HasColumns spaces first blocks (ordered_list_by spaces first blocks)
-columns_kept spaces first blocks small = λ earlier later content split.
-    let number = first + item_count earlier in
-    let marker = number_marker (spaces number) number in
-    let column = digits number + 1 + spaces number in
-    let count = ap item_count split ∙ item_count-append earlier (item content ∷ later) in
-    let width = length-number_marker (spaces number) number (omega (arith, count)) in
-    let numeral = (decimal_is_IsNumeral number (omega (arith, count))).0 in
-    let digit = digit_at (decimal number) 0 numeral.1 numeral.0 in
-    let behind = full_stop ∷ replicate (spaces number) space in
-    let first_byte = ap is_line_feed (get_or_append_left (decimal number) behind 0 0 numeral.0)
-    ∙ digit_first (get_or (decimal number) 0 0) digit.0 in
-    let out = joined_blocks (numbered_blocks spaces first earlier) in
-    let rest = numbered_blocks spaces (suc number) later in
-    let text : ordered_list_by spaces first blocks ≡ fold join_block
-    (join_block out (numbered_item (spaces number) number content)) rest =
-    ap (λ (l : List Block). joined_blocks (numbered_blocks spaces first l)) split
-    ∙ ap joined_blocks (numbered-append spaces first earlier (item content ∷ later))
-    ∙ fold-append join_block [] (numbered_blocks spaces first earlier)
-    (numbered_item (spaces number) number content
-    ∷ rest) in
-    let stands = item_stands column marker (indented_text (trimmed_start is_line_feed content) (length marker) true) out
-    rest (omega (arith, width)) first_byte (number_marker-end (spaces number) number) width in
-    subst (λ (l : List ℕ). StandsInColumn column marker (item_content column content) l) (sym text)
-    (subst (λ (n : ℕ). StandsInColumn column marker
-    (trimmed_end is_line_feed (indented_text (trimmed_start is_line_feed content) n true))
-    (fold join_block (join_block out (numbered_item (spaces number) number content)) rest)) width stands)
-
--- aligned numbers leave one column to all contents
-pub columns_equal : (first spacing : ℕ) (blocks : List Block) (text : List ℕ)
-    → HasColumns (aligned_spaces spacing (highest_number first blocks)) first blocks text
-    → HasEqualColumns first spacing blocks text
-columns_equal first spacing blocks text kept = λ earlier later content split.
+pub columns_equal : (first spacing : ℕ) (blocks : List Block) → first + item_count blocks < 2 ^ 64
+    → HasEqualColumns first spacing blocks (ordered_list first spacing blocks)
+columns_equal first spacing blocks small = λ earlier later content split.
     let highest = highest_number first blocks in
     let number = first + item_count earlier in
+    let marker = number_marker spacing highest number in
     let count = ap item_count split ∙ item_count-append earlier (item content ∷ later) in
-    let column : digits number + 1 + aligned_spaces spacing highest number ≡ spacing + digits highest + 1 =
-    omega (arith, digits_grow highest number highest (omega arith) (omega (arith, count))) in
-    subst (λ (n : ℕ). StandsInColumn n (number_marker (aligned_spaces spacing highest number) number)
-    (item_content n content) text) column
-    (kept earlier later content split)
+    let width = length-number_marker spacing highest number (omega (arith, count)) (omega (arith, count)) in
+    let numeral = (decimal_is_IsNumeral number (omega (arith, count))).0 in
+    let digit = digit_at (decimal number) 0 numeral.1 numeral.0 in
+    let behind = full_stop ∷ replicate (spacing + (digits highest - digits number)) space in
+    let first_byte = ap is_line_feed (get_or_append_left (decimal number) behind 0 0 numeral.0)
+    ∙ digit_first (get_or (decimal number) 0 0) digit.0 in
+    let out = joined_blocks (numbered_blocks spacing highest first earlier) in
+    let rest = numbered_blocks spacing highest (suc number) later in
+    let text : ordered_list first spacing blocks ≡ fold join_block
+    (join_block out (numbered_item spacing highest number content)) rest =
+    ap (λ (l : List Block). joined_blocks (numbered_blocks spacing highest first l)) split
+    ∙ ap joined_blocks (numbered-append spacing highest first earlier (item content ∷ later))
+    ∙ fold-append join_block [] (numbered_blocks spacing highest first earlier)
+    (numbered_item spacing highest number content
+    ∷ rest) in
+    let stands = item_stands (spacing + digits highest + 1) marker (indented_text (trimmed_start is_line_feed content)
+    (length marker) true) out rest (omega (arith, width)) first_byte (number_marker-end spacing highest number)
+    width in
+    subst (λ (l : List ℕ). StandsInColumn (spacing + digits highest + 1) marker
+    (item_content (spacing + digits highest + 1) content) l) (sym text)
+    (subst (λ (n : ℕ). StandsInColumn (spacing + digits highest + 1) marker
+    (trimmed_end is_line_feed (indented_text (trimmed_start is_line_feed content) n true))
+    (fold join_block (join_block out (numbered_item spacing highest number content)) rest)) width stands)

@@ -30,19 +30,23 @@ pub counted_more : {X : Type 0} (block_of : X → Block) (xs : List X) (i : ℕ)
 counted_more block_of xs i d lt = ap item_count (map_more block_of xs i d lt)
     ∙ item_count-append (map block_of (take i xs)) (block_of (get_or xs i d) ∷ [])
 
-pub numbered-append : (spaces : ℕ → ℕ) (number : ℕ) (xs ys : List Block)
-    → numbered_blocks spaces number (xs ++ ys)
-    ≡ numbered_blocks spaces number xs ++ numbered_blocks spaces (number + item_count xs) ys
-numbered-append spaces number [] ys = ap (λ n. numbered_blocks spaces n ys) (omega arith)
-numbered-append spaces number (item content ∷ xs) ys =
-    ap (λ l. numbered_item (spaces number) number content ∷ l) (numbered-append spaces (suc number) xs ys
-    ∙ ap (λ n. numbered_blocks spaces (suc number) xs ++ numbered_blocks spaces n ys) (omega arith))
-numbered-append spaces number (other text ∷ xs) ys = ap (λ l. text ∷ l) (numbered-append spaces number xs ys)
+pub numbered-append : (spacing highest number : ℕ) (xs ys : List Block)
+    → numbered_blocks spacing highest number (xs ++ ys)
+    ≡ numbered_blocks spacing highest number xs ++ numbered_blocks spacing highest (number + item_count xs) ys
+numbered-append spacing highest number [] ys = ap (λ n. numbered_blocks spacing highest n ys) (omega arith)
+numbered-append spacing highest number (item content ∷ xs) ys =
+    ap (λ l. numbered_item spacing highest number content ∷ l) (numbered-append spacing highest (suc number) xs ys
+    ∙ ap (λ n. numbered_blocks spacing highest (suc number) xs ++ numbered_blocks spacing highest n ys)
+    (omega arith))
+numbered-append spacing highest number (other text ∷ xs) ys =
+    ap (λ l. text ∷ l) (numbered-append spacing highest number xs ys)
 
 -- one more block, at the number that comes next
-pub numbered_more : (spaces : ℕ → ℕ) (first number : ℕ) (before : List Block) (block : Block) (text : List ℕ)
-    → number ≡ first + item_count before → numbered_blocks spaces number (block ∷ []) ≡ text ∷ []
-    → numbered_blocks spaces first (before ++ block ∷ []) ≡ numbered_blocks spaces first before ++ text ∷ []
-numbered_more spaces first number before block text next one =
-    numbered-append spaces first before (block ∷ [])
-    ∙ ap (λ l. numbered_blocks spaces first before ++ l) (rw next at one)
+pub numbered_more : (spacing highest first number : ℕ) (before : List Block) (block : Block) (text : List ℕ)
+    → number ≡ first + item_count before → numbered_blocks spacing highest number (block ∷ []) ≡ text ∷ []
+    → numbered_blocks spacing highest first (before ++ block ∷ []) ≡ numbered_blocks spacing highest first before
+    ++ text ∷ []
+numbered_more spacing highest first number before block text next one =
+    numbered-append spacing highest first before (block ∷ [])
+    ∙ ap (λ l. numbered_blocks spacing highest first before ++ l)
+    (rw next at one)

@@ -14,8 +14,7 @@ use Rattle.std.proofs.lemmas.List.Folds.{list_all-append}
 use Rattle.std.proofs.lemmas.Str.{IsUtf8-nil, IsUtf8-append, IsUtf8-from_ascii}
 use Rattle.htmd_grammar.specs.Characters.{line_feed, space, vertical_bar}
 use Rattle.htmd_markdown.specs.Tables as spec
-use Rattle.htmd_markdown.specs.TableReading.{IsTableLine}
-use Rattle.htmd_markdown.specs.GuardedTables.{line_width}
+use Rattle.htmd_markdown.specs.TableReading.{IsTableLine, IsEven}
 use Rattle.htmd_markdown.specs.CellBytes.{bar}
 use Rattle.htmd_markdown.proofs.CellsLemmas.{lacks}
 use Rattle.htmd_markdown.proofs.CharacterCounts.{characters, characters-append, characters_are}
@@ -27,20 +26,16 @@ Fit [] widths = Unit {0}
 Fit (cell ∷ cells) [] = ⊥
 Fit (cell ∷ cells) (width ∷ widths) = (length (chars cell) ≤ width) × Fit cells widths
 
--- a text without line feeds
-pub record IsLineCell (cell : List ℕ) : Type 0 where
-  pub text : IsUtf8 cell
-  pub line_feeds : lacks line_feed cell ≡ true
-
-abbrev pub AreLineCells : List (List ℕ) → Type 0
-AreLineCells [] = Unit {0}
-AreLineCells (cell ∷ cells) = IsLineCell cell × AreLineCells cells
-
--- what a line of a table is made of, and what else holds of its cells
-pub record IsLine (Own : List (List ℕ) → Type 0) (widths : List ℕ) (cells : List (List ℕ)) : Type 0 where
-  pub each : AreLineCells cells
-  pub own : Own cells
+-- what a line of a table is made of
+pub record IsLine (widths : List ℕ) (cells : List (List ℕ)) : Type 0 where
+  pub each : AreCells cells
   pub count : length cells ≡ length widths
+  pub fit : Fit cells widths
+
+-- how many characters a line has
+abbrev pub line_width : List ℕ → ℕ
+line_width [] = 1
+line_width (width ∷ widths) = width + 3 + line_width widths
 
 spaces_characters : (n : ℕ) → characters (replicate n space) ≡ n
 spaces_characters zero = refl
@@ -59,8 +54,7 @@ padded_characters cell width text fits =
     let spaces = spaces_characters n in
     omega (arith, first, second, third, own, spaces, fits)
 
-barred_characters : (cells : List (List ℕ)) (widths : List ℕ) → AreLineCells cells
-    → length cells ≡ length widths
+barred_characters : (cells : List (List ℕ)) (widths : List ℕ) → AreCells cells → length cells ≡ length widths
     → Fit cells widths → characters (spec.barred_cells cells widths) + 1 ≡ line_width widths
 barred_characters [] [] are same fit = refl
 barred_characters [] (width ∷ widths) are same fit = absurd (omega arith)
@@ -72,12 +66,11 @@ barred_characters (cell ∷ cells) (width ∷ widths) are same fit =
     let rest = barred_characters cells widths are.1 (omega arith) fit.1 in
     omega (arith, here, own, more, rest)
 
-line_characters : {Own : List (List ℕ) → Type 0} (cells : List (List ℕ)) (widths : List ℕ)
-    → IsLine Own widths cells → Fit cells widths
+line_characters : (cells : List (List ℕ)) (widths : List ℕ) → IsLine widths cells
     → characters (spec.line cells widths) ≡ line_width widths
-line_characters cells widths is fit =
+line_characters cells widths is =
     let one = characters-append bar (spec.barred_cells cells widths) in
-    let rest = barred_characters cells widths is.each is.count fit in
+    let rest = barred_characters cells widths is.each is.count is.fit in
     omega (arith, one, rest)
 
 spaces_ascii : (n i : ℕ) → slice_index (replicate n space) i < 128
@@ -99,7 +92,7 @@ bar_text : IsUtf8 bar
 unfolding encode
 bar_text = (bar, (refl, refl))
 
-barred_text : (cells : List (List ℕ)) (widths : List ℕ) → AreLineCells cells
+barred_text : (cells : List (List ℕ)) (widths : List ℕ) → AreCells cells
     → IsUtf8 (spec.barred_cells cells widths)
 barred_text [] widths are = IsUtf8-nil
 barred_text (cell ∷ cells) [] are = IsUtf8-nil
@@ -108,10 +101,10 @@ barred_text (cell ∷ cells) (width ∷ widths) are =
     (padded_text cell width are.0.text)
     (IsUtf8-append bar (spec.barred_cells cells widths) bar_text (barred_text cells widths are.1))
 
-line_text : (cells : List (List ℕ)) (widths : List ℕ) → AreLineCells cells → IsUtf8 (spec.line cells widths)
+line_text : (cells : List (List ℕ)) (widths : List ℕ) → AreCells cells → IsUtf8 (spec.line cells widths)
 line_text cells widths are = IsUtf8-append bar (spec.barred_cells cells widths) bar_text (barred_text cells widths are)
 
-barred_lacks : (cells : List (List ℕ)) (widths : List ℕ) → AreLineCells cells
+barred_lacks : (cells : List (List ℕ)) (widths : List ℕ) → AreCells cells
     → lacks line_feed (spec.barred_cells cells widths) ≡ true
 barred_lacks [] widths are = refl
 barred_lacks (cell ∷ cells) [] are = refl
@@ -122,27 +115,18 @@ barred_lacks (cell ∷ cells) (width ∷ widths) are =
     (padded_lacks cell width line_feed refl are.0.line_feeds)
     ∙ barred_lacks cells widths are.1
 
-line_lacks : (cells : List (List ℕ)) (widths : List ℕ) → AreLineCells cells
+line_lacks : (cells : List (List ℕ)) (widths : List ℕ) → AreCells cells
     → lacks line_feed (spec.line cells widths)
     ≡ true
 line_lacks cells widths are = barred_lacks cells widths are
 
-pub characters_of_line : {Own : List (List ℕ) → Type 0} (cells : List (List ℕ)) (widths : List ℕ)
-    → IsLine Own widths cells → Fit cells widths → length (chars (spec.line cells widths)) ≡ line_width widths
-characters_of_line cells widths is fit =
-    sym (characters_are (spec.line cells widths) (line_text cells widths is.each))
-    ∙ line_characters cells widths is fit
-
--- what holds for the cells of a line, and that each fits its column
-abbrev pub Fitting : (List (List ℕ) → Type 0) → List ℕ → List (List ℕ) → Type 0
-Fitting Own widths cells = Own cells × Fit cells widths
-
 -- a line of the table, as the law of its lines says
-pub is_table_line : (widths : List ℕ) (cells : List (List ℕ)) → IsLine (Fitting AreCells widths) widths cells
+is_table_line : (cells : List (List ℕ)) (widths : List ℕ) → IsLine widths cells
     → IsTableLine (line_width widths) (length widths) (spec.line cells widths)
-is_table_line widths cells is = record {
-  characters = characters_of_line cells widths is is.own.1;
-  bars = line_bars cells widths is.count is.own.0;
+is_table_line cells widths is = record {
+  characters = sym (characters_are (spec.line cells widths) (line_text cells widths is.each))
+      ∙ line_characters cells widths is;
+  bars = line_bars cells widths is.count is.each;
 }
 
 -- ---- lines of the text
@@ -206,38 +190,35 @@ barred_ends (cell ∷ cells) (width ∷ widths) same front =
           ∙ sym (append_assoc before bar (spec.barred_cells cells widths)) ∙ more.1,
     )
 
-is_whole : {Own : List (List ℕ) → Type 0} (cells : List (List ℕ)) (widths : List ℕ) → IsLine Own widths cells
-    → IsWhole (spec.line cells widths)
+is_whole : (cells : List (List ℕ)) (widths : List ℕ) → IsLine widths cells → IsWhole (spec.line cells widths)
 is_whole cells widths is = record {
   line_feeds = line_lacks cells widths is.each;
   ends = barred_ends cells widths is.count [];
 }
 
 -- each is the cells of a line of the table
-abbrev pub AreLines : (List (List ℕ) → Type 0) → List ℕ → List (List (List ℕ)) → Type 0
-AreLines Own widths [] = Unit {0}
-AreLines Own widths (cells ∷ rest) = IsLine Own widths cells × AreLines Own widths rest
+abbrev pub AreLines : List ℕ → List (List (List ℕ)) → Type 0
+AreLines widths [] = Unit {0}
+AreLines widths (cells ∷ rest) = IsLine widths cells × AreLines widths rest
 
-all_whole : (Own : List (List ℕ) → Type 0) (widths : List ℕ) (rest : List (List (List ℕ)))
-    → AreLines Own widths rest → AreWhole (map (λ cells. spec.line cells widths) rest)
-all_whole Own widths [] are = tt
-all_whole Own widths (cells ∷ rest) are = (is_whole cells widths are.0, all_whole Own widths rest are.1)
+all_whole : (widths : List ℕ) (rest : List (List (List ℕ))) → AreLines widths rest
+    → AreWhole (map (λ cells. spec.line cells widths) rest)
+all_whole widths [] are = tt
+all_whole widths (cells ∷ rest) are = (is_whole cells widths are.0, all_whole widths rest are.1)
 
-all_table_lines : (Own : List (List ℕ) → Type 0) (P : List ℕ → Type 0) (widths : List ℕ)
-    (rest : List (List (List ℕ)))
-    → ((cells : List (List ℕ)) → IsLine Own widths cells → P (spec.line cells widths))
-    → AreLines Own widths rest → All P (map (λ cells. spec.line cells widths) rest)
-all_table_lines Own P widths [] each are = All-nil P
-all_table_lines Own P widths (cells ∷ rest) each are =
-    All-cons P (spec.line cells widths) (map (λ c. spec.line c widths) rest) (each cells are.0)
-    (all_table_lines Own P widths rest each are.1)
+all_table_lines : (widths : List ℕ) (rest : List (List (List ℕ))) → AreLines widths rest
+    → All (IsTableLine (line_width widths) (length widths)) (map (λ cells. spec.line cells widths) rest)
+all_table_lines widths [] are = All-nil (IsTableLine (line_width widths) (length widths))
+all_table_lines widths (cells ∷ rest) are =
+    All-cons (IsTableLine (line_width widths) (length widths)) (spec.line cells widths)
+    (map (λ c. spec.line c widths) rest) (is_table_line cells widths are.0) (all_table_lines widths rest are.1)
 
--- what holds for a line of the table holds for all lines
-pub lines_alike : (Own : List (List ℕ) → Type 0) (P : List ℕ → Type 0) (widths : List ℕ)
-    (rest : List (List (List ℕ)))
-    → ((cells : List (List ℕ)) → IsLine Own widths cells → P (spec.line cells widths))
-    → AreLines Own widths rest → All P (lines (joined_lines (map (λ cells. spec.line cells widths) rest)))
-lines_alike Own P widths rest each are =
-    let ls = map (λ cells. spec.line cells widths) rest in
-    subst (λ (l : List (List ℕ)). All P l) (sym (lines_are ls (all_whole Own widths rest are)))
-    (all_table_lines Own P widths rest each are)
+-- all lines are alike
+pub lines_even : (widths : List ℕ) (rest : List (List (List ℕ))) → AreLines widths rest
+    → IsEven (length widths) (joined_lines (map (λ cells. spec.line cells widths) rest))
+lines_even widths rest are =
+    let ls = map (λ cells. spec.line cells widths) rest in (
+      line_width widths,
+      subst (λ (l : List (List ℕ)). All (IsTableLine (line_width widths) (length widths)) l)
+          (sym (lines_are ls (all_whole widths rest are))) (all_table_lines widths rest are),
+    )

@@ -16,7 +16,7 @@ use Rattle.std.proofs.lemmas.Str.{IsUtf8-nil, IsUtf8-string_bytes}
 use Rattle.htmd_grammar.specs.Characters.{line_feed, space, vertical_bar}
 use Rattle.htmd_text.specs.Trims.{trimmed_text}
 use Rattle.htmd_grammar.specs.WhiteSpace.{is_document_white_space}
-use Rattle.htmd_markdown.specs.Tables.{normalised_cell, line_cells, line_cells_by, padded_cell, barred_cells, line}
+use Rattle.htmd_markdown.specs.Tables.{normalised_cell, line_cells, padded_cell, barred_cells, line}
 use Rattle.htmd_markdown.specs.TableReading.{read_row, bars}
 use Rattle.htmd_markdown.specs.CellBytes.{bar}
 use Rattle.htmd_markdown.proofs.TrimmedTexts.{IsBare, trimmed_is}
@@ -69,30 +69,29 @@ line_ended out cells widths i past =
     ap (λ l. out ++ (l ++ line_feed ∷ [])) (sym (ap (λ l. barred_cells (drop i cells) l) (drop_all i widths past)
     ∙ none_left (drop i cells)))
 
-pub line_cells-length : (written : List ℕ → List ℕ) (columns : ℕ) (cells : List (List ℕ))
-    → length (line_cells_by written columns cells) ≡ length cells + (columns - length cells)
-line_cells-length written columns cells =
-    length-append (map written cells) (replicate (columns - length cells) [])
-    ∙ ap (λ n. n + length (replicate {A = List ℕ} (columns - length cells) [])) (length-map cells written)
+pub line_cells-length : (columns : ℕ) (cells : List (List ℕ)) → length (line_cells columns cells) ≡ length cells
+    + (columns - length cells)
+line_cells-length columns cells =
+    length-append (map normalised_cell cells) (replicate (columns - length cells) [])
+    ∙ ap (λ n. n + length (replicate {A = List ℕ} (columns - length cells) [])) (length-map cells normalised_cell)
     ∙ ap (λ n. length cells + n) (length-replicate {A = List ℕ} (columns - length cells) [])
 
--- the cell of a column, empty where it is missing
-pub cell_at : (written : List ℕ → List ℕ) (columns : ℕ) (cells : List (List ℕ)) (i : ℕ) → i < columns
-    → written [] ≡ [] → get_or (line_cells_by written columns cells) i [] ≡ written (get_or cells i [])
-cell_at written columns cells i lt none =
-    let size = length-map cells written in
+-- the cell of a column, empty if it is missing
+pub cell_at : (columns : ℕ) (cells : List (List ℕ)) (i : ℕ) → i < columns
+    → get_or (line_cells columns cells) i [] ≡ normalised_cell (get_or cells i [])
+cell_at columns cells i lt =
+    let size = length-map cells normalised_cell in
     ⊎_elim
     (λ (yes : nat_lt i (length cells) ≡ true).
     let within : i < length cells = grind (arith, nat_tests) in
-    get_or_append_left (map written cells) (replicate (columns - length cells) []) [] i (omega (arith, size))
-    ∙ get_or-map written cells i [] [] within)
+    get_or_append_left (map normalised_cell cells) (replicate (columns - length cells) []) [] i (omega (arith, size))
+    ∙ get_or-map normalised_cell cells i [] [] within)
     (λ (no : nat_lt i (length cells) ≡ false).
     let past : length cells ≤ i = grind (arith, nat_tests) in
-    get_or-append_right (map written cells) (replicate (columns - length cells) [])
+    get_or-append_right (map normalised_cell cells) (replicate (columns - length cells) [])
     (length cells) i [] size past
     ∙ get_or-replicate (columns - length cells) (i - length cells) [] [] (omega arith)
-    ∙ sym none
-    ∙ ap written (sym (get_or_past cells i [] past)))
+    ∙ ap normalised_cell (sym (get_or_past cells i [] past)))
     (cases_Bool (nat_lt i (length cells)))
 
 -- ---- cells of a line
@@ -141,7 +140,7 @@ spaces_lack : (n c : ℕ) → (space == c) ≡ false → lacks c (replicate n sp
 spaces_lack zero c other = refl
 spaces_lack (suc n) c other = ap (λ first. not first && lacks c (replicate n space)) other ∙ spaces_lack n c other
 
-pub padded_trimmed : (cell : List ℕ) (width : ℕ) → IsBare is_document_white_space cell
+padded_trimmed : (cell : List ℕ) (width : ℕ) → IsBare is_document_white_space cell
     → trimmed_text is_document_white_space (padded_cell cell width) ≡ cell
 padded_trimmed cell width bare =
     let pad = replicate (width - length (chars cell)) space in
@@ -200,7 +199,7 @@ all_trimmed (cell ∷ cells) (width ∷ widths) same are =
     (padded_trimmed cell width are.0.bare)
     ∙ ap (λ l. cell ∷ l) (all_trimmed cells widths (omega arith) are.1)
 
-pub inner_of : (inner : List (List ℕ)) (first last : List ℕ) → let parts = first ∷ (inner ++ last ∷ []) in
+inner_of : (inner : List (List ℕ)) (first last : List ℕ) → let parts = first ∷ (inner ++ last ∷ []) in
     drop 1 (take (length parts - 1) parts) ≡ inner
 inner_of inner first last =
     let size : length (inner ++ last ∷ []) ≡ length inner + 1 = length-append inner (last ∷ []) in

@@ -1,8 +1,9 @@
 -- One more line of a title.
 use Rattle.std.proofs.Common.{◌≡◌, ℕ, ◌+◌, ◌<◌, Bool, true, false, List, [], ◌∷◌, ◌++◌, length, get_or, take, map, refl}
-use Rattle.std.proofs.Common.{sym, ap, ◌∙◌, codes, append_assoc}
+use Rattle.std.proofs.Common.{sym, ap, ◌∙◌, codes, arith, append_assoc}
 use Rattle.std.specs.Prelude.{◌==◌, filter}
-use Rattle.std.proofs.lemmas.List.{take_more, map_push, append-nil}
+use Rattle.std.proofs.lemmas.Bool.Decides.{nat_tests}
+use Rattle.std.proofs.lemmas.List.{take_more, map_push, append-nil, length_push}
 use Rattle.std.proofs.lemmas.List.Elements.{filter-append}
 use Rattle.htmd_grammar.specs.Characters.{line_feed}
 use Rattle.htmd_text.specs.Joins.{joined_texts}
@@ -11,7 +12,6 @@ use Rattle.htmd_grammar.specs.WhiteSpace.{is_document_white_space}
 use Rattle.htmd_text.proofs.JoinsLemmas.{item_joined}
 use Rattle.htmd_markdown.specs.Addresses.{escaped_among}
 use Rattle.htmd_markdown.specs.Titles.{is_filled}
-use Rattle.htmd_markdown.proofs.FilledPartsLemmas.{empty_is, some_is, nil_if, some_if, some_more}
 
 -- the first n lines as they are written
 abbrev pub filled_lines_of : List (List ℕ) → ℕ → List (List ℕ)
@@ -37,6 +37,24 @@ filled_more ls n x here =
     ∙ ap (filter is_filled) (map_push (trimmed_text is_document_white_space) (take n ls) x)
     ∙ filter-append is_filled (map (trimmed_text is_document_white_space) (take n ls))
     (trimmed_text is_document_white_space x ∷ [])
+
+empty_is : (t : List ℕ) → (length t == 0) ≡ true → filter is_filled (t ∷ []) ≡ []
+empty_is [] e = refl
+empty_is (b ∷ t) e = grind (arith, nat_tests)
+
+some_is : (t : List ℕ) → (length t == 0) ≡ false → filter is_filled (t ∷ []) ≡ t ∷ []
+some_is [] e = cc
+some_is (b ∷ t) e = refl
+
+nil_if : (xs : List (List ℕ)) → (length xs == 0) ≡ true → xs ≡ []
+nil_if [] e = refl
+nil_if (x ∷ xs) e = grind (arith, nat_tests)
+
+some_if : (xs : List (List ℕ)) → (length xs == 0) ≡ false → 0 < length xs
+some_if xs e = grind (arith, nat_tests)
+
+some_more : (xs : List (List ℕ)) (x : List ℕ) → false ≡ (length (xs ++ x ∷ []) == 0)
+some_more xs x = let size = length_push xs x in grind (arith, nat_tests)
 
 pub tidying_none : (ls : List (List ℕ)) (out : List ℕ) → Tidying ls out out true 0
 tidying_none ls out = record { out_is = sym (append-nil out); begun = refl }

@@ -1,6 +1,6 @@
 -- What is left of a text between what is cut from its ends.
 use Rattle.std.proofs.Common.{◌≡◌, ℕ, zero, suc, ◌+◌, ◌-◌, Bool, true, false, List, [], ◌∷◌, ◌++◌, length, take, drop}
-use Rattle.std.proofs.Common.{refl, sym, ap, ◌∙◌, subst, length-drop, ⊎_elim}
+use Rattle.std.proofs.Common.{refl, sym, ap, ◌∙◌, subst, arith, length-drop, ⊎_elim}
 use Rattle.std.specs.Prelude.{reverse, ◌&&◌}
 use Rattle.std.specs.List.{prefix_len, suffix_len, list_all}
 use Rattle.std.proofs.lemmas.Bool.{and_parts, cond-true, cond-false, cases_Bool}
@@ -8,7 +8,6 @@ use Rattle.std.proofs.lemmas.List.{append-nil, take-append-drop, take_at, drop_a
 use Rattle.std.proofs.lemmas.List.{length-reverse}
 use Rattle.std.proofs.lemmas.List.Folds.{list_all-append}
 use Rattle.htmd_text.specs.Trims.{trimmed_start, trimmed_end, trimmed_text}
-use Rattle.htmd_markdown.proofs.SpacedSpansLemmas.{one_more}
 
 -- the text is empty, or its first byte fails
 abbrev pub Begins : (ℕ → Bool) → List ℕ → Type 0
@@ -32,6 +31,9 @@ pub record IsBetween (passes : ℕ → Bool) (s middle : List ℕ) : Type 0 wher
 stays_start : (passes : ℕ → Bool) (s : List ℕ) → Begins passes s → trimmed_start passes s ≡ s
 stays_start passes [] begins = refl
 stays_start passes (b ∷ s) begins = rw begins refl
+
+one_more : (n : ℕ) → 1 + n ≡ suc n
+one_more n = omega arith
 
 passed_start : (passes : ℕ → Bool) (before s : List ℕ) → list_all passes before ≡ true
     → trimmed_start passes (before ++ s) ≡ trimmed_start passes s

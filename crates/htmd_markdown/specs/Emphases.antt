@@ -1,14 +1,11 @@
 -- Emphasis and strong emphasis (CommonMark 0.31.2, 6.2).
-use Rattle.std.specs.Prelude.{◌≡◌, ◌≢◌, ℕ, Bool, not, ◌&&◌, nat_le, if◌then◌else◌, unwrap_or, List, [], ◌∷◌, ◌++◌}
+use Rattle.std.specs.Prelude.{◌≡◌, ◌≢◌, ℕ, List, [], ◌∷◌, ◌++◌}
 use Rattle.std.specs.Prelude.{Option, Some, None, codes}
 use Rattle.std.specs.Str.{trim, trim_start, NoCharPasses, EmptyOrStartsWithPassing, EmptyOrEndsWithPassing}
 use Rattle.std.specs.Char.{is_not_whitespace}
-use Rattle.htmd_grammar.specs.Characters.{line_feed}
 use Rattle.htmd_text.specs.Trims.{white_space_at_start, white_space_at_end}
 use Rattle.htmd_markdown.specs.declared.emphasis.Emphasis.{Emphasis}
 use Rattle.htmd_markdown.specs.declared.emphasis.Emphasis.TheVariants.{Regular, Strong}
-use Rattle.htmd_markdown.specs.Runs.{longest_run}
-use Rattle.htmd_markdown.specs.Titles.{is_filled}
 
 -- the mark on each side
 abbrev pub mark : Emphasis → List ℕ
@@ -46,15 +43,3 @@ AreMarksInside mark content s =
     × IsWhiteSpace before
     × IsTight middle
     × IsWhiteSpace after)
-
--- the content has a blank line: a line feed follows another one
-abbrev pub holds_blank_line : List ℕ → Bool
-holds_blank_line s = nat_le 2 (longest_run line_feed s)
-
--- the content is one paragraph with more than white space in it
-abbrev pub takes_marks : List ℕ → Bool
-takes_marks s = not (holds_blank_line s) && is_filled (trim s)
-
--- such a content between marks, with the white space at its ends outside of them; any other as it is
-abbrev pub guarded_emphasis : Emphasis → List ℕ → List ℕ
-guarded_emphasis emphasis s = if holds_blank_line s then s else unwrap_or (emphasised_text emphasis s) s

@@ -7,7 +7,6 @@ use Rattle.htmd_grammar.specs.WhiteSpace.{is_document_white_space}
 use Rattle.htmd_grammar.specs.BlankLines.{with_blank_lines}
 use Rattle.htmd_markdown.specs.declared.heading.HeadingStyle.{HeadingStyle}
 use Rattle.htmd_markdown.specs.declared.heading.HeadingStyle.TheVariants.{Atx, Setex}
-use Rattle.htmd_markdown.specs.OneLine.{one_line}
 
 -- as many `#` as the level, and a space (CommonMark 0.31.2, 4.2)
 abbrev pub atx : ℕ → List ℕ → List ℕ
@@ -30,14 +29,3 @@ styled_heading Setex level content = if nat_le level 2 then setext level content
 abbrev pub heading : HeadingStyle → ℕ → List ℕ → List ℕ
 heading style level content =
     with_blank_lines (styled_heading style level (trimmed_text is_document_white_space content))
-
--- a line with nothing in it cannot be underlined
-abbrev pub guarded_style : HeadingStyle → List ℕ → HeadingStyle
-guarded_style style [] = Atx
-guarded_style style (b ∷ line) = style
-
--- the content in one line as a heading of the level
-abbrev pub guarded_heading : HeadingStyle → ℕ → List ℕ → List ℕ
-guarded_heading style level content =
-    let line = one_line content in
-    heading (guarded_style style (trimmed_text is_document_white_space line)) level line

@@ -4,7 +4,7 @@ use Rattle.htmd_grammar.specs.Characters.{line_feed}
 use Rattle.htmd_text.specs.Digits.{digits}
 use Rattle.htmd_text.specs.Trims.{trimmed_start, trimmed_end, is_line_feed}
 use Rattle.htmd_text.specs.Indents.{indented_text}
-use Rattle.htmd_markdown.specs.ListItems.{number_marker, aligned_spaces, guarded_spaces}
+use Rattle.htmd_markdown.specs.ListItems.{number_marker}
 use Rattle.htmd_markdown.specs.Lists.{Block, item, item_count, highest_number}
 
 -- the content of an item as it stands in its list
@@ -19,25 +19,11 @@ pub record StandsInColumn (column : ℕ) (marker content text : List ℕ) : Type
   pub whole : text ≡ (before ++ line_feed ∷ []) ++ marker ++ content ++ behind
   pub width : length marker ≡ column
 
--- The content of each item begins in the column after its number, the dot and this many spaces.
-abbrev pub HasColumns : (ℕ → ℕ) → ℕ → List Block → List ℕ → Type 0
-HasColumns spaces first blocks text =
-    (earlier later : List Block) (content : List ℕ) → blocks ≡ earlier ++ item content ∷ later
-    → let number = first + item_count earlier in
-    let column = digits number + 1 + spaces number in
-    StandsInColumn column (number_marker (spaces number) number) (item_content column content) text
-
 -- The content of each item begins in the column that the highest number, its dot and the spacing leave for it.
 abbrev pub HasEqualColumns : ℕ → ℕ → List Block → List ℕ → Type 0
 HasEqualColumns first spacing blocks text =
     let highest = highest_number first blocks in
     let column = spacing + digits highest + 1 in
     (earlier later : List Block) (content : List ℕ) → blocks ≡ earlier ++ item content ∷ later
-    → let number = first + item_count earlier in
-    StandsInColumn column (number_marker (aligned_spaces spacing highest number) number) (item_content column content)
+    → StandsInColumn column (number_marker spacing highest (first + item_count earlier)) (item_content column content)
     text
-
--- In Guarded it begins there, but at least one and at most four characters after its own dot.
-abbrev pub HasGuardedColumns : ℕ → ℕ → List Block → List ℕ → Type 0
-HasGuardedColumns first spacing blocks text =
-    HasColumns (guarded_spaces spacing (highest_number first blocks)) first blocks text

@@ -1,5 +1,5 @@
 -- The items of bullet lists and of ordered lists (CommonMark 0.31.2, 5.2).
-use Rattle.std.specs.Prelude.{ℕ, ◌+◌, ◌-◌, true, List, [], ◌∷◌, ◌++◌, length, replicate, min, max}
+use Rattle.std.specs.Prelude.{ℕ, ◌+◌, ◌-◌, true, List, [], ◌∷◌, ◌++◌, length, replicate}
 use Rattle.std.specs.Fmt.{decimal}
 use Rattle.htmd_grammar.specs.Characters.{line_feed, space, asterisk, hyphen, full_stop}
 use Rattle.htmd_grammar.specs.WhiteSpace.{is_document_white_space}
@@ -31,27 +31,17 @@ bullet_item marker spacing content =
 abbrev pub unnumbered_item : List ℕ → List ℕ
 unnumbered_item content = line_feed ∷ trimmed_start is_document_white_space content ++ line_feed ∷ []
 
--- the number, a dot, and this many spaces
-abbrev pub number_marker : ℕ → ℕ → List ℕ
-number_marker spaces number = decimal number ++ full_stop ∷ replicate spaces space
-
--- the item of an ordered list, without line feeds at the start of its content
-abbrev pub numbered_item : ℕ → ℕ → List ℕ → List ℕ
-numbered_item spaces number content = list_item (number_marker spaces number) (trimmed_start is_line_feed content)
-
 -- the spaces after the dot of a number: as many as stand after the highest number of the list, or more where that has
 -- more digits
 abbrev pub aligned_spaces : ℕ → ℕ → ℕ → ℕ
 aligned_spaces spacing highest number = spacing + (digits highest - digits number)
 
--- The spaces after a marker, as many as are asked for but at least 1 and at most 4: with none there is no item, and
--- with more than 4 its content is indented code.
-abbrev pub guarded_spacing : ℕ → ℕ
-guarded_spacing spacing = max 1 (min spacing 4)
+-- the number, a dot, and these spaces
+abbrev pub number_marker : ℕ → ℕ → ℕ → List ℕ
+number_marker spacing highest number =
+    decimal number ++ full_stop ∷ replicate (aligned_spaces spacing highest number) space
 
--- the spaces after the dot of a number in Guarded, the alignment included
-abbrev pub guarded_spaces : ℕ → ℕ → ℕ → ℕ
-guarded_spaces spacing highest number = guarded_spacing (aligned_spaces spacing highest number)
-
-abbrev pub guarded_bullet_item : BulletListMarker → ℕ → List ℕ → List ℕ
-guarded_bullet_item marker spacing content = bullet_item marker (guarded_spacing spacing) content
+-- the item of an ordered list, without line feeds at the start of its content
+abbrev pub numbered_item : ℕ → ℕ → ℕ → List ℕ → List ℕ
+numbered_item spacing highest number content =
+    list_item (number_marker spacing highest number) (trimmed_start is_line_feed content)

@@ -1,14 +1,13 @@
 -- Ordered lists, and a list among the blocks around it (CommonMark 0.31.2, 5.3).
 use Rattle.std.specs.Prelude.{ℕ, suc, ◌+◌, ◌-◌, ◌^◌, Bool, ◌&&◌, nat_lt, if◌then◌else◌, List, [], ◌∷◌, ◌++◌, length}
-use Rattle.std.specs.Prelude.{map, replicate, Option, Some, None, string_bytes}
+use Rattle.std.specs.Prelude.{replicate, Option, Some, None, string_bytes}
 use Rattle.std.specs.Option.{option_map}
 use Rattle.std.specs.Str.{all_ascii_digits}
 use Rattle.std.specs.Str.Parse.{without_leading_plus, digits_value}
 use Rattle.htmd_grammar.specs.Characters.{line_feed}
-use Rattle.htmd_text.specs.Digits.{digits}
 use Rattle.htmd_text.specs.Trims.{trimmed_text, some_text, is_line_feed}
 use Rattle.htmd_text.specs.Joins.{joined_blocks}
-use Rattle.htmd_markdown.specs.ListItems.{numbered_item, aligned_spaces, guarded_spaces}
+use Rattle.htmd_markdown.specs.ListItems.{numbered_item}
 use Rattle.htmd_markdown.specs.declared.list.ListBlock.{ListBlock}
 use Rattle.htmd_markdown.specs.declared.list.ListBlock.TheVariants.{Item, Other}
 
@@ -41,38 +40,16 @@ item_count (other text ∷ blocks) = item_count blocks
 abbrev pub highest_number : ℕ → List Block → ℕ
 highest_number first blocks = first + item_count blocks - 1
 
--- each item after its number with this many spaces, and the other texts as they are; the first item has this number
-abbrev pub numbered_blocks : (ℕ → ℕ) → ℕ → List Block → List (List ℕ)
-numbered_blocks spaces number [] = []
-numbered_blocks spaces number (item content ∷ blocks) =
-    numbered_item (spaces number) number content ∷ numbered_blocks spaces (suc number) blocks
-numbered_blocks spaces number (other text ∷ blocks) = text ∷ numbered_blocks spaces number blocks
-
--- an ordered list whose numbers have this many spaces after them
-abbrev pub ordered_list_by : (ℕ → ℕ) → ℕ → List Block → List ℕ
-ordered_list_by spaces first blocks = joined_blocks (numbered_blocks spaces first blocks)
+-- each item after its number, and the other texts as they are; the first item has this number
+abbrev pub numbered_blocks : ℕ → ℕ → ℕ → List Block → List (List ℕ)
+numbered_blocks spacing highest number [] = []
+numbered_blocks spacing highest number (item content ∷ blocks) =
+    numbered_item spacing highest number content ∷ numbered_blocks spacing highest (suc number) blocks
+numbered_blocks spacing highest number (other text ∷ blocks) = text ∷ numbered_blocks spacing highest number blocks
 
 -- an ordered list
 abbrev pub ordered_list : ℕ → ℕ → List Block → List ℕ
-ordered_list first spacing blocks =
-    ordered_list_by (aligned_spaces spacing (highest_number first blocks)) first blocks
-
--- No item's number has more than nine digits: if the highest one would, the list begins at 1.
-abbrev pub guarded_first_number : ℕ → ℕ → ℕ
-guarded_first_number first highest = if nat_lt 9 (digits highest) then 1 else first
-
-abbrev pub guarded_ordered_list : ℕ → ℕ → List Block → List ℕ
-guarded_ordered_list first spacing blocks =
-    let first = guarded_first_number first (highest_number first blocks) in
-    ordered_list_by (guarded_spaces spacing (highest_number first blocks)) first blocks
-
--- the contents of the items without numbers, as when they stand in one line
-abbrev pub block_text : Block → List ℕ
-block_text (item content) = content
-block_text (other text) = text
-
-abbrev pub unnumbered_list : List Block → List ℕ
-unnumbered_list blocks = joined_blocks (map block_text blocks)
+ordered_list first spacing blocks = joined_blocks (numbered_blocks spacing (highest_number first blocks) first blocks)
 
 -- this many line feeds on each side
 abbrev pub between_line_feeds : ℕ → List ℕ → List ℕ

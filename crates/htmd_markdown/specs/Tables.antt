@@ -31,12 +31,9 @@ normalised_cell cell = trimmed_text is_document_white_space (flat_map in_cell ce
 abbrev pub cell_width : List ℕ → ℕ
 cell_width cell = length (chars (normalised_cell cell))
 
--- the cells of a line of this many columns, each written like this; missing ones are empty
-abbrev pub line_cells_by : (List ℕ → List ℕ) → ℕ → List (List ℕ) → List (List ℕ)
-line_cells_by written columns cells = map written cells ++ replicate (columns - length cells) []
-
+-- the cells of a line of this many columns, as they are written; missing ones are empty
 abbrev pub line_cells : ℕ → List (List ℕ) → List (List ℕ)
-line_cells columns cells = line_cells_by normalised_cell columns cells
+line_cells columns cells = map normalised_cell cells ++ replicate (columns - length cells) []
 
 -- a cell between spaces: one on each side, and after the cell as many as are missing to the width
 abbrev pub padded_cell : List ℕ → ℕ → List ℕ
@@ -52,12 +49,9 @@ barred_cells (cell ∷ cells) (width ∷ widths) = padded_cell cell width ++ ver
 abbrev pub line : List (List ℕ) → List ℕ → List ℕ
 line cells widths = vertical_bar ∷ barred_cells cells widths
 
--- the line of a row whose cells are written like this, and the line's end
-abbrev pub row_by : (List ℕ → List ℕ) → List (List ℕ) → List ℕ → List ℕ
-row_by written cells widths = line (line_cells_by written (length widths) cells) widths ++ line_feed ∷ []
-
+-- the line of a row, and the line's end
 abbrev pub row : List (List ℕ) → List ℕ → List ℕ
-row cells widths = row_by normalised_cell cells widths
+row cells widths = line (line_cells (length widths) cells) widths ++ line_feed ∷ []
 
 -- as many `-` as the column is wide
 abbrev pub dashes : ℕ → List ℕ
@@ -73,29 +67,19 @@ wider [] others = others
 wider (width ∷ widths) [] = width ∷ widths
 wider (width ∷ widths) (other ∷ others) = max width other ∷ wider widths others
 
--- the widths of a table's columns: the greatest of a cell of the column, each of this many
-abbrev pub column_widths_by : (List ℕ → ℕ) → List (List (List ℕ)) → List ℕ
-column_widths_by width lines = fold wider [] (map (map width) lines)
-
+-- the widths of a table's columns: the most characters of a cell of the column
 abbrev pub column_widths : List (List (List ℕ)) → List ℕ
-column_widths lines = column_widths_by cell_width lines
+column_widths lines = fold wider [] (map (map cell_width) lines)
 
 -- the headers and the separator, if there are headers
-abbrev pub head_by : (List ℕ → List ℕ) → List (List ℕ) → List ℕ → List ℕ
-head_by written [] widths = []
-head_by written (header ∷ headers) widths = row_by written (header ∷ headers) widths ++ separator widths
+abbrev pub head : List (List ℕ) → List ℕ → List ℕ
+head [] widths = []
+head (header ∷ headers) widths = row (header ∷ headers) widths ++ separator widths
 
 -- the lines of a table whose columns have these widths
-abbrev pub table_of_widths_by : (List ℕ → List ℕ) → List ℕ → List (List ℕ) → List (List (List ℕ))
-    → List ℕ
-table_of_widths_by written widths headers rows =
-    head_by written headers widths ++ flat_map (λ cells. row_by written cells widths) rows
+abbrev pub table_of_widths : List ℕ → List (List ℕ) → List (List (List ℕ)) → List ℕ
+table_of_widths widths headers rows = head headers widths ++ flat_map (λ cells. row cells widths) rows
 
--- the table whose cells are written like this and take this many characters, each column as wide as its widest cell
-abbrev pub table_by : (List ℕ → List ℕ) → (List ℕ → ℕ) → List (List ℕ) → List (List (List ℕ))
-    → List ℕ
-table_by written width headers rows =
-    table_of_widths_by written (column_widths_by width (headers ∷ rows)) headers rows
-
+-- the table, each column as wide as its widest cell
 abbrev pub table : List (List ℕ) → List (List (List ℕ)) → List ℕ
-table headers rows = table_by normalised_cell cell_width headers rows
+table headers rows = table_of_widths (column_widths (headers ∷ rows)) headers rows

@@ -42,7 +42,7 @@ pub(crate) fn push_escaped(
 }
 
 /// Whether the byte is one of these.
-pub(crate) fn is_one_of(byte: u8, characters: &[u8]) -> bool
+fn is_one_of(byte: u8, characters: &[u8]) -> bool
     ensures { result ≡ is_one_of characters.now byte }
 {
     characters.contains(&byte)

@@ -44,35 +44,16 @@ fn write_delimited(alloc: Global, text: &str, preformatted_code: bool) -> Result
         (spec.delimiter_len text.now)
         (if preformatted_code then spec.in_one_line text.now else text.now)) }
 {
-    let mut span = String::new(alloc);
-    push_delimited(&mut span, text, preformatted_code)?;
-    Ok(span)
-}
-
-/// Appends the code span of a content, without document white space at its ends.
-pub(crate) fn push_span(out: &mut String, content: &str) -> Result<(), AllocError>
-    ensures { OnOk result
-        (string_bytes out.new ≡ string_bytes out.old ++ spec.code_span false content.now) }
-{
-    push_delimited(out, content.trim_document_whitespace(), false)
-}
-
-/// Appends the text between its delimiters, in one line with `preformatted_code`.
-fn push_delimited(out: &mut String, text: &str, preformatted_code: bool) -> Result<(), AllocError>
-    ensures { OnOk result (string_bytes out.new ≡ string_bytes out.old ++ spec.delimited_text
-        (spec.meets_delimiter text.now || (preformatted_code && spec.is_between_spaces text.now))
-        (spec.delimiter_len text.now)
-        (if preformatted_code then spec.in_one_line text.now else text.now)) }
-{
     let delimiter = delimiter_len(text);
     let padded = meets_delimiter(text) || (preformatted_code && is_between_spaces(text));
     let room = delimiter.saturating_mul(2).saturating_add(text.len());
-    out.reserve(room.saturating_add(MOST_SPACES))?;
-    push_repeated(out, '`', delimiter)?;
-    push_space_if(out, padded)?;
-    push_content(out, text, preformatted_code)?;
-    push_space_if(out, padded)?;
-    push_repeated(out, '`', delimiter)
+    let mut span = String::with_capacity(alloc, room.saturating_add(MOST_SPACES))?;
+    push_repeated(&mut span, '`', delimiter)?;
+    push_space_if(&mut span, padded)?;
+    push_content(&mut span, text, preformatted_code)?;
+    push_space_if(&mut span, padded)?;
+    push_repeated(&mut span, '`', delimiter)?;
+    Ok(span)
 }
 
 /// Appends the text, in one line with `preformatted_code`.
@@ -133,7 +114,7 @@ fn is_all(text: &str, character: u8) -> bool
 }
 
 /// Appends a space if it is due.
-pub(crate) fn push_space_if(text: &mut String, due: bool) -> Result<(), AllocError>
+fn push_space_if(text: &mut String, due: bool) -> Result<(), AllocError>
     ensures { OnOk result (string_bytes text.new ≡ string_bytes text.old ++ spec.space_if due) }
 {
     if due { text.push(' ') } else { Ok(()) }

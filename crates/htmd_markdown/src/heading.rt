@@ -4,7 +4,6 @@ ghost use Rattle.std.specs.Str.{chars};
 ghost use Rattle.htmd_grammar.specs.BlankLines.{with_blank_lines};
 ghost use Rattle.htmd_markdown.specs.Headings as spec;
 
-use crate::one_line::write_one_line;
 use htmd_text::{TrimDocumentWhitespace, push_repeated};
 use std::alloc::{AllocError, Global};
 
@@ -31,33 +30,6 @@ pub fn write_heading(
     match style {
         HeadingStyle::Setex if level <= 2 => write_setext(alloc, level, content),
         _ => write_atx(alloc, level as usize, content),
-    }
-}
-
-/// The content in one line, without document white space at its ends, as a heading of the level, with blank lines
-/// around. An empty line is written as in `Atx`.
-///
-/// `Err` means out of memory.
-pub fn write_guarded_heading(
-    alloc: Global,
-    style: HeadingStyle,
-    level: u8,
-    content: &str,
-) -> Result<String, AllocError>
-    ensures { IfOk result (λ s. string_bytes s ≡ spec.guarded_heading style level content.now) }
-{
-    let line = write_one_line(alloc, content)?;
-    let style = guarded_style(style, line.trim_document_whitespace());
-    write_heading(alloc, style, level, &line)
-}
-
-fn guarded_style(style: HeadingStyle, line: &str) -> HeadingStyle
-    ensures { result ≡ spec.guarded_style style line.now }
-{
-    if line.is_empty() {
-        HeadingStyle::Atx
-    } else {
-        style
     }
 }
 

@@ -176,7 +176,7 @@ pub fn write_definition(
 }
 
 /// Appends the text between brackets.
-pub(crate) fn push_in_brackets(out: &mut String, text: &str) -> Result<(), AllocError>
+fn push_in_brackets(out: &mut String, text: &str) -> Result<(), AllocError>
     ensures { OnOk result
         (string_bytes out.new ≡ string_bytes out.old ++ spec.in_brackets text.now) }
 {
@@ -186,7 +186,7 @@ pub(crate) fn push_in_brackets(out: &mut String, text: &str) -> Result<(), Alloc
 }
 
 /// Appends a number between brackets.
-pub(crate) fn push_number_in_brackets(out: &mut String, number: usize) -> Result<(), AllocError>
+fn push_number_in_brackets(out: &mut String, number: usize) -> Result<(), AllocError>
     ensures { OnOk result
         (string_bytes out.new ≡ string_bytes out.old ++ spec.in_brackets (decimal number)) }
 {

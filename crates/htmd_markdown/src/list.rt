@@ -1,12 +1,11 @@
 //! List items and lists (CommonMark 0.31.2, 5.2 and 5.3).
-ghost use Rattle.std.specs.Prelude.{◌≡◌, ◌-◌, ◌<◌, ◌≤◌, ◌^◌, true, ◌++◌, IfOk, OnOk, length, map, string_bytes};
+ghost use Rattle.std.specs.Prelude.{◌≡◌, ◌-◌, ◌<◌, ◌≤◌, true, ◌++◌, IfOk, OnOk, length, map, string_bytes};
 ghost use Rattle.std.specs.Option.{option_copied, option_map};
 ghost use Rattle.htmd_text.specs.Indents.{indented_text};
 ghost use Rattle.htmd_text.specs.Trims.{trimmed_start, is_line_feed};
 ghost use Rattle.htmd_markdown.specs.ListItems as items;
-ghost use Rattle.htmd_markdown.specs.ListColumns.{HasColumns, HasEqualColumns, HasGuardedColumns};
+ghost use Rattle.htmd_markdown.specs.ListColumns.{HasEqualColumns};
 ghost use Rattle.htmd_markdown.specs.Lists as spec;
-ghost use Rattle.htmd_markdown.specs.Numbering.{spaces_of};
 
 use htmd_text::runs::leading_len;
 use htmd_text::{
@@ -63,28 +62,6 @@ pub fn write_bullet_item(
     Ok(item)
 }
 
-/// An item of a bullet list with at least one space after its marker and at most four: with none there is no item, and
-/// with more the content is indented code (CommonMark 0.31.2, 5.2).
-///
-/// `Err` means out of memory.
-pub fn write_guarded_bullet_item(
-    alloc: Global,
-    marker: BulletListMarker,
-    spacing: u8,
-    content: &str,
-) -> Result<String, AllocError>
-    ensures { IfOk result (λ t. string_bytes t ≡ items.guarded_bullet_item marker spacing content.now) }
-{
-    write_bullet_item(alloc, marker, guarded_spacing(spacing), content)
-}
-
-/// The spaces after a marker: as many as are asked for, but at least 1 and at most 4.
-fn guarded_spacing(spacing: u8) -> u8
-    ensures { result ≡ items.guarded_spacing spacing }
-{
-    spacing.min(4).max(1)
-}
-
 fn bullet(marker: BulletListMarker) -> char
     ensures value { result ≡ items.bullet marker }
     ensures ascii { result < 128 }
@@ -108,14 +85,6 @@ pub fn write_unnumbered_item(alloc: Global, content: &str) -> Result<String, All
     Ok(item)
 }
 
-/// The spaces after a dot, when the highest number of the list has this many.
-#[derive(Clone, Copy)]
-pub(crate) struct Spaces {
-    spacing: u8,
-    highest: usize,
-    is_guarded: bool,
-}
-
 /// The blocks of an ordered list: each item after its number, and the other texts as they are. The contents of all
 /// items begin in the same column, after the highest number and this many spaces. `Err` means out of memory.
 pub fn write_ordered_list(
@@ -129,96 +98,19 @@ pub fn write_ordered_list(
     ensures columns { IfOk result
         (λ t. HasEqualColumns first spacing (map spec.block_of blocks.items) (string_bytes t)) }
 {
-    let spaces = Spaces {
-        spacing,
-        highest: highest_number(first, &blocks),
-        is_guarded: false,
-    };
-    write_numbered(alloc, first, spaces, blocks)
-}
-
-/// The blocks of an ordered list with at least one space after each dot and at most four, including those that align
-/// shorter numbers: with none there is no item, and with more its content is indented code. The list begins at 1 if its
-/// highest number would have more than nine digits, since that is not a list number (CommonMark 0.31.2, 5.2).
-///
-/// `Err` means out of memory.
-pub fn write_guarded_ordered_list(
-    alloc: Global,
-    first: u32,
-    spacing: u8,
-    blocks: Vec<ListBlock>,
-) -> Result<String, AllocError>
-    ensures text { IfOk result (λ t. string_bytes t
-        ≡ spec.guarded_ordered_list first spacing (map spec.block_of blocks.items)) }
-    ensures columns { IfOk result (λ t. HasGuardedColumns
-        (spec.guarded_first_number first
-        (spec.highest_number first (map spec.block_of blocks.items)))
-        spacing (map spec.block_of blocks.items) (string_bytes t)) }
-{
-    let first = guarded_first_number(first, highest_number(first, &blocks));
-    let spaces = Spaces {
-        spacing,
-        highest: highest_number(first, &blocks),
-        is_guarded: true,
-    };
-    write_numbered(alloc, first, spaces, blocks)
-}
-
-/// The contents of an ordered list's items, without numbers, and its other texts: for a list that stands in one line.
-///
-/// `Err` means out of memory.
-pub fn write_unnumbered_list(alloc: Global, blocks: Vec<ListBlock>) -> Result<String, AllocError>
-    ensures { IfOk result
-        (λ t. string_bytes t ≡ spec.unnumbered_list (map spec.block_of blocks.items)) }
-{
-    let mut texts = Vec::with_capacity(alloc, blocks.len())?;
-    for block in blocks {
-        match block {
-            ListBlock::Item(content) => texts.push(content)?,
-            ListBlock::Other(text) => texts.push(text)?,
-        }
-    }
-    join_blocks(alloc, &texts)
-}
-
-/// The number of the last item.
-fn highest_number(first: u32, blocks: &[ListBlock]) -> usize
-    requires { length blocks.now < 2 ^ 63 }
-    ensures { result ≡ spec.highest_number first (map spec.block_of blocks.now) }
-{
-    (first as usize + item_count(blocks)).saturating_sub(1)
-}
-
-/// Each item after its number with its spaces, and the other texts as they are.
-fn write_numbered(
-    alloc: Global,
-    first: u32,
-    spaces: Spaces,
-    blocks: Vec<ListBlock>,
-) -> Result<String, AllocError>
-    ensures text { IfOk result (λ t. string_bytes t
-        ≡ spec.ordered_list_by (spaces_of spaces) first (map spec.block_of blocks.items)) }
-    ensures columns { IfOk result
-        (λ t. HasColumns (spaces_of spaces) first (map spec.block_of blocks.items) (string_bytes t)) }
-{
     let mut number = first as usize;
+    let highest = (number + item_count(&blocks)).saturating_sub(1);
     let mut texts = Vec::with_capacity(alloc, blocks.len())?;
     for block in blocks {
         match block {
             ListBlock::Item(content) => {
-                texts.push(write_numbered_item(alloc, spaces, number, &content)?)?;
+                texts.push(write_numbered_item(alloc, spacing, highest, number, &content)?)?;
                 number += 1;
             }
             ListBlock::Other(text) => texts.push(text)?,
         }
     }
     join_blocks(alloc, &texts)
-}
-
-fn guarded_first_number(first: u32, highest: usize) -> u32
-    ensures { result ≡ spec.guarded_first_number first highest }
-{
-    if digits(highest) > 9 { 1 } else { first }
 }
 
 fn item_count(blocks: &[ListBlock]) -> usize
@@ -234,23 +126,8 @@ fn item_count(blocks: &[ListBlock]) -> usize
     count
 }
 
-impl Spaces {
-    /// How many spaces come after the dot of the number.
-    fn behind(self, number: usize) -> usize
-        ensures bound { result ≤ 275 }
-        ensures value { result ≡ spaces_of self number }
-    {
-        let aligned = aligned_spaces(self.spacing, self.highest, number);
-        if self.is_guarded {
-            aligned.min(4).max(1)
-        } else {
-            aligned
-        }
-    }
-}
-
 /// The spaces after the dot of a number: as many as asked for, and one for each digit more that the highest number has.
-fn aligned_spaces(spacing: u8, highest: usize, number: usize) -> usize
+pub fn aligned_spaces(spacing: u8, highest: usize, number: usize) -> usize
     ensures bound { result ≤ 275 }
     ensures value { result ≡ items.aligned_spaces spacing highest number }
 {
@@ -261,15 +138,15 @@ fn aligned_spaces(spacing: u8, highest: usize, number: usize) -> usize
 /// start.
 fn write_numbered_item(
     alloc: Global,
-    spaces: Spaces,
+    spacing: u8,
+    highest: usize,
     number: usize,
     content: &str,
 ) -> Result<String, AllocError>
-    ensures { IfOk result
-        (λ t. string_bytes t ≡ items.numbered_item (spaces_of spaces number) number content.now) }
+    ensures { IfOk result (λ t. string_bytes t ≡ items.numbered_item spacing highest number content.now) }
 {
     let content = without_line_feeds_before(content);
-    let spaces = spaces.behind(number);
+    let spaces = aligned_spaces(spacing, highest, number);
     let mut item = String::with_capacity(alloc, content.len() + spaces + 22)?;
     item.push('\n')?;
     write!(item, "{number}")?;

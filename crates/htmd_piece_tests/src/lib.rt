@@ -12,10 +12,6 @@ mod code_blocks;
 #[cfg(test)]
 mod code_spans;
 #[cfg(test)]
-mod guarded_pieces;
-#[cfg(test)]
-mod guarded_texts;
-#[cfg(test)]
 mod links;
 #[cfg(test)]
 mod lists;

@@ -12,14 +12,6 @@ pub(crate) fn faithful() -> Options {
     }
 }
 
-/// The default options, but Guarded.
-pub(crate) fn guarded() -> Options {
-    Options {
-        translation_mode: TranslationMode::Guarded,
-        ..Options::default()
-    }
-}
-
 /// The default options, but links are references.
 pub(crate) fn referenced() -> Options {
     Options {

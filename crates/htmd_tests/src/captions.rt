@@ -1,6 +1,6 @@
 //! Pages that are converted in the time that their length and depth require, though what is in a table without lines is
 //! asked for twice.
-use crate::builders::{faithful, guarded};
+use crate::builders::faithful;
 use crate::pages::converted_page;
 use htmd::options::Options;
 use htmd_expected::expect_text;
@@ -42,7 +42,7 @@ fn converts_captions_in_captions(rt: HostRuntime) -> Result<(), Fail> {
             let start = "<table><caption>";
             let end = "</caption><thead></thead></table>";
             let html = nested(rt.alloc(), count, start, text, end)?;
-            for options in [Options::default(), faithful(), guarded()] {
+            for options in [Options::default(), faithful()] {
                 expect_page(rt.alloc(), options, html.as_str(), markdown)?;
             }
         }
@@ -51,8 +51,7 @@ fn converts_captions_in_captions(rt: HostRuntime) -> Result<(), Fail> {
 }
 
 // A table in the header of a table, and so on, with a later head without cells that takes the headers away: strong text
-// in strong text. In Guarded every row counts, so the outermost is a table, and a content with a blank line gets no
-// marks.
+// in strong text.
 #[test]
 fn converts_headers_in_headers(rt: HostRuntime) -> Result<(), Fail> {
     for count in [1, 2, 100, 200] {
@@ -63,8 +62,6 @@ fn converts_headers_in_headers(rt: HostRuntime) -> Result<(), Fail> {
         for options in [Options::default(), faithful()] {
             expect_page(rt.alloc(), options, html.as_str(), marked.as_str())?;
         }
-        let table = "| **x** |\n| ----- |";
-        expect_page(rt.alloc(), guarded(), html.as_str(), table)?;
     }
     Ok(())
 }

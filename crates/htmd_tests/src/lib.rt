@@ -16,11 +16,7 @@ mod depth;
 #[cfg(test)]
 mod errors;
 #[cfg(test)]
-mod guarded_parts;
-#[cfg(test)]
 mod handlers;
-#[cfg(test)]
-mod inline_reader;
 #[cfg(test)]
 mod large_pages;
 #[cfg(test)]

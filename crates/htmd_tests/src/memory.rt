@@ -6,7 +6,7 @@ use crate::refusals::{answered, answered_with};
 use crate::registry::expect_found;
 use htmd::element_handler::{ElementHandler, ElementHandlers};
 use htmd::options::Options;
-use htmd::{HtmlToMarkdown, HtmlToMarkdownBuilder};
+use htmd::{HtmlToMarkdown, HtmlToMarkdownBuilder, to_markdown};
 use htmd_expected::expect_text;
 use std::alloc::{AllocError, Global};
 use std::test::Fail;
@@ -46,6 +46,20 @@ fn with_handler(
     }
 }
 
+// What a reader sees of a page, as Markdown.
+fn shown_once(alloc: Global, converter: &HtmlToMarkdown, html: &str) -> Result<String, AllocError> {
+    let document = converter.document(alloc, html)?;
+    to_markdown(alloc, &document, &converter.document_options())
+}
+
+// The same, at a second try if need be.
+fn shown(alloc: Global, converter: &HtmlToMarkdown, html: &str) -> Result<String, AllocError> {
+    match shown_once(alloc, converter, html) {
+        Ok(markdown) => Ok(markdown),
+        Err(_) => shown_once(alloc, converter, html),
+    }
+}
+
 #[test]
 fn hands_back_builders(rt: HostRuntime) -> Result<(), Fail> {
     let builder = match HtmlToMarkdown::builder(rt.alloc()) {
@@ -55,9 +69,12 @@ fn hands_back_builders(rt: HostRuntime) -> Result<(), Fail> {
     let builder = skipping(builder)?;
     let handler: Box<dyn ElementHandler> = text_alone(rt.alloc())?;
     let builder = with_handler(builder, handler)?;
+    let converter = builder.build();
     let html = "<p>1<a href=/x>2</a><i>3</i><u>4</u><b>5</b></p>";
-    let answer = answered(rt.alloc(), &builder.build(), html)?;
-    expect_text(html, answer.as_str(), "134")
+    let answer = answered(rt.alloc(), &converter, html)?;
+    expect_text(html, answer.as_str(), "134")?;
+    let shown = shown(rt.alloc(), &converter, html)?;
+    expect_text("what shows", shown.as_str(), "1*3*4")
 }
 
 // A registry that refused a handler finds what it found before, and then takes the handler.

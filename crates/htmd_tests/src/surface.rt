@@ -107,11 +107,7 @@ fn has_options() -> Result<(), Fail> {
     let _ = [CodeBlockStyle::Indented, CodeBlockStyle::Fenced];
     let _ = [CodeBlockFence::Tildes, CodeBlockFence::Backticks];
     let _ = [BulletListMarker::Asterisk, BulletListMarker::Dash];
-    let _ = [
-        TranslationMode::Pure,
-        TranslationMode::Faithful,
-        TranslationMode::Guarded,
-    ];
+    let _ = [TranslationMode::Pure, TranslationMode::Faithful];
     let Options {
         heading_style: _,
         hr_style: _,

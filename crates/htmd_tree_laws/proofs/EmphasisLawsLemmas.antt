@@ -5,16 +5,15 @@ use Rattle.std.proofs.Common.{subst, cond, Option, Some, None, IfSome, nat_lt}
 use Rattle.std.specs.Str.{IsUtf8, IsTrimStart, IsTrimEnd, trim_start, trim_end}
 use Rattle.htmd_markdown.specs.declared.emphasis.Emphasis.{Emphasis}
 use Rattle.htmd_markdown.specs.declared.emphasis.Emphasis.TheVariants.{Regular, Strong}
-use Rattle.htmd_markdown.specs.Emphases.{mark, between, emphasised_text, guarded_emphasis, AreMarksInside}
+use Rattle.htmd_markdown.specs.Emphases.{mark, between, emphasised_text, AreMarksInside}
 use Rattle.htmd_markdown.proofs.EmphasesLemmas.{marks_inside}
 use Rattle.htmd_walk.specs.declared.options.Options.{Options}
 use Rattle.htmd_walk.specs.declared.options.TranslationMode.{TranslationMode}
-use Rattle.htmd_walk.specs.Outputs.{is_markdown_alone_in, is_guarded_in}
-use Rattle.htmd_walk.specs.ElementPlans.{markdown_result}
+use Rattle.htmd_walk.specs.Outputs.{is_markdown_alone_in}
 use Rattle.htmd_walk.specs.Handling.{raw_html, content_of_children, HandlerMeaning}
 use Rattle.htmd_walk.specs.Choice.{Config, indexes, handlers_at}
 use Rattle.htmd_walk.specs.ElementPlans.{attributes_of}
-use Rattle.htmd_walk.specs.Elements.{content_of, answer_after, first_answer, plan_answer, without_handler}
+use Rattle.htmd_walk.specs.Elements.{answer_after, first_answer, plan_answer, without_handler}
 use Rattle.htmd_walk.specs.Emphases.{emphasis_of}
 use Rattle.htmd_walk.specs.ElementPlans.{optional_markdown}
 use Rattle.htmd_walk.specs.BuiltIn.{built_in}
@@ -70,12 +69,9 @@ inside e tag s has marks at definitions config pure content =
     let asked : TranslationMode → Option _ = λ m. (plan_answer (emphasis_of e) at definitions
     (cond (not (is_markdown_alone_in m) && nat_lt 0 (length (attributes_of at.view))) raw_html content_of_children)
     (without_handler at definitions)).result in
-    let made : TranslationMode → Option _ = λ m. cond (is_guarded_in m)
-    (markdown_result (guarded_emphasis e (content_of at definitions).text))
-    (optional_markdown (emphasised_text e (content_of at definitions).text)) in
     let given : (answer_after 0 tag at definitions).result ≡ optional_markdown (emphasised_text e s) =
     ap (λ (k : Config). answers (handlers_at k.handlers (indexes tag k.registered))) config
-    ∙ ap answers (has at.view.options) ∙ ap asked pure ∙ ap made pure
+    ∙ ap answers (has at.view.options) ∙ ap asked pure
     ∙ ap (λ (t : List ℕ). optional_markdown (emphasised_text e t)) content in
     subst (λ r. IfSome r (λ x. AreMarksInside (mark e) s x.content)) (sym given)
     (markdown-some (AreMarksInside (mark e) s) (emphasised_text e s) marks)

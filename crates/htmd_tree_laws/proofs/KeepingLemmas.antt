@@ -14,7 +14,6 @@ use Rattle.htmd_walk.specs.OrdinaryText.{in_pre_or_code}
 use Rattle.htmd_walk.specs.Choice.{indexes, handler_at, handlers_at}
 use Rattle.htmd_walk.specs.Groups.{groups_of}
 use Rattle.htmd_walk.specs.Outputs.{Conversion, Output, push_text, Context, context_of, Writes, is_markdown_alone}
-use Rattle.htmd_walk.specs.Outputs.{is_guarded}
 use Rattle.htmd_walk.specs.Children.{is_block_tree, before_child, trim_after, write_children, write_groups, trims_first}
 use Rattle.htmd_walk.specs.Children.{content_alone, descendant_tree}
 use Rattle.htmd_walk.specs.Elements.{Occurrence, Answer, content_of, raw_element, raw_answer, after_fallback}
@@ -152,7 +151,7 @@ module _ (P : List (List ℕ) → Type 0) where
   keeps-node write g conversion keeps (element id name attributes children) context out p =
       let at = occurrence_at write conversion id (record { tag = name; attributes = attributes } ∷ context.ancestors)
       children in
-      subst P (sym (result-definitions (is_guarded conversion.config.options) out (in_pre_or_code context.ancestors)
+      subst P (sym (result-definitions out (in_pre_or_code context.ancestors)
       (answer_after 0 name at out.definitions).result _))
       (keeps-answer at g keeps refl 0 name out.definitions p)
 

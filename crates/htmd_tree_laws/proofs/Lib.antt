@@ -1,12 +1,7 @@
--- The lemmas of the laws, each module over those before it: of the grammar, of the conversion; and worked examples.
+-- The lemmas of the laws, each module over those before it: of the grammar, and of the conversion.
 pub mod ParameterLaw
 pub mod FrontsReached
 pub mod OneFault
-pub mod Utf8Cuts
-pub mod DecodedTexts
-pub mod TextsRead
-pub mod LaidTrees
-pub mod TreesRead
 pub mod LinkLawsLemmas
 pub mod KeepingLemmas
 pub mod NumbersLemmas
@@ -14,59 +9,3 @@ pub mod ListLawsLemmas
 pub mod ContentLawsLemmas
 pub mod GroupCuts
 pub mod EmphasisLawsLemmas
-pub mod GuardedEnds
-pub mod GuardedRuns
-pub mod GuardedSeams
-pub mod TextTrees
-pub mod TextElements
-pub mod CountedTexts
-pub mod LettersLemmas
-pub mod LettersOfTexts
-pub mod LettersOfLines
-pub mod LettersOfPieces
-pub mod LettersOfLinks
-pub mod LettersOfGuarded
-pub mod LettersOfJoints
-pub mod JointMarks
-pub mod KeptMarks
-pub mod Literals
-pub mod KeptChains
-pub mod KeptJoints
-pub mod KeptEnds
-pub mod KeptMeetings
-pub mod LiteralPieces
-pub mod KeptLines
-pub mod LinedTexts
-pub mod KeptBlocks
-pub mod BlockEdits
-pub mod KeptPieces
-pub mod BlockPieces
-pub mod KeptPlaces
-pub mod LettersOfHandlers
-pub mod LettersOfTables
-pub mod LettersOfGrids
-pub mod KeptTables
-pub mod ElementsByTag
-pub mod WrittenTables
-pub mod LettersOfElements
-pub mod FittingTrees
-pub mod SaidChildren
-pub mod KeptTexts
-pub mod LettersLawsLemmas
-pub mod BlockBeginnings
-pub mod TextLines
-pub mod GuardedLines
-pub mod TextWalks
-pub mod TextLawsLemmas
-pub mod ShownTrees
-pub mod ShownOfElements
-pub mod TableChildren
-pub mod LinePlaces
-pub mod KeptElements
-pub mod ShownTables
-pub mod KeptLawsLemmas
-pub mod ShownLawsLemmas
-pub mod TextCharacters
-mod TextExamples
-mod LettersExamples
-mod ShownExamples

@@ -11,34 +11,28 @@ use Rattle.htmd_markdown.proofs.AddressesLemmas.{holds_address}
 use Rattle.htmd_markdown.proofs.LinksLemmas.{image-parts, inline_link-parts}
 use Rattle.htmd_markdown.specs.declared.link.LinkStyle.{LinkStyle}
 use Rattle.htmd_markdown.specs.declared.link.LinkStyle.TheVariants.{Inlined, InlinedPreferAutolinks, Referenced}
-use Rattle.htmd_walk.specs.Handling.{ElementView, ResultView, PlanView, this_result, raw_html}
-use Rattle.htmd_markdown.specs.GuardedLinks.{guarded_image}
-use Rattle.htmd_walk.specs.ElementPlans.{markdown_plan}
-use Rattle.htmd_walk.specs.Outputs.{is_guarded}
+use Rattle.htmd_walk.specs.Handling.{ElementView, ResultView, this_result, raw_html}
 use Rattle.htmd_walk.specs.LinkAttributes.{title_of, is_raw_unless_among}
 use Rattle.htmd_walk.specs.Images.{image_attributes, image_address, alternative_text, image_at}
-use Rattle.htmd_walk.specs.Anchors.{finish_at, link_finish, guarded_link_finish}
+use Rattle.htmd_walk.specs.Anchors.{finish_at, link_finish}
 use Rattle.htmd_tree_laws.specs.LinkLaws.{ImagesHoldAddresses, InlineLinkHolds, LinkHolds, LinksHoldAddresses}
 
 written-image : (raw : Bool) (found : Option (List ℕ)) (view : ElementView) (address : List ℕ)
-    (written : ResultView)
-    → is_guarded view.options ≡ false → found ≡ Some address
+    (written : ResultView) → found ≡ Some address
     → cond raw raw_html (image_at found view) ≡ this_result written
     → written.content ≡ image address (alternative_text view) (title_of view)
-written-image true found view address written pure is e = cc
-written-image false found view address written pure is e =
-    let shown : Bool → PlanView = λ b. markdown_plan
-    ((cond b guarded_image image) address (alternative_text view) (title_of view)) in
-    let same = ap shown (sym pure) ∙ ap (λ o. image_at o view) (sym is) ∙ e in
+written-image true found view address written is e = cc
+written-image false found view address written is e =
+    let same = ap (λ o. image_at o view) (sym is) ∙ e in
     let result : record { content = image address (alternative_text view) (title_of view); markdown_translated = true }
     ≡ written = cc in
     ap (λ (r : ResultView). r.content) (sym result)
 
 pub images_hold_addresses : ImagesHoldAddresses
-images_hold_addresses view address written pure found none e =
+images_hold_addresses view address written found none e =
     holds_address (image_start address (alternative_text view)) address (resource_end address (title_of view))
     written.content none
-    (written-image (is_raw_unless_among image_attributes view) (image_address view) view address written pure found e
+    (written-image (is_raw_unless_among image_attributes view) (image_address view) view address written found e
     ∙ image-parts address (alternative_text view) (title_of view))
 
 inline-holds : (view : ElementView) (content address : List ℕ) → holds_backslash address ≡ false
@@ -73,9 +67,7 @@ link-holds Referenced view content address definitions none =
     )
 
 pub links_hold_addresses : LinksHoldAddresses
-links_hold_addresses view content definitions address pure found none =
+links_hold_addresses view content definitions address found none =
     subst (λ (o : Option (List ℕ)). LinkHolds view.options.link_style view content.content address
     (length definitions + 1) (finish_at o view content definitions)) (sym found)
-    (subst (λ (b : Bool). LinkHolds view.options.link_style view content.content address (length definitions + 1)
-    ((cond b guarded_link_finish link_finish) view.options.link_style view content.content address definitions))
-    (sym pure) (link-holds view.options.link_style view content.content address definitions none))
+    (link-holds view.options.link_style view content.content address definitions none)

@@ -21,25 +21,21 @@ use Rattle.htmd_grammar.specs.Characters.{line_feed, space, full_stop}
 use Rattle.htmd_text.specs.Digits.{digits}
 use Rattle.htmd_text.specs.Trims.{trimmed_start, trimmed_end, trimmed_text, some_text, is_line_feed}
 use Rattle.htmd_text.specs.Indents.{indented_text}
-use Rattle.htmd_markdown.specs.ListItems.{number_marker, aligned_spaces, guarded_spaces}
+use Rattle.htmd_markdown.specs.ListItems.{number_marker}
 use Rattle.htmd_markdown.specs.Lists.{Block, item, other, item_count, highest_number, first_number, ordered_list}
-use Rattle.htmd_markdown.specs.Lists.{ordered_list_by, list_block, between_line_feeds}
-use Rattle.htmd_markdown.specs.Lists.{guarded_ordered_list, guarded_first_number}
-use Rattle.htmd_markdown.specs.ListColumns.{item_content, StandsInColumn, HasColumns, HasEqualColumns}
-use Rattle.htmd_markdown.specs.ListColumns.{HasGuardedColumns}
+use Rattle.htmd_markdown.specs.Lists.{list_block, between_line_feeds}
+use Rattle.htmd_markdown.specs.ListColumns.{item_content, StandsInColumn, HasEqualColumns}
 use Rattle.htmd_markdown.proofs.ListsLemmas.{items_in, item_count-append}
-use Rattle.htmd_markdown.proofs.ListColumnsLemmas.{columns_kept, columns_equal, digit_first}
-use Rattle.htmd_markdown.proofs.SpacedSpansLemmas.{one_more}
+use Rattle.htmd_markdown.proofs.ListColumnsLemmas.{columns_equal}
 use Rattle.htmd_nodes.specs.Items.{Item, children_of, tag_of, data_at}
 use Rattle.htmd_walk.specs.Handling.{ElementView, ResultView}
-use Rattle.htmd_walk.specs.Outputs.{is_markdown_alone, is_guarded}
+use Rattle.htmd_walk.specs.Outputs.{is_markdown_alone}
 use Rattle.htmd_walk.specs.Children.{content_alone, descendant_tree}
 use Rattle.htmd_walk.specs.Elements.{Occurrence, contents_alone}
 use Rattle.htmd_walk.specs.ElementPlans.{raw_block_result, are_markdown, attributes_of, value_of_first}
 use Rattle.htmd_walk.specs.ElementPlans.{optional_markdown}
-use Rattle.htmd_walk.specs.Lists.{block_of_child, blocks_of_list, blocks_of, first_number_of, is_in_item, ordered_text}
-use Rattle.htmd_walk.specs.OneLineElements.{is_in_line}
-use Rattle.htmd_tree_laws.specs.ListLaws.{BeginInColumns, ItemsBeginInOneColumn, is_item, HasItemBehind, EachItemTakesANumber}
+use Rattle.htmd_walk.specs.Lists.{block_of_child, blocks_of_list, blocks_of, first_number_of, is_in_item}
+use Rattle.htmd_tree_laws.specs.ListLaws.{ItemsBeginInOneColumn, is_item, HasItemBehind, EachItemTakesANumber}
 
 -- ---- line feeds are cut after a text
 
@@ -105,6 +101,9 @@ record Cut (line text : List ℕ) : Type 0 where
   pub is : trimmed_start is_line_feed text ≡ front ++ line
   pub line_end : line_feed ∷ front ≡ before ++ line_feed ∷ []
 
+one_more : (n : ℕ) → 1 + n ≡ suc n
+one_more n = omega arith
+
 stays : (b : ℕ) (s : List ℕ) → is_line_feed b ≡ false → trimmed_start is_line_feed (b ∷ s) ≡ b ∷ s
 stays b s differs = ap (λ n. drop n (b ∷ s)) (cond-false (is_line_feed b) (1 + prefix_len is_line_feed s) 0 differs)
 
@@ -150,23 +149,27 @@ spaces_end (suc count) = record {
   differs = refl;
 }
 
-marker_ends : (spaces number : ℕ) → Ends (number_marker spaces number)
-marker_ends spaces number = ends_behind (decimal number) _ (spaces_end spaces)
+marker_ends : (spacing highest number : ℕ) → Ends (number_marker spacing highest number)
+marker_ends spacing highest number =
+    ends_behind (decimal number) _ (spaces_end (spacing + (digits highest - digits number)))
+
+digit_other : (b : ℕ) → 48 ≤ b → is_line_feed b ≡ false
+digit_other b le = grind (arith, nat_tests)
 
 begins_behind : (s rest : List ℕ) → 0 < length s → is_line_feed (get_or s 0 0) ≡ false → Begins (s ++ rest)
 unfolding Begins
 begins_behind [] rest some differs = absurd (omega arith)
 begins_behind (b ∷ s) rest some differs = differs
 
-marker_begins : (spaces number : ℕ) (content behind : List ℕ) → number < 2 ^ 64
-    → Begins ((number_marker spaces number ++ content) ++ behind)
-marker_begins spaces number content behind small =
+marker_begins : (spacing highest number : ℕ) (content behind : List ℕ) → number < 2 ^ 64
+    → Begins ((number_marker spacing highest number ++ content) ++ behind)
+marker_begins spacing highest number content behind small =
     let numeral = (decimal_is_IsNumeral number small).0 in
     let digit = digit_at (decimal number) 0 numeral.1 numeral.0 in
-    let rest = full_stop ∷ replicate spaces space in
-    subst Begins (regrouped (decimal number) rest content behind)
-    (begins_behind (decimal number) (rest ++ (content ++ behind)) numeral.0
-    (digit_first (get_or (decimal number) 0 0) digit.0))
+    let spaces = full_stop ∷ replicate (spacing + (digits highest - digits number)) space in
+    subst Begins (regrouped (decimal number) spaces content behind)
+    (begins_behind (decimal number) (spaces ++ (content ++ behind)) numeral.0
+    (digit_other (get_or (decimal number) 0 0) digit.0))
   where
     regrouped : (a b c d : List ℕ) → a ++ (b ++ (c ++ d)) ≡ ((a ++ b) ++ c) ++ d
     regrouped a b c d = simp append_assoc
@@ -185,7 +188,7 @@ behind_front : (front marker content rest : List ℕ)
     → front ++ marker ++ content ++ rest ≡ front ++ ((marker ++ content) ++ rest)
 behind_front front marker content rest = simp append_assoc
 
--- after a line feed a line begins with the marker and the content
+-- behind a line feed a line begins with the marker and the content
 record BeginsLine (marker content text : List ℕ) : Type 0 where
   pub before : List ℕ
   pub rest : List ℕ
@@ -235,22 +238,22 @@ stands_between false column marker content text width begins =
       width = width;
     }
 
-kept_between : (inside : Bool) (spaces : ℕ → ℕ) (first : ℕ) (blocks : List Block)
-    → first + item_count blocks < 2 ^ 64
-    → HasColumns spaces first blocks (between_line_feeds (cond inside 1 2)
-    (trimmed_text is_line_feed (ordered_list_by spaces first blocks)))
-kept_between inside spaces first blocks small = λ earlier later content split.
+equal_between : (inside : Bool) (first spacing : ℕ) (blocks : List Block) → first + item_count blocks < 2 ^ 64
+    → HasEqualColumns first spacing blocks (between_line_feeds (cond inside 1 2)
+    (trimmed_text is_line_feed (ordered_list first spacing blocks)))
+equal_between inside first spacing blocks small = λ earlier later content split.
+    let highest = highest_number first blocks in
     let number = first + item_count earlier in
-    let marker = number_marker (spaces number) number in
-    let column = digits number + 1 + spaces number in
+    let marker = number_marker spacing highest number in
+    let column = spacing + digits highest + 1 in
     let own = item_content column content in
-    let list = ordered_list_by spaces first blocks in
-    let stands = columns_kept spaces first blocks small earlier later content split in
+    let list = ordered_list first spacing blocks in
+    let stands = columns_equal first spacing blocks small earlier later content split in
     let count = ap item_count split ∙ item_count-append earlier (item content ∷ later) in
     let begins = begins_line marker own stands.before stands.behind
     (marked_ends marker (indented_text (trimmed_start is_line_feed content) column true)
-    (marker_ends (spaces number) number))
-    (marker_begins (spaces number) number own stands.behind (omega (arith, count))) in
+    (marker_ends spacing highest number))
+    (marker_begins spacing highest number own stands.behind (omega (arith, count))) in
     stands_between inside column marker own (trimmed_text is_line_feed list) stands.width
     (subst (λ (l : List ℕ). BeginsLine marker own (trimmed_text is_line_feed l)) (sym stands.whole) begins)
 
@@ -293,60 +296,19 @@ items_among view results =
       length-zip (children_of view.items view.node) results,
     )
 
--- a list that keeps something between line feeds
-in_columns : (P : List ℕ → Type 0) (markdown inside : Bool) (list : List ℕ) (raw : ResultView)
-    → raw.markdown_translated ≡ false
-    → P (between_line_feeds (cond inside 1 2) (trimmed_text is_line_feed list))
-    → IfSome (cond markdown (optional_markdown (list_block inside list)) (Some raw))
-    (λ r. r.markdown_translated ≡ true → P r.content)
-in_columns P markdown inside list raw is_raw kept =
-    markdown_holds P markdown (list_block inside list) raw is_raw
-    (block_holds P (between_line_feeds (cond inside 1 2)) (trimmed_text is_line_feed list) kept)
-
-one_below : (test : Bool) (first : ℕ) → first < 2 ^ 31 → cond test 1 first < 2 ^ 31
-one_below true first below = omega arith
-one_below false first below = below
-
--- as the mode writes it
-in_columns_of : (guarded markdown inside : Bool) (first spacing : ℕ) (blocks : List Block) (raw : ResultView)
-    → raw.markdown_translated ≡ false → first < 2 ^ 31 → item_count blocks < 2 ^ 63
-    → IfSome (cond markdown
-    (optional_markdown (list_block inside ((cond guarded guarded_ordered_list ordered_list) first spacing blocks)))
-    (Some raw))
-    (λ list. list.markdown_translated ≡ true → BeginInColumns guarded first spacing blocks list.content)
-in_columns_of true markdown inside first spacing blocks raw is_raw below few =
-    let number = guarded_first_number first (highest_number first blocks) in
-    let small : number < 2 ^ 31 = one_below (nat_lt 9 (digits (highest_number first blocks))) first below in
-    in_columns (HasGuardedColumns number spacing blocks) markdown inside (guarded_ordered_list first spacing blocks) raw
-    is_raw
-    (kept_between inside (guarded_spaces spacing (highest_number number blocks)) number blocks
-    (omega (arith, few, small)))
-in_columns_of false markdown inside first spacing blocks raw is_raw below few =
-    let list = ordered_list first spacing blocks in
-    in_columns (HasEqualColumns first spacing blocks) markdown inside list raw is_raw
-    (columns_equal first spacing blocks (between_line_feeds (cond inside 1 2) (trimmed_text is_line_feed list))
-    (kept_between inside (aligned_spaces spacing (highest_number first blocks)) first blocks
-    (omega (arith, few, below))))
-
 pub items_begin : (view : ElementView) → length (children_of view.items view.node) < 2 ^ 63
     → ItemsBeginInOneColumn view
-items_begin view few results apart =
-    let blocks = blocks_of view results in
-    let markdown = is_markdown_alone view.options || are_markdown results in
+items_begin view few results =
     let first = first_number_of view in
     let spacing = view.options.ol_number_spacing in
-    let raw = raw_block_result view in
-    let written : ordered_text view blocks
-    ≡ (cond (is_guarded view.options) guarded_ordered_list ordered_list) first spacing blocks =
-    cond-false (is_in_line view) _ _ apart in
-    subst
-    (λ (text : List ℕ). IfSome (cond markdown (optional_markdown (list_block (is_in_item view) text)) (Some raw))
-    (λ list. list.markdown_translated ≡ true
-    → BeginInColumns (is_guarded view.options) first spacing blocks list.content))
-    (sym written)
-    (in_columns_of (is_guarded view.options) markdown (is_in_item view) first spacing blocks raw refl
-    (first_below (value_of_first (codes "start") (attributes_of view)))
-    (omega (arith, few, items_among view results)))
+    let blocks = blocks_of view results in
+    let small : first + item_count blocks < 2 ^ 64 =
+    omega (arith, few, items_among view results, first_below (value_of_first (codes "start") (attributes_of view))) in
+    markdown_holds (HasEqualColumns first spacing blocks) (is_markdown_alone view.options || are_markdown results)
+    (list_block (is_in_item view) (ordered_list first spacing blocks)) (raw_block_result view) refl
+    (block_holds (HasEqualColumns first spacing blocks) (between_line_feeds (cond (is_in_item view) 1 2))
+    (trimmed_text is_line_feed (ordered_list first spacing blocks))
+    (equal_between (is_in_item view) first spacing blocks small))
 
 -- ---- each item takes a number
 

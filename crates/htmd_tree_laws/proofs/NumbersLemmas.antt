@@ -1,10 +1,8 @@
 -- The laws of the numbers of references.
-use Rattle.std.proofs.Common.{Bool, true, false, cond}
 use Rattle.std.proofs.Common.{◌≡◌, ℕ, zero, suc, ◌+◌, List, [], ◌∷◌, ◌++◌, length, Option, Some, None, slice_get}
 use Rattle.std.proofs.Common.{set, refl, sym, ap, ◌∙◌, subst, ◌⊎◌, inl, inr, ⊎_elim, arith}
 use Rattle.std.proofs.lemmas.List.{append-nil}
 use Rattle.htmd_markdown.specs.Links.{definition}
-use Rattle.htmd_markdown.specs.GuardedLinks.{guarded_definition}
 use Rattle.htmd_markdown.specs.declared.link.LinkReferenceStyle.TheVariants.{Full}
 use Rattle.htmd_nodes.specs.NumberedTrees.{tree_of, height}
 use Rattle.htmd_markdown.specs.declared.link.LinkStyle.{LinkStyle}
@@ -13,8 +11,8 @@ use Rattle.htmd_walk.specs.Handling.{ElementView, ResultView, PlanView, HandlerM
 use Rattle.htmd_walk.specs.Choice.{Config, handler_at, with_handler, no_handler}
 use Rattle.htmd_walk.specs.Layers.{with_functions}
 use Rattle.htmd_walk.specs.LinkAttributes.{title_of}
-use Rattle.htmd_walk.specs.Anchors.{anchors, anchor_address, finish_at, link_finish, guarded_link_finish}
-use Rattle.htmd_walk.specs.Outputs.{conversion_of, is_guarded}
+use Rattle.htmd_walk.specs.Anchors.{anchors, anchor_address, finish_at, link_finish}
+use Rattle.htmd_walk.specs.Outputs.{conversion_of}
 use Rattle.htmd_walk.specs.BuiltIn.{Row, with_rows, built_in_rows, empty_config}
 use Rattle.htmd_tree_laws.specs.LinkLaws.{IsRegistry, of_built_in, with_added, with_skipped, with_closures, with_these}
 use Rattle.htmd_tree_laws.specs.LinkLaws.{AddsNone, DefinesNumber, AreNumbered, ReferencesAreNumbered}
@@ -136,35 +134,15 @@ link-numbers Referenced view content address definitions full numbered =
     (record {
       address = address;
       title = title_of view;
-      is = inl (ap (λ style. definition style number content address (title_of view)) full);
+      is = ap (λ style. definition style number content address (title_of view)) full;
     }) numbered
-
-guarded-numbers : (style : LinkStyle) (view : ElementView) (content address : List ℕ) (definitions : List (List ℕ))
-    → AreNumbered definitions
-    → AreNumbered (definitions ++ (guarded_link_finish style view content address definitions).added)
-guarded-numbers Inlined view content address definitions numbered = nothing_more definitions numbered
-guarded-numbers InlinedPreferAutolinks view content address definitions numbered = nothing_more definitions numbered
-guarded-numbers Referenced view content address definitions numbered =
-    let number = length definitions + 1 in
-    numbered_more definitions (guarded_definition number address (title_of view))
-    (record { address = address; title = title_of view; is = inr refl }) numbered
-
-either-numbers : (guarded : Bool) (style : LinkStyle) (view : ElementView) (content address : List ℕ)
-    (definitions : List (List ℕ)) → view.options.link_reference_style ≡ Full → AreNumbered definitions
-    → AreNumbered (definitions
-    ++ ((cond guarded guarded_link_finish link_finish) style view content address definitions).added)
-either-numbers true style view content address definitions full numbered =
-    guarded-numbers style view content address definitions numbered
-either-numbers false style view content address definitions full numbered =
-    link-numbers style view content address definitions full numbered
 
 finish-numbers : (found : Option (List ℕ)) (view : ElementView) (content : ResultView) (definitions : List (List ℕ))
     → view.options.link_reference_style ≡ Full → AreNumbered definitions
     → AreNumbered (definitions ++ (finish_at found view content definitions).added)
 finish-numbers None view content definitions full numbered = nothing_more definitions numbered
 finish-numbers (Some address) view content definitions full numbered =
-    either-numbers (is_guarded view.options) view.options.link_style view content.content address definitions full
-    numbered
+    link-numbers view.options.link_style view content.content address definitions full numbered
 
 anchors-keep : (view : ElementView) → view.options.link_reference_style ≡ Full
     → HandlerKeeps AreNumbered view anchors

@@ -1,11 +1,10 @@
 -- The laws of links, images and references.
-use Rattle.std.specs.Prelude.{◌≡◌, Bool, true, ◌⊎◌, ℕ, ◌+◌, ◌<◌, false, List, [], ◌∷◌, length, slice_get, Option, Some}
+use Rattle.std.specs.Prelude.{◌≡◌, ◌⊎◌, ℕ, ◌+◌, ◌<◌, false, List, [], ◌∷◌, length, slice_get, Option, Some}
 use Rattle.std.specs.Prelude.{codes}
 use Rattle.std.specs.Option.{IsSomeAnd}
 use Rattle.htmd_markdown.specs.Addresses.{holds_backslash, HoldsAddress}
 use Rattle.htmd_markdown.specs.Links.{image_start, resource_end, inline_link_start, inline_link_end, reference}
 use Rattle.htmd_markdown.specs.Links.{definition_start, definition}
-use Rattle.htmd_markdown.specs.GuardedLinks.{guarded_reference, guarded_definition}
 use Rattle.htmd_markdown.specs.Titles.{title_text}
 use Rattle.htmd_markdown.specs.declared.link.LinkReferenceStyle.TheVariants.{Full}
 use Rattle.htmd_nodes.specs.Items.{Item}
@@ -19,18 +18,15 @@ use Rattle.htmd_walk.specs.LinkAttributes.{title_of}
 use Rattle.htmd_walk.specs.Images.{images, image_address, alternative_text}
 use Rattle.htmd_walk.specs.Anchors.{anchors, anchor_address}
 use Rattle.htmd_walk.specs.ElementPlans.{markdown_result}
-use Rattle.htmd_walk.specs.Outputs.{is_guarded}
 use Rattle.htmd_walk.specs.BuiltIn.{built_in}
 use Rattle.htmd_walk.specs.Markdown.{walked_node}
 
 -- ---- addresses
 
--- An image, if it is written, holds the address, if that has no backslash. In Guarded every address is held: see the
--- writer of its destinations.
+-- An image, if it is written, holds the address, if that has no backslash.
 abbrev pub ImagesHoldAddresses : Type 0
 ImagesHoldAddresses =
-    (view : ElementView) (address : List ℕ) (written : ResultView) → is_guarded view.options ≡ false
-    → image_address view ≡ Some address
+    (view : ElementView) (address : List ℕ) (written : ResultView) → image_address view ≡ Some address
     → holds_backslash address ≡ false → images.plan view ≡ this_result written
     → HoldsAddress (image_start address (alternative_text view)) address (resource_end address (title_of view))
     written.content
@@ -55,34 +51,24 @@ LinkHolds Referenced view content address number finish =
 abbrev pub LinksHoldAddresses : Type 0
 LinksHoldAddresses =
     (view : ElementView) (content : ResultView) (definitions : List (List ℕ)) (address : List ℕ)
-    → is_guarded view.options ≡ false → anchor_address view ≡ Some address → holds_backslash address ≡ false
+    → anchor_address view ≡ Some address → holds_backslash address ≡ false
     → LinkHolds view.options.link_style view content.content address (length definitions + 1)
     (anchors.finish view content definitions)
 
 -- ---- numbers of references
 
--- An anchor that is written as a reference in style Full, or in Guarded in any style, takes the number after the
--- definitions so far, and adds the one line that defines that number.
-abbrev pub TakesTheNextNumber : Bool → ElementView → ResultView → List (List ℕ) → List ℕ → Type 0
-TakesTheNextNumber true view content definitions address =
-    let number = length definitions + 1 in
-    anchors.finish view content definitions ≡ record {
-      result = markdown_result (guarded_reference number content.content);
-      added = guarded_definition number address (title_of view) ∷ [];
-    }
-TakesTheNextNumber false view content definitions address =
-    let number = length definitions + 1 in
-    view.options.link_reference_style ≡ Full
+-- An anchor that is written as a reference in style Full takes the number after the definitions so far, and adds the
+-- one line that defines that number.
+abbrev pub AnchorsTakeTheNextNumber : Type 0
+AnchorsTakeTheNextNumber =
+    (view : ElementView) (content : ResultView) (definitions : List (List ℕ)) (address : List ℕ)
+    → let number = length definitions + 1 in
+    anchor_address view ≡ Some address → view.options.link_style ≡ Referenced
+    → view.options.link_reference_style ≡ Full
     → anchors.finish view content definitions ≡ record {
       result = markdown_result (reference Full number content.content);
       added = definition Full number content.content address (title_of view) ∷ [];
     }
-
-abbrev pub AnchorsTakeTheNextNumber : Type 0
-AnchorsTakeTheNextNumber =
-    (view : ElementView) (content : ResultView) (definitions : List (List ℕ)) (address : List ℕ)
-    → anchor_address view ≡ Some address → view.options.link_style ≡ Referenced
-    → TakesTheNextNumber (is_guarded view.options) view content definitions address
 
 -- a registry as the calls make it: the built-in handlers, and then those that are added or skip tags; closures take the
 -- place of one that skips tags
@@ -102,11 +88,11 @@ abbrev pub AddsNone : HandlerMeaning → Type 0
 AddsNone handler = (view : ElementView) (content : ResultView) (definitions : List (List ℕ))
     → (handler.finish view content definitions).added ≡ []
 
--- the line defines this number, in Guarded as that writes it
+-- the line defines this number
 pub record DefinesNumber (number : ℕ) (line : List ℕ) : Type 0 where
   pub address : List ℕ
   pub title : Option (List ℕ)
-  pub is : (line ≡ definition Full number [] address title) ⊎ (line ≡ guarded_definition number address title)
+  pub is : line ≡ definition Full number [] address title
 
 -- the i-th line defines i
 abbrev pub AreNumbered : List (List ℕ) → Type 0

@@ -5,10 +5,6 @@ ghost use Rattle.htmd_tree_laws.specs.EmphasisLaws.{MarksStandInside};
 ghost use Rattle.htmd_tree_laws.specs.LinkLaws.{AnchorsTakeTheNextNumber, ReferencesAreNumbered};
 ghost use Rattle.htmd_tree_laws.specs.LinkLaws.{ImagesHoldAddresses, LinksHoldAddresses};
 ghost use Rattle.htmd_tree_laws.specs.ListLaws.{EachItemTakesANumber, ItemsBeginInOneColumn};
-ghost use Rattle.htmd_tree_laws.specs.JointLaws.{JointsTakeMarksAlone};
-ghost use Rattle.htmd_tree_laws.specs.Letters.{LettersOfContent, LettersOfMarkdown};
-ghost use Rattle.htmd_tree_laws.specs.Shown.{ShownInContent, ShownInMarkdown};
-ghost use Rattle.htmd_tree_laws.specs.TextLaws.{TextStaysText, LinesBeginNoBlock, TextIsWhole};
 ghost use Rattle.htmd_walk.specs.Views.{element_view};
 
 pub use htmd_markdown::Emphasis;
@@ -39,8 +35,7 @@ pub fn marks_stand_inside(emphasis: Emphasis, content: &str)
     let _ = start.trim_end();
 }
 
-/// An anchor that is written as a reference in style Full, or in Guarded in any style, takes the number after the
-/// definitions so far.
+/// An anchor that is written as a reference in style Full takes the number after the definitions so far.
 pub fn anchors_take_the_next_number()
     ensures { AnchorsTakeTheNextNumber }
 {}
@@ -51,20 +46,18 @@ pub fn references_are_numbered()
     ensures { ReferencesAreNumbered }
 {}
 
-/// In Pure and Faithful, what is written for the address of an image reads back as the address, if that has no
-/// backslash.
+/// What is written for the address of an image reads back as the address, if that has no backslash.
 pub fn images_hold_addresses()
     ensures { ImagesHoldAddresses }
 {}
 
-/// In Pure and Faithful, what is written for the address of a link reads back as the address, if that has no backslash.
+/// What is written for the address of a link reads back as the address, if that has no backslash.
 pub fn links_hold_addresses()
     ensures { LinksHoldAddresses }
 {}
 
-/// If what the built-in handler of `ol` gives is Markdown, and doesn't stand in one line, the content of each item
-/// begins in its line after `ol_number_spacing`, the digits of the highest number and one character more; in Guarded it
-/// begins there too, but at least one and at most four characters after its own dot. A list or quote around it may then
+/// If what the built-in handler of `ol` gives is Markdown, the content of each item begins in its line after
+/// `ol_number_spacing`, the digits of the highest number and one character more. A list or quote around it may then
 /// indent it.
 pub fn items_begin_in_one_column(element: &Element)
     ensures { ItemsBeginInOneColumn (element_view element.now) }
@@ -76,38 +69,4 @@ pub fn items_begin_in_one_column(element: &Element)
 /// Each `li` among the children of `ol` takes the next number, even one that gives nothing, as when `li` is skipped.
 pub fn each_item_takes_a_number()
     ensures { EachItemTakesANumber }
-{}
-
-/// In Guarded, if a node's tree holds only texts, in elements that hand their content on or put it between blank lines,
-/// and all handlers are built in, nothing of its Markdown is read as markup: each character that could be read as
-/// markup stands after a backslash, whatever elements part the text. So `&lt;<span>b></span>` gives `\<b>`. And if the
-/// texts are UTF-8, no line of it begins a block: `1<u>. x</u>` gives `1\. x`. Nor is any of their characters lost, `*`
-/// included, but for white space.
-pub fn text_stays_text()
-    ensures marks { TextStaysText }
-    ensures lines { LinesBeginNoBlock }
-    ensures characters { TextIsWhole }
-{}
-
-/// In Guarded, where what is written next meets the text so far, and in both a backslash escapes only signs, marks go
-/// and nothing else: all but the `*` that no backslash escapes stays, in order. In Guarded each `*` of a text is
-/// escaped, but for those of code, of formulas and of autolinks.
-pub fn joints_take_marks_alone()
-    ensures { JointsTakeMarksAlone }
-{}
-
-/// In Pure and in Guarded, with the built-in handlers, the letters of the content of a node are what its tree says, in
-/// order, and so are those of the whole Markdown where links stand inline. `htmd_laws` says it of texts, pages and
-/// runs.
-pub fn every_letter_once()
-    ensures content { LettersOfContent }
-    ensures markdown { LettersOfMarkdown }
-{}
-
-/// In Pure, where a tree with a table is left out, and in Guarded, with the built-in handlers, nothing that a reader
-/// sees of a tree is lost, in the content of a node and in the whole Markdown. `htmd_laws` says it of texts, pages and
-/// runs.
-pub fn nothing_is_lost()
-    ensures content { ShownInContent }
-    ensures markdown { ShownInMarkdown }
 {}

@@ -16,7 +16,6 @@ use Rattle.htmd_walk.specs.OrdinaryText.{in_pre_or_code}
 use Rattle.htmd_walk.specs.Choice.{indexes, handlers_at}
 use Rattle.htmd_walk.specs.Groups.{groups_of}
 use Rattle.htmd_walk.specs.Outputs.{Conversion, Output, push_text, Context, context_of, Writes, is_markdown_alone}
-use Rattle.htmd_walk.specs.Outputs.{is_guarded}
 use Rattle.htmd_walk.specs.Children.{is_block_tree, before_child, trim_after, write_children, write_groups, trims_first}
 use Rattle.htmd_walk.specs.Children.{content_alone, descendant_tree}
 use Rattle.htmd_walk.specs.Elements.{Occurrence, Answer, content_of, raw_element, raw_answer, after_fallback}
@@ -162,10 +161,10 @@ module _ (at : Occurrence) (g : Grows at.write) where
 
 -- ---- a node
 
-pub result-definitions : (guarded : Bool) (out : Output) (whole : Bool) (r : Option ResultView)
-    (definitions : List (List ℕ)) → (with_result guarded out whole r definitions).definitions ≡ definitions
-result-definitions guarded out whole None definitions = refl
-result-definitions guarded out whole (Some r) definitions = refl
+pub result-definitions : (out : Output) (whole : Bool) (r : Option ResultView)
+    (definitions : List (List ℕ)) → (with_result out whole r definitions).definitions ≡ definitions
+result-definitions out whole None definitions = refl
+result-definitions out whole (Some r) definitions = refl
 
 grows-node : (write : Writes) → Grows write → (conversion : Conversion) → Grows (write_node write conversion)
 grows-node write g conversion (document id children) context out = grows-groups write g _ children out
@@ -178,7 +177,7 @@ grows-node write g conversion (element id name attributes children) context out 
     let at = occurrence_at write conversion id (record { tag = name; attributes = attributes } ∷ context.ancestors)
     children in
     beginning-to (grows-answer at g 0 name out.definitions)
-    (sym (result-definitions (is_guarded conversion.config.options) out (in_pre_or_code context.ancestors)
+    (sym (result-definitions out (in_pre_or_code context.ancestors)
     (answer_after 0 name at out.definitions).result _))
 
 pub grows-within : (n : ℕ) (conversion : Conversion) → Grows (written_within n conversion)

@@ -45,11 +45,6 @@ pub all-step : (test : ℕ → Bool) (all : List ℕ) (k x : ℕ) → k < length
     → list_all test (drop k all) ≡ (test x && list_all test (drop (k + 1) all))
 all-step test all k x l here = stepped (list_all test) all k x l here
 
--- the node that was seen, before the others
-abbrev pub seen_before : Option ℕ → List ℕ → List ℕ
-seen_before None nodes = nodes
-seen_before (Some node) nodes = node ∷ nodes
-
 -- the language that a node names if it is `pre`
 pub pre_language : (items : List Item) (node : Option ℕ) → language_of_pre items node
     ≡ (if is_tag_among (codes "pre" ∷ []) (tag_at items node) then language_at items node else None)

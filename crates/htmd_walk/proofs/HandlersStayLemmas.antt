@@ -1,5 +1,5 @@
 -- If a handler adds no definition, those so far don't matter: this holds for each handler of a registry.
-use Rattle.std.proofs.Common.{◌≡◌, ℕ, zero, suc, Bool, true, false, cond, List, [], ◌∷◌, Option, Some, None, refl}
+use Rattle.std.proofs.Common.{◌≡◌, ℕ, zero, suc, List, [], ◌∷◌, Option, Some, None, refl}
 use Rattle.std.proofs.Common.{map, set}
 use Rattle.std.specs.declared.dyn_box.DynBox.{DynBox}
 use Rattle.std.specs.declared.alloc.Global.{Global}
@@ -18,8 +18,7 @@ use Rattle.htmd_markdown.specs.declared.link.LinkStyle.TheVariants.{Inlined, Inl
 use Rattle.htmd_walk.specs.Handling.{ElementView, ResultView, PlanView, HandlerMeaning}
 use Rattle.htmd_walk.specs.Choice.{Config, handler_at, no_handler}
 use Rattle.htmd_walk.specs.Layers.{with_functions, put_at}
-use Rattle.htmd_walk.specs.Outputs.{is_guarded}
-use Rattle.htmd_walk.specs.Anchors.{anchors, anchor_address, finish_at, link_finish, guarded_link_finish}
+use Rattle.htmd_walk.specs.Anchors.{anchors, anchor_address, finish_at, link_finish}
 use Rattle.htmd_walk.specs.BuiltIn.{meaning_of}
 use Rattle.htmd_walk.specs.RegisteredHandlers.{handler_meaning}
 use Rattle.htmd_walk.specs.Staying.{HandlerStays, HandlersStay}
@@ -32,31 +31,12 @@ link-stays Inlined view content address definitions others e = refl
 link-stays InlinedPreferAutolinks view content address definitions others e = refl
 link-stays Referenced view content address definitions others e = cc
 
-guarded-stays : (style : LinkStyle) (view : ElementView) (content address : List ℕ)
-    (definitions others : List (List ℕ))
-    → (guarded_link_finish style view content address definitions).added ≡ []
-    → guarded_link_finish style view content address others
-    ≡ guarded_link_finish style view content address definitions
-guarded-stays Inlined view content address definitions others e = refl
-guarded-stays InlinedPreferAutolinks view content address definitions others e = refl
-guarded-stays Referenced view content address definitions others e = cc
-
-either-stays : (guarded : Bool) (style : LinkStyle) (view : ElementView) (content address : List ℕ)
-    (definitions others : List (List ℕ))
-    → ((cond guarded guarded_link_finish link_finish) style view content address definitions).added ≡ []
-    → (cond guarded guarded_link_finish link_finish) style view content address others
-    ≡ (cond guarded guarded_link_finish link_finish) style view content address definitions
-either-stays true style view content address definitions others e =
-    guarded-stays style view content address definitions others e
-either-stays false style view content address definitions others e =
-    link-stays style view content address definitions others e
-
 finish-stays : (found : Option (List ℕ)) (view : ElementView) (content : ResultView)
     (definitions others : List (List ℕ)) → (finish_at found view content definitions).added ≡ []
     → finish_at found view content others ≡ finish_at found view content definitions
 finish-stays None view content definitions others e = refl
 finish-stays (Some address) view content definitions others e =
-    either-stays (is_guarded view.options) view.options.link_style view content.content address definitions others e
+    link-stays view.options.link_style view content.content address definitions others e
 
 anchors-stay : HandlerStays anchors
 anchors-stay view content definitions others e = finish-stays (anchor_address view) view content definitions others e

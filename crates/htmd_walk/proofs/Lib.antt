@@ -15,8 +15,6 @@ pub mod ChildrenLemmas
 pub mod RenderingLemmas
 pub mod WalkingLemmas
 pub mod RememberingLemmas
-pub mod OneLineLemmas
-pub mod AllTextLemmas
 pub mod PassingLemmas
 pub mod Steps
 pub mod CodeLemmas
@@ -34,10 +32,3 @@ pub mod ParagraphSeams
 pub mod ParagraphLawsLemmas
 mod Examples
 mod ParagraphExamples
-pub mod GuardedExamples
-pub mod ImagesLemmas
-pub mod SightsLemmas
-pub mod GuardedNodesLemmas
-pub mod GuardedTableLemmas
-pub mod GuardedSpansLemmas
-pub mod TableOrdersLemmas

@@ -24,8 +24,6 @@ use Rattle.htmd_walk.specs.Seams.{joined_at_seam}
 use Rattle.htmd_walk.specs.Groups.{Joint, joint_with, joint_of, both_join, is_joinable, only_text, with_text, text_of}
 use Rattle.htmd_walk.specs.Groups.{in_front, groups_of}
 use Rattle.htmd_walk.specs.Outputs.{Conversion, conversion_of, Output, context_of, empty_output, is_markdown_alone}
-use Rattle.htmd_walk.specs.Outputs.{is_guarded}
-use Rattle.htmd_walk.specs.OrdinaryText.{with_written_text}
 use Rattle.htmd_walk.specs.Children.{trim_after, write_children, content_inside}
 use Rattle.htmd_walk.specs.ElementPlans.{plain_plan}
 use Rattle.htmd_walk.specs.Elements.{Occurrence, Answer, content_of, answer_after, first_answer, plan_answer, with_finish}
@@ -163,7 +161,7 @@ wrapped s = record {
   definitions = [];
 }
 
-module _ (options : Options) (pure : is_guarded options ≡ false) (items : List Item) where
+module _ (options : Options) (items : List Item) where
   abbrev conversion : Conversion
   conversion = conversion_of (built_in options) items
 
@@ -176,7 +174,6 @@ module _ (options : Options) (pure : is_guarded options ≡ false) (items : List
   content_is zero kids (Some s) h low = absurd (omega (arith, low, ap tallest h.1))
   content_is (suc n) kids (Some s) h low =
       ap (λ (f : NumberedForest). content_inside (written_within (suc n) conversion) inside f []) h.1
-      ∙ ap (λ b. so_far (with_written_text b false false true [] s)) pure
       ∙ ap (λ (l : List ℕ). so_far (escaped_markdown l)) (shown_is s)
 
   abbrev at : ℕ → ℕ → NumberedForest → Occurrence
@@ -208,10 +205,9 @@ module _ (options : Options) (pure : is_guarded options ≡ false) (items : List
   unfolding written_within
   element_is zero id kids held trim out here h low = absurd (omega (arith, low))
   element_is (suc n) id kids held trim out here h low =
-      ap (λ (a : Answer). with_answer (is_guarded options) (so_far out) false a)
+      ap (λ (a : Answer). with_answer (so_far out) false a)
       (answer_is n id kids (escaped_markdown (text_shown (read_of held))) here
       (content_is n kids held h (omega (arith, low))))
-      ∙ ap (λ b. with_answer b (so_far out) false (wrapped (escaped_markdown (text_shown (read_of held))))) pure
 
   -- one paragraph more
   first_is : (n : ℕ) (held : Option (List ℕ)) (tree : NumberedTree) (trees : NumberedForest) (trim : Bool)
@@ -282,10 +278,10 @@ module _ (options : Options) (pure : is_guarded options ≡ false) (items : List
       ∙ append-nil (trimmed_text is_line_feed s)
 
 root_reads_back : (options : Options) (items : List Item) (texts : List (Option (List ℕ)))
-    → is_guarded options ≡ false → IsTree items
+    → IsTree items
     → value_tree (tree_of items 0) ≡ value.document (law.paragraphs texts)
     → law.texts_read (markdown (built_in options) items 0) ≡ law.texts_shown (map read_of texts)
-root_reads_back options items texts pure t e =
+root_reads_back options items texts t e =
     let trees = forest_of (tree_of items) (children_of items 0) in
     let is : tree_of items 0 ≡ document 0 trees =
     tree-open items 0 t t.not_empty ∙ ap (λ (i : Item). with_children 0 i.node_data trees) t.first in
@@ -293,15 +289,15 @@ root_reads_back options items texts pure t e =
     ap value_tree (sym is) ∙ e in
     let values : value_forest trees ≡ law.paragraphs texts = cc in
     let are = all_made items (children_of items 0) texts values in
-    let walked = node_is options pure items texts (tree_of items 0) (ancestors_of items 0) trees is
-    (none_above options pure items t) are in
-    ap law.texts_read (markdown_is options pure items
+    let walked = node_is options items texts (tree_of items 0) (ancestors_of items 0) trees is
+    (none_above options items t) are in
+    ap law.texts_read (markdown_is options items
     (trimmed_end is_document_white_space (all_put [] (map text_shown (map read_of texts)))) walked)
     ∙ put_read (map read_of texts)
 
 pub paragraphs_read_back : (config : Config) (items : List Item) (node : ℕ) → IsTree items
     → ParagraphsReadBack config items node (markdown config items node)
-paragraphs_read_back config items node t options texts built pure first e =
+paragraphs_read_back config items node t options texts built first e =
     let read : Config → ℕ → List (List ℕ) = λ c n. law.texts_read (markdown c items n) in
     ap (λ c. read c node) built ∙ ap (read (built_in options)) first
-    ∙ root_reads_back options items texts pure t (sym (ap (λ n. value_tree (tree_of items n)) first) ∙ e)
+    ∙ root_reads_back options items texts t (sym (ap (λ n. value_tree (tree_of items n)) first) ∙ e)

@@ -15,16 +15,16 @@ use Rattle.htmd_walk.specs.Choice.{Config, indexes, handler_at, handlers_at}
 use Rattle.htmd_walk.specs.Markdown.{append_text, append_texts}
 use Rattle.htmd_walk.proofs.ElementsLemmas.{drop_at_some, drop_at_none}
 use Rattle.htmd_walk.specs.OrdinaryText.{in_pre_or_code}
-use Rattle.htmd_walk.specs.Outputs.{Output, is_markdown_alone, is_guarded}
+use Rattle.htmd_walk.specs.Outputs.{Output, is_markdown_alone}
 use Rattle.htmd_walk.specs.ElementPlans.{ancestors_of}
 use Rattle.htmd_walk.specs.Elements.{Occurrence, Answer, content_of, first_answer, answer_after, plan_answer, answer_of}
 use Rattle.htmd_walk.specs.Elements.{raw_answer}
 use Rattle.htmd_walk.specs.Spans.{is_span, formula_mark, has_math_class, formula_plan, spans}
 use Rattle.htmd_walk.specs.Passing.{IsPlain, IsPassed, passed_text}
 
--- in Guarded and in preformatted text a span's content is kept whole
+-- in preformatted text a span's content is kept whole
 abbrev pub is_whole : ElementView → Bool
-is_whole view = is_guarded view.options || in_pre_or_code (ancestors_of view)
+is_whole view = in_pre_or_code (ancestors_of view)
 
 abbrev pub passed_result : Bool → Bool → Output → Answer
 passed_result is_span whole out = record {
@@ -36,7 +36,7 @@ passed_result is_span whole out = record {
   definitions = out.definitions;
 }
 
-pub no_mark : (o : Option (List ℕ)) → is_some o ≡ false → o ≡ None
+no_mark : (o : Option (List ℕ)) → is_some o ≡ false → o ≡ None
 no_mark None e = refl
 no_mark (Some s) e = cc
 
@@ -93,16 +93,15 @@ span-inside tag attributes above e = ap (λ t. in_pre_or_code (record { tag = t;
     (span_tag tag e)
 
 -- so for its content it is the same whether it or only what is above it is asked
-pub passed-inside : (tag : List ℕ) (attributes : List AttributePair) (above : List Ancestor) (guarded : Bool)
-    (s : List ℕ)
-    → passed_text (is_span tag) (guarded || in_pre_or_code (record { tag = tag; attributes = attributes } ∷ above)) s
-    ≡ passed_text (is_span tag) (guarded || in_pre_or_code above) s
-passed-inside tag attributes above guarded s =
+pub passed-inside : (tag : List ℕ) (attributes : List AttributePair) (above : List Ancestor) (s : List ℕ)
+    → passed_text (is_span tag) (in_pre_or_code (record { tag = tag; attributes = attributes } ∷ above)) s
+    ≡ passed_text (is_span tag) (in_pre_or_code above) s
+passed-inside tag attributes above s =
     let inside = in_pre_or_code (record { tag = tag; attributes = attributes } ∷ above) in
     test (is_span tag)
-    (λ is. ap (λ b. passed_text (is_span tag) (guarded || b) s) (span-inside tag attributes above is))
-    (λ other. ap (λ b. passed_text b (guarded || inside) s) other
-    ∙ sym (ap (λ b. passed_text b (guarded || in_pre_or_code above) s) other))
+    (λ is. ap (λ b. passed_text (is_span tag) b s) (span-inside tag attributes above is))
+    (λ other. ap (λ b. passed_text b inside s) other
+    ∙ sym (ap (λ b. passed_text b (in_pre_or_code above) s) other))
 
 -- ---- how the walk finds it out
 

@@ -10,7 +10,7 @@ use Rattle.htmd_walk.specs.Handling.{ResultView}
 use Rattle.htmd_walk.specs.Choice.{Config}
 use Rattle.htmd_walk.specs.OrdinaryText.{in_pre_or_code}
 use Rattle.htmd_walk.specs.Groups.{group_tree, group_children, children_at}
-use Rattle.htmd_walk.specs.Outputs.{Conversion, conversion_of, Output, context_of, is_guarded}
+use Rattle.htmd_walk.specs.Outputs.{Conversion, conversion_of, Output, context_of}
 use Rattle.htmd_walk.specs.Elements.{Answer, answer_after, occurrence_at}
 use Rattle.htmd_walk.specs.Rendering.{with_result, written_within, inside_of}
 use Rattle.htmd_walk.proofs.BeginningsLemmas.{IsBeginning}
@@ -60,12 +60,10 @@ remembered-answer v id joined name attributes r n definitions e none given h =
     ∙ ap (λ j. answer_after 0 name (occurrence_at (written_within n v) v id (inside_of v.items id)
     (group_children j (children_at v.items id))) definitions) (sym none)
 
-result-anywhere : (guarded : Bool) (out : Output) (whole : Bool) (r : Option ResultView)
-    (definitions others : List (List ℕ))
-    → with_result guarded (with_definitions others out) whole r definitions
-    ≡ with_result guarded out whole r definitions
-result-anywhere guarded out whole None definitions others = refl
-result-anywhere guarded out whole (Some r) definitions others = refl
+result-anywhere : (out : Output) (whole : Bool) (r : Option ResultView) (definitions others : List (List ℕ))
+    → with_result (with_definitions others out) whole r definitions ≡ with_result out whole r definitions
+result-anywhere out whole None definitions others = refl
+result-anywhere out whole (Some r) definitions others = refl
 
 module _ (config : Config) (items : List Item) (joined : Option (List ℕ)) (t : IsTree items) (id : ℕ)
     (l : id < length items) (name : List ℕ) (attributes : List AttributePair)
@@ -77,11 +75,11 @@ module _ (config : Config) (items : List Item) (joined : Option (List ℕ)) (t :
     (inside_of items id) (group_children joined (children_at items id))) out.definitions)) where
   pub result_put : (n : ℕ) (p trim whole : Bool) → height (tree_of items id) ≤ n
       → whole ≡ in_pre_or_code (ancestors_of items id)
-      → with_result (is_guarded config.options) (with_definitions new out) whole r new
+      → with_result (with_definitions new out) whole r new
       ≡ written_within n (conversion_of config items) (group_tree joined (tree_of items id))
       (context_of (ancestors_of items id) p trim) out
   result_put n p trim whole h w =
-      result-anywhere (is_guarded config.options) out whole r new new
-      ∙ ap (λ b. with_result (is_guarded config.options) out b r new) w
+      result-anywhere out whole r new new
+      ∙ ap (λ b. with_result out b r new) w
       ∙ element_written config items joined t id l n p trim out name attributes
       (record { result = r; definitions = new }) h is made

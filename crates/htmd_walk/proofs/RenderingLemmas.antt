@@ -19,7 +19,6 @@ use Rattle.htmd_walk.specs.OrdinaryText.{in_pre_or_code}
 use Rattle.htmd_walk.specs.Groups.{group_tree, group_children, children_at}
 use Rattle.htmd_walk.specs.Outputs.{Conversion, conversion_of, Output, replace_text, push_text, Context, context_of}
 use Rattle.htmd_walk.specs.Outputs.{is_markdown_alone}
-use Rattle.htmd_walk.specs.Outputs.{is_guarded}
 use Rattle.htmd_walk.specs.Children.{before_child, write_groups}
 use Rattle.htmd_walk.specs.Elements.{Answer, answer_after, occurrence_at}
 use Rattle.htmd_walk.specs.Rendering.{with_answer, end_of_document, write_text, write_node, written_within, is_text}
@@ -54,9 +53,6 @@ module _ (config : Config) (items : List Item) (joined : Option (List ℕ)) (t :
   abbrev conversion : Conversion
   conversion = conversion_of config items
 
-  abbrev guarded : Bool
-  guarded = is_guarded config.options
-
   abbrev there : ℕ → Context → Output → Output
   there n context out = written_within n conversion (group_tree joined (tree_of items id)) context out
 
@@ -70,7 +66,7 @@ module _ (config : Config) (items : List Item) (joined : Option (List ℕ)) (t :
       (ap (group_tree joined) (tree-open items id t l ∙ ap (λ x. with_children id x (children_at items id)) e) ∙ g)
 
   pub text_written : (n : ℕ) (s : List ℕ) (context : Context) (out : Output) → height (tree_of items id) ≤ n
-      → data_at items id ≡ text_node s → write_text guarded s context out ≡ there n context out
+      → data_at items id ≡ text_node s → write_text s context out ≡ there n context out
   text_written zero s context out h e = let p = height_pos (tree_of items id) in absurd (omega arith)
   text_written (suc m) s context out h e =
       sym (level m (text_node s) (text id s) context out e (group-text joined id s))
@@ -109,12 +105,12 @@ module _ (config : Config) (items : List Item) (joined : Option (List ℕ)) (t :
       → ((m : ℕ) → height (tree_of items id) ≤ suc m
       → a ≡ answer_after 0 name (occurrence_at (written_within m conversion) conversion id (inside_of items id)
       (group_children joined (children_at items id))) out.definitions)
-      → with_answer guarded out (in_pre_or_code (ancestors_of items id)) a
+      → with_answer out (in_pre_or_code (ancestors_of items id)) a
       ≡ there n (context_of (ancestors_of items id) p trim) out
   element_written zero p trim out name attributes a h e k = let q = height_pos (tree_of items id) in
       absurd (omega arith)
   element_written (suc m) p trim out name attributes a h e k =
-      ap (with_answer guarded out (in_pre_or_code (ancestors_of items id)))
+      ap (with_answer out (in_pre_or_code (ancestors_of items id)))
       (k m h ∙ ap (λ c. answer_after 0 name (occurrence_at (written_within m conversion) conversion id
       (ancestor_of c ∷ ancestors_of items id) (group_children joined (children_at items id))) out.definitions) e)
       ∙ sym (level m (element_node name attributes)

@@ -17,7 +17,7 @@ use Rattle.htmd_walk.specs.OrdinaryText.{in_pre_or_code}
 use Rattle.htmd_walk.specs.Choice.{indexes, handler_at, handlers_at}
 use Rattle.htmd_walk.specs.Groups.{groups_of}
 use Rattle.htmd_walk.specs.Outputs.{Conversion, Output, push_text, Context, context_of, Writes, is_markdown_alone}
-use Rattle.htmd_walk.specs.Outputs.{is_guarded, result_of}
+use Rattle.htmd_walk.specs.Outputs.{result_of}
 use Rattle.htmd_walk.specs.Children.{is_block_tree, before_child, trim_after, write_children, write_groups, trims_first}
 use Rattle.htmd_walk.specs.Children.{content_alone, descendant_tree}
 use Rattle.htmd_walk.specs.Elements.{Occurrence, Answer, content_of, raw_element, raw_answer, after_fallback, finish_answer}
@@ -67,7 +67,7 @@ Stays write = (tree : NumberedTree) (context : Context) (out : Output) (others :
     → (write tree context out).definitions ≡ out.definitions
     → write tree context (with_definitions others out) ≡ with_definitions others (write tree context out)
 
-pub before-definitions : (b : Bool) (out : Output) → (before_child b out).definitions ≡ out.definitions
+before-definitions : (b : Bool) (out : Output) → (before_child b out).definitions ≡ out.definitions
 before-definitions true out = refl
 before-definitions false out = refl
 
@@ -265,12 +265,11 @@ stays-if : (b : Bool) (out x y : Output) (others : List (List ℕ)) → x.defini
 stays-if true out x y others p q = refl
 stays-if false out x y others p q = refl
 
-result-with : (guarded : Bool) (out : Output) (whole : Bool) (r : Option ResultView)
-    (definitions others : List (List ℕ))
-    → with_result guarded (with_definitions others out) whole r others
-    ≡ with_definitions others (with_result guarded out whole r definitions)
-result-with guarded out whole None definitions others = refl
-result-with guarded out whole (Some r) definitions others = refl
+result-with : (out : Output) (whole : Bool) (r : Option ResultView) (definitions others : List (List ℕ))
+    → with_result (with_definitions others out) whole r others
+    ≡ with_definitions others (with_result out whole r definitions)
+result-with out whole None definitions others = refl
+result-with out whole (Some r) definitions others = refl
 
 stays-node : (write : Writes) → Grows write → Stays write → (conversion : Conversion)
     → HandlersStay conversion.config → Stays (write_node write conversion)
@@ -283,13 +282,12 @@ stays-node write g s conversion stay (comment id t) context out others e =
 stays-node write g s conversion stay (element id name attributes children) context out others e =
     let at = occurrence_at write conversion id (record { tag = name; attributes = attributes } ∷ context.ancestors)
     children in
-    let guarded = is_guarded conversion.config.options in
     let answer = answer_after 0 name at out.definitions in
     let kept : answer.definitions ≡ out.definitions =
-    sym (result-definitions guarded out (in_pre_or_code context.ancestors) answer.result answer.definitions) ∙ e in
-    ap (with_answer guarded (with_definitions others out) (in_pre_or_code context.ancestors))
+    sym (result-definitions out (in_pre_or_code context.ancestors) answer.result answer.definitions) ∙ e in
+    ap (with_answer (with_definitions others out) (in_pre_or_code context.ancestors))
     (stays-answer at g s stay 0 name out.definitions others kept)
-    ∙ result-with guarded out (in_pre_or_code context.ancestors) answer.result answer.definitions others
+    ∙ result-with out (in_pre_or_code context.ancestors) answer.result answer.definitions others
 
 pub stays-within : (n : ℕ) (conversion : Conversion) → HandlersStay conversion.config
     → Stays (written_within n conversion)

@@ -130,14 +130,3 @@ module _ (items : List Item) (table : ℕ) where
   pub layout-proper : All Below (nodes_of (layout_of items table).parts)
   layout-proper = fold_keeps Proper Below (with_child items) child-proper empty_layout (children_of items table)
       (λ i d l. absurd (omega arith)) (children_proper items table)
-
--- what holds for a caption, for headers and for a row holds for each part
-pub each_kind : (P : Part → Type 0) → ((nodes : List ℕ) → P (part Caption nodes))
-    → ((nodes : List ℕ) → P (part Headers nodes)) → ((nodes : List ℕ) → P (part Row nodes)) → (p : Part)
-    → P p
-each_kind P caption headers row p = go p.kind p.nodes
-  where
-    go : (kind : PartKind) (nodes : List ℕ) → P (part kind nodes)
-    go Caption nodes = caption nodes
-    go Headers nodes = headers nodes
-    go Row nodes = row nodes

@@ -1,5 +1,5 @@
 -- What is cut from the ends of a text that is put together.
-use Rattle.std.proofs.Common.{◌≡◌, ℕ, ◌+◌, ◌-◌, ◌<◌, Bool, true, false, List, [], ◌∷◌, ◌++◌}
+use Rattle.std.proofs.Common.{◌≡◌, ℕ, suc, ◌+◌, ◌-◌, ◌<◌, Bool, true, false, List, [], ◌∷◌, ◌++◌}
 use Rattle.std.proofs.Common.{length, get_or, take, drop, reverse, refl, sym, ap, ◌∙◌, arith, All, ⊎_elim}
 use Rattle.std.specs.List.{prefix_len, suffix_len}
 use Rattle.std.proofs.lemmas.Bool.{cond-true, cases_lt}
@@ -10,7 +10,9 @@ use Rattle.std.proofs.lemmas.List.Sums.{suffix_len_is, suffix_len-le-length, pre
 use Rattle.std.proofs.lemmas.List.Sums.{prefix_len-drop_no, prefix_len-drop_all}
 use Rattle.std.proofs.lemmas.List.Elements.{All-head, All-tail, All-from_get_or}
 use Rattle.htmd_text.specs.Trims.{trimmed_start, trimmed_end}
-use Rattle.htmd_markdown.proofs.SpacedSpansLemmas.{one_more}
+
+one_more : (n : ℕ) → 1 + n ≡ suc n
+one_more n = omega arith
 
 -- the last byte, if there is one, fails
 abbrev pub EndsBare : (ℕ → Bool) → List ℕ → Type 0

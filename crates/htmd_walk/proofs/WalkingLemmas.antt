@@ -15,7 +15,6 @@ use Rattle.htmd_walk.specs.declared.options.Options.{Options}
 use Rattle.htmd_walk.specs.Handling.{ElementView, ResultView, PlanView, content_of_descendant, IsProper}
 use Rattle.htmd_walk.specs.Groups.{only_text, group_children, children_at}
 use Rattle.htmd_walk.specs.Outputs.{Conversion, Output, Writes, result_of, Context, context_of, empty_output}
-use Rattle.htmd_walk.specs.Outputs.{is_guarded}
 use Rattle.htmd_walk.specs.OrdinaryText.{in_pre_or_code}
 use Rattle.htmd_walk.specs.Rendering.{write_text, written_within}
 use Rattle.htmd_walk.specs.Children.{content_inside, content_alone, descendant_tree, trims_first}
@@ -130,9 +129,8 @@ two_levels items t id l name attributes joined s n e h k =
 pub text_inside : (n : ℕ) (conversion : Conversion) (inside : List Ancestor) (children : NumberedForest)
     (s : List ℕ)
     (definitions : List (List ℕ)) → Some s ≡ only_text children → 1 ≤ n
-    → write_text (is_guarded conversion.config.options) s
-    (context_of inside (in_pre_or_code inside) (trims_first inside))
-    (empty_output definitions) ≡ content_inside (written_within n conversion) inside children definitions
+    → write_text s (context_of inside (in_pre_or_code inside) (trims_first inside)) (empty_output definitions)
+    ≡ content_inside (written_within n conversion) inside children definitions
 unfolding written_within
 text_inside zero conversion inside children s definitions e l = absurd (omega arith)
 text_inside (suc n) conversion inside none s definitions e l = cc
@@ -140,8 +138,7 @@ text_inside (suc n) conversion inside (more (document i c) ts) s definitions e l
 text_inside (suc n) conversion inside (more (doctype i) ts) s definitions e l = cc
 text_inside (suc n) conversion inside (more (text i t) none) s definitions e l =
     let same : s ≡ t = cc in
-    ap (λ x. write_text (is_guarded conversion.config.options) x
-    (context_of inside (in_pre_or_code inside) (trims_first inside)) (empty_output definitions)) same
+    ap (λ x. write_text x (context_of inside (in_pre_or_code inside) (trims_first inside)) (empty_output definitions)) same
 text_inside (suc n) conversion inside (more (text i t) (more u us)) s definitions e l = cc
 text_inside (suc n) conversion inside (more (comment i t) ts) s definitions e l = cc
 text_inside (suc n) conversion inside (more (element i m a c) ts) s definitions e l = cc
@@ -149,7 +146,7 @@ text_inside (suc n) conversion inside (more (element i m a c) ts) s definitions 
 -- a text that is handed over by itself
 pub text_alone : (n : ℕ) (conversion : Conversion) (id : ℕ) (s : List ℕ) (context : Context)
     (definitions : List (List ℕ)) → 1 ≤ n
-    → write_text (is_guarded conversion.config.options) s context (empty_output definitions)
+    → write_text s context (empty_output definitions)
     ≡ written_within n conversion (text id s) context (empty_output definitions)
 unfolding written_within
 text_alone zero conversion id s context definitions l = absurd (omega arith)

@@ -1,26 +1,16 @@
 -- The handler of a, and the definitions that its references name.
-use Rattle.std.specs.Prelude.{ℕ, Bool, false, not, ◌+◌, ◌&&◌, ◌||◌, if◌then◌else◌, List, [], ◌∷◌, length, Option, Some, None, codes}
-use Rattle.std.specs.Option.{is_some, unwrap_or}
-use Rattle.std.specs.Str.{bytes_eq}
+use Rattle.std.specs.Prelude.{ℕ, ◌+◌, if◌then◌else◌, List, [], ◌∷◌, length, Option, Some, None, codes}
+use Rattle.std.specs.Option.{unwrap_or}
 use Rattle.htmd_grammar.specs.Characters.{line_feed}
 use Rattle.htmd_grammar.specs.BlankLines.{with_blank_lines}
 use Rattle.htmd_text.specs.Joins.{joined_texts}
-use Rattle.htmd_text.specs.Trims.{trimmed_text}
-use Rattle.htmd_grammar.specs.WhiteSpace.{is_document_white_space}
 use Rattle.htmd_markdown.specs.Links.{inline_link, autolink, reference, definition}
-use Rattle.htmd_markdown.specs.GuardedLinks.{guarded_link, is_autolink_address, guarded_autolink, guarded_reference}
-use Rattle.htmd_markdown.specs.GuardedLinks.{guarded_definition}
-use Rattle.htmd_nodes.specs.NumberedTrees.{NumberedTree, document, doctype, text, comment, element}
-use Rattle.htmd_nodes.specs.NumberedTrees.{NumberedForest, none, more}
 use Rattle.htmd_markdown.specs.declared.link.LinkStyle.{LinkStyle}
 use Rattle.htmd_markdown.specs.declared.link.LinkStyle.TheVariants.{Inlined, InlinedPreferAutolinks, Referenced}
 use Rattle.htmd_walk.specs.Handling.{ElementView, ResultView, PlanView, raw_html, content_of_children, Finish}
 use Rattle.htmd_walk.specs.Handling.{HandlerMeaning}
 use Rattle.htmd_walk.specs.Handling.{final_result, without_definitions}
-use Rattle.htmd_walk.specs.Outputs.{is_guarded}
-use Rattle.htmd_walk.specs.ElementPlans.{attributes_of, is_tag_among}
-use Rattle.htmd_walk.specs.AllText.{all_text_of}
-use Rattle.htmd_walk.specs.Groups.{children_at}
+use Rattle.htmd_walk.specs.ElementPlans.{attributes_of}
 use Rattle.htmd_walk.specs.LinkAttributes.{last_value, is_raw_unless_among, title_of}
 use Rattle.htmd_walk.specs.ElementPlans.{markdown_result}
 
@@ -51,49 +41,11 @@ link_finish InlinedPreferAutolinks view content address definitions =
     (unwrap_or (autolink content address) (inline_link content address (title_of view))))
 link_finish Referenced view content address definitions = reference_finish view content address definitions
 
-abbrev mutual
-  -- there is an image
-  pub holds_image : NumberedTree → Bool
-  holds_image (document id children) = hold_image children
-  holds_image (doctype id) = false
-  holds_image (text id s) = false
-  holds_image (comment id s) = false
-  holds_image (element id name attributes children) =
-      is_tag_among (codes "img" ∷ []) (Some name) || hold_image children
-
-  pub hold_image : NumberedForest → Bool
-  hold_image none = false
-  hold_image (more tree trees) = holds_image tree || hold_image trees
-
--- In Guarded an autolink is written if no image is below, and all text, without white space at its ends, is the
--- address, and that is an absolute URI that is read as it stands.
-abbrev pub is_autolinked : ElementView → List ℕ → Bool
-is_autolinked view address =
-    bytes_eq (trimmed_text is_document_white_space (all_text_of view)) address
-    && is_autolink_address address
-    && (is_some view.text || not (hold_image (children_at view.items view.node)))
-
--- the links of Guarded: a reference always by its number
-abbrev pub guarded_link_finish : LinkStyle → ElementView → List ℕ → List ℕ → List (List ℕ) → Finish
-guarded_link_finish Inlined view content address definitions =
-    without_definitions (markdown_result (guarded_link content address (title_of view)))
-guarded_link_finish InlinedPreferAutolinks view content address definitions =
-    without_definitions (markdown_result
-    (if is_autolinked view address then guarded_autolink content address
-    else guarded_link content address (title_of view)))
-guarded_link_finish Referenced view content address definitions =
-    let number = length definitions + 1 in
-    record {
-      result = markdown_result (guarded_reference number content);
-      added = guarded_definition number address (title_of view) ∷ [];
-    }
-
 -- without an address there is no link
 abbrev pub finish_at : Option (List ℕ) → ElementView → ResultView → List (List ℕ) → Finish
 finish_at None view content definitions = without_definitions (Some content)
 finish_at (Some address) view content definitions =
-    (if is_guarded view.options then guarded_link_finish else link_finish)
-    view.options.link_style view content.content address definitions
+    link_finish view.options.link_style view content.content address definitions
 
 abbrev pub anchor_finish : ElementView → ResultView → List (List ℕ) → Finish
 anchor_finish view content definitions = finish_at (anchor_address view) view content definitions

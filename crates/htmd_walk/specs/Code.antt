@@ -8,18 +8,16 @@ use Rattle.htmd_grammar.specs.Characters.{space}
 use Rattle.htmd_markdown.specs.CodeSpans.{code_span}
 use Rattle.htmd_markdown.specs.Fences.{fenced_code_block}
 use Rattle.htmd_markdown.specs.IndentedCode.{indented_code_block}
-use Rattle.htmd_markdown.specs.GuardedCode.{guarded_code}
 use Rattle.htmd_nodes.specs.ValueTrees.{AttributePair}
 use Rattle.htmd_nodes.specs.Items.{Item, data_at, parent_at, children_of}
 use Rattle.htmd_nodes.specs.Ancestors.{ancestor_of}
 use Rattle.htmd_walk.specs.Handling.{ElementView, ResultView, PlanView, raw_html, content_of_children, HandlerMeaning}
 use Rattle.htmd_walk.specs.Handling.{of_plan}
-use Rattle.htmd_walk.specs.Outputs.{is_markdown_alone, is_guarded}
+use Rattle.htmd_walk.specs.Outputs.{is_markdown_alone}
 use Rattle.htmd_walk.specs.declared.options.CodeBlockStyle.{CodeBlockStyle}
 use Rattle.htmd_walk.specs.declared.options.CodeBlockStyle.TheVariants.{Indented, Fenced}
-use Rattle.htmd_walk.specs.AllText.{all_text_of}
 use Rattle.htmd_walk.specs.Rendering.{is_text}
-use Rattle.htmd_walk.specs.ElementPlans.{attributes_of, tag_at, parent_tag, markdown_plan, is_raw_html_due, is_tag_among}
+use Rattle.htmd_walk.specs.ElementPlans.{attributes_of, tag_at, parent_tag, is_raw_html_due, is_tag_among}
 use Rattle.htmd_walk.specs.ElementPlans.{markdown_result}
 
 -- ---- the language of a code block
@@ -82,15 +80,8 @@ is_raw_code view =
     (not (is_markdown_alone view.options) && not (holds_texts_alone view))
     || is_raw_html_due view (if shows_language view then 1 else 0)
 
--- in Guarded it is a code span of all text below it, whatever elements stand there
-abbrev pub guarded_code_plan : ElementView → PlanView
-guarded_code_plan view = markdown_plan (guarded_code (all_text_of view))
-
-abbrev pub content_plan : ElementView → PlanView
-content_plan view = if is_raw_code view then raw_html else content_of_children
-
 abbrev pub code_plan : ElementView → PlanView
-code_plan view = if is_guarded view.options then guarded_code_plan view else content_plan view
+code_plan view = if is_raw_code view then raw_html else content_of_children
 
 abbrev pub code_block : CodeBlockStyle → ElementView → List ℕ → List ℕ
 code_block Indented view s = indented_code_block s

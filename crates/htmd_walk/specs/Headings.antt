@@ -1,11 +1,9 @@
 -- The handler of h1 to h6.
 use Rattle.std.specs.Prelude.{ℕ, if◌then◌else◌, List, Option, codes}
 use Rattle.std.specs.Str.{bytes_eq}
-use Rattle.htmd_markdown.specs.Headings.{heading, guarded_heading}
+use Rattle.htmd_markdown.specs.Headings.{heading}
 use Rattle.htmd_walk.specs.Handling.{ElementView, ResultView, HandlerMeaning, of_plan}
-use Rattle.htmd_walk.specs.Outputs.{is_guarded}
-use Rattle.htmd_walk.specs.ElementPlans.{tag_of, plain_plan, markdown_result, wrapped_result}
-use Rattle.htmd_walk.specs.OneLineElements.{is_in_line}
+use Rattle.htmd_walk.specs.ElementPlans.{tag_of, plain_plan, markdown_result}
 
 -- the level that a tag names
 abbrev pub level_of : List ℕ → ℕ
@@ -18,9 +16,7 @@ level_of tag =
 
 abbrev pub heading_result : ElementView → ResultView → Option ResultView
 heading_result view content =
-    if is_in_line view then wrapped_result view content
-    else markdown_result ((if is_guarded view.options then guarded_heading else heading)
-    view.options.heading_style (level_of (tag_of view)) content.content)
+    markdown_result (heading view.options.heading_style (level_of (tag_of view)) content.content)
 
 abbrev pub headings : HandlerMeaning
 headings = of_plan plain_plan heading_result

@@ -1,9 +1,7 @@
 -- The handler of img.
 use Rattle.std.specs.Prelude.{ℕ, true, if◌then◌else◌, List, [], ◌∷◌, Option, Some, None, codes}
 use Rattle.htmd_markdown.specs.Links.{image}
-use Rattle.htmd_markdown.specs.GuardedLinks.{guarded_image}
 use Rattle.htmd_walk.specs.Handling.{ElementView, PlanView, nothing, this_result, raw_html, HandlerMeaning, of_plan}
-use Rattle.htmd_walk.specs.Outputs.{is_guarded}
 use Rattle.htmd_walk.specs.ElementPlans.{attributes_of}
 use Rattle.htmd_walk.specs.LinkAttributes.{last_value, is_raw_unless_among, title_of}
 
@@ -20,7 +18,7 @@ alternative_text view = last_value (codes "alt" ∷ []) (attributes_of view)
 abbrev pub image_at : Option (List ℕ) → ElementView → PlanView
 image_at None view = nothing
 image_at (Some address) view = this_result (record {
-  content = (if is_guarded view.options then guarded_image else image) address (alternative_text view) (title_of view);
+  content = image address (alternative_text view) (title_of view);
   markdown_translated = true;
 })
 

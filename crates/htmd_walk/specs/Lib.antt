@@ -28,7 +28,6 @@ pub mod Rendering
 pub mod Markdown
 pub mod HandlerAnswers
 pub mod ElementPlans
-pub mod AllText
 pub mod Headings
 pub mod Paragraphs
 pub mod BlockQuotes
@@ -39,16 +38,11 @@ pub mod LineBreaks
 pub mod Emphases
 pub mod Spans
 pub mod Code
-pub mod OneLineElements
 pub mod Preformatted
 pub mod Lists
 pub mod ListItems
 pub mod TableLayouts
-pub mod TableOrder
 pub mod Tables
-pub mod GuardedTableLayouts
-pub mod GuardedTableTexts
-pub mod CaptionsAndCells
 pub mod TableElements
 pub mod TableCells
 pub mod TableParts
@@ -71,4 +65,3 @@ pub mod Staying
 pub mod Walking
 pub mod TableViews
 pub mod PlainTexts
-pub mod GuardedTableViews

@@ -3,16 +3,14 @@ use Rattle.std.specs.Prelude.{ℕ, Bool, false, not, ◌&&◌, ◌||◌, if◌th
 use Rattle.std.specs.Prelude.{map}
 use Rattle.std.specs.List.{list_any, zip}
 use Rattle.std.specs.Str.{bytes_eq}
-use Rattle.htmd_markdown.specs.Lists.{first_number, Block, item, other, ordered_list, guarded_ordered_list}
-use Rattle.htmd_markdown.specs.Lists.{unnumbered_list, list_block}
+use Rattle.htmd_markdown.specs.Lists.{first_number, Block, item, other, ordered_list, list_block}
 use Rattle.htmd_nodes.specs.ValueTrees.{AttributePair}
 use Rattle.htmd_nodes.specs.Items.{Item, data_at, children_of}
 use Rattle.htmd_walk.specs.Handling.{ElementView, ResultView, PlanView, raw_html, content_of_children, HandlerMeaning}
 use Rattle.htmd_walk.specs.Handling.{contents_of_each, final_result, without_definitions}
-use Rattle.htmd_walk.specs.Outputs.{is_markdown_alone, is_guarded}
+use Rattle.htmd_walk.specs.Outputs.{is_markdown_alone}
 use Rattle.htmd_walk.specs.ElementPlans.{tag_of, attributes_of, parent_tag, value_of_first, are_markdown, raw_block_result}
 use Rattle.htmd_walk.specs.ElementPlans.{is_raw_html_due, is_tag_among, optional_markdown}
-use Rattle.htmd_walk.specs.OneLineElements.{is_in_line}
 use Rattle.htmd_nodes.specs.Items as tree
 
 -- how many attributes a list may have: `start`, if it comes first
@@ -69,12 +67,9 @@ blocks_of view contents = blocks_of_list view.items (children_of view.items view
 abbrev pub first_number_of : ElementView → ℕ
 first_number_of view = first_number (value_of_first (codes "start") (attributes_of view))
 
--- the items after their numbers, and the other children's contents, as the mode writes them
+-- the items after their numbers, and the other children's contents
 abbrev pub ordered_text : ElementView → List Block → List ℕ
-ordered_text view blocks =
-    if is_in_line view then unnumbered_list blocks
-    else (if is_guarded view.options then guarded_ordered_list else ordered_list)
-    (first_number_of view) view.options.ol_number_spacing blocks
+ordered_text view blocks = ordered_list (first_number_of view) view.options.ol_number_spacing blocks
 
 abbrev pub numbered_list : ElementView → List ResultView → ResultView
 numbered_list view contents = record {

@@ -1,12 +1,10 @@
 -- How the text of a text node is written.
-use Rattle.std.specs.Prelude.{ℕ, Bool, false, ◌&&◌, ◌||◌, if◌then◌else◌, List, [], ◌∷◌, ◌++◌, drop, codes}
+use Rattle.std.specs.Prelude.{ℕ, Bool, false, ◌&&◌, ◌||◌, if◌then◌else◌, List, [], ◌∷◌, drop, codes}
 use Rattle.std.specs.List.{list_any}
 use Rattle.std.specs.Str.{bytes_eq}
 use Rattle.htmd_text.specs.EscapeMarks.{escaped_markdown, escaped_pre_text}
 use Rattle.htmd_text.specs.SqueezedTexts.{squeezed_text}
 use Rattle.htmd_nodes.specs.Ancestors.{Ancestor}
-use Rattle.htmd_markdown.specs.GuardedText.{guarded_text, begins_line}
-use Rattle.htmd_markdown.specs.Joints.{with_joint}
 use Rattle.htmd_walk.specs.Seams.{begins_with_space, ends_with_space}
 
 abbrev pub is_pre_or_code : Ancestor → Bool
@@ -34,19 +32,8 @@ without_first_space goes s = if goes && begins_with_space s then drop 1 s else s
 abbrev pub ordinary_text : Bool → List ℕ → List ℕ → List ℕ
 ordinary_text trim out s = escaped_markdown (without_first_space (trim || ends_with_space out) (squeezed_text s))
 
--- In Guarded it is escaped so that nothing of it is read as markup, whatever stands before and after it.
-abbrev pub guarded_ordinary_text : Bool → List ℕ → List ℕ → List ℕ
-guarded_ordinary_text trim out s =
-    guarded_text (begins_line out) (without_first_space (trim || ends_with_space out) (squeezed_text s))
-
--- what the text of a node adds to the text so far, if the mode is not Guarded
+-- what the text of a node adds to the text so far, by whether it is preformatted and its parent `pre`, and by the trim
+-- flag
 abbrev pub written_text : Bool → Bool → Bool → List ℕ → List ℕ → List ℕ
 written_text preformatted in_pre trim out s =
     if preformatted then preformatted_text in_pre s else ordinary_text trim out s
-
--- The text so far with the text of a node after it, by whether the mode is Guarded, the text preformatted and its
--- parent `pre`, and by the trim flag. In Guarded no text is preformatted, and both are mended where they meet.
-abbrev pub with_written_text : Bool → Bool → Bool → Bool → List ℕ → List ℕ → List ℕ
-with_written_text guarded preformatted in_pre trim out s =
-    if guarded then with_joint out (guarded_ordinary_text trim out s)
-    else out ++ written_text preformatted in_pre trim out s

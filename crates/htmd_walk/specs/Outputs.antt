@@ -5,7 +5,7 @@ use Rattle.htmd_nodes.specs.NumberedTrees.{NumberedTree}
 use Rattle.htmd_nodes.specs.Ancestors.{Ancestor}
 use Rattle.htmd_walk.specs.declared.options.Options.{Options}
 use Rattle.htmd_walk.specs.declared.options.TranslationMode.{TranslationMode}
-use Rattle.htmd_walk.specs.declared.options.TranslationMode.TheVariants.{Pure, Faithful, Guarded}
+use Rattle.htmd_walk.specs.declared.options.TranslationMode.TheVariants.{Pure, Faithful}
 use Rattle.htmd_walk.specs.Handling.{ResultView}
 use Rattle.htmd_walk.specs.Choice.{Config}
 
@@ -13,19 +13,9 @@ use Rattle.htmd_walk.specs.Choice.{Config}
 abbrev pub is_markdown_alone_in : TranslationMode → Bool
 is_markdown_alone_in Pure = true
 is_markdown_alone_in Faithful = false
-is_markdown_alone_in Guarded = true
 
 abbrev pub is_markdown_alone : Options → Bool
 is_markdown_alone options = is_markdown_alone_in options.translation_mode
-
--- in Guarded a reader sees the page's text
-abbrev pub is_guarded_in : TranslationMode → Bool
-is_guarded_in Pure = false
-is_guarded_in Faithful = false
-is_guarded_in Guarded = true
-
-abbrev pub is_guarded : Options → Bool
-is_guarded options = is_guarded_in options.translation_mode
 
 -- what a conversion goes by: the tree as it was handed in, and what the registry means
 pub record Conversion : Type 0 where

@@ -1,5 +1,5 @@
 -- What the Markdown of a document of paragraphs reads back as.
-use Rattle.std.specs.Prelude.{◌≡◌, ℕ, false, ◌&&◌, ◌==◌, if◌then◌else◌, nat_lt, List, [], ◌∷◌, length, map, codes}
+use Rattle.std.specs.Prelude.{◌≡◌, ℕ, ◌&&◌, ◌==◌, if◌then◌else◌, nat_lt, List, [], ◌∷◌, length, map, codes}
 use Rattle.std.specs.Prelude.{Option, Some, None}
 use Rattle.std.specs.List.{filter, onto_first}
 use Rattle.std.specs.Option.{unwrap_or}
@@ -13,7 +13,6 @@ use Rattle.htmd_nodes.specs.NumberedTrees.{tree_of, value_tree}
 use Rattle.htmd_walk.specs.declared.options.Options.{Options}
 use Rattle.htmd_walk.specs.Choice.{Config}
 use Rattle.htmd_walk.specs.BuiltIn.{built_in}
-use Rattle.htmd_walk.specs.Outputs.{is_guarded}
 
 -- ---- documents of paragraphs
 
@@ -66,12 +65,10 @@ with_last_trimmed (s ∷ t ∷ texts) = s ∷ with_last_trimmed (t ∷ texts)
 abbrev pub texts_shown : List (List ℕ) → List (List ℕ)
 texts_shown texts = with_last_trimmed (filter (λ s. nat_lt 0 (length s)) (map text_shown texts))
 
--- If all handlers are built in, the mode is Pure or Faithful, and the node is a Document whose children are `p` without
--- attributes, each holding at most one text, this Markdown reads back as the texts as they are shown; no text counts as
--- the empty one.
+-- If all handlers are built in, and the node is a Document whose children are `p` without attributes, each holding at
+-- most one text, this Markdown reads back as the texts as they are shown; no text counts as the empty one.
 abbrev pub ParagraphsReadBack : Config → List Item → ℕ → List ℕ → Type 0
 ParagraphsReadBack config items node markdown =
     (options : Options) (texts : List (Option (List ℕ)))
-    → config ≡ built_in options → is_guarded options ≡ false
-    → node ≡ 0 → value_tree (tree_of items node) ≡ document (paragraphs texts)
+    → config ≡ built_in options → node ≡ 0 → value_tree (tree_of items node) ≡ document (paragraphs texts)
     → texts_read markdown ≡ texts_shown (map (λ held. unwrap_or held []) texts)

@@ -9,27 +9,27 @@ use Rattle.htmd_nodes.specs.NumberedTrees.{document, doctype, text, comment, ele
 use Rattle.htmd_nodes.specs.Ancestors.{Ancestor, ancestor_of, ancestors_of}
 use Rattle.htmd_nodes.specs.Serialisation.{comment_of}
 use Rattle.htmd_walk.specs.Handling.{ResultView}
-use Rattle.htmd_walk.specs.Seams.{written_at_seam}
-use Rattle.htmd_walk.specs.OrdinaryText.{in_pre_or_code, parent_is_pre, with_written_text}
-use Rattle.htmd_walk.specs.Outputs.{Conversion, Output, push_text, replace_text, Context, Writes, is_markdown_alone, is_guarded}
+use Rattle.htmd_walk.specs.Seams.{joined_at_seam}
+use Rattle.htmd_walk.specs.OrdinaryText.{in_pre_or_code, parent_is_pre, written_text}
+use Rattle.htmd_walk.specs.Outputs.{Conversion, Output, push_text, Context, Writes, is_markdown_alone}
 use Rattle.htmd_walk.specs.Children.{write_groups}
 use Rattle.htmd_walk.specs.Elements.{Answer, answer_after, occurrence_at}
 
 -- an element's result is added at a seam
-abbrev pub with_result : Bool → Output → Bool → Option ResultView → List (List ℕ) → Output
-with_result guarded out whole None definitions = record {
+abbrev pub with_result : Output → Bool → Option ResultView → List (List ℕ) → Output
+with_result out whole None definitions = record {
   text = out.text;
   markdown_translated = out.markdown_translated;
   definitions = definitions;
 }
-with_result guarded out whole (Some result) definitions = record {
-  text = written_at_seam guarded out.text result.content whole;
+with_result out whole (Some result) definitions = record {
+  text = joined_at_seam out.text result.content whole;
   markdown_translated = out.markdown_translated && result.markdown_translated;
   definitions = definitions;
 }
 
-abbrev pub with_answer : Bool → Output → Bool → Answer → Output
-with_answer guarded out whole answer = with_result guarded out whole answer.result answer.definitions
+abbrev pub with_answer : Output → Bool → Answer → Output
+with_answer out whole answer = with_result out whole answer.result answer.definitions
 
 -- the Document ends without white space, and it counts as Markdown
 abbrev pub end_of_document : Bool → Output → Output
@@ -39,22 +39,21 @@ end_of_document markdown_translated out = record {
   definitions = out.definitions;
 }
 
-abbrev pub write_text : Bool → List ℕ → Context → Output → Output
-write_text guarded s context out = replace_text
-    (with_written_text guarded context.preformatted (parent_is_pre context.ancestors) context.trim out.text s) out
+abbrev pub write_text : List ℕ → Context → Output → Output
+write_text s context out =
+    push_text out (written_text context.preformatted (parent_is_pre context.ancestors) context.trim out.text s)
 
 abbrev pub write_node : Writes → Conversion → Writes
 write_node write conversion (document id children) context out =
     let inside = record { tag = codes "html"; attributes = [] } ∷ context.ancestors in
     end_of_document out.markdown_translated (write_groups write inside children out)
 write_node write conversion (doctype id) context out = out
-write_node write conversion (text id s) context out =
-    write_text (is_guarded conversion.config.options) s context out
+write_node write conversion (text id s) context out = write_text s context out
 write_node write conversion (comment id s) context out =
     if is_markdown_alone conversion.config.options then out else push_text out (comment_of s)
 write_node write conversion (element id name attributes children) context out =
     let inside = record { tag = name; attributes = attributes } ∷ context.ancestors in
-    with_answer (is_guarded conversion.config.options) out (in_pre_or_code context.ancestors)
+    with_answer out (in_pre_or_code context.ancestors)
     (answer_after 0 name (occurrence_at write conversion id inside children) out.definitions)
 
 -- down through this many levels

@@ -1,10 +1,9 @@
 -- How a text is appended to another one.
-use Rattle.std.specs.Prelude.{ℕ, ◌+◌, min, max, Bool, false, ◌&&◌, ◌||◌, ◌==◌, nat_lt, if◌then◌else◌, List, ◌++◌}
+use Rattle.std.specs.Prelude.{ℕ, ◌+◌, min, max, Bool, ◌&&◌, ◌||◌, ◌==◌, nat_lt, if◌then◌else◌, List, ◌++◌}
 use Rattle.std.specs.Prelude.{length}
 use Rattle.std.specs.Prelude.{drop, replicate}
 use Rattle.std.specs.List.{prefix_len, suffix_len}
 use Rattle.htmd_grammar.specs.Characters.{line_feed}
-use Rattle.htmd_markdown.specs.Joints.{mended_ends}
 use Rattle.htmd_text.specs.Trims.{trimmed_start, trimmed_end, is_line_feed, is_space}
 
 abbrev pub begins_with_space : List ℕ → Bool
@@ -32,12 +31,3 @@ joined_at_seam out content whole =
     if whole || (length out == 0)
     then out ++ content
     else joined_by_white_space (suffix_len is_line_feed out) (prefix_len is_line_feed content) out content
-
--- content after a text in Guarded: mended where they meet, and never whole, since no text is preformatted there
-abbrev pub guarded_at_seam : List ℕ → List ℕ → List ℕ
-guarded_at_seam out content = let both = mended_ends out content in joined_at_seam both.front both.behind false
-
--- content after a text, by whether the mode is Guarded
-abbrev pub written_at_seam : Bool → List ℕ → List ℕ → Bool → List ℕ
-written_at_seam guarded out content whole =
-    if guarded then guarded_at_seam out content else joined_at_seam out content whole

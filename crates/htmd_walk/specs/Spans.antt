@@ -1,15 +1,12 @@
 -- The handler of span.
-use Rattle.std.specs.Prelude.{ℕ, Bool, ◌&&◌, ◌||◌, if◌then◌else◌, List, [], ◌∷◌, ◌++◌, Option, Some, None, codes}
-use Rattle.std.specs.List.{list_any}
+use Rattle.std.specs.Prelude.{ℕ, Bool, if◌then◌else◌, List, [], ◌∷◌, ◌++◌, Option, Some, None, codes}
 use Rattle.std.specs.Option.{is_some}
 use Rattle.std.specs.Str.{bytes_eq}
-use Rattle.htmd_grammar.specs.Characters.{is_one_of}
 use Rattle.htmd_text.specs.Trims.{trimmed_text, is_line_feed}
 use Rattle.htmd_nodes.specs.ValueTrees.{AttributePair}
-use Rattle.htmd_walk.specs.Handling.{ElementView, ResultView, PlanView, content_of_children, HandlerMeaning, of_plan}
+use Rattle.htmd_walk.specs.Handling.{ElementView, ResultView, PlanView, HandlerMeaning, of_plan}
 use Rattle.htmd_walk.specs.OrdinaryText.{in_pre_or_code}
 use Rattle.htmd_walk.specs.ElementPlans.{attributes_of, ancestors_of, unless_faithful, markdown_plan}
-use Rattle.htmd_walk.specs.Outputs.{is_guarded}
 
 abbrev pub is_span : List ℕ → Bool
 is_span name = bytes_eq name (codes "span")
@@ -29,25 +26,17 @@ formula_mark (a ∷ b ∷ attributes) = None
 abbrev pub has_math_class : List AttributePair → Bool
 has_math_class attributes = is_some (formula_mark attributes)
 
--- the text has a character that a reader takes for markup even between dollar signs
-abbrev pub is_read_in_formula : List ℕ → Bool
-is_read_in_formula text = list_any (is_one_of (codes "<&`[]\n")) text
-
--- A formula is the text of the only child, unescaped, between its marks; in Guarded only if a reader takes nothing in
--- the text for markup.
+-- a formula is the text of the only child, unescaped, between its marks
 abbrev pub formula_plan : ElementView → Option (List ℕ) → Option (List ℕ) → PlanView
 formula_plan view None text = unless_faithful view
 formula_plan view (Some mark) None = unless_faithful view
-formula_plan view (Some mark) (Some text) =
-    if is_guarded view.options && is_read_in_formula text then content_of_children
-    else markdown_plan ((mark ++ text) ++ mark)
+formula_plan view (Some mark) (Some text) = markdown_plan ((mark ++ text) ++ mark)
 
--- else the content, without line feeds at its ends unless it is preformatted; in Guarded with them, so that blocks in
--- it stay apart from what follows
+-- else the content, without line feeds at its ends unless it is preformatted
 abbrev pub span_result : ElementView → ResultView → Option ResultView
 span_result view content = Some (record {
   content =
-      if is_guarded view.options || in_pre_or_code (ancestors_of view) then content.content
+      if in_pre_or_code (ancestors_of view) then content.content
       else trimmed_text is_line_feed content.content;
   markdown_translated = content.markdown_translated;
 })

@@ -1,4 +1,4 @@
--- What a table is, and how it is written in Pure and Faithful.
+-- What a table is, and how it is written.
 use Rattle.std.specs.Prelude.{ℕ, Bool, false, not, ◌&&◌, ◌||◌, List, [], ◌∷◌, length, Option, Some, None}
 use Rattle.std.specs.Prelude.{true, codes, ◌++◌, map, take, drop}
 use Rattle.std.specs.List.{list_any, flat_map}

@@ -19,7 +19,6 @@ use Rattle.htmd_walk.specs.Choice.{Config}
 use Rattle.htmd_walk.specs.Outputs.{Conversion, conversion_of, Writes, Output}
 use Rattle.htmd_walk.specs.Elements.{Occurrence, Answer, answer_after, occurrence_at, view_at}
 use Rattle.htmd_walk.specs.Rendering.{is_text, written_within, inside_of}
-use Rattle.htmd_walk.specs.OneLineElements.{known_in_line}
 use Rattle.htmd_walk.specs.OrdinaryText.{in_pre_or_code}
 use Rattle.htmd_walk.specs.Code.{language_of_pre}
 use Rattle.htmd_walk.specs.Views.{plan_view, element_view, element_children, optional_result}
@@ -33,10 +32,9 @@ outcome_view (Final result) = final_result (optional_result result)
 outcome_view ChildrenToo = children_too
 
 -- what the walk knows of where a node stands is so
-pub record IsVisit (o : Options) (items : List Item) (v : Visit) : Type 0 where
+pub record IsVisit (items : List Item) (v : Visit) : Type 0 where
   pub within : v.node < length items
   pub group : IfSome v.joined (λ _. IsSome (only_text (children_at items v.node)))
-  pub line : v.is_in_line ≡ known_in_line o items v.node
   pub language : option_copied v.pre_language ≡ language_of_pre items (parent_at items v.node)
   pub context : is_text (data_at items v.node) ≡ false
       → v.context.preformatted ≡ in_pre_or_code (ancestors_of items v.node)

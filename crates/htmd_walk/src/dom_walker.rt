@@ -16,7 +16,7 @@ ghost use Rattle.htmd_walk.specs.Handling.{IsProper, contents_of_each};
 ghost use Rattle.htmd_walk.specs.Choice.{indexes, handlers_at};
 ghost use Rattle.htmd_walk.specs.OrdinaryText.{in_pre_or_code};
 ghost use Rattle.htmd_walk.specs.Groups.{group_tree, children_at};
-ghost use Rattle.htmd_walk.specs.Outputs.{conversion_of, context_of, empty_output, is_guarded};
+ghost use Rattle.htmd_walk.specs.Outputs.{conversion_of, context_of, empty_output};
 ghost use Rattle.htmd_walk.specs.Children.{write_groups, content_alone};
 ghost use Rattle.htmd_walk.specs.Elements.{content_of, contents_alone, answer_after, raw_answer};
 ghost use Rattle.htmd_walk.specs.Passing.{IsPassed};
@@ -30,15 +30,13 @@ ghost use Rattle.htmd_walk.specs.Views.{optional_result, output_view, answer_vie
 ghost use Rattle.htmd_walk.specs.Walking.{IsVisit, IsElementOf, shown_children, shown_occurrence, occurrence_of};
 ghost use Rattle.htmd_walk.specs.Walking.{AtNode, InNode, ElementGives, NodeGives};
 ghost use Rattle.htmd_walk.specs.Walking.{AlwaysGives, AreRemembered, content_below};
-ghost use Rattle.htmd_walk.specs.OneLineElements.{known_in_line, known_in_line_inside};
 
 use crate::element_handler::code::{language_above, language_inside};
-use crate::element_handler::plans::{is_guarded, is_markdown_alone};
+use crate::element_handler::plans::is_markdown_alone;
 use crate::element_handler::registry::{Outcome, Registry, Request};
 use crate::element_handler::span::formula_mark;
 use crate::element_handler::{Element, HandlerResult, Links, Plan};
 use crate::group::{group_length, joined_text};
-use crate::line::{is_in_one_line, is_known_in_line};
 use crate::node_util::{
     is_block, is_parent_pre, is_preformatted_alone, preformatted_inside, trims_first,
 };
@@ -91,10 +89,9 @@ impl<'a, R: Registry> Walk<'a, R> {
     }
 
     /// A node that is handed over by itself. A text is then ordinary.
-    fn alone(&self, node: NodeId, is_in_line: bool) -> Visit<'a>
-        requires within { node < length self.now.tree.now }
-        requires line { is_in_line ≡ known_in_line (R.config self.now.registry.now).options self.now.tree.now node }
-        ensures here { IsVisit (R.config self.now.registry.now).options self.now.tree.now result }
+    fn alone(&self, node: NodeId) -> Visit<'a>
+        requires { node < length self.now.tree.now }
+        ensures here { IsVisit self.now.tree.now result }
         ensures node { result.node ≡ node }
         ensures joined { option_copied result.joined ≡ None }
         ensures text { is_text (data_at self.now.tree.now node) ≡ true → result.context.preformatted ≡ false }
@@ -107,7 +104,6 @@ impl<'a, R: Registry> Walk<'a, R> {
                 preformatted: is_preformatted_alone(self.tree, node),
                 trim: true,
             },
-            is_in_line,
             pre_language: language_above(self.tree, node),
         }
     }
@@ -120,7 +116,7 @@ impl<'a, R: Registry> Walk<'a, R> {
         attrs: &'e [Attribute],
         markdown_translated: bool,
     ) -> Element<'e>
-        requires visit { IsVisit (R.config self.now.registry.now).options self.now.tree.now visit.now }
+        requires visit { IsVisit self.now.tree.now visit.now }
         requires element { data_at self.now.tree.now visit.now.node ≡ element_node name.now (pairs_of attrs.now) }
         ensures here { IsElementOf (R.config self.now.registry.now).options self.now.tree.now result }
         ensures stay { HandlersStay (R.config self.now.registry.now) }
@@ -140,7 +136,6 @@ impl<'a, R: Registry> Walk<'a, R> {
             options: self.registry.options(),
             text: text_shown(self.tree, visit.node, visit.joined),
             preformatted: preformatted_inside(self.tree, visit.node, visit.context.preformatted),
-            is_in_line: visit.is_in_line,
             pre_language: visit.pre_language,
         }
     }
@@ -180,9 +175,8 @@ impl<'a, R: Registry> Walk<'a, R> {
             → AlwaysGives (conversion_of (R.config self.now.registry.now) self.now.tree.now) node
             (optional_result given) }
         requires remembered { AreRemembered (R.config self.now.registry.now) self.now.tree.now remembered.old.items }
-        ensures content { let guarded = is_guarded (R.config self.now.registry.now).options in
-            IfOk result (λ r. (definitions : List (List ℕ)) → output_view r definitions
-            ≡ with_result guarded (empty_output definitions) whole (optional_result given) definitions) }
+        ensures content { IfOk result (λ r. (definitions : List (List ℕ)) → output_view r definitions
+            ≡ with_result (empty_output definitions) whole (optional_result given) definitions) }
         ensures remembered { OnOk result
             (AreRemembered (R.config self.now.registry.now) self.now.tree.now remembered.new.items) }
     {
@@ -191,48 +185,8 @@ impl<'a, R: Registry> Walk<'a, R> {
             remembered.push(Remembered { node, result })?;
         }
         let mut out = empty_result(self.alloc, self.spare);
-        let is_guarded = is_guarded(self.registry.options());
-        append_result(&mut out, given, whole, is_guarded, self.alloc, self.spare)?;
+        append_result(&mut out, given, whole, self.alloc, self.spare)?;
         Ok(out)
-    }
-
-    /// In Guarded, whether what is below an element is written in one line.
-    fn is_line_inside(&self, element: &Element) -> bool
-        requires { IsElementOf (R.config self.now.registry.now).options self.now.tree.now element.now }
-        ensures { result ≡ known_in_line_inside (R.config self.now.registry.now).options
-            self.now.tree.now element.now.node }
-    {
-        if element.is_in_line {
-            return true;
-        }
-        if !is_guarded(element.options) {
-            return false;
-        }
-        is_in_one_line(self.tree, element.node)
-    }
-
-    /// In Guarded, whether a node stands in one line; `inside_line` says whether what is below `above` does.
-    fn is_line_below(&self, above: NodeId, inside_line: bool, node: NodeId) -> bool
-        requires above { above < length self.now.tree.now }
-        requires within { node < length self.now.tree.now }
-        requires line { inside_line ≡ known_in_line_inside (R.config self.now.registry.now).options
-            self.now.tree.now above }
-        ensures { result ≡ known_in_line (R.config self.now.registry.now).options self.now.tree.now node }
-    {
-        if !is_guarded(self.registry.options()) {
-            return false;
-        }
-        let mut at = node;
-        while let Some(parent) = self.tree.parent(at) {
-            if parent == above {
-                return inside_line;
-            }
-            if is_in_one_line(self.tree, parent) {
-                return true;
-            }
-            at = parent;
-        }
-        false
     }
 
     /// Whether `span` has the built-in handler alone.
@@ -303,8 +257,7 @@ impl<'a, R: Registry> Walk<'a, R> {
                         .finish(self.alloc, index, element, content, links)
                 }
                 Plan::Descendant(below) => {
-                    let inside_line = self.is_line_inside(element);
-                    let content = self.walk_descendant(element, inside_line, below, links)?;
+                    let content = self.walk_descendant(element, below, links)?;
                     self.registry
                         .finish(self.alloc, index, element, content, links)
                 }
@@ -417,10 +370,9 @@ impl<'a, R: Registry> Walk<'a, R> {
         ensures remembered { OnOk result
             (AreRemembered (R.config self.now.registry.now) self.now.tree.now remembered.new.items) }
     {
-        let inside_line = self.is_line_inside(element);
         let mut results = Vec::with_capacity(self.alloc, nodes.len())?;
         for node in nodes {
-            let result = self.walk_kept(element, inside_line, *node, may_keep, remembered, links)?;
+            let result = self.walk_kept(element, *node, may_keep, remembered, links)?;
             results.push(result)?;
         }
         Ok(results)
@@ -440,25 +392,18 @@ impl<'a, R: Registry> Walk<'a, R> {
                 preformatted: element.preformatted,
                 trim: trims_first(self.tree, element.node, element.preformatted),
             };
+            let in_pre = element.tag == "pre";
             append_text(
                 self.alloc,
                 text,
-                element.tag == "pre",
+                in_pre,
                 context,
-                is_guarded(self.registry.options()),
                 self.spare,
                 &mut out.content,
             )?;
             return Ok(out);
         }
-        let inside_line = self.is_line_inside(element);
-        self.walk_children(
-            element.node,
-            element.preformatted,
-            inside_line,
-            &mut out,
-            links,
-        )?;
+        self.walk_children(element.node, element.preformatted, &mut out, links)?;
         Ok(out)
     }
 
@@ -468,15 +413,12 @@ impl<'a, R: Registry> Walk<'a, R> {
         &self,
         node: NodeId,
         preformatted: bool,
-        inside_line: bool,
         out: &mut HandlerResult,
         links: &mut Links,
     ) -> Result<(), AllocError>
         requires ready { R.ready self.now.registry.now }
         requires within { node < length self.now.tree.now }
         requires inside { preformatted ≡ in_pre_or_code (inside_of self.now.tree.now node) }
-        requires line { inside_line ≡ known_in_line_inside (R.config self.now.registry.now).options
-            self.now.tree.now node }
         ensures { OnOk result
             (InNode (conversion_of (R.config self.now.registry.now) self.now.tree.now) node
             (λ write. output_view out.new links.new ≡ write_groups write (inside_of self.now.tree.now node)
@@ -496,7 +438,6 @@ impl<'a, R: Registry> Walk<'a, R> {
                 node: child,
                 joined: lent(&joined),
                 context: Context { preformatted, trim },
-                is_in_line: inside_line,
                 pre_language,
             };
             self.walk_node(&visit, out, links)?;
@@ -512,13 +453,10 @@ impl<'a, R: Registry> Walk<'a, R> {
     fn walk_descendant(
         &self,
         element: &Element,
-        inside_line: bool,
         below: NodeId,
         links: &mut Links,
     ) -> Result<HandlerResult, AllocError>
         requires ready { R.ready self.now.registry.now }
-        requires line { inside_line ≡ known_in_line_inside (R.config self.now.registry.now).options
-            self.now.tree.now element.now.node }
         requires behind { element.now.node < below }
         requires within { below < length self.now.tree.now }
         ensures { NodeGives (R.config self.now.registry.now) self.now.tree.now below
@@ -527,21 +465,18 @@ impl<'a, R: Registry> Walk<'a, R> {
             (λ r. output_view r links.new) result }
     {
         let Some(text) = element.text else {
-            let is_in_line = self.is_line_below(element.node, inside_line, below);
-            return self.walk_alone(below, is_in_line, links);
+            return self.walk_alone(below, links);
         };
         let mut out = empty_result(self.alloc, self.spare);
         let context = Context {
             preformatted: false,
             trim: true,
         };
-        let is_guarded = is_guarded(self.registry.options());
         append_text(
             self.alloc,
             text,
             false,
             context,
-            is_guarded,
             self.spare,
             &mut out.content,
         )?;
@@ -554,15 +489,12 @@ impl<'a, R: Registry> Walk<'a, R> {
     fn walk_kept(
         &self,
         element: &Element,
-        inside_line: bool,
         below: NodeId,
         may_keep: bool,
         remembered: &mut Vec<Remembered>,
         links: &mut Links,
     ) -> Result<HandlerResult, AllocError>
         requires ready { R.ready self.now.registry.now }
-        requires line { inside_line ≡ known_in_line_inside (R.config self.now.registry.now).options
-            self.now.tree.now element.now.node }
         requires behind { element.now.node < below }
         requires within { below < length self.now.tree.now }
         requires remembered { AreRemembered (R.config self.now.registry.now) self.now.tree.now remembered.old.items }
@@ -574,13 +506,12 @@ impl<'a, R: Registry> Walk<'a, R> {
             (AreRemembered (R.config self.now.registry.now) self.now.tree.now remembered.new.items) }
     {
         if !may_keep || element.text.is_some() {
-            return self.walk_descendant(element, inside_line, below, links);
+            return self.walk_descendant(element, below, links);
         }
         let NodeData::Element { name, attrs } = self.tree.data(below) else {
-            return self.walk_descendant(element, inside_line, below, links);
+            return self.walk_descendant(element, below, links);
         };
-        let is_in_line = self.is_line_below(element.node, inside_line, below);
-        let visit = self.alone(below, is_in_line);
+        let visit = self.alone(below);
         let child = (&*self).element(&visit, name.as_str(), attrs.as_slice(), true);
         let before = links.lines.len();
         let given = self.walk_element(&child, links)?;
@@ -599,17 +530,15 @@ impl<'a, R: Registry> Walk<'a, R> {
     pub(crate) fn walk_alone(
         &self,
         node: NodeId,
-        is_in_line: bool,
         links: &mut Links,
     ) -> Result<HandlerResult, AllocError>
         requires ready { R.ready self.now.registry.now }
         requires within { node < length self.now.tree.now }
-        requires line { is_in_line ≡ known_in_line (R.config self.now.registry.now).options self.now.tree.now node }
         ensures { NodeGives (R.config self.now.registry.now) self.now.tree.now node
             (λ write. content_alone write (conversion_of (R.config self.now.registry.now) self.now.tree.now)
             (tree_of self.now.tree.now node) node links.old) (λ r. output_view r links.new) result }
     {
-        let visit = self.alone(node, is_in_line);
+        let visit = self.alone(node);
         let mut out = empty_result(self.alloc, self.spare);
         self.walk_node(&visit, &mut out, links)?;
         Ok(out)
@@ -624,7 +553,7 @@ impl<'a, R: Registry> Walk<'a, R> {
         links: &mut Links,
     ) -> Result<(), AllocError>
         requires ready { R.ready self.now.registry.now }
-        requires here { IsVisit (R.config self.now.registry.now).options self.now.tree.now visit.now }
+        requires here { IsVisit self.now.tree.now visit.now }
         ensures { let node = visit.now.node in
             let tree = group_tree (option_copied visit.now.joined) (tree_of self.now.tree.now node) in
             let context = visit.now.context in
@@ -637,7 +566,7 @@ impl<'a, R: Registry> Walk<'a, R> {
         match self.tree.data(node) {
             NodeData::Document => {
                 let markdown_translated = out.markdown_translated;
-                self.walk_children(node, context.preformatted, visit.is_in_line, out, links)?;
+                self.walk_children(node, context.preformatted, out, links)?;
                 trim_end_document_white_space(&mut out.content);
                 out.markdown_translated = markdown_translated;
                 Ok(())
@@ -651,41 +580,30 @@ impl<'a, R: Registry> Walk<'a, R> {
             }
             NodeData::Text(text) => {
                 let in_pre = is_parent_pre(self.tree, node);
-                let is_guarded = is_guarded(self.registry.options());
                 let text = text.as_str();
                 append_text(
                     self.alloc,
                     text,
                     in_pre,
                     context,
-                    is_guarded,
                     self.spare,
                     &mut out.content,
                 )
             }
             NodeData::Element { name, attrs } => {
-                let is_guarded = is_guarded(self.registry.options());
                 if let Some(known) = self.recall(node, visit.joined) {
                     return append_copy(
                         self.alloc,
                         out,
                         &known.result,
                         context.preformatted,
-                        is_guarded,
                         self.spare,
                     );
                 }
                 // In a cycle of calls the check asks that both are lent again.
                 let element = (&*self).element(&*visit, name.as_str(), attrs.as_slice(), true);
                 let given = self.walk_element(&element, links)?;
-                append_result(
-                    out,
-                    given,
-                    context.preformatted,
-                    is_guarded,
-                    self.alloc,
-                    self.spare,
-                )
+                append_result(out, given, context.preformatted, self.alloc, self.spare)
             }
         }
     }
@@ -708,8 +626,7 @@ pub fn tree_to_markdown<R: Registry>(
     let spare = SpareTexts::new(alloc);
     let walk = Walk::new(registry, alloc, tree, &spare);
     let mut links = Links::new(alloc);
-    let is_in_line = is_known_in_line(registry.options(), tree, node);
-    let mut markdown = walk.walk_alone(node, is_in_line, &mut links)?.content;
+    let mut markdown = walk.walk_alone(node, &mut links)?.content;
     trim_newlines(&mut markdown);
     let mut appended = registry.append(alloc, &links)?;
     trim_end_line_feeds(&mut appended);
@@ -738,7 +655,7 @@ pub(crate) fn handle_element<R: Registry>(
     };
     let spare = SpareTexts::new(alloc);
     let walk = Walk::new(registry, alloc, tree, &spare);
-    let visit = walk.alone(node, is_known_in_line(registry.options(), tree, node));
+    let visit = walk.alone(node);
     let element = walk.element(&visit, name.as_str(), attrs.as_slice(), markdown_translated);
     walk.handle(&element, skipped, links)
 }

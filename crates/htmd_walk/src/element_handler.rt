@@ -6,7 +6,6 @@ ghost use Rattle.htmd_nodes.specs.Items.{data_at, element_node, parent_at};
 ghost use Rattle.htmd_grammar.specs.Attributes.{pairs_of};
 ghost use Rattle.htmd_walk.specs.Handling.{ElementView, ResultView, PlanView, IsProper};
 ghost use Rattle.htmd_walk.specs.Groups.{only_text, group_children, children_at};
-ghost use Rattle.htmd_walk.specs.OneLineElements.{known_in_line};
 ghost use Rattle.htmd_walk.specs.Code.{language_of_pre};
 
 use self::plans::find_value;
@@ -22,16 +21,14 @@ pub(crate) mod code;
 mod element_handlers;
 mod emphasis;
 pub(crate) mod fn_handler;
-mod guarded_table;
-pub(crate) mod guarded_table_layout;
 mod heading;
 mod image;
 pub(crate) mod layered;
 mod line_break;
-pub(crate) mod link_attributes;
+mod link_attributes;
 mod list;
 mod list_item;
-pub(crate) mod other_block;
+mod other_block;
 mod page;
 pub(crate) mod plans;
 mod preformatted;
@@ -39,11 +36,10 @@ pub(crate) mod registrar;
 mod registrations;
 pub(crate) mod registry;
 pub(crate) mod span;
-pub(crate) mod table;
+mod table;
 mod table_cell;
-pub(crate) mod table_layout;
+mod table_layout;
 mod table_part;
-mod table_spans;
 mod thematic_break;
 
 pub use element_handlers::{ElementHandlers, HandlerRefused};
@@ -65,13 +61,10 @@ pub struct Element<'a> {
     pub(crate) text: Option<&'a str>,
     /// Whether it or an ancestor is `pre` or `code`.
     pub(crate) preformatted: bool,
-    /// In Guarded, whether an ancestor is written in one line.
-    pub(crate) is_in_line: bool,
     /// The language that the parent names, if it is `pre`.
     pub(crate) pre_language: Option<&'a str>,
     ghost within: { node < length tree.now },
     ghost is_element: { data_at tree.now node ≡ element_node tag.now (pairs_of attrs.now) },
-    ghost in_line: { is_in_line ≡ known_in_line options.now tree.now node },
     ghost language: { option_copied pre_language ≡ language_of_pre tree.now (parent_at tree.now node) },
     ghost shows: { option_copied text ≡ only_text (group_children (option_copied text) (children_at tree.now node)) },
 }

@@ -3,11 +3,9 @@
 //! `specs/Markdown.antt`); `tree_to_markdown` gives it. `htmd` is built on it, with a converter that reads HTML too.
 #![tactic(auto)]
 
-mod all_text;
 mod dom_walker;
 pub mod element_handler;
 mod group;
-mod line;
 mod node_util;
 pub mod options;
 mod seam;

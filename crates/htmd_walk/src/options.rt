@@ -15,16 +15,13 @@ pub enum CodeBlockStyle {
     Fenced,
 }
 
-/// What becomes of an element that Markdown has no form for, and how much of a text is escaped.
+/// What becomes of an element that Markdown has no form for.
 #[derive(Debug, Clone, Copy, PartialEq)]
 pub enum TranslationMode {
     /// Only its content is written.
     Pure,
     /// It is written as HTML.
     Faithful,
-    /// Only its content is written, and the page's text is escaped so that a CommonMark reader sees it as text;
-    /// `text_stays_text` of `htmd_laws` says for which pages that is proved.
-    Guarded,
 }
 
 /// What a conversion goes by.

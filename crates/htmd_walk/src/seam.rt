@@ -4,9 +4,7 @@ ghost use Rattle.std.specs.Prelude.{◌≡◌, ◌++◌, ◌&&◌, ◌==◌, OnO
 ghost use Rattle.std.specs.List.{prefix_len, suffix_len};
 ghost use Rattle.htmd_text.specs.Trims.{is_line_feed};
 ghost use Rattle.htmd_walk.specs.Seams.{begins_with_space, ends_with_space, joined_by_white_space, joined_at_seam};
-ghost use Rattle.htmd_walk.specs.Seams.{written_at_seam};
 
-use htmd_markdown::mend_joint;
 use htmd_text::runs::{leading_len, trailing_len};
 use std::alloc::AllocError;
 
@@ -35,8 +33,13 @@ fn rest_at_seam<'a>(out: &[u8], content: &'a str) -> &'a str
     &content[beginning - kept..]
 }
 
-/// Appends content to a text; if that is empty, the content is moved. What is left of it is of use only for its memory.
-fn append_content(out: &mut String, content: &mut String, whole: bool) -> Result<(), AllocError>
+/// Appends content to a text, whole or at a seam; if the text is empty, the content is moved. What is left of the
+/// content is of use only for its memory.
+pub(crate) fn append_normalized_content(
+    out: &mut String,
+    content: &mut String,
+    whole: bool,
+) -> Result<(), AllocError>
     ensures { OnOk result (string_bytes out.new
         ≡ joined_at_seam (string_bytes out.old) (string_bytes content.old) whole) }
 {
@@ -49,22 +52,4 @@ fn append_content(out: &mut String, content: &mut String, whole: bool) -> Result
     }
     let rest = rest_at_seam(out.as_bytes(), content.as_str());
     out.push_str(rest)
-}
-
-/// Appends content to a text, whole or at a seam; in Guarded never whole, and mended where both meet. What is left of
-/// the content is of use only for its memory.
-pub(crate) fn append_normalized_content(
-    out: &mut String,
-    content: &mut String,
-    whole: bool,
-    is_guarded: bool,
-) -> Result<(), AllocError>
-    ensures { OnOk result (string_bytes out.new
-        ≡ written_at_seam is_guarded (string_bytes out.old) (string_bytes content.old) whole) }
-{
-    if is_guarded {
-        mend_joint(out, content)?;
-        return append_content(out, content, false);
-    }
-    append_content(out, content, whole)
 }

@@ -4,15 +4,10 @@ ghost use Rattle.std.specs.Prelude.{◌≡◌, ◌++◌, Bool, false, IsTrue, On
 ghost use Rattle.std.specs.Result.{is_ok};
 ghost use Rattle.htmd_text.specs.EscapeMarks.{escaped_markdown};
 ghost use Rattle.htmd_text.specs.SqueezedTexts.{squeezed_text};
-ghost use Rattle.htmd_grammar.specs.Characters.{asterisk};
-ghost use Rattle.htmd_markdown.specs.CodeSpans.{ends_with};
-ghost use Rattle.htmd_markdown.specs.GuardedText.{guarded_text};
-ghost use Rattle.htmd_markdown.specs.Joints.{with_joint};
 ghost use Rattle.htmd_walk.specs.OrdinaryText as spec;
 ghost use Rattle.htmd_walk.specs.PlainTexts.{is_plain_byte, stays_plain, may_begin, begins_plain};
 
 use crate::spare_texts::SpareTexts;
-use htmd_markdown::{begins_line, mend_joint, push_guarded_text};
 use htmd_text::runs::{leading_len, trailing_len};
 use htmd_text::{escape_if_needed, escape_pre_text_if_needed, is_squeezed, push_squeezed};
 use std::alloc::{AllocError, Global};
@@ -106,15 +101,6 @@ fn push_with_room(out: &mut String, text: &str) -> Result<(), AllocError>
     out.push_str(text)
 }
 
-/// Appends a text to another as Guarded does, with room for more.
-fn push_guarded_with_room(out: &mut String, text: &str, begins_line: bool) -> Result<(), AllocError>
-    ensures { OnOk result
-        (string_bytes out.new ≡ string_bytes out.old ++ guarded_text begins_line text.now) }
-{
-    make_room(out, text)?;
-    push_guarded_text(out, text, begins_line)
-}
-
 /// Appends a text to another with a backslash before each place that would be read as markup, with room for more.
 fn push_escaped(alloc: Global, out: &mut String, text: &str) -> Result<(), AllocError>
     ensures { OnOk result
@@ -166,76 +152,18 @@ fn append_preformatted(
     out.push_str(escaped.as_str())
 }
 
-/// Whether the text ends with `*`.
-fn ends_with_asterisk(text: &str) -> bool
-    ensures { result ≡ ends_with asterisk text.now }
-{
-    text.ends_with('*')
-}
-
-/// Appends a text to another as Guarded does, and mends both where they meet; there is only something to mend after a
-/// `*`.
-fn push_guarded(
-    alloc: Global,
-    out: &mut String,
-    text: &str,
-    begins_line: bool,
-    spare: &SpareTexts,
-) -> Result<(), AllocError>
-    ensures { OnOk result (string_bytes out.new
-        ≡ with_joint (string_bytes out.old) (guarded_text begins_line text.now)) }
-{
-    if !ends_with_asterisk(out) {
-        return push_guarded_with_room(out, text, begins_line);
-    }
-    let mut written = spare.take(alloc);
-    push_guarded_text(&mut written, text, begins_line)?;
-    mend_joint(out, &mut written)?;
-    out.push_str(written.as_str())?;
-    spare.keep(alloc, written);
-    Ok(())
-}
-
-/// Appends the text squeezed, without its first space where a space is not wanted, and escaped as Guarded does.
-fn append_guarded(
-    alloc: Global,
-    out: &mut String,
-    text: &str,
-    trim: bool,
-    spare: &SpareTexts,
-) -> Result<(), AllocError>
-    ensures { OnOk result (string_bytes out.new
-        ≡ with_joint (string_bytes out.old) (spec.guarded_ordinary_text trim (string_bytes out.old) text.now)) }
-{
-    let goes = trim || trailing_len(out.as_bytes(), b' ') > 0;
-    let begins = begins_line(out.as_str());
-    if is_squeezed(text) {
-        return push_guarded(alloc, out, without_first_space(text, goes), begins, spare);
-    }
-    let mut squeezed = spare.take(alloc);
-    push_squeezed(&mut squeezed, text)?;
-    let shown = without_first_space(squeezed.as_str(), goes);
-    push_guarded(alloc, out, shown, begins, spare)?;
-    spare.keep(alloc, squeezed);
-    Ok(())
-}
-
 /// Appends the text of a text node to what is written so far.
 pub(crate) fn append_text(
     alloc: Global,
     text: &str,
     in_pre: bool,
     context: Context,
-    is_guarded: bool,
     spare: &SpareTexts,
     out: &mut String,
 ) -> Result<(), AllocError>
-    ensures { OnOk result (string_bytes out.new ≡ spec.with_written_text is_guarded context.preformatted in_pre
-        context.trim (string_bytes out.old) text.now) }
+    ensures { OnOk result (string_bytes out.new ≡ string_bytes out.old
+        ++ spec.written_text context.preformatted in_pre context.trim (string_bytes out.old) text.now) }
 {
-    if is_guarded {
-        return append_guarded(alloc, out, text, context.trim, spare);
-    }
     if context.preformatted {
         return append_preformatted(alloc, out, text, in_pre);
     }

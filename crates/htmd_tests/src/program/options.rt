@@ -84,7 +84,7 @@ fn options_in(help: &str) -> Result<usize, Fail> {
 
 // Fails unless the help has a line for each option.
 fn expect_help(help: &str) -> Result<(), Fail> {
-    expect_number("options", options_in(help)?, 34)?;
+    expect_number("options", options_in(help)?, 36)?;
     let usage = "Usage: htmd [OPTION..] < page.html > page.md\n";
     expect_that(usage, help.starts_with(usage))?;
     for line in [

@@ -1,20 +1,18 @@
 //! What an element gives, and how it is appended to what is written so far.
 
 ghost use Rattle.std.specs.Prelude.{◌≡◌, ◌<◌, ℕ, List, true, IfOk, IfSome, IsSome, OnOk};
-ghost use Rattle.std.specs.Prelude.{◌++◌, ◌||◌, nat_lt, if◌then◌else◌, length, string_bytes, []};
+ghost use Rattle.std.specs.Prelude.{◌++◌, nat_lt, if◌then◌else◌, length, string_bytes, []};
 ghost use Rattle.std.specs.Option.{option_copied};
 ghost use Rattle.htmd_text.specs.Trims.{trimmed_end, is_space};
 ghost use Rattle.htmd_grammar.specs.Attributes.{pairs_of};
 ghost use Rattle.htmd_nodes.specs.Serialisation.{start_tag, comment_of};
 ghost use Rattle.htmd_walk.specs.Groups.{only_text, group_children, children_at};
 ghost use Rattle.htmd_walk.specs.Elements.{raw_result, end_of_element};
-ghost use Rattle.htmd_walk.specs.Outputs.{is_guarded};
 ghost use Rattle.htmd_walk.specs.Passing.{passed_text};
 ghost use Rattle.htmd_walk.specs.Rendering.{with_result};
 ghost use Rattle.htmd_walk.specs.Spans.{is_span};
 ghost use Rattle.htmd_walk.specs.Views.{optional_text, optional_result, output_view, result_view};
 
-use crate::element_handler::plans::is_guarded;
 use crate::element_handler::{Element, HandlerResult};
 use crate::node_util::only_text;
 use crate::seam::append_normalized_content;
@@ -83,14 +81,14 @@ pub(crate) fn text_shown<'t>(
     }
 }
 
-/// What an element that the walk goes past hands on: its content; that of a `span` without line feeds at its ends,
-/// unless it is preformatted or the mode is Guarded.
+/// What an element that the walk goes past hands on: its content; that of a `span` without line feeds at its ends, unless
+/// it is preformatted.
 pub(crate) fn passed_on(element: &Element, mut content: HandlerResult) -> HandlerResult
-    ensures content { string_bytes result.content ≡ passed_text (is_span element.now.tag.now)
-        (is_guarded element.now.options.now || element.now.preformatted) (string_bytes content.content) }
+    ensures content { string_bytes result.content
+        ≡ passed_text (is_span element.now.tag.now) element.now.preformatted (string_bytes content.content) }
     ensures markdown_translated { result.markdown_translated ≡ content.markdown_translated }
 {
-    if element.tag == "span" && !element.preformatted && !is_guarded(element.options) {
+    if element.tag == "span" && !element.preformatted {
         trim_newlines(&mut content.content);
     }
     content
@@ -146,18 +144,17 @@ pub(crate) fn append_result(
     out: &mut HandlerResult,
     given: Option<HandlerResult>,
     whole: bool,
-    is_guarded: bool,
     alloc: Global,
     spare: &SpareTexts,
 ) -> Result<(), AllocError>
     ensures { OnOk result ((definitions : List (List ℕ)) → output_view out.new definitions
-        ≡ with_result is_guarded (output_view out.old definitions) whole (optional_result given) definitions) }
+        ≡ with_result (output_view out.old definitions) whole (optional_result given) definitions) }
 {
     match given {
         None => Ok(()),
         Some(given) => {
             let mut content = given.content;
-            append_normalized_content(&mut out.content, &mut content, whole, is_guarded)?;
+            append_normalized_content(&mut out.content, &mut content, whole)?;
             out.markdown_translated = out.markdown_translated && given.markdown_translated;
             spare.keep(alloc, content);
             Ok(())
@@ -171,14 +168,13 @@ pub(crate) fn append_copy(
     out: &mut HandlerResult,
     given: &Option<HandlerResult>,
     whole: bool,
-    is_guarded: bool,
     spare: &SpareTexts,
 ) -> Result<(), AllocError>
     ensures { OnOk result ((definitions : List (List ℕ)) → output_view out.new definitions
-        ≡ with_result is_guarded (output_view out.old definitions) whole (optional_result given.now) definitions) }
+        ≡ with_result (output_view out.old definitions) whole (optional_result given.now) definitions) }
 {
     let given = copied(alloc, given)?;
-    append_result(out, given, whole, is_guarded, alloc, spare)
+    append_result(out, given, whole, alloc, spare)
 }
 
 /// Appends a comment to a text.

@@ -10,8 +10,6 @@ pub(crate) struct Visit<'v> {
     /// The joined text of the group that begins at the node.
     pub(crate) joined: Option<&'v str>,
     pub(crate) context: Context,
-    /// In Guarded, whether an ancestor is written in one line.
-    pub(crate) is_in_line: bool,
     /// The language that the parent names, if it is `pre`.
     pub(crate) pre_language: Option<&'v str>,
 }

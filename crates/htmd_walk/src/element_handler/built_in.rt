@@ -12,8 +12,8 @@ use super::other_block::TAGS;
 use super::registry::{Outcome, Request};
 use super::{
     Element, HandlerResult, Links, Plan, anchor, block_quote, code, emphasis, heading, image,
-    line_break, list, list_item, other_block, page, plans, preformatted, span, table, table_cell,
-    table_part, thematic_break,
+    line_break, list, list_item, page, plans, preformatted, span, table, table_cell, table_part,
+    thematic_break,
 };
 use htmd_markdown::Emphasis;
 use std::alloc::{AllocError, Global};
@@ -83,7 +83,7 @@ impl BuiltIn {
             BuiltIn::ListElement => list::plan(alloc, element),
             BuiltIn::ListItem => Ok(Request::OfPlan(plans::plain_plan(element))),
             BuiltIn::BlockQuote => Ok(Request::OfPlan(plans::plain_plan(element))),
-            BuiltIn::Code => Ok(Request::OfPlan(code::plan(alloc, element)?)),
+            BuiltIn::Code => Ok(Request::OfPlan(code::plan(element))),
             BuiltIn::Strong => Ok(Request::OfPlan(plans::plain_plan(element))),
             BuiltIn::Emphasis => Ok(Request::OfPlan(plans::plain_plan(element))),
             BuiltIn::Heading => Ok(Request::OfPlan(plans::plain_plan(element))),
@@ -94,11 +94,11 @@ impl BuiltIn {
             BuiltIn::TableRow => Ok(Request::OfPlan(table_part::plan_of_row(element))),
             BuiltIn::TablePart => Ok(Request::OfPlan(table_part::plan_of_part(element))),
             BuiltIn::Paragraph => Ok(Request::OfPlan(plans::plain_plan(element))),
-            BuiltIn::Preformatted => Ok(Request::OfPlan(preformatted::plan(alloc, element)?)),
+            BuiltIn::Preformatted => Ok(Request::OfPlan(preformatted::plan(element))),
             BuiltIn::PagePart => Ok(Request::OfPlan(page::plan_of_part(element))),
             BuiltIn::Page => Ok(Request::OfPlan(page::plan(element))),
             BuiltIn::Span => Ok(Request::OfPlan(span::plan(alloc, element)?)),
-            BuiltIn::OtherBlock => Ok(Request::OfPlan(other_block::plan(element))),
+            BuiltIn::OtherBlock => Ok(Request::OfPlan(plans::unless_faithful(element))),
         }
     }
 
@@ -118,10 +118,10 @@ impl BuiltIn {
             BuiltIn::Anchor => anchor::finish(alloc, element, content, links),
             BuiltIn::ListElement => list::finish(alloc, element, content),
             BuiltIn::ListItem => list_item::finish(alloc, element, content),
-            BuiltIn::BlockQuote => block_quote::finish(alloc, element, content),
+            BuiltIn::BlockQuote => block_quote::finish(alloc, content),
             BuiltIn::Code => code::finish(alloc, element, content),
-            BuiltIn::Strong => emphasis::finish(Emphasis::Strong, element, content),
-            BuiltIn::Emphasis => emphasis::finish(Emphasis::Regular, element, content),
+            BuiltIn::Strong => emphasis::finish(Emphasis::Strong, content),
+            BuiltIn::Emphasis => emphasis::finish(Emphasis::Regular, content),
             BuiltIn::Heading => heading::finish(alloc, element, content),
             BuiltIn::LineBreak => Ok(None),
             BuiltIn::ThematicBreak => Ok(None),

@@ -7,12 +7,11 @@ ghost use Rattle.htmd_grammar.specs.Attributes.{pairs_of};
 ghost use Rattle.htmd_walk.specs.Code as spec;
 ghost use Rattle.htmd_walk.specs.Views.{plan_view, element_view, result_view, optional_result};
 
-use super::plans::{has_attributes_beyond, is_guarded, is_markdown_alone, parent_tag};
+use super::plans::{has_attributes_beyond, is_markdown_alone, parent_tag};
 use super::{Element, HandlerResult, Plan};
-use crate::all_text::all_text;
 use crate::node_util::is_text;
 use crate::options::CodeBlockStyle;
-use htmd_markdown::{write_fence, write_guarded_code, write_indented_code, write_span};
+use htmd_markdown::{write_fence, write_indented_code, write_span};
 use htmd_nodes::{Attribute, NodeData, NodeId, Tree};
 use std::alloc::{AllocError, Global};
 
@@ -24,7 +23,7 @@ fn language_of_class(class: &str) -> Option<&str>
 }
 
 /// The language that the first class attribute names.
-pub(super) fn language_of(attrs: &[Attribute]) -> Option<&str>
+fn language_of(attrs: &[Attribute]) -> Option<&str>
     ensures { option_copied result ≡ spec.language_of (pairs_of attrs.now) }
 {
     for attribute in attrs {
@@ -127,28 +126,9 @@ fn shows_language(element: &Element) -> bool
         && language(element).is_some()
 }
 
-/// In Guarded a code span of all text.
-fn guarded_plan(alloc: Global, element: &Element) -> Result<Plan, AllocError>
-    ensures { IfOk result (λ p. plan_view p ≡ spec.guarded_code_plan (element_view element.now)) }
-{
-    let text = all_text(alloc, element)?;
-    let code = write_guarded_code(alloc, text.as_str())?;
-    Ok(Plan::Text(HandlerResult::from_string(code)))
-}
-
-/// The children's content, unless the element holds or says more than code; in Guarded all its text.
-pub(crate) fn plan(alloc: Global, element: &Element) -> Result<Plan, AllocError>
-    ensures { IfOk result (λ p. plan_view p ≡ spec.code.plan (element_view element.now)) }
-{
-    if is_guarded(element.options) {
-        return guarded_plan(alloc, element);
-    }
-    Ok(content_plan(element))
-}
-
 /// The children's content, unless the element holds or says more than code.
-fn content_plan(element: &Element) -> Plan
-    ensures { plan_view result ≡ spec.content_plan (element_view element.now) }
+pub(crate) fn plan(element: &Element) -> Plan
+    ensures { plan_view result ≡ spec.code.plan (element_view element.now) }
 {
     if is_markdown_alone(element.options) {
         return Plan::Children;

@@ -4,9 +4,8 @@ ghost use Rattle.std.specs.Prelude.{◌≡◌, IfOk};
 ghost use Rattle.htmd_walk.specs.Headings.{level_of, heading_result};
 ghost use Rattle.htmd_walk.specs.Views.{element_view, result_view, optional_result};
 
-use super::plans::{is_guarded, wrap};
 use super::{Element, HandlerResult};
-use htmd_markdown::{write_guarded_heading, write_heading};
+use htmd_markdown::write_heading;
 use std::alloc::{AllocError, Global};
 
 /// The level that a tag names.
@@ -23,7 +22,7 @@ fn level_of(tag: &str) -> u8
     }
 }
 
-/// The content as a heading of the level that the tag names; in Guarded, if it stands in one line, the content alone.
+/// The content as a heading of the level that the tag names.
 pub(crate) fn finish(
     alloc: Global,
     element: &Element,
@@ -32,16 +31,9 @@ pub(crate) fn finish(
     ensures { IfOk result
         (λ r. optional_result r ≡ heading_result (element_view element.now) (result_view content)) }
 {
-    if element.is_in_line {
-        return wrap(alloc, element, content);
-    }
     let style = element.options.heading_style;
     let level = level_of(element.tag);
     let content = content.content.as_str();
-    let text = if is_guarded(element.options) {
-        write_guarded_heading(alloc, style, level, content)?
-    } else {
-        write_heading(alloc, style, level, content)?
-    };
+    let text = write_heading(alloc, style, level, content)?;
     Ok(Some(HandlerResult::from_string(text)))
 }

@@ -5,9 +5,8 @@ ghost use Rattle.htmd_walk.specs.Images.{images};
 ghost use Rattle.htmd_walk.specs.Views.{plan_view, element_view};
 
 use super::link_attributes::{is_raw_unless_among, last_value};
-use super::plans::is_guarded;
 use super::{Element, HandlerResult, Plan};
-use htmd_markdown::{write_guarded_image, write_image};
+use htmd_markdown::write_image;
 use std::alloc::{AllocError, Global};
 
 /// An image, or nothing if there is no address, unless the element has attributes that Markdown has no form for.
@@ -22,10 +21,6 @@ pub(crate) fn plan(alloc: Global, element: &Element) -> Result<Plan, AllocError>
     };
     let alt = last_value(element.attrs, &["alt"]);
     let title = last_value(element.attrs, &["title"]);
-    let image = if is_guarded(element.options) {
-        write_guarded_image(alloc, address, alt, title)?
-    } else {
-        write_image(alloc, address, alt, title)?
-    };
+    let image = write_image(alloc, address, alt, title)?;
     Ok(Plan::Text(HandlerResult::from_string(image)))
 }

@@ -4,9 +4,9 @@ ghost use Rattle.std.specs.Prelude.{◌≡◌, IfOk};
 ghost use Rattle.htmd_walk.specs.LineBreaks.{line_breaks};
 ghost use Rattle.htmd_walk.specs.Views.{plan_view, element_view};
 
-use super::plans::{is_guarded, is_plain};
+use super::plans::is_plain;
 use super::{Element, HandlerResult, Plan};
-use htmd_markdown::{BrStyle, write_line_break};
+use htmd_markdown::write_line_break;
 use std::alloc::{AllocError, Global};
 
 /// A hard line break, unless the element has attributes that Markdown has no form for.
@@ -16,11 +16,6 @@ pub(crate) fn plan(alloc: Global, element: &Element) -> Result<Plan, AllocError>
     if !is_plain(element) {
         return Ok(Plan::RawHtml);
     }
-    let style = if is_guarded(element.options) {
-        BrStyle::TwoSpaces
-    } else {
-        element.options.br_style
-    };
-    let text = write_line_break(alloc, style)?;
+    let text = write_line_break(alloc, element.options.br_style)?;
     Ok(Plan::Text(HandlerResult::from_string(text)))
 }

@@ -10,15 +10,10 @@ ghost use Rattle.htmd_walk.specs.Lists as spec;
 ghost use Rattle.htmd_walk.specs.Views.{element_view, result_view, results_view, optional_result};
 ghost use Rattle.htmd_walk.specs.Walking.{request_view};
 
-use super::plans::{
-    are_markdown, find_value, is_guarded, is_markdown_alone, parent_tag, raw_block_result,
-};
+use super::plans::{are_markdown, find_value, is_markdown_alone, parent_tag, raw_block_result};
 use super::registry::Request;
 use super::{Element, HandlerResult, Plan};
-use htmd_markdown::{
-    ListBlock, first_number, write_guarded_ordered_list, write_list_block, write_ordered_list,
-    write_unnumbered_list,
-};
+use htmd_markdown::{ListBlock, first_number, write_list_block, write_ordered_list};
 use htmd_nodes::{Attribute, NodeId, Tree};
 use std::alloc::{AllocError, Global};
 
@@ -144,7 +139,7 @@ fn number_of_first(element: &Element) -> u32
     first_number(find_value(element.attrs, "start"))
 }
 
-/// The items after their numbers (in Guarded without numbers in one line), and the other children's contents.
+/// The items after their numbers, and the other children's contents.
 fn write_numbered(
     alloc: Global,
     element: &Element,
@@ -153,14 +148,8 @@ fn write_numbered(
     ensures { IfOk result (λ text. string_bytes text
         ≡ spec.ordered_text (element_view element.now) (map block_of blocks.items)) }
 {
-    if element.is_in_line {
-        return write_unnumbered_list(alloc, blocks);
-    }
     let spacing = element.options.ol_number_spacing;
     let first = number_of_first(element);
-    if is_guarded(element.options) {
-        return write_guarded_ordered_list(alloc, first, spacing, blocks);
-    }
     write_ordered_list(alloc, first, spacing, blocks)
 }
 

@@ -4,7 +4,7 @@ ghost use Rattle.std.specs.Prelude.{◌≡◌, ◌&&◌, ◌||◌, not, IfOk, le
 ghost use Rattle.std.specs.Option.{option_copied};
 ghost use Rattle.htmd_grammar.specs.Attributes.{pairs_of};
 ghost use Rattle.htmd_walk.specs.ElementPlans as spec;
-ghost use Rattle.htmd_walk.specs.Outputs.{is_markdown_alone, is_guarded};
+ghost use Rattle.htmd_walk.specs.Outputs.{is_markdown_alone};
 ghost use Rattle.htmd_walk.specs.ElementPlans.{wrapped_result};
 ghost use Rattle.htmd_walk.specs.Views.{plan_view, element_view, result_view, results_view, optional_result};
 
@@ -21,15 +21,7 @@ pub(crate) fn is_markdown_alone(options: &Options) -> bool
     match options.translation_mode {
         TranslationMode::Pure => true,
         TranslationMode::Faithful => false,
-        TranslationMode::Guarded => true,
     }
-}
-
-/// Whether a reader is to see the page's text.
-pub(crate) fn is_guarded(options: &Options) -> bool
-    ensures { result ≡ is_guarded options.now }
-{
-    matches!(options.translation_mode, TranslationMode::Guarded)
 }
 
 /// Whether raw HTML is due: in Faithful, if the element has more attributes than these, which say more than its

@@ -3,10 +3,10 @@
 ghost use Rattle.std.specs.Prelude.{◌≡◌, IfOk};
 ghost use Rattle.std.specs.Option.{option_copied};
 ghost use Rattle.htmd_grammar.specs.Attributes.{pairs_of};
-ghost use Rattle.htmd_walk.specs.Spans.{spans, formula_mark, is_read_in_formula, mark_of_class, span_result};
+ghost use Rattle.htmd_walk.specs.Spans.{spans, formula_mark, mark_of_class, span_result};
 ghost use Rattle.htmd_walk.specs.Views.{plan_view, element_view, result_view, optional_result};
 
-use super::plans::{is_guarded, unless_faithful};
+use super::plans::unless_faithful;
 use super::{Element, HandlerResult, Plan};
 use crate::node_util::is_in_pre_or_code;
 use htmd_nodes::Attribute;
@@ -34,15 +34,6 @@ pub(crate) fn formula_mark(attrs: &[Attribute]) -> Option<&'static str>
     mark_of_class(attrs[0].value.as_str())
 }
 
-/// Whether a reader takes something in the text for markup even between dollar signs.
-fn is_read_in_formula(text: &str) -> bool
-    ensures { result ≡ is_read_in_formula text.now }
-{
-    text.as_bytes()
-        .iter()
-        .any(|b| matches!(*b, b'<' | b'&' | b'`' | b'[' | b']' | b'\n'))
-}
-
 /// A formula between its marks, else the children's content, unless the mode is Faithful.
 pub(crate) fn plan(alloc: Global, element: &Element) -> Result<Plan, AllocError>
     ensures { IfOk result (λ p. plan_view p ≡ spans.plan (element_view element.now)) }
@@ -53,9 +44,6 @@ pub(crate) fn plan(alloc: Global, element: &Element) -> Result<Plan, AllocError>
     let Some(mark) = formula_mark(element.attrs) else {
         return Ok(unless_faithful(element));
     };
-    if is_guarded(element.options) && is_read_in_formula(text) {
-        return Ok(Plan::Children);
-    }
     let mut formula = String::with_capacity(alloc, text.len().saturating_add(2 * mark.len()))?;
     formula.push_str(mark)?;
     formula.push_str(text)?;
@@ -63,7 +51,7 @@ pub(crate) fn plan(alloc: Global, element: &Element) -> Result<Plan, AllocError>
     Ok(Plan::Text(HandlerResult::from_string(formula)))
 }
 
-/// The content, without line feeds at its ends unless it is preformatted or the mode is Guarded.
+/// The content, without line feeds at its ends unless it is preformatted.
 pub(crate) fn finish(
     _alloc: Global,
     element: &Element,
@@ -72,7 +60,7 @@ pub(crate) fn finish(
     ensures { IfOk result
         (λ r. optional_result r ≡ span_result (element_view element.now) (result_view content)) }
 {
-    if !is_guarded(element.options) && !is_in_pre_or_code(element.tree, element.node) {
+    if !is_in_pre_or_code(element.tree, element.node) {
         trim_newlines(&mut content.content);
     }
     Ok(Some(content))

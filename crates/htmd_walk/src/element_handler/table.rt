@@ -5,8 +5,7 @@ ghost use Rattle.std.specs.List.{list_any, flat_map};
 ghost use Rattle.htmd_nodes.specs.NumberedTrees.{tree_of};
 ghost use Rattle.htmd_nodes.specs.Ancestors.{ancestors_of};
 ghost use Rattle.htmd_walk.specs.Groups.{children_at};
-ghost use Rattle.htmd_walk.specs.Handling.{IsProper, contents_of_each};
-ghost use Rattle.htmd_walk.specs.GuardedTableLayouts.{nodes_of_lines, table_lines};
+ghost use Rattle.htmd_walk.specs.Handling.{IsProper};
 ghost use Rattle.htmd_walk.specs.TableLayouts as layouts;
 ghost use Rattle.htmd_walk.specs.Tables as spec;
 ghost use Rattle.htmd_walk.specs.TableElements as handler;
@@ -14,9 +13,7 @@ ghost use Rattle.htmd_walk.specs.TableViews.{parts_view, texts_view};
 ghost use Rattle.htmd_walk.specs.Views.{element_view, result_view, results_view, optional_result};
 ghost use Rattle.htmd_walk.specs.Walking.{request_view, outcome_view};
 
-use super::guarded_table::write_table_lines;
-use super::guarded_table_layout::{is_written_as_table, nodes_of_lines, table_lines};
-use super::plans::{are_markdown, is_guarded, is_markdown_alone, is_plain, raw_block_result};
+use super::plans::{are_markdown, is_markdown_alone, is_plain, raw_block_result};
 use super::registry::{Outcome, Request};
 use super::table_layout::{Part, PartKind, has_tag, layout_of, nodes_of};
 use super::{Element, HandlerResult, Plan};
@@ -78,7 +75,7 @@ fn has_explicit_headers(tree: &Tree, table: NodeId) -> bool
 }
 
 /// Whether a node is `td` or `th`.
-pub(crate) fn is_cell(tree: &Tree, node: NodeId) -> bool
+fn is_cell(tree: &Tree, node: NodeId) -> bool
     requires { node < length tree.now }
     ensures { result ≡ layouts.has_tag spec.cell_tags tree.now node }
 {
@@ -101,7 +98,7 @@ fn is_in_cell(tree: &Tree, node: NodeId) -> bool
 }
 
 /// Whether a table has explicit headers and is in no cell of another table.
-pub(crate) fn has_table_form(tree: &Tree, table: NodeId) -> bool
+fn has_table_form(tree: &Tree, table: NodeId) -> bool
     requires { table < length tree.now }
     ensures { result ≡ spec.has_table_form tree.now table }
 {
@@ -112,23 +109,7 @@ pub(crate) fn has_table_form(tree: &Tree, table: NodeId) -> bool
 fn is_left_out(element: &Element) -> bool
     ensures { result ≡ handler.is_left_out (element_view element.now) }
 {
-    if is_guarded(element.options) {
-        return !is_written_as_table(element.tree, element.node);
-    }
     is_markdown_alone(element.options) && !has_table_form(element.tree, element.node)
-}
-
-/// The captions and cells of a table that is written as one in Guarded, each by itself.
-fn plan_guarded(alloc: Global, element: &Element) -> Result<Request, AllocError>
-    ensures plan { IfOk result (λ p. request_view p ≡ contents_of_each
-        (nodes_of_lines (table_lines element.now.tree.now element.now.node))) }
-    ensures proper { IfOk result (λ p. IsProper element.now.tree.now element.now.node (request_view p)) }
-{
-    let lines = table_lines(alloc, element.tree, element.node)?;
-    Ok(Request::Each {
-        nodes: nodes_of_lines(alloc, &lines)?,
-        may_ask_children: false,
-    })
 }
 
 /// The captions and cells of a table, each by itself.
@@ -142,9 +123,6 @@ pub(crate) fn plan(alloc: Global, element: &Element) -> Result<Request, AllocErr
     if is_left_out(element) {
         return Ok(Request::OfPlan(Plan::Fallback));
     }
-    if is_guarded(element.options) {
-        return plan_guarded(alloc, element);
-    }
     let layout = layout_of(alloc, element.tree, element.node)?;
     Ok(Request::Each {
         nodes: nodes_of(alloc, &layout.parts)?,
@@ -153,7 +131,7 @@ pub(crate) fn plan(alloc: Global, element: &Element) -> Result<Request, AllocErr
 }
 
 /// The content without document white space at its ends.
-pub(crate) fn cell_text(alloc: Global, content: &HandlerResult) -> Result<String, AllocError>
+fn cell_text(alloc: Global, content: &HandlerResult) -> Result<String, AllocError>
     ensures { IfOk result (λ text. string_bytes text ≡ spec.text_of_cell (result_view content.now)) }
 {
     String::from_str(alloc, content.content.trim_document_whitespace())
@@ -283,10 +261,6 @@ pub(crate) fn finish_each(
     ensures { IfOk result (λ outcome. outcome_view outcome
         ≡ handler.table_outcome (element_view element.now) (results_view contents.now)) }
 {
-    if is_guarded(element.options) {
-        let text = write_table_lines(alloc, element.tree, element.node, contents)?;
-        return Ok(Outcome::Final(Some(HandlerResult::from_string(text))));
-    }
     let layout = layout_of(alloc, element.tree, element.node)?;
     let texts = texts_of_parts(alloc, &layout.parts, contents)?;
     if !is_markdown_alone(element.options) && !texts.markdown_translated {

@@ -58,7 +58,7 @@ fn child_of_tag(tag: &str) -> TableChild
 }
 
 /// What a node is to its table.
-pub(crate) fn table_child(tree: &Tree, node: NodeId) -> TableChild
+fn table_child(tree: &Tree, node: NodeId) -> TableChild
     requires { node < length tree.now }
     ensures { result ≡ spec.table_child (tag_of (data_at tree.now node)) }
 {
@@ -77,7 +77,7 @@ pub(crate) fn has_tag(tree: &Tree, node: NodeId, tag: &str) -> bool
 }
 
 /// The children that have this tag.
-pub(crate) fn tagged_children(
+fn tagged_children(
     alloc: Global,
     tree: &Tree,
     node: NodeId,

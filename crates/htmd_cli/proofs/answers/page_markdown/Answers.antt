@@ -1,4 +1,4 @@
--- The text that the page holds, and its Markdown, or why it is refused.
+-- The text that the page holds, and what it becomes.
 use Rattle.std.proofs.Common.{string_bytes}
 use Rattle.std.specs.Cow.{cow_str_bytes}
 use Rattle.htmd_cli.specs.Settings.{settings_in}
@@ -6,9 +6,9 @@ use Rattle.htmd_cli.proofs.ConversionLemmas.{of_readable}
 use Rattle.htmd_cli.proofs.RowsLemmas.{page_answer}
 use Rattle.htmd_cli.proofs.answers.page_markdown.Goals as goal
 
-pub returns-in-Ok-markdown_by-clause-ok : goal.returns-in-Ok-markdown_by-clause-ok
-returns-in-Ok-markdown_by-clause-ok g c =
-    let markdown = string_bytes c.in-Ok-markdown_by.markdown in
+pub returns-in-Ok-output_by-clause-ok : goal.returns-in-Ok-output_by-clause-ok
+returns-in-Ok-output_by-clause-ok g c =
+    let markdown = string_bytes c.in-Ok-output_by.markdown in
     page_answer (settings_in c.args.settings.now) c.args.page.now markdown
     (of_readable (settings_in c.args.settings.now) c.args.page.now (cow_str_bytes c.in-Ok.text) c.deref.result.now
-    markdown c.in-Ok.ensures.ok c.deref.ensures.value c.in-Ok-markdown_by.ensures.ok)
+    markdown c.in-Ok.ensures.ok c.deref.ensures.value c.in-Ok-output_by.ensures.ok)

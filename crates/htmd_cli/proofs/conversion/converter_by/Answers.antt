@@ -1,10 +1,10 @@
--- The handlers, and those that skip.
-use Rattle.std.proofs.Common.{◌∙◌, ap, sym, rules}
+-- The handlers, and those that skip; and the tags that are skipped.
+use Rattle.std.proofs.Common.{◌∙◌, ◌++◌, ap, sym, rules}
 use Rattle.htmd.specs.BuiltIn.{built_in}
 use Rattle.htmd.specs.Defaults.{default_options}
 use Rattle.htmd.specs.Choice.{no_handler, with_handler, with_options}
 use Rattle.htmd_cli.specs.Conversion.{skipping}
-use Rattle.htmd_cli.proofs.ConversionLemmas.{texts, then_same, skips_nothing, skips_some}
+use Rattle.htmd_cli.proofs.ConversionLemmas.{texts, then_same, skips_nothing, skips_some, no_names}
 use Rattle.htmd_cli.proofs.conversion.converter_by.Goals.{then-not-is_empty+in-Ok, else-not-is_empty}
 use Rattle.htmd_cli.proofs.conversion.converter_by.Goals as goal
 
@@ -26,4 +26,12 @@ returns g c =
           ∙ ap (λ l. skipping (texts l) (with_options (built_in default_options) options))
           c.as_slice-skipped.ensures.value)),
       search rules,
+      c.build-converter.ensures.skipped ∙ (elim c.if-not-is_empty.branch [
+        | then-not-is_empty+in-Ok w ↦ rw w.builder-is (w.in-Ok.ensures.skipped
+            ∙ ap (λ l. l ++ texts names) (c.scripting_enabled-builder.ensures.skipped
+            ∙ (c.options.ensures.skipped ∙ c.requires.none_skipped)))
+        | else-not-is_empty w ↦ rw w.builder-is (c.scripting_enabled-builder.ensures.skipped
+            ∙ (c.options.ensures.skipped ∙ (c.requires.none_skipped
+            ∙ no_names names (sym c.is_empty.ensures ∙ w.if-not-is_empty.false))))
+      ] ∙ ap texts c.as_slice-skipped.ensures.value),
     )

@@ -12,7 +12,8 @@ pub blocks_values-loop-block-preserved : goal.blocks_values-loop-block-preserved
 blocks_values-loop-block-preserved t c = record {
   count = omega (arith, c.in_ok-push.ensures.len, c.loop-block.invariant.count);
   value = blocks-step c.args.in_item _ c.args.blocks.now c.loop-block.block-index c.block-item.result
-      (items_view c.loop-block.values.items) (items_view c.push.new.self.items) (items_view c.in_ok-children.children.items)
+      (items_view c.loop-block.values.items) (items_view c.push.new.self.items)
+      (items_view c.in_ok-children.children.items)
       (view c.in_ok-block_value.field-0) c.loop-block-test.true c.block-item.is c.in_ok-children.ensures
       (ap (λ e. c.args.in_item && e) (c.is_empty.ensures ∙ ap (λ n. n == 0) c.loop-block.invariant.count))
       c.in_ok-block_value.ensures c.loop-block.invariant.value
@@ -27,7 +28,8 @@ values_within-loop-blocks-preserved t c = items-step c.in-List.tight c.deref-blo
     (c.checked.ensures ∙ ap (λ bs. checked_data (blocks_of bs)) c.deref-in-loop-blocks-2.ensures.value)
     (c.in_ok-children-in-List.ensures ∙ ap (λ bs. blocks_data true (blocks_of bs)) c.deref-in-loop-blocks.ensures.value)
     c.in_ok-item-in-List.ensures c.loop-blocks.invariant
-    (ap items_view c.in_ok-push-in-List.ensures.items ∙ view-push c.loop-blocks.values.items c.in_ok-item-in-List.field-0)
+    (ap items_view c.in_ok-push-in-List.ensures.items ∙ view-push c.loop-blocks.values.items
+    c.in_ok-item-in-List.field-0)
 
 pub values_within-returns-after-loop-blocks : goal.values_within-returns-after-loop-blocks
 values_within-returns-after-loop-blocks t c = c.loop-blocks.invariant

@@ -4,7 +4,7 @@ use Rattle.std.proofs.lemmas.Result.{IfOk-equal}
 use Rattle.serde_json.specs.View.{items_view}
 use Rattle.htmd_document.specs.DocumentViews.{inline_of}
 use Rattle.htmd_document.specs.Mdast.{beside, one_item, node_data, with_value}
-use Rattle.htmd_document.proofs.DocumentsLemmas.{inline-code}
+use Rattle.htmd_document.proofs.NestLemmas.{inline-code}
 use Rattle.htmd_document.proofs.MdastLemmas.{inline-emphasis, inline-strong, inline-deleted, inline-superscript}
 use Rattle.htmd_document.proofs.MdastLemmas.{inline-subscript}
 use Rattle.htmd_document.proofs.mdast.push_node.Goals as goal

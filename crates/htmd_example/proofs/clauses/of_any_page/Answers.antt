@@ -1,9 +1,8 @@
--- The law, at the page's tree.
-use Rattle.std.proofs.Common.{◌≡◌, ℕ, Bool, true, List, subst, refl, string_bytes}
+-- The converter has the built-in handlers and reads with scripting.
+use Rattle.std.proofs.Common.{◌≡◌, ℕ, Bool, List, subst, string_bytes}
 use Rattle.std.proofs.lemmas.Result.{IfOk-weaker}
 use Rattle.htmd.specs.Choice.{Config}
 use Rattle.htmd.specs.Conversions.{IsHtml5Markdown}
-use Rattle.htmd.specs.Defaults.{default_options}
 use Rattle.htmd_example.proofs.clauses.of_any_page.Goals as goal
 
 by_same : (config other : Config) (scripting other_scripting : Bool) (html text : List ℕ) → config ≡ other
@@ -17,6 +16,5 @@ returns c =
     let html = c.args.html.now in
     let made = c.in_ok-converter.ensures in
     IfOk-weaker c.convert_html5.result _ _
-    (λ text h. c.every_letter_once.ensures.any_page default_options true html (string_bytes text) refl refl
-    (by_same _ _ _ _ html (string_bytes text) made.handlers made.scripting h))
+    (λ text h. (by_same _ _ _ _ html (string_bytes text) made.handlers made.scripting h).is_markdown)
     c.convert_html5.ensures.ok

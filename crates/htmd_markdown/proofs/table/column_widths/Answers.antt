@@ -13,11 +13,10 @@ loop-row-preserved c =
     let rows = c.args.rows.now in
     let i = c.loop-row.row-index in
     let row = c.row-item.result in
-    let bars = c.args.bars in
-    let first = held_widths bars (texts c.args.headers.now) in
-    let held : Vec (String Global) Global → List ℕ = λ r. held_widths bars (row_texts r) in
+    let first = held_widths (texts c.args.headers.now) in
+    let held : Vec (String Global) Global → List ℕ = λ r. held_widths (row_texts r) in
     c.in_ok-widen-2.ensures
-    ∙ ap (λ cells. wider c.loop-row.widths.items (held_widths bars (texts cells))) c.deref.ensures.value
+    ∙ ap (λ cells. wider c.loop-row.widths.items (held_widths (texts cells))) c.deref.ensures.value
     ∙ ap (λ r. wider c.loop-row.widths.items (held r)) c.row-item.is
     ∙ ap (λ w. wider w (held (get_or rows i row))) c.loop-row.invariant
     ∙ sym (ap (fold wider first) (map_more held rows i row c.loop-row-test.true)

@@ -85,11 +85,6 @@ pub walk_node-returns-in_ok-walk_children-in-Document :
 walk_node-returns-in_ok-walk_children-in-Document =
     nodes.walk_node-returns-in_ok-walk_children-in-Document
 
-pub walk_node-walk_children-requires :
-    goal.walk_node-walk_children-requires
-walk_node-walk_children-requires =
-    nodes.walk_node-walk_children-requires
-
 pub walk_node-returns-in-Doctype : goal.walk_node-returns-in-Doctype
 walk_node-returns-in-Doctype = nodes.walk_node-returns-in-Doctype
 

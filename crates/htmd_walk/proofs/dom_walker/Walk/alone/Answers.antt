@@ -3,9 +3,8 @@ use Rattle.htmd_walk.proofs.dom_walker.Walk.alone.Goals as goal
 
 pub returns-clause-here : goal.returns-clause-here
 returns-clause-here g c = record {
-  within = c.requires.within;
+  within = c.requires;
   group = tt;
-  line = c.requires.line;
   language = c.language_above.ensures;
   context = c.is_preformatted_alone.ensures.other;
 }

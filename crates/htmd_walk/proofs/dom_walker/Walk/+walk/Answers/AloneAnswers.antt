@@ -1,5 +1,5 @@
 -- Nodes that are handed over by themselves.
-use Rattle.std.proofs.Common.{rules, ◌≡◌, ◌<◌, ◌≤◌, ◌+◌, ◌∙◌, ℕ, List, [], ◌∷◌, Bool}
+use Rattle.std.proofs.Common.{rules, ◌≡◌, ◌<◌, ◌≤◌, ◌+◌, ◌++◌, ◌∙◌, ℕ, List, [], ◌∷◌, Bool}
 use Rattle.std.proofs.Common.{true, false}
 use Rattle.std.proofs.Common.{refl, sym, ap, subst, arith, length, drop, suc, Option, Some, None}
 use Rattle.std.proofs.Common.{string_bytes}
@@ -14,8 +14,8 @@ use Rattle.htmd_nodes.specs.NumberedTrees.{tree_of, height}
 use Rattle.htmd_nodes.specs.Ancestors.{ancestor_of, ancestors_of}
 use Rattle.htmd_nodes.proofs.NumberedTreesLemmas.{height_pos}
 use Rattle.htmd_walk.specs.Handling.{ResultView}
-use Rattle.htmd_walk.specs.OrdinaryText.{in_pre_or_code, with_written_text}
-use Rattle.htmd_walk.specs.Outputs.{Output, conversion_of, context_of, empty_output, is_guarded}
+use Rattle.htmd_walk.specs.OrdinaryText.{in_pre_or_code, written_text}
+use Rattle.htmd_walk.specs.Outputs.{Output, conversion_of, context_of, empty_output}
 use Rattle.htmd_walk.specs.Children.{content_alone, descendant_tree}
 use Rattle.htmd_walk.specs.Groups.{group_tree, group_children, children_at}
 use Rattle.htmd_walk.specs.Elements.{Occurrence, Answer, answer_after, occurrence_at, Contents, contents_alone}
@@ -67,15 +67,11 @@ walk_descendant-returns g t c =
     ≡ empty_output c.args.links.now =
     ap (λ s. put s c.empty_result-out.result.markdown_translated) c.empty_result-out.ensures.content
     ∙ ap (put []) c.empty_result-out.ensures.markdown_translated in
-    let alike = is_guarded (g.R.Registry.config c.args.self.now.registry.now).options in
-    let guarded : c.is_guarded-is_guarded.result ≡ alike =
-    c.is_guarded-is_guarded.ensures ∙ ap is_guarded c.options.ensures.value in
-    let written : Bool → List ℕ → List ℕ = λ m s. with_written_text m false false true s c.in-Some.text.now in
+    let written : List ℕ → List ℕ = λ s. s ++ written_text false false true s c.in-Some.text.now in
     λ n h.
     ap (λ s. put s c.empty_result-out.result.markdown_translated) (c.in_ok-append_text.ensures
-    ∙ ap (λ m. written m (string_bytes c.empty_result-out.result.content)) guarded
-    ∙ ap (written alike) c.empty_result-out.ensures.content)
-    ∙ ap (put (written alike [])) c.empty_result-out.ensures.markdown_translated
+    ∙ ap written c.empty_result-out.ensures.content)
+    ∙ ap (put (written [])) c.empty_result-out.ensures.markdown_translated
     ∙ text_alone n v c.args.below c.in-Some.text.now
     (context_of (ancestors_of c.args.self.now.tree.now c.args.below) false true) c.args.links.now
     (let p = height_pos (tree_of c.args.self.now.tree.now c.args.below) in omega arith)
@@ -92,10 +88,7 @@ walk_each-walk_kept-requires g t c κs within =
       search rules,
       (
         within,
-        (
-          search rules,
-          (c.is_line_inside-inside_line.ensures, (low.0, (low.1, c.loop-node.invariant.remembered))),
-        ),
+        (search rules, (low.0, (low.1, c.loop-node.invariant.remembered))),
       ),
     )
 

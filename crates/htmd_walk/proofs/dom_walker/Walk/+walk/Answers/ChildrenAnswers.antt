@@ -18,7 +18,6 @@ use Rattle.htmd_walk.proofs.ChildrenLemmas.{IsChild, children-all, child-first, 
 use Rattle.htmd_walk.proofs.ChildrenLemmas.{first-has_text}
 use Rattle.htmd_walk.proofs.ChildrenLemmas.{group_written}
 use Rattle.htmd_walk.proofs.RenderingLemmas.{cut_before}
-use Rattle.htmd_walk.proofs.OneLineLemmas.{known-child}
 use Rattle.htmd_walk.proofs.dom_walker.Walk.+walk.Goals as goal
 
 pub walk_children-loop-rest-init : goal.walk_children-loop-rest-init
@@ -64,9 +63,6 @@ walk_children-walk_node-requires g t c κs within =
           record {
             within = inside;
             group = group;
-            line = c.requires.line
-                ∙ known-child (g.R.Registry.config c.args.self.now.registry.now).options c.args.self.now.tree.now
-                c.children-rest.ensures.tree c.index-rest-0.result c.args.node child.within child.parent;
             language = c.language_inside-pre_language.ensures
                 ∙ ap (language_of_pre c.args.self.now.tree.now) (sym child.parent);
             context = λ no_text. c.requires.inside

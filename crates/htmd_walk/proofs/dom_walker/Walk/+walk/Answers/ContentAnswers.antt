@@ -1,6 +1,5 @@
 -- The content of an element, with its handlers passed over, as raw HTML or where it is asked for.
-use Rattle.std.proofs.Common.{◌≡◌, ◌<◌, ◌∙◌, ℕ, List, [], ◌∷◌, Bool}
-use Rattle.std.proofs.Common.{◌||◌}
+use Rattle.std.proofs.Common.{◌≡◌, ◌<◌, ◌∙◌, ℕ, List, [], ◌∷◌, ◌++◌, Bool}
 use Rattle.std.proofs.Common.{Some, sym, ap, subst, length, codes}
 use Rattle.std.proofs.Common.{string_bytes}
 use Rattle.std.specs.Option.{option_copied}
@@ -8,9 +7,9 @@ use Rattle.std.specs.Str.{bytes_eq}
 use Rattle.htmd_nodes.specs.Items.{Item, element_node, data_at}
 use Rattle.htmd_nodes.specs.Ancestors.{ancestor_of, ancestors_of}
 use Rattle.htmd_grammar.specs.Attributes.{pairs_of}
-use Rattle.htmd_walk.specs.OrdinaryText.{in_pre_or_code, parent_is_pre, with_written_text}
+use Rattle.htmd_walk.specs.OrdinaryText.{in_pre_or_code, parent_is_pre, written_text}
 use Rattle.htmd_walk.specs.Groups.{only_text, group_children, children_at}
-use Rattle.htmd_walk.specs.Outputs.{Output, conversion_of, is_guarded}
+use Rattle.htmd_walk.specs.Outputs.{Output, conversion_of}
 use Rattle.htmd_walk.specs.Children.{trims_first}
 use Rattle.htmd_walk.specs.Elements.{Occurrence, Answer}
 use Rattle.htmd_walk.specs.Rendering.{inside_of}
@@ -39,21 +38,14 @@ content-returns-in-Some g t c =
     (children_at x c.args.element.now.node))) c.requires.here.tree in
     let in_pre : bytes_eq c.args.element.now.tag.now (codes "pre") ≡ parent_is_pre inside =
     sym (ap (λ x. bytes_eq (ancestor_of x).tag (codes "pre")) element) in
-    let guarded : c.is_guarded.result
-    ≡ is_guarded (g.R.Registry.config c.args.self.now.registry.now).options =
-    c.is_guarded.ensures ∙ ap is_guarded c.options.ensures.value in
-    let written : Bool → Bool → Bool → Bool → List ℕ → List ℕ =
-    λ m p q b s. with_written_text m p q b s c.in-Some.text.now in
-    let text = written (is_guarded (g.R.Registry.config c.args.self.now.registry.now).options) in
+    let text : Bool → Bool → Bool → List ℕ → List ℕ = λ p q b s. s ++ written_text p q b s c.in-Some.text.now in
     let put : List ℕ → Bool → Output =
     λ s b. record { text = s; markdown_translated = b; definitions = c.args.links.now } in
     λ n l.
     ap (λ s. put s c.empty_result-out.result.markdown_translated) (c.in_ok-append_text.ensures
-    ∙ ap (λ m. written m c.args.element.now.preformatted c.eq.result c.trims_first.result
-    (string_bytes c.empty_result-out.result.content)) guarded
-    ∙ ap (text c.args.element.now.preformatted c.eq.result c.trims_first.result) c.empty_result-out.ensures.content
-    ∙ ap (λ p. text p c.eq.result c.trims_first.result []) c.requires.here.inside
-    ∙ ap (λ q. text (in_pre_or_code inside) q c.trims_first.result []) (c.eq.ensures ∙ in_pre)
+    ∙ ap (text c.args.element.now.preformatted c.eq-in_pre.result c.trims_first.result) c.empty_result-out.ensures.content
+    ∙ ap (λ p. text p c.eq-in_pre.result c.trims_first.result []) c.requires.here.inside
+    ∙ ap (λ q. text (in_pre_or_code inside) q c.trims_first.result []) (c.eq-in_pre.ensures ∙ in_pre)
     ∙ ap (λ b. text (in_pre_or_code inside) (parent_is_pre inside) b []) c.trims_first.ensures)
     ∙ ap (put (text (in_pre_or_code inside) (parent_is_pre inside) (trims_first inside) []))
     c.empty_result-out.ensures.markdown_translated
@@ -71,8 +63,7 @@ walk_element-returns g t c =
     let tag = c.args.element.now.tag.now in
     let attributes = pairs_of c.args.element.now.attrs.now in
     let above = ancestors_of c.args.element.now.tree.now c.args.element.now.node in
-    let guarded = is_guarded c.args.element.now.options.now in
-    let whole = guarded || in_pre_or_code above in
+    let whole = in_pre_or_code above in
     let text = string_bytes c.in_ok-content.content.content in
     let passed : IsPassed v.config (element_node tag attributes) =
     subst (IsPassed v.config) (sym (ap (λ (x : List Item). data_at x c.args.element.now.node) c.requires.here.tree)
@@ -88,8 +79,8 @@ walk_element-returns g t c =
     } in
     let written : string_bytes c.passed_on.result.content ≡ passed_text (is_span tag) whole text =
     c.passed_on.ensures.content
-    ∙ ap (λ b. passed_text (is_span tag) (guarded || b) text) inside
-    ∙ passed-inside tag attributes above guarded text in
+    ∙ ap (λ b. passed_text (is_span tag) b text) inside
+    ∙ passed-inside tag attributes above text in
     λ n l. ap (λ s. kept s c.passed_on.result.markdown_translated) written
     ∙ ap (kept (passed_text (is_span tag) whole text)) c.passed_on.ensures.markdown_translated
     ∙ ap (passed_result (is_span tag) whole) (c.in_ok-content.ensures n l)

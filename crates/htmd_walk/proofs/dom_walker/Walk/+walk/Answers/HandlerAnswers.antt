@@ -40,7 +40,7 @@ handle-walk_descendant-requires g t c κs within =
     c.in-Descendant.below (request_view c.in_ok-plan.field-0) c.args.self.now.is_tree c.requires.here.tree
     c.args.element.now.within c.in_ok-plan.ensures.proper (ap request_view c.in-OfPlan.is
     ∙ ap plan_view c.in-Descendant.is) in
-    (search rules, (within, (search rules, (c.is_line_inside-inside_line.ensures, (low.0, low.1)))))
+    (search rules, (within, (search rules, (low.0, low.1))))
 
 pub handle-returns-in-Skip : goal.handle-returns-in-Skip
 handle-returns-in-Skip g t c =

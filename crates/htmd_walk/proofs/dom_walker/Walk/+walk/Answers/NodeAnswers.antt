@@ -1,5 +1,5 @@
 -- A node, by what it is.
-use Rattle.std.proofs.Common.{rules, ◌≡◌, ◌≤◌, ◌++◌, ◌∙◌, ℕ, suc, List, Bool}
+use Rattle.std.proofs.Common.{◌≡◌, ◌≤◌, ◌++◌, ◌∙◌, ℕ, suc, List, Bool}
 use Rattle.std.proofs.Common.{true, false}
 use Rattle.std.proofs.Common.{sym, ap, subst}
 use Rattle.std.proofs.Common.{string_bytes}
@@ -11,18 +11,16 @@ use Rattle.htmd_nodes.specs.NumberedTrees.{tree_of, height}
 use Rattle.htmd_nodes.specs.Ancestors.{ancestors_of}
 use Rattle.htmd_grammar.specs.Attributes.{pairs_of}
 use Rattle.htmd_nodes.specs.Views.{data_of}
-use Rattle.htmd_walk.specs.OrdinaryText.{parent_is_pre, with_written_text}
+use Rattle.htmd_walk.specs.OrdinaryText.{parent_is_pre, written_text}
 use Rattle.htmd_walk.specs.Groups.{group_children, children_at}
-use Rattle.htmd_walk.specs.Outputs.{Output, conversion_of, context_of, is_markdown_alone, is_guarded}
+use Rattle.htmd_walk.specs.Outputs.{Output, conversion_of, context_of, is_markdown_alone}
 use Rattle.htmd_walk.specs.Elements.{Answer, answer_after}
 use Rattle.htmd_walk.specs.Elements.{occurrence_at}
-use Rattle.htmd_walk.specs.Rendering.{with_result, written_within, is_text, inside_of}
+use Rattle.htmd_walk.specs.Rendering.{written_within, is_text, inside_of}
 use Rattle.htmd_walk.specs.Views.{answer_view, optional_result, output_view}
 use Rattle.htmd_walk.proofs.RenderingLemmas.{text_written, doctype_written, comment_written, document_written}
 use Rattle.htmd_walk.proofs.RememberingLemmas.{remembered-answer, result_put}
-use Rattle.htmd_walk.specs.OneLineElements.{known_in_line_inside}
 use Rattle.htmd_walk.specs.Walking.{occurrence_of}
-use Rattle.htmd_walk.proofs.OneLineLemmas.{known-document}
 use Rattle.htmd_walk.proofs.dom_walker.Walk.+walk.Goals as goal
 
 pub walk_node-returns-in_ok-walk_children-in-Document :
@@ -44,18 +42,6 @@ walk_node-returns-in_ok-walk_children-in-Document g t c =
     visit.context.trim (output_view c.args.out.now c.args.links.now)
     (output_view c.walk_children.new.out c.walk_children.new.links) h (sym c.data.ensures.value
     ∙ ap data_of c.in-Document.is) c.in_ok-walk_children-in-Document.ensures
-
-pub walk_node-walk_children-requires : goal.walk_node-walk_children-requires
-walk_node-walk_children-requires g t c =
-    let config = g.R.Registry.config c.args.self.now.registry.now in
-    let items = c.args.self.now.tree.now in
-    let visit = c.args.visit.now in
-    let line : visit.is_in_line
-    ≡ known_in_line_inside config.options items
-    visit.node = c.requires.here.line
-    ∙ known-document config.options items visit.node
-    (sym c.data.ensures.value ∙ ap data_of c.in-Document.is) in
-    search (rules, line)
 
 pub walk_node-returns-in-Doctype : goal.walk_node-returns-in-Doctype
 walk_node-returns-in-Doctype g t c =
@@ -115,19 +101,13 @@ walk_node-returns-in-Text g t c =
     let items = c.args.self.now.tree.now in
     let visit = c.args.visit.now in
     let v = conversion_of config items in
-    let text : Bool → Bool → List ℕ → List ℕ =
-    λ guarded q s. with_written_text guarded visit.context.preformatted q
-    visit.context.trim (string_bytes c.args.out.now.content) s in
-    let guarded : c.is_guarded-is_guarded.result
-    ≡ is_guarded config.options =
-    c.is_guarded-is_guarded.ensures ∙ ap is_guarded c.options-in-Text.ensures.value in
-    let written : List ℕ = text (is_guarded config.options)
-    (parent_is_pre (ancestors_of items visit.node)) (string_bytes c.in-Text.text) in
-    let same : text c.is_guarded-is_guarded.result c.is_parent_pre-in_pre.result c.as_str-text.result.now ≡ written =
-    ap (text c.is_guarded-is_guarded.result c.is_parent_pre-in_pre.result) c.as_str-text.ensures.value
-    ∙ ap (λ q. text c.is_guarded-is_guarded.result q (string_bytes c.in-Text.text)) c.is_parent_pre-in_pre.ensures
-    ∙ ap (λ b. text b (parent_is_pre (ancestors_of items visit.node))
-    (string_bytes c.in-Text.text)) guarded in
+    let out = string_bytes c.args.out.now.content in
+    let text : Bool → List ℕ → List ℕ =
+    λ q s. out ++ written_text visit.context.preformatted q visit.context.trim out s in
+    let written : List ℕ = text (parent_is_pre (ancestors_of items visit.node)) (string_bytes c.in-Text.text) in
+    let same : text c.is_parent_pre-in_pre.result c.as_str-text.result.now ≡ written =
+    ap (text c.is_parent_pre-in_pre.result) c.as_str-text.ensures.value
+    ∙ ap (λ q. text q (string_bytes c.in-Text.text)) c.is_parent_pre-in_pre.ensures in
     on_ok_weaker c.append_text.result (λ p n h.
     ap (λ s. record {
       text = s;
@@ -158,15 +138,11 @@ walk_node-returns-in-Some g t c =
     let answered : ℕ → List ℕ → Answer = λ m tag. answer_after 0 tag
     (occurrence_at (written_within m v) v visit.node
     (inside_of items visit.node) (group_children joined (children_at items visit.node))) old in
-    let guarded : c.is_guarded-is_guarded-in-Element.result
-    ≡ is_guarded config.options =
-    c.is_guarded-is_guarded-in-Element.ensures ∙ ap is_guarded c.options-in-Element.ensures.value in
     let known = optional_result c.in-Some.known.now.result in
     let made : (m : ℕ) → height (tree_of items visit.node) ≤ suc m
     → ◌≡◌ {A = Answer} (record { result = known; definitions = old }) (answered m name) = λ m k.
     remembered-answer v visit.node joined name attributes known m old is c.in-Some.ensures.0 c.in-Some.ensures.1 k in
     on_ok_weaker c.append_copy.result (λ p n h. p old
-    ∙ ap (λ b. with_result b (output_view c.args.out.now old) visit.context.preformatted known old) guarded
     ∙ result_put config items joined c.data.ensures.tree visit.node
     c.requires.here.within name attributes is (output_view c.args.out.now old) known old made n
     visit.context.preformatted visit.context.trim visit.context.preformatted h
@@ -188,9 +164,6 @@ walk_node-returns-in_ok-given-in-Element g t c =
     let answered : ℕ → List ℕ → Answer = λ m tag. answer_after 0 tag
     (occurrence_at (written_within m v) v visit.node
     (inside_of items visit.node) (group_children joined (children_at items visit.node))) old in
-    let guarded : c.is_guarded-is_guarded-in-Element.result
-    ≡ is_guarded config.options =
-    c.is_guarded-is_guarded-in-Element.ensures ∙ ap is_guarded c.options-in-Element.ensures.value in
     let new = c.walk_element.new.links in
     let given = optional_result c.in_ok-given-in-Element.given in
     let made : (m : ℕ) → height (tree_of items visit.node) ≤ suc m
@@ -201,7 +174,6 @@ walk_node-returns-in_ok-given-in-Element g t c =
     ∙ ap (λ at. answer_after 0 c.as_str-in-Element.result.now at old) (c.element-element.ensures.occurrence m)
     ∙ ap (answered m) c.as_str-in-Element.ensures.value in
     on_ok_weaker c.append_result.result (λ p n h. p new
-    ∙ ap (λ b. with_result b (output_view c.args.out.now new) visit.context.preformatted given new) guarded
     ∙ result_put config items joined c.data.ensures.tree visit.node
     c.requires.here.within name attributes is (output_view c.args.out.now old) given new made n
     visit.context.preformatted visit.context.trim visit.context.preformatted h

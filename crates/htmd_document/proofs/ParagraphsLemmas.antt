@@ -1,0 +1,317 @@
+-- Lemmas on parts one after another.
+use Rattle.std.proofs.Common.{◌≡◌, ℕ, suc, ◌≤◌, Bool, true, false, not, ◌&&◌, ◌==◌, List, [], ◌∷◌, ◌++◌, map, length}
+use Rattle.std.proofs.Common.{take, drop, refl, sym, ◌∙◌, ap, arith, fold, append_assoc, cond, if◌then◌else◌, take_while, Result, Ok, Err, IfOk}
+use Rattle.std.specs.Prelude.{encode_utf8, encode_utf8_all}
+use Rattle.std.proofs.lemmas.Bool.Decides.{nat_tests}
+use Rattle.std.proofs.lemmas.List.{length-map, length-append, length-take-le, take-append-drop, append-nil}
+use Rattle.std.proofs.lemmas.List.Sums.{take_while-cons, fold-append}
+use Rattle.std.specs.Str.{chars, IsUtf8}
+use Rattle.std.proofs.lemmas.Str.{chars-nil}
+use Rattle.std.proofs.Math.Seq.{take-append_seam}
+use Rattle.htmd_document.specs.Documents.{Format, emphasis, strong, deleted, superscript, subscript, Inline, Inlines, line_break}
+use Rattle.htmd_document.specs.Nesting.{Mark, of_format, of_link, mark_of, is_same_format, is_same, shared, behind, text_or_code}
+use Rattle.htmd_document.specs.Paragraphs.{Writing, parted, shown, after_leaf, after_character, gap_behind, shared_marks, latest_of, is_leaf, spaced_out}
+use Rattle.htmd_document.specs.Paragraphs.{ended, gap_before, white_behind, is_code_gap}
+use Rattle.htmd_document.specs.ParagraphViews.{settled, IsReached}
+use Rattle.htmd_document.specs.Parts.{Around}
+use Rattle.htmd_document.specs.Spaces.{is_white, is_plain, no_gap}
+use Rattle.htmd_document.proofs.NestingLemmas.{behind-texts}
+use Rattle.htmd_document.proofs.SpacesLemmas.{IsPlainWord, plain-taken, word-cut}
+
+-- ---- what is shared
+
+same-format : (f g : Format) → is_same_format f g ≡ true → f ≡ g
+same-format emphasis emphasis h = refl
+same-format emphasis strong h = cc
+same-format emphasis deleted h = cc
+same-format emphasis superscript h = cc
+same-format emphasis subscript h = cc
+same-format strong emphasis h = cc
+same-format strong strong h = refl
+same-format strong deleted h = cc
+same-format strong superscript h = cc
+same-format strong subscript h = cc
+same-format deleted emphasis h = cc
+same-format deleted strong h = cc
+same-format deleted deleted h = refl
+same-format deleted superscript h = cc
+same-format deleted subscript h = cc
+same-format superscript emphasis h = cc
+same-format superscript strong h = cc
+same-format superscript deleted h = cc
+same-format superscript superscript h = refl
+same-format superscript subscript h = cc
+same-format subscript emphasis h = cc
+same-format subscript strong h = cc
+same-format subscript deleted h = cc
+same-format subscript superscript h = cc
+same-format subscript subscript h = refl
+
+same-mark : (m n : Mark) → is_same m n ≡ true → m ≡ n
+same-mark (of_format f) (of_format g) h = ap of_format (same-format f g h)
+same-mark (of_link m) (of_link n) h = ap of_link (grind (arith, nat_tests, h))
+same-mark (of_format f) (of_link n) h = cc
+same-mark (of_link m) (of_format g) h = cc
+
+alike-format : (f : Format) → is_same_format f f ≡ true
+alike-format emphasis = refl
+alike-format strong = refl
+alike-format deleted = refl
+alike-format superscript = refl
+alike-format subscript = refl
+
+alike-mark : (m : Mark) → is_same m m ≡ true
+alike-mark (of_format f) = alike-format f
+alike-mark (of_link n) = grind (arith, nat_tests)
+
+pub shared-self : (ms : List Mark) → shared ms ms ≡ length ms
+shared-self [] = refl
+shared-self (m ∷ ms) = rw (alike-mark m) (ap suc (shared-self ms))
+
+if-suc : (b : Bool) (n k : ℕ) → n ≤ k → cond b (suc n) 0 ≤ suc k
+if-suc true n k h = omega arith
+if-suc false n k h = omega arith
+
+pub shared-le : (ms ns : List Mark) → shared ms ns ≤ length ms
+shared-le [] ns = omega arith
+shared-le (m ∷ ms) [] = omega arith
+shared-le (m ∷ ms) (n ∷ ns) = if-suc (is_same m n) (shared ms ns) (length ms) (shared-le ms ns)
+
+pub shared-le-other : (ms ns : List Mark) → shared ms ns ≤ length ns
+shared-le-other [] ns = omega arith
+shared-le-other (m ∷ ms) [] = omega arith
+shared-le-other (m ∷ ms) (n ∷ ns) = if-suc (is_same m n) (shared ms ns) (length ns) (shared-le-other ms ns)
+
+prefix-step : (b : Bool) (m n : Mark) (ms ns : List Mark) (k : ℕ) → (b ≡ true → m ≡ n) → take k ms ≡ take k ns
+    → take (cond b (suc k) 0) (m ∷ ms) ≡ take (cond b (suc k) 0) (n ∷ ns)
+prefix-step true m n ms ns k same h = ap (λ x. x ∷ take k ms) (same refl) ∙ ap (λ xs. n ∷ xs) h
+prefix-step false m n ms ns k same h = refl
+
+pub shared-prefix : (ms ns : List Mark) → take (shared ms ns) ms ≡ take (shared ms ns) ns
+shared-prefix [] [] = refl
+shared-prefix [] (n ∷ ns) = refl
+shared-prefix (m ∷ ms) [] = refl
+shared-prefix (m ∷ ms) (n ∷ ns) =
+    prefix-step (is_same m n) m n ms ns (shared ms ns) (same-mark m n) (shared-prefix ms ns)
+
+leaf-le : (b : Bool) (n k : ℕ) → n ≤ k → cond b n 0 ≤ k
+leaf-le true n k h = h
+leaf-le false n k h = omega arith
+
+pub marks-le : (w : Writing) (ns : List Mark) → shared_marks w ns ≤ length ns
+marks-le w ns = leaf-le (is_leaf w.latest) (shared w.around ns) (length ns) (shared-le-other w.around ns)
+
+leaf-prefix : (b : Bool) (n : ℕ) (ms ns : List Mark) → take n ms ≡ take n ns → take (cond b n 0) ms ≡ take
+    (cond b n 0) ns
+leaf-prefix true n ms ns h = h
+leaf-prefix false n ms ns h = refl
+
+pub marks-prefix : (w : Writing) (ns : List Mark) → take (shared_marks w ns) w.around ≡ take (shared_marks w ns) ns
+marks-prefix w ns = leaf-prefix (is_leaf w.latest) (shared w.around ns) w.around ns (shared-prefix w.around ns)
+
+-- ---- a leaf after a gap
+
+pub reached-shown : (old mid : Writing) (around : List Around) (is_code : Bool) (n : ℕ) (leaf : Inline)
+    (content : Inlines) (marks : List Mark) → IsReached old mid around is_code n
+    → content ≡ behind n mid.content around leaf → marks ≡ take n mid.around ++ drop n (map mark_of around)
+    → settled (record mid { content = content; around = marks }) (latest_of is_code) ≡ after_leaf old around is_code
+    leaf
+reached-shown old mid around is_code n leaf content marks h p q =
+    let outer : List Mark = map mark_of around in
+    let prefix : take n (parted old).around ≡ take n outer =
+    ap (λ k. take k (parted old).around) h.count ∙ (marks-prefix (parted old) outer ∙ ap (λ k. take k outer)
+    (sym h.count)) in
+    let all : marks ≡ outer =
+    q ∙ (ap (λ xs. xs ++ drop n outer) (h.put.marks ∙ prefix) ∙ take-append-drop n outer) in
+    let put : content ≡ behind (shared_marks (parted old) outer)
+    (gap_behind (parted old).latest (parted old) around is_code) around leaf =
+    p ∙ (ap (λ xs. behind n xs around leaf) h.put.content
+    ∙ ap (λ k. behind k (gap_behind (parted old).latest (parted old) around is_code) around leaf) h.count) in
+    let a : mid.in_item ≡ (parted old).in_item = h.put.in_item in
+    let b : mid.is_flat ≡ (parted old).is_flat = h.put.is_flat in
+    let d : mid.done ≡ (parted old).done = h.put.done in
+    cc
+
+pub reached-le : (old mid : Writing) (around : List Around) (is_code : Bool) (n : ℕ)
+    → IsReached old mid around is_code n → n ≤ length around
+reached-le old mid around is_code n h =
+    rw h.count (rw (length-map around mark_of) at (marks-le (parted old) (map mark_of around)))
+
+-- ---- a word
+
+and-false : (b : Bool) → (b && false) ≡ false
+and-false true = refl
+and-false false = refl
+
+unparted : (v : Writing) (around : List Around) (is_code : Bool) (s : List ℕ)
+    → parted (shown v around is_code (text_or_code is_code s)) ≡ shown v around is_code (text_or_code is_code s)
+unparted v around is_code s =
+    ap (λ b. if b then ended (shown v around is_code (text_or_code is_code s))
+    else shown v around is_code (text_or_code is_code s)) (and-false (not v.is_flat))
+
+-- where the second of two texts comes, and what stands between them
+same-place : (v : Writing) (around : List Around) (is_code : Bool) (leaf : Inline)
+    → shared_marks (shown v around is_code leaf) (map mark_of around) ≡ length around
+same-place v around true leaf = shared-self (map mark_of around) ∙ length-map around mark_of
+same-place v around false leaf = shared-self (map mark_of around) ∙ length-map around mark_of
+
+no-gap-behind : (v : Writing) (around : List Around) (is_code : Bool) (leaf : Inline)
+    → gap_behind (latest_of is_code) (shown v around is_code leaf) around
+    is_code ≡ (shown v around is_code leaf).content
+no-gap-behind v around true leaf = refl
+no-gap-behind v around false leaf = refl
+
+shown-content : (v : Writing) (around : List Around) (is_code : Bool) (s t : List ℕ)
+    → (shown (shown v around is_code (text_or_code is_code s)) around is_code (text_or_code is_code t)).content
+    ≡ (shown v around is_code (text_or_code is_code (s ++ t))).content
+shown-content v around is_code s t =
+    let first : Writing = shown v around is_code (text_or_code is_code s) in
+    let n : ℕ = shared_marks v (map mark_of around) in
+    ap (λ xs. behind (shared_marks first (map mark_of around)) xs around (text_or_code is_code t))
+    (no-gap-behind v around is_code (text_or_code is_code s))
+    ∙ (ap (λ k. behind k first.content around (text_or_code is_code t))
+    (same-place v around is_code (text_or_code is_code s))
+    ∙ behind-texts n (gap_behind v.latest v around is_code) around is_code s t
+    (rw (length-map around mark_of) at (marks-le v (map mark_of around))))
+
+-- a text after one with the same around it
+shown-more : (v : Writing) (around : List Around) (is_code : Bool) (s t : List ℕ)
+    → after_leaf (shown v around is_code (text_or_code is_code s)) around is_code (text_or_code is_code t)
+    ≡ shown v around is_code (text_or_code is_code (s ++ t))
+shown-more v around is_code s t =
+    ap (λ w. shown w around is_code (text_or_code is_code t)) (unparted v around is_code s)
+    ∙ ap (λ xs. record v {
+      content = xs;
+      latest = latest_of is_code;
+      around = map mark_of around;
+      gap = no_gap;
+      is_blank = false;
+      breaks = 0;
+    }) (shown-content v around is_code s t)
+
+-- the characters of a word after others
+word-more : (cs : List ℕ) (v : Writing) (around : List Around) (is_code : Bool) (s : List ℕ) → IsPlainWord cs
+    → fold (λ w c. after_character w around is_code c) (shown v around is_code (text_or_code is_code s)) cs
+    ≡ shown v around is_code (text_or_code is_code (s ++ encode_utf8_all cs))
+word-more [] v around is_code s h = ap (λ t. shown v around is_code (text_or_code is_code t)) (sym (append-nil s))
+word-more (c ∷ cs) v around is_code s h =
+    let first : Writing = shown v around is_code (text_or_code is_code s) in
+    let plain : after_character first around is_code c ≡ after_leaf first around is_code
+    (text_or_code is_code (encode_utf8 c)) =
+    ap (λ b. if b then spaced_out first c is_code
+    else after_leaf first around is_code (text_or_code is_code (encode_utf8 c))) h.0 in
+    ap (λ w. fold (λ v c'. after_character v around is_code c') w cs)
+    (plain ∙ shown-more v around is_code s (encode_utf8 c))
+    ∙ (word-more cs v around is_code (s ++ encode_utf8 c) h.1
+    ∙ ap (λ t. shown v around is_code (text_or_code is_code t)) (append_assoc s (encode_utf8 c) (encode_utf8_all cs)))
+
+pub word-fed : (c : ℕ) (cs : List ℕ) (w : Writing) (around : List Around) (is_code : Bool) → IsPlainWord (c ∷ cs)
+    → fold (λ v c'. after_character v around is_code c') w (c ∷ cs)
+    ≡ after_leaf w around is_code (text_or_code is_code (encode_utf8_all (c ∷ cs)))
+word-fed c cs w around is_code h =
+    let plain : after_character w around is_code c ≡ after_leaf w around is_code
+    (text_or_code is_code (encode_utf8 c)) =
+    ap (λ b. if b then spaced_out w c is_code
+    else after_leaf w around is_code (text_or_code is_code (encode_utf8 c))) h.0 in
+    ap (λ u. fold (λ v c'. after_character v around is_code c') u cs) plain
+    ∙ word-more cs (parted w) around is_code (encode_utf8 c) h.1
+
+-- a word is read, and what follows it
+pub word-read : (w w' : Writing) (around : List Around) (is_code : Bool) (s word rest : List ℕ) (n c : ℕ)
+    (more : List ℕ)
+    → IsUtf8 s → chars s ≡ c ∷ more → is_white c ≡ false → n ≡ length (encode_utf8_all (take_while is_plain (chars s)))
+    → word ≡ take n s → rest ≡ drop n s → w' ≡ after_leaf w around is_code (text_or_code is_code word)
+    → fold (λ v c'. after_character v around is_code c') w' (chars rest)
+    ≡ fold (λ v c'. after_character v around is_code c') w (chars s)
+word-read w w' around is_code s word rest n c more text begins plain size p q e =
+    let cut = word-cut s n text size in
+    let step : Writing → ℕ → Writing = λ v c'. after_character v around is_code c' in
+    let tail : List ℕ = take_while is_plain more in
+    let whole : take_while is_plain (chars s) ≡ c ∷ tail =
+    ap (take_while is_plain) begins ∙ (take_while-cons is_plain c more ∙ ap (λ b. cond (not b) (c ∷ tail) []) plain) in
+    let made : word ≡ encode_utf8_all (c ∷ tail) = p ∙ (cut.front ∙ ap encode_utf8_all whole) in
+    let read : w' ≡ fold step w (take_while is_plain (chars s)) =
+    e ∙ (ap (λ t. after_leaf w around is_code (text_or_code is_code t)) made
+    ∙ (sym (word-fed c tail w around is_code (plain, plain-taken more)) ∙ ap (fold step w) (sym whole))) in
+    ap (λ r. fold step w' (chars r)) q
+    ∙ (ap (λ u. fold step u (chars (drop n s))) read
+    ∙ (sym (fold-append step w (take_while is_plain (chars s)) (chars (drop n s)))
+    ∙ ap (fold step w) (sym cut.characters)))
+
+-- white space is read
+pub white-read : (w w' : Writing) (around : List Around) (is_code : Bool) (s rest : List ℕ) (c : ℕ)
+    → chars s ≡ c ∷ chars rest → is_white c ≡ true → w' ≡ spaced_out w c is_code
+    → fold (λ v c'. after_character v around is_code c') w' (chars rest)
+    ≡ fold (λ v c'. after_character v around is_code c') w (chars s)
+white-read w w' around is_code s rest c begins white e =
+    let step : Writing → ℕ → Writing = λ v c'. after_character v around is_code c' in
+    let read : w' ≡ step w c = e ∙ ap (λ b. if b then spaced_out w c is_code
+    else after_leaf w around is_code (text_or_code is_code (encode_utf8 c))) (sym white) in
+    ap (λ u. fold step u (chars rest)) read ∙ ap (fold step w) (sym begins)
+
+-- nothing is left to read
+pub read-end : (w : Writing) (around : List Around) (is_code : Bool) (given rest : List ℕ) → given ≡ rest
+    → length given ≡ 0 → w ≡ fold (λ v c'. after_character v around is_code c') w (chars rest)
+read-end w around is_code [] rest e h =
+    ap (λ cs. fold (λ v c'. after_character v around is_code c') w cs) (sym chars-nil)
+    ∙ ap (λ r. fold (λ v c'. after_character v around is_code c') w (chars r)) e
+read-end w around is_code (b ∷ s) rest e h = absurd (omega arith)
+
+-- ---- a gap
+
+pub IfOk-two : {X E : Type 0} (r : Result X E) (P Q R : X → Type 0) → ((x : X) → P x → Q x → R x)
+    → IfOk r P → IfOk r Q → IfOk r R
+IfOk-two (Ok x) P Q R f p q = f x p q
+IfOk-two (Err e) P Q R f p q = tt
+
+pub gap-break : (w : Writing) (around : List Around) (is_code : Bool) (n : ℕ)
+    → n ≡ shared w.around (map mark_of around) → w.gap.has_break ≡ true
+    → behind n w.content (take n around) line_break ≡ gap_before w around is_code
+gap-break w around is_code n e h =
+    let k : ℕ = shared w.around (map mark_of around) in
+    ap (λ m. behind m w.content (take m around) line_break) e
+    ∙ ap (λ b. if b then behind k w.content (take k around) line_break else
+    white_behind k w.content around (is_code && is_code_gap w (map mark_of around)) w.gap.white) (sym h)
+
+white-some : (n : ℕ) (xs : Inlines) (around : List Around) (is_code : Bool) (s : List ℕ) → (length s == 0) ≡ false
+    → behind n xs (take n around) (text_or_code is_code s) ≡ white_behind n xs around is_code s
+white-some n xs around is_code [] h = cc
+white-some n xs around is_code (b ∷ s) h = refl
+
+white-none : (n : ℕ) (xs : Inlines) (around : List Around) (is_code : Bool) (s : List ℕ) → (length s == 0) ≡ true
+    → xs ≡ white_behind n xs around is_code s
+white-none n xs around is_code [] h = refl
+white-none n xs around is_code (b ∷ s) h = absurd (grind (arith, nat_tests, h))
+
+pub gap-white : (w : Writing) (around : List Around) (is_code : Bool) (n : ℕ)
+    → n ≡ shared w.around (map mark_of around) → w.gap.has_break ≡ false → (length w.gap.white == 0) ≡ false
+    → behind n w.content (take n around) (text_or_code (is_code && is_code_gap w (map mark_of around)) w.gap.white)
+    ≡ gap_before w around is_code
+gap-white w around is_code n e h some =
+    let k : ℕ = shared w.around (map mark_of around) in
+    let whole : Bool = is_code && is_code_gap w (map mark_of around) in
+    white-some n w.content around whole w.gap.white some
+    ∙ (ap (λ m. white_behind m w.content around whole w.gap.white) e
+    ∙ ap (λ b. if b then behind k w.content (take k around) line_break else
+    white_behind k w.content around whole w.gap.white) (sym h))
+
+pub gap-none : (w : Writing) (around : List Around) (is_code : Bool)
+    → w.gap.has_break ≡ false → (length w.gap.white == 0) ≡ true → w.content ≡ gap_before w around is_code
+gap-none w around is_code h none =
+    let k : ℕ = shared w.around (map mark_of around) in
+    let whole : Bool = is_code && is_code_gap w (map mark_of around) in
+    white-none k w.content around whole w.gap.white none
+    ∙ ap (λ b. if b then behind k w.content (take k around) line_break else
+    white_behind k w.content around whole w.gap.white) (sym h)
+
+-- what is open after a gap
+pub gap-marks : (ms rest marks : List Mark) (n : ℕ) → n ≤ length ms → marks ≡ take n ms ++ rest
+    → take n marks ≡ take n ms
+gap-marks ms rest marks n h e =
+    let size : length (take n ms) ≡ n = length-take-le n ms h in
+    ap (take n) e ∙ (ap (λ k. take k (take n ms ++ rest)) (sym size) ∙ take-append_seam (take n ms) rest)
+
+pub gap-bound : (ms rest marks : List Mark) (n : ℕ) → n ≤ length ms → marks ≡ take n ms ++ rest → n ≤ length marks
+gap-bound ms rest marks n h e =
+    let size : length (take n ms) ≡ n = length-take-le n ms h in
+    rw (e, length-append) (omega arith)

@@ -1,0 +1,145 @@
+-- Lists: which are tight, and where the numbers of a list begin anew.
+use Rattle.std.specs.Prelude.{ℕ, ◌+◌, ◌==◌, Bool, true, false, not, ◌&&◌, ◌||◌, nat_le, if◌then◌else◌}
+use Rattle.std.specs.Prelude.{List, [], ◌∷◌, ◌++◌, length, map, Option, Some, None, ℤ, pos, negsuc, ◌+ℤ◌, int_lt, fold}
+use Rattle.std.specs.List.{list_any, list_all}
+use Rattle.std.specs.Ordering.{int_eq}
+use Rattle.htmd_document.specs.Attributes.{greatest_number}
+use Rattle.htmd_document.specs.Documents.{Block, paragraph}
+use Rattle.htmd_document.specs.Documents.{list, table, Blocks, no_blocks, block, Items, no_items, item, items_of}
+use Rattle.htmd_document.specs.Parts.{Part, whole}
+
+-- an item: its number, if it says one, whether a paragraph stands right in it, and its blocks
+pub record ListItem : Type 0 where
+  pub value : Option ℤ
+  pub has_paragraph : Bool
+  pub blocks : Blocks
+
+abbrev pub is_filled : Blocks → Bool
+is_filled no_blocks = false
+is_filled (block b bs) = true
+
+-- something shows in one of them
+abbrev pub are_filled : List ListItem → Bool
+are_filled items = list_any (λ (i : ListItem). is_filled i.blocks) items
+
+abbrev pub is_paragraph : Block → Bool
+is_paragraph (paragraph content) = true
+is_paragraph _ = false
+
+abbrev pub is_table : Block → Bool
+is_table (table alignments header rows) = true
+is_table _ = false
+
+abbrev pub holds_paragraph : Blocks → Bool
+holds_paragraph no_blocks = false
+holds_paragraph (block b bs) = is_paragraph b || holds_paragraph bs
+
+-- ---- tight lists
+
+abbrev pub begins_with_blocks : Items → Bool
+begins_with_blocks no_items = false
+begins_with_blocks (item bs rest) = is_filled bs
+
+abbrev pub is_one_or_none : Option ℕ → Bool
+is_one_or_none None = true
+is_one_or_none (Some n) = n == 1
+
+-- a list that can follow a paragraph without a blank line (CommonMark 0.31.2, 5.3)
+abbrev pub goes_on_a_paragraph : Block → Bool
+goes_on_a_paragraph (list start is_tight items) = is_one_or_none start && begins_with_blocks items
+goes_on_a_paragraph _ = false
+
+-- nothing, one block that is no table, or a paragraph and a list
+abbrev pub is_tight_item : Blocks → Bool
+is_tight_item no_blocks = true
+is_tight_item (block b no_blocks) = not (is_table b)
+is_tight_item (block b (block c no_blocks)) = is_paragraph b && goes_on_a_paragraph c
+is_tight_item (block b (block c (block d bs))) = false
+
+-- one block at most
+abbrev pub is_short : Blocks → Bool
+is_short no_blocks = true
+is_short (block b no_blocks) = true
+is_short (block b (block c bs)) = false
+
+-- a paragraph that stands right in an item, and shows, makes the list loose
+abbrev pub is_close : ListItem → Bool
+is_close i = not (i.has_paragraph && holds_paragraph i.blocks) && is_tight_item i.blocks
+
+abbrev pub is_lone : List ListItem → Bool
+is_lone [] = false
+is_lone (i ∷ []) = is_short i.blocks
+is_lone (i ∷ j ∷ items) = false
+
+-- a list that a reader can't see to be loose is tight
+abbrev pub is_tight : List ListItem → Bool
+is_tight items = is_lone items || list_all is_close items
+
+-- ---- the lists of items
+
+abbrev pub list_of : Option ℕ → List ListItem → Part
+list_of start items =
+    whole (list start (is_tight items) (items_of (map (λ (i : ListItem). i.blocks) items)))
+
+abbrev pub bullets : List ListItem → List Part
+bullets items = list_of None items ∷ []
+
+abbrev pub greatest_start : ℕ
+greatest_start = 999999999
+
+-- the number that a list begins with: below 0 or with a number past 999,999,999 it begins at 1
+abbrev pub start_of : ℤ → ℕ → ℕ
+start_of (pos n) count = if nat_le (n + count) (greatest_start + 1) then n else 1
+start_of (negsuc n) count = 1
+
+-- a group of items with numbers one after another; one without anything to see is none
+abbrev pub numbered : ℤ → List ListItem → List Part
+numbered start items =
+    if are_filled items then list_of (Some (start_of start (length items))) items ∷ [] else []
+
+-- the number that an item begins anew with: it says one, and that isn't the next
+abbrev pub new_number : ℤ → Option ℤ → Option ℤ
+new_number next None = None
+new_number next (Some v) = if int_eq v next then None else Some v
+
+-- the number after this one; after the greatest comes one that no item says
+abbrev pub following : ℤ → ℤ
+following z = if int_lt z (pos (greatest_number + 1)) then z +ℤ pos 1 else z
+
+-- the lists so far, and the items of the last one: the number that it begins with, and the next number
+pub record Groups : Type 0 where
+  pub done : List Part
+  pub start : ℤ
+  pub next : ℤ
+  pub group : List ListItem
+
+abbrev pub groups_at : ℤ → Groups
+groups_at start = record { done = []; start = start; next = start; group = [] }
+
+abbrev pub with_number : Groups → ListItem → Option ℤ → Groups
+with_number g i None = record g { next = following g.next; group = g.group ++ i ∷ [] }
+with_number g i (Some v) = record {
+  done = g.done ++ numbered g.start g.group;
+  start = v;
+  next = following v;
+  group = i ∷ [];
+}
+
+abbrev pub with_item : Groups → ListItem → Groups
+with_item g i = with_number g i (new_number g.next i.value)
+
+abbrev pub ended : Groups → List Part
+ended g = g.done ++ numbered g.start g.group
+
+-- the lists of the items of an `ol`: where an item says a number that isn't the next one, a new list begins
+abbrev pub numbered_lists : ℤ → List ListItem → List Part
+numbered_lists start items = ended (fold with_item (groups_at start) items)
+
+-- the lists of items: numbered from a start, or with bullets where there is none
+abbrev pub lists_of : Option ℤ → List ListItem → List Part
+lists_of None items = bullets items
+lists_of (Some start) items = numbered_lists start items
+
+-- none where nothing shows in them
+abbrev pub lists_if_filled : Option ℤ → List ListItem → List Part
+lists_if_filled start items = if are_filled items then lists_of start items else []

@@ -1,0 +1,92 @@
+//! What stands around a leaf of a page.
+
+ghost use Rattle.std.specs.Prelude.{◌≡◌, IfOk};
+ghost use Rattle.htmd_document.specs.Documents.{formatted};
+ghost use Rattle.htmd_document.specs.DocumentViews.{inline_of, inlines_of};
+ghost use Rattle.htmd_document.specs.Nesting as spec;
+ghost use Rattle.htmd_document.specs.PartViews.{format_of, around_of};
+
+use crate::document::Inline;
+use htmd_nodes::NodeId;
+use std::alloc::AllocError;
+
+/// A format of inlines.
+#[derive(Clone, Copy, PartialEq, Eq)]
+pub(crate) enum Format {
+    Emphasis,
+    Strong,
+    Deleted,
+    Superscript,
+    Subscript,
+}
+
+/// What stands around a leaf: a format, or a link with its node.
+#[derive(Drop)]
+pub(crate) enum Around {
+    Format(Format),
+    Link {
+        node: NodeId,
+        address: String,
+        title: Option<String>,
+    },
+}
+
+impl Format {
+    /// The inlines in this format.
+    fn wrap(self, content: Vec<Inline>) -> Inline
+        ensures { inline_of result ≡ formatted (format_of self) (inlines_of content.items) }
+    {
+        match self {
+            Format::Emphasis => Inline::Emphasis(content),
+            Format::Strong => Inline::Strong(content),
+            Format::Deleted => Inline::Deleted(content),
+            Format::Superscript => Inline::Superscript(content),
+            Format::Subscript => Inline::Subscript(content),
+        }
+    }
+}
+
+impl Around {
+    /// Whether it is the same format, or the same link.
+    pub(crate) fn is_same(&self, other: &Around) -> bool
+        ensures { result ≡ spec.is_same (spec.mark_of (around_of self.now)) (spec.mark_of (around_of other.now)) }
+    {
+        match (self, other) {
+            (Around::Format(this), Around::Format(that)) => *this == *that,
+            (Around::Link { node: this, .. }, Around::Link { node: that, .. }) => *this == *that,
+            _ => false,
+        }
+    }
+
+    /// The same again. `Err` means out of memory.
+    pub(crate) fn clone(&self) -> Result<Around, AllocError>
+        ensures { IfOk result (λ a. around_of a ≡ around_of self.now) }
+    {
+        match self {
+            Around::Format(format) => Ok(Around::Format(*format)),
+            Around::Link {
+                node,
+                address,
+                title,
+            } => Ok(Around::Link {
+                node: *node,
+                address: address.clone()?,
+                title: title.clone()?,
+            }),
+        }
+    }
+
+    /// The inlines in this format, or in this link.
+    pub(crate) fn wrap(self, content: Vec<Inline>) -> Inline
+        ensures { inline_of result ≡ spec.wrapped_by (around_of self) (inlines_of content.items) }
+    {
+        match self {
+            Around::Format(format) => format.wrap(content),
+            Around::Link { address, title, .. } => Inline::Link {
+                address,
+                title,
+                content,
+            },
+        }
+    }
+}

@@ -1,7 +1,0 @@
--- All bytes so far are of a scheme.
-use Rattle.std.proofs.Common.{◌≡◌, ℕ, ◌<◌, get_or, true}
-use Rattle.htmd_markdown.specs.GuardedLinks.{is_scheme_character}
-use Rattle.htmd_markdown.proofs.guarded_link.scheme_len.Given as goal
-
-abbrev pub invariant-loop-len : goal.invariant-loop-len
-invariant-loop-len l = (k : ℕ) → k < l.len → is_scheme_character (get_or l.bytes k 0) ≡ true

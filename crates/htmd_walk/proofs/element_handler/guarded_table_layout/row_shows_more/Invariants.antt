@@ -1,7 +1,0 @@
-use Rattle.std.proofs.Common.{◌≡◌, false, take}
-use Rattle.std.specs.List.{list_any}
-use Rattle.htmd_walk.specs.GuardedTableLayouts.{is_seen_in_row}
-use Rattle.htmd_walk.proofs.element_handler.guarded_table_layout.row_shows_more.Given as goal
-
-abbrev pub invariant-loop-child : goal.invariant-loop-child
-invariant-loop-child l = list_any (is_seen_in_row l.tree) (take l.child-index l.child-items) ≡ false
