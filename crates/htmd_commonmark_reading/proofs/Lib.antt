@@ -1,0 +1,11 @@
+mod ExampleTexts
+mod LineExamples
+mod LeafExamples
+mod DefinitionExamples
+mod TableExamples
+mod ContainerExamples
+mod ListExamples
+mod EmphasisExamples
+mod LinkExamples
+mod InlineExamples
+mod ViewExamples

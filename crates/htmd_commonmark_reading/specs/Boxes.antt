@@ -1,0 +1,155 @@
+-- Open blocks and what they leave when they are closed (CommonMark 0.31.2, 3.2 and appendix, phase 1). Closed blocks
+-- keep raw text, since inlines can be read only when the last link reference definition is known.
+use Rattle.std.specs.Prelude.{ℕ, Bool, true, false, not, ◌&&◌, ◌||◌, if◌then◌else◌, nat_lt}
+use Rattle.std.specs.Prelude.{List, [], ◌∷◌, ◌++◌, length, Option, Some, None}
+use Rattle.htmd_document.specs.declared.document.Alignment.{Alignment}
+use Rattle.htmd_grammar.specs.Characters.{line_feed}
+use Rattle.htmd_grammar.specs.CharacterClasses.{is_empty, leading_run}
+use Rattle.htmd_commonmark_reading.specs.Characters.{unescaped, is_white}
+use Rattle.htmd_commonmark_reading.specs.Lines.{is_blank_text}
+use Rattle.htmd_commonmark_reading.specs.LinkDefinitions.{Definition, Definitions, definitions}
+use Rattle.htmd_commonmark_reading.specs.Tables.{fitted, cells}
+
+-- A container: a block quote (5.1), or a list item with its marker's sign, its number if it has one, and the columns
+-- before its content (5.2).
+pub data Container : Type 0 where
+  quoting : Container
+  listing : (sign : ℕ) (number : Option ℕ) (columns : ℕ) → Container
+
+mutual
+  -- a closed block; an item is one of its own, and cells are raw
+  pub data Part : Type 0 where
+    text : (s : List ℕ) → Part
+    headed : (level : ℕ) (s : List ℕ) → Part
+    code : (language : Option (List ℕ)) (s : List ℕ) → Part
+    rule : Part
+    html : (s : List ℕ) → Part
+    grid : (alignments : List Alignment) (header : List (List ℕ)) (rows : List (List (List ℕ))) → Part
+    defined : (d : Definition) → Part
+    boxed : (kind : Container) (content : Parts) → Part
+
+  -- closed blocks, each with whether a blank line stands before it
+  pub data Parts : Type 0 where
+    no_parts : Parts
+    part : (gap : Bool) (first : Part) (rest : Parts) → Parts
+
+-- An open leaf with its lines: a paragraph (4.8), indented code (4.4), fenced code with the fence's indentation, sign
+-- and length and the info string (4.5), raw HTML with what ends it, by nothing if a blank line does (4.6), or a table's
+-- rows (GFM 4.10).
+pub data Leaf : Type 0 where
+  paragraph : (earlier : List (List ℕ)) (last : List ℕ) → Leaf
+  indented : (rows : List (List ℕ)) → Leaf
+  fenced : (columns sign count : ℕ) (info : List ℕ) (rows : List (List ℕ)) → Leaf
+  raw : (ends : List (List ℕ)) (rows : List (List ℕ)) → Leaf
+  table : (alignments : List Alignment) (header : List (List ℕ)) (rows : List (List ℕ)) → Leaf
+
+-- An open block: none, a leaf, or a container with the fields of a box.
+pub data Open : Type 0 where
+  nothing : Open
+  leaf : (l : Leaf) → Open
+  within : (kind : Container) (done : Parts) (gap : Bool) (inner : Open) → Open
+
+-- What is closed in a container, whether a blank line stands before the block that is open in it (or, if none is open,
+-- before what comes next), and that block.
+pub record Box : Type 0 where
+  pub done : Parts
+  pub gap : Bool
+  pub inner : Open
+
+abbrev pub box : Parts → Bool → Open → Box
+box d g o = record { done = d; gap = g; inner = o }
+
+abbrev pub joined : Parts → Parts → Parts
+joined no_parts qs = qs
+joined (part g p ps) qs = part g p (joined ps qs)
+
+abbrev pub one_part : Bool → Part → Parts
+one_part g p = part g p no_parts
+
+-- ---- closing
+
+abbrev pub end_line : List (List ℕ) → List ℕ → List ℕ
+end_line [] rest = []
+end_line (l ∷ ls) rest = line_feed ∷ rest
+
+-- lines as one text, with a line feed between two
+abbrev pub joined_lines : List (List ℕ) → List ℕ
+joined_lines [] = []
+joined_lines (l ∷ ls) = l ++ end_line ls (joined_lines ls)
+
+abbrev pub unless_empty : List (List ℕ) → List ℕ → List (List ℕ)
+unless_empty [] l = if is_blank_text l then [] else l ∷ []
+unless_empty (m ∷ ms) l = l ∷ m ∷ ms
+
+-- lines without the blank ones at their end
+abbrev pub without_last_blanks : List (List ℕ) → List (List ℕ)
+without_last_blanks [] = []
+without_last_blanks (l ∷ ls) = unless_empty (without_last_blanks ls) l
+
+abbrev pub is_end_of_word : ℕ → Bool
+is_end_of_word c = is_white c || nat_lt 10 c && nat_lt c 14
+
+abbrev pub nonempty : List ℕ → Option (List ℕ)
+nonempty [] = None
+nonempty (c ∷ s) = Some (c ∷ s)
+
+-- the language of code is the first word of its info string (4.5)
+abbrev pub language : List ℕ → Option (List ℕ)
+language info = nonempty (leading_run (λ c. not (is_end_of_word c)) (unescaped info))
+
+abbrev pub definition_parts : Bool → List Definition → Parts → Parts
+definition_parts g [] ps = ps
+definition_parts g (d ∷ ds) ps = part g (defined d) (definition_parts false ds ps)
+
+abbrev pub is_first : Bool → List Definition → Bool
+is_first g [] = g
+is_first g (d ∷ ds) = false
+
+-- what the text of a paragraph or of a setext heading leaves: the definitions that it begins with, and the rest if
+-- there is any (4.7)
+abbrev pub parts_of : Bool → (List ℕ → Part) → Definitions → Parts
+parts_of g whole d =
+    definition_parts g d.found
+    (if is_empty d.rest then no_parts else one_part (is_first g d.found) (whole d.rest))
+
+abbrev pub closed_leaf : Bool → Leaf → Parts
+closed_leaf g (paragraph earlier last) = parts_of g text (definitions (joined_lines (earlier ++ (last ∷ []))))
+closed_leaf g (indented ls) = one_part g (code None (joined_lines (without_last_blanks ls)))
+closed_leaf g (fenced columns sign count info ls) = one_part g (code (language info) (joined_lines ls))
+closed_leaf g (raw ends ls) = one_part g (html (joined_lines ls))
+closed_leaf g (table alignments header ls) = one_part g (grid alignments header (fitted_rows ls))
+  where
+    fitted_rows : List (List ℕ) → List (List (List ℕ))
+    fitted_rows [] = []
+    fitted_rows (r ∷ rs) = fitted (length alignments) (cells r) ∷ fitted_rows rs
+
+abbrev pub closed : Bool → Open → Parts
+closed g nothing = no_parts
+closed g (leaf l) = closed_leaf g l
+closed g (within k done h o) = one_part g (boxed k (joined done (closed h o)))
+
+-- all that a box leaves
+abbrev pub shut : Box → Parts
+shut b = joined b.done (closed b.gap b.inner)
+
+-- ---- blank lines
+
+abbrev pub ends_blank : List (List ℕ) → Bool
+ends_blank [] = false
+ends_blank (l ∷ []) = is_blank_text l
+ends_blank (l ∷ m ∷ ls) = ends_blank (m ∷ ls)
+
+-- was the last line of a box blank?
+abbrev pub was_blank : Bool → Open → Bool
+was_blank g nothing = g
+was_blank g (leaf (indented ls)) = ends_blank ls
+was_blank g (leaf _) = false
+was_blank g (within quoting done h o) = false
+was_blank g (within (listing sign number columns) done h o) = was_blank h o
+
+-- is the innermost open block a paragraph?
+abbrev pub in_paragraph : Open → Bool
+in_paragraph nothing = false
+in_paragraph (leaf (paragraph earlier last)) = true
+in_paragraph (leaf _) = false
+in_paragraph (within k done g o) = in_paragraph o
