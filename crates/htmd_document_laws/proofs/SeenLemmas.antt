@@ -1,0 +1,176 @@
+-- The visible characters of a tree of which all shows.
+use Rattle.std.proofs.Common.{◌≡◌, ℕ, Bool, true, false, ◌||◌, List, [], ◌∷◌, ◌++◌, refl, ap}
+use Rattle.std.specs.Prelude.{codes, if◌then◌else◌}
+use Rattle.std.specs.Str.{IsUtf8}
+use Rattle.htmd_grammar.specs.Characters.{quotation_mark}
+use Rattle.htmd_grammar.specs.ValueTrees.{AttributePair}
+use Rattle.htmd_nodes.specs.NumberedTrees.{NumberedTree, document, doctype, text, comment, element, NumberedForest, none}
+use Rattle.htmd_nodes.specs.NumberedTrees.{more}
+use Rattle.htmd_document.specs.Attributes.{text_of}
+use Rattle.htmd_document.specs.Roles.{role_of, table_role, heading_or_block, inline_role, is_void, is_image, is_quotation}
+use Rattle.htmd_document.specs.Roles.{is_item, is_cell, is_caption, is_part, is_row}
+use Rattle.htmd_document.specs.Tables.{has, are_blank}
+use Rattle.htmd_document_laws.specs.DocumentTexts.{visible}
+use Rattle.htmd_document_laws.proofs.KindLemmas.{Kind, any-kind}
+
+-- what is seen of an element of this kind
+abbrev pub seen_as : Kind → List AttributePair → List ℕ → List ℕ
+seen_as r attributes inner =
+    if is_image r then visible (text_of (codes "alt") attributes)
+    else (if is_void r then []
+    else (if is_quotation r then (quotation_mark ∷ inner) ++ quotation_mark ∷ [] else inner))
+
+abbrev mutual
+  pub seen : NumberedTree → List ℕ
+  seen (document id children) = seen_all children
+  seen (doctype id) = []
+  seen (text id s) = visible s
+  seen (comment id s) = []
+  seen (element id name attributes children) = seen_as (role_of name) attributes (seen_all children)
+
+  pub seen_all : NumberedForest → List ℕ
+  seen_all none = []
+  seen_all (more tree trees) = seen tree ++ seen_all trees
+
+-- what is seen in it
+abbrev pub seen_in : NumberedTree → List ℕ
+seen_in (document id children) = seen_all children
+seen_in (element id name attributes children) = seen_all children
+seen_in _ = []
+
+-- nothing stands in void elements, and something in quotations
+pub record IsGoodElement (r : Kind) (attributes : List AttributePair) (children : NumberedForest) : Type 0 where
+  pub value : IsUtf8 (text_of (codes "alt") attributes)
+  pub empty : is_void r ≡ true → children ≡ none
+  pub filled : is_quotation r ≡ true → are_blank children ≡ false
+
+abbrev mutual
+  pub IsGood : NumberedTree → Type 0
+  IsGood (document id children) = AreGood children
+  IsGood (doctype id) = Unit {0}
+  IsGood (text id s) = IsUtf8 s
+  IsGood (comment id s) = Unit {0}
+  IsGood (element id name attributes children) =
+      IsGoodElement (role_of name) attributes children × AreGood children
+
+  pub AreGood : NumberedForest → Type 0
+  AreGood none = Unit {0}
+  AreGood (more tree trees) = IsGood tree × AreGood trees
+
+-- ---- kinds of which all that is in them is seen
+
+abbrev pub is_container : Kind → Bool
+is_container r = is_item r || is_cell r || is_caption r || is_part r || is_row r
+
+pub container-as : (attributes : List AttributePair) (inner : List ℕ) (name : List ℕ)
+    → is_container (role_of name) ≡ true → seen_as (role_of name) attributes inner ≡ inner
+unfolding role_of table_role heading_or_block inline_role
+container-as attributes inner name =
+    any-kind (λ (r : Kind). is_container r ≡ true → seen_as r attributes inner ≡ inner) name (record {
+      paragraph = λ e. refl;
+      item = λ e. refl;
+      bullet_list = λ e. refl;
+      numbered_list = λ e. refl;
+      verbatim = λ e. refl;
+      block_quote = λ e. refl;
+      thematic_break = λ e. absurd (clash e);
+      table = λ e. refl;
+      caption = λ e. refl;
+      table_head = λ e. refl;
+      table_body = λ e. refl;
+      row = λ e. refl;
+      cell = λ e. refl;
+      header_cell = λ e. refl;
+      heading_1 = λ e. refl;
+      heading_2 = λ e. refl;
+      heading_3 = λ e. refl;
+      heading_4 = λ e. refl;
+      heading_5 = λ e. refl;
+      heading_6 = λ e. refl;
+      block = λ e. refl;
+      emphasis = λ e. refl;
+      strong = λ e. refl;
+      deleted = λ e. refl;
+      superscript = λ e. refl;
+      subscript = λ e. refl;
+      code = λ e. refl;
+      anchor = λ e. refl;
+      quotation = λ e. absurd (clash e);
+      apart = λ e. refl;
+      line_break = λ e. absurd (clash e);
+      image = λ e. absurd (clash e);
+      input = λ e. refl;
+      plain = λ e. refl;
+    })
+  where
+    clash : false ≡ true → ⊥
+    clash p = (cc)
+
+pub container-seen : (tree : NumberedTree) → has is_container tree ≡ true → seen tree ≡ seen_in tree
+container-seen (document id children) e = refl
+container-seen (doctype id) e = refl
+container-seen (text id s) e = absurd (clash e)
+  where
+    clash : false ≡ true → ⊥
+    clash p = (cc)
+container-seen (comment id s) e = refl
+container-seen (element id name attributes children) e = container-as attributes (seen_all children) name e
+
+pub item-seen : (tree : NumberedTree) → has is_item tree ≡ true → seen tree ≡ seen_in tree
+item-seen (document id children) e = refl
+item-seen (doctype id) e = refl
+item-seen (text id s) e = absurd (clash e)
+  where
+    clash : false ≡ true → ⊥
+    clash p = (cc)
+item-seen (comment id s) e = refl
+item-seen (element id name attributes children) e =
+    container-as attributes (seen_all children) name
+    (ap (λ b. b || is_cell (role_of name) || is_caption (role_of name) || is_part (role_of name) || is_row
+    (role_of name)) e)
+
+-- an element that is neither void nor a quotation
+pub plain-as : (attributes : List AttributePair) (inner : List ℕ) (name : List ℕ) → is_void (role_of name) ≡ false
+    → is_quotation (role_of name) ≡ false → seen_as (role_of name) attributes inner ≡ inner
+unfolding role_of table_role heading_or_block inline_role
+plain-as attributes inner name =
+    any-kind (λ (r : Kind). is_void r ≡ false → is_quotation r ≡ false → seen_as r attributes inner ≡ inner) name
+    (record {
+      paragraph = λ v q. refl;
+      item = λ v q. refl;
+      bullet_list = λ v q. refl;
+      numbered_list = λ v q. refl;
+      verbatim = λ v q. refl;
+      block_quote = λ v q. refl;
+      thematic_break = λ v q. absurd (clash v);
+      table = λ v q. refl;
+      caption = λ v q. refl;
+      table_head = λ v q. refl;
+      table_body = λ v q. refl;
+      row = λ v q. refl;
+      cell = λ v q. refl;
+      header_cell = λ v q. refl;
+      heading_1 = λ v q. refl;
+      heading_2 = λ v q. refl;
+      heading_3 = λ v q. refl;
+      heading_4 = λ v q. refl;
+      heading_5 = λ v q. refl;
+      heading_6 = λ v q. refl;
+      block = λ v q. refl;
+      emphasis = λ v q. refl;
+      strong = λ v q. refl;
+      deleted = λ v q. refl;
+      superscript = λ v q. refl;
+      subscript = λ v q. refl;
+      code = λ v q. refl;
+      anchor = λ v q. refl;
+      quotation = λ v q. absurd (clash q);
+      apart = λ v q. refl;
+      line_break = λ v q. absurd (clash v);
+      image = λ v q. absurd (clash v);
+      input = λ v q. refl;
+      plain = λ v q. refl;
+    })
+  where
+    clash : true ≡ false → ⊥
+    clash p = (cc)

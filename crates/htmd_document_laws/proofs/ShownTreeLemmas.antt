@@ -1,0 +1,156 @@
+-- What shows of a tree is what is seen of it.
+use Rattle.std.proofs.Common.{◌≡◌, ℕ, Bool, true, false, cond, not, ◌&&◌, List, [], ◌∷◌, ◌++◌, refl, sym, ap, ◌∙◌}
+use Rattle.std.proofs.Common.{filter}
+use Rattle.std.specs.Prelude.{codes}
+use Rattle.std.specs.Str.{chars, IsUtf8}
+use Rattle.std.proofs.Math.Utf8.{scalars, scalar}
+use Rattle.std.proofs.lemmas.Str.{IsUtf8-from_is_utf8, scalars-chars}
+use Rattle.htmd_grammar.specs.Characters.{quotation_mark}
+use Rattle.htmd_grammar.proofs.Cases.{test}
+use Rattle.htmd_nodes.specs.NumberedTrees.{NumberedTree, document, doctype, text, comment, element, NumberedForest, none}
+use Rattle.htmd_nodes.specs.NumberedTrees.{more}
+use Rattle.htmd_document.specs.AllTexts.{quoted}
+use Rattle.htmd_document.specs.Attributes.{text_of}
+use Rattle.htmd_document.specs.Roles.{role_of, is_void, is_image, is_quotation}
+use Rattle.htmd_document.specs.Shown.{Sight, shows, shown, shown_all}
+use Rattle.htmd_document.specs.ShownTexts.{is_shown, shown_text}
+use Rattle.htmd_document.specs.Spaces.{is_white}
+use Rattle.htmd_document.specs.Tables.{are_blank}
+use Rattle.htmd_document_laws.specs.DocumentTexts.{is_visible, visible}
+use Rattle.htmd_document_laws.specs.TreeTexts.{text_of_tree, text_of_trees, has_text_values, holds_texts}
+use Rattle.htmd_document_laws.specs.TreeTexts.{hold_texts, has_filled_quotations, have_filled_quotations}
+use Rattle.htmd_document_laws.proofs.VisibleLemmas.{Shows, shows-nil, shows-itself, shows-append, shows-encodes, seen-same}
+use Rattle.htmd_document_laws.proofs.VisibleLemmas.{both-true}
+use Rattle.htmd_document_laws.proofs.ElementLemmas.{mark-shows}
+use Rattle.htmd_document_laws.proofs.SeenLemmas.{seen, seen_all, IsGood, AreGood}
+
+-- ---- texts
+
+scalars-filter : (p : ℕ → Bool) (cs : List ℕ) → scalars cs ≡ true → scalars (filter p cs) ≡ true
+scalars-filter p [] e = e
+scalars-filter p (c ∷ cs) e =
+    let parts = both-true (scalar c) (scalars cs) e in
+    either (p c) c (filter p cs) parts.0 (scalars-filter p cs parts.1)
+  where
+    either : (b : Bool) (c : ℕ) (cs : List ℕ) → scalar c ≡ true → scalars cs ≡ true → scalars
+        (cond b (c ∷ cs) cs) ≡ true
+    either true c cs g h = ap (λ b. b && scalars cs) g ∙ h
+    either false c cs g h = h
+
+visible-shown : (cs : List ℕ) → filter is_visible (filter is_shown cs) ≡ filter is_visible cs
+visible-shown [] = refl
+visible-shown (c ∷ cs) =
+    let rest : filter is_visible (filter is_shown cs) ≡ filter is_visible cs = visible-shown cs in
+    test (is_shown c)
+    (λ e. ap (λ b. filter is_visible (cond b (c ∷ filter is_shown cs) (filter is_shown cs))) e
+    ∙ ap (λ xs. cond (is_visible c) (c ∷ xs) xs) rest)
+    (λ e. ap (λ b. filter is_visible (cond b (c ∷ filter is_shown cs) (filter is_shown cs))) e
+    ∙ (rest ∙ sym (ap (λ b. cond (b && not (is_white c)) (c ∷ filter is_visible cs) (filter is_visible cs)) e)))
+
+-- the text that shows says what the text says
+shown-shows : (s : List ℕ) → IsUtf8 s → Shows (shown_text s) (visible s)
+shown-shows s u =
+    seen-same (shown_text s) (filter is_visible (filter is_shown (chars s))) (visible s) (visible-shown (chars s))
+    (shows-encodes (filter is_shown (chars s)) (scalars-filter is_shown (chars s) (scalars-chars s u)))
+
+-- ---- what is said
+
+said-shows : (i v q : Bool) (alt inner : List ℕ) (kids : NumberedForest) → IsUtf8 alt → Shows inner (seen_all kids)
+    → Shows (cond i alt (cond v [] (cond q (quoted inner) inner)))
+    (cond i (visible alt) (cond v [] (cond q ((quotation_mark ∷ seen_all (cond v none kids)) ++ quotation_mark ∷ [])
+    (seen_all (cond v none kids)))))
+said-shows true v q alt inner kids u h = shows-itself alt u
+said-shows false true q alt inner kids u h = shows-nil
+said-shows false false true alt inner kids u h =
+    shows-append (quotation_mark ∷ inner) (quotation_mark ∷ []) (quotation_mark ∷ seen_all kids) (quotation_mark ∷ [])
+    (shows-append (quotation_mark ∷ []) inner (quotation_mark ∷ []) (seen_all kids) mark-shows h) mark-shows
+said-shows false false false alt inner kids u h = h
+
+more-shows : (b : Bool) (s rest : List ℕ) (t : NumberedTree) (ts : NumberedForest) → Shows s (seen t)
+    → Shows rest (seen_all ts) → Shows (cond b s [] ++ rest) (seen_all (cond b (more t ts) ts))
+more-shows true s rest t ts g h = shows-append s rest (seen t) (seen_all ts) g h
+more-shows false s rest t ts g h = h
+
+module _ (sight : Sight) where
+  mutual
+    pub tree-shows : (t : NumberedTree) → holds_texts t ≡ true → Shows (text_of_tree sight t) (seen (shown sight t))
+    tree-shows (document id children) e = trees-show children e
+    tree-shows (doctype id) e = shows-nil
+    tree-shows (text id s) e =
+        let u : IsUtf8 s = IsUtf8-from_is_utf8 s e in
+        seen-same s (visible s) (visible (shown_text s)) (sym (shown-shows s u).is) (shows-itself s u)
+    tree-shows (comment id s) e = shows-nil
+    tree-shows (element id name attributes children) e =
+        let parts = both-true (has_text_values attributes) (hold_texts children) e in
+        let alt : List ℕ = text_of (codes "alt") attributes in
+        said-shows (is_image (role_of name)) (is_void (role_of name)) (is_quotation (role_of name)) alt
+        (text_of_trees sight children) (shown_all sight children) (IsUtf8-from_is_utf8 alt parts.0)
+        (trees-show children parts.1)
+
+    pub trees-show : (ts : NumberedForest) → hold_texts ts ≡ true
+        → Shows (text_of_trees sight ts) (seen_all (shown_all sight ts))
+    trees-show none e = shows-nil
+    trees-show (more t ts) e =
+        let parts = both-true (holds_texts t) (hold_texts ts) e in
+        more-shows (shows sight t) (text_of_tree sight t) (text_of_trees sight ts) (shown sight t) (shown_all sight ts)
+        (tree-shows t parts.0) (trees-show ts parts.1)
+
+-- ---- what shows of a tree is good
+
+filled-content : (q b : Bool) → not (q && b) ≡ true → q ≡ true → b ≡ false
+filled-content true true e h = absurd (clash e)
+  where
+    clash : false ≡ true → ⊥
+    clash p = (cc)
+filled-content true false e h = refl
+filled-content false b e h = absurd (clash h)
+  where
+    clash : false ≡ true → ⊥
+    clash p = (cc)
+
+good-content : (v : Bool) (kids : NumberedForest) → have_filled_quotations (cond v none kids) ≡ true
+    → (have_filled_quotations kids ≡ true → AreGood kids) → AreGood (cond v none kids)
+good-content true kids e h = tt
+good-content false kids e h = h e
+
+good-more : (b : Bool) (t : NumberedTree) (ts : NumberedForest) → have_filled_quotations (cond b (more t ts) ts) ≡ true
+    → (has_filled_quotations t ≡ true → IsGood t) → (have_filled_quotations ts ≡ true → AreGood ts)
+    → AreGood (cond b (more t ts) ts)
+good-more true t ts e g h =
+    let parts = both-true (has_filled_quotations t) (have_filled_quotations ts) e in
+    (g parts.0, h parts.1)
+good-more false t ts e g h = h e
+
+scalars-text : (s : List ℕ) → IsUtf8 s → IsUtf8 (shown_text s)
+scalars-text s u = (shown-shows s u).utf8
+
+module _ (sight : Sight) where
+  mutual
+    pub tree-good : (t : NumberedTree) → holds_texts t ≡ true → has_filled_quotations (shown sight t) ≡ true
+        → IsGood (shown sight t)
+    tree-good (document id children) e q = trees-good children e q
+    tree-good (doctype id) e q = tt
+    tree-good (text id s) e q = scalars-text s (IsUtf8-from_is_utf8 s e)
+    tree-good (comment id s) e q = tt
+    tree-good (element id name attributes children) e q =
+        let parts = both-true (has_text_values attributes) (hold_texts children) e in
+        let void : Bool = is_void (role_of name) in
+        let kids : NumberedForest = shown_all sight children in
+        let inner : NumberedForest = cond void none kids in
+        let marks = both-true (not (is_quotation (role_of name) && are_blank inner)) (have_filled_quotations inner) q
+        in (
+          record {
+            value = IsUtf8-from_is_utf8 (text_of (codes "alt") attributes) parts.0;
+            empty = λ v. ap (λ b. cond b none kids) v;
+            filled = filled-content (is_quotation (role_of name)) (are_blank inner) marks.0;
+          },
+          good-content void kids marks.1 (λ f. trees-good children parts.1 f),
+        )
+
+    pub trees-good : (ts : NumberedForest) → hold_texts ts ≡ true → have_filled_quotations (shown_all sight ts) ≡ true
+        → AreGood (shown_all sight ts)
+    trees-good none e q = tt
+    trees-good (more t ts) e q =
+        let parts = both-true (holds_texts t) (hold_texts ts) e in
+        good-more (shows sight t) (shown sight t) (shown_all sight ts) q (λ f. tree-good t parts.0 f)
+        (λ f. trees-good ts parts.1 f)

@@ -1,0 +1,4 @@
+-- The laws of documents.
+pub mod DocumentTexts
+pub mod TreeTexts
+pub mod TextLaws

@@ -1,0 +1,68 @@
+-- What a tree says: its texts that aren't hidden, the descriptions of images, and the marks of quotations.
+use Rattle.std.specs.Prelude.{ℕ, Bool, true, not, ◌&&◌, if◌then◌else◌, List, [], ◌++◌, codes}
+use Rattle.std.specs.Str.{is_utf8}
+use Rattle.htmd_grammar.specs.ValueTrees.{AttributePair}
+use Rattle.htmd_nodes.specs.NumberedTrees.{NumberedTree, document, doctype, text, comment, element, NumberedForest, none}
+use Rattle.htmd_nodes.specs.NumberedTrees.{more}
+use Rattle.htmd_document.specs.AllTexts.{quoted}
+use Rattle.htmd_document.specs.Attributes.{text_of}
+use Rattle.htmd_document.specs.Roles.{role_of, is_void, is_image, is_quotation}
+use Rattle.htmd_document.specs.Shown.{Sight, shows}
+use Rattle.htmd_document.specs.Tables.{are_blank}
+
+-- what an element says, by its name: a `br` and an `hr` say nothing
+abbrev pub said_by : List ℕ → List AttributePair → List ℕ → List ℕ
+said_by name attributes inner =
+    if is_image (role_of name) then text_of (codes "alt") attributes
+    else (if is_void (role_of name) then []
+    else (if is_quotation (role_of name) then quoted inner else inner))
+
+abbrev mutual
+  -- all that a tree says, but what is hidden in it
+  pub text_of_tree : Sight → NumberedTree → List ℕ
+  text_of_tree sight (document id children) = text_of_trees sight children
+  text_of_tree sight (doctype id) = []
+  text_of_tree sight (text id s) = s
+  text_of_tree sight (comment id s) = []
+  text_of_tree sight (element id name attributes children) =
+      said_by name attributes (text_of_trees sight children)
+
+  pub text_of_trees : Sight → NumberedForest → List ℕ
+  text_of_trees sight none = []
+  text_of_trees sight (more tree trees) =
+      (if shows sight tree then text_of_tree sight tree else []) ++ text_of_trees sight trees
+
+-- ---- texts
+
+-- what an element says of itself is text
+abbrev pub has_text_values : List AttributePair → Bool
+has_text_values attributes = is_utf8 (text_of (codes "alt") attributes)
+
+abbrev mutual
+  -- all that a tree holds is text in UTF-8, as it is in each tree of the source
+  pub holds_texts : NumberedTree → Bool
+  holds_texts (document id children) = hold_texts children
+  holds_texts (doctype id) = true
+  holds_texts (text id s) = is_utf8 s
+  holds_texts (comment id s) = true
+  holds_texts (element id name attributes children) = has_text_values attributes && hold_texts children
+
+  pub hold_texts : NumberedForest → Bool
+  hold_texts none = true
+  hold_texts (more tree trees) = holds_texts tree && hold_texts trees
+
+-- ---- quotations
+
+abbrev mutual
+  -- something shows in each quotation
+  pub has_filled_quotations : NumberedTree → Bool
+  has_filled_quotations (document id children) = have_filled_quotations children
+  has_filled_quotations (doctype id) = true
+  has_filled_quotations (text id s) = true
+  has_filled_quotations (comment id s) = true
+  has_filled_quotations (element id name attributes children) =
+      not (is_quotation (role_of name) && are_blank children) && have_filled_quotations children
+
+  pub have_filled_quotations : NumberedForest → Bool
+  have_filled_quotations none = true
+  have_filled_quotations (more tree trees) = has_filled_quotations tree && have_filled_quotations trees
