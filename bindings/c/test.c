@@ -5,6 +5,7 @@
 #include "htmd.h"
 
 #include <pthread.h>
+#include <stddef.h>
 #include <stdio.h>
 #include <stdlib.h>
 #include <string.h>
@@ -173,7 +174,9 @@ static void test_numbers(void) {
         for (int number = 0; number < 256; number++) {
             htmd_options options = defaults();
             memcpy((uint8_t *)&options + at, &(uint8_t){(uint8_t)number}, 1);
-            int is_good = at == 0 ? number == HTMD_OPTIONS_VERSION : at > 14 ? number == 0 : number < counts[at];
+            int is_good = at == 0 ? number == HTMD_OPTIONS_VERSION : at > 15 ? number == 0 : number < counts[at];
+            if (at == offsetof(htmd_options, output) && number == HTMD_MDAST)
+                continue; /* JSON, which test_modes asks for */
             struct answer answer = call("<p>a</p>", 8, &options, 8);
             if (is_good) {
                 CHECK(says(&answer, "a"));
