@@ -22,7 +22,9 @@ FOLDER = os.path.dirname(os.path.abspath(__file__))
 CODES = {"\\": "\\", "n": "\n", "r": "\r", "t": "\t", "0": "\0"}
 NAMES_OF_CODES = {character: name for name, character in CODES.items()}
 # What Markdown writes the same whatever these options of the program say of pages and of HTML.
-IDLE_OPTIONS = {"--text", "--body", "--html5", "--no-scripting", "--faithful", "--explain"}
+IDLE_OPTIONS = {"--text", "--body", "--html5", "--no-scripting", "--faithful", "--explain", "--front-matter"}
+# The same of options with a value: they change the tree of a page, and a text has none.
+IDLE_VALUES = ("--select=", "--drop=", "--base=")
 PARAGRAPHS = re.compile(r"(?:<p>[^<\0]*</p>|[^<\0])*")
 # "`&`, a name and `;` are a character, for these 44 names" (docs/GRAMMAR.md, Characters and references)
 NAMES = (
@@ -120,7 +122,8 @@ def question(settings):
     words = settings.split(" ")
     if words == ["text"]:
         return ""
-    if words[0] == "program" and "--text" in words and IDLE_OPTIONS.issuperset(words[1:]):
+    given = {word for word in words[1:] if not word.startswith(IDLE_VALUES)}
+    if words[0] == "program" and "--text" in words and IDLE_OPTIONS.issuperset(given):
         # "Line feeds at both ends of the answer are cut, and the program adds one after it."
         return "\n"
     return None

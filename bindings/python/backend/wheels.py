@@ -25,8 +25,10 @@ Requires-Python: >=3.8
 
 
 def build_wheel(wheel_directory, config_settings=None, metadata_directory=None):
-    """Writes the wheel into a folder, and returns its name."""
-    tag = "py3-none-" + sysconfig.get_platform().replace("-", "_").replace(".", "_")
+    """Writes the wheel into a folder, and returns its name. It is for this machine's platform, unless the settings name
+    another `platform`."""
+    platform = (config_settings or {}).get("platform") or sysconfig.get_platform()
+    tag = "py3-none-" + platform.replace("-", "_").replace(".", "_")
     wheel = f"Wheel-Version: 1.0\nGenerator: {NAME}\nRoot-Is-Purelib: false\nTag: {tag}\n"
     parts = [(f"{NAME}/{name}", _content(name)) for name in FILES]
     parts += [(f"{INFO}/METADATA", METADATA.encode()), (f"{INFO}/WHEEL", wheel.encode())]

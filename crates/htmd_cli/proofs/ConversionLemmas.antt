@@ -13,7 +13,8 @@ use Rattle.htmd.specs.FaultKind.{FaultKind}
 use Rattle.htmd.specs.Conversions.{IsMarkdownOf, IsMarkdownOfPage, IsHtml5Markdown, IsRefused, IsPageRefused}
 use Rattle.htmd_cli.specs.Settings.{Settings}
 use Rattle.htmd_cli.specs.Conversion.{paragraph, paragraph_markdown, skipping, config_of, IsMarkdownBy, IsRefusedBy}
-use Rattle.htmd_cli.specs.Conversion.{IsReadable, reads_any, text_in, IsOutputBy}
+use Rattle.htmd_cli.specs.Conversion.{IsReadable, reads_any, text_in, IsOutputBy, SelectsNothing}
+use Rattle.htmd_cli.specs.Runs.{IsUnselected}
 
 -- one equation after the other
 pub then_same : (x y z : Config) → x ≡ y → y ≡ z → x ≡ z
@@ -121,3 +122,9 @@ pub of_readable : (settings : Settings) (input text found s : List ℕ)
     → IsOutputBy settings found s
     → IsReadable settings input × IsOutputBy settings (text_in settings input) s
 of_readable settings input text found s (r, t) f m = (r, subst (λ x. IsOutputBy settings x s) (f ∙ t) m)
+
+-- nothing of it is selected
+pub of_unselected : (settings : Settings) (input text found : List ℕ)
+    → IsReadable settings input × (text ≡ text_in settings input) → found ≡ text
+    → SelectsNothing settings found → IsUnselected settings input
+of_unselected settings input text found (r, t) f n = (r, subst (SelectsNothing settings) (f ∙ t) n)

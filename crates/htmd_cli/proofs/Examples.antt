@@ -1,5 +1,7 @@
 -- Worked examples of what the program writes.
-use Rattle.std.proofs.Common.{◌≡◌, ℕ, List, [], ◌∷◌, true, false, codes, refl}
+use Rattle.std.proofs.Common.{◌≡◌, ℕ, List, [], ◌∷◌, true, false, codes, refl, Some}
+use Rattle.htmd.specs.Items.{Item}
+use Rattle.htmd_pages.specs.Reading.{read}
 use Rattle.htmd.specs.Blocks.{is_block}
 use Rattle.htmd.specs.NumberedTrees.{tree_of, forest_from}
 use Rattle.htmd.specs.Ancestors.{ancestors_of, ancestors_up}
@@ -7,9 +9,10 @@ use Rattle.htmd.specs.Rendering.{written_within}
 use Rattle.htmd.specs.Markdown.{markdown}
 use Rattle.htmd.specs.Choice.{Config}
 use Rattle.htmd.specs.BuiltIn.{built_in}
-use Rattle.htmd_cli.specs.Settings.{options_of}
-use Rattle.htmd_cli.specs.Options.{Request, after, meaning, known_options}
-use Rattle.htmd_cli.specs.Conversion.{paragraph_markdown, paragraph_output}
+use Rattle.htmd_cli.specs.Settings.{default_settings, options_of}
+use Rattle.htmd_cli.specs.Options.{Request, after, default_request, meaning, known_options}
+use Rattle.htmd_cli.specs.Changes.{changes_page, part_of}
+use Rattle.htmd_cli.specs.Conversion.{paragraph_markdown, paragraph_output, after_head}
 
 abbrev plain : Config
 plain = built_in (options_of false)
@@ -39,3 +42,18 @@ options : (request : Request) → (by (codes "--web") request ≡ by (codes "--g
     × ((by (codes "--faithful") (by (codes "--guarded") request)).settings.guarded ≡ false)
     × ((by (codes "--guarded") (by (codes "--faithful") request)).settings.guarded ≡ true)
 options request = (refl, refl, refl)
+
+-- without further options a page stays as it is
+unchanged : (page : List Item) → (changes_page default_settings ≡ false) × (part_of default_settings page ≡ Some page)
+unchanged page = (refl, refl)
+
+-- selectors that are given add up, as if a comma stood between them
+selectors : (by (codes "--drop=.b") (by (codes "--drop=a") default_request)).settings.dropped
+    ≡ (by (codes "--drop=a,.b") default_request).settings.dropped
+unfolding read
+selectors = refl
+
+-- what the head says stands between two lines, if it says anything
+heads : (after_head (codes "lang: \"en\"\n") (codes "a") ≡ codes "---\nlang: \"en\"\n---\n\na")
+    × (after_head [] (codes "a") ≡ codes "a")
+heads = (refl, refl)

@@ -1,10 +1,10 @@
 -- Options, their values and what they ask for, step by step.
-use Rattle.std.proofs.Common.{◌≡◌, ℕ, suc, ◌+◌, ◌<◌, Bool, true, false, ◌&&◌, ◌||◌, List, [], ◌∷◌, ◌++◌}
-use Rattle.std.proofs.Common.{length, drop, map, get_or, eqb, refl, sym, ◌∙◌, ap, arith, append_assoc}
-use Rattle.std.proofs.Common.{Option, Some, None, MatchOption}
+use Rattle.std.proofs.Common.{◌≡◌, ℕ, zero, suc, ◌+◌, ◌<◌, Bool, true, false, ◌&&◌, ◌||◌, List, [], ◌∷◌, ◌++◌}
+use Rattle.std.proofs.Common.{length, drop, map, get_or, eqb, refl, sym, ◌∙◌, ap, subst, arith, append_assoc}
+use Rattle.std.proofs.Common.{Option, Some, None, MatchOption, option_map, is_some, ◌⊎◌, inl, inr}
 use Rattle.std.specs.Borrow.{Bor}
 use Rattle.std.specs.Str.Pattern.{LacksTextAt, StripsPrefix, FindsTextPrefix}
-use Rattle.std.specs.List.{list_all, position_or_len, before_first, after_first}
+use Rattle.std.specs.List.{list_all, list_any, position_or_len, before_first, after_first}
 use Rattle.std.specs.declared.alloc.Global.{Global}
 use Rattle.std.specs.declared.string.String.{String}
 use Rattle.std.proofs.lemmas.List.{drop_more, map_push}
@@ -12,7 +12,12 @@ use Rattle.std.proofs.lemmas.Bool.{eqb-true}
 use Rattle.std.proofs.lemmas.Bool.Decides.{nat_tests}
 use Rattle.htmd.specs.CharacterClasses.{begins_with}
 use Rattle.htmd_cli.specs.Options.{Request, is_given, request_after, request_by, default_request}
-use Rattle.htmd_cli.specs.Options.{number_behind, with_digit, parts, is_filled}
+use Rattle.htmd_cli.specs.Options.{number_behind, with_digit, parts, is_filled, selectors, are_known, is_known}
+use Rattle.htmd_cli.specs.Options.{takes_memory}
+use Rattle.htmd_cli.specs.OptionRows.{IsOptionFault}
+use Rattle.htmd_cli.specs.declared.requests.OptionFault.{OptionFault}
+use Rattle.htmd_cli.specs.declared.requests.OptionFault.TheVariants as fault
+use Rattle.htmd_pages.specs.Steps.{Step}
 
 -- either way, with what the test says
 test : {P : Type 0} (b : Bool) → (b ≡ true → P) → (b ≡ false → P) → P
@@ -120,3 +125,65 @@ pub last_name : (names now : List (Bor (List ℕ))) (name : Bor (List ℕ)) (s :
 last_name names now name s e n f =
     ap texts e ∙ (map_push (λ n. n.now) names name
     ∙ (ap (λ x. texts names ++ (x ∷ [])) n ∙ ap (λ x. texts names ++ x) (sym (one_part s f))))
+
+-- ---- selectors
+
+-- the fault of an option whose value is selectors
+pub selector_fault : (f : List Step → Request → Request) (e : OptionFault) (value : List ℕ)
+    → (selectors value ≡ None) ⊎ (e ≡ fault.Memory)
+    → IsOptionFault e (is_some (option_map f (selectors value))) true
+selector_fault f fault.Memory value h = refl
+selector_fault f (fault.Unknown option) value (inl n) = rw n refl
+selector_fault f (fault.Unknown option) value (inr m) = absurd (cc)
+selector_fault f (fault.Selector option error) value (inl n) = rw n refl
+selector_fault f (fault.Selector option error) value (inr m) = absurd (cc)
+
+-- ---- options that are left
+
+-- one that isn't known among the last ones isn't known
+pub unknown_later : (options : List (String Global)) (i : ℕ) → are_known (drop i options) ≡ false
+    → are_known options ≡ false
+unknown_later options zero e = e
+unknown_later [] (suc i) e = e
+unknown_later (x ∷ s) (suc i) e =
+    let n : are_known s ≡ false = unknown_later s i e in
+    test (is_known x) (λ q. rw (q, n) refl) (λ q. rw q refl)
+
+-- if no value of all is read in memory, none of the last ones is
+pub untaken_later : (options : List (String Global)) (i : ℕ) → list_any takes_memory options ≡ false
+    → list_any takes_memory (drop i options) ≡ false
+untaken_later options zero e = e
+untaken_later [] (suc i) e = e
+untaken_later (x ∷ s) (suc i) e =
+    test (takes_memory x) (λ q. let z = rw q at e in absurd (cc))
+    (λ q. let z = rw q at e in untaken_later s i z)
+
+-- the option at a place, with those after it
+option_at : (options : List (String Global)) (x : String Global) (i : ℕ) → i < length options
+    → x ≡ get_or options i x → drop i options ≡ x ∷ drop (i + 1) options
+option_at options x i l e = drop_more options i x l ∙ ap (λ y. y ∷ drop (i + 1) options) (sym e)
+
+-- one known option more
+pub known_more : (options : List (String Global)) (x : String Global) (i : ℕ) → i < length options
+    → x ≡ get_or options i x → is_known x ≡ true → are_known (drop i options) ≡ are_known options
+    → are_known (drop (i + 1) options) ≡ are_known options
+known_more options x i l e k h =
+    sym (ap are_known (option_at options x i l e) ∙ ap (λ b. b && are_known (drop (i + 1) options)) k) ∙ h
+
+no_first : (a b : Bool) → (a || b) ≡ false → a ≡ false
+no_first true b e = absurd (cc)
+no_first false b e = refl
+
+pub untaken_at : (options : List (String Global)) (x : String Global) (i : ℕ) → i < length options
+    → x ≡ get_or options i x → list_any takes_memory (drop i options) ≡ false → takes_memory x ≡ false
+untaken_at options x i l e h =
+    no_first (takes_memory x) (list_any takes_memory (drop (i + 1) options))
+    (sym (ap (list_any takes_memory) (option_at options x i l e)) ∙ h)
+
+pub second : (a b : Bool) → (a || b) ≡ true → a ≡ false → b ≡ true
+second true b e f = absurd (cc)
+second false b e f = e
+
+pub memory_fault : (e : OptionFault) (known takes : Bool) → e ≡ fault.Memory → IsOptionFault e known takes
+    → (takes || known) ≡ true
+memory_fault e known takes m h = subst (λ e. IsOptionFault e known takes) m h

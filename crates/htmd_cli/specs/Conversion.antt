@@ -1,5 +1,6 @@
 -- What an input becomes by settings, and what a refusal of it says.
 use Rattle.std.specs.Prelude.{◌≡◌, ◌&&◌, ◌||◌, ℕ, Bool, true, not, if◌then◌else◌, List, [], ◌∷◌, ◌++◌, codes, MatchBool}
+use Rattle.std.specs.Prelude.{length, take, Some, None}
 use Rattle.std.specs.Prelude.{IsUtf8, IsSome}
 use Rattle.std.specs.Option.{unwrap_or}
 use Rattle.htmd.specs.Characters.{line_feed}
@@ -9,18 +10,20 @@ use Rattle.htmd.specs.Choice.{Config, no_handler, with_handler, with_options}
 use Rattle.htmd.specs.Defaults.{default_options}
 use Rattle.htmd.specs.BuiltIn.{built_in}
 use Rattle.htmd.specs.Markdown.{markdown}
-use Rattle.htmd.specs.Conversions.{IsMarkdownOf, IsMarkdownOfPage, IsRefused, IsPageRefused, IsHtml5Markdown}
+use Rattle.htmd.specs.Conversions.{IsMarkdownOf, IsMarkdownOfPage, IsRefused, IsPageRefused, IsHtml5Markdown, IsTreeOf}
 use Rattle.htmd.specs.Bodies.{body_part}
 use Rattle.htmd.specs.PageDocuments.{document_of_items, html5_page_document, IsDocumentOf, document_options}
 use Rattle.htmd.specs.Documents.{Blocks}
-use Rattle.htmd.specs.Mdast.{mdast_of}
+use Rattle.htmd.specs.Mdast.{mdast_of, mdast_with_front_matter}
 use Rattle.htmd.specs.DocumentMarkdown.{markdown_of}
 use Rattle.htmd.specs.Converters.{handlers_of, scripting_of, skipped_of}
 use Rattle.htmd.specs.declared.converter.HtmlToMarkdown.{HtmlToMarkdown}
 use Rattle.htmd_encodings.specs.declared.encodings.UnsupportedEncoding.{UnsupportedEncoding}
 use Rattle.htmd_encodings.specs.declared.encodings.Named.TheVariants.{Unsupported}
 use Rattle.htmd_encodings.specs.Decoding.{encoding_of, page_text}
+use Rattle.htmd_html5.specs.Documents.{html5_document}
 use Rattle.htmd_cli.specs.Settings.{Settings}
+use Rattle.htmd_cli.specs.Changes.{changes_page, head_of, part_of}
 
 -- the Document, and under it a `p`
 abbrev pub empty_paragraph : List Item
@@ -102,12 +105,58 @@ written settings document =
     if settings.mdast then mdast_of document
     else markdown_of (document_options settings.options) document
 
--- this is what an input becomes: its document as it is written, or its Markdown by the handlers
-abbrev pub IsOutputBy : Settings → List ℕ → List ℕ → Type 0
-IsOutputBy settings input output =
+-- this is what an input becomes if its tree stays as it is: its document as it is written, or its Markdown by the
+-- handlers
+abbrev pub IsPlainOutput : Settings → List ℕ → List ℕ → Type 0
+IsPlainOutput settings input output =
     MatchBool (writes_document settings)
     ((document : Blocks) × IsDocumentBy settings input document × (output ≡ written settings document))
     (IsMarkdownBy settings input output)
+
+-- ---- a page whose tree is looked at or changed
+
+-- this is the tree of a page: of any page as browsers read it, of a page's body or of all
+abbrev pub IsPageTree : Settings → List ℕ → List Item → Type 0
+IsPageTree settings input page =
+    MatchBool settings.html5 (page ≡ html5_document settings.scripting input)
+    (IsTreeOf settings.scripting (strict_part settings input) page)
+
+-- Markdown after what the head of its page says, which stands between two lines `---`, if it says anything
+abbrev pub after_head : List ℕ → List ℕ → List ℕ
+after_head [] markdown = markdown
+after_head (b ∷ s) markdown = codes "---\n" ++ (b ∷ s) ++ codes "---\n\n" ++ markdown
+
+-- the JSON of a document after what the head of its page says, without the last line feed of that
+abbrev pub mdast_after : List ℕ → Blocks → List ℕ
+mdast_after [] document = mdast_of document
+mdast_after (b ∷ s) document = mdast_with_front_matter (take (length s) (b ∷ s)) document
+
+-- what is written of a tree, after what the head of its page says
+unfoldable pub tree_output : Settings → List ℕ → List Item → List ℕ
+tree_output settings head tree =
+    if settings.mdast then mdast_after head (document_in settings tree)
+    else after_head head (if settings.guarded
+    then markdown_of (document_options settings.options) (document_in settings tree)
+    else markdown (config_of settings) tree 0)
+
+-- this is what a page becomes whose tree is looked at or changed: what is written of the part of it that is converted,
+-- after what its head says
+abbrev pub IsChangedOutput : Settings → List ℕ → List ℕ → Type 0
+IsChangedOutput settings input output =
+    (page : List Item) × IsPageTree settings input page
+    × (part : List Item) × (part_of settings page ≡ Some part)
+    × (output ≡ tree_output settings (head_of settings page) part)
+
+-- this is what an input becomes
+abbrev pub IsOutputBy : Settings → List ℕ → List ℕ → Type 0
+IsOutputBy settings input output =
+    MatchBool (changes_page settings) (IsChangedOutput settings input output) (IsPlainOutput settings input output)
+
+-- the input is a page of which no element is selected
+abbrev pub SelectsNothing : Settings → List ℕ → Type 0
+SelectsNothing settings input =
+    (changes_page settings ≡ true) × (page : List Item) × IsPageTree settings input page
+    × (part_of settings page ≡ None)
 
 -- the input, or its body, is outside the grammar, and this place of the input and this kind are right
 abbrev pub IsRefusedBy : Settings → List ℕ → ℕ → FaultKind → Type 0

@@ -24,6 +24,14 @@ IsRowFault error = (error ≡ run.Read) ⊎ ((error ≡ run.Write) ⊎ (error �
 -- what an input without a text ends at
 abbrev pub IsTextFault : RunError → Type 0
 IsTextFault (run.Refused place kind) = ⊥
+IsTextFault run.NothingSelected = ⊥
 IsTextFault run.Read = ⊥
 IsTextFault run.Write = ⊥
 IsTextFault _ = ⊤
+
+-- what a text that becomes nothing ends at
+abbrev pub IsOutputFault : RunError → Type 0
+IsOutputFault (run.Refused place kind) = ⊤
+IsOutputFault run.NothingSelected = ⊤
+IsOutputFault run.Memory = ⊤
+IsOutputFault _ = ⊥

@@ -6,6 +6,7 @@ pub use Rattle.htmd_streams.specs.Lines
 pub use Rattle.htmd_streams.specs.Fields
 pub mod Failures
 pub mod Settings
+pub mod Changes
 pub mod Conversion
 pub mod Runs
 pub mod Options

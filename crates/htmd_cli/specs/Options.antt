@@ -22,6 +22,11 @@ use Rattle.htmd.specs.TranslationMode.TheVariants as translation
 use Rattle.htmd.specs.Options.{Options}
 use Rattle.htmd_encodings.specs.declared.encodings.Encoding.{Encoding}
 use Rattle.htmd_encodings.specs.Labels.{encoding_named}
+use Rattle.std.specs.Result.{result_ok}
+use Rattle.htmd_pages.specs.Steps.{Step}
+use Rattle.htmd_pages.specs.Reading.{steps_of_text}
+use Rattle.url.specs.Parts.{Parts}
+use Rattle.url.specs.Parser.{parse_url}
 use Rattle.htmd_cli.specs.Settings.{Settings, default_settings}
 
 -- what the options ask for: the settings, whether the source is rows with a page each, and whether the help or the
@@ -60,6 +65,14 @@ abbrev pub parts : List ℕ → List (List ℕ)
 parts [] = [] ∷ []
 parts (b ∷ s) = if b == comma then [] ∷ parts s else before_parts b (parts s)
 
+-- the selectors that a text is, if it is some
+abbrev pub selectors : List ℕ → Option (List Step)
+selectors s = result_ok (steps_of_text s)
+
+-- the absolute URL that a text is, if it is one
+abbrev pub url : List ℕ → Option Parts
+url s = result_ok (parse_url None s)
+
 abbrev pub is_filled : List ℕ → Bool
 is_filled [] = false
 is_filled (b ∷ s) = true
@@ -74,6 +87,18 @@ sets_option change = sets (λ settings. record settings { options = change setti
 
 abbrev pub skips : List (List ℕ) → Request → Request
 skips names = sets (λ settings. record settings { skipped = settings.skipped ++ names })
+
+-- further elements are converted
+abbrev pub selects : List Step → Request → Request
+selects steps = sets (λ settings. record settings { selected = settings.selected ++ steps })
+
+-- further elements are left out
+abbrev pub drops : List Step → Request → Request
+drops steps = sets (λ settings. record settings { dropped = settings.dropped ++ steps })
+
+-- addresses are made absolute
+abbrev pub is_based_on : Parts → Request → Request
+is_based_on url = sets (λ settings. record settings { base = Some url })
 
 -- any page, and what a reader sees of it is written
 abbrev pub takes_any_page_guarded : Request → Request
@@ -94,46 +119,75 @@ shows_instead request = record request { shows = true }
 
 -- ---- the options
 
--- an option: all of it, or if it takes a value, what comes before that; and what it does
+-- an option: all of it, or if it takes a value, what comes before that; whether memory is needed to read that value;
+-- and what it does
 pub record KnownOption : Type 0 where
   pub name : List ℕ
   pub takes_value : Bool
+  pub takes_memory : Bool
   pub effect : List ℕ → Option (Request → Request)
+
+-- an option with a value that is read in memory
+abbrev pub parsed : List ℕ → (List ℕ → Option (Request → Request)) → KnownOption
+parsed name effect = record { name = name; takes_value = true; takes_memory = true; effect = effect }
 
 -- an option that is known as a whole
 abbrev pub plain : List ℕ → (Request → Request) → KnownOption
-plain name effect = record { name = name; takes_value = false; effect = λ value. Some effect }
+plain name effect = record { name = name; takes_value = false; takes_memory = false; effect = λ value. Some effect }
 
 -- an option that ends with a number from 0 to 255
 abbrev pub numbered : List ℕ → (ℕ → Request → Request) → KnownOption
-numbered name effect = record { name = name; takes_value = true; effect = λ value. option_map effect (number value) }
+numbered name effect = record {
+  name = name;
+  takes_value = true;
+  takes_memory = false;
+  effect = λ value. option_map effect (number value);
+}
 
 -- an option that ends with the label of an encoding that is supported
 abbrev pub labelled : List ℕ → (Encoding → Request → Request) → KnownOption
-labelled name effect =
-    record { name = name; takes_value = true; effect = λ value. option_map effect (encoding_named value) }
+labelled name effect = record {
+  name = name;
+  takes_value = true;
+  takes_memory = false;
+  effect = λ value. option_map effect (encoding_named value);
+}
 
 -- an option that ends with names between commas, none of them empty
 abbrev pub named : List ℕ → (List (List ℕ) → Request → Request) → KnownOption
 named name effect = record {
   name = name;
   takes_value = true;
+  takes_memory = false;
   effect = λ value. if list_all is_filled (parts value) then Some (effect (parts value)) else None;
 }
+
+-- an option that ends with selectors
+abbrev pub selecting : List ℕ → (List Step → Request → Request) → KnownOption
+selecting name effect = parsed name (λ value. option_map effect (selectors value))
+
+-- an option that ends with an absolute URL
+abbrev pub addressed : List ℕ → (Parts → Request → Request) → KnownOption
+addressed name effect = parsed name (λ value. option_map effect (url value))
 
 abbrev pub known_options : List KnownOption
 known_options =
     plain (codes "--web") takes_any_page_guarded
-    ∷ plain (codes "--text") (sets (λ settings. record settings { text = true }))
-    ∷ plain (codes "--body") (sets (λ settings. record settings { body = true }))
     ∷ plain (codes "--html5") (sets (λ settings. record settings { html5 = true }))
+    ∷ plain (codes "--body") (sets (λ settings. record settings { body = true }))
+    ∷ plain (codes "--text") (sets (λ settings. record settings { text = true }))
     ∷ labelled (codes "--encoding=") (λ e. sets (λ settings. record settings { encoding = Some e }))
+    ∷ plain (codes "--no-scripting") (sets (λ settings. record settings { scripting = false }))
     ∷ plain (codes "--rows") takes_rows
+    ∷ plain (codes "--explain") (λ request. request)
     ∷ plain (codes "--guarded") (sets (λ settings. record settings { guarded = true }))
     ∷ plain (codes "--faithful") takes_faithful
     ∷ plain (codes "--mdast") (sets (λ settings. record settings { mdast = true }))
-    ∷ plain (codes "--no-scripting") (sets (λ settings. record settings { scripting = false }))
+    ∷ plain (codes "--front-matter") (sets (λ settings. record settings { front_matter = true }))
+    ∷ selecting (codes "--select=") selects
+    ∷ selecting (codes "--drop=") drops
     ∷ named (codes "--skip=") skips
+    ∷ addressed (codes "--base=") is_based_on
     ∷ plain (codes "--heading-style=atx") (sets_option (λ options. record options { heading_style = heading.Atx }))
     ∷ plain (codes "--heading-style=setext")
     (sets_option (λ options. record options { heading_style = heading.Setex }))
@@ -173,9 +227,12 @@ known_options =
     ∷ numbered (codes "--ol-number-spacing=")
     (λ n. sets_option (λ options. record options { ol_number_spacing = n }))
     ∷ plain (codes "--preformatted-code") (sets_option (λ options. record options { preformatted_code = true }))
-    ∷ plain (codes "--explain") (λ request. request)
     ∷ plain (codes "--help") shows_instead
     ∷ plain (codes "--version") shows_instead
+    ∷ plain (codes "--manual") shows_instead
+    ∷ plain (codes "--completions=bash") shows_instead
+    ∷ plain (codes "--completions=zsh") shows_instead
+    ∷ plain (codes "--completions=fish") shows_instead
     ∷ []
 
 -- the option is given: this name, or if it takes a value, this name and more
@@ -188,6 +245,18 @@ meaning [] given = None
 meaning (option ∷ others) given =
     if is_given option.name option.takes_value given
     then option.effect (drop (length option.name) given) else meaning others given
+
+-- the value of a given option is read in memory
+abbrev pub takes_memory_in : List KnownOption → List ℕ → Bool
+takes_memory_in [] given = false
+takes_memory_in (option ∷ others) given =
+    if is_given option.name option.takes_value given then option.takes_memory else takes_memory_in others given
+
+unfoldable pub is_read_in_memory : List ℕ → Bool
+is_read_in_memory given = takes_memory_in known_options given
+
+abbrev pub takes_memory : String Global → Bool
+takes_memory given = is_read_in_memory (string_bytes given)
 
 abbrev pub is_known : String Global → Bool
 is_known given = is_some (meaning known_options (string_bytes given))

@@ -8,7 +8,7 @@ use Rattle.htmd.specs.FaultKind.{FaultKind}
 use Rattle.htmd_encodings.specs.declared.encodings.UnsupportedEncoding.{UnsupportedEncoding}
 use Rattle.htmd_cli.specs.Settings.{Settings}
 use Rattle.htmd_cli.specs.Options.{Request}
-use Rattle.htmd_cli.specs.Runs.{Converts}
+use Rattle.htmd_cli.specs.Runs.{Converts, IsUnselected}
 use Rattle.htmd_streams.specs.Ends.{AppendsSome}
 use Rattle.htmd_cli.specs.Conversion.{IsOutputBy, IsReadable, IsRefusedBy, IsUnsupported, reads_any, text_in}
 use Rattle.htmd_streams.specs.Fields.{null, read_field, written_field}
@@ -29,9 +29,10 @@ IsRefusedPage settings page =
     (IsUtf8 page × (settings.text ≡ false) × (place : ℕ) × (kind : FaultKind)
     × IsRefusedBy settings page place kind))
 
--- this is written for a page: what it becomes, or null if it is refused
+-- this is written for a page: what it becomes, or null if it is refused or nothing of it is selected
 abbrev pub IsPageAnswer : Settings → List ℕ → List ℕ → Type 0
-IsPageAnswer settings page field = IsConverted settings page field ⊎ (IsRefusedPage settings page × (field ≡ null))
+IsPageAnswer settings page field =
+    IsConverted settings page field ⊎ ((IsRefusedPage settings page ⊎ IsUnselected settings page) × (field ≡ null))
 
 -- this is written for a field: null for null, else what is written for the page that it stands for
 abbrev pub IsFieldAnswer : Settings → List ℕ → List ℕ → Type 0

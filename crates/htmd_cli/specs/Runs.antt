@@ -4,8 +4,10 @@ use Rattle.std.specs.Io.KnownBytes.{Appends, IsAtEnd}
 use Rattle.htmd.specs.Characters.{line_feed}
 use Rattle.htmd_cli.specs.declared.faults.RunError.{RunError}
 use Rattle.htmd_cli.specs.declared.faults.RunError.TheVariants.{NotUtf8, Unsupported, Refused, Memory, Read, Write}
+use Rattle.htmd_cli.specs.declared.faults.RunError.TheVariants.{NothingSelected}
 use Rattle.htmd_cli.specs.Settings.{Settings}
-use Rattle.htmd_cli.specs.Conversion.{IsOutputBy, IsReadable, IsRefusedBy, IsUnsupported, reads_any, text_in}
+use Rattle.htmd_cli.specs.Conversion.{IsOutputBy, IsReadable, IsRefusedBy, IsUnsupported, SelectsNothing, reads_any}
+use Rattle.htmd_cli.specs.Conversion.{text_in}
 
 -- the bytes hold a text, and what it becomes and a line feed were written
 abbrev pub Writes : Settings → Option (List ℕ) → Option (List ℕ) → List ℕ → Type 0
@@ -17,6 +19,10 @@ Writes settings before after bytes =
 abbrev pub IsConvertible : Settings → List ℕ → Type 0
 IsConvertible settings bytes =
     IsReadable settings bytes × (output : List ℕ) × IsOutputBy settings (text_in settings bytes) output
+
+-- the bytes hold the text of a page, of which no element is selected
+abbrev pub IsUnselected : Settings → List ℕ → Type 0
+IsUnselected settings bytes = IsReadable settings bytes × SelectsNothing settings (text_in settings bytes)
 
 -- the whole input was converted by the settings
 abbrev pub Converts : Settings → Option (List ℕ) → Option (List ℕ) → Option (List ℕ) → Type 0
@@ -39,6 +45,9 @@ Ends settings input rest contents before after (Err (Unsupported encoding)) =
 Ends settings input rest contents before after (Err (Refused place kind)) =
     IsAtEnd rest × (settings.text ≡ false) × (settings.html5 ≡ false)
     × IfSome input (λ bytes. IsUtf8 bytes × IsRefusedBy settings bytes place kind) × (after ≡ before)
+-- all was read and holds the text of a page, of which no element is selected; nothing was written
+Ends settings input rest contents before after (Err NothingSelected) =
+    IsAtEnd rest × IfSome input (IsUnselected settings) × (after ≡ before)
 -- out of memory; nothing was written
 Ends settings input rest contents before after (Err Memory) = after ≡ before
 -- the source failed; nothing was written

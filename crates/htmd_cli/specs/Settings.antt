@@ -4,6 +4,9 @@ use Rattle.htmd_encodings.specs.declared.encodings.Encoding.{Encoding}
 use Rattle.htmd.specs.Options.{Options}
 use Rattle.htmd.specs.TranslationMode.TheVariants.{Pure, Faithful}
 use Rattle.htmd.specs.Defaults.{default_options}
+use Rattle.htmd_pages.specs.Steps.{Step}
+use Rattle.htmd_pages.specs.Views.{steps_in}
+use Rattle.url.specs.Parts.{Parts}
 use Rattle.htmd_cli.specs.declared.settings.Settings as held
 
 pub record Settings : Type 0 where
@@ -23,6 +26,14 @@ pub record Settings : Type 0 where
   pub options : Options
   -- elements with these names give nothing
   pub skipped : List (List ℕ)
+  -- only the outermost elements that these selectors name are converted, if there are any selectors
+  pub selected : List Step
+  -- the elements that these selectors name are left out
+  pub dropped : List Step
+  -- the URL of the page, if addresses are made absolute
+  pub base : Option Parts
+  -- what the head of the page says of it is written first
+  pub front_matter : Bool
 
 -- the settings that the program holds
 abbrev pub settings_in : held.Settings → Settings
@@ -36,6 +47,10 @@ settings_in settings = record {
   scripting = settings.scripting;
   options = settings.options;
   skipped = map (λ name. name.now) settings.skipped.items;
+  selected = steps_in settings.selected;
+  dropped = steps_in settings.dropped;
+  base = settings.base;
+  front_matter = settings.front_matter;
 }
 
 -- the settings if no option is given
@@ -50,6 +65,10 @@ default_settings = record {
   scripting = true;
   options = default_options;
   skipped = [];
+  selected = [];
+  dropped = [];
+  base = None;
+  front_matter = false;
 }
 
 -- the default options, but Faithful if that is asked for

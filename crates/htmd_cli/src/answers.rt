@@ -8,8 +8,8 @@ ghost use Rattle.htmd_cli.specs.Settings.{settings_in};
 use crate::conversion::{output_by, text_of};
 use crate::faults::RunError;
 use crate::settings::Settings;
+use htmd::HtmlToMarkdown;
 use htmd::element_handler::Registry;
-use htmd::{ConvertError, HtmlToMarkdown};
 use htmd_streams::{NULL, fields_of, read_field, write_field};
 use std::alloc::{AllocError, Global};
 
@@ -83,6 +83,7 @@ fn answer_page<H: Registry>(
 }
 
 // What a page becomes, or why it is refused. `Err` means out of memory.
+#[tactic(auto, using(crate::proofs::RowsLemmas::unread_answer))]
 fn page_markdown<H: Registry>(
     alloc: Global,
     converter: &HtmlToMarkdown<H>,
@@ -102,7 +103,7 @@ fn page_markdown<H: Registry>(
     };
     match output_by(alloc, converter, settings, &text) {
         Ok(markdown) => Ok(Ok(markdown)),
-        Err(ConvertError::Refused { place, kind }) => Ok(Err(RunError::Refused { place, kind })),
-        Err(ConvertError::Memory) => Err(AllocError),
+        Err(RunError::Memory) => Err(AllocError),
+        Err(error) => Ok(Err(error)),
     }
 }

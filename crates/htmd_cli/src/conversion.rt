@@ -1,5 +1,5 @@
 //! The conversion of an input by settings.
-ghost use Rattle.std.specs.Prelude.{◌≡◌, [], ℕ, false, Err, IfErr, IfOk, IsUtf8, string_bytes};
+ghost use Rattle.std.specs.Prelude.{◌≡◌, [], ℕ, true, false, Err, IfErr, IfOk, IsUtf8, string_bytes};
 ghost use Rattle.std.specs.Cow.{cow_str_bytes};
 ghost use Rattle.htmd.specs.BuiltIn.{built_in};
 ghost use Rattle.htmd.specs.Conversions.{IsTreeOf};
@@ -8,12 +8,16 @@ ghost use Rattle.htmd.specs.DocumentViews.{document_of};
 ghost use Rattle.htmd.specs.Defaults.{default_options};
 ghost use Rattle.htmd.specs.FaultKind.{FaultKind};
 ghost use Rattle.htmd_cli.specs.Conversion.{GoesBy, IsMarkdownBy, IsDocumentBy, IsOutputBy, IsReadable};
-ghost use Rattle.htmd_cli.specs.Conversion.{IsRefusedBy, IsUnsupported, text_in};
+ghost use Rattle.htmd_cli.specs.Conversion.{IsRefusedBy, IsUnsupported, text_in, IsPlainOutput, IsPageTree};
+ghost use Rattle.htmd_cli.specs.Conversion.{IsChangedOutput, SelectsNothing};
+ghost use Rattle.htmd_cli.specs.Changes.{AreLines};
+ghost use Rattle.htmd_cli.specs.Changes as spec_changes;
 ghost use Rattle.htmd_cli.specs.Conversion as spec;
 ghost use Rattle.htmd_encodings.specs.declared.encodings.UnsupportedEncoding.{UnsupportedEncoding};
-ghost use Rattle.htmd_cli.specs.Failures.{IsTextFault};
+ghost use Rattle.htmd_cli.specs.Failures.{IsOutputFault, IsTextFault};
 ghost use Rattle.htmd_cli.specs.Settings.{settings_in};
 
+use crate::changes::{changes_page, head_of, part_of};
 use crate::faults::RunError;
 use crate::paragraph::paragraph;
 use crate::settings::Settings;
@@ -24,6 +28,7 @@ use htmd::{
     to_markdown,
 };
 use htmd_encodings::page_text;
+use htmd_html5::parse_html5;
 use std::alloc::{AllocError, Global};
 use std::borrow::CowStr;
 
@@ -183,8 +188,8 @@ fn written(
     to_markdown(alloc, document, &document_options(&settings.options))
 }
 
-/// What an input becomes by a converter that goes by the settings.
-pub(crate) fn output_by<H: Registry>(
+/// What an input becomes by a converter that goes by the settings, if its tree stays as it is.
+fn plain_output<H: Registry>(
     alloc: Global,
     converter: &HtmlToMarkdown<H>,
     settings: &Settings<'_>,
@@ -192,7 +197,7 @@ pub(crate) fn output_by<H: Registry>(
 ) -> Result<String, ConvertError>
     requires goes_by { GoesBy H.ready H.config converter.now (settings_in settings.now) }
     ensures ok { IfOk result
-        (λ output. IsOutputBy (settings_in settings.now) input.now (string_bytes output)) }
+        (λ output. IsPlainOutput (settings_in settings.now) input.now (string_bytes output)) }
     ensures refused_html { (place : ℕ) (kind : FaultKind) → result ≡ Err (ConvertError.Refused place kind)
         → settings.now.text ≡ false }
     ensures refused_strict { (place : ℕ) (kind : FaultKind) → result ≡ Err (ConvertError.Refused place kind)
@@ -207,20 +212,153 @@ pub(crate) fn output_by<H: Registry>(
     Ok(written(alloc, settings, &document)?)
 }
 
+/// The tree of a page, by the reader that the settings name.
+fn page_tree<H: Registry>(
+    alloc: Global,
+    converter: &HtmlToMarkdown<H>,
+    settings: &Settings<'_>,
+    input: &str,
+) -> Result<Tree, ConvertError>
+    requires goes_by { GoesBy H.ready H.config converter.now (settings_in settings.now) }
+    ensures ok { IfOk result (λ tree. IsPageTree (settings_in settings.now) input.now tree) }
+    ensures refused_strict { (place : ℕ) (kind : FaultKind) → result ≡ Err (ConvertError.Refused place kind)
+        → settings.now.html5 ≡ false }
+    ensures refused { (place : ℕ) (kind : FaultKind) → result ≡ Err (ConvertError.Refused place kind)
+        → IsRefusedBy (settings_in settings.now) input.now place kind }
+{
+    if settings.html5 {
+        return Ok(parse_html5(alloc, input, settings.scripting)?);
+    }
+    strict_tree(alloc, converter, settings, input)
+}
+
+/// A document as it is written in JSON, after what the head of its page says.
+#[tactic(auto, using(crate::proofs::ChangesLemmas::no_end, crate::proofs::ChangesLemmas::without_end))]
+fn mdast_after(alloc: Global, head: &str, document: &Document) -> Result<String, AllocError>
+    requires { AreLines head.now }
+    ensures { IfOk result
+        (λ text. string_bytes text ≡ spec.mdast_after head.now (document_of document.now)) }
+{
+    match head.strip_suffix("\n") {
+        Some(yaml) => document.to_mdast_with_front_matter(alloc, yaml),
+        None => document.to_mdast(alloc),
+    }
+}
+
+/// Markdown, after what the head of its page says.
+fn after_head(alloc: Global, head: &str, markdown: String) -> Result<String, AllocError>
+    ensures { IfOk result (λ text. string_bytes text ≡ spec.after_head head.now (string_bytes markdown)) }
+{
+    if head.is_empty() {
+        return Ok(markdown);
+    }
+    let size = head.len().saturating_add(markdown.len());
+    let mut text = String::with_capacity(alloc, size.saturating_add(9))?;
+    text.push_str("---\n")?;
+    text.push_str(head)?;
+    text.push_str("---\n\n")?;
+    text.push_str(markdown.as_str())?;
+    Ok(text)
+}
+
+/// What a tree becomes by a converter that goes by the settings, after what the head of its page says.
+#[tactic(auto, unfolding(crate::specs::Conversion::tree_output))]
+fn tree_output<H: Registry>(
+    alloc: Global,
+    converter: &HtmlToMarkdown<H>,
+    settings: &Settings<'_>,
+    head: &str,
+    tree: &Tree,
+) -> Result<String, AllocError>
+    requires goes_by { GoesBy H.ready H.config converter.now (settings_in settings.now) }
+    requires head { AreLines head.now }
+    ensures { IfOk result (λ output. string_bytes output
+        ≡ spec.tree_output (settings_in settings.now) head.now tree.now) }
+{
+    if !writes_document(settings) {
+        let markdown = converter.tree_to_markdown(alloc, tree, tree.root())?;
+        return after_head(alloc, head, markdown);
+    }
+    let document = converter.tree_to_document(alloc, tree)?;
+    if settings.mdast {
+        return mdast_after(alloc, head, &document);
+    }
+    let markdown = to_markdown(alloc, &document, &document_options(&settings.options))?;
+    after_head(alloc, head, markdown)
+}
+
+/// What an input becomes by a converter that goes by the settings, if its tree is looked at or changed.
+fn changed_output<H: Registry>(
+    alloc: Global,
+    converter: &HtmlToMarkdown<H>,
+    settings: &Settings<'_>,
+    input: &str,
+) -> Result<String, RunError>
+    requires goes_by { GoesBy H.ready H.config converter.now (settings_in settings.now) }
+    requires changes { spec_changes.changes_page (settings_in settings.now) ≡ true }
+    ensures ok { IfOk result
+        (λ output. IsChangedOutput (settings_in settings.now) input.now (string_bytes output)) }
+    ensures refused_html { (place : ℕ) (kind : FaultKind) → result ≡ Err (RunError.Refused place kind)
+        → settings.now.text ≡ false }
+    ensures refused_strict { (place : ℕ) (kind : FaultKind) → result ≡ Err (RunError.Refused place kind)
+        → settings.now.html5 ≡ false }
+    ensures refused { (place : ℕ) (kind : FaultKind) → result ≡ Err (RunError.Refused place kind)
+        → IsRefusedBy (settings_in settings.now) input.now place kind }
+    ensures nothing_selected { result ≡ Err RunError.NothingSelected
+        → SelectsNothing (settings_in settings.now) input.now }
+    ensures others { IfErr result IsOutputFault }
+{
+    let page = page_tree(alloc, converter, settings, input)?;
+    let head = head_of(alloc, settings, &page)?;
+    let Some(part) = part_of(alloc, settings, page)? else {
+        return Err(RunError::NothingSelected);
+    };
+    Ok(tree_output(alloc, converter, settings, head.as_str(), &part)?)
+}
+
+/// What an input becomes by a converter that goes by the settings.
+pub(crate) fn output_by<H: Registry>(
+    alloc: Global,
+    converter: &HtmlToMarkdown<H>,
+    settings: &Settings<'_>,
+    input: &str,
+) -> Result<String, RunError>
+    requires goes_by { GoesBy H.ready H.config converter.now (settings_in settings.now) }
+    ensures ok { IfOk result
+        (λ output. IsOutputBy (settings_in settings.now) input.now (string_bytes output)) }
+    ensures refused_html { (place : ℕ) (kind : FaultKind) → result ≡ Err (RunError.Refused place kind)
+        → settings.now.text ≡ false }
+    ensures refused_strict { (place : ℕ) (kind : FaultKind) → result ≡ Err (RunError.Refused place kind)
+        → settings.now.html5 ≡ false }
+    ensures refused { (place : ℕ) (kind : FaultKind) → result ≡ Err (RunError.Refused place kind)
+        → IsRefusedBy (settings_in settings.now) input.now place kind }
+    ensures nothing_selected { result ≡ Err RunError.NothingSelected
+        → SelectsNothing (settings_in settings.now) input.now }
+    ensures others { IfErr result IsOutputFault }
+{
+    if changes_page(settings) {
+        return changed_output(alloc, converter, settings, input);
+    }
+    Ok(plain_output(alloc, converter, settings, input)?)
+}
+
 /// The same by a converter of its own.
 pub(crate) fn output_of(
     alloc: Global,
     settings: &Settings<'_>,
     input: &str,
-) -> Result<String, ConvertError>
+) -> Result<String, RunError>
     ensures ok { IfOk result
         (λ output. IsOutputBy (settings_in settings.now) input.now (string_bytes output)) }
-    ensures refused_html { (place : ℕ) (kind : FaultKind) → result ≡ Err (ConvertError.Refused place kind)
+    ensures refused_html { (place : ℕ) (kind : FaultKind) → result ≡ Err (RunError.Refused place kind)
         → settings.now.text ≡ false }
-    ensures refused_strict { (place : ℕ) (kind : FaultKind) → result ≡ Err (ConvertError.Refused place kind)
+    ensures refused_strict { (place : ℕ) (kind : FaultKind) → result ≡ Err (RunError.Refused place kind)
         → settings.now.html5 ≡ false }
-    ensures refused { (place : ℕ) (kind : FaultKind) → result ≡ Err (ConvertError.Refused place kind)
+    ensures refused { (place : ℕ) (kind : FaultKind) → result ≡ Err (RunError.Refused place kind)
         → IsRefusedBy (settings_in settings.now) input.now place kind }
+    ensures nothing_selected { result ≡ Err RunError.NothingSelected
+        → SelectsNothing (settings_in settings.now) input.now }
+    ensures others { IfErr result IsOutputFault }
 {
     let converter = converter_by(HtmlToMarkdown::builder(alloc)?, settings)?;
     output_by(alloc, &converter, settings, input)

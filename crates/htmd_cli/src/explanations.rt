@@ -29,22 +29,22 @@ fn sentence(kind: FaultKind) -> &'static str {
             "this tag has two attributes of the same name; leave one out."
         }
         FaultKind::SelfClosing => {
-            "this tag ends in />; only elements that have no end tag, such as br, may; --html5 reads any page."
+            "this tag ends in />; only elements that have no end tag, such as br, may."
         }
         FaultKind::TagOutside => {
-            "this tag has no place in a text; --body converts the body of a whole page, and --html5 reads any page."
+            "this tag has no place in a text; --body converts the body of a whole page."
         }
         FaultKind::NotAllowedHere => {
-            "this element may not stand in those that are open; close them first, or let --html5 read the page."
+            "this element may not stand in those that are open; close them first."
         }
         FaultKind::StrayEndTag => {
-            "this end tag doesn't fit the innermost open element; mend it, or let --html5 read the page."
+            "this end tag doesn't fit the innermost open element; mend it."
         }
         FaultKind::StrayText => {
             "this text is between the parts of a table; put it into a cell or the caption."
         }
         FaultKind::Unclosed =>
-            "the input ends here, and an element is still open; write its end tag, or let --html5 read the page.",
+            "the input ends here, and an element is still open; write its end tag.",
         FaultKind::ScriptEscape => {
             "this script has <!-- and later <script; take one of them out."
         }
@@ -142,7 +142,8 @@ pub(crate) fn explain<W: Write>(out: &mut W, error: &RunError, input: &[u8]) -> 
         (RunError::Refused { place, kind }, Ok(text)) => {
             let (line, column) = line_and_column(text, *place);
             writeln!(out, "line {line}, column {column}: {}", sentence(*kind))?;
-            write_mark(out, text, *place)
+            write_mark(out, text, *place)?;
+            out.write_str("--web reads any page.\n")
         }
         (RunError::NotUtf8, Err(fault)) => {
             writeln!(out, "the first bad byte is byte {}", fault.valid_up_to())

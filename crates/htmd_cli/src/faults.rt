@@ -20,6 +20,9 @@ pub enum RunError {
     /// The input is a page in an encoding that isn't supported.
     #[error("the page says {encoding}, which is not supported: convert it to UTF-8 first, or give --encoding")]
     Unsupported { encoding: UnsupportedEncoding },
+    /// The input is a page of which no element is selected.
+    #[error("no element of the page is selected by --select")]
+    NothingSelected,
     /// Out of memory.
     #[error("out of memory")]
     Memory,

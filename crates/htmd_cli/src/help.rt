@@ -1,15 +1,16 @@
 //! What is written in place of a conversion: the help and the version.
 ghost use Rattle.htmd_streams.specs.Ends.{FailsAtErr};
 
-use crate::options::{OPTIONS, OptionRow};
+use crate::completions::write_completions;
+use crate::manual::write_manual;
+use crate::options::{FILE_OPTIONS, FileOption, Group, Notice, OPTIONS, OptionRow};
 use htmd_streams::{Failed, Sink, write_all};
 
 const USAGE: &str = "\
-Usage: htmd [OPTION..] < page.html > page.md
+Usage: htmd [OPTION..] [FILE..]
 
-Reads a page from standard input and writes it as Markdown to standard output; it takes no file names.
+Reads pages and writes them as Markdown: without FILE from standard input to standard output.
 If two options set the same thing, the last one counts. For most pages take --web.
-
 ";
 
 /// The crate that is ported, and its version.
@@ -18,31 +19,91 @@ const VERSION: &str = "htmd 0.5.6, ported to Rattle\n";
 /// Each line of the help begins with an option, in a column of this many characters.
 const COLUMN: &str = "                                        ";
 
-// Writes the usage, and each option with its line.
-pub(crate) fn write_help<W: Sink>(sink: &mut W) -> Result<(), Failed>
+pub(crate) const GROUPS: [Group; 4] = [Group::Input, Group::Written, Group::Files, Group::Help];
+
+// Writes what is wanted in place of a conversion.
+pub(crate) fn show<W: Sink>(sink: &mut W, notice: Notice) -> Result<(), Failed>
+    ensures { FailsAtErr result (W.has_failed sink.old) (W.has_failed sink.new) }
+{
+    match notice {
+        Notice::Help => write_help(sink),
+        Notice::Version => write_version(sink),
+        Notice::Manual => write_manual(sink),
+        Notice::Completions(shell) => write_completions(sink, shell),
+    }
+}
+
+/// What the options of a group are about.
+pub(crate) fn title(group: Group) -> &'static str {
+    match group {
+        Group::Input => "Input",
+        Group::Written => "What is written",
+        Group::Files => "Files",
+        Group::Help => "Help",
+    }
+}
+
+// Writes the usage, and each option with its line, by groups.
+fn write_help<W: Sink>(sink: &mut W) -> Result<(), Failed>
     ensures { FailsAtErr result (W.has_failed sink.old) (W.has_failed sink.new) }
 {
     write_all(sink, USAGE.as_bytes())?;
-    for row in &OPTIONS {
-        write_option(sink, row)?;
+    for group in &GROUPS {
+        write_group(sink, *group)?;
     }
     sink.flush()
 }
 
-// Writes an option with its line.
-fn write_option<W: Sink>(sink: &mut W, row: &OptionRow) -> Result<(), Failed>
+// Writes what the options of a group are about, and the options.
+fn write_group<W: Sink>(sink: &mut W, group: Group) -> Result<(), Failed>
     ensures { FailsAtErr result (W.has_failed sink.old) (W.has_failed sink.new) }
 {
-    let (name, value, _, line) = row;
-    let space = COLUMN.get(name.len() + value.len()..).unwrap_or(" ");
-    write_all(sink, name.as_bytes())?;
-    write_all(sink, value.as_bytes())?;
+    write_all(sink, b"\n")?;
+    write_all(sink, title(group).as_bytes())?;
+    write_all(sink, b":\n")?;
+    if group == Group::Files {
+        return write_file_options(sink);
+    }
+    for row in &OPTIONS {
+        if row.group == group {
+            write_option(sink, "", row.name, row.value, row.help)?;
+        }
+    }
+    Ok(())
+}
+
+fn write_file_options<W: Sink>(sink: &mut W) -> Result<(), Failed>
+    ensures { FailsAtErr result (W.has_failed sink.old) (W.has_failed sink.new) }
+{
+    for row in &FILE_OPTIONS {
+        write_option(sink, row.short, row.name, row.value, row.help)?;
+    }
+    Ok(())
+}
+
+// Writes an option with its line.
+fn write_option<W: Sink>(
+    sink: &mut W,
+    short: &str,
+    name: &str,
+    value: &str,
+    line: &str,
+) -> Result<(), Failed>
+    ensures { FailsAtErr result (W.has_failed sink.old) (W.has_failed sink.new) }
+{
+    let between = if short.is_empty() { "" } else { ", " };
+    let mut width = 0usize;
+    for part in &[short, between, name, value] {
+        width = width.saturating_add(part.len());
+        write_all(sink, part.as_bytes())?;
+    }
+    let space = COLUMN.get(width..).unwrap_or(" ");
     write_all(sink, space.as_bytes())?;
     write_all(sink, line.as_bytes())?;
     write_all(sink, b"\n")
 }
 
-pub(crate) fn write_version<W: Sink>(sink: &mut W) -> Result<(), Failed>
+fn write_version<W: Sink>(sink: &mut W) -> Result<(), Failed>
     ensures { FailsAtErr result (W.has_failed sink.old) (W.has_failed sink.new) }
 {
     write_all(sink, VERSION.as_bytes())?;

@@ -8,15 +8,20 @@
 #![tactic(auto, using(std::proofs::lemmas::Grind::common_steps))]
 
 mod answers;
+mod changes;
+mod completions;
 mod conversion;
 mod explanations;
 mod faults;
 mod help;
+mod manual;
+mod option_faults;
 mod options;
 mod paragraph;
 mod pipeline;
 mod program;
 mod reports;
+mod requests;
 mod rows;
 mod settings;
 mod values;
@@ -26,7 +31,10 @@ pub use htmd_encodings::{
     ByteOrder, DecodeError, Encoding, SingleByte, UnsupportedEncoding, encoding_named, page_text,
 };
 pub use htmd_streams::{Failed, Input, Output, Sink, Source, read_field, write_field};
-pub use pipeline::{run, run_with};
+pub use option_faults::{say_fault, say_warnings};
+pub use pipeline::{run, run_over, run_with};
 pub use program::command;
+pub use reports::report_page;
+pub use requests::{OptionFault, Request, read_options};
 pub use rows::run_rows;
 pub use settings::{Mode, Settings};

@@ -7,7 +7,7 @@ ghost use Rattle.htmd.specs.FaultKind.{FaultKind};
 ghost use Rattle.htmd_cli.specs.Conversion.{IsOutputBy, IsReadable, IsRefusedBy, IsUnsupported, reads_any, text_in};
 ghost use Rattle.htmd_encodings.specs.declared.encodings.UnsupportedEncoding.{UnsupportedEncoding};
 ghost use Rattle.htmd_streams.specs.Ends.{FailsAtErr};
-ghost use Rattle.htmd_cli.specs.Runs.{Ends};
+ghost use Rattle.htmd_cli.specs.Runs.{Ends, IsUnselected};
 ghost use Rattle.htmd_cli.specs.Settings.{settings_in, settings_of};
 
 use crate::conversion::{output_of, text_of};
@@ -20,8 +20,9 @@ use std::alloc::Global;
 /// and flushes it. The source and the sink must not have failed before. The first fault is answered:
 /// `Read` or `Write` if the source or the sink failed, `NotUtf8` if all was read and isn't UTF-8,
 /// `Unsupported` if it is a page in an encoding that isn't supported, `Refused` if it is HTML outside
-/// the grammar, `Memory` when out of memory. The sink is not touched
-/// before the conversion has succeeded; after `Write` nothing is known of how much went out.
+/// the grammar, `NothingSelected` if it is a page of which no element is selected, `Memory` when out of
+/// memory. The sink is not touched before the conversion has succeeded; after `Write` nothing is known of
+/// how much went out.
 pub fn run<R: Source, W: Sink>(
     alloc: Global,
     source: &mut R,
@@ -57,7 +58,7 @@ pub fn run_with<R: Source, W: Sink>(
 }
 
 /// The same, and what was read; that is nothing if the source or the memory failed while it was read.
-pub(crate) fn run_over<R: Source, W: Sink>(
+pub fn run_over<R: Source, W: Sink>(
     alloc: Global,
     source: &mut R,
     sink: &mut W,
@@ -85,6 +86,7 @@ fn read_all<R: Source>(alloc: Global, source: &mut R) -> Result<Vec<u8>, RunErro
     ensures end { OnOk result (IsAtEnd (R.remaining source.new)) }
     ensures read_failed { IsErrOf result RunError.Read ↔ IsTrue (R.has_failed source.new) }
     ensures others { IfErr result (λ error. (error ≢ RunError.Write) × (error ≢ RunError.NotUtf8)
+        × (error ≢ RunError.NothingSelected)
         × ((encoding : UnsupportedEncoding) → error ≢ RunError.Unsupported encoding)
         × ((place : ℕ) (kind : FaultKind) → error ≢ RunError.Refused place kind)) }
 {
@@ -121,6 +123,7 @@ fn convert_into<W: Sink>(
 }
 
 // What the text that an input holds becomes.
+#[tactic(auto, using(std::proofs::lemmas::Grind::common_steps, crate::proofs::FailuresLemmas::other_output))]
 fn converted(alloc: Global, input: &[u8], settings: &Settings<'_>) -> Result<String, RunError>
     ensures ok { IfOk result (λ markdown. IsReadable (settings_in settings.now) input.now
         × IsOutputBy (settings_in settings.now)
@@ -135,12 +138,14 @@ fn converted(alloc: Global, input: &[u8], settings: &Settings<'_>) -> Result<Str
         → settings.now.html5 ≡ false }
     ensures refused { (place : ℕ) (kind : FaultKind) → result ≡ Err (RunError.Refused place kind)
         → IsRefusedBy (settings_in settings.now) input.now place kind }
+    ensures nothing_selected { IsErrOf result RunError.NothingSelected
+        → IsUnselected (settings_in settings.now) input.now }
     ensures utf8_refused { (place : ℕ) (kind : FaultKind) → result ≡ Err (RunError.Refused place kind)
         → IsUtf8 input.now }
     ensures others { IfErr result (λ error. error ≢ RunError.Read × error ≢ RunError.Write) }
 {
     let text = text_of(alloc, settings, input)?;
-    Ok(output_of(alloc, settings, &text)?)
+    output_of(alloc, settings, &text)
 }
 
 // Writes the Markdown and a line feed, and flushes.

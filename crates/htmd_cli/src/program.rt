@@ -1,19 +1,21 @@
 //! The program: its options, its statuses, and its lines on the sink for errors.
-ghost use Rattle.std.specs.Prelude.{◌≡◌, ◌≢◌, ◌≤◌, ◌↔◌, false, true};
+ghost use Rattle.std.specs.Prelude.{◌≡◌, ◌≢◌, ◌≤◌, false, true};
+ghost use Rattle.std.specs.List.{list_any};
 ghost use Rattle.std.specs.Io.KnownBytes.{IsAtEnd, Keeps};
 ghost use Rattle.htmd_streams.specs.Ends.{FailsAtErr};
 ghost use Rattle.htmd_cli.specs.Rows.{AnswersFirst, AnswersSome, ConvertsRows, Succeeds};
 ghost use Rattle.htmd_cli.specs.Runs.{Converts};
 ghost use Rattle.htmd_cli.specs.OptionRows.{request_in};
-ghost use Rattle.htmd_cli.specs.Options.{are_known, request_by};
+ghost use Rattle.htmd_cli.specs.Options.{are_known, request_by, takes_memory};
 ghost use Rattle.htmd_cli.specs.Settings.{settings_in};
 
 use crate::explanations::explain;
 use crate::faults::RunError;
-use crate::help::{write_help, write_version};
-use crate::options::{Notice, OptionFault, Request, request_of};
+use crate::help::show;
+use crate::option_faults::{say_fault, say_warnings};
 use crate::pipeline::run_over;
 use crate::reports::Lines;
+use crate::requests::{OptionFault, Request, read_options};
 use crate::rows::run_rows;
 use crate::settings::Settings;
 use htmd_streams::{Failed, Sink, Source};
@@ -21,11 +23,12 @@ use std::alloc::Global;
 use std::fmt::Write;
 
 /// The program: reads its options, converts the source into the sink, and answers the exit status. 0 is
-/// success, 1 a run that did not succeed and 2 an option that is not known. If the options ask for the
+/// success, 1 a run that did not succeed and 2 an option that is not known, or not with its value. If the options ask for the
 /// help or the version, that is written to the sink in place of a conversion, and nothing is read. What
 /// went wrong is a line on the sink for errors; with `--explain`, if an input is refused or isn't UTF-8,
 /// that sink also gets where and why. Faults of that sink are ignored. The source and the sink must not
 /// have failed before.
+#[tactic(auto, using(std::proofs::lemmas::Grind::common_steps, crate::proofs::FailuresLemmas::is_unknown))]
 pub fn command<R: Source, W: Sink, E: Sink>(
     alloc: Global,
     options: &[String],
@@ -46,20 +49,23 @@ pub fn command<R: Source, W: Sink, E: Sink>(
     ensures rows_written { result ≢ 0 → (request_by options.now).rows ≡ true → W.has_failed sink.new ≡ false
         → AnswersSome (request_by options.now)
         (R.remaining source.old) (W.contents sink.old) (W.contents sink.new) }
-    ensures unknown { result ≡ 2 ↔ are_known options.now ≡ false }
+    ensures unknown { result ≡ 2 → are_known options.now ≡ false }
+    ensures known { are_known options.now ≡ false → list_any takes_memory options.now ≡ false → result ≡ 2 }
+    ensures never_converted { are_known options.now ≡ false → result ≢ 0 }
     ensures nothing_read { result ≡ 2 → Keeps (R.remaining source.old) (R.remaining source.new) }
     ensures shown { (request_by options.now).shows ≡ true
         → Keeps (R.remaining source.old) (R.remaining source.new) }
     ensures status { result ≤ 2 }
 {
-    let request = match request_of(alloc, options) {
+    let request = match read_options(alloc, options) {
         Ok(request) => request,
-        Err(OptionFault::Unknown(option)) => {
-            say_unknown(errors, option);
+        Err(OptionFault::Memory) => return failed(errors, &RunError::Memory),
+        Err(fault) => {
+            say_fault(errors, &fault);
             return 2;
         }
-        Err(OptionFault::Memory) => return failed(errors, &RunError::Memory),
     };
+    say_warnings(errors, &request);
     match request.shows {
         Some(notice) => match show(sink, notice) {
             Ok(()) => 0,
@@ -69,31 +75,12 @@ pub fn command<R: Source, W: Sink, E: Sink>(
     }
 }
 
-// Says that an option is unknown, and which.
-fn say_unknown<E: Sink>(errors: &mut E, option: &str) {
-    let mut lines = Lines { sink: errors };
-    let _ = writeln!(lines, "htmd: unknown word");
-    let _ = writeln!(
-        lines,
-        "htmd: '{option}' is not an option, or not with this value: see --help"
-    );
-}
-
 // Says what went wrong, and answers the status.
 fn failed<E: Sink>(errors: &mut E, error: &RunError) -> u8
     ensures { result ≡ 1 }
 {
     let _ = writeln!(Lines { sink: errors }, "htmd: {error}");
     1
-}
-
-fn show<W: Sink>(sink: &mut W, notice: Notice) -> Result<(), Failed>
-    ensures { FailsAtErr result (W.has_failed sink.old) (W.has_failed sink.new) }
-{
-    match notice {
-        Notice::Help => write_help(sink),
-        Notice::Version => write_version(sink),
-    }
 }
 
 // Converts the source into the sink, and answers the status.

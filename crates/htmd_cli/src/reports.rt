@@ -40,3 +40,18 @@ pub(crate) fn report<E: Sink>(
         let _ = explain(&mut lines, error, page);
     }
 }
+
+/// Says which page of several isn't converted, and if that is wanted, where and why; `input` is what was read of it.
+pub fn report_page<E: Sink>(
+    errors: &mut E,
+    path: &str,
+    error: &RunError,
+    input: &[u8],
+    explains: bool,
+) {
+    let mut lines = Lines { sink: errors };
+    let _ = writeln!(lines, "htmd: {path}: {error}");
+    if explains {
+        let _ = explain(&mut lines, error, input);
+    }
+}

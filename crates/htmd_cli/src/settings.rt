@@ -4,7 +4,9 @@ ghost use Rattle.htmd_cli.specs.Settings.{default_settings, settings_in, setting
 
 use htmd::options::{Options, TranslationMode};
 use htmd_encodings::Encoding;
+use htmd_pages::Selectors;
 use std::alloc::Global;
+use url::Url;
 
 /// What a run takes its input for, and how it writes what Markdown cannot say.
 #[derive(Debug, Clone, Copy, PartialEq, Eq)]
@@ -18,8 +20,8 @@ pub struct Mode {
 /// What a run takes its input for, and how it converts it.
 #[derive(Drop)]
 pub struct Settings<'a> {
-    /// The input is the text of one paragraph, and not HTML. Then `body`, `html5`, `encoding` and `scripting` have no
-    /// effect.
+    /// The input is the text of one paragraph, and not HTML. Then what says how a page is read, which parts of it count
+    /// and what is written of its head has no effect.
     pub text: bool,
     /// The input is a whole page, and what is between the tags of its body is converted.
     pub body: bool,
@@ -37,6 +39,14 @@ pub struct Settings<'a> {
     pub options: Options,
     /// Elements with these names give nothing. The names of elements are in lower case.
     pub skipped: Vec<&'a str>,
+    /// If there are any, only the outermost elements that these name are converted.
+    pub selected: Selectors,
+    /// The elements that these name are left out, before others are selected.
+    pub dropped: Selectors,
+    /// The URL of the page. Addresses are made absolute by it, or by the base that the page names against it.
+    pub base: Option<Url>,
+    /// What the head of the page says of it is written first.
+    pub front_matter: bool,
 }
 
 impl<'a> Settings<'a> {
@@ -55,6 +65,10 @@ impl<'a> Settings<'a> {
             scripting: true,
             options: Options::default(),
             skipped: Vec::new(alloc),
+            selected: Selectors::new(alloc),
+            dropped: Selectors::new(alloc),
+            base: None,
+            front_matter: false,
         }
     }
 }

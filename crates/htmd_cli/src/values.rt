@@ -1,9 +1,13 @@
-//! The values of options: numbers, and names between commas.
-ghost use Rattle.std.specs.Prelude.{◌≡◌, ◌++◌, map, OnOk, None, Some};
+//! The values of options: numbers, names between commas, selectors and URLs.
+ghost use Rattle.std.specs.Prelude.{◌≡◌, ◌++◌, map, OnOk, IfOk, IfErr, None, Some};
 ghost use Rattle.std.specs.List.{list_all};
+ghost use Rattle.htmd_pages.specs.Views.{steps_in};
 ghost use Rattle.htmd_cli.specs.Options as spec;
+ghost use Rattle.htmd_cli.specs.OptionRows.{AddsSelectors, IsSelectorFault};
 
-use std::alloc::AllocError;
+use htmd_pages::{SelectorError, Selectors, parse_selectors};
+use std::alloc::{AllocError, Global};
+use url::{ParseError, Url};
 
 /// The number that decimal digits write, from 0 to 255.
 pub(crate) fn number(text: &str) -> Option<u8>
@@ -61,4 +65,30 @@ pub(crate) fn push_names<'a>(names: &mut Vec<&'a str>, text: &'a str) -> Result<
     }
     names.push(rest)?;
     Ok(())
+}
+
+/// Adds the selectors of a text.
+pub(crate) fn push_selectors(
+    alloc: Global,
+    selectors: &mut Selectors,
+    text: &str,
+) -> Result<(), SelectorError>
+    ensures ok { OnOk result (AddsSelectors (steps_in selectors.old) (steps_in selectors.new) text.now) }
+    ensures err { IfErr result (IsSelectorFault text.now) }
+{
+    let more = parse_selectors(alloc, text)?;
+    selectors.append(more)?;
+    Ok(())
+}
+
+/// The absolute URL that a text is. `Err` means out of memory, or a URL of 4 GB.
+pub(crate) fn url(alloc: Global, text: &str) -> Result<Option<Url>, AllocError>
+    ensures { IfOk result (λ url. url ≡ spec.url text.now) }
+{
+    match Url::parse(alloc, text) {
+        Ok(url) => Ok(Some(url)),
+        Err(ParseError::OutOfMemory) => Err(AllocError),
+        Err(ParseError::Overflow) => Err(AllocError),
+        Err(_) => Ok(None),
+    }
 }

@@ -118,10 +118,11 @@ abbrev pub prefers_autolinks : LinkStyle → Bool
 prefers_autolinks InlinedPreferAutolinks = true
 prefers_autolinks _ = false
 
--- the link is written as an autolink (6.5)
-abbrev pub is_autolinked : Line → List ℕ → Inlines → Bool
-is_autolinked line address content =
-    prefers_autolinks line.link_style && is_text_alone address content && is_autolink address && not (is_cell line.kind)
+-- the link is written as an autolink, which has no title (6.5)
+abbrev pub is_autolinked : Line → List ℕ → Option (List ℕ) → Inlines → Bool
+is_autolinked line address name content =
+    prefers_autolinks line.link_style && is_none name && is_text_alone address content && is_autolink address
+    && not (is_cell line.kind)
 
 abbrev pub autolink : List ℕ → List ℕ
 autolink address = codes "<" ++ address ++ codes ">"
@@ -151,7 +152,7 @@ with_address _ w address name = wrote w (written_resource address name)
 -- a link after what was written so far, or after its text
 abbrev pub ended_link : Line → Written → Written → List ℕ → Option (List ℕ) → Inlines → Written
 ended_link line w after address name content =
-    if is_autolinked line address content then wrote w (autolink address)
+    if is_autolinked line address name content then wrote w (autolink address)
     else with_address line.link_style after address name
 
 abbrev pub in_link : Line → Line

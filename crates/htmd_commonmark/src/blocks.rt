@@ -51,12 +51,12 @@ pub fn to_markdown(
 
 /// Where blocks stand.
 #[derive(Clone, Copy)]
-struct Place {
+pub struct Place {
     /// The bullet of the item that begins with them.
-    outer: Option<Sign>,
-    in_item: bool,
+    pub outer: Option<Sign>,
+    pub in_item: bool,
     /// Whether they stand close together.
-    tight: bool,
+    pub tight: bool,
 }
 
 impl Place {

@@ -12,9 +12,9 @@ use htmd_text::runs::trailing_len;
 /// What follows an inline: the first character, none at the end of a block, and whether it closes what the inline is
 /// in.
 #[derive(Clone, Copy)]
-pub(crate) struct Following {
-    pub(crate) after: Option<char>,
-    pub(crate) is_last: bool,
+pub struct Following {
+    pub after: Option<char>,
+    pub is_last: bool,
 }
 
 /// What stands in the line before what is written next.

@@ -118,11 +118,12 @@ fn is_text_alone(content: &[Inline], address: &str) -> bool
     }
 }
 
-/// Whether the link is written as an autolink (CommonMark 0.31.2, 6.5).
-fn is_autolinked(line: Line, content: &[Inline], address: &str) -> bool
-    ensures { result ≡ spec.is_autolinked line address.now (inlines_of content.now) }
+/// Whether the link is written as an autolink, which has no title (CommonMark 0.31.2, 6.5).
+fn is_autolinked(line: Line, content: &[Inline], address: &str, title: Option<&str>) -> bool
+    ensures { result ≡ spec.is_autolinked line address.now (option_copied title.entry) (inlines_of content.now) }
 {
     line.link_style == LinkStyle::InlinedPreferAutolinks
+        && title.is_none()
         && is_text_alone(content, address)
         && is_autolink(address)
         && line.kind != LineKind::Cell
@@ -263,7 +264,7 @@ impl InlineWriter {
         ensures { OnOk result (written_of self.new ≡ spec.with_link line (written_of self.old)
             address.now (option_copied title.entry) (inlines_of content.now)) }
     {
-        if is_autolinked(line, content, address) {
+        if is_autolinked(line, content, address, title) {
             return self.write_autolink(address);
         }
         self.text.push('[')?;

@@ -8,7 +8,7 @@ use htmd_markdown::{BrStyle, LinkStyle};
 
 /// Where inlines are written: a heading and a cell are one line.
 #[derive(Debug, Clone, Copy, PartialEq)]
-pub(crate) enum LineKind {
+pub enum LineKind {
     Paragraph,
     Heading,
     Cell,
@@ -16,12 +16,12 @@ pub(crate) enum LineKind {
 
 /// Where inlines are written, and how their breaks and links are.
 #[derive(Clone, Copy)]
-pub(crate) struct Line {
-    pub(crate) kind: LineKind,
-    pub(crate) br_style: BrStyle,
-    pub(crate) link_style: LinkStyle,
+pub struct Line {
+    pub kind: LineKind,
+    pub br_style: BrStyle,
+    pub link_style: LinkStyle,
     /// In a link's text brackets are escaped.
-    pub(crate) in_link: bool,
+    pub in_link: bool,
 }
 
 impl LineKind {

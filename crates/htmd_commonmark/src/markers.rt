@@ -9,7 +9,7 @@ use std::alloc::AllocError;
 
 /// A bullet, or what ends a number.
 #[derive(Debug, Clone, Copy, PartialEq)]
-pub(crate) enum Sign {
+pub enum Sign {
     Asterisk,
     Hyphen,
     FullStop,
@@ -45,7 +45,7 @@ impl Sign {
 
 /// The markers of a list's items, and how many spaces are asked for after them.
 #[derive(Clone, Copy)]
-pub(crate) enum Markers {
+pub enum Markers {
     Bullets {
         bullet: Sign,
         spacing: u8,

@@ -7,7 +7,7 @@ use crate::character_kind::{is_apart, is_space, is_word};
 
 /// What can stand around inlines, links aside.
 #[derive(Clone, Copy, PartialEq)]
-pub(crate) enum Format {
+pub enum Format {
     Emphasis,
     Strong,
     Deleted,
@@ -17,23 +17,23 @@ pub(crate) enum Format {
 
 /// What is written before a format's content and after it, and the first character of both.
 #[derive(Clone, Copy)]
-pub(crate) struct Mark {
-    pub(crate) sign: char,
-    pub(crate) opener: &'static str,
-    pub(crate) closer: &'static str,
+pub struct Mark {
+    pub sign: char,
+    pub opener: &'static str,
+    pub closer: &'static str,
 }
 
 /// What stands beside a format, none at the ends of a line, and what stands at the ends of its content.
 #[derive(Clone, Copy)]
-pub(crate) struct Sides {
-    pub(crate) before: Option<char>,
+pub struct Sides {
+    pub before: Option<char>,
     /// A backslash escapes what stands before.
-    pub(crate) is_escaped: bool,
-    pub(crate) first: Option<char>,
-    pub(crate) last: Option<char>,
-    pub(crate) after: Option<char>,
+    pub is_escaped: bool,
+    pub first: Option<char>,
+    pub last: Option<char>,
+    pub after: Option<char>,
     /// What stands after closes what the format stands in.
-    pub(crate) is_last: bool,
+    pub is_last: bool,
 }
 
 /// Whether the character is there, and stands beside marks as white space and punctuation do; also where there is none.

@@ -13,15 +13,15 @@ use std::alloc::AllocError;
 
 /// Where a text stands.
 #[derive(Clone, Copy)]
-pub(crate) struct Place {
+pub struct Place {
     /// Whether the text begins a line of a paragraph.
-    pub(crate) begins_line: bool,
+    pub begins_line: bool,
     /// Whether it stands in the brackets of a link or an image.
-    pub(crate) in_brackets: bool,
+    pub in_brackets: bool,
     /// The character before it, none at the line's beginning.
-    pub(crate) before: Option<char>,
+    pub before: Option<char>,
     /// The character after it, none at the line's end.
-    pub(crate) after: Option<char>,
+    pub after: Option<char>,
 }
 
 /// Appends the text so that a reader takes each character as itself.

@@ -112,16 +112,17 @@ parts_of g whole d =
     definition_parts g d.found
     (if is_empty d.rest then no_parts else one_part (is_first g d.found) (whole d.rest))
 
+-- the cells of a table's rows
+abbrev pub fitted_rows : ℕ → List (List ℕ) → List (List (List ℕ))
+fitted_rows count [] = []
+fitted_rows count (r ∷ rs) = fitted count (cells r) ∷ fitted_rows count rs
+
 abbrev pub closed_leaf : Bool → Leaf → Parts
 closed_leaf g (paragraph earlier last) = parts_of g text (definitions (joined_lines (earlier ++ (last ∷ []))))
 closed_leaf g (indented ls) = one_part g (code None (joined_lines (without_last_blanks ls)))
 closed_leaf g (fenced columns sign count info ls) = one_part g (code (language info) (joined_lines ls))
 closed_leaf g (raw ends ls) = one_part g (html (joined_lines ls))
-closed_leaf g (table alignments header ls) = one_part g (grid alignments header (fitted_rows ls))
-  where
-    fitted_rows : List (List ℕ) → List (List (List ℕ))
-    fitted_rows [] = []
-    fitted_rows (r ∷ rs) = fitted (length alignments) (cells r) ∷ fitted_rows rs
+closed_leaf g (table alignments header ls) = one_part g (grid alignments header (fitted_rows (length alignments) ls))
 
 abbrev pub closed : Bool → Open → Parts
 closed g nothing = no_parts

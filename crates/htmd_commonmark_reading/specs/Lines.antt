@@ -39,12 +39,12 @@ pub record Line : Type 0 where
 abbrev pub line : ℕ → List ℕ → Line
 line k s = record { column = k; text = s }
 
+abbrev pub placed : List (List ℕ) → List Line
+placed [] = []
+placed (l ∷ ls) = line 0 l ∷ placed ls
+
 abbrev pub lines : List ℕ → List Line
 lines s = placed (split_lines (without_null s))
-  where
-    placed : List (List ℕ) → List Line
-    placed [] = []
-    placed (l ∷ ls) = line 0 l ∷ placed ls
 
 -- nothing but spaces and tabs (2.1)
 abbrev pub is_blank_text : List ℕ → Bool

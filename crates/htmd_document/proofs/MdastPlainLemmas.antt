@@ -15,7 +15,7 @@ use Rattle.htmd_document.specs.Documents.{thematic_break, table}
 use Rattle.htmd_document.specs.Mdast.{beside, parent, text_or_null, node_data, children_data, inlines_data}
 use Rattle.htmd_document.specs.Mdast.{cell_data, row_data, alignment_data, without_box, checked_data}
 use Rattle.htmd_document.specs.Mdast.{block_data, within_data, blocks_data, items_data}
-use Rattle.htmd_document.specs.Mdast.{number_or_null, root_data}
+use Rattle.htmd_document.specs.Mdast.{number_or_null, root_data, root_data_with}
 
 or-false : (a b : Bool) → a ≡ false → b ≡ false → (a || b) ≡ false
 or-false true b h k = cc
@@ -145,3 +145,6 @@ mutual
 
 pub root-plain : (bs : Blocks) → has_float (root_data bs) ≡ false
 root-plain bs = rw (blocks-plain false bs) refl
+
+pub root-with-plain : (yaml : List ℕ) (bs : Blocks) → has_float (root_data_with yaml bs) ≡ false
+root-with-plain yaml bs = rw (blocks-plain false bs) refl

@@ -10,7 +10,7 @@ use Rattle.htmd_document.specs.declared.table_form.Seen.{Seen}
 use Rattle.htmd_document.specs.declared.table_form.Seen.TheVariants as seen
 use Rattle.htmd_document.specs.TableViews.{seen_after}
 use Rattle.std.proofs.Common.{Option}
-use Rattle.htmd_document.specs.Roles.{is_void, role_of, is_caption, is_row_or_part}
+use Rattle.htmd_document.specs.Roles.{is_never_blank, role_of, is_caption, is_row_or_part}
 use Rattle.htmd_nodes.specs.NumberedTrees.{NumberedTree, NumberedForest, document, doctype, text, comment, element, more, tree_of}
 use Rattle.htmd_document.specs.Shown.{Sight, shown, shows, shown_role, children_of, is_hidden, if_role}
 use Rattle.htmd_document.specs.SightFacts.{IsLower}
@@ -71,7 +71,7 @@ else_shown false p x y e = refl
 -- an element that shows is blank as its role and its children say
 pub blank_by_role : (sight : Sight) (t : NumberedTree) (r : Role) → shown_role sight t ≡ Some r
     → if_shown (shows sight t) (is_blank (shown sight t))
-    ≡ (not (is_void r) && are_blank (children_of (shown sight t)))
+    ≡ (not (is_never_blank r) && are_blank (children_of (shown sight t)))
 blank_by_role sight (document id children) r e = (cc)
 blank_by_role sight (doctype id) r e = (cc)
 blank_by_role sight (text id s) r e = (cc)
@@ -80,9 +80,9 @@ blank_by_role sight (element id name attributes children) r e = by_hidden (is_hi
     (are_blank (children_of (shown sight (element id name attributes children)))) e
   where
     by_hidden : (h : Bool) (q : Role) (b : Bool) → cond h None (Some q) ≡ Some r
-        → if_shown (not h) (not (is_void q) && b) ≡ (not (is_void r) && b)
+        → if_shown (not h) (not (is_never_blank q) && b) ≡ (not (is_never_blank r) && b)
     by_hidden true q b f = (cc)
-    by_hidden false q b f = ap (λ x. not (is_void x) && b) (same f)
+    by_hidden false q b f = ap (λ x. not (is_never_blank x) && b) (same f)
       where
         same : Some q ≡ Some r → q ≡ r
         same g = (cc)

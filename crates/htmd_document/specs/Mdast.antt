@@ -199,3 +199,15 @@ root_data bs = parent (codes "root") (blocks_data false bs)
 -- its JSON
 abbrev pub mdast_of : Blocks → List ℕ
 mdast_of bs = compact_text (root_data bs)
+
+-- nodes after one with YAML
+abbrev pub after_yaml : List ℕ → json.Items → json.Items
+after_yaml yaml nodes = json.item (with_value (codes "yaml") yaml) nodes
+
+-- the whole document after its front matter, which is YAML
+abbrev pub root_data_with : List ℕ → Blocks → Data
+root_data_with yaml bs = parent (codes "root") (after_yaml yaml (blocks_data false bs))
+
+-- its JSON
+abbrev pub mdast_with_front_matter : List ℕ → Blocks → List ℕ
+mdast_with_front_matter yaml bs = compact_text (root_data_with yaml bs)

@@ -128,6 +128,14 @@ is_void role.ThematicBreak = true
 is_void role.Image = true
 is_void _ = false
 
+-- elements of which something shows, whatever is in them
+abbrev pub is_never_blank : Role → Bool
+is_never_blank role.LineBreak = true
+is_never_blank role.ThematicBreak = true
+is_never_blank role.Image = true
+is_never_blank role.Quotation = true
+is_never_blank _ = false
+
 abbrev pub is_item : Role → Bool
 is_item role.Item = true
 is_item _ = false

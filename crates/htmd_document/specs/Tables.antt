@@ -7,7 +7,7 @@ use Rattle.htmd_document.specs.ShownTexts.{is_shown}
 use Rattle.htmd_document.specs.Spaces.{is_white}
 use Rattle.htmd_document.specs.declared.role.Role.{Role}
 use Rattle.htmd_document.specs.Shown.{children_of}
-use Rattle.htmd_document.specs.Roles.{role_of, is_void, is_caption, is_head, is_part, is_row, is_row_or_part, is_cell}
+use Rattle.htmd_document.specs.Roles.{role_of, is_never_blank, is_caption, is_head, is_part, is_row, is_row_or_part, is_cell}
 
 -- an element of this kind
 abbrev pub has : (Role → Bool) → NumberedTree → Bool
@@ -27,7 +27,7 @@ abbrev mutual
   is_blank (doctype id) = true
   is_blank (text id s) = is_blank_text s
   is_blank (comment id s) = true
-  is_blank (element id name attributes children) = not (is_void (role_of name)) && are_blank children
+  is_blank (element id name attributes children) = not (is_never_blank (role_of name)) && are_blank children
 
   pub are_blank : NumberedForest → Bool
   are_blank none = true

@@ -12,7 +12,7 @@ use std::alloc::AllocError;
 
 /// A format of inlines.
 #[derive(Clone, Copy, PartialEq, Eq)]
-pub(crate) enum Format {
+pub enum Format {
     Emphasis,
     Strong,
     Deleted,

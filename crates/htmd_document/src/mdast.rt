@@ -18,6 +18,19 @@ impl Document {
         let children = blocks_values(alloc, &self.blocks, false)?;
         parent(alloc, "root", children)?.to_string(alloc)
     }
+
+    /// The same, and before the blocks a node `yaml` with the front matter of the page.
+    pub fn to_mdast_with_front_matter(
+        &self,
+        alloc: Global,
+        yaml: &str,
+    ) -> Result<String, AllocError>
+        ensures { IfOk result (λ s. string_bytes s ≡ spec.mdast_with_front_matter yaml.now (document_of self.now)) }
+    {
+        let nodes = blocks_values(alloc, &self.blocks, false)?;
+        let children = after_yaml(alloc, yaml, nodes)?;
+        parent(alloc, "root", children)?.to_string(alloc)
+    }
 }
 
 /// A node with nothing but its type.
@@ -32,6 +45,15 @@ fn with_value(alloc: Global, kind: &str, text: &str) -> Result<Value, AllocError
     ensures { IfOk result (λ v. view v ≡ spec.with_value kind.now text.now) }
 {
     json!(in alloc; {"type": kind, "value": text})
+}
+
+/// Nodes after one with YAML.
+fn after_yaml(alloc: Global, yaml: &str, nodes: Vec<Value>) -> Result<Vec<Value>, AllocError>
+    ensures { IfOk result (λ vs. items_view vs.items ≡ spec.after_yaml yaml.now (items_view nodes.items)) }
+{
+    let mut nodes = nodes;
+    nodes.insert(0, with_value(alloc, "yaml", yaml)?)?;
+    Ok(nodes)
 }
 
 /// A node with children.

@@ -19,7 +19,7 @@ use std::alloc::{AllocError, Global};
 
 /// What showed last in a paragraph: nothing yet, the box of a task, a text or an image, or code.
 #[derive(Clone, Copy, PartialEq, Eq)]
-pub(crate) enum Latest {
+pub enum Latest {
     Nothing,
     Task,
     Plain,

@@ -6,7 +6,7 @@ use crate::around::Format;
 
 /// What an element is to the document.
 #[derive(Clone, Copy, PartialEq, Eq)]
-pub(crate) enum Role {
+pub enum Role {
     Format(Format),
     Code,
     Anchor,
@@ -163,6 +163,16 @@ pub(crate) fn is_void(role: Role) -> bool
     ensures { result ≡ spec.is_void role }
 {
     matches!(role, Role::LineBreak | Role::ThematicBreak | Role::Image)
+}
+
+/// Whether something shows of such an element, whatever is in it: a quotation has its marks.
+pub(crate) fn is_never_blank(role: Role) -> bool
+    ensures { result ≡ spec.is_never_blank role }
+{
+    matches!(
+        role,
+        Role::LineBreak | Role::ThematicBreak | Role::Image | Role::Quotation
+    )
 }
 
 pub(crate) fn is_line_break(role: Role) -> bool

@@ -14,7 +14,7 @@ ghost use Rattle.htmd_document.specs.Tables as spec;
 ghost use Rattle.htmd_document.specs.TableViews as views;
 
 use crate::all_text::is_blank_text;
-use crate::role::{Role, is_void};
+use crate::role::{Role, is_never_blank};
 use crate::sight::Sight;
 use crate::spaces::is_white;
 use htmd_nodes::{NodeData, NodeId};
@@ -79,7 +79,7 @@ fn is_blank(sight: &Sight, node: NodeId) -> bool
         NodeData::Text(text) => is_blank_in_page(text.as_str()),
         NodeData::Comment(_) => true,
         NodeData::Element { .. } => match sight.role(node) {
-            Some(role) => !is_void(role) && are_blank(sight, node),
+            Some(role) => !is_never_blank(role) && are_blank(sight, node),
             None => true,
         },
     }

@@ -70,7 +70,8 @@ feed-shows : Shows (line_feed ∷ []) []
 unfolding encode
 feed-shows = shows-white line_feed refl refl
 
-between-says : (s : List ℕ) (around : List ℕ) (nodes : List Node) → NodesSay nodes → Shows s around → (c : Context)
+between-says : (s : List ℕ) (around : List ℕ) (nodes : List Node) → NodesSay nodes → Shows s around
+    → (c : Context)
     → Say c.is_flat (between s nodes c) ((around ++ nodes_seen nodes) ++ around)
 between-says s around nodes h t c =
     let mark : Say c.is_flat (run_in c s ∷ []) around = say-run c.is_flat s c.around c.is_code around t in
@@ -102,7 +103,8 @@ box-says in_line attributes =
 
 -- ---- blocks
 
-heading-says : (level : ℕ) (xs : Inlines) (cs : List ℕ) → Shows (text_of_line xs) cs → Say false (heading_of level xs)
+heading-says : (level : ℕ) (xs : Inlines) (cs : List ℕ) → Shows (text_of_line xs) cs
+    → Say false (heading_of level xs)
     cs
 heading-says level no_inlines cs h = say-none false cs h
 heading-says level (inline x xs) cs h = say-whole (heading level (inline x xs)) cs h
@@ -137,7 +139,8 @@ quote-parts nodes h c =
     (say-in false c.is_flat (flow_all nodes (deeper c)) (nodes_seen nodes) (sym flat)
     (flow-says nodes h (deeper c)))))))
 
-verbatim-says : (attributes : List AttributePair) (children : NumberedForest) (s cs : List ℕ) (c : Context) → Shows s cs
+verbatim-says : (attributes : List AttributePair) (children : NumberedForest) (s cs : List ℕ) (c : Context)
+    → Shows s cs
     → Say c.is_flat (text_in_lines attributes children s c) cs
 verbatim-says attributes children s cs c h =
     let body : List Part =
@@ -197,7 +200,8 @@ text-shows name attributes children inner =
       quotation = λ g h. shows-append (quotation_mark ∷ inner) (quotation_mark ∷ [])
           (quotation_mark ∷ seen_all children)
           (quotation_mark ∷ [])
-          (shows-append (quotation_mark ∷ []) inner (quotation_mark ∷ []) (seen_all children) mark-shows h) mark-shows;
+          (shows-append (quotation_mark ∷ []) inner (quotation_mark ∷ []) (seen_all children) mark-shows h)
+          mark-shows;
       apart = λ g h. h;
       line_break = λ g h. feed-shows;
       image = λ g h. shows-itself (text_of (codes "alt") attributes) g.value;
@@ -207,7 +211,8 @@ text-shows name attributes children inner =
 
 -- ---- each kind
 
-module _ (id : ℕ) (attributes : List AttributePair) (children : NumberedForest) (nodes : List Node) (lines : List Line)
+module _ (id : ℕ) (attributes : List AttributePair) (children : NumberedForest) (nodes : List Node)
+    (lines : List Line)
     (all : NodesSay nodes) (same : nodes_seen nodes ≡ seen_all children)
     (says : Shows (all_text_among children) (seen_all children))
     (table : holds_table_alone children ≡ true → LinesSay lines (nodes_seen nodes))
@@ -233,7 +238,8 @@ module _ (id : ℕ) (attributes : List AttributePair) (children : NumberedForest
   unfolding role_of table_role heading_or_block inline_role
   element-says name =
       any-kind (λ (r : Kind). IsGoodElement r attributes children
-      → Say c.is_flat (parts_of r id attributes children nodes lines c) (seen_as r attributes (seen_all children))) name
+      → Say c.is_flat (parts_of r id attributes children nodes lines c) (seen_as r attributes (seen_all children)))
+      name
       (record {
         paragraph = λ g. blocks;
         item = λ g. blocks;

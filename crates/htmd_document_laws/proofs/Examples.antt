@@ -17,7 +17,8 @@ use Rattle.htmd_document_laws.specs.TreeTexts.{text_of_tree, holds_texts}
 -- ---- what can be seen
 
 -- no white space, also past ASCII, no U+0000 and no U+FEFF
-pub visible-letters : visible (encode_utf8_all (97 ∷ 32 ∷ 0xA0 ∷ 0 ∷ 0xFEFF ∷ 10 ∷ 98 ∷ [])) ≡ 97 ∷ 98 ∷ []
+pub visible-letters : visible (encode_utf8_all (97 ∷ 32 ∷ 0xA0 ∷ 0 ∷ 0xFEFF ∷ 10 ∷ 98 ∷ []))
+    ≡ 97 ∷ 98 ∷ []
 unfolding chars encode
 visible-letters = refl
 

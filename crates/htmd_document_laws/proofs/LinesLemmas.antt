@@ -71,7 +71,8 @@ either-text true s = refl
 abbrev pub Open : ℕ → Inlines → Type 0
 Open zero xs = Unit {0}
 Open (suc n) xs =
-    (before : Inlines) × (a : Around) × (content : Inlines) × (xs ≡ followed before (one_inline (wrapped_by a content)))
+    (before : Inlines) × (a : Around) × (content : Inlines) ×
+    (xs ≡ followed before (one_inline (wrapped_by a content)))
     × Open n content
 
 pub open-less : (m n : ℕ) (xs : Inlines) → n ≤ m → Open m xs → Open n xs
@@ -83,7 +84,8 @@ pub open-same : (m n : ℕ) (xs ys : Inlines) → m ≡ n → xs ≡ ys → Open
 open-same m n xs ys p q o = subst (λ (k : ℕ). Open k xs) (sym p) (subst (λ (zs : Inlines). Open n zs) (sym q) o)
 
 last-text : (before : Inlines) (a : Around) (content : Inlines)
-    → text_of_line (followed before (one_inline (wrapped_by a content))) ≡ text_of_line before ++ text_of_line content
+    → text_of_line (followed before (one_inline (wrapped_by a content)))
+    ≡ text_of_line before ++ text_of_line content
 last-text before a content =
     followed-text before (one_inline (wrapped_by a content))
     ∙ ap (λ t. text_of_line before ++ t) (one-text (wrapped_by a content) ∙ around-text a content)

@@ -15,11 +15,11 @@ use Rattle.htmd_document_laws.proofs.ShownTreeLemmas.{tree-shows, tree-good}
 
 pub text_of_document : TextOfDocument
 unfolding document_of_tree
-text_of_document sight tree h q =
+text_of_document sight tree h =
     let node : Node = node_of (shown sight tree) in
     let parts : List Part = node.whole bare in
     let says : Say false parts (seen node.tree) =
-    (node-says (shown sight tree) (tree-good sight tree h q)).whole bare in
+    (node-says (shown sight tree) (tree-good sight tree h)).whole bare in
     let shows : Shows (text_of_blocks (blocks_of false parts)) (seen (shown sight tree)) =
     blocks-say false parts (seen (shown sight tree))
     (say-same false parts (seen node.tree) (seen (shown sight tree)) (node-seen (shown sight tree)) says) in

@@ -179,7 +179,8 @@ row-seen (n ∷ nodes) =
     (λ e. sym (ap (λ b. nodes_seen (cond b (n ∷ items_in_a_row nodes) [])
     ++ cond b (seen_after nodes) (node_seen n ++ nodes_seen nodes)) e))
 
-either-row : (b : Bool) (n : Node) (nodes : List Node) → NodeSays n → NodesSay nodes → NodesSay (cond b (n ∷ nodes) [])
+either-row : (b : Bool) (n : Node) (nodes : List Node) → NodeSays n → NodesSay nodes
+    → NodesSay (cond b (n ∷ nodes) [])
 either-row true n nodes g h = (g, h)
 either-row false n nodes g h = tt
 
@@ -187,7 +188,8 @@ row-says : (nodes : List Node) → NodesSay nodes → NodesSay (items_in_a_row n
 row-says [] h = tt
 row-says (n ∷ nodes) h = either-row (goes_on n) n (items_in_a_row nodes) h.0 (row-says nodes h.1)
 
-either-after : (b : Bool) (in_line : Bool) (ps qs : List Part) (cs ds : List ℕ) → Say in_line ps cs → Say in_line qs ds
+either-after : (b : Bool) (in_line : Bool) (ps qs : List Part) (cs ds : List ℕ) → Say in_line ps cs
+    → Say in_line qs ds
     → Say in_line (cond b ps qs) (cond b cs ds)
 either-after true in_line ps qs cs ds g h = g
 either-after false in_line ps qs cs ds g h = h

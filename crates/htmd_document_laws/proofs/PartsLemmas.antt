@@ -63,7 +63,8 @@ say-append in_line ps qs cs ds g h = record {
       ∙ (ap (λ t. t ++ parts_seen in_line qs) g.is ∙ ap (λ t. cs ++ t) h.is);
 }
 
-pub say-same : (in_line : Bool) (ps : List Part) (cs ds : List ℕ) → cs ≡ ds → Say in_line ps cs → Say in_line ps ds
+pub say-same : (in_line : Bool) (ps : List Part) (cs ds : List ℕ) → cs ≡ ds → Say in_line ps cs
+    → Say in_line ps ds
 say-same in_line ps cs ds e h = record { texts = h.texts; is = h.is ∙ e }
 
 -- what says nothing before and after

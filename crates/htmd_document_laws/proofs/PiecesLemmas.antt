@@ -55,9 +55,11 @@ record IsCut (xs : List ℕ) (b : ℕ) (ys : List ℕ) : Type 0 where
 white-visible : (b : ℕ) (ys : List ℕ) → b < 128 → is_white b ≡ true → visible (b ∷ ys) ≡ visible ys
 white-visible b ys l w =
     ap (filter is_visible) (chars_ascii b ys l)
-    ∙ (filter-append is_visible (b ∷ []) (chars ys) ∙ ap (λ t. t ++ filter is_visible (chars ys)) (white-unseen b w))
+    ∙ (filter-append is_visible (b ∷ []) (chars ys)
+    ∙ ap (λ t. t ++ filter is_visible (chars ys)) (white-unseen b w))
 
-cut : (xs : List ℕ) (b : ℕ) (ys : List ℕ) → b < 128 → is_white b ≡ true → IsUtf8 (xs ++ b ∷ ys) → IsCut xs b ys
+cut : (xs : List ℕ) (b : ℕ) (ys : List ℕ) → b < 128 → is_white b ≡ true → IsUtf8 (xs ++ b ∷ ys)
+    → IsCut xs b ys
 cut xs b ys l w u =
     let n : ℕ = length xs in
     let all : List ℕ = xs ++ b ∷ ys in
@@ -140,9 +142,11 @@ module _ (p : ℕ → Bool) (a : AreAsciiWhite p) where
       → PiecesShow (onto (xs ++ b ∷ []) (slice_split p s)) (visible ((xs ++ b ∷ []) ++ s)) =
       λ v. split-shows s (xs ++ b ∷ []) v in
       test (p b)
-      (λ e. subst (λ (c : Bool). PiecesShow (onto xs (cond c ([] ∷ slice_split p s) (onto_first b (slice_split p s))))
+      (λ e. subst (λ (c : Bool). PiecesShow (onto xs
+      (cond c ([] ∷ slice_split p s) (onto_first b (slice_split p s))))
       (visible (xs ++ b ∷ s))) (sym e) (split-ended b s xs e u none))
-      (λ e. subst (λ (c : Bool). PiecesShow (onto xs (cond c ([] ∷ slice_split p s) (onto_first b (slice_split p s))))
+      (λ e. subst (λ (c : Bool). PiecesShow (onto xs
+      (cond c ([] ∷ slice_split p s) (onto_first b (slice_split p s))))
       (visible (xs ++ b ∷ s))) (sym e) (split-goes b s xs u one))
 
   pub pieces-show : (s : List ℕ) → IsUtf8 s → PiecesShow (slice_split p s) (visible s)
@@ -213,15 +217,18 @@ pub unfilled : (s : List ℕ) → is_filled s ≡ false → s ≡ []
 unfilled [] e = refl
 unfilled (b ∷ s) e = absurd (grind (arith, nat_tests))
 
-filled-shows : (pieces : List (List ℕ)) (cs : List ℕ) → PiecesShow pieces cs → PiecesShow (filter is_filled pieces) cs
+filled-shows : (pieces : List (List ℕ)) (cs : List ℕ) → PiecesShow pieces cs
+    → PiecesShow (filter is_filled pieces) cs
 filled-shows [] cs h = h
 filled-shows (s ∷ pieces) cs h =
     let rest : PiecesShow (filter is_filled pieces) (pieces_seen pieces) =
     filled-shows pieces (pieces_seen pieces) (record { texts = h.texts.1; is = refl }) in
     test (is_filled s)
-    (λ e. subst (λ (c : Bool). PiecesShow (cond c (s ∷ filter is_filled pieces) (filter is_filled pieces)) cs) (sym e)
+    (λ e. subst (λ (c : Bool). PiecesShow (cond c (s ∷ filter is_filled pieces) (filter is_filled pieces)) cs)
+    (sym e)
     (record { texts = (h.texts.0, rest.texts); is = h.is ∙ ap (λ t. visible s ++ t) rest.is }))
-    (λ e. subst (λ (c : Bool). PiecesShow (cond c (s ∷ filter is_filled pieces) (filter is_filled pieces)) cs) (sym e)
+    (λ e. subst (λ (c : Bool). PiecesShow (cond c (s ∷ filter is_filled pieces) (filter is_filled pieces)) cs)
+    (sym e)
     (record {
       texts = rest.texts;
       is = h.is ∙ (ap (λ t. visible t ++ pieces_seen pieces) (unfilled s e)
@@ -237,10 +244,12 @@ more-shows : (pieces : List (List ℕ)) → AreUtf8 pieces
     → Shows (flat_map (λ next. (space ∷ []) ++ next) pieces) (pieces_seen pieces)
 more-shows [] u = shows-nil
 more-shows (s ∷ pieces) u =
-    shows-append ((space ∷ []) ++ s) (flat_map (λ next. (space ∷ []) ++ next) pieces) (visible s) (pieces_seen pieces)
+    shows-append ((space ∷ []) ++ s) (flat_map (λ next. (space ∷ []) ++ next) pieces) (visible s)
+    (pieces_seen pieces)
     (shows-append (space ∷ []) s [] (visible s) space-shows (shows-itself s u.0)) (more-shows pieces u.1)
 
-joined-shows : (pieces : List (List ℕ)) → AreUtf8 pieces → Shows (joined_texts (space ∷ []) pieces) (pieces_seen pieces)
+joined-shows : (pieces : List (List ℕ)) → AreUtf8 pieces
+    → Shows (joined_texts (space ∷ []) pieces) (pieces_seen pieces)
 joined-shows [] u = shows-nil
 joined-shows (s ∷ pieces) u =
     shows-append s (flat_map (λ next. (space ∷ []) ++ next) pieces) (visible s) (pieces_seen pieces)

@@ -8,8 +8,9 @@ use Rattle.htmd_nodes.specs.NumberedTrees.{NumberedTree, document, doctype, text
 use Rattle.htmd_nodes.specs.NumberedTrees.{more}
 use Rattle.htmd_document.specs.Attributes.{text_of}
 use Rattle.htmd_document.specs.Roles.{role_of, table_role, heading_or_block, inline_role, is_void, is_image, is_quotation}
+use Rattle.htmd_document.specs.Roles.{is_never_blank}
 use Rattle.htmd_document.specs.Roles.{is_item, is_cell, is_caption, is_part, is_row}
-use Rattle.htmd_document.specs.Tables.{has, are_blank}
+use Rattle.htmd_document.specs.Tables.{has}
 use Rattle.htmd_document_laws.specs.DocumentTexts.{visible}
 use Rattle.htmd_document_laws.proofs.KindLemmas.{Kind, any-kind}
 
@@ -38,11 +39,10 @@ seen_in (document id children) = seen_all children
 seen_in (element id name attributes children) = seen_all children
 seen_in _ = []
 
--- nothing stands in void elements, and something in quotations
+-- nothing stands in void elements
 pub record IsGoodElement (r : Kind) (attributes : List AttributePair) (children : NumberedForest) : Type 0 where
   pub value : IsUtf8 (text_of (codes "alt") attributes)
   pub empty : is_void r ≡ true → children ≡ none
-  pub filled : is_quotation r ≡ true → are_blank children ≡ false
 
 abbrev mutual
   pub IsGood : NumberedTree → Type 0
@@ -129,47 +129,47 @@ item-seen (element id name attributes children) e =
     (ap (λ b. b || is_cell (role_of name) || is_caption (role_of name) || is_part (role_of name) || is_row
     (role_of name)) e)
 
--- an element that is neither void nor a quotation
-pub plain-as : (attributes : List AttributePair) (inner : List ℕ) (name : List ℕ) → is_void (role_of name) ≡ false
-    → is_quotation (role_of name) ≡ false → seen_as (role_of name) attributes inner ≡ inner
+-- an element of which nothing shows but what is in it
+pub plain-as : (attributes : List AttributePair) (inner : List ℕ) (name : List ℕ)
+    → is_never_blank (role_of name) ≡ false → seen_as (role_of name) attributes inner ≡ inner
 unfolding role_of table_role heading_or_block inline_role
 plain-as attributes inner name =
-    any-kind (λ (r : Kind). is_void r ≡ false → is_quotation r ≡ false → seen_as r attributes inner ≡ inner) name
+    any-kind (λ (r : Kind). is_never_blank r ≡ false → seen_as r attributes inner ≡ inner) name
     (record {
-      paragraph = λ v q. refl;
-      item = λ v q. refl;
-      bullet_list = λ v q. refl;
-      numbered_list = λ v q. refl;
-      verbatim = λ v q. refl;
-      block_quote = λ v q. refl;
-      thematic_break = λ v q. absurd (clash v);
-      table = λ v q. refl;
-      caption = λ v q. refl;
-      table_head = λ v q. refl;
-      table_body = λ v q. refl;
-      row = λ v q. refl;
-      cell = λ v q. refl;
-      header_cell = λ v q. refl;
-      heading_1 = λ v q. refl;
-      heading_2 = λ v q. refl;
-      heading_3 = λ v q. refl;
-      heading_4 = λ v q. refl;
-      heading_5 = λ v q. refl;
-      heading_6 = λ v q. refl;
-      block = λ v q. refl;
-      emphasis = λ v q. refl;
-      strong = λ v q. refl;
-      deleted = λ v q. refl;
-      superscript = λ v q. refl;
-      subscript = λ v q. refl;
-      code = λ v q. refl;
-      anchor = λ v q. refl;
-      quotation = λ v q. absurd (clash q);
-      apart = λ v q. refl;
-      line_break = λ v q. absurd (clash v);
-      image = λ v q. absurd (clash v);
-      input = λ v q. refl;
-      plain = λ v q. refl;
+      paragraph = λ e. refl;
+      item = λ e. refl;
+      bullet_list = λ e. refl;
+      numbered_list = λ e. refl;
+      verbatim = λ e. refl;
+      block_quote = λ e. refl;
+      thematic_break = λ e. absurd (clash e);
+      table = λ e. refl;
+      caption = λ e. refl;
+      table_head = λ e. refl;
+      table_body = λ e. refl;
+      row = λ e. refl;
+      cell = λ e. refl;
+      header_cell = λ e. refl;
+      heading_1 = λ e. refl;
+      heading_2 = λ e. refl;
+      heading_3 = λ e. refl;
+      heading_4 = λ e. refl;
+      heading_5 = λ e. refl;
+      heading_6 = λ e. refl;
+      block = λ e. refl;
+      emphasis = λ e. refl;
+      strong = λ e. refl;
+      deleted = λ e. refl;
+      superscript = λ e. refl;
+      subscript = λ e. refl;
+      code = λ e. refl;
+      anchor = λ e. refl;
+      quotation = λ e. absurd (clash e);
+      apart = λ e. refl;
+      line_break = λ e. absurd (clash e);
+      image = λ e. absurd (clash e);
+      input = λ e. refl;
+      plain = λ e. refl;
     })
   where
     clash : true ≡ false → ⊥

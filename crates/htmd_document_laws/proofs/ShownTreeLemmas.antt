@@ -15,10 +15,9 @@ use Rattle.htmd_document.specs.Roles.{role_of, is_void, is_image, is_quotation}
 use Rattle.htmd_document.specs.Shown.{Sight, shows, shown, shown_all}
 use Rattle.htmd_document.specs.ShownTexts.{is_shown, shown_text}
 use Rattle.htmd_document.specs.Spaces.{is_white}
-use Rattle.htmd_document.specs.Tables.{are_blank}
 use Rattle.htmd_document_laws.specs.DocumentTexts.{is_visible, visible}
 use Rattle.htmd_document_laws.specs.TreeTexts.{text_of_tree, text_of_trees, has_text_values, holds_texts}
-use Rattle.htmd_document_laws.specs.TreeTexts.{hold_texts, has_filled_quotations, have_filled_quotations}
+use Rattle.htmd_document_laws.specs.TreeTexts.{hold_texts}
 use Rattle.htmd_document_laws.proofs.VisibleLemmas.{Shows, shows-nil, shows-itself, shows-append, shows-encodes, seen-same}
 use Rattle.htmd_document_laws.proofs.VisibleLemmas.{both-true}
 use Rattle.htmd_document_laws.proofs.ElementLemmas.{mark-shows}
@@ -55,14 +54,16 @@ shown-shows s u =
 
 -- ---- what is said
 
-said-shows : (i v q : Bool) (alt inner : List ℕ) (kids : NumberedForest) → IsUtf8 alt → Shows inner (seen_all kids)
+said-shows : (i v q : Bool) (alt inner : List ℕ) (kids : NumberedForest) → IsUtf8 alt
+    → Shows inner (seen_all kids)
     → Shows (cond i alt (cond v [] (cond q (quoted inner) inner)))
     (cond i (visible alt) (cond v [] (cond q ((quotation_mark ∷ seen_all (cond v none kids)) ++ quotation_mark ∷ [])
     (seen_all (cond v none kids)))))
 said-shows true v q alt inner kids u h = shows-itself alt u
 said-shows false true q alt inner kids u h = shows-nil
 said-shows false false true alt inner kids u h =
-    shows-append (quotation_mark ∷ inner) (quotation_mark ∷ []) (quotation_mark ∷ seen_all kids) (quotation_mark ∷ [])
+    shows-append (quotation_mark ∷ inner) (quotation_mark ∷ []) (quotation_mark ∷ seen_all kids)
+    (quotation_mark ∷ [])
     (shows-append (quotation_mark ∷ []) inner (quotation_mark ∷ []) (seen_all kids) mark-shows h) mark-shows
 said-shows false false false alt inner kids u h = h
 
@@ -73,7 +74,8 @@ more-shows false s rest t ts g h = h
 
 module _ (sight : Sight) where
   mutual
-    pub tree-shows : (t : NumberedTree) → holds_texts t ≡ true → Shows (text_of_tree sight t) (seen (shown sight t))
+    pub tree-shows : (t : NumberedTree) → holds_texts t ≡ true
+        → Shows (text_of_tree sight t) (seen (shown sight t))
     tree-shows (document id children) e = trees-show children e
     tree-shows (doctype id) e = shows-nil
     tree-shows (text id s) e =
@@ -97,60 +99,34 @@ module _ (sight : Sight) where
 
 -- ---- what shows of a tree is good
 
-filled-content : (q b : Bool) → not (q && b) ≡ true → q ≡ true → b ≡ false
-filled-content true true e h = absurd (clash e)
-  where
-    clash : false ≡ true → ⊥
-    clash p = (cc)
-filled-content true false e h = refl
-filled-content false b e h = absurd (clash h)
-  where
-    clash : false ≡ true → ⊥
-    clash p = (cc)
+good-content : (v : Bool) (kids : NumberedForest) → AreGood kids → AreGood (cond v none kids)
+good-content true kids h = tt
+good-content false kids h = h
 
-good-content : (v : Bool) (kids : NumberedForest) → have_filled_quotations (cond v none kids) ≡ true
-    → (have_filled_quotations kids ≡ true → AreGood kids) → AreGood (cond v none kids)
-good-content true kids e h = tt
-good-content false kids e h = h e
-
-good-more : (b : Bool) (t : NumberedTree) (ts : NumberedForest) → have_filled_quotations (cond b (more t ts) ts) ≡ true
-    → (has_filled_quotations t ≡ true → IsGood t) → (have_filled_quotations ts ≡ true → AreGood ts)
+good-more : (b : Bool) (t : NumberedTree) (ts : NumberedForest) → IsGood t → AreGood ts
     → AreGood (cond b (more t ts) ts)
-good-more true t ts e g h =
-    let parts = both-true (has_filled_quotations t) (have_filled_quotations ts) e in
-    (g parts.0, h parts.1)
-good-more false t ts e g h = h e
-
-scalars-text : (s : List ℕ) → IsUtf8 s → IsUtf8 (shown_text s)
-scalars-text s u = (shown-shows s u).utf8
+good-more true t ts g h = (g, h)
+good-more false t ts g h = h
 
 module _ (sight : Sight) where
   mutual
-    pub tree-good : (t : NumberedTree) → holds_texts t ≡ true → has_filled_quotations (shown sight t) ≡ true
-        → IsGood (shown sight t)
-    tree-good (document id children) e q = trees-good children e q
-    tree-good (doctype id) e q = tt
-    tree-good (text id s) e q = scalars-text s (IsUtf8-from_is_utf8 s e)
-    tree-good (comment id s) e q = tt
-    tree-good (element id name attributes children) e q =
+    pub tree-good : (t : NumberedTree) → holds_texts t ≡ true → IsGood (shown sight t)
+    tree-good (document id children) e = trees-good children e
+    tree-good (doctype id) e = tt
+    tree-good (text id s) e = (shown-shows s (IsUtf8-from_is_utf8 s e)).utf8
+    tree-good (comment id s) e = tt
+    tree-good (element id name attributes children) e =
         let parts = both-true (has_text_values attributes) (hold_texts children) e in
-        let void : Bool = is_void (role_of name) in
-        let kids : NumberedForest = shown_all sight children in
-        let inner : NumberedForest = cond void none kids in
-        let marks = both-true (not (is_quotation (role_of name) && are_blank inner)) (have_filled_quotations inner) q
-        in (
+        let kids : NumberedForest = shown_all sight children in (
           record {
             value = IsUtf8-from_is_utf8 (text_of (codes "alt") attributes) parts.0;
             empty = λ v. ap (λ b. cond b none kids) v;
-            filled = filled-content (is_quotation (role_of name)) (are_blank inner) marks.0;
           },
-          good-content void kids marks.1 (λ f. trees-good children parts.1 f),
+          good-content (is_void (role_of name)) kids (trees-good children parts.1),
         )
 
-    pub trees-good : (ts : NumberedForest) → hold_texts ts ≡ true → have_filled_quotations (shown_all sight ts) ≡ true
-        → AreGood (shown_all sight ts)
-    trees-good none e q = tt
-    trees-good (more t ts) e q =
+    pub trees-good : (ts : NumberedForest) → hold_texts ts ≡ true → AreGood (shown_all sight ts)
+    trees-good none e = tt
+    trees-good (more t ts) e =
         let parts = both-true (holds_texts t) (hold_texts ts) e in
-        good-more (shows sight t) (shown sight t) (shown_all sight ts) q (λ f. tree-good t parts.0 f)
-        (λ f. trees-good ts parts.1 f)
+        good-more (shows sight t) (shown sight t) (shown_all sight ts) (tree-good t parts.0) (trees-good ts parts.1)

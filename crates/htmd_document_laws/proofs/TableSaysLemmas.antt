@@ -69,7 +69,8 @@ cells-say (n ∷ cells) h c =
     (say-run c.is_flat (space ∷ []) c.around false [] space-shows))
     (cells-say cells h.1 c)
 
-line-in-one-line : (l : Line) (cs : List ℕ) → LineSays l cs → (c : Context) → Say c.is_flat (line_in_one_line c l) cs
+line-in-one-line : (l : Line) (cs : List ℕ) → LineSays l cs → (c : Context)
+    → Say c.is_flat (line_in_one_line c l) cs
 line-in-one-line (of_caption content) cs h c =
     say-after c.is_flat (content c) (edge ∷ []) cs (h c) (say-edges c.is_flat)
 line-in-one-line (of_row row) cs h c =
@@ -112,7 +113,8 @@ abbrev RowsSay : List Row → Type 0
 RowsSay [] = Unit {0}
 RowsSay (row ∷ rows) = NodesSay row.cells × RowsSay rows
 
-captions-say : (lines : List Line) (cs : List ℕ) → LinesSay lines cs → are_captions lines ≡ true → (c : Context)
+captions-say : (lines : List Line) (cs : List ℕ) → LinesSay lines cs → are_captions lines ≡ true
+    → (c : Context)
     → Say c.is_flat (captions_among lines c) cs
 captions-say [] cs h e c = say-same c.is_flat [] [] cs (sym h) (say-nil c.is_flat)
 captions-say (of_caption content ∷ lines) cs h e c =
@@ -153,7 +155,8 @@ either-seen (n ∷ cells) row rows e =
     some : (n : Node) (cells : List Node) → nat_lt 0 (length (n ∷ cells)) ≡ true
     some n cells = grind (arith, nat_tests)
 
-rows-behind : (lines : List Line) (cs : List ℕ) → LinesSay lines cs → are_rows_first lines ≡ true → (c : Context)
+rows-behind : (lines : List Line) (cs : List ℕ) → LinesSay lines cs → are_rows_first lines ≡ true
+    → (c : Context)
     → AreBehind lines c cs
 rows-behind [] cs h e c = record { rows = tt; behind = []; captions = say-nil c.is_flat; is = h }
 rows-behind (of_caption content ∷ lines) cs h e c =

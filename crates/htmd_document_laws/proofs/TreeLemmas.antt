@@ -29,7 +29,7 @@ use Rattle.htmd_document_laws.proofs.ElementLemmas.{text-shows, element-says}
 
 -- ---- what is blank
 
-not-true : (b : Bool) → not b ≡ true → b ≡ false
+pub not-true : (b : Bool) → not b ≡ true → b ≡ false
 not-true true e = absurd (clash e)
   where
     clash : false ≡ true → ⊥
@@ -55,13 +55,11 @@ mutual
   blank-unseen (text id s) g e = blank-seen s e
   blank-unseen (comment id s) g e = refl
   blank-unseen (element id name attributes children) g e =
-      let parts = both-true (not (roles.is_void (role_of name))) (are_blank children) e in
-      let inner : seen_all children ≡ [] = blanks-unseen children g.1 parts.1 in
-      test (roles.is_quotation (role_of name))
-      (λ q. true-false (sym parts.1 ∙ g.0.filled q))
-      (λ q. plain-as attributes (seen_all children) name (not-true (roles.is_void (role_of name)) parts.0) q ∙ inner)
+      let parts = both-true (not (roles.is_never_blank (role_of name))) (are_blank children) e in
+      plain-as attributes (seen_all children) name (not-true (roles.is_never_blank (role_of name)) parts.0)
+      ∙ blanks-unseen children g.1 parts.1
 
-  blanks-unseen : (ts : NumberedForest) → AreGood ts → are_blank ts ≡ true → seen_all ts ≡ []
+  pub blanks-unseen : (ts : NumberedForest) → AreGood ts → are_blank ts ≡ true → seen_all ts ≡ []
   blanks-unseen none g e = refl
   blanks-unseen (more t ts) g e =
       let parts = both-true (is_blank t) (are_blank ts) e in
@@ -69,7 +67,7 @@ mutual
 
 -- ---- nodes
 
-node-tree : (t : NumberedTree) → (node_of t).tree ≡ t
+pub node-tree : (t : NumberedTree) → (node_of t).tree ≡ t
 unfolding node_of
 node-tree (document id children) = refl
 node-tree (doctype id) = refl
@@ -174,7 +172,8 @@ cells-say (more t ts) h g e =
 
 -- ---- rows and lines
 
-row-line-says : (part : Option ℕ) (in_head : Bool) (nodes : List Node) (cs : List ℕ) → CellsSay (cells_among nodes) cs
+row-line-says : (part : Option ℕ) (in_head : Bool) (nodes : List Node) (cs : List ℕ)
+    → CellsSay (cells_among nodes) cs
     → LinesSay (row_line part in_head nodes) cs
 row-line-says part in_head nodes cs h = (cs, [], sym (append-nil cs), (h.nodes, h.is), refl)
 
@@ -286,12 +285,14 @@ rows-append [] ys g h = h
 rows-append (of_caption content ∷ xs) ys g h = false-true g
 rows-append (of_row row ∷ xs) ys g h = rows-append xs ys g h
 
-captions-append : (xs ys : List Line) → are_captions xs ≡ true → are_captions ys ≡ true → are_captions (xs ++ ys) ≡ true
+captions-append : (xs ys : List Line) → are_captions xs ≡ true → are_captions ys ≡ true
+    → are_captions (xs ++ ys) ≡ true
 captions-append [] ys g h = h
 captions-append (of_caption content ∷ xs) ys g h = captions-append xs ys g h
 captions-append (of_row row ∷ xs) ys g h = false-true g
 
-rows-first : (xs ys : List Line) → are_rows xs ≡ true → are_rows_first ys ≡ true → are_rows_first (xs ++ ys) ≡ true
+rows-first : (xs ys : List Line) → are_rows xs ≡ true → are_rows_first ys ≡ true → are_rows_first (xs ++ ys)
+    ≡ true
 rows-first [] ys g h = h
 rows-first (of_caption content ∷ xs) ys g h = false-true g
 rows-first (of_row row ∷ xs) ys g h = rows-first xs ys g h
@@ -309,19 +310,22 @@ captions-ordered [] h = refl
 captions-ordered (of_caption content ∷ ys) h = captions-ordered ys h
 captions-ordered (of_row row ∷ ys) h = false-true h
 
-rows-ordered : (xs ys : List Line) → are_rows xs ≡ true → are_rows_first ys ≡ true → are_ordered (xs ++ ys) ≡ true
+rows-ordered : (xs ys : List Line) → are_rows xs ≡ true → are_rows_first ys ≡ true → are_ordered (xs ++ ys)
+    ≡ true
 rows-ordered [] [] g h = refl
 rows-ordered [] (of_caption content ∷ ys) g h = captions-ordered ys h
 rows-ordered [] (of_row row ∷ ys) g h = h
 rows-ordered (of_caption content ∷ xs) ys g h = false-true g
 rows-ordered (of_row row ∷ xs) ys g h = rows-first xs ys g h
 
-before-ordered : (xs ys : List Line) → are_captions xs ≡ true → are_ordered ys ≡ true → are_ordered (xs ++ ys) ≡ true
+before-ordered : (xs ys : List Line) → are_captions xs ≡ true → are_ordered ys ≡ true
+    → are_ordered (xs ++ ys) ≡ true
 before-ordered [] ys g h = h
 before-ordered (of_caption content ∷ xs) ys g h = before-ordered xs ys g h
 before-ordered (of_row row ∷ xs) ys g h = false-true g
 
-part-rows : (ts : NumberedForest) (part : Option ℕ) (in_head : Bool) → are_rows (rows_of_part part in_head ts) ≡ true
+part-rows : (ts : NumberedForest) (part : Option ℕ) (in_head : Bool) → are_rows (rows_of_part part in_head ts)
+    ≡ true
 unfolding node_of
 part-rows none part in_head = refl
 part-rows (more (document id children) ts) part in_head = part-rows ts part in_head
@@ -338,7 +342,8 @@ part-rows (more (element id name attributes children) ts) part in_head =
 
 -- a child that is no caption gives rows, and one that is neither row nor part captions
 rows-at : (c p w : Bool) (nodes : List Node) (rows : List Line) → c ≡ false → are_rows rows ≡ true
-    → are_rows (cond c (of_caption (flow_all nodes) ∷ []) (cond p rows (cond w (row_line None false nodes) []))) ≡ true
+    → are_rows (cond c (of_caption (flow_all nodes) ∷ []) (cond p rows (cond w (row_line None false nodes) [])))
+    ≡ true
 rows-at true p w nodes rows e h = true-false e
 rows-at false true w nodes rows e h = h
 rows-at false false true nodes rows e h = refl
@@ -360,7 +365,8 @@ abbrev lines-here : ℕ → List ℕ → NumberedForest → List Line
 lines-here id name children =
     lines_at (role_of name) (nodes_of children) (rows_of_part (Some id) (roles.is_head (role_of name)) children)
 
-here-captions : (id : ℕ) (name : List ℕ) (children : NumberedForest) → roles.is_row_or_part (role_of name) ≡ false
+here-captions : (id : ℕ) (name : List ℕ) (children : NumberedForest) → roles.is_row_or_part (role_of name)
+    ≡ false
     → are_captions (lines-here id name children) ≡ true
 here-captions id name children e =
     let r : Kind = role_of name in
@@ -403,12 +409,13 @@ behind (more (element id name attributes children) ts) e =
     (λ c. rows-first (lines-here id name children) (lines_of_table ts) (here-rows id name children c)
     (rest (sym (ap (λ b. cond b (has_captions_alone ts) (has_captions_behind ts)) c) ∙ e)))
 
-no-caption : (name : List ℕ) → roles.is_row_or_part (role_of name) ≡ true → roles.is_caption (role_of name) ≡ false
+no-caption : (name : List ℕ) → roles.is_row_or_part (role_of name) ≡ true → roles.is_caption (role_of name)
+    ≡ false
 no-caption name e = test (roles.is_caption (role_of name))
     (λ c. false-true (sym ((facts name).apart c) ∙ e))
     (λ c. c)
 
-ordered : (ts : NumberedForest) → has_captions_around ts ≡ true → are_ordered (lines_of_table ts) ≡ true
+pub ordered : (ts : NumberedForest) → has_captions_around ts ≡ true → are_ordered (lines_of_table ts) ≡ true
 unfolding node_of
 ordered none e = refl
 ordered (more (document id children) ts) e = ordered ts e
@@ -471,8 +478,8 @@ mutual
   nodes-say none g = tt
   nodes-say (more t ts) g = (node-says t g.0, nodes-say ts g.1)
 
-  rows-say : (ts : NumberedForest) → AreGood ts → (part : Option ℕ) (in_head : Bool) → holds_rows_alone ts ≡ true
-      → LinesSay (rows_of_part part in_head ts) (seen_all ts)
+  rows-say : (ts : NumberedForest) → AreGood ts → (part : Option ℕ) (in_head : Bool)
+      → holds_rows_alone ts ≡ true → LinesSay (rows_of_part part in_head ts) (seen_all ts)
   rows-say none g part in_head e = refl
   rows-say (more (document id children) ts) g part in_head e =
       let parts = both-true (is_blank (document id children)) (holds_rows_alone ts) e in

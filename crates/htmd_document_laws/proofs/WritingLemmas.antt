@@ -66,7 +66,8 @@ wrote-nothing in_item flat = record {
   state = at_nothing refl refl;
 }
 
-state-kept : (v w : Writing) → v.latest ≡ w.latest → v.content ≡ w.content → v.around ≡ w.around → State w → State v
+state-kept : (v w : Writing) → v.latest ≡ w.latest → v.content ≡ w.content → v.around ≡ w.around
+    → State w → State v
 state-kept v w a b c (at_nothing e h) = at_nothing (a ∙ e) (ap text_of_line b ∙ h)
 state-kept v w a b c (at_task e h) = at_task (a ∙ e) (ap text_of_line b ∙ h)
 state-kept v w a b c (at_leaf k e o) =
@@ -87,7 +88,7 @@ open-text w (at_task e h) =
 open-text w (at_leaf k e o) =
     ap (λ l. text_of_all (cond (is_leaf l) (paragraph w.content ∷ []) [])) e ∙ leaf-text k w.content
 
-false-true : {A : Type 0} → false ≡ true → A
+pub false-true : {A : Type 0} → false ≡ true → A
 false-true e = absurd (clash e)
   where
     clash : false ≡ true → ⊥
@@ -102,7 +103,8 @@ ended-text w bs s =
     ∙ ap (λ t. t ++ text_of_all bs) (flat_map-append text_of_block w.done (open_paragraph w)
     ∙ ap (λ t. text_of_all w.done ++ t) (open-text w s)))
 
-pub ended_by-wrote : (w : Writing) (bs : List Block) (cs ds : List ℕ) → Wrote w false cs → Shows (text_of_all bs) ds
+pub ended_by-wrote : (w : Writing) (bs : List Block) (cs ds : List ℕ) → Wrote w false cs
+    → Shows (text_of_all bs) ds
     → Wrote (ended_by w bs) false (cs ++ ds)
 ended_by-wrote w bs cs ds h b = record {
   flat = h.flat;
@@ -118,7 +120,8 @@ ended_by-wrote w bs cs ds h b = record {
 pub ended-wrote : (w : Writing) (cs : List ℕ) → Wrote w false cs → Wrote (ended w) false cs
 ended-wrote w cs h = wrote-same (ended w) false (cs ++ []) cs (append-nil cs) (ended_by-wrote w [] cs [] h shows-nil)
 
-either-wrote : (b : Bool) (v w : Writing) (flat : Bool) (cs : List ℕ) → (b ≡ true → Wrote v flat cs) → Wrote w flat cs
+either-wrote : (b : Bool) (v w : Writing) (flat : Bool) (cs : List ℕ) → (b ≡ true → Wrote v flat cs)
+    → Wrote w flat cs
     → Wrote (cond b v w) flat cs
 either-wrote true v w flat cs g h = g refl
 either-wrote false v w flat cs g h = h
@@ -142,11 +145,13 @@ broken_off-wrote w flat cs h = record {
   state = state-kept (broken_off w) w refl refl refl h.state;
 }
 
-shown_white-shows : (b : Bool) (c : ℕ) → scalar c ≡ true → is_white c ≡ true → Shows (encode_utf8 (cond b space c)) []
+shown_white-shows : (b : Bool) (c : ℕ) → scalar c ≡ true → is_white c ≡ true
+    → Shows (encode_utf8 (cond b space c)) []
 shown_white-shows true c h w = shows-white space refl refl
 shown_white-shows false c h w = shows-white c h w
 
-spaced-shows : (b : Bool) (g : Gap) (c : ℕ) (is_code : Bool) → Shows g.white [] → scalar c ≡ true → is_white c ≡ true
+pub spaced-shows : (b : Bool) (g : Gap) (c : ℕ) (is_code : Bool) → Shows g.white [] → scalar c ≡ true
+    → is_white c ≡ true
     → Shows (cond b g (record g {
       white = g.white ++ encode_utf8 (shown_white c);
       is_code = g.is_code && is_code;
@@ -190,7 +195,7 @@ space-shows : Shows (space ∷ []) []
 unfolding encode
 space-shows = shows-white space refl refl
 
-after_task-shows : (s : List ℕ) → Shows s [] → Shows (after_task s) []
+pub after_task-shows : (s : List ℕ) → Shows s [] → Shows (after_task s) []
 after_task-shows [] h = space-shows
 after_task-shows (b ∷ s) h = h
 
@@ -204,7 +209,8 @@ task-gap w around h = record {
 }
 
 -- what goes in all that is shared
-put-gap : (w : Writing) (around : List Around) (n : ℕ) (y : Inline) → Shows (text_of_inline y) [] → n ≤ length around
+put-gap : (w : Writing) (around : List Around) (n : ℕ) (y : Inline) → Shows (text_of_inline y) []
+    → n ≤ length around
     → Open n w.content → IsGap w around (behind n w.content (take n around) y) n
 put-gap w around n y h l o =
     let count : length (take n around) ≡ n = length-take-le n around l in
@@ -293,7 +299,8 @@ shown-wrote w flat cs ds around is_code y h s =
       gap = shows-nil;
       blank = λ e. false-true e;
       line = h.line;
-      state = at_leaf is_code refl (subst (λ (k : ℕ). Open k (behind n xs around y)) (sym (length-map around mark_of))
+      state = at_leaf is_code refl (subst (λ (k : ℕ). Open k (behind n xs around y))
+          (sym (length-map around mark_of))
           (behind-open n xs around y g.fits g.opens));
     }
 
@@ -370,7 +377,8 @@ character-wrote w flat cs around is_code c h s = test (is_white c)
     (text-same (text_of_inline (text_or_code is_code (encode_utf8 c))) (encode_utf8 c) (filter is_visible (c ∷ []))
     (either-text is_code (encode_utf8 c)) (shows-character c s))))
 
-pub characters-wrote : (ds : List ℕ) (w : Writing) (flat : Bool) (cs : List ℕ) (around : List Around) (is_code : Bool)
+pub characters-wrote : (ds : List ℕ) (w : Writing) (flat : Bool) (cs : List ℕ) (around : List Around)
+    (is_code : Bool)
     → Wrote w flat cs → scalars ds ≡ true
     → Wrote (fold (λ v c. after_character v around is_code c) w ds) flat (cs ++ filter is_visible ds)
 characters-wrote [] w flat cs around is_code h s = wrote-same w flat cs (cs ++ []) (sym (append-nil cs)) h

@@ -2,3 +2,8 @@
 pub mod DocumentTexts
 pub mod TreeTexts
 pub mod TextLaws
+pub mod TreeForms
+pub mod DocumentMarks
+pub mod TreeMarks
+pub mod MarkLaws
+pub mod NormalLaws

@@ -1,5 +1,5 @@
 -- What a tree says: its texts that aren't hidden, the descriptions of images, and the marks of quotations.
-use Rattle.std.specs.Prelude.{ℕ, Bool, true, not, ◌&&◌, if◌then◌else◌, List, [], ◌++◌, codes}
+use Rattle.std.specs.Prelude.{ℕ, Bool, true, ◌&&◌, if◌then◌else◌, List, [], ◌++◌, codes}
 use Rattle.std.specs.Str.{is_utf8}
 use Rattle.htmd_grammar.specs.ValueTrees.{AttributePair}
 use Rattle.htmd_nodes.specs.NumberedTrees.{NumberedTree, document, doctype, text, comment, element, NumberedForest, none}
@@ -8,7 +8,6 @@ use Rattle.htmd_document.specs.AllTexts.{quoted}
 use Rattle.htmd_document.specs.Attributes.{text_of}
 use Rattle.htmd_document.specs.Roles.{role_of, is_void, is_image, is_quotation}
 use Rattle.htmd_document.specs.Shown.{Sight, shows}
-use Rattle.htmd_document.specs.Tables.{are_blank}
 
 -- what an element says, by its name: a `br` and an `hr` say nothing
 abbrev pub said_by : List ℕ → List AttributePair → List ℕ → List ℕ
@@ -50,19 +49,3 @@ abbrev mutual
   pub hold_texts : NumberedForest → Bool
   hold_texts none = true
   hold_texts (more tree trees) = holds_texts tree && hold_texts trees
-
--- ---- quotations
-
-abbrev mutual
-  -- something shows in each quotation
-  pub has_filled_quotations : NumberedTree → Bool
-  has_filled_quotations (document id children) = have_filled_quotations children
-  has_filled_quotations (doctype id) = true
-  has_filled_quotations (text id s) = true
-  has_filled_quotations (comment id s) = true
-  has_filled_quotations (element id name attributes children) =
-      not (is_quotation (role_of name) && are_blank children) && have_filled_quotations children
-
-  pub have_filled_quotations : NumberedForest → Bool
-  have_filled_quotations none = true
-  have_filled_quotations (more tree trees) = has_filled_quotations tree && have_filled_quotations trees

@@ -1,10 +1,10 @@
-//! The program `htmd`: converts standard input into Markdown on standard output.
+//! The program `htmd`: converts files, or standard input, into Markdown.
 #![tactic(auto)]
 
-use htmd_cli::{Input, Output, RunError, command};
+use htmd_command::{HostStore, Input, Output, RunError, run_program};
 use std::alloc::{AllocError, Global};
 use std::env;
-use std::io::ErrorKind;
+use std::io::{ErrorKind, IsTerminal};
 use std::process::ExitCode;
 
 fn main(rt: HostRuntime) -> ExitCode {
@@ -13,12 +13,14 @@ fn main(rt: HostRuntime) -> ExitCode {
             let mut source = Input::new(rt.stdin());
             let mut sink = Output::new(rt.stdout());
             let mut errors = Output::new(rt.stderr());
-            let status = command(
+            let status = run_program(
                 rt.alloc(),
                 words.as_slice(),
+                &mut HostStore { runtime: &rt },
                 &mut source,
                 &mut sink,
                 &mut errors,
+                rt.stderr().is_terminal(),
             );
             ExitCode::from(status)
         }

@@ -120,7 +120,7 @@ fn answers_rows(rt: HostRuntime) -> Result<(), Fail> {
             b"<p>\n",
             "\\N\n",
             "htmd: row 1: refused at byte 3: Unclosed\nline 1, column 4: the input ends here, and an element is still \
-open; write its end tag, or let --html5 read the page.\n<p>\n   ^\n",
+open; write its end tag.\n<p>\n   ^\n--web reads any page.\n",
         ),
     ];
     for &(lines, stdin, stdout, stderr) in ROWS {

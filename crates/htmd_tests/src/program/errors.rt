@@ -21,6 +21,10 @@ fn tells_errors_of_runs(rt: HostRuntime) -> Result<(), Fail> {
              encoding: EucKr }",
         ),
         (RunError::from(DecodeError::Memory), "out of memory Memory"),
+        (
+            RunError::NothingSelected,
+            "no element of the page is selected by --select NothingSelected",
+        ),
         (RunError::Memory, "out of memory Memory"),
         (RunError::Read, "read failed Read"),
         (RunError::Write, "write failed Write"),

@@ -46,7 +46,7 @@ fn expect_shown(
     let place = before.saturating_mul(text.len());
     let want = format!(in alloc;
         "htmd: refused at byte {place}: UnknownReference\n\
-         line 1, column {column}: {UNKNOWN}\n{shown}\n{}^\n",
+         line 1, column {column}: {UNKNOWN}\n{shown}\n{}^\n--web reads any page.\n",
         repeated(alloc, " ", columns)?
     )?;
     let answer = explained(alloc, &["--explain"], html.as_bytes())?;

@@ -1,15 +1,18 @@
 //! Unknown options, and what the program says of itself. What each option sets is a family of `htmd_cases`.
-use super::calls::{called, called_within, expect_answer};
+use super::calls::{called, called_within};
 use htmd_expected::{expect_number, expect_text, expect_that};
 use std::alloc::Global;
 use std::test::Fail;
 
-// Fails unless this is the option that is reported as unknown, and nothing is read.
+// Fails unless this is the option that is reported in one line, and nothing is read.
 fn expect_unknown(alloc: Global, option: &str, options: &[&str]) -> Result<(), Fail> {
-    let said = format!(in alloc;
-        "htmd: unknown word\nhtmd: '{option}' is not an option, or not with this value: see --help\n"
-    )?;
-    expect_answer(alloc, options, b"<p>", (2, "", said.as_str()), 3)
+    let answer = called(alloc, options, b"<p>")?;
+    let said = format!(in alloc; "htmd: '{option}'")?;
+    expect_that(option, answer.status == 2)?;
+    expect_that(option, answer.stderr.starts_with(said.as_str()))?;
+    expect_number(option, answer.stderr.lines().count(), 1)?;
+    expect_text(option, answer.stdout.as_str(), "")?;
+    expect_number(option, answer.unread, 3)
 }
 
 // Nothing is read, and the options come first: an unknown one is reported before anything else.
@@ -62,6 +65,18 @@ fn refuses_options(rt: HostRuntime) -> Result<(), Fail> {
         "--explained",
         "--help=all",
         "--Version",
+        "--select",
+        "--base",
+        "--base=",
+        "--base=page.html",
+        "--base=https://[",
+        "--front-matter=yes",
+        "--completions",
+        "--completions=tcsh",
+        "--output=out",
+        "-o",
+        "--progress",
+        "--quiet",
     ];
     for &option in ROWS {
         expect_unknown(rt.alloc(), option, &[option, "--text"])?;
@@ -74,7 +89,7 @@ fn refuses_options(rt: HostRuntime) -> Result<(), Fail> {
 fn options_in(help: &str) -> Result<usize, Fail> {
     let mut count: usize = 0;
     for line in help.lines() {
-        if line.starts_with("--") {
+        if line.starts_with("-") {
             count = count.saturating_add(1);
             expect_that(line, line.contains(" "))?;
         }
@@ -84,12 +99,16 @@ fn options_in(help: &str) -> Result<usize, Fail> {
 
 // Fails unless the help has a line for each option.
 fn expect_help(help: &str) -> Result<(), Fail> {
-    expect_number("options", options_in(help)?, 36)?;
-    let usage = "Usage: htmd [OPTION..] < page.html > page.md\n";
+    expect_number("options", options_in(help)?, 47)?;
+    let usage = "Usage: htmd [OPTION..] [FILE..]\n";
     expect_that(usage, help.starts_with(usage))?;
     for line in [
         "--skip=TAG[,TAG..]                      leaves out elements of these names, in lower case\n",
         "--link-style=inlined-prefer-autolinks   the same, but an address as its own text is an autolink\n",
+        "\nInput:\n--web",
+        "\nWhat is written:\n--guarded",
+        "\nFiles:\n-o, --output=OUT                        writes to this file",
+        "\nHelp:\n--help",
     ] {
         expect_that(line, help.contains(line))?;
     }

@@ -2,5 +2,5 @@
 use Rattle.std.proofs.Common.{◌≡◌}
 use Rattle.htmd_cli.proofs.help.write_help.Given as goal
 
-abbrev pub invariant-loop-row : goal.invariant-loop-row
-invariant-loop-row g l = g.W.Sink.has_failed l.sink ≡ g.W.Sink.has_failed l.fn.sink
+abbrev pub invariant-loop-group : goal.invariant-loop-group
+invariant-loop-group g l = g.W.Sink.has_failed l.sink ≡ g.W.Sink.has_failed l.fn.sink

@@ -14,7 +14,8 @@ returns-in_err-markdown-clause-ends g c =
     (λ q. said.not_utf8_strict (ap Err q)) (λ encoding q. said.unsupported encoding (ap Err q))
     (λ place kind q. said.refused_html place kind (ap Err q))
     (λ place kind q. said.refused_strict place kind (ap Err q)) (λ place kind q. said.refused place kind (ap Err q))
-    (λ place kind q. said.utf8_refused place kind (ap Err q)) said.others.1 refl)
+    (λ place kind q. said.utf8_refused place kind (ap Err q)) (λ q. said.nothing_selected (ap Err q)) said.others.1
+    refl)
 
 pub returns-in-Ok-clause-ends : goal.returns-in-Ok-clause-ends
 returns-in-Ok-clause-ends g c =

@@ -85,20 +85,20 @@ is_blank-returns-in-None t c =
     (string_bytes c.in-Element.name) (pairs_of c.in-Element.attrs.items)
     (sym c.data.ensures.value ∙ ap data_of c.in-Element.is) (sym c.role.ensures ∙ c.in-None.is))
 
-pub is_blank-returns-then-not-is_void : goal.is_blank-returns-then-not-is_void
-is_blank-returns-then-not-is_void t c =
+pub is_blank-returns-then-not-is_never_blank : goal.is_blank-returns-then-not-is_never_blank
+is_blank-returns-then-not-is_never_blank t c =
     c.are_blank.ensures
     ∙ ap (λ b. not b && spec.are_blank (children_of (shown (sight_of c.args.sight.now)
     (tree_of c.args.sight.now.tree.now c.args.node))))
-    (sym (sym c.is_void.ensures ∙ c.if-not-is_void.true))
+    (sym (sym c.is_never_blank.ensures ∙ c.if-not-is_never_blank.true))
     ∙ sym (blank_by_role (sight_of c.args.sight.now) (tree_of c.args.sight.now.tree.now c.args.node)
     c.in-Some.role (sym c.role.ensures ∙ c.in-Some.is))
 
-pub is_blank-returns-else-not-is_void : goal.is_blank-returns-else-not-is_void
-is_blank-returns-else-not-is_void t c =
-    ap not c.if-not-is_void.false
+pub is_blank-returns-else-not-is_never_blank : goal.is_blank-returns-else-not-is_never_blank
+is_blank-returns-else-not-is_never_blank t c =
+    ap not c.if-not-is_never_blank.false
     ∙ ap (λ b. not b && spec.are_blank (children_of (shown (sight_of c.args.sight.now)
     (tree_of c.args.sight.now.tree.now c.args.node))))
-    (sym (sym c.is_void.ensures ∙ c.if-not-is_void.false))
+    (sym (sym c.is_never_blank.ensures ∙ c.if-not-is_never_blank.false))
     ∙ sym (blank_by_role (sight_of c.args.sight.now) (tree_of c.args.sight.now.tree.now c.args.node)
     c.in-Some.role (sym c.role.ensures ∙ c.in-Some.is))

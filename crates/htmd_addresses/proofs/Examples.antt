@@ -1,0 +1,56 @@
+-- Worked rows: paths in their one form, and addresses that lead to pages of a run.
+use Rattle.std.proofs.Common.{◌≡◌, List, [], ◌∷◌, codes, refl}
+use Rattle.percent_encoding.specs.AsciiSet.{should_percent_encode}
+use Rattle.percent_encoding.specs.Percent.{percent_decode, percent_encode, percent_encode_byte}
+use Rattle.htmd_addresses.specs.Leads.{PageValue, lead}
+use Rattle.htmd_addresses.specs.Paths.{plain_path}
+
+same-path : plain_path (codes "./site//a/../b.html") ≡ codes "site/b.html"
+same-path = refl
+
+-- what is above the folder where the program runs stays
+above-path : plain_path (codes "../../a/b.html") ≡ codes "../../a/b.html"
+above-path = refl
+
+root-path : plain_path (codes "/../a.html") ≡ codes "/a.html"
+root-path = refl
+
+-- a path that ends with a slash is that of no file
+folder-path : plain_path (codes "site/a.html/") ≡ codes "site/a.html/"
+folder-path = refl
+
+abbrev first : PageValue
+first = record { input = codes "site/a.html"; output = codes "out/a.md" }
+
+abbrev second : PageValue
+second = record { input = codes "site/b/c d.html"; output = codes "out/b/c d.md" }
+
+abbrev pages : List PageValue
+pages = first ∷ second ∷ []
+
+down : lead pages first (codes "b/c%20d.html?x=1#y") ≡ codes "b/c%20d.md?x=1#y"
+unfolding percent_decode percent_encode percent_encode_byte should_percent_encode
+down = refl
+
+up : lead pages second (codes " ../a.html ") ≡ codes "../a.md"
+unfolding percent_decode percent_encode percent_encode_byte should_percent_encode
+up = refl
+
+-- `\` is a slash in addresses
+backslash : lead pages first (codes "b\\c d.html") ≡ codes "b/c%20d.md"
+unfolding percent_decode percent_encode percent_encode_byte should_percent_encode
+backslash = refl
+
+-- no page, another host, a scheme, a part of the same page
+others : lead pages first (codes "c.html") ≡ codes "c.html"
+unfolding percent_decode
+others = refl
+
+host : lead pages first (codes "/a.html") ≡ codes "/a.html"
+host = refl
+
+scheme : lead pages first (codes "x:a.html") ≡ codes "x:a.html"
+scheme = refl
+
+fragment : lead pages first (codes "#y") ≡ codes "#y"
+fragment = refl

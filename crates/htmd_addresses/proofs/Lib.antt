@@ -1,0 +1,7 @@
+-- Lemmas on addresses.
+mod Examples
+pub mod RewritingLemmas
+pub mod BasesLemmas
+pub mod PathsLemmas
+pub mod PagesLemmas
+pub mod LeadsLemmas

@@ -1,0 +1,57 @@
+-- What is left to prove of the functions of the cycle `bases`.
+use Rattle.std.proofs.Common.{rules, ◌<◌, length, string_bytes, sym, ap, ◌∙◌, arith, ℕ, List}
+use Rattle.htmd_grammar.specs.Attributes.{pairs_of}
+use Rattle.htmd_grammar.specs.ValueTrees.{AttributePair}
+use Rattle.htmd_nodes.specs.Items.{document_node, element_node, children_of}
+use Rattle.htmd_nodes.specs.NumberedTrees.{tree_of, forest_of, value_forest}
+use Rattle.htmd_nodes.specs.Views.{data_of}
+use Rattle.htmd_nodes.proofs.ItemsLemmas.{child_read}
+use Rattle.htmd_addresses.specs.Bases.{base_in, first_base, own_base}
+use Rattle.htmd_addresses.proofs.BasesLemmas.{value-node, base-other, own-some, own-none}
+use Rattle.htmd_addresses.proofs.bases.+bases.Goals as goal
+
+pub first_base-base_in-found-requires : goal.first_base-base_in-found-requires
+first_base-base_in-found-requires t c =
+    let below = child_read c.args.tree.now c.args.node c.children-child-items.result.now c.loop-child.child-index
+    c.child-item.result c.children-child-items.ensures.tree c.requires c.children-child-items.ensures.value
+    (omega arith) c.child-item.is in
+    let after : c.args.node < c.child-item.result = below.0 in
+    let within : c.child-item.result < length c.args.tree.now = below.1 in
+    (search rules, within)
+
+pub base_in-returns-in-Document : goal.base_in-returns-in-Document
+base_in-returns-in-Document t c =
+    let w = ap base_in (value-node c.args.tree.now c.args.node document_node c.data.ensures.tree c.requires
+    (sym (ap data_of c.in-Document.is) ∙ c.data.ensures.value)) in
+    c.first_base.ensures ∙ sym w
+
+pub base_in-returns-then-is_some : goal.base_in-returns-then-is_some
+base_in-returns-then-is_some t c =
+    let name : List ℕ = string_bytes c.in-Element.name in
+    let attributes : List AttributePair = pairs_of c.in-Element.attrs.items in
+    let w = ap base_in (value-node c.args.tree.now c.args.node (element_node name attributes) c.data.ensures.tree
+    c.requires (sym (ap data_of c.in-Element.is) ∙ c.data.ensures.value)) in
+    own-some c.own_base-own.result (own_base name attributes)
+    (first_base (value_forest (forest_of (tree_of c.args.tree.now) (children_of c.args.tree.now c.args.node))))
+    (search rules) (search rules)
+    ∙ sym w
+
+pub base_in-returns-else-is_some : goal.base_in-returns-else-is_some
+base_in-returns-else-is_some t c =
+    let name : List ℕ = string_bytes c.in-Element.name in
+    let attributes : List AttributePair = pairs_of c.in-Element.attrs.items in
+    let w = ap base_in (value-node c.args.tree.now c.args.node (element_node name attributes) c.data.ensures.tree
+    c.requires (sym (ap data_of c.in-Element.is) ∙ c.data.ensures.value)) in
+    c.first_base-in-Element.ensures
+    ∙ (own-none c.own_base-own.result (own_base name attributes)
+    (first_base (value_forest (forest_of (tree_of c.args.tree.now) (children_of c.args.tree.now c.args.node))))
+    (search rules) (search rules)
+    ∙ sym w)
+
+pub base_in-returns-in_default : goal.base_in-returns-in_default
+base_in-returns-in_default t c =
+    let w = ap base_in (value-node c.args.tree.now c.args.node (data_of c.data.result.now) c.data.ensures.tree
+    c.requires c.data.ensures.value) in
+    sym (w ∙ base-other c.args.node c.data.result.now
+    (forest_of (tree_of c.args.tree.now) (children_of c.args.tree.now c.args.node))
+    c.in_default.not-Document c.in_default.not-Element)

@@ -1,0 +1,10 @@
+-- The names so far, and those that follow.
+use Rattle.std.proofs.Common.{◌≡◌, ◌++◌, drop, string_bytes}
+use Rattle.htmd_addresses.specs.Leads.{escaped}
+use Rattle.htmd_addresses.specs.PageViews.{names_of}
+use Rattle.htmd_addresses.proofs.leads.push_names.Given as goal
+
+abbrev pub invariant-loop-name : goal.invariant-loop-name
+invariant-loop-name l =
+    string_bytes l.address ++ escaped (names_of (drop l.name-index l.names))
+    ≡ string_bytes l.fn.address ++ escaped (names_of l.names)

@@ -1,0 +1,49 @@
+-- The base of a page: what its first `base` with an address says (HTML, 2.4.3).
+use Rattle.std.specs.Prelude.{ℕ, Bool, not, ◌||◌, if◌then◌else◌, List, [], ◌∷◌, Option, Some, None, Ok, Err, codes}
+use Rattle.std.specs.Option.{option_or}
+use Rattle.std.specs.Str.{bytes_eq}
+use Rattle.htmd_grammar.specs.ValueTrees.{AttributePair, ValueTree, document, doctype, text, comment, element}
+use Rattle.htmd_grammar.specs.ValueTrees.{ValueForest, none, more}
+use Rattle.htmd_nodes.specs.Items.{Item}
+use Rattle.htmd_nodes.specs.Parts.{value_at}
+use Rattle.url.specs.Parts.{Parts}
+use Rattle.url.specs.Parser.{Parsed, parse_url}
+
+-- the value of the first `href`
+abbrev pub href_of : List AttributePair → Option (List ℕ)
+href_of [] = None
+href_of (a ∷ attributes) = if bytes_eq a.name (codes "href") then Some a.value else href_of attributes
+
+abbrev pub own_base : List ℕ → List AttributePair → Option (List ℕ)
+own_base name attributes = if bytes_eq name (codes "base") then href_of attributes else None
+
+abbrev mutual
+  -- the address of the first `base` that has one, in document order
+  pub first_base : ValueForest → Option (List ℕ)
+  first_base none = None
+  first_base (more tree trees) = option_or (base_in tree) (first_base trees)
+
+  pub base_in : ValueTree → Option (List ℕ)
+  base_in (document children) = first_base children
+  base_in doctype = None
+  base_in (text s) = None
+  base_in (comment s) = None
+  base_in (element name attributes children) = option_or (own_base name attributes) (first_base children)
+
+-- a base that counts (HTML, 4.2.3)
+abbrev pub is_usable : Parts → Bool
+is_usable url = not (bytes_eq url.scheme (codes "data") || bytes_eq url.scheme (codes "javascript"))
+
+-- the URL that was read, if it may be a base, or the other one
+abbrev pub url_or : Parts → Parsed Parts → Parts
+url_or other (Ok url) = if is_usable url then url else other
+url_or other (Err e) = other
+
+-- an address of the page's own against its URL
+abbrev pub base_by : Parts → Option (List ℕ) → Parts
+base_by url None = url
+base_by url (Some address) = url_or url (parse_url (Some url) address)
+
+-- the base of a page at a URL
+abbrev pub page_base : Parts → List Item → Parts
+page_base url items = base_by url (base_in (value_at items 0))

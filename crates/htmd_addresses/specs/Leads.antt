@@ -1,0 +1,131 @@
+-- Addresses that lead to pages of a run, as addresses of the outputs of these pages.
+use Rattle.std.specs.Prelude.{ℕ, ◌-◌, Bool, false, not, ◌&&◌, ◌||◌, ◌==◌, if◌then◌else◌, List, [], ◌∷◌, ◌++◌}
+use Rattle.std.specs.Prelude.{map, length, take, drop, Option, Some, None, is_some, codes}
+use Rattle.std.specs.Char.{is_ascii_alphabetic, is_ascii_alphanumeric, is_ascii_whitespace}
+use Rattle.std.specs.List.{flat_map, prefix_len, suffix_len}
+use Rattle.std.specs.Str.{bytes_eq}
+use Rattle.htmd_grammar.specs.Characters.{backslash, colon, full_stop, hyphen, number_sign, plus_sign, question_mark, slash}
+use Rattle.htmd_grammar.specs.ValueTrees.{AttributePair}
+use Rattle.htmd_nodes.specs.Items.{Item}
+use Rattle.htmd_addresses.specs.Addresses as addresses
+use Rattle.htmd_addresses.specs.Paths.{Folder, folder_of, name_of, path_in, plain_path, way}
+use Rattle.htmd_addresses.specs.Rewriting.{rewritten_page}
+use Rattle.htmd_addresses.specs.declared.leads.TheConstants.{SEGMENT}
+use Rattle.url.specs.Parts.{Parts}
+use Rattle.percent_encoding.specs.Percent.{percent_decode, percent_encode}
+
+-- a page of a run: the paths of its input and of its output
+pub record PageValue : Type 0 where
+  pub input : List ℕ
+  pub output : List ℕ
+
+-- the output of the first page whose input has this path
+abbrev pub output_at : List PageValue → List ℕ → Option (List ℕ)
+output_at [] path = None
+output_at (page ∷ pages) path =
+    if bytes_eq (plain_path page.input) path then Some page.output else output_at pages path
+
+-- ---- addresses
+
+-- an address without white space before it
+abbrev pub without_start : List ℕ → List ℕ
+without_start address = drop (prefix_len is_ascii_whitespace address) address
+
+-- an address without white space around it
+abbrev pub trimmed : List ℕ → List ℕ
+trimmed address =
+    let rest = without_start address in
+    take (length rest - suffix_len is_ascii_whitespace rest) rest
+
+-- the path of an address ends where its query or its fragment begins (URL Standard, 4.3)
+abbrev pub path_len : List ℕ → ℕ
+path_len address = prefix_len (λ b. not ((b == question_mark) || (b == number_sign))) address
+
+-- letters, digits, `+`, `-` and `.`, and then a colon
+abbrev pub ends_scheme : List ℕ → Bool
+ends_scheme [] = false
+ends_scheme (b ∷ s) =
+    (b == colon)
+    || ((is_ascii_alphanumeric b || (b == plus_sign) || (b == hyphen) || (b == full_stop)) && ends_scheme s)
+
+-- an address that begins with a scheme
+abbrev pub has_scheme : List ℕ → Bool
+has_scheme [] = false
+has_scheme (b ∷ s) = is_ascii_alphabetic b && ends_scheme s
+
+-- a path that isn't empty and doesn't begin at the root or with a host
+abbrev pub is_path_of_folder : List ℕ → Bool
+is_path_of_folder [] = false
+is_path_of_folder (b ∷ s) = not ((b == slash) || (b == backslash))
+
+-- an address that begins with a path, which is read in the folder of the page
+abbrev pub is_relative : List ℕ → Bool
+is_relative address = not (has_scheme address) && is_path_of_folder (take (path_len address) address)
+
+-- a backslash is a slash in addresses of files and of the Web
+abbrev pub with_slash : ℕ → ℕ
+with_slash b = if b == backslash then slash else b
+
+-- the path of a file, in the path of an address
+abbrev pub file_path : List ℕ → List ℕ
+file_path path = map with_slash (percent_decode path)
+
+-- the output of the page that an address in an input leads to
+abbrev pub output_for : List PageValue → List ℕ → List ℕ → Option (List ℕ)
+output_for pages input address =
+    if is_relative address
+    then output_at pages (path_in (folder_of input) (file_path (take (path_len address) address)))
+    else None
+
+-- names as an address has them, each with a slash after it
+abbrev pub escaped : Folder → List ℕ
+escaped names = flat_map (λ name. percent_encode SEGMENT name ++ slash ∷ []) names
+
+-- the address of a file, in the files of a folder
+abbrev pub relative : Folder → List ℕ → List ℕ
+relative from to = escaped (way from (folder_of to)) ++ percent_encode SEGMENT (name_of to)
+
+-- the address of an output, with the query and the fragment of the address that led to its page
+abbrev pub lead_to : PageValue → List ℕ → Option (List ℕ) → List ℕ → List ℕ
+lead_to own address None ending = address
+lead_to own address (Some output) ending = relative (folder_of own.output) output ++ ending
+
+-- an address that leads to no page of the run stays
+abbrev pub lead : List PageValue → PageValue → List ℕ → List ℕ
+lead pages own address =
+    let inner = trimmed address in
+    lead_to own address (output_for pages own.input inner) (drop (path_len inner) inner)
+
+-- ---- pages
+
+-- the elements whose addresses a reader follows
+abbrev pub is_hyperlink : List ℕ → Bool
+is_hyperlink name = bytes_eq name (codes "a") || bytes_eq name (codes "area")
+
+-- the attribute is an address that leads to a page of the run
+abbrev pub leads : List PageValue → PageValue → Bool → AttributePair → Bool
+leads pages own hyperlink a =
+    hyperlink && bytes_eq a.name (codes "href") && is_some (output_for pages own.input (trimmed a.value))
+
+-- any other value: absolute, where there is a base
+abbrev pub other_value : Option Parts → AttributePair → List ℕ
+other_value None a = a.value
+other_value (Some base) a = addresses.value_of base a
+
+-- the value of an attribute, of a hyperlink or another element
+abbrev pub value_of : List PageValue → PageValue → Option Parts → Bool → AttributePair → List ℕ
+value_of pages own base hyperlink a =
+    if leads pages own hyperlink a then lead pages own a.value else other_value base a
+
+-- an attribute with its new value
+abbrev pub attribute_of : List PageValue → PageValue → Option Parts → Bool → AttributePair → AttributePair
+attribute_of pages own base hyperlink a = record { name = a.name; value = value_of pages own base hyperlink a }
+
+-- the attributes of an element with this name
+abbrev pub attributes_of : List PageValue → PageValue → Option Parts → List ℕ → List AttributePair
+    → List AttributePair
+attributes_of pages own base name attributes = map (attribute_of pages own base (is_hyperlink name)) attributes
+
+-- the page whose addresses lead to outputs, and whose other addresses are absolute where there is a base
+abbrev pub led_page : List PageValue → PageValue → Option Parts → List Item → List Item
+led_page pages own base items = rewritten_page (attributes_of pages own base) items

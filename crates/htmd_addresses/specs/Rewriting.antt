@@ -1,0 +1,30 @@
+-- A page whose elements have other attributes.
+use Rattle.std.specs.Prelude.{ℕ, List}
+use Rattle.htmd_grammar.specs.ValueTrees.{AttributePair, ValueTree, document, doctype, text, comment, element}
+use Rattle.htmd_grammar.specs.ValueTrees.{ValueForest, none, more}
+use Rattle.htmd_nodes.specs.Items.{Item}
+use Rattle.htmd_nodes.specs.Layout.{document_items}
+use Rattle.htmd_nodes.specs.Parts.{value_at}
+use Rattle.htmd_pages.specs.Parts.{joined, children_of_document}
+
+-- the attributes of an element, by its name and those that it had
+abbrev pub Rule : Type 0
+Rule = List ℕ → List AttributePair → List AttributePair
+
+abbrev mutual
+  -- trees whose elements have the rule's attributes; no Document is below another one, and one that is isn't copied
+  pub rewritten : Rule → ValueForest → ValueForest
+  rewritten rule none = none
+  rewritten rule (more tree trees) = joined (rewritten_tree rule tree) (rewritten rule trees)
+
+  pub rewritten_tree : Rule → ValueTree → ValueForest
+  rewritten_tree rule (document children) = none
+  rewritten_tree rule doctype = more doctype none
+  rewritten_tree rule (text s) = more (text s) none
+  rewritten_tree rule (comment s) = more (comment s) none
+  rewritten_tree rule (element name attributes children) =
+      more (element name (rule name attributes) (rewritten rule children)) none
+
+-- the page with the rule's attributes
+abbrev pub rewritten_page : Rule → List Item → List Item
+rewritten_page rule items = document_items (rewritten rule (children_of_document (value_at items 0)))

@@ -1,0 +1,90 @@
+//! The base of a page.
+ghost use Rattle.std.specs.Prelude.{◌≡◌, ◌<◌, length, option_copied, unwrap_or, IfOk};
+ghost use Rattle.htmd_grammar.specs.Attributes.{pairs_of};
+ghost use Rattle.htmd_nodes.specs.Items.{children_of};
+ghost use Rattle.htmd_nodes.specs.NumberedTrees.{tree_of, forest_of, value_forest};
+ghost use Rattle.htmd_nodes.specs.Parts.{value_at};
+ghost use Rattle.htmd_addresses.specs.Bases as bases;
+
+use crate::resolving::url_of;
+use htmd_nodes::{Attribute, NodeData, NodeId, Tree};
+use std::alloc::AllocError;
+use url::Url;
+
+fn href_of(attrs: &[Attribute]) -> Option<&str>
+    ensures { option_copied result ≡ bases.href_of (pairs_of attrs.now) }
+{
+    for attribute in attrs {
+        if attribute.name.as_str() == "href" {
+            return Some(attribute.value.as_str());
+        }
+    }
+    None
+}
+
+/// The address of the element, if it is `base`.
+fn own_base<'a>(name: &str, attrs: &'a [Attribute]) -> Option<&'a str>
+    ensures { option_copied result ≡ bases.own_base name.now (pairs_of attrs.now) }
+{
+    if name == "base" { href_of(attrs) } else { None }
+}
+
+/// The address of the first `base` among a node and what is below it.
+#[cycle(bases)]
+fn base_in(tree: &Tree, node: NodeId) -> Option<&str>
+    requires { node < length tree.now }
+    ensures { option_copied result ≡ bases.base_in (value_at tree.now node) }
+{
+    match tree.data(node) {
+        NodeData::Document => first_base(tree, node),
+        NodeData::Element { name, attrs } => {
+            let own = own_base(name.as_str(), attrs.as_slice());
+            if own.is_some() {
+                return own;
+            }
+            first_base(tree, node)
+        }
+        _ => None,
+    }
+}
+
+#[cycle(bases)]
+fn first_base(tree: &Tree, node: NodeId) -> Option<&str>
+    requires { node < length tree.now }
+    ensures { option_copied result
+        ≡ bases.first_base (value_forest (forest_of (tree_of tree.now) (children_of tree.now node))) }
+{
+    for child in tree.children(node) {
+        let found = base_in(tree, *child);
+        if found.is_some() {
+            return found;
+        }
+    }
+    None
+}
+
+/// Whether a page may have this base.
+fn is_usable(url: &Url) -> bool
+    ensures { result ≡ bases.is_usable url.now }
+{
+    !(url.scheme() == "data" || url.scheme() == "javascript")
+}
+
+/// The URL of the page's first `base` with an address, against the URL of the page; none where there is no such
+/// element, or its address can't be resolved or has the scheme `data` or `javascript`. `Err` means out of memory, or a
+/// URL of 4 GB.
+pub fn base_of(tree: &Tree, url: &Url) -> Result<Option<Url>, AllocError>
+    ensures ok { IfOk result (λ base. unwrap_or base url.now ≡ bases.page_base url.now tree.now) }
+{
+    let Some(address) = base_in(tree, tree.root()) else {
+        return Ok(None);
+    };
+    let Some(base) = url_of(url.join(address))? else {
+        return Ok(None);
+    };
+    if is_usable(&base) {
+        Ok(Some(base))
+    } else {
+        Ok(None)
+    }
+}

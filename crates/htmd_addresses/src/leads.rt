@@ -1,0 +1,300 @@
+//! Addresses that lead to pages of a run, as addresses of the outputs of these pages.
+ghost use Rattle.std.specs.Prelude.{◌≡◌, ◌++◌, map, is_some, IfOk, OnOk, string_bytes};
+ghost use Rattle.std.specs.Option.{option_copied};
+ghost use Rattle.std.specs.Str.{IsCharBoundary};
+ghost use Rattle.htmd_grammar.specs.Attributes.{pair_of, pairs_of};
+ghost use Rattle.htmd_addresses.specs.Leads as spec;
+ghost use Rattle.htmd_addresses.specs.PageViews.{names_of, page_of};
+ghost use Rattle.htmd_addresses.specs.Paths as paths;
+ghost use Rattle.htmd_addresses.specs.RunViews.{pages_in};
+ghost use Rattle.percent_encoding.specs.Percent.{percent_encode};
+
+use crate::pages::{Page, Pages};
+use crate::paths::{folder_of, name_of, path_in, same_names};
+use crate::resolving::value_of as absolute_value;
+use crate::rewriting::{Rewrite, rewritten};
+use htmd_nodes::{Attribute, Tree};
+use percent_encoding::{AsciiSet, CONTROLS, ascii_set, percent_decode, percent_encode};
+use std::alloc::{AllocError, Global};
+use url::Url;
+
+/// What is escaped in a name: the path percent-encode set, what ends a name, what begins an escape, and the colon, so
+/// that no name is read as a scheme.
+const SEGMENT: AsciiSet = ascii_set!(
+    CONTROLS
+        .add(b' ')
+        .add(b'"')
+        .add(b'#')
+        .add(b'<')
+        .add(b'>')
+        .add(b'?')
+        .add(b'^')
+        .add(b'`')
+        .add(b'{')
+        .add(b'}')
+        .add(b'/')
+        .add(b'\\')
+        .add(b'%')
+        .add(b':')
+);
+
+/// Where the path of an address ends.
+fn path_len(address: &str) -> usize
+    ensures boundary { IsCharBoundary address.now result }
+    ensures value { result ≡ spec.path_len address.now }
+{
+    for (len, b) in address.as_bytes().iter().enumerate() {
+        if *b == b'?' || *b == b'#' {
+            return len;
+        }
+    }
+    address.len()
+}
+
+/// Whether what follows a letter goes on as a scheme, up to its colon.
+fn ends_scheme(address: &[u8]) -> bool
+    ensures { result ≡ spec.ends_scheme address.now }
+{
+    for b in address {
+        if *b == b':' {
+            return true;
+        }
+        if !(b.is_ascii_alphanumeric() || *b == b'+' || *b == b'-' || *b == b'.') {
+            return false;
+        }
+    }
+    false
+}
+
+fn has_scheme(address: &[u8]) -> bool
+    ensures { result ≡ spec.has_scheme address.now }
+{
+    match address {
+        [] => false,
+        [first, rest @ ..] => first.is_ascii_alphabetic() && ends_scheme(rest),
+    }
+}
+
+/// Whether a path is read in a folder.
+fn is_path_of_folder(path: &[u8]) -> bool
+    ensures { result ≡ spec.is_path_of_folder path.now }
+{
+    match path {
+        [] => false,
+        [first, ..] => !(*first == b'/' || *first == b'\\'),
+    }
+}
+
+fn with_slash(b: u8) -> u8
+    ensures { result ≡ spec.with_slash b }
+{
+    if b == b'\\' { b'/' } else { b }
+}
+
+/// Puts slashes in the place of backslashes.
+fn put_slashes(path: &mut [u8])
+    ensures { path.new ≡ map spec.with_slash path.old }
+{
+    for b in path.iter_mut() {
+        *b = with_slash(*b);
+    }
+}
+
+/// The path of a file, in the path of an address.
+fn file_path(alloc: Global, path: &[u8]) -> Result<Vec<u8>, AllocError>
+    ensures { IfOk result (λ file. file.items ≡ spec.file_path path.now) }
+{
+    let mut file = Vec::new(alloc);
+    percent_decode(path).append_to(&mut file)?;
+    put_slashes(file.as_mut_slice());
+    Ok(file)
+}
+
+/// Appends a name, escaped.
+fn push_name(address: &mut String, name: &[u8]) -> Result<(), AllocError>
+    ensures { OnOk result (string_bytes address.new ≡ string_bytes address.old ++ percent_encode SEGMENT name.now) }
+{
+    percent_encode(name, SEGMENT).append_to(address)
+}
+
+/// Appends names, each with a slash after it.
+fn push_names(address: &mut String, names: &[&[u8]]) -> Result<(), AllocError>
+    ensures { OnOk result (string_bytes address.new
+        ≡ string_bytes address.old ++ spec.escaped (names_of names.now)) }
+{
+    for name in names {
+        push_name(address, name)?;
+        address.push('/')?;
+    }
+    Ok(())
+}
+
+/// Appends a way up for each of these names.
+fn push_parents(address: &mut String, names: &[&[u8]]) -> Result<(), AllocError>
+    ensures { OnOk result (string_bytes address.new
+        ≡ string_bytes address.old ++ spec.escaped (map (λ name. paths.parent) (names_of names.now))) }
+{
+    for _name in names {
+        push_name(address, b"..")?;
+        address.push('/')?;
+    }
+    Ok(())
+}
+
+/// The address of a file, in the files of a folder.
+fn relative(alloc: Global, from: &[&[u8]], to: &str) -> Result<String, AllocError>
+    ensures { IfOk result (λ address. string_bytes address ≡ spec.relative (names_of from.now) to.now) }
+{
+    let to = to.as_bytes();
+    let folder = folder_of(alloc, to)?;
+    let same = same_names(from, folder.as_slice());
+    let mut address = String::new(alloc);
+    push_parents(&mut address, &from[same..])?;
+    push_names(&mut address, &folder.as_slice()[same..])?;
+    push_name(&mut address, name_of(to))?;
+    Ok(address)
+}
+
+/// The addresses of a page are to lead to the outputs of other pages.
+#[derive(Drop)]
+struct Leads<'a, 'b, 'c> {
+    pages: &'a Pages<'c>,
+    own: &'a Page<'c>,
+    base: Option<&'b Url>,
+    input_folder: Vec<&'a [u8]>,
+    output_folder: Vec<&'a [u8]>,
+    ghost input_is: { names_of input_folder.items ≡ paths.folder_of own.now.input.now },
+    ghost output_is: { names_of output_folder.items ≡ paths.folder_of own.now.output.now },
+}
+
+impl<'a, 'b, 'c> Leads<'a, 'b, 'c> {
+    fn new(
+        alloc: Global,
+        pages: &'a Pages<'c>,
+        own: &'a Page<'c>,
+        base: Option<&'b Url>,
+    ) -> Result<Leads<'a, 'b, 'c>, AllocError>
+        ensures pages { IfOk result (λ leads. leads.pages.now ≡ pages.now) }
+        ensures own { IfOk result (λ leads. leads.own.now ≡ own.now) }
+        ensures base { IfOk result (λ leads. option_copied leads.base ≡ option_copied base.entry) }
+    {
+        Ok(Leads {
+            pages,
+            own,
+            base,
+            input_folder: folder_of(alloc, own.input.as_bytes())?,
+            output_folder: folder_of(alloc, own.output.as_bytes())?,
+        })
+    }
+
+    /// The output of the page that an address leads to.
+    fn output_for(&self, alloc: Global, address: &str) -> Result<Option<&'c str>, AllocError>
+        ensures { IfOk result (λ output. option_copied output
+            ≡ spec.output_for (pages_in self.now.pages.now) self.now.own.now.input.now address.now) }
+    {
+        let bytes = address.as_bytes();
+        let path = &bytes[..path_len(address)];
+        if has_scheme(bytes) || !is_path_of_folder(path) {
+            return Ok(None);
+        }
+        let file = file_path(alloc, path)?;
+        let file = path_in(alloc, self.input_folder.as_slice(), file.as_slice())?;
+        Ok(self.pages.output_at(file.as_slice()))
+    }
+
+    /// The address of the output that an address leads to; one that leads to no page of the run stays.
+    fn lead(&self, alloc: Global, address: &str) -> Result<String, AllocError>
+        ensures { IfOk result (λ s. string_bytes s
+            ≡ spec.lead (pages_in self.now.pages.now) (page_of self.now.own.now) address.now) }
+    {
+        let inner = address.trim_ascii();
+        let Some(output) = self.output_for(alloc, inner)? else {
+            return String::from_str(alloc, address);
+        };
+        let (_, ending) = inner.split_at(path_len(inner));
+        let mut lead = relative(alloc, self.output_folder.as_slice(), output)?;
+        lead.push_str(ending)?;
+        Ok(lead)
+    }
+
+    /// Whether an address leads to a page of the run.
+    fn are_to(&self, alloc: Global, address: &str) -> Result<bool, AllocError>
+        ensures { IfOk result (λ b. b ≡ is_some (spec.output_for (pages_in self.now.pages.now)
+            self.now.own.now.input.now (spec.trimmed address.now))) }
+    {
+        Ok(self.output_for(alloc, address.trim_ascii())?.is_some())
+    }
+
+    /// The value of an attribute that leads to no page of the run.
+    fn other_value(&self, alloc: Global, attribute: &Attribute) -> Result<String, AllocError>
+        ensures { IfOk result
+            (λ s. string_bytes s ≡ spec.other_value (option_copied self.now.base) (pair_of attribute.now)) }
+    {
+        match self.base {
+            Some(base) => absolute_value(alloc, base, attribute),
+            None => String::from_str(alloc, attribute.value.as_str()),
+        }
+    }
+
+    fn value_of(
+        &self,
+        alloc: Global,
+        attribute: &Attribute,
+        is_hyperlink: bool,
+    ) -> Result<String, AllocError>
+        ensures { IfOk result (λ s. string_bytes s ≡ spec.value_of (pages_in self.now.pages.now)
+            (page_of self.now.own.now) (option_copied self.now.base) is_hyperlink (pair_of attribute.now)) }
+    {
+        let address = attribute.value.as_str();
+        if is_hyperlink && attribute.name.as_str() == "href" && self.are_to(alloc, address)? {
+            return self.lead(alloc, address);
+        }
+        self.other_value(alloc, attribute)
+    }
+}
+
+/// Whether a reader follows the addresses of an element.
+fn is_hyperlink(name: &str) -> bool
+    ensures { result ≡ spec.is_hyperlink name.now }
+{
+    name == "a" || name == "area"
+}
+
+impl Rewrite for Leads<'_, '_, '_> {
+    ghost use Rattle.htmd_addresses.specs.Leads.{attributes_of};
+    ghost use Rattle.std.specs.Option.{option_copied};
+
+    ghost rule = { λ leads. attributes_of (pages_in leads.pages.now) (page_of leads.own.now) (option_copied leads.base) };
+
+    fn attributes(
+        &self,
+        alloc: Global,
+        name: &str,
+        attrs: &[Attribute],
+    ) -> Result<Vec<Attribute>, AllocError> {
+        let is_hyperlink = is_hyperlink(name);
+        let mut copies = Vec::with_capacity(alloc, attrs.len())?;
+        for attribute in attrs {
+            let name = String::from_str(alloc, attribute.name.as_str())?;
+            let value = self.value_of(alloc, attribute, is_hyperlink)?;
+            copies.push(Attribute { name, value })?;
+        }
+        Ok(copies)
+    }
+}
+
+/// The page in which the addresses of `a` and `area` that lead to a page of the run lead to its output. `own` is the
+/// page that the tree was read from. Where a base is given, all other addresses in `href` and `src` are resolved against
+/// it. `Err` means out of memory, or a URL of 4 GB.
+pub fn lead_to_pages<'c>(
+    alloc: Global,
+    tree: &Tree,
+    pages: &Pages<'c>,
+    own: &Page<'c>,
+    base: Option<&Url>,
+) -> Result<Tree, AllocError>
+    ensures ok { IfOk result (λ page. page
+        ≡ spec.led_page (pages_in pages.now) (page_of own.now) (option_copied base.entry) tree.now) }
+{
+    rewritten(alloc, tree, &Leads::new(alloc, pages, own, base)?)
+}

@@ -1,0 +1,48 @@
+-- What is done to the tree of a page before it is converted, and what the head of the page says of it.
+use Rattle.std.specs.Prelude.{◌≡◌, ◌⊎◌, ◌++◌, ℕ, Bool, true, false, ◌&&◌, ◌||◌, not, if◌then◌else◌, List, [], ◌∷◌, Option, Some, None, is_some, option_map}
+use Rattle.htmd.specs.Characters.{line_feed}
+use Rattle.htmd.specs.Items.{Item}
+use Rattle.htmd_pages.specs.Steps.{Step}
+use Rattle.htmd_pages.specs.Parts.{dropped, selected}
+use Rattle.htmd_addresses.specs.Addresses.{absolute_page}
+use Rattle.htmd_addresses.specs.Bases.{page_base}
+use Rattle.htmd_front_matter.specs.Lines.{front_matter}
+use Rattle.url.specs.Parts.{Parts}
+use Rattle.htmd_cli.specs.Settings.{Settings}
+
+-- there are selectors
+abbrev pub are_given : List Step → Bool
+are_given [] = false
+are_given (step ∷ steps) = true
+
+-- the tree of an input is looked at or changed before it is converted, which that of a text never is
+abbrev pub changes_page : Settings → Bool
+changes_page settings =
+    (settings.front_matter || is_some settings.base || are_given settings.selected || are_given settings.dropped)
+    && not settings.text
+
+-- what the head of a page says of it, if that is written
+abbrev pub head_of : Settings → List Item → List ℕ
+head_of settings page = if settings.front_matter then front_matter page else []
+
+-- lines that all end with a line feed, or none
+abbrev pub AreLines : List ℕ → Type 0
+AreLines s = (s ≡ []) ⊎ ((front : List ℕ) × (s ≡ front ++ line_feed ∷ []))
+
+-- a page without the elements that are left out
+abbrev pub without_dropped : Settings → List Item → List Item
+without_dropped settings page = if are_given settings.dropped then dropped settings.dropped page else page
+
+-- what is selected of a page: nothing if no element is named, and all if there are no selectors
+abbrev pub selected_of : Settings → List Item → Option (List Item)
+selected_of settings page = if are_given settings.selected then selected settings.selected page else Some page
+
+-- a part of a page with absolute addresses, by the base of the whole page, if its URL is known
+abbrev pub absolute_by : Option Parts → List Item → List Item → List Item
+absolute_by None page part = part
+absolute_by (Some url) page part = absolute_page (page_base url page) part
+
+-- the part of a page that is converted: what is selected of it, without what is left out and with absolute addresses
+abbrev pub part_of : Settings → List Item → Option (List Item)
+part_of settings page =
+    option_map (absolute_by settings.base page) (selected_of settings (without_dropped settings page))

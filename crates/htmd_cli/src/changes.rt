@@ -1,0 +1,99 @@
+//! What is done to the tree of a page before it is converted.
+ghost use Rattle.std.specs.Prelude.{◌≡◌, IfOk, string_bytes};
+ghost use Rattle.htmd_pages.specs.Views.{steps_in};
+ghost use Rattle.htmd_cli.specs.Changes as spec;
+ghost use Rattle.htmd_cli.specs.Settings.{settings_in};
+
+use crate::settings::Settings;
+use htmd::Tree;
+use htmd_addresses::{base_of, make_absolute};
+use htmd_front_matter::front_matter;
+use htmd_pages::{Selectors, drop_elements, select_elements};
+use std::alloc::{AllocError, Global};
+
+/// Whether there are selectors.
+fn are_given(selectors: &Selectors) -> bool
+    ensures { result ≡ spec.are_given (steps_in selectors.now) }
+{
+    !selectors.is_empty()
+}
+
+/// Whether the tree of an input is looked at or changed before it is converted.
+pub(crate) fn changes_page(settings: &Settings<'_>) -> bool
+    ensures { result ≡ spec.changes_page (settings_in settings.now) }
+{
+    let asks = settings.front_matter
+        || settings.base.is_some()
+        || are_given(&settings.selected)
+        || are_given(&settings.dropped);
+    asks && !settings.text
+}
+
+/// What the head of a page says of it, if that is written.
+#[tactic(auto, using(crate::proofs::ChangesLemmas::no_lines, crate::proofs::ChangesLemmas::are_lines))]
+pub(crate) fn head_of(
+    alloc: Global,
+    settings: &Settings<'_>,
+    page: &Tree,
+) -> Result<String, AllocError>
+    ensures value { IfOk result (λ lines. string_bytes lines ≡ spec.head_of (settings_in settings.now) page.now) }
+    ensures lines { IfOk result (λ lines. spec.AreLines (string_bytes lines)) }
+{
+    if settings.front_matter {
+        front_matter(alloc, page)
+    } else {
+        Ok(String::new(alloc))
+    }
+}
+
+/// The page without what is dropped.
+fn without_dropped(alloc: Global, settings: &Settings<'_>, page: Tree) -> Result<Tree, AllocError>
+    ensures { IfOk result (λ tree. tree ≡ spec.without_dropped (settings_in settings.now) page) }
+{
+    if are_given(&settings.dropped) {
+        drop_elements(alloc, &page, &settings.dropped)
+    } else {
+        Ok(page)
+    }
+}
+
+/// What is selected of a page, or all of it where nothing is said of that.
+fn selected(alloc: Global, settings: &Settings<'_>, page: Tree) -> Result<Option<Tree>, AllocError>
+    ensures { IfOk result (λ tree. tree ≡ spec.selected_of (settings_in settings.now) page) }
+{
+    if are_given(&settings.selected) {
+        select_elements(alloc, &page, &settings.selected)
+    } else {
+        Ok(Some(page))
+    }
+}
+
+/// The part of a page that is converted, with the addresses that it is to have; none if nothing is selected. Both
+/// kinds of selectors and the base are those of the whole page.
+#[tactic(auto, using(crate::proofs::ChangesLemmas::as_they_are))]
+pub(crate) fn part_of(
+    alloc: Global,
+    settings: &Settings<'_>,
+    page: Tree,
+) -> Result<Option<Tree>, AllocError>
+    ensures { IfOk result (λ part. part ≡ spec.part_of (settings_in settings.now) page) }
+{
+    let Some(url) = &settings.base else {
+        return chosen(alloc, settings, page);
+    };
+    let own = base_of(&page, url)?;
+    let base = own.as_ref().unwrap_or(url);
+    match chosen(alloc, settings, page)? {
+        Some(part) => Ok(Some(make_absolute(alloc, &part, base)?)),
+        None => Ok(None),
+    }
+}
+
+/// The same before addresses are made absolute.
+fn chosen(alloc: Global, settings: &Settings<'_>, page: Tree) -> Result<Option<Tree>, AllocError>
+    ensures { IfOk result (λ part. part ≡ spec.selected_of (settings_in settings.now)
+        (spec.without_dropped (settings_in settings.now) page)) }
+{
+    let kept = without_dropped(alloc, settings, page)?;
+    selected(alloc, settings, kept)
+}

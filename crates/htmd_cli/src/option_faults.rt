@@ -1,0 +1,113 @@
+//! What is said of options that aren't known, and of values that have no effect.
+use crate::options::{OPTIONS, OptionRow, Setting, Valued};
+use crate::reports::Lines;
+use crate::requests::{OptionFault, Request};
+use htmd_streams::Sink;
+use std::fmt;
+use std::fmt::Write;
+
+/// The part of an option before its value.
+fn name_part(option: &str) -> &str {
+    match option.split_once('=') {
+        Some((name, _)) => name,
+        None => option,
+    }
+}
+
+/// What a value has to be.
+fn wanted(valued: Valued) -> &'static str {
+    match valued {
+        Valued::Encoding => "the label of an encoding that is supported, as utf-8 or windows-1252",
+        Valued::Select | Valued::Drop => "selectors with commas between them, as main,.note",
+        Valued::Skip => "names with commas between them, as nav,footer",
+        Valued::Base => "an absolute URL, as https://example.org/docs/",
+        Valued::BulletSpacing | Valued::NumberSpacing => "a number from 0 to 255",
+    }
+}
+
+/// The value in a row of the table, if its option has fixed ones.
+fn fixed_value(row: &OptionRow) -> Option<&'static str> {
+    match row.name.split_once('=') {
+        Some(("", _)) => None,
+        Some((_, value)) => Some(value),
+        None => None,
+    }
+}
+
+/// Whether a row of the table is of the option with this name.
+fn is_named(row: &OptionRow, name: &str) -> bool {
+    name_part(row.name) == name
+}
+
+/// The row of an option with this name, if there is one.
+fn row_named(name: &str) -> Option<&'static OptionRow> {
+    OPTIONS.iter().find(|row| is_named(row, name))
+}
+
+/// Writes the fixed values of an option: `a, b and c`.
+fn write_values<W: Write>(out: &mut W, name: &str) -> fmt::Result {
+    let mut left = OPTIONS.iter().filter(|row| is_named(row, name)).count();
+    for row in &OPTIONS {
+        if is_named(row, name) {
+            left = left.saturating_sub(1);
+            out.write_str(fixed_value(row).unwrap_or(""))?;
+            out.write_str(match left {
+                0 => "\n",
+                1 => " and ",
+                _ => ", ",
+            })?;
+        }
+    }
+    Ok(())
+}
+
+/// Writes what is wrong with an option that isn't known, or not with its value.
+fn write_unknown<W: Write>(out: &mut W, given: &str) -> fmt::Result {
+    let name = name_part(given);
+    let Some(row) = row_named(name) else {
+        return writeln!(out, "htmd: '{given}' is not an option: see --help");
+    };
+    match row.setting {
+        Setting::Valued(_) if given == name => {
+            writeln!(out, "htmd: '{given}': write {}{}", row.name, row.value)
+        }
+        Setting::Valued(valued) => {
+            let wanted = wanted(valued);
+            writeln!(out, "htmd: '{given}': the value of {name} is {wanted}")
+        }
+        _ if row.name == name => writeln!(out, "htmd: '{given}': {name} takes no value"),
+        _ => {
+            write!(out, "htmd: '{given}': the values of {name} are ")?;
+            write_values(out, name)
+        }
+    }
+}
+
+/// Says why options aren't taken, in one line.
+pub fn say_fault<E: Sink>(errors: &mut E, fault: &OptionFault<'_>) {
+    let mut lines = Lines { sink: errors };
+    let _ = match fault {
+        OptionFault::Unknown(given) => write_unknown(&mut lines, given),
+        OptionFault::Selector { option, error } => {
+            writeln!(lines, "htmd: {}: {error}", name_part(option))
+        }
+        OptionFault::Memory => writeln!(lines, "htmd: out of memory"),
+    };
+}
+
+fn has_upper_case(name: &str) -> bool {
+    name.as_bytes().iter().any(|byte| byte.is_ascii_uppercase())
+}
+
+/// Says which names of `--skip` have an upper-case letter, a line for each.
+pub fn say_warnings<E: Sink>(errors: &mut E, request: &Request<'_>) {
+    let mut lines = Lines { sink: errors };
+    for name in &request.settings.skipped {
+        if has_upper_case(name) {
+            let _ = writeln!(
+                lines,
+                "htmd: --skip: '{name}' has an upper-case letter, and elements of HTML are named in lower case"
+            );
+        }
+    }
+}

@@ -1,0 +1,14 @@
+-- The names so far were looked for, and no file was changed.
+use Rattle.std.proofs.Common.{◌≡◌, [], map, take}
+use Rattle.htmd_files.specs.Plans.{path_of}
+use Rattle.htmd_files.specs.PlanViews.{operand_of}
+use Rattle.htmd_files.specs.WordViews.{text_of}
+use Rattle.htmd_folders.specs.Changes.{Makes}
+use Rattle.htmd_command.proofs.operands.find_operands.Given as goal
+
+abbrev pub invariant-loop-name : goal.invariant-loop-name
+invariant-loop-name g l = record {
+  names :
+      map path_of (map operand_of l.found.operands.items) ≡ map text_of (take l.name-index l.names);
+  same : Makes (g.S.Store.changes l.initial.store) (g.S.Store.changes l.store) [];
+}

@@ -1,0 +1,3 @@
+-- What the program makes of the bytes of files, and what it changes.
+pub mod Answers
+pub mod Programs

@@ -1,0 +1,125 @@
+//! What a store has where the operands lead.
+ghost use Rattle.std.specs.Prelude.{◌≡◌, ◌++◌, ◌∷◌, [], map, IfOk, OnOk};
+ghost use Rattle.htmd_files.specs.Plans.{path_of};
+ghost use Rattle.htmd_files.specs.PlanViews.{operand_of};
+ghost use Rattle.htmd_files.specs.WordViews.{text_of};
+ghost use Rattle.htmd_folders.specs.Changes.{Makes};
+
+use htmd_files::Operand;
+use htmd_folders::{Listing, Store, Unread};
+use std::alloc::{AllocError, Global};
+
+/// The operands, and what can't be read below them.
+#[derive(Drop)]
+pub(crate) struct Found {
+    pub(crate) operands: Vec<Operand>,
+    pub(crate) unread: Vec<Unread>,
+}
+
+/// Looks for operands in a store. What is below folders is only listed if that is wanted.
+pub(crate) fn find_operands<S: Store>(
+    alloc: Global,
+    store: &mut S,
+    names: &[&str],
+    lists: bool,
+) -> Result<Found, AllocError>
+    ensures names { IfOk result (λ found. map path_of (map operand_of found.operands.items) ≡ map text_of names.now) }
+    ensures same { Makes (S.changes store.old) (S.changes store.new) [] }
+{
+    let mut found = Found {
+        operands: Vec::new(alloc),
+        unread: Vec::new(alloc),
+    };
+    for name in names {
+        found.add(alloc, store, name, lists)?;
+    }
+    Ok(found)
+}
+
+impl Found {
+    fn add<S: Store>(
+        &mut self,
+        alloc: Global,
+        store: &mut S,
+        name: &str,
+        lists: bool,
+    ) -> Result<(), AllocError>
+        ensures names { OnOk result (map path_of (map operand_of self.new.operands.items)
+            ≡ map path_of (map operand_of self.old.operands.items) ++ name.now ∷ []) }
+        ensures same { Makes (S.changes store.old) (S.changes store.new) [] }
+    {
+        if name == "-" {
+            self.operands.push(Operand::StandardInput)?;
+            return Ok(());
+        }
+        if store.is_folder(name) == Ok(true) {
+            return self.add_folder(alloc, store, name, lists);
+        }
+        let path = String::from_str(alloc, name)?;
+        self.operands.push(Operand::File(path))?;
+        Ok(())
+    }
+
+    fn add_folder<S: Store>(
+        &mut self,
+        alloc: Global,
+        store: &mut S,
+        name: &str,
+        lists: bool,
+    ) -> Result<(), AllocError>
+        ensures names { OnOk result (map path_of (map operand_of self.new.operands.items)
+            ≡ map path_of (map operand_of self.old.operands.items) ++ name.now ∷ []) }
+        ensures same { Makes (S.changes store.old) (S.changes store.new) [] }
+    {
+        let files = if lists {
+            self.files_below(alloc, store, name)?
+        } else {
+            Vec::new(alloc)
+        };
+        let path = String::from_str(alloc, name)?;
+        self.operands.push(Operand::Folder { path, files })?;
+        Ok(())
+    }
+
+    // The files below a folder; none, and the folder among what can't be read, if it isn't.
+    fn files_below<S: Store>(
+        &mut self,
+        alloc: Global,
+        store: &mut S,
+        name: &str,
+    ) -> Result<Vec<String>, AllocError>
+        ensures operands { self.new.operands.items ≡ self.old.operands.items }
+        ensures same { Makes (S.changes store.old) (S.changes store.new) [] }
+    {
+        match store.list(alloc, name) {
+            Ok(listing) => self.take_listing(alloc, name, listing),
+            Err(fault) => {
+                let path = String::from_str(alloc, name)?;
+                self.unread.push(Unread { path, fault })?;
+                Ok(Vec::new(alloc))
+            }
+        }
+    }
+
+    // Keeps what can't be read, with the folder's name before its path, and gives the files.
+    fn take_listing(
+        &mut self,
+        alloc: Global,
+        name: &str,
+        listing: Listing,
+    ) -> Result<Vec<String>, AllocError>
+        ensures { self.new.operands.items ≡ self.old.operands.items }
+    {
+        let Listing { files, unread } = listing;
+        for item in unread {
+            let Unread { path, fault } = item;
+            let mut whole = String::from_str(alloc, name)?;
+            if !name.ends_with('/') {
+                whole.push('/')?;
+            }
+            whole.push_str(&path)?;
+            self.unread.push(Unread { path: whole, fault })?;
+        }
+        Ok(files)
+    }
+}

@@ -1,0 +1,236 @@
+//! The program: its words, files and streams.
+ghost use Rattle.std.specs.Prelude.{◌≡◌, ◌≤◌, ◌⊎◌, [], ℕ, false, IfOk};
+ghost use Rattle.htmd_cli.specs.Options.{request_by};
+ghost use Rattle.htmd_cli.specs.OptionRows.{request_in};
+ghost use Rattle.htmd_files.specs.PlanViews.{plan_in};
+ghost use Rattle.htmd_files.specs.WordViews.{job_in, texts_of};
+ghost use Rattle.htmd_folders.specs.Changes.{Makes};
+ghost use Rattle.htmd_folders.specs.Runs.{Takes};
+ghost use Rattle.htmd_command.specs.Programs.{IsPlanOf, Runs, RunsInput, RunsWords};
+
+use crate::conversion::Requested;
+use crate::operands::{Found, find_operands};
+use htmd_cli::{
+    OptionFault, Request, RunError, Sink, Source, command, read_options, say_fault, say_warnings,
+};
+use htmd_files::{Destination, Job, Page, Plan, PlanFault, WordFault, job_of, plan_of};
+use htmd_folders::{
+    Conversion, Lines, Progress, ShownName, Store, Tally, Unread, run_pages, write_total,
+};
+use std::alloc::Global;
+use std::fmt::{Display, Write};
+
+/// The program: converts the files that its words name, or the standard input if they name none, and answers the exit
+/// status. 0 is success, 1 means that a page was not converted, and 2 that the words can't be done: an option that is not
+/// known, or files that would be written over. Without files it is `htmd_cli::command`. What goes wrong is said in lines
+/// on the sink for errors, and with more pages than one so is how many there were, and on a terminal how far the run has
+/// come.
+pub fn run_program<S: Store, R: Source, W: Sink, E: Sink>(
+    alloc: Global,
+    words: &[String],
+    store: &mut S,
+    source: &mut R,
+    sink: &mut W,
+    errors: &mut E,
+    is_terminal: bool,
+) -> u8
+    requires source { R.has_failed source.old ≡ false }
+    requires sink { W.has_failed sink.old ≡ false }
+    ensures files { RunsWords (texts_of words.now) (S.changes store.old) (S.changes store.new) result }
+    ensures input { RunsInput (texts_of words.now)
+        (R.remaining source.old) (W.contents sink.old) (W.contents sink.new) result }
+    ensures status { result ≤ 2 }
+{
+    let job = match job_of(alloc, words) {
+        Ok(job) => job,
+        Err(WordFault::Memory) => return fail(errors, &RunError::Memory, 1),
+        Err(fault) => return fail(errors, &fault, 2),
+    };
+    if job.operands.is_empty() {
+        return command(alloc, &job.options, source, sink, errors);
+    }
+    let request = match read_options(alloc, &job.options) {
+        Ok(request) => request,
+        Err(OptionFault::Memory) => return fail(errors, &RunError::Memory, 1),
+        Err(fault) => {
+            say_fault(errors, &fault);
+            return 2;
+        }
+    };
+    if request.shows_notice() {
+        return command(alloc, &job.options, source, sink, errors);
+    }
+    say_warnings(errors, &request);
+    run_job(
+        alloc,
+        store,
+        &job,
+        &request,
+        source,
+        sink,
+        errors,
+        is_terminal,
+    )
+}
+
+// Converts the files that are asked for, and answers the status.
+fn run_job<S: Store, R: Source, W: Sink, E: Sink>(
+    alloc: Global,
+    store: &mut S,
+    job: &Job<'_>,
+    request: &Request<'_>,
+    source: &mut R,
+    sink: &mut W,
+    errors: &mut E,
+    is_terminal: bool,
+) -> u8
+    requires source { R.has_failed source.old ≡ false }
+    requires sink { W.has_failed sink.old ≡ false }
+    requires request { request_in request.now ≡ request_by job.now.options.items }
+    requires notice { (request_by job.now.options.items).shows ≡ false }
+    ensures files { Makes (S.changes store.old) (S.changes store.new) []
+        ⊎ Runs (job_in job.now) (request_by job.now.options.items) (S.changes store.old) (S.changes store.new) result }
+    ensures status { result ≤ 2 }
+{
+    let conversion = Requested {
+        alloc,
+        options: &job.options,
+        request,
+    };
+    let (plan, unread) = match find_plan(alloc, store, job) {
+        Ok(found) => found,
+        Err(fault) => return fail_plan(errors, &fault),
+    };
+    match plan {
+        Plan::StandardOutput { input } => {
+            if input.as_str() == "-" {
+                return command(alloc, &job.options, source, sink, errors);
+            }
+            convert_file(store, &conversion, &input, sink, errors)
+        }
+        Plan::Files { pages } => {
+            let progress = progress_of(job, is_terminal);
+            convert_files(alloc, store, &conversion, &pages, &unread, errors, progress)
+        }
+    }
+}
+
+// Says why there is no plan, and answers the status.
+fn fail_plan<E: Sink>(errors: &mut E, fault: &PlanFault) -> u8
+    ensures { result ≤ 2 }
+{
+    let status = if matches!(fault, PlanFault::Memory) {
+        1
+    } else {
+        2
+    };
+    fail(errors, fault, status)
+}
+
+// The plan for the operands, and what can't be read below them.
+fn find_plan<S: Store>(
+    alloc: Global,
+    store: &mut S,
+    job: &Job<'_>,
+) -> Result<(Plan, Vec<Unread>), PlanFault>
+    ensures ok { IfOk result (λ found. IsPlanOf (job_in job.now) (plan_in found.0)) }
+    ensures same { Makes (S.changes store.old) (S.changes store.new) [] }
+{
+    let Found { operands, unread } = find_operands(
+        alloc,
+        store,
+        &job.operands,
+        job.output.is_some(),
+    )?;
+    let destination = match job.output {
+        Some(path) => Some(Destination {
+            path,
+            is_folder: store.is_folder(path) == Ok(true),
+        }),
+        None => None,
+    };
+    Ok((plan_of(alloc, &operands, destination)?, unread))
+}
+
+fn progress_of(job: &Job<'_>, is_terminal: bool) -> Progress {
+    if job.is_quiet {
+        Progress::Quiet
+    } else if job.shows_progress || is_terminal {
+        Progress::Count
+    } else {
+        Progress::Total
+    }
+}
+
+// Converts a file into the sink, and answers the status.
+fn convert_file<S: Store, C: Conversion, W: Sink, E: Sink>(
+    store: &mut S,
+    conversion: &C,
+    input: &str,
+    sink: &mut W,
+    errors: &mut E,
+) -> u8
+    requires { W.has_failed sink.old ≡ false }
+    ensures same { Makes (S.changes store.old) (S.changes store.new) [] }
+    ensures status { result ≤ 1 }
+{
+    match store.open(input) {
+        Ok(mut reader) => match conversion.convert(input, &mut reader, sink, errors) {
+            Ok(()) => 0,
+            Err(fault) => {
+                conversion.report(input, &fault, errors);
+                1
+            }
+        },
+        Err(fault) => {
+            let input = ShownName(input);
+            let _ = writeln!(Lines { sink: errors }, "htmd: {input}: {fault}");
+            1
+        }
+    }
+}
+
+// Converts the pages of a plan, says what could not be read, and answers the status.
+fn convert_files<S: Store, C: Conversion, E: Sink>(
+    alloc: Global,
+    store: &mut S,
+    conversion: &C,
+    pages: &[Page],
+    unread: &[Unread],
+    errors: &mut E,
+    progress: Progress,
+) -> u8
+    ensures taken { (failed : ℕ) × Takes (C.becomes conversion.now) pages.now
+        (S.changes store.old) (S.changes store.new) failed × (result ≡ 0 → failed ≡ 0) }
+    ensures status { result ≤ 1 }
+{
+    for item in unread {
+        let path = ShownName(&item.path);
+        let fault = &item.fault;
+        let _ = writeln!(Lines { sink: errors }, "htmd: {path}: {fault}");
+    }
+    let tally = run_pages(alloc, store, conversion, pages, errors, progress);
+    let unread = unread.len() as u64;
+    if tally
+        .converted
+        .saturating_add(tally.failed)
+        .saturating_add(unread)
+        > 1
+    {
+        let failed = tally.failed.saturating_add(unread);
+        write_total(errors, progress, Tally { failed, ..tally });
+    }
+    if tally.failed == 0 && unread == 0 {
+        0
+    } else {
+        1
+    }
+}
+
+// Says what went wrong, and answers the status.
+fn fail<E: Sink, T: Display>(errors: &mut E, fault: &T, status: u8) -> u8
+    ensures { result ≡ status }
+{
+    let _ = writeln!(Lines { sink: errors }, "htmd: {fault}");
+    status
+}

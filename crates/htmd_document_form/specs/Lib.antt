@@ -1,0 +1,3 @@
+-- The normal form of documents.
+pub mod NormalInlines
+pub mod NormalDocuments

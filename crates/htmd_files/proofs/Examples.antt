@@ -1,0 +1,148 @@
+-- Worked rows: names, paths, words and plans.
+use Rattle.std.proofs.Common.{◌≡◌, ℕ, true, false, List, [], ◌∷◌, Option, Some, None, Ok, Err, refl}
+use Rattle.std.specs.Prelude.{codes}
+use Rattle.htmd_files.specs.Names.{is_page, md_name}
+use Rattle.htmd_files.specs.Paths.{normal, is_same, place, is_below, file_name}
+use Rattle.htmd_files.specs.Relative.{relative}
+use Rattle.htmd_files.specs.Words as words
+use Rattle.htmd_files.specs.Plans as spec
+
+-- ---- names
+
+page-html : is_page (codes "a/b.HTML") ≡ true
+page-html = refl
+
+page-xhtml : is_page (codes "b.xhtml") ≡ true
+page-xhtml = refl
+
+page-htmlx : is_page (codes "b.htmlx") ≡ false
+page-htmlx = refl
+
+page-folder : is_page (codes "a.html/b") ≡ false
+page-folder = refl
+
+name-html : md_name (codes "a.b/c.d.htm") ≡ codes "a.b/c.d.md"
+name-html = refl
+
+name-other : md_name (codes "notes.txt") ≡ codes "notes.txt.md"
+name-other = refl
+
+-- ---- paths
+
+normal-relative : normal (codes "./a//b/../c/") ≡ codes "a/c"
+normal-relative = refl
+
+normal-up : normal (codes "../../a/..") ≡ codes "../.."
+normal-up = refl
+
+normal-root : normal (codes "/../a/.") ≡ codes "/a"
+normal-root = refl
+
+normal-here : normal (codes ".") ≡ []
+normal-here = refl
+
+same-not : is_same (codes "a") (codes "/a") ≡ false
+same-not = refl
+
+below-here : is_below (place (codes ".")) (place (codes "a.md")) ≡ true
+below-here = refl
+
+below-up : is_below (place (codes "out")) (place (codes "out/../a.md")) ≡ false
+below-up = refl
+
+below-above : is_below (place (codes "..")) (place (codes "../../a.md")) ≡ false
+below-above = refl
+
+name-last : file_name (place (codes "a/b.html/")) ≡ Some (codes "b.html")
+name-last = refl
+
+name-up : file_name (place (codes "a/../..")) ≡ None
+name-up = refl
+
+relative-beside : relative (codes "out/a/b.md") (codes "./out/c/d.md") ≡ Some (codes "../c/d.md")
+relative-beside = refl
+
+relative-same_folder : relative (codes "a/b.md") (codes "a/c.md") ≡ Some (codes "c.md")
+relative-same_folder = refl
+
+relative-above : relative (codes "../a.md") (codes "b.md") ≡ None
+relative-above = refl
+
+relative-root : relative (codes "/a.md") (codes "a.md") ≡ None
+relative-root = refl
+
+-- ---- words
+
+abbrev asked : List (List ℕ) → Option (List ℕ) → List (List ℕ) → words.Job
+asked operands output options = record words.no_job { operands = operands; output = output; options = options }
+
+words-folder : words.job (codes "--web" ∷ codes "-o" ∷ codes "out" ∷ codes "site/" ∷ [])
+    ≡ Ok (asked (codes "site/" ∷ []) (Some (codes "out")) (codes "--web" ∷ []))
+words-folder = refl
+
+words-none : words.job (codes "--html5" ∷ codes "--none" ∷ [])
+    ≡ Ok (asked [] None (codes "--html5" ∷ codes "--none" ∷ []))
+words-none = refl
+
+words-input : words.job (codes "-oa.md" ∷ []) ≡ Ok (asked (codes "-" ∷ []) (Some (codes "a.md")) [])
+words-input = refl
+
+words-standard : words.job (codes "--output=-" ∷ codes "a.html" ∷ []) ≡ Ok (asked (codes "a.html" ∷ []) None [])
+words-standard = refl
+
+words-dashes : words.job (codes "--" ∷ codes "-o" ∷ codes "--" ∷ [])
+    ≡ Ok (asked (codes "-o" ∷ codes "--" ∷ []) None [])
+words-dashes = refl
+
+words-no_value : words.job (codes "a.html" ∷ codes "-o" ∷ []) ≡ Err (words.no_value (codes "-o"))
+words-no_value = refl
+
+words-twice : words.job (codes "-o" ∷ codes "a" ∷ codes "--output=b" ∷ [])
+    ≡ Err (words.twice (codes "a") (codes "b"))
+words-twice = refl
+
+-- ---- plans
+
+abbrev site : spec.Operand
+site = spec.folder (codes "site") (codes "z.html" ∷ codes "b/a.HTM" ∷ codes "a.png" ∷ codes "a.xhtml" ∷ [])
+
+abbrev to_folder : List ℕ → Option spec.Destination
+to_folder path = Some (record { path = path; is_folder = true })
+
+abbrev page : List ℕ → List ℕ → spec.Page
+page input output = record { input = input; output = output }
+
+plan-folder : spec.plan (site ∷ spec.file (codes "./c.html") ∷ []) (to_folder (codes "out"))
+    ≡ Ok (spec.files (page (codes "site/a.xhtml") (codes "out/a.md")
+    ∷ page (codes "site/b/a.HTM") (codes "out/b/a.md") ∷ page (codes "site/z.html") (codes "out/z.md") ∷ page (codes "./c.html") (codes "out/c.md") ∷ []))
+plan-folder = refl
+
+plan-one : spec.plan (spec.file (codes "a.html") ∷ []) (Some (record { path = codes "b.md"; is_folder = false }))
+    ≡ Ok (spec.files (page (codes "a.html") (codes "b.md") ∷ []))
+plan-one = refl
+
+plan-slash : spec.plan (spec.file (codes "a.html") ∷ []) (Some (record { path = codes "b/"; is_folder = false }))
+    ≡ Ok (spec.files (page (codes "a.html") (codes "b/a.md") ∷ []))
+plan-slash = refl
+
+plan-standard : spec.plan (spec.file (codes "a.html") ∷ []) None ≡ Ok (spec.standard_output (codes "a.html"))
+plan-standard = refl
+
+plan-several : spec.plan (site ∷ spec.standard_input ∷ []) None ≡ Err (spec.several (codes "site") (codes "-"))
+plan-several = refl
+
+plan-shared : spec.plan (spec.file (codes "a/b.html") ∷ spec.file (codes "c/b.htm") ∷ []) (to_folder (codes "out"))
+    ≡ Err (spec.shared (codes "a/b.html") (codes "c/b.htm") (codes "out/b.md"))
+plan-shared = refl
+
+plan-overwritten : spec.plan (spec.file (codes "a.html") ∷ [])
+    (Some (record { path = codes "./x/../a.html"; is_folder = false }))
+    ≡ Err (spec.overwritten (codes "a.html") (codes "./x/../a.html"))
+plan-overwritten = refl
+
+plan-outside : spec.plan (spec.folder (codes "a") (codes "../b.html" ∷ []) ∷ []) (to_folder (codes "out"))
+    ≡ Err (spec.outside (codes "a/../b.html") (codes "out/../b.md") (codes "out"))
+plan-outside = refl
+
+plan-no_name : spec.plan (spec.standard_input ∷ []) (to_folder (codes "out")) ≡ Err (spec.no_name (codes "-"))
+plan-no_name = refl

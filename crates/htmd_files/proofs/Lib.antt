@@ -1,0 +1,8 @@
+-- Lemmas on names, paths, words and plans.
+pub mod NamesLemmas
+pub mod PathsLemmas
+pub mod WordsLemmas
+pub mod OrderLemmas
+pub mod PlansLemmas
+pub mod PromisesLemmas
+mod Examples

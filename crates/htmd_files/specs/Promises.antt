@@ -1,0 +1,31 @@
+-- What each plan keeps.
+use Rattle.std.specs.Prelude.{◌≡◌, ◌≢◌, ℕ, Bool, true, false, not, ◌&&◌, List, [], Option, Some, None, is_some, All, AllPairs, ⊤}
+use Rattle.htmd_files.specs.Paths.{normal, place, is_below}
+use Rattle.htmd_files.specs.Plans.{Operand, Destination, Page, Plan, standard_output, files, single_input, names_folder}
+
+-- the pages that are written to files
+abbrev pub pages_in : Plan → List Page
+pages_in (standard_output input) = []
+pages_in (files pages) = pages
+
+-- the paths are not the same
+abbrev pub Differ : List ℕ → List ℕ → Type 0
+Differ a b = normal a ≢ normal b
+
+-- no two pages have one output
+abbrev pub AreApart : List Page → Type 0
+AreApart pages = AllPairs (λ p q. Differ p.output q.output) pages
+
+-- no output is an input
+abbrev pub KeepInputs : List Page → Type 0
+KeepInputs pages = All (λ p. All (λ q. Differ p.input q.output) pages) pages
+
+-- one input is written to what `-o` names
+abbrev pub writes_one : Destination → List Operand → Bool
+writes_one out operands = is_some (single_input operands) && not (names_folder out)
+
+-- otherwise all outputs are below what `-o` names
+abbrev pub AreBelow : Option Destination → List Operand → List Page → Type 0
+AreBelow None operands pages = ⊤
+AreBelow (Some out) operands pages =
+    writes_one out operands ≡ false → All (λ page. is_below (place out.path) (place page.output) ≡ true) pages

@@ -1,0 +1,138 @@
+-- The words of the command line: which concern files, which are files, and which are other options.
+use Rattle.std.specs.Prelude.{ℕ, Bool, true, false, ◌||◌, nat_eq, if◌then◌else◌, List, [], ◌∷◌, ◌++◌, length, drop, codes}
+use Rattle.std.specs.Prelude.{Option, Some, None, Result, Ok, Err}
+use Rattle.std.specs.List.{starts_with}
+use Rattle.std.specs.Str.{bytes_eq}
+
+-- what is asked for: the files to read, what `-o` names, `--progress`, `--quiet` and the other options
+pub record Job : Type 0 where
+  pub operands : List (List ℕ)
+  pub output : Option (List ℕ)
+  pub shows_progress : Bool
+  pub is_quiet : Bool
+  pub options : List (List ℕ)
+
+-- why nothing is: the option has no value, or there are two outputs
+pub data Fault : Type 0 where
+  no_value : List ℕ → Fault
+  twice : List ℕ → List ℕ → Fault
+
+-- what the next word is: an option or a file, the value of this option, or a file
+pub data Expected : Type 0 where
+  any : Expected
+  value : List ℕ → Expected
+  operand : Expected
+
+-- what was read of the words
+pub record Reading : Type 0 where
+  pub job : Job
+  pub expected : Expected
+
+abbrev pub no_job : Job
+no_job = record {
+  operands = [];
+  output = None;
+  shows_progress = false;
+  is_quiet = false;
+  options = [];
+}
+
+-- ---- one word
+
+abbrev pub with_operand : List ℕ → Job → Job
+with_operand word job = record job { operands = job.operands ++ word ∷ [] }
+
+abbrev pub with_option : List ℕ → Job → Job
+with_option word job = record job { options = job.options ++ word ∷ [] }
+
+abbrev pub set_output : Option (List ℕ) → List ℕ → Job → Result Job Fault
+set_output None name job = Ok (record job { output = Some name })
+set_output (Some first) name job = Err (twice first name)
+
+-- an option names the output: once, and not by the empty text
+abbrev pub with_output : List ℕ → List ℕ → Job → Result Job Fault
+with_output option [] job = Err (no_value option)
+with_output option (b ∷ name) job = set_output job.output (b ∷ name) job
+
+abbrev pub reading : Expected → Job → Reading
+reading expected job = record { job = job; expected = expected }
+
+-- after a value
+abbrev pub then_any : Result Job Fault → Result Reading Fault
+then_any (Ok job) = Ok (reading any job)
+then_any (Err fault) = Err fault
+
+-- `-o` or `--output`: the next word names the output
+abbrev pub is_output_option : List ℕ → Bool
+is_output_option word = bytes_eq word (codes "-o") || bytes_eq word (codes "--output")
+
+-- a word with the output in it, another option, or a file; `-` and what doesn't begin so are files
+abbrev pub take_long : List ℕ → Job → Result Reading Fault
+take_long word job =
+    if starts_with nat_eq word (codes "--output=")
+    then then_any (with_output word (drop (length (codes "--output=")) word) job)
+    else if starts_with nat_eq word (codes "-o") then then_any (with_output word (drop (length (codes "-o")) word) job)
+    else if starts_with nat_eq word (codes "-") then Ok (reading any (with_option word job))
+    else Ok (reading any (with_operand word job))
+
+-- the empty word is no file: it is passed on with the options
+abbrev pub take_short : List ℕ → Job → Result Reading Fault
+take_short word job =
+    if bytes_eq word (codes "-") then Ok (reading any (with_operand word job))
+    else if bytes_eq word [] then Ok (reading any (with_option word job))
+    else take_long word job
+
+-- a word that may be an option
+abbrev pub take_any : List ℕ → Job → Result Reading Fault
+take_any word job =
+    if bytes_eq word (codes "--") then Ok (reading operand job)
+    else if is_output_option word then Ok (reading (value word) job)
+    else if bytes_eq word (codes "--progress") then Ok (reading any (record job { shows_progress = true }))
+    else if bytes_eq word (codes "--quiet") then Ok (reading any (record job { is_quiet = true }))
+    else take_short word job
+
+abbrev pub take_word : Expected → List ℕ → Job → Result Reading Fault
+take_word any word job = take_any word job
+take_word (value option) word job = then_any (with_output option word job)
+take_word operand word job = Ok (reading operand (with_operand word job))
+
+-- ---- all words
+
+abbrev pub take_next : List ℕ → Result Reading Fault → Result Reading Fault
+take_next word (Ok r) = take_word r.expected word r.job
+take_next word (Err fault) = Err fault
+
+abbrev pub take_all : List (List ℕ) → Result Reading Fault → Result Reading Fault
+take_all [] r = r
+take_all (word ∷ words) r = take_all words (take_next word r)
+
+-- `-` after `-o` is standard output
+abbrev pub named_output : Option (List ℕ) → Option (List ℕ)
+named_output None = None
+named_output (Some name) = if bytes_eq name (codes "-") then None else Some name
+
+-- if an output is named and nothing to read, standard input is read
+abbrev pub with_input : Option (List ℕ) → List (List ℕ) → List (List ℕ)
+with_input None operands = operands
+with_input (Some name) [] = codes "-" ∷ []
+with_input (Some name) (first ∷ others) = first ∷ others
+
+abbrev pub completed : Job → Job
+completed job = record job {
+  operands = with_input (named_output job.output) job.operands;
+  output = named_output job.output;
+}
+
+-- after the last word
+abbrev pub finished_as : Expected → Job → Result Job Fault
+finished_as any job = Ok (completed job)
+finished_as (value option) job = Err (no_value option)
+finished_as operand job = Ok (completed job)
+
+abbrev pub finished : Result Reading Fault → Result Job Fault
+finished (Ok r) = finished_as r.expected r.job
+finished (Err fault) = Err fault
+
+-- what the words ask for
+abbrev pub job : List (List ℕ) → Result Job Fault
+job words = finished (take_all words (Ok (reading any no_job)))

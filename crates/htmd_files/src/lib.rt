@@ -1,0 +1,15 @@
+//! What the program does with files, before any is touched: the words of the command line, and the plan, which says for
+//! each page where it is read and where its Markdown is written.
+#![tactic(auto)]
+
+mod faults;
+mod names;
+mod places;
+mod planning;
+mod words;
+
+pub use faults::{PlanFault, WordFault};
+pub use names::{is_page, md_name};
+pub use places::{normal_path, relative};
+pub use planning::{Destination, Operand, Page, Plan, plan_of};
+pub use words::{Job, job_of};

@@ -1,0 +1,25 @@
+-- One more page was taken.
+use Rattle.std.proofs.Common.{◌≡◌, ◌++◌, List, [], ◌∷◌, ◌∙◌, ap, subst, sym, take, arith}
+use Rattle.std.proofs.lemmas.List.{take_more}
+use Rattle.htmd_files.specs.declared.planning.Page.{Page}
+use Rattle.htmd_folders.specs.Runs.{Takes}
+use Rattle.htmd_folders.proofs.RunsLemmas.{takes_more}
+use Rattle.htmd_folders.proofs.run.take_pages.Goals as goal
+
+pub loop-page-preserved : goal.loop-page-preserved
+loop-page-preserved g c =
+    let pages = c.args.pages.now in
+    let i = c.loop-page.page-index in
+    let page = c.page-item.result in
+    let becomes = g.C.Conversion.becomes c.args.conversion.now in
+    let before = g.S.Store.changes c.args.store.now in
+    let after = g.S.Store.changes c.take_page.new.store in
+    let P : List Page → Type 0 = λ ps. Takes becomes ps before after c.take_page.new.tally.failed in
+    let more = take_more pages i page c.loop-page-test.true ∙ ap (λ p. take i pages ++ p ∷ []) (sym c.page-item.is) in
+    let taken =
+    takes_more becomes (take i pages) page before (g.S.Store.changes c.loop-page.store) after
+    c.loop-page.tally.failed c.take_page.new.tally.failed c.loop-page.invariant.taken c.take_page.ensures.taken in
+    record {
+      all = grind (arith, c.loop-page.invariant.all, c.take_page.ensures.all);
+      taken = subst P (sym more) taken;
+    }

@@ -1,0 +1,12 @@
+-- The pages so far were taken.
+use Rattle.std.proofs.Common.{◌≡◌, ◌+◌, take}
+use Rattle.htmd_folders.specs.Runs.{Takes}
+use Rattle.htmd_folders.proofs.run.take_pages.Given as goal
+
+abbrev pub invariant-loop-page : goal.invariant-loop-page
+invariant-loop-page g l = record {
+  all : l.tally.converted + l.tally.failed ≡ l.page-index;
+  taken :
+      Takes (g.C.Conversion.becomes l.conversion) (take l.page-index l.pages) (g.S.Store.changes l.initial.store)
+      (g.S.Store.changes l.store) l.tally.failed;
+}

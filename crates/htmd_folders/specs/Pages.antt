@@ -1,0 +1,51 @@
+-- What the conversion of a page changes.
+use Rattle.std.specs.Prelude.{◌≡◌, ◌⊎◌, ℕ, List, [], ◌∷◌, ◌++◌, Option, Some, IfSome, codes, string_bytes}
+use Rattle.std.specs.Io.KnownBytes.{Appends}
+use Rattle.htmd_files.specs.declared.planning.Page.{Page}
+use Rattle.htmd_folders.specs.Changes.{Change, created, moved, removed, held, whole}
+
+-- what the bytes of a source become was appended to a sink
+abbrev pub Becomes : (List ℕ → List ℕ → Type 0) → Option (List ℕ) → Option (List ℕ) → Option (List ℕ) → Type 0
+Becomes becomes input before after =
+    IfSome input (λ bytes. (written : List ℕ) × becomes bytes written × Appends before after written)
+
+-- the name of the file beside an output that is being written
+abbrev pub partial_name : List ℕ → List ℕ
+partial_name output = output ++ codes ".htmd-partial"
+
+-- the names of a page
+abbrev pub input_name : Page → List ℕ
+input_name page = string_bytes page.input
+
+abbrev pub output_name : Page → List ℕ
+output_name page = string_bytes page.output
+
+-- what a page of this name, which holds the first bytes, becomes
+abbrev pub Conversion : Type 1
+Conversion = List ℕ → List ℕ → List ℕ → Type 0
+
+-- what these bytes of the page become was brought to its output: a file beside it was made, and once it was whole came
+-- under the output's name; nothing else was changed
+abbrev pub Writes : Conversion → Page → List ℕ → List Change → Option (List Change) → Type 0
+Writes becomes page bytes past after =
+    (written : List ℕ) × becomes (input_name page) bytes written
+    × (after ≡ Some (moved (partial_name (output_name page)) (output_name page) written
+    ∷ created (partial_name (output_name page)) ∷ past))
+
+-- the page was converted: that was done of the bytes that its input held
+abbrev pub Converts : Conversion → Page → Option (List Change) → Option (List Change) → Type 0
+Converts becomes page before after =
+    IfSome before (λ past. (bytes : List ℕ) × (held (input_name page) past ≡ whole bytes)
+    × Writes becomes page bytes past after)
+
+-- the page failed: nothing was changed but the file beside its output, which wasn't made, or was made and then taken
+-- away, if that could be done
+abbrev pub Fails : Page → Option (List Change) → Option (List Change) → Type 0
+Fails page before after =
+    let partial = partial_name (output_name page) in
+    IfSome before (λ past. (after ≡ Some past)
+    ⊎ ((after ≡ Some (created partial ∷ past)) ⊎ (after ≡ Some (removed partial ∷ created partial ∷ past))))
+
+-- nothing was changed since a file was made, or it was taken away
+abbrev pub IsLeft : List ℕ → Option (List Change) → Option (List Change) → Type 0
+IsLeft partial before after = IfSome before (λ past. (after ≡ Some past) ⊎ (after ≡ Some (removed partial ∷ past)))

@@ -1,0 +1,58 @@
+//! The files that pages are read from and written to.
+ghost use Rattle.std.specs.Prelude.{◌≡◌, List, [], ◌∷◌, Option, None, false, IfOk, OnOk, OnErr};
+ghost use Rattle.htmd_folders.specs.Changes.{Change, created, removed, Makes, IsOpened, IsNew, IsMoved};
+
+use crate::faults::StoreFault;
+use crate::listing::Listing;
+use htmd_streams::{Sink, Source};
+use std::alloc::Global;
+
+/// Files under names, which are paths with `/` between their parts. A name is the bytes of its path: that two names may
+/// stand for one file is nothing that the clauses know.
+pub trait Store {
+    /// A file that is read.
+    type Reader: Source + Drop;
+
+    /// A file that is written.
+    type Writer: Sink + Drop;
+
+    // The changes that were made to the files so far, the last one first, if they are known.
+    ghost changes: { Self → Option (List Change) } = { λ _. None };
+
+    /// Opens the file under a name to be read.
+    fn open(&mut self, path: &str) -> Result<Self::Reader, StoreFault>
+        ensures bytes { IfOk result (λ reader. IsOpened (changes self.old) path.now (Self.Reader.remaining reader)) }
+        ensures unfailed { IfOk result (λ reader. Self.Reader.has_failed reader ≡ false) }
+        ensures same { Makes (changes self.old) (changes self.new) [] };
+
+    /// Makes an empty file under a name, also in place of one that is there, to be written.
+    fn create(&mut self, path: &str) -> Result<Self::Writer, StoreFault>
+        ensures empty { IfOk result (λ writer. IsNew (changes self.old) (Self.Writer.contents writer)) }
+        ensures unfailed { IfOk result (λ writer. Self.Writer.has_failed writer ≡ false) }
+        ensures ok { OnOk result (Makes (changes self.old) (changes self.new) (created path.now ∷ [])) }
+        ensures err { OnErr result (Makes (changes self.old) (changes self.new) []) };
+
+    /// Closes the file that was created under the first name, and brings it under the second name at once, also in place
+    /// of a file that is there.
+    fn publish(&mut self, writer: Self::Writer, from: &str, to: &str) -> Result<(), StoreFault>
+        ensures ok { OnOk result (IsMoved (changes self.old) (changes self.new) from.now to.now
+            (Self.Writer.contents writer)) }
+        ensures err { OnErr result (Makes (changes self.old) (changes self.new) []) };
+
+    /// Takes the file under a name away.
+    fn remove(&mut self, path: &str) -> Result<(), StoreFault>
+        ensures ok { OnOk result (Makes (changes self.old) (changes self.new) (removed path.now ∷ [])) }
+        ensures err { OnErr result (Makes (changes self.old) (changes self.new) []) };
+
+    /// Makes a folder and those above it, as far as they are missing.
+    fn make_folder(&mut self, path: &str) -> Result<(), StoreFault>
+        ensures { Makes (changes self.old) (changes self.new) [] };
+
+    /// Whether there is a folder under a name. `Err` means that there is nothing, or that it can't be looked at.
+    fn is_folder(&mut self, path: &str) -> Result<bool, StoreFault>
+        ensures { Makes (changes self.old) (changes self.new) [] };
+
+    /// All files below a folder. Links to folders are not followed.
+    fn list(&mut self, alloc: Global, folder: &str) -> Result<Listing, StoreFault>
+        ensures { Makes (changes self.old) (changes self.new) [] };
+}

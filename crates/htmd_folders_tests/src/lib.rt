@@ -1,0 +1,9 @@
+//! Tests of runs over a store in memory, at each of whose calls a run fails.
+#![tactic(auto)]
+
+#[cfg(test)]
+mod doubles;
+#[cfg(test)]
+mod failures;
+#[cfg(test)]
+mod lines;

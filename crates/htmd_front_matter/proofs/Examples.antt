@@ -1,0 +1,32 @@
+-- What a small page says of itself.
+use Rattle.std.proofs.Common.{◌≡◌, ℕ, List, [], ◌∷◌, Some, None, refl}
+use Rattle.std.specs.Prelude.{codes}
+use Rattle.htmd_grammar.specs.ValueTrees.{AttributePair, ValueForest, text, element, none, more}
+use Rattle.htmd_front_matter.specs.declared.values.Key.TheVariants.{Title, Lang, Description, Canonical}
+use Rattle.htmd_front_matter.specs.Values.{first_value}
+use Rattle.htmd_front_matter.specs.Lines.{tidied}
+
+abbrev pair : List ℕ → List ℕ → AttributePair
+pair name value = record { name = name; value = value }
+
+-- `<html lang=en><title> A  b </title><meta name=DESCRIPTION content=c></html>`
+abbrev page : ValueForest
+page = more (element (codes "html") (pair (codes "lang") (codes "en") ∷ [])
+    (more (element (codes "title") [] (more (text (codes " A  b ")) none))
+    (more (element (codes "meta") (pair (codes "name") (codes "DESCRIPTION") ∷ pair (codes "content") (codes "c") ∷ [])
+    none) none))) none
+
+value-title : first_value Title page ≡ Some (codes " A  b ")
+value-title = refl
+
+value-lang : first_value Lang page ≡ Some (codes "en")
+value-lang = refl
+
+value-description : first_value Description page ≡ Some (codes "c")
+value-description = refl
+
+value-canonical : first_value Canonical page ≡ None
+value-canonical = refl
+
+tidied-title : tidied (codes " A \n b ") ≡ codes "A b"
+tidied-title = refl

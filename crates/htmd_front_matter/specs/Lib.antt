@@ -1,0 +1,3 @@
+-- What the head of a page says of it, and the lines of YAML for it.
+pub mod Values
+pub mod Lines

@@ -1,0 +1,7 @@
+//! What the head of a page says of it, as lines of YAML.
+#![tactic(auto)]
+
+mod lines;
+mod values;
+
+pub use lines::front_matter;

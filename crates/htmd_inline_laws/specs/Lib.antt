@@ -1,0 +1,2 @@
+-- The inlines of documents: those that are normal, and that they are read back.
+pub mod ReadBack

@@ -1,0 +1,9 @@
+-- What selectors are, how they are read from a text, which elements they name, and the parts of a page. The last two,
+-- how selectors and the marks of an element are kept, serve private functions alone.
+pub mod Steps
+pub mod Reading
+pub mod Matching
+pub mod Parts
+pub mod Views
+pub mod ReaderViews
+pub mod Marks

@@ -1,0 +1,24 @@
+-- What the reader of selectors stands for.
+use Rattle.std.specs.Prelude.{◌≡◌, Result, Err}
+use Rattle.htmd_pages.specs.declared.reader.Reader.{Reader}
+use Rattle.htmd_pages.specs.declared.selectors.SelectorError.{SelectorError}
+use Rattle.htmd_pages.specs.declared.selectors.SelectorError.TheVariants.{Memory, NoSelector, NoName, Unclosed, Unsupported}
+use Rattle.htmd_pages.specs.Reading.{Reading}
+use Rattle.htmd_pages.specs.Views.{steps_of}
+
+abbrev pub reading_of : Reader → Reading
+reading_of r = record {
+  steps = steps_of r.steps.items;
+  relation = r.relation;
+  name = r.name.items;
+  word = r.word.items;
+  mode = r.mode;
+}
+
+-- an error is out of memory, or that of the definition
+abbrev pub IsFault : {A : Type 0} → Result A SelectorError → SelectorError → Type 0
+IsFault r Memory = Unit {0}
+IsFault r (NoSelector place) = r ≡ Err (NoSelector place)
+IsFault r (NoName place) = r ≡ Err (NoName place)
+IsFault r (Unclosed place) = r ≡ Err (Unclosed place)
+IsFault r (Unsupported place) = r ≡ Err (Unsupported place)

@@ -1,0 +1,12 @@
+//! Parts of a page: the elements that a selector names, or the page without them, as functions from trees to trees. A
+//! selector is read from a text, by the syntax of Selectors Level 4, and matched by its rules.
+#![tactic(auto)]
+
+mod matching;
+mod parts;
+mod reader;
+mod selectors;
+
+pub use parts::{drop_elements, select_elements};
+pub use reader::parse_selectors;
+pub use selectors::{SelectorError, Selectors};

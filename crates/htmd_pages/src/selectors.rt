@@ -1,0 +1,111 @@
+//! Selectors, as they are kept.
+ghost use Rattle.std.specs.Prelude.{◌≡◌, ◌++◌, ◌==◌, [], length, OnOk};
+ghost use Rattle.htmd_pages.specs.declared.selectors.SelectorError.TheVariants.{Memory};
+
+use std::alloc::{AllocError, AllocFailed, Global};
+use thiserror::Error;
+
+/// What a simple selector asks of an element.
+#[derive(Drop)]
+pub(crate) enum Condition {
+    /// `main`: this name.
+    Tag(Vec<u8>),
+    /// `.note`: this word in its `class`.
+    Class(Vec<u8>),
+    /// `#top`: this `id`.
+    Id(Vec<u8>),
+    /// `[href]`: an attribute with this name.
+    Attribute(Vec<u8>),
+    /// `[rel=nofollow]`: an attribute with this name and this value.
+    Value { name: Vec<u8>, value: Vec<u8> },
+}
+
+/// How a simple selector stands to the one before it.
+#[derive(Clone, Copy, PartialEq, Eq)]
+pub(crate) enum Relation {
+    /// Another selector begins.
+    Start,
+    /// It asks something of the same element.
+    Same,
+    /// It asks something of a child of that element.
+    Child,
+    /// It asks something of an element below that element.
+    Below,
+}
+
+/// A simple selector, and how it stands to the one before it.
+#[derive(Drop)]
+pub(crate) struct Step {
+    pub(crate) relation: Relation,
+    pub(crate) condition: Condition,
+}
+
+/// Selectors, by their simple selectors in order. `parse_selectors` reads them from a text.
+#[derive(Drop)]
+pub struct Selectors {
+    pub(crate) steps: Vec<Step>,
+}
+
+impl Selectors {
+    ghost use Rattle.htmd_pages.specs.Views.{steps_in};
+
+    /// No selectors, which name no element.
+    pub fn new(alloc: Global) -> Selectors
+        ensures { steps_in result ≡ [] }
+    {
+        Selectors {
+            steps: Vec::new(alloc),
+        }
+    }
+
+    /// Whether there are none.
+    pub fn is_empty(&self) -> bool
+        ensures { result ≡ (length (steps_in self.now) == 0) }
+    {
+        self.steps.is_empty()
+    }
+
+    /// Adds others, as if a comma stood between them. `Err` means out of memory.
+    pub fn append(&mut self, others: Selectors) -> Result<(), AllocError>
+        ensures { OnOk result (steps_in self.new ≡ steps_in self.old ++ steps_in others) }
+    {
+        let mut steps = others.steps;
+        self.steps.append(&mut steps)
+    }
+}
+
+/// Why a text is no selector, and the place in it, in bytes from 0.
+#[derive(Debug, PartialEq, Eq, Drop, Error)]
+pub enum SelectorError {
+    /// Out of memory.
+    #[error("out of memory")]
+    Memory,
+    /// No selector stands before a comma, after `>` or at the end.
+    #[error("a selector is missing at byte {place}")]
+    NoSelector { place: usize },
+    /// No name stands after `.`, `#`, `[` or `=`, or a name begins with a digit.
+    #[error("a name is missing at byte {place}")]
+    NoName { place: usize },
+    /// A bracket or a quotation mark isn't closed.
+    #[error("`]` or a quotation mark is missing at byte {place}")]
+    Unclosed { place: usize },
+    /// A sign that means nothing there.
+    #[error("the sign at byte {place} isn't supported")]
+    Unsupported { place: usize },
+}
+
+impl From<AllocError> for SelectorError {
+    ghost from_gives = { λ _ e. e ≡ Memory };
+
+    fn from(_e: AllocError) -> SelectorError {
+        SelectorError::Memory
+    }
+}
+
+impl<T: Drop> From<AllocFailed<T>> for SelectorError {
+    ghost from_gives = { λ _ e. e ≡ Memory };
+
+    fn from(_e: AllocFailed<T>) -> SelectorError {
+        SelectorError::Memory
+    }
+}

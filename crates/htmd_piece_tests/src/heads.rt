@@ -1,0 +1,62 @@
+//! Absolute addresses of a small page, and what it says of itself.
+use htmd_addresses::{base_of, make_absolute};
+use htmd_expected::expect_text;
+use htmd_front_matter::front_matter;
+use htmd_tree::{read_html, serialize};
+use std::alloc::Global;
+use std::test::Fail;
+use url::Url;
+
+/// The body of a page at an address, with absolute addresses.
+fn absolute(alloc: Global, html: &str) -> Result<String, Fail> {
+    let page = read_html(alloc, html, false)?;
+    let url = Url::parse(alloc, "https://a.example/b/c")?;
+    let part = match base_of(&page, &url)? {
+        Some(base) => make_absolute(alloc, &page, &base)?,
+        None => make_absolute(alloc, &page, &url)?,
+    };
+    Ok(serialize(alloc, &part, part.root())?)
+}
+
+#[test]
+fn addresses_are_absolute(rt: HostRuntime) -> Result<(), Fail> {
+    let html = absolute(
+        rt.alloc(),
+        "<p><a href=x?y#z title=x>a</a><img src=//i.example/j><a href='http://['>b</a></p>",
+    )?;
+    expect_text(
+        "no base",
+        html.as_str(),
+        "<html><head></head><body><p><a href=\"https://a.example/b/x?y#z\" title=\"x\">a</a>\
+        <img src=\"https://i.example/j\"><a href=\"http://[\">b</a></p></body></html>",
+    )
+}
+
+#[test]
+fn a_page_names_its_base(rt: HostRuntime) -> Result<(), Fail> {
+    let html = absolute(
+        rt.alloc(),
+        "<base><base href=/d/><base href=/e/><a href=x>a</a>",
+    )?;
+    expect_text(
+        "base",
+        html.as_str(),
+        "<html><head></head><body><base><base href=\"https://a.example/d/\"><base href=\"https://a.example/e/\">\
+        <a href=\"https://a.example/d/x\">a</a></body></html>",
+    )
+}
+
+const HEAD: &str =
+    "<title> A \"b\"\n c </title><meta name=Description content=d><meta name=keywords>\
+<link rel=canonical href=/x><meta name=description content=e>";
+
+#[test]
+fn a_page_says_something(rt: HostRuntime) -> Result<(), Fail> {
+    let page = read_html(rt.alloc(), HEAD, false)?;
+    let lines = front_matter(rt.alloc(), &page)?;
+    expect_text(
+        "front matter",
+        lines.as_str(),
+        "title: \"A \\\"b\\\" c\"\ndescription: \"d\"\ncanonical: \"/x\"\n",
+    )
+}

@@ -1,0 +1,6 @@
+-- The lemmas that lead to the laws.
+pub mod WholeDocuments
+pub mod ReadingMain
+pub mod LineEnds
+pub mod PageLaws
+mod Examples

@@ -1,0 +1,2 @@
+-- What is read of what is written of a document.
+pub mod ReadingLaws
