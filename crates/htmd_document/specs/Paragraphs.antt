@@ -4,6 +4,7 @@ use Rattle.std.specs.Prelude.{length, take, map, fold}
 use Rattle.std.specs.Char.{encode_utf8}
 use Rattle.std.specs.Str.{chars}
 use Rattle.htmd_grammar.specs.Characters.{space}
+use Rattle.htmd_grammar.specs.CharacterClasses.{first_is}
 use Rattle.htmd_grammar.specs.WhiteSpace.{is_ascii_white_space}
 use Rattle.htmd_document.specs.declared.paragraphs.Latest.{Latest}
 use Rattle.htmd_document.specs.declared.paragraphs.Latest.TheVariants.{Nothing, Task, Plain, Code}
@@ -99,10 +100,9 @@ abbrev pub white_behind : ℕ → Inlines → List Around → Bool → List ℕ 
 white_behind n xs around is_code [] = xs
 white_behind n xs around is_code (b ∷ s) = behind n xs (take n around) (text_or_code is_code (b ∷ s))
 
--- what follows a task: white space, or a space where there is none
+-- what follows a task: a space, and then the white space that doesn't begin with one
 abbrev pub after_task : List ℕ → List ℕ
-after_task [] = space ∷ []
-after_task (b ∷ s) = b ∷ s
+after_task s = if first_is space s then s else space ∷ s
 
 -- whether the gap before a code is code: it stands between two codes with the same around them, and all of it is code
 abbrev pub is_code_gap : Writing → List Mark → Bool

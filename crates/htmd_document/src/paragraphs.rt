@@ -14,7 +14,7 @@ use crate::around::Around;
 use crate::document::{Block, Inline};
 use crate::nest::Nest;
 use crate::shown_text::{is_all_shown, shown_text};
-use crate::spaces::{Gap, is_white, word_len};
+use crate::spaces::{Gap, begins_with_space, is_white, word_len};
 use std::alloc::{AllocError, Global};
 
 /// What showed last in a paragraph: nothing yet, the box of a task, a text or an image, or code.
@@ -244,13 +244,13 @@ impl Paragraphs {
         }
     }
 
-    /// White space after a task, or a space where there is none.
+    /// A space after a task, and white space that doesn't begin with one.
     fn push_after_task(&mut self) -> Result<(), AllocError>
         ensures { IfOk result (λ _. IsGapPut (writing_in self.old) (writing_in self.new) 0
             (spec.gap_after_task (writing_in self.old))) }
     {
-        if self.gap.white.is_empty() {
-            return self.nest.push_text(0, &[], " ", false);
+        if !begins_with_space(self.gap.white.as_bytes()) {
+            self.nest.push_text(0, &[], " ", false)?;
         }
         self.nest.push_text(0, &[], &self.gap.white, false)
     }

@@ -1,6 +1,8 @@
 //! White space of a paragraph.
 ghost use Rattle.std.specs.Prelude.{◌≡◌, ◌++◌, ◌≤◌, IfOk, length, not, string_bytes, encode_utf8_all, take_while};
 ghost use Rattle.std.specs.Str.{chars};
+ghost use Rattle.htmd_grammar.specs.Characters.{space};
+ghost use Rattle.htmd_grammar.specs.CharacterClasses.{first_is};
 ghost use Rattle.htmd_document.specs.Spaces as spec;
 ghost use Rattle.htmd_document.specs.SpaceViews.{gap_of};
 
@@ -96,6 +98,16 @@ fn shown_white(c: char) -> char
     ensures { result ≡ spec.shown_white c }
 {
     if c.is_ascii_whitespace() { ' ' } else { c }
+}
+
+/// Whether the first byte is a space.
+pub(crate) fn begins_with_space(text: &[u8]) -> bool
+    ensures { result ≡ first_is space text.now }
+{
+    match text {
+        [first, ..] => *first == b' ',
+        [] => false,
+    }
 }
 
 /// Whether the last byte is a space.

@@ -10,7 +10,7 @@ use Rattle.htmd_document.specs.Documents.{quote, thematic_break, list}
 use Rattle.htmd_document_form.specs.NormalInlines.{is_normal_line, is_normal_item}
 use Rattle.htmd_document_form.specs.NormalDocuments.{is_normal_paragraph, is_normal_heading, is_language, is_normal_code}
 use Rattle.htmd_document_form.specs.NormalDocuments.{are_short_numbers, has_filled_item, has_right_distance, is_normal_list}
-use Rattle.htmd_document_form.specs.NormalDocuments.{is_normal_table, is_normal_document, IsNormal, has_spaced_tasks}
+use Rattle.htmd_document_form.specs.NormalDocuments.{is_normal_table, is_normal_document, IsNormal}
 
 -- words, a format in another and in a link, a break between words
 pub some_words : is_normal_line (inline (text (codes "a "))
@@ -243,18 +243,9 @@ as_deep_as_may_be = refl
 pub too_deep : is_normal_document (nested 33) ≡ false
 too_deep = refl
 
--- ---- tasks
-
+-- a space stands after a task, and no white space past ASCII
 abbrev wide : List ℕ
 wide = 0xC2 ∷ 0xA0 ∷ codes "a"
 
-pub spaced_task : has_spaced_tasks (block (list none true (item (one boxed) no_items)) no_blocks) ≡ true
-spaced_task = refl
-
--- U+00A0 is no space
-pub task_before_wide_space : has_spaced_tasks (block (list none true (item
-    (one (inline (task false) (inline (text wide) no_inlines)))
-    no_items))
-    no_blocks)
-    ≡ false
+pub task_before_wide_space : is_normal_paragraph true (inline (task false) (inline (text wide) no_inlines)) ≡ false
 task_before_wide_space = refl

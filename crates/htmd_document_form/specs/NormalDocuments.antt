@@ -142,28 +142,3 @@ is_normal_document d = are_normal_blocks false d && nat_le (depth_among d) most_
 
 abbrev pub IsNormal : Blocks → Type 0
 IsNormal d = is_normal_document d ≡ true
-
--- ---- tasks
-
--- a space stands right after the task that an item begins with, and no white space past ASCII
-abbrev pub has_spaced_task : Bool → Inlines → Bool
-has_spaced_task true (inline (task is_checked) rest) = first_passes begins_with_space rest
-has_spaced_task in_item content = true
-
-abbrev mutual
-  pub is_spaced_block : Bool → Block → Bool
-  is_spaced_block in_item (paragraph content) = has_spaced_task in_item content
-  is_spaced_block in_item (quote content) = are_spaced_blocks false content
-  is_spaced_block in_item (list start is_tight items) = are_spaced_items items
-  is_spaced_block in_item b = true
-
-  pub are_spaced_blocks : Bool → Blocks → Bool
-  are_spaced_blocks in_item no_blocks = true
-  are_spaced_blocks in_item (block first rest) = is_spaced_block in_item first && are_spaced_blocks false rest
-
-  pub are_spaced_items : Items → Bool
-  are_spaced_items no_items = true
-  are_spaced_items (item first rest) = are_spaced_blocks true first && are_spaced_items rest
-
-abbrev pub has_spaced_tasks : Blocks → Bool
-has_spaced_tasks d = are_spaced_blocks false d

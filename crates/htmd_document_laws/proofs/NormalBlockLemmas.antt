@@ -1,4 +1,4 @@
--- Blocks that are normal, but for what stands right after a task.
+-- Blocks that are normal, as facts.
 use Rattle.std.proofs.Common.{◌≡◌, ℕ, ◌≤◌, Bool, true, false, cond, List, [], ◌∷◌, ◌++◌, refl, sym, ap, ◌∙◌}
 use Rattle.std.proofs.Common.{arith, subst, ◌⊎◌, inl, inr, max}
 use Rattle.std.specs.Prelude.{nat_le}
@@ -14,8 +14,7 @@ use Rattle.htmd_document_form.specs.NormalInlines.{are_whole, are_normal, is_nor
 use Rattle.htmd_document_form.specs.NormalInlines.{is_normal_item}
 use Rattle.htmd_document_form.specs.NormalDocuments.{is_normal_paragraph, is_normal_heading, is_normal_code, is_normal_list}
 use Rattle.htmd_document_form.specs.NormalDocuments.{is_normal_table, is_normal_block, are_normal_blocks, are_normal_items}
-use Rattle.htmd_document_form.specs.NormalDocuments.{depth_of, depth_among, IsNormal, has_spaced_task}
-use Rattle.htmd_document_form.specs.NormalDocuments.{is_spaced_block, are_spaced_blocks, are_spaced_items, has_spaced_tasks}
+use Rattle.htmd_document_form.specs.NormalDocuments.{depth_of, depth_among, IsNormal}
 use Rattle.htmd_document_laws.proofs.VisibleLemmas.{both-true}
 use Rattle.htmd_document_laws.proofs.NormalTextLemmas.{and-true, not-false, false-true}
 use Rattle.htmd_document_laws.proofs.NormalLineLemmas.{IsWhole}
@@ -25,6 +24,7 @@ pub record IsTaskLine (content : Inlines) : Type 0 where
   pub is_checked : Bool
   pub rest : Inlines
   pub is : content ≡ inline (task is_checked) rest
+  pub begins : first_passes begins_with_space rest ≡ true
   pub whole : IsWhole false [] rest
 
 -- a line, or a task in an item
@@ -50,7 +50,7 @@ abbrev mutual
   NearlyItems no_items = Unit {0}
   NearlyItems (item first rest) = NearlyAll true first × NearlyItems rest
 
--- ---- with a space after each task
+-- ---- so they are normal
 
 line-no_task : (in_item : Bool) (content : Inlines) → is_normal_line content ≡ true
     → cond in_item (is_normal_item content) (is_normal_line content) ≡ true
@@ -66,46 +66,33 @@ line-no_task true (inline (task b) xs) h =
     let parts = both-true (are_whole (inline (task b) xs)) (are_normal false [] (inline (task b) xs)) h in
     false-true parts.1
 
-task-line : (content : Inlines) → IsTaskLine content → has_spaced_task true content ≡ true
-    → is_normal_paragraph true content ≡ true
-task-line content h s =
-    let rest : Inlines = h.rest in
-    let here : first_passes begins_with_space rest ≡ true = sym (ap (has_spaced_task true) h.is) ∙ s in
+task-line : (content : Inlines) → IsTaskLine content → is_normal_paragraph true content ≡ true
+task-line content h =
     ap (is_normal_paragraph true) h.is
-    ∙ and-true (and-true (and-true here (not-false h.whole.no_space)) (not-false h.whole.no_break)) h.whole.normal
+    ∙ and-true (and-true (and-true h.begins (not-false h.whole.no_space)) (not-false h.whole.no_break)) h.whole.normal
 
 mutual
-  nearly-normal : (b : Block) (in_item : Bool) → Nearly in_item b → is_spaced_block in_item b ≡ true
-      → is_normal_block in_item b ≡ true
-  nearly-normal (paragraph content) in_item (inl h) s = and-true (not-false h.1) (line-no_task in_item content h.0)
-  nearly-normal (paragraph content) in_item (inr h) s =
-      subst (λ (i : Bool). is_normal_paragraph i content ≡ true) (sym h.0)
-      (task-line content h.1 (ap (λ i. has_spaced_task i content) (sym h.0) ∙ s))
-  nearly-normal (heading level content) in_item h s = h
-  nearly-normal (code_block language t) in_item h s = h
-  nearly-normal (quote content) in_item h s = and-true h.0 (all-normal content false h.1 s)
-  nearly-normal thematic_break in_item h s = refl
-  nearly-normal (list start is_tight items) in_item h s = and-true h.0 (items-normal items h.1 s)
-  nearly-normal (table alignments header rows) in_item h s = h
+  nearly-normal : (b : Block) (in_item : Bool) → Nearly in_item b → is_normal_block in_item b ≡ true
+  nearly-normal (paragraph content) in_item (inl h) = and-true (not-false h.1) (line-no_task in_item content h.0)
+  nearly-normal (paragraph content) in_item (inr h) =
+      subst (λ (i : Bool). is_normal_paragraph i content ≡ true) (sym h.0) (task-line content h.1)
+  nearly-normal (heading level content) in_item h = h
+  nearly-normal (code_block language t) in_item h = h
+  nearly-normal (quote content) in_item h = and-true h.0 (all-normal content false h.1)
+  nearly-normal thematic_break in_item h = refl
+  nearly-normal (list start is_tight items) in_item h = and-true h.0 (items-normal items h.1)
+  nearly-normal (table alignments header rows) in_item h = h
 
-  all-normal : (bs : Blocks) (in_item : Bool) → NearlyAll in_item bs → are_spaced_blocks in_item bs ≡ true
-      → are_normal_blocks in_item bs ≡ true
-  all-normal no_blocks in_item h s = refl
-  all-normal (block first rest) in_item h s =
-      let parts = both-true (is_spaced_block in_item first) (are_spaced_blocks false rest) s in
-      and-true (nearly-normal first in_item h.0 parts.0) (all-normal rest false h.1 parts.1)
+  all-normal : (bs : Blocks) (in_item : Bool) → NearlyAll in_item bs → are_normal_blocks in_item bs ≡ true
+  all-normal no_blocks in_item h = refl
+  all-normal (block first rest) in_item h = and-true (nearly-normal first in_item h.0) (all-normal rest false h.1)
 
-  items-normal : (items : Items) → NearlyItems items → are_spaced_items items ≡ true → are_normal_items items
-      ≡ true
-  items-normal no_items h s = refl
-  items-normal (item first rest) h s =
-      let parts = both-true (are_spaced_blocks true first) (are_spaced_items rest) s in
-      and-true (all-normal first true h.0 parts.0) (items-normal rest h.1 parts.1)
+  items-normal : (items : Items) → NearlyItems items → are_normal_items items ≡ true
+  items-normal no_items h = refl
+  items-normal (item first rest) h = and-true (all-normal first true h.0) (items-normal rest h.1)
 
-pub document-normal : (d : Blocks) → NearlyAll false d → depth_among d ≤ most_nested → has_spaced_tasks d
-    ≡ true
-    → IsNormal d
-document-normal d h n s = and-true (all-normal d false h s) (within (depth_among d) n)
+pub document-normal : (d : Blocks) → NearlyAll false d → depth_among d ≤ most_nested → IsNormal d
+document-normal d h n = and-true (all-normal d false h) (within (depth_among d) n)
   where
     within : (k : ℕ) → k ≤ most_nested → nat_le k most_nested ≡ true
     within k l = grind (arith, nat_tests)

@@ -14,9 +14,11 @@ use Rattle.htmd_grammar.specs.CharacterClasses.{first_is, is_empty}
 use Rattle.htmd_grammar.specs.WhiteSpace.{is_ascii_white_space}
 use Rattle.htmd_grammar.proofs.Cases.{test}
 use Rattle.htmd_document.specs.Nesting.{text_or_code}
+use Rattle.htmd_document.specs.Paragraphs.{after_task}
 use Rattle.htmd_document.specs.Spaces.{Gap, is_white, is_wide_space, shown_white, ends_with_space, spaced}
 use Rattle.htmd_document_form.specs.NormalInlines.{is_plain, is_line, has_double_space, is_text}
 use Rattle.htmd_document_laws.proofs.VisibleLemmas.{both-true}
+use Rattle.htmd_document_laws.proofs.NormalTextLemmas.{false-true}
 use Rattle.htmd_document_laws.proofs.NormalTextLemmas.{and-true, and-false, or-false, from-not}
 use Rattle.htmd_document_laws.proofs.NormalTextLemmas.{encode-passes, line-append, double-append}
 use Rattle.htmd_document_laws.proofs.NormalTextLemmas.{to-text}
@@ -115,9 +117,9 @@ white-none = record { line = refl; single = refl }
 pub white-text : (b : ℕ) (s : List ℕ) → IsWhite (b ∷ s) → is_text (b ∷ s) ≡ true
 white-text b s h = to-text (b ∷ s) (record { line = h.line; some = refl; single = h.single })
 
-pub space-text : is_text (space ∷ []) ≡ true
+space-white : IsWhite (space ∷ [])
 unfolding chars is_utf8 encode
-space-text = refl
+space-white = record { line = refl; single = refl }
 
 white-append : (s t : List ℕ) → IsWhite s → is_line t ≡ true → has_double_space t ≡ false
     → (ends_with_space s && first_is space t) ≡ false → IsWhite (s ++ t)
@@ -152,3 +154,20 @@ white-spaced g c k h u w =
     (λ a. subst (λ (b : Bool). IsWhite (cond b g both).white) (sym (ap (λ b. b && ends_with_space g.white) a))
     (subst (λ (b : Bool). IsWhite (g.white ++ encode_utf8 (cond b space c))) (sym a)
     (wide-append g.white c h u (sym (ap (λ b. b || is_wide_space c) a) ∙ w))))
+
+-- what follows a task begins with a space
+pub record IsAfterTask (s : List ℕ) : Type 0 where
+  pub text : is_text s ≡ true
+  pub begins : first_is space s ≡ true
+
+pub after_task-text : (s : List ℕ) → IsWhite s → IsAfterTask (after_task s)
+after_task-text s h = test (first_is space s)
+    (λ e. subst (λ (b : Bool). IsAfterTask (cond b s (space ∷ s))) (sym e) (spaced s h e))
+    (λ e. subst (λ (b : Bool). IsAfterTask (cond b s (space ∷ s))) (sym e) (record {
+      text = white-text space s (white-append (space ∷ []) s space-white h.line h.single (ap (λ b. true && b) e));
+      begins = refl;
+    }))
+  where
+    spaced : (s : List ℕ) → IsWhite s → first_is space s ≡ true → IsAfterTask s
+    spaced [] h e = false-true e
+    spaced (b ∷ s) h e = record { text = white-text b s h; begins = e }

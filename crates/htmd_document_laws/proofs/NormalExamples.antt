@@ -8,7 +8,7 @@ use Rattle.htmd_nodes.specs.NumberedTrees.{NumberedTree, NumberedForest, documen
 use Rattle.htmd_document.specs.Flows.{node_of}
 use Rattle.htmd_document.specs.Roles.{role_of, table_role, heading_or_block, inline_role}
 use Rattle.htmd_document.specs.TreeDocuments.{document_of_tree}
-use Rattle.htmd_document_form.specs.NormalDocuments.{IsNormal, is_normal_document, has_spaced_tasks}
+use Rattle.htmd_document_form.specs.NormalDocuments.{IsNormal}
 use Rattle.htmd_document_laws.specs.TreeForms.{is_clean, has_clean_values, child_count, has_few_children, is_clean_tree}
 
 abbrev leaf : List ℕ → NumberedForest → NumberedForest
@@ -70,16 +70,11 @@ pub page-normal : IsNormal (document_of_tree true [] (page (codes " e")))
 unfolding chars encode is_utf8 document_of_tree node_of role_of table_role heading_or_block inline_role
 page-normal = refl
 
--- a box right before a letter has a space after it
-pub letter-spaced : has_spaced_tasks (document_of_tree true [] (page (codes "e"))) ≡ true
+-- a box right before a letter, or before U+00A0, has a space after it
+pub letter-spaced : IsNormal (document_of_tree true [] (page (codes "e")))
 unfolding chars encode is_utf8 document_of_tree node_of role_of table_role heading_or_block inline_role
 letter-spaced = refl
 
--- one before U+00A0 has none: this document is not normal
-pub wide-unspaced : has_spaced_tasks (document_of_tree true [] (page (0xC2 ∷ 0xA0 ∷ codes "e"))) ≡ false
+pub wide-spaced : IsNormal (document_of_tree true [] (page (0xC2 ∷ 0xA0 ∷ codes "e")))
 unfolding chars encode is_utf8 document_of_tree node_of role_of table_role heading_or_block inline_role
-wide-unspaced = refl
-
-pub wide-not_normal : is_normal_document (document_of_tree true [] (page (0xC2 ∷ 0xA0 ∷ codes "e"))) ≡ false
-unfolding chars encode is_utf8 document_of_tree node_of role_of table_role heading_or_block inline_role
-wide-not_normal = refl
+wide-spaced = refl

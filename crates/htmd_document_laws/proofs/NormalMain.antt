@@ -12,8 +12,8 @@ use Rattle.htmd_document_laws.proofs.NormalTreeLemmas.{tree-shown, node-fine}
 
 pub documents_are_normal : DocumentsAreNormal
 unfolding document_of_tree
-documents_are_normal sight tree h s =
+documents_are_normal sight tree h =
     let parts : List Part = (node_of (shown sight tree)).whole bare in
     let fine : FineBlocks most_nested false (blocks_of false parts) =
     blocks-of most_nested false parts ((node-fine (shown sight tree) (tree-shown sight tree h)).whole bare tt) in
-    document-normal (blocks_of false parts) fine.nearly fine.depth s
+    document-normal (blocks_of false parts) fine.nearly fine.depth

@@ -20,6 +20,7 @@ use Rattle.htmd_document.specs.Spaces.{no_gap, is_white}
 use Rattle.htmd_document_form.specs.NormalInlines.{is_text, is_break, begins_with_space, has_none}
 use Rattle.htmd_document_form.specs.NormalInlines.{first_passes, is_normal_line}
 use Rattle.htmd_document_laws.proofs.VisibleLemmas.{both-true}
+use Rattle.htmd_document_laws.proofs.NormalTextLemmas.{from-text}
 use Rattle.htmd_document_laws.proofs.NormalTextLemmas.{and-true, not-false, from-not, true-false, false-true}
 use Rattle.htmd_document_laws.proofs.NormalLineLemmas.{FitAll, Held, IsWhole, held-whole, same-mark}
 use Rattle.htmd_document_laws.proofs.NormalLineLemmas.{leaf-no_break}
@@ -27,7 +28,7 @@ use Rattle.htmd_document_laws.proofs.NormalLeafLemmas.{IsLeaf, IsGap, leaf-begin
 use Rattle.htmd_document_laws.proofs.NormalLeafLemmas.{wrapped-first, wrapped-first-break, wrapped-held, put-after, leaf-differs}
 use Rattle.htmd_document_laws.proofs.NormalPutLemmas.{BeginsAs, put, put-begins, normal-begun, leaf-held, AreAlike}
 use Rattle.htmd_document_laws.proofs.NormalPutLemmas.{code-held, is_begun, behind-begins}
-use Rattle.htmd_document_laws.proofs.NormalCharacterLemmas.{IsWhite, white-none, white-text, space-text, white-spaced}
+use Rattle.htmd_document_laws.proofs.NormalCharacterLemmas.{IsWhite, white-none, white-text, white-spaced, IsAfterTask, after_task-text}
 use Rattle.htmd_document_laws.proofs.NormalCharacterLemmas.{character-word, word-leaf}
 use Rattle.htmd_document_laws.proofs.NormalBlockLemmas.{IsTaskLine, IsParagraph, AllFine, fine-more}
 use Rattle.htmd_document_laws.proofs.NormalBlockLemmas.{fine-first, FineBlocks, blocks-fine}
@@ -45,6 +46,7 @@ pub record IsTasked (k : Bool) (ms : List Mark) (xs : Inlines) : Type 0 where
   pub is_checked : Bool
   pub rest : Inlines
   pub is : xs ≡ inline (task is_checked) rest
+  pub begins : first_passes begins_with_space rest ≡ true
   pub held : Held k false [] ms rest
 
 -- an item's first block is begun
@@ -117,6 +119,7 @@ task-whole k ms xs h = record {
   is_checked = h.is_checked;
   rest = h.rest;
   is = h.is;
+  begins = h.begins;
   whole = held-whole k false [] ms h.rest h.held;
 }
 
@@ -342,20 +345,19 @@ module _ (n : ℕ) (in_item : Bool) (w : Writing) (h : IsNormalWriting n in_item
   task-text s e = put-after k false [] (one_inline (text s)) (text s) around y (one-ends false [] (text s)) e fits leaf
       (leaf-differs (text s) around refl)
 
-  after_task-text : (s : List ℕ) → IsWhite s → is_text (after_task s) ≡ true
-  after_task-text [] g = space-text
-  after_task-text (b ∷ s) g = white-text b s g
-
   task-leaf : (b : Bool) → w.content ≡ one_inline (task b)
       → IsTasked k (map mark_of around) (behind 0 (gap_after_task w) around y)
   task-leaf b e =
       let s : List ℕ = after_task w.gap.white in
+      let here : IsAfterTask s = after_task-text w.gap.white h.gap in
       subst (λ (xs : Inlines). IsTasked k (map mark_of around) (behind 0 (behind 0 xs [] (text s)) around y)) (sym e)
       (record {
         is_checked = b;
         rest = joined (one_inline (text s)) (wrapped around y);
         is = refl;
-        held = task-text s (after_task-text w.gap.white h.gap);
+        begins = (behind-begins 0 (one_inline (text s)) around y (not-false (from-text s here.text).some)).space
+            ∙ here.begins;
+        held = task-text s here.text;
       })
 
   next-leaf : (j : Bool) → w.latest ≡ latest_of j → IsLine j w.around w.content
@@ -380,12 +382,14 @@ module _ (n : ℕ) (in_item : Bool) (w : Writing) (h : IsNormalWriting n in_item
       let m : ℕ = shared w.around (map mark_of around) in
       let g : Option Inline = gap_of w around k in
       let whole : IsWhole false [] l.rest = held-whole j false [] w.around l.rest l.held in
+      let begun : is_begun l.rest ≡ true = normal-begun false [] l.rest whole.normal whole.some in
       subst (λ (xs : Inlines). IsTasked k (map mark_of around) (behind m xs around y)) (sym (gap-put w around k))
       (record {
         is_checked = l.is_checked;
         rest = behind m (put m l.rest around g) around y;
         is = ap (λ xs. behind m (put m xs around g) around y) l.is
-            ∙ task-put m l.is_checked l.rest around g y (normal-begun false [] l.rest whole.normal whole.some);
+            ∙ task-put m l.is_checked l.rest around g y begun;
+        begins = (put-begins m l.rest around g y begun).space ∙ l.begins;
         held = goes-on w j k around y l.rest e l.held h.gap fits leaf;
       })
 

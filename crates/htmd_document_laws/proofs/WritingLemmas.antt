@@ -9,6 +9,7 @@ use Rattle.std.proofs.lemmas.List.{append-nil, length-map, length-take-le}
 use Rattle.std.proofs.lemmas.List.Elements.{filter-append}
 use Rattle.std.proofs.lemmas.Grind.{flat_map-append}
 use Rattle.htmd_grammar.specs.Characters.{space}
+use Rattle.htmd_grammar.specs.CharacterClasses.{first_is}
 use Rattle.htmd_grammar.specs.WhiteSpace.{is_ascii_white_space}
 use Rattle.htmd_grammar.proofs.Cases.{test}
 use Rattle.htmd_document.specs.Documents.{Inline, text, line_break, task, Inlines, Block, paragraph}
@@ -196,8 +197,11 @@ unfolding encode
 space-shows = shows-white space refl refl
 
 pub after_task-shows : (s : List ℕ) → Shows s [] → Shows (after_task s) []
-after_task-shows [] h = space-shows
-after_task-shows (b ∷ s) h = h
+after_task-shows s h = either (first_is space s)
+  where
+    either : (b : Bool) → Shows (cond b s (space ∷ s)) []
+    either true = h
+    either false = shows-append (space ∷ []) s [] [] space-shows h
 
 task-gap : (w : Writing) (around : List Around) → Shows w.gap.white [] → IsGap w around (gap_after_task w) 0
 task-gap w around h = record {

@@ -13,12 +13,12 @@ use Rattle.htmd_reading_laws.proofs.LineEnds.{files_read_back}
 pub pages_read_back : PagesReadBack
 pages_read_back sight tree options clean =
     let d = document_of_tree sight.scripting sight.skip tree in
-    reads_back options d (documents_are_normal sight tree clean.texts clean.tasks) clean.definitions
+    reads_back options d (documents_are_normal sight tree clean.texts) clean.definitions
 
 pub pages_are_seen : PagesAreSeen
 pages_are_seen sight items options h clean =
     let tree = tree_of items 0 in
     let d = document_of_tree sight.scripting sight.skip tree in
-    let normal = documents_are_normal sight tree clean.texts clean.tasks in
+    let normal = documents_are_normal sight tree clean.texts in
     subst (Shows sight tree) (sym (files_read_back options d normal clean.definitions))
     (text_of_document sight tree (tree-holds items 0 h), marks_of_document sight items h)

@@ -7,7 +7,7 @@ use Rattle.htmd_document.specs.Contexts.{bare}
 use Rattle.htmd_document.specs.Documents.{Blocks}
 use Rattle.htmd_document.specs.Shown.{Sight, shown}
 use Rattle.htmd_document.specs.TreeDocuments.{document_of_tree}
-use Rattle.htmd_document_form.specs.NormalDocuments.{IsNormal, has_spaced_tasks}
+use Rattle.htmd_document_form.specs.NormalDocuments.{IsNormal}
 use Rattle.htmd_document_laws.specs.DocumentTexts.{text_of_blocks, visible}
 use Rattle.htmd_document_laws.specs.TreeTexts.{text_of_tree}
 use Rattle.htmd_document_laws.specs.DocumentMarks.{marks_of_blocks}
@@ -37,10 +37,9 @@ abbrev pub FilesReadBack : Type 0
 FilesReadBack = (options : DocumentOptions) (d : Blocks) → IsNormal d → HasFewDefinitions options d
     → document (file_of options d) ≡ Some d
 
--- a page as it is read: its texts are clean, a space stands right after each task, and definitions are few
+-- a page as it is read: its texts are clean, and definitions are few
 pub record IsClean (sight : Sight) (tree : NumberedTree) (options : DocumentOptions) : Type 0 where
   pub texts : is_clean_tree tree ≡ true
-  pub tasks : has_spaced_tasks (document_of_tree sight.scripting sight.skip tree) ≡ true
   pub definitions : HasFewDefinitions options (document_of_tree sight.scripting sight.skip tree)
 
 -- What is read of the Markdown of a page is the page's document.
