@@ -2,6 +2,7 @@
 use Rattle.std.proofs.Common.{◌≡◌, ℕ, refl, true, false, List, [], ◌∷◌, codes, None}
 use Rattle.std.specs.Str.{chars}
 use lib.Utf8.{encode}
+use Rattle.htmd_grammar.specs.Characters.{space}
 use Rattle.htmd_document.specs.Documents.{strong, Inlines, no_inlines, inline, text, code, formatted, link}
 use Rattle.htmd_document.specs.Documents.{line_break, task, Blocks, no_blocks, block, paragraph, thematic_break}
 use Rattle.htmd_document.specs.Parts as part
@@ -92,11 +93,17 @@ pub in_line : line (edge ∷ run (codes "a") [] false ∷ break ∷ edge ∷ run
 unfolding chars encode
 in_line = refl
 
--- a task begins an item, with a space behind it; elsewhere it goes
+-- a task begins an item, with a space after it; elsewhere it goes
 pub first_task : item (run (codes " ") [] false ∷ box true ∷ run (codes "a") [] false ∷ [])
     ≡ one (inline (task true) (plain (codes " a") no_inlines))
 unfolding chars encode
 first_task = refl
+
+-- also before a no-break space
+pub wide_task : item (box true ∷ run (0xC2 ∷ 0xA0 ∷ codes "a") [] false ∷ [])
+    ≡ one (inline (task true) (plain (space ∷ 0xC2 ∷ 0xA0 ∷ codes "a") no_inlines))
+unfolding chars encode
+wide_task = refl
 
 pub late_task : item (run (codes "a") [] false ∷ box true ∷ run (codes "b") [] false ∷ [])
     ≡ one (plain (codes "ab") no_inlines)

@@ -8,14 +8,17 @@ use Rattle.std.proofs.lemmas.List.Sums.{take_while-cons, fold-append}
 use Rattle.std.specs.Str.{chars, IsUtf8}
 use Rattle.std.proofs.lemmas.Str.{chars-nil}
 use Rattle.std.proofs.Math.Seq.{take-append_seam}
+use Rattle.htmd_grammar.specs.Characters.{space}
+use Rattle.htmd_grammar.specs.CharacterClasses.{first_is}
 use Rattle.htmd_document.specs.Documents.{Format, emphasis, strong, deleted, superscript, subscript, Inline, Inlines, line_break}
+use Rattle.htmd_document.specs.Documents as value
 use Rattle.htmd_document.specs.Nesting.{Mark, of_format, of_link, mark_of, is_same_format, is_same, shared, behind, text_or_code}
 use Rattle.htmd_document.specs.Paragraphs.{Writing, parted, shown, after_leaf, after_character, gap_behind, shared_marks, latest_of, is_leaf, spaced_out}
-use Rattle.htmd_document.specs.Paragraphs.{ended, gap_before, white_behind, is_code_gap}
+use Rattle.htmd_document.specs.Paragraphs.{ended, gap_before, white_behind, is_code_gap, gap_after_task}
 use Rattle.htmd_document.specs.ParagraphViews.{settled, IsReached}
 use Rattle.htmd_document.specs.Parts.{Around}
 use Rattle.htmd_document.specs.Spaces.{is_white, is_plain, no_gap}
-use Rattle.htmd_document.proofs.NestingLemmas.{behind-texts}
+use Rattle.htmd_document.proofs.NestingLemmas.{behind-texts, joined-texts}
 use Rattle.htmd_document.proofs.SpacesLemmas.{IsPlainWord, plain-taken, word-cut}
 
 -- ---- what is shared
@@ -303,6 +306,32 @@ gap-none w around is_code h none =
     white-none k w.content around whole w.gap.white none
     ∙ ap (λ b. if b then behind k w.content (take k around) line_break else
     white_behind k w.content around whole w.gap.white) (sym h)
+
+-- after a task, before the white space that follows it; there a space stands, if it doesn't begin with one
+pub record IsSpaced (old new : Writing) : Type 0 where
+  pub in_item : new.in_item ≡ old.in_item
+  pub is_flat : new.is_flat ≡ old.is_flat
+  pub done : new.done ≡ old.done
+  pub content : behind 0 new.content [] (value.text new.gap.white) ≡ gap_after_task old
+
+pub spaced-begun : (w : Writing) → first_is space w.gap.white ≡ true → IsSpaced w w
+spaced-begun w h = record {
+  in_item = refl;
+  is_flat = refl;
+  done = refl;
+  content = ap (λ b. behind 0 w.content [] (value.text (cond b w.gap.white (space ∷ w.gap.white)))) (sym h);
+}
+
+pub spaced-put : (w : Writing) (xs : Inlines) (marks : List Mark) → first_is space w.gap.white ≡ false
+    → xs ≡ behind 0 w.content [] (value.text (space ∷ [])) → IsSpaced w (record w { content = xs; around = marks })
+spaced-put w xs marks h e = record {
+  in_item = refl;
+  is_flat = refl;
+  done = refl;
+  content = ap (λ ys. behind 0 ys [] (value.text w.gap.white)) e
+      ∙ (joined-texts w.content false (space ∷ []) w.gap.white
+      ∙ ap (λ b. behind 0 w.content [] (value.text (cond b w.gap.white (space ∷ w.gap.white)))) (sym h));
+}
 
 -- what is open after a gap
 pub gap-marks : (ms rest marks : List Mark) (n : ℕ) → n ≤ length ms → marks ≡ take n ms ++ rest
