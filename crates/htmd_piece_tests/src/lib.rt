@@ -22,6 +22,8 @@ mod links;
 #[cfg(test)]
 mod lists;
 #[cfg(test)]
+mod owned_texts;
+#[cfg(test)]
 mod pages;
 #[cfg(test)]
 mod reader;

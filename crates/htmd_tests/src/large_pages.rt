@@ -7,15 +7,6 @@ use htmd_expected::expect_text;
 use std::alloc::{AllocError, Global};
 use std::test::Fail;
 
-// A text, as many times.
-pub(crate) fn repeated(alloc: Global, text: &str, times: usize) -> Result<String, AllocError> {
-    let mut all = String::new(alloc);
-    for _ in 0..times {
-        all.push_str(text)?;
-    }
-    Ok(all)
-}
-
 // For each of so many characters, one after another from U+10000 on, the character between these texts.
 fn numbered(alloc: Global, before: &str, after: &str, count: u32) -> Result<String, AllocError> {
     let mut all = String::new(alloc);
@@ -36,7 +27,7 @@ fn push_marked(
     text: &str,
     depth: usize,
 ) -> Result<(), AllocError> {
-    let marks = repeated(alloc, "**", depth)?;
+    let marks = "**".repeat(alloc, depth)?;
     all.push_str(marks.as_str())?;
     all.push_str(text)?;
     all.push_str(marks.as_str())?;
@@ -61,7 +52,7 @@ fn expect_markdown(
 
 #[test]
 fn reads_a_million_open_elements(rt: HostRuntime) -> Result<(), Fail> {
-    let mut html = repeated(rt.alloc(), "<div>", 1_000_000)?;
+    let mut html = "<div>".repeat(rt.alloc(), 1_000_000)?;
     html.push_str("x")?;
     expect_markdown(rt.alloc(), TranslationMode::Pure, html.as_str(), "x")
 }
@@ -101,7 +92,7 @@ fn with_attributes(alloc: Global, after: &str, end: &str) -> Result<String, Allo
     Ok(html)
 }
 
-// The first of them a second time counts for nothing.
+// The first of them is ignored when it comes a second time.
 #[test]
 fn keeps_a_thousand_attributes(rt: HostRuntime) -> Result<(), Fail> {
     let html = with_attributes(rt.alloc(), "", " a\u{10000}=z>x")?;

@@ -1,6 +1,6 @@
-//! Tests of the converter and the program that need code: handlers of your own, the registry, trees, refused memory,
-//! and runs of the program. Rows that are a text and its answer are families of `htmd_cases`. What is expected is
-//! written by hand from the rules, and never taken from the program's own output.
+//! Tests of the converter that need code: handlers of your own, the registry, deep and large pages, and refused memory.
+//! Tests that are a text and its answer are families of `htmd_cases`. What is expected is written by hand from the
+//! rules, and never taken from the program's own output.
 #![tactic(auto)]
 
 #[cfg(test)]
@@ -8,13 +8,9 @@ mod builders;
 #[cfg(test)]
 mod captions;
 #[cfg(test)]
-mod closures;
-#[cfg(test)]
 mod custom;
 #[cfg(test)]
 mod depth;
-#[cfg(test)]
-mod errors;
 #[cfg(test)]
 mod handlers;
 #[cfg(test)]
@@ -22,20 +18,8 @@ mod large_pages;
 #[cfg(test)]
 mod memory;
 #[cfg(test)]
-mod nodes;
-#[cfg(test)]
 mod pages;
-#[cfg(test)]
-mod program;
 #[cfg(test)]
 mod refusals;
 #[cfg(test)]
 mod registry;
-#[cfg(test)]
-mod rows;
-#[cfg(test)]
-mod surface;
-#[cfg(test)]
-mod texts;
-#[cfg(test)]
-mod writers;

@@ -1,6 +1,6 @@
 //! Any page as browsers read it, by the program: in each encoding, and in rows. Pages whose answer is a text are the
 //! family `html5` of `htmd_cases`.
-use super::calls::{called_within, expect_answer, expect_called, expect_within};
+use crate::calls::{called_within, expect_answer, expect_called, expect_within};
 use htmd_expected::{expect_text, expect_that};
 use std::alloc::Global;
 use std::test::Fail;

@@ -1,6 +1,6 @@
 //! Runs on the rows of a batch.
-use super::calls::{expect_answer, expect_called, expect_within, strings};
-use super::doubles::{Dripping, Narrow};
+use crate::calls::{expect_answer, expect_called, expect_within, strings};
+use crate::doubles::{Dripping, Narrow};
 use htmd_cli::{Input, command, read_field, write_field};
 use htmd_expected::{expect_number, expect_text, expect_that};
 use std::alloc::{AllocError, Global};

@@ -3,7 +3,7 @@
 //! windows-874 and windows-1250 to windows-1258, where bytes below A0 without a character are controls. A byte without
 //! a character is U+FFFD.
 
-pub(super) const INDEXES: &[(&str, &str)] = &[
+pub(crate) const INDEXES: &[(&str, &str)] = &[
     (
         "ibm866",
         "\u{410}\u{411}\u{412}\u{413}\u{414}\u{415}\u{416}\u{417}\u{418}\u{419}\u{41A}\u{41B}\u{41C}\u{41D}\

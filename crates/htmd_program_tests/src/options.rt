@@ -1,5 +1,5 @@
 //! Unknown options, and what the program says of itself. What each option sets is a family of `htmd_cases`.
-use super::calls::{called, called_within};
+use crate::calls::{called, called_within};
 use htmd_expected::{expect_number, expect_text, expect_that};
 use std::alloc::Global;
 use std::test::Fail;

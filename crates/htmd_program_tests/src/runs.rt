@@ -1,6 +1,6 @@
 //! Runs on pages of HTML.
-use super::calls::{called, expect_answer, expect_called};
-use super::doubles::{Dripping, Narrow};
+use crate::calls::{called, expect_answer, expect_called};
+use crate::doubles::{Dripping, Narrow};
 use htmd::FaultKind;
 use htmd_cli::{Mode, RunError, Sink, Source, run};
 use htmd_expected::{expect_number, expect_that};

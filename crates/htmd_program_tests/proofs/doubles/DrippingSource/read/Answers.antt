@@ -1,6 +1,6 @@
 -- What is left to prove of `read`.
 use Rattle.std.proofs.Common.{◌≡◌, ℕ, ◌<◌, List, [], ◌∷◌, length, take, slice_set, refl, arith, rules}
-use Rattle.htmd_tests.proofs.program.doubles.DrippingSource.read.Goals as goal
+use Rattle.htmd_program_tests.proofs.doubles.DrippingSource.read.Goals as goal
 
 -- the front of a buffer whose first byte was written
 first_byte : (buffer : List ℕ) (byte : ℕ) → 0 < length buffer → take 1 (slice_set buffer 0 byte) ≡ byte ∷ []

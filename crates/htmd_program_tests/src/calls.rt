@@ -1,5 +1,5 @@
 //! Calls of the program on options and bytes, and what they leave.
-use super::doubles::{Dripping, Narrow};
+use crate::doubles::{Dripping, Narrow};
 use htmd_cli::{Sink, Source, command};
 use htmd_expected::{expect_number, expect_text, expect_that};
 use std::alloc::{AllocError, Global};

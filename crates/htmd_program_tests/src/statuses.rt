@@ -1,6 +1,6 @@
 //! The program's lines, and that runs succeed and fail as they should.
-use super::calls::{expect_answer, expect_within, strings};
-use super::doubles::{Dripping, Full, Interrupted, Narrow, Unflushed};
+use crate::calls::{expect_answer, expect_within, strings};
+use crate::doubles::{Dripping, Full, Interrupted, Narrow, Unflushed};
 use htmd_cli::{Failed, Input, Mode, Output, RunError, Sink, Source, command, run};
 use htmd_expected::expect_that;
 use std::io::ErrorKind;

@@ -1,6 +1,5 @@
 //! What the program says of long lines and bad bytes that are refused. Other refusals are a family of `htmd_cases`.
-use super::calls::called;
-use crate::large_pages::repeated;
+use crate::calls::called;
 use htmd_expected::expect_text;
 use std::alloc::{AllocError, Global};
 use std::test::Fail;
@@ -25,9 +24,9 @@ fn line_of(
     reference: &str,
     behind: usize,
 ) -> Result<String, AllocError> {
-    let mut line = repeated(alloc, text, before)?;
+    let mut line = text.repeat(alloc, before)?;
     line.push_str(reference)?;
-    line.push_str(repeated(alloc, text, behind)?.as_str())?;
+    line.push_str(text.repeat(alloc, behind)?.as_str())?;
     Ok(line)
 }
 
@@ -47,7 +46,7 @@ fn expect_shown(
     let want = format!(in alloc;
         "htmd: refused at byte {place}: UnknownReference\n\
          line 1, column {column}: {UNKNOWN}\n{shown}\n{}^\n--web reads any page.\n",
-        repeated(alloc, " ", columns)?
+        " ".repeat(alloc, columns)?
     )?;
     let answer = explained(alloc, &["--explain"], html.as_bytes())?;
     expect_text(text, answer.as_str(), want.as_str())

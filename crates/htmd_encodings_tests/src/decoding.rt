@@ -1,8 +1,8 @@
 //! The text of pages in each encoding, by the Encoding Standard and the HTML Standard. `checks/refused_memory`, a part
 //! of the gate, refuses each request of the first two tests in turn, which then end out of memory, and all requests of
 //! the third, which passes.
-use super::indexes::INDEXES;
-use htmd_cli::{DecodeError, encoding_named, page_text};
+use crate::indexes::INDEXES;
+use htmd_encodings::{DecodeError, encoding_named, page_text};
 use htmd_expected::{expect_text, expect_that};
 use std::borrow::CowStr;
 use std::test::Fail;

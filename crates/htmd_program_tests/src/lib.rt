@@ -1,0 +1,26 @@
+//! Tests of the program: runs that fail at each of their ends, its options and lines, batches, any page in each
+//! encoding, and pages cut short. What is expected is written by hand from the rules.
+#![tactic(auto)]
+
+#[cfg(test)]
+mod any_pages;
+#[cfg(test)]
+mod batches;
+#[cfg(test)]
+mod calls;
+#[cfg(test)]
+mod doubles;
+#[cfg(test)]
+mod ends;
+#[cfg(test)]
+mod errors;
+#[cfg(test)]
+mod explanations;
+#[cfg(test)]
+mod options;
+#[cfg(test)]
+mod runs;
+#[cfg(test)]
+mod statuses;
+#[cfg(test)]
+mod truncations;

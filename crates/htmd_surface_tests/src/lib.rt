@@ -1,0 +1,14 @@
+//! Tests of what `htmd` exports: each public item by its path, the texts of errors, the trees of pages, the writers of
+//! pieces, and handlers of closures. What is expected is written by hand from the rules.
+#![tactic(auto)]
+
+#[cfg(test)]
+mod closures;
+#[cfg(test)]
+mod errors;
+#[cfg(test)]
+mod nodes;
+#[cfg(test)]
+mod surface;
+#[cfg(test)]
+mod writers;
