@@ -123,7 +123,8 @@ quote_put o out w lines last outside within opened written before closed =
 -- what is written with the blocks to come: the first of all, or further ones
 abbrev pub with_blocks : Bool → DocumentOptions → Place → Option Sign → Output → value.Blocks → Output
 with_blocks true options place before o bs = put o (written_blocks options place o.definitions bs)
-with_blocks false options place before o bs = put o (further_blocks options (behind_first place) before o.definitions bs)
+with_blocks false options place before o bs =
+    put o (further_blocks options (behind_first place) before o.definitions bs)
 
 pub block_split : (bs : List Block) (i : ℕ) (b : Block) → i < length bs → b ≡ get_or bs i b
     → blocks_of (drop i bs) ≡ value.block (block_of b) (blocks_of (drop (i + 1) bs))
@@ -235,7 +236,8 @@ blocks_step options place before sign o pushed next b rest (suc i) none at is si
     let later : ((suc i + 1) == 0) ≡ false = grind (arith, nat_tests) in
     let some : (suc i == 0) ≡ false = grind (arith, nat_tests) in
     rw (later, some) (later_block options place before sign o next b rest
-    (is ∙ ap (λ t. put pushed (written_block options (cond t place (behind_first place)) before pushed.definitions b)) some
+    (is
+    ∙ ap (λ t. put pushed (written_block options (cond t place (behind_first place)) before pushed.definitions b)) some
     ∙ ap (λ p. put p (written_block options (behind_first place) before p.definitions b))
     (at ∙ ap (λ t. cond t o (put_text o (separator place.tight) o.definitions)) some))
     (signed ∙ ap (λ t. sign_of options before (cond t place (behind_first place)).outer b) some))
@@ -274,7 +276,8 @@ pushed_none o other i le = let none : (i == 0) ≡ true = grind (arith, nat_test
 pub signs_put : {T E : Type 0} (r : Result T E) (o : Output) (w : Written) (level : ℕ) (first second last : Page)
     (s : List ℕ) (definitions : List (List ℕ)) → first ≡ wrote o.page (replicate level number_sign)
     → second ≡ wrote first (codes " ") → OnOk r (last ≡ wrote second s) → s ≡ w.text → definitions ≡ w.definitions
-    → OnOk r (record { page = last; definitions = definitions } ≡ put_text o (number_signs level ++ w.text) w.definitions)
+    → OnOk r (record { page = last; definitions = definitions }
+    ≡ put_text o (number_signs level ++ w.text) w.definitions)
 signs_put (Ok x) o w level first second last s definitions one two three text same =
     let page : last ≡ wrote o.page (number_signs level ++ w.text) =
     three ∙ ap (λ p. wrote p s) (two ∙ ap (λ p. wrote p (codes " ")) one)
@@ -315,7 +318,8 @@ definitions_more page next ds i s d lt is at wrote_is =
     one_more [] d = append-nil (codes "\n\n" ++ d)
     one_more (e ∷ ds) d =
         let some : (length (e ∷ ds) == 0) ≡ false = grind (arith, nat_tests) in
-        let more : flat_map (λ l. codes "\n" ++ l) (ds ++ d ∷ []) ≡ flat_map (λ l. codes "\n" ++ l) ds ++ (codes "\n" ++ d) =
+        let more : flat_map (λ l. codes "\n" ++ l) (ds ++ d ∷ [])
+        ≡ flat_map (λ l. codes "\n" ++ l) ds ++ (codes "\n" ++ d) =
         flat_map_push (λ l. codes "\n" ++ l) ds d in
         rw some (ap (λ l. (codes "\n\n" ++ e) ++ l) more
         ∙ sym (append_assoc (codes "\n\n" ++ e) (flat_map (λ l. codes "\n" ++ l) ds) (codes "\n" ++ d))

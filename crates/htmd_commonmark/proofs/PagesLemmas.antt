@@ -104,8 +104,8 @@ trim_marker s =
 
 -- ---- lines after a prefix of their own
 
--- What is written of a text whose lines stand after `inset`, an empty line after `bare`; `first` and `first_bare` are due
--- on the first line, and a last line that is empty has what is due on it.
+-- What is written of a text whose lines stand after `inset`, an empty line after `bare`; `first` and `first_bare` are
+-- due on the first line, and a last line that is empty has what is due on it.
 abbrev pub lines_after : (inset bare first first_bare : List ℕ) → List ℕ → List ℕ
 lines_after inset bare first first_bare [] = first_bare
 lines_after inset bare first first_bare (b ∷ s) =
@@ -500,7 +500,8 @@ split_lines (b ∷ s) = split_byte b s (split_lines s) (b == line_feed) refl
 line_among : (ls : List (List ℕ)) (k : ℕ) (d : List ℕ) → list_all is_line ls ≡ true → k < length ls
     → list_any is_line_feed (get_or ls k d) ≡ false
 line_among [] k d all lt = absurd (omega arith)
-line_among (l ∷ ls) zero d all lt = not-true (list_any is_line_feed l) (and_parts (is_line l) (list_all is_line ls) all).0
+line_among (l ∷ ls) zero d all lt =
+    not-true (list_any is_line_feed l) (and_parts (is_line l) (list_all is_line ls) all).0
 line_among (l ∷ ls) (suc k) d all lt =
     line_among ls k d (and_parts (is_line l) (list_all is_line ls) all).1 (omega arith)
 

@@ -227,8 +227,8 @@ cells_step at definitions next done more text content rest all is told defined w
     ∙ append_assoc done (text ∷ []) others.cells
     ∙ ap (λ s. done ++ s ∷ others.cells) told ∙ was
 
-pub rows_step : (at : Line) (definitions next : List (List ℕ)) (done more : List (List (List ℕ))) (cells : List (List ℕ))
-    (row : List Inlines) (rest : List (List Inlines)) (all : List (List (List ℕ))) → more ≡ done ++ cells ∷ []
+pub rows_step : (at : Line) (definitions next : List (List ℕ)) (done more : List (List (List ℕ)))
+    (cells : List (List ℕ)) (row : List Inlines) (rest : List (List Inlines)) (all : List (List (List ℕ))) → more ≡ done ++ cells ∷ []
     → cells ≡ (written_cells at definitions row).cells → next ≡ (written_cells at definitions row).definitions
     → done ++ (written_rows at definitions (row ∷ rest)).rows ≡ all
     → more ++ (written_rows at next rest).rows ≡ all

@@ -141,8 +141,8 @@ pub mark_is_ascii : (place : Place) (s : List ℕ) (k : ℕ) → is_marked place
     → is_ascii (get_or s k 0) ≡ true
 mark_is_ascii place s k e =
     ⊎_elim
-    (inline_ascii (slice_index s k) place.in_brackets (may_be_escaped (next_byte place s k)) (not (is_in_word place s k))
-    (may_be_in_tag (next_byte place s k)) (is_reference (drop (k + 1) s)) (k + 1 == length s) (is_bracket place.after)
+    (inline_ascii (slice_index s k) place.in_brackets (may_be_escaped (next_byte place s k))
+    (not (is_in_word place s k)) (may_be_in_tag (next_byte place s k)) (is_reference (drop (k + 1) s)) (k + 1 == length s) (is_bracket place.after)
     (k == 0) (is_bracket place.before))
     (λ at. line_mark_ascii s place.after k (and_parts place.begins_line (is_place (line_mark s place.after) k) at).1)
     (or_cases (is_inline_mark place s k) (place.begins_line && is_place (line_mark s place.after) k) e)

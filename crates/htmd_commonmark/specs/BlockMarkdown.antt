@@ -223,8 +223,8 @@ abbrev mutual
   written_blocks options place definitions no_blocks = record { text = []; definitions = definitions }
   written_blocks options place definitions (block first rest) =
       let w = written_block options place None definitions first in
-      let others = further_blocks options (behind_first place) (sign_of options None place.outer first) w.definitions rest
-      in
+      let others =
+      further_blocks options (behind_first place) (sign_of options None place.outer first) w.definitions rest in
       record { text = w.text ++ others.text; definitions = others.definitions }
 
   -- each block after a separator

@@ -98,7 +98,8 @@ list_after_text = refl
 
 -- a list that begins with 2 doesn't interrupt a paragraph
 pub second_after_text :
-    may_be_tight (block (words (codes "a")) (one (list (Some 2) true (item (one (words (codes "b"))) no_items)))) ≡ false
+    may_be_tight (block (words (codes "a")) (one (list (Some 2) true (item (one (words (codes "b"))) no_items))))
+    ≡ false
 second_after_text = refl
 
 pub loose_may_hold_all : fits_list false (block (words (codes "a")) (one thematic_break)) ≡ true

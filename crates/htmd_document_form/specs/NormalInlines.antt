@@ -161,7 +161,7 @@ abbrev mutual
 abbrev pub is_normal_line : Inlines → Bool
 is_normal_line xs = are_whole xs && are_normal false [] xs
 
--- the inlines of an item's first paragraph: they may begin with a task, behind which a space stands
+-- the inlines of an item's first paragraph: they may begin with a task, after which a space stands
 abbrev pub is_normal_item : Inlines → Bool
 is_normal_item (inline (task is_checked) rest) =
     first_passes begins_with_space rest && not (last_passes ends_with_space rest)

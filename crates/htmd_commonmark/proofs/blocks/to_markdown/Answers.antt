@@ -22,7 +22,8 @@ returns c =
           (written_blocks c.args.options.now outermost [] blocks) c.push_definitions.new.lines
           (texts c.deref-2.result.now) (string_bytes c.into_text.result) start
           (c.in_ok-write_blocks.ensures
-          ∙ ap (λ l. put o (written_blocks c.args.options.now outermost o.definitions (blocks_of l))) c.deref.ensures.value
+          ∙ ap (λ l. put o (written_blocks c.args.options.now outermost o.definitions (blocks_of l)))
+          c.deref.ensures.value
           ∙ ap (λ ds. put o (written_blocks c.args.options.now outermost ds blocks)) (ap (λ u. u.definitions) start))
           (ap texts c.deref-2.ensures.value) c.in_ok-push_definitions.ensures c.into_text.ensures;
     }

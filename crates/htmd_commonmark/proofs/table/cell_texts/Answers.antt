@@ -28,10 +28,12 @@ loop-cell-preserved c =
     let text = string_bytes c.in_ok-with_escaped_bars.field-0 in
     record {
       cells =
-          cells_step at definitions (written_of c.write_line.new.self).definitions done (texts c.push.new.self.items) text
-          content rest all.cells
-          (ap texts c.in_ok-push.ensures.items ∙ map_push (λ s. string_bytes s) c.loop-cell.texts.items c.in_ok-with_escaped_bars.field-0)
-          (c.in_ok-with_escaped_bars.ensures ∙ ap with_escaped_bars (c.deref-in-loop-cell.ensures ∙ ap (λ x. x.text) written))
+          cells_step at definitions (written_of c.write_line.new.self).definitions done (texts c.push.new.self.items)
+          text content rest all.cells
+          (ap texts c.in_ok-push.ensures.items
+          ∙ map_push (λ s. string_bytes s) c.loop-cell.texts.items c.in_ok-with_escaped_bars.field-0)
+          (c.in_ok-with_escaped_bars.ensures
+          ∙ ap with_escaped_bars (c.deref-in-loop-cell.ensures ∙ ap (λ x. x.text) written))
           (ap (λ x. x.definitions) written)
           (ap (λ l. done ++ (written_cells at definitions l).cells) (sym split) ∙ c.loop-cell.invariant.cells);
       definitions =

@@ -37,7 +37,8 @@ returns-else-is_empty-clause-value c =
     let here : is_empty (get_or (texts cells) (len - 1) []) ≡ false =
     ap is_empty (get_or-map (λ s. string_bytes s) cells (len - 1) cell [] (omega (arith, c.loop-len.invariant.within))
     ∙ ap (λ s. string_bytes s) (sym c.index-cells-len.is))
-    ∙ empty_if (string_bytes cell) false (ap (λ n. n == 0) (sym bytes) ∙ sym c.is_empty.ensures ∙ c.if-is_empty.false) in
+    ∙ empty_if (string_bytes cell) false
+    (ap (λ n. n == 0) (sym bytes) ∙ sym c.is_empty.ensures ∙ c.if-is_empty.false) in
     let none = suffix_len-take_no is_empty (texts cells) len [] (omega arith)
     (omega (arith, size, c.loop-len.invariant.within)) here in
     omega (arith, c.loop-len.invariant.run, none, suffix_len-le-length is_empty (texts cells), size)

@@ -14,7 +14,8 @@ loop-alignment-preserved c =
     let n = length c.loop-alignment.yielded in
     let out = string_bytes c.loop-alignment.out in
     let a = c.in-Some.alignment.now in
-    let turn = zip_turn alignments widths c.loop-alignment.yielded c.into_iter-alignment-iterator.result c.loop-alignment.alignment-iterator c.next.new.self c.next.result (search rules) (search rules)
+    let turn = zip_turn alignments widths c.loop-alignment.yielded c.into_iter-alignment-iterator.result
+    c.loop-alignment.alignment-iterator c.next.new.self c.next.result (search rules) (search rules)
     c.loop-alignment.yielded_by _ c.in-Some.is c.next.ensures.steps in
     let written : string_bytes c.push_str-in-loop-alignment.new.self
     ≡ ((out ++ codes " ") ++ dashes a (get_or widths n 0)) ++ codes " |" =
@@ -34,7 +35,8 @@ returns c =
     let widths = c.args.widths.now in
     let n = length c.loop-alignment.yielded in
     let out = string_bytes c.loop-alignment.out in
-    let all = zip_end alignments widths c.loop-alignment.yielded c.into_iter-alignment-iterator.result c.loop-alignment.alignment-iterator c.next.new.self c.next.result (search rules) (search rules)
+    let all = zip_end alignments widths c.loop-alignment.yielded c.into_iter-alignment-iterator.result
+    c.loop-alignment.alignment-iterator c.next.new.self c.next.result (search rules) (search rules)
     c.loop-alignment.yielded_by c.in-None.is c.next.ensures.steps in
     let none : dashes_left alignments widths n ≡ [] =
     ⊎_elim (λ lt. dashes-end alignments widths n (omega arith)) (λ le. dashed-end alignments widths n (omega arith))

@@ -20,7 +20,8 @@ loop-cell-preserved c =
     let out = string_bytes c.loop-cell.out in
     let cell = c.in-Some.cell.now in
     let size : length words ≡ length cells = length-map cells (λ s. string_bytes s) in
-    let turn = zip_turn cells widths c.loop-cell.yielded c.into_iter-cell-iterator.result c.loop-cell.cell-iterator c.next.new.self c.next.result (search rules) (search rules)
+    let turn = zip_turn cells widths c.loop-cell.yielded c.into_iter-cell-iterator.result
+    c.loop-cell.cell-iterator c.next.new.self c.next.result (search rules) (search rules)
     c.loop-cell.yielded_by _ c.in-Some.is c.next.ensures.steps in
     let text : string_bytes cell ≡ get_or words n [] =
     ap (λ s. string_bytes s) (turn.2 cell) ∙ sym (get_or-map (λ s. string_bytes s) cells n cell [] turn.0) in
@@ -52,7 +53,8 @@ returns c =
     let n = length c.loop-cell.yielded in
     let out = string_bytes c.loop-cell.out in
     let size : length words ≡ length cells = length-map cells (λ s. string_bytes s) in
-    let all = zip_end cells widths c.loop-cell.yielded c.into_iter-cell-iterator.result c.loop-cell.cell-iterator c.next.new.self c.next.result (search rules) (search rules)
+    let all = zip_end cells widths c.loop-cell.yielded c.into_iter-cell-iterator.result
+    c.loop-cell.cell-iterator c.next.new.self c.next.result (search rules) (search rules)
     c.loop-cell.yielded_by c.in-None.is c.next.ensures.steps in
     let none : cells_left words widths n ≡ [] =
     ⊎_elim (λ lt. cells-end words widths n (omega (arith, size))) (λ le. columns-end words widths n (omega arith))

@@ -22,7 +22,8 @@ loop-part-preserved c =
     let out = string_bytes c.loop-part.escaped in
     let turn = YieldsList-turn (YieldsList-from_str_split vertical_bar c.args.text.now (lit< tt) (cc) (cc) (cc))
     c.loop-part.yielded _ c.loop-part.yielded_by _ _ c.in-Some.part c.in-Some.is c.next.ensures.steps in
-    let more = joined_more bar (λ l. l) ls n c.in-Some.part.now [] c.loop-part.is_first turn c.loop-part.invariant.begun in
+    let more =
+    joined_more bar (λ l. l) ls n c.in-Some.part.now [] c.loop-part.is_first turn c.loop-part.invariant.begun in
     let at : string_bytes c.if-not-is_first.escaped ≡ out ++ separator_unless c.loop-part.is_first bar =
     elim c.if-not-is_first.branch [
       | then-not-is_first+in_ok-push_str w ↦

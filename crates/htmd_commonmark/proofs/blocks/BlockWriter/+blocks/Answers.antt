@@ -142,8 +142,8 @@ write_list-returns n c =
 pub write_quote-returns : goal.write_quote-returns
 write_quote-returns n c =
     let o = output_of c.args.self.now in
-    let w = written_blocks c.args.options.now (place_in_quote c.args.in_item) o.definitions (blocks_of c.args.content.now)
-    in
+    let w =
+    written_blocks c.args.options.now (place_in_quote c.args.in_item) o.definitions (blocks_of c.args.content.now) in
     on_ok c.close_quote.result c.close_quote.ensures
     (quote_put o (output_of c.write_blocks.new.self) w c.open_quote.new.self c.close_quote.new.self
     c.in_ok-outside.outside c.open_quote.ensures.within c.in_ok-outside.ensures.page c.in_ok-write_blocks.ensures

@@ -16,8 +16,8 @@ use Rattle.htmd_commonmark.proofs.lines.Lines.push.Goals.{then-not-is_first+in_o
 pub push_in_line-requires : goal.push_in_line-requires
 push_in_line-requires c =
     line_at c.args.text.now c.in-Some.line.now (length c.loop-line.yielded)
-    (YieldsList-turn (YieldsList-from_str_split line_feed c.args.text.now (lit< tt) (cc) (cc) (cc)) c.loop-line.yielded _
-    c.loop-line.yielded_by _ _ c.in-Some.line c.in-Some.is c.next.ensures.steps)
+    (YieldsList-turn (YieldsList-from_str_split line_feed c.args.text.now (lit< tt) (cc) (cc) (cc))
+    c.loop-line.yielded _ c.loop-line.yielded_by _ _ c.in-Some.line c.in-Some.is c.next.ensures.steps)
 
 pub loop-line-preserved : goal.loop-line-preserved
 loop-line-preserved c =

@@ -25,8 +25,8 @@ loop-row-preserved c =
     record {
       rows =
           rows_step at definitions (written_of c.cell_texts-in-loop-row.new.inlines).definitions done
-          (map row_texts c.push.new.self.items) (texts c.in_ok-cell_texts.field-0.items) (cells_of row.items) rest all.rows
-          (ap (map row_texts) c.in_ok-push.ensures.items
+          (map row_texts c.push.new.self.items) (texts c.in_ok-cell_texts.field-0.items) (cells_of row.items) rest
+          all.rows (ap (map row_texts) c.in_ok-push.ensures.items
           ∙ map_push row_texts c.loop-row.texts.items c.in_ok-cell_texts.field-0)
           (c.in_ok-cell_texts.ensures.cells ∙ ap (λ l. (written_cells at definitions (cells_of l)).cells) row_is)
           defined

@@ -42,8 +42,8 @@ loop-row-preserved c =
     ∙ ap (λ l. widened old (texts l)) c.deref-in-loop-row.ensures.value in
     let at : row_texts row ≡ row_texts (get_or rows i row) =
     ap row_texts (c.row-item.is ∙ ap (λ l. get_or l i row) c.deref-row-items.ensures.value) in
-    written_back c.loop-row.widths.len old c.widen.new.widths (ap length widened_is ∙ length_widened old (row_texts row))
-    size
+    written_back c.loop-row.widths.len old c.widen.new.widths
+    (ap length widened_is ∙ length_widened old (row_texts row)) size
     ∙ widened_is ∙ ap (λ l. widened l (row_texts row)) c.loop-row.invariant
     ∙ ap (widened (fold widened first (map row_texts (take i rows)))) at
     ∙ sym (ap (fold widened first) (map_more row_texts rows i row
