@@ -1,17 +1,18 @@
 -- What is kept of the pages of a run, after one page more.
 use Rattle.std.proofs.Common.{◌≡◌, ℕ, ◌+◌, ◌<◌, List, ◌∷◌, length, drop, get_or, refl, sym, ap, ◌∙◌, subst}
-use Rattle.std.proofs.Common.{Bor, Option, Some, Bool, true, false, cond, Vec, Global, Ordering, ⊎_elim}
+use Rattle.std.proofs.Common.{Option, Some, Bool, true, false, cond, Vec, Global, Ordering, ⊎_elim, string_bytes}
 use Rattle.std.specs.BTreeMap.{BTreeMap, UpdatesBy, get_by}
 use Rattle.std.specs.Cmp.{eq_by_cmp_equiv}
 use Rattle.std.specs.Cmp.Lexicographic.{slice_cmp, bytes_decides, nat_list_cmp_total, nat_list_eq_equiv, texts_ties}
 use Rattle.std.specs.Map.{AreApart, IsKeyTest, KeepsOthers, lookup}
-use Rattle.std.specs.Option.{option_map}
+use Rattle.std.specs.Option.{option_and_then, option_map}
 use Rattle.std.specs.Ordering.{eq_by_cmp, is_eq, nat_cmp}
 use Rattle.std.specs.Str.{bytes_eq}
 use Rattle.std.proofs.lemmas.Bool.{cases_Bool, cond-true, cond-false}
 use Rattle.std.proofs.lemmas.List.{drop_more}
+use Rattle.std.proofs.lemmas.Option.{slice_get-get_or}
 use Rattle.htmd_addresses.specs.Leads.{output_at}
-use Rattle.htmd_addresses.specs.PageViews.{output_in, pages_of}
+use Rattle.htmd_addresses.specs.PageViews.{output_in, output_there, pages_of}
 use Rattle.htmd_addresses.specs.Paths.{plain_path}
 use Rattle.htmd_addresses.specs.declared.pages.Page.{Page}
 
@@ -50,23 +51,27 @@ put-at old new key w h path =
     ∙ sym (cond-false _ _ _ differ))
     (cases_Bool (bytes_eq key.items path))
 
-option-cond : (b : Bool) (output : Bor (List ℕ)) (other : Option (Bor (List ℕ)))
-    → option_map (λ o. o.now) (cond b (Some output) other)
-    ≡ cond b (Some output.now) (option_map (λ o. o.now) other)
-option-cond true output other = refl
-option-cond false output other = refl
+option-cond : (b : Bool) (there : ℕ → Option (List ℕ)) (place : ℕ) (other : Option ℕ)
+    → option_and_then there (cond b (Some place) other) ≡ cond b (there place) (option_and_then there other)
+option-cond true there place other = refl
+option-cond false there place other = refl
 
 -- one page more in front of those that are kept
-pub page-more : (pages : List Page) (left : ℕ) (default page : Page) (old new : BTreeMap (Vec ℕ Global) (Bor (List ℕ)))
-    (key : Vec ℕ Global) → left < length pages → page ≡ get_or pages left default
-    → key.items ≡ plain_path page.input.now → UpdatesBy key_cmp (key_cmp key) old new (Some page.output)
-    → ((path : List ℕ) → output_in old path ≡ output_at (pages_of (drop (left + 1) pages)) path)
-    → (path : List ℕ) → output_in new path ≡ output_at (pages_of (drop left pages)) path
-page-more pages left default page old new key l is at h kept path =
+pub page-more : (pages : List Page) (left : ℕ) (page : Page) (old new : BTreeMap (Vec ℕ Global) ℕ)
+    (key : Vec ℕ Global) → left < length pages → page ≡ get_or pages left page
+    → key.items ≡ plain_path (string_bytes page.input) → UpdatesBy key_cmp (key_cmp key) old new (Some left)
+    → ((path : List ℕ) → output_in pages old path ≡ output_at (pages_of (drop (left + 1) pages)) path)
+    → (path : List ℕ) → output_in pages new path ≡ output_at (pages_of (drop left pages)) path
+page-more pages left page old new key l is at h kept path =
     let rest : List Page = drop (left + 1) pages in
-    ap (option_map (λ output. output.now)) (put-at old new key (Some page.output) h path)
-    ∙ (option-cond (bytes_eq key.items path) page.output (get_by (λ k. slice_cmp nat_cmp path k.items) old)
-    ∙ (ap (λ b. cond b (Some page.output.now) (output_in old path)) (ap (λ x. bytes_eq x path) at)
-    ∙ (ap (cond (bytes_eq (plain_path page.input.now) path) (Some page.output.now)) (kept path)
+    let there : ℕ → Option (List ℕ) = output_there pages in
+    let here : there left ≡ Some (string_bytes page.output) =
+    ap (option_map (λ p. string_bytes p.output)) (slice_get-get_or pages left page l)
+    ∙ ap (λ p. Some (string_bytes p.output)) (sym is) in
+    ap (option_and_then there) (put-at old new key (Some left) h path)
+    ∙ (option-cond (bytes_eq key.items path) there left (get_by (λ k. slice_cmp nat_cmp path k.items) old)
+    ∙ (ap (λ o. cond (bytes_eq key.items path) o (output_in pages old path)) here
+    ∙ (ap (λ b. cond b (Some (string_bytes page.output)) (output_in pages old path)) (ap (λ x. bytes_eq x path) at)
+    ∙ (ap (cond (bytes_eq (plain_path (string_bytes page.input)) path) (Some (string_bytes page.output))) (kept path)
     ∙ ap (λ (x : List Page). output_at (pages_of x) path)
-    (ap (λ p. p ∷ rest) is ∙ sym (drop_more pages left default l)))))
+    (ap (λ p. p ∷ rest) is ∙ sym (drop_more pages left page l))))))

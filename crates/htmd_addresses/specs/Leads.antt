@@ -19,6 +19,11 @@ pub record PageValue : Type 0 where
   pub input : List ℕ
   pub output : List ℕ
 
+-- a page of a run: the pages of that run, and the page by itself
+pub record RunPage : Type 0 where
+  pub pages : List PageValue
+  pub own : PageValue
+
 -- the output of the first page whose input has this path
 abbrev pub output_at : List PageValue → List ℕ → Option (List ℕ)
 output_at [] path = None

@@ -4,12 +4,12 @@ ghost use Rattle.std.specs.Option.{option_copied};
 ghost use Rattle.std.specs.Str.{IsCharBoundary};
 ghost use Rattle.htmd_grammar.specs.Attributes.{pair_of, pairs_of};
 ghost use Rattle.htmd_addresses.specs.Leads as spec;
-ghost use Rattle.htmd_addresses.specs.PageViews.{names_of, page_of};
+ghost use Rattle.htmd_addresses.specs.PageViews.{names_of};
 ghost use Rattle.htmd_addresses.specs.Paths as paths;
-ghost use Rattle.htmd_addresses.specs.RunViews.{pages_in};
+ghost use Rattle.htmd_addresses.specs.RunViews.{own_of, pages_in};
 ghost use Rattle.percent_encoding.specs.Percent.{percent_encode};
 
-use crate::pages::{Page, Pages};
+use crate::pages::Pages;
 use crate::paths::{folder_of, name_of, path_in, same_names};
 use crate::resolving::value_of as absolute_value;
 use crate::rewriting::{Rewrite, rewritten};
@@ -155,42 +155,46 @@ fn relative(alloc: Global, from: &[&[u8]], to: &str) -> Result<String, AllocErro
     Ok(address)
 }
 
+/// A page of a run: the pages of that run, and the paths of its own input and output.
+#[derive(Clone, Copy)]
+pub struct RunPage<'a> {
+    pub pages: &'a Pages,
+    pub input: &'a str,
+    pub output: &'a str,
+}
+
 /// The addresses of a page are to lead to the outputs of other pages.
 #[derive(Drop)]
-struct Leads<'a, 'b, 'c> {
-    pages: &'a Pages<'c>,
-    own: &'a Page<'c>,
+struct Leads<'a, 'b> {
+    page: RunPage<'a>,
     base: Option<&'b Url>,
     input_folder: Vec<&'a [u8]>,
     output_folder: Vec<&'a [u8]>,
-    ghost input_is: { names_of input_folder.items ≡ paths.folder_of own.now.input.now },
-    ghost output_is: { names_of output_folder.items ≡ paths.folder_of own.now.output.now },
+    ghost input_is: { names_of input_folder.items ≡ paths.folder_of page.input.now },
+    ghost output_is: { names_of output_folder.items ≡ paths.folder_of page.output.now },
 }
 
-impl<'a, 'b, 'c> Leads<'a, 'b, 'c> {
+impl<'a, 'b> Leads<'a, 'b> {
     fn new(
         alloc: Global,
-        pages: &'a Pages<'c>,
-        own: &'a Page<'c>,
+        page: RunPage<'a>,
         base: Option<&'b Url>,
-    ) -> Result<Leads<'a, 'b, 'c>, AllocError>
-        ensures pages { IfOk result (λ leads. leads.pages.now ≡ pages.now) }
-        ensures own { IfOk result (λ leads. leads.own.now ≡ own.now) }
-        ensures base { IfOk result (λ leads. option_copied leads.base ≡ option_copied base.entry) }
+    ) -> Result<Leads<'a, 'b>, AllocError>
+        ensures page { IfOk result (λ leads. leads.page ≡ page.entry) }
+        ensures base { IfOk result (λ leads. leads.base ≡ base.entry) }
     {
         Ok(Leads {
-            pages,
-            own,
+            page,
             base,
-            input_folder: folder_of(alloc, own.input.as_bytes())?,
-            output_folder: folder_of(alloc, own.output.as_bytes())?,
+            input_folder: folder_of(alloc, page.input.as_bytes())?,
+            output_folder: folder_of(alloc, page.output.as_bytes())?,
         })
     }
 
     /// The output of the page that an address leads to.
-    fn output_for(&self, alloc: Global, address: &str) -> Result<Option<&'c str>, AllocError>
+    fn output_for(&self, alloc: Global, address: &str) -> Result<Option<&'a str>, AllocError>
         ensures { IfOk result (λ output. option_copied output
-            ≡ spec.output_for (pages_in self.now.pages.now) self.now.own.now.input.now address.now) }
+            ≡ spec.output_for (pages_in self.now.page.pages.now) self.now.page.input.now address.now) }
     {
         let bytes = address.as_bytes();
         let path = &bytes[..path_len(address)];
@@ -199,13 +203,13 @@ impl<'a, 'b, 'c> Leads<'a, 'b, 'c> {
         }
         let file = file_path(alloc, path)?;
         let file = path_in(alloc, self.input_folder.as_slice(), file.as_slice())?;
-        Ok(self.pages.output_at(file.as_slice()))
+        Ok(self.page.pages.output_at(file.as_slice()))
     }
 
     /// The address of the output that an address leads to; one that leads to no page of the run stays.
     fn lead(&self, alloc: Global, address: &str) -> Result<String, AllocError>
         ensures { IfOk result (λ s. string_bytes s
-            ≡ spec.lead (pages_in self.now.pages.now) (page_of self.now.own.now) address.now) }
+            ≡ spec.lead (pages_in self.now.page.pages.now) (own_of self.now.page) address.now) }
     {
         let inner = address.trim_ascii();
         let Some(output) = self.output_for(alloc, inner)? else {
@@ -219,8 +223,8 @@ impl<'a, 'b, 'c> Leads<'a, 'b, 'c> {
 
     /// Whether an address leads to a page of the run.
     fn are_to(&self, alloc: Global, address: &str) -> Result<bool, AllocError>
-        ensures { IfOk result (λ b. b ≡ is_some (spec.output_for (pages_in self.now.pages.now)
-            self.now.own.now.input.now (spec.trimmed address.now))) }
+        ensures { IfOk result (λ b. b ≡ is_some (spec.output_for (pages_in self.now.page.pages.now)
+            self.now.page.input.now (spec.trimmed address.now))) }
     {
         Ok(self.output_for(alloc, address.trim_ascii())?.is_some())
     }
@@ -242,8 +246,8 @@ impl<'a, 'b, 'c> Leads<'a, 'b, 'c> {
         attribute: &Attribute,
         is_hyperlink: bool,
     ) -> Result<String, AllocError>
-        ensures { IfOk result (λ s. string_bytes s ≡ spec.value_of (pages_in self.now.pages.now)
-            (page_of self.now.own.now) (option_copied self.now.base) is_hyperlink (pair_of attribute.now)) }
+        ensures { IfOk result (λ s. string_bytes s ≡ spec.value_of (pages_in self.now.page.pages.now)
+            (own_of self.now.page) (option_copied self.now.base) is_hyperlink (pair_of attribute.now)) }
     {
         let address = attribute.value.as_str();
         if is_hyperlink && attribute.name.as_str() == "href" && self.are_to(alloc, address)? {
@@ -260,11 +264,12 @@ fn is_hyperlink(name: &str) -> bool
     name == "a" || name == "area"
 }
 
-impl Rewrite for Leads<'_, '_, '_> {
+impl Rewrite for Leads<'_, '_> {
     ghost use Rattle.htmd_addresses.specs.Leads.{attributes_of};
     ghost use Rattle.std.specs.Option.{option_copied};
 
-    ghost rule = { λ leads. attributes_of (pages_in leads.pages.now) (page_of leads.own.now) (option_copied leads.base) };
+    ghost rule = { λ leads.
+        attributes_of (pages_in leads.page.pages.now) (own_of leads.page) (option_copied leads.base) };
 
     fn attributes(
         &self,
@@ -283,18 +288,18 @@ impl Rewrite for Leads<'_, '_, '_> {
     }
 }
 
-/// The page in which the addresses of `a` and `area` that lead to a page of the run lead to its output. `own` is the
-/// page that the tree was read from. Where a base is given, all other addresses in `href` and `src` are resolved against
-/// it. `Err` means out of memory, or a URL of 4 GB.
-pub fn lead_to_pages<'c>(
+/// The page of a run in which the addresses of `a` and `area` that lead to a page of the run lead to its output. Where
+/// a base is given, all other addresses in `href` and `src` are resolved against it. `Err` means out of memory, or a URL
+/// of 4 GB.
+pub fn lead_to_pages(
     alloc: Global,
     tree: &Tree,
-    pages: &Pages<'c>,
-    own: &Page<'c>,
+    page: RunPage<'_>,
     base: Option<&Url>,
 ) -> Result<Tree, AllocError>
-    ensures ok { IfOk result (λ page. page
-        ≡ spec.led_page (pages_in pages.now) (page_of own.now) (option_copied base.entry) tree.now) }
+    ensures ok { IfOk result (λ led. led
+        ≡ spec.led_page (pages_in page.entry.pages.now) (own_of page.entry)
+        (option_copied base.entry) tree.now) }
 {
-    rewritten(alloc, tree, &Leads::new(alloc, pages, own, base)?)
+    rewritten(alloc, tree, &Leads::new(alloc, page, base)?)
 }

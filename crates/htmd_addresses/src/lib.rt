@@ -11,5 +11,5 @@ mod rewriting;
 
 pub use absolute::make_absolute;
 pub use bases::base_of;
-pub use leads::lead_to_pages;
+pub use leads::{RunPage, lead_to_pages};
 pub use pages::{Page, Pages};

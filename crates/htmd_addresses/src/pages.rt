@@ -10,18 +10,19 @@ use std::alloc::{AllocError, Global};
 use std::collections::BTreeMap;
 
 /// A page of a run: the paths of its input and of its output, with `/` between names.
-#[derive(Clone, Copy)]
-pub struct Page<'a> {
-    pub input: &'a str,
-    pub output: &'a str,
+#[derive(Drop)]
+pub struct Page {
+    pub input: String,
+    pub output: String,
 }
 
 /// The pages of a run, found by the paths of their inputs.
 #[derive(Drop)]
-pub struct Pages<'a> {
-    pages: &'a [Page<'a>],
-    outputs: BTreeMap<Vec<u8>, &'a str>,
-    ghost kept: { (path : List ℕ) → output_in outputs path ≡ output_at (pages_of pages.now) path },
+pub struct Pages {
+    pages: Vec<Page>,
+    /// Where among the pages the first one with an input is, by the path of that input in its one form.
+    places: BTreeMap<Vec<u8>, usize>,
+    ghost kept: { (path : List ℕ) → output_in pages.items places path ≡ output_at (pages_of pages.items) path },
 }
 
 /// A path in its one form.
@@ -33,27 +34,28 @@ fn plain_path(alloc: Global, path: &str) -> Result<Vec<u8>, AllocError>
     path_of(alloc, folder.as_slice(), name_of(path))
 }
 
-impl<'a> Pages<'a> {
+impl Pages {
     ghost use Rattle.htmd_addresses.specs.RunViews.{pages_in};
 
     /// Keeps the pages of a run. Of pages with one input the first counts.
-    pub fn new(alloc: Global, pages: &'a [Page<'a>]) -> Result<Pages<'a>, AllocError>
-        ensures ok { IfOk result (λ kept. pages_in kept ≡ pages_of pages.now) }
+    pub fn new(alloc: Global, pages: Vec<Page>) -> Result<Pages, AllocError>
+        ensures ok { IfOk result (λ kept. pages_in kept ≡ pages_of pages.items) }
     {
-        let mut outputs = BTreeMap::new(alloc);
+        let mut places = BTreeMap::new(alloc);
         let mut left = pages.len();
         while left > 0 {
             left -= 1;
-            let page = &pages[left];
-            outputs.insert(plain_path(alloc, page.input)?, page.output)?;
+            places.insert(plain_path(alloc, &pages[left].input)?, left)?;
         }
-        Ok(Pages { pages, outputs })
+        Ok(Pages { pages, places })
     }
 
     /// The output of the page whose input has this path, in its one form.
-    pub(crate) fn output_at(&self, path: &[u8]) -> Option<&'a str>
+    pub(crate) fn output_at(&self, path: &[u8]) -> Option<&str>
         ensures { option_copied result ≡ output_at (pages_in self.now) path.now }
     {
-        self.outputs.get(path).copied()
+        let place = self.places.get(path)?;
+        let page = self.pages.get(*place)?;
+        Some(page.output.as_str())
     }
 }

@@ -6,6 +6,7 @@ use Rattle.htmd_pages.specs.Steps.{Step}
 use Rattle.htmd_pages.specs.Parts.{dropped, selected}
 use Rattle.htmd_addresses.specs.Addresses.{absolute_page}
 use Rattle.htmd_addresses.specs.Bases.{page_base}
+use Rattle.htmd_addresses.specs.Leads.{RunPage, led_page}
 use Rattle.htmd_front_matter.specs.Lines.{front_matter}
 use Rattle.url.specs.Parts.{Parts}
 use Rattle.htmd_cli.specs.Settings.{Settings}
@@ -18,8 +19,8 @@ are_given (step ∷ steps) = true
 -- the tree of an input is looked at or changed before it is converted, which that of a text never is
 abbrev pub changes_page : Settings → Bool
 changes_page settings =
-    (settings.front_matter || is_some settings.base || are_given settings.selected || are_given settings.dropped)
-    && not settings.text
+    (settings.front_matter || is_some settings.base || is_some settings.run_page || are_given settings.selected
+    || are_given settings.dropped) && not settings.text
 
 -- what the head of a page says of it, if that is written
 abbrev pub head_of : Settings → List Item → List ℕ
@@ -37,12 +38,21 @@ without_dropped settings page = if are_given settings.dropped then dropped setti
 abbrev pub selected_of : Settings → List Item → Option (List Item)
 selected_of settings page = if are_given settings.selected then selected settings.selected page else Some page
 
--- a part of a page with absolute addresses, by the base of the whole page, if its URL is known
-abbrev pub absolute_by : Option Parts → List Item → List Item → List Item
-absolute_by None page part = part
-absolute_by (Some url) page part = absolute_page (page_base url page) part
+-- the base of a page, if its URL is known
+abbrev pub base_of : Option Parts → List Item → Option Parts
+base_of None page = None
+base_of (Some url) page = Some (page_base url page)
 
--- the part of a page that is converted: what is selected of it, without what is left out and with absolute addresses
+-- a part of a page with the addresses that it is to have: those that lead to pages of the run lead to their outputs, if
+-- the page is one of a run, and the others are absolute, if there is a base
+abbrev pub with_addresses : Option RunPage → Option Parts → List Item → List Item
+with_addresses None None part = part
+with_addresses None (Some base) part = absolute_page base part
+with_addresses (Some page) base part = led_page page.pages page.own base part
+
+-- the part of a page that is converted: what is selected of it, without what is left out, and with the addresses that
+-- it is to have, by the base of the whole page
 abbrev pub part_of : Settings → List Item → Option (List Item)
 part_of settings page =
-    option_map (absolute_by settings.base page) (selected_of settings (without_dropped settings page))
+    option_map (with_addresses settings.run_page (base_of settings.base page))
+    (selected_of settings (without_dropped settings page))

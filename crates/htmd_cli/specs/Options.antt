@@ -25,6 +25,7 @@ use Rattle.htmd_encodings.specs.Labels.{encoding_named}
 use Rattle.std.specs.Result.{result_ok}
 use Rattle.htmd_pages.specs.Steps.{Step}
 use Rattle.htmd_pages.specs.Reading.{steps_of_text}
+use Rattle.htmd_addresses.specs.Leads.{RunPage}
 use Rattle.url.specs.Parts.{Parts}
 use Rattle.url.specs.Parser.{parse_url}
 use Rattle.htmd_cli.specs.Settings.{Settings, default_settings}
@@ -99,6 +100,10 @@ drops steps = sets (λ settings. record settings { dropped = settings.dropped ++
 -- addresses are made absolute
 abbrev pub is_based_on : Parts → Request → Request
 is_based_on url = sets (λ settings. record settings { base = Some url })
+
+-- the page is one of a run: no option says that, but what the options ask for is done of each page of a run
+abbrev pub is_one_of_run : RunPage → Request → Request
+is_one_of_run page = sets (λ settings. record settings { run_page = Some page })
 
 -- any page, and what a reader sees of it is written
 abbrev pub takes_any_page_guarded : Request → Request

@@ -1,11 +1,13 @@
 -- What a run takes its input for, and how it converts it.
-use Rattle.std.specs.Prelude.{Bool, true, false, if◌then◌else◌, List, [], ℕ, map, Option, None}
+use Rattle.std.specs.Prelude.{Bool, true, false, if◌then◌else◌, List, [], ℕ, map, Option, None, option_map}
 use Rattle.htmd_encodings.specs.declared.encodings.Encoding.{Encoding}
 use Rattle.htmd.specs.Options.{Options}
 use Rattle.htmd.specs.TranslationMode.TheVariants.{Pure, Faithful}
 use Rattle.htmd.specs.Defaults.{default_options}
 use Rattle.htmd_pages.specs.Steps.{Step}
 use Rattle.htmd_pages.specs.Views.{steps_in}
+use Rattle.htmd_addresses.specs.Leads.{RunPage}
+use Rattle.htmd_addresses.specs.RunViews.{run_page_of}
 use Rattle.url.specs.Parts.{Parts}
 use Rattle.htmd_cli.specs.declared.settings.Settings as held
 
@@ -32,6 +34,8 @@ pub record Settings : Type 0 where
   pub dropped : List Step
   -- the URL of the page, if addresses are made absolute
   pub base : Option Parts
+  -- the page as one of a run, if addresses lead to the outputs of its pages
+  pub run_page : Option RunPage
   -- what the head of the page says of it is written first
   pub front_matter : Bool
 
@@ -50,6 +54,7 @@ settings_in settings = record {
   selected = steps_in settings.selected;
   dropped = steps_in settings.dropped;
   base = settings.base;
+  run_page = option_map run_page_of settings.run_page;
   front_matter = settings.front_matter;
 }
 
@@ -68,6 +73,7 @@ default_settings = record {
   selected = [];
   dropped = [];
   base = None;
+  run_page = None;
   front_matter = false;
 }
 

@@ -1,15 +1,17 @@
 //! What is done to the tree of a page before it is converted.
-ghost use Rattle.std.specs.Prelude.{◌≡◌, IfOk, string_bytes};
+ghost use Rattle.std.specs.Prelude.{◌≡◌, IfOk, option_copied, string_bytes};
+ghost use Rattle.std.specs.Option.{option_or};
 ghost use Rattle.htmd_pages.specs.Views.{steps_in};
 ghost use Rattle.htmd_cli.specs.Changes as spec;
 ghost use Rattle.htmd_cli.specs.Settings.{settings_in};
 
 use crate::settings::Settings;
 use htmd::Tree;
-use htmd_addresses::{base_of, make_absolute};
+use htmd_addresses::{base_of, lead_to_pages, make_absolute};
 use htmd_front_matter::front_matter;
 use htmd_pages::{Selectors, drop_elements, select_elements};
 use std::alloc::{AllocError, Global};
+use url::Url;
 
 /// Whether there are selectors.
 fn are_given(selectors: &Selectors) -> bool
@@ -19,11 +21,13 @@ fn are_given(selectors: &Selectors) -> bool
 }
 
 /// Whether the tree of an input is looked at or changed before it is converted.
+#[tactic(auto, using(crate::proofs::ChangesLemmas::run_page_given))]
 pub(crate) fn changes_page(settings: &Settings<'_>) -> bool
     ensures { result ≡ spec.changes_page (settings_in settings.now) }
 {
     let asks = settings.front_matter
         || settings.base.is_some()
+        || settings.run_page.is_some()
         || are_given(&settings.selected)
         || are_given(&settings.dropped);
     asks && !settings.text
@@ -68,9 +72,46 @@ fn selected(alloc: Global, settings: &Settings<'_>, page: Tree) -> Result<Option
     }
 }
 
+/// What is selected of a page, without what is dropped.
+fn chosen(alloc: Global, settings: &Settings<'_>, page: Tree) -> Result<Option<Tree>, AllocError>
+    ensures { IfOk result (λ part. part ≡ spec.selected_of (settings_in settings.now)
+        (spec.without_dropped (settings_in settings.now) page)) }
+{
+    let kept = without_dropped(alloc, settings, page)?;
+    selected(alloc, settings, kept)
+}
+
+/// The base that a page names, against its URL; none if it names none, or if the URL isn't known.
+#[tactic(auto, using(crate::proofs::ChangesLemmas::own_or_url))]
+fn own_base(settings: &Settings<'_>, page: &Tree) -> Result<Option<Url>, AllocError>
+    ensures { IfOk result (λ own. option_or own settings.now.base ≡ spec.base_of settings.now.base page.now) }
+{
+    match &settings.base {
+        Some(url) => base_of(page, url),
+        None => Ok(None),
+    }
+}
+
+/// A part of a page with the addresses that it is to have.
+fn with_addresses(
+    alloc: Global,
+    settings: &Settings<'_>,
+    base: Option<&Url>,
+    part: Tree,
+) -> Result<Tree, AllocError>
+    ensures { IfOk result (λ tree. tree
+        ≡ spec.with_addresses (settings_in settings.now).run_page (option_copied base.entry) part) }
+{
+    match (settings.run_page, base) {
+        (Some(page), base) => lead_to_pages(alloc, &part, page, base),
+        (None, Some(base)) => make_absolute(alloc, &part, base),
+        (None, None) => Ok(part),
+    }
+}
+
 /// The part of a page that is converted, with the addresses that it is to have; none if nothing is selected. Both
 /// kinds of selectors and the base are those of the whole page.
-#[tactic(auto, using(crate::proofs::ChangesLemmas::as_they_are))]
+#[tactic(auto, using(crate::proofs::ChangesLemmas::first_copied))]
 pub(crate) fn part_of(
     alloc: Global,
     settings: &Settings<'_>,
@@ -78,22 +119,10 @@ pub(crate) fn part_of(
 ) -> Result<Option<Tree>, AllocError>
     ensures { IfOk result (λ part. part ≡ spec.part_of (settings_in settings.now) page) }
 {
-    let Some(url) = &settings.base else {
-        return chosen(alloc, settings, page);
-    };
-    let own = base_of(&page, url)?;
-    let base = own.as_ref().unwrap_or(url);
+    let own = own_base(settings, &page)?;
+    let base = own.as_ref().or(settings.base.as_ref());
     match chosen(alloc, settings, page)? {
-        Some(part) => Ok(Some(make_absolute(alloc, &part, base)?)),
+        Some(part) => Ok(Some(with_addresses(alloc, settings, base, part)?)),
         None => Ok(None),
     }
-}
-
-/// The same before addresses are made absolute.
-fn chosen(alloc: Global, settings: &Settings<'_>, page: Tree) -> Result<Option<Tree>, AllocError>
-    ensures { IfOk result (λ part. part ≡ spec.selected_of (settings_in settings.now)
-        (spec.without_dropped (settings_in settings.now) page)) }
-{
-    let kept = without_dropped(alloc, settings, page)?;
-    selected(alloc, settings, kept)
 }

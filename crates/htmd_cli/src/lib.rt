@@ -27,6 +27,7 @@ mod settings;
 mod values;
 
 pub use faults::{RowFault, RunError};
+pub use htmd_addresses::{Page, Pages, RunPage};
 pub use htmd_encodings::{
     ByteOrder, DecodeError, Encoding, SingleByte, UnsupportedEncoding, encoding_named, page_text,
 };

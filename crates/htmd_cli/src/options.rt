@@ -408,12 +408,18 @@ pub(crate) struct FileOption {
 }
 
 /// The options of the program for files. `read_options` knows none of them.
-pub(crate) const FILE_OPTIONS: [FileOption; 3] = [
+pub(crate) const FILE_OPTIONS: [FileOption; 4] = [
     FileOption {
         short: "-o",
         name: "--output=",
         value: "OUT",
         help: "writes to this file, or for folders and several files below this folder",
+    },
+    FileOption {
+        short: "",
+        name: "--links=md",
+        value: "",
+        help: "links to pages that are converted in the same run lead to their Markdown",
     },
     FileOption {
         short: "",

@@ -3,6 +3,7 @@ ghost use Rattle.std.specs.Prelude.{◌≡◌, ◌⊎◌, true, false, None, is_
 ghost use Rattle.std.specs.Prelude.{IfOk, IfErr};
 ghost use Rattle.htmd_cli.specs.Options as spec;
 ghost use Rattle.std.specs.List.{list_any};
+ghost use Rattle.htmd_addresses.specs.RunViews.{run_page_of};
 ghost use Rattle.htmd_pages.specs.Views.{steps_in};
 ghost use Rattle.htmd_cli.specs.OptionRows.{AddsSelectors, IsOptionFault, takes_value, takes_memory, value_takes_memory, styled};
 ghost use Rattle.htmd_cli.specs.OptionRows.{effect_of, value_effect, option_of, request_in};
@@ -13,6 +14,7 @@ use crate::options::{Notice, OPTIONS, OptionRow, Setting, Style, Valued};
 use crate::settings::Settings;
 use crate::values::{are_names, number, push_names, push_selectors, url};
 use htmd::options::{Options, TranslationMode};
+use htmd_addresses::RunPage;
 use htmd_encodings::encoding_named;
 use htmd_pages::{SelectorError, Selectors};
 use std::alloc::{AllocError, Global};
@@ -146,6 +148,13 @@ impl<'a> Request<'a> {
         ensures { settings_in result.now ≡ (request_in self.now).settings }
     {
         &self.settings
+    }
+
+    /// The page is one of a run.
+    pub fn set_run_page(&mut self, page: RunPage<'a>)
+        ensures { request_in self.new ≡ spec.is_one_of_run (run_page_of page.entry) (request_in self.old) }
+    {
+        self.settings.run_page = Some(page);
     }
 
     /// Whether the source is rows with a page each.

@@ -3,6 +3,7 @@ ghost use Rattle.std.specs.Prelude.{◌≡◌};
 ghost use Rattle.htmd_cli.specs.Settings.{default_settings, settings_in, settings_of};
 
 use htmd::options::{Options, TranslationMode};
+use htmd_addresses::RunPage;
 use htmd_encodings::Encoding;
 use htmd_pages::Selectors;
 use std::alloc::Global;
@@ -45,6 +46,9 @@ pub struct Settings<'a> {
     pub dropped: Selectors,
     /// The URL of the page. Addresses are made absolute by it, or by the base that the page names against it.
     pub base: Option<Url>,
+    /// The page as one of a run. Addresses of `a` and `area` that lead to pages of the run lead to their outputs, and
+    /// aren't made absolute.
+    pub run_page: Option<RunPage<'a>>,
     /// What the head of the page says of it is written first.
     pub front_matter: bool,
 }
@@ -68,6 +72,7 @@ impl<'a> Settings<'a> {
             selected: Selectors::new(alloc),
             dropped: Selectors::new(alloc),
             base: None,
+            run_page: None,
             front_matter: false,
         }
     }

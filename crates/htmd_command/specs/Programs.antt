@@ -11,7 +11,7 @@ use Rattle.htmd_files.specs.Words.{Job, job}
 use Rattle.htmd_files.specs.WordViews.{texts_of}
 use Rattle.htmd_folders.specs.Changes.{Change, Makes}
 use Rattle.htmd_folders.specs.Runs.{Takes}
-use Rattle.htmd_command.specs.Answers.{IsAnswer}
+use Rattle.htmd_command.specs.Answers.{IsAnswer, pages_led_to, request_for}
 
 -- a place that may be a folder which is there
 abbrev pub destination : Bool → List ℕ → Destination
@@ -30,7 +30,8 @@ pub record Runs (asked : Job) (request : Request) (before after : Option (List C
   pub pages : List Page
   pub failed : ℕ
   pub planned : IsPlanOf asked (files (pages_of pages))
-  pub taken : IfSome before (λ past. Takes (λ name. IsAnswer request) pages (Some past) after failed)
+  pub taken : IfSome before (λ past. Takes
+      (λ page. IsAnswer (request_for (pages_led_to asked pages) page request)) pages (Some past) after failed)
   pub success : status ≡ 0 → failed ≡ 0
 
 -- no file was changed, or the pages of the plan of what the words ask for were taken

@@ -2,6 +2,7 @@
 #![tactic(auto)]
 
 mod conversion;
+mod leads;
 mod operands;
 mod program;
 

@@ -9,6 +9,7 @@ ghost use Rattle.htmd_folders.specs.Runs.{Takes};
 ghost use Rattle.htmd_command.specs.Programs.{IsPlanOf, Runs, RunsInput, RunsWords};
 
 use crate::conversion::Requested;
+use crate::leads::led_pages;
 use crate::operands::{Found, find_operands};
 use htmd_cli::{
     OptionFault, Request, RunError, Sink, Source, command, read_options, say_fault, say_warnings,
@@ -92,23 +93,34 @@ fn run_job<S: Store, R: Source, W: Sink, E: Sink>(
         ⊎ Runs (job_in job.now) (request_by job.now.options.items) (S.changes store.old) (S.changes store.new) result }
     ensures status { result ≤ 2 }
 {
-    let conversion = Requested {
-        alloc,
-        options: &job.options,
-        request,
-    };
     let (plan, unread) = match find_plan(alloc, store, job) {
         Ok(found) => found,
         Err(fault) => return fail_plan(errors, &fault),
     };
+    let options = job.options.as_slice();
     match plan {
         Plan::StandardOutput { input } => {
             if input.as_str() == "-" {
-                return command(alloc, &job.options, source, sink, errors);
+                return command(alloc, options, source, sink, errors);
             }
+            let conversion = Requested {
+                alloc,
+                options,
+                request,
+                pages: None,
+            };
             convert_file(store, &conversion, &input, sink, errors)
         }
         Plan::Files { pages } => {
+            let Ok(led) = led_pages(alloc, job, &pages) else {
+                return fail(errors, &RunError::Memory, 1);
+            };
+            let conversion = Requested {
+                alloc,
+                options,
+                request,
+                pages: led.as_ref(),
+            };
             let progress = progress_of(job, is_terminal);
             convert_files(alloc, store, &conversion, &pages, &unread, errors, progress)
         }
@@ -163,9 +175,9 @@ fn progress_of(job: &Job<'_>, is_terminal: bool) -> Progress {
 }
 
 // Converts a file into the sink, and answers the status.
-fn convert_file<S: Store, C: Conversion, W: Sink, E: Sink>(
+fn convert_file<S: Store, W: Sink, E: Sink>(
     store: &mut S,
-    conversion: &C,
+    conversion: &Requested<'_, '_, '_>,
     input: &str,
     sink: &mut W,
     errors: &mut E,
@@ -175,7 +187,7 @@ fn convert_file<S: Store, C: Conversion, W: Sink, E: Sink>(
     ensures status { result ≤ 1 }
 {
     match store.open(input) {
-        Ok(mut reader) => match conversion.convert(input, &mut reader, sink, errors) {
+        Ok(mut reader) => match conversion.convert_alone(&mut reader, sink, errors) {
             Ok(()) => 0,
             Err(fault) => {
                 conversion.report(input, &fault, errors);

@@ -101,6 +101,16 @@ words-twice : words.job (codes "-o" ∷ codes "a" ∷ codes "--output=b" ∷ [])
     ≡ Err (words.twice (codes "a") (codes "b"))
 words-twice = refl
 
+words-links : words.job (codes "--links=md" ∷ codes "a.html" ∷ [])
+    ≡ Ok (record words.no_job { operands = codes "a.html" ∷ []; links_to_markdown = true })
+words-links = refl
+
+words-links_to_html : words.job (codes "--links=html" ∷ []) ≡ Err (words.links (codes "--links=html"))
+words-links_to_html = refl
+
+words-links_to_nothing : words.job (codes "--links" ∷ []) ≡ Err (words.links (codes "--links"))
+words-links_to_nothing = refl
+
 -- ---- plans
 
 abbrev site : spec.Operand

@@ -8,7 +8,7 @@ use Rattle.htmd_files.specs.declared.faults.WordFault.TheVariants as fault
 use Rattle.htmd_files.specs.declared.words.Job as held_job
 use Rattle.htmd_files.specs.declared.words.Expected as held_expected
 use Rattle.htmd_files.specs.declared.words.Expected.TheVariants as expected
-use Rattle.htmd_files.specs.Words.{Job, Fault, no_value, twice, Expected, any, value, operand}
+use Rattle.htmd_files.specs.Words.{Job, Fault, no_value, twice, links, Expected, any, value, operand}
 
 abbrev pub text_of : Bor (List ℕ) → List ℕ
 text_of text = text.now
@@ -22,6 +22,7 @@ job_in job = record {
   output = option_map text_of job.output;
   shows_progress = job.shows_progress;
   is_quiet = job.is_quiet;
+  links_to_markdown = job.links_to_markdown;
   options = texts_of job.options.items;
 }
 
@@ -35,3 +36,4 @@ abbrev pub IsWordFault : {A : Type 0} → Result A Fault → held_fault.WordFaul
 IsWordFault r fault.Memory = Unit {0}
 IsWordFault r (fault.NoValue word) = r ≡ Err (no_value word.now)
 IsWordFault r (fault.Twice first second) = r ≡ Err (twice first.now second.now)
+IsWordFault r (fault.Links word) = r ≡ Err (links word.now)

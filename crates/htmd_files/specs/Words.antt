@@ -4,18 +4,20 @@ use Rattle.std.specs.Prelude.{Option, Some, None, Result, Ok, Err}
 use Rattle.std.specs.List.{starts_with}
 use Rattle.std.specs.Str.{bytes_eq}
 
--- what is asked for: the files to read, what `-o` names, `--progress`, `--quiet` and the other options
+-- what is asked for: the files to read, what `-o` names, `--progress`, `--quiet`, `--links=md` and the other options
 pub record Job : Type 0 where
   pub operands : List (List ℕ)
   pub output : Option (List ℕ)
   pub shows_progress : Bool
   pub is_quiet : Bool
+  pub links_to_markdown : Bool
   pub options : List (List ℕ)
 
--- why nothing is: the option has no value, or there are two outputs
+-- why nothing is: the option has no value, there are two outputs, or links are to lead to something else than Markdown
 pub data Fault : Type 0 where
   no_value : List ℕ → Fault
   twice : List ℕ → List ℕ → Fault
+  links : List ℕ → Fault
 
 -- what the next word is: an option or a file, the value of this option, or a file
 pub data Expected : Type 0 where
@@ -34,6 +36,7 @@ no_job = record {
   output = None;
   shows_progress = false;
   is_quiet = false;
+  links_to_markdown = false;
   options = [];
 }
 
@@ -54,6 +57,11 @@ abbrev pub with_output : List ℕ → List ℕ → Job → Result Job Fault
 with_output option [] job = Err (no_value option)
 with_output option (b ∷ name) job = set_output job.output (b ∷ name) job
 
+-- an option says where addresses of pages lead: to their Markdown
+abbrev pub with_links : List ℕ → List ℕ → Job → Result Job Fault
+with_links option format job =
+    if bytes_eq format (codes "md") then Ok (record job { links_to_markdown = true }) else Err (links option)
+
 abbrev pub reading : Expected → Job → Reading
 reading expected job = record { job = job; expected = expected }
 
@@ -66,14 +74,22 @@ then_any (Err fault) = Err fault
 abbrev pub is_output_option : List ℕ → Bool
 is_output_option word = bytes_eq word (codes "-o") || bytes_eq word (codes "--output")
 
--- a word with the output in it, another option, or a file; `-` and what doesn't begin so are files
+-- a word that says where links lead, another option, or a file; `-` and what doesn't begin so are files
+abbrev pub take_links : List ℕ → Job → Result Reading Fault
+take_links word job =
+    if starts_with nat_eq word (codes "--links=")
+    then then_any (with_links word (drop (length (codes "--links=")) word) job)
+    else if bytes_eq word (codes "--links") then Err (links word)
+    else if starts_with nat_eq word (codes "-") then Ok (reading any (with_option word job))
+    else Ok (reading any (with_operand word job))
+
+-- a word with the output in it, or another one
 abbrev pub take_long : List ℕ → Job → Result Reading Fault
 take_long word job =
     if starts_with nat_eq word (codes "--output=")
     then then_any (with_output word (drop (length (codes "--output=")) word) job)
     else if starts_with nat_eq word (codes "-o") then then_any (with_output word (drop (length (codes "-o")) word) job)
-    else if starts_with nat_eq word (codes "-") then Ok (reading any (with_option word job))
-    else Ok (reading any (with_operand word job))
+    else take_links word job
 
 -- the empty word is no file: it is passed on with the options
 abbrev pub take_short : List ℕ → Job → Result Reading Fault

@@ -17,6 +17,9 @@ pub enum WordFault<'a> {
     /// The option is given a second time.
     #[error("there are two outputs, {first} and {second}")]
     Twice { first: &'a str, second: &'a str },
+    /// Where addresses of pages lead is told by another value, or none.
+    #[error("'{word}': the value of --links is md")]
+    Links { word: &'a str },
 }
 
 /// Why operands and a listing of them are no plan.

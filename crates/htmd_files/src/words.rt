@@ -17,6 +17,8 @@ pub struct Job<'a> {
     pub shows_progress: bool,
     /// `--quiet`.
     pub is_quiet: bool,
+    /// `--links=md`.
+    pub links_to_markdown: bool,
     /// The other options, in order.
     pub options: Vec<String>,
 }
@@ -41,6 +43,7 @@ impl<'a> Job<'a> {
             output: None,
             shows_progress: false,
             is_quiet: false,
+            links_to_markdown: false,
             options: Vec::new(alloc),
         }
     }
@@ -88,7 +91,37 @@ impl<'a> Job<'a> {
         Ok(())
     }
 
-    /// A word that isn't a file option as it stands: one with the output in it, another option, or a file.
+    /// Where addresses of pages lead: to their Markdown.
+    fn set_links(&mut self, word: &'a str, format: &str) -> Result<(), WordFault<'a>>
+        ensures ok { OnOk result (spec.with_links word.now format.now (job_in self.old) ≡ Ok (job_in self.new)) }
+        ensures err { IfErr result (IsWordFault (spec.with_links word.now format.now (job_in self.old))) }
+    {
+        if format != "md" {
+            return Err(WordFault::Links { word });
+        }
+        self.links_to_markdown = true;
+        Ok(())
+    }
+
+    /// A word that doesn't name the output: one that says where links lead, another option, or a file.
+    fn take_links(&mut self, alloc: Global, word: &'a str) -> Result<(), WordFault<'a>>
+        ensures ok { OnOk result (spec.take_links word.now (job_in self.old)
+            ≡ Ok (spec.reading spec.any (job_in self.new))) }
+        ensures err { IfErr result (IsWordFault (spec.take_links word.now (job_in self.old))) }
+    {
+        if let Some(format) = word.strip_prefix("--links=") {
+            return self.set_links(word, format);
+        }
+        if word == "--links" {
+            return Err(WordFault::Links { word });
+        }
+        if word.starts_with("-") {
+            return self.push_option(alloc, word);
+        }
+        self.push_operand(word)
+    }
+
+    /// A word that isn't a file option as it stands: one with the output in it, or another one.
     fn take_long(&mut self, alloc: Global, word: &'a str) -> Result<(), WordFault<'a>>
         ensures ok { OnOk result (spec.take_long word.now (job_in self.old)
             ≡ Ok (spec.reading spec.any (job_in self.new))) }
@@ -100,10 +133,7 @@ impl<'a> Job<'a> {
         if let Some(name) = word.strip_prefix("-o") {
             return self.set_output(word, name);
         }
-        if word.starts_with("-") {
-            return self.push_option(alloc, word);
-        }
-        self.push_operand(word)
+        self.take_links(alloc, word)
     }
 
     /// A word that isn't one of the file options without a value.

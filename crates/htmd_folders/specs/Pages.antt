@@ -20,15 +20,15 @@ input_name page = string_bytes page.input
 abbrev pub output_name : Page → List ℕ
 output_name page = string_bytes page.output
 
--- what a page of this name, which holds the first bytes, becomes
+-- what a page becomes whose input holds the first bytes
 abbrev pub Conversion : Type 1
-Conversion = List ℕ → List ℕ → List ℕ → Type 0
+Conversion = Page → List ℕ → List ℕ → Type 0
 
 -- what these bytes of the page become was brought to its output: a file beside it was made, and once it was whole came
 -- under the output's name; nothing else was changed
 abbrev pub Writes : Conversion → Page → List ℕ → List Change → Option (List Change) → Type 0
 Writes becomes page bytes past after =
-    (written : List ℕ) × becomes (input_name page) bytes written
+    (written : List ℕ) × becomes page bytes written
     × (after ≡ Some (moved (partial_name (output_name page)) (output_name page) written
     ∷ created (partial_name (output_name page)) ∷ past))
 

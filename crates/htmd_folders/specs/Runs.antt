@@ -34,7 +34,7 @@ AreApart (page ∷ more) =
 abbrev pub IsConverted : Conversion → List Change → List Change → Page → Type 0
 IsConverted becomes past now page =
     (bytes : List ℕ) × (written : List ℕ) × (held (input_name page) past ≡ whole bytes)
-    × becomes (input_name page) bytes written × (held (output_name page) now ≡ whole written)
+    × becomes page bytes written × (held (output_name page) now ≡ whole written)
 
 -- that, or the output is as it was
 abbrev pub IsConvertedOrKept : Conversion → List Change → List Change → Page → Type 0

@@ -55,7 +55,7 @@ fn write_page<S: Store, C: Conversion, R: Source, E: Sink>(
         Ok(writer) => writer,
         Err(fault) => return Err(PageFault::Output(fault)),
     };
-    match conversion.convert(&page.input, source, &mut writer, errors) {
+    match conversion.convert(page, source, &mut writer, errors) {
         Ok(()) => match bring(store, writer, &partial, &page.output) {
             Ok(()) => Ok(()),
             Err(fault) => Err(PageFault::Output(fault)),

@@ -2,6 +2,7 @@
 ghost use Rattle.std.specs.Prelude.{◌≡◌, ◌++◌, OnOk, ⊤};
 ghost use Rattle.std.specs.Io.KnownBytes.{Appends};
 
+use htmd_files::Page;
 use htmd_folders::{
     Conversion, Lines, Listing, MemoryStore, MemoryWriter, ShownName, Store, StoreFault,
 };
@@ -188,7 +189,7 @@ impl Conversion for Twice {
 
     fn convert<R: Source, W: Sink, E: Sink>(
         &self,
-        _page: &str,
+        _page: &Page,
         source: &mut R,
         sink: &mut W,
         _errors: &mut E,

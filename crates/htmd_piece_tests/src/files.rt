@@ -17,7 +17,7 @@ fn words(alloc: Global, line: &str) -> Result<Vec<String>, AllocError> {
 
 #[test]
 fn words_are_read(rt: HostRuntime) -> Result<(), Fail> {
-    let words = words(rt.alloc(), "--web --progress -o out a.html -- -b")?;
+    let words = words(rt.alloc(), "--web --progress --links=md -o out a.html -- -b")?;
     let job = job_of(rt.alloc(), words.as_slice())?;
     expect_that(
         "operands",
@@ -25,6 +25,7 @@ fn words_are_read(rt: HostRuntime) -> Result<(), Fail> {
     )?;
     expect_that("output", job.output == Some("out"))?;
     expect_that("progress", job.shows_progress && !job.is_quiet)?;
+    expect_that("links", job.links_to_markdown)?;
     expect_that("options", job.options.len() == 1)
 }
 
@@ -36,6 +37,8 @@ const WORD_FAULTS: &[(&str, &str)] = &[
         "--output= needs the name of a file or a folder",
     ),
     ("-oa -o b", "there are two outputs, a and b"),
+    ("--links=html a", "'--links=html': the value of --links is md"),
+    ("a --links", "'--links': the value of --links is md"),
     ("a", "none"),
 ];
 

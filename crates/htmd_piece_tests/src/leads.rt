@@ -1,37 +1,39 @@
 //! Addresses of pages of a run.
-use htmd_addresses::{Page, Pages, lead_to_pages};
+use htmd_addresses::{Page, Pages, RunPage, lead_to_pages};
 use htmd_expected::expect_text;
 use htmd_tree::{read_html, serialize};
-use std::alloc::Global;
+use std::alloc::{AllocError, Global};
 use std::test::Fail;
 
-const PAGES: &[Page<'static>] = &[
-    Page {
-        input: "site/a.html",
-        output: "out/a.md",
-    },
-    Page {
-        input: "./site/sub/b c.html",
-        output: "out/sub/b c.md",
-    },
-    Page {
-        input: "site/100%.html",
-        output: "out/100%.md",
-    },
-    Page {
-        input: "site/sub/../a.html",
-        output: "out/later.md",
-    },
-    Page {
-        input: "site/é:.htm",
-        output: "out/é:.md",
-    },
+/// The inputs of a run and their outputs.
+const PAGES: &[(&str, &str)] = &[
+    ("site/a.html", "out/a.md"),
+    ("./site/sub/b c.html", "out/sub/b c.md"),
+    ("site/100%.html", "out/100%.md"),
+    ("site/sub/../a.html", "out/later.md"),
+    ("site/é:.htm", "out/é:.md"),
 ];
 
-fn led(alloc: Global, own: &Page<'static>, html: &str) -> Result<String, Fail> {
+fn pages(alloc: Global) -> Result<Pages, AllocError> {
+    let mut pages = Vec::new(alloc);
+    for (input, output) in PAGES {
+        pages.push(Page {
+            input: String::from_str(alloc, input)?,
+            output: String::from_str(alloc, output)?,
+        })?;
+    }
+    Pages::new(alloc, pages)
+}
+
+fn led(alloc: Global, own: (&str, &str), html: &str) -> Result<String, Fail> {
     let page = read_html(alloc, html, false)?;
-    let pages = Pages::new(alloc, PAGES)?;
-    let led = lead_to_pages(alloc, &page, &pages, own, None)?;
+    let pages = pages(alloc)?;
+    let own = RunPage {
+        pages: &pages,
+        input: own.0,
+        output: own.1,
+    };
+    let led = lead_to_pages(alloc, &page, own, None)?;
     Ok(serialize(alloc, &led, led.root())?)
 }
 
@@ -63,7 +65,7 @@ fn addresses_lead_to_outputs(rt: HostRuntime) -> Result<(), Fail> {
         let want = format!(in rt.alloc();
             "<html><head></head><body><a href=\"{want}\">t</a></body></html>"
         )?;
-        let html = led(rt.alloc(), &PAGES[0], html.as_str())?;
+        let html = led(rt.alloc(), PAGES[0], html.as_str())?;
         expect_text(address, html.as_str(), want.as_str())?;
     }
     Ok(())
@@ -73,7 +75,7 @@ fn addresses_lead_to_outputs(rt: HostRuntime) -> Result<(), Fail> {
 fn other_attributes_stay(rt: HostRuntime) -> Result<(), Fail> {
     let html = led(
         rt.alloc(),
-        &PAGES[1],
+        PAGES[1],
         "<p href=\"../a.html\"><a name=\"../a.html\" href=\"../a.html\">t</a></p><img src=\"../a.html\">",
     )?;
     expect_text(

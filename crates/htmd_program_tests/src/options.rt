@@ -75,6 +75,7 @@ fn refuses_options(rt: HostRuntime) -> Result<(), Fail> {
         "--completions=tcsh",
         "--output=out",
         "-o",
+        "--links=md",
         "--progress",
         "--quiet",
     ];
@@ -99,7 +100,7 @@ fn options_in(help: &str) -> Result<usize, Fail> {
 
 // Fails unless the help has a line for each option.
 fn expect_help(help: &str) -> Result<(), Fail> {
-    expect_number("options", options_in(help)?, 47)?;
+    expect_number("options", options_in(help)?, 48)?;
     let usage = "Usage: htmd [OPTION..] [FILE..]\n";
     expect_that(usage, help.starts_with(usage))?;
     for line in [

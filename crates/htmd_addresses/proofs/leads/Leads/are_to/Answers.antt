@@ -18,5 +18,5 @@ returns c =
     c.is_some.ensures
     ∙ (copied c.in_ok-output_for.field-0
     ∙ (ap is_some c.in_ok-output_for.ensures
-    ∙ ap (λ x. is_some (output_for (pages_in self.pages.now) self.own.now.input.now x))
+    ∙ ap (λ x. is_some (output_for (pages_in self.page.pages.now) self.page.input.now x))
     (trim_ascii_is address c.trim_ascii.result.now (without_start address) refl c.trim_ascii.ensures.value)))

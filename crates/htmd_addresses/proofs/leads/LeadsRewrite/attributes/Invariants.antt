@@ -3,13 +3,12 @@ use Rattle.std.proofs.Common.{◌≡◌, ◌++◌, drop, map}
 use Rattle.std.specs.Option.{option_copied}
 use Rattle.htmd_grammar.specs.Attributes.{pairs_of}
 use Rattle.htmd_addresses.specs.Leads.{attribute_of}
-use Rattle.htmd_addresses.specs.PageViews.{page_of}
-use Rattle.htmd_addresses.specs.RunViews.{pages_in}
+use Rattle.htmd_addresses.specs.RunViews.{own_of, pages_in}
 use Rattle.htmd_addresses.proofs.leads.LeadsRewrite.attributes.Given as goal
 
 abbrev pub invariant-loop-attribute : goal.invariant-loop-attribute
 invariant-loop-attribute l =
     pairs_of l.copies.items
-    ++ map (attribute_of (pages_in l.self.pages.now) (page_of l.self.own.now) (option_copied l.self.base) l.is_hyperlink)
+    ++ map (attribute_of (pages_in l.self.page.pages.now) (own_of l.self.page) (option_copied l.self.base) l.is_hyperlink)
     (pairs_of (drop l.attribute-index l.attrs))
-    ≡ map (attribute_of (pages_in l.self.pages.now) (page_of l.self.own.now) (option_copied l.self.base) l.is_hyperlink) (pairs_of l.attrs)
+    ≡ map (attribute_of (pages_in l.self.page.pages.now) (own_of l.self.page) (option_copied l.self.base) l.is_hyperlink) (pairs_of l.attrs)

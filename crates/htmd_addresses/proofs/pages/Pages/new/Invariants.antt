@@ -6,8 +6,10 @@ use Rattle.htmd_addresses.proofs.pages.Pages.new.Given as goal
 
 abbrev pub invariant-loop-left : goal.invariant-loop-left
 invariant-loop-left l = record {
-  within : l.left ≤ length l.pages;
-  kept : (path : List ℕ) → output_in l.outputs path ≡ output_at (pages_of (drop l.left l.pages)) path;
+  within : l.left ≤ length l.pages.items;
+  kept :
+      (path : List ℕ) → output_in l.pages.items l.places path
+      ≡ output_at (pages_of (drop l.left l.pages.items)) path;
 }
 
 abbrev pub decreases-loop-left : goal.decreases-loop-left
