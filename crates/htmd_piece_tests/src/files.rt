@@ -17,7 +17,10 @@ fn words(alloc: Global, line: &str) -> Result<Vec<String>, AllocError> {
 
 #[test]
 fn words_are_read(rt: HostRuntime) -> Result<(), Fail> {
-    let words = words(rt.alloc(), "--web --progress --links=md -o out a.html -- -b")?;
+    let words = words(
+        rt.alloc(),
+        "--web --progress --links=md -o out a.html -- -b",
+    )?;
     let job = job_of(rt.alloc(), words.as_slice())?;
     expect_that(
         "operands",
@@ -37,7 +40,10 @@ const WORD_FAULTS: &[(&str, &str)] = &[
         "--output= needs the name of a file or a folder",
     ),
     ("-oa -o b", "there are two outputs, a and b"),
-    ("--links=html a", "'--links=html': the value of --links is md"),
+    (
+        "--links=html a",
+        "'--links=html': the value of --links is md",
+    ),
     ("a --links", "'--links': the value of --links is md"),
     ("a", "none"),
 ];
