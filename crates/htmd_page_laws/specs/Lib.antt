@@ -1,0 +1,3 @@
+-- What of the texts of a page stands in its document.
+pub mod Pieces
+pub mod PageTexts
