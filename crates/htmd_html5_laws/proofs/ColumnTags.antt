@@ -18,7 +18,7 @@ use Rattle.htmd_html5_state.specs.declared.modes.InsertionMode.TheVariants.{Afte
 use Rattle.htmd_html5_state.specs.declared.modes.InsertionMode.TheVariants.{AfterAfterFrameset}
 use Rattle.htmd_html5_state.specs.declared.sets.NameSet.TheVariants.{TableContext, Cells}
 use Rattle.htmd_html5_state.specs.declared.sets.Scope.TheVariants.{Table as TableScope}
-use Rattle.htmd_html5.specs.Tokens.{StartTagValue, start_tag}
+use Rattle.htmd_html5.specs.Tokens.{StartTagValue, start_tag, end_tag}
 use Rattle.htmd_html5.specs.Answers.{Answer, done, again}
 use Rattle.htmd_html5.specs.Feeding.{is_text_mode}
 use Rattle.htmd_html5.specs.BeforeHtml.{start_before_html}
@@ -42,11 +42,8 @@ use Rattle.htmd_html5_laws.proofs.OpenNodes.{clear_to_fewer}
 use Rattle.htmd_html5_laws.proofs.PlainNames.{is_plain_open}
 use Rattle.htmd_html5_laws.proofs.HungStates.{Hung, hung_fewer, hung_named}
 use Rattle.htmd_html5_laws.proofs.PlainStates.{is_plain_mode, Plain, added_grows}
-use Rattle.htmd_html5_laws.proofs.PlainBody.{StaysAnswer, says_plain}
-use Rattle.htmd_html5_laws.proofs.PlainTables.{leave_caption_stays, leave_section_stays, leave_row_stays, close_cell_stays}
-use Rattle.htmd_html5_laws.proofs.PlainModes.{leave_initial_stays, imply_root_stays, imply_head_stays, close_head_stays}
-use Rattle.htmd_html5_laws.proofs.PlainModes.{close_noscript_stays, imply_body_stays, back_to_body_stays}
-use Rattle.htmd_html5_laws.proofs.PlainTokens.{start_foreign_stays}
+use Rattle.htmd_html5_laws.proofs.PlainRules.{StaysAnswer, part_stays, start_foreign_stays}
+use Rattle.htmd_html5_laws.proofs.PlainModes.{in_mode_stays, left_stays, back_to_body_stays}
 use Rattle.htmd_html5_laws.proofs.ColumnStates.{Columns, is_plain_state, is_in_columns, Answered, answered_columns}
 use Rattle.htmd_html5_state.specs.declared.names.TagName.TheVariants as tags
 
@@ -104,20 +101,20 @@ module _ (tag : StartTagValue) (s : StateValue) (h : Plain s) (x : Hung s)
   both f a b c = by_column f a b tag.name c
 
   caption_left : Answered (leave_caption s)
-  caption_left = left_plain leave_caption_stays (λ e. rw e no_raw)
+  caption_left = left_plain (in_mode_stays (end_tag (known tags.Table)) tt InCaption refl) (λ e. rw e no_raw)
 
   section_left : Answered (leave_section s)
-  section_left = left_plain leave_section_stays (λ e. rw e no_raw)
+  section_left = left_plain (in_mode_stays (end_tag (known tags.Table)) tt InTableBody refl) (λ e. rw e no_raw)
 
   row_left : Answered (leave_row s)
-  row_left = left_plain leave_row_stays (λ e. rw e no_raw)
+  row_left = left_plain (in_mode_stays (end_tag (known tags.Table)) tt InRow refl) (λ e. rw e no_raw)
 
   cell_left : Answered (leave_cell Cells s)
   cell_left = either (is_in_scope Cells TableScope s.stack)
     where
       either : (b : Bool) → Answered (if b then again (close_cell Cells s) else done s)
       either true = record {
-        stands = is_plain_state ((close_cell_stays Cells).stays s h) ((close_cell_stays Cells).hangs s h x);
+        stands = is_plain_state ((part_stays Cells InRow refl).stays s h) ((part_stays Cells InRow refl).hangs s h x);
         no_raw = λ e. no_raw;
       }
       either false = done_plain s h x
@@ -135,19 +132,19 @@ module _ (tag : StartTagValue) (s : StateValue) (h : Plain s) (x : Hung s)
 
   in_mode_answered : (mode : InsertionMode) → is_plain_mode mode ≡ true → IsColumn tag.name
       → Answered (in_mode mode (start_tag tag) s)
-  in_mode_answered Initial p c = left_plain leave_initial_stays (λ e. no_raw)
+  in_mode_answered Initial p c = left_plain (left_stays Initial refl) (λ e. no_raw)
   in_mode_answered BeforeHtml p c =
-      let a = left_plain imply_root_stays (λ e. no_raw) in both (λ name. start_before_html name tag s) a a c
+      let a = left_plain (left_stays BeforeHtml refl) (λ e. no_raw) in both (λ name. start_before_html name tag s) a a c
   in_mode_answered BeforeHead p c =
-      let a = left_plain imply_head_stays (λ e. no_raw) in both (λ name. start_before_head name tag s) a a c
+      let a = left_plain (left_stays BeforeHead refl) (λ e. no_raw) in both (λ name. start_before_head name tag s) a a c
   in_mode_answered InHead p c =
-      let a = left_plain (says_plain {more = λ s. true} close_head_stays) (λ e. no_raw) in
+      let a = left_plain (left_stays InHead refl) (λ e. no_raw) in
       both (λ name. start_in_head name tag s) a a c
   in_mode_answered InHeadNoscript p c =
-      let a = left_plain (says_plain {more = λ s. true} close_noscript_stays) (λ e. no_raw) in
+      let a = left_plain (left_stays InHeadNoscript refl) (λ e. no_raw) in
       both (λ name. start_in_noscript name tag s) a a c
   in_mode_answered AfterHead p c =
-      let a = left_plain imply_body_stays (λ e. no_raw) in both (λ name. start_after_head name tag s) a a c
+      let a = left_plain (left_stays AfterHead refl) (λ e. no_raw) in both (λ name. start_after_head name tag s) a a c
   in_mode_answered InBody p c =
       both (λ name. done (start_by (rule_of_start name) tag s)) (done_plain s h x) (done_plain s h x) c
   in_mode_answered InTable p c = in_table_answered tag.name refl c

@@ -39,9 +39,8 @@ use Rattle.htmd_html5_laws.proofs.OpenNodes.{pop_fewer}
 use Rattle.htmd_html5_laws.proofs.PlainNames.{is_plain_name, is_plain_open}
 use Rattle.htmd_html5_laws.proofs.HungStates.{Hung, hung_fewer, hung_text}
 use Rattle.htmd_html5_laws.proofs.PlainStates.{is_plain_mode, Plain, Stays, then_stays, still, stays_by_test, plain_stack}
-use Rattle.htmd_html5_laws.proofs.PlainTables.{fostered_stays}
-use Rattle.htmd_html5_laws.proofs.PlainModes.{IsPlain}
-use Rattle.htmd_html5_laws.proofs.PlainTokens.{by_rules_stays}
+use Rattle.htmd_html5_laws.proofs.PlainRules.{fostered_stays}
+use Rattle.htmd_html5_laws.proofs.PlainModes.{IsPlain, by_rules_stays}
 use Rattle.htmd_html5_laws.proofs.PlainRuns.{insert_text_stays, run_in_body_stays, run_stays}
 use Rattle.htmd_html5_laws.proofs.ColumnStates.{Stands, is_plain_state, is_in_columns, Answered, columns_current}
 use Rattle.htmd_html5_laws.proofs.ColumnStates.{insert_text_in_columns, IsFreeName, IsFree, columns_answered}

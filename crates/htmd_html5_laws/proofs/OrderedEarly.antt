@@ -33,7 +33,7 @@ use Rattle.htmd_html5_laws.proofs.OrderedStates.{insert_comment_orders, insert_c
 use Rattle.htmd_html5_laws.proofs.OrderedStates.{insert_element_orders, missing_ordered}
 use Rattle.htmd_html5_laws.proofs.RootedStacks.{is_late, is_outer, is_outer_name}
 use Rattle.htmd_html5_laws.proofs.OrderedLate.{Late}
-use Rattle.htmd_html5_laws.proofs.OrderedBody.{IsOrderly, plain_or_column, by_column_name}
+use Rattle.htmd_html5_laws.proofs.OrderedRules.{IsOrderly, plain_or_column, by_column_name}
 use Rattle.htmd_html5_state.specs.declared.names.TagName.TheVariants as tags
 use Rattle.htmd_html5_laws.proofs.Counted.{Choice}
 

@@ -47,7 +47,7 @@ use Rattle.htmd_html5_laws.proofs.OrderedStates.{loose_in}
 use Rattle.htmd_html5_laws.proofs.OrderedStates.{no_text, current_within}
 use Rattle.htmd_html5_laws.proofs.OrderedStates.{insert_void_orders, insert_raw_orders, insert_element_orders}
 use Rattle.htmd_html5_laws.proofs.OrderedLate.{Late, late_step, by_rules_late}
-use Rattle.htmd_html5_laws.proofs.OrderedBody.{IsOrderly, plain_or_column, by_column_name, no_frameset_orders}
+use Rattle.htmd_html5_laws.proofs.OrderedRules.{IsOrderly, plain_or_column, by_column_name, no_frameset_orders}
 use Rattle.htmd_html5_state.specs.declared.names.TagName.TheVariants as tags
 use Rattle.htmd_grammar.specs.declared.content.RawElement.TheVariants as raw
 use Rattle.htmd_html5.specs.ForeignContent.{is_for_math_text, is_for_annotation, is_for_html_point}

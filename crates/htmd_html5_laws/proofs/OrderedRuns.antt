@@ -49,7 +49,7 @@ use Rattle.htmd_html5_laws.proofs.OrderedNodes.{FitsBy, Labels, none_out}
 use Rattle.htmd_html5_laws.proofs.OrderedTexts.{letters_append, white_put}
 use Rattle.htmd_html5_laws.proofs.OrderedStates.{OrderedIn, text_ordered, place_last, ranked_of}
 use Rattle.htmd_html5_laws.proofs.OrderedStates.{stack_still, reconstruct_orders}
-use Rattle.htmd_html5_laws.proofs.OrderedBody.{no_frameset_orders, with_mode_orders}
+use Rattle.htmd_html5_laws.proofs.OrderedRules.{no_frameset_orders, with_mode_orders}
 use Rattle.htmd_html5_laws.proofs.RootedStacks.{is_late}
 use Rattle.htmd_html5_laws.proofs.RootedStates.{insert_text_roots, reconstruct_content, reconstruct_roots}
 use Rattle.htmd_html5_laws.proofs.RootedRules.{with_mode_roots, no_frameset_roots}

@@ -42,7 +42,7 @@ use Rattle.htmd_html5_laws.proofs.Rows.{Row}
 use Rattle.htmd_html5_laws.proofs.OrderedNodes.{FitsBy, Labels, none_out, marks}
 use Rattle.htmd_html5_laws.proofs.OrderedTexts.{letters_append}
 use Rattle.htmd_html5_laws.proofs.OrderedStates.{OrderedIn, Ordered, place_last, on_stack_orders}
-use Rattle.htmd_html5_laws.proofs.OrderedBody.{is_orderly_name, IsOrderly}
+use Rattle.htmd_html5_laws.proofs.OrderedRules.{is_orderly_name, IsOrderly}
 use Rattle.htmd_html5_laws.proofs.RootedStates.{rooted_stack}
 use Rattle.htmd_html5_laws.proofs.OrderedLate.{Late}
 use Rattle.htmd_html5_laws.proofs.OrderedEarly.{EarlyIn, head_open, AfterHeadAt, Stage, Staged, Calm}

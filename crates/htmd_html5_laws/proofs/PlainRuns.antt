@@ -1,5 +1,5 @@
 -- A run of a text leaves a plain state plain.
-use Rattle.std.proofs.Common.{◌≡◌, ℕ, true, List, sym}
+use Rattle.std.proofs.Common.{◌≡◌, ℕ, true, List, sym, refl}
 use Rattle.std.proofs.lemmas.Bool.{true≢false}
 use Rattle.htmd_html5_state.specs.Documents.{NodeValue}
 use Rattle.htmd_html5_state.specs.Documents.{add_text}
@@ -25,10 +25,9 @@ use Rattle.htmd_html5_laws.proofs.PlainNames.{is_plain_element}
 use Rattle.htmd_html5_laws.proofs.PlainStates.{is_plain_mode, PlainAt, Stays, then_stays, still, plain_grown}
 use Rattle.htmd_html5_laws.proofs.PlainStates.{reconstruct_stays}
 use Rattle.htmd_html5_laws.proofs.HungStates.{hung_text}
-use Rattle.htmd_html5_laws.proofs.PlainBody.{StaysAnswer, says_plain, answers_either, no_frameset_stays}
-use Rattle.htmd_html5_laws.proofs.PlainTables.{fostered_stays}
-use Rattle.htmd_html5_laws.proofs.PlainModes.{leave_initial_stays, imply_root_stays, imply_head_stays, close_head_stays}
-use Rattle.htmd_html5_laws.proofs.PlainModes.{close_noscript_stays, imply_body_stays, back_to_body_stays}
+use Rattle.htmd_html5_laws.proofs.PlainRules.{StaysAnswer, says_plain, answers_either, fostered_stays}
+use Rattle.htmd_html5_laws.proofs.PlainRules.{no_frameset_stays}
+use Rattle.htmd_html5_laws.proofs.PlainModes.{left_stays, back_to_body_stays}
 
 -- ---- texts are inserted
 
@@ -62,23 +61,26 @@ record RunsStay (mode : InsertionMode) (t : List ℕ) : Type 0 where
 
 in_mode_runs : (mode : InsertionMode) → is_plain_mode mode ≡ true → (t : List ℕ) → RunsStay mode t
 in_mode_runs Initial p t =
-    record { white = says_plain still; nulls = leave_initial_stays; characters = leave_initial_stays }
+    record { white = says_plain still; nulls = left_stays Initial refl; characters = left_stays Initial refl }
 in_mode_runs BeforeHtml p t =
-    record { white = says_plain still; nulls = imply_root_stays; characters = imply_root_stays }
+    record { white = says_plain still; nulls = left_stays BeforeHtml refl; characters = left_stays BeforeHtml refl }
 in_mode_runs BeforeHead p t =
-    record { white = says_plain still; nulls = imply_head_stays; characters = imply_head_stays }
+    record { white = says_plain still; nulls = left_stays BeforeHead refl; characters = left_stays BeforeHead refl }
 in_mode_runs InHead p t = record {
   white = says_plain (insert_text_stays t);
-  nulls = says_plain close_head_stays;
-  characters = says_plain close_head_stays;
+  nulls = left_stays InHead refl;
+  characters = left_stays InHead refl;
 }
 in_mode_runs InHeadNoscript p t = record {
   white = says_plain (insert_text_stays t);
-  nulls = says_plain close_noscript_stays;
-  characters = says_plain close_noscript_stays;
+  nulls = left_stays InHeadNoscript refl;
+  characters = left_stays InHeadNoscript refl;
 }
-in_mode_runs AfterHead p t =
-    record { white = says_plain (insert_text_stays t); nulls = imply_body_stays; characters = imply_body_stays }
+in_mode_runs AfterHead p t = record {
+  white = says_plain (insert_text_stays t);
+  nulls = left_stays AfterHead refl;
+  characters = left_stays AfterHead refl;
+}
 in_mode_runs InBody p t = record {
   white = says_plain (body_white t);
   nulls = says_plain still;

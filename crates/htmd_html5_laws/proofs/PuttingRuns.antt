@@ -42,11 +42,8 @@ use Rattle.htmd_html5_laws.specs.TextKept.{is_before_head}
 use Rattle.htmd_html5_laws.proofs.LetterLemmas.{CharacterTests, LetterTests, none_of_class}
 use Rattle.htmd_html5_laws.proofs.Keeping.{Sound, kept_same, nothing}
 use Rattle.htmd_html5_laws.proofs.KeepingInsertion.{reconstruct_keeps}
-use Rattle.htmd_html5_laws.proofs.KeepingRules.{KeepsAnswer, says, no_frameset_keeps}
-use Rattle.htmd_html5_laws.proofs.KeepingHead.{leave_initial_keeps, imply_root_keeps, imply_head_keeps, close_head_keeps}
-use Rattle.htmd_html5_laws.proofs.KeepingHead.{close_noscript_keeps, imply_body_keeps}
-use Rattle.htmd_html5_laws.proofs.KeepingTables.{leave_columns_keeps}
-use Rattle.htmd_html5_laws.proofs.KeepingEnds.{back_to_body_keeps}
+use Rattle.htmd_html5_laws.proofs.KeepingRules.{KeepsAnswer, no_frameset_keeps}
+use Rattle.htmd_html5_laws.proofs.KeepingModes.{leave_mode_keeps}
 use Rattle.htmd_html5_laws.proofs.TextsPut.{occurs_nil}
 use Rattle.htmd_html5_laws.proofs.Taking.{Grew, Puts, kept_grew, grew_as, keeps_puts, puts_after, after_puts, fostered_puts}
 use Rattle.htmd_html5_laws.proofs.Taking.{insert_text_puts}
@@ -229,34 +226,34 @@ module _ (c : ℕ) where
   again_by k s h t d l = goes_on t (kept_grew (k.keeps s h)) d l
 
   initial_left : {n : ℕ} → Answers n Initial leave_initial
-  initial_left s e d h = again_by leave_initial_keeps s h refl refl (omega arith)
+  initial_left s e d h = again_by (leave_mode_keeps Initial) s h refl refl (omega arith)
 
   root_implied : {n : ℕ} → Answers n BeforeHtml imply_root
-  root_implied s e d h = again_by imply_root_keeps s h refl refl (omega arith)
+  root_implied s e d h = again_by (leave_mode_keeps BeforeHtml) s h refl refl (omega arith)
 
   head_implied : {n : ℕ} → Answers n BeforeHead imply_head
-  head_implied s e d h = again_by imply_head_keeps s h refl refl (omega arith)
+  head_implied s e d h = again_by (leave_mode_keeps BeforeHead) s h refl refl (omega arith)
 
   head_closed : {n : ℕ} → Answers n InHead (λ s. again (close_head s))
-  head_closed s e d h = again_by (says {more = λ x. true} close_head_keeps) s h refl refl (omega arith)
+  head_closed s e d h = again_by (leave_mode_keeps InHead) s h refl refl (omega arith)
 
   noscript_closed : {n : ℕ} → Answers n InHeadNoscript (λ s. again (close_noscript s))
-  noscript_closed s e d h = again_by (says {more = λ x. true} close_noscript_keeps) s h refl refl (omega arith)
+  noscript_closed s e d h = again_by (leave_mode_keeps InHeadNoscript) s h refl refl (omega arith)
 
   body_implied : {n : ℕ} → Answers n AfterHead imply_body
-  body_implied s e d h = again_by imply_body_keeps s h refl refl (omega arith)
+  body_implied s e d h = again_by (leave_mode_keeps AfterHead) s h refl refl (omega arith)
 
   back_in_body : {n : ℕ} → Answers n AfterBody back_to_body
-  back_in_body s e d h = again_by back_to_body_keeps s h refl refl (omega arith)
+  back_in_body s e d h = again_by (leave_mode_keeps AfterBody) s h refl refl (omega arith)
 
   back_from_end : {n : ℕ} → Answers n AfterAfterBody back_to_body
-  back_from_end s e d h = again_by back_to_body_keeps s h refl refl (omega arith)
+  back_from_end s e d h = again_by (leave_mode_keeps AfterBody) s h refl refl (omega arith)
 
   columns_left : {n : ℕ} → Answers n InColumnGroup leave_columns
   columns_left s e d h =
       let t : current_is (Only tags.ColGroup) s.stack
       ≡ true = not_false (current_is (Only tags.ColGroup) s.stack) d in
-      again_by leave_columns_keeps s h t (rw t refl) (rw t (omega arith))
+      again_by (leave_mode_keeps InColumnGroup) s h t (rw t refl) (rw t (omega arith))
     where
       not_false : (b : Bool) → not b ≡ false → b ≡ true
       not_false true f = refl

@@ -25,10 +25,7 @@ use Rattle.htmd_html5_laws.specs.PageLetters.{occurrences, is_character}
 use Rattle.htmd_html5_laws.proofs.Keeping.{nothing}
 use Rattle.htmd_html5_laws.proofs.KeepingInsertion.{reconstruct_keeps}
 use Rattle.htmd_html5_laws.proofs.KeepingRules.{says, no_frameset_keeps}
-use Rattle.htmd_html5_laws.proofs.KeepingHead.{leave_initial_keeps, imply_root_keeps, imply_head_keeps}
-use Rattle.htmd_html5_laws.proofs.KeepingHead.{close_head_keeps, close_noscript_keeps, imply_body_keeps}
-use Rattle.htmd_html5_laws.proofs.KeepingTables.{leave_columns_keeps}
-use Rattle.htmd_html5_laws.proofs.KeepingEnds.{back_to_body_keeps}
+use Rattle.htmd_html5_laws.proofs.KeepingModes.{leave_mode_keeps}
 use Rattle.htmd_html5_laws.proofs.TextsPut.{occurs_append, occurs_nil}
 use Rattle.htmd_html5_laws.proofs.Taking.{Takes, keeps_takes, takes_after, after_takes, fostered_takes}
 use Rattle.htmd_html5_laws.proofs.Taking.{insert_text_takes, Offers, offers, offers_kept, takes_none, offers_by_test}
@@ -88,33 +85,33 @@ module _ (c : ℕ) where
   in_mode_offers : (mode : InsertionMode) (t : List ℕ) → IsUtf8 t → OffersEach mode t
   in_mode_offers Initial t u = record {
     white = offers_kept (says nothing);
-    nulls = offers_kept leave_initial_keeps;
-    characters = offers_kept leave_initial_keeps;
+    nulls = offers_kept (leave_mode_keeps Initial);
+    characters = offers_kept (leave_mode_keeps Initial);
   }
   in_mode_offers BeforeHtml t u = record {
     white = offers_kept (says nothing);
-    nulls = offers_kept imply_root_keeps;
-    characters = offers_kept imply_root_keeps;
+    nulls = offers_kept (leave_mode_keeps BeforeHtml);
+    characters = offers_kept (leave_mode_keeps BeforeHtml);
   }
   in_mode_offers BeforeHead t u = record {
     white = offers_kept (says nothing);
-    nulls = offers_kept imply_head_keeps;
-    characters = offers_kept imply_head_keeps;
+    nulls = offers_kept (leave_mode_keeps BeforeHead);
+    characters = offers_kept (leave_mode_keeps BeforeHead);
   }
   in_mode_offers InHead t u = record {
     white = offers (insert_text_takes c t u);
-    nulls = offers_kept (says close_head_keeps);
-    characters = offers_kept (says close_head_keeps);
+    nulls = offers_kept (leave_mode_keeps InHead);
+    characters = offers_kept (leave_mode_keeps InHead);
   }
   in_mode_offers InHeadNoscript t u = record {
     white = offers (insert_text_takes c t u);
-    nulls = offers_kept (says close_noscript_keeps);
-    characters = offers_kept (says close_noscript_keeps);
+    nulls = offers_kept (leave_mode_keeps InHeadNoscript);
+    characters = offers_kept (leave_mode_keeps InHeadNoscript);
   }
   in_mode_offers AfterHead t u = record {
     white = offers (insert_text_takes c t u);
-    nulls = offers_kept imply_body_keeps;
-    characters = offers_kept imply_body_keeps;
+    nulls = offers_kept (leave_mode_keeps AfterHead);
+    characters = offers_kept (leave_mode_keeps AfterHead);
   }
   in_mode_offers InBody t u = record {
     white = offers (body_white t u);
@@ -133,8 +130,8 @@ module _ (c : ℕ) where
   }
   in_mode_offers InColumnGroup t u = record {
     white = offers (insert_text_takes c t u);
-    nulls = offers_kept leave_columns_keeps;
-    characters = offers_kept leave_columns_keeps;
+    nulls = offers_kept (leave_mode_keeps InColumnGroup);
+    characters = offers_kept (leave_mode_keeps InColumnGroup);
   }
   in_mode_offers InTableBody t u = record {
     white = offers (fostered_takes (body_white t u));
@@ -168,8 +165,8 @@ module _ (c : ℕ) where
   }
   in_mode_offers AfterBody t u = record {
     white = offers (body_white t u);
-    nulls = offers_kept back_to_body_keeps;
-    characters = offers_kept back_to_body_keeps;
+    nulls = offers_kept (leave_mode_keeps AfterBody);
+    characters = offers_kept (leave_mode_keeps AfterBody);
   }
   in_mode_offers InFrameset t u = record {
     white = offers (insert_text_takes c t u);
@@ -183,8 +180,8 @@ module _ (c : ℕ) where
   }
   in_mode_offers AfterAfterBody t u = record {
     white = offers (body_white t u);
-    nulls = offers_kept back_to_body_keeps;
-    characters = offers_kept back_to_body_keeps;
+    nulls = offers_kept (leave_mode_keeps AfterBody);
+    characters = offers_kept (leave_mode_keeps AfterBody);
   }
   in_mode_offers AfterAfterFrameset t u = record {
     white = offers (body_white t u);

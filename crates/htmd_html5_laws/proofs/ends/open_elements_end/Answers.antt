@@ -1,4 +1,3 @@
-use Rattle.htmd_html5_laws.proofs.EndedExamples as examples
 use Rattle.htmd_html5_laws.proofs.EndedPages.{elements_ended}
 use Rattle.htmd_html5_laws.proofs.ends.open_elements_end.Goals as goal
 

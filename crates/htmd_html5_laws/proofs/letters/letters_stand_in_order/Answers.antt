@@ -1,4 +1,3 @@
-use Rattle.htmd_html5_laws.proofs.Examples as examples
 use Rattle.htmd_html5_laws.proofs.LetterOrderLemmas.{letters_in_order}
 use Rattle.htmd_html5_laws.proofs.letters.letters_stand_in_order.Goals as goal
 

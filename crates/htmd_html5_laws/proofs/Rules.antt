@@ -1,0 +1,254 @@
+-- What the rules of the modes do to a state, as data: a rule is made of acts, one after another.
+use Rattle.std.specs.Prelude.{ℕ, Bool, true, false, ◌≡◌, ◌&&◌, if◌then◌else◌, List, [], None}
+use Rattle.std.proofs.Common.{refl}
+use Rattle.std.proofs.lemmas.Bool.{and_from}
+use Rattle.htmd_grammar.specs.ValueTrees.{AttributePair}
+use Rattle.htmd_grammar.specs.declared.content.RawElement.{RawElement}
+use Rattle.htmd_html5_state.specs.Names.{NameValue, known}
+use Rattle.htmd_html5_state.specs.OpenElements.{OpenValue, pop, pop_while, pop_until, clear_to, close, close_name}
+use Rattle.htmd_html5_state.specs.State.{StateValue, on_stack}
+use Rattle.htmd_html5_state.specs.Insertion.{insert_element, insert_void, insert_root, insert_comment_in, insert_comment}
+use Rattle.htmd_html5_state.specs.Insertion.{insert_doctype}
+use Rattle.htmd_html5_state.specs.Formatting.{push_marker, clear_to_marker, insert_formatting, reconstruct}
+use Rattle.htmd_html5_state.specs.Adoption.{adoption_agency, formatting_element}
+use Rattle.htmd_html5_state.specs.declared.modes.InsertionMode.{InsertionMode}
+use Rattle.htmd_html5_state.specs.declared.modes.InsertionMode.TheVariants.{BeforeHtml}
+use Rattle.htmd_html5_state.specs.declared.names.Namespace.{Namespace}
+use Rattle.htmd_html5_state.specs.declared.names.TagName.{TagName}
+use Rattle.htmd_html5_state.specs.declared.sets.NameSet.{NameSet}
+use Rattle.htmd_html5_state.specs.declared.sets.Scope.{Scope}
+use Rattle.htmd_html5.specs.Tokens.{StartTagValue}
+use Rattle.htmd_html5.specs.Answers.{Answer, answer}
+use Rattle.htmd_html5.specs.SharedRules.{with_mode, insert_raw_tag, insert_foreign_tag, no_frameset, add_to_root}
+use Rattle.htmd_html5.specs.SharedRules.{end_template, insert_head_element}
+use Rattle.htmd_html5.specs.BodyStarts.{add_to_body, replace_body, close_heading, skip_line_feed, with_form, forget}
+use Rattle.htmd_html5.specs.BodyStarts.{start_select, close_option}
+use Rattle.htmd_html5.specs.BodyEnds.{close_form}
+use Rattle.htmd_html5.specs.InBody.{end_of_file_in_template}
+use Rattle.htmd_html5.specs.BeforeHead.{with_head}
+use Rattle.htmd_html5.specs.AfterHead.{insert_late}
+use Rattle.htmd_html5.specs.InTable.{end_table}
+use Rattle.htmd_html5.specs.InCaption.{end_caption}
+use Rattle.htmd_html5.specs.InColumnGroup.{end_columns}
+use Rattle.htmd_html5.specs.InTableBody.{end_section}
+use Rattle.htmd_html5.specs.InRow.{end_row}
+use Rattle.htmd_html5.specs.InCell.{close_cell, end_cell}
+use Rattle.htmd_html5.specs.InSelect.{close_group, close_option_in_group, close_select, end_select}
+use Rattle.htmd_html5.specs.InTemplate.{with_template_mode}
+use Rattle.htmd_html5.specs.InFrameset.{end_frameset}
+use Rattle.htmd_html5.specs.ForeignContent.{start_foreign_element}
+use Rattle.htmd_html5_state.specs.declared.names.TagName.TheVariants as tags
+use Rattle.htmd_html5.specs.AfterBody as after_body
+
+infixr 20 ◌⨾◌
+-- ---- acts
+
+-- whose name and attributes an element gets: the tag's; those of a tag that is implied; a name and the tag's attributes
+pub data Given : Type 0 where
+  own : Given
+  implied : TagName → Given
+  renamed : TagName → Given
+
+abbrev pub given_name : Given → StartTagValue → NameValue
+given_name own tag = tag.name
+given_name (implied name) tag = known name
+given_name (renamed name) tag = known name
+
+abbrev pub given_attributes : Given → StartTagValue → List AttributePair
+given_attributes own tag = tag.attributes
+given_attributes (implied name) tag = []
+given_attributes (renamed name) tag = tag.attributes
+
+-- which open elements are closed: the current node; up to one of these, if it is in scope; while it is one of these; to
+-- one of these, which stays open; up to one of these; up to one of that name; and those that must be the current node
+pub data Cut : Type 0 where
+  current_node : Cut
+  in_scope : NameSet → Scope → Cut
+  each_of : NameSet → Cut
+  back_to : NameSet → Cut
+  one_of : NameSet → Cut
+  named : NameValue → Cut
+  heading : Cut
+  option : Cut
+  option_and_group : Cut
+  group : Cut
+
+abbrev pub left_open : Cut → List OpenValue → List OpenValue
+left_open current_node stack = pop stack
+left_open (in_scope set scope) stack = close set scope stack
+left_open (each_of set) stack = pop_while set stack
+left_open (back_to set) stack = clear_to set stack
+left_open (one_of set) stack = pop_until set stack
+left_open (named name) stack = close_name name stack
+left_open heading stack = close_heading stack
+left_open option stack = close_option stack
+left_open option_and_group stack = close_group (close_option stack)
+left_open group stack = close_group (close_option_in_group stack)
+
+pub data Act : Type 0 where
+  -- an element is inserted
+  element : Given → Act
+  void : Given → Act
+  root : Given → Act
+  head : Given → Act
+  raw_text : RawElement → Act
+  of_head : Act
+  late_of_head : Act
+  foreign : Namespace → Act
+  foreign_alike : Act
+  formatting : Act
+  select : Act
+  -- or something else
+  comment : List ℕ → Act
+  comment_in_root : List ℕ → Act
+  comment_in_document : List ℕ → Act
+  started : Bool → Act
+  -- elements are closed
+  cut : Cut → Act
+  agency : TagName → Act
+  forget_anchor : Act
+  noted_form : Act
+  table_closed : Act
+  caption_closed : Act
+  columns_closed : Act
+  section_closed : NameSet → Act
+  row_closed : Act
+  cell_closed : TagName → Act
+  cell_left : NameSet → Act
+  select_closed : Act
+  select_left : Act
+  frameset_closed : Act
+  template_closed : Act
+  -- elements get attributes or give way
+  root_attributes : Act
+  body_attributes : Act
+  body_replaced : Act
+  -- the list of active formatting elements
+  marked : Act
+  to_marker : Act
+  reconstructed : Act
+  -- what else a state notes
+  to_mode : InsertionMode → Act
+  to_quirks : Act
+  to_content : InsertionMode → Act
+  frames_refused : Act
+  line_feed_skipped : Act
+  noted_element : Act
+  fostering : Bool → Act
+
+abbrev pub act_on : Act → StartTagValue → StateValue → StateValue
+act_on (element given) tag s = insert_element (given_name given tag) (given_attributes given tag) s
+act_on (void given) tag s = insert_void (given_name given tag) (given_attributes given tag) s
+act_on (root given) tag s = insert_root (given_name given tag) (given_attributes given tag) s
+act_on (head given) tag s = with_head (given_name given tag) (given_attributes given tag) s
+act_on (raw_text raw) tag s = insert_raw_tag raw tag s
+act_on of_head tag s = insert_head_element tag.name tag s
+act_on late_of_head tag s = insert_late tag s
+act_on (foreign space) tag s = insert_foreign_tag space tag s
+act_on foreign_alike tag s = start_foreign_element tag s
+act_on formatting tag s = insert_formatting tag.name tag.attributes s
+act_on select tag s = start_select tag s
+act_on (comment text) tag s = insert_comment text s
+act_on (comment_in_root text) tag s = after_body.comment_in_root text s
+act_on (comment_in_document text) tag s = insert_comment_in 0 text s
+act_on (started quirks) tag s = record (insert_doctype s) { mode = BeforeHtml; quirks = quirks }
+act_on (cut what) tag s = on_stack (left_open what) s
+act_on (agency name) tag s = adoption_agency name s
+act_on forget_anchor tag s = forget (formatting_element tags.A s) s
+act_on noted_form tag s = close_form s.form (record s { form = None })
+act_on table_closed tag s = end_table s
+act_on caption_closed tag s = end_caption s
+act_on columns_closed tag s = end_columns s
+act_on (section_closed set) tag s = end_section set s
+act_on row_closed tag s = end_row s
+act_on (cell_closed name) tag s = end_cell name s
+act_on (cell_left set) tag s = close_cell set s
+act_on select_closed tag s = end_select s
+act_on select_left tag s = close_select s
+act_on frameset_closed tag s = end_frameset s
+act_on template_closed tag s = end_template s
+act_on root_attributes tag s = add_to_root tag s
+act_on body_attributes tag s = add_to_body tag s
+act_on body_replaced tag s = replace_body tag s
+act_on marked tag s = push_marker s
+act_on to_marker tag s = clear_to_marker s
+act_on reconstructed tag s = reconstruct s
+act_on (to_mode mode) tag s = with_mode mode s
+act_on to_quirks tag s = record s { mode = BeforeHtml; quirks = true }
+act_on (to_content mode) tag s = with_template_mode mode s
+act_on frames_refused tag s = no_frameset s
+act_on line_feed_skipped tag s = skip_line_feed s
+act_on noted_element tag s = with_form (insert_element tag.name tag.attributes s)
+act_on (fostering b) tag s = record s { foster_parenting = b }
+
+-- ---- rules
+
+-- one act after another, the first first; and by what holds of the tag and the state
+pub data Rule : Type 0 where
+  nothing : Rule
+  act : Act → Rule
+  ◌⨾◌ : Rule → Rule → Rule
+  when : (StartTagValue → StateValue → Bool) → Rule → Rule → Rule
+
+abbrev pub run : Rule → StartTagValue → StateValue → StateValue
+run nothing tag s = s
+run (act a) tag s = act_on a tag s
+run (first ⨾ more) tag s = run more tag (run first tag s)
+run (when test first other) tag s = if test tag s then run first tag s else run other tag s
+
+-- what a mode answers: it is done; the token is processed again, if that holds of the state; one of two, by what holds of
+-- the state; and what ends a template at the end of the file
+pub data Reply : Type 0 where
+  ends : Rule → Reply
+  again_if : (StateValue → Bool) → Rule → Reply
+  either : (StateValue → Bool) → Reply → Reply → Reply
+  template_ended : Reply
+
+abbrev pub reply_of : Reply → StartTagValue → StateValue → Answer
+reply_of (ends r) tag s = answer (run r tag s) false
+reply_of (again_if more r) tag s = answer (run r tag s) (more s)
+reply_of (either test first other) tag s = if test s then reply_of first tag s else reply_of other tag s
+reply_of template_ended tag s = end_of_file_in_template s
+
+-- ---- rules of which each act is allowed
+
+abbrev pub fits : (Act → Bool) → Rule → Bool
+fits may nothing = true
+fits may (act a) = may a
+fits may (first ⨾ more) = fits may first && fits may more
+fits may (when test first other) = fits may first && fits may other
+
+-- and the last act is one of these
+abbrev pub last_fits : (Act → Bool) → (Act → Bool) → Rule → Bool
+last_fits may last nothing = true
+last_fits may last (act a) = last a
+last_fits may last (first ⨾ more) = fits may first && last_fits may last more
+last_fits may last (when test first other) = last_fits may last first && last_fits may last other
+
+-- unless the token is processed again
+abbrev pub reply_fits : (Act → Bool) → (Act → Bool) → Reply → Bool
+reply_fits may last (ends r) = last_fits may last r
+reply_fits may last (again_if more r) = fits may r
+reply_fits may last (either test first other) = reply_fits may last first && reply_fits may last other
+reply_fits may last template_ended = true
+
+abbrev pub any_act : Act → Bool
+any_act a = true
+
+pub any_fits : (r : Rule) → fits any_act r ≡ true
+any_fits nothing = refl
+any_fits (act a) = refl
+any_fits (first ⨾ more) = and_from _ _ (any_fits first) (any_fits more)
+any_fits (when test first other) = and_from _ _ (any_fits first) (any_fits other)
+
+any_last : (r : Rule) → last_fits any_act any_act r ≡ true
+any_last nothing = refl
+any_last (act a) = refl
+any_last (first ⨾ more) = and_from _ _ (any_fits first) (any_last more)
+any_last (when test first other) = and_from _ _ (any_last first) (any_last other)
+
+pub any_reply : (r : Reply) → reply_fits any_act any_act r ≡ true
+any_reply (ends r) = any_last r
+any_reply (again_if more r) = any_fits r
+any_reply (either test first other) = and_from _ _ (any_reply first) (any_reply other)
+any_reply template_ended = refl
