@@ -19,12 +19,12 @@ use std::fmt::Write;
 
 /// The conversion of one page, or of rows with a page each, by what the options ask for.
 #[derive(Drop)]
-pub(crate) struct Requested<'a, 'b, 'c> {
+pub(crate) struct Requested<'a, 'b, 'c, 'd> {
     pub(crate) alloc: Global,
     pub(crate) options: &'a [String],
     pub(crate) request: &'b Request<'c>,
     /// The pages of the run, if addresses that lead to them lead to their outputs.
-    pub(crate) pages: Option<&'b Pages>,
+    pub(crate) pages: Option<&'d Pages>,
     ghost is_read: { request_in request.now ≡ request_by options.now },
     ghost converts: { (request_by options.now).shows ≡ false },
 }
@@ -38,7 +38,7 @@ pub(crate) enum Refusal {
     Rows,
 }
 
-impl Requested<'_, '_, '_> {
+impl Requested<'_, '_, '_, '_> {
     /// Converts a page as if it was alone, or rows with a page each.
     pub(crate) fn convert_alone<R: Source, W: Sink, E: Sink>(
         &self,
@@ -103,7 +103,7 @@ fn convert_page<R: Source, W: Sink>(
     }
 }
 
-impl Conversion for Requested<'_, '_, '_> {
+impl Conversion for Requested<'_, '_, '_, '_> {
     ghost use Rattle.htmd_command.specs.Answers.{IsAnswer, request_for};
 
     type Fault = Refusal;
@@ -118,17 +118,18 @@ impl Conversion for Requested<'_, '_, '_> {
         sink: &mut W,
         errors: &mut E,
     ) -> Result<(), Refusal> {
-        match self.pages {
-            Some(pages) if !self.request.takes_rows() => {
-                let page = RunPage {
-                    pages,
-                    input: &page.input,
-                    output: &page.output,
-                };
-                self.convert_in_run(page, source, sink)
-            }
-            _ => self.convert_alone(source, sink, errors),
+        let Some(pages) = self.pages else {
+            return self.convert_alone(source, sink, errors);
+        };
+        if self.request.takes_rows() {
+            return self.convert_alone(source, sink, errors);
         }
+        let page = RunPage {
+            pages,
+            input: &page.input,
+            output: &page.output,
+        };
+        self.convert_in_run(page, source, sink)
     }
 
     fn report<E: Sink>(&self, page: &str, fault: &Refusal, errors: &mut E) {

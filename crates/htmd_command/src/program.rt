@@ -112,7 +112,8 @@ fn run_job<S: Store, R: Source, W: Sink, E: Sink>(
             convert_file(store, &conversion, &input, sink, errors)
         }
         Plan::Files { pages } => {
-            let Ok(led) = led_pages(alloc, job, &pages) else {
+            let pages = pages.as_slice();
+            let Ok(led) = led_pages(alloc, job, pages) else {
                 return fail(errors, &RunError::Memory, 1);
             };
             let conversion = Requested {
@@ -122,7 +123,7 @@ fn run_job<S: Store, R: Source, W: Sink, E: Sink>(
                 pages: led.as_ref(),
             };
             let progress = progress_of(job, is_terminal);
-            convert_files(alloc, store, &conversion, &pages, &unread, errors, progress)
+            convert_files(alloc, store, &conversion, pages, &unread, errors, progress)
         }
     }
 }
@@ -177,7 +178,7 @@ fn progress_of(job: &Job<'_>, is_terminal: bool) -> Progress {
 // Converts a file into the sink, and answers the status.
 fn convert_file<S: Store, W: Sink, E: Sink>(
     store: &mut S,
-    conversion: &Requested<'_, '_, '_>,
+    conversion: &Requested<'_, '_, '_, '_>,
     input: &str,
     sink: &mut W,
     errors: &mut E,

@@ -8,11 +8,14 @@ use Rattle.htmd_html5.specs.BodyEnds.{text_end_rule}
 use Rattle.htmd_html5.specs.BodyStarts.{block_rule, formatting_rule, phrasing_rule}
 use Rattle.htmd_html5.specs.Documents.{html5_document}
 use Rattle.htmd_html5_laws.specs.PageLetters.{token_texts}
+use Rattle.htmd_document.specs.Flows.{node_of}
 use Rattle.htmd_document.specs.Roles.{role_of, table_role, heading_or_block, inline_role}
 use Rattle.htmd_document.specs.Shown.{Sight}
+use Rattle.htmd_document.specs.TreeDocuments.{document_of_tree}
+use Rattle.htmd_document_laws.specs.DocumentTexts.{text_of_blocks}
 use Rattle.htmd_page_laws.specs.Pieces.{Piece, shown, hidden, said, texts_of_page, texts_of_document}
 use Rattle.htmd_page_laws.specs.Pieces.{hidden_texts, said_texts}
-use Rattle.htmd_page_laws.specs.PageTexts.{is_seen, seen_in, page_pieces}
+use Rattle.htmd_page_laws.specs.PageTexts.{is_seen, seen_of, seen_in, page_pieces, page_document}
 
 -- ---- letters that can be seen
 
@@ -94,3 +97,15 @@ frames_have_no_piece : page_pieces with_scripts (codes "<frameset>a") ≡ []
 unfolding html5_document block_rule formatting_rule phrasing_rule text_end_rule move_last wrap_children forest_from
     tree_of role_of table_role heading_or_block inline_role
 frames_have_no_piece = refl
+
+-- ---- a whole page
+
+its_letters : seen_in (token_texts true (codes "<q>a<script>b</script><img alt=c></q>")) ≡ codes "ab"
+unfolding chars encode block_rule formatting_rule phrasing_rule text_end_rule
+its_letters = refl
+
+its_document : seen_of (text_of_blocks (page_document with_scripts (codes "<q>a<script>b</script><img alt=c></q>")))
+    ≡ codes "\"ac\""
+unfolding chars encode html5_document block_rule formatting_rule phrasing_rule text_end_rule move_last wrap_children
+    forest_from tree_of role_of table_role heading_or_block inline_role document_of_tree node_of
+its_document = refl
