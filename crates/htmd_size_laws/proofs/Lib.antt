@@ -1,0 +1,20 @@
+pub mod CountsLemmas
+pub mod PieceBounds
+pub mod InlineBounds
+pub mod TableBounds
+pub mod LineBounds
+pub mod RoomLemmas
+pub mod BlockBounds
+pub mod MarginLemmas
+pub mod BoundsLemmas
+mod Examples
+pub mod PartCosts
+pub mod ContextRooms
+pub mod NodeCosts
+pub mod TextCosts
+pub mod GridCosts
+pub mod ElementCosts
+pub mod TableCosts
+pub mod TreeCosts
+pub mod TreeMargins
+pub mod PageLemmas
