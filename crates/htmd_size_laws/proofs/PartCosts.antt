@@ -5,6 +5,8 @@ use Rattle.std.proofs.lemmas.Str.{length-encode}
 use Rattle.std.specs.Prelude.{◌&&◌, nat_le, nat_lt, not, fold, if◌then◌else◌}
 use Rattle.std.specs.Char.{encode_utf8, len_utf8}
 use Rattle.std.specs.Str.{chars}
+use Rattle.htmd_grammar.specs.Characters.{space}
+use Rattle.htmd_grammar.specs.CharacterClasses.{first_is}
 use Rattle.htmd_grammar.specs.WhiteSpace.{is_ascii_white_space}
 use Rattle.htmd_document.specs.declared.paragraphs.Latest.{Latest}
 use Rattle.htmd_document.specs.declared.paragraphs.Latest.TheVariants.{Nothing, Task, Plain, Code}
@@ -148,8 +150,11 @@ text_or_code_size true s = refl
 text_or_code_size false s = refl
 
 after_task_le : (s : List ℕ) → length (after_task s) ≤ suc (length s)
-after_task_le [] = omega arith
-after_task_le (b ∷ s) = omega arith
+after_task_le s = go (first_is space s)
+  where
+    go : (t : Bool) → length (if t then s else space ∷ s) ≤ suc (length s)
+    go true = omega arith
+    go false = omega arith
 
 white_le : (n : ℕ) (xs : Inlines) (around : List Around) (t : Bool) (s : List ℕ)
     → size_of_inlines (white_behind n xs around t s) ≤ size_of_inlines xs + size_around around + 1 + length s

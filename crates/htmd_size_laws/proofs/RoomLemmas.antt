@@ -1,12 +1,9 @@
 -- How many bytes there are for what is written of a part of a document.
-use Rattle.std.proofs.Common.{◌≡◌, ℕ, suc, ◌+◌, ◌*◌, ◌≤◌, mul-suc, mul-zero, mul-add, add-mul, mul-le-mul_right, mul-le-mul_left, mul_left_comm, arith}
+use Rattle.std.proofs.Common.{◌≡◌, ℕ, suc, ◌+◌, ◌*◌, ◌≤◌, mul-suc, mul-add, add-mul, mul-le-mul_right, mul-le-mul_left, mul_left_comm, arith}
 
 -- 181 for each unit of its size, and 4 more for each byte before a line
 abbrev pub room : ℕ → ℕ → ℕ
 room g n = 181 * n + 4 * (g * n)
-
-pub room_zero : (g : ℕ) → room g 0 ≡ 0
-room_zero g = omega (arith, mul-zero g)
 
 pub room_suc : (g n : ℕ) → room g (suc n) ≡ 181 + 4 * g + room g n
 room_suc g n = omega (arith, mul-suc g n)

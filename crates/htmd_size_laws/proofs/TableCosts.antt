@@ -196,28 +196,21 @@ as_many : (c : Context) (rows : List Row) → length (map (row_of c) rows) ≡ l
 as_many c [] = refl
 as_many c (row ∷ rows) = ap suc (as_many c rows)
 
-times_le : (k m n : ℕ) → m ≤ n → k * m ≤ k * n
-times_le k m n h = mul-le-mul_left k h
-
 -- the places of at most m rows
 places_le : (p m n count : ℕ) → 80 * suc m ≤ p → n ≤ m
     → suc n * (8 * count + 65) ≤ p * count + 65 * suc m
 places_le p m n count h i =
+    let a : suc n ≤ suc m = omega (arith, i) in
+    let b : 8 * suc m ≤ p = omega (arith, h) in
     omega (
       arith,
-      mul-le-mul_right (8 * count + 65) (more n m i),
+      mul-le-mul_right (8 * count + 65) a,
       mul-add (suc m) (8 * count) 65,
       mul_left_comm (suc m) 8 count,
       mul_assoc 8 (suc m) count,
-      mul-le-mul_right count (less (8 * suc m) p (omega (arith, h))),
+      mul-le-mul_right count b,
       mul_comm (suc m) 65,
     )
-  where
-    more : (a b : ℕ) → a ≤ b → suc a ≤ suc b
-    more a b j = omega (arith, j)
-
-    less : (a b : ℕ) → a ≤ b → a ≤ b
-    less a b j = j
 
 grid_cost : (p r m : ℕ) (rows : List Row) (c : Context) → Prices p r m → RowsFit p r rows → length rows ≤ m
     → Within r c.around

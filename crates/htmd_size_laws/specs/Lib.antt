@@ -1,4 +1,4 @@
--- How big a document is, and how long what is written of it can be.
+-- How big documents and trees are, and how long what is written of them can be.
 pub mod DocumentSizes
 pub mod TreeSizes
 pub mod SizeLaws
