@@ -9,20 +9,20 @@ use Rattle.htmd_html5.specs.InTable.{foster_runs, put_table_text, table_text, wi
 use Rattle.htmd_html5.specs.Initial.{leave_initial}
 use Rattle.htmd_html5.specs.Modes.{by_mode_rules, in_mode}
 use Rattle.htmd_html5.specs.Runs.{after_first_run, first_kind, first_run, kind_of_byte}
-use Rattle.htmd_html5_laws.proofs.EndedModes.{back_turns, head_closed, noscript_closed, with_body_turns}
-use Rattle.htmd_html5_laws.proofs.EndedModes.{with_head_turns, with_root_turns}
+use Rattle.htmd_html5_laws.proofs.EndedRules.{back_turns, head_closed, noscript_closed, with_body_turns}
+use Rattle.htmd_html5_laws.proofs.EndedRules.{with_head_turns, with_root_turns}
 use Rattle.htmd_html5_laws.proofs.EndedStacks.{is_any, is_root}
 use Rattle.htmd_html5_laws.proofs.EndedStates.{Ends, ends_by_test, ends_still, insert_text_ends, then_ends}
 use Rattle.htmd_html5_laws.proofs.EndedSteps.{Ready, Turned, Turns, anchor_of, covers_any, covers_at, steady}
-use Rattle.htmd_html5_laws.proofs.EndedTables.{end_columns_turns, fostered_ends}
+use Rattle.htmd_html5_laws.proofs.EndedRules.{end_columns_turns, fostered_ends}
 use Rattle.htmd_html5_laws.proofs.TakingRuns.{by_first_kind}
 use Rattle.htmd_html5_state.specs.State.{StateValue}
 use Rattle.std.proofs.Common.{ℕ, zero, suc, length, Bool, true, false, List, [], refl, sym, subst, ◌≡◌, ◌∙◌}
-use Rattle.htmd_html5.specs.Texts.{Taken, takes_all, taken, after_run, first_token, take_within, take_part, put_within}
+use Rattle.htmd_html5.specs.Texts.{Taken, takes_all, taken, after_run, first_token, take_within}
 use Rattle.htmd_html5.specs.Tokens.{run}
-use Rattle.htmd_html5.specs.Processing.{by_rules, turns}
+use Rattle.htmd_html5.specs.Processing.{by_rules}
 use Rattle.htmd_html5_state.specs.Names.{known}
-use Rattle.htmd_html5_laws.proofs.EndedBody.{body_white, body_characters, run_in_body_ends, no_frameset_ends}
+use Rattle.htmd_html5_laws.proofs.EndedRules.{body_white, body_characters, run_in_body_ends, no_frameset_ends}
 use Rattle.htmd_grammar.specs.WhiteSpace.{is_ascii_white_space}
 use Rattle.std.specs.List.{list_all}
 use Rattle.htmd_grammar.specs.CharacterClasses.{is_empty}
@@ -243,16 +243,4 @@ take_left (suc k) text s h =
         → Turned s (if b then taken (table_text text s) []
         else after_run (take_within k text) (after_first_run text) (by_rules (first_token text) s)).state
     either true g = table_text_left text s h
-    either false g = g
-
-pub put_left : (k : ℕ) (text : List ℕ) (s : StateValue) → Ready s → Turned s (put_within k text s)
-put_left zero text s h = record { ready = h; content = refl }
-put_left (suc k) text s h =
-    either (is_empty text)
-    (let x : Turned s (take_part text s).state = take_left (turns s) text s h in
-    turned_then x (put_left k (take_part text s).rest (take_part text s).state x.ready))
-  where
-    either : (b : Bool) → Turned s (put_within k (take_part text s).rest (take_part text s).state)
-        → Turned s (if b then s else put_within k (take_part text s).rest (take_part text s).state)
-    either true g = record { ready = h; content = refl }
     either false g = g

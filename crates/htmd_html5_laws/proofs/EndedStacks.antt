@@ -64,13 +64,6 @@ is_root _ = false
 abbrev pub is_any : Anchor → Bool
 is_any a = true
 
-pub root_is_firm : (a : Anchor) → is_root a ≡ true → is_firm a ≡ true
-root_is_firm at_root p = refl
-root_is_firm at_cell p = refl
-root_is_firm at_head p = absurd (true≢false (sym p))
-root_is_firm at_noscript p = absurd (true≢false (sym p))
-root_is_firm at_select p = absurd (true≢false (sym p))
-
 -- ---- names
 
 -- neither the root's nor a cell's

@@ -115,13 +115,6 @@ ends_by_state a h = record {
   same = λ s k. (h (a s)).same s k;
 }
 
--- of fewer
-pub ends_fewer : {p q : Anchor → Bool} {f : StateValue → StateValue}
-    → ((a : Anchor) → q a ≡ true → p a ≡ true)
-    → Ends p f → Ends q f
-ends_fewer fewer f =
-    record { whole = f.whole; keeps = λ a k s h l. f.keeps a (fewer a k) s h l; same = f.same }
-
 -- ---- the root and cells have nodes of their own
 
 both_named : (k : KindValue) → is_named is_common k ≡ true → is_named is_uncommon k ≡ true → ⊥

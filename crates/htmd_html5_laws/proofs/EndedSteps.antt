@@ -8,7 +8,6 @@ use Rattle.htmd_html5.specs.Feeding.{is_text_mode}
 use Rattle.htmd_html5.specs.SharedRules.{insert_raw_tag, with_mode}
 use Rattle.htmd_html5.specs.Tokens.{StartTagValue}
 use Rattle.htmd_html5_laws.proofs.EndedStacks.{Anchor, Has, at_cell, at_head, at_noscript, at_root, at_select, is_any}
-use Rattle.htmd_html5_laws.proofs.EndedStacks.{is_firm, is_root, root_is_firm}
 use Rattle.htmd_html5_laws.proofs.EndedStates.{Ends, Manner, Whole, insert_element_ends, whole_fewer}
 use Rattle.htmd_html5_laws.proofs.OpenNodes.{pop_until_fewer}
 use Rattle.htmd_html5_state.specs.Insertion.{opened}
@@ -54,9 +53,6 @@ covers_any (Some a) = refl
 pub covers_at : (p : Anchor → Bool) {mode other : InsertionMode} → mode ≡ other → Covers p (anchor_of other)
     → Covers p (anchor_of mode)
 covers_at p e c = subst (λ (m : InsertionMode). Covers p (anchor_of m)) (sym e) c
-
-pub covers_free : (p : Anchor → Bool) (a : Option Anchor) → a ≡ None → Covers p a
-covers_free p a e = subst (λ (o : Option Anchor). Covers p o) (sym e) tt
 
 pub some_kept : {p : Anchor → Bool} (stack new : List OpenValue) (a : Option Anchor) → Covers p a
     → ((b : Anchor) → p b ≡ true → Has b stack → Has b new) → HasSome a stack → HasSome a new
@@ -140,15 +136,6 @@ mode_turns {p} {q} {f} mode e r h = record {
   };
 }
 
-pub turns_then : {p : Anchor → Bool} {f g : StateValue → StateValue} → Ends is_any f → Turns p g
-    → Turns p (λ s. f (g s))
-turns_then {p} {f} {g} first second = record {
-  turns = λ s c h.
-      let x = second.turns s c h in
-      let y = (steady {p = is_any} refl first).turns (g s) (covers_any (anchor_of (g s).mode)) x.ready in
-      record { ready = y.ready; content = y.content ∙ x.content };
-}
-
 pub turns_by_test : {p : Anchor → Bool} {f g : StateValue → StateValue} (b : StateValue → Bool) → Turns p f
     → Turns p g → Turns p (λ s. if b s then f s else g s)
 turns_by_test {p} {f} {g} b first second = record { turns = λ s c h. either (b s) s c h }
@@ -172,15 +159,6 @@ pub turns_fewer : {p q : Anchor → Bool} {f : StateValue → StateValue}
     → Turns p f → Turns q f
 turns_fewer fewer f = record { turns = λ s c h. f.turns s (fewer (anchor_of s.mode) c) h }
 
-pub tags_fewer : {p q : Anchor → Bool} {f : StateValue → StateValue}
-    → ((a : Option Anchor) → Covers q a → Covers p a)
-    → TagEnds p f → TagEnds q f
-tags_fewer fewer f = record { leaves = λ s c h. f.leaves s (fewer (anchor_of s.mode) c) h }
-
-pub root_covers_firm : (a : Option Anchor) → Covers is_root a → Covers is_firm a
-root_covers_firm None c = tt
-root_covers_firm (Some a) c = root_is_firm a c
-
 pub any_covers : (p : Anchor → Bool) (a : Option Anchor) → Covers p a → Covers is_any a
 any_covers p a c = covers_any a
 
@@ -191,15 +169,6 @@ calm f = record {
   leaves = λ s c h. let x = f.turns s c h in
       record { ready = x.ready; rest = λ e. inl (ap is_text_mode x.content ∙ e) };
 }
-
-pub tags_by_test : {p : Anchor → Bool} {f g : StateValue → StateValue} (b : StateValue → Bool) → TagEnds p f
-    → TagEnds p g → TagEnds p (λ s. if b s then f s else g s)
-tags_by_test {p} {f} {g} b first second = record { leaves = λ s c h. either (b s) s c h }
-  where
-    either : (t : Bool) (s : StateValue) → Covers p (anchor_of s.mode) → Ready s
-        → Tagged s (if t then f s else g s)
-    either true s c h = first.leaves s c h
-    either false s c h = second.leaves s c h
 
 pub raw_tag_ends : {p : Anchor → Bool} {g : StateValue → StateValue} (element : RawElement) (tag : StartTagValue)
     → p at_root ≡ true → Ends p g → TagEnds p (λ s. insert_raw_tag element tag (g s))
@@ -240,10 +209,6 @@ tagged_answered {s} {new} x = record { ready = x.ready; rest = λ e. either (x.r
     either (inl e) = inl e
     either (inr r) = inr (refl, r)
 
-pub tag_answers : {p : Anchor → Bool} {f : StateValue → StateValue} → TagEnds p f
-    → AnswerEnds p (λ s. done (f s))
-tag_answers g = record { answers = λ s c h. tagged_answered (g.leaves s c h) }
-
 pub answers_by_test : {p : Anchor → Bool} {f g : StateValue → Answer} (b : StateValue → Bool) → AnswerEnds p f
     → AnswerEnds p g → AnswerEnds p (λ s. if b s then f s else g s)
 answers_by_test {p} {f} {g} b first second = record { answers = λ s c h. either (b s) s c h }
@@ -253,37 +218,13 @@ answers_by_test {p} {f} {g} b first second = record { answers = λ s c h. either
     either true s c h = first.answers s c h
     either false s c h = second.answers s c h
 
-pub answers_fewer : {p q : Anchor → Bool} {f : StateValue → Answer}
-    → ((a : Option Anchor) → Covers q a → Covers p a)
-    → AnswerEnds p f → AnswerEnds q f
-answers_fewer fewer f = record { answers = λ s c h. f.answers s (fewer (anchor_of s.mode) c) h }
-
 pub turned_answered : {s new : StateValue} (more : Bool) → Turned s new → Answered s (answer new more)
 turned_answered more x = record { ready = x.ready; rest = λ e. inl (ap is_text_mode x.content ∙ e) }
-
--- what is left of an answer
-pub state_ends : {p : Anchor → Bool} {f : StateValue → Answer} → AnswerEnds p f → TagEnds p (λ s. (f s).state)
-state_ends {p} {f} g = record {
-  leaves = λ s c h. let x = g.answers s c h in record { ready = x.ready; rest = λ e. either s (x.rest e) };
-}
-  where
-    either : (s : StateValue)
-        → (is_text_mode (f s).state.content ≡ false)
-        ⊎ (((f s).again ≡ false)
-        × (Has at_root (pop (f s).state.stack) × HasSome (anchor_of (f s).state.mode) (pop (f s).state.stack)))
-        → (is_text_mode (f s).state.content ≡ false)
-        ⊎ (Has at_root (pop (f s).state.stack) × HasSome (anchor_of (f s).state.mode) (pop (f s).state.stack))
-    either s (inl e) = inl e
-    either s (inr r) = inr r.1
 
 -- ---- the rules of one mode
 
 pub record ModeEnds (mode : InsertionMode) (f : StateValue → Answer) : Type 0 where
   pub answers : (s : StateValue) → s.mode ≡ mode → Ready s → Answered s (f s)
-
-pub by_covers : {p : Anchor → Bool} {mode : InsertionMode} {f : StateValue → Answer} → Covers p (anchor_of mode)
-    → AnswerEnds p f → ModeEnds mode f
-by_covers {p} {mode} c f = record { answers = λ s e h. f.answers s (covers_at p e c) h }
 
 pub fact_at : {s : StateValue} (mode : InsertionMode) → s.mode ≡ mode → Ready s
     → HasSome (anchor_of mode) s.stack

@@ -1,214 +1,195 @@
 -- Each token that is no text leaves open what must stay so, by the rules of the mode and in foreign content.
-use Rattle.std.proofs.lemmas.Bool.{true≢false}
-use Rattle.htmd_html5.specs.AfterBody.{after_after_body, after_body, comment_in_root}
-use Rattle.htmd_html5.specs.AfterHead.{after_head}
-use Rattle.htmd_html5.specs.BeforeHead.{before_head}
-use Rattle.htmd_html5.specs.BeforeHtml.{before_html}
+use Rattle.htmd_html5.specs.Answers.{Answer, answer}
+use Rattle.htmd_html5.specs.Feeding.{is_text_mode}
 use Rattle.htmd_html5.specs.ForeignContent.{break_out, end_breaks_out, end_foreign, end_in_foreign}
-use Rattle.htmd_html5.specs.ForeignContent.{in_foreign_content, insert_alike, is_foreign, start_foreign_element}
-use Rattle.htmd_html5.specs.ForeignContent.{start_in_foreign, tag_breaks_out}
-use Rattle.htmd_html5.specs.InBody.{in_body}
-use Rattle.htmd_html5.specs.InFrameset.{after_after_frameset, after_frameset, in_frameset}
-use Rattle.htmd_html5.specs.InHead.{in_head}
-use Rattle.htmd_html5.specs.InHeadNoscript.{in_head_noscript}
-use Rattle.htmd_html5.specs.InSelect.{in_select, in_select_in_table}
-use Rattle.htmd_html5.specs.InTemplate.{in_template}
+use Rattle.htmd_html5.specs.ForeignContent.{in_foreign_content, is_foreign, start_foreign_element, start_in_foreign}
+use Rattle.htmd_html5.specs.ForeignContent.{tag_breaks_out}
+use Rattle.htmd_html5.specs.InTable.{fostered}
 use Rattle.htmd_html5.specs.Modes.{by_mode_rules, in_mode}
 use Rattle.htmd_html5.specs.Processing.{by_rules}
-use Rattle.htmd_html5_laws.proofs.EndedBody.{end_in_body_root, insert_foreign_tag_ends, start_in_body_ends}
-use Rattle.htmd_html5_laws.proofs.EndedModes.{any_ends, back_to_body_ends, close_head_ends, close_noscript_ends}
-use Rattle.htmd_html5_laws.proofs.EndedModes.{comment_in_ends, end_after_body_ends, end_after_frameset_turns}
-use Rattle.htmd_html5_laws.proofs.EndedModes.{end_after_head_ends, end_before_head_ends, end_before_html_ends}
-use Rattle.htmd_html5_laws.proofs.EndedModes.{end_in_frameset_turns, end_in_head_ends, end_in_noscript_ends}
-use Rattle.htmd_html5_laws.proofs.EndedModes.{end_in_select_turns, end_in_template_answers, end_in_template_turns}
-use Rattle.htmd_html5_laws.proofs.EndedModes.{end_of_file_ends, end_select_in_table, imply_body_ends, imply_head_ends}
-use Rattle.htmd_html5_laws.proofs.EndedModes.{imply_root_ends, leave_initial_ends, start_after_body_ends}
-use Rattle.htmd_html5_laws.proofs.EndedModes.{start_after_frameset_ends, start_after_head_ends}
-use Rattle.htmd_html5_laws.proofs.EndedModes.{start_before_head_ends, start_before_html_ends, start_in_frameset_ends}
-use Rattle.htmd_html5_laws.proofs.EndedModes.{start_in_head_ends, start_in_noscript_ends, start_in_select_ends}
-use Rattle.htmd_html5_laws.proofs.EndedModes.{start_in_template_ends, start_select_in_table, started_ends}
-use Rattle.htmd_html5_laws.proofs.EndedStacks.{Anchor, Has, HasEnd, at_root, foreign_end_has, is_any, is_root}
+use Rattle.htmd_html5.specs.Tokens.{StartTagValue, TokenValue, comment, doctype, end_of_file, end_tag, run, start_tag}
+use Rattle.htmd_html5_laws.proofs.EndedRules.{Onward, Steady, Tags, act_ends, alike_ends, calm_tag}
+use Rattle.htmd_html5_laws.proofs.EndedRules.{end_in_template_answers, ended_act, ended_last, ended_turn, last_ends}
+use Rattle.htmd_html5_laws.proofs.EndedRules.{turn_ends}
+use Rattle.htmd_html5_laws.proofs.EndedStacks.{Anchor, Has, HasEnd, at_root, foreign_end_has, is_any}
 use Rattle.htmd_html5_laws.proofs.EndedStacks.{leave_foreign_has}
-use Rattle.htmd_html5_laws.proofs.EndedSteps.{AnswerEnds, Answered, ModeEnds, Ready, anchor_of, answers_by_test}
-use Rattle.htmd_html5_laws.proofs.EndedSteps.{answers_fewer, any_covers, by_covers, covers_any, root_covers_firm}
-use Rattle.htmd_html5_laws.proofs.EndedSteps.{says, says_still, some_kept, steady, tag_answers, tags_fewer}
-use Rattle.htmd_html5_laws.proofs.EndedTables.{in_caption_ends, in_cell_ends, in_column_group_ends, in_row_ends}
-use Rattle.htmd_html5_laws.proofs.EndedTables.{in_table_body_ends, in_table_ends}
-use Rattle.htmd_html5_laws.proofs.KeepingModes.{EndsIn, foreign_end_in, is_run}
+use Rattle.htmd_html5_laws.proofs.EndedStates.{Ends, ends_by_state, ends_still, insert_comment_ends, on_stack_ends}
+use Rattle.htmd_html5_laws.proofs.EndedStates.{whole_fewer}
+use Rattle.htmd_html5_laws.proofs.EndedSteps.{AnswerEnds, Answered, ModeEnds, Ready, Tagged, Turned, anchor_of}
+use Rattle.htmd_html5_laws.proofs.EndedSteps.{answers_by_test, covers_any, says_still, some_kept, steady}
+use Rattle.htmd_html5_laws.proofs.EndedSteps.{tagged_answered, turned_answered}
+use Rattle.htmd_html5_laws.proofs.KeepingModes.{EndsIn, any_name, foreign_end_in, is_markup, is_run}
 use Rattle.htmd_html5_laws.proofs.OpenNodes.{leave_foreign_fewer}
-use Rattle.htmd_html5_state.specs.Insertion.{current}
-use Rattle.htmd_html5_state.specs.OpenElements.{first_open}
-use Rattle.htmd_html5_state.specs.State.{StateValue, on_stack}
-use Rattle.htmd_html5_state.specs.declared.names.Namespace.{Namespace}
-use Rattle.std.proofs.Common.{ℕ, Option, Some, None, inl, true, false, List, refl, ◌≡◌}
-use Rattle.htmd_html5_state.specs.Names.{NameValue, text_of_name}
+use Rattle.htmd_html5_laws.proofs.RuleBook.{end_in, rule_in, start_in}
+use Rattle.htmd_html5_laws.proofs.RuleWalk.{Invariant, IsMarkup, in_mode_holds, tag_name}
+use Rattle.htmd_html5_laws.proofs.Rules.{reply_fits}
 use Rattle.htmd_html5_state.specs.Documents.{NodeValue}
-use Rattle.htmd_html5.specs.Tokens.{StartTagValue, TokenValue, start_tag, end_tag, run, comment, doctype, end_of_file}
-use Rattle.htmd_html5_state.specs.Foreign.{namespace_of, ForeignEnd, by_mode, closed_to, foreign_end, leave_foreign}
-use Rattle.htmd_html5_state.specs.Foreign as foreign
-use Rattle.htmd_html5.specs.Initial.{initial}
-use Rattle.htmd_html5_laws.proofs.EndedStates.{Ends, ends_by_state, ends_still, insert_comment_ends}
-use Rattle.htmd_html5_laws.proofs.EndedStates.{insert_comment_in_ends, on_stack_ends, whole_fewer}
-use Rattle.htmd_html5_state.specs.declared.modes.InsertionMode.TheVariants.{Initial, BeforeHtml, BeforeHead, InHead}
-use Rattle.htmd_html5_state.specs.declared.modes.InsertionMode.TheVariants.{InHeadNoscript, AfterHead, InBody, InTable}
-use Rattle.htmd_html5_state.specs.declared.modes.InsertionMode.TheVariants.{InCaption, InColumnGroup, InTableBody}
-use Rattle.htmd_html5_state.specs.declared.modes.InsertionMode.TheVariants.{InRow, InCell, InSelect, InSelectInTable}
-use Rattle.htmd_html5_state.specs.declared.modes.InsertionMode.TheVariants.{InTemplate, AfterBody, InFrameset}
-use Rattle.htmd_html5_state.specs.declared.modes.InsertionMode.TheVariants.{AfterFrameset, AfterAfterBody}
-use Rattle.htmd_html5_state.specs.declared.modes.InsertionMode.TheVariants.{AfterAfterFrameset}
+use Rattle.htmd_html5_state.specs.Foreign.{ForeignEnd, by_mode, closed_to, foreign_end, leave_foreign, namespace_of}
+use Rattle.htmd_html5_state.specs.Insertion.{current}
+use Rattle.htmd_html5_state.specs.Names.{NameValue, known, text_of_name}
+use Rattle.htmd_html5_state.specs.State.{StateValue, on_stack}
 use Rattle.htmd_html5_state.specs.declared.modes.InsertionMode.{InsertionMode}
+use Rattle.htmd_html5_state.specs.declared.modes.InsertionMode.TheVariants.{BeforeHtml, Initial}
+use Rattle.std.proofs.Common.{Bool, List, ap, false, inl, refl, subst, sym, true, ◌∙◌, ◌≡◌}
+use Rattle.std.proofs.lemmas.Bool.{true≢false}
+use Rattle.std.specs.Prelude.{if◌then◌else◌}
+use Rattle.htmd_html5_state.specs.Foreign as foreign
+use Rattle.htmd_html5_state.specs.declared.names.TagName.TheVariants as tags
 
--- ---- the modes
+-- ---- steps put together
 
-initial_ends : (token : TokenValue) → is_run token ≡ false → AnswerEnds is_any (initial token)
-initial_ends (run kind text) e = absurd (true≢false e)
-initial_ends (start_tag tag) e = leave_initial_ends
-initial_ends (end_tag name) e = leave_initial_ends
-initial_ends (comment text) e = says_still (insert_comment_in_ends 0 text)
-initial_ends (doctype quirks) e = started_ends quirks
-initial_ends end_of_file e = leave_initial_ends
+steady_then : {mode : InsertionMode} {f g : StateValue → StateValue} → Steady mode f → Steady mode g
+    → Steady mode (λ s. f (g s))
+steady_then {mode} {f} {g} first second = record {
+  turns = λ s e h.
+      let x = second.turns s e h in
+      let y = first.turns (g s) (second.stays s e h) x.ready in
+      record { ready = y.ready; content = y.content ∙ x.content };
+  stays = λ s e h. first.stays (g s) (second.stays s e h) (second.turns s e h).ready;
+}
 
-before_html_ends : (token : TokenValue) → is_run token ≡ false → AnswerEnds is_any (before_html token)
-before_html_ends (run kind text) e = absurd (true≢false e)
-before_html_ends (start_tag tag) e = start_before_html_ends tag.name tag
-before_html_ends (end_tag name) e = end_before_html_ends name
-before_html_ends (comment text) e = says_still (insert_comment_in_ends 0 text)
-before_html_ends (doctype quirks) e = says_still ends_still
-before_html_ends end_of_file e = imply_root_ends
+steady_still : {mode : InsertionMode} → Steady mode (λ s. s)
+steady_still =
+    record { turns = λ s e h. record { ready = h; content = refl }; stays = λ s e h. e }
 
-before_head_ends : (token : TokenValue) → is_run token ≡ false → AnswerEnds is_any (before_head token)
-before_head_ends (run kind text) e = absurd (true≢false e)
-before_head_ends (start_tag tag) e = start_before_head_ends tag tag.name refl
-before_head_ends (end_tag name) e = end_before_head_ends name
-before_head_ends (comment text) e = says_still (insert_comment_ends text)
-before_head_ends (doctype quirks) e = says_still ends_still
-before_head_ends end_of_file e = imply_head_ends
+steady_by_test : {mode : InsertionMode} {f g : StateValue → StateValue} (b : StateValue → Bool) → Steady mode f
+    → Steady mode g → Steady mode (λ s. if b s then f s else g s)
+steady_by_test {mode} {f} {g} b first second =
+    record { turns = λ s e h. either (b s) s e h; stays = λ s e h. same (b s) s e h }
+  where
+    either : (t : Bool) (s : StateValue) → s.mode ≡ mode → Ready s → Turned s (if t then f s else g s)
+    either true s e h = first.turns s e h
+    either false s e h = second.turns s e h
 
-in_head_ends : (token : TokenValue) → is_run token ≡ false → ModeEnds InHead (in_head token)
-in_head_ends (run kind text) e = absurd (true≢false e)
-in_head_ends (start_tag tag) e = start_in_head_ends tag tag.name refl
-in_head_ends (end_tag name) e = end_in_head_ends name
-in_head_ends (comment text) e = any_ends (says_still (insert_comment_ends text))
-in_head_ends (doctype quirks) e = any_ends (says_still ends_still)
-in_head_ends end_of_file e = close_head_ends true
+    same : (t : Bool) (s : StateValue) → s.mode ≡ mode → Ready s → (if t then f s else g s).mode ≡ mode
+    same true s e h = first.stays s e h
+    same false s e h = second.stays s e h
 
-in_head_noscript_ends : (token : TokenValue) → is_run token ≡ false
-    → ModeEnds InHeadNoscript (in_head_noscript token)
-in_head_noscript_ends (run kind text) e = absurd (true≢false e)
-in_head_noscript_ends (start_tag tag) e = start_in_noscript_ends tag.name tag
-in_head_noscript_ends (end_tag name) e = end_in_noscript_ends name
-in_head_noscript_ends (comment text) e = any_ends (says_still (insert_comment_ends text))
-in_head_noscript_ends (doctype quirks) e = any_ends (says_still ends_still)
-in_head_noscript_ends end_of_file e = close_noscript_ends true
+onward_then : {mode : InsertionMode} {f g : StateValue → StateValue} → Onward mode f → Steady mode g
+    → Onward mode (λ s. f (g s))
+onward_then {mode} {f} {g} first second = record {
+  turns = λ s e h.
+      let x = second.turns s e h in
+      let y = first.turns (g s) (second.stays s e h) x.ready in
+      record { ready = y.ready; content = y.content ∙ x.content };
+}
 
-after_head_ends : (token : TokenValue) → is_run token ≡ false → ModeEnds AfterHead (after_head token)
-after_head_ends (run kind text) e = absurd (true≢false e)
-after_head_ends (start_tag tag) e = start_after_head_ends tag.name tag
-after_head_ends (end_tag name) e = any_ends (end_after_head_ends name)
-after_head_ends (comment text) e = any_ends (says_still (insert_comment_ends text))
-after_head_ends (doctype quirks) e = any_ends (says_still ends_still)
-after_head_ends end_of_file e = any_ends imply_body_ends
+onward_by_test : {mode : InsertionMode} {f g : StateValue → StateValue} (b : StateValue → Bool) → Onward mode f
+    → Onward mode g → Onward mode (λ s. if b s then f s else g s)
+onward_by_test {mode} {f} {g} b first second = record { turns = λ s e h. either (b s) s e h }
+  where
+    either : (t : Bool) (s : StateValue) → s.mode ≡ mode → Ready s → Turned s (if t then f s else g s)
+    either true s e h = first.turns s e h
+    either false s e h = second.turns s e h
 
-in_body_ends : (token : TokenValue) → is_run token ≡ false → AnswerEnds is_root (in_body token)
-in_body_ends (run kind text) e = absurd (true≢false e)
-in_body_ends (start_tag tag) e = tag_answers (tags_fewer root_covers_firm (start_in_body_ends tag))
-in_body_ends (end_tag name) e = end_in_body_root name
-in_body_ends (comment text) e = says_still (insert_comment_ends text)
-in_body_ends (doctype quirks) e = says_still ends_still
-in_body_ends end_of_file e = answers_fewer (any_covers is_root) end_of_file_ends
+tags_then : {mode : InsertionMode} {f g : StateValue → StateValue} → Tags mode f → Steady mode g
+    → Tags mode (λ s. f (g s))
+tags_then {mode} {f} {g} first second = record {
+  leaves = λ s e h.
+      let x = second.turns s e h in
+      let y = first.leaves (g s) (second.stays s e h) x.ready in
+      record { ready = y.ready; rest = λ k. y.rest (ap is_text_mode x.content ∙ k) };
+}
 
-in_select_ends : (token : TokenValue) → is_run token ≡ false → AnswerEnds is_any (in_select token)
-in_select_ends (run kind text) e = absurd (true≢false e)
-in_select_ends (start_tag tag) e = start_in_select_ends tag.name tag
-in_select_ends (end_tag name) e = says (end_in_select_turns name)
-in_select_ends (comment text) e = says_still (insert_comment_ends text)
-in_select_ends (doctype quirks) e = says_still ends_still
-in_select_ends end_of_file e = end_of_file_ends
+tags_either : {mode : InsertionMode} {f g : StateValue → StateValue} (b : StateValue → Bool) → Tags mode f
+    → Tags mode g → Tags mode (λ s. if b s then f s else g s)
+tags_either {mode} {f} {g} b first second = record { leaves = λ s e h. either (b s) s e h }
+  where
+    either : (t : Bool) (s : StateValue) → s.mode ≡ mode → Ready s → Tagged s (if t then f s else g s)
+    either true s e h = first.leaves s e h
+    either false s e h = second.leaves s e h
 
-in_select_in_table_ends : (token : TokenValue) → is_run token ≡ false
-    → ModeEnds InSelectInTable (in_select_in_table token)
-in_select_in_table_ends (run kind text) e = absurd (true≢false e)
-in_select_in_table_ends (start_tag tag) e = start_select_in_table tag.name tag
-in_select_in_table_ends (end_tag name) e = end_select_in_table name
-in_select_in_table_ends (comment text) e = any_ends (says_still (insert_comment_ends text))
-in_select_in_table_ends (doctype quirks) e = any_ends (says_still ends_still)
-in_select_in_table_ends end_of_file e = any_ends end_of_file_ends
+steady_fostered : {mode : InsertionMode} {f : StateValue → StateValue} → Steady mode f → Steady mode (fostered f)
+steady_fostered f = record {
+  turns = λ s e h.
+      let x = f.turns (record s { foster_parenting = true }) e
+      (record { whole = h.whole; modes = h.modes; root = h.root; fact = h.fact }) in
+      record {
+        ready = record { whole = x.ready.whole; modes = x.ready.modes; root = x.ready.root; fact = x.ready.fact };
+        content = x.content;
+      };
+  stays = λ s e h. f.stays (record s { foster_parenting = true }) e
+      (record { whole = h.whole; modes = h.modes; root = h.root; fact = h.fact });
+}
 
-in_template_ends : (token : TokenValue) → is_run token ≡ false → AnswerEnds is_any (in_template token)
-in_template_ends (run kind text) e = absurd (true≢false e)
-in_template_ends (start_tag tag) e = start_in_template_ends tag.name tag
-in_template_ends (end_tag name) e = says (end_in_template_turns name)
-in_template_ends (comment text) e = says_still (insert_comment_ends text)
-in_template_ends (doctype quirks) e = says_still ends_still
-in_template_ends end_of_file e = end_in_template_answers
+tags_fostered : {mode : InsertionMode} {f : StateValue → StateValue} → Tags mode f → Tags mode (fostered f)
+tags_fostered f = record {
+  leaves = λ s e h.
+      let x = f.leaves (record s { foster_parenting = true }) e
+      (record { whole = h.whole; modes = h.modes; root = h.root; fact = h.fact }) in
+      record {
+        ready = record { whole = x.ready.whole; modes = x.ready.modes; root = x.ready.root; fact = x.ready.fact };
+        rest = x.rest;
+      };
+}
 
-root_comment : (text : List ℕ) → Ends is_any (comment_in_root text)
-root_comment text = ends_by_state (λ s. first_open s.stack) (comment_in_ends text)
+mode_either : {mode : InsertionMode} {f g : StateValue → Answer} (b : StateValue → Bool) → ModeEnds mode f
+    → ModeEnds mode g → ModeEnds mode (λ s. if b s then f s else g s)
+mode_either {mode} {f} {g} b first second = record { answers = λ s e h. either (b s) s e h }
+  where
+    either : (t : Bool) (s : StateValue) → s.mode ≡ mode → Ready s → Answered s (if t then f s else g s)
+    either true s e h = first.answers s e h
+    either false s e h = second.answers s e h
 
-after_body_ends : (token : TokenValue) → is_run token ≡ false → AnswerEnds is_any (after_body token)
-after_body_ends (run kind text) e = absurd (true≢false e)
-after_body_ends (start_tag tag) e = start_after_body_ends tag.name tag
-after_body_ends (end_tag name) e = end_after_body_ends name
-after_body_ends (comment text) e = says_still (root_comment text)
-after_body_ends (doctype quirks) e = says_still ends_still
-after_body_ends end_of_file e = says_still ends_still
+says_onward : {mode : InsertionMode} {f : StateValue → StateValue} {more : StateValue → Bool} → Onward mode f
+    → ModeEnds mode (λ s. answer (f s) (more s))
+says_onward {mode} {f} {more} h =
+    record { answers = λ s e x. turned_answered (more s) (h.turns s e x) }
 
-after_after_body_ends : (token : TokenValue) → is_run token ≡ false → AnswerEnds is_any (after_after_body token)
-after_after_body_ends (run kind text) e = absurd (true≢false e)
-after_after_body_ends (start_tag tag) e = start_after_body_ends tag.name tag
-after_after_body_ends (end_tag name) e = back_to_body_ends
-after_after_body_ends (comment text) e = says_still (insert_comment_in_ends 0 text)
-after_after_body_ends (doctype quirks) e = says_still ends_still
-after_after_body_ends end_of_file e = says_still ends_still
+-- ---- the rules of each mode leave open what it needs
 
-in_frameset_ends : (token : TokenValue) → is_run token ≡ false → AnswerEnds is_root (in_frameset token)
-in_frameset_ends (run kind text) e = absurd (true≢false e)
-in_frameset_ends (start_tag tag) e = tag_answers (tags_fewer (any_covers is_root) (start_in_frameset_ends tag.name tag))
-in_frameset_ends (end_tag name) e = says (end_in_frameset_turns name)
-in_frameset_ends (comment text) e = says_still (insert_comment_ends text)
-in_frameset_ends (doctype quirks) e = says_still ends_still
-in_frameset_ends end_of_file e = says_still ends_still
+starts_fit : (name : NameValue) (mode : InsertionMode)
+    → reply_fits (ended_act mode name) (ended_turn mode name) (ended_last mode name) (start_in mode name) ≡ true
+starts_fit (known tags.A) Initial = refl
+starts_fit name BeforeHtml = refl
+starts_fit name mode = refl
 
-after_frameset_ends : (token : TokenValue) → is_run token ≡ false → AnswerEnds is_any (after_frameset token)
-after_frameset_ends (run kind text) e = absurd (true≢false e)
-after_frameset_ends (start_tag tag) e = tag_answers (start_after_frameset_ends tag.name tag)
-after_frameset_ends (end_tag name) e = says (end_after_frameset_turns name)
-after_frameset_ends (comment text) e = says_still (insert_comment_ends text)
-after_frameset_ends (doctype quirks) e = says_still ends_still
-after_frameset_ends end_of_file e = says_still ends_still
+ends_fit : (name : NameValue) (mode : InsertionMode)
+    → reply_fits (ended_act mode (known tags.P)) (ended_turn mode (known tags.P)) (ended_last mode (known tags.P))
+    (end_in mode name)
+    ≡ true
+ends_fit (known tags.A) Initial = refl
+ends_fit name BeforeHtml = refl
+ends_fit name mode = refl
 
-after_after_frameset_ends : (token : TokenValue) → is_run token ≡ false
-    → AnswerEnds is_any (after_after_frameset token)
-after_after_frameset_ends (run kind text) e = absurd (true≢false e)
-after_after_frameset_ends (start_tag tag) e = tag_answers (start_after_frameset_ends tag.name tag)
-after_after_frameset_ends (end_tag name) e = says_still ends_still
-after_after_frameset_ends (comment text) e = says_still (insert_comment_in_ends 0 text)
-after_after_frameset_ends (doctype quirks) e = says_still ends_still
-after_after_frameset_ends end_of_file e = says_still ends_still
+all_fit : (mode : InsertionMode) (t : TokenValue) → IsMarkup any_name t
+    → reply_fits (ended_act mode (tag_name t)) (ended_turn mode (tag_name t)) (ended_last mode (tag_name t))
+    (rule_in mode t)
+    ≡ true
+all_fit mode (start_tag tag) p = starts_fit tag.name mode
+all_fit mode (end_tag name) p = ends_fit name mode
+all_fit Initial t p = refl
+all_fit mode t p = refl
+
+ended : (mode : InsertionMode)
+    → Invariant any_name (λ other. other ≡ mode) (ended_act mode) (ended_turn mode) (ended_last mode) (Steady mode)
+    (Onward mode) (Tags mode) (ModeEnds mode)
+ended mode = record {
+  acts = λ tag p a e. act_ends mode tag a e;
+  turn_acts = λ tag p a e. turn_ends mode tag a e;
+  last_acts = λ tag p a e. last_ends mode tag a e;
+  fit = λ other q t p. subst (λ (m : InsertionMode). reply_fits (ended_act mode (tag_name t))
+      (ended_turn mode (tag_name t)) (ended_last mode (tag_name t)) (rule_in m t) ≡ true) (sym q) (all_fit mode t p);
+  still = steady_still;
+  after = steady_then;
+  by_test = steady_by_test;
+  fosters = λ name e h. steady_fostered h;
+  onward = λ h. record { turns = h.turns };
+  turn_after = onward_then;
+  turn_by_test = onward_by_test;
+  calm = λ h. calm_tag (record { turns = h.turns });
+  last_after = tags_then;
+  last_by_test = tags_either;
+  last_fosters = λ name e h. tags_fostered h;
+  says_done = λ h. record { answers = λ s e x. tagged_answered (h.leaves s e x) };
+  says = says_onward;
+  by_answer = mode_either;
+  ends_template = record { answers = λ s e h. end_in_template_answers.answers s (covers_any (anchor_of s.mode)) h };
+}
 
 in_mode_ends : (mode : InsertionMode) (token : TokenValue) → is_run token ≡ false
     → ModeEnds mode (in_mode mode token)
-in_mode_ends Initial token e = any_ends (initial_ends token e)
-in_mode_ends BeforeHtml token e = any_ends (before_html_ends token e)
-in_mode_ends BeforeHead token e = any_ends (before_head_ends token e)
-in_mode_ends InHead token e = in_head_ends token e
-in_mode_ends InHeadNoscript token e = in_head_noscript_ends token e
-in_mode_ends AfterHead token e = after_head_ends token e
-in_mode_ends InBody token e = by_covers tt (in_body_ends token e)
-in_mode_ends InTable token e = by_covers tt (in_table_ends token e)
-in_mode_ends InCaption token e = by_covers tt (in_caption_ends token e)
-in_mode_ends InColumnGroup token e = by_covers tt (in_column_group_ends token e)
-in_mode_ends InTableBody token e = by_covers tt (in_table_body_ends token e)
-in_mode_ends InRow token e = by_covers tt (in_row_ends token e)
-in_mode_ends InCell token e = in_cell_ends token e
-in_mode_ends InSelect token e = any_ends (in_select_ends token e)
-in_mode_ends InSelectInTable token e = in_select_in_table_ends token e
-in_mode_ends InTemplate token e = any_ends (in_template_ends token e)
-in_mode_ends AfterBody token e = any_ends (after_body_ends token e)
-in_mode_ends InFrameset token e = by_covers tt (in_frameset_ends token e)
-in_mode_ends AfterFrameset token e = any_ends (after_frameset_ends token e)
-in_mode_ends AfterAfterBody token e = any_ends (after_after_body_ends token e)
-in_mode_ends AfterAfterFrameset token e = any_ends (after_after_frameset_ends token e)
+in_mode_ends mode token e = in_mode_holds (ended mode) refl token (is_markup token e) mode refl
 
 by_mode_ends : (token : TokenValue) → is_run token ≡ false → AnswerEnds is_any (by_mode_rules token)
 by_mode_ends token e = record { answers = λ s c h. (in_mode_ends s.mode token e).answers s refl h }
@@ -229,12 +210,8 @@ break_out_ends token e = record {
       record { ready = y.ready; rest = y.rest };
 }
 
-insert_alike_ends : (tag : StartTagValue) (space : Option Namespace) → Ends is_any (insert_alike space tag)
-insert_alike_ends tag None = ends_still
-insert_alike_ends tag (Some space) = insert_foreign_tag_ends space tag
-
 start_foreign_ends : (tag : StartTagValue) → Ends is_any (start_foreign_element tag)
-start_foreign_ends tag = ends_by_state (λ s. namespace_of (current s.stack).name) (insert_alike_ends tag)
+start_foreign_ends tag = ends_by_state (λ s. namespace_of (current s.stack).name) (alike_ends tag)
 
 start_in_foreign_ends : (tag : StartTagValue) → AnswerEnds is_any (start_in_foreign tag)
 start_in_foreign_ends tag =

@@ -182,10 +182,6 @@ pub listed_first : (n m : ℕ) (entries : List (Option ℕ)) → is_listed n (So
     → (n ≡ m) ⊎ (is_listed n entries ≡ true)
 listed_first n m entries l = test (m == n) (λ t. inl (sym (eqb-true m n t))) (λ t. inr (rw t at l))
 
-entry_is : (n m : ℕ) (e : Option ℕ) → is_entry n e ≡ true → is_entry m e ≡ true → n ≡ m
-entry_is n m None p q = absurd (true≢false (sym p))
-entry_is n m (Some k) p q = sym (eqb-true k n p) ∙ eqb-true k m q
-
 pub listed_replaced : (n old new : ℕ) (entries : List (Option ℕ)) → is_listed n (replace_entry old new entries)
     ≡ true
     → (n ≡ new) ⊎ (is_listed n entries ≡ true)

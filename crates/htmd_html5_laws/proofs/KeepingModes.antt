@@ -15,6 +15,7 @@ use Rattle.htmd_html5.specs.Tokens.{TokenValue, start_tag, end_tag, run, comment
 use Rattle.htmd_html5.specs.Answers.{Answer, done}
 use Rattle.htmd_html5.specs.Processing.{by_rules, after_answer, process_within, process, turns}
 use Rattle.htmd_html5.specs.BodyStarts.{is_in_template}
+use Rattle.htmd_html5.specs.InTable.{fostered}
 use Rattle.htmd_html5.specs.ForeignContent.{end_foreign}
 use Rattle.htmd_html5.specs.Modes.{leave_mode, by_mode_rules}
 use Rattle.htmd_html5_laws.proofs.OpenNodes.{Fewer, all_of, skip, leave_foreign_fewer}
@@ -23,7 +24,7 @@ use Rattle.htmd_html5_laws.proofs.KeepingRules.{KeepsAnswer, says, answers_by_te
 use Rattle.htmd_html5_laws.proofs.KeepingRules.{leave_template_keeps}
 use Rattle.htmd_html5_laws.proofs.Rules.{any_act, any_reply}
 use Rattle.htmd_html5_laws.proofs.RuleBook.{rule_in}
-use Rattle.htmd_html5_laws.proofs.RuleWalk.{IsMarkup, Invariant, in_mode_holds, by_rules_hold}
+use Rattle.htmd_html5_laws.proofs.RuleWalk.{IsMarkup, Invariant, Everywhere, in_mode_holds, by_rules_hold}
 use Rattle.htmd_html5_state.specs.declared.names.TagName.TheVariants as tags
 use Rattle.htmd_html5_state.specs.Foreign as foreign
 
@@ -33,13 +34,10 @@ abbrev pub is_run : TokenValue → Bool
 is_run (run kind text) = true
 is_run _ = false
 
-abbrev any_name : NameValue → Bool
+abbrev pub any_name : NameValue → Bool
 any_name name = true
 
-abbrev any_mode : InsertionMode → Bool
-any_mode mode = true
-
-is_markup : (t : TokenValue) → is_run t ≡ false → IsMarkup any_name t
+pub is_markup : (t : TokenValue) → is_run t ≡ false → IsMarkup any_name t
 is_markup (run kind s) e = e
 is_markup (start_tag tag) e = refl
 is_markup (end_tag name) e = tt
@@ -88,22 +86,36 @@ end_foreign_kept name ending s fewer by_rules h = either (goes_by_mode ending)
 
 -- ---- the rules
 
-keeping : Invariant any_name any_mode (λ name. any_act) (λ name. any_act) Keeps Keeps KeepsAnswer
+fostered_keeps : {f : StateValue → StateValue} → Keeps f → Keeps (fostered f)
+fostered_keeps h = record { keeps = λ s sound. h.keeps (record s { foster_parenting = true }) sound }
+
+keeping : Invariant any_name (λ mode. Unit {0}) (λ name. any_act) (λ name. any_act) (λ name. any_act) Keeps Keeps Keeps
+    KeepsAnswer
 keeping = record {
   acts = λ tag p a e. act_keeps tag a;
+  turn_acts = λ tag p a e. act_keeps tag a;
   last_acts = λ tag p a e. act_keeps tag a;
   fit = λ mode q t p. any_reply (rule_in mode t);
   still = nothing;
   after = after;
   by_test = by_test;
+  fosters = λ name e h. fostered_keeps h;
+  onward = λ h. h;
+  turn_after = after;
+  turn_by_test = by_test;
   calm = λ h. h;
   last_after = after;
   last_by_test = by_test;
+  last_fosters = λ name e h. fostered_keeps h;
   says_done = says;
   says = says;
   by_answer = answers_by_test;
-  by_mode = λ t h. record { keeps = λ s sound. (h s.mode refl).keeps s sound };
   ends_template = answers_by_test is_in_template (says leave_template_keeps) (says nothing);
+}
+
+keeping_everywhere : Everywhere any_name (λ mode. Unit {0}) (λ name. any_act) KeepsAnswer
+keeping_everywhere = record {
+  by_mode = λ t h. record { keeps = λ s sound. (h s.mode tt).keeps s sound };
   alike_allowed = λ name. refl;
   comment_allowed = λ text. refl;
   leaves = λ h. record {
@@ -118,17 +130,17 @@ keeping = record {
 
 -- what ends a mode and is processed again
 pub leave_mode_keeps : (mode : InsertionMode) → KeepsAnswer (leave_mode mode)
-leave_mode_keeps Initial = in_mode_holds keeping refl end_of_file tt Initial refl
-leave_mode_keeps BeforeHtml = in_mode_holds keeping refl end_of_file tt BeforeHtml refl
-leave_mode_keeps BeforeHead = in_mode_holds keeping refl end_of_file tt BeforeHead refl
-leave_mode_keeps InHead = in_mode_holds keeping refl end_of_file tt InHead refl
-leave_mode_keeps InHeadNoscript = in_mode_holds keeping refl end_of_file tt InHeadNoscript refl
-leave_mode_keeps AfterHead = in_mode_holds keeping refl end_of_file tt AfterHead refl
-leave_mode_keeps InColumnGroup = in_mode_holds keeping refl (end_tag (known tags.P)) tt InColumnGroup refl
-leave_mode_keeps _ = in_mode_holds keeping refl (end_tag (known tags.P)) tt AfterBody refl
+leave_mode_keeps Initial = in_mode_holds keeping refl end_of_file tt Initial tt
+leave_mode_keeps BeforeHtml = in_mode_holds keeping refl end_of_file tt BeforeHtml tt
+leave_mode_keeps BeforeHead = in_mode_holds keeping refl end_of_file tt BeforeHead tt
+leave_mode_keeps InHead = in_mode_holds keeping refl end_of_file tt InHead tt
+leave_mode_keeps InHeadNoscript = in_mode_holds keeping refl end_of_file tt InHeadNoscript tt
+leave_mode_keeps AfterHead = in_mode_holds keeping refl end_of_file tt AfterHead tt
+leave_mode_keeps InColumnGroup = in_mode_holds keeping refl (end_tag (known tags.P)) tt InColumnGroup tt
+leave_mode_keeps _ = in_mode_holds keeping refl (end_tag (known tags.P)) tt AfterBody tt
 
 by_rules_keeps : (token : TokenValue) → is_run token ≡ false → KeepsAnswer (by_rules token)
-by_rules_keeps token e = by_rules_hold keeping refl token (is_markup token e)
+by_rules_keeps token e = by_rules_hold keeping keeping_everywhere refl token (is_markup token e)
 
 -- ---- a token is processed
 

@@ -62,7 +62,10 @@ use Rattle.htmd_html5_laws.proofs.Rules.{section_closed, row_closed, cell_closed
 use Rattle.htmd_html5_laws.proofs.Rules.{frameset_closed, template_closed, root_attributes}
 use Rattle.htmd_html5_laws.proofs.Rules.{body_attributes, body_replaced, marked, to_marker, reconstructed, to_mode}
 use Rattle.htmd_html5_laws.proofs.Rules.{to_quirks, to_content, frames_refused, line_feed_skipped, noted_element, fostering}
+use Rattle.htmd_html5_laws.proofs.Rules.{empty_form, noscript_put, cell_put, head_left, noscript_left}
 use Rattle.htmd_html5_laws.proofs.RuleWalk.{left_fewer}
+use Rattle.htmd_html5_state.specs.declared.modes.InsertionMode.TheVariants.{InHead, InHeadNoscript, AfterHead, InCell}
+use Rattle.htmd_html5.specs.SharedRules.{insert_tag}
 use Rattle.htmd_html5_state.specs.declared.names.TagName.TheVariants as tags
 use Rattle.htmd_grammar.specs.declared.content.RawElement.TheVariants as raw
 
@@ -153,6 +156,10 @@ select_keeps tag = record {
 comment_in_keeps : (text : List ℕ) (n : Option ℕ) → Keeps (comment_in n text)
 comment_in_keeps text None = nothing
 comment_in_keeps text (Some n) = insert_comment_in_keeps n text
+
+noted_keeps : (tag : StartTagValue) → Keeps (λ s. with_form (insert_tag tag s))
+noted_keeps tag =
+    after (untouched {f = with_form} (λ s. refl) (λ s n l. l)) (insert_element_keeps tag.name tag.attributes)
 
 -- ---- what is closed
 
@@ -269,6 +276,11 @@ act_keeps tag (to_content mode) =
     after (push_template_mode_keeps mode) (after pop_template_mode_keeps (with_mode_keeps mode))
 act_keeps tag frames_refused = no_frameset_keeps
 act_keeps tag line_feed_skipped = untouched (λ s. refl) (λ s n l. l)
-act_keeps tag noted_element =
-    after (untouched {f = with_form} (λ s. refl) (λ s n l. l)) (insert_element_keeps tag.name tag.attributes)
-act_keeps tag (fostering b) = untouched (λ s. refl) (λ s n l. l)
+act_keeps tag noted_element = noted_keeps tag
+act_keeps tag empty_form = after (on_stack_keeps pop pop_fewer) (noted_keeps tag)
+act_keeps tag noscript_put = after (with_mode_keeps InHeadNoscript) (insert_element_keeps tag.name tag.attributes)
+act_keeps tag cell_put =
+    after push_marker_keeps (after (with_mode_keeps InCell) (insert_element_keeps tag.name tag.attributes))
+act_keeps tag head_left = after (with_mode_keeps AfterHead) (on_stack_keeps pop pop_fewer)
+act_keeps tag noscript_left = after (with_mode_keeps InHead) (on_stack_keeps pop pop_fewer)
+act_keeps tag fostering = untouched (λ s. refl) (λ s n l. l)

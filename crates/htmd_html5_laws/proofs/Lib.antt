@@ -44,9 +44,7 @@ pub mod PlainAdoption
 pub mod EndedStates
 pub mod EndedAdoption
 pub mod EndedSteps
-pub mod EndedBody
-pub mod EndedModes
-pub mod EndedTables
+pub mod EndedRules
 pub mod EndedTokens
 pub mod EndedRuns
 pub mod EndedPages

@@ -104,19 +104,6 @@ texts_new [] (comment s) e = refl
 texts_new [] (element name attributes) e = refl
 texts_new (k' ∷ ks) k e = ap (with_text k') (texts_new ks k e)
 
-pub with_no_text : (k : KindValue) (ts : List (List ℕ)) → is_text k ≡ false → with_text k ts ≡ ts
-with_no_text (text s) ts e = absurd (true≢false e)
-with_no_text document ts e = refl
-with_no_text doctype ts e = refl
-with_no_text (comment s) ts e = refl
-with_no_text (element name attributes) ts e = refl
-
-pub texts_set : (ks : List KindValue) (n : ℕ) (k : KindValue) → is_text k ≡ false
-    → is_text (get_or ks n document) ≡ false → texts (set ks n k) ≡ texts ks
-texts_set [] n k e f = refl
-texts_set (x ∷ ks) zero k e f = with_no_text k (texts ks) e ∙ sym (with_no_text x (texts ks) f)
-texts_set (x ∷ ks) (suc n) k e f = ap (with_text x) (texts_set ks n k e f)
-
 -- ---- elements stay elements
 
 pub element_no_text : (k : KindValue) → is_element k ≡ true → is_text k ≡ false

@@ -27,7 +27,7 @@ use Rattle.htmd_html5_laws.proofs.RootedModes.{by_rules_roots}
 use Rattle.htmd_html5_laws.proofs.Counted.{Choice}
 use Rattle.htmd_html5_laws.proofs.Rules.{reply_fits}
 use Rattle.htmd_html5_laws.proofs.RuleBook.{start_in, end_in, rule_in}
-use Rattle.htmd_html5_laws.proofs.RuleWalk.{tag_name, Invariant, by_rules_hold}
+use Rattle.htmd_html5_laws.proofs.RuleWalk.{tag_name, Invariant, Everywhere, by_rules_hold}
 use Rattle.htmd_html5_laws.proofs.OrderedStates.{Ordered, Orders, then_orders, unmoved, orders_by_test, ordered_fewer}
 use Rattle.htmd_html5_laws.proofs.OrderedRules.{is_orderly_name, IsOrderly, orderly_act, leave_template_orders}
 use Rattle.htmd_html5_laws.proofs.OrderedRules.{act_orders}
@@ -37,7 +37,7 @@ use Rattle.htmd_html5_state.specs.Foreign as foreign
 -- ---- the rules of the body move no text
 
 starts_fit : (name : NameValue) → is_orderly_name name ≡ true → (mode : InsertionMode) → is_late mode ≡ true
-    → reply_fits (orderly_act name) (orderly_act name) (start_in mode name) ≡ true
+    → reply_fits (orderly_act name) (orderly_act name) (orderly_act name) (start_in mode name) ≡ true
 starts_fit (known tags.FrameSet) q mode p = absurd (true≢false (sym q))
 starts_fit (known tags.Template) q mode p = absurd (true≢false (sym q))
 starts_fit (known tags.Table) q mode p = absurd (true≢false (sym q))
@@ -48,7 +48,8 @@ starts_fit name q AfterAfterBody p = refl
 starts_fit name q mode p = absurd (true≢false (sym p))
 
 ends_fit : (name : NameValue) (mode : InsertionMode) → is_late mode ≡ true
-    → reply_fits (orderly_act (known tags.P)) (orderly_act (known tags.P)) (end_in mode name) ≡ true
+    → reply_fits (orderly_act (known tags.P)) (orderly_act (known tags.P)) (orderly_act (known tags.P))
+    (end_in mode name) ≡ true
 ends_fit (known tags.A) InBody p = refl
 ends_fit name InBody p = refl
 ends_fit name InSelect p = refl
@@ -57,7 +58,8 @@ ends_fit name AfterAfterBody p = refl
 ends_fit name mode p = absurd (true≢false (sym p))
 
 all_fit : (mode : InsertionMode) → is_late mode ≡ true → (t : TokenValue) → IsOrderly t
-    → reply_fits (orderly_act (tag_name t)) (orderly_act (tag_name t)) (rule_in mode t) ≡ true
+    → reply_fits (orderly_act (tag_name t)) (orderly_act (tag_name t)) (orderly_act (tag_name t)) (rule_in mode t)
+    ≡ true
 all_fit mode p (start_tag tag) q = starts_fit tag.name q mode p
 all_fit mode p (end_tag name) q = ends_fit name mode p
 all_fit InBody p t q = refl
@@ -116,22 +118,33 @@ module _ (choice : Choice) where
       → LateOrders (λ s. answer (f s) (more s))
   said h = record { orders = λ letters s l x. order_step h letters s x }
 
-  order : Invariant is_orderly_name is_late orderly_act orderly_act (Orders choice) (Orders choice) LateOrders
+  order : Invariant is_orderly_name (λ mode. is_late mode ≡ true) orderly_act orderly_act orderly_act (Orders choice)
+      (Orders choice) (Orders choice) LateOrders
   order = record {
     acts = λ tag p a e. act_orders choice tag a e;
+    turn_acts = λ tag p a e. act_orders choice tag a e;
     last_acts = λ tag p a e. act_orders choice tag a e;
     fit = all_fit;
     still = unmoved choice;
     after = then_orders choice;
     by_test = orders_by_test choice;
+    fosters = λ name e h. absurd (true≢false (sym e));
+    onward = λ h. h;
+    turn_after = then_orders choice;
+    turn_by_test = orders_by_test choice;
     calm = λ h. h;
     last_after = then_orders choice;
     last_by_test = orders_by_test choice;
+    last_fosters = λ name e h. absurd (true≢false (sym e));
     says_done = said;
     says = said;
     by_answer = either_order;
-    by_mode = λ t h. record { orders = λ letters s l x. (h s.mode l).orders letters s l x };
     ends_template = either_order is_in_template (said (leave_template_orders choice)) (said (unmoved choice));
+  }
+
+  order_everywhere : Everywhere is_orderly_name (λ mode. is_late mode ≡ true) orderly_act LateOrders
+  order_everywhere = record {
+    by_mode = λ t h. record { orders = λ letters s l x. (h s.mode l).orders letters s l x };
     alike_allowed = λ name. refl;
     comment_allowed = λ text. refl;
     leaves = λ h. record {
@@ -162,7 +175,7 @@ module _ (choice : Choice) where
   pub by_rules_late : (t : TokenValue) → IsOrderly t → (letters : List ℕ) (s : StateValue)
       → is_text_mode s.content ≡ false → Late letters s → LateAnswer letters (by_rules t s)
   by_rules_late t p letters s e h =
-      let x = (by_rules_hold order refl t p).orders letters s h.rooted.late
+      let x = (by_rules_hold order order_everywhere refl t p).orders letters s h.rooted.late
       (record { plain = h.plain; hung = h.hung; ordered = h.ordered }) in
       let y = (by_rules_roots t p).leaves h.body s h.plain h.rooted in
       record {

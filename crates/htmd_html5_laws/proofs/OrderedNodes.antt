@@ -195,9 +195,6 @@ lt_false a b l = grind (arith, l)
 pub lt_less : (a b : ℕ) → nat_lt a b ≡ true → a < b
 lt_less a b e = grind (arith, e)
 
-pub lt_not : (a b : ℕ) → nat_lt a b ≡ false → b ≤ a
-lt_not a b e = grind (arith, e)
-
 module _ (choice : Choice) where
   -- labels with which all that stands above a node has ended
   pub record Settled (rank : ℕ → ℕ) (p : ℕ) (letters : List ℕ) (nodes : List NodeValue)

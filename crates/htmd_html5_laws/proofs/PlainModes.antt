@@ -1,5 +1,5 @@
--- A token that is no text leaves a plain state plain, by the rules of the mode and in foreign content, if it is no start
--- tag whose name isn't plain.
+-- A token that is no text leaves a plain state plain, by the rules of the mode and in foreign content, if it is no
+-- start tag whose name isn't plain.
 use Rattle.std.proofs.Common.{◌≡◌, true, refl, sym}
 use Rattle.std.proofs.lemmas.Bool.{true≢false}
 use Rattle.htmd_html5_state.specs.Names.{NameValue, known, text_of_name}
@@ -8,10 +8,9 @@ use Rattle.htmd_html5_state.specs.Foreign.{ForeignEnd, by_mode, closed_to, forei
 use Rattle.htmd_html5_state.specs.declared.modes.InsertionMode.{InsertionMode}
 use Rattle.htmd_html5_state.specs.declared.modes.InsertionMode.TheVariants.{Initial, InColumnGroup}
 use Rattle.htmd_html5_state.specs.declared.modes.InsertionMode.TheVariants.{InTemplate, InFrameset, AfterFrameset}
-use Rattle.htmd_html5_state.specs.declared.modes.InsertionMode.TheVariants.{AfterAfterFrameset, InBody, AfterBody}
+use Rattle.htmd_html5_state.specs.declared.modes.InsertionMode.TheVariants.{AfterAfterFrameset, AfterBody}
 use Rattle.htmd_html5.specs.Tokens.{TokenValue, start_tag, end_tag, end_of_file}
 use Rattle.htmd_html5.specs.BodyStarts.{is_in_template}
-use Rattle.htmd_html5.specs.InBody.{end_of_file_in_body}
 use Rattle.htmd_html5.specs.AfterBody.{back_to_body}
 use Rattle.htmd_html5.specs.ForeignContent.{end_foreign}
 use Rattle.htmd_html5.specs.Modes.{in_mode, by_mode_rules}
@@ -22,11 +21,11 @@ use Rattle.htmd_html5_laws.proofs.PlainNames.{is_plain_name, is_plain_open}
 use Rattle.htmd_html5_laws.proofs.HungStates.{Hung, hung_fewer}
 use Rattle.htmd_html5_laws.proofs.PlainStates.{is_plain_mode, Plain, Stays, then_stays, still, stays_by_test}
 use Rattle.htmd_html5_laws.proofs.PlainStates.{plain_stack}
-use Rattle.htmd_html5_laws.proofs.PlainRules.{StaysAnswer, says_plain, answers_either, plain_act}
+use Rattle.htmd_html5_laws.proofs.PlainRules.{StaysAnswer, says_plain, answers_either, plain_act, fostered_stays}
 use Rattle.htmd_html5_laws.proofs.PlainRules.{leave_template_stays, act_stays}
 use Rattle.htmd_html5_laws.proofs.Rules.{reply_fits}
 use Rattle.htmd_html5_laws.proofs.RuleBook.{start_in, end_in, rule_in}
-use Rattle.htmd_html5_laws.proofs.RuleWalk.{IsMarkup, tag_name, Invariant, in_mode_holds, by_rules_hold}
+use Rattle.htmd_html5_laws.proofs.RuleWalk.{IsMarkup, tag_name, Invariant, Everywhere, in_mode_holds, by_rules_hold}
 use Rattle.htmd_html5_state.specs.declared.names.TagName.TheVariants as tags
 use Rattle.htmd_html5_state.specs.Foreign as foreign
 
@@ -37,7 +36,8 @@ IsPlain t = IsMarkup is_plain_name t
 -- ---- the rules lead to plain modes, and insert elements with plain names
 
 starts_fit : (name : NameValue) → is_plain_name name ≡ true → (mode : InsertionMode)
-    → is_plain_mode mode ≡ true → reply_fits (plain_act name) (plain_act name) (start_in mode name) ≡ true
+    → is_plain_mode mode ≡ true → reply_fits (plain_act name) (plain_act name) (plain_act name) (start_in mode name)
+    ≡ true
 starts_fit (known tags.FrameSet) q mode p = absurd (true≢false (sym q))
 starts_fit (known tags.Template) q mode p = absurd (true≢false (sym q))
 starts_fit (known tags.Col) q mode p = absurd (true≢false (sym q))
@@ -50,7 +50,8 @@ starts_fit name q AfterAfterFrameset p = absurd (true≢false (sym p))
 starts_fit name q mode p = refl
 
 ends_fit : (name : NameValue) (mode : InsertionMode) → is_plain_mode mode ≡ true
-    → reply_fits (plain_act (known tags.P)) (plain_act (known tags.P)) (end_in mode name) ≡ true
+    → reply_fits (plain_act (known tags.P)) (plain_act (known tags.P)) (plain_act (known tags.P)) (end_in mode name)
+    ≡ true
 ends_fit (known tags.A) Initial p = refl
 ends_fit name InColumnGroup p = absurd (true≢false (sym p))
 ends_fit name InTemplate p = absurd (true≢false (sym p))
@@ -60,7 +61,7 @@ ends_fit name AfterAfterFrameset p = absurd (true≢false (sym p))
 ends_fit name mode p = refl
 
 others_fit : (mode : InsertionMode) → is_plain_mode mode ≡ true → (t : TokenValue) → IsPlain t
-    → reply_fits (plain_act (tag_name t)) (plain_act (tag_name t)) (rule_in mode t) ≡ true
+    → reply_fits (plain_act (tag_name t)) (plain_act (tag_name t)) (plain_act (tag_name t)) (rule_in mode t) ≡ true
 others_fit mode p (start_tag tag) q = starts_fit tag.name q mode p
 others_fit mode p (end_tag name) q = ends_fit name mode p
 others_fit Initial p t q = refl
@@ -89,25 +90,36 @@ end_foreign_hung name by_rules foreign.nothing s e h x = x
 
 -- ---- the rules
 
-plainness : Invariant is_plain_name is_plain_mode plain_act plain_act Stays Stays StaysAnswer
+plainness : Invariant is_plain_name (λ mode. is_plain_mode mode ≡ true) plain_act plain_act plain_act Stays Stays Stays
+    StaysAnswer
 plainness = record {
   acts = λ tag p a e. act_stays tag a e;
+  turn_acts = λ tag p a e. act_stays tag a e;
   last_acts = λ tag p a e. act_stays tag a e;
   fit = others_fit;
   still = still;
   after = then_stays;
   by_test = stays_by_test;
+  fosters = λ name e h. fostered_stays h;
+  onward = λ h. h;
+  turn_after = then_stays;
+  turn_by_test = stays_by_test;
   calm = λ h. h;
   last_after = then_stays;
   last_by_test = stays_by_test;
+  last_fosters = λ name e h. fostered_stays h;
   says_done = says_plain;
   says = says_plain;
   by_answer = answers_either;
+  ends_template = answers_either is_in_template (says_plain leave_template_stays) (says_plain still);
+}
+
+plain_everywhere : Everywhere is_plain_name (λ mode. is_plain_mode mode ≡ true) plain_act StaysAnswer
+plain_everywhere = record {
   by_mode = λ t h. record {
     stays = λ s plain. (h s.mode plain.plain_mode).stays s plain;
     hangs = λ s plain x. (h s.mode plain.plain_mode).hangs s plain x;
   };
-  ends_template = answers_either is_in_template (says_plain leave_template_stays) (says_plain still);
   alike_allowed = λ name. refl;
   comment_allowed = λ text. refl;
   leaves = λ h. record {
@@ -134,8 +146,5 @@ left_stays mode q = in_mode_stays end_of_file tt mode q
 pub back_to_body_stays : StaysAnswer back_to_body
 back_to_body_stays = in_mode_stays (end_tag (known tags.P)) tt AfterBody refl
 
-pub end_of_file_stays : StaysAnswer end_of_file_in_body
-end_of_file_stays = left_stays InBody refl
-
 pub by_rules_stays : (t : TokenValue) → IsPlain t → StaysAnswer (by_rules t)
-by_rules_stays t p = by_rules_hold plainness refl t p
+by_rules_stays t p = by_rules_hold plainness plain_everywhere refl t p

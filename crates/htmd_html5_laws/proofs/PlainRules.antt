@@ -59,7 +59,10 @@ use Rattle.htmd_html5_laws.proofs.Rules.{cell_closed, cell_left, select_closed, 
 use Rattle.htmd_html5_laws.proofs.Rules.{template_closed, root_attributes, body_attributes}
 use Rattle.htmd_html5_laws.proofs.Rules.{body_replaced, marked, to_marker, reconstructed, to_mode, to_quirks, to_content}
 use Rattle.htmd_html5_laws.proofs.Rules.{frames_refused, line_feed_skipped, noted_element, fostering}
+use Rattle.htmd_html5_laws.proofs.Rules.{empty_form, noscript_put, cell_put, head_left, noscript_left}
 use Rattle.htmd_html5_laws.proofs.RuleWalk.{left_fewer}
+use Rattle.htmd_html5_state.specs.declared.modes.InsertionMode.TheVariants.{InHeadNoscript, AfterHead}
+use Rattle.htmd_html5.specs.SharedRules.{insert_tag}
 use Rattle.htmd_html5_state.specs.declared.names.TagName.TheVariants as tags
 use Rattle.htmd_grammar.specs.declared.content.RawElement.TheVariants as raw
 
@@ -119,6 +122,9 @@ plain_act name late_of_head = is_plain_name name
 plain_act name formatting = is_plain_name name
 plain_act name select = is_plain_name name
 plain_act name noted_element = is_plain_name name
+plain_act name empty_form = is_plain_name name
+plain_act name noscript_put = is_plain_name name
+plain_act name cell_put = is_plain_name name
 plain_act name (agency other) = is_plain other
 plain_act name (to_mode mode) = is_plain_mode mode
 plain_act name (to_content mode) = false
@@ -285,6 +291,9 @@ module _ (tag : StartTagValue) (p : is_plain_name tag.name ≡ true) where
     hangs = λ s h x. late_hung s.head s refl h x;
   }
 
+noted_stays : (tag : StartTagValue) → is_plain_name tag.name ≡ true → Stays (λ s. with_form (insert_tag tag s))
+noted_stays tag p = then_stays with_form_stays (insert_element_stays tag.name tag.attributes p)
+
 -- ---- acts
 
 module _ (tag : StartTagValue) where
@@ -352,5 +361,13 @@ module _ (tag : StartTagValue) where
   act_stays (to_content mode) e = absurd (true≢false (sym e))
   act_stays frames_refused e = no_frameset_stays
   act_stays line_feed_skipped e = skip_line_feed_stays
-  act_stays noted_element e = then_stays with_form_stays (insert_element_stays tag.name tag.attributes e)
-  act_stays (fostering b) e = record { stays = λ s h. h; hangs = λ s h x. x }
+  act_stays noted_element e = noted_stays tag e
+  act_stays empty_form e = then_stays (on_stack_stays pop pop_fewer) (noted_stays tag e)
+  act_stays noscript_put e =
+      then_stays (with_mode_stays InHeadNoscript refl) (insert_element_stays tag.name tag.attributes e)
+  act_stays cell_put e =
+      then_stays push_marker_stays
+      (then_stays (with_mode_stays InCell refl) (insert_element_stays tag.name tag.attributes e))
+  act_stays head_left e = then_stays (with_mode_stays AfterHead refl) (on_stack_stays pop pop_fewer)
+  act_stays noscript_left e = then_stays (with_mode_stays InHead refl) (on_stack_stays pop pop_fewer)
+  act_stays fostering e = record { stays = λ s h. h; hangs = λ s h x. x }

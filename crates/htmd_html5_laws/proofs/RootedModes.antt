@@ -22,14 +22,14 @@ use Rattle.htmd_html5_laws.proofs.RootedRules.{act_roots, last_act_roots}
 use Rattle.htmd_html5_laws.proofs.OrderedRules.{is_orderly_name, IsOrderly}
 use Rattle.htmd_html5_laws.proofs.Rules.{reply_fits}
 use Rattle.htmd_html5_laws.proofs.RuleBook.{start_in, end_in, rule_in}
-use Rattle.htmd_html5_laws.proofs.RuleWalk.{tag_name, Invariant, by_rules_hold}
+use Rattle.htmd_html5_laws.proofs.RuleWalk.{tag_name, Invariant, Everywhere, by_rules_hold}
 use Rattle.htmd_html5_state.specs.declared.names.TagName.TheVariants as tags
 use Rattle.htmd_html5_state.specs.Foreign as foreign
 
 -- ---- the rules of the body close none of what is open around it
 
 starts_fit : (name : NameValue) → is_orderly_name name ≡ true → (mode : InsertionMode) → is_late mode ≡ true
-    → reply_fits (rooted_act name) (last_rooted_act name) (start_in mode name) ≡ true
+    → reply_fits (rooted_act name) (rooted_act name) (last_rooted_act name) (start_in mode name) ≡ true
 starts_fit (known tags.FrameSet) q mode p = absurd (true≢false (sym q))
 starts_fit (known tags.Template) q mode p = absurd (true≢false (sym q))
 starts_fit (known tags.Table) q mode p = absurd (true≢false (sym q))
@@ -40,7 +40,8 @@ starts_fit name q AfterAfterBody p = refl
 starts_fit name q mode p = absurd (true≢false (sym p))
 
 ends_fit : (name : NameValue) (mode : InsertionMode) → is_late mode ≡ true
-    → reply_fits (rooted_act (known tags.P)) (last_rooted_act (known tags.P)) (end_in mode name) ≡ true
+    → reply_fits (rooted_act (known tags.P)) (rooted_act (known tags.P)) (last_rooted_act (known tags.P))
+    (end_in mode name) ≡ true
 ends_fit (known tags.A) InBody p = refl
 ends_fit name InBody p = refl
 ends_fit name InSelect p = refl
@@ -49,7 +50,8 @@ ends_fit name AfterAfterBody p = refl
 ends_fit name mode p = absurd (true≢false (sym p))
 
 all_fit : (mode : InsertionMode) → is_late mode ≡ true → (t : TokenValue) → IsOrderly t
-    → reply_fits (rooted_act (tag_name t)) (last_rooted_act (tag_name t)) (rule_in mode t) ≡ true
+    → reply_fits (rooted_act (tag_name t)) (rooted_act (tag_name t)) (last_rooted_act (tag_name t))
+    (rule_in mode t) ≡ true
 all_fit mode p (start_tag tag) q = starts_fit tag.name q mode p
 all_fit mode p (end_tag name) q = ends_fit name mode p
 all_fit InBody p t q = refl
@@ -76,22 +78,33 @@ end_foreign_rooted name by_rules foreign.nothing body s e plain h = record { roo
 
 -- ---- the rules
 
-rooting : Invariant is_orderly_name is_late rooted_act last_rooted_act Roots TagRoots AnswerRoots
+rooting : Invariant is_orderly_name (λ mode. is_late mode ≡ true) rooted_act rooted_act last_rooted_act
+    Roots Roots TagRoots AnswerRoots
 rooting = record {
   acts = λ tag p a e. act_roots tag a e;
+  turn_acts = λ tag p a e. act_roots tag a e;
   last_acts = λ tag p a e. last_act_roots tag a e;
   fit = all_fit;
   still = rooted_still;
   after = then_roots;
   by_test = roots_by_test;
+  fosters = λ name e h. absurd (true≢false (sym e));
+  onward = λ h. h;
+  turn_after = then_roots;
+  turn_by_test = roots_by_test;
   calm = steady;
   last_after = tag_after;
   last_by_test = tags_by_test;
+  last_fosters = λ name e h. absurd (true≢false (sym e));
   says_done = tag_rooted;
   says = says_rooted;
   by_answer = answers_rooted;
-  by_mode = λ t h. record { leaves = λ body s plain x. (h s.mode x.late).leaves body s plain x };
   ends_template = template_ended;
+}
+
+rooting_everywhere : Everywhere is_orderly_name (λ mode. is_late mode ≡ true) rooted_act AnswerRoots
+rooting_everywhere = record {
+  by_mode = λ t h. record { leaves = λ body s plain x. (h s.mode x.late).leaves body s plain x };
   alike_allowed = λ name. refl;
   comment_allowed = λ text. refl;
   leaves = λ h. record {
@@ -107,4 +120,4 @@ rooting = record {
 }
 
 pub by_rules_roots : (t : TokenValue) → IsOrderly t → AnswerRoots (by_rules t)
-by_rules_roots t p = by_rules_hold rooting refl t p
+by_rules_roots t p = by_rules_hold rooting rooting_everywhere refl t p

@@ -51,6 +51,7 @@ use Rattle.htmd_html5_laws.proofs.Rules.{comment, comment_in_root, comment_in_do
 use Rattle.htmd_html5_laws.proofs.Rules.{noted_form, select_closed, template_closed, root_attributes, body_attributes}
 use Rattle.htmd_html5_laws.proofs.Rules.{marked, to_marker, reconstructed, to_mode, frames_refused, line_feed_skipped}
 use Rattle.htmd_html5_laws.proofs.Rules.{noted_element}
+use Rattle.htmd_html5_laws.proofs.RuleWalk.{is_off}
 use Rattle.htmd_html5_state.specs.declared.names.TagName.TheVariants as tags
 use Rattle.htmd_grammar.specs.declared.content.RawElement.TheVariants as raw
 
@@ -149,10 +150,6 @@ spares_set (Only tag) = not (is_outer_tag tag)
 spares_set Headings = true
 spares_set DescriptionParts = true
 spares_set set = false
-
-is_off : (b : Bool) → not b ≡ true → b ≡ false
-is_off true e = absurd (true≢false (sym e))
-is_off false e = refl
 
 set_spares : (set : NameSet) → spares_set set ≡ true → Spares set
 set_spares (Only tag) e = only_spares tag (is_off (is_outer_tag tag) e)

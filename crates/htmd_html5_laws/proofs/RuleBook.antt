@@ -1,5 +1,5 @@
 -- The rules of the modes for tags, comments, doctypes and the end of the file, as data.
-use Rattle.std.specs.Prelude.{ℕ, Bool, true, false, ◌||◌, if◌then◌else◌, List, is_some}
+use Rattle.std.specs.Prelude.{ℕ, Bool, true, ◌||◌, if◌then◌else◌, List, is_some}
 use Rattle.htmd_html5_state.specs.Names.{NameValue, known}
 use Rattle.htmd_html5_state.specs.OpenElements.{is_in_scope}
 use Rattle.htmd_html5_state.specs.Resetting.{has_modes}
@@ -30,7 +30,7 @@ use Rattle.htmd_html5.specs.InRow.{has_row}
 use Rattle.htmd_html5.specs.InCell.{leaves_cell}
 use Rattle.htmd_html5.specs.InSelect.{has_select, is_table_part}
 use Rattle.htmd_html5.specs.InTemplate.{mode_of_content}
-use Rattle.htmd_html5_laws.proofs.Rules.{Given, own, implied, renamed, current_node, in_scope, each_of, back_to, one_of, named}
+use Rattle.htmd_html5_laws.proofs.Rules.{Given, own, implied, renamed, in_scope, each_of, back_to, one_of, named}
 use Rattle.htmd_html5_laws.proofs.Rules.{heading, option, option_and_group, group, element, void, root, head, raw_text}
 use Rattle.htmd_html5_laws.proofs.Rules.{of_head, late_of_head, foreign, formatting, select, comment_in_root}
 use Rattle.htmd_html5_laws.proofs.Rules.{comment_in_document, started, cut, agency, forget_anchor, noted_form}
@@ -39,9 +39,10 @@ use Rattle.htmd_html5_laws.proofs.Rules.{cell_closed, cell_left, select_closed, 
 use Rattle.htmd_html5_laws.proofs.Rules.{template_closed, root_attributes, body_attributes}
 use Rattle.htmd_html5_laws.proofs.Rules.{body_replaced, marked, to_marker, reconstructed, to_mode, to_quirks, to_content}
 use Rattle.htmd_html5_laws.proofs.Rules.{frames_refused, line_feed_skipped, noted_element, Rule, nothing, act, ◌⨾◌, when}
-use Rattle.htmd_html5_laws.proofs.Rules.{fostering, Reply, ends, again_if, either, template_ended}
+use Rattle.htmd_html5_laws.proofs.Rules.{foster, Reply, ends, again_if, either, template_ended}
 use Rattle.htmd_html5_state.specs.declared.names.TagName.TheVariants as tags
 use Rattle.htmd_grammar.specs.declared.content.RawElement.TheVariants as raw
+use Rattle.htmd_html5_laws.proofs.Rules.{head_left, noscript_put, noscript_left, cell_put, empty_form}
 use Rattle.htmd_html5_laws.proofs.Rules as rules
 use Rattle.htmd_html5.specs.InTable as table
 use Rattle.htmd_html5.specs.InCaption as caption
@@ -55,10 +56,6 @@ insert = act (element own)
 
 abbrev pub close_paragraph : Rule
 close_paragraph = act (cut (in_scope (Only tags.P) ButtonScope))
-
--- with foster parenting (13.2.6.1)
-abbrev pub foster : Rule → Rule
-foster r = act (fostering true) ⨾ r ⨾ act (fostering false)
 
 -- the token is processed again
 abbrev pub again : Rule → Reply
@@ -381,12 +378,12 @@ end_before_head (known tags.Br) = imply_head
 end_before_head _ = ignore
 
 abbrev pub close_head : Rule
-close_head = act (cut current_node) ⨾ act (to_mode AfterHead)
+close_head = act head_left
 
 abbrev pub start_in_head : NameValue → Reply
 start_in_head (known tags.Html) = ends (act root_attributes)
 start_in_head (known tags.NoScript) =
-    ends (when (λ tag s. s.scripting) (act (raw_text raw.Noscript)) (insert ⨾ act (to_mode InHeadNoscript)))
+    ends (when (λ tag s. s.scripting) (act (raw_text raw.Noscript)) (act noscript_put))
 start_in_head (known tags.Head) = ignore
 start_in_head (known tag) = if is_head_tag tag then put_in_head else again close_head
 start_in_head _ = again close_head
@@ -400,7 +397,7 @@ end_in_head (known tags.Br) = again close_head
 end_in_head _ = ignore
 
 abbrev pub close_noscript : Rule
-close_noscript = act (cut current_node) ⨾ act (to_mode InHead)
+close_noscript = act noscript_left
 
 abbrev pub start_in_noscript : NameValue → Reply
 start_in_noscript (known tags.Html) = ends (act root_attributes)
@@ -427,7 +424,7 @@ put_late = ends (act late_of_head)
 
 abbrev pub start_after_head : NameValue → Reply
 start_after_head (known tags.Html) = ends (act root_attributes)
-start_after_head (known tags.Body) = ends (insert ⨾ act (to_mode InBody) ⨾ act frames_refused)
+start_after_head (known tags.Body) = ends (insert ⨾ act frames_refused ⨾ act (to_mode InBody))
 start_after_head (known tags.FrameSet) = ends (insert ⨾ act (to_mode InFrameset))
 start_after_head (known tags.Head) = ignore
 start_after_head (known tag) = if is_head_tag tag then put_late else imply_body
@@ -460,7 +457,7 @@ part (known tags.Script) = act of_head
 part (known tags.Template) = act of_head
 part (known tags.Input) = when (λ tag s. is_hidden tag) (act (void own)) (foster (start_of (known tags.Input)))
 part (known tags.Form) =
-    when (λ tag s. is_some s.form || is_in_template s) nothing (act noted_element ⨾ act (cut current_node))
+    when (λ tag s. is_some s.form || is_in_template s) nothing (act empty_form)
 part name = foster (start_of name)
 
 abbrev pub start_in_table : NameValue → Reply
@@ -532,7 +529,7 @@ end_in_section (known tag) = if table_body.ends_nothing tag then ignore else end
 end_in_section name = ends (end_in_table name)
 
 abbrev pub cell : Reply
-cell = ends (act (cut (back_to TableRowContext)) ⨾ insert ⨾ act (to_mode InCell) ⨾ act marked)
+cell = ends (act (cut (back_to TableRowContext)) ⨾ act cell_put)
 
 abbrev pub leave_row : Reply
 leave_row = again_if has_row (act row_closed)

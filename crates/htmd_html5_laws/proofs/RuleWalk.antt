@@ -1,7 +1,7 @@
 -- One walk over the rules of the modes: what holds of each act, and of acts one after another, holds of each token that
 -- is no text.
-use Rattle.std.proofs.Common.{◌≡◌, ℕ, Bool, true, false, List, []}
-use Rattle.std.specs.Prelude.{if◌then◌else◌}
+use Rattle.std.proofs.Common.{◌≡◌, ℕ, Bool, true, false, List, [], refl, sym}
+use Rattle.std.specs.Prelude.{if◌then◌else◌, not}
 use Rattle.std.proofs.lemmas.Bool.{true≢false, and_parts}
 use Rattle.htmd_grammar.specs.ValueTrees.{AttributePair}
 use Rattle.htmd_html5_state.specs.Names.{NameValue, known, text_of_name}
@@ -15,23 +15,28 @@ use Rattle.htmd_html5.specs.Answers.{Answer, answer, done}
 use Rattle.htmd_html5.specs.BodyStarts.{block_rule, formatting_rule, phrasing_rule}
 use Rattle.htmd_html5.specs.BodyEnds.{text_end_rule}
 use Rattle.htmd_html5.specs.InBody.{end_of_file_in_template}
+use Rattle.htmd_html5.specs.InTable.{fostered}
 use Rattle.htmd_html5.specs.ForeignContent.{is_foreign, tag_breaks_out, end_breaks_out, start_in_foreign}
 use Rattle.htmd_html5.specs.ForeignContent.{end_foreign, end_in_foreign, in_foreign_content}
 use Rattle.htmd_html5.specs.Modes.{in_mode, by_mode_rules}
 use Rattle.htmd_html5.specs.Processing.{by_rules}
-use Rattle.htmd_html5_laws.proofs.OpenNodes.{Fewer, pop_fewer, close_fewer, pop_while_fewer, clear_to_fewer}
+use Rattle.htmd_html5_laws.proofs.OpenNodes.{Fewer, close_fewer, pop_while_fewer, clear_to_fewer}
 use Rattle.htmd_html5_laws.proofs.OpenNodes.{pop_until_fewer, close_name_fewer, close_heading_fewer, close_option_fewer}
 use Rattle.htmd_html5_laws.proofs.OpenNodes.{option_and_group_fewer, group_fewer}
-use Rattle.htmd_html5_laws.proofs.Rules.{Cut, current_node, in_scope, each_of, back_to, one_of, named, heading, option}
+use Rattle.htmd_html5_laws.proofs.Rules.{Cut, in_scope, each_of, back_to, one_of, named, heading, option}
 use Rattle.htmd_html5_laws.proofs.Rules.{option_and_group, group, left_open}
 use Rattle.htmd_html5_laws.proofs.Rules.{Act, act_on, foreign_alike, Rule, nothing, act, ◌⨾◌, when}
-use Rattle.htmd_html5_laws.proofs.Rules.{Reply, ends, again_if, either, template_ended, reply_of, fits, last_fits, reply_fits}
+use Rattle.htmd_html5_laws.proofs.Rules.{Reply, ends, again_if, either, template_ended, reply_of, fits, turn_fits, last_fits, reply_fits}
+use Rattle.htmd_html5_laws.proofs.Rules.{foster, fostering}
 use Rattle.htmd_html5_laws.proofs.RuleBook.{start_in, end_in, comment_in, doctype_in, end_of_file_in, rule_in}
 use Rattle.htmd_html5_state.specs.declared.names.TagName.TheVariants as tags
 use Rattle.htmd_html5_laws.proofs.Rules as rules
 
+pub is_off : (b : Bool) → not b ≡ true → b ≡ false
+is_off true e = absurd (true≢false (sym e))
+is_off false e = refl
+
 pub left_fewer : (what : Cut) (stack : List OpenValue) → Fewer (left_open what stack) stack
-left_fewer current_node stack = pop_fewer stack
 left_fewer (in_scope set scope) stack = close_fewer set scope stack
 left_fewer (each_of set) stack = pop_while_fewer set stack
 left_fewer (back_to set) stack = clear_to_fewer set stack
@@ -53,36 +58,52 @@ abbrev pub tag_name : TokenValue → NameValue
 tag_name (start_tag tag) = tag.name
 tag_name _ = known tags.P
 
--- what holds of a step (P), of all that is done for a token (T), and of an answer (A), if each start tag has one of these
--- names, each mode is one of these, and each act, and the last act, is allowed for a tag of that name
-pub record Invariant (names : NameValue → Bool) (modes : InsertionMode → Bool) (may last : NameValue → Act → Bool)
-    (P T : (StateValue → StateValue) → Type 0) (A : (StateValue → Answer) → Type 0)
+-- what holds of a step (P), of what is done for a token that is processed again (U) or not (T), and of an answer (A),
+-- if each start tag has one of these names, the mode is one of these, and each act, and the last act, is allowed for a
+-- tag of that name
+pub record Invariant (names : NameValue → Bool) (Modes : InsertionMode → Type 0)
+    (may turn last : NameValue → Act → Bool) (P U T : (StateValue → StateValue) → Type 0)
+    (A : (StateValue → Answer) → Type 0)
     : Type 0 where
   -- each act, and each rule
   pub acts : (tag : StartTagValue) → names tag.name ≡ true → (a : Act) → may tag.name a ≡ true
       → P (act_on a tag)
+  pub turn_acts : (tag : StartTagValue) → names tag.name ≡ true → (a : Act) → turn tag.name a ≡ true
+      → U (act_on a tag)
   pub last_acts : (tag : StartTagValue) → names tag.name ≡ true → (a : Act) → last tag.name a ≡ true
       → T (act_on a tag)
-  pub fit : (mode : InsertionMode) → modes mode ≡ true → (t : TokenValue) → IsMarkup names t
-      → reply_fits (may (tag_name t)) (last (tag_name t)) (rule_in mode t) ≡ true
+  pub fit : (mode : InsertionMode) → Modes mode → (t : TokenValue) → IsMarkup names t
+      → reply_fits (may (tag_name t)) (turn (tag_name t)) (last (tag_name t)) (rule_in mode t) ≡ true
   -- rules put together
   pub still : P (λ s. s)
   pub after : {f g : StateValue → StateValue} → P f → P g → P (λ s. f (g s))
   pub by_test : {f g : StateValue → StateValue} (b : StateValue → Bool) → P f → P g
       → P (λ s. if b s then f s else g s)
+  pub fosters : {f : StateValue → StateValue} (name : NameValue) → may name fostering ≡ true → P f
+      → P (fostered f)
+  pub onward : {f : StateValue → StateValue} → P f → U f
+  pub turn_after : {f g : StateValue → StateValue} → U f → P g → U (λ s. f (g s))
+  pub turn_by_test : {f g : StateValue → StateValue} (b : StateValue → Bool) → U f → U g
+      → U (λ s. if b s then f s else g s)
   pub calm : {f : StateValue → StateValue} → P f → T f
   pub last_after : {f g : StateValue → StateValue} → T f → P g → T (λ s. f (g s))
   pub last_by_test : {f g : StateValue → StateValue} (b : StateValue → Bool) → T f → T g
       → T (λ s. if b s then f s else g s)
+  pub last_fosters : {f : StateValue → StateValue} (name : NameValue) → may name fostering ≡ true → T f
+      → T (fostered f)
   -- answers
   pub says_done : {f : StateValue → StateValue} → T f → A (λ s. done (f s))
-  pub says : {f : StateValue → StateValue} {more : StateValue → Bool} → P f → A (λ s. answer (f s) (more s))
+  pub says : {f : StateValue → StateValue} {more : StateValue → Bool} → U f → A (λ s. answer (f s) (more s))
   pub by_answer : {f g : StateValue → Answer} (b : StateValue → Bool) → A f → A g
       → A (λ s. if b s then f s else g s)
-  pub by_mode : (t : TokenValue) → ((mode : InsertionMode) → modes mode ≡ true → A (in_mode mode t))
-      → A (by_mode_rules t)
   pub ends_template : A end_of_file_in_template
-  -- foreign content
+
+-- and it holds in any mode, and in foreign content
+pub record Everywhere (names : NameValue → Bool) (Modes : InsertionMode → Type 0) (may : NameValue → Act → Bool)
+    (A : (StateValue → Answer) → Type 0)
+    : Type 0 where
+  pub by_mode : (t : TokenValue) → ((mode : InsertionMode) → Modes mode → A (in_mode mode t))
+      → A (by_mode_rules t)
   pub alike_allowed : (name : NameValue) → may name foreign_alike ≡ true
   pub comment_allowed : (text : List ℕ) → may (known tags.P) (rules.comment text) ≡ true
   pub leaves : {f : StateValue → Answer} → A f → A (λ s. f (on_stack (leave_foreign s.nodes) s))
@@ -93,16 +114,27 @@ pub record Invariant (names : NameValue → Bool) (modes : InsertionMode → Boo
 abbrev no_tag : StartTagValue
 no_tag = record { name = known tags.P; attributes = []; self_closing = false }
 
-module _ {names : NameValue → Bool} {modes : InsertionMode → Bool} {may last : NameValue → Act → Bool}
-    {P T : (StateValue → StateValue) → Type 0} {A : (StateValue → Answer) → Type 0}
-    (i : Invariant names modes may last P T A) (plain : names (known tags.P) ≡ true) where
+module _ {names : NameValue → Bool} {Modes : InsertionMode → Type 0} {may turn last : NameValue → Act → Bool}
+    {P U T : (StateValue → StateValue) → Type 0} {A : (StateValue → Answer) → Type 0}
+    (i : Invariant names Modes may turn last P U T A) (plain : names (known tags.P) ≡ true) where
   module _ (tag : StartTagValue) (p : names tag.name ≡ true) where
-    pub holds : (r : Rule) → fits (may tag.name) r ≡ true → P (rules.run r tag)
+    holds : (r : Rule) → fits (may tag.name) r ≡ true → P (rules.run r tag)
     holds nothing e = i.still
     holds (act a) e = i.acts tag p a e
     holds (first ⨾ more) e = i.after (holds more (and_parts _ _ e).1) (holds first (and_parts _ _ e).0)
     holds (when test first other) e =
         i.by_test (test tag) (holds first (and_parts _ _ e).0) (holds other (and_parts _ _ e).1)
+    holds (foster r) e = i.fosters tag.name (and_parts _ _ e).0 (holds r (and_parts _ _ e).1)
+
+    turn_holds : (r : Rule) → turn_fits (may tag.name) (turn tag.name) r ≡ true → U (rules.run r tag)
+    turn_holds nothing e = i.onward i.still
+    turn_holds (act a) e = i.turn_acts tag p a e
+    turn_holds (first ⨾ more) e =
+        i.turn_after (turn_holds more (and_parts _ _ e).1) (holds first (and_parts _ _ e).0)
+    turn_holds (when test first other) e =
+        i.turn_by_test (test tag) (turn_holds first (and_parts _ _ e).0) (turn_holds other (and_parts _ _ e).1)
+    turn_holds (foster r) e =
+        i.onward (i.fosters tag.name (and_parts _ _ e).0 (holds r (and_parts _ _ e).1))
 
     last_holds : (r : Rule) → last_fits (may tag.name) (last tag.name) r ≡ true → T (rules.run r tag)
     last_holds nothing e = i.calm i.still
@@ -111,10 +143,12 @@ module _ {names : NameValue → Bool} {modes : InsertionMode → Bool} {may last
         i.last_after (last_holds more (and_parts _ _ e).1) (holds first (and_parts _ _ e).0)
     last_holds (when test first other) e =
         i.last_by_test (test tag) (last_holds first (and_parts _ _ e).0) (last_holds other (and_parts _ _ e).1)
+    last_holds (foster r) e = i.last_fosters tag.name (and_parts _ _ e).0 (last_holds r (and_parts _ _ e).1)
 
-    pub replies : (r : Reply) → reply_fits (may tag.name) (last tag.name) r ≡ true → A (reply_of r tag)
+    replies : (r : Reply) → reply_fits (may tag.name) (turn tag.name) (last tag.name) r ≡ true
+        → A (reply_of r tag)
     replies (ends r) e = i.says_done (last_holds r e)
-    replies (again_if more r) e = i.says (holds r e)
+    replies (again_if more r) e = i.says (turn_holds r e)
     replies (either test first other) e =
         i.by_answer test (replies first (and_parts _ _ e).0) (replies other (and_parts _ _ e).1)
     replies template_ended e = i.ends_template
@@ -122,7 +156,7 @@ module _ {names : NameValue → Bool} {modes : InsertionMode → Bool} {may last
   -- ---- each mode does what its rules say
 
   starts_hold : (name : NameValue) (attributes : List AttributePair) (closing : Bool) → names name ≡ true
-      → (mode : InsertionMode) → reply_fits (may name) (last name) (start_in mode name) ≡ true
+      → (mode : InsertionMode) → reply_fits (may name) (turn name) (last name) (start_in mode name) ≡ true
       → A (in_mode mode (start_tag (record { name = name; attributes = attributes; self_closing = closing })))
   unfolding block_rule formatting_rule phrasing_rule
   starts_hold (known tags.A) attributes closing p Initial e =
@@ -134,30 +168,32 @@ module _ {names : NameValue → Bool} {modes : InsertionMode → Bool} {may last
       replies (record { name = name; attributes = attributes; self_closing = closing }) p (start_in mode name) e
 
   ends_hold : (name : NameValue) (mode : InsertionMode)
-      → reply_fits (may (known tags.P)) (last (known tags.P)) (end_in mode name) ≡ true → A (in_mode mode (end_tag name))
+      → reply_fits (may (known tags.P)) (turn (known tags.P)) (last (known tags.P)) (end_in mode name) ≡ true
+      → A (in_mode mode (end_tag name))
   unfolding text_end_rule
   ends_hold (known tags.A) Initial e = replies no_tag plain (end_in Initial (known tags.A)) e
   ends_hold name BeforeHtml e = replies no_tag plain (end_in BeforeHtml name) e
   ends_hold name mode e = replies no_tag plain (end_in mode name) e
 
-  comments_hold : (text : List ℕ) (mode : InsertionMode) → reply_fits (may (known tags.P)) (last (known tags.P))
-      (comment_in mode text) ≡ true
+  comments_hold : (text : List ℕ) (mode : InsertionMode)
+      → reply_fits (may (known tags.P)) (turn (known tags.P)) (last (known tags.P)) (comment_in mode text) ≡ true
       → A (in_mode mode (comment text))
   comments_hold text Initial e = replies no_tag plain (comment_in Initial text) e
   comments_hold text mode e = replies no_tag plain (comment_in mode text) e
 
-  doctypes_hold : (quirks : Bool) (mode : InsertionMode) → reply_fits (may (known tags.P)) (last (known tags.P))
-      (doctype_in mode quirks) ≡ true
+  doctypes_hold : (quirks : Bool) (mode : InsertionMode)
+      → reply_fits (may (known tags.P)) (turn (known tags.P)) (last (known tags.P)) (doctype_in mode quirks) ≡ true
       → A (in_mode mode (doctype quirks))
   doctypes_hold quirks Initial e = replies no_tag plain (doctype_in Initial quirks) e
   doctypes_hold quirks mode e = replies no_tag plain (doctype_in mode quirks) e
 
   file_ends_hold : (mode : InsertionMode)
-      → reply_fits (may (known tags.P)) (last (known tags.P)) (end_of_file_in mode) ≡ true → A (in_mode mode end_of_file)
+      → reply_fits (may (known tags.P)) (turn (known tags.P)) (last (known tags.P)) (end_of_file_in mode) ≡ true
+      → A (in_mode mode end_of_file)
   file_ends_hold Initial e = replies no_tag plain (end_of_file_in Initial) e
   file_ends_hold mode e = replies no_tag plain (end_of_file_in mode) e
 
-  pub in_mode_holds : (t : TokenValue) → IsMarkup names t → (mode : InsertionMode) → modes mode ≡ true
+  pub in_mode_holds : (t : TokenValue) → IsMarkup names t → (mode : InsertionMode) → Modes mode
       → A (in_mode mode t)
   in_mode_holds (run kind s) p mode q = absurd (true≢false p)
   in_mode_holds (start_tag tag) p mode q =
@@ -167,29 +203,33 @@ module _ {names : NameValue → Bool} {modes : InsertionMode → Bool} {may last
   in_mode_holds (doctype quirks) p mode q = doctypes_hold quirks mode (i.fit mode q (doctype quirks) p)
   in_mode_holds end_of_file p mode q = file_ends_hold mode (i.fit mode q end_of_file p)
 
+module _ {names : NameValue → Bool} {Modes : InsertionMode → Type 0} {may turn last : NameValue → Act → Bool}
+    {P U T : (StateValue → StateValue) → Type 0} {A : (StateValue → Answer) → Type 0}
+    (i : Invariant names Modes may turn last P U T A) (b : Everywhere names Modes may A)
+    (plain : names (known tags.P) ≡ true) where
   pub by_mode_holds : (t : TokenValue) → IsMarkup names t → A (by_mode_rules t)
-  by_mode_holds t p = i.by_mode t (in_mode_holds t p)
+  by_mode_holds t p = b.by_mode t (in_mode_holds i plain t p)
 
   -- ---- foreign content
 
   start_in_foreign_holds : (tag : StartTagValue) → names tag.name ≡ true → A (start_in_foreign tag)
   start_in_foreign_holds tag p =
-      i.by_answer (λ s. tag_breaks_out tag.name tag.attributes) (i.leaves (by_mode_holds (start_tag tag) p))
-      (i.says (i.acts tag p foreign_alike (i.alike_allowed tag.name)))
+      i.by_answer (λ s. tag_breaks_out tag.name tag.attributes) (b.leaves (by_mode_holds (start_tag tag) p))
+      (i.says_done (i.calm (i.acts tag p foreign_alike (b.alike_allowed tag.name))))
 
   end_in_foreign_holds : (name : NameValue) → A (end_in_foreign name)
   end_in_foreign_holds name =
-      i.by_answer (λ s. end_breaks_out name) (i.leaves (by_mode_holds (end_tag name) tt))
-      (i.ends_foreign name (by_mode_holds (end_tag name) tt))
+      i.by_answer (λ s. end_breaks_out name) (b.leaves (by_mode_holds (end_tag name) tt))
+      (b.ends_foreign name (by_mode_holds (end_tag name) tt))
 
   in_foreign_content_holds : (t : TokenValue) → IsMarkup names t → A (in_foreign_content t)
   in_foreign_content_holds (run kind s) p = absurd (true≢false p)
   in_foreign_content_holds (start_tag tag) p = start_in_foreign_holds tag p
   in_foreign_content_holds (end_tag name) p = end_in_foreign_holds name
   in_foreign_content_holds (comment text) p =
-      i.says (i.acts no_tag plain (rules.comment text) (i.comment_allowed text))
-  in_foreign_content_holds (doctype quirks) p = i.says i.still
-  in_foreign_content_holds end_of_file p = i.says i.still
+      i.says_done (i.calm (i.acts no_tag plain (rules.comment text) (b.comment_allowed text)))
+  in_foreign_content_holds (doctype quirks) p = i.says_done (i.calm i.still)
+  in_foreign_content_holds end_of_file p = i.says_done (i.calm i.still)
 
   pub by_rules_hold : (t : TokenValue) → IsMarkup names t → A (by_rules t)
   by_rules_hold t p = i.by_answer (is_foreign t) (in_foreign_content_holds t p) (by_mode_holds t p)

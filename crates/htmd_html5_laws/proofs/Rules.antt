@@ -1,25 +1,25 @@
 -- What the rules of the modes do to a state, as data: a rule is made of acts, one after another.
-use Rattle.std.specs.Prelude.{ℕ, Bool, true, false, ◌≡◌, ◌&&◌, if◌then◌else◌, List, [], None}
 use Rattle.std.proofs.Common.{refl}
 use Rattle.std.proofs.lemmas.Bool.{and_from}
+use Rattle.std.specs.Prelude.{ℕ, Bool, true, false, ◌≡◌, ◌&&◌, if◌then◌else◌, List, [], None}
 use Rattle.htmd_grammar.specs.ValueTrees.{AttributePair}
 use Rattle.htmd_grammar.specs.declared.content.RawElement.{RawElement}
 use Rattle.htmd_html5_state.specs.Names.{NameValue, known}
-use Rattle.htmd_html5_state.specs.OpenElements.{OpenValue, pop, pop_while, pop_until, clear_to, close, close_name}
+use Rattle.htmd_html5_state.specs.OpenElements.{OpenValue, pop_while, pop_until, clear_to, close, close_name}
 use Rattle.htmd_html5_state.specs.State.{StateValue, on_stack}
 use Rattle.htmd_html5_state.specs.Insertion.{insert_element, insert_void, insert_root, insert_comment_in, insert_comment}
 use Rattle.htmd_html5_state.specs.Insertion.{insert_doctype}
 use Rattle.htmd_html5_state.specs.Formatting.{push_marker, clear_to_marker, insert_formatting, reconstruct}
 use Rattle.htmd_html5_state.specs.Adoption.{adoption_agency, formatting_element}
 use Rattle.htmd_html5_state.specs.declared.modes.InsertionMode.{InsertionMode}
-use Rattle.htmd_html5_state.specs.declared.modes.InsertionMode.TheVariants.{BeforeHtml}
+use Rattle.htmd_html5_state.specs.declared.modes.InsertionMode.TheVariants.{BeforeHtml, InHeadNoscript, InCell}
 use Rattle.htmd_html5_state.specs.declared.names.Namespace.{Namespace}
 use Rattle.htmd_html5_state.specs.declared.names.TagName.{TagName}
 use Rattle.htmd_html5_state.specs.declared.sets.NameSet.{NameSet}
 use Rattle.htmd_html5_state.specs.declared.sets.Scope.{Scope}
 use Rattle.htmd_html5.specs.Tokens.{StartTagValue}
 use Rattle.htmd_html5.specs.Answers.{Answer, answer}
-use Rattle.htmd_html5.specs.SharedRules.{with_mode, insert_raw_tag, insert_foreign_tag, no_frameset, add_to_root}
+use Rattle.htmd_html5.specs.SharedRules.{with_mode, insert_tag, insert_raw_tag, insert_foreign_tag, no_frameset, add_to_root}
 use Rattle.htmd_html5.specs.SharedRules.{end_template, insert_head_element}
 use Rattle.htmd_html5.specs.BodyStarts.{add_to_body, replace_body, close_heading, skip_line_feed, with_form, forget}
 use Rattle.htmd_html5.specs.BodyStarts.{start_select, close_option}
@@ -27,7 +27,9 @@ use Rattle.htmd_html5.specs.BodyEnds.{close_form}
 use Rattle.htmd_html5.specs.InBody.{end_of_file_in_template}
 use Rattle.htmd_html5.specs.BeforeHead.{with_head}
 use Rattle.htmd_html5.specs.AfterHead.{insert_late}
-use Rattle.htmd_html5.specs.InTable.{end_table}
+use Rattle.htmd_html5.specs.InHead.{close_head}
+use Rattle.htmd_html5.specs.InHeadNoscript.{close_noscript}
+use Rattle.htmd_html5.specs.InTable.{fostered, with_empty_form, end_table}
 use Rattle.htmd_html5.specs.InCaption.{end_caption}
 use Rattle.htmd_html5.specs.InColumnGroup.{end_columns}
 use Rattle.htmd_html5.specs.InTableBody.{end_section}
@@ -59,10 +61,9 @@ given_attributes own tag = tag.attributes
 given_attributes (implied name) tag = []
 given_attributes (renamed name) tag = tag.attributes
 
--- which open elements are closed: the current node; up to one of these, if it is in scope; while it is one of these; to
+-- which open elements are closed: up to one of these, if it is in scope; while it is one of these; to
 -- one of these, which stays open; up to one of these; up to one of that name; and those that must be the current node
 pub data Cut : Type 0 where
-  current_node : Cut
   in_scope : NameSet → Scope → Cut
   each_of : NameSet → Cut
   back_to : NameSet → Cut
@@ -74,7 +75,6 @@ pub data Cut : Type 0 where
   group : Cut
 
 abbrev pub left_open : Cut → List OpenValue → List OpenValue
-left_open current_node stack = pop stack
 left_open (in_scope set scope) stack = close set scope stack
 left_open (each_of set) stack = pop_while set stack
 left_open (back_to set) stack = clear_to set stack
@@ -98,6 +98,10 @@ pub data Act : Type 0 where
   foreign_alike : Act
   formatting : Act
   select : Act
+  noted_element : Act
+  empty_form : Act
+  noscript_put : Act
+  cell_put : Act
   -- or something else
   comment : List ℕ → Act
   comment_in_root : List ℕ → Act
@@ -119,6 +123,8 @@ pub data Act : Type 0 where
   select_left : Act
   frameset_closed : Act
   template_closed : Act
+  head_left : Act
+  noscript_left : Act
   -- elements get attributes or give way
   root_attributes : Act
   body_attributes : Act
@@ -133,8 +139,7 @@ pub data Act : Type 0 where
   to_content : InsertionMode → Act
   frames_refused : Act
   line_feed_skipped : Act
-  noted_element : Act
-  fostering : Bool → Act
+  fostering : Act
 
 abbrev pub act_on : Act → StartTagValue → StateValue → StateValue
 act_on (element given) tag s = insert_element (given_name given tag) (given_attributes given tag) s
@@ -148,6 +153,10 @@ act_on (foreign space) tag s = insert_foreign_tag space tag s
 act_on foreign_alike tag s = start_foreign_element tag s
 act_on formatting tag s = insert_formatting tag.name tag.attributes s
 act_on select tag s = start_select tag s
+act_on noted_element tag s = with_form (insert_tag tag s)
+act_on empty_form tag s = with_empty_form tag s
+act_on noscript_put tag s = with_mode InHeadNoscript (insert_tag tag s)
+act_on cell_put tag s = push_marker (with_mode InCell (insert_tag tag s))
 act_on (comment text) tag s = insert_comment text s
 act_on (comment_in_root text) tag s = after_body.comment_in_root text s
 act_on (comment_in_document text) tag s = insert_comment_in 0 text s
@@ -167,6 +176,8 @@ act_on select_closed tag s = end_select s
 act_on select_left tag s = close_select s
 act_on frameset_closed tag s = end_frameset s
 act_on template_closed tag s = end_template s
+act_on head_left tag s = close_head s
+act_on noscript_left tag s = close_noscript s
 act_on root_attributes tag s = add_to_root tag s
 act_on body_attributes tag s = add_to_body tag s
 act_on body_replaced tag s = replace_body tag s
@@ -178,26 +189,27 @@ act_on to_quirks tag s = record s { mode = BeforeHtml; quirks = true }
 act_on (to_content mode) tag s = with_template_mode mode s
 act_on frames_refused tag s = no_frameset s
 act_on line_feed_skipped tag s = skip_line_feed s
-act_on noted_element tag s = with_form (insert_element tag.name tag.attributes s)
-act_on (fostering b) tag s = record s { foster_parenting = b }
+act_on fostering tag s = record s { foster_parenting = true }
 
 -- ---- rules
 
--- one act after another, the first first; and by what holds of the tag and the state
+-- one act after another, the first first; by what holds of the tag and the state; and with foster parenting (13.2.6.1)
 pub data Rule : Type 0 where
   nothing : Rule
   act : Act → Rule
   ◌⨾◌ : Rule → Rule → Rule
   when : (StartTagValue → StateValue → Bool) → Rule → Rule → Rule
+  foster : Rule → Rule
 
 abbrev pub run : Rule → StartTagValue → StateValue → StateValue
 run nothing tag s = s
 run (act a) tag s = act_on a tag s
 run (first ⨾ more) tag s = run more tag (run first tag s)
 run (when test first other) tag s = if test tag s then run first tag s else run other tag s
+run (foster r) tag s = fostered (run r tag) s
 
--- what a mode answers: it is done; the token is processed again, if that holds of the state; one of two, by what holds of
--- the state; and what ends a template at the end of the file
+-- what a mode answers: it is done; the token is processed again, if that holds of the state; one of two, by what holds
+-- of the state; and what ends a template at the end of the file
 pub data Reply : Type 0 where
   ends : Rule → Reply
   again_if : (StateValue → Bool) → Rule → Reply
@@ -217,6 +229,7 @@ fits may nothing = true
 fits may (act a) = may a
 fits may (first ⨾ more) = fits may first && fits may more
 fits may (when test first other) = fits may first && fits may other
+fits may (foster r) = may fostering && fits may r
 
 -- and the last act is one of these
 abbrev pub last_fits : (Act → Bool) → (Act → Bool) → Rule → Bool
@@ -224,31 +237,48 @@ last_fits may last nothing = true
 last_fits may last (act a) = last a
 last_fits may last (first ⨾ more) = fits may first && last_fits may last more
 last_fits may last (when test first other) = last_fits may last first && last_fits may last other
+last_fits may last (foster r) = may fostering && last_fits may last r
 
--- unless the token is processed again
-abbrev pub reply_fits : (Act → Bool) → (Act → Bool) → Reply → Bool
-reply_fits may last (ends r) = last_fits may last r
-reply_fits may last (again_if more r) = fits may r
-reply_fits may last (either test first other) = reply_fits may last first && reply_fits may last other
-reply_fits may last template_ended = true
+-- where the token is processed again, the last act is one of others
+abbrev pub turn_fits : (Act → Bool) → (Act → Bool) → Rule → Bool
+turn_fits may turn nothing = true
+turn_fits may turn (act a) = turn a
+turn_fits may turn (first ⨾ more) = fits may first && turn_fits may turn more
+turn_fits may turn (when test first other) = turn_fits may turn first && turn_fits may turn other
+turn_fits may turn (foster r) = may fostering && fits may r
+
+abbrev pub reply_fits : (Act → Bool) → (Act → Bool) → (Act → Bool) → Reply → Bool
+reply_fits may turn last (ends r) = last_fits may last r
+reply_fits may turn last (again_if more r) = turn_fits may turn r
+reply_fits may turn last (either test first other) = reply_fits may turn last first && reply_fits may turn last other
+reply_fits may turn last template_ended = true
 
 abbrev pub any_act : Act → Bool
 any_act a = true
 
-pub any_fits : (r : Rule) → fits any_act r ≡ true
+any_fits : (r : Rule) → fits any_act r ≡ true
 any_fits nothing = refl
 any_fits (act a) = refl
 any_fits (first ⨾ more) = and_from _ _ (any_fits first) (any_fits more)
 any_fits (when test first other) = and_from _ _ (any_fits first) (any_fits other)
+any_fits (foster r) = any_fits r
 
 any_last : (r : Rule) → last_fits any_act any_act r ≡ true
 any_last nothing = refl
 any_last (act a) = refl
 any_last (first ⨾ more) = and_from _ _ (any_fits first) (any_last more)
 any_last (when test first other) = and_from _ _ (any_last first) (any_last other)
+any_last (foster r) = any_last r
 
-pub any_reply : (r : Reply) → reply_fits any_act any_act r ≡ true
+any_turn : (r : Rule) → turn_fits any_act any_act r ≡ true
+any_turn nothing = refl
+any_turn (act a) = refl
+any_turn (first ⨾ more) = and_from _ _ (any_fits first) (any_turn more)
+any_turn (when test first other) = and_from _ _ (any_turn first) (any_turn other)
+any_turn (foster r) = any_fits r
+
+pub any_reply : (r : Reply) → reply_fits any_act any_act any_act r ≡ true
 any_reply (ends r) = any_last r
-any_reply (again_if more r) = any_fits r
+any_reply (again_if more r) = any_turn r
 any_reply (either test first other) = and_from _ _ (any_reply first) (any_reply other)
 any_reply template_ended = refl

@@ -110,10 +110,6 @@ abbrev pub Below : ℕ → List OpenValue → Type 0
 Below n [] = Unit {0}
 Below n (e ∷ es) = (e.node < n) × Below n es
 
-pub below_more : (n m : ℕ) (es : List OpenValue) → n ≤ m → Below n es → Below m es
-below_more n m [] l h = tt
-below_more n m (e ∷ es) l h = ((let k = h.0 in omega arith), below_more n m es l h.1)
-
 not_itself : (n m : ℕ) → n < m → (n == m) ≡ false
 not_itself n m l = grind (arith, nat_tests)
 

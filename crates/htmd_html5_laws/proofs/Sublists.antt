@@ -84,17 +84,6 @@ window (suc a) zero l = []
 window (suc a) (suc b) [] = []
 window (suc a) (suc b) (x ∷ l) = window a b l
 
-window_none : (a b : ℕ) → window a b [] ≡ []
-window_none zero zero = refl
-window_none zero (suc b) = refl
-window_none (suc a) zero = refl
-window_none (suc a) (suc b) = refl
-
-window_empty : (a : ℕ) (l : List ℕ) → window a a l ≡ []
-window_empty zero l = refl
-window_empty (suc a) [] = refl
-window_empty (suc a) (x ∷ l) = window_empty a l
-
 pub window_split : (a b c : ℕ) (l : List ℕ) → a ≤ b → b ≤ c → window a c l ≡ window a b l
     ++ window b c l
 window_split zero zero c l h g = refl
