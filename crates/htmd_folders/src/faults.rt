@@ -14,6 +14,7 @@ impl fmt::Display for StoreFault {
         match self.kind {
             ErrorKind::NotFound => f.write_str("no such file or folder"),
             ErrorKind::InvalidFilename => f.write_str("a name that can't be used"),
+            ErrorKind::Unsupported => f.write_str("not a file"),
             kind => write!(f, "{kind}"),
         }
     }

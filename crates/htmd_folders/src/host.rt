@@ -5,12 +5,17 @@ use crate::store::Store;
 use crate::walk::list_below;
 use htmd_streams::{Input, Output};
 use std::alloc::Global;
-use std::io::Read;
+use std::io::{ErrorKind, Read};
 use std::rt::Files;
 use std::{fs, io};
 
 /// The name of the standard input.
 const STANDARD_INPUT: &str = "-";
+
+/// A file takes the place of a file alone.
+const NOT_A_FILE: StoreFault = StoreFault {
+    kind: ErrorKind::Unsupported,
+};
 
 /// The files that a runtime reaches, and as the file `-` the standard input. Nothing is known of what they hold.
 #[derive(Drop)]
@@ -58,6 +63,9 @@ impl<R: Files + std::io::Input> Store for HostStore<'_, R> {
 
     fn publish(&mut self, writer: Self::Writer, from: &str, to: &str) -> Result<(), StoreFault> {
         drop(writer);
+        if is_special(self.runtime, to) {
+            return Err(NOT_A_FILE);
+        }
         done(fs::rename(self.runtime, from, to))
     }
 
@@ -81,6 +89,14 @@ impl<R: Files + std::io::Input> Store for HostStore<'_, R> {
             Ok(listing) => Ok(listing),
             Err(error) => Err(fault_of(&error)),
         }
+    }
+}
+
+// Whether a device, a pipe or the like is under a name, as under `/dev/null`.
+fn is_special<R: Files>(files: &R, path: &str) -> bool {
+    match fs::metadata(files, path) {
+        Ok(metadata) => !metadata.is_file() && !metadata.is_dir(),
+        Err(_) => false,
     }
 }
 
