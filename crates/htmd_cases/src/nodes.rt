@@ -41,7 +41,7 @@ fn push_node(rows: &mut String, tree: &Tree, node: NodeId) -> Result<(), AllocEr
         NodeData::Comment(text) => push_row(rows, depth, &["<!-- ", text, " -->"]),
         NodeData::Element { name, attrs } => {
             push_row(rows, depth, &["<", name, ">"])?;
-            push_attributes(rows, depth.saturating_add(1), attrs.as_slice())
+            push_attributes(rows, depth.saturating_add(1), attrs)
         }
     }
 }

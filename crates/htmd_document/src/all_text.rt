@@ -76,13 +76,13 @@ fn push_text_of(
         (string_bytes out.new ≡ string_bytes out.old ++ spec.all_text (shown_at sight.now node)) }
 {
     match sight.tree.data(node) {
-        NodeData::Text(text) => push_shown(alloc, out, text.as_str()),
+        NodeData::Text(text) => push_shown(alloc, out, text),
         NodeData::Element { name, attrs } => {
-            let role = role_of(name.as_str());
+            let role = role_of(name);
             if is_line_break(role) {
                 out.push('\n')
             } else if is_image(role) {
-                out.push_str(text_of(attrs.as_slice(), "alt"))
+                out.push_str(text_of(attrs, "alt"))
             } else if is_quotation(role) {
                 push_quoted(alloc, out, sight, node)
             } else {
@@ -181,8 +181,8 @@ fn language_of_code<'t>(sight: &Sight<'t>, node: NodeId) -> Option<&'t str>
         NodeData::Text(_) => None,
         NodeData::Comment(_) => None,
         NodeData::Element { name, attrs } => {
-            if name.as_str() == "code" {
-                language_of(attrs.as_slice())
+            if name == "code" {
+                language_of(attrs)
             } else {
                 None
             }

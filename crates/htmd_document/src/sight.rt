@@ -63,7 +63,7 @@ impl<'t> Sight<'t> {
             NodeData::Doctype => false,
             NodeData::Text(_) => true,
             NodeData::Comment(_) => false,
-            NodeData::Element { name, .. } => !self.is_hidden(name.as_str()),
+            NodeData::Element { name, .. } => !self.is_hidden(name),
         }
     }
 
@@ -78,10 +78,10 @@ impl<'t> Sight<'t> {
             NodeData::Text(_) => None,
             NodeData::Comment(_) => None,
             NodeData::Element { name, .. } => {
-                if self.is_hidden(name.as_str()) {
+                if self.is_hidden(name) {
                     None
                 } else {
-                    Some(role_of(name.as_str()))
+                    Some(role_of(name))
                 }
             }
         }
@@ -185,7 +185,7 @@ impl<'t> Sight<'t> {
             NodeData::Doctype => false,
             NodeData::Text(_) => false,
             NodeData::Comment(_) => false,
-            NodeData::Element { name, .. } => role::is_header_cell(role_of(name.as_str())),
+            NodeData::Element { name, .. } => role::is_header_cell(role_of(name)),
         }
     }
 
@@ -201,7 +201,7 @@ impl<'t> Sight<'t> {
             NodeData::Text(_) => &[],
             NodeData::Comment(_) => &[],
             NodeData::Element { name, .. } => {
-                if is_void(role_of(name.as_str())) {
+                if is_void(role_of(name)) {
                     &[]
                 } else {
                     self.tree.children(node)
@@ -220,7 +220,7 @@ impl<'t> Sight<'t> {
             NodeData::Doctype => &[],
             NodeData::Text(_) => &[],
             NodeData::Comment(_) => &[],
-            NodeData::Element { attrs, .. } => attrs.as_slice(),
+            NodeData::Element { attrs, .. } => attrs,
         }
     }
 }

@@ -1,6 +1,6 @@
 -- What a tree is: its nodes in order of addition, the value tree of a node, its ancestors, what the texts and
--- attributes of the source stand for, how a document is laid out as a tree. The last, how a tree lies in memory, serves
--- private functions alone. The value trees and what they are written as are those of the grammar.
+-- attributes of the source stand for, how a document is laid out as a tree. The last two, how a tree lies in memory,
+-- serve private functions alone. The value trees and what they are written as are those of the grammar.
 pub use Rattle.htmd_grammar.specs.ValueTrees
 pub use Rattle.htmd_grammar.specs.Serialisation
 pub use Rattle.htmd_grammar.specs.RawBlocks
@@ -11,4 +11,5 @@ pub mod Views
 pub mod Layout
 pub mod OpenItems
 pub mod Parts
+pub mod ChildLists
 pub mod Entries

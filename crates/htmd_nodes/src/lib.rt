@@ -10,4 +10,4 @@ mod tree;
 
 pub use htmd_grammar::Attribute;
 pub use serialiser::{is_void, push_end_tag, push_start_tag, raw_block, serialize};
-pub use tree::{MAX_DEPTH, NodeData, NodeId, Tree, TreeError};
+pub use tree::{MAX_DEPTH, NewNode, NodeData, NodeId, Tree, TreeError};

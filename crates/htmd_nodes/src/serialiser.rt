@@ -151,18 +151,18 @@ fn push_node(out: &mut String, tree: &Tree, node: NodeId, raw: bool) -> Result<(
         NodeData::Doctype => out.push_str("<!DOCTYPE html>"),
         NodeData::Text(text) => {
             if raw {
-                return out.push_str(text.as_str());
+                return out.push_str(text);
             }
-            push_text(out, text.as_str())
+            push_text(out, text)
         }
-        NodeData::Comment(text) => push_comment(out, text.as_str()),
+        NodeData::Comment(text) => push_comment(out, text),
         NodeData::Element { name, attrs } => {
-            push_start_tag(out, name.as_str(), attrs.as_slice())?;
-            if is_void(name.as_str()) {
+            push_start_tag(out, name, attrs)?;
+            if is_void(name) {
                 return Ok(());
             }
-            push_children(out, tree, node, is_raw_text(name.as_str()))?;
-            push_end_tag(out, name.as_str())
+            push_children(out, tree, node, is_raw_text(name))?;
+            push_end_tag(out, name)
         }
     }
 }

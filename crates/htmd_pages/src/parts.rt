@@ -104,13 +104,12 @@ fn push_kept_child(
             added(out.add_doctype(under))?;
         }
         NodeData::Text(text) => {
-            added(out.add_text(under, text.as_str()))?;
+            added(out.add_text(under, text))?;
         }
         NodeData::Comment(text) => {
-            added(out.add_comment(under, text.as_str()))?;
+            added(out.add_comment(under, text))?;
         }
         NodeData::Element { name, attrs } => {
-            let (name, attrs) = (name.as_str(), attrs.as_slice());
             let marks = marks_of(page.alloc, page.steps, marks, name, attrs)?;
             if is_named(page.steps, marks.as_slice()) {
                 return Ok(());
@@ -159,13 +158,7 @@ fn push_outermost_child(
     let NodeData::Element { name, attrs } = page.tree.data(node) else {
         return Ok(());
     };
-    let marks = marks_of(
-        page.alloc,
-        page.steps,
-        marks,
-        name.as_str(),
-        attrs.as_slice(),
-    )?;
+    let marks = marks_of(page.alloc, page.steps, marks, name, attrs)?;
     if is_named(page.steps, marks.as_slice()) {
         return push_whole(out, page, node);
     }

@@ -31,7 +31,7 @@ fn first_of(alloc: Global, tree: &Tree, name: &str) -> Result<NodeId, Fail> {
             return Err(Fail::from("a node is in the tree"));
         }
         let is_found = match tree.data(node) {
-            NodeData::Element { name: tag, .. } => tag.as_str() == name,
+            NodeData::Element { name: tag, .. } => tag == name,
             NodeData::Text(_) => name == "#text",
             _ => false,
         };
@@ -43,13 +43,13 @@ fn first_of(alloc: Global, tree: &Tree, name: &str) -> Result<NodeId, Fail> {
 }
 
 // A mark of what a node is, and its text or name.
-fn parts_of(data: &NodeData) -> (&str, &str) {
+fn parts_of(data: NodeData<'_>) -> (&str, &str) {
     match data {
         NodeData::Document => ("", "document"),
         NodeData::Doctype => ("", "doctype"),
-        NodeData::Text(text) => ("\"", text.as_str()),
-        NodeData::Comment(text) => ("!", text.as_str()),
-        NodeData::Element { name, .. } => ("", name.as_str()),
+        NodeData::Text(text) => ("\"", text),
+        NodeData::Comment(text) => ("!", text),
+        NodeData::Element { name, .. } => ("", name),
     }
 }
 

@@ -1,7 +1,7 @@
 -- Runs of characters and references, as the reader takes them and as the grammar's steps do.
 use Rattle.std.specs.Prelude.{◌≡◌, ◌<◌, ℕ, Bool, true, false, not, ◌&&◌, ◌||◌, ◌==◌}
 use Rattle.std.specs.Prelude.{if◌then◌else◌, List, [], length, drop}
-use Rattle.std.specs.Prelude.{Option, Some, None, Result, Ok, Err, slice_index, string_bytes, String, ⊤}
+use Rattle.std.specs.Prelude.{Option, Some, None, Result, Ok, Err, slice_index, ⊤}
 use Rattle.std.specs.Borrow.{Bor}
 use Rattle.std.specs.List.{list_all}
 use Rattle.htmd_grammar.specs.Characters.{less_than_sign, ampersand, carriage_return}
@@ -84,9 +84,9 @@ StopsRun scripting fs s (Refused left kind) =
     × (left ≡ length st.rest)
 
 -- the steps lead to the end of the run, or to a fault in it
-abbrev pub ReadsRun : {A : Type 0} → Bool → List OpenElement → TextSurroundings → List ℕ → List ℕ
-    → Result (String A × Bor (List ℕ)) Stop → Type 0
-ReadsRun scripting fs around n s (Ok r) =
-    Reaches (project scripting) above_body (in_run fs [] s) (in_run fs (string_bytes r.0) r.1.now)
-    × (is_run_end around.alone n r.1.now ≡ true)
-ReadsRun scripting fs around n s (Err stop) = StopsRun scripting fs s stop
+abbrev pub ReadsRun : Bool → List OpenElement → TextSurroundings → List ℕ → List ℕ → List ℕ
+    → Result (Bor (List ℕ)) Stop → Type 0
+ReadsRun scripting fs around n s run (Ok rest) =
+    Reaches (project scripting) above_body (in_run fs [] s) (in_run fs run rest.now)
+    × (is_run_end around.alone n rest.now ≡ true)
+ReadsRun scripting fs around n s run (Err stop) = StopsRun scripting fs s stop

@@ -1,6 +1,6 @@
 //! The reader of HTML: a tree from a text of the strict grammar, or the first fault of any other text.
 ghost use Rattle.std.specs.Prelude.{◌≡◌, ◌∷◌, ◌<◌, ℕ, Bool, true, false, List, [], length};
-ghost use Rattle.std.specs.Prelude.{◌==◌, OnOk, IfOk, IfErr, IsTrue, Ok, Err, if◌then◌else◌, codes, string_bytes};
+ghost use Rattle.std.specs.Prelude.{◌==◌, OnOk, IfOk, IfErr, IsTrue, Ok, Err, if◌then◌else◌, codes};
 ghost use Rattle.htmd_grammar.specs.Documents.{above_body};
 ghost use Rattle.htmd_grammar.specs.Nesting.{is_table};
 ghost use Rattle.htmd_grammar.specs.Steps.{OpenElement, is_too_deep, add, fault, between};
@@ -15,8 +15,8 @@ ghost use Rattle.htmd_grammar.specs.Characters.{null};
 ghost use Rattle.htmd_nodes.specs.Layout.{document_items};
 ghost use Rattle.std.specs.List.{list_any, position};
 ghost use Rattle.htmd_grammar.specs.Attributes.{pairs_of};
-ghost use Rattle.htmd_nodes.specs.Views.{data_of};
-ghost use Rattle.htmd_nodes.specs.Items.{holds_children, data_at, CanBeAdded};
+ghost use Rattle.htmd_nodes.specs.Views.{new_data_of};
+ghost use Rattle.htmd_nodes.specs.Items.{holds_children, data_at};
 ghost use Rattle.htmd_tree.specs.OpenNodes.{Holds, IsReading, MayOpen, innermost_name, open_node, WhateverIsOpen};
 ghost use Rattle.htmd_tree.specs.Advances.{HasAdded, StopsDeep, IsLeaf, leaf, rules_of, Steps};
 ghost use Rattle.htmd_tree.specs.declared.reader.Stop.TheVariants.{Memory, Refused};
@@ -37,7 +37,7 @@ use crate::reader::surroundings::Surroundings;
 pub use body::body_of;
 use htmd_grammar::laws::{faults_are_right, steps_read_the_grammar};
 use htmd_grammar::{Attribute, FaultKind};
-use htmd_nodes::{MAX_DEPTH, NodeData, NodeId, Tree, TreeError};
+use htmd_nodes::{MAX_DEPTH, NewNode, NodeData, NodeId, Tree, TreeError};
 use std::alloc::{AllocError, AllocFailed, Global};
 use thiserror::Error;
 
@@ -112,7 +112,7 @@ impl<'a> Reader<'a> {
         ensures { WhateverIsOpen self.now (λ has_doctype fs. result.now ≡ innermost_name fs) }
     {
         match self.tree.data(self.top().id) {
-            NodeData::Element { name, .. } => name.as_str(),
+            NodeData::Element { name, .. } => name,
             _ => "",
         }
     }
@@ -137,11 +137,10 @@ impl<'a> Reader<'a> {
     }
 
     /// A new node in the innermost open element.
-    fn add_node(&mut self, node: NodeData) -> Result<NodeId, Stop>
+    fn add_node(&mut self, node: NewNode<'_>) -> Result<NodeId, Stop>
         requires reading { IsReading self.old }
-        requires another { CanBeAdded (data_of node) }
         ensures ok { IfOk result (λ id. WhateverIsOpen self.old (λ has_doctype fs.
-            HasAdded self.old self.new has_doctype fs (data_of node) id)) }
+            HasAdded self.old self.new has_doctype fs (new_data_of node.entry) id)) }
         ensures err { IfErr result (λ stop. WhateverIsOpen self.old (λ has_doctype fs.
             StopsDeep self.old fs stop)) }
         ensures stack { self.new.stack.items ≡ self.old.stack.items }
@@ -157,11 +156,11 @@ impl<'a> Reader<'a> {
     }
 
     /// A new node without children in the innermost open element; `rest` is what is left then.
-    fn add_leaf(&mut self, node: NodeData, rest: &'a str) -> Result<(), Stop>
+    fn add_leaf(&mut self, node: NewNode<'_>, rest: &'a str) -> Result<(), Stop>
         requires reading { IsReading self.old }
-        requires leaf { IsLeaf (data_of node) }
+        requires leaf { IsLeaf (new_data_of node) }
         ensures follows { Steps self.old self.new result
-            (λ fs. add (rules_of self.old) above_body fs (leaf (data_of node)) rest.now) }
+            (λ fs. add (rules_of self.old) above_body fs (leaf (new_data_of node.entry)) rest.now) }
         ensures reading { OnOk result (IsReading self.new) }
     {
         self.add_node(node)?;
@@ -170,17 +169,17 @@ impl<'a> Reader<'a> {
     }
 
     /// A new element in the innermost open element; it is then the innermost one.
-    fn open_node(&mut self, name: String, attrs: Vec<Attribute>, implied: bool) -> Result<(), Stop>
+    fn open_node(&mut self, name: &str, attrs: Vec<Attribute>, implied: bool) -> Result<(), Stop>
         requires reading { IsReading self.old }
         requires may_open { WhateverIsOpen self.old (λ has_doctype fs.
-            MayOpen (string_bytes name) implied fs) }
+            MayOpen name.now implied fs) }
         ensures follows { Steps self.old self.new result
             (λ fs. if is_too_deep (rules_of self.old) above_body fs then fault TooDeep
-            else between (fresh (string_bytes name) (pairs_of attrs.items) implied ∷ fs) self.old.rest.now) }
+            else between (fresh name.now (pairs_of attrs.items) implied ∷ fs) self.old.rest.now) }
         ensures rest { self.new.rest.now ≡ self.old.rest.now }
     {
-        let surroundings = self.top().surroundings.inner(name.as_str(), self.scripting);
-        let id = self.add_node(NodeData::Element { name, attrs })?;
+        let surroundings = self.top().surroundings.inner(name, self.scripting);
+        let id = self.add_node(NewNode::Element { name, attrs })?;
         self.stack.push(OpenNode {
             id,
             implied,
@@ -190,16 +189,11 @@ impl<'a> Reader<'a> {
     }
 
     /// A new element in the innermost open element; it is then the innermost one, and `rest` is what is left.
-    fn open_element(
-        &mut self,
-        name: String,
-        attrs: Vec<Attribute>,
-        rest: &'a str,
-    ) -> Result<(), Stop>
+    fn open_element(&mut self, name: &str, attrs: Vec<Attribute>, rest: &'a str) -> Result<(), Stop>
         requires reading { IsReading self.old }
         ensures follows { Steps self.old self.new result
             (λ fs. if is_too_deep (rules_of self.old) above_body fs then fault TooDeep
-            else between (fresh (string_bytes name) (pairs_of attrs.items) false ∷ fs) rest.now) }
+            else between (fresh name.now (pairs_of attrs.items) false ∷ fs) rest.now) }
         ensures reading { OnOk result (IsReading self.new) }
     {
         self.open_node(name, attrs, false)?;
@@ -216,8 +210,7 @@ impl<'a> Reader<'a> {
             else between (fresh (codes "tbody") [] true ∷ fs) self.old.rest.now) }
         ensures reading { OnOk result (IsReading self.new) }
     {
-        let name = String::from_str(self.alloc, "tbody")?;
-        self.open_node(name, Vec::new(self.alloc), true)
+        self.open_node("tbody", Vec::new(self.alloc), true)
     }
 
     /// Closes the innermost open element, which isn't the outermost; `rest` is what is left then.

@@ -216,14 +216,13 @@ impl<'a, R: Registry> Walk<'a, R> {
         if !is_markdown_alone(self.registry.options()) {
             return false;
         }
-        let tag = name.as_str();
-        if tag != "span" {
-            return self.registry.find(tag, 0).is_none();
+        if name != "span" {
+            return self.registry.find(name, 0).is_none();
         }
         if !self.has_span_handler_alone() {
             return false;
         }
-        formula_mark(attrs.as_slice()).is_none()
+        formula_mark(attrs).is_none()
     }
 
     /// What the handlers of an element's tag make of it, from the one after this many newer ones on.
@@ -512,7 +511,7 @@ impl<'a, R: Registry> Walk<'a, R> {
             return self.walk_descendant(element, below, links);
         };
         let visit = self.alone(below);
-        let child = (&*self).element(&visit, name.as_str(), attrs.as_slice(), true);
+        let child = (&*self).element(&visit, name, attrs, true);
         let before = links.lines.len();
         let given = self.walk_element(&child, links)?;
         let adds_none = links.lines.len() == before;
@@ -576,11 +575,10 @@ impl<'a, R: Registry> Walk<'a, R> {
                 if is_markdown_alone(self.registry.options()) {
                     return Ok(());
                 }
-                push_comment(&mut out.content, text.as_str())
+                push_comment(&mut out.content, text)
             }
             NodeData::Text(text) => {
                 let in_pre = is_parent_pre(self.tree, node);
-                let text = text.as_str();
                 append_text(
                     self.alloc,
                     text,
@@ -601,7 +599,7 @@ impl<'a, R: Registry> Walk<'a, R> {
                     );
                 }
                 // In a cycle of calls the check asks that both are lent again.
-                let element = (&*self).element(&*visit, name.as_str(), attrs.as_slice(), true);
+                let element = (&*self).element(&*visit, name, attrs, true);
                 let given = self.walk_element(&element, links)?;
                 append_result(out, given, context.preformatted, self.alloc, self.spare)
             }
@@ -656,6 +654,6 @@ pub(crate) fn handle_element<R: Registry>(
     let spare = SpareTexts::new(alloc);
     let walk = Walk::new(registry, alloc, tree, &spare);
     let visit = walk.alone(node);
-    let element = walk.element(&visit, name.as_str(), attrs.as_slice(), markdown_translated);
+    let element = walk.element(&visit, name, attrs, markdown_translated);
     walk.handle(&element, skipped, links)
 }

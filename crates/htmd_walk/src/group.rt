@@ -41,11 +41,7 @@ fn find_joint(tree: &Tree, node: NodeId) -> Option<Joint<'_>>
         return None;
     };
     let text = only_text(tree, node)?;
-    Some(Joint {
-        name: name.as_str(),
-        attrs: attrs.as_slice(),
-        text,
-    })
+    Some(Joint { name, attrs, text })
 }
 
 /// Whether two lists of attributes are equal, in order.

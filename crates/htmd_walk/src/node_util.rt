@@ -19,7 +19,7 @@ pub(crate) fn is_pre_or_code(tree: &Tree, node: NodeId) -> bool
     ensures { result ≡ is_pre_or_code (ancestor_of (data_at tree.now node)) }
 {
     match tree.data(node) {
-        NodeData::Element { name, .. } => name.as_str() == "pre" || name.as_str() == "code",
+        NodeData::Element { name, .. } => name == "pre" || name == "code",
         _ => false,
     }
 }
@@ -67,7 +67,7 @@ pub(crate) fn is_parent_pre(tree: &Tree, node: NodeId) -> bool
         return false;
     };
     match tree.data(parent) {
-        NodeData::Element { name, .. } => name.as_str() == "pre",
+        NodeData::Element { name, .. } => name == "pre",
         _ => false,
     }
 }
@@ -78,7 +78,7 @@ pub(crate) fn is_block(tree: &Tree, node: NodeId) -> bool
     ensures { result ≡ is_block_tree (tree_of tree.now node) }
 {
     match tree.data(node) {
-        NodeData::Element { name, .. } => is_block_element(name.as_str()),
+        NodeData::Element { name, .. } => is_block_element(name),
         _ => false,
     }
 }
@@ -119,7 +119,7 @@ pub(crate) fn only_text(tree: &Tree, node: NodeId) -> Option<&str>
     }
     let child = children[0];
     match tree.data(child) {
-        NodeData::Text(text) => Some(text.as_str()),
+        NodeData::Text(text) => Some(text),
         _ => None,
     }
 }

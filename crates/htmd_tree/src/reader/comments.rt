@@ -10,7 +10,7 @@ ghost use Rattle.htmd_grammar.specs.Comments as spec;
 use crate::reader::raw_text::normalized;
 use crate::reader::{Reader, Stop};
 use htmd_grammar::FaultKind;
-use htmd_nodes::NodeData;
+use htmd_nodes::NewNode;
 
 /// Whether `-->` begins here.
 fn begins_end(bytes: &[u8]) -> bool
@@ -86,7 +86,7 @@ impl<'a> Reader<'a> {
         match split_comment(&behind[2..]) {
             Some((body, rest)) if is_comment_text(body.as_bytes()) => {
                 let text = normalized(self.alloc, body)?;
-                self.add_leaf(NodeData::Comment(text), rest)
+                self.add_leaf(NewNode::Comment(text.as_str()), rest)
             }
             _ => Err(self.refused(FaultKind::MalformedComment)),
         }

@@ -95,8 +95,8 @@ impl<'a> Reader<'a> {
         }
     }
 
-    /// Reads the next piece.
-    fn read_piece(&mut self) -> Result<(), Stop>
+    /// Reads the next piece; `run` is memory for its text.
+    fn read_piece(&mut self, run: &mut String) -> Result<(), Stop>
         requires reading { IsReading self.old }
         requires more { is_empty self.old.rest.now ≡ false }
         ensures advances { WhateverIsOpen self.old (λ has_doctype fs.
@@ -111,7 +111,7 @@ impl<'a> Reader<'a> {
         if self.top().surroundings.raw_text {
             self.read_raw_text()
         } else {
-            self.read_text()
+            self.read_text(run)
         }
     }
 
@@ -121,8 +121,9 @@ impl<'a> Reader<'a> {
         ensures ends { WhateverIsOpen self.old (λ has_doctype fs.
             Ends self.old self.new has_doctype fs result) }
     {
+        let mut run = String::new(self.alloc);
         while !self.rest.is_empty() {
-            self.read_piece()?;
+            self.read_piece(&mut run)?;
         }
         if self.stack.len() > 1 {
             return Err(self.refused(FaultKind::Unclosed));

@@ -15,7 +15,7 @@ ghost use Rattle.htmd_grammar.specs.Comments as comments;
 use crate::reader::scan::{begins_in_any_case, first_is};
 use crate::reader::{Reader, Stop};
 use htmd_grammar::FaultKind;
-use htmd_nodes::NodeData;
+use htmd_nodes::NewNode;
 use std::alloc::{AllocError, Global};
 
 /// Whether a tag's name ends here: white space, `/` or `>`.
@@ -134,6 +134,6 @@ impl<'a> Reader<'a> {
             return Err(self.refused(FaultKind::ScriptEscape));
         }
         let text = normalized(self.alloc, content)?;
-        self.add_leaf(NodeData::Text(text), rest)
+        self.add_leaf(NewNode::Text(text.as_str()), rest)
     }
 }

@@ -1,7 +1,7 @@
 //! Start tags and end tags, their names, and where the content of an element begins. A fault of a tag is at its `<`,
 //! where the text that is left begins.
 ghost use Rattle.std.specs.Prelude.{◌≡◌, ◌==◌, true, false, map, MatchOption, IfOk, [], ◌<◌, ◌&&◌, length, drop};
-ghost use Rattle.std.specs.Prelude.{OnOk, string_bytes, codes};
+ghost use Rattle.std.specs.Prelude.{OnOk, codes};
 ghost use Rattle.std.specs.Char.{to_ascii_lowercase};
 ghost use Rattle.std.specs.Cow.{cow_str_bytes};
 ghost use Rattle.std.specs.List.{list_all};
@@ -26,7 +26,7 @@ use crate::reader::scan::{Class, behind_first, split_run, strip_byte};
 use crate::reader::surroundings::is_outside;
 use crate::reader::{Reader, Stop};
 use htmd_grammar::{Attribute, FaultKind};
-use htmd_nodes::{NodeData, is_void};
+use htmd_nodes::{NewNode, is_void};
 use std::alloc::{AllocError, Global};
 use std::borrow::CowStr;
 
@@ -121,19 +121,19 @@ impl<'a> Reader<'a> {
     }
 
     /// Opens the element of a start tag, or adds a void one.
-    fn open_tag(&mut self, name: String, attrs: Vec<Attribute>, rest: &'a str) -> Result<(), Stop>
+    fn open_tag(&mut self, name: &str, attrs: Vec<Attribute>, rest: &'a str) -> Result<(), Stop>
         requires reading { IsReading self.old }
         ensures follows { Steps self.old self.new result
-            (λ fs. open_step (rules_of self.old) above_body fs (string_bytes name) (pairs_of attrs.items) rest.now) }
+            (λ fs. open_step (rules_of self.old) above_body fs name.now (pairs_of attrs.items) rest.now) }
         ensures reading { OnOk result (IsReading self.new) }
     {
-        if !self.allows(name.as_str()) {
+        if !self.allows(name) {
             return Err(self.refused(FaultKind::NotAllowedHere));
         }
-        if is_void(name.as_str()) {
-            return self.add_leaf(NodeData::Element { name, attrs }, rest);
+        if is_void(name) {
+            return self.add_leaf(NewNode::Element { name, attrs }, rest);
         }
-        let content = content_of(name.as_str(), rest);
+        let content = content_of(name, rest);
         self.open_element(name, attrs, content)
     }
 
@@ -147,13 +147,13 @@ impl<'a> Reader<'a> {
     }
 
     /// Gives the element of a start tag its place, in an implied `tbody` if it implies one.
-    fn place_tag(&mut self, name: String, attrs: Vec<Attribute>, rest: &'a str) -> Result<(), Stop>
+    fn place_tag(&mut self, name: &str, attrs: Vec<Attribute>, rest: &'a str) -> Result<(), Stop>
         requires reading { IsReading self.old }
         ensures follows { Steps self.old self.new result
-            (λ fs. place_step (rules_of self.old) above_body fs (string_bytes name) (pairs_of attrs.items) rest.now) }
+            (λ fs. place_step (rules_of self.old) above_body fs name.now (pairs_of attrs.items) rest.now) }
         ensures reading { OnOk result (IsReading self.new) }
     {
-        if self.implies_body(name.as_str()) {
+        if self.implies_body(name) {
             self.open_implied_body()?;
             return self.open_tag(name, attrs, rest);
         }
@@ -179,8 +179,9 @@ impl<'a> Reader<'a> {
             Ok(attrs) => attrs,
             Err(kind) => return Err(self.refused(kind)),
         };
-        let name = spelled.to_ascii_lowercase(self.alloc)?;
-        match fault_of_name(name.as_str(), form.slash) {
+        let lowered = in_lower_case(self.alloc, spelled)?;
+        let name = lowered.as_str();
+        match fault_of_name(name, form.slash) {
             Some(kind) => Err(self.refused(kind)),
             None => self.place_tag(name, attrs, form.rest),
         }

@@ -1,5 +1,5 @@
 //! Texts: runs of characters and references.
-ghost use Rattle.std.specs.Prelude.{◌≡◌, ◌<◌, ◌≤◌, Bool, List, ℕ, false, length, slice_index, string_bytes, IfOk};
+ghost use Rattle.std.specs.Prelude.{◌≡◌, ◌<◌, ◌≤◌, Bool, List, [], ℕ, false, length, slice_index, string_bytes, IfOk};
 ghost use Rattle.std.specs.Prelude.{OnOk, MatchResult};
 ghost use Rattle.std.specs.Str.{IsUtf8};
 ghost use Rattle.htmd_grammar.specs.CharacterClasses.{leading_run, is_empty};
@@ -15,8 +15,7 @@ use crate::reader::references::{Character, character_at};
 use crate::reader::scan::begins_markup;
 use crate::reader::{Reader, Stop};
 use htmd_grammar::FaultKind;
-use htmd_nodes::NodeData;
-use std::alloc::Global;
+use htmd_nodes::NewNode;
 
 /// What is kept of the open elements for a text in them.
 #[derive(Clone, Copy, Drop)]
@@ -165,27 +164,27 @@ fn push_next<'a>(run: &mut String, around: TextSurroundings, text: &'a str) -> R
     }
 }
 
-/// What the characters and references denote up to what ends them, and what is left.
+/// Appends what the characters and references denote, up to what ends them, to an empty run. What is left is answered.
 pub(crate) fn read_run<'a>(
-    alloc: Global,
+    run: &mut String,
     text: &'a str,
     name: &[u8],
     around: TextSurroundings,
-) -> Result<(String, &'a str), Stop>
+) -> Result<&'a str, Stop>
+    requires empty { string_bytes run.old ≡ [] }
     requires more { 0 < length text.now }
     ensures steps { (scripting : Bool) (fs : List OpenElement) → TellsOfText scripting around name.now fs
         → is_run_end around.alone name.now text.now ≡ false
-        → ReadsRun scripting fs around name.now text.now result }
-    ensures shorter { IfOk result (λ r. length r.1.now < length text.now) }
-    ensures longer { IfOk result (λ r. 0 < length (string_bytes r.0)) }
+        → ReadsRun scripting fs around name.now text.now (string_bytes run.new) result }
+    ensures shorter { IfOk result (λ rest. length rest.now < length text.now) }
+    ensures longer { OnOk result (0 < length (string_bytes run.new)) }
     ensures deep { OnOk result (around.too_deep ≡ false) }
 {
-    let mut run = String::new(alloc);
-    let mut rest = push_next(&mut run, around, text)?;
+    let mut rest = push_next(run, around, text)?;
     while !is_run_end(rest.as_bytes(), name, around.alone) {
-        rest = push_next(&mut run, around, rest)?;
+        rest = push_next(run, around, rest)?;
     }
-    Ok((run, rest))
+    Ok(rest)
 }
 
 impl<'a> Reader<'a> {
@@ -203,8 +202,8 @@ impl<'a> Reader<'a> {
         }
     }
 
-    /// Reads a text with references, up to what ends it.
-    pub(super) fn read_text(&mut self) -> Result<(), Stop>
+    /// Reads a text with references, up to what ends it. It is made in `run`, whose memory serves one text after another.
+    pub(super) fn read_text(&mut self, run: &mut String) -> Result<(), Stop>
         requires reading { IsReading self.old }
         requires more { is_empty self.old.rest.now ≡ false }
         ensures advances { WhateverIsOpen self.old (λ has_doctype fs.
@@ -214,7 +213,8 @@ impl<'a> Reader<'a> {
     {
         let around = self.text_surroundings();
         let name = self.innermost_name().as_bytes();
-        let (run, rest) = read_run(self.alloc, self.rest, name, around)?;
-        self.add_leaf(NodeData::Text(run), rest)
+        run.clear();
+        let rest = read_run(run, self.rest, name, around)?;
+        self.add_leaf(NewNode::Text(run.as_str()), rest)
     }
 }

@@ -8,13 +8,12 @@ use Rattle.htmd_front_matter.proofs.values.text_of.Goals as goal
 
 pub returns-in-Text : goal.returns-in-Text
 returns-in-Text c =
-    ap Some c.as_str.ensures.value
-    ∙ sym (ap text_of (value-node c.args.tree.now c.args.node (text_node (string_bytes c.in-Text.text))
+    sym (ap text_of (value-node c.args.tree.now c.args.node (text_node c.in-Text.text.now)
     c.data.ensures.tree c.requires (sym (ap data_of c.in-Text.is) ∙ c.data.ensures.value)))
 
 pub returns-in_default : goal.returns-in_default
 returns-in_default c =
-    sym (ap text_of (value-node c.args.tree.now c.args.node (data_of c.data.result.now) c.data.ensures.tree c.requires
+    sym (ap text_of (value-node c.args.tree.now c.args.node (data_of c.data.result) c.data.ensures.tree c.requires
     c.data.ensures.value)
-    ∙ text-other c.args.node c.data.result.now
+    ∙ text-other c.args.node c.data.result
     (forest_of (tree_of c.args.tree.now) (children_of c.args.tree.now c.args.node)) c.in_default.not-Text)

@@ -1,13 +1,11 @@
 -- What is left to prove of the functions of the cycle `serialiser`.
-use Rattle.std.proofs.Common.{rules, ◌≡◌, ◌<◌, ◌++◌, length, string_bytes, sym, ap, ◌∙◌, subst, arith, ℕ, List, false}
-use Rattle.std.proofs.Common.{OnOk, codes}
+use Rattle.std.proofs.Common.{rules, ◌≡◌, ◌<◌, ◌++◌, length, string_bytes, sym, ap, ◌∙◌, arith, ℕ, List, false, codes}
 use Rattle.htmd_nodes.specs.Items.{children_of, document_node, doctype_node, text_node, comment_node, element_node}
 use Rattle.htmd_nodes.specs.NumberedTrees.{tree_of, forest_of, value_forest}
 use Rattle.htmd_grammar.specs.Attributes.{pairs_of}
 use Rattle.htmd_nodes.specs.Views.{data_of}
 use Rattle.htmd_grammar.specs.ValueTrees.{AttributePair, ValueForest}
 use Rattle.htmd_grammar.specs.Serialisation.{start_tag, end_tag, is_void, is_raw_text, all_markup_of}
-use Rattle.htmd_grammar.specs.declared.attribute.Attribute.{Attribute}
 use Rattle.htmd_nodes.proofs.ItemsLemmas.{child_read}
 use Rattle.htmd_nodes.proofs.SerialiserLemmas.{OnOk-pushed, OnOk-third, markup_of-node}
 use Rattle.htmd_nodes.proofs.serialiser.+serialiser.Goals as goal
@@ -36,59 +34,45 @@ push_node-returns-in-Doctype t c =
 
 pub push_node-returns-then-raw : goal.push_node-returns-then-raw
 push_node-returns-then-raw t c =
-    let w = markup_of-node c.args.tree.now c.args.node (text_node (string_bytes c.in-Text.text)) c.args.raw
+    let w = markup_of-node c.args.tree.now c.args.node (text_node c.in-Text.text.now) c.args.raw
     c.data.ensures.tree c.requires (sym (ap data_of c.in-Text.is) ∙ c.data.ensures.value) in
     rw w (search rules)
 
 pub push_node-returns-else-raw : goal.push_node-returns-else-raw
 push_node-returns-else-raw t c =
-    let w = markup_of-node c.args.tree.now c.args.node (text_node (string_bytes c.in-Text.text)) c.args.raw
+    let w = markup_of-node c.args.tree.now c.args.node (text_node c.in-Text.text.now) c.args.raw
     c.data.ensures.tree c.requires (sym (ap data_of c.in-Text.is) ∙ c.data.ensures.value) in
     rw w (search rules)
 
 pub push_node-returns-in-Comment : goal.push_node-returns-in-Comment
 push_node-returns-in-Comment t c =
-    let w = markup_of-node c.args.tree.now c.args.node (comment_node (string_bytes c.in-Comment.text)) c.args.raw
+    let w = markup_of-node c.args.tree.now c.args.node (comment_node c.in-Comment.text.now) c.args.raw
     c.data.ensures.tree c.requires (sym (ap data_of c.in-Comment.is) ∙ c.data.ensures.value) in
     rw w (search rules)
 
 pub push_node-returns-then-is_void : goal.push_node-returns-then-is_void
 push_node-returns-then-is_void t c =
     let w = markup_of-node c.args.tree.now c.args.node
-    (element_node (string_bytes c.in-Element.name) (pairs_of c.in-Element.attrs.items)) c.args.raw
+    (element_node c.in-Element.name.now (pairs_of c.in-Element.attrs.now)) c.args.raw
     c.data.ensures.tree c.requires (sym (ap data_of c.in-Element.is) ∙ c.data.ensures.value) in
     rw w (search rules)
 
 pub push_node-returns-in_ok-push_children-in-Element : goal.push_node-returns-in_ok-push_children-in-Element
 push_node-returns-in_ok-push_children-in-Element t c =
-    let name : List ℕ = string_bytes c.in-Element.name in
-    let attributes : List AttributePair = pairs_of c.in-Element.attrs.items in
+    let name : List ℕ = c.in-Element.name.now in
+    let attributes : List AttributePair = pairs_of c.in-Element.attrs.now in
     let children : ValueForest =
     value_forest (forest_of (tree_of c.args.tree.now) (children_of c.args.tree.now c.args.node)) in
     let w = markup_of-node c.args.tree.now c.args.node (element_node name attributes) c.args.raw c.data.ensures.tree
     c.requires (sym (ap data_of c.in-Element.is) ∙ c.data.ensures.value) in
-    let other : is_void name ≡ false = ap is_void (sym c.as_str-in-Element-2.ensures.value)
-    ∙ (sym c.is_void.ensures ∙ c.if-is_void.false) in
-    let flag : c.is_raw_text.result ≡ is_raw_text name = c.is_raw_text.ensures
-    ∙ ap is_raw_text c.as_str-in-Element-3.ensures.value in
-    let start : string_bytes c.push_start_tag.new.out ≡ string_bytes c.args.out.now ++ start_tag name attributes =
-    c.in_ok-push_start_tag-in-Element.ensures.ok
-    ∙ (ap (λ x. string_bytes c.args.out.now ++ start_tag x (pairs_of c.as_slice.result.now))
-    c.as_str-in-Element.ensures.value
-    ∙ ap (λ (x : List Attribute). string_bytes c.args.out.now ++ start_tag name (pairs_of x))
-    c.as_slice.ensures.value)
-    in
+    let other : is_void name ≡ false = sym c.is_void.ensures ∙ c.if-is_void.false in
     let inner : string_bytes c.push_children-in-Element.new.out ≡ string_bytes c.push_start_tag.new.out
     ++ all_markup_of (is_raw_text name) children =
     c.in_ok-push_children-in-Element.ensures
-    ∙ ap (λ b. string_bytes c.push_start_tag.new.out ++ all_markup_of b children) flag in
-    let closed : OnOk c.push_end_tag.result
-    (string_bytes c.push_end_tag.new.out ≡ string_bytes c.push_children-in-Element.new.out ++ end_tag name) =
-    subst (λ x. OnOk c.push_end_tag.result
-    (string_bytes c.push_end_tag.new.out ≡ string_bytes c.push_children-in-Element.new.out ++ end_tag x))
-    c.as_str-in-Element-4.ensures.value c.push_end_tag.ensures.ok in
+    ∙ ap (λ b. string_bytes c.push_start_tag.new.out ++ all_markup_of b children) c.is_raw_text.ensures in
     rw (w, other)
     (OnOk-third c.push_end_tag.result (string_bytes c.args.out.now) (string_bytes c.push_start_tag.new.out)
     (string_bytes c.push_children-in-Element.new.out) (string_bytes c.push_end_tag.new.out)
     (start_tag name attributes)
-    (all_markup_of (is_raw_text name) children) (end_tag name) start inner closed)
+    (all_markup_of (is_raw_text name) children) (end_tag name) c.in_ok-push_start_tag-in-Element.ensures.ok inner
+    c.push_end_tag.ensures.ok)

@@ -197,22 +197,20 @@ whole-returns-in-Doctype-clause-out t c =
 pub whole-returns-in-Comment-clause-out : goal.whole-returns-in-Comment-clause-out
 whole-returns-in-Comment-clause-out t c =
     ap (fed_all (writing_in c.args.out.now)) (sym (whole_comment c.args.self.now.sight c.args.node
-    c.data.ensures.tree c.requires (context_in c.args.place c.args.around.now.items) (string_bytes c.in-Comment.field-0)
+    c.data.ensures.tree c.requires (context_in c.args.place c.args.around.now.items) c.in-Comment.field-0.now
     (sym c.data.ensures.value ∙ ap data_of c.in-Comment.is)))
 
 pub whole-returns-in-None-clause-out : goal.whole-returns-in-None-clause-out
 whole-returns-in-None-clause-out t c =
     ap (fed_all (writing_in c.args.out.now)) (sym (whole_hidden c.args.self.now.sight c.args.node
-    c.data.ensures.tree c.requires (context_in c.args.place c.args.around.now.items) (string_bytes c.in-Element.name)
-    (pairs_of c.in-Element.attrs.items)
+    c.data.ensures.tree c.requires (context_in c.args.place c.args.around.now.items) c.in-Element.name.now
+    (pairs_of c.in-Element.attrs.now)
     (sym c.data.ensures.value ∙ ap data_of c.in-Element.is) (sym c.role.ensures ∙ c.in-None.is)))
 
 pub whole-returns-in-Text-clause-out : goal.whole-returns-in-Text-clause-out
 whole-returns-in-Text-clause-out t c =
-    let bytes = string_bytes c.in-Text.text in
+    let bytes = c.in-Text.text.now in
     on_ok c.text.result c.text.ensures (λ e. e
-    ∙ ap (λ x. fed (writing_in c.args.out.now) (run (shown_text x) (map around_of c.deref.result.now)
-    c.args.place.is_code)) c.as_str.ensures.value
     ∙ ap (λ a. fed (writing_in c.args.out.now) (run (shown_text bytes) (map around_of a) c.args.place.is_code))
     c.deref.ensures.value
     ∙ ap (fed_all (writing_in c.args.out.now)) (sym (whole_text c.args.self.now.sight c.args.node c.data.ensures.tree
@@ -226,10 +224,9 @@ whole-element-requires t c = (
     c.requires,
     (
       sym c.in-Some.is ∙ c.role.ensures,
-      ap pairs_of c.as_slice.ensures.value
-          ∙ sym (by_data c.args.self.now.sight.tree.now c.data.ensures.tree c.args.node c.requires
+      sym (by_data c.args.self.now.sight.tree.now c.data.ensures.tree c.args.node c.requires
           (λ (x : NumberedTree). attributes_of (shown (sight_of c.args.self.now.sight) x))
-          (element_node (string_bytes c.in-Element.name) (pairs_of c.in-Element.attrs.items))
+          (element_node c.in-Element.name.now (pairs_of c.in-Element.attrs.now))
           (sym c.data.ensures.value ∙ ap data_of c.in-Element.is)),
     ),
   ),

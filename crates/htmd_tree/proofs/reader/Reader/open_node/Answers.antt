@@ -1,9 +1,7 @@
 -- What is left to prove of `open_node`.
 use Rattle.std.proofs.Common.{◌∷◌, [], ◌++◌, ◌∙◌, ap, refl}
-use Rattle.std.specs.Prelude.{string_bytes}
 use Rattle.htmd_grammar.specs.Documents.{above_body}
 use Rattle.htmd_grammar.specs.Steps.{names_of}
-use Rattle.htmd_tree.specs.Surroundings.{surroundings_of}
 use Rattle.htmd_grammar.specs.Attributes.{pairs_of}
 use Rattle.htmd_tree.specs.declared.reader.OpenNode.{OpenNode}
 use Rattle.htmd_tree.proofs.AdvancesLemmas.{opened_follows, top_at}
@@ -15,10 +13,9 @@ returns-clause-follows c = λ has_doctype fs h.
     let o : OpenNode =
     record { id = c.in_ok-id.id; implied = c.args.implied; surroundings = c.inner-surroundings.result } in
     let flags = c.inner-surroundings.ensures (names_of above_body fs)
-    ((top_at old has_doctype fs c.top.result c.top.ensures.top h).1)
-    ∙ ap (λ n. surroundings_of old.scripting (n ∷ names_of above_body fs)) c.as_str.ensures.value in
+    ((top_at old has_doctype fs c.top.result c.top.ensures.top h).1) in
     opened_follows old c.add_node.new.self (record c.add_node.new.self { stack = c.push.new.self }) has_doctype fs
-    (string_bytes c.args.name) (pairs_of c.args.attrs.items) c.args.implied o h (c.requires.may_open has_doctype fs h)
+    c.args.name.now (pairs_of c.args.attrs.items) c.args.implied o h (c.requires.may_open has_doctype fs h)
     (c.in_ok-id.ensures.ok has_doctype fs h) refl flags refl
     (c.in_ok-push.ensures.items ∙ ap (λ y. y ++ o ∷ []) c.in_ok-id.ensures.stack) c.in_ok-id.ensures.rest
     c.in_ok-id.ensures.scripting

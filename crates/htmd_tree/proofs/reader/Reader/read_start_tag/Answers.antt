@@ -1,6 +1,5 @@
 -- The tag has its form: what its attributes and its name make of it.
 use Rattle.std.proofs.Common.{◌≡◌, ◌<◌, ◌≤◌, rules, suc, length, map, refl, sym, ◌∙◌, ap, arith, Ok, Err, None}
-use Rattle.std.proofs.Common.{string_bytes}
 use Rattle.std.specs.Char.{to_ascii_lowercase}
 use Rattle.htmd_grammar.specs.CharacterClasses.{is_tag_name_byte}
 use Rattle.htmd_grammar.specs.Documents.{above_body}
@@ -41,14 +40,15 @@ returns-in-Some-fault_of_name-clause-follows c =
     rw c.in-Some-2.is at c.in_ok-form.ensures in
     let r : read_attributes spelled ≡ Ok (pairs_of c.in-Ok.attrs.items) =
     rw (c.as_slice.ensures.value, c.in-Ok.is) at c.in_ok-attrs.ensures in
-    let n : c.as_str.result.now ≡ map to_ascii_lowercase c.in-Some.spelled.now =
-    c.as_str.ensures.value ∙ c.in_ok-name.ensures.ok in
+    let name = c.as_str-name.result.now in
+    let n : name ≡ map to_ascii_lowercase c.in-Some.spelled.now =
+    c.as_str-name.ensures.value ∙ c.in_ok-lowered.ensures in
     refused_follows c.args.self.now c.args.self.now has_doctype _ c.in-Some-fault_of_name.kind _
     c.refused-in-Some-fault_of_name.ensures
-    (start_read c.args.self.now.scripting above_body fs c.args.behind.now c.in-Some.spelled.now c.as_str.result.now
+    (start_read c.args.self.now.scripting above_body fs c.args.behind.now c.in-Some.spelled.now name
     behind spelled read.slash read.rest.now (Ok (pairs_of c.in-Ok.attrs.items))
     c.in-Some.ensures.0 c.in-Some.ensures.1 c.in-Some.ensures.2 g n r
-    ∙ ap (named_step c.args.self.now.scripting above_body fs c.as_str.result.now (pairs_of c.in-Ok.attrs.items)
+    ∙ ap (named_step c.args.self.now.scripting above_body fs name (pairs_of c.in-Ok.attrs.items)
     read.rest.now) (sym c.in-Some-fault_of_name.ensures))
 
 pub returns-clause-follows : goal.returns-clause-follows
@@ -62,13 +62,15 @@ returns-clause-follows c =
     rw c.in-Some-2.is at c.in_ok-form.ensures in
     let r : read_attributes spelled ≡ Ok attributes =
     rw (c.as_slice.ensures.value, c.in-Ok.is) at c.in_ok-attrs.ensures in
-    let k : fault_of_name c.as_str.result.now read.slash ≡ None = first_of (search rules, cc) in
-    let f : fault_of_name (string_bytes c.in_ok-name.name) read.slash ≡ None = rw c.as_str.ensures.value at k in
+    let name = c.as_str-name.result.now in
+    let n : name ≡ map to_ascii_lowercase c.in-Some.spelled.now =
+    c.as_str-name.ensures.value ∙ c.in_ok-lowered.ensures in
+    let f : fault_of_name name read.slash ≡ None = first_of (search rules, cc) in
     same_follows c.args.self.now c.place_tag.new.self has_doctype c.place_tag.result _ _
     (start_read c.args.self.now.scripting above_body fs c.args.behind.now c.in-Some.spelled.now
-    (string_bytes c.in_ok-name.name) behind spelled read.slash read.rest.now (Ok attributes) c.in-Some.ensures.0
-    c.in-Some.ensures.1 c.in-Some.ensures.2 g c.in_ok-name.ensures.ok r
-    ∙ ap (named_step c.args.self.now.scripting above_body fs (string_bytes c.in_ok-name.name) attributes
+    name behind spelled read.slash read.rest.now (Ok attributes) c.in-Some.ensures.0
+    c.in-Some.ensures.1 c.in-Some.ensures.2 g n r
+    ∙ ap (named_step c.args.self.now.scripting above_body fs name attributes
     read.rest.now) f) (c.place_tag.ensures.follows has_doctype fs h)
 
 pub returns-clause-shorter : goal.returns-clause-shorter
@@ -84,7 +86,7 @@ returns-clause-shorter c =
     let s : length read.rest.now ≤ length behind = rw g at (form_size (suc (length behind)) behind) in
     let l : length read.rest.now < length old.rest.now = omega arith in
     shorter_follows old c.place_tag.new.self c.place_tag.result
-    (λ fs. place_step (rules_of old) above_body fs (string_bytes c.in_ok-name.name) (pairs_of c.in-Ok.attrs.items)
+    (λ fs. place_step (rules_of old) above_body fs c.as_str-name.result.now (pairs_of c.in-Ok.attrs.items)
     read.rest.now) (length read.rest.now) c.requires.reading c.place_tag.ensures.follows
-    (λ fs. place_within (rules_of old) above_body fs (string_bytes c.in_ok-name.name) (pairs_of c.in-Ok.attrs.items)
+    (λ fs. place_within (rules_of old) above_body fs c.as_str-name.result.now (pairs_of c.in-Ok.attrs.items)
     read.rest.now) l

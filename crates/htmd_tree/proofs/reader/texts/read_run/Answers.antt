@@ -12,8 +12,8 @@ pub returns-in_err-rest-clause-steps : goal.returns-in_err-rest-clause-steps
 returns-in_err-rest-clause-steps c = λ scripting fs there goes_on.
     let p = err_from_is_err_and c.from_residual.result c.from_residual.ensures.1 in
     rw (p.1, p.2) (stops_there scripting fs c.args.around c.args.name.now c.args.text.now
-    (string_bytes c.new-run.result) [] c.args.text.now (string_bytes c.push_next.new.run) c.in_err-rest.field-0.0
-    here c.new-run.ensures.bytes goes_on (c.in_err-rest.ensures.steps scripting c.args.name.now fs there goes_on))
+    (string_bytes c.args.run.now) [] c.args.text.now (string_bytes c.push_next.new.run) c.in_err-rest.field-0.0
+    here c.requires.empty goes_on (c.in_err-rest.ensures.steps scripting c.args.name.now fs there goes_on))
 
 pub loop-around-preserved : goal.loop-around-preserved
 loop-around-preserved c =

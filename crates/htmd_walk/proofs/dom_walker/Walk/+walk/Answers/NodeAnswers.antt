@@ -62,7 +62,7 @@ walk_node-returns-then-is_markdown_alone g t c =
     let v = conversion_of config items in
     λ n h. comment_written config items
     (option_copied visit.joined) c.data.ensures.tree visit.node c.requires.here.within n
-    (string_bytes c.in-Comment.text) true
+    c.in-Comment.text.now true
     (context_of (ancestors_of items visit.node) visit.context.preformatted visit.context.trim)
     (output_view c.args.out.now c.args.links.now) h (sym c.data.ensures.value ∙ ap data_of c.in-Comment.is)
     (sym c.if-is_markdown_alone.true ∙ c.is_markdown_alone.ensures ∙ ap is_markdown_alone c.options.ensures.value)
@@ -86,10 +86,9 @@ walk_node-returns-else-is_markdown_alone g t c =
       definitions =
           c.args.links.now;
     }) p
-    ∙ ap (λ s. put (comment_of s)) c.as_str.ensures.value
     ∙ comment_written config items
     (option_copied visit.joined) c.data.ensures.tree visit.node c.requires.here.within n
-    (string_bytes c.in-Comment.text) false
+    c.in-Comment.text.now false
     (context_of (ancestors_of items visit.node) visit.context.preformatted visit.context.trim)
     (output_view c.args.out.now c.args.links.now) h (sym c.data.ensures.value ∙ ap data_of c.in-Comment.is)
     (sym c.if-is_markdown_alone.false ∙ c.is_markdown_alone.ensures ∙ ap is_markdown_alone c.options.ensures.value))
@@ -104,10 +103,9 @@ walk_node-returns-in-Text g t c =
     let out = string_bytes c.args.out.now.content in
     let text : Bool → List ℕ → List ℕ =
     λ q s. out ++ written_text visit.context.preformatted q visit.context.trim out s in
-    let written : List ℕ = text (parent_is_pre (ancestors_of items visit.node)) (string_bytes c.in-Text.text) in
-    let same : text c.is_parent_pre-in_pre.result c.as_str-text.result.now ≡ written =
-    ap (text c.is_parent_pre-in_pre.result) c.as_str-text.ensures.value
-    ∙ ap (λ q. text q (string_bytes c.in-Text.text)) c.is_parent_pre-in_pre.ensures in
+    let written : List ℕ = text (parent_is_pre (ancestors_of items visit.node)) c.in-Text.text.now in
+    let same : text c.is_parent_pre-in_pre.result c.in-Text.text.now ≡ written =
+    ap (λ q. text q c.in-Text.text.now) c.is_parent_pre-in_pre.ensures in
     on_ok_weaker c.append_text.result (λ p n h.
     ap (λ s. record {
       text = s;
@@ -117,7 +115,7 @@ walk_node-returns-in-Text g t c =
     }) {x = string_bytes c.append_text.new.out} {y = written}
     (◌∙◌ {a = string_bytes c.append_text.new.out} p same)
     ∙ text_written config items
-    (option_copied visit.joined) c.data.ensures.tree visit.node c.requires.here.within n (string_bytes c.in-Text.text)
+    (option_copied visit.joined) c.data.ensures.tree visit.node c.requires.here.within n c.in-Text.text.now
     (context_of (ancestors_of items visit.node) visit.context.preformatted visit.context.trim)
     (output_view c.args.out.now c.args.links.now) h (sym c.data.ensures.value ∙ ap data_of c.in-Text.is))
     c.append_text.ensures
@@ -130,8 +128,8 @@ walk_node-returns-in-Some g t c =
     let visit = c.args.visit.now in
     let v = conversion_of config items in
     let joined = option_copied visit.joined in
-    let name = string_bytes c.in-Element.name in
-    let attributes = pairs_of c.in-Element.attrs.items in
+    let name = c.in-Element.name.now in
+    let attributes = pairs_of c.in-Element.attrs.now in
     let old = c.args.links.now in
     let is : data_at items visit.node ≡ element_node name attributes =
     sym c.data.ensures.value ∙ ap data_of c.in-Element.is in
@@ -156,8 +154,8 @@ walk_node-returns-in_ok-given-in-Element g t c =
     let visit = c.args.visit.now in
     let v = conversion_of config items in
     let joined = option_copied visit.joined in
-    let name = string_bytes c.in-Element.name in
-    let attributes = pairs_of c.in-Element.attrs.items in
+    let name = c.in-Element.name.now in
+    let attributes = pairs_of c.in-Element.attrs.now in
     let old = c.args.links.now in
     let is : data_at items visit.node ≡ element_node name attributes =
     sym c.data.ensures.value ∙ ap data_of c.in-Element.is in
@@ -171,8 +169,7 @@ walk_node-returns-in_ok-given-in-Element g t c =
     c.in_ok-given-in-Element.ensures m
     (subst (λ d. height (tree_of items d) ≤ suc m) (sym c.element-element.ensures.node) k)
     ∙ ap (λ tag. answer_after 0 tag (occurrence_of m v c.element-element.result) old) c.element-element.ensures.tag
-    ∙ ap (λ at. answer_after 0 c.as_str-in-Element.result.now at old) (c.element-element.ensures.occurrence m)
-    ∙ ap (answered m) c.as_str-in-Element.ensures.value in
+    ∙ ap (λ at. answer_after 0 name at old) (c.element-element.ensures.occurrence m) in
     on_ok_weaker c.append_result.result (λ p n h. p new
     ∙ result_put config items joined c.data.ensures.tree visit.node
     c.requires.here.within name attributes is (output_view c.args.out.now old) given new made n
