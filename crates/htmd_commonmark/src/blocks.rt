@@ -99,7 +99,7 @@ impl BlockWriter {
         let mut before = None;
         for (i, block) in blocks.iter().enumerate() {
             if i > 0 {
-                self.lines.push(separator(place.tight))?;
+                self.lines.push_separator(place.tight)?;
             }
             let here = place.at(i);
             self.write_block(block, options, here, before)?;
@@ -195,7 +195,7 @@ impl BlockWriter {
         let line = Line::new(options, LineKind::Heading);
         self.inlines.write_line(content, line)?;
         self.lines.push_signs(level)?;
-        self.lines.push(" ")?;
+        self.lines.push_in_line(" ")?;
         self.lines.push(&self.inlines.text)
     }
 
@@ -277,7 +277,7 @@ impl BlockWriter {
     {
         for (i, item) in items.iter().enumerate() {
             if i > 0 {
-                self.lines.push(separator(tight))?;
+                self.lines.push_separator(tight)?;
             }
             self.write_item(item, tight, markers, i, options)?;
         }
@@ -357,13 +357,6 @@ fn sign_of(
         Block::List { start, .. } => Some(list_sign(options, *start, before, outer)),
         _ => None,
     }
-}
-
-/// What stands between two blocks.
-fn separator(tight: bool) -> &'static str
-    ensures { result.now ≡ spec.separator tight }
-{
-    if tight { "\n" } else { "\n\n" }
 }
 
 /// A thematic break; in an item one that begins no item.

@@ -4,6 +4,7 @@ ghost use Rattle.std.specs.List.{list_all, list_any};
 ghost use Rattle.std.specs.Char.{is_ascii};
 ghost use Rattle.htmd_grammar.specs.Characters.{line_feed, number_sign, space};
 ghost use Rattle.htmd_text.specs.Trims.{trimmed_end, is_line_feed, is_space};
+ghost use Rattle.htmd_commonmark.specs.BlockMarkdown.{separator};
 ghost use Rattle.htmd_commonmark.specs.Pages as page;
 
 use htmd_text::push_repeated;
@@ -73,18 +74,29 @@ impl Lines {
         Ok(())
     }
 
+    /// Ends the line of a block; the next block of a loose text stands after an empty line.
+    pub(crate) fn push_separator(&mut self, tight: bool) -> Result<(), AllocError>
+        ensures { OnOk result (self.new ≡ page.wrote self.old (separator tight)) }
+    {
+        self.end_line()?;
+        if !tight {
+            self.end_line()?;
+        }
+        Ok(())
+    }
+
     /// Appends this many number signs.
     pub(crate) fn push_signs(&mut self, count: u8) -> Result<(), AllocError>
         ensures { OnOk result (self.new ≡ page.wrote self.old (replicate count number_sign)) }
     {
         for _i in 0..count {
-            self.push("#")?;
+            self.push_in_line("#")?;
         }
         Ok(())
     }
 
     /// Appends a text without line feeds.
-    fn push_in_line(&mut self, text: &str) -> Result<(), AllocError>
+    pub(crate) fn push_in_line(&mut self, text: &str) -> Result<(), AllocError>
         requires { list_any is_line_feed text.now ≡ false }
         ensures { OnOk result (self.new ≡ page.wrote self.old text.now) }
     {

@@ -1,5 +1,6 @@
 -- Lemmas on documents.
 pub mod RolesLemmas
+pub mod RoleLengthsLemmas
 pub mod AttributesLemmas
 pub mod WordsLemmas
 pub mod ShownLemmas
@@ -13,7 +14,10 @@ pub mod CodeTextsLemmas
 mod TreeExamples
 pub mod ShownTextsLemmas
 pub mod SpacesLemmas
+pub mod PiecesLemmas
 pub mod ParagraphsLemmas
+pub mod PieceFeedLemmas
+pub mod PiecesLemmas
 pub mod ListsLemmas
 pub mod TablesLemmas
 pub mod AllTextsLemmas

@@ -17,9 +17,8 @@ use Rattle.htmd_document.specs.Paragraphs.{Writing, parted, shown, after_leaf, a
 use Rattle.htmd_document.specs.Paragraphs.{ended, gap_before, white_behind, is_code_gap, gap_after_task}
 use Rattle.htmd_document.specs.ParagraphViews.{settled, IsReached}
 use Rattle.htmd_document.specs.Parts.{Around}
-use Rattle.htmd_document.specs.Spaces.{is_white, is_plain, no_gap}
+use Rattle.htmd_document.specs.Spaces.{is_white, no_gap}
 use Rattle.htmd_document.proofs.NestingLemmas.{behind-texts, joined-texts}
-use Rattle.htmd_document.proofs.SpacesLemmas.{IsPlainWord, plain-taken, word-cut}
 
 -- ---- what is shared
 
@@ -140,106 +139,7 @@ pub reached-le : (old mid : Writing) (around : List Around) (is_code : Bool) (n 
 reached-le old mid around is_code n h =
     rw h.count (rw (length-map around mark_of) at (marks-le (parted old) (map mark_of around)))
 
--- ---- a word
-
-and-false : (b : Bool) → (b && false) ≡ false
-and-false true = refl
-and-false false = refl
-
-unparted : (v : Writing) (around : List Around) (is_code : Bool) (s : List ℕ)
-    → parted (shown v around is_code (text_or_code is_code s)) ≡ shown v around is_code (text_or_code is_code s)
-unparted v around is_code s =
-    ap (λ b. if b then ended (shown v around is_code (text_or_code is_code s))
-    else shown v around is_code (text_or_code is_code s)) (and-false (not v.is_flat))
-
--- where the second of two texts comes, and what stands between them
-same-place : (v : Writing) (around : List Around) (is_code : Bool) (leaf : Inline)
-    → shared_marks (shown v around is_code leaf) (map mark_of around) ≡ length around
-same-place v around true leaf = shared-self (map mark_of around) ∙ length-map around mark_of
-same-place v around false leaf = shared-self (map mark_of around) ∙ length-map around mark_of
-
-no-gap-behind : (v : Writing) (around : List Around) (is_code : Bool) (leaf : Inline)
-    → gap_behind (latest_of is_code) (shown v around is_code leaf) around
-    is_code ≡ (shown v around is_code leaf).content
-no-gap-behind v around true leaf = refl
-no-gap-behind v around false leaf = refl
-
-shown-content : (v : Writing) (around : List Around) (is_code : Bool) (s t : List ℕ)
-    → (shown (shown v around is_code (text_or_code is_code s)) around is_code (text_or_code is_code t)).content
-    ≡ (shown v around is_code (text_or_code is_code (s ++ t))).content
-shown-content v around is_code s t =
-    let first : Writing = shown v around is_code (text_or_code is_code s) in
-    let n : ℕ = shared_marks v (map mark_of around) in
-    ap (λ xs. behind (shared_marks first (map mark_of around)) xs around (text_or_code is_code t))
-    (no-gap-behind v around is_code (text_or_code is_code s))
-    ∙ (ap (λ k. behind k first.content around (text_or_code is_code t))
-    (same-place v around is_code (text_or_code is_code s))
-    ∙ behind-texts n (gap_behind v.latest v around is_code) around is_code s t
-    (rw (length-map around mark_of) at (marks-le v (map mark_of around))))
-
--- a text after one with the same around it
-shown-more : (v : Writing) (around : List Around) (is_code : Bool) (s t : List ℕ)
-    → after_leaf (shown v around is_code (text_or_code is_code s)) around is_code (text_or_code is_code t)
-    ≡ shown v around is_code (text_or_code is_code (s ++ t))
-shown-more v around is_code s t =
-    ap (λ w. shown w around is_code (text_or_code is_code t)) (unparted v around is_code s)
-    ∙ ap (λ xs. record v {
-      content = xs;
-      latest = latest_of is_code;
-      around = map mark_of around;
-      gap = no_gap;
-      is_blank = false;
-      breaks = 0;
-    }) (shown-content v around is_code s t)
-
--- the characters of a word after others
-word-more : (cs : List ℕ) (v : Writing) (around : List Around) (is_code : Bool) (s : List ℕ) → IsPlainWord cs
-    → fold (λ w c. after_character w around is_code c) (shown v around is_code (text_or_code is_code s)) cs
-    ≡ shown v around is_code (text_or_code is_code (s ++ encode_utf8_all cs))
-word-more [] v around is_code s h = ap (λ t. shown v around is_code (text_or_code is_code t)) (sym (append-nil s))
-word-more (c ∷ cs) v around is_code s h =
-    let first : Writing = shown v around is_code (text_or_code is_code s) in
-    let plain : after_character first around is_code c ≡ after_leaf first around is_code
-    (text_or_code is_code (encode_utf8 c)) =
-    ap (λ b. if b then spaced_out first c is_code
-    else after_leaf first around is_code (text_or_code is_code (encode_utf8 c))) h.0 in
-    ap (λ w. fold (λ v c'. after_character v around is_code c') w cs)
-    (plain ∙ shown-more v around is_code s (encode_utf8 c))
-    ∙ (word-more cs v around is_code (s ++ encode_utf8 c) h.1
-    ∙ ap (λ t. shown v around is_code (text_or_code is_code t)) (append_assoc s (encode_utf8 c) (encode_utf8_all cs)))
-
-pub word-fed : (c : ℕ) (cs : List ℕ) (w : Writing) (around : List Around) (is_code : Bool) → IsPlainWord (c ∷ cs)
-    → fold (λ v c'. after_character v around is_code c') w (c ∷ cs)
-    ≡ after_leaf w around is_code (text_or_code is_code (encode_utf8_all (c ∷ cs)))
-word-fed c cs w around is_code h =
-    let plain : after_character w around is_code c ≡ after_leaf w around is_code
-    (text_or_code is_code (encode_utf8 c)) =
-    ap (λ b. if b then spaced_out w c is_code
-    else after_leaf w around is_code (text_or_code is_code (encode_utf8 c))) h.0 in
-    ap (λ u. fold (λ v c'. after_character v around is_code c') u cs) plain
-    ∙ word-more cs (parted w) around is_code (encode_utf8 c) h.1
-
--- a word is read, and what follows it
-pub word-read : (w w' : Writing) (around : List Around) (is_code : Bool) (s word rest : List ℕ) (n c : ℕ)
-    (more : List ℕ)
-    → IsUtf8 s → chars s ≡ c ∷ more → is_white c ≡ false → n ≡ length (encode_utf8_all (take_while is_plain (chars s)))
-    → word ≡ take n s → rest ≡ drop n s → w' ≡ after_leaf w around is_code (text_or_code is_code word)
-    → fold (λ v c'. after_character v around is_code c') w' (chars rest)
-    ≡ fold (λ v c'. after_character v around is_code c') w (chars s)
-word-read w w' around is_code s word rest n c more text begins plain size p q e =
-    let cut = word-cut s n text size in
-    let step : Writing → ℕ → Writing = λ v c'. after_character v around is_code c' in
-    let tail : List ℕ = take_while is_plain more in
-    let whole : take_while is_plain (chars s) ≡ c ∷ tail =
-    ap (take_while is_plain) begins ∙ (take_while-cons is_plain c more ∙ ap (λ b. cond (not b) (c ∷ tail) []) plain) in
-    let made : word ≡ encode_utf8_all (c ∷ tail) = p ∙ (cut.front ∙ ap encode_utf8_all whole) in
-    let read : w' ≡ fold step w (take_while is_plain (chars s)) =
-    e ∙ (ap (λ t. after_leaf w around is_code (text_or_code is_code t)) made
-    ∙ (sym (word-fed c tail w around is_code (plain, plain-taken more)) ∙ ap (fold step w) (sym whole))) in
-    ap (λ r. fold step w' (chars r)) q
-    ∙ (ap (λ u. fold step u (chars (drop n s))) read
-    ∙ (sym (fold-append step w (take_while is_plain (chars s)) (chars (drop n s)))
-    ∙ ap (fold step w) (sym cut.characters)))
+-- ---- a text, and what follows it
 
 -- white space is read
 pub white-read : (w w' : Writing) (around : List Around) (is_code : Bool) (s rest : List ℕ) (c : ℕ)

@@ -4,12 +4,14 @@ pub mod DocumentViews
 pub mod Parts
 pub mod PartViews
 pub mod ShownTexts
+pub mod TextViews
 pub mod Spaces
 pub mod SpaceViews
 pub mod Nesting
 pub mod NestViews
 pub mod Paragraphs
 pub mod Roles
+pub mod RoleViews
 pub mod Shown
 pub mod SightFacts
 pub mod SightViews

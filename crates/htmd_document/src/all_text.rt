@@ -1,10 +1,12 @@
 //! All text below an element, as a code block shows it.
 ghost use Rattle.std.specs.Prelude.{◌≡◌, ◌<◌, ◌++◌, true, IfOk, IfSome, OnOk, length, string_bytes, encode_utf8_all};
+ghost use Rattle.std.specs.List.{list_any};
 ghost use Rattle.std.specs.Option.{option_copied, option_map};
 ghost use Rattle.htmd_document.specs.AllTexts as spec;
 ghost use Rattle.htmd_document.specs.Shown as shown;
 ghost use Rattle.htmd_document.specs.ShownTexts.{shown_text};
 ghost use Rattle.htmd_document.specs.SightViews.{shown_at, shows_at};
+ghost use Rattle.htmd_document.specs.TextViews as views;
 
 use crate::attributes::{language_of, text_of};
 use crate::role::{is_image, is_line_break, is_quotation, role_of};
@@ -22,7 +24,27 @@ pub(crate) fn all_text(alloc: Global, sight: &Sight, node: NodeId) -> Result<Str
 {
     let mut text = String::new(alloc);
     push_text_below(alloc, &mut text, sight, node)?;
+    if !holds_return(text.as_bytes()) {
+        return Ok(text);
+    }
     with_line_feeds(alloc, text.as_str())
+}
+
+/// Whether a carriage return is in the text. All bytes are looked at, so that a processor can compare many at once.
+fn holds_return(bytes: &[u8]) -> bool
+    ensures { result ≡ list_any views.is_return bytes.now }
+{
+    let mut found = false;
+    for b in bytes {
+        found |= is_return(*b);
+    }
+    found
+}
+
+fn is_return(byte: u8) -> bool
+    ensures { result ≡ views.is_return byte }
+{
+    byte == b'\r'
 }
 
 /// Appends the texts below a node, the description of each image, and a line feed for each `br`.

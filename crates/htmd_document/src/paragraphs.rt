@@ -9,12 +9,14 @@ ghost use Rattle.htmd_document.specs.Paragraphs as spec;
 ghost use Rattle.htmd_document.specs.Parts.{run, picture, break, box, edge, whole};
 ghost use Rattle.htmd_document.specs.PartViews.{around_of};
 ghost use Rattle.htmd_document.specs.ShownTexts.{shown_text};
+ghost use Rattle.htmd_text.specs.SqueezedTexts.{squeezed_text};
 
 use crate::around::Around;
 use crate::document::{Block, Inline};
 use crate::nest::Nest;
 use crate::shown_text::{is_all_shown, shown_text};
-use crate::spaces::{Gap, begins_with_space, is_white, word_len};
+use crate::spaces::{Gap, begins_with_space, is_white, without_white_end};
+use htmd_text::compress_whitespace;
 use std::alloc::{AllocError, Global};
 
 /// What showed last in a paragraph: nothing yet, the box of a task, a text or an image, or code.
@@ -112,9 +114,9 @@ impl Paragraphs {
                 self.push_white(c, is_code)?;
                 rest = &rest[c.len_utf8()..];
             } else {
-                let (word, behind) = rest.split_at(word_len(rest));
-                self.push_word(word, around, is_code)?;
-                rest = behind;
+                let piece = without_white_end(rest);
+                self.push_piece(piece, around, is_code)?;
+                rest = &rest[piece.len()..];
             }
         }
         Ok(())
@@ -212,14 +214,21 @@ impl Paragraphs {
         Ok(())
     }
 
-    /// A text without white space.
-    fn push_word(&mut self, word: &str, around: &[Around], is_code: bool) -> Result<(), AllocError>
+    /// A text with no white space at its ends; in it each run of ASCII white space is one space.
+    fn push_piece(
+        &mut self,
+        piece: &str,
+        around: &[Around],
+        is_code: bool,
+    ) -> Result<(), AllocError>
         ensures { IfOk result (λ _. writing_in self.new
             ≡ spec.after_leaf (writing_in self.old) (map around_of around.now) is_code
-            (text_or_code is_code word.now)) }
+            (text_or_code is_code (squeezed_text piece.now))) }
     {
         let shared = self.reach(around, is_code)?;
-        self.nest.push_text(shared, around, word, is_code)?;
+        let squeezed = compress_whitespace(self.alloc, piece)?;
+        self.nest
+            .push_text(shared, around, squeezed.as_str(), is_code)?;
         self.settle(Latest::of(is_code));
         Ok(())
     }

@@ -1,5 +1,6 @@
 //! What an element is to the document.
 ghost use Rattle.std.specs.Prelude.{◌≡◌, map};
+ghost use Rattle.htmd_document.specs.RoleViews as views;
 ghost use Rattle.htmd_document.specs.Roles as spec;
 
 use crate::around::Format;
@@ -40,56 +41,139 @@ pub enum Role {
 }
 
 /// What an element with this name is.
-#[tactic(auto, unfolding(crate::specs::Roles::role_of))]
 pub(crate) fn role_of(name: &str) -> Role
     ensures { result ≡ spec.role_of name.now }
 {
-    match name {
-        "p" => Role::Paragraph,
-        "li" => Role::Item,
-        "ul" | "menu" | "dir" => Role::BulletList,
-        "ol" => Role::NumberedList,
-        "pre" | "listing" | "xmp" | "plaintext" => Role::Verbatim,
-        "blockquote" => Role::BlockQuote,
-        "hr" => Role::ThematicBreak,
-        _ => table_role(name),
+    match name.len() {
+        1 => role_of_one(name),
+        2 => role_of_two(name),
+        3 => role_of_three(name),
+        4 => role_of_four(name),
+        5 => role_of_five(name),
+        _ => role_of_more(name),
     }
 }
 
-#[tactic(auto, unfolding(crate::specs::Roles::table_role))]
-fn table_role(name: &str) -> Role
-    ensures { result ≡ spec.table_role name.now }
+/// What an element is whose name has one byte.
+#[tactic(auto, unfolding(crate::specs::RoleViews::one_role))]
+fn role_of_one(name: &str) -> Role
+    ensures { result ≡ views.one_role name.now }
 {
     match name {
-        "table" => Role::Table,
-        "caption" => Role::Caption,
-        "thead" => Role::TableHead,
-        "tbody" | "tfoot" => Role::TableBody,
+        "p" => Role::Paragraph,
+        "i" => Role::Format(Format::Emphasis),
+        "b" => Role::Format(Format::Strong),
+        "s" => Role::Format(Format::Deleted),
+        "a" => Role::Anchor,
+        "q" => Role::Quotation,
+        _ => Role::Plain,
+    }
+}
+
+/// What an element is whose name has two bytes.
+#[tactic(auto, unfolding(crate::specs::RoleViews::two_role))]
+fn role_of_two(name: &str) -> Role
+    ensures { result ≡ views.two_role name.now }
+{
+    match name {
+        "li" => Role::Item,
+        "ul" => Role::BulletList,
+        "ol" => Role::NumberedList,
+        "hr" => Role::ThematicBreak,
         "tr" => Role::Row,
         "td" => Role::Cell,
         "th" => Role::HeaderCell,
-        _ => heading_or_block(name),
-    }
-}
-
-#[tactic(auto, unfolding(crate::specs::Roles::heading_or_block))]
-fn heading_or_block(name: &str) -> Role
-    ensures { result ≡ spec.heading_or_block name.now }
-{
-    match name {
         "h1" => Role::Heading(1),
         "h2" => Role::Heading(2),
         "h3" => Role::Heading(3),
         "h4" => Role::Heading(4),
         "h5" => Role::Heading(5),
         "h6" => Role::Heading(6),
+        "dd" | "dl" | "dt" => Role::Block,
+        "em" => Role::Format(Format::Emphasis),
+        "tt" => Role::Code,
+        "br" => Role::LineBreak,
+        _ => Role::Plain,
+    }
+}
+
+/// What an element is whose name has three bytes.
+#[tactic(auto, unfolding(crate::specs::RoleViews::three_role))]
+fn role_of_three(name: &str) -> Role
+    ensures { result ≡ views.three_role name.now }
+{
+    match name {
+        "dir" => Role::BulletList,
+        "pre" | "xmp" => Role::Verbatim,
+        "div" | "nav" => Role::Block,
+        "dfn" | "var" => Role::Format(Format::Emphasis),
+        "del" => Role::Format(Format::Deleted),
+        "sup" => Role::Format(Format::Superscript),
+        "sub" => Role::Format(Format::Subscript),
+        "kbd" => Role::Code,
+        "img" => Role::Image,
+        _ => Role::Plain,
+    }
+}
+
+/// What an element is whose name has four bytes.
+#[tactic(auto, unfolding(crate::specs::RoleViews::four_role))]
+fn role_of_four(name: &str) -> Role
+    ensures { result ≡ views.four_role name.now }
+{
+    match name {
+        "menu" => Role::BulletList,
+        "body" | "form" | "html" | "main" => Role::Block,
+        "cite" => Role::Format(Format::Emphasis),
+        "code" | "samp" => Role::Code,
+        _ => Role::Plain,
+    }
+}
+
+/// What an element is whose name has five bytes.
+#[tactic(auto, unfolding(crate::specs::RoleViews::five_role))]
+fn role_of_five(name: &str) -> Role
+    ensures { result ≡ views.five_role name.now }
+{
+    match name {
+        "table" => Role::Table,
+        "thead" => Role::TableHead,
+        "tbody" | "tfoot" => Role::TableBody,
+        "aside" => Role::Block,
+        "input" => Role::Input,
+        _ => Role::Plain,
+    }
+}
+
+/// What an element is whose name has six bytes or more.
+#[tactic(auto, unfolding(crate::specs::RoleViews::more_role))]
+fn role_of_more(name: &str) -> Role
+    ensures { result ≡ views.more_role name.now }
+{
+    match name {
+        "strong" => Role::Format(Format::Strong),
+        "listing" | "plaintext" => Role::Verbatim,
+        "blockquote" => Role::BlockQuote,
+        "caption" => Role::Caption,
         _ => {
             if is_block(name) {
                 Role::Block
             } else {
-                inline_role(name)
+                rare_role(name)
             }
         }
+    }
+}
+
+/// What an element is that is no block and whose name has six bytes or more.
+#[tactic(auto, unfolding(crate::specs::RoleViews::rare_role))]
+fn rare_role(name: &str) -> Role
+    ensures { result ≡ views.rare_role name.now }
+{
+    match name {
+        "strike" => Role::Format(Format::Deleted),
+        "button" | "select" | "option" | "optgroup" | "textarea" => Role::Apart,
+        _ => Role::Plain,
     }
 }
 
@@ -100,62 +184,31 @@ pub(crate) fn is_among(name: &str, names: &[&str]) -> bool
     names.contains(&name)
 }
 
-/// Whether the name is that of a block that is nothing else.
+/// Whether the name has six bytes or more, and is that of a block that is nothing else.
 fn is_block(name: &str) -> bool
-    ensures { result ≡ spec.is_among spec.block_names name.now }
+    ensures { result ≡ spec.is_among views.long_block_names name.now }
 {
     is_among(
         name,
         &[
             "address",
             "article",
-            "aside",
-            "body",
             "center",
-            "dd",
             "details",
             "dialog",
-            "div",
-            "dl",
-            "dt",
             "fieldset",
             "figcaption",
             "figure",
             "footer",
-            "form",
             "frameset",
             "header",
             "hgroup",
-            "html",
             "legend",
-            "main",
-            "nav",
             "search",
             "section",
             "summary",
         ],
     )
-}
-
-#[tactic(auto, unfolding(crate::specs::Roles::inline_role))]
-fn inline_role(name: &str) -> Role
-    ensures { result ≡ spec.inline_role name.now }
-{
-    match name {
-        "em" | "i" | "cite" | "dfn" | "var" => Role::Format(Format::Emphasis),
-        "strong" | "b" => Role::Format(Format::Strong),
-        "del" | "s" | "strike" => Role::Format(Format::Deleted),
-        "sup" => Role::Format(Format::Superscript),
-        "sub" => Role::Format(Format::Subscript),
-        "code" | "tt" | "kbd" | "samp" => Role::Code,
-        "a" => Role::Anchor,
-        "q" => Role::Quotation,
-        "button" | "select" | "option" | "optgroup" | "textarea" => Role::Apart,
-        "br" => Role::LineBreak,
-        "img" => Role::Image,
-        "input" => Role::Input,
-        _ => Role::Plain,
-    }
 }
 
 /// Whether the content of such an element counts for nothing.

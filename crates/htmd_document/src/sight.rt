@@ -20,8 +20,19 @@ pub(crate) struct Sight<'t> {
     ghost is_tree: { IsTree tree.now },
 }
 
+/// No name that is never shown is shorter.
+const SHORTEST_HIDDEN: usize = 5;
+
 /// Whether a browser never shows elements with this name.
+#[tactic(auto, using(crate::proofs::RoleLengthsLemmas::hidden_long))]
 fn is_never_shown(name: &str) -> bool
+    ensures { result ≡ roles.is_among roles.hidden_names name.now }
+{
+    name.len() >= SHORTEST_HIDDEN && is_hidden_name(name)
+}
+
+/// Whether the name is one of those that are never shown.
+fn is_hidden_name(name: &str) -> bool
     ensures { result ≡ roles.is_among roles.hidden_names name.now }
 {
     is_among(

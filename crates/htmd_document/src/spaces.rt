@@ -1,10 +1,11 @@
 //! White space of a paragraph.
-ghost use Rattle.std.specs.Prelude.{◌≡◌, ◌++◌, ◌≤◌, IfOk, length, not, string_bytes, encode_utf8_all, take_while};
+ghost use Rattle.std.specs.Prelude.{◌≡◌, IfOk, string_bytes, encode_utf8_all};
 ghost use Rattle.std.specs.Str.{chars};
 ghost use Rattle.htmd_grammar.specs.Characters.{space};
 ghost use Rattle.htmd_grammar.specs.CharacterClasses.{first_is};
 ghost use Rattle.htmd_document.specs.Spaces as spec;
 ghost use Rattle.htmd_document.specs.SpaceViews.{gap_of};
+ghost use Rattle.htmd_text.specs.Trims.{trimmed_end};
 
 use std::alloc::{AllocError, Global};
 
@@ -25,19 +26,18 @@ fn is_wide_space(c: char) -> bool
     )
 }
 
-/// How many bytes stand before the first white space.
-pub(crate) fn word_len(text: &str) -> usize
-    ensures bound { result ≤ length text.now }
-    ensures value { result ≡ length (encode_utf8_all (take_while spec.is_plain (chars text.now))) }
+/// The text without the white space at its end.
+pub(crate) fn without_white_end(text: &str) -> &str
+    ensures { result.now ≡ encode_utf8_all (trimmed_end spec.is_white (chars text.now)) }
 {
-    let mut len = 0;
-    for c in text.chars() {
-        if is_white(c) {
-            return len;
+    let mut front = text;
+    while let Some(c) = front.chars().next_back() {
+        if !is_white(c) {
+            return front;
         }
-        len += c.len_utf8();
+        front = &front[..front.len() - c.len_utf8()];
     }
-    len
+    front
 }
 
 /// What stands between two things that show.

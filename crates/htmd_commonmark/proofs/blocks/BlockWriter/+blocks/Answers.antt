@@ -12,8 +12,8 @@ use Rattle.htmd_commonmark.proofs.BlocksLemmas.{counted, list_shape, on_ok, quot
 use Rattle.htmd_commonmark.proofs.BlocksLemmas.{item_less, item_split, blocks_step, items_step, no_more_blocks, no_more_items}
 use Rattle.htmd_commonmark.proofs.BlocksLemmas.{pushed_some, pushed_none}
 use Rattle.htmd_commonmark.proofs.blocks.BlockWriter.+blocks.Goals as goal
-use Rattle.htmd_commonmark.proofs.blocks.BlockWriter.+blocks.Goals.{write_blocks-then-i-gt0+in_ok-push, write_blocks-else-i-gt0}
-use Rattle.htmd_commonmark.proofs.blocks.BlockWriter.+blocks.Goals.{write_list-then-i-gt0+in_ok-push, write_list-else-i-gt0}
+use Rattle.htmd_commonmark.proofs.blocks.BlockWriter.+blocks.Goals.{write_blocks-then-i-gt0+in_ok-push_separator, write_blocks-else-i-gt0}
+use Rattle.htmd_commonmark.proofs.blocks.BlockWriter.+blocks.Goals.{write_list-then-i-gt0+in_ok-push_separator, write_list-else-i-gt0}
 
 pub write_block-returns-in-List : goal.write_block-returns-in-List
 write_block-returns-in-List n c =
@@ -56,10 +56,10 @@ write_blocks-loop-i-preserved n c =
     let between = put_text o (separator place.tight) o.definitions in
     let pushed : at ≡ cond (i == 0) o between =
     elim c.if-i-gt0.branch [
-      | write_blocks-then-i-gt0+in_ok-push w ↦
+      | write_blocks-then-i-gt0+in_ok-push_separator w ↦
           ap output_of w.self-is
-          ∙ pushed_some o w.push.new.self w.separator.result.now (separator place.tight) i (omega arith)
-          w.in_ok-push.ensures w.separator.ensures
+          ∙ pushed_some o w.push_separator.new.self (separator place.tight) (separator place.tight) i (omega arith)
+          w.in_ok-push_separator.ensures refl
       | write_blocks-else-i-gt0 w ↦ ap output_of w.self-is ∙ pushed_none o between i (omega arith)
     ] in
     record {
@@ -119,10 +119,10 @@ write_list-loop-i-preserved n c =
     let between = put_text o (separator tight) o.definitions in
     let pushed : at ≡ cond (i == 0) o between =
     elim c.if-i-gt0.branch [
-      | write_list-then-i-gt0+in_ok-push w ↦
+      | write_list-then-i-gt0+in_ok-push_separator w ↦
           ap output_of w.self-is
-          ∙ pushed_some o w.push.new.self w.separator.result.now (separator tight) i (omega arith)
-          w.in_ok-push.ensures w.separator.ensures
+          ∙ pushed_some o w.push_separator.new.self (separator tight) (separator tight) i (omega arith)
+          w.in_ok-push_separator.ensures refl
       | write_list-else-i-gt0 w ↦ ap output_of w.self-is ∙ pushed_none o between i (omega arith)
     ] in
     items_step options markers tight o at (output_of c.write_item.new.self) (blocks_of bs.items)

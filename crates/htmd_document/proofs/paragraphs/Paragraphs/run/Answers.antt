@@ -1,9 +1,13 @@
 -- What is left to prove of `run`.
-use Rattle.std.proofs.Common.{◌∷◌, ◌∙◌, refl, sym, ap, subst, map, chars, IsUtf8, arith}
+use Rattle.std.proofs.Common.{◌≡◌, ◌∷◌, ◌++◌, ◌<◌, ◌∙◌, refl, sym, ap, subst, map, length, chars, IsUtf8, arith, encode_utf8_all}
+use Rattle.std.proofs.lemmas.List.{length-drop}
+use Rattle.htmd_text.specs.Trims.{trimmed_end}
 use Rattle.htmd_document.specs.ParagraphViews.{writing_in}
 use Rattle.htmd_document.specs.PartViews.{around_of}
-use Rattle.htmd_document.proofs.SpacesLemmas.{character-cut, word-cut, word-some}
-use Rattle.htmd_document.proofs.ParagraphsLemmas.{word-read, white-read, read-end}
+use Rattle.htmd_document.specs.Spaces.{is_white}
+use Rattle.htmd_document.proofs.SpacesLemmas.{character-cut, front-cut}
+use Rattle.htmd_document.proofs.PieceFeedLemmas.{piece-read, piece-some}
+use Rattle.htmd_document.proofs.ParagraphsLemmas.{white-read, read-end}
 use Rattle.htmd_document.proofs.paragraphs.Paragraphs.run.Goals as goal
 
 pub range_from-rest-requires : goal.range_from-rest-requires
@@ -24,30 +28,44 @@ loop-c-preserved-then-is_white c =
           ∙ c.loop-c.invariant.value;
     }
 
-pub split_at-requires : goal.split_at-requires
-split_at-requires c =
-    (word-cut c.loop-c.rest.now c.word_len.result c.loop-c.invariant.utf8 c.word_len.ensures.value).boundary
+pub range_from-rest-requires-2 : goal.range_from-rest-requires-2
+range_from-rest-requires-2 c =
+    λ _. (front-cut c.loop-c.rest.now c.len.result _ c.loop-c.invariant.utf8
+    (c.len.ensures ∙ ap length c.without_white_end-piece.ensures)).boundary
 
 pub loop-c-smaller : goal.loop-c-smaller
 loop-c-smaller c =
-    let cut = character-cut c.loop-c.rest.now c.next.new.self.rest.now c.in-Some.c _
+    let first = character-cut c.loop-c.rest.now c.next.new.self.rest.now c.in-Some.c _
     c.loop-c.invariant.utf8 (sym c.chars.ensures.rest ∙ c.in-Some.ensures.steps.0) refl in
-    let some = word-some c.loop-c.rest.now c.in-Some.c c.word_len.result _ cut.characters (sym c.if-is_white.ensures)
-    c.word_len.ensures.value in
-    omega (arith, some, c.split_at.ensures.back_len)
+    let cut = front-cut c.loop-c.rest.now c.len.result _ c.loop-c.invariant.utf8
+    (c.len.ensures ∙ ap length c.without_white_end-piece.ensures) in
+    let some = piece-some c.loop-c.rest.now c.in-Some.c _ first.characters (sym c.if-is_white.ensures) in
+    let size : c.len.result ≡ length (encode_utf8_all (trimmed_end is_white (chars c.loop-c.rest.now))) =
+    c.len.ensures ∙ ap length c.without_white_end-piece.ensures in
+    let within = cut.boundary.0 in
+    omega (
+      arith,
+      some,
+      size,
+      within,
+      ap length c.range_from-rest-2.ensures.value,
+      length-drop c.len.result c.loop-c.rest.now,
+    )
 
 pub loop-c-preserved : goal.loop-c-preserved
 loop-c-preserved c =
     let first = character-cut c.loop-c.rest.now c.next.new.self.rest.now c.in-Some.c _
     c.loop-c.invariant.utf8 (sym c.chars.ensures.rest ∙ c.in-Some.ensures.steps.0) refl in
-    let cut = word-cut c.loop-c.rest.now c.word_len.result c.loop-c.invariant.utf8 c.word_len.ensures.value in
+    let cut = front-cut c.loop-c.rest.now c.len.result _ c.loop-c.invariant.utf8
+    (c.len.ensures ∙ ap length c.without_white_end-piece.ensures) in
     record {
-      utf8 = subst IsUtf8 (sym c.split_at.ensures.back) cut.utf8;
-      value = word-read (writing_in c.loop-c.self) (writing_in c.push_word.new.self) (map around_of c.args.around.now)
-          c.args.is_code c.loop-c.rest.now c.split_at.result.0.now c.split_at.result.1.now c.word_len.result
-          c.in-Some.c _
-          c.loop-c.invariant.utf8 first.characters (sym c.if-is_white.ensures) c.word_len.ensures.value
-          c.split_at.ensures.front c.split_at.ensures.back c.in_ok-push_word.ensures
+      utf8 = subst IsUtf8 (sym c.range_from-rest-2.ensures.value) cut.utf8;
+      value = piece-read (writing_in c.loop-c.self) (writing_in c.push_piece.new.self) (map around_of c.args.around.now)
+          c.args.is_code c.loop-c.rest.now c.without_white_end-piece.result.now c.range_from-rest-2.result.now
+          c.in-Some.c _ first.characters (sym c.if-is_white.ensures) c.without_white_end-piece.ensures
+          (cut.characters
+          ∙ ap (λ r. trimmed_end is_white (chars c.loop-c.rest.now) ++ chars r) (sym c.range_from-rest-2.ensures.value))
+          c.in_ok-push_piece.ensures
           ∙ c.loop-c.invariant.value;
     }
 
