@@ -34,7 +34,8 @@ base-other id (Element name attributes) f g h = absurd (h name attributes refl)
 
 -- ---- the element's own address, or one below it
 
-pub own-some : (r : Option (Bor (List ℕ))) (own below : Option (List ℕ)) → option_copied r ≡ own → is_some r ≡ true
+pub own-some : (r : Option (Bor (List ℕ))) (own below : Option (List ℕ)) → option_copied r ≡ own
+    → is_some r ≡ true
     → option_copied r ≡ option_or own below
 own-some None own below e h = absurd (false≢true h)
 own-some (Some x) own below e h = ap (λ q. option_or q below) e

@@ -37,8 +37,10 @@ way-escaped from to same e =
     sym (flat_map-append (λ name. percent_encode SEGMENT name ++ slash ∷ []) (parents (drop same from))
     (names_of (drop same to)))
     ∙ ap escaped
-    (ap (λ (x : Folder). map (λ name. parent) x ++ names_of (drop same to)) (sym (drop-map (λ name. name.now) same from))
-    ∙ (ap (λ (x : Folder). map (λ name. parent) (drop same (names_of from)) ++ x) (sym (drop-map (λ name. name.now) same to))
+    (ap (λ (x : Folder). map (λ name. parent) x ++ names_of (drop same to))
+    (sym (drop-map (λ name. name.now) same from))
+    ∙ (ap (λ (x : Folder). map (λ name. parent) (drop same (names_of from)) ++ x)
+    (sym (drop-map (λ name. name.now) same to))
     ∙ ap (λ n. map (λ name. parent) (drop n (names_of from)) ++ drop n (names_of to)) e))
 
 -- the address of a file, piece by piece

@@ -30,7 +30,8 @@ unfolding KeepsOthers
 kept-others test old new h = h
 
 -- no key is at two paths
-at-one : (a b : List ℕ) (key : Vec ℕ Global) → bytes_eq a b ≡ false → is_at a key ≡ true → is_at b key ≡ false
+at-one : (a b : List ℕ) (key : Vec ℕ Global) → bytes_eq a b ≡ false → is_at a key ≡ true
+    → is_at b key ≡ false
 at-one a b key differ here =
     sym (texts_ties b key.items)
     ∙ (nat_list_eq_equiv.symm b key.items
@@ -43,7 +44,8 @@ put-at : {X : Type 0} (old new : BTreeMap (Vec ℕ Global) X) (key : Vec ℕ Glo
     ≡ cond (bytes_eq key.items path) w (get_by (λ k. slice_cmp nat_cmp path k.items) old)
 put-at old new key w h path =
     ⊎_elim
-    (λ same. subst (λ l. get_by (λ k. slice_cmp nat_cmp l k.items) new ≡ w) ((bytes_decides key.items path).0 same) h.1
+    (λ same. subst (λ l. get_by (λ k. slice_cmp nat_cmp l k.items) new ≡ w)
+    ((bytes_decides key.items path).0 same) h.1
     ∙ sym (cond-true _ _ _ same))
     (λ differ. kept-others (is_at key.items) old.entries new.entries h.3 (is_at path)
     (λ x y. (eq_by_cmp_equiv nat_list_cmp_total).congr path x.items y.items)

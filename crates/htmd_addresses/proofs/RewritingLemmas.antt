@@ -16,5 +16,6 @@ rewritten-page rule items out new under root t only zeroth first e =
     (value_forest (forest_of (tree_of items) (children_of items root))))) zeroth
     ∙ (ap (λ (x : List Item). x ++ forest_items (depth_at x 0 + 1) 0 (length x) (rewritten rule
     (value_forest (forest_of (tree_of items) (children_of items root))))) only
-    ∙ (ap (λ n. document_items (rewritten rule (value_forest (forest_of (tree_of items) (children_of items n))))) first
+    ∙ (ap (λ n.
+    document_items (rewritten rule (value_forest (forest_of (tree_of items) (children_of items n))))) first
     ∙ ap (λ f. document_items (rewritten rule f)) (sym (children_of_document-at items t)))))

@@ -289,8 +289,8 @@ impl Rewrite for Leads<'_, '_> {
 }
 
 /// The page of a run in which the addresses of `a` and `area` that lead to a page of the run lead to its output. Where
-/// a base is given, all other addresses in `href` and `src` are resolved against it. `Err` means out of memory, or a URL
-/// of 4 GB.
+/// a base is given, all other addresses in `href` and `src` are resolved against it. `Err` means out of memory, or a
+/// URL of 4 GB.
 pub fn lead_to_pages(
     alloc: Global,
     tree: &Tree,

@@ -20,7 +20,8 @@ use Rattle.htmd_commonmark.specs.Addresses.{may_escape, is_escaped, escaped_in}
 
 -- a backslash before a byte that stays
 pub rewriting_escaped : (made_of : List ℕ → List ℕ) (s before out : List ℕ) (from i : ℕ) → i < length s
-    → made_of (drop i s) ≡ backslash ∷ get_or s i 0 ∷ made_of (drop (i + 1) s) → is_ascii (get_or s i 0) ≡ true
+    → made_of (drop i s) ≡ backslash ∷ get_or s i 0 ∷ made_of (drop (i + 1) s)
+    → is_ascii (get_or s i 0) ≡ true
     → Rewriting made_of s before out from i
     → Rewriting made_of s before ((out ++ between from i s) ++ backslash ∷ []) i (i + 1)
 rewriting_escaped made_of s before out from i lt here ascii was = record {

@@ -91,7 +91,8 @@ pub put-put : (o : Output) (s t : List ℕ) (first second : List (List ℕ))
     → put_text (put_text o s first) t second ≡ put_text o (s ++ t) second
 put-put o s t first second = ap (λ p. record { page = p; definitions = second }) (sym (wrote-append o.page s t))
 
-pub item_put : (o out : Output) (m : List ℕ) (n : ℕ) (w : Written) (lines last : Page) (outside : ℕ) → IsMarker m
+pub item_put : (o out : Output) (m : List ℕ) (n : ℕ) (w : Written) (lines last : Page) (outside : ℕ)
+    → IsMarker m
     → lines ≡ in_item o.page m n → out ≡ put (record { page = lines; definitions = o.definitions }) w
     → outside ≡ length o.page.prefix → last ≡ behind_item out.page outside
     → record { page = last; definitions = out.definitions } ≡ put_text o (indented m n w.text) w.definitions
@@ -105,7 +106,8 @@ item_put o out (b ∷ m) n w lines last outside is opened written before closed 
     ap (λ p. record { page = p; definitions = out.definitions }) page
     ∙ ap (λ ds. put_text o (indented (b ∷ m) n w.text) ds) (ap (λ u. u.definitions) written)
 
-pub quote_put : (o out : Output) (w : Written) (lines last : Page) (outside : ℕ) → o.page.written ≤ length o.page.prefix
+pub quote_put : (o out : Output) (w : Written) (lines last : Page) (outside : ℕ)
+    → o.page.written ≤ length o.page.prefix
     → lines ≡ in_quote o.page → out ≡ put (record { page = lines; definitions = o.definitions }) w
     → outside ≡ length o.page.prefix → last ≡ behind_quote out.page outside
     → record { page = last; definitions = out.definitions } ≡ put_text o (quoted w.text) w.definitions
@@ -158,7 +160,8 @@ later_block options place before sign o next b rest is signed =
     ∙ put-put o (separator place.tight ++ w.text) later.text w.definitions later.definitions
 
 pub no_more_blocks : (t : Bool) (options : DocumentOptions) (place : Place) (before : Option Sign) (o : Output)
-    (bs : List Block) (i : ℕ) → length bs ≤ i → with_blocks t options place before o (blocks_of (drop i bs)) ≡ o
+    (bs : List Block) (i : ℕ) → length bs ≤ i
+    → with_blocks t options place before o (blocks_of (drop i bs)) ≡ o
 no_more_blocks true options place before o bs i past =
     ap (λ l. with_blocks true options place before o (blocks_of l)) (drop_all i bs past)
 no_more_blocks false options place before o bs i past =
@@ -237,7 +240,8 @@ blocks_step options place before sign o pushed next b rest (suc i) none at is si
     let some : (suc i == 0) ≡ false = grind (arith, nat_tests) in
     rw (later, some) (later_block options place before sign o next b rest
     (is
-    ∙ ap (λ t. put pushed (written_block options (cond t place (behind_first place)) before pushed.definitions b)) some
+    ∙ ap (λ t.
+    put pushed (written_block options (cond t place (behind_first place)) before pushed.definitions b)) some
     ∙ ap (λ p. put p (written_block options (behind_first place) before p.definitions b))
     (at ∙ ap (λ t. cond t o (put_text o (separator place.tight) o.definitions)) some))
     (signed ∙ ap (λ t. sign_of options before (cond t place (behind_first place)).outer b) some))
@@ -262,12 +266,11 @@ items_step options markers is_tight o pushed next bs rest (suc i) at is =
     put_text p (indented (marker markers (suc i)) (spaces markers (suc i)) w.text) w.definitions)
     (at ∙ ap (λ t. cond t o (put_text o (separator is_tight) o.definitions)) some))
 
-pub pushed_some : (o : Output) (lines : Page) (s between : List ℕ) (i : ℕ) → 0 < i → lines ≡ wrote o.page s
-    → s ≡ between
+pub pushed_some : (o : Output) (lines : Page) (between : List ℕ) (i : ℕ) → 0 < i → lines ≡ wrote o.page between
     → record { page = lines; definitions = o.definitions } ≡ cond (i == 0) o (put_text o between o.definitions)
-pushed_some o lines s between i lt is same =
+pushed_some o lines between i lt is =
     let some : (i == 0) ≡ false = grind (arith, nat_tests) in
-    rw some (ap (λ p. record { page = p; definitions = o.definitions }) (is ∙ ap (wrote o.page) same))
+    rw some (ap (λ p. record { page = p; definitions = o.definitions }) is)
 
 pub pushed_none : (o other : Output) (i : ℕ) → i ≤ 0 → o ≡ cond (i == 0) o other
 pushed_none o other i le = let none : (i == 0) ≡ true = grind (arith, nat_tests) in rw none refl
@@ -275,7 +278,8 @@ pushed_none o other i le = let none : (i == 0) ≡ true = grind (arith, nat_test
 -- number signs, a space and the text
 pub signs_put : {T E : Type 0} (r : Result T E) (o : Output) (w : Written) (level : ℕ) (first second last : Page)
     (s : List ℕ) (definitions : List (List ℕ)) → first ≡ wrote o.page (replicate level number_sign)
-    → second ≡ wrote first (codes " ") → OnOk r (last ≡ wrote second s) → s ≡ w.text → definitions ≡ w.definitions
+    → second ≡ wrote first (codes " ") → OnOk r (last ≡ wrote second s) → s ≡ w.text
+    → definitions ≡ w.definitions
     → OnOk r (record { page = last; definitions = definitions }
     ≡ put_text o (number_signs level ++ w.text) w.definitions)
 signs_put (Ok x) o w level first second last s definitions one two three text same =

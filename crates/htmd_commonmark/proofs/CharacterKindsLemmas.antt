@@ -23,7 +23,8 @@ before_character whole rest c text scalar e =
     ∙ take-append_seam rest (encode_utf8 c) in
     subst (λ (l : List ℕ). IsUtf8 l) same (IsUtf8-take whole (length rest) text cut)
 
-pub characters_of : (whole rest : List ℕ) (c : ℕ) → IsUtf8 whole → IsScalar c → whole ≡ rest ++ encode_utf8 c
+pub characters_of : (whole rest : List ℕ) (c : ℕ) → IsUtf8 whole → IsScalar c
+    → whole ≡ rest ++ encode_utf8 c
     → chars whole ≡ chars rest ++ c ∷ []
 characters_of whole rest c text scalar e =
     ap chars e ∙ chars-append rest (encode_utf8 c) (before_character whole rest c text scalar e)
@@ -35,7 +36,8 @@ none_in (b ∷ s) none = absurd (omega arith)
 
 -- what `next_back` gives
 pub last_told : (X : Type 0) (s whole rest : List ℕ) (r : Option ℕ) → whole ≡ s → IsUtf8 s
-    → IfSome r (λ c. IsScalar c) → MatchOption r ((length whole ≡ 0) × X) (λ c. whole ≡ rest ++ encode_utf8 c)
+    → IfSome r (λ c. IsScalar c) → MatchOption r ((length whole ≡ 0) × X)
+    (λ c. whole ≡ rest ++ encode_utf8 c)
     → r ≡ last_character s
 last_told X s whole rest None same text scalar told = none_in s (sym (ap length same) ∙ told.0)
 last_told X s whole rest (Some c) same text scalar told =

@@ -26,7 +26,8 @@ pub wrote-append : (page : Page) (s t : List ℕ) → wrote page (s ++ t) ≡ wr
 wrote-append page [] t = refl
 wrote-append page (b ∷ s) t = wrote-append (with_byte page b) s t
 
-with_byte-prefix : (page : Page) (b : ℕ) (t : Bool) → (b == line_feed) ≡ t → (with_byte page b).prefix ≡ page.prefix
+with_byte-prefix : (page : Page) (b : ℕ) (t : Bool) → (b == line_feed) ≡ t
+    → (with_byte page b).prefix ≡ page.prefix
 with_byte-prefix page b true here = rw here refl
 with_byte-prefix page b false other = rw other refl
 
@@ -76,7 +77,8 @@ text_in_line page b s none =
 
 -- ---- the spaces at the end of a prefix
 
-trim_yes : (s : List ℕ) (b : ℕ) → is_space b ≡ true → trimmed_end is_space (s ++ b ∷ []) ≡ trimmed_end is_space s
+trim_yes : (s : List ℕ) (b : ℕ) → is_space b ≡ true
+    → trimmed_end is_space (s ++ b ∷ []) ≡ trimmed_end is_space s
 trim_yes s b here =
     let run : suffix_len is_space (s ++ b ∷ []) ≡ 1 + suffix_len is_space s =
     ap (prefix_len is_space) (reverse-append s (b ∷ [])) ∙ rw here refl in
@@ -204,7 +206,8 @@ BegunLaw inset bare behind s =
     → behind (wrote (begun (inside inset page) out) s) (length page.prefix)
     ≡ wrote (begun page out) (lines_after inset bare [] [] s)
 
-open_byte : (inset bare : List ℕ) (behind : Page → ℕ → Page) (k : Container inset bare behind) (b : ℕ) (s : List ℕ)
+open_byte : (inset bare : List ℕ) (behind : Page → ℕ → Page) (k : Container inset bare behind) (b : ℕ)
+    (s : List ℕ)
     (page : Page) → k.Fits page → OpenLaw inset bare behind s → BegunLaw inset bare behind s → (t : Bool)
     → (b == line_feed) ≡ t
     → behind (wrote (with_byte (inside inset page) b) s) (length page.prefix)
@@ -228,7 +231,8 @@ open_byte inset bare behind k b s page fits open_law begun_law false other =
     ∙ ap (λ p. wrote p rest) (inset_text inset page b k.inset_is_line other ∙ ap (begun page) text)))
 
 begun_at_byte : (inset bare : List ℕ) (behind : Page → ℕ → Page) (k : Container inset bare behind) (b : ℕ)
-    (s : List ℕ) (page : Page) (out : List ℕ) → OpenLaw inset bare behind s → BegunLaw inset bare behind s → (t : Bool)
+    (s : List ℕ) (page : Page) (out : List ℕ) → OpenLaw inset bare behind s → BegunLaw inset bare behind s
+    → (t : Bool)
     → (b == line_feed) ≡ t
     → behind (wrote (with_byte (begun (inside inset page) out) b) s) (length page.prefix)
     ≡ wrote (begun page out) (lines_after inset bare [] [] (b ∷ s))
@@ -296,7 +300,8 @@ record QuotedLines (s : List ℕ) : Type 0 where
   pub begun : first ++ flat_map (λ next. line_feed ∷ [] ++ next) (map quoted_line others)
       ≡ lines_after (codes "> ") (codes ">") [] [] s
 
-quoted_byte : (b : ℕ) (s : List ℕ) → QuotedLines s → (t : Bool) → (b == line_feed) ≡ t → QuotedLines (b ∷ s)
+quoted_byte : (b : ℕ) (s : List ℕ) → QuotedLines s → (t : Bool) → (b == line_feed) ≡ t
+    → QuotedLines (b ∷ s)
 quoted_byte b s ls true here = record {
   first = [];
   others = ls.first ∷ ls.others;
@@ -378,7 +383,8 @@ record ItemLines (n : ℕ) (s : List ℕ) : Type 0 where
       ≡ lines_after (replicate n space) [] (replicate n space) [] s
   pub begun : first ++ flat_map (next_line n) others ≡ lines_after (replicate n space) [] [] [] s
 
-item_byte : (n b : ℕ) (s : List ℕ) → ItemLines n s → (t : Bool) → (b == line_feed) ≡ t → ItemLines n (b ∷ s)
+item_byte : (n b : ℕ) (s : List ℕ) → ItemLines n s → (t : Bool) → (b == line_feed) ≡ t
+    → ItemLines n (b ∷ s)
 item_byte n b s ls true here = record {
   first = [];
   others = ls.first ∷ ls.others;
@@ -458,9 +464,11 @@ in_item-wrote page b marker spaces s none =
     let same : (b ∷ marker) ++ lines ≡ indented (b ∷ marker) spaces s =
     sym (append_assoc (b ∷ marker) (gap spaces s) (indented_lines n (slice_split is_line_feed s))) in
     let at : wrote page (b ∷ marker) ≡ begun page out = text_in_line page b marker none in
-    let prefix : ((wrote page (b ∷ marker)).prefix ++ replicate (length (b ∷ marker)) space) ++ replicate spaces space
+    let prefix : ((wrote page (b ∷ marker)).prefix ++ replicate (length (b ∷ marker)) space)
+    ++ replicate spaces space
     ≡ page.prefix ++ replicate n space =
-    ap (λ l. (l ++ replicate (length (b ∷ marker)) space) ++ replicate spaces space) (wrote-prefix page (b ∷ marker))
+    ap (λ l. (l ++ replicate (length (b ∷ marker)) space) ++ replicate spaces space)
+    (wrote-prefix page (b ∷ marker))
     ∙ append_assoc page.prefix (replicate (length (b ∷ marker)) space) (replicate spaces space)
     ∙ ap (λ l. page.prefix ++ l) (replicate-both (length (b ∷ marker)) spaces) in
     let inner : in_item page (b ∷ marker) spaces ≡ first_line page out n spaces =
@@ -579,7 +587,8 @@ record JoinedLines (s : List ℕ) : Type 0 where
   pub is : slice_split is_line_feed s ≡ first ∷ others
   pub back : first ++ flat_map (λ next. line_feed ∷ [] ++ next) others ≡ s
 
-joined_byte : (b : ℕ) (s : List ℕ) → JoinedLines s → (t : Bool) → (b == line_feed) ≡ t → JoinedLines (b ∷ s)
+joined_byte : (b : ℕ) (s : List ℕ) → JoinedLines s → (t : Bool) → (b == line_feed) ≡ t
+    → JoinedLines (b ∷ s)
 joined_byte b s ls true here =
     let same : line_feed ≡ b = grind (arith, nat_tests) in
     record {

@@ -62,7 +62,8 @@ cells_left cells widths k = barred_cells (drop k cells) (drop k widths)
 
 pub cells-more : (out : List ℕ) (cells : List (List ℕ)) (widths : List ℕ) (k : ℕ) → k < length cells
     → k < length widths
-    → ((((out ++ codes " ") ++ get_or cells k []) ++ replicate (get_or widths k 0 - width_of (get_or cells k [])) space)
+    → ((((out ++ codes " ") ++ get_or cells k [])
+    ++ replicate (get_or widths k 0 - width_of (get_or cells k [])) space)
     ++ codes " |") ++ cells_left cells widths (k + 1)
     ≡ out ++ cells_left cells widths k
 cells-more out cells widths k first second =
@@ -79,7 +80,8 @@ cells-more out cells widths k first second =
         ≡ out ++ ((space ∷ (cell ++ (pad ++ space ∷ []))) ++ vertical_bar ∷ rest)
     regroup out cell pad rest = simp append_assoc refl
 
-pub cells-end : (cells : List (List ℕ)) (widths : List ℕ) (k : ℕ) → length cells ≤ k → cells_left cells widths k ≡ []
+pub cells-end : (cells : List (List ℕ)) (widths : List ℕ) (k : ℕ) → length cells ≤ k
+    → cells_left cells widths k ≡ []
 cells-end cells widths k past = ap (λ l. barred_cells l (drop k widths)) (drop_all k cells past)
 
 no_columns : (cells : List (List ℕ)) → barred_cells cells [] ≡ []
@@ -88,7 +90,8 @@ no_columns (cell ∷ cells) = refl
 
 pub columns-end : (cells : List (List ℕ)) (widths : List ℕ) (k : ℕ) → length widths ≤ k
     → cells_left cells widths k ≡ []
-columns-end cells widths k past = ap (barred_cells (drop k cells)) (drop_all k widths past) ∙ no_columns (drop k cells)
+columns-end cells widths k past = ap (barred_cells (drop k cells)) (drop_all k widths past)
+    ∙ no_columns (drop k cells)
 
 -- the same of the dashes
 abbrev pub dashes_left : List Alignment → List ℕ → ℕ → List ℕ
@@ -108,7 +111,8 @@ dashes-more out alignments a widths k first is second =
     regroup out (dashes a w) rest ∙ ap (λ l. out ++ l) (sym whole)
   where
     regroup : (out dash rest : List ℕ)
-        → (((out ++ codes " ") ++ dash) ++ codes " |") ++ rest ≡ out ++ (((codes " " ++ dash) ++ codes " |") ++ rest)
+        → (((out ++ codes " ") ++ dash) ++ codes " |") ++ rest ≡ out
+        ++ (((codes " " ++ dash) ++ codes " |") ++ rest)
     regroup out dash rest = simp append_assoc refl
 
 pub dashes-end : (alignments : List Alignment) (widths : List ℕ) (k : ℕ) → length alignments ≤ k
@@ -186,7 +190,8 @@ shown_told (cell ∷ cells) rest n some behind is =
 
 -- ---- rows
 
-flat_map_push : {X : Type 0} (f : X → List ℕ) (xs : List X) (x : X) → flat_map f (xs ++ x ∷ []) ≡ flat_map f xs ++ f x
+flat_map_push : {X : Type 0} (f : X → List ℕ) (xs : List X) (x : X)
+    → flat_map f (xs ++ x ∷ []) ≡ flat_map f xs ++ f x
 flat_map_push f [] x = append-nil (f x)
 flat_map_push f (y ∷ xs) x =
     ap (λ l. f y ++ l) (flat_map_push f xs x) ∙ sym (append_assoc (f y) (flat_map f xs) (f x))
@@ -228,7 +233,8 @@ cells_step at definitions next done more text content rest all is told defined w
     ∙ ap (λ s. done ++ s ∷ others.cells) told ∙ was
 
 pub rows_step : (at : Line) (definitions next : List (List ℕ)) (done more : List (List (List ℕ)))
-    (cells : List (List ℕ)) (row : List Inlines) (rest : List (List Inlines)) (all : List (List (List ℕ))) → more ≡ done ++ cells ∷ []
+    (cells : List (List ℕ)) (row : List Inlines) (rest : List (List Inlines)) (all : List (List (List ℕ)))
+    → more ≡ done ++ cells ∷ []
     → cells ≡ (written_cells at definitions row).cells → next ≡ (written_cells at definitions row).definitions
     → done ++ (written_rows at definitions (row ∷ rest)).rows ≡ all
     → more ++ (written_rows at next rest).rows ≡ all

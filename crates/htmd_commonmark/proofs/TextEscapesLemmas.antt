@@ -62,7 +62,8 @@ row_goes_on place s k lt here =
     let passes : is_underscore (get_or s k 0) ≡ true = grind (arith, nat_tests) in
     ap (λ t. is_of_word (option_or (last_character t) place.before)
     && is_of_word (character_after place (drop (k + 1) s))) (row_before s k lt passes)
-    ∙ ap (λ t. is_of_word (character_before place (take k s)) && is_of_word (option_or (first_character t) place.after))
+    ∙ ap (λ t.
+    is_of_word (character_before place (take k s)) && is_of_word (option_or (first_character t) place.after))
     (row_behind s k lt passes)
 
 -- an underscore with which no row begins follows another one
@@ -128,7 +129,8 @@ line_mark_ascii [] after k e = absurd (false≢true e)
 line_mark_ascii (b ∷ s) after k e = decide (begins_block b s after) refl e
   where
     decide : (t : Bool) → begins_block b s after ≡ t
-        → is_place (cond t (Some 0) (number_mark (b ∷ s) after)) k ≡ true → is_ascii (slice_index (b ∷ s) k) ≡ true
+        → is_place (cond t (Some 0) (number_mark (b ∷ s) after)) k ≡ true
+        → is_ascii (slice_index (b ∷ s) k) ≡ true
     decide true here at =
         let first : k ≡ 0 = grind (arith, nat_tests) in
         ap (λ n. is_ascii (slice_index (b ∷ s) n)) first ∙ block_ascii b s after here
@@ -142,7 +144,8 @@ pub mark_is_ascii : (place : Place) (s : List ℕ) (k : ℕ) → is_marked place
 mark_is_ascii place s k e =
     ⊎_elim
     (inline_ascii (slice_index s k) place.in_brackets (may_be_escaped (next_byte place s k))
-    (not (is_in_word place s k)) (may_be_in_tag (next_byte place s k)) (is_reference (drop (k + 1) s)) (k + 1 == length s) (is_bracket place.after)
+    (not (is_in_word place s k)) (may_be_in_tag (next_byte place s k)) (is_reference (drop (k + 1) s))
+    (k + 1 == length s) (is_bracket place.after)
     (k == 0) (is_bracket place.before))
     (λ at. line_mark_ascii s place.after k (and_parts place.begins_line (is_place (line_mark s place.after) k) at).1)
     (or_cases (is_inline_mark place s k) (place.begins_line && is_place (line_mark s place.after) k) e)

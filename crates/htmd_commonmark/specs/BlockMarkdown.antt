@@ -108,7 +108,8 @@ written_rows line definitions (row ∷ rest) =
     let others = written_rows line cells.definitions rest in
     record { rows = cells.cells ∷ others.rows; definitions = others.definitions }
 
-abbrev pub written_table : DocumentOptions → List (List ℕ) → List Alignment → List Inlines → List (List Inlines)
+abbrev pub written_table : DocumentOptions → List (List ℕ) → List Alignment → List Inlines
+    → List (List Inlines)
     → Written
 written_table options definitions alignments header rows =
     let head = written_cells (line_of options Cell) definitions header in

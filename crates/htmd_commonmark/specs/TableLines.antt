@@ -81,7 +81,8 @@ abbrev pub rows_text : Bool → List ℕ → List (List (List ℕ)) → List ℕ
 rows_text is_padded widths rows = flat_map (λ cells. line_feed ∷ line (shown_cells is_padded cells) widths) rows
 
 -- the lines of a table whose cells are padded to these widths, and whose columns have dashes for those
-abbrev pub lines_of : Bool → List ℕ → List ℕ → List Alignment → List (List ℕ) → List (List (List ℕ)) → List ℕ
+abbrev pub lines_of : Bool → List ℕ → List ℕ → List Alignment → List (List ℕ) → List (List (List ℕ))
+    → List ℕ
 lines_of is_padded widths dashed alignments header rows =
     line header widths ++ (codes "\n|" ++ delimiters alignments dashed) ++ rows_text is_padded widths rows
 

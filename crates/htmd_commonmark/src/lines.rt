@@ -34,9 +34,19 @@ impl Model for Lines {
 
     ghost Value = { Page };
 
-    ghost view = { λ l. record { out = string_bytes l.out; prefix = string_bytes l.prefix; written = l.written; gap = l.gap } };
+    ghost view = { λ l. record {
+      out = string_bytes l.out;
+      prefix = string_bytes l.prefix;
+      written = l.written;
+      gap = l.gap;
+    } };
 
-    ghost invariant = { λ l. IsPage (record { out = string_bytes l.out; prefix = string_bytes l.prefix; written = l.written; gap = l.gap }) };
+    ghost invariant = { λ l. IsPage (record {
+      out = string_bytes l.out;
+      prefix = string_bytes l.prefix;
+      written = l.written;
+      gap = l.gap;
+    }) };
 }
 
 impl Lines {

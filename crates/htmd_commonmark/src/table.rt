@@ -40,14 +40,14 @@ impl TableTexts {
         rows: &[Vec<Vec<Inline>>],
         line: Line,
     ) -> Result<TableTexts, AllocError>
-        ensures header { let head = written_cells line (written_of inlines.old).definitions (cells_of header.now) in
-            IfOk result (λ t. tables.texts t.header.items ≡ head.cells) }
-        ensures rows { let head = written_cells line (written_of inlines.old).definitions (cells_of header.now) in
+        ensures header { let top = written_cells line (written_of inlines.old).definitions (cells_of header.now) in
+            IfOk result (λ t. tables.texts t.header.items ≡ top.cells) }
+        ensures rows { let top = written_cells line (written_of inlines.old).definitions (cells_of header.now) in
             IfOk result (λ t. map tables.row_texts t.rows.items
-            ≡ (written_rows line head.definitions (rows_of rows.now)).rows) }
-        ensures definitions { let head = written_cells line (written_of inlines.old).definitions (cells_of header.now) in
+            ≡ (written_rows line top.definitions (rows_of rows.now)).rows) }
+        ensures definitions { let top = written_cells line (written_of inlines.old).definitions (cells_of header.now) in
             OnOk result ((written_of inlines.new).definitions
-            ≡ (written_rows line head.definitions (rows_of rows.now)).definitions) }
+            ≡ (written_rows line top.definitions (rows_of rows.now)).definitions) }
     {
         let header = cell_texts(alloc, inlines, header, line)?;
         let mut texts = Vec::with_capacity(alloc, rows.len())?;

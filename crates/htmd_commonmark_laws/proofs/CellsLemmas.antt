@@ -26,12 +26,12 @@ escaped_first (x ∷ t) = go (x == 124) refl
     go true e = rw e refl
     go false e = rw e e
 
-pub escaped_bar : (x : ℕ) (t : List ℕ) → (x == 124) ≡ true → with_escaped_bars (x ∷ t) ≡ 92 ∷ 124 ∷ with_escaped_bars
-    t
+pub escaped_bar : (x : ℕ) (t : List ℕ) → (x == 124) ≡ true
+    → with_escaped_bars (x ∷ t) ≡ 92 ∷ 124 ∷ with_escaped_bars t
 escaped_bar x t e = rw e refl
 
-pub escaped_other : (x : ℕ) (t : List ℕ) → (x == 124) ≡ false → with_escaped_bars (x ∷ t) ≡ x ∷ with_escaped_bars
-    t
+pub escaped_other : (x : ℕ) (t : List ℕ) → (x == 124) ≡ false
+    → with_escaped_bars (x ∷ t) ≡ x ∷ with_escaped_bars t
 escaped_other x t e = rw e refl
 
 is_bar : (x : ℕ) → (x == 124) ≡ true → 124 ≡ x
@@ -45,8 +45,8 @@ bars_back (x ∷ t) = go (x == 124) refl (bars_back t)
     kept true u = refl
     kept false u = refl
 
-    go : (b : Bool) → (x == 124) ≡ b → with_bars (with_escaped_bars t) ≡ t → with_bars (with_escaped_bars (x ∷ t)) ≡ x
-        ∷ t
+    go : (b : Bool) → (x == 124) ≡ b → with_bars (with_escaped_bars t) ≡ t
+        → with_bars (with_escaped_bars (x ∷ t)) ≡ x ∷ t
     go true e i =
         ap with_bars (escaped_bar x t e) ∙ ap (◌∷◌ 124) i ∙ ap (λ (c : ℕ). c ∷ t) (is_bar x e)
     go false e i =
@@ -91,8 +91,8 @@ split_cell (x ∷ t) before s = go (x == 124) refl (λ b. split_cell t b s)
         ∙ f ∙ ap (onto_first x) (i x)
         ∙ ap (λ (y : List ℕ). prepended y r) (sym (escaped_other x t e))
 
-split_pad : (k : ℕ) (s : List ℕ) → split_at_bars 32 (replicate k 32 ++ (124 ∷ s)) ≡ replicate k 32 ∷ split_at_bars 124
-    s
+split_pad : (k : ℕ) (s : List ℕ) → split_at_bars 32 (replicate k 32 ++ (124 ∷ s)) ≡ replicate k 32
+    ∷ split_at_bars 124 s
 split_pad zero s = refl
 split_pad (suc k) s = ap (onto_first 32) (split_pad k s)
 

@@ -115,8 +115,8 @@ left_starts true done g o x (whole p) e = absurd (cc)
 left_starts true done g o x (first_line i) e = refl
 left_starts false done g o x s e = refl
 
-after_any : (b : Bool) (x : Line) → started lazy x ≡ started alone x → started (after_container b) x ≡ started alone
-    x
+after_any : (b : Bool) (x : Line) → started lazy x ≡ started alone x
+    → started (after_container b) x ≡ started alone x
 after_any true x e = e
 after_any false x e = refl
 

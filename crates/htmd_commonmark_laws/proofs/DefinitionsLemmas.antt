@@ -113,8 +113,9 @@ definitions_text (l ∷ ls) (d ∷ ds) h =
 
 -- ---- the law of blocks
 
-some_read_back : (o : DocumentOptions) (d : documents.Blocks) (found : List Definition) → HasBlock d → AreNormalBlocks d
-    → DocumentTexts o d → DefinitionTexts (definition_lines o d) found → parts (markdown_of o d) ≡ parts_with o d found
+some_read_back : (o : DocumentOptions) (d : documents.Blocks) (found : List Definition) → HasBlock d
+    → AreNormalBlocks d → DocumentTexts o d → DefinitionTexts (definition_lines o d) found
+    → parts (markdown_of o d) ≡ parts_with o d found
 some_read_back o d found n h w v =
     let ds = definition_lines o d in
     let ps = first_pieces o outermost [] d in

@@ -50,8 +50,8 @@ decimal_digits n lt = decimal_by_steps (λ _ ds. list_all is_ascii_digit ds ≡ 
         let e : is_ascii_digit (48 + n % 10) ≡ true = grind (arith, nat_tests) in
         all_append is_ascii_digit ds ((48 + n % 10) ∷ []) h (rw e refl)
 
-number_snoc : (sum : ℕ) (ds : List ℕ) (d : ℕ) → number 10 sum (ds ++ (d ∷ [])) ≡ 10 * number 10 sum ds + digit_value
-    d
+number_snoc : (sum : ℕ) (ds : List ℕ) (d : ℕ)
+    → number 10 sum (ds ++ (d ∷ [])) ≡ 10 * number 10 sum ds + digit_value d
 number_snoc sum [] d = refl
 number_snoc sum (c ∷ ds) d = number_snoc (10 * sum + digit_value c) ds d
 

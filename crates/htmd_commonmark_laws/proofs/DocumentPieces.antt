@@ -151,8 +151,8 @@ some_columns m n (piece g p ps) h = refl
 
 same_columns : (o : DocumentOptions) (m : Markers) (t : Bool) (k : ℕ) (ds : List (List ℕ)) (bs : Blocks)
     → AreNormalBlocks bs
-    → content_columns (marker_at m k) (fewer_spaces m k) (first_pieces o (place_in_item m t) ds bs) ≡ item_columns m k
-    bs
+    → content_columns (marker_at m k) (fewer_spaces m k) (first_pieces o (place_in_item m t) ds bs)
+    ≡ item_columns m k bs
 same_columns o m t k ds no_blocks h = omega arith
 same_columns o m t k ds (block first rest) h =
     let p = place_in_item m t in
@@ -240,8 +240,8 @@ further_by : (g : Bool) (ps : Pieces) (s : List ℕ) → HasGap g ps → pieces_
     → further_text ps ≡ separator (not g) ++ s
 further_by g no_pieces s h e = absurd h
 further_by g (piece f p ps) s h e =
-    ap (λ (x : Bool). separator (not x) ++ pieces_text (piece f p ps)) h ∙ ap (λ (x : List ℕ). separator (not g) ++ x)
-    e
+    ap (λ (x : Bool). separator (not x) ++ pieces_text (piece f p ps)) h
+    ∙ ap (λ (x : List ℕ). separator (not g) ++ x) e
 
 pub block_gap : (o : DocumentOptions) (p : Place) (before : Option Sign) (ds : List (List ℕ)) (g : Bool) (b : Block)
     (rest : Pieces) → IsNormalBlock b → HasGap g (block_pieces o p before ds g b rest)
@@ -330,8 +330,8 @@ mutual
       let u = (further_items o m t (suc k) w.definitions others).text in
       ap (λ (b : Bool). separator b ++ pieces_text (item_pieces o m t k ds (not t) (item first others) rest))
       (not_not t)
-      ∙ ap (λ (x : List ℕ). separator t ++ x) (item_written m k (pieces_text (first_pieces o p ds first)) w.text more
-      (first_written o p ds first h.1))
+      ∙ ap (λ (x : List ℕ). separator t ++ x)
+      (item_written m k (pieces_text (first_pieces o p ds first)) w.text more (first_written o p ds first h.1))
       ∙ ap (λ (x : List ℕ). separator t ++ (s ++ x)) (more_written o m t (suc k) w.definitions others rest h.2)
       ∙ sym (append_assoc (separator t) s (u ++ further_text rest))
       ∙ sym (append_assoc (separator t ++ s) u (further_text rest))

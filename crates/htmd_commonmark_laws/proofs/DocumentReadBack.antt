@@ -181,13 +181,13 @@ rows_written o ds (row ∷ rows) =
     let w = written_cells (line_of o Cell) ds row in
     let r = cells_written o ds row in
     ap (λ (y : List (List ℕ)). y ∷ (written_rows (line_of o Cell) w.definitions rows).rows) r.0
-    ∙ ap (λ (y : List (List ℕ)). escaped_cells (cell_texts o ds row) ∷ (written_rows (line_of o Cell) y rows).rows)
-    r.1
+    ∙ ap (λ (y : List (List ℕ)). escaped_cells (cell_texts o ds row)
+    ∷ (written_rows (line_of o Cell) y rows).rows) r.1
     ∙ ap (λ (y : List (List (List ℕ))). escaped_cells (cell_texts o ds row) ∷ y)
     (rows_written o (after_cells o ds row) rows)
 
-texts_length : (o : DocumentOptions) (ds : List (List ℕ)) (xs : List Inlines) → length (cell_texts o ds xs) ≡ length
-    xs
+texts_length : (o : DocumentOptions) (ds : List (List ℕ)) (xs : List Inlines)
+    → length (cell_texts o ds xs) ≡ length xs
 texts_length o ds [] = refl
 texts_length o ds (x ∷ xs) = ap suc (texts_length o (written_line (line_of o Cell) ds x).definitions xs)
 
@@ -283,8 +283,8 @@ to_content : (mk : Marker) (ps : Pieces) → IsFilled ps → FirstLine (IsApart 
 to_content mk no_pieces h a = absurd h
 to_content mk (piece f p ps) h a = (h.0, h.1, h.2, a)
 
-any_first : (P : List ℕ → Type 0) → ((l : List ℕ) → P l) → (ls : List (List ℕ)) → First IsBlack ls → First P
-    ls
+any_first : (P : List ℕ → Type 0) → ((l : List ℕ) → P l) → (ls : List (List ℕ)) → First IsBlack ls
+    → First P ls
 any_first P h [] b = absurd b
 any_first P h (l ∷ ls) b = h l
 
@@ -571,8 +571,8 @@ mutual
 
 -- ---- the pieces of a document
 
-pub document_filled : (o : DocumentOptions) (d : Blocks) → HasBlock d → AreNormalBlocks d → FirstTexts o outermost []
-    d
+pub document_filled : (o : DocumentOptions) (d : Blocks) → HasBlock d → AreNormalBlocks d
+    → FirstTexts o outermost [] d
     → IsFilled (first_pieces o outermost [] d) × CleanPieces (first_pieces o outermost [] d)
 document_filled o d n h w =
     to_filled (first_pieces o outermost [] d) (blocks_good o outermost [] d (λ e. absurd (cc)) n h w)

@@ -45,8 +45,8 @@ pub record Flat (s : List ℕ) (p : Part) : Type 0 where
   pub clean : AreClean (lines_of s)
   pub full : IsFull (lines_of s)
 
-flat_by : (s : List ℕ) (ls : List (List ℕ)) (p : Part) → lines_of s ≡ ls → FlatReads ls p no_parts → AreClean
-    ls
+flat_by : (s : List ℕ) (ls : List (List ℕ)) (p : Part) → lines_of s ≡ ls → FlatReads ls p no_parts
+    → AreClean ls
     → IsFull ls → Flat s p
 flat_by s ls p e r c f = record {
   reads = subst (λ (x : List (List ℕ)). FlatReads x p no_parts) (sym e) r;
@@ -79,8 +79,8 @@ pub lines_back : (s : List ℕ) → joined_lines (lines_of s) ≡ s
 lines_back [] = refl
 lines_back (c ∷ s) = go (c == line_feed) refl (lines_back s)
   where
-    go : (b : Bool) → (c == line_feed) ≡ b → joined_lines (lines_of s) ≡ s → joined_lines (lines_of (c ∷ s)) ≡ c ∷
-        s
+    go : (b : Bool) → (c == line_feed) ≡ b → joined_lines (lines_of s) ≡ s
+        → joined_lines (lines_of (c ∷ s)) ≡ c ∷ s
     go true e i =
         ap joined_lines (slice_split-cons_yes is_line_feed c s e) ∙ joined_empty (lines_of s) (lines_some s)
         ∙ ap (◌∷◌ 10) i ∙ ap (λ (d : ℕ). d ∷ s) (sym (is_feed c e))
@@ -180,8 +180,8 @@ underline_clean level = go (level == 1)
     go true = (refl, refl, refl, tt)
     go false = (refl, refl, refl, tt)
 
-pub underlined_flat : (level : ℕ) (s : List ℕ) → nat_le 1 level ≡ true → nat_le level 2 ≡ true → IsUnderlinedText
-    s
+pub underlined_flat : (level : ℕ) (s : List ℕ) → nat_le 1 level ≡ true → nat_le level 2 ≡ true
+    → IsUnderlinedText s
     → Flat (writing.underlined level s) (headed level s)
 underlined_flat level s a b h =
     let n = max (length (chars s)) 1 in
@@ -220,8 +220,8 @@ all_of_run : (c n : ℕ) → list_all (is_same c) (replicate n c) ≡ true
 all_of_run c zero = refl
 all_of_run c (suc n) = rw (itself c) (all_of_run c n)
 
-end_of_run : (c n : ℕ) → is_space_or_tab c ≡ false → stripped_end is_space_or_tab (replicate n c) ≡ replicate n
-    c
+end_of_run : (c n : ℕ) → is_space_or_tab c ≡ false
+    → stripped_end is_space_or_tab (replicate n c) ≡ replicate n c
 end_of_run c zero h = refl
 end_of_run c (suc n) h = stripped_end_black is_space_or_tab c (replicate n c) h ∙ ap (◌∷◌ c) (end_of_run c n h)
 
@@ -444,8 +444,8 @@ table_flat al hs rows s t n some =
     let d = t.under in
     let rs = t.below in
     let same : grid al (cells h) (fitted_rows (length al) rs) ≡ grid al hs rows =
-    ap (λ (x : List (List ℕ)). grid al x (fitted_rows (length al) rs)) t.header_cells ∙ ap (grid al hs) t.below_cells
-    in
+    ap (λ (x : List (List ℕ)). grid al x (fitted_rows (length al) rs)) t.header_cells
+    ∙ ap (grid al hs) t.below_cells in
     let under = bar_first d t.bars.1 in
     let is : IsTable al h d rs = record {
       header = bar_first h t.bars.0;
@@ -466,8 +466,8 @@ table_flat al hs rows s t n some =
 abbrev pub Apart : List ℕ → Type 0
 Apart s = First (IsNotOf 42) (lines_of s) × First (IsNotOf 45) (lines_of s)
 
-apart_by : (s : List ℕ) (ls : List (List ℕ)) → lines_of s ≡ ls → First (IsNotOf 42) ls → First (IsNotOf 45) ls → Apart
-    s
+apart_by : (s : List ℕ) (ls : List (List ℕ)) → lines_of s ≡ ls → First (IsNotOf 42) ls
+    → First (IsNotOf 45) ls → Apart s
 apart_by s ls e a b = (subst (First (IsNotOf 42)) (sym e) a, subst (First (IsNotOf 45)) (sym e) b)
 
 pub not_of : (sign c : ℕ) (s : List ℕ) → is_space_or_tab c ≡ false → (c == sign) ≡ false → IsNotOf sign
@@ -505,8 +505,8 @@ underlined_apart level s h =
     apart_by (writing.underlined level s) (s ∷ lines_of u)
     (ap lines_of e ∙ written_one s u (one_clean s h.plain h.one_line)) h.line.no_asterisks h.line.no_hyphens
 
-code_apart_with : (c n : ℕ) (info s : List ℕ) → nat_le 3 n ≡ true → (c == line_feed) ≡ false → is_space_or_tab
-    c ≡ false
+code_apart_with : (c n : ℕ) (info s : List ℕ) → nat_le 3 n ≡ true → (c == line_feed) ≡ false
+    → is_space_or_tab c ≡ false
     → (c == 42) ≡ false → (c == 45) ≡ false → Apart (between_fences (replicate n c) info s)
 code_apart_with c zero info s h f b a d = absurd (cc)
 code_apart_with c (suc n) info s h f b a d =

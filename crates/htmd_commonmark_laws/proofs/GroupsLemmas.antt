@@ -51,8 +51,8 @@ use Rattle.htmd_commonmark_laws.specs.NormalBlocks.{HasItem, is_spread, IsNormal
 
 -- ---- the blocks of a document with the blank lines before them
 
-abbrev block_gaps : References → (List ℕ → Inlines) → DocumentOptions → Place → Option Sign → List (List ℕ) →
-    Bool
+abbrev block_gaps : References → (List ℕ → Inlines) → DocumentOptions → Place → Option Sign
+    → List (List ℕ) → Bool
     → documents.Block → Gapped → Gapped
 block_gaps refs reads o p before ds g (documents.list start t items) rest =
     listed g (item_sign (markers_of o before p.outer start (item_count items))) start t
@@ -70,15 +70,15 @@ block_gaps refs reads o p before ds g documents.thematic_break rest =
 block_gaps refs reads o p before ds g (documents.table alignments header rows) rest =
     shown g (block_read refs reads o p before ds (documents.table alignments header rows)) rest
 
-abbrev further_gaps : References → DocumentOptions → Place → Option Sign → List (List ℕ) → documents.Blocks →
-    Gapped
+abbrev further_gaps : References → DocumentOptions → Place → Option Sign → List (List ℕ)
+    → documents.Blocks → Gapped
 further_gaps refs o p before ds documents.no_blocks = no_gapped
 further_gaps refs o p before ds (documents.block first rest) =
     block_gaps refs (inlines refs) o p before ds (not p.tight) first
     (further_gaps refs o p (sign_of o before p.outer first) (written_block o p before ds first).definitions rest)
 
-abbrev first_gaps : References → (List ℕ → Inlines) → DocumentOptions → Place → List (List ℕ) → documents.Blocks →
-    Gapped
+abbrev first_gaps : References → (List ℕ → Inlines) → DocumentOptions → Place → List (List ℕ)
+    → documents.Blocks → Gapped
 first_gaps refs reads o p ds documents.no_blocks = no_gapped
 first_gaps refs reads o p ds (documents.block first rest) =
     block_gaps refs reads o p None ds false first
@@ -313,8 +313,8 @@ item_alone g sign number c d rest rs l x bs e f a i p =
 
 -- an item before others of its list
 item_merged : (g : Bool) (sign : ℕ) (number other : Option ℕ) (c d rs rest : Gapped) (l x r : Bool) (bs : Blocks)
-    (items : Items) → c ≡ d → rs ≡ listed l sign other (not (l && r)) items rest → inner_gap d ≡ (l && x) → plain
-    d ≡ bs
+    (items : Items) → c ≡ d → rs ≡ listed l sign other (not (l && r)) items rest → inner_gap d ≡ (l && x)
+    → plain d ≡ bs
     → with_item g sign number c rs ≡ listed g sign number (not (l && true)) (item bs items) rest
 item_merged g sign number other c d rs rest l x r bs items e f i p =
     ap (λ (y : Gapped). with_item g sign number y rs) e

@@ -65,8 +65,8 @@ heading_whole : (level : ℕ) (s t : List ℕ) → heading_text s ≡ t → (x :
     → x ≡ whole (headed level (heading_text s)) → x ≡ whole (headed level t)
 heading_whole level s t e x f = f ∙ ap (λ (u : List ℕ). whole (headed level u)) e
 
-pub heading_reads : (level : ℕ) (s : List ℕ) → nat_le 1 level ≡ true → nat_le level 6 ≡ true → heading_text
-    s ≡ s
+pub heading_reads : (level : ℕ) (s : List ℕ) → nat_le 1 level ≡ true → nat_le level 6 ≡ true
+    → heading_text s ≡ s
     → FlatReads (heading_line level s ∷ []) (headed level s) no_parts
 heading_reads zero s a b h = absurd (cc)
 heading_reads (suc zero) s a b h =
@@ -123,8 +123,8 @@ abbrev grown : List (List ℕ) → List ℕ → List (List ℕ) → Leaf
 grown earlier last [] = paragraph earlier last
 grown earlier last (l ∷ ls) = grown (earlier ++ (last ∷ [])) l ls
 
-further_texts : (ls earlier : List (List ℕ)) (last : List ℕ) (k : Columns) (done : Parts) (g : Bool) → AreFurtherLines
-    ls
+further_texts : (ls earlier : List (List ℕ)) (last : List ℕ) (k : Columns) (done : Parts) (g : Bool)
+    → AreFurtherLines ls
     → (fed_all (box done g (leaf (paragraph earlier last))) (place k ls) ≡ box done g
     (leaf (grown earlier last ls)))
     × Safe (box done g (leaf (paragraph earlier last))) (place k ls)
@@ -181,8 +181,8 @@ paragraph_reads l ls p more h = record {
 
 -- ---- underlined headings (4.3)
 
-stripped_run : (c n : ℕ) → is_space_or_tab c ≡ false → stripped_end is_space_or_tab (replicate n c) ≡ replicate n
-    c
+stripped_run : (c n : ℕ) → is_space_or_tab c ≡ false
+    → stripped_end is_space_or_tab (replicate n c) ≡ replicate n c
 stripped_run c zero h = refl
 stripped_run c (suc n) h =
     stripped_end_black is_space_or_tab c (replicate n c) h ∙ ap (◌∷◌ c) (stripped_run c n h)
@@ -239,8 +239,8 @@ underlined_reads level l u h b e = record {
         ≡ fed done g (leaf (paragraph [] l)) (line (k (suc zero)) u)
     step k done g = ap (λ (x : Box). fed_all x (place (tail k) (u ∷ []))) (first_text done g (k zero) l h.first)
 
-pub setext_reads : (level n : ℕ) (l : List ℕ) → nat_le 1 level ≡ true → nat_le level 2 ≡ true → IsHeadingLine
-    l
+pub setext_reads : (level n : ℕ) (l : List ℕ) → nat_le 1 level ≡ true → nat_le level 2 ≡ true
+    → IsHeadingLine l
     → FlatReads (l ∷ replicate (suc n) (underline_sign level) ∷ []) (headed level l) no_parts
 setext_reads zero n l a b h = absurd (cc)
 setext_reads (suc zero) n l a b h = underlined_reads 1 l (replicate (suc n) 61) h refl (λ k. (underlined_by k n).0)
@@ -332,8 +332,8 @@ fence_reads sign count o c info ls h w = record {
 abbrev pub AreRows : List (List ℕ) → Type 0
 AreRows [] = Unit {0}
 AreRows (r ∷ rs) =
-    (IsBlack r × ((k : ℕ) → started alone (line k r) ≡ no_start) × (is_row (cells r) no_start ≡ true)) × AreRows
-    rs
+    (IsBlack r × ((k : ℕ) → started alone (line k r) ≡ no_start) × (is_row (cells r) no_start ≡ true))
+    × AreRows rs
 
 -- the lines of a table: its header, what stands under that, and its rows
 pub record IsTable (alignments : List Alignment) (h d : List ℕ) (rs : List (List ℕ)) : Type 0 where

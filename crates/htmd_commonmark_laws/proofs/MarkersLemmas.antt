@@ -86,8 +86,8 @@ no_rule c n l b q = rw (b, spaces_marks n l) (rw (is_itself c) (rw q refl))
 unless_no_rule : (c : ℕ) (s : List ℕ) (x : Start) → is_rule c s ≡ false → unless_rule c s x ≡ x
 unless_no_rule c s x e = rw e refl
 
-marker_filled : (c : ℕ) → IsBulletSign c → is_space_or_tab c ≡ false → (a : After) (k n : ℕ) (l : List ℕ) → n ≤
-    3
+marker_filled : (c : ℕ) → IsBulletSign c → is_space_or_tab c ≡ false → (a : After) (k n : ℕ) (l : List ℕ)
+    → n ≤ 3
     → IsBlack l → IsNotOf c l
     → started a (line k (c ∷ spaces (suc n) l))
     ≡ first_line (fresh (listing c None (columns (bullet_marker c) n)) (line (steps (suc n) (k + 1)) l)

@@ -142,8 +142,8 @@ joined_gap : (ls ms : List (List ℕ)) (h : Bool) (s t : List ℕ) → IsFull ls
 joined_gap [] ms h s t a b e f = absurd a
 joined_gap (l ∷ ls) [] h s t a b e f = absurd b
 joined_gap (l ∷ ls) (m ∷ ms) true s t a b e f =
-    ap (λ (x : List ℕ). x ++ (10 ∷ 10 ∷ t)) e ∙ ap (λ (x : List ℕ). joined_lines (l ∷ ls) ++ (10 ∷ 10 ∷ x))
-    f
+    ap (λ (x : List ℕ). x ++ (10 ∷ 10 ∷ t)) e
+    ∙ ap (λ (x : List ℕ). joined_lines (l ∷ ls) ++ (10 ∷ 10 ∷ x)) f
     ∙ sym (joined_append l ls [] (m ∷ ms))
 joined_gap (l ∷ ls) (m ∷ ms) false s t a b e f =
     ap (λ (x : List ℕ). x ++ (10 ∷ t)) e ∙ ap (λ (x : List ℕ). joined_lines (l ∷ ls) ++ (10 ∷ x)) f

@@ -122,8 +122,8 @@ pub record IsMarker (m : Marker) : Type 0 where
   pub column : ℕ → ℕ → ℕ
   pub black : (t : List ℕ) → IsBlack (m.text ++ t)
   pub no_quote : (t : List ℕ) → first_is greater_than_sign (m.text ++ t) ≡ false
-  pub filled : (a : After) (k n : ℕ) (l : List ℕ) → n ≤ 3 → IsBlack l → IsApart m.number m.sign l → Allowed a
-      m.number
+  pub filled : (a : After) (k n : ℕ) (l : List ℕ) → n ≤ 3 → IsBlack l → IsApart m.number m.sign l
+      → Allowed a m.number
       → started a (line k (m.text ++ spaces (suc n) l))
       ≡ first_line (fresh (listing m.sign m.number (columns m n)) (line (column k n) l)
       (started alone (line (column k n) l)))
@@ -186,8 +186,8 @@ keeps_inside : (done : Parts) (g : Bool) (t : Container) (b : Box) → Keeps (in
 keeps_inside done g t b = holds done t b.done b.gap b.inner
 
 -- what was read of some parts isn't empty
-keeps_ended : (b : Box) (d : Parts) (g : Bool) (p : Part) (more : Parts) → shut b ≡ joined d (part g p more) → Keeps
-    b
+keeps_ended : (b : Box) (d : Parts) (g : Bool) (p : Part) (more : Parts) → shut b ≡ joined d (part g p more)
+    → Keeps b
 keeps_ended b d g p more e = go b.done b.inner refl refl
   where
     never : (d : Parts) → no_parts ≡ joined d (part g p more) → ⊥
@@ -259,8 +259,8 @@ goes_on e n k l h = go (is_blank_text l) refl
     go true q = rw (spaces_blank n l, q, h q) refl
     go false q = rw (spaces_blank n l, q) deep
 
-item_takes : (l : List ℕ) (sign : ℕ) (number : Option ℕ) (n k : ℕ) (done : Parts) (g : Bool) (d : Parts) (h : Bool)
-    (o : Open)
+item_takes : (l : List ℕ) (sign : ℕ) (number : Option ℕ) (n k : ℕ) (done : Parts) (g : Bool) (d : Parts)
+    (h : Bool) (o : Open)
     → (is_blank_text l ≡ true → holds_nothing d o ≡ false)
     → fed done g (within (listing sign number n) d h o) (line k (indented n l))
     ≡ inside done g (listing sign number n) (fed d h o (line (item_column n k l) l))
@@ -369,8 +369,8 @@ quote_back (l ∷ ls) ps m h r = record {
         (place (tail k) (each quoted ls))
     rest k done g = quote_takes_all ls (tail k) done g (fed no_parts false nothing (line (quote_column (k zero) l) l))
 
-item_back : (mk : Marker) (n : ℕ) (l : List ℕ) (ls : List (List ℕ)) (ps : Parts) (m : Bool) → IsMarker mk → n ≤
-    3
+item_back : (mk : Marker) (n : ℕ) (l : List ℕ) (ls : List (List ℕ)) (ps : Parts) (m : Bool) → IsMarker mk
+    → n ≤ 3
     → IsBlack l → IsApart mk.number mk.sign l
     → ((k : Columns) → Ends m (fed_all (box no_parts false nothing) (place k (l ∷ ls))) ps)
     → ((k : Columns) → Safe (box no_parts false nothing) (place k (l ∷ ls)))
@@ -468,8 +468,8 @@ mutual
   filled_first (piece f p ps) g = first_append IsBlack (piece_lines p) (further_lines ps) (piece_first p g.1)
 
 -- an item's first line begins it wherever it stands
-item_interrupts : (u : Bool) (mk : Marker) (n : ℕ) (l : List ℕ) → IsMarker mk → n ≤ 3 → IsBlack l → IsApart mk.number
-    mk.sign l
+item_interrupts : (u : Bool) (mk : Marker) (n : ℕ) (l : List ℕ) → IsMarker mk → n ≤ 3 → IsBlack l
+    → IsApart mk.number mk.sign l
     → (u ≡ true → Allowed under mk.number) → Interrupts u (mk.text ++ spaces (suc n) l)
 item_interrupts u mk n l i w h q a = record {
   black = i.black (spaces (suc n) l);
@@ -620,8 +620,8 @@ mutual
         safe_append (box no_parts false nothing) k (piece_lines p) (further_lines ps) (r.safe k no_parts false) a.1,
       )
 
-  after_back : (ps : Pieces) (m : Bool) → AreGood m ps → (k : Columns) (b : Box) (qs : Parts) → Ends m b qs → Keeps
-      b
+  after_back : (ps : Pieces) (m : Bool) → AreGood m ps → (k : Columns) (b : Box) (qs : Parts) → Ends m b qs
+      → Keeps b
       → Ends false (fed_all b (place k (further_lines ps))) (joined qs (pieces_parts ps))
       × Safe b (place k (further_lines ps))
   after_back no_pieces m w k b qs e q =

@@ -25,8 +25,8 @@ prefix_most : (rs : List (List ℕ)) → prefix_len is_empty rs ≤ length rs
 prefix_most [] = omega arith
 prefix_most (r ∷ rs) = go (is_empty r) refl (prefix_most rs)
   where
-    go : (b : Bool) → is_empty r ≡ b → prefix_len is_empty rs ≤ length rs → prefix_len is_empty (r ∷ rs) ≤ length
-        (r ∷ rs)
+    go : (b : Bool) → is_empty r ≡ b → prefix_len is_empty rs ≤ length rs
+        → prefix_len is_empty (r ∷ rs) ≤ length (r ∷ rs)
     go true e h =
         let w : prefix_len is_empty (r ∷ rs) ≡ 1 + prefix_len is_empty rs = rw e refl in
         omega (arith, w, h)

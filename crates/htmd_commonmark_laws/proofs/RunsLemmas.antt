@@ -72,8 +72,8 @@ first_run c (x ∷ s) = go (x == c) refl (first_run c s)
     go true e i =
         let o : is_other c x ≡ false = ap not e in
         let r : leading_run (is_same c) (x ∷ s) ≡ x ∷ leading_run (is_same c) s = rw e refl in
-        ap first_of (slice_split-cons_no (is_other c) x s o) ∙ onto_first_of x (runs c s) ∙ ap (◌∷◌ x) i ∙ sym
-        r
+        ap first_of (slice_split-cons_no (is_other c) x s o) ∙ onto_first_of x (runs c s) ∙ ap (◌∷◌ x) i
+        ∙ sym r
     go false e i =
         let o : is_other c x ≡ true = ap not e in
         let r : leading_run (is_same c) (x ∷ s) ≡ [] = rw e refl in
@@ -95,8 +95,8 @@ run_split : (p : ℕ → Bool) (s : List ℕ) → leading_run p s ++ behind_run 
 run_split p [] = refl
 run_split p (x ∷ s) = go (p x) refl (run_split p s)
   where
-    go : (b : Bool) → p x ≡ b → leading_run p s ++ behind_run p s ≡ s → leading_run p (x ∷ s) ++ behind_run p
-        (x ∷ s) ≡ x ∷ s
+    go : (b : Bool) → p x ≡ b → leading_run p s ++ behind_run p s ≡ s
+        → leading_run p (x ∷ s) ++ behind_run p (x ∷ s) ≡ x ∷ s
     go true e i = rw e (ap (◌∷◌ x) i)
     go false e i = rw e refl
 
@@ -164,8 +164,8 @@ no_close c count k l rest h = go (list_all (is_same c) (stripped l)) refl
     go false e = last (nat_le (indent (line k l)) 3) (nat_le count (length (stripped l)))
         (list_all (is_same c) (stripped l)) e
 
-pub stays_open : (c count : ℕ) (ls : List (List ℕ)) → longest_run c (joined_lines ls) < count → StaysOpen c count
-    ls
+pub stays_open : (c count : ℕ) (ls : List (List ℕ)) → longest_run c (joined_lines ls) < count
+    → StaysOpen c count ls
 stays_open c count [] h = tt
 stays_open c count (l ∷ []) h = ((λ k. no_close c count k l [] h), tt)
 stays_open c count (l ∷ m ∷ ls) h =

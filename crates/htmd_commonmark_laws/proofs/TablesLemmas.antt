@@ -204,7 +204,8 @@ AreBarred [] = Unit {0}
 AreBarred (r ∷ rs) = (first_is 124 r ≡ true) × IsSomeCells (cells r) × AreBarred rs
 
 -- the lines of a table with what a reader makes of them
-pub record TableLines (al : List Alignment) (hs : List (List ℕ)) (rows : List (List (List ℕ))) (s : List ℕ) : Type 0
+pub record TableLines (al : List Alignment) (hs : List (List ℕ)) (rows : List (List (List ℕ)))
+    (s : List ℕ) : Type 0
   where
     pub header : List ℕ
     pub under : List ℕ
@@ -225,8 +226,8 @@ delimiter_at al ws k a w =
     ap (stripped_end is_space_or_tab) (sym (append-nil d)) ∙ ends_strip d 0 (delimiter_ends al ws) in
     ap delimiter_row e ∙ delimiter_line al ws a w
 
-rows_barred : (b : Bool) (ws : List ℕ) (n : ℕ) (rows : List (List (List ℕ))) → suc n ≡ length ws → AreRowsOf (suc n)
-    rows
+rows_barred : (b : Bool) (ws : List ℕ) (n : ℕ) (rows : List (List (List ℕ))) → suc n ≡ length ws
+    → AreRowsOf (suc n) rows
     → AreBarred (row_lines b ws rows)
 rows_barred b ws n [] e h = tt
 rows_barred b ws n (r ∷ rows) e h =
@@ -240,8 +241,8 @@ rows_barred b ws n (r ∷ rows) e h =
 lines_by : (b : Bool) (ws dashed : List ℕ) (al : List Alignment) (h : List ℕ) (hs : List (List ℕ))
     (rows : List (List (List ℕ))) → length (h ∷ hs) ≡ length ws → length ws ≡ length dashed → AreWide
     dashed
-    → length al ≡ length (h ∷ hs) → AreTrimmed (h ∷ hs) → AreClean (h ∷ hs) → AreRowsOf (length (h ∷ hs))
-    rows
+    → length al ≡ length (h ∷ hs) → AreTrimmed (h ∷ hs) → AreClean (h ∷ hs)
+    → AreRowsOf (length (h ∷ hs)) rows
     → TableLines al (h ∷ hs) rows (writing.lines_of b ws dashed al (escaped_cells (h ∷ hs))
     (map escaped_cells rows))
 lines_by b ws dashed al h hs rows n m w a t c r = record {
@@ -249,8 +250,8 @@ lines_by b ws dashed al h hs rows n m w a t c r = record {
   under = 124 ∷ delimiters al dashed;
   below = row_lines b ws rows;
   is = ap lines_of (all_joined b ws dashed al (h ∷ hs) rows)
-      ∙ written_lines (tables.line (escaped_cells (h ∷ hs)) ws) ((124 ∷ delimiters al dashed) ∷ row_lines b ws rows)
-      clean_all;
+      ∙ written_lines (tables.line (escaped_cells (h ∷ hs)) ws)
+      ((124 ∷ delimiters al dashed) ∷ row_lines b ws rows) clean_all;
   clean = clean_all;
   bars = (refl, refl);
   delimiters_are = λ k. delimiter_at al dashed k (aligned_by al dashed (a ∙ n ∙ m)) w;
@@ -260,16 +261,16 @@ lines_by b ws dashed al h hs rows n m w a t c r = record {
   below_bars = rows_barred b ws (length hs) rows n r;
 }
   where
-    clean_all : AreClean (tables.line (escaped_cells (h ∷ hs)) ws ∷ (124 ∷ delimiters al dashed) ∷ row_lines b ws
-        rows)
+    clean_all : AreClean (tables.line (escaped_cells (h ∷ hs)) ws ∷ (124 ∷ delimiters al dashed)
+        ∷ row_lines b ws rows)
     clean_all = (
       (refl, refl, refl, barred_clean (h ∷ hs) ws c),
       ((refl, refl, refl, delimiters_clean al dashed), rows_clean b ws (length (h ∷ hs)) rows r),
     )
 
 pub table_lines : (al : List Alignment) (h : List ℕ) (hs : List (List ℕ)) (rows : List (List (List ℕ)))
-    → length al ≡ length (h ∷ hs) → AreTrimmed (h ∷ hs) → AreClean (h ∷ hs) → AreRowsOf (length (h ∷ hs))
-    rows
+    → length al ≡ length (h ∷ hs) → AreTrimmed (h ∷ hs) → AreClean (h ∷ hs)
+    → AreRowsOf (length (h ∷ hs)) rows
     → TableLines al (h ∷ hs) rows (table_text al (escaped_cells (h ∷ hs)) (map escaped_cells rows))
 table_lines al h hs rows a t c r = go (nat_le (line_width ws) longest_padded)
   where

@@ -106,8 +106,8 @@ pub written_last : (l : List ℕ) → IsClean l → lines_of l ≡ l ∷ []
 written_last [] h = refl
 written_last (c ∷ l) h = slice_split-cons_no is_line_feed c l h.0 ∙ ap (onto_first c) (written_last l h.3)
 
-pub written_lines : (l : List ℕ) (ls : List (List ℕ)) → AreClean (l ∷ ls) → lines_of (joined_lines (l ∷ ls)) ≡ l ∷
-    ls
+pub written_lines : (l : List ℕ) (ls : List (List ℕ)) → AreClean (l ∷ ls)
+    → lines_of (joined_lines (l ∷ ls)) ≡ l ∷ ls
 written_lines l [] a = ap lines_of (append-nil l) ∙ written_last l a.0
 written_lines l (m ∷ ls) a = written_one l (joined_lines (m ∷ ls)) a.0 ∙ ap (◌∷◌ l) (written_lines m ls a.1)
 
@@ -156,8 +156,8 @@ joined_append l (k ∷ ls) m ms =
     ap (λ (t : List ℕ). l ++ (10 ∷ t)) (joined_append k ls m ms)
     ∙ sym (append_assoc l (10 ∷ joined_lines (k ∷ ls)) (10 ∷ joined_lines (m ∷ ms)))
 
-pub joined_onto : (c : ℕ) (ls : List (List ℕ)) → (ls ≡ [] → ⊥) → joined_lines (onto_first c ls) ≡ c ∷ joined_lines
-    ls
+pub joined_onto : (c : ℕ) (ls : List (List ℕ)) → (ls ≡ [] → ⊥)
+    → joined_lines (onto_first c ls) ≡ c ∷ joined_lines ls
 joined_onto c [] h = absurd (h refl)
 joined_onto c (l ∷ ls) h = refl
 

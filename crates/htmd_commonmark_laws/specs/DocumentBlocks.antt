@@ -24,16 +24,16 @@ use Rattle.htmd_commonmark_laws.specs.DocumentParts.{paragraph_text, heading_tex
 -- `refs`: the definitions that a reader knows; `reads`: what it takes the first paragraph's text for, which in an item
 -- may begin with a task
 abbrev mutual
-  pub first_read : References → (List ℕ → Inlines) → DocumentOptions → Place → List (List ℕ) → documents.Blocks →
-      Blocks
+  pub first_read : References → (List ℕ → Inlines) → DocumentOptions → Place → List (List ℕ)
+      → documents.Blocks → Blocks
   first_read refs reads options place definitions documents.no_blocks = no_blocks
   first_read refs reads options place definitions (documents.block first rest) =
       block (block_read refs reads options place None definitions first)
       (further_read refs options (behind_first place) (sign_of options None place.outer first)
       (written_block options place None definitions first).definitions rest)
 
-  pub further_read : References → DocumentOptions → Place → Option Sign → List (List ℕ) → documents.Blocks →
-      Blocks
+  pub further_read : References → DocumentOptions → Place → Option Sign → List (List ℕ)
+      → documents.Blocks → Blocks
   further_read refs options place before definitions documents.no_blocks = no_blocks
   further_read refs options place before definitions (documents.block first rest) =
       block (block_read refs (inlines refs) options place before definitions first)

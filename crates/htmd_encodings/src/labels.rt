@@ -5,7 +5,7 @@ ghost use Rattle.htmd_encodings.specs.Views.{label_of};
 
 use crate::encodings::Named::{Supported, Unsupported};
 use crate::encodings::{ByteOrder, Encoding, Named, SingleByte, UnsupportedEncoding};
-use crate::runs::{Class, split_run};
+use crate::runs::{Class, is_in_any_case, split_run};
 
 /// A label in lower case, and what it names.
 type Label = (&'static str, Named);
@@ -37,13 +37,6 @@ fn named_in(labels: &[Label], label: &[u8]) -> Option<Named>
         }
     }
     None
-}
-
-/// Whether they are the same in any ASCII case.
-pub(crate) fn is_in_any_case(text: &[u8], other: &[u8]) -> bool
-    ensures { result ≡ spec.is_in_any_case text.now other.now }
-{
-    text.eq_ignore_ascii_case(other)
 }
 
 /// The bytes without the white space at both ends.

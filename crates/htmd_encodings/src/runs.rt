@@ -1,8 +1,9 @@
-//! How bytes begin: the longest run of one class, and characters of ASCII.
+//! How bytes begin, the longest run of one class and characters of ASCII, and which are the same in any ASCII case.
 ghost use Rattle.std.specs.Prelude.{◌≡◌, ◌≤◌, true, false, length, drop, MatchOption};
 ghost use Rattle.htmd_grammar.specs.CharacterClasses.{first_is, leading_run, behind_run};
 ghost use Rattle.htmd_grammar.specs.CharacterClasses as classes;
 ghost use Rattle.htmd_encodings.specs.Declarations as declarations;
+ghost use Rattle.htmd_encodings.specs.Labels as labels;
 ghost use Rattle.htmd_encodings.specs.Views.{is_in};
 
 /// What the bytes of a run have in common.
@@ -111,4 +112,11 @@ pub(crate) fn after_first<'a>(bytes: &'a [u8], searched: &[u8]) -> &'a [u8]
         rest = after;
     }
     rest
+}
+
+/// Whether they are the same in any ASCII case.
+pub(crate) fn is_in_any_case(text: &[u8], other: &[u8]) -> bool
+    ensures { result ≡ labels.is_in_any_case text.now other.now }
+{
+    text.eq_ignore_ascii_case(other)
 }

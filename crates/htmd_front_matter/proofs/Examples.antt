@@ -13,8 +13,8 @@ pair name value = record { name = name; value = value }
 abbrev page : ValueForest
 page = more (element (codes "html") (pair (codes "lang") (codes "en") ∷ [])
     (more (element (codes "title") [] (more (text (codes " A  b ")) none))
-    (more (element (codes "meta") (pair (codes "name") (codes "DESCRIPTION") ∷ pair (codes "content") (codes "c") ∷ [])
-    none) none))) none
+    (more (element (codes "meta") (pair (codes "name") (codes "DESCRIPTION") ∷ pair (codes "content") (codes "c")
+    ∷ []) none) none))) none
 
 value-title : first_value Title page ≡ Some (codes " A  b ")
 value-title = refl

@@ -37,7 +37,8 @@ value-other key id (Element name attributes) f g h = absurd (h name attributes r
 
 -- ---- what the element says, or one below it
 
-pub own-some : (r : Option (Bor (List ℕ))) (own below : Option (List ℕ)) → option_copied r ≡ own → is_some r ≡ true
+pub own-some : (r : Option (Bor (List ℕ))) (own below : Option (List ℕ)) → option_copied r ≡ own
+    → is_some r ≡ true
     → option_copied r ≡ option_or own below
 own-some None own below e h = absurd (false≢true h)
 own-some (Some x) own below e h = ap (λ q. option_or q below) e
@@ -58,7 +59,8 @@ text-other id (Element name attributes) f h = refl
 
 -- ---- one key more
 
-pub lines-turn : (f : Key → List ℕ) (keys : List Key) (d : Key) (i : ℕ) (old new whole : List ℕ) → i < length keys
+pub lines-turn : (f : Key → List ℕ) (keys : List Key) (d : Key) (i : ℕ) (old new whole : List ℕ)
+    → i < length keys
     → old ++ flat_map f (drop i keys) ≡ whole → new ≡ old ++ f (get_or keys i d)
     → new ++ flat_map f (drop (i + 1) keys) ≡ whole
 lines-turn f keys d i old new whole l so_far e =

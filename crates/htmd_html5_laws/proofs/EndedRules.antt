@@ -1,9 +1,8 @@
 -- The rules of the modes leave open what must stay so: what each act does.
-use Rattle.htmd_grammar.proofs.Cases.{test}
 use Rattle.htmd_grammar.specs.ValueTrees.{AttributePair}
 use Rattle.htmd_grammar.specs.declared.content.RawElement.{RawElement}
 use Rattle.htmd_html5.specs.AfterBody.{comment_in}
-use Rattle.htmd_html5.specs.AfterHead.{insert_in_head, with_body}
+use Rattle.htmd_html5.specs.AfterHead.{with_body}
 use Rattle.htmd_html5.specs.Answers.{again, done}
 use Rattle.htmd_html5.specs.BeforeHead.{with_head}
 use Rattle.htmd_html5.specs.BeforeHtml.{with_root}
@@ -12,7 +11,6 @@ use Rattle.htmd_html5.specs.BodyStarts.{add_to_body, add_to_this_body, close_hea
 use Rattle.htmd_html5.specs.BodyStarts.{is_in_template, mode_of_select, open_body, replace_body, replace_this_body}
 use Rattle.htmd_html5.specs.BodyStarts.{skip_line_feed, start_ordinary, start_select, with_form}
 use Rattle.htmd_html5.specs.Feeding.{is_text_mode}
-use Rattle.htmd_html5.specs.ForeignContent.{insert_alike}
 use Rattle.htmd_html5.specs.InBody.{end_of_file_in_template, run_in_body}
 use Rattle.htmd_html5.specs.InCaption.{end_caption, has_caption}
 use Rattle.htmd_html5.specs.InCell.{end_cell}
@@ -30,68 +28,51 @@ use Rattle.htmd_html5.specs.SharedRules.{add_missing_to, add_to_root, end_templa
 use Rattle.htmd_html5.specs.SharedRules.{insert_head_element, insert_raw_tag, insert_tag, insert_void_tag}
 use Rattle.htmd_html5.specs.SharedRules.{leave_template, no_frameset, open_template, with_mode}
 use Rattle.htmd_html5.specs.Tokens.{StartTagValue}
-use Rattle.htmd_html5_laws.proofs.EndedAdoption.{AgencyLeft, adoption_agency_ends, agency_left}
-use Rattle.htmd_html5_laws.proofs.EndedStacks.{Anchor, At, Has, Spares, SparesRoot, at_cell, at_head, at_noscript}
-use Rattle.htmd_html5_laws.proofs.EndedStacks.{at_root, at_select, clear_to_root, cleared_popped, close_group_has}
-use Rattle.htmd_html5_laws.proofs.EndedStacks.{close_has, close_name_has, close_option_has, closed_root, firm_name}
-use Rattle.htmd_html5_laws.proofs.EndedStacks.{has_open, is_any, is_common, is_common_name, is_common_tag, is_firm}
-use Rattle.htmd_html5_laws.proofs.EndedStacks.{is_root, is_wide, noscript_popped, only_root, open_root}
-use Rattle.htmd_html5_laws.proofs.EndedStacks.{option_in_group_has, outermost_root, pop_where_has, pop_while_has}
-use Rattle.htmd_html5_laws.proofs.EndedStacks.{popped_has, popped_open, root_apart, scope_root, second_popped, spared}
-use Rattle.htmd_html5_laws.proofs.EndedStacks.{three_spared, without_has}
-use Rattle.htmd_html5_laws.proofs.EndedStates.{CommonAt, Ends, Manner, Whole, add_missing_ends, apart}
-use Rattle.htmd_html5_laws.proofs.EndedStates.{clear_to_marker_ends, common_added, detach_ends, ends_by_state}
-use Rattle.htmd_html5_laws.proofs.EndedStates.{ends_by_test, ends_still, insert_comment_ends, insert_comment_in_ends}
-use Rattle.htmd_html5_laws.proofs.EndedStates.{insert_doctype_ends, insert_element_ends, insert_foreign_ends}
-use Rattle.htmd_html5_laws.proofs.EndedStates.{insert_formatting_ends, insert_root_ends, insert_text_ends}
+use Rattle.htmd_html5_laws.proofs.EndedAdoption.{AgencyLeft, agency_left}
+use Rattle.htmd_html5_laws.proofs.EndedStacks.{Anchor, At, Has, SparesRoot, at_cell, at_head, at_noscript, at_root}
+use Rattle.htmd_html5_laws.proofs.EndedStacks.{at_select, clear_to_root, cleared_popped, close_group_has}
+use Rattle.htmd_html5_laws.proofs.EndedStacks.{close_name_has, close_option_has, firm_name, has_open, is_any}
+use Rattle.htmd_html5_laws.proofs.EndedStacks.{is_common, is_common_name, is_firm, is_root, noscript_popped}
+use Rattle.htmd_html5_laws.proofs.EndedStacks.{only_root, open_root, option_in_group_has, outermost_root}
+use Rattle.htmd_html5_laws.proofs.EndedStacks.{pop_where_has, pop_while_has, popped_has, popped_open, root_apart}
+use Rattle.htmd_html5_laws.proofs.EndedStacks.{scope_root, second_popped, spared, three_spared, without_has}
+use Rattle.htmd_html5_laws.proofs.EndedStates.{CommonAt, Ends, Whole, add_missing_ends, apart, clear_to_marker_ends}
+use Rattle.htmd_html5_laws.proofs.EndedStates.{common_added, detach_ends, ends_by_state, ends_by_test, ends_still}
+use Rattle.htmd_html5_laws.proofs.EndedStates.{insert_comment_in_ends, insert_doctype_ends, insert_element_ends}
+use Rattle.htmd_html5_laws.proofs.EndedStates.{insert_foreign_ends, insert_root_ends, insert_text_ends}
 use Rattle.htmd_html5_laws.proofs.EndedStates.{insert_void_ends, on_stack_ends, push_marker_ends, reconstruct_ends}
 use Rattle.htmd_html5_laws.proofs.EndedStates.{then_ends, whole_fewer, whole_form, whole_grown, whole_head}
 use Rattle.htmd_html5_laws.proofs.EndedStates.{whole_stack, without_entry_ends}
 use Rattle.htmd_html5_laws.proofs.EndedSteps.{AnswerEnds, Answered, Covers, FreeModes, HasSome, Ready, TagEnds}
-use Rattle.htmd_html5_laws.proofs.EndedSteps.{Tagged, Turned, Turns, anchor_of, calm, covers_any, covers_at, fact_at}
-use Rattle.htmd_html5_laws.proofs.EndedSteps.{mode_turns, popped_reset, raw_tag_ends, reset_ready, some_free}
-use Rattle.htmd_html5_laws.proofs.EndedSteps.{some_kept, some_more, steady, turned_answered, turns_by_test}
-use Rattle.htmd_html5_laws.proofs.EndedSteps.{turns_where}
+use Rattle.htmd_html5_laws.proofs.EndedSteps.{Tagged, Turned, Turns, anchor_of, calm, covers_any, fact_at, mode_turns}
+use Rattle.htmd_html5_laws.proofs.EndedSteps.{popped_reset, raw_tag_ends, reset_ready, some_free, some_kept}
+use Rattle.htmd_html5_laws.proofs.EndedSteps.{some_more, steady, turned_answered, turns_by_test, turns_where}
 use Rattle.htmd_html5_laws.proofs.NamedKinds.{grows_added, grows_same}
 use Rattle.htmd_html5_laws.proofs.NodeTexts.{kinds}
-use Rattle.htmd_html5_laws.proofs.OpenNodes.{Fewer, clear_to_fewer, close_fewer, close_heading_fewer}
-use Rattle.htmd_html5_laws.proofs.OpenNodes.{close_name_fewer, close_option_fewer, fewer_then, group_fewer}
-use Rattle.htmd_html5_laws.proofs.OpenNodes.{option_and_group_fewer, outermost_fewer, pop_fewer, pop_until_fewer}
-use Rattle.htmd_html5_laws.proofs.OpenNodes.{pop_while_fewer, without_fewer}
+use Rattle.htmd_html5_laws.proofs.OpenNodes.{Fewer, clear_to_fewer, close_heading_fewer, close_name_fewer}
+use Rattle.htmd_html5_laws.proofs.OpenNodes.{close_option_fewer, fewer_then, group_fewer, option_and_group_fewer}
+use Rattle.htmd_html5_laws.proofs.OpenNodes.{outermost_fewer, pop_fewer, pop_until_fewer, pop_while_fewer}
+use Rattle.htmd_html5_laws.proofs.OpenNodes.{without_fewer}
 use Rattle.htmd_html5_laws.proofs.PlainAdoption.{found_listed}
-use Rattle.htmd_html5_laws.proofs.Rules.{comment, comment_in_root, implied}
-use Rattle.htmd_html5_laws.proofs.RuleWalk.{is_off}
-use Rattle.htmd_html5_laws.proofs.Rules.{Act, Cut, Given, act_on, agency, back_to, body_attributes, body_replaced}
-use Rattle.htmd_html5_laws.proofs.Rules.{caption_closed, cell_closed, cell_left, cell_put, columns_closed}
-use Rattle.htmd_html5_laws.proofs.Rules.{comment_in_document, cut, each_of, element as put, empty_form, foreign}
-use Rattle.htmd_html5_laws.proofs.Rules.{foreign_alike, forget_anchor, formatting, fostering, frames_refused}
-use Rattle.htmd_html5_laws.proofs.Rules.{frameset_closed, given_attributes, given_name, group, head, head_left}
-use Rattle.htmd_html5_laws.proofs.Rules.{heading, in_scope, late_of_head, left_open, line_feed_skipped, marked, named}
-use Rattle.htmd_html5_laws.proofs.Rules.{noscript_left, noscript_put, noted_element, noted_form, of_head, one_of}
-use Rattle.htmd_html5_laws.proofs.Rules.{option, option_and_group, own, raw_text, reconstructed, renamed, root}
-use Rattle.htmd_html5_laws.proofs.Rules.{root_attributes, row_closed, section_closed, select, select_closed}
-use Rattle.htmd_html5_laws.proofs.Rules.{select_left, started, table_closed, template_closed, to_content, to_marker}
-use Rattle.htmd_html5_laws.proofs.Rules.{to_mode, to_quirks, void}
+use Rattle.htmd_html5_laws.proofs.Rules.{formatting, head, root}
 use Rattle.htmd_html5_laws.proofs.TakingRuns.{by_first_kind}
 use Rattle.htmd_html5_state.proofs.TagLemmas.{same_tag-true}
 use Rattle.htmd_html5_state.specs.Adoption.{adoption_agency, formatting_element, node_is}
 use Rattle.htmd_html5_state.specs.Documents.{KindValue, element}
-use Rattle.htmd_html5_state.specs.Foreign.{namespace_of}
-use Rattle.htmd_html5_state.specs.Formatting.{clear_to_marker, push_marker}
-use Rattle.htmd_html5_state.specs.Insertion.{current, insert_doctype, insert_element, open_again, opened, place}
-use Rattle.htmd_html5_state.specs.Names.{ElementNameValue, NameValue, html, known, math, other, same_name, svg}
-use Rattle.htmd_html5_state.specs.Names.{text_of_name}
-use Rattle.htmd_html5_state.specs.OpenElements.{OpenValue, clear_to, close, close_name, current_is, first_open}
-use Rattle.htmd_html5_state.specs.OpenElements.{has_second, is_in_scope, is_node_in_scope, is_open, outermost, pop}
-use Rattle.htmd_html5_state.specs.OpenElements.{pop_until, pop_while, without}
+use Rattle.htmd_html5_state.specs.Formatting.{clear_to_marker}
+use Rattle.htmd_html5_state.specs.Insertion.{insert_doctype, insert_element, open_again, opened, place}
+use Rattle.htmd_html5_state.specs.Names.{ElementNameValue, NameValue, html, known, math, other, svg, text_of_name}
+use Rattle.htmd_html5_state.specs.OpenElements.{OpenValue, clear_to, close_name, current_is, first_open, has_second}
+use Rattle.htmd_html5_state.specs.OpenElements.{is_in_scope, is_node_in_scope, is_open, outermost, pop, pop_until}
+use Rattle.htmd_html5_state.specs.OpenElements.{pop_while, without}
 use Rattle.htmd_html5_state.specs.Resetting.{pop_modes, pop_template_mode}
 use Rattle.htmd_html5_state.specs.Sets.{has, is_of}
 use Rattle.htmd_html5_state.specs.State.{StateValue, on_stack}
 use Rattle.htmd_html5_state.specs.declared.modes.InsertionMode.{InsertionMode}
 use Rattle.htmd_html5_state.specs.declared.modes.InsertionMode.TheVariants.{AfterFrameset, BeforeHead, BeforeHtml}
 use Rattle.htmd_html5_state.specs.declared.modes.InsertionMode.TheVariants.{InBody, InCaption, InCell, InFrameset}
-use Rattle.htmd_html5_state.specs.declared.modes.InsertionMode.TheVariants.{InHead, InHeadNoscript, InRow}
-use Rattle.htmd_html5_state.specs.declared.modes.InsertionMode.TheVariants.{InSelectInTable, InTable, InTableBody}
+use Rattle.htmd_html5_state.specs.declared.modes.InsertionMode.TheVariants.{InHead, InHeadNoscript, InRow, InTable}
+use Rattle.htmd_html5_state.specs.declared.modes.InsertionMode.TheVariants.{InTableBody}
 use Rattle.htmd_html5_state.specs.declared.names.Namespace.{Namespace}
 use Rattle.htmd_html5_state.specs.declared.names.TagName.{TagName}
 use Rattle.htmd_html5_state.specs.declared.sets.NameSet.{NameSet}
@@ -100,9 +81,9 @@ use Rattle.htmd_html5_state.specs.declared.sets.NameSet.TheVariants.{TableBodyCo
 use Rattle.htmd_html5_state.specs.declared.sets.Scope.TheVariants.{Select as SelectScope, Table as TableScope}
 use Rattle.std.proofs.Common.{Bool, List, None, Option, Some, [], ap, arith, false, inl, inr, length, refl, subst}
 use Rattle.std.proofs.Common.{suc, sym, true, zero, ℕ, ◌<◌, ◌∙◌, ◌∷◌, ◌≡◌}
-use Rattle.std.proofs.lemmas.Bool.{and_parts, eq-eqb, ne_eqb, true≢false}
+use Rattle.std.proofs.lemmas.Bool.{eq-eqb, ne_eqb, true≢false}
 use Rattle.std.proofs.lemmas.List.{length-map}
-use Rattle.std.specs.Prelude.{if◌then◌else◌, not, ◌&&◌, ◌==◌, ◌||◌}
+use Rattle.std.specs.Prelude.{if◌then◌else◌, ◌==◌}
 use Rattle.htmd_html5_state.specs.declared.names.TagName.TheVariants as tags
 use Rattle.htmd_grammar.specs.declared.content.RawElement.TheVariants as raw
 
@@ -111,7 +92,7 @@ use Rattle.htmd_grammar.specs.declared.content.RawElement.TheVariants as raw
 pub no_frameset_ends : {p : Anchor → Bool} → Ends p no_frameset
 no_frameset_ends = record { whole = λ s h. h; keeps = λ a k s h l. l; same = λ s h. refl }
 
-skip_line_feed_ends : {p : Anchor → Bool} → Ends p skip_line_feed
+pub skip_line_feed_ends : {p : Anchor → Bool} → Ends p skip_line_feed
 skip_line_feed_ends = record { whole = λ s h. h; keeps = λ a k s h l. l; same = λ s h. refl }
 
 pub insert_tag_ends : {p : Anchor → Bool} (tag : StartTagValue) → Ends p (insert_tag tag)
@@ -185,7 +166,7 @@ add_to_this_body_ends None tag = ends_still
 add_to_this_body_ends (Some body) tag =
     ends_by_test is_in_template ends_still (then_ends no_frameset_ends (add_missing_ends body tag.attributes))
 
-add_to_body_ends : (tag : StartTagValue) → Ends is_firm (add_to_body tag)
+pub add_to_body_ends : (tag : StartTagValue) → Ends is_firm (add_to_body tag)
 add_to_body_ends tag = ends_by_state open_body (λ body. add_to_this_body_ends body tag)
 
 outermost_ends : Ends is_root (on_stack outermost)
@@ -201,20 +182,20 @@ replace_this_body_turns (Some body) tag =
     (then_ends (insert_tag_ends tag) (then_ends outermost_ends (detach_ends body))))
     (steady refl ends_still)
 
-replace_body_turns : (tag : StartTagValue) → Turns is_firm (replace_body tag)
+pub replace_body_turns : (tag : StartTagValue) → Turns is_firm (replace_body tag)
 replace_body_turns tag =
     record { turns = λ s c h. (replace_this_body_turns (open_body s) tag).turns s c h }
 
 -- ---- the body
 
-close_heading_ends : Ends is_firm (on_stack close_heading)
+pub close_heading_ends : Ends is_firm (on_stack close_heading)
 close_heading_ends =
     on_stack_ends close_heading close_heading_fewer
     (λ a k stack l. pop_where_has Headings a
     (λ e es h. spared Headings (three_spared Headings refl refl refl) e.name (firm_name a k e es h)) stack l)
 
 -- the form is neither the root nor a cell
-noted_element_ends : {p : Anchor → Bool} (tag : StartTagValue) → is_common_name tag.name ≡ true
+pub noted_element_ends : {p : Anchor → Bool} (tag : StartTagValue) → is_common_name tag.name ≡ true
     → Ends p (λ s. with_form (insert_tag tag s))
 noted_element_ends {p} tag c = record {
   whole = λ s h. whole_form
@@ -245,7 +226,7 @@ forgotten s h (Some n) e =
       grows = x.grows;
     }
 
-forget_ends : Ends is_firm (λ s. forget (formatting_element tags.A s) s)
+pub forget_ends : Ends is_firm (λ s. forget (formatting_element tags.A s) s)
 forget_ends = record {
   whole = λ s h. (forgotten s h (formatting_element tags.A s) refl).whole;
   keeps = λ a k s h l. (forgotten s h (formatting_element tags.A s) refl).keeps a k l;
@@ -261,7 +242,7 @@ select_fact InRow stack h = h
 select_fact InCell stack h = h
 select_fact _ stack h = tt
 
-start_select_turns : (tag : StartTagValue) → tag.name ≡ known tags.Select → Turns is_firm (start_select tag)
+pub start_select_turns : (tag : StartTagValue) → tag.name ≡ known tags.Select → Turns is_firm (start_select tag)
 start_select_turns tag e = record {
   turns = λ s c h.
       let x = (steady {p = is_firm} refl (then_ends (insert_tag_ends tag) reconstruct_ends)).turns s c h in
@@ -311,14 +292,14 @@ form_left : (s : StateValue) → Whole s
 form_left s h =
     close_form_left (record s { form = None }) s.form h.form_at (whole_form (no_form (kinds s.nodes)) h)
 
-noted_form_ends : Ends is_firm (λ s. close_form s.form (record s { form = None }))
+pub noted_form_ends : Ends is_firm (λ s. close_form s.form (record s { form = None }))
 noted_form_ends = record {
   whole = λ s h. (form_left s h).whole;
   keeps = λ a k s h l. (form_left s h).keeps a k l;
   same = λ s h. (form_left s h).same;
 }
 
-close_name_ends : (name : NameValue) → is_common_name name ≡ true → Ends is_firm (on_stack (close_name name))
+pub close_name_ends : (name : NameValue) → is_common_name name ≡ true → Ends is_firm (on_stack (close_name name))
 close_name_ends name p =
     on_stack_ends (close_name name) (close_name_fewer name) (λ a k stack l. close_name_has name p a k stack l)
 
@@ -334,7 +315,7 @@ run_in_body_ends s t =
 
 -- ---- before the body
 
-initial_left : {p : Anchor → Bool} → Turns p (λ s. record s { mode = BeforeHtml; quirks = true })
+pub initial_left : {p : Anchor → Bool} → Turns p (λ s. record s { mode = BeforeHtml; quirks = true })
 initial_left = record {
   turns = λ s c h. record {
     ready = record { whole = h.whole; modes = h.modes; root = h.root; fact = tt };
@@ -342,7 +323,7 @@ initial_left = record {
   };
 }
 
-doctype_turns : {p : Anchor → Bool} (quirks : Bool)
+pub doctype_turns : {p : Anchor → Bool} (quirks : Bool)
     → Turns p (λ s. record (insert_doctype s) { mode = BeforeHtml; quirks = quirks })
 doctype_turns quirks = record {
   turns = λ s c h. record {
@@ -394,8 +375,8 @@ head_closed s e h = record {
   content = refl;
 }
 
-noscript_opened : (tag : StartTagValue) → tag.name ≡ known tags.NoScript → (s : StateValue) → s.mode ≡ InHead
-    → Ready s
+pub noscript_opened : (tag : StartTagValue) → tag.name ≡ known tags.NoScript
+    → (s : StateValue) → s.mode ≡ InHead → Ready s
     → Turned s (with_mode InHeadNoscript (insert_tag tag s))
 noscript_opened tag n s e h = record {
   ready = record {
@@ -502,7 +483,7 @@ late_void tag first s k e h =
     (((insert_void_tag_ends {p = is_any} tag).whole (open_again first (known tags.Head) s)
     (again_ready first s h).whole).head_at first k) e h
 
-late_left : (name : NameValue) (tag : StartTagValue) (first : ℕ) (s : StateValue) → s.head ≡ Some first
+pub late_left : (name : NameValue) (tag : StartTagValue) (first : ℕ) (s : StateValue) → s.head ≡ Some first
     → anchor_of s.mode ≡ None → Ready s
     → Tagged s (on_stack (without first) (insert_head_element name tag (open_again first (known tags.Head) s)))
 late_left (known tags.Title) tag first s k e h = late_raw raw.Title tag first s k e h
@@ -527,26 +508,27 @@ end_in_template_answers = record { answers = λ s c h. either s h (is_open (Only
 
 -- ---- select
 
-option_and_group_ends : Ends is_any (on_stack (λ stack. close_group (close_option stack)))
+pub option_and_group_ends : Ends is_any (on_stack (λ stack. close_group (close_option stack)))
 option_and_group_ends =
     on_stack_ends (λ stack. close_group (close_option stack)) option_and_group_fewer
     (λ a k stack l. close_group_has a (close_option stack) (close_option_has a stack l))
 
-group_ends : Ends is_any end_group
+pub group_ends : Ends is_any end_group
 group_ends =
     on_stack_ends (λ stack. close_group (close_option_in_group stack)) group_fewer
     (λ a k stack l. close_group_has a (close_option_in_group stack) (option_in_group_has a stack l))
 
-option_ends : Ends is_any (on_stack close_option)
+pub option_ends : Ends is_any (on_stack close_option)
 option_ends = on_stack_ends close_option close_option_fewer (λ a k stack l. close_option_has a stack l)
 
-end_select_turns : Turns is_any end_select
+pub end_select_turns : Turns is_any end_select
 end_select_turns =
     turns_where (λ s. has_select s)
     (λ s t h. popped_reset (Only tags.Select) s h
     (scope_root (Only tags.Select) SelectScope refl refl s.stack h.root t))
 
-select_name : (e : OpenValue) (es : List OpenValue) → At at_select e es → is_of (Only tags.Select) e.name ≡ true
+pub select_name : (e : OpenValue) (es : List OpenValue) → At at_select e es
+    → is_of (Only tags.Select) e.name ≡ true
 select_name e es h = h
 
 -- ---- after the body, frames and templates
@@ -563,7 +545,7 @@ closed_frameset =
     turns_by_test (λ s. current_is (Only tags.FrameSet) s.stack) (steady refl ends_still)
     (mode_turns {p = is_root} AfterFrameset refl refl ends_still)
 
-second_turns : Turns is_root end_frameset
+pub second_turns : Turns is_root end_frameset
 second_turns = record { turns = λ s c h. either s c h (has_second s.stack) refl }
   where
     either : (s : StateValue) → Covers is_root (anchor_of s.mode) → Ready s → (t : Bool) → has_second s.stack
@@ -580,7 +562,7 @@ second_turns = record { turns = λ s c h. either s c h (has_second s.stack) refl
         record { ready = x.ready; content = x.content }
     either s c h false e = record { ready = h; content = refl }
 
-template_mode_turns : (mode : InsertionMode) → anchor_of mode ≡ None → Turns is_any (with_template_mode mode)
+pub template_mode_turns : (mode : InsertionMode) → anchor_of mode ≡ None → Turns is_any (with_template_mode mode)
 template_mode_turns mode e = record {
   turns = λ s c h. record {
     ready = record {
@@ -602,13 +584,13 @@ fostered_ends h = record {
   same = λ s w. h.same (record s { foster_parenting = true }) w;
 }
 
-cleared : (set : NameSet) → has set tags.Html ≡ true → Ends is_root (on_stack (clear_to set))
+pub cleared : (set : NameSet) → has set tags.Html ≡ true → Ends is_root (on_stack (clear_to set))
 cleared set e =
     on_stack_ends (clear_to set) (clear_to_fewer set)
     (λ a k stack l. only_root stack (clear_to set stack) (clear_to_root set e stack) a k l)
 
 -- a part of the table is closed, and the list of active formatting elements cleared
-part_closed : (set : NameSet) (mode : InsertionMode) → anchor_of mode ≡ None → (s : StateValue) → Ready s
+pub part_closed : (set : NameSet) (mode : InsertionMode) → anchor_of mode ≡ None → (s : StateValue) → Ready s
     → Has at_root (pop_until set s.stack)
     → Turned s (with_mode mode (clear_to_marker (on_stack (pop_until set) s)))
 part_closed set mode e s h r = record {
@@ -637,13 +619,13 @@ pop_closed mode e s h es f r = record {
   content = refl;
 }
 
-end_table_turns : Turns is_root end_table
+pub end_table_turns : Turns is_root end_table
 end_table_turns =
     turns_where (λ s. has_table s)
     (λ s t h. popped_reset (Only tags.Table) s h (scope_root (Only tags.Table) TableScope refl refl s.stack h.root t))
 
 -- a form that is closed at once
-empty_form_ends : {p : Anchor → Bool} (tag : StartTagValue) → is_common_name tag.name ≡ true
+pub empty_form_ends : {p : Anchor → Bool} (tag : StartTagValue) → is_common_name tag.name ≡ true
     → Ends p (with_empty_form tag)
 empty_form_ends tag c = record {
   whole = λ s h. whole_form
@@ -657,7 +639,7 @@ empty_form_ends tag c = record {
     same_node : (m n : ℕ) → Some m ≡ Some n → m ≡ n
     same_node m n e = cc
 
-end_caption_turns : Turns is_root end_caption
+pub end_caption_turns : Turns is_root end_caption
 end_caption_turns =
     turns_where (λ s. has_caption s)
     (λ s t h. part_closed (Only tags.Caption) InTable refl s h
@@ -670,14 +652,15 @@ end_columns_turns =
     (popped_has (Only tags.ColGroup) at_root (root_apart (Only tags.ColGroup) refl) s.stack h.root t))
 
 -- a set of one of the context's names
-one_of_names : (tag : TagName) (set : NameSet) → has set tag ≡ true → (name : ElementNameValue)
+pub one_of_names : (tag : TagName) (set : NameSet) → has set tag ≡ true → (name : ElementNameValue)
     → is_of (Only tag) name ≡ true → is_of set name ≡ true
 one_of_names tag set e (html (known u)) k = ap (has set) (sym (same_tag-true tag u k)) ∙ e
 one_of_names tag set e (html (other s)) k = absurd (true≢false (sym k))
 one_of_names tag set e (svg s) k = absurd (true≢false (sym k))
 one_of_names tag set e (math s) k = absurd (true≢false (sym k))
 
-section_of : (name : ElementNameValue) → is_of TableSections name ≡ true → is_of TableBodyContext name ≡ true
+pub section_of : (name : ElementNameValue) → is_of TableSections name ≡ true
+    → is_of TableBodyContext name ≡ true
 section_of (html (known tags.TBody)) k = refl
 section_of (html (known tags.TFoot)) k = refl
 section_of (html (known tags.THead)) k = refl
@@ -686,7 +669,7 @@ section_of (html (other s)) k = absurd (true≢false (sym k))
 section_of (svg s) k = absurd (true≢false (sym k))
 section_of (math s) k = absurd (true≢false (sym k))
 
-end_section_turns : (set : NameSet) → SparesRoot set
+pub end_section_turns : (set : NameSet) → SparesRoot set
     → ((name : ElementNameValue) → is_of set name ≡ true → is_of TableBodyContext name ≡ true)
     → Turns is_root (end_section set)
 end_section_turns set f sub =
@@ -695,7 +678,7 @@ end_section_turns set f sub =
     (fewer_then (pop_fewer (clear_to TableBodyContext s.stack)) (clear_to_fewer TableBodyContext s.stack))
     (cleared_popped set TableBodyContext TableScope f refl sub s.stack h.root t))
 
-end_row_turns : Turns is_root end_row
+pub end_row_turns : Turns is_root end_row
 end_row_turns =
     turns_where (λ s. has_row s)
     (λ s t h. pop_closed InTableBody refl s h (pop (clear_to TableRowContext s.stack))
@@ -704,368 +687,10 @@ end_row_turns =
     (one_of_names tags.Tr TableRowContext refl) s.stack
     h.root t))
 
-end_cell_turns : (tag : TagName) → SparesRoot (Only tag) → Turns is_firm (end_cell tag)
+pub end_cell_turns : (tag : TagName) → SparesRoot (Only tag) → Turns is_firm (end_cell tag)
 end_cell_turns tag f =
     turns_where (λ s. is_in_scope (Only tag) TableScope s.stack)
     (λ s t h. part_closed (Only tag) InRow refl s h (scope_root (Only tag) TableScope f refl s.stack h.root t))
 
-cell_is_open : (e : OpenValue) (es : List OpenValue) → At at_cell e es → is_of Cells e.name ≡ true
+pub cell_is_open : (e : OpenValue) (es : List OpenValue) → At at_cell e es → is_of Cells e.name ≡ true
 cell_is_open e es h = h
-
--- ---- steps of the rules of one mode
-
--- a step after which a state is ready, and the mode is the same
-pub record Steady (mode : InsertionMode) (f : StateValue → StateValue) : Type 0 where
-  pub turns : (s : StateValue) → s.mode ≡ mode → Ready s → Turned s (f s)
-  pub stays : (s : StateValue) → s.mode ≡ mode → Ready s → (f s).mode ≡ mode
-
--- or may be another
-pub record Onward (mode : InsertionMode) (f : StateValue → StateValue) : Type 0 where
-  pub turns : (s : StateValue) → s.mode ≡ mode → Ready s → Turned s (f s)
-
--- and an element of only text may be open
-pub record Tags (mode : InsertionMode) (f : StateValue → StateValue) : Type 0 where
-  pub leaves : (s : StateValue) → s.mode ≡ mode → Ready s → Tagged s (f s)
-
-steady_in : {p : Anchor → Bool} {f : StateValue → StateValue} (mode : InsertionMode) → Covers p (anchor_of mode)
-    → p at_root ≡ true → Ends p f → Steady mode f
-steady_in {p} {f} mode c r h = record {
-  turns = λ s e g. (steady r h).turns s (covers_at p e c) g;
-  stays = λ s e g. ap (λ (m : Manner). m.mode) (h.same s g.whole) ∙ e;
-}
-
-onward_in : {p : Anchor → Bool} {f : StateValue → StateValue} (mode : InsertionMode) → Covers p (anchor_of mode)
-    → Turns p f → Onward mode f
-onward_in {p} mode c h = record { turns = λ s e g. h.turns s (covers_at p e c) g }
-
-tags_in : {f : StateValue → StateValue} (mode : InsertionMode) → TagEnds is_any f → Tags mode f
-tags_in mode h = record { leaves = λ s e g. h.leaves s (covers_any (anchor_of s.mode)) g }
-
-any_step : {f : StateValue → StateValue} (mode : InsertionMode) → Ends is_any f → Steady mode f
-any_step mode h = steady_in mode (covers_any (anchor_of mode)) refl h
-
-any_turn : {f : StateValue → StateValue} (mode : InsertionMode) → Turns is_any f → Onward mode f
-any_turn mode h = onward_in mode (covers_any (anchor_of mode)) h
-
-pub calm_tag : {mode : InsertionMode} {f : StateValue → StateValue} → Onward mode f → Tags mode f
-calm_tag f = record {
-  leaves = λ s e h. let x = f.turns s e h in
-      record { ready = x.ready; rest = λ k. inl (ap is_text_mode x.content ∙ k) };
-}
-
--- ---- which acts leave open what must stay so in a mode
-
-abbrev covers : (Anchor → Bool) → Option Anchor → Bool
-covers p None = true
-covers p (Some a) = p a
-
-covers_from : (p : Anchor → Bool) (a : Option Anchor) → covers p a ≡ true → Covers p a
-covers_from p None e = tt
-covers_from p (Some a) e = e
-
-abbrev is_free : Option Anchor → Bool
-is_free None = true
-is_free (Some a) = false
-
-free_from : (a : Option Anchor) → is_free a ≡ true → a ≡ None
-free_from None e = refl
-free_from (Some a) e = absurd (true≢false (sym e))
-
-firm_step : {f : StateValue → StateValue} (mode : InsertionMode) → covers is_firm (anchor_of mode) ≡ true
-    → Ends is_firm f → Steady mode f
-firm_step mode c h = steady_in mode (covers_from is_firm (anchor_of mode) c) refl h
-
-root_step : {f : StateValue → StateValue} (mode : InsertionMode) → covers is_root (anchor_of mode) ≡ true
-    → Ends is_root f → Steady mode f
-root_step mode c h = steady_in mode (covers_from is_root (anchor_of mode) c) refl h
-
-firm_turn : {f : StateValue → StateValue} (mode : InsertionMode) → covers is_firm (anchor_of mode) ≡ true
-    → Turns is_firm f → Onward mode f
-firm_turn mode c h = onward_in mode (covers_from is_firm (anchor_of mode) c) h
-
-root_turn : {f : StateValue → StateValue} (mode : InsertionMode) → covers is_root (anchor_of mode) ≡ true
-    → Turns is_root f → Onward mode f
-root_turn mode c h = onward_in mode (covers_from is_root (anchor_of mode) c) h
-
--- neither the root nor a cell
-abbrev spares_common : NameSet → Bool
-spares_common set = not (has set tags.Html) && (not (has set tags.Td) && not (has set tags.Th))
-
-common_spared : (set : NameSet) → spares_common set ≡ true → Spares set
-common_spared set e =
-    let a = and_parts _ _ e in
-    let b = and_parts _ _ a.1 in
-    three_spared set (is_off (has set tags.Html) a.0) (is_off (has set tags.Td) b.0) (is_off (has set tags.Th) b.1)
-
-abbrev cut_ends : Option Anchor → Cut → Bool
-cut_ends a (in_scope set scope) = covers is_firm a && (spares_common set && is_wide scope)
-cut_ends a (each_of set) = covers is_firm a && spares_common set
-cut_ends a (back_to set) = covers is_root a && has set tags.Html
-cut_ends a (one_of set) = false
-cut_ends a (named name) =
-    (covers is_firm a && is_common_name name) || (covers is_root a && not (same_name (known tags.Html) name))
-cut_ends a heading = covers is_firm a
-cut_ends a what = true
-
-cut_ended : (mode : InsertionMode) (what : Cut) → cut_ends (anchor_of mode) what ≡ true
-    → Steady mode (on_stack (left_open what))
-cut_ended mode (in_scope set scope) e =
-    let a = and_parts _ _ e in
-    let b = and_parts _ _ a.1 in
-    firm_step mode a.0 (on_stack_ends (close set scope) (close_fewer set scope)
-    (λ x k stack l. close_has set scope (common_spared set b.0) b.1 x k stack l))
-cut_ended mode (each_of set) e =
-    let a = and_parts _ _ e in
-    firm_step mode a.0 (on_stack_ends (pop_while set) (pop_while_fewer set)
-    (λ x k stack l. pop_while_has set (common_spared set a.1) x k stack l))
-cut_ended mode (back_to set) e = let a = and_parts _ _ e in root_step mode a.0 (cleared set a.1)
-cut_ended mode (one_of set) e = absurd (true≢false (sym e))
-cut_ended mode (named name) e =
-    test (covers is_firm (anchor_of mode) && is_common_name name)
-    (λ t. let a = and_parts _ _ t in firm_step mode a.0 (close_name_ends name a.1))
-    (λ t. let a = and_parts _ _ (rw t at e) in
-    root_step mode a.0 (on_stack_ends (close_name name) (close_name_fewer name)
-    (λ x k stack l. only_root stack (close_name name stack)
-    (closed_root name (is_off (same_name (known tags.Html) name) a.1) stack) x k l)))
-cut_ended mode heading e = firm_step mode e close_heading_ends
-cut_ended mode option e = any_step mode option_ends
-cut_ended mode option_and_group e = any_step mode option_and_group_ends
-cut_ended mode group e = any_step mode group_ends
-
--- acts for a tag of that name that leave the mode as it is
-abbrev pub ended_act : InsertionMode → NameValue → Act → Bool
-ended_act mode name (put given) = true
-ended_act mode name (void given) = true
-ended_act mode name (root given) = true
-ended_act mode name (foreign space) = true
-ended_act mode name foreign_alike = true
-ended_act mode name formatting = is_common_name name
-ended_act mode name noted_element = is_common_name name
-ended_act mode name empty_form = is_common_name name
-ended_act mode name (comment text) = true
-ended_act mode name (comment_in_root text) = true
-ended_act mode name (comment_in_document text) = true
-ended_act mode name (cut what) = cut_ends (anchor_of mode) what
-ended_act mode name (agency tag) = covers is_firm (anchor_of mode) && is_common_tag tag
-ended_act mode name forget_anchor = covers is_firm (anchor_of mode)
-ended_act mode name noted_form = covers is_firm (anchor_of mode)
-ended_act mode name root_attributes = true
-ended_act mode name body_attributes = covers is_firm (anchor_of mode)
-ended_act mode name marked = true
-ended_act mode name to_marker = true
-ended_act mode name reconstructed = true
-ended_act mode name frames_refused = true
-ended_act mode name line_feed_skipped = true
-ended_act mode name fostering = true
-ended_act mode name a = false
-
--- elements that a mode needs open
-abbrev is_head_name : NameValue → Bool
-is_head_name (known tags.Head) = true
-is_head_name _ = false
-
-head_named : (name : NameValue) → is_head_name name ≡ true → name ≡ known tags.Head
-head_named (known tags.Head) e = refl
-head_named _ e = absurd (true≢false (sym e))
-
-abbrev is_noscript_name : NameValue → Bool
-is_noscript_name (known tags.NoScript) = true
-is_noscript_name _ = false
-
-noscript_named : (name : NameValue) → is_noscript_name name ≡ true → name ≡ known tags.NoScript
-noscript_named (known tags.NoScript) e = refl
-noscript_named _ e = absurd (true≢false (sym e))
-
-abbrev is_select_name : NameValue → Bool
-is_select_name (known tags.Select) = true
-is_select_name _ = false
-
-select_named : (name : NameValue) → is_select_name name ≡ true → name ≡ known tags.Select
-select_named (known tags.Select) e = refl
-select_named _ e = absurd (true≢false (sym e))
-
-abbrev head_given : NameValue → Given → Bool
-head_given name own = is_head_name name
-head_given name (implied tag) = is_head_name (known tag)
-head_given name (renamed tag) = is_head_name (known tag)
-
-given_head : (given : Given) (tag : StartTagValue) → head_given tag.name given ≡ true
-    → given_name given tag ≡ known tags.Head
-given_head own tag e = head_named tag.name e
-given_head (implied name) tag e = head_named (known name) e
-given_head (renamed name) tag e = head_named (known name) e
-
-abbrev is_section : NameSet → Bool
-is_section (Only tags.TBody) = true
-is_section (Only tags.TFoot) = true
-is_section (Only tags.THead) = true
-is_section TableSections = true
-is_section _ = false
-
-section_turns : (set : NameSet) → is_section set ≡ true → Turns is_root (end_section set)
-section_turns (Only tags.TBody) e =
-    end_section_turns (Only tags.TBody) refl (one_of_names tags.TBody TableBodyContext refl)
-section_turns (Only tags.TFoot) e =
-    end_section_turns (Only tags.TFoot) refl (one_of_names tags.TFoot TableBodyContext refl)
-section_turns (Only tags.THead) e =
-    end_section_turns (Only tags.THead) refl (one_of_names tags.THead TableBodyContext refl)
-section_turns TableSections e = end_section_turns TableSections refl section_of
-section_turns _ e = absurd (true≢false (sym e))
-
--- what a mode itself asks for
-abbrev by_anchor : InsertionMode → NameValue → Act → Bool
-by_anchor InHead name head_left = true
-by_anchor InHead name noscript_put = is_noscript_name name
-by_anchor InHeadNoscript name noscript_left = true
-by_anchor InCell name (cell_left Cells) = true
-by_anchor InSelectInTable name select_left = true
-by_anchor mode name a = false
-
--- acts that lead to another mode
-abbrev pub ended_turn : InsertionMode → NameValue → Act → Bool
-ended_turn mode name (to_mode next) = is_free (anchor_of next)
-ended_turn mode name (to_content next) = is_free (anchor_of next)
-ended_turn mode name to_quirks = true
-ended_turn mode name (started quirks) = true
-ended_turn mode name (head given) = head_given name given
-ended_turn mode name head_left = by_anchor mode name head_left
-ended_turn mode name noscript_put = by_anchor mode name noscript_put
-ended_turn mode name noscript_left = by_anchor mode name noscript_left
-ended_turn mode name (cell_left set) = by_anchor mode name (cell_left set)
-ended_turn mode name select_left = by_anchor mode name select_left
-ended_turn mode name cell_put = is_of Cells (html name)
-ended_turn mode name select = covers is_firm (anchor_of mode) && is_select_name name
-ended_turn mode name body_replaced = covers is_firm (anchor_of mode)
-ended_turn mode name table_closed = covers is_root (anchor_of mode)
-ended_turn mode name caption_closed = covers is_root (anchor_of mode)
-ended_turn mode name columns_closed = covers is_root (anchor_of mode)
-ended_turn mode name row_closed = covers is_root (anchor_of mode)
-ended_turn mode name (section_closed set) = covers is_root (anchor_of mode) && is_section set
-ended_turn mode name (cell_closed tag) = covers is_firm (anchor_of mode) && not (has (Only tag) tags.Html)
-ended_turn mode name select_closed = true
-ended_turn mode name template_closed = true
-ended_turn mode name frameset_closed = covers is_root (anchor_of mode)
-ended_turn mode name a = ended_act mode name a
-
--- and acts that open an element of only text
-abbrev pub ended_last : InsertionMode → NameValue → Act → Bool
-ended_last mode name (raw_text raw) = true
-ended_last mode name of_head = true
-ended_last mode name late_of_head = is_free (anchor_of mode)
-ended_last mode name a = ended_turn mode name a
-
--- ---- acts
-
-pub alike_ends : (tag : StartTagValue) (space : Option Namespace) → Ends is_any (insert_alike space tag)
-alike_ends tag None = ends_still
-alike_ends tag (Some space) = insert_foreign_tag_ends space tag
-
-pub act_ends : (mode : InsertionMode) (tag : StartTagValue) (a : Act) → ended_act mode tag.name a ≡ true
-    → Steady mode (act_on a tag)
-act_ends mode tag (put given) e =
-    any_step mode (insert_element_ends (given_name given tag) (given_attributes given tag))
-act_ends mode tag (void given) e =
-    any_step mode (insert_void_ends (given_name given tag) (given_attributes given tag))
-act_ends mode tag (root given) e =
-    any_step mode (insert_root_ends (given_name given tag) (given_attributes given tag))
-act_ends mode tag (foreign space) e = any_step mode (insert_foreign_tag_ends space tag)
-act_ends mode tag foreign_alike e =
-    any_step mode (ends_by_state (λ s. namespace_of (current s.stack).name) (alike_ends tag))
-act_ends mode tag formatting e = any_step mode (insert_formatting_ends tag.name tag.attributes e)
-act_ends mode tag noted_element e = any_step mode (noted_element_ends tag e)
-act_ends mode tag empty_form e = any_step mode (empty_form_ends tag e)
-act_ends mode tag (comment text) e = any_step mode (insert_comment_ends text)
-act_ends mode tag (comment_in_root text) e =
-    any_step mode (ends_by_state (λ s. first_open s.stack) (comment_in_ends text))
-act_ends mode tag (comment_in_document text) e = any_step mode (insert_comment_in_ends 0 text)
-act_ends mode tag (cut what) e = cut_ended mode what e
-act_ends mode tag (agency name) e =
-    let a = and_parts _ _ e in firm_step mode a.0 (adoption_agency_ends name a.1)
-act_ends mode tag forget_anchor e = firm_step mode e forget_ends
-act_ends mode tag noted_form e = firm_step mode e noted_form_ends
-act_ends mode tag root_attributes e = any_step mode (add_to_root_ends tag)
-act_ends mode tag body_attributes e = firm_step mode e (add_to_body_ends tag)
-act_ends mode tag marked e = any_step mode push_marker_ends
-act_ends mode tag to_marker e = any_step mode clear_to_marker_ends
-act_ends mode tag reconstructed e = any_step mode reconstruct_ends
-act_ends mode tag frames_refused e = any_step mode no_frameset_ends
-act_ends mode tag line_feed_skipped e = any_step mode skip_line_feed_ends
-act_ends mode tag fostering e =
-    any_step mode (record { whole = λ s h. h; keeps = λ a k s h l. l; same = λ s h. refl })
-act_ends mode tag a e = absurd (true≢false (sym e))
-
-cell_put_turned : (tag : StartTagValue) → is_of Cells (html tag.name) ≡ true → (s : StateValue) → Ready s
-    → Turned s (push_marker (with_mode InCell (insert_tag tag s)))
-cell_put_turned tag e s h = record {
-  ready = record {
-    whole = (push_marker_ends {p = is_any}).whole (insert_tag tag s)
-        ((insert_tag_ends {p = is_any} tag).whole s h.whole);
-    modes = h.modes;
-    root = inr h.root;
-    fact = inl e;
-  };
-  content = refl;
-}
-
--- what a mode keeps open
-anchored : (mode : InsertionMode) (tag : StartTagValue) (a : Act) → by_anchor mode tag.name a ≡ true
-    → Onward mode (act_on a tag)
-anchored InHead tag head_left e = record { turns = λ s m h. head_closed s m h }
-anchored InHead tag noscript_put e =
-    record { turns = λ s m h. noscript_opened tag (noscript_named tag.name e) s m h }
-anchored InHeadNoscript tag noscript_left e = record { turns = λ s m h. noscript_closed s m h }
-anchored InCell tag (cell_left Cells) e = record {
-  turns = λ s m h. part_closed Cells InRow refl s h (open_root Cells refl s.stack h.root
-      (has_open Cells at_cell cell_is_open s.stack (fact_at InCell m h)));
-}
-anchored InSelectInTable tag select_left e = record {
-  turns = λ s m h. popped_reset (Only tags.Select) s h (open_root (Only tags.Select) refl s.stack h.root
-      (has_open (Only tags.Select) at_select select_name s.stack (fact_at InSelectInTable m h)));
-}
-anchored mode tag a e = absurd (true≢false (sym e))
-
-pub turn_ends : (mode : InsertionMode) (tag : StartTagValue) (a : Act) → ended_turn mode tag.name a ≡ true
-    → Onward mode (act_on a tag)
-turn_ends mode tag (to_mode next) e =
-    any_turn mode (mode_turns {p = is_any} next (free_from (anchor_of next) e) refl ends_still)
-turn_ends mode tag (to_content next) e =
-    any_turn mode (template_mode_turns next (free_from (anchor_of next) e))
-turn_ends mode tag to_quirks e = any_turn mode initial_left
-turn_ends mode tag (started quirks) e = any_turn mode (doctype_turns quirks)
-turn_ends mode tag (head given) e =
-    any_turn mode (with_head_turns (given_name given tag) (given_attributes given tag) (given_head given tag e))
-turn_ends mode tag head_left e = anchored mode tag head_left e
-turn_ends mode tag noscript_put e = anchored mode tag noscript_put e
-turn_ends mode tag noscript_left e = anchored mode tag noscript_left e
-turn_ends mode tag (cell_left set) e = anchored mode tag (cell_left set) e
-turn_ends mode tag select_left e = anchored mode tag select_left e
-turn_ends mode tag cell_put e = record { turns = λ s m h. cell_put_turned tag e s h }
-turn_ends mode tag select e =
-    let a = and_parts _ _ e in firm_turn mode a.0 (start_select_turns tag (select_named tag.name a.1))
-turn_ends mode tag body_replaced e = firm_turn mode e (replace_body_turns tag)
-turn_ends mode tag table_closed e = root_turn mode e end_table_turns
-turn_ends mode tag caption_closed e = root_turn mode e end_caption_turns
-turn_ends mode tag columns_closed e = root_turn mode e end_columns_turns
-turn_ends mode tag row_closed e = root_turn mode e end_row_turns
-turn_ends mode tag (section_closed set) e =
-    let a = and_parts _ _ e in root_turn mode a.0 (section_turns set a.1)
-turn_ends mode tag (cell_closed name) e =
-    let a = and_parts _ _ e in firm_turn mode a.0 (end_cell_turns name (is_off (has (Only name) tags.Html) a.1))
-turn_ends mode tag select_closed e = any_turn mode end_select_turns
-turn_ends mode tag template_closed e = any_turn mode end_template_turns
-turn_ends mode tag frameset_closed e = root_turn mode e second_turns
-turn_ends mode tag a e = record { turns = λ s m h. (act_ends mode tag a e).turns s m h }
-
-pub last_ends : (mode : InsertionMode) (tag : StartTagValue) (a : Act) → ended_last mode tag.name a ≡ true
-    → Tags mode (act_on a tag)
-last_ends mode tag (raw_text raw) e = tags_in mode (raw_tag_ends raw tag refl ends_still)
-last_ends mode tag of_head e = tags_in mode (insert_head_element_ends tag.name tag)
-last_ends mode tag late_of_head e = record { leaves = λ s m h. either s m h s.head refl }
-  where
-    either : (s : StateValue) → s.mode ≡ mode → Ready s → (first : Option ℕ) → s.head ≡ first
-        → Tagged s (insert_in_head first tag s)
-    either s m h None k =
-        (insert_head_element_ends tag.name tag).leaves s (covers_any (anchor_of s.mode)) h
-    either s m h (Some n) k =
-        late_left tag.name tag n s k (ap anchor_of m ∙ free_from (anchor_of mode) e) h
-last_ends mode tag a e = calm_tag (turn_ends mode tag a e)

@@ -8,9 +8,9 @@ use Rattle.htmd_html5.specs.InTable.{fostered}
 use Rattle.htmd_html5.specs.Modes.{by_mode_rules, in_mode}
 use Rattle.htmd_html5.specs.Processing.{by_rules}
 use Rattle.htmd_html5.specs.Tokens.{StartTagValue, TokenValue, comment, doctype, end_of_file, end_tag, run, start_tag}
-use Rattle.htmd_html5_laws.proofs.EndedRules.{Onward, Steady, Tags, act_ends, alike_ends, calm_tag}
-use Rattle.htmd_html5_laws.proofs.EndedRules.{end_in_template_answers, ended_act, ended_last, ended_turn, last_ends}
-use Rattle.htmd_html5_laws.proofs.EndedRules.{turn_ends}
+use Rattle.htmd_html5_laws.proofs.EndedActs.{Onward, Steady, Tags, act_ends, alike_ends, calm_tag, ended_act}
+use Rattle.htmd_html5_laws.proofs.EndedActs.{ended_last, ended_turn, last_ends, turn_ends}
+use Rattle.htmd_html5_laws.proofs.EndedRules.{end_in_template_answers}
 use Rattle.htmd_html5_laws.proofs.EndedStacks.{Anchor, Has, HasEnd, at_root, foreign_end_has, is_any}
 use Rattle.htmd_html5_laws.proofs.EndedStacks.{leave_foreign_has}
 use Rattle.htmd_html5_laws.proofs.EndedStates.{Ends, ends_by_state, ends_still, insert_comment_ends, on_stack_ends}

@@ -45,6 +45,7 @@ pub mod EndedStates
 pub mod EndedAdoption
 pub mod EndedSteps
 pub mod EndedRules
+pub mod EndedActs
 pub mod EndedTokens
 pub mod EndedRuns
 pub mod EndedPages

@@ -484,10 +484,10 @@ fn known_in(names: &[TagName], text: &str) -> Option<TagName>
     None
 }
 
-/// The names of most tags.
+/// A name of one letter.
 #[tactic(auto, using(crate::proofs::NamesLemmas::spelled_so))]
 #[inline(always)]
-fn frequent(bytes: &[u8]) -> Option<TagName>
+fn name_of_one(bytes: &[u8]) -> Option<TagName>
     ensures { IfSome result (λ tag. spec.known_name bytes.now ≡ Some tag) }
 {
     match bytes {
@@ -495,20 +495,97 @@ fn frequent(bytes: &[u8]) -> Option<TagName>
         b"b" => Some(TagName::B),
         b"i" => Some(TagName::I),
         b"p" => Some(TagName::P),
+        b"s" => Some(TagName::S),
+        b"u" => Some(TagName::U),
+        _ => None,
+    }
+}
+
+/// A frequent name of two letters.
+#[tactic(auto, using(crate::proofs::NamesLemmas::spelled_so))]
+#[inline(always)]
+fn name_of_two(bytes: &[u8]) -> Option<TagName>
+    ensures { IfSome result (λ tag. spec.known_name bytes.now ≡ Some tag) }
+{
+    match bytes {
         b"br" => Some(TagName::Br),
         b"dd" => Some(TagName::Dd),
+        b"dl" => Some(TagName::Dl),
         b"dt" => Some(TagName::Dt),
         b"em" => Some(TagName::Em),
+        b"h1" => Some(TagName::H1),
         b"h2" => Some(TagName::H2),
         b"h3" => Some(TagName::H3),
+        b"h4" => Some(TagName::H4),
+        b"hr" => Some(TagName::Hr),
         b"li" => Some(TagName::Li),
+        b"ol" => Some(TagName::Ol),
         b"td" => Some(TagName::Td),
         b"th" => Some(TagName::Th),
         b"tr" => Some(TagName::Tr),
         b"ul" => Some(TagName::Ul),
+        _ => None,
+    }
+}
+
+/// A frequent name of three letters.
+#[tactic(auto, using(crate::proofs::NamesLemmas::spelled_so))]
+#[inline(always)]
+fn name_of_three(bytes: &[u8]) -> Option<TagName>
+    ensures { IfSome result (λ tag. spec.known_name bytes.now ≡ Some tag) }
+{
+    match bytes {
         b"div" => Some(TagName::Div),
+        b"img" => Some(TagName::Img),
+        b"nav" => Some(TagName::Nav),
+        b"pre" => Some(TagName::Pre),
+        b"sub" => Some(TagName::Sub),
+        b"sup" => Some(TagName::Sup),
+        _ => None,
+    }
+}
+
+/// A frequent name of four letters.
+#[tactic(auto, using(crate::proofs::NamesLemmas::spelled_so))]
+#[inline(always)]
+fn name_of_four(bytes: &[u8]) -> Option<TagName>
+    ensures { IfSome result (λ tag. spec.known_name bytes.now ≡ Some tag) }
+{
+    match bytes {
         b"code" => Some(TagName::Code),
+        b"form" => Some(TagName::Form),
+        b"link" => Some(TagName::Link),
+        b"meta" => Some(TagName::Meta),
         b"span" => Some(TagName::Span),
+        _ => None,
+    }
+}
+
+/// A frequent name of six letters.
+#[tactic(auto, using(crate::proofs::NamesLemmas::spelled_so))]
+#[inline(always)]
+fn name_of_six(bytes: &[u8]) -> Option<TagName>
+    ensures { IfSome result (λ tag. spec.known_name bytes.now ≡ Some tag) }
+{
+    match bytes {
+        b"button" => Some(TagName::Button),
+        b"script" => Some(TagName::Script),
+        b"strong" => Some(TagName::Strong),
+        _ => None,
+    }
+}
+
+/// The names of most tags, by how long they are.
+#[inline(always)]
+fn frequent(bytes: &[u8]) -> Option<TagName>
+    ensures { IfSome result (λ tag. spec.known_name bytes.now ≡ Some tag) }
+{
+    match bytes.len() {
+        1 => name_of_one(bytes),
+        2 => name_of_two(bytes),
+        3 => name_of_three(bytes),
+        4 => name_of_four(bytes),
+        6 => name_of_six(bytes),
         _ => None,
     }
 }

@@ -17,7 +17,7 @@ use Rattle.htmd_html5_tokens.specs.Contents.{has_references, is_text, is_value, 
 use Rattle.htmd_html5_tokens.specs.Plain.{is_plain, is_small, HasPushed}
 use Rattle.htmd_html5_tokens.specs.declared.contents.Reading.{Reading}
 use Rattle.htmd_html5_tokens.specs.declared.contents.Reading.TheVariants.{Text, EscapableRawText, RawText, AttributeValue}
-use Rattle.htmd_html5_tokens.proofs.RunCuts.{cut_before_ascii}
+use Rattle.htmd_scanning.proofs.RunCuts.{cut_before_ascii}
 
 -- ---- pieces
 

@@ -1,5 +1,6 @@
 -- Lemmas of the proofs: where texts may be cut; names and references; raw texts.
 pub mod RunCuts
+pub mod PreprocessingLemmas
 pub mod BeginningsLemmas
 pub mod NamesLemmas
 pub mod ReferencesLemmas

@@ -20,7 +20,7 @@ use Rattle.htmd_html5_tokens.specs.NamedReferences.{NamedReference, named, first
 use Rattle.htmd_html5_tokens.specs.References.{Piece, character_numbered, is_no_character, windows_characters}
 use Rattle.htmd_html5_tokens.specs.References.{semicolon_len, numbered, old_reference, reference_by_name}
 use Rattle.htmd_html5_tokens.specs.ReferenceViews.{IsAsciiTest}
-use Rattle.htmd_html5_tokens.proofs.BeginningsLemmas.{begins_front, cut_after_beginning}
+use Rattle.htmd_scanning.proofs.BeginningsLemmas.{begins_front, cut_after_beginning}
 
 -- ---- the character of a number
 

@@ -1,14 +1,11 @@
 -- Where a text may be cut after a run of characters of one class.
-use Rattle.std.proofs.Common.{◌≡◌, ◌⊎◌, ℕ, ◌<◌, Bool, true, false, List, length}
-use Rattle.std.proofs.Common.{get_or, refl, arith, inl, inr}
+use Rattle.std.proofs.Common.{◌≡◌, ℕ, ◌<◌, true, false, List, length, arith, inl, inr}
 use Rattle.std.proofs.lemmas.Bool.Decides.{nat_tests}
 use Rattle.std.specs.Str.{IsUtf8, IsCharBoundary}
-use Rattle.std.specs.Prelude.{nat_lt}
 use Rattle.htmd_grammar.specs.CharacterClasses.{leading_run}
-use Rattle.htmd_grammar.specs.TagReading.{is_other}
 use Rattle.htmd_grammar.proofs.CharacterClassesLemmas.{white_is_ascii}
-use Rattle.htmd_grammar.proofs.CharacterClassesLemmas.{behind_leading_run}
-use Rattle.htmd_grammar.proofs.RunsLemmas.{run_within, behind_last}
+pub use Rattle.htmd_scanning.proofs.RunCuts.{cut_before_ascii}
+use Rattle.htmd_scanning.proofs.RunCuts.{IsUniform, outside_other, cut_at}
 use Rattle.htmd_html5_tokens.specs.Tags.{is_name_byte, is_attribute_name_byte, is_unquoted_byte, is_gap_byte}
 use Rattle.htmd_html5_tokens.specs.Doctypes.{is_black}
 use Rattle.htmd_html5_tokens.specs.Classes.{is_in, is_ascii}
@@ -22,10 +19,6 @@ use Rattle.htmd_html5_tokens.specs.declared.runs.Class.TheVariants.{
   Black,
   Other,
 }
-
--- all characters outside ASCII pass, or none does
-abbrev IsUniform : (ℕ → Bool) → Type 0
-IsUniform p = ((b : ℕ) → p b ≡ false → b < 128) ⊎ ((b : ℕ) → p b ≡ true → b < 128)
 
 outside_name : (b : ℕ) → is_name_byte b ≡ false → b < 128
 outside_name b e = grind (arith, nat_tests)
@@ -42,9 +35,6 @@ inside_gap b e = grind (arith, nat_tests)
 outside_black : (b : ℕ) → is_black b ≡ false → b < 128
 outside_black b e = grind (arith, nat_tests)
 
-outside_other : (other b : ℕ) → nat_lt other 128 ≡ true → is_other other b ≡ false → b < 128
-outside_other other b l e = grind (arith, nat_tests)
-
 uniform : (class : Class) → is_ascii class ≡ true → IsUniform (is_in class)
 uniform Name a = inl outside_name
 uniform AttributeName a = inl outside_attribute_name
@@ -53,19 +43,6 @@ uniform Gap a = inr inside_gap
 uniform White a = inr white_is_ascii
 uniform Black a = inl outside_black
 uniform (Other other) a = inl (λ b. outside_other other b a)
-
--- before an ASCII character that ends a run
-pub cut_before_ascii : (p : ℕ → Bool) (s : List ℕ) → ((b : ℕ) → p b ≡ false → b < 128)
-    → IsCharBoundary s (length (leading_run p s))
-cut_before_ascii p s h =
-    let w = run_within p s in (
-      omega arith,
-      λ l high. let a = h (get_or s (length (leading_run p s)) 0) (behind_leading_run p s l) in absurd (omega arith),
-    )
-
-cut_at : (p : ℕ → Bool) (s : List ℕ) → IsUtf8 s → IsUniform p → IsCharBoundary s (length (leading_run p s))
-cut_at p s u (inl h) = cut_before_ascii p s h
-cut_at p s u (inr h) = behind_last p s (length (leading_run p s)) u h refl
 
 pub run_cut : (class : Class) (s : List ℕ) → is_ascii class ≡ true → IsUtf8 s
     → IsCharBoundary s (length (leading_run (is_in class) s))

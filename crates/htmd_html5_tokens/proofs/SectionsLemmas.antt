@@ -6,7 +6,7 @@ use Rattle.htmd_grammar.proofs.Cases.{test}
 use Rattle.htmd_grammar.specs.CharacterClasses.{begins_with, is_empty}
 use Rattle.htmd_html5_tokens.specs.NextToken.{begins_section, after_empty_section, after_empty_piece, or_else}
 use Rattle.htmd_html5_tokens.specs.NextToken.{after_pieces}
-use Rattle.htmd_html5_tokens.proofs.BeginningsLemmas.{begins_front}
+use Rattle.htmd_scanning.proofs.BeginningsLemmas.{begins_front}
 
 module _ (foreign : Bool) where
   section_within : (s rest : List ℕ) → Some rest ≡ after_empty_section s → length rest ≤ length s

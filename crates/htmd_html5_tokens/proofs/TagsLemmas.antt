@@ -17,7 +17,8 @@ use Rattle.htmd_html5_tokens.specs.Tags.{is_attribute_name_byte, is_unquoted_byt
 use Rattle.htmd_html5_tokens.specs.Tags.{value_part, after_attribute_name, after_gap, next_part}
 use Rattle.htmd_html5_tokens.specs.Tags.{TagForm, unended, ended, with_attribute, form_after, form_within}
 use Rattle.htmd_html5_tokens.specs.TagViews.{with_attributes, attribute_part}
-use Rattle.htmd_html5_tokens.proofs.RunCuts.{cut_before_ascii, outside_attribute_name}
+use Rattle.htmd_scanning.proofs.RunCuts.{cut_before_ascii}
+use Rattle.htmd_html5_tokens.proofs.RunCuts.{outside_attribute_name}
 
 -- ---- the name of an attribute
 

@@ -5,8 +5,9 @@ ghost use Rattle.htmd_html5_tokens.specs.Comments as spec;
 ghost use Rattle.htmd_html5_tokens.specs.Readings.{read_of};
 
 use crate::contents::{Reading, decoded};
-use crate::runs::{Class, split_run, strip, strip_byte};
+use crate::runs::{Class, split_run};
 use crate::tokens::Token;
+use htmd_scanning::{strip, strip_byte};
 use std::alloc::{AllocError, Global};
 
 /// A comment that holds this.

@@ -11,7 +11,7 @@ ghost use Rattle.htmd_grammar.specs.Characters.{ampersand, less_than_sign};
 ghost use Rattle.htmd_html5_tokens.specs.Plain.{is_plain, is_small, HasPushed};
 
 use crate::references::{Characters, read_reference};
-use crate::scan::begins_with;
+use htmd_scanning::begins_with;
 use std::alloc::{AllocError, Global};
 use std::borrow::CowStr;
 

@@ -1,60 +1,11 @@
 //! Which attributes count: the first of those with one name.
 ghost use Rattle.std.specs.Prelude.{◌≡◌, [], IfOk};
-ghost use Rattle.htmd_grammar.specs.CharacterClasses as classes;
-ghost use Rattle.htmd_grammar.specs.Tags.{attribute_names};
 ghost use Rattle.htmd_grammar.specs.Attributes.{pairs_of};
 ghost use Rattle.htmd_html5_tokens.specs.Firsts.{are_first};
 
 use htmd_grammar::Attribute;
 use std::alloc::{AllocError, Global};
 use std::collections::BTreeSet;
-
-/// Up to this many names are compared pair by pair.
-const FEW: usize = 12;
-
-fn has_name(attributes: &[Attribute], name: &str) -> bool
-    ensures { result ≡ classes.is_among (attribute_names (pairs_of attributes.now)) name.now }
-{
-    for attribute in attributes {
-        if name == attribute.name.as_str() {
-            return true;
-        }
-    }
-    false
-}
-
-fn are_pairwise_distinct(attributes: &[Attribute]) -> bool
-    ensures { result ≡ classes.are_distinct (attribute_names (pairs_of attributes.now)) }
-{
-    let mut rest = attributes;
-    while let [first, others @ ..] = rest {
-        if has_name(others, first.name.as_str()) {
-            return false;
-        }
-        rest = others;
-    }
-    true
-}
-
-/// Whether no two attributes have the same name. `Err` means out of memory.
-pub(crate) fn are_distinct(alloc: Global, attributes: &[Attribute]) -> Result<bool, AllocError>
-    ensures { IfOk result (λ answer. answer
-        ≡ classes.are_distinct (attribute_names (pairs_of attributes.now))) }
-{
-    if attributes.len() <= FEW {
-        return Ok(are_pairwise_distinct(attributes));
-    }
-    let mut names = BTreeSet::new(alloc);
-    let mut rest = attributes;
-    while let [others @ .., last] = rest {
-        let is_new = names.insert(last.name.as_str())?;
-        if !is_new {
-            return Ok(false);
-        }
-        rest = others;
-    }
-    Ok(true)
-}
 
 /// For each attribute, whether it is the first with its name. `Err` means out of memory.
 pub(crate) fn first_marks(alloc: Global, attributes: &[Attribute]) -> Result<Vec<bool>, AllocError>

@@ -6,9 +6,9 @@ ghost use Rattle.htmd_html5_tokens.specs.Doctypes as spec;
 ghost use Rattle.htmd_html5_tokens.specs.Readings.{read_of, quoted_of};
 
 use crate::comments::split_at_sign;
-use crate::runs::{Class, split_run, strip_byte, strip_in_any_case};
-use crate::scan::begins_in_any_case;
+use crate::runs::{Class, split_run};
 use crate::tokens::Token;
+use htmd_scanning::{begins_in_any_case, strip_byte, strip_in_any_case};
 
 /// Public identifiers that mean quirks mode, in lower case.
 static QUIRKY_IDENTIFIERS: [&str; 3] = [

@@ -13,7 +13,6 @@ mod preprocessing;
 mod raw_texts;
 mod references;
 mod runs;
-mod scan;
 mod sections;
 mod tags;
 mod tokenizer;

@@ -8,9 +8,9 @@ ghost use Rattle.htmd_html5_tokens.specs.Readings.{read_of};
 use crate::comments::{read_bogus_comment, read_comment};
 use crate::contents::{Reading, decoded, split_plain};
 use crate::doctypes::read_doctype;
-use crate::runs::{strip, strip_byte, strip_in_any_case};
 use crate::tags::read_tag;
 use crate::tokens::Token;
+use htmd_scanning::{strip, strip_byte, strip_in_any_case};
 use std::alloc::{AllocError, Global};
 
 /// Whether markup begins here.

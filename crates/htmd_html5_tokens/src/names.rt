@@ -24,7 +24,7 @@ use crate::names::names_s_to_z::{
     SMALL_S, SMALL_T, SMALL_U, SMALL_V, SMALL_W, SMALL_X, SMALL_Y, SMALL_Z,
 };
 use crate::names::old_names::OLD_NAMES;
-use crate::scan::begins_with;
+use htmd_scanning::begins_with;
 
 /// The names that begin with this capital letter.
 #[tactic(auto, unfolding(crate::specs::NamedReferences::capital_names))]

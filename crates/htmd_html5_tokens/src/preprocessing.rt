@@ -1,12 +1,13 @@
 //! What is read of a page (HTML Standard, 13.2.3.5).
 ghost use Rattle.std.specs.Prelude.{◌≡◌, ◌++◌, ◌∷◌, IfOk, OnOk, string_bytes};
 ghost use Rattle.std.specs.Cow.{cow_str_bytes};
+ghost use Rattle.std.specs.List.{list_all};
 ghost use Rattle.htmd_grammar.specs.Characters.{carriage_return};
 ghost use Rattle.htmd_grammar.specs.Comments.{normalized};
 ghost use Rattle.htmd_grammar.specs.Documents.{behind_mark};
 ghost use Rattle.htmd_html5_tokens.specs.Preprocessing as spec;
 
-use crate::scan::first_is;
+use htmd_scanning::first_is;
 use std::alloc::{AllocError, Global};
 use std::borrow::CowStr;
 
@@ -47,14 +48,26 @@ fn with_line_feeds(alloc: Global, text: &str) -> Result<String, AllocError>
     Ok(lines)
 }
 
+/// Whether no byte is CR. All are looked at, so that a processor can compare many at once.
+fn has_no_returns(bytes: &[u8]) -> bool
+    ensures { result ≡ list_all spec.is_not_return bytes.now }
+{
+    let mut has_none = true;
+    for byte in bytes {
+        has_none &= *byte != b'\r';
+    }
+    has_none
+}
+
 /// The text without a byte order mark at its beginning, and with a line feed for each CR LF and each lone CR. It is
 /// borrowed if it has no CR. `Err` means out of memory.
+#[tactic(auto, using(crate::proofs::PreprocessingLemmas::without_returns))]
 pub fn preprocess(alloc: Global, text: &str) -> Result<CowStr<'_>, AllocError>
     ensures { IfOk result (λ t. cow_str_bytes t ≡ spec.preprocessed text.now) }
 {
     let marked = after_mark(text);
-    match marked.split_once('\r') {
-        None => Ok(CowStr::Borrowed(marked)),
-        Some(_) => Ok(CowStr::Owned(with_line_feeds(alloc, marked)?)),
+    if has_no_returns(marked.as_bytes()) {
+        return Ok(CowStr::Borrowed(marked));
     }
+    Ok(CowStr::Owned(with_line_feeds(alloc, marked)?))
 }

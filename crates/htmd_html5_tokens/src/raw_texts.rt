@@ -1,11 +1,11 @@
 //! Elements that hold only text, up to their own end tag.
-ghost use Rattle.std.specs.Prelude.{◌≡◌, ◌≤◌, [], length};
-ghost use Rattle.htmd_grammar.specs.RawContent as grammar;
+ghost use Rattle.std.specs.Prelude.{◌≡◌, ◌≤◌, length};
 ghost use Rattle.htmd_html5_tokens.specs.RawTexts as spec;
 ghost use Rattle.htmd_html5_tokens.specs.declared.raw_texts.Escape.TheVariants.{Unescaped};
 
 use crate::contents::Reading;
 use htmd_grammar::RawElement;
+use htmd_scanning::{begins_own_end, goes_on_with_name, raw_content_len};
 
 /// How a script is escaped: `<!--` escapes it, and in an escaped one `<script` escapes it doubly.
 #[derive(Clone, Copy)]
@@ -13,52 +13,6 @@ pub(crate) enum Escape {
     Unescaped,
     Escaped,
     DoublyEscaped,
-}
-
-/// Whether a tag's name ends here: white space, `/` or `>`.
-fn ends_name(bytes: &[u8]) -> bool
-    ensures { result ≡ grammar.goes_on_with_name [] bytes.now }
-{
-    match bytes {
-        [first, ..] => first.is_ascii_whitespace() || *first == b'/' || *first == b'>',
-        [] => false,
-    }
-}
-
-/// Whether the text begins with this name, in any ASCII case, and it ends there.
-fn goes_on_with_name(bytes: &[u8], name: &[u8]) -> bool
-    ensures { result ≡ grammar.goes_on_with_name name.now bytes.now }
-{
-    let mut rest = bytes;
-    for character in name {
-        match rest {
-            [first, after @ ..] if first.to_ascii_lowercase() == *character => rest = after,
-            _ => return false,
-        }
-    }
-    ends_name(rest)
-}
-
-/// Whether the end tag of an element with this name begins here.
-fn begins_own_end(bytes: &[u8], name: &[u8]) -> bool
-    ensures { result ≡ grammar.begins_own_end name.now bytes.now }
-{
-    match bytes {
-        [b'<', b'/', after @ ..] => goes_on_with_name(after, name),
-        _ => false,
-    }
-}
-
-/// How many bytes are before the end tag of an element with this name.
-fn own_text_len(bytes: &[u8], name: &[u8]) -> usize
-    ensures bound { result ≤ length bytes.now }
-    ensures value { result ≡ spec.own_text_len name.now bytes.now }
-{
-    let mut len = 0;
-    while len < bytes.len() && !begins_own_end(&bytes[len..], name) {
-        len += 1;
-    }
-    len
 }
 
 fn begins_script(bytes: &[u8]) -> bool
@@ -148,7 +102,7 @@ pub(crate) fn raw_text_len(bytes: &[u8], element: RawElement) -> usize
     match element {
         RawElement::Plaintext => bytes.len(),
         RawElement::Script => script_len(bytes),
-        _ => own_text_len(bytes, name_of(element).as_bytes()),
+        _ => raw_content_len(bytes, name_of(element).as_bytes()),
     }
 }
 

@@ -1,5 +1,5 @@
 //! Character references (HTML Standard, 13.2.5.72 to 13.2.5.80).
-ghost use Rattle.std.specs.Prelude.{◌≡◌, ◌≤◌, ◌<◌, ◌+◌, ℕ, Bool, length, drop, min, true};
+ghost use Rattle.std.specs.Prelude.{◌≡◌, ◌≤◌, ◌<◌, ◌+◌, ℕ, Bool, length, drop, true};
 ghost use Rattle.std.specs.Str.{IsCharBoundary};
 ghost use Rattle.htmd_grammar.specs.Characters.{number_sign};
 ghost use Rattle.htmd_grammar.specs.CharacterClasses.{leading_run, first_is};
@@ -9,10 +9,9 @@ ghost use Rattle.htmd_html5_tokens.specs.References as spec;
 ghost use Rattle.htmd_html5_tokens.specs.ReferenceViews.{piece_of, IsAsciiTest};
 
 use crate::names::{longest_old, named};
-use crate::scan::{alphanumeric_len, begins_in_any_case, digits_len, first_is, hexdigits_len};
-
-/// One more than the greatest number of a character.
-const LIMIT: u32 = 0x11_0000;
+use htmd_scanning::{
+    alphanumeric_len, begins_in_any_case, digits_len, first_is, hexdigits_len, number,
+};
 
 const REPLACEMENT_CHARACTER: char = '\u{fffd}';
 
@@ -43,30 +42,6 @@ const AMPERSAND_ITSELF: Reference = Reference {
     characters: Characters::One('&'),
     following: 0,
 };
-
-/// The value of a digit.
-fn digit_value(digit: u8) -> u8
-    ensures value { result ≡ grammar.digit_value digit }
-{
-    if digit.is_ascii_digit() {
-        digit - b'0'
-    } else {
-        digit.to_ascii_lowercase().saturating_sub(b'a') + 10
-    }
-}
-
-/// What digits mean in a base, at most the limit.
-fn number(digits: &[u8], base: u32) -> u32
-    requires small { base ≤ 16 }
-    requires base { 0 < base }
-    ensures { result ≡ min (grammar.number base 0 digits.now) LIMIT }
-{
-    let mut sum = 0;
-    for digit in digits {
-        sum = LIMIT.min(base * sum + u32::from(digit_value(*digit)));
-    }
-    sum
-}
 
 /// Whether windows-1252 says what this number stands for.
 fn is_windows(number: u32) -> bool

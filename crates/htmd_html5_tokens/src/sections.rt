@@ -4,8 +4,8 @@ ghost use Rattle.htmd_grammar.specs.CharacterClasses.{up_to, onward};
 ghost use Rattle.htmd_html5_tokens.specs.NextToken as spec;
 ghost use Rattle.htmd_html5_tokens.specs.Readings.{read_of};
 
-use crate::runs::strip;
 use crate::tokens::Token;
+use htmd_scanning::strip;
 use std::alloc::{AllocError, Global};
 
 /// Whether a section ends here.

@@ -8,11 +8,11 @@ ghost use Rattle.htmd_html5_tokens.specs.Tokens.{value_of};
 use crate::contents::decoded;
 use crate::markup::{begins_markup, read_markup, read_text};
 use crate::raw_texts::{raw_text_len, reading_of};
-use crate::runs::{strip, strip_byte};
 use crate::sections::{after_empty_pieces, read_section};
 use crate::tags::read_tag;
 use crate::tokens::Token;
 use htmd_grammar::{Content, RawElement};
+use htmd_scanning::{strip, strip_byte};
 use std::alloc::{AllocError, Global};
 use std::marker::Model;
 

@@ -110,5 +110,6 @@ outermost-paragraphs : outermost paragraphs [] page
     ≡ more (element (codes "p") [] (more (text (codes "a")) inner)) last
 outermost-paragraphs = refl
 
-outermost-inner : outermost (step Start (is_type (codes "p")) ∷ step Child (is_type (codes "p")) ∷ []) [] page ≡ inner
+outermost-inner : outermost (step Start (is_type (codes "p")) ∷ step Child (is_type (codes "p")) ∷ []) [] page
+    ≡ inner
 outermost-inner = refl

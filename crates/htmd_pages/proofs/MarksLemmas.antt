@@ -66,7 +66,8 @@ is_named_by-after : (before steps : List Step) (e : Element) (around : List Elem
     ≡ is_named_after before steps e around
 is_named_by-after before [] e around = refl
 is_named_by-after before (step ∷ steps) e around =
-    ap (λ b. (starts step.relation && matches before e around) || b) (is_named_by-after (step ∷ before) steps e around)
+    ap (λ b. (starts step.relation && matches before e around) || b)
+    (is_named_by-after (step ∷ before) steps e around)
 
 names_by-is : (steps : List Step) (around : List Element) (t : ValueTree)
     → names_by steps (marks steps around) t ≡ names steps around t
@@ -88,7 +89,8 @@ mutual
       kept_tree-is steps around tree (kept steps (marks steps around) trees) (without steps around trees)
       (kept-is steps around trees)
 
-  kept_tree-is : (steps : List Step) (around : List Element) (t : ValueTree) (g f : ValueForest) → g ≡ one_document f
+  kept_tree-is : (steps : List Step) (around : List Element) (t : ValueTree) (g f : ValueForest)
+      → g ≡ one_document f
       → joined (kept_tree steps (marks steps around) t) g
       ≡ one_document (cond (names steps around t) f (more (without_below steps around t) f))
   kept_tree-is steps around (document children) g f e = e

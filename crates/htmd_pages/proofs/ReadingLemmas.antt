@@ -13,8 +13,10 @@ read_all-err place [] e = refl
 read_all-err place (b ∷ s) e = read_all-err (suc place) s e
 
 -- the byte at a place, and then the rest
-pub read_all-next : (place : ℕ) (s end : List ℕ) (b : ℕ) (r : Reading) → place < length s → b ≡ get_or s place b
-    → read_all place (drop place s ++ end) (Ok r) ≡ read_all (place + 1) (drop (place + 1) s ++ end) (read place b r)
+pub read_all-next : (place : ℕ) (s end : List ℕ) (b : ℕ) (r : Reading) → place < length s
+    → b ≡ get_or s place b
+    → read_all place (drop place s ++ end) (Ok r)
+    ≡ read_all (place + 1) (drop (place + 1) s ++ end) (read place b r)
 read_all-next place s end b r l e =
     ap (λ x. read_all place (x ++ end) (Ok r)) (drop_more s place b l ∙ ap (λ y. y ∷ drop (place + 1) s) (sym e))
     ∙ ap (λ n. read_all n (drop (place + 1) s ++ end) (read place b r)) (sym (add-one place))
@@ -34,7 +36,8 @@ IsFault-read_all place n s r (Unsupported p) h =
 
 -- so far, the text was read as this
 abbrev pub IsRead : List ℕ → ℕ → Reading → Type 0
-IsRead s place r = read_all place (drop place s ++ comma ∷ []) (Ok r) ≡ read_all 0 (s ++ comma ∷ []) (Ok nothing_read)
+IsRead s place r = read_all place (drop place s ++ comma ∷ []) (Ok r)
+    ≡ read_all 0 (s ++ comma ∷ []) (Ok nothing_read)
 
 pub IsFault-at : (s : List ℕ) (place b : ℕ) (r : Reading) (e : SelectorError) → place < length s
     → b ≡ get_or s place b → IsRead s place r → IsFault (read place b r) e → IsFault (steps_of_text s) e
@@ -49,7 +52,8 @@ read_all-end s place r is so_far =
     let all : drop place s ≡ [] = drop_all place s (omega arith) in
     ap (λ n. read n comma r) (sym is) ∙ (ap (λ x. read_all place (x ++ comma ∷ []) (Ok r)) (sym all) ∙ so_far)
 
-pub IsFault-at_end : (s : List ℕ) (place : ℕ) (r : Reading) (e : SelectorError) → place ≡ length s → IsRead s place r
+pub IsFault-at_end : (s : List ℕ) (place : ℕ) (r : Reading) (e : SelectorError) → place ≡ length s
+    → IsRead s place r
     → IsFault (read (length s) comma r) e → IsFault (steps_of_text s) e
 IsFault-at_end s place r e is so_far h =
     subst (λ x. IsFault (steps_read (length s) x) e) (read_all-end s place r is so_far)

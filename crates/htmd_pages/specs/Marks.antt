@@ -18,7 +18,8 @@ mark_of steps around = record {
 -- the marks at each of the steps, after those before
 abbrev pub marks_after : List Step → List Step → List Element → List Mark
 marks_after before [] around = []
-marks_after before (step ∷ steps) around = mark_of (step ∷ before) around ∷ marks_after (step ∷ before) steps around
+marks_after before (step ∷ steps) around =
+    mark_of (step ∷ before) around ∷ marks_after (step ∷ before) steps around
 
 abbrev pub marks : List Step → List Element → List Mark
 marks steps around = marks_after [] steps around

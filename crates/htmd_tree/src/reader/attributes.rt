@@ -1,6 +1,6 @@
 //! The attributes of a start tag, and what their values denote.
 ghost use Rattle.std.specs.Prelude.{◌≡◌, ◌<◌, suc, length, IfOk, MatchOption, option_map, Ok, Err, MatchResult};
-ghost use Rattle.htmd_grammar.specs.Tags.{attribute_names, decode_values};
+ghost use Rattle.htmd_grammar.specs.Tags.{decode_values};
 ghost use Rattle.htmd_tree.specs.TagParts.{part_of, all_spelled_of, attribute_part, read_attributes};
 ghost use Rattle.htmd_grammar.specs.Attributes.{pairs_of};
 ghost use Rattle.std.specs.List.{list_any};
@@ -10,10 +10,10 @@ ghost use Rattle.htmd_grammar.specs.TagReading as spec;
 ghost use Rattle.htmd_grammar.specs.OpenElements as steps;
 
 use crate::reader::references;
-use crate::reader::scan::{Class, split_run, strip_byte};
+use crate::reader::scan::{Class, split_run};
 use htmd_grammar::{Attribute, FaultKind};
+use htmd_scanning::{are_distinct, strip_byte};
 use std::alloc::{AllocError, Global};
-use std::collections::BTreeSet;
 
 /// An attribute as it is spelled.
 #[derive(Clone, Copy, Drop)]
@@ -182,53 +182,6 @@ pub(crate) fn tag_form<'a>(alloc: Global, text: &'a str) -> Result<Option<TagFor
             }
         }
     }
-}
-
-/// Up to this many names are compared pair by pair.
-const FEW: usize = 12;
-
-fn has_name(attributes: &[Attribute], name: &str) -> bool
-    ensures { result ≡ classes.is_among (attribute_names (pairs_of attributes.now)) name.now }
-{
-    for attribute in attributes {
-        if name == attribute.name.as_str() {
-            return true;
-        }
-    }
-    false
-}
-
-fn are_pairwise_distinct(attributes: &[Attribute]) -> bool
-    ensures { result ≡ classes.are_distinct (attribute_names (pairs_of attributes.now)) }
-{
-    let mut rest = attributes;
-    while let [first, others @ ..] = rest {
-        if has_name(others, first.name.as_str()) {
-            return false;
-        }
-        rest = others;
-    }
-    true
-}
-
-/// Whether no two attributes have the same name. `Err` means out of memory.
-pub(crate) fn are_distinct(alloc: Global, attributes: &[Attribute]) -> Result<bool, AllocError>
-    ensures { IfOk result (λ answer. answer
-        ≡ classes.are_distinct (attribute_names (pairs_of attributes.now))) }
-{
-    if attributes.len() <= FEW {
-        return Ok(are_pairwise_distinct(attributes));
-    }
-    let mut names = BTreeSet::new(alloc);
-    let mut rest = attributes;
-    while let [others @ .., last] = rest {
-        let is_new = names.insert(last.name.as_str())?;
-        if !is_new {
-            return Ok(false);
-        }
-        rest = others;
-    }
-    Ok(true)
 }
 
 /// Whether a value has a reference by an unknown name.

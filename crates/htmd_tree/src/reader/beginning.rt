@@ -1,8 +1,6 @@
 //! A document before its content: a byte order mark and a Doctype if they are there (HTML Standard, 13.1.1), `html`
 //! with its `head`, and `body`, which is open.
-ghost use Rattle.std.specs.Prelude.{◌≡◌, ◌<◌, Some, None, true, drop, if◌then◌else◌, length, nat_lt, option_map, ◌≢◌};
-ghost use Rattle.std.specs.Prelude.{◌∷◌, [], IfOk, IfErr, is_some};
-ghost use Rattle.std.specs.List.{list_all};
+ghost use Rattle.std.specs.Prelude.{◌≡◌, length, option_map, ◌≢◌, ◌∷◌, [], IfOk, IfErr, is_some};
 ghost use Rattle.htmd_grammar.specs.WhiteSpace.{is_ascii_white_space};
 ghost use Rattle.htmd_grammar.specs.Documents.{behind_mark, body_text};
 ghost use Rattle.htmd_grammar.specs.Steps.{body};
@@ -12,10 +10,11 @@ ghost use Rattle.htmd_grammar.specs.CharacterClasses as classes;
 ghost use Rattle.htmd_grammar.specs.Comments as comments;
 ghost use Rattle.htmd_grammar.specs.Documents as documents;
 
-use crate::reader::scan::{Class, begins_in_any_case, split_run, strip_byte};
+use crate::reader::scan::{Class, split_run};
 use crate::reader::surroundings::Surroundings;
 use crate::reader::{OpenNode, Reader};
 use htmd_nodes::{NodeId, Tree, TreeError};
+use htmd_scanning::{strip_byte, strip_in_any_case};
 use std::alloc::Global;
 
 /// The text without a byte order mark at its beginning.
@@ -26,20 +25,6 @@ pub(crate) fn behind_mark(text: &str) -> &str
         Some(rest) => rest,
         None => text,
     }
-}
-
-/// What follows these characters, given in lower case, if the text begins with them in any ASCII case.
-fn behind_characters<'a>(text: &'a str, characters: &str) -> Option<&'a str>
-    requires ascii { list_all (λ c. nat_lt c 128) characters.now ≡ true }
-    requires filled { 0 < length characters.now }
-    ensures { option_map (λ rest. rest.now) result
-        ≡ (if classes.begins_in_any_case characters.now text.now
-        then Some (drop (length characters.now) text.now) else None) }
-{
-    if !begins_in_any_case(text.as_bytes(), characters.as_bytes()) {
-        return None;
-    }
-    Some(&text[characters.len()..])
 }
 
 /// What follows the end of a doctype.
@@ -55,7 +40,7 @@ fn behind_doctype_end(text: &str) -> Option<&str>
 fn behind_doctype_name(text: &str) -> Option<&str>
     ensures { option_map (λ rest. rest.now) result ≡ comments.doctype_name text.now }
 {
-    match behind_characters(text, "html") {
+    match strip_in_any_case(text, "html") {
         Some(behind) => behind_doctype_end(behind),
         None => None,
     }
@@ -65,7 +50,7 @@ fn behind_doctype_name(text: &str) -> Option<&str>
 pub(crate) fn behind_doctype(text: &str) -> Option<&str>
     ensures { option_map (λ rest. rest.now) result ≡ comments.behind_doctype text.now }
 {
-    let Some(behind) = behind_characters(text, "<!doctype") else {
+    let Some(behind) = strip_in_any_case(text, "<!doctype") else {
         return None;
     };
     let (white, name) = split_run(behind, Class::WhiteSpace);

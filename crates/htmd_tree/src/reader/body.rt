@@ -5,7 +5,8 @@ ghost use Rattle.htmd_tree.specs.Bodies as spec;
 
 use crate::reader::attributes::{Part, next_part};
 use crate::reader::pieces::is_tag_name;
-use crate::reader::scan::{Class, split_run, strip_byte};
+use crate::reader::scan::{Class, split_run};
+use htmd_scanning::strip_byte;
 
 /// What follows a start tag, given what follows its name.
 fn behind_form(text: &str) -> Option<&str>

@@ -10,10 +10,10 @@ ghost use Rattle.htmd_grammar.specs.CharacterClasses as classes;
 ghost use Rattle.htmd_grammar.specs.OpenElements as spec;
 ghost use Rattle.htmd_grammar.specs.Nesting as nesting;
 
-use crate::reader::raw_text::begins_own_end;
 use crate::reader::scan::begins_markup;
 use crate::reader::{Reader, Stop};
 use htmd_grammar::FaultKind;
+use htmd_scanning::begins_own_end;
 
 fn is_tag_name_byte(byte: u8) -> bool
     ensures { result ≡ classes.is_tag_name_byte byte }

@@ -1,6 +1,6 @@
 //! Content of elements that hold only text (HTML Standard, 13.1.2): text without references, up to the element's own
 //! end tag.
-ghost use Rattle.std.specs.Prelude.{◌≡◌, ◌≤◌, [], length, codes, ◌++◌, ◌∷◌, IfOk, OnOk, string_bytes, ◌<◌, true};
+ghost use Rattle.std.specs.Prelude.{◌≡◌, codes, ◌++◌, ◌∷◌, IfOk, OnOk, string_bytes, true};
 ghost use Rattle.std.specs.Prelude.{false};
 ghost use Rattle.htmd_grammar.specs.CharacterClasses.{begins_with, up_to, is_empty, onward};
 ghost use Rattle.htmd_grammar.specs.Characters.{carriage_return};
@@ -12,57 +12,11 @@ ghost use Rattle.htmd_tree.specs.Advances.{Follows, rules_of};
 ghost use Rattle.htmd_grammar.specs.RawContent as spec;
 ghost use Rattle.htmd_grammar.specs.Comments as comments;
 
-use crate::reader::scan::{begins_in_any_case, first_is};
 use crate::reader::{Reader, Stop};
 use htmd_grammar::FaultKind;
 use htmd_nodes::NewNode;
+use htmd_scanning::{begins_in_any_case, first_is, raw_content_len};
 use std::alloc::{AllocError, Global};
-
-/// Whether a tag's name ends here: white space, `/` or `>`.
-fn ends_name(bytes: &[u8]) -> bool
-    ensures { result ≡ spec.goes_on_with_name [] bytes.now }
-{
-    match bytes {
-        [first, ..] => first.is_ascii_whitespace() || *first == b'/' || *first == b'>',
-        [] => false,
-    }
-}
-
-/// Whether the text begins with this name, in any ASCII case, and it ends there.
-fn goes_on_with_name(bytes: &[u8], name: &[u8]) -> bool
-    ensures { result ≡ spec.goes_on_with_name name.now bytes.now }
-{
-    let mut rest = bytes;
-    for character in name {
-        match rest {
-            [first, behind @ ..] if first.to_ascii_lowercase() == *character => rest = behind,
-            _ => return false,
-        }
-    }
-    ends_name(rest)
-}
-
-/// Whether the end of raw content of an element with this name begins here.
-pub(crate) fn begins_own_end(bytes: &[u8], name: &[u8]) -> bool
-    ensures { result ≡ spec.begins_own_end name.now bytes.now }
-{
-    match bytes {
-        [b'<', b'/', behind @ ..] => goes_on_with_name(behind, name),
-        _ => false,
-    }
-}
-
-/// How many bytes are before the end of raw content of an element with this name.
-pub(crate) fn raw_content_len(bytes: &[u8], name: &[u8]) -> usize
-    ensures bound { result ≤ length bytes.now }
-    ensures value { result ≡ length (up_to (spec.begins_own_end name.now) bytes.now) }
-{
-    let mut len = 0;
-    while len < bytes.len() && !begins_own_end(&bytes[len..], name) {
-        len += 1;
-    }
-    len
-}
 
 /// Whether the text begins with `<!--`.
 fn begins_comment(bytes: &[u8]) -> bool

@@ -1,7 +1,6 @@
 //! Characters and character references (HTML Standard, 13.1.4), and what texts with references denote.
-ghost use Rattle.std.specs.Prelude.{◌≡◌, ◌≤◌, ◌<◌, ◌+◌, ℕ, Bool, length, drop, map, min, None, Some, if◌then◌else◌};
+ghost use Rattle.std.specs.Prelude.{◌≡◌, ◌≤◌, ◌<◌, ◌+◌, ℕ, Bool, length, drop, map, None, Some, if◌then◌else◌};
 ghost use Rattle.std.specs.Prelude.{false, IfOk, slice_index, ⊤, MatchOption, option_map, string_bytes};
-ghost use Rattle.std.specs.Char.{is_ascii_digit};
 ghost use Rattle.htmd_grammar.specs.CharacterClasses.{first_is, leading_run};
 ghost use Rattle.htmd_grammar.specs.Characters.{number_sign, semicolon};
 ghost use Rattle.htmd_tree.specs.DecodedCharacters.{entry, piece_of, IsPieceEnd, is_itself, HasPushed};
@@ -12,10 +11,10 @@ ghost use Rattle.htmd_grammar.specs.Rules.{named_characters};
 ghost use Rattle.htmd_grammar.specs.References as spec;
 ghost use Rattle.htmd_grammar.specs.Rules as rules;
 
-use crate::reader::scan::{
-    alphanumeric_len, begins_in_any_case, digits_len, first_is, hexdigits_len,
-};
 use htmd_grammar::FaultKind;
+use htmd_scanning::{
+    alphanumeric_len, begins_in_any_case, digits_len, first_is, hexdigits_len, number,
+};
 use std::alloc::{AllocError, Global};
 
 /// The names that references may have, and their characters.
@@ -66,9 +65,6 @@ const NAMES: [(&str, char); 44] = [
     ("ntilde", '\u{f1}'),
 ];
 
-/// One more than the greatest number of a character.
-const LIMIT: u32 = 0x11_0000;
-
 /// A character that a text stands for, and how many bytes after the first one belong to it.
 #[derive(Clone, Copy, Drop)]
 pub(crate) struct Character {
@@ -86,30 +82,6 @@ fn character_named(name: &[u8], names: &[(&str, char)]) -> Option<char>
         }
     }
     None
-}
-
-/// The value of a digit.
-fn digit_value(digit: u8) -> u8
-    ensures value { result ≡ spec.digit_value digit }
-{
-    if digit.is_ascii_digit() {
-        digit - b'0'
-    } else {
-        digit.to_ascii_lowercase().saturating_sub(b'a') + 10
-    }
-}
-
-/// What digits mean in a base, at most the limit.
-fn number(digits: &[u8], base: u32) -> u32
-    requires small { base ≤ 16 }
-    requires base { 0 < base }
-    ensures { result ≡ min (spec.number base 0 digits.now) LIMIT }
-{
-    let mut sum = 0;
-    for digit in digits {
-        sum = LIMIT.min(base * sum + u32::from(digit_value(*digit)));
-    }
-    sum
 }
 
 /// Whether this is the number of a control above ASCII.

@@ -22,11 +22,12 @@ ghost use Rattle.htmd_grammar.specs.RawContent as spec;
 
 use crate::reader::attributes::{attributes_of, tag_form};
 use crate::reader::references::character_at;
-use crate::reader::scan::{Class, behind_first, split_run, strip_byte};
+use crate::reader::scan::{Class, behind_first, split_run};
 use crate::reader::surroundings::is_outside;
 use crate::reader::{Reader, Stop};
 use htmd_grammar::{Attribute, FaultKind};
 use htmd_nodes::{NewNode, is_void};
+use htmd_scanning::strip_byte;
 use std::alloc::{AllocError, Global};
 use std::borrow::CowStr;
 

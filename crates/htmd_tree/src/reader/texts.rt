@@ -10,12 +10,12 @@ ghost use Rattle.htmd_tree.specs.TextRuns.{IsFaultIn};
 ghost use Rattle.htmd_tree.specs.OpenNodes.{IsReading, innermost_name, WhateverIsOpen};
 ghost use Rattle.htmd_tree.specs.Advances.{Advances, IsAtText};
 
-use crate::reader::raw_text::begins_own_end;
 use crate::reader::references::{Character, character_at};
 use crate::reader::scan::begins_markup;
 use crate::reader::{Reader, Stop};
 use htmd_grammar::FaultKind;
 use htmd_nodes::NewNode;
+use htmd_scanning::begins_own_end;
 
 /// What is kept of the open elements for a text in them.
 #[derive(Clone, Copy, Drop)]

@@ -1,5 +1,5 @@
 -- What is left to prove of the functions of the cycle `bases`.
-use Rattle.std.proofs.Common.{rules, ◌<◌, length, string_bytes, sym, ap, ◌∙◌, arith, ℕ, List}
+use Rattle.std.proofs.Common.{rules, ◌<◌, length, sym, ap, ◌∙◌, arith, ℕ, List}
 use Rattle.htmd_grammar.specs.Attributes.{pairs_of}
 use Rattle.htmd_grammar.specs.ValueTrees.{AttributePair}
 use Rattle.htmd_nodes.specs.Items.{document_node, element_node, children_of}

@@ -10,6 +10,7 @@ loop-b-preserved c = rw c.with_slash.ensures (search (rules, map_over_more with_
 pub returns : goal.returns
 returns c =
     c.loop-b.invariant
-    ∙ (ap (λ l. map with_slash l ++ drop c.loop-b.b-index c.args.path.now) (take_all c.loop-b.b-index c.args.path.now (omega arith))
+    ∙ (ap (λ l. map with_slash l ++ drop c.loop-b.b-index c.args.path.now)
+    (take_all c.loop-b.b-index c.args.path.now (omega arith))
     ∙ (ap (λ l. map with_slash c.args.path.now ++ l) (drop_all c.loop-b.b-index c.args.path.now (omega arith))
     ∙ append-nil (map with_slash c.args.path.now)))

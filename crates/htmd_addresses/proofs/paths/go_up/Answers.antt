@@ -26,7 +26,8 @@ returns-then-eq c =
     let dots : bytes_eq c.in-Some.name.now.now parent ≡ true = search rules in
     ap names_of c.in_ok-push-2.ensures.items
     ∙ (map_push (λ name. name.now) c.args.folder.now.items _
-    ∙ sym (up-parent c.deref.result.now c.args.folder.now.items c.last.result c.deref.ensures.value c.last.ensures.value
+    ∙ sym (up-parent c.deref.result.now c.args.folder.now.items c.last.result c.deref.ensures.value
+    c.last.ensures.value
     c.in-Some.name c.in-Some.is full dots))
 
 pub returns : goal.returns

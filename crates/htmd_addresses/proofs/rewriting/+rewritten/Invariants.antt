@@ -19,7 +19,9 @@ invariant-push_rewritten-loop-child g l = record {
   within : l.under < length l.out;
   same : item_at l.out l.under ≡ item_at l.fn.out l.under;
   rest : l.out ++ forest_items (depth_at l.fn.out l.under + 1) l.under (length l.out)
-      (rewritten (g.R.Rewrite.rule l.page.rewrite.now) (value_forest (forest_of (tree_of l.page.tree.now) (drop l.child-index l.child-items))))
+      (rewritten (g.R.Rewrite.rule l.page.rewrite.now)
+      (value_forest (forest_of (tree_of l.page.tree.now) (drop l.child-index l.child-items))))
       ≡ l.fn.out ++ forest_items (depth_at l.fn.out l.under + 1) l.under (length l.fn.out)
-      (rewritten (g.R.Rewrite.rule l.page.rewrite.now) (value_forest (forest_of (tree_of l.page.tree.now) l.child-items)));
+      (rewritten (g.R.Rewrite.rule l.page.rewrite.now)
+      (value_forest (forest_of (tree_of l.page.tree.now) l.child-items)));
 }

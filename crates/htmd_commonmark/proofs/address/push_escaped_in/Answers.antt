@@ -59,7 +59,8 @@ loop-i-preserved c =
           rw (written, w.from-is) step
       | else-is_escaped+then-begins_reference+in_ok-push_str-2+in_ok-push_str-3 w ↦
           let other = sym test ∙ w.if-is_escaped.false in
-          let here = sym (w.begins_reference.ensures ∙ reference_told s bytes i same) ∙ w.if-begins_reference.true in
+          let here = sym (w.begins_reference.ensures ∙ reference_told s bytes i same)
+          ∙ w.if-begins_reference.true in
           let step = rewriting_replaced (escaped_in signs) s before out (codes "&amp;") c.loop-i.from i c.utf8.text
           (omega arith) (reference_at signs s i (omega arith) other here) c.loop-i.invariant in
           let piece : string_bytes w.push_str-then-begins_reference.new.self ≡ out ++ between c.loop-i.from i s =
@@ -69,7 +70,8 @@ loop-i-preserved c =
           rw (written, w.from-is) step
       | else-is_escaped+else-begins_reference w ↦
           let other = sym test ∙ w.if-is_escaped.false in
-          let none = sym (w.begins_reference.ensures ∙ reference_told s bytes i same) ∙ w.if-begins_reference.false in
+          let none = sym (w.begins_reference.ensures ∙ reference_told s bytes i same)
+          ∙ w.if-begins_reference.false in
           let step = rewriting_stays (escaped_in signs) s before out c.loop-i.from i (omega arith)
           (stays_at signs s i (omega arith) other none) c.loop-i.invariant in
           rw (w.out-is, w.from-is) step

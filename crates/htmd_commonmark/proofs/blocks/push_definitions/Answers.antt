@@ -23,7 +23,8 @@ loop-i-preserved c =
     let separator : c.if-i-eq0.push.now ≡ cond (i == 0) (codes "\n\n") (codes "\n") =
     elim c.if-i-eq0.branch [
       | then-i-eq0 w ↦ let here : (i == 0) ≡ true = grind (arith, nat_tests) in rw here (ap (λ s. s.now) w.push-is)
-      | else-i-eq0 w ↦ let other : (i == 0) ≡ false = grind (arith, nat_tests) in rw other (ap (λ s. s.now) w.push-is)
+      | else-i-eq0 w ↦
+          let other : (i == 0) ≡ false = grind (arith, nat_tests) in rw other (ap (λ s. s.now) w.push-is)
     ] in
     definitions_more c.args.lines.now c.push-in-loop-i.new.self words i c.if-i-eq0.push.now d
     (omega (arith, size, c.loop-i-test.true)) separator at
@@ -33,6 +34,7 @@ loop-i-preserved c =
 pub returns : goal.returns
 returns c =
     let words = texts c.args.definitions.now in
-    let size : length words ≡ length c.args.definitions.now = length-map c.args.definitions.now (λ s. string_bytes s) in
+    let size : length words ≡ length c.args.definitions.now =
+    length-map c.args.definitions.now (λ s. string_bytes s) in
     c.loop-i.invariant
     ∙ ap (λ l. wrote c.args.lines.now (written_definitions l)) (take_all c.loop-i.i words (omega (arith, size)))

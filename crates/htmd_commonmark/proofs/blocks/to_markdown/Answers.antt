@@ -24,6 +24,7 @@ returns c =
           (c.in_ok-write_blocks.ensures
           ∙ ap (λ l. put o (written_blocks c.args.options.now outermost o.definitions (blocks_of l)))
           c.deref.ensures.value
-          ∙ ap (λ ds. put o (written_blocks c.args.options.now outermost ds blocks)) (ap (λ u. u.definitions) start))
+          ∙ ap (λ ds. put o (written_blocks c.args.options.now outermost ds blocks))
+          (ap (λ u. u.definitions) start))
           (ap texts c.deref-2.ensures.value) c.in_ok-push_definitions.ensures c.into_text.ensures;
     }

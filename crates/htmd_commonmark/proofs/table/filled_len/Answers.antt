@@ -19,7 +19,8 @@ loop-len-preserved c =
     let here : is_empty (get_or (texts cells) (len - 1) []) ≡ true =
     ap is_empty (get_or-map (λ s. string_bytes s) cells (len - 1) cell [] (omega (arith, c.loop-len.invariant.within))
     ∙ ap (λ s. string_bytes s) (sym c.index-cells-len.is))
-    ∙ empty_if (string_bytes cell) true (ap (λ n. n == 0) (sym bytes) ∙ sym c.is_empty.ensures ∙ c.if-is_empty.true) in
+    ∙ empty_if (string_bytes cell) true (ap (λ n. n == 0) (sym bytes) ∙ sym c.is_empty.ensures
+    ∙ c.if-is_empty.true) in
     let run = suffix_len-take_yes is_empty (texts cells) len [] (omega arith)
     (omega (arith, size, c.loop-len.invariant.within)) here in
     record {

@@ -27,7 +27,8 @@ loop-cell-preserved c =
     ap (λ s. string_bytes s) (turn.2 cell) ∙ sym (get_or-map (λ s. string_bytes s) cells n cell [] turn.0) in
     let pad : c.saturating_sub.result ≡ get_or widths n 0 - width_of (get_or words n []) =
     c.saturating_sub.ensures
-    ∙ ap (λ k. c.in-Some.width.now - k) (c.character_count.ensures ∙ ap width_of (c.deref-in-loop-cell.ensures ∙ text))
+    ∙ ap (λ k. c.in-Some.width.now - k) (c.character_count.ensures
+    ∙ ap width_of (c.deref-in-loop-cell.ensures ∙ text))
     ∙ ap (λ w. w - width_of (get_or words n [])) (turn.3 0) in
     let written : string_bytes c.push_str-in-loop-cell.new.self
     ≡ (((out ++ codes " ") ++ get_or words n [])

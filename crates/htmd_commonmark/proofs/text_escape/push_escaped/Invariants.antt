@@ -9,5 +9,6 @@ use Rattle.htmd_commonmark.proofs.text_escape.push_escaped.Given as goal
 abbrev pub invariant-loop-i : goal.invariant-loop-i
 invariant-loop-i l = record {
   writing : Escaping (is_marked l.place l.text) l.text (string_bytes l.fn.out) (string_bytes l.out) l.from l.i;
-  row : (k : ℕ) → l.i ≡ k + 1 → slice_index l.text k ≡ underscore → l.in_word ≡ is_in_word l.place l.text l.i;
+  row : (k : ℕ) → l.i ≡ k + 1 → slice_index l.text k ≡ underscore
+      → l.in_word ≡ is_in_word l.place l.text l.i;
 }

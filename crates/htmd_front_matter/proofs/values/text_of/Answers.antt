@@ -1,4 +1,4 @@
-use Rattle.std.proofs.Common.{◌∙◌, ap, sym, Some, string_bytes}
+use Rattle.std.proofs.Common.{◌∙◌, ap, sym}
 use Rattle.htmd_nodes.specs.Items.{text_node, children_of}
 use Rattle.htmd_nodes.specs.NumberedTrees.{tree_of, forest_of}
 use Rattle.htmd_nodes.specs.Views.{data_of}

@@ -1,5 +1,5 @@
 -- What is left to prove of the functions of the cycle `kept`.
-use Rattle.std.proofs.Common.{rules, ◌≡◌, ◌+◌, ◌<◌, ◌++◌, length, string_bytes, sym, ap, ◌∙◌, arith, ℕ, List, false, true, refl}
+use Rattle.std.proofs.Common.{rules, ◌≡◌, ◌+◌, ◌<◌, ◌++◌, length, sym, ap, ◌∙◌, arith, ℕ, List, false, true, refl}
 use Rattle.std.proofs.lemmas.List.{append-nil}
 use Rattle.htmd_grammar.specs.Attributes.{pairs_of}
 use Rattle.htmd_grammar.specs.ValueTrees.{AttributePair, ValueForest}

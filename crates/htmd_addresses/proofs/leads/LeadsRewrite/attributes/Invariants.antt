@@ -9,6 +9,8 @@ use Rattle.htmd_addresses.proofs.leads.LeadsRewrite.attributes.Given as goal
 abbrev pub invariant-loop-attribute : goal.invariant-loop-attribute
 invariant-loop-attribute l =
     pairs_of l.copies.items
-    ++ map (attribute_of (pages_in l.self.page.pages.now) (own_of l.self.page) (option_copied l.self.base) l.is_hyperlink)
+    ++ map (attribute_of (pages_in l.self.page.pages.now) (own_of l.self.page)
+    (option_copied l.self.base) l.is_hyperlink)
     (pairs_of (drop l.attribute-index l.attrs))
-    ≡ map (attribute_of (pages_in l.self.page.pages.now) (own_of l.self.page) (option_copied l.self.base) l.is_hyperlink) (pairs_of l.attrs)
+    ≡ map (attribute_of (pages_in l.self.page.pages.now) (own_of l.self.page)
+    (option_copied l.self.base) l.is_hyperlink) (pairs_of l.attrs)

@@ -14,5 +14,6 @@ loop-left-preserved c =
       kept = page-more pages left c.index.result.now c.loop-left.places c.insert.new.self
           c.in_ok-plain_path.field-0 (omega arith) c.index.ensures
           (c.in_ok-plain_path.ensures ∙ ap plain_path c.deref.ensures) c.in_ok-insert.ensures.updates
-          (λ path. c.loop-left.invariant.kept path ∙ ap (λ n. output_at (pages_of (drop n pages)) path) (omega arith));
+          (λ path. c.loop-left.invariant.kept path
+          ∙ ap (λ n. output_at (pages_of (drop n pages)) path) (omega arith));
     }

@@ -58,8 +58,8 @@ write_blocks-loop-i-preserved n c =
     elim c.if-i-gt0.branch [
       | write_blocks-then-i-gt0+in_ok-push_separator w ↦
           ap output_of w.self-is
-          ∙ pushed_some o w.push_separator.new.self (separator place.tight) (separator place.tight) i (omega arith)
-          w.in_ok-push_separator.ensures refl
+          ∙ pushed_some o w.push_separator.new.self (separator place.tight) i (omega arith)
+          w.in_ok-push_separator.ensures
       | write_blocks-else-i-gt0 w ↦ ap output_of w.self-is ∙ pushed_none o between i (omega arith)
     ] in
     record {
@@ -121,8 +121,8 @@ write_list-loop-i-preserved n c =
     elim c.if-i-gt0.branch [
       | write_list-then-i-gt0+in_ok-push_separator w ↦
           ap output_of w.self-is
-          ∙ pushed_some o w.push_separator.new.self (separator tight) (separator tight) i (omega arith)
-          w.in_ok-push_separator.ensures refl
+          ∙ pushed_some o w.push_separator.new.self (separator tight) i (omega arith)
+          w.in_ok-push_separator.ensures
       | write_list-else-i-gt0 w ↦ ap output_of w.self-is ∙ pushed_none o between i (omega arith)
     ] in
     items_step options markers tight o at (output_of c.write_item.new.self) (blocks_of bs.items)

@@ -16,5 +16,6 @@ returns c =
     let written = c.in_ok-write_line.ensures
     ∙ ap (λ l. written_line l o.definitions (inlines_of c.args.content.now)) c.new-line.ensures in
     signs_put c.push.result o w c.args.level c.push_signs.new.self c.push_in_line.new.self c.push.new.self
-    c.deref.result.now (written_of c.write_line.new.self).definitions c.in_ok-push_signs.ensures c.in_ok-push_in_line.ensures
+    c.deref.result.now (written_of c.write_line.new.self).definitions c.in_ok-push_signs.ensures
+    c.in_ok-push_in_line.ensures
     c.push.ensures (c.deref.ensures ∙ ap (λ x. x.text) written) (ap (λ x. x.definitions) written)

@@ -30,10 +30,12 @@ loop-line-preserved c =
     elim c.if-not-is_first.branch [
       | then-not-is_first+in_ok-end_line w ↦
           w.self-is ∙ w.in_ok-end_line.ensures
-          ∙ ap (λ t. cond (not t) (with_byte c.loop-line.self line_feed) c.loop-line.self) (sym w.if-not-is_first.true)
+          ∙ ap (λ t. cond (not t) (with_byte c.loop-line.self line_feed) c.loop-line.self)
+          (sym w.if-not-is_first.true)
       | else-not-is_first w ↦
           w.self-is
-          ∙ ap (λ t. cond (not t) (with_byte c.loop-line.self line_feed) c.loop-line.self) (sym w.if-not-is_first.false)
+          ∙ ap (λ t. cond (not t) (with_byte c.loop-line.self line_feed) c.loop-line.self)
+          (sym w.if-not-is_first.false)
     ] in
     record {
       written = rw (length_push c.loop-line.yielded c.in-Some.line)

@@ -1,0 +1,12 @@
+//! Parts, addresses and heads of pages, and plans of files, on rows of their rules. Expected values are written by hand
+//! from the rules, and never taken from the code.
+#![tactic(auto)]
+
+#[cfg(test)]
+mod files;
+#[cfg(test)]
+mod heads;
+#[cfg(test)]
+mod leads;
+#[cfg(test)]
+mod pages;

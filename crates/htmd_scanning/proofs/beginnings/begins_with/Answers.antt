@@ -1,0 +1,11 @@
+-- What is left to prove of `begins_with`.
+use Rattle.std.proofs.Common.{◌∙◌, ℕ, drop, sym, arith}
+use Rattle.std.proofs.lemmas.List.{length-drop}
+use Rattle.htmd_scanning.proofs.BeginningsLemmas.{begins_no_further}
+use Rattle.htmd_scanning.proofs.beginnings.begins_with.Goals as goal
+
+pub returns-in_default : goal.returns-in_default
+returns-in_default c =
+    let rest = drop c.loop-character.character-index c.args.characters.now in
+    sym (begins_no_further rest c.loop-character.rest.now (omega (arith, length-drop {A = ℕ})) c.in_default.len_below)
+    ∙ c.loop-character.invariant

@@ -1,0 +1,11 @@
+-- The name was not met so far.
+use Rattle.std.proofs.Common.{◌≡◌, drop}
+use Rattle.htmd_grammar.specs.CharacterClasses.{is_among}
+use Rattle.htmd_grammar.specs.Tags.{attribute_names}
+use Rattle.htmd_grammar.specs.Attributes.{pairs_of}
+use Rattle.htmd_scanning.proofs.distinct.has_name.Given as goal
+
+abbrev pub invariant-loop-attribute : goal.invariant-loop-attribute
+invariant-loop-attribute l =
+    is_among (attribute_names (pairs_of (drop l.attribute-index l.attributes))) l.name
+    ≡ is_among (attribute_names (pairs_of l.attributes)) l.name
