@@ -7,12 +7,12 @@
  *
  * Texts are bytes in UTF-8 with a length, without a 0 at the end; places are bytes from 0.
  *
- * What is proved holds for callers that do as follows; nothing checks it.
+ * What is proved holds for callers that meet these conditions; nothing checks them.
  * - No pointer is null, not even where its length is 0, and each has as many bytes as its length says.
  * - What is written (out, needed, place, kind, options, line, column) overlaps nothing else that is passed.
  * - malloc, realloc and free are one allocator, which aligns a block to each power of two up to 16 that divides its size.
  * - No call is made in a signal handler, nor in the forked child of a process with threads.
- * - The thread that calls has HTMD_STACK bytes of stack left.
+ * - The calling thread has HTMD_STACK bytes of stack left.
  * Calls from several threads at once are fine: the library keeps nothing between calls and has no lock.
  */
 #ifndef HTMD_H
@@ -28,30 +28,30 @@ extern "C" {
 /* The version of the struct below. */
 #define HTMD_OPTIONS_VERSION 1
 
-/* The bytes of stack that a call needs at most. That is measured, and not proved: a tree has at most 1,024 levels, and
+/* The most bytes of stack that a call needs. That is measured, and not proved: a tree has at most 1,024 levels, and
  * texts with all of them took up to 3.1 megabytes in Pure, and 2.7 in Faithful. */
 #define HTMD_STACK (4 * 1024 * 1024)
 
-/* Further readers and values may come with numbers that are bad options today; no number changes what it says. */
+/* Later versions may add readers and values, with numbers that are bad options today; no number changes its meaning. */
 
 /* reader: how the text is read */
 enum {
     HTMD_STRICT = 0, /* all of it, by the strict grammar */
-    HTMD_PAGE = 1,   /* of a page what stands between the tags of its body, by the same grammar */
+    HTMD_PAGE = 1,   /* what is between the tags of the page's body, by the same grammar */
     HTMD_HTML5 = 2   /* any page, as browsers read it; none is refused */
 };
 
-/* mode: what is written of a page */
+/* mode: what is written for a page */
 enum {
     HTMD_PURE = 0,     /* the Markdown of the Rust crate htmd */
-    HTMD_FAITHFUL = 1, /* the same, but what Markdown has no form for stays HTML */
+    HTMD_FAITHFUL = 1, /* the same, but what Markdown can't express stays HTML */
     HTMD_GUARDED = 2   /* what a reader sees, so that its Markdown is read back as the same */
 };
 
 /* output: the form in which it is written */
 enum {
     HTMD_MARKDOWN = 0, /* Markdown */
-    HTMD_MDAST = 1     /* what a reader sees, in JSON as mdast has it; the mode and the styles don't count then */
+    HTMD_MDAST = 1     /* what a reader sees, as JSON in the form of mdast; mode and styles have no effect then */
 };
 
 enum { HTMD_HEADING_ATX = 0, HTMD_HEADING_SETEXT = 1 };
@@ -63,7 +63,7 @@ enum { HTMD_CODE_FENCED = 0, HTMD_CODE_INDENTED = 1 };
 enum { HTMD_FENCE_BACKTICKS = 0, HTMD_FENCE_TILDES = 1 };
 enum { HTMD_BULLET_ASTERISK = 0, HTMD_BULLET_DASH = 1 };
 
-/* What a conversion goes by. Fill it by htmd_default_options, and change what is to be changed. */
+/* The options of a conversion. Fill the struct with htmd_default_options, and then change fields. */
 typedef struct htmd_options {
     uint8_t version; /* HTMD_OPTIONS_VERSION */
     uint8_t reader;
@@ -84,14 +84,14 @@ typedef struct htmd_options {
     uint8_t reserved[16];      /* 0 */
 } htmd_options;
 
-/* What a call answers. */
+/* The status that a call returns. */
 enum {
     HTMD_DONE = 0,
     HTMD_TOO_SMALL = 1,  /* out_len is less than needed */
     HTMD_REFUSED = 2,    /* the text is outside the grammar */
-    HTMD_NOT_UTF8 = 3,   /* the bytes are no UTF-8 */
-    HTMD_NO_MEMORY = 4,  /* a request for memory was refused */
-    HTMD_BAD_OPTIONS = 5 /* a number of the struct is none that its field may have */
+    HTMD_NOT_UTF8 = 3,   /* the bytes are not UTF-8 */
+    HTMD_NO_MEMORY = 4,  /* out of memory */
+    HTMD_BAD_OPTIONS = 5 /* a field of the struct has a number that isn't valid for it */
 };
 
 /* The kinds of a refusal; docs/GRAMMAR.md says what each means, and what to do. */
@@ -113,19 +113,19 @@ enum {
     HTMD_TOO_DEEP = 15
 };
 
-/* Writes the default options: strict, Pure, scripting on, spacings of 3 and 2, and 0 in all else, so Markdown. */
+/* Writes the default options: strict, Pure, scripting on, spacings of 3 and 2, 0 in all other fields, so Markdown. */
 void htmd_default_options(htmd_options *options);
 
 /*
- * Writes the Markdown of a text, or its JSON, to the front of out, and answers what was done. The options are looked at
- * first, then whether the bytes are UTF-8.
+ * Writes the Markdown of a text, or its JSON, to the front of out, and returns the status. It checks the options first,
+ * then whether the bytes are UTF-8.
  *
- * needed: of HTMD_DONE and HTMD_TOO_SMALL the length of what is to be written, else 0.
- * place: of HTMD_REFUSED where the text is wrong first, of HTMD_NOT_UTF8 the first bad byte, else 0.
- * kind: of HTMD_REFUSED the kind, else 0.
+ * needed: with HTMD_DONE and HTMD_TOO_SMALL the length of the whole output, else 0.
+ * place: with HTMD_REFUSED the first place where the text is wrong, with HTMD_NOT_UTF8 the first bad byte, else 0.
+ * kind: with HTMD_REFUSED the kind, else 0.
  *
- * Of out nothing is written but where the status is HTMD_DONE, and then the first needed bytes alone. A text is
- * converted anew by each call, so a buffer that is large enough at once saves a conversion; most Markdown is shorter than
+ * Nothing is written to out unless the status is HTMD_DONE, and then only the first needed bytes. Each call converts
+ * the text again, so a buffer that is large enough the first time saves a conversion; most Markdown is shorter than
  * its HTML.
  */
 uint32_t htmd_convert(const uint8_t *html, size_t html_len, const htmd_options *options, uint8_t *out, size_t out_len,

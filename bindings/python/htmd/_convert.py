@@ -33,7 +33,7 @@ VALUES: Mapping[str, Mapping[str, int]] = {
     "output": {"markdown": 0, "mdast": 1},
 }
 
-# The bytes of the buffer beyond those of the page. What doesn't fit is made a second time.
+# The bytes of the buffer beyond those of the page. What doesn't fit is converted a second time.
 _SPARE = 1024
 
 
@@ -77,10 +77,10 @@ def convert(
     """Converts a page, a text or its bytes in UTF-8, to Markdown.
 
     mode: "guarded" writes what a reader sees of the page, so that its Markdown is read back as the same; "pure" gives
-        the Markdown of the Rust crate htmd; "faithful" is as "pure", but keeps HTML where Markdown has no form
-    reader: "html5" reads any page as browsers do and refuses none; "page" reads what stands between the tags of the
-        body by a strict grammar, and "strict" the whole text
-    scripting: whether scripts run: then "guarded" leaves `noscript` out, and to "pure" its content is one text
+        the Markdown of the Rust crate htmd; "faithful" is like "pure", but keeps as HTML what Markdown can't express
+    reader: "html5" reads any page as browsers do and refuses none; "page" reads what is between the tags of the body
+        by a strict grammar, and "strict" the whole text
+    scripting: whether scripts run: then "guarded" leaves `noscript` out, and for "pure" its content is one text
     heading_style: "atx" or "setext"
     hr_style: "asterisks", "dashes" or "underscores"
     br_style: "two-spaces" or "backslash"
@@ -92,12 +92,12 @@ def convert(
     ul_bullet_spacing, ol_number_spacing: the spaces after a bullet and after a number, 0 to 255; in "guarded" 1 to 4
     preformatted_code: whether the white space of code spans is kept
 
-    "guarded" doesn't ask for link_reference_style, code_block_style and preformatted_code: references are full, code
-    blocks fenced, and the white space of code spans is squeezed.
+    "guarded" ignores link_reference_style, code_block_style and preformatted_code: references are full, code blocks
+    fenced, and the white space of code spans is squeezed.
 
     Raises `Refused` for a page outside the strict grammar (never with "html5"), `UnicodeError` for bytes that are not
     UTF-8, `ValueError` and `TypeError` for an unknown option or value, and `MemoryError`. Calls from several threads
-    run side by side.
+    run in parallel.
     """
     options = _options(
         scripting,
@@ -120,10 +120,10 @@ def convert(
 
 
 def document(html: Union[str, bytes], *, reader: Reader = "html5", scripting: bool = True) -> Dict[str, Any]:
-    """What a reader sees of a page, a text or its bytes in UTF-8, as mdast 4 has it: dicts and lists.
+    """What a reader sees of a page, a text or its bytes in UTF-8, in the form of mdast 4: dicts and lists.
 
-    The answer is the `root`; each node is a dict with its `type` and, as the type has them, `children`, `value` and
-    other members. `docs/DOCUMENT.md` of the repository says what becomes what. Of these values a program may take
+    Returns the `root`; each node is a dict with its `type` and, if the type has them, `children`, `value` and other
+    members. `docs/DOCUMENT.md` of the repository says what each element becomes. From these values a program can take
     headings, links or tables; `convert` writes them as Markdown. `reader` and `scripting` mean what they mean there.
 
     Raises what `convert` raises.

@@ -1,6 +1,6 @@
 //! The text of pages in each encoding, by the Encoding Standard and the HTML Standard. `checks/refused_memory`, a part
-//! of the gate, refuses each request of the first two tests in turn, which then end out of memory, and all requests of
-//! the third, which passes.
+//! of the gate, lets each allocation of the first two tests fail in turn, which then end out of memory, and all
+//! allocations of the third, which passes.
 use crate::indexes::INDEXES;
 use htmd_encodings::{DecodeError, encoding_named, page_text};
 use htmd_expected::{expect_text, expect_that};
@@ -82,7 +82,7 @@ fn reads_units(rt: HostRuntime) -> Result<(), Fail> {
     Ok(())
 }
 
-// What a page says of itself counts, if its bytes aren't UTF-8: here the last byte is C1.
+// A page's own declaration counts, if its bytes aren't UTF-8: here the last byte is C1.
 #[test]
 fn searches_pages(rt: HostRuntime) -> Result<(), Fail> {
     const ROWS: &[(&[u8], &str)] = &[

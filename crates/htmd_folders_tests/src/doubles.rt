@@ -31,7 +31,7 @@ pub struct FailingStore {
     pub page: usize,
     // How many pages were opened.
     pub opened: usize,
-    // Files can't be taken away either.
+    // Files can't be removed either.
     pub keeps: bool,
 }
 

@@ -44,7 +44,7 @@ fn store(alloc: Global) -> Result<MemoryStore, AllocError> {
     Ok(store)
 }
 
-/// What is said of a page whose call fails.
+/// The line for a page whose call fails.
 fn line_of(alloc: Global, call: Call, input: &str) -> Result<String, AllocError> {
     let output = output_of(alloc, input)?;
     match call {
@@ -57,7 +57,7 @@ fn line_of(alloc: Global, call: Call, input: &str) -> Result<String, AllocError>
     }
 }
 
-// A name holds this text, or no whole file.
+// A name holds this text, or no complete file.
 fn expect_held(store: &MemoryStore, name: &str, wanted: Option<&str>) -> Result<(), Fail> {
     match (store.bytes(name), wanted) {
         (Some(bytes), Some(text)) => expect_text(name, str::from_utf8(bytes)?, text),
@@ -83,7 +83,7 @@ fn expect_output(
     expect_held(store, &output, Some(&twice))
 }
 
-// A file beside an output stays only if it can't be taken away, and never holds a whole file.
+// A file beside an output stays only if it can't be removed, and never holds a complete file.
 fn expect_no_partial(alloc: Global, store: &MemoryStore) -> Result<(), Fail> {
     for (input, _, _) in PAGES {
         let output = output_of(alloc, input)?;

@@ -1,4 +1,4 @@
-//! What is said of a run.
+//! The lines that a run prints.
 use super::doubles::Twice;
 use htmd_expected::expect_text;
 use htmd_files::Page;
@@ -44,7 +44,7 @@ fn expect_said(
 
 const BLANK: &str = "\r                                                            \r";
 
-// A count is written before the first page and after each sixteen, and is taken away before a line and at the end.
+// A count is written before the first page and after each sixteen, and is erased before a line and at the end.
 #[test]
 fn counts(rt: HostRuntime) -> Result<(), Fail> {
     let alloc = rt.alloc();
@@ -80,7 +80,7 @@ fn writes_the_total(rt: HostRuntime) -> Result<(), Fail> {
     Ok(())
 }
 
-// A name in a line is one line.
+// A name in a line takes one line.
 #[test]
 fn shows_names(rt: HostRuntime) -> Result<(), Fail> {
     let shown = format!(in rt.alloc(); "{}", ShownName("a\nb\u{1B}[1m\u{E9}"))?;

@@ -29,8 +29,8 @@ fn reads_each_encoding(rt: HostRuntime) -> Result<(), Fail> {
     Ok(())
 }
 
-// What a page says of its encoding, and what the option says, which counts first but for a mark. An encoding that isn't
-// supported is named.
+// What a page declares as its encoding, and what the option says, which overrides it unless there is a byte order mark.
+// An encoding that isn't supported is named.
 #[test]
 fn finds_the_encoding(rt: HostRuntime) -> Result<(), Fail> {
     let gbk =
@@ -77,7 +77,7 @@ fn reads_utf8_alone_otherwise(rt: HostRuntime) -> Result<(), Fail> {
     Ok(())
 }
 
-// Each row is read in its own encoding, and none is refused but for that.
+// Each row is read in its own encoding, and none is refused except for its encoding.
 #[test]
 fn answers_rows(rt: HostRuntime) -> Result<(), Fail> {
     let rows = b"1\t<p>a<p>b\n2\t<p><div>\n\\N\n4\t\\377\\376\\x61\\0\n5\t\xE9\n6\t<b>c\\n<i>d\\0\n\
@@ -91,7 +91,7 @@ fn answers_rows(rt: HostRuntime) -> Result<(), Fail> {
     Ok(())
 }
 
-// Fails unless the page is answered if all its reads are made, and else nothing is.
+// Fails unless the page is converted if all its reads are made, and otherwise nothing is written.
 fn expect_read(alloc: Global, reads: usize) -> Result<(), Fail> {
     let answer = called_within(alloc, &["--html5"], PAGE.as_bytes(), reads, 100)?;
     let fails = reads < 32;

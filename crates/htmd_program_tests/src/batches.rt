@@ -139,7 +139,7 @@ fn rows_options(alloc: Global, lines: &str) -> Result<Vec<&str>, AllocError> {
     Ok(options)
 }
 
-// Fails unless rows are answered so, whether each read gives one byte or one gives all.
+// Fails unless rows are converted so, whether each read gives one byte or one gives all.
 fn expect_rows(alloc: Global, lines: &str, stdin: &[u8], wants: (&str, &str)) -> Result<(), Fail> {
     let options = rows_options(alloc, lines)?;
     expect_called(alloc, options.as_slice(), stdin, (0, wants.0, wants.1))?;
@@ -218,7 +218,7 @@ fn answers_a_long_row(rt: HostRuntime) -> Result<(), Fail> {
     expect_number("bytes", written.len(), 30_000 * 10 - 4 + 5)
 }
 
-// Each read fails in turn: a row goes out before the next byte is read.
+// Each read fails in turn: a row is written before the next byte is read.
 #[test]
 fn answers_failed_reads(rt: HostRuntime) -> Result<(), Fail> {
     const ROWS: &[(usize, u8, &str, &str)] = &[

@@ -53,7 +53,7 @@ impl Read for Reader {
     }
 }
 
-// How a writer answers once its calls are used up.
+// What a writer returns once its calls are used up.
 #[derive(Clone, Copy)]
 enum Fault {
     Fails,

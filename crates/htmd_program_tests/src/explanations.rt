@@ -1,4 +1,4 @@
-//! What the program says of long lines and bad bytes that are refused. Other refusals are a family of `htmd_cases`.
+//! What the program says about long lines and bad bytes that are refused. Other refusals are a family of `htmd_cases`.
 use crate::calls::called;
 use htmd_expected::expect_text;
 use std::alloc::{AllocError, Global};

@@ -1,5 +1,5 @@
 //! Tests of the program: runs that fail at each of their ends, its options and lines, batches, any page in each
-//! encoding, and pages cut short. What is expected is written by hand from the rules.
+//! encoding, and pages cut short. Expected values are written by hand from the rules.
 #![tactic(auto)]
 
 #[cfg(test)]

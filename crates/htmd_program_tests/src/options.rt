@@ -1,4 +1,4 @@
-//! Unknown options, and what the program says of itself. What each option sets is a family of `htmd_cases`.
+//! Unknown options, and what the program says about itself. What each option sets is a family of `htmd_cases`.
 use crate::calls::{called, called_within};
 use htmd_expected::{expect_number, expect_text, expect_that};
 use std::alloc::Global;
@@ -86,7 +86,7 @@ fn refuses_options(rt: HostRuntime) -> Result<(), Fail> {
     Ok(())
 }
 
-// How many lines tell of an option, each with what it is for.
+// How many lines describe an option, each with what it is for.
 fn options_in(help: &str) -> Result<usize, Fail> {
     let mut count: usize = 0;
     for line in help.lines() {
@@ -126,7 +126,7 @@ fn shows_the_help(rt: HostRuntime) -> Result<(), Fail> {
     expect_help(answer.stdout.as_str())
 }
 
-// Fails unless a sink that fails after so many writes is told of.
+// Fails unless a sink that fails after so many writes is reported.
 fn expect_failed(alloc: Global, option: &str, writes: usize) -> Result<(), Fail> {
     let answer = called_within(alloc, &[option], b"a", 0, writes)?;
     expect_text(option, answer.stderr.as_str(), "htmd: write failed\n")?;

@@ -86,7 +86,7 @@ fn unread(alloc: Global, html: &[u8]) -> Result<usize, Fail> {
     Ok(answer.unread)
 }
 
-// Nothing is written of what is refused, and what is refused last is read to its end too.
+// Nothing is written for what is refused, and what is refused last is read to its end too.
 #[test]
 fn writes_nothing_of_what_is_refused(rt: HostRuntime) -> Result<(), Fail> {
     let table: [(&[u8], usize, FaultKind); 3] = [
@@ -102,7 +102,7 @@ fn writes_nothing_of_what_is_refused(rt: HostRuntime) -> Result<(), Fail> {
     Ok(())
 }
 
-// Fails unless a page with `--body` answers as its body by itself.
+// Fails unless a page with `--body` gives what its body gives by itself.
 fn expect_body(alloc: Global, front: &str, body: &str, behind: &str) -> Result<(), Fail> {
     let page = format!(in alloc; "{front}{body}{behind}")?;
     let alone = called(alloc, &[], body.as_bytes())?;
@@ -117,7 +117,7 @@ fn expect_refused(alloc: Global, page: &str, place: usize, kind: FaultKind) -> R
     expect_called(alloc, &["--body"], page.as_bytes(), wants)
 }
 
-// A page with `--body` answers as its body by itself, and is refused as many bytes later as its body begins.
+// A page with `--body` gives what its body gives by itself, and is refused as many bytes later as its body begins.
 fn expect_bodies(alloc: Global, front: &str, behind: &str) -> Result<(), Fail> {
     for body in [
         "",

@@ -74,7 +74,7 @@ fn keeps_a_text(rt: HostRuntime) -> Result<(), Fail> {
     Ok(())
 }
 
-// Two of them for one tag, and skipped tags between: the newest is asked first.
+// Two of them for one tag, and skipped tags between: the newest is called first.
 #[test]
 fn asks_the_newest_first(rt: HostRuntime) -> Result<(), Fail> {
     let exclaims = FnHandler::new(

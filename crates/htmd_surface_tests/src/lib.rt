@@ -1,5 +1,5 @@
 //! Tests of what `htmd` exports: each public item by its path, the texts of errors, the trees of pages, the writers of
-//! pieces, and handlers of closures. What is expected is written by hand from the rules.
+//! pieces, and handlers of closures. Expected values are written by hand from the rules.
 #![tactic(auto)]
 
 #[cfg(test)]

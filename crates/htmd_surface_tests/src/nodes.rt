@@ -109,7 +109,7 @@ fn expect_from(
     expect_text(start, answer.as_str(), markdown)
 }
 
-// A subtree that starts below `pre` keeps its white space; a text that is handed over is ordinary.
+// A subtree that starts below `pre` keeps its white space; a text that is converted by itself is ordinary.
 #[test]
 fn starts_anywhere(rt: HostRuntime) -> Result<(), Fail> {
     const LITERAL: &str = "<pre><span>  *literal*  \nsecond</span></pre>";

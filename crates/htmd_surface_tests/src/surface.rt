@@ -1,4 +1,4 @@
-//! Each public item of `htmd`, by its path: one that is missing or has moved is seen where the tests are built.
+//! Each public item of `htmd`, by its path: if one is missing or has moved, the tests don't build.
 ghost use Rattle.std.specs.Prelude.{None};
 ghost use Rattle.htmd.specs.Handling.{nothing};
 

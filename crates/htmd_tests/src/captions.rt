@@ -1,5 +1,5 @@
 //! Pages that are converted in the time that their length and depth require, though what is in a table without lines is
-//! asked for twice.
+//! needed twice.
 use crate::builders::faithful;
 use crate::pages::converted_page;
 use htmd::options::Options;
@@ -50,7 +50,7 @@ fn converts_captions_in_captions(rt: HostRuntime) -> Result<(), Fail> {
     Ok(())
 }
 
-// A table in the header of a table, and so on, with a later head without cells that takes the headers away: strong text
+// A table in the header of a table, and so on, with a later head without cells that replaces the headers: strong text
 // in strong text.
 #[test]
 fn converts_headers_in_headers(rt: HostRuntime) -> Result<(), Fail> {

@@ -1,4 +1,4 @@
-//! Handlers of your own: what they are shown, what they may ask for, and in what order they are asked.
+//! Handlers of your own: what they are shown, what they may need, and in what order they are called.
 use crate::builders::{faithful, referenced, with_handler};
 use crate::handlers::{
     AsRawHtml, FirstBelow, FirstChild, GivesNothing, NeedsId, PassesOn, Says, TellsDue, TellsFlag,
@@ -77,7 +77,8 @@ fn flagged(
     page_by(alloc, &builder.build(), html)
 }
 
-// The flag of a result is told to those above, even in Pure, and even past elements without handlers; a list hides it.
+// The flag of a result is passed to those above, even in Pure, and even past elements without handlers; a list hides
+// it.
 #[test]
 fn tells_flags(rt: HostRuntime) -> Result<(), Fail> {
     const ROWS: &[(&str, &str, &str)] = &[
@@ -132,7 +133,7 @@ fn shows_texts(rt: HostRuntime) -> Result<(), Fail> {
     expect_pages_of(rt.alloc(), &["i"], handler, ROWS)
 }
 
-// A descendant is handed over by itself: below `pre` its white space is kept, and a text is ordinary.
+// A descendant is converted by itself: below `pre` its white space is kept, and a text is ordinary.
 #[test]
 fn asks_for_descendants(rt: HostRuntime) -> Result<(), Fail> {
     let table: &[(&str, &str)] = &[
@@ -253,14 +254,14 @@ fn puts_texts_after_a_conversion(rt: HostRuntime) -> Result<(), Fail> {
     Ok(())
 }
 
-// A tag that is named twice is registered twice: the handler is asked twice, and then the built-in one.
+// A tag that is named twice is registered twice: the handler is called twice, and then the built-in one.
 #[test]
 fn registers_twice(rt: HostRuntime) -> Result<(), Fail> {
     let handler: Box<dyn ElementHandler> = Box::new(rt.alloc(), PassesOn { appended: None })?;
     expect_pages_of(rt.alloc(), &["b", "b"], handler, &[("<b>x</b>", "**x**")])
 }
 
-// What is told of a page with these options.
+// What is reported for a page with these options.
 fn due(alloc: Global, options: Options, allowed: i64, html: &str) -> Result<String, Fail> {
     let handler: Box<dyn ElementHandler> = Box::new(alloc, TellsDue { allowed })?;
     let builder = HtmlToMarkdown::builder(alloc)?.options(options);

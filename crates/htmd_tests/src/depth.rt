@@ -6,7 +6,7 @@ use htmd_expected::expect_text;
 use std::alloc::{AllocError, Global};
 use std::test::Fail;
 
-// Start tags, and after them end tags, of each as many as asked for.
+// Start tags, and after them end tags, the given number of each.
 fn nested(alloc: Global, starts: usize, ends: usize) -> Result<String, AllocError> {
     let mut html = String::new(alloc);
     for _ in 0..starts {
@@ -42,7 +42,7 @@ fn refuses_deeper_pages(rt: HostRuntime) -> Result<(), Fail> {
     expect_refusals(rt.alloc(), &table)
 }
 
-// A reader sees at most 32 quotes in each other.
+// A reader sees at most 32 nested quotes.
 #[test]
 fn sees_quotes_to_a_bound(rt: HostRuntime) -> Result<(), Fail> {
     let alloc = rt.alloc();

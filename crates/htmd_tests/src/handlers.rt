@@ -147,7 +147,7 @@ impl ElementHandler for TextAlone {
     }
 }
 
-/// Asks for the content, and gives nothing.
+/// Needs the content, and gives nothing.
 #[derive(Drop)]
 pub(crate) struct GivesNothing;
 
@@ -213,7 +213,7 @@ impl ElementHandler for TellsFlag {
     }
 }
 
-/// Gives the content of the first child, which is handed over by itself.
+/// Gives the content of the first child, which is converted by itself.
 #[derive(Drop)]
 pub(crate) struct FirstChild;
 
@@ -269,7 +269,7 @@ fn node_below(tree: &Tree, node: NodeId, levels: usize) -> NodeId
     below
 }
 
-/// Gives the content of the node that this many steps to a first child lead to, which is handed over by itself.
+/// Gives the content of the node that this many steps to a first child lead to, which is converted by itself.
 #[derive(Drop)]
 pub(crate) struct FirstBelow {
     pub(crate) levels: usize,

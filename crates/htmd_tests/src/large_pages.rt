@@ -1,6 +1,6 @@
-//! Pages that no one writes by hand, as browsers read them. None is refused. No node stands below level 1,024: what
-//! would stand there follows the element at that level. And of the formatting elements that are open, a paragraph
-//! reopens the sixteen newest.
+//! Pages that no one writes by hand, as browsers read them. None is refused. No node is below level 1,024: what would
+//! be there follows the element at that level. And of the formatting elements that are open, a paragraph reopens the
+//! sixteen newest.
 use htmd::HtmlToMarkdown;
 use htmd::options::{Options, TranslationMode};
 use htmd_expected::expect_text;
@@ -66,7 +66,7 @@ fn with_open_elements(alloc: Global) -> Result<String, AllocError> {
     Ok(html)
 }
 
-// `html`, `body` and `p` stand at levels 1 to 3, so the `b` of number 1,021 is the deepest. It and all after it hold
+// `html`, `body` and `p` are at levels 1 to 3, so the `b` of number 1,021 is the deepest. It and all after it hold
 // nothing, and the text follows them in the one of number 1,020.
 #[test]
 fn reopens_sixteen_elements(rt: HostRuntime) -> Result<(), Fail> {

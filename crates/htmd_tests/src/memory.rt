@@ -1,6 +1,6 @@
-//! What is handed back when a request for memory is refused: all is as before, and the same call with the same values
-//! then answers as it would have. `checks/refused_memory`, a part of the gate, refuses each request of these tests in
-//! turn; each test passes whichever it is.
+//! What is handed back when an allocation fails: all is as before, and the same call with the same values then answers
+//! as it would have. `checks/refused_memory`, a part of the gate, lets each allocation of these tests fail in turn;
+//! each test passes whichever it is.
 use crate::handlers::TextAlone;
 use crate::refusals::{answered, answered_with};
 use crate::registry::expect_found;

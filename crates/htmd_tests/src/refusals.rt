@@ -1,6 +1,6 @@
-//! Worked pages for which any one request for memory may be refused: the answer is out of memory or the page's own, and
-//! the same converter and tree give the page's own at the next try. `checks/refused_memory`, a part of the gate,
-//! refuses each request in turn.
+//! Pages for which any one allocation may fail: the answer is out of memory or the page's own, and the same converter
+//! and tree give the page's own at the next try. `checks/refused_memory`, a part of the gate, lets each allocation fail
+//! in turn.
 use crate::builders::{faithful, referenced};
 use crate::handlers::{FirstChild, PassesOn};
 use htmd::element_handler::ElementHandler;

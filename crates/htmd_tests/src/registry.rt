@@ -1,4 +1,4 @@
-//! The registry by itself: which handlers are asked, and what they make of an element.
+//! The registry by itself: which handlers are called, and what they make of an element.
 use crate::handlers::PassesOn;
 use htmd::element_handler::{ElementHandler, ElementHandlers, Links};
 use htmd::options::Options;
@@ -17,7 +17,7 @@ pub(crate) fn expect_found(
     expect_that(tag, handlers.find_handler(tag, skipped) == place)
 }
 
-// A built-in handler is found whichever of its tags is asked for.
+// A built-in handler is found by each of its tags.
 #[test]
 fn finds_built_in_handlers(rt: HostRuntime) -> Result<(), Fail> {
     let handlers = ElementHandlers::new(rt.alloc(), Options::default())?;
