@@ -5,7 +5,7 @@ ghost use Rattle.htmd_encodings.specs.Views.{value_of};
 
 use crate::runs::{Class, begins_in_any_case, split_run, strip_byte};
 
-/// What stands before the next such quote, if there is one.
+/// What comes before the next such quote, if there is one.
 pub(crate) fn before_quote(bytes: &[u8], quote: u8) -> Option<&[u8]>
     ensures { value_of result ≡ spec.before_quote quote bytes.now }
 {

@@ -1,4 +1,4 @@
-//! What a page says of its encoding, in a `meta` and in an XML declaration.
+//! How a page declares its encoding, in a `meta` and in an XML declaration.
 ghost use Rattle.std.specs.Prelude.{◌≡◌};
 ghost use Rattle.htmd_encodings.specs.Declarations as spec;
 ghost use Rattle.htmd_encodings.specs.Views.{value_of};

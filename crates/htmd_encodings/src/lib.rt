@@ -1,5 +1,5 @@
 //! The text of a page's bytes in the encodings of the web, by the Encoding Standard and the HTML Standard: labels, what
-//! a page says of its encoding, and decoders.
+//! a page declares of its encoding, and decoders.
 #![tactic(auto, using(std::proofs::lemmas::Grind::common_steps))]
 
 mod attributes;

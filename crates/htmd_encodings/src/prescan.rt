@@ -1,4 +1,4 @@
-//! The search for what a page says of its encoding.
+//! The search for a page's declaration of its encoding.
 ghost use Rattle.std.specs.Prelude.{◌≡◌};
 ghost use Rattle.htmd_encodings.specs.Prescan as spec;
 ghost use Rattle.htmd_encodings.specs.Attributes as tags;

@@ -25,7 +25,7 @@ pub enum FaultKind {
     SelfClosing = 8,
     /// A tag named `html`, `head`, `body`, `frameset`, `frame`, `template`, `plaintext`, `listing` or `image`.
     TagOutside = 9,
-    /// A start tag of an element that may not stand there.
+    /// A start tag of an element that isn't allowed there.
     NotAllowedHere = 10,
     /// An end tag that closes no element.
     StrayEndTag = 11,

@@ -5,7 +5,7 @@ ghost use Rattle.htmd_html5_state.specs.Views.{numbers_of};
 use std::alloc::{AllocError, Global};
 use std::slice;
 
-/// The numbers of the children of a node, in order. Most nodes have few, which need no memory of their own.
+/// The numbers of the children of a node, in order. Most nodes have few, which need no allocation of their own.
 #[derive(Drop)]
 pub enum Children {
     None,

@@ -203,7 +203,7 @@ impl FormattingList {
         Ok(())
     }
 
-    /// Takes everything off up to the last marker, and the marker too.
+    /// Removes everything up to the last marker, and the marker too.
     pub(crate) fn clear_to_marker(&mut self)
         ensures { self.new ≡ spec.after_marker self.old }
     {

@@ -47,7 +47,7 @@ struct NamePlaces {
     others: HashMap<String, usize>,
 }
 
-/// Where the open elements stand.
+/// Where the open elements are.
 #[derive(Drop)]
 pub(crate) struct Places {
     names: NamePlaces,

@@ -401,7 +401,7 @@ impl HtmlState {
         self.formatting.push_marker()
     }
 
-    /// Takes everything off up to the last marker, and the marker too.
+    /// Removes everything up to the last marker, and the marker too.
     pub fn clear_to_marker(&mut self)
         ensures { self.new ≡ list.clear_to_marker self.old }
     {

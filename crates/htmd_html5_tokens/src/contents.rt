@@ -71,7 +71,7 @@ pub(crate) fn split_plain(text: &str) -> (&str, &str)
     text.split_at(plain_len(text.as_bytes(), Reading::Text))
 }
 
-/// Appends the plain characters with which the text begins, and answers the rest.
+/// Appends the plain characters with which the text begins, and returns the rest.
 fn push_plain<'a>(
     held: &mut String,
     text: &'a str,
@@ -106,7 +106,7 @@ fn is_value(reading: Reading) -> bool
     matches!(reading, Reading::AttributeValue)
 }
 
-/// Appends what `&` begins, and answers what follows it.
+/// Appends what `&` begins, and returns what follows it.
 fn push_reference<'a>(
     held: &mut String,
     after: &'a str,
@@ -123,7 +123,7 @@ fn push_reference<'a>(
     Ok(&after[reference.following..])
 }
 
-/// Appends what `<` begins in a text, and answers what follows it.
+/// Appends what `<` begins in a text, and returns what follows it.
 fn push_less_than<'a>(held: &mut String, after: &'a str) -> Result<&'a str, AllocError>
     ensures pushed { IfOk result (λ rest. HasPushed Text (string_bytes held.old) (less_than_sign ∷ after.now)
         (string_bytes held.new) rest.now) }
@@ -137,7 +137,7 @@ fn push_less_than<'a>(held: &mut String, after: &'a str) -> Result<&'a str, Allo
     Ok(after)
 }
 
-/// Appends what the first character begins, which isn't plain, and answers what follows it.
+/// Appends what the first character begins, which isn't plain, and returns what follows it.
 fn push_special<'a>(
     held: &mut String,
     text: &'a str,
@@ -162,7 +162,7 @@ fn push_special<'a>(
     }
 }
 
-/// Appends what comes next in a text, plain characters or one other piece, and answers the rest.
+/// Appends what comes next in a text, plain characters or one other piece, and returns the rest.
 fn push_next<'a>(held: &mut String, text: &'a str, reading: Reading) -> Result<&'a str, AllocError>
     requires { 0 < length text.now }
     ensures pushed { IfOk result (λ rest. HasPushed reading (string_bytes held.old) text.now (string_bytes held.new)

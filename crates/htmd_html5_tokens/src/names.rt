@@ -151,7 +151,7 @@ fn first_in(
     None
 }
 
-/// The name at the beginning of the text that may stand without `;`, and what it stands for. There is at most one.
+/// The name at the beginning of the text that is allowed without `;`, and what it stands for. There is at most one.
 #[tactic(auto, unfolding(crate::specs::NamedReferences::old_names))]
 pub(crate) fn longest_old(text: &[u8]) -> Option<(&'static str, &'static str)>
     ensures { option_map old_loan_row result ≡ spec.longest_old text.now }

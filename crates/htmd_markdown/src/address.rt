@@ -48,7 +48,7 @@ fn is_one_of(byte: u8, characters: &[u8]) -> bool
     characters.contains(&byte)
 }
 
-/// Whether a destination stands between `<` and `>`.
+/// Whether a destination is written between `<` and `>`.
 pub(crate) fn holds_space(address: &str) -> bool
     ensures { result ≡ spec.holds_space address.now }
 {

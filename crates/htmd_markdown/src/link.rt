@@ -18,7 +18,7 @@ pub enum LinkStyle {
     Inlined,
     /// `<address>` if the text is the address, else as in `Inlined` (CommonMark 0.31.2, 6.5).
     InlinedPreferAutolinks,
-    /// A reference, whose definition stands at the end.
+    /// A reference, whose definition is at the end.
     Referenced,
 }
 

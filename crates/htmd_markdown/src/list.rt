@@ -126,7 +126,8 @@ fn item_count(blocks: &[ListBlock]) -> usize
     count
 }
 
-/// The spaces after the dot of a number: as many as asked for, and one for each digit more that the highest number has.
+/// The spaces after the dot of a number: as many as the option says, and one for each digit more that the highest
+/// number has.
 pub fn aligned_spaces(spacing: u8, highest: usize, number: usize) -> usize
     ensures bound { result ≤ 275 }
     ensures value { result ≡ items.aligned_spaces spacing highest number }

@@ -12,7 +12,7 @@ pub(crate) struct Children {
     kept: Kept,
 }
 
-/// Most nodes have few children, which need no memory of their own.
+/// Most nodes have few children, which need no allocation of their own.
 #[derive(Drop)]
 enum Kept {
     None,

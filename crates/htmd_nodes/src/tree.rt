@@ -224,7 +224,7 @@ impl Tree {
     }
 
     /// As `new`, with memory for this many nodes at once: adding as many takes less time. Their texts and attributes
-    /// have memory of their own. `Memory` when out of memory; there is no other error.
+    /// have an allocation of their own. `Memory` when out of memory; there is no other error.
     pub fn with_capacity(alloc: Global, nodes: usize) -> Result<Tree, TreeError>
         ensures ok { IfOk result (λ tree. tree ≡ document_item ∷ []) }
         ensures memory { IsOkUnless result TreeError.Memory }

@@ -15,14 +15,14 @@ pub trait Sink {
     // Whether a write or a flush has failed.
     ghost has_failed: { Self → Bool };
 
-    /// Takes bytes from the front and answers how many: at least one if there are bytes. `Err` means a failed write.
+    /// Takes bytes from the front and returns how many: at least one if there are bytes. `Err` means a failed write.
     fn write(&mut self, bytes: &[u8]) -> Result<usize, Failed>
         ensures bound { WritesAtMost result bytes.now }
         ensures progress { IfOk result (λ count. 0 < length bytes.now → 0 < count) }
         ensures bytes { WriteAppends (contents self.old) (contents self.new) result bytes.now }
         ensures failure { FailsAtErr result (has_failed self.old) (has_failed self.new) };
 
-    /// Hands on what the sink still holds back. `Err` means a failed flush.
+    /// Passes on what the sink still holds back. `Err` means a failed flush.
     fn flush(&mut self) -> Result<(), Failed>
         ensures bytes { Keeps (contents self.old) (contents self.new) }
         ensures failure { FailsAtErr result (has_failed self.old) (has_failed self.new) };

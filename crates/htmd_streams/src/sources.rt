@@ -15,7 +15,7 @@ pub trait Source {
     // Whether a read has failed.
     ghost has_failed: { Self → Bool };
 
-    /// Puts bytes at the front of the buffer and answers how many. No bytes in a buffer that isn't empty mean the end.
+    /// Puts bytes at the front of the buffer and returns how many. No bytes in a buffer that isn't empty mean the end.
     /// `Err` means a failed read.
     fn read(&mut self, buffer: &mut [u8]) -> Result<usize, Failed>
         ensures bound { ReadsAtMost result buffer.new }

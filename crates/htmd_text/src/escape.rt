@@ -114,7 +114,7 @@ fn is_plain(bytes: &[u8], marks: Marks) -> bool
     }
 }
 
-/// Whether a character may get a backslash wherever it stands. All bytes are looked at, so that a processor can compare
+/// Whether a character may get a backslash wherever it is. All bytes are looked at, so that a processor can compare
 /// many at once.
 fn has_special(bytes: &[u8]) -> bool
     ensures { result ≡ list_any is_special bytes.now }
@@ -126,14 +126,14 @@ fn has_special(bytes: &[u8]) -> bool
     has
 }
 
-/// Whether the character may get a backslash wherever it stands.
+/// Whether the character may get a backslash wherever it is.
 fn is_special(byte: u8) -> bool
     ensures { result ≡ is_special byte }
 {
     matches!(byte, b'\\' | b'*' | b'_' | b'`' | b'[' | b']' | b'<')
 }
 
-/// Whether the character gets a backslash wherever it stands.
+/// Whether the character gets a backslash wherever it is.
 fn is_always_marked(byte: u8) -> bool
     ensures { result ≡ spec.is_always_marked byte }
 {

@@ -22,7 +22,7 @@ pub fn indent_text_except_first_line(
     Ok(indented)
 }
 
-/// Appends to a text what `indent_text_except_first_line` answers for another one. `Err` means out of memory.
+/// Appends to a text what `indent_text_except_first_line` returns for another one. `Err` means out of memory.
 pub fn push_indented(
     out: &mut String,
     text: &str,

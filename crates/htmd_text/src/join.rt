@@ -61,7 +61,7 @@ fn total_len(texts: &[&str]) -> usize
 }
 
 /// The blocks one after another, without the empty ones. If a text ends with `a` line feeds and the next begins with
-/// `b`, the greater number of line feeds stands between them, but at most two. `Err` means out of memory.
+/// `b`, the greater number of line feeds is between them, but at most two. `Err` means out of memory.
 pub fn join_blocks(alloc: Global, blocks: &[String]) -> Result<String, AllocError>
     ensures { IfOk result
         (λ text. string_bytes text

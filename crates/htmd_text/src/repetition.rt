@@ -1,4 +1,4 @@
-//! A character, as often as asked for.
+//! A character, repeated.
 ghost use Rattle.std.specs.Prelude.{◌≡◌, ◌<◌, ◌++◌, OnErr, OnOk, replicate, string_bytes};
 
 use std::alloc::AllocError;

@@ -2,7 +2,7 @@
 ghost use Rattle.std.specs.Prelude.{◌≡◌, ◌==◌, ◌≤◌, length};
 ghost use Rattle.std.specs.List.{prefix_len, suffix_len};
 
-/// How many times in a row a byte stands at the front of a text.
+/// How many times in a row a byte occurs at the front of a text.
 pub fn leading_len(bytes: &[u8], byte: u8) -> usize
     ensures bound { result ≤ length bytes.now }
     ensures value { result ≡ prefix_len (λ b. b == byte) bytes.now }
@@ -15,7 +15,7 @@ pub fn leading_len(bytes: &[u8], byte: u8) -> usize
     bytes.len()
 }
 
-/// How many times in a row a byte stands at the end of a text.
+/// How many times in a row a byte occurs at the end of a text.
 pub fn trailing_len(bytes: &[u8], byte: u8) -> usize
     ensures bound { result ≤ length bytes.now }
     ensures value { result ≡ suffix_len (λ b. b == byte) bytes.now }

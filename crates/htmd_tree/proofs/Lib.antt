@@ -9,6 +9,7 @@ pub mod ValuesLemmas
 pub mod ContentsLemmas
 pub mod TagStepsLemmas
 pub mod TagAnswersLemmas
+pub mod KnownNamesLemmas
 pub mod SurroundingsLemmas
 pub mod CommentTextsLemmas
 pub mod DecodedCharactersLemmas

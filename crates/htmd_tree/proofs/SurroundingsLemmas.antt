@@ -1,14 +1,43 @@
 -- What is kept of an element and its ancestors tells what may stand there.
-use Rattle.std.proofs.Common.{◌≡◌, ℕ, Bool, true, false, ◌&&◌, ◌||◌, List, [], ◌∷◌, ◌++◌, refl, sym, ap, ◌∙◌}
+use Rattle.std.proofs.Common.{◌≡◌, ℕ, Bool, true, false, ◌&&◌, ◌||◌, List, [], ◌∷◌, refl, sym, ap, ◌∙◌}
 use Rattle.std.proofs.Common.{subst, codes}
+use Rattle.std.specs.Prelude.{if◌then◌else◌}
 use Rattle.std.specs.Str.{bytes_eq}
-use Rattle.std.proofs.lemmas.List.Folds.{list_any-append}
 use Rattle.htmd_grammar.proofs.Cases.{test}
 use Rattle.htmd_grammar.specs.CharacterClasses.{is_among}
-use Rattle.htmd_grammar.specs.Nesting.{Context, is_open, excludes_itself, is_allowed, closes_paragraph}
+use Rattle.htmd_grammar.specs.Nesting.{Context, is_open, excludes_itself, is_allowed}
 use Rattle.htmd_grammar.proofs.NestingLemmas.{one_name}
-use Rattle.htmd_tree.specs.Surroundings.{surroundings_of, own_flag, flags_allow, closer_a_to_d, closer_f_to_h}
-use Rattle.htmd_tree.specs.Surroundings.{closer_l_to_x}
+use Rattle.htmd_tree.specs.KnownNames.{known_name}
+use Rattle.htmd_tree.specs.Surroundings.{surroundings_of, own_flag, flags_allow, flags_inside}
+use Rattle.htmd_tree.proofs.KnownNamesLemmas.{
+  outside-is,
+  text-is,
+  raw_text-is,
+  no_script-is,
+  parts-is,
+  table-is,
+  table_part-is,
+  rows-is,
+  row-is,
+  cell-is,
+  column-is,
+  column_group-is,
+  select-is,
+  option_group-is,
+  option-is,
+  part_of_select-is,
+  closer-is,
+  heading-is,
+  paragraph-is,
+  anchor-is,
+  button-is,
+  form-is,
+  nobr-is,
+  item-is,
+  item_list-is,
+  description-is,
+  description_list-is,
+}
 use Rattle.htmd_tree.specs.declared.reader.surroundings.Surroundings.{Surroundings}
 
 -- what is kept is its flags
@@ -78,12 +107,6 @@ same_surroundings p q h1 h2 h3 h4 h5 h6 h7 h8 h9 h10 h11 h12 h13 h14 h15 h16 h17
     ∙ (ap (λ (x : Bool). record p19 { item = x }) h20
     ∙ (ap (λ (x : Bool). record p20 { description = x }) h21))))))))))))))))))))
 
-pub with_flag : (r x a b : Bool) → r ≡ (x || a) → a ≡ b → r ≡ (x || b)
-with_flag r x a b e f = e ∙ ap (λ z. x || z) f
-
-pub with_bound : (r x y a b : Bool) → r ≡ (x || (y && a)) → a ≡ b → r ≡ (x || (y && b))
-with_bound r x y a b e f = e ∙ ap (λ z. x || (y && z)) f
-
 not_named : (m n : List ℕ) → is_among (m ∷ []) n ≡ false → bytes_eq n m ≡ false
 not_named m n e = or_left (bytes_eq n m) e
   where
@@ -91,9 +114,23 @@ not_named m n e = or_left (bytes_eq n m) e
     or_left true e = e
     or_left false e = refl
 
+-- an element that may not stand in itself is open, by its name
+abbrev own_name_flag : Surroundings → List ℕ → Bool
+own_name_flag around n =
+    if is_among (codes "a" ∷ []) n then around.open_a
+    else if is_among (codes "button" ∷ []) n then around.open_button
+    else if is_among (codes "form" ∷ []) n then around.open_form
+    else if is_among (codes "nobr" ∷ []) n then around.open_nobr
+    else if is_among (codes "select" ∷ []) n then around.open_select
+    else if is_among (codes "option" ∷ []) n then around.open_option
+    else false
+
+own_flag-known : (around : Surroundings) (n : List ℕ) → own_flag around (known_name n) ≡ own_name_flag around n
+own_flag-known around n = rw (anchor-is n, button-is n, form-is n, nobr-is n, select-is n, option-is n) refl
+
 module _ (scripting : Bool) (c : Context) where
   abbrev OwnFlag : List ℕ → Type 0
-  OwnFlag n = own_flag (surroundings_of scripting c) n ≡ (excludes_itself n && is_open (n ∷ []) c)
+  OwnFlag n = own_name_flag (surroundings_of scripting c) n ≡ (excludes_itself n && is_open (n ∷ []) c)
 
   by_name : (m n : List ℕ) → OwnFlag m → is_among (m ∷ []) n ≡ true → OwnFlag n
   by_name m n h e = subst OwnFlag (sym (one_name m n e)) h
@@ -115,17 +152,56 @@ module _ (scripting : Bool) (c : Context) where
         not_named (codes "option") n v,
       ) refl))))))
 
-  allowed_there : (n : List ℕ) → flags_allow (surroundings_of scripting c) n ≡ is_allowed scripting c n
+  allowed_there : (n : List ℕ)
+      → flags_allow (surroundings_of scripting c) (known_name n) ≡ is_allowed scripting c n
   unfolding is_allowed
-  allowed_there n = rw (own_flag-is n) refl
+  allowed_there n = rw (
+    own_flag-known (surroundings_of scripting c) n,
+    own_flag-is n,
+    outside-is n,
+    table_part-is n,
+    row-is n,
+    cell-is n,
+    column-is n,
+    option-is n,
+    option_group-is n,
+    closer-is n,
+    heading-is n,
+    item-is n,
+    description-is n,
+  ) refl
 
   pub flags_allow-is : (around : Surroundings) (n : List ℕ) → around ≡ surroundings_of scripting c
-      → flags_allow around n ≡ is_allowed scripting c n
-  flags_allow-is around n e = ap (λ (p : Surroundings). flags_allow p n) e ∙ allowed_there n
+      → flags_allow around (known_name n) ≡ is_allowed scripting c n
+  flags_allow-is around n e = ap (λ (p : Surroundings). flags_allow p (known_name n)) e ∙ allowed_there n
 
--- the names that don't stand under an open p are those of the three parts
-pub closers : (n : List ℕ) → closes_paragraph n
-    ≡ (is_among closer_a_to_d n || (is_among closer_f_to_h n || is_among closer_l_to_x n))
-closers n =
-    list_any-append (bytes_eq n) closer_a_to_d (closer_f_to_h ++ closer_l_to_x)
-    ∙ ap (λ b. is_among closer_a_to_d n || b) (list_any-append (bytes_eq n) closer_f_to_h closer_l_to_x)
+  inside_there : (n : List ℕ)
+      → flags_inside scripting (known_name n) (surroundings_of scripting c) ≡ surroundings_of scripting (n ∷ c)
+  inside_there n = rw (
+    text-is n,
+    raw_text-is n,
+    no_script-is n,
+    parts-is n,
+    table-is n,
+    rows-is n,
+    row-is n,
+    column_group-is n,
+    select-is n,
+    option_group-is n,
+    option-is n,
+    heading-is n,
+    paragraph-is n,
+    anchor-is n,
+    button-is n,
+    form-is n,
+    nobr-is n,
+    part_of_select-is n,
+    item-is n,
+    item_list-is n,
+    description-is n,
+    description_list-is n,
+  ) refl
+
+  pub flags_inside-is : (around : Surroundings) (n : List ℕ) → around ≡ surroundings_of scripting c
+      → flags_inside scripting (known_name n) around ≡ surroundings_of scripting (n ∷ c)
+  flags_inside-is around n e = ap (λ (p : Surroundings). flags_inside scripting (known_name n) p) e ∙ inside_there n

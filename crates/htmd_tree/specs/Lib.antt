@@ -4,6 +4,7 @@ pub mod Bodies
 pub mod BodyLaws
 pub mod Lines
 pub mod DecodedCharacters
+pub mod KnownNames
 pub mod Surroundings
 pub mod OpenNodes
 pub mod Advances

@@ -1,10 +1,12 @@
 -- What a reader keeps of an open element and its ancestors, to know what may stand there.
-use Rattle.std.specs.Prelude.{ℕ, Bool, false, not, ◌&&◌, ◌||◌, if◌then◌else◌, List, [], ◌∷◌, codes}
+use Rattle.std.specs.Prelude.{Bool, false, not, ◌&&◌, ◌||◌, if◌then◌else◌, [], ◌∷◌, codes}
 use Rattle.htmd_grammar.specs.CharacterClasses.{is_among}
 use Rattle.htmd_grammar.specs.RawContent.{holds_raw_text, holds_text_alone}
 use Rattle.htmd_grammar.specs.Nesting.{Context, parent_name, is_open, is_met_before, is_heading, is_table, holds_rows}
-use Rattle.htmd_grammar.specs.Nesting.{is_row, holds_parts, is_optgroup, is_option, is_outside, is_table_part}
-use Rattle.htmd_grammar.specs.Nesting.{closes_paragraph}
+use Rattle.htmd_grammar.specs.Nesting.{is_row, holds_parts, is_optgroup, is_option}
+use Rattle.htmd_tree.specs.KnownNames as known
+use Rattle.htmd_tree.specs.declared.reader.names.KnownName.{KnownName}
+use Rattle.htmd_tree.specs.declared.reader.names.KnownName.TheVariants as kind
 use Rattle.htmd_tree.specs.declared.reader.surroundings.Surroundings.{Surroundings}
 
 abbrev pub surroundings_of : Bool → Context → Surroundings
@@ -33,68 +35,77 @@ surroundings_of scripting c =
       description = is_met_before (codes "dd" ∷ codes "dt" ∷ []) (codes "dl" ∷ []) c;
     }
 
--- ---- what may stand where this is kept, as `is_allowed` has it
+-- what is kept inside an element of which this is kept, by what is known of the name
+abbrev pub flags_inside : Bool → KnownName → Surroundings → Surroundings
+flags_inside scripting k around =
+    record {
+      text_alone = known.is kind.Text k || (known.holds_raw_text k || (scripting && known.is kind.NoScript k));
+      raw_text = known.holds_raw_text k || (scripting && known.is kind.NoScript k);
+      parts = known.holds_parts k;
+      table = known.is kind.Table k;
+      rows = known.is kind.Rows k;
+      row = known.is kind.Row k;
+      columns = known.is kind.ColGroup k;
+      select = known.is kind.Select k;
+      option_group = known.is kind.OptGroup k;
+      option = known.is kind.OptionTag k;
+      heading = known.is kind.Heading k;
+      open_p = known.is kind.P k || around.open_p;
+      open_a = known.is kind.A k || around.open_a;
+      open_button = known.is kind.Button k || around.open_button;
+      open_form = known.is kind.Form k || around.open_form;
+      open_nobr = known.is kind.NoBr k || around.open_nobr;
+      open_select = known.is kind.Select k || around.open_select;
+      open_option = known.is kind.OptionTag k || around.open_option;
+      open_options = known.is_part_of_select k || around.open_options;
+      item = known.is kind.Li k || (not (known.is kind.ItemList k) && around.item);
+      description = known.is kind.Description k || (not (known.is kind.Dl k) && around.description);
+    }
 
-abbrev pub flags_fit_table : Surroundings → List ℕ → Bool
-flags_fit_table around n =
-    if is_table_part n then around.table
-    else if is_row n then around.rows
-    else if is_among (codes "td" ∷ codes "th" ∷ []) n then around.row
-    else if is_among (codes "col" ∷ []) n then around.columns
+-- ---- what may stand where this is kept, as `is_allowed` has it, by what is known of the name
+
+abbrev pub flags_fit_table : Surroundings → KnownName → Bool
+flags_fit_table around k =
+    if known.is_table_part k then around.table
+    else if known.is kind.Row k then around.rows
+    else if known.is kind.Cell k then around.row
+    else if known.is kind.Col k then around.columns
     else not around.parts
 
-abbrev pub flags_fit_select : Surroundings → List ℕ → Bool
-flags_fit_select around n =
-    if around.select then is_option n || is_optgroup n
-    else if around.option_group then is_option n
+abbrev pub flags_fit_select : Surroundings → KnownName → Bool
+flags_fit_select around k =
+    if around.select then known.is kind.OptionTag k || known.is kind.OptGroup k
+    else if around.option_group then known.is kind.OptionTag k
     else not around.option
 
 -- an element that may not stand in itself is open
-abbrev pub own_flag : Surroundings → List ℕ → Bool
-own_flag around n =
-    if is_among (codes "a" ∷ []) n then around.open_a
-    else if is_among (codes "button" ∷ []) n then around.open_button
-    else if is_among (codes "form" ∷ []) n then around.open_form
-    else if is_among (codes "nobr" ∷ []) n then around.open_nobr
-    else if is_among (codes "select" ∷ []) n then around.open_select
-    else if is_among (codes "option" ∷ []) n then around.open_option
+abbrev pub own_flag : Surroundings → KnownName → Bool
+own_flag around k =
+    if known.is kind.A k then around.open_a
+    else if known.is kind.Button k then around.open_button
+    else if known.is kind.Form k then around.open_form
+    else if known.is kind.NoBr k then around.open_nobr
+    else if known.is kind.Select k then around.open_select
+    else if known.is kind.OptionTag k then around.open_option
     else false
 
-abbrev pub flags_fit_open_elements : Surroundings → List ℕ → Bool
-flags_fit_open_elements around n =
-    not (closes_paragraph n && around.open_p)
-    && not (own_flag around n)
-    && not (is_optgroup n && around.open_options)
-    && not (is_heading n && around.heading)
+abbrev pub flags_fit_open_elements : Surroundings → KnownName → Bool
+flags_fit_open_elements around k =
+    not (known.closes_paragraph k && around.open_p)
+    && not (own_flag around k)
+    && not (known.is kind.OptGroup k && around.open_options)
+    && not (known.is kind.Heading k && around.heading)
 
-abbrev pub flags_fit_lists : Surroundings → List ℕ → Bool
-flags_fit_lists around n =
-    not (is_among (codes "li" ∷ []) n && around.item)
-    && not (is_among (codes "dd" ∷ codes "dt" ∷ []) n && around.description)
+abbrev pub flags_fit_lists : Surroundings → KnownName → Bool
+flags_fit_lists around k =
+    not (known.is kind.Li k && around.item)
+    && not (known.is kind.Description k && around.description)
 
-abbrev pub flags_allow : Surroundings → List ℕ → Bool
-flags_allow around n =
-    not (is_outside n)
+abbrev pub flags_allow : Surroundings → KnownName → Bool
+flags_allow around k =
+    not (known.is kind.Outside k)
     && not around.text_alone
-    && flags_fit_table around n
-    && flags_fit_select around n
-    && flags_fit_open_elements around n
-    && flags_fit_lists around n
-
--- ---- the names that `closes_paragraph` has, in three parts
-
-abbrev pub closer_a_to_d : List (List ℕ)
-closer_a_to_d =
-    codes "address" ∷ codes "article" ∷ codes "aside" ∷ codes "blockquote" ∷ codes "center" ∷ codes "dd" ∷
-    codes "details" ∷ codes "dialog" ∷ codes "dir" ∷ codes "div" ∷ codes "dl" ∷ codes "dt" ∷ []
-
-abbrev pub closer_f_to_h : List (List ℕ)
-closer_f_to_h =
-    codes "fieldset" ∷ codes "figcaption" ∷ codes "figure" ∷ codes "footer" ∷ codes "form" ∷ codes "h1" ∷
-    codes "h2" ∷ codes "h3" ∷ codes "h4" ∷ codes "h5" ∷ codes "h6" ∷ codes "header" ∷ codes "hgroup" ∷
-    codes "hr" ∷ []
-
-abbrev pub closer_l_to_x : List (List ℕ)
-closer_l_to_x =
-    codes "li" ∷ codes "main" ∷ codes "menu" ∷ codes "nav" ∷ codes "ol" ∷ codes "p" ∷ codes "pre" ∷
-    codes "search" ∷ codes "section" ∷ codes "summary" ∷ codes "table" ∷ codes "ul" ∷ codes "xmp" ∷ []
+    && flags_fit_table around k
+    && flags_fit_select around k
+    && flags_fit_open_elements around k
+    && flags_fit_lists around k

@@ -25,6 +25,7 @@ mod attributes;
 mod beginning;
 mod body;
 mod comments;
+mod names;
 mod pieces;
 mod raw_text;
 mod references;

@@ -1,4 +1,4 @@
-//! The names of references that may stand without `;`, and what they stand for (HTML Standard, 13.5). No name begins
+//! The names of references that are allowed without `;`, and what they stand for (HTML Standard, 13.5). No name begins
 //! another one, so a text begins with at most one of them.
 
 pub(crate) static OLD_NAMES: [(&str, &str); 106] = [

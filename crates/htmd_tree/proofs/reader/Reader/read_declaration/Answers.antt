@@ -1,7 +1,6 @@
 -- What is left to prove of `read_declaration`.
 use Rattle.std.proofs.Common.{◌<◌, ◌∙◌, length, codes, ap, sym, arith}
 use Rattle.std.proofs.lemmas.List.{length-drop}
-use Rattle.std.specs.String.{string_bytes}
 use Rattle.htmd_grammar.specs.ValueTrees.{comment}
 use Rattle.htmd_grammar.specs.CharacterClasses.{begins_with}
 use Rattle.htmd_grammar.specs.Documents.{above_body}
@@ -18,11 +17,10 @@ returns-in_ok-text-in-Some-clause-shorter c =
     let less : length c.in-Some.rest.now < length c.args.self.now.rest.now =
     omega (arith, within, c.requires.behind, ap length c.range_from.ensures.value, length-drop 2 c.args.behind.now) in
     shorter_follows c.args.self.now c.add_leaf.new.self c.add_leaf.result
-    (λ fs. add (rules_of c.args.self.now) above_body fs (comment (string_bytes c.in_ok-text-in-Some.text))
-    c.in-Some.rest.now)
+    (λ fs. add (rules_of c.args.self.now) above_body fs (comment c.as_str.result.now) c.in-Some.rest.now)
     (length c.in-Some.rest.now) c.requires.reading c.add_leaf.ensures.follows
-    (λ fs. add_within (rules_of c.args.self.now) above_body fs (comment (string_bytes c.in_ok-text-in-Some.text))
-    c.in-Some.rest.now) less
+    (λ fs. add_within (rules_of c.args.self.now) above_body fs (comment c.as_str.result.now) c.in-Some.rest.now)
+    less
 
 pub range_from-requires : goal.range_from-requires
 range_from-requires c = λ _.

@@ -36,12 +36,13 @@ returns-clause-advances c = λ has_doctype fs holds there.
     (text_goes_on c.args.self.now c.text_surroundings-around.result c.as_bytes-name.result.now fs around there) in
     text_read c.args.self.now c.add_leaf.new.self has_doctype fs c.add_leaf.result c.text_surroundings-around.result
     c.as_bytes-name.result.now (string_bytes c.read_run.new.run) c.in_ok-rest.rest.now around c.in_ok-rest.ensures.deep
-    c.in_ok-rest.ensures.longer read.0 read.1 (c.add_leaf.ensures.follows has_doctype fs holds)
+    c.in_ok-rest.ensures.longer read.0 read.1
+    (rw c.as_str.ensures.value at (c.add_leaf.ensures.follows has_doctype fs holds))
 
 pub returns-clause-shorter : goal.returns-clause-shorter
 returns-clause-shorter c =
     shorter_follows c.args.self.now c.add_leaf.new.self c.add_leaf.result
-    (λ fs. add (rules_of c.args.self.now) above_body fs (text (string_bytes c.read_run.new.run)) c.in_ok-rest.rest.now)
+    (λ fs. add (rules_of c.args.self.now) above_body fs (text c.as_str.result.now) c.in_ok-rest.rest.now)
     (length c.in_ok-rest.rest.now) c.requires.reading c.add_leaf.ensures.follows
-    (λ fs. add_within (rules_of c.args.self.now) above_body fs (text (string_bytes c.read_run.new.run))
-    c.in_ok-rest.rest.now) c.in_ok-rest.ensures.shorter
+    (λ fs. add_within (rules_of c.args.self.now) above_body fs (text c.as_str.result.now) c.in_ok-rest.rest.now)
+    c.in_ok-rest.ensures.shorter
