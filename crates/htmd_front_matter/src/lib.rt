@@ -1,4 +1,4 @@
-//! What the head of a page says of it, as lines of YAML.
+//! What the head of a page says about it, as lines of YAML.
 #![tactic(auto)]
 
 mod lines;

@@ -60,7 +60,7 @@ fn push_value(alloc: Global, lines: &mut String, tree: &Tree, key: Key) -> Resul
     }
 }
 
-/// What the head of a page says of it, each as a line of YAML whose value is a JSON string: `title`, `lang`,
+/// What the head of a page says about it, each as a line of YAML whose value is a JSON string: `title`, `lang`,
 /// `description`, `author`, `date`, `canonical` and `keywords`, where they are there. `Err` means out of memory.
 pub fn front_matter(alloc: Global, tree: &Tree) -> Result<String, AllocError>
     ensures { IfOk result (λ s. string_bytes s ≡ spec.front_matter tree.now) }

@@ -1,4 +1,4 @@
-//! What the head of a page says of it.
+//! What the head of a page says about it.
 ghost use Rattle.std.specs.Prelude.{◌≡◌, ◌<◌, length, option_copied};
 ghost use Rattle.htmd_grammar.specs.Attributes.{pairs_of};
 ghost use Rattle.htmd_nodes.specs.Items.{children_of};
@@ -147,7 +147,7 @@ fn own_value<'a>(
     }
 }
 
-/// What the first element says that says it, among a node and what is below it.
+/// What the first element that says it says, among a node and what is below it.
 #[cycle(values)]
 pub(crate) fn value_in(key: Key, tree: &Tree, node: NodeId) -> Option<&str>
     requires { node < length tree.now }

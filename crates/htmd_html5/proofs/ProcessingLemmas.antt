@@ -1,10 +1,13 @@
 -- What is processed by one set of rules, and again or not.
 use Rattle.std.proofs.Common.{◌≡◌, ◌∙◌, ℕ, suc, ◌+◌, ◌-◌, ◌<◌, true, false, refl, ap, sym, arith}
 use Rattle.htmd_html5_state.specs.State.{StateValue}
-use Rattle.htmd_html5.specs.Answers.{Answer, answer}
-use Rattle.htmd_html5.specs.Tokens.{TokenValue}
+use Rattle.htmd_html5_state.specs.declared.modes.InsertionMode.{InsertionMode}
+use Rattle.htmd_html5_state.specs.declared.modes.InsertionMode.TheVariants.{InBody}
+use Rattle.htmd_html5.specs.Answers.{Answer, answer, done}
+use Rattle.htmd_html5.specs.BodyStarts.{start_in_body}
+use Rattle.htmd_html5.specs.Tokens.{StartTagValue, TokenValue, start_tag}
 use Rattle.htmd_html5.specs.ForeignContent.{is_foreign, in_foreign_content}
-use Rattle.htmd_html5.specs.Modes.{by_mode_rules}
+use Rattle.htmd_html5.specs.Modes.{by_mode_rules, in_mode}
 use Rattle.htmd_html5.specs.Processing.{by_rules, after_answer, process_within, process, turns}
 
 -- in foreign content or out of it
@@ -53,3 +56,11 @@ pub process_once : (token : TokenValue) (s new : StateValue) → answer new fals
     → new ≡ process token s
 process_once token s new e =
     rests_done token s s new 0 (turns s) (rests_first token s (turns s)) (omega arith) e
+
+-- start tags in the body are
+pub started_in_body : (tag : StartTagValue) (s new : StateValue) → s.mode ≡ InBody
+    → is_foreign (start_tag tag) s ≡ false → new ≡ start_in_body tag s
+    → new ≡ process (start_tag tag) s
+started_in_body tag s new m f e =
+    process_once (start_tag tag) s new
+    (sym (by_html (start_tag tag) s f ∙ ap (λ (i : InsertionMode). in_mode i (start_tag tag) s) m ∙ ap done (sym e)))

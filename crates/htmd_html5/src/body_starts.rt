@@ -25,7 +25,7 @@ enum StartRule {
     InHead,
     Body,
     FrameSet,
-    /// Tags that may only stand elsewhere.
+    /// Tags that are allowed only elsewhere.
     Ignored,
     Block,
     Heading,

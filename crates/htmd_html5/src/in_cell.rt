@@ -33,7 +33,7 @@ fn leave_cell(state: &mut HtmlState, wanted: NameSet) -> bool
     found
 }
 
-/// Whether it is a part of a table that can't stand in a cell or a caption.
+/// Whether it is a part of a table that isn't allowed in a cell or a caption.
 pub(crate) fn leaves_cell(tag: TagName) -> bool
     ensures { result ≡ spec.leaves_cell tag }
 {

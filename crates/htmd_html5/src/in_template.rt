@@ -19,7 +19,7 @@ fn set_template_mode(state: &mut HtmlState, mode: InsertionMode) -> Result<(), A
     state.push_template_mode(mode)
 }
 
-/// The mode for the content in which an element with this name stands.
+/// The mode for the content in which an element with this name is.
 fn mode_of_content(name: &HtmlName) -> InsertionMode
     ensures { result ≡ spec.mode_of_content (name_of name.now) }
 {

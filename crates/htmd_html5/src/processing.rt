@@ -5,6 +5,7 @@ ghost use Rattle.htmd_html5.specs.Answers.{answer};
 ghost use Rattle.htmd_html5.specs.Processing as spec;
 ghost use Rattle.htmd_html5.specs.Tokens.{tag_of, start_tag, end_tag, run, comment, doctype, end_of_file};
 
+use crate::body_starts::start_in_body;
 use crate::foreign_content::{
     end_in_foreign, is_in_foreign, is_start_foreign, is_text_foreign, put_run_in_foreign,
     start_in_foreign,
@@ -14,7 +15,7 @@ use crate::modes::{
     start_by_mode,
 };
 use crate::tokens::{RunKind, StartTag};
-use htmd_html5_state::{HtmlName, HtmlState};
+use htmd_html5_state::{HtmlName, HtmlState, InsertionMode};
 use std::alloc::AllocError;
 
 /// At most this many modes process a token one after another without closing an element.
@@ -39,8 +40,8 @@ fn start_by_rules(state: &mut HtmlState, tag: StartTag) -> Result<Option<StartTa
     }
 }
 
-/// A start tag.
-pub(crate) fn process_start(state: &mut HtmlState, tag: StartTag) -> Result<(), AllocError>
+/// A start tag, turn by turn.
+fn process_start_in_turns(state: &mut HtmlState, tag: StartTag) -> Result<(), AllocError>
     ensures { OnOk result (state.new ≡ spec.process (start_tag (tag_of tag)) state.old) }
 {
     let mut tag = tag;
@@ -51,6 +52,19 @@ pub(crate) fn process_start(state: &mut HtmlState, tag: StartTag) -> Result<(), 
         }
     }
     Ok(())
+}
+
+/// A start tag. Most of them the mode "in body" processes, which is done with each in one turn.
+#[tactic(auto, using(crate::proofs::ProcessingLemmas::started_in_body))]
+pub(crate) fn process_start(state: &mut HtmlState, tag: StartTag) -> Result<(), AllocError>
+    ensures { OnOk result (state.new ≡ spec.process (start_tag (tag_of tag)) state.old) }
+{
+    if let InsertionMode::InBody = state.mode()
+        && !is_start_foreign(state, &tag)
+    {
+        return start_in_body(state, tag);
+    }
+    process_start_in_turns(state, tag)
 }
 
 fn end_by_rules(state: &mut HtmlState, name: &HtmlName) -> Result<bool, AllocError>

@@ -14,7 +14,7 @@ use htmd_nodes::Tree;
 use std::alloc::{AllocError, Global};
 use std::borrow::CowStr;
 
-/// Few pages have more nodes than one for so many bytes. Memory for these is asked for at once, since a list that grows
+/// Few pages have more nodes than one for so many bytes. Memory for these is allocated at once, since a list that grows
 /// is copied each time.
 const BYTES_PER_NODE: usize = 14;
 

@@ -11,20 +11,20 @@ pub fn tokens_are_utf8()
     ensures { TokensAreUtf8 }
 {}
 
-/// No letter is made up: each letter stands in the texts of the tree at most as often as in those of the page's tokens.
-/// A letter is a character that isn't white space, U+0000 or U+FFFD.
+/// No letter is made up: each letter is in the texts of the tree at most as often as in those of the page's tokens. A
+/// letter is a character that isn't white space, U+0000 or U+FFFD.
 pub fn no_letter_is_made_up()
     ensures { NoLetterIsMadeUp }
 {}
 
-/// Letters are taken: where no text comes to a state that drops text, each letter stands in the texts of the document
-/// that is made of the page as often as in those of the page's tokens.
+/// Letters are taken: where no text reaches a state that drops text, each letter is in the texts of the document that
+/// is made of the page as often as in those of the page's tokens.
 pub fn letters_are_taken()
     ensures { LettersAreTaken }
 {}
 
-/// Letters are kept: where no text comes to a state that drops text, and the document that is made of the page is in
-/// one piece, each letter stands in the texts of the tree as often as in those of the page's tokens.
+/// Letters are kept: where no text reaches a state that drops text, and the document that is made of the page is in one
+/// piece, each letter is in the texts of the tree as often as in those of the page's tokens.
 pub fn letters_are_kept()
     ensures { LettersAreKept }
 {}
@@ -34,14 +34,14 @@ pub fn harmless_texts_are_taken()
     ensures { HarmlessTextsAreTaken }
 {}
 
-/// Without a start tag of `frameset` or `template` each letter stands in the texts of the document that is made of the
-/// page as often as in those of the page's tokens.
+/// Without a start tag of `frameset` or `template` each letter is in the texts of the document that is made of the page
+/// as often as in those of the page's tokens.
 pub fn harmless_letters_are_taken()
     ensures { HarmlessLettersAreTaken }
 {}
 
-/// Without a start tag of `frameset` or `template` letters are kept: each letter stands in the texts of the tree as
-/// often as in those of the page's tokens.
+/// Without a start tag of `frameset` or `template` letters are kept: each letter is in the texts of the tree as often
+/// as in those of the page's tokens.
 pub fn harmless_letters_are_kept()
     ensures { HarmlessLettersAreKept }
 {}
@@ -52,9 +52,9 @@ pub fn letters_stand_in_order()
     ensures { LettersStandInOrder }
 {}
 
-/// Without such a start tag each character but U+0000 and U+FFFD, white space too, stands in the texts of the tree as
-/// often as in what is kept of the texts of the page's tokens: white space before the head goes, and a line feed right
-/// after a start tag of `pre`, `listing` or `textarea`.
+/// Without such a start tag each character but U+0000 and U+FFFD, white space too, is in the texts of the tree as often
+/// as in what is kept of the texts of the page's tokens: white space before the head goes, and a line feed right after
+/// a start tag of `pre`, `listing` or `textarea`.
 pub fn characters_are_kept()
     ensures { CharactersAreKept }
 {}
@@ -66,7 +66,7 @@ pub fn text_is_kept()
     ensures { TextIsKept }
 {}
 
-/// And if no U+0000 stands in the texts of the page's tokens, so are all characters, U+FFFD too.
+/// And if no U+0000 is in the texts of the page's tokens, so are all characters, U+FFFD too.
 pub fn whole_text_is_kept()
     ensures { WholeTextIsKept }
 {}

@@ -4,15 +4,15 @@ ghost use Rattle.htmd_html5_laws.specs.StrictTokens.{TokensAgree};
 ghost use Rattle.htmd_html5_laws.specs.StrictTrees.{PlainPagesAgree, PlainTextsAgree};
 
 /// Characters and references denote the same by the strict grammar and by the lenient reader, where line ends are line
-/// feeds, no U+0000 stands, and each reference by name has its `;`; in the value of an attribute it needs none before
+/// feeds, there is no U+0000, and each reference by name has its `;`; in the value of an attribute it needs none before
 /// `=`, a letter or a digit.
 pub fn references_agree()
     ensures { ReferencesAgree }
 {}
 
 /// The tokens that the lenient reader's tokenizer finds in a text of the strict grammar are those of its trees, in
-/// document order, where line ends are line feeds, no U+0000 stands, each reference by name has its `;`, and no element
-/// is a `textarea`, `script` or `tbody`.
+/// document order, where line ends are line feeds, there is no U+0000, each reference by name has its `;`, and no
+/// element is a `textarea`, `script` or `tbody`.
 pub fn tokens_agree()
     ensures { TokensAgree }
 {}

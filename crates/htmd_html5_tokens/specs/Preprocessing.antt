@@ -8,5 +8,6 @@ use Rattle.htmd_grammar.specs.Documents.{behind_mark}
 abbrev pub preprocessed : List ℕ → List ℕ
 preprocessed s = normalized (behind_mark s)
 
+-- a byte that stays as it is; no public clause cites this
 abbrev pub is_not_return : ℕ → Bool
 is_not_return b = not (b == carriage_return)

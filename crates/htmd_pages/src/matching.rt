@@ -39,7 +39,7 @@ fn has_value(attrs: &[Attribute], name: &[u8], value: &[u8]) -> bool
     false
 }
 
-/// Whether a word stands between ASCII white space.
+/// Whether a word is between ASCII white space.
 fn has_word(text: &[u8], word: &[u8]) -> bool
     ensures { result ≡ spec.has_word word.now text.now }
 {

@@ -5,7 +5,7 @@ ghost use Rattle.htmd_pages.specs.declared.selectors.SelectorError.TheVariants.{
 use std::alloc::{AllocError, AllocFailed, Global};
 use thiserror::Error;
 
-/// What a simple selector asks of an element.
+/// What a simple selector requires of an element.
 #[derive(Drop)]
 pub(crate) enum Condition {
     /// `main`: this name.
@@ -20,20 +20,20 @@ pub(crate) enum Condition {
     Value { name: Vec<u8>, value: Vec<u8> },
 }
 
-/// How a simple selector stands to the one before it.
+/// How a simple selector relates to the one before it.
 #[derive(Clone, Copy, PartialEq, Eq)]
 pub(crate) enum Relation {
     /// Another selector begins.
     Start,
-    /// It asks something of the same element.
+    /// It is about the same element.
     Same,
-    /// It asks something of a child of that element.
+    /// It is about a child of that element.
     Child,
-    /// It asks something of an element below that element.
+    /// It is about an element below that element.
     Below,
 }
 
-/// A simple selector, and how it stands to the one before it.
+/// A simple selector, and how it relates to the one before it.
 #[derive(Drop)]
 pub(crate) struct Step {
     pub(crate) relation: Relation,
@@ -74,16 +74,16 @@ impl Selectors {
     }
 }
 
-/// Why a text is no selector, and the place in it, in bytes from 0.
+/// Why a text isn't a selector, and the place in it, in bytes from 0.
 #[derive(Debug, PartialEq, Eq, Drop, Error)]
 pub enum SelectorError {
     /// Out of memory.
     #[error("out of memory")]
     Memory,
-    /// No selector stands before a comma, after `>` or at the end.
+    /// There is no selector before a comma, after `>` or at the end.
     #[error("a selector is missing at byte {place}")]
     NoSelector { place: usize },
-    /// No name stands after `.`, `#`, `[` or `=`, or a name begins with a digit.
+    /// There is no name after `.`, `#`, `[` or `=`, or a name begins with a digit.
     #[error("a name is missing at byte {place}")]
     NoName { place: usize },
     /// A bracket or a quotation mark isn't closed.

@@ -1,6 +1,6 @@
 //! The strict reader of HTML: the tree that a text denotes by the grammar, or the first fault of any other text.
 //! `body_of` takes the body from a whole page, and `line_and_column` says in which line and column a place is. Trees
-//! and their serialisation, which the crate below has, are handed on.
+//! and their serialisation, which `htmd_nodes` has, are re-exported.
 #![tactic(auto, using(std::proofs::lemmas::Grind::common_steps))]
 
 pub mod laws;

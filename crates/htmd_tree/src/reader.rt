@@ -53,7 +53,7 @@ pub enum ReadError {
     Memory,
 }
 
-/// What is kept of an open element: its node, whether no tag opened it, and what may stand in it.
+/// What is kept of an open element: its node, whether no tag opened it, and what is allowed in it.
 #[derive(Clone, Copy, Drop)]
 pub(crate) struct OpenNode {
     id: NodeId,

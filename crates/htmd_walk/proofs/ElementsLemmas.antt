@@ -1,8 +1,8 @@
 -- What the handlers of an element answer, one handler at a time.
 use Rattle.std.proofs.Common.{◌≡◌, ℕ, zero, suc, ◌+◌, List, [], ◌∷◌, drop, Some, None, slice_get, refl, sym, ap}
 use Rattle.std.proofs.Common.{◌∙◌}
-use Rattle.std.proofs.Common.{true, false, cond, add-one}
-use Rattle.htmd_walk.specs.Handling.{PlanView, contents_of_each, OutcomeView}
+use Rattle.std.proofs.Common.{Bool, true, false, cond, add-one}
+use Rattle.htmd_walk.specs.Handling.{PlanView, OutcomeView, HandlerMeaning}
 use Rattle.htmd_walk.specs.Choice.{indexes, handler_at, handlers_at}
 use Rattle.htmd_walk.specs.Outputs.{is_markdown_alone}
 use Rattle.htmd_walk.specs.Elements.{Occurrence, Answer, plan_answer, first_answer, answer_after, without_handler}
@@ -33,18 +33,6 @@ module _ (tag : List ℕ) (at : Occurrence) (skipped : ℕ) (definitions : List 
       → answer_after skipped tag at definitions ≡ without_handler at definitions
   answer-none e = ap left (drop_at_none registered skipped e)
 
-  pub answer-none-pure : None ≡ slice_get registered skipped
-      → is_markdown_alone at.conversion.config.options ≡ true
-      → answer_of (content_of at definitions) ≡ answer_after skipped tag at definitions
-  answer-none-pure e p = sym (answer-none e
-      ∙ ap (λ b. cond b (answer_of (content_of at definitions)) (raw_answer at definitions)) p)
-
-  pub answer-none-faithful : None ≡ slice_get registered skipped
-      → is_markdown_alone at.conversion.config.options ≡ false
-      → raw_answer at definitions ≡ answer_after skipped tag at definitions
-  answer-none-faithful e p =
-      sym (answer-none e ∙ ap (λ b. cond b (answer_of (content_of at definitions)) (raw_answer at definitions)) p)
-
   -- with a handler at an index, by what it asks for
   pub answer-some : (index : ℕ) (p : PlanView) → Some index ≡ slice_get registered skipped
       → p ≡ (handler_at at.conversion.config.handlers index).plan at.view
@@ -55,15 +43,23 @@ module _ (tag : List ℕ) (at : Occurrence) (skipped : ℕ) (definitions : List 
       ∙ ap (λ q. plan_answer (handler_at at.conversion.config.handlers index) at definitions q
       (answer_after (skipped + 1) tag at definitions)) (sym h)
 
-  -- if it asks for nodes, by what it makes of their contents
-  pub answer-each : (index : ℕ) (nodes : List ℕ) (contents : Contents) (outcome : OutcomeView)
-      → Some index ≡ slice_get registered skipped
-      → contents_of_each nodes ≡ (handler_at at.conversion.config.handlers index).plan at.view
-      → contents ≡ contents_alone at nodes definitions
-      → outcome ≡ (handler_at at.conversion.config.handlers index).finish_each at.view contents.results
-      → outcome_answer (handler_at at.conversion.config.handlers index) at contents.definitions outcome
-      ≡ answer_after skipped tag at definitions
-  answer-each index nodes contents outcome e h is made =
-      ap (outcome_answer (handler_at at.conversion.config.handlers index) at contents.definitions) made
-      ∙ ap (each_answer (handler_at at.conversion.config.handlers index) at) is
-      ∙ sym (answer-some index (contents_of_each nodes) e h)
+module _ (at : Occurrence) (definitions : List (List ℕ)) where
+  abbrev by_mode : Bool → Answer
+  by_mode b = cond b (answer_of (content_of at definitions)) (raw_answer at definitions)
+
+  pub answer-pure : is_markdown_alone at.conversion.config.options ≡ true
+      → answer_of (content_of at definitions) ≡ without_handler at definitions
+  answer-pure p = sym (ap by_mode p)
+
+  pub answer-faithful : is_markdown_alone at.conversion.config.options ≡ false
+      → raw_answer at definitions ≡ without_handler at definitions
+  answer-faithful p = sym (ap by_mode p)
+
+-- what a handler makes of the contents of nodes
+pub each-outcome : (handler : HandlerMeaning) (at : Occurrence) (contents : Contents) (nodes : List ℕ)
+    (definitions : List (List ℕ)) (outcome : OutcomeView) → contents ≡ contents_alone at nodes definitions
+    → outcome ≡ handler.finish_each at.view contents.results
+    → outcome_answer handler at contents.definitions outcome
+    ≡ each_answer handler at (contents_alone at nodes definitions)
+each-outcome handler at contents nodes definitions outcome is made =
+    ap (outcome_answer handler at contents.definitions) made ∙ ap (each_answer handler at) is

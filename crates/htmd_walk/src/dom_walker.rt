@@ -6,19 +6,20 @@ mod tests;
 mod visit;
 
 ghost use Rattle.std.specs.Prelude.{◌≡◌, ◌<◌, ℕ, List, None, true, false, IfOk, IfSome, IsTrue, OnOk};
-ghost use Rattle.std.specs.Prelude.{◌∷◌, [], codes, length, string_bytes};
+ghost use Rattle.std.specs.Prelude.{◌∷◌, ◌++◌, [], codes, length, string_bytes};
 ghost use Rattle.std.specs.Option.{option_copied};
 ghost use Rattle.htmd_nodes.specs.Items.{data_at, element_node, IsTree};
 ghost use Rattle.htmd_nodes.specs.NumberedTrees.{tree_of};
 ghost use Rattle.htmd_nodes.specs.Ancestors.{ancestors_of};
 ghost use Rattle.htmd_grammar.specs.Attributes.{pairs_of};
 ghost use Rattle.htmd_walk.specs.Handling.{IsProper, contents_of_each};
-ghost use Rattle.htmd_walk.specs.Choice.{indexes, handlers_at};
-ghost use Rattle.htmd_walk.specs.OrdinaryText.{in_pre_or_code};
+ghost use Rattle.htmd_walk.specs.Choice.{indexes, handler_at, handlers_at};
+ghost use Rattle.htmd_walk.specs.OrdinaryText.{in_pre_or_code, parent_is_pre, written_text};
 ghost use Rattle.htmd_walk.specs.Groups.{group_tree, children_at};
 ghost use Rattle.htmd_walk.specs.Outputs.{conversion_of, context_of, empty_output};
 ghost use Rattle.htmd_walk.specs.Children.{write_groups, content_alone};
 ghost use Rattle.htmd_walk.specs.Elements.{content_of, contents_alone, answer_after, raw_answer};
+ghost use Rattle.htmd_walk.specs.Elements.{without_handler, each_answer};
 ghost use Rattle.htmd_walk.specs.Passing.{IsPassed};
 ghost use Rattle.htmd_walk.specs.Spans.{spans};
 ghost use Rattle.htmd_walk.specs.Rendering.{is_text, inside_of, with_result};
@@ -204,7 +205,7 @@ impl<'a, R: Registry> Walk<'a, R> {
         self.registry.is_span_handler_at(index)
     }
 
-    /// Whether the walk goes past an element without asking its handlers: unless the mode is Faithful, past a tag
+    /// Whether the walk goes past an element without calling its handlers: unless the mode is Faithful, past a tag
     /// without registrations, and past a `span` that is no formula and has the built-in handler alone.
     fn goes_past(&self, tree: &Tree, node: NodeId) -> bool
         requires { node < length tree.now }
@@ -239,10 +240,7 @@ impl<'a, R: Registry> Walk<'a, R> {
             (λ at. answer_after skipped element.now.tag.now at links.old) (λ r. answer_view r links.new) result }
     {
         let Some(index) = self.registry.find(element.tag, skipped) else {
-            if is_markdown_alone(self.registry.options()) {
-                return Ok(Some(self.content(element, links)?));
-            }
-            return self.raw_html(element, links);
+            return self.without_handler(element, links);
         };
         match self.registry.plan(self.alloc, index, element)? {
             // A pattern in a pattern gets no proof here.
@@ -273,33 +271,64 @@ impl<'a, R: Registry> Walk<'a, R> {
             Request::Each {
                 nodes,
                 may_ask_children,
-            } => {
-                let mut remembered = Vec::new(self.alloc);
-                let contents = self.walk_each(
-                    element,
-                    nodes.as_slice(),
-                    may_ask_children,
-                    &mut remembered,
-                    links,
-                )?;
-                match self
-                    .registry
-                    .finish_each(self.alloc, index, element, contents)?
-                {
-                    Outcome::Final(result) => Ok(result),
-                    Outcome::ChildrenToo => {
-                        let knowing = Walk {
-                            registry: self.registry,
-                            alloc: self.alloc,
-                            tree: self.tree,
-                            remembered: remembered.as_slice(),
-                            spare: self.spare,
-                        };
-                        let content = knowing.content(element, links)?;
-                        self.registry
-                            .finish(self.alloc, index, element, content, links)
-                    }
-                }
+            } => self.handle_each(element, index, nodes.as_slice(), may_ask_children, links),
+        }
+    }
+
+    /// What an element gives when no handler is left: its content, or its raw HTML in Faithful.
+    #[cycle(walk)]
+    fn without_handler(
+        &self,
+        element: &Element,
+        links: &mut Links,
+    ) -> Result<Option<HandlerResult>, AllocError>
+        requires ready { R.ready self.now.registry.now }
+        requires here { IsElementOf (R.config self.now.registry.now).options self.now.tree.now element.now }
+        ensures { ElementGives (R.config self.now.registry.now) self.now.tree.now element.now
+            (λ at. without_handler at links.old) (λ r. answer_view r links.new) result }
+    {
+        if is_markdown_alone(self.registry.options()) {
+            return Ok(Some(self.content(element, links)?));
+        }
+        self.raw_html(element, links)
+    }
+
+    /// What the handler at an index makes of the contents of these nodes, for which it asked.
+    #[cycle(walk)]
+    fn handle_each(
+        &self,
+        element: &Element,
+        index: usize,
+        nodes: &[NodeId],
+        may_ask_children: bool,
+        links: &mut Links,
+    ) -> Result<Option<HandlerResult>, AllocError>
+        requires ready { R.ready self.now.registry.now }
+        requires here { IsElementOf (R.config self.now.registry.now).options self.now.tree.now element.now }
+        requires index { index < length (R.config self.now.registry.now).handlers }
+        requires proper { IsProper self.now.tree.now element.now.node (contents_of_each nodes.now) }
+        ensures { ElementGives (R.config self.now.registry.now) self.now.tree.now element.now
+            (λ at. each_answer (handler_at at.conversion.config.handlers index) at
+            (contents_alone at nodes.now links.old)) (λ r. answer_view r links.new) result }
+    {
+        let mut remembered = Vec::new(self.alloc);
+        let contents = self.walk_each(element, nodes, may_ask_children, &mut remembered, links)?;
+        match self
+            .registry
+            .finish_each(self.alloc, index, element, contents)?
+        {
+            Outcome::Final(result) => Ok(result),
+            Outcome::ChildrenToo => {
+                let knowing = Walk {
+                    registry: self.registry,
+                    alloc: self.alloc,
+                    tree: self.tree,
+                    remembered: remembered.as_slice(),
+                    spare: self.spare,
+                };
+                let content = knowing.content(element, links)?;
+                self.registry
+                    .finish(self.alloc, index, element, content, links)
             }
         }
     }
@@ -349,7 +378,7 @@ impl<'a, R: Registry> Walk<'a, R> {
         Ok(Some(raw_result(raw)))
     }
 
-    /// The contents of proper descendants, each handed over by itself; what they give is remembered, if it may be.
+    /// The contents of proper descendants, each converted by itself; what they give is remembered, if it may be.
     #[inline(never)]
     #[cycle(walk)]
     fn walk_each(
@@ -524,7 +553,7 @@ impl<'a, R: Registry> Walk<'a, R> {
         )
     }
 
-    /// The content of a node that is handed over by itself.
+    /// The content of a node that is converted by itself.
     #[cycle(walk)]
     pub(crate) fn walk_alone(
         &self,
@@ -541,6 +570,18 @@ impl<'a, R: Registry> Walk<'a, R> {
         let mut out = empty_result(self.alloc, self.spare);
         self.walk_node(&visit, &mut out, links)?;
         Ok(out)
+    }
+
+    /// Writes the text of a node after what is written so far.
+    fn write_text(&self, visit: &Visit, text: &str, out: &mut String) -> Result<(), AllocError>
+        requires { visit.now.node < length self.now.tree.now }
+        ensures { let context = visit.now.context in
+            let in_pre = parent_is_pre (ancestors_of self.now.tree.now visit.now.node) in
+            OnOk result (string_bytes out.new ≡ string_bytes out.old
+            ++ written_text context.preformatted in_pre context.trim (string_bytes out.old) text.now) }
+    {
+        let in_pre = is_parent_pre(self.tree, visit.node);
+        append_text(self.alloc, text, in_pre, visit.context, self.spare, out)
     }
 
     /// Writes a node, or the group that begins at it, after what is written so far.
@@ -577,17 +618,7 @@ impl<'a, R: Registry> Walk<'a, R> {
                 }
                 push_comment(&mut out.content, text)
             }
-            NodeData::Text(text) => {
-                let in_pre = is_parent_pre(self.tree, node);
-                append_text(
-                    self.alloc,
-                    text,
-                    in_pre,
-                    context,
-                    self.spare,
-                    &mut out.content,
-                )
-            }
+            NodeData::Text(text) => self.write_text(visit, text, &mut out.content),
             NodeData::Element { name, attrs } => {
                 if let Some(known) = self.recall(node, visit.joined) {
                     return append_copy(
@@ -607,8 +638,8 @@ impl<'a, R: Registry> Walk<'a, R> {
     }
 }
 
-/// The Markdown of a node that is handed over by itself, by the handlers of this registry. `Err` means out of memory.
-/// The registry and the tree are never changed.
+/// The Markdown of a node that is converted by itself, by the handlers of this registry. `Err` means out of memory. The
+/// registry and the tree are never changed.
 pub fn tree_to_markdown<R: Registry>(
     registry: &R,
     alloc: Global,

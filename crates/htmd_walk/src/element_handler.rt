@@ -133,7 +133,7 @@ impl HandlerResult {
     }
 }
 
-/// What a handler asks for.
+/// What a handler needs.
 #[derive(Drop)]
 pub enum Plan {
     /// Nothing: the element gives nothing.
@@ -201,15 +201,15 @@ impl Links {
     }
 }
 
-/// Converts the elements of the tags that it is registered for. What it answers is a function of its value and of what
+/// Converts the elements of the tags that it is registered for. What it returns is a function of its value and of what
 /// it is shown, `Err` means out of memory, and a `Plan::Descendant` is a proper descendant of `element.node`.
 pub trait ElementHandler: Drop {
     ghost use Rattle.htmd_walk.specs.Views.{plan_view, optional_result, result_view, element_view, optional_text};
 
-    /// What it asks for.
+    /// What it needs.
     ghost plan_of: { Self → ElementView → PlanView };
 
-    /// What it makes of the content that it asked for.
+    /// What it makes of the content that it needs.
     ghost finish_of: { Self → ElementView → ResultView → Option ResultView };
 
     /// What it puts after a conversion.
@@ -219,13 +219,13 @@ pub trait ElementHandler: Drop {
     fn append(&self, alloc: Global) -> Result<Option<String>, AllocError>
         ensures { IfOk result (λ r. optional_text r ≡ append_of self.now) };
 
-    /// What it asks for. A plan that asks for no content gives its result at once; for content `finish` is called.
-    /// `Err` means out of memory.
+    /// What it needs. A plan that needs no content gives its result at once; for content `finish` is called. `Err`
+    /// means out of memory.
     fn plan(&self, alloc: Global, element: &Element) -> Result<Plan, AllocError>
         ensures plan { IfOk result (λ p. plan_view p ≡ plan_of self.now (element_view element.now)) }
         ensures proper { IfOk result (λ p. IsProper (element_view element.now).items element.now.node (plan_view p)) };
 
-    /// The result of the content that was asked for, or nothing. `Err` means out of memory.
+    /// The result from the content that the plan needs, or nothing. `Err` means out of memory.
     fn finish(
         &self,
         alloc: Global,

@@ -12,16 +12,26 @@ use htmd_nodes::{Attribute, NodeData, NodeId, Tree};
 use htmd_text::is_block_element;
 use std::alloc::{AllocError, Global};
 
+/// Whether the name is one of emphasis. It is only compared with a name of its own length.
 fn is_em(name: &str) -> bool
     ensures { result ≡ spec.is_em name.now }
 {
-    name == "em" || name == "i"
+    match name.len() {
+        1 => name == "i",
+        2 => name == "em",
+        _ => false,
+    }
 }
 
+/// Whether the name is one of strong emphasis. It is only compared with a name of its own length.
 fn is_strong(name: &str) -> bool
     ensures { result ≡ spec.is_strong name.now }
 {
-    name == "strong" || name == "b"
+    match name.len() {
+        1 => name == "b",
+        6 => name == "strong",
+        _ => false,
+    }
 }
 
 /// What counts of an element when it is joined.

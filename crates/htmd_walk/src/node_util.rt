@@ -1,4 +1,4 @@
-//! What is asked of a node of a tree.
+//! Queries about a node of a tree.
 
 ghost use Rattle.std.specs.Prelude.{◌≡◌, ◌<◌, ◌||◌, true, false, length};
 ghost use Rattle.std.specs.Option.{option_copied};
@@ -48,7 +48,7 @@ pub(crate) fn preformatted_inside(tree: &Tree, node: NodeId, preformatted: bool)
     preformatted || is_pre_or_code(tree, node)
 }
 
-/// Whether a node that is handed over by itself is preformatted. A text is then ordinary.
+/// Whether a node that is converted by itself is preformatted. A text is then ordinary.
 pub(crate) fn is_preformatted_alone(tree: &Tree, node: NodeId) -> bool
     requires { node < length tree.now }
     ensures text { is_text (data_at tree.now node) ≡ true → result ≡ false }

@@ -24,7 +24,7 @@ pub enum TranslationMode {
     Faithful,
 }
 
-/// What a conversion goes by.
+/// What a conversion depends on besides the page.
 #[derive(Debug, Drop)]
 pub struct Options {
     pub heading_style: HeadingStyle,

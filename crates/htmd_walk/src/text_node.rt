@@ -29,7 +29,7 @@ fn without_first_space(text: &str, goes: bool) -> &str
     text
 }
 
-/// Whether the byte stands for itself wherever it stands.
+/// Whether the byte stands for itself wherever it is.
 fn is_plain_byte(byte: u8) -> bool
     ensures { result ≡ is_plain_byte byte }
 {

@@ -85,9 +85,9 @@ fn before_last_end_tag(text: &str) -> &str
 /// to the end if there is none. What comes before is skipped: an XML declaration, a doctype of any kind, `html`,
 /// `head`. Without such a start tag, it is the whole text, at place 0.
 ///
-/// A tag counts wherever it stands, even in a comment or a script of the head. A part that begins at such a tag is
-/// refused by the grammar if the right start tag stands in it, unless that is hidden in a comment or a raw text; a part
-/// that ends before the right start tag, at an end tag that goes with the wrong one, is not refused.
+/// A tag counts wherever it is, even in a comment or a script of the head. A part that begins at such a tag is refused
+/// by the grammar if the right start tag is in it, unless that is hidden in a comment or a raw text; a part that ends
+/// before the right start tag, at an end tag that goes with the wrong one, is not refused.
 ///
 /// It goes over the text once and takes no memory. The form of a tag is that of the HTML Standard, 13.1.2.1 and
 /// 13.1.2.2, apart from its references, the names of its attributes and its `/`.

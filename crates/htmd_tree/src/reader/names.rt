@@ -16,7 +16,7 @@ pub(crate) enum KnownName {
     NoScript,
     /// It holds text with references: `title` or `textarea`.
     Text,
-    /// It may not stand under an open `p`, and is no other kind.
+    /// It isn't allowed under an open `p`, and is no other kind.
     Block,
     /// `h1` to `h6`.
     Heading,
@@ -329,7 +329,7 @@ impl KnownName {
         matches!(self, KnownName::RawText | KnownName::Xmp)
     }
 
-    /// Whether it may not stand under an open `p`.
+    /// Whether it isn't allowed under an open `p`.
     pub(crate) fn closes_paragraph(self) -> bool
         ensures { result ≡ spec.closes_paragraph self }
     {

@@ -203,7 +203,7 @@ fn literal_len(bytes: &[u8]) -> usize
     len
 }
 
-/// Appends the characters that stand for themselves to a value. What is left, from an `&` or a CR on, is answered.
+/// Appends the characters that stand for themselves to a value. Returns what is left, from an `&` or a CR on.
 fn push_literal<'a>(value: &mut String, text: &'a str) -> Result<&'a str, AllocError>
     ensures pushed { IfOk result (λ rest.
         HasPushed (string_bytes value.old) text.now (string_bytes value.new) rest.now) }
@@ -216,7 +216,7 @@ fn push_literal<'a>(value: &mut String, text: &'a str) -> Result<&'a str, AllocE
     Ok(special)
 }
 
-/// Appends the character with which the text begins to a value. What is left is answered; nothing if a reference isn't
+/// Appends the character with which the text begins to a value. Returns what is left; nothing if a reference isn't
 /// right.
 fn push_character<'a>(value: &mut String, text: &'a str) -> Result<Option<&'a str>, AllocError>
     requires more { 0 < length text.now }

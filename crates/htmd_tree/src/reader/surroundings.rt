@@ -1,4 +1,5 @@
-//! What is kept of an open element and its ancestors, so that asking what may stand there costs the same at any depth.
+//! What is kept of an open element and its ancestors, so that looking up what is allowed there costs the same at any
+//! depth.
 ghost use Rattle.std.specs.Prelude.{◌≡◌, ◌∷◌, Bool};
 ghost use Rattle.htmd_grammar.specs.Documents.{below_body};
 ghost use Rattle.htmd_grammar.specs.Nesting as spec;
@@ -157,7 +158,7 @@ impl Surroundings {
         !self.option
     }
 
-    /// Whether an element of this kind, which may not stand in itself, is open.
+    /// Whether an element of this kind, which isn't allowed in itself, is open.
     fn is_open(self, known: KnownName) -> bool
         ensures { result ≡ flags.own_flag self known }
     {
@@ -204,7 +205,7 @@ impl Surroundings {
             && self.fits_lists(known)
     }
 
-    /// Whether an element with this name may stand here.
+    /// Whether an element with this name is allowed here.
     pub(crate) fn allows(self, name: &str) -> bool
         ensures { (scripting : Bool) (c : spec.Context) → self ≡ surroundings_of scripting c
             → result ≡ spec.is_allowed scripting c name.now }

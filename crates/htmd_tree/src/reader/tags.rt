@@ -112,7 +112,7 @@ fn fault_of_name(name: &str, slash: bool) -> Option<FaultKind>
 }
 
 impl<'a> Reader<'a> {
-    /// Whether an element with this name may stand here.
+    /// Whether an element with this name is allowed here.
     fn allows(&self, name: &str) -> bool
         requires reading { IsReading self.now }
         ensures { WhateverIsOpen self.now (λ has_doctype fs.

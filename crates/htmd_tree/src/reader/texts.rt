@@ -92,7 +92,7 @@ fn refused(text: &str, kind: FaultKind) -> Stop
     }
 }
 
-/// Appends the plain characters with which the text begins to a run. What is left is answered.
+/// Appends the plain characters with which the text begins to a run. Returns what is left.
 fn push_plain<'a>(
     run: &mut String,
     around: TextSurroundings,
@@ -117,7 +117,7 @@ fn push_plain<'a>(
     Ok(rest)
 }
 
-/// Appends the character with which the text begins, which isn't plain, to a run. What is left is answered.
+/// Appends the character with which the text begins, which isn't plain, to a run. Returns what is left.
 fn push_special<'a>(
     run: &mut String,
     around: TextSurroundings,
@@ -145,7 +145,7 @@ fn push_special<'a>(
     }
 }
 
-/// Appends what comes next in a text to a run: plain characters, or one other. What is left is answered.
+/// Appends what comes next in a text to a run: plain characters, or one other. Returns what is left.
 fn push_next<'a>(run: &mut String, around: TextSurroundings, text: &'a str) -> Result<&'a str, Stop>
     requires more { 0 < length text.now }
     ensures steps { (scripting : Bool) (n : List ℕ) (fs : List OpenElement)
@@ -164,7 +164,7 @@ fn push_next<'a>(run: &mut String, around: TextSurroundings, text: &'a str) -> R
     }
 }
 
-/// Appends what the characters and references denote, up to what ends them, to an empty run. What is left is answered.
+/// Appends what the characters and references denote, up to what ends them, to an empty run. Returns what is left.
 pub(crate) fn read_run<'a>(
     run: &mut String,
     text: &'a str,
@@ -188,7 +188,7 @@ pub(crate) fn read_run<'a>(
 }
 
 impl<'a> Reader<'a> {
-    /// What the innermost open element asks of its texts.
+    /// What the innermost open element requires of its texts.
     fn text_surroundings(&self) -> TextSurroundings
         requires reading { IsReading self.now }
         ensures { WhateverIsOpen self.now (λ has_doctype fs. IsAtText self.now fs

@@ -81,8 +81,8 @@ pub(crate) fn text_shown<'t>(
     }
 }
 
-/// What an element that the walk goes past hands on: its content; that of a `span` without line feeds at its ends, unless
-/// it is preformatted.
+/// What an element that the walk goes past passes on: its content; that of a `span` without line feeds at its ends,
+/// unless it is preformatted.
 pub(crate) fn passed_on(element: &Element, mut content: HandlerResult) -> HandlerResult
     ensures content { string_bytes result.content
         ≡ passed_text (is_span element.now.tag.now) element.now.preformatted (string_bytes content.content) }

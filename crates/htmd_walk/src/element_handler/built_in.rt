@@ -72,7 +72,7 @@ pub(crate) const HANDLERS_AND_TAGS: &[(BuiltIn, &[&str])] = &[
 ];
 
 impl BuiltIn {
-    /// What the handler asks for.
+    /// What the handler needs.
     pub(crate) fn plan(self, alloc: Global, element: &Element) -> Result<Request, AllocError>
         ensures plan { IfOk result (λ p. request_view p ≡ (meaning_of self).plan (element_view element.now)) }
         ensures proper { IfOk result (λ p. IsProper element.now.tree.now element.now.node (request_view p)) }
@@ -102,7 +102,7 @@ impl BuiltIn {
         }
     }
 
-    /// What it makes of the content that it asked for.
+    /// What it makes of the content that it needs.
     pub(crate) fn finish(
         self,
         alloc: Global,
@@ -138,7 +138,7 @@ impl BuiltIn {
         }
     }
 
-    /// What it makes of the contents of nodes that it asked for.
+    /// What it makes of the contents of the nodes that it needs.
     pub(crate) fn finish_each(
         self,
         alloc: Global,

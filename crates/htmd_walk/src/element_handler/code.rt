@@ -107,7 +107,7 @@ fn holds_texts_alone(element: &Element) -> bool
     true
 }
 
-/// Whether code blocks stand between fences.
+/// Whether code blocks are written between fences.
 fn is_fenced(style: CodeBlockStyle) -> bool
     ensures { result ≡ spec.is_fenced style }
 {

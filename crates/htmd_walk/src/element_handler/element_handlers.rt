@@ -43,7 +43,7 @@ pub struct HandlerRefused {
     pub handler: Box<dyn ElementHandler>,
 }
 
-/// What a handler of your own asks for.
+/// What a handler of your own needs.
 fn plan_of_custom(
     handler: &Box<dyn ElementHandler>,
     alloc: Global,
@@ -55,7 +55,7 @@ fn plan_of_custom(
     handler.plan(alloc, element)
 }
 
-/// What a handler of your own makes of the content that it asked for.
+/// What a handler of your own makes of the content that it needs.
 fn finish_of_custom(
     handler: &Box<dyn ElementHandler>,
     alloc: Global,
@@ -123,8 +123,8 @@ impl ElementHandlers {
         ElementHandlers::beside(alloc, options, Vec::new(alloc))
     }
 
-    /// The same, for a crate that hands the registry on: beside handlers of its own, of which there are none. A value
-    /// that may hold such handlers is handed on only by a call that was given some, so that none can hide in it.
+    /// The same, for a crate that passes the registry on: beside handlers of its own, of which there are none. A value
+    /// that may hold such handlers is passed on only by a call that was given some, so that none can hide in it.
     pub fn beside(
         alloc: Global,
         options: Options,
@@ -156,7 +156,7 @@ impl ElementHandlers {
         Ok(())
     }
 
-    /// Asks a built-in handler first for these tags from now on.
+    /// Calls a built-in handler first for these tags from now on.
     fn add_built_in(&mut self, tags: &[&str], handler: BuiltIn) -> Result<(), AllocError>
         ensures ok { let config = ⟦<ElementHandlers as Registry>⟧.config in
             OnOk result (config self.new
@@ -183,7 +183,7 @@ impl ElementHandlers {
         Ok(())
     }
 
-    /// Asks a handler first for these tags from now on; a tag that is named twice is registered twice. `Err` means out
+    /// Calls a handler first for these tags from now on; a tag that is named twice is registered twice. `Err` means out
     /// of memory and hands the handler back.
     pub fn add_handler(
         &mut self,
@@ -211,7 +211,7 @@ impl ElementHandlers {
         }
     }
 
-    /// The index, in order of registration from 0, of the handler that is asked for a tag after this many newer ones.
+    /// The index, in order of registration from 0, of the handler that is called for a tag after this many newer ones.
     pub fn find_handler(&self, tag: &str, skipped: usize) -> Option<usize>
         ensures { let config = ⟦<ElementHandlers as Registry>⟧.config self.now in
             result ≡ slice_get (indexes tag.now config.registered) skipped }

@@ -11,14 +11,14 @@ use std::alloc::{AllocError, Global};
 /// Names what the two closures of an `FnHandler` mean. It has only definitions: a type without fields will do, or one
 /// whose fields the definitions read.
 pub trait HandlerRule {
-    /// What the handler asks for.
+    /// What the handler needs.
     ghost rule_plan: { Self → ElementView → PlanView };
 
-    /// What it makes of the content that it asked for.
+    /// What it makes of the content that it needs.
     ghost rule_finish: { Self → ElementView → ResultView → Option ResultView };
 }
 
-/// A handler of two closures, which answer what the rule names. It puts nothing after a conversion.
+/// A handler of two closures, which return what the rule names. It puts nothing after a conversion.
 /// `HtmlToMarkdownBuilder::add_fn_handler` takes it.
 #[derive(Drop)]
 pub struct FnHandler<M, P, F> {
@@ -40,22 +40,22 @@ impl<M, P, F> FnHandler<M, P, F> {
 
 /// A handler that may or may not keep its interface, and says what it means if it does.
 pub trait Answering {
-    /// What it asks for.
+    /// What it needs.
     ghost plan_named: { Self → ElementView → PlanView };
 
-    /// What it makes of the content that it asked for.
+    /// What it makes of the content that it needs.
     ghost finish_named: { Self → ElementView → ResultView → Option ResultView };
 
     /// It keeps its interface.
     ghost keeps: { Self → Type 0 };
 
-    /// What it asks for. `Err` means out of memory.
+    /// What it needs. `Err` means out of memory.
     fn plan(&self, alloc: Global, element: &Element) -> Result<Plan, AllocError>
         requires { keeps self.now }
         ensures plan { IfOk result (λ p. plan_view p ≡ plan_named self.now (element_view element.now)) }
         ensures proper { IfOk result (λ p. IsProper (element_view element.now).items element.now.node (plan_view p)) };
 
-    /// The result of the content that was asked for, or nothing. `Err` means out of memory.
+    /// The result from the content that the plan needs, or nothing. `Err` means out of memory.
     fn finish(
         &self,
         alloc: Global,

@@ -20,14 +20,14 @@ fn is_under_document(element: &Element) -> bool
     matches!(element.tree.data(parent), NodeData::Document)
 }
 
-/// In Faithful, `html` may only stand under the Document.
+/// In Faithful, `html` is allowed only under the Document.
 pub(crate) fn plan(element: &Element) -> Plan
     ensures { plan_view result ≡ spec.pages.plan (element_view element.now) }
 {
     plan_if(is_under_document(element), element)
 }
 
-/// In Faithful, `head` and `body` may only stand under `html` or the Document.
+/// In Faithful, `head` and `body` are allowed only under `html` or the Document.
 pub(crate) fn plan_of_part(element: &Element) -> Plan
     ensures { plan_view result ≡ spec.parts_of_page.plan (element_view element.now) }
 {

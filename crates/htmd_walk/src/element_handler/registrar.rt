@@ -16,8 +16,8 @@ pub trait Registrar: Registry {
         ensures config { Self.config self.new ≡ with_options (Self.config self.old) options }
         ensures ready { Self.ready self.new };
 
-    /// Passes over the elements of these tags from now on, and answers the index of the handler that does so. `Err`
-    /// means out of memory.
+    /// Skips the elements of these tags from now on, and returns the index of the handler that does so. `Err` means out
+    /// of memory.
     fn take_skipping(&mut self, tags: &[&str]) -> Result<usize, AllocError>
         requires ready { Self.ready self.old }
         ensures ok { OnOk result

@@ -104,7 +104,7 @@ impl Registrations {
         self.all.push_reserved(Registration { tag, index, older });
     }
 
-    /// The index of the handler that is asked for a tag after this many newer ones.
+    /// The index of the handler that is called for a tag after this many newer ones.
     pub(crate) fn find(&self, tag: &str, skipped: usize) -> Option<usize>
         ensures value { result ≡ slice_get (indexes tag.now (map tag_index self.now.all.items)) skipped }
         ensures few { IfSome result (λ _. skipped < length self.now.all.items) }

@@ -1,4 +1,4 @@
-//! What a walk goes by: the handlers, as a registry answers for them.
+//! What a walk depends on: the handlers, as a registry has them.
 
 ghost use Rattle.std.specs.Prelude.{◌≡◌, ◌+◌, ◌^◌, ◌<◌, IfOk, IfSome, IsTrue};
 ghost use Rattle.std.specs.Prelude.{length, slice_get, string_bytes};
@@ -16,11 +16,11 @@ use crate::options::Options;
 use htmd_nodes::NodeId;
 use std::alloc::{AllocError, Global};
 
-/// What a handler asks for; a built-in one may ask for more.
+/// What a handler needs; a built-in one may need more.
 #[derive(Drop)]
 pub enum Request {
     OfPlan(Plan),
-    /// Each of these nodes by itself, in order; the children's content may be asked for afterwards.
+    /// Each of these nodes by itself, in order; the children's content may be needed afterwards.
     Each {
         nodes: Vec<NodeId>,
         may_ask_children: bool,
@@ -31,12 +31,12 @@ pub enum Request {
 #[derive(Drop)]
 pub enum Outcome {
     Final(Option<HandlerResult>),
-    /// The children's content is asked for too, and then finished.
+    /// The children's content is needed too, and then finished.
     ChildrenToo,
 }
 
-/// The handlers that a walk goes by: the trait bound for code that takes a converter with any handlers. Only the types
-/// of this crate implement it: a handler of your own is an `ElementHandler` or an `FnHandler`.
+/// The handlers of a walk: the trait bound for code that takes a converter with any handlers. Only the types of this
+/// crate implement it: a handler of your own is an `ElementHandler` or an `FnHandler`.
 pub trait Registry {
     /// The options, the handlers and the tags that they are registered for.
     ghost config: { Self → Config };
@@ -49,7 +49,7 @@ pub trait Registry {
         ensures value { result.now ≡ (config self.now).options }
         ensures stay { HandlersStay (config self.now) };
 
-    /// The index of the handler that is asked for a tag after this many newer ones.
+    /// The index of the handler that is called for a tag after this many newer ones.
     fn find(&self, tag: &str, skipped: usize) -> Option<usize>
         ensures value { result ≡ slice_get (indexes tag.now (config self.now).registered) skipped }
         ensures few { IfSome result (λ _. skipped < length (config self.now).registered) }
@@ -61,7 +61,7 @@ pub trait Registry {
         requires { index < length (config self.now).handlers }
         ensures { IsTrue result → handler_at (config self.now).handlers index ≡ spans };
 
-    /// What the handler at an index asks for. `Err` means out of memory.
+    /// What the handler at an index needs. `Err` means out of memory.
     fn plan(&self, alloc: Global, index: usize, element: &Element) -> Result<Request, AllocError>
         requires within { index < length (config self.now).handlers }
         requires ready { ready self.now }
@@ -69,7 +69,7 @@ pub trait Registry {
             ≡ (handler_at (config self.now).handlers index).plan (element_view element.now)) }
         ensures proper { IfOk result (λ p. IsProper element.now.tree.now element.now.node (request_view p)) };
 
-    /// What the handler at an index makes of the content that it asked for. `Err` means out of memory.
+    /// What the handler at an index makes of the content that it needs. `Err` means out of memory.
     fn finish(
         &self,
         alloc: Global,
@@ -84,7 +84,7 @@ pub trait Registry {
             IfOk result (λ r. answer_view r links.new
             ≡ finish_answer (handler.finish (element_view element.now) (result_view content) links.old) links.old) };
 
-    /// What the handler at an index makes of the contents of nodes that it asked for. `Err` means out of memory.
+    /// What the handler at an index makes of the contents of the nodes that it needs. `Err` means out of memory.
     fn finish_each(
         &self,
         alloc: Global,

@@ -252,7 +252,7 @@ pub(crate) fn finish(
     Ok(Some(HandlerResult::from_string(text)))
 }
 
-/// The table, or its raw HTML if a cell isn't Markdown. Without headers and rows the children's content is asked for.
+/// The table, or its raw HTML if a cell isn't Markdown. Without headers and rows the children's content is needed.
 pub(crate) fn finish_each(
     alloc: Global,
     element: &Element,

@@ -11,9 +11,11 @@ use Rattle.htmd_walk.proofs.dom_walker.Walk.+walk.Answers.ChildrenAnswers as chi
 use Rattle.htmd_walk.proofs.dom_walker.Walk.+walk.Answers.NodeAnswers as nodes
 use Rattle.htmd_walk.proofs.dom_walker.Walk.+walk.Goals as goal
 
-pub handle-returns-then-is_markdown_alone :
-    goal.handle-returns-then-is_markdown_alone
-handle-returns-then-is_markdown_alone = handlers.handle-returns-then-is_markdown_alone
+pub without_handler-returns-then-is_markdown_alone : goal.without_handler-returns-then-is_markdown_alone
+without_handler-returns-then-is_markdown_alone = handlers.without_handler-returns-then-is_markdown_alone
+
+pub without_handler-returns : goal.without_handler-returns
+without_handler-returns = handlers.without_handler-returns
 
 pub handle-returns-in_default : goal.handle-returns-in_default
 handle-returns-in_default = handlers.handle-returns-in_default
@@ -30,25 +32,26 @@ handle-returns-in-Text = handlers.handle-returns-in-Text
 pub handle-returns-in-RawHtml : goal.handle-returns-in-RawHtml
 handle-returns-in-RawHtml = handlers.handle-returns-in-RawHtml
 
-pub handle-returns-in-Children : goal.handle-returns-in-Children
-handle-returns-in-Children = handlers.handle-returns-in-Children
+pub handle-returns-in_ok-content-in-Children : goal.handle-returns-in_ok-content-in-Children
+handle-returns-in_ok-content-in-Children = handlers.handle-returns-in_ok-content-in-Children
 
-pub handle-returns-in-Descendant : goal.handle-returns-in-Descendant
-handle-returns-in-Descendant = handlers.handle-returns-in-Descendant
+pub handle-returns-in_ok-content-in-Descendant : goal.handle-returns-in_ok-content-in-Descendant
+handle-returns-in_ok-content-in-Descendant = handlers.handle-returns-in_ok-content-in-Descendant
 
 pub handle-returns-in-None : goal.handle-returns-in-None
 handle-returns-in-None = handlers.handle-returns-in-None
 
-pub handle-returns-in-OfPlan : goal.handle-returns-in-OfPlan
-handle-returns-in-OfPlan = handlers.handle-returns-in-OfPlan
+pub handle-returns-in-Some-2 : goal.handle-returns-in-Some-2
+handle-returns-in-Some-2 = handlers.handle-returns-in-Some-2
 
-pub handle-returns-in-Final :
-    goal.handle-returns-in-Final
-handle-returns-in-Final = handlers.handle-returns-in-Final
+pub handle-returns-in-Each : goal.handle-returns-in-Each
+handle-returns-in-Each = handlers.handle-returns-in-Each
 
-pub handle-returns :
-    goal.handle-returns
-handle-returns = handlers.handle-returns
+pub handle_each-returns-in-Final : goal.handle_each-returns-in-Final
+handle_each-returns-in-Final = handlers.handle_each-returns-in-Final
+
+pub handle_each-returns : goal.handle_each-returns
+handle_each-returns = handlers.handle_each-returns
 
 pub content-returns-in-Some : goal.content-returns-in-Some
 content-returns-in-Some = contents.content-returns-in-Some

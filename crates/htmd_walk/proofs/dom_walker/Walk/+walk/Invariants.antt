@@ -47,6 +47,14 @@ abbrev pub decreases-walk_each : goal.decreases-walk_each
 decreases-walk_each g l =
     behind (length l.self.now.tree.now) (l.element.now.node + 1) (g.R.Registry.config l.self.now.registry.now) + 4
 
+abbrev pub decreases-without_handler : goal.decreases-without_handler
+decreases-without_handler g l =
+    behind (length l.self.now.tree.now) (l.element.now.node + 1) (g.R.Registry.config l.self.now.registry.now) + 4
+
+abbrev pub decreases-handle_each : goal.decreases-handle_each
+decreases-handle_each g l =
+    behind (length l.self.now.tree.now) (l.element.now.node + 1) (g.R.Registry.config l.self.now.registry.now) + 5
+
 abbrev pub decreases-handle : goal.decreases-handle
 decreases-handle g l =
     behind (length l.self.now.tree.now) (l.element.now.node + 1) (g.R.Registry.config l.self.now.registry.now) + 5

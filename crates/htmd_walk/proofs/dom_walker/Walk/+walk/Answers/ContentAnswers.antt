@@ -38,12 +38,14 @@ content-returns-in-Some g t c =
     (children_at x c.args.element.now.node))) c.requires.here.tree in
     let in_pre : bytes_eq c.args.element.now.tag.now (codes "pre") ≡ parent_is_pre inside =
     sym (ap (λ x. bytes_eq (ancestor_of x).tag (codes "pre")) element) in
-    let text : Bool → Bool → Bool → List ℕ → List ℕ = λ p q b s. s ++ written_text p q b s c.in-Some.text.now in
+    let text : Bool → Bool → Bool → List ℕ → List ℕ =
+    λ p q b s. s ++ written_text p q b s c.in-Some.text.now in
     let put : List ℕ → Bool → Output =
     λ s b. record { text = s; markdown_translated = b; definitions = c.args.links.now } in
     λ n l.
     ap (λ s. put s c.empty_result-out.result.markdown_translated) (c.in_ok-append_text.ensures
-    ∙ ap (text c.args.element.now.preformatted c.eq-in_pre.result c.trims_first.result) c.empty_result-out.ensures.content
+    ∙ ap (text c.args.element.now.preformatted c.eq-in_pre.result c.trims_first.result)
+    c.empty_result-out.ensures.content
     ∙ ap (λ p. text p c.eq-in_pre.result c.trims_first.result []) c.requires.here.inside
     ∙ ap (λ q. text (in_pre_or_code inside) q c.trims_first.result []) (c.eq-in_pre.ensures ∙ in_pre)
     ∙ ap (λ b. text (in_pre_or_code inside) (parent_is_pre inside) b []) c.trims_first.ensures)

@@ -1,5 +1,5 @@
 -- A node, by what it is.
-use Rattle.std.proofs.Common.{◌≡◌, ◌≤◌, ◌++◌, ◌∙◌, ℕ, suc, List, Bool}
+use Rattle.std.proofs.Common.{◌≡◌, ◌≤◌, ◌++◌, ◌∙◌, ℕ, suc, List}
 use Rattle.std.proofs.Common.{true, false}
 use Rattle.std.proofs.Common.{sym, ap, subst}
 use Rattle.std.proofs.Common.{string_bytes}
@@ -11,7 +11,6 @@ use Rattle.htmd_nodes.specs.NumberedTrees.{tree_of, height}
 use Rattle.htmd_nodes.specs.Ancestors.{ancestors_of}
 use Rattle.htmd_grammar.specs.Attributes.{pairs_of}
 use Rattle.htmd_nodes.specs.Views.{data_of}
-use Rattle.htmd_walk.specs.OrdinaryText.{parent_is_pre, written_text}
 use Rattle.htmd_walk.specs.Groups.{group_children, children_at}
 use Rattle.htmd_walk.specs.Outputs.{Output, conversion_of, context_of, is_markdown_alone}
 use Rattle.htmd_walk.specs.Elements.{Answer, answer_after}
@@ -99,26 +98,18 @@ walk_node-returns-in-Text g t c =
     let config = g.R.Registry.config c.args.self.now.registry.now in
     let items = c.args.self.now.tree.now in
     let visit = c.args.visit.now in
-    let v = conversion_of config items in
-    let out = string_bytes c.args.out.now.content in
-    let text : Bool → List ℕ → List ℕ =
-    λ q s. out ++ written_text visit.context.preformatted q visit.context.trim out s in
-    let written : List ℕ = text (parent_is_pre (ancestors_of items visit.node)) c.in-Text.text.now in
-    let same : text c.is_parent_pre-in_pre.result c.in-Text.text.now ≡ written =
-    ap (λ q. text q c.in-Text.text.now) c.is_parent_pre-in_pre.ensures in
-    on_ok_weaker c.append_text.result (λ p n h.
+    on_ok_weaker c.write_text.result (λ p n h.
     ap (λ s. record {
       text = s;
       markdown_translated = c.args.out.now.markdown_translated;
       definitions =
           c.args.links.now;
-    }) {x = string_bytes c.append_text.new.out} {y = written}
-    (◌∙◌ {a = string_bytes c.append_text.new.out} p same)
+    }) p
     ∙ text_written config items
     (option_copied visit.joined) c.data.ensures.tree visit.node c.requires.here.within n c.in-Text.text.now
     (context_of (ancestors_of items visit.node) visit.context.preformatted visit.context.trim)
     (output_view c.args.out.now c.args.links.now) h (sym c.data.ensures.value ∙ ap data_of c.in-Text.is))
-    c.append_text.ensures
+    c.write_text.ensures
 
 pub walk_node-returns-in-Some :
     goal.walk_node-returns-in-Some

@@ -6,7 +6,7 @@ use Rattle.htmd_html5.specs.Answers.{answer}
 use Rattle.htmd_html5.specs.Processing.{by_rules, process_within}
 use Rattle.htmd_html5.specs.declared.tokens.StartTag.{StartTag}
 use Rattle.htmd_html5.proofs.ProcessingLemmas.{rests_again, rests_done, rests_over}
-use Rattle.htmd_html5.proofs.processing.process_start.Goals as goal
+use Rattle.htmd_html5.proofs.processing.process_start_in_turns.Goals as goal
 
 pub returns-in-None : goal.returns-in-None
 returns-in-None c =

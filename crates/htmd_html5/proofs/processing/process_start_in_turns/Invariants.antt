@@ -2,7 +2,7 @@
 use Rattle.std.proofs.Common.{◌≡◌}
 use Rattle.htmd_html5.specs.Tokens.{start_tag, tag_of}
 use Rattle.htmd_html5.proofs.ProcessingLemmas.{Rests}
-use Rattle.htmd_html5.proofs.processing.process_start.Given as goal
+use Rattle.htmd_html5.proofs.processing.process_start_in_turns.Given as goal
 
 abbrev pub invariant-loop-turn : goal.invariant-loop-turn
 invariant-loop-turn l = record {
