@@ -8,7 +8,7 @@ ghost use Rattle.htmd_commonmark.specs.Addresses as spec;
 use crate::reference::{begins_reference, holds_reference};
 use std::alloc::AllocError;
 
-/// Appends the address as it stands in a link.
+/// Appends the address as it is written in a link.
 pub(crate) fn push_destination(out: &mut String, address: &str) -> Result<(), AllocError>
     ensures { OnOk result
         (string_bytes out.new ≡ string_bytes out.old ++ spec.destination address.now) }
@@ -34,7 +34,7 @@ pub(crate) fn push_title(out: &mut String, title: Option<&str>) -> Result<(), Al
     Ok(())
 }
 
-/// Whether an address stands between `<` and `>`.
+/// Whether an address is written between `<` and `>`.
 fn needs_brackets(address: &str) -> bool
     ensures { result ≡ spec.needs_brackets address.now }
 {
@@ -88,7 +88,7 @@ fn may_escape(rest: &[u8]) -> bool
     }
 }
 
-/// Whether the address can stand between `<` and `>` as it is.
+/// Whether the address can be written between `<` and `>` as it is.
 pub(crate) fn is_autolink(address: &str) -> bool
     ensures { result ≡ spec.is_autolink address.now }
 {

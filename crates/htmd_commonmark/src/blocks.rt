@@ -49,18 +49,18 @@ pub fn to_markdown(
     Ok(writer.lines.into_text())
 }
 
-/// Where blocks stand.
+/// Where blocks are.
 #[derive(Clone, Copy)]
 pub struct Place {
     /// The bullet of the item that begins with them.
     pub outer: Option<Sign>,
     pub in_item: bool,
-    /// Whether they stand close together.
+    /// Whether they are tight.
     pub tight: bool,
 }
 
 impl Place {
-    /// Where the block at this place of others stands.
+    /// Where the block at this place of others is.
     fn at(self, i: usize) -> Place
         ensures { result ≡ spec.place_at self i }
     {
@@ -108,7 +108,7 @@ impl BlockWriter {
         Ok(())
     }
 
-    /// Writes a block, before which stands a list with this sign or another block.
+    /// Writes a block, after a list with this sign or another block.
     #[cycle(blocks)]
     fn write_block(
         &mut self,
@@ -373,7 +373,7 @@ fn thematic_break(style: HrStyle, in_item: bool) -> &'static str
     }
 }
 
-/// Whether a line stands under the heading.
+/// Whether there is a line under the heading.
 fn is_underlined(options: &DocumentOptions, level: u8, content: &[Inline]) -> bool
     ensures { result ≡ spec.is_underlined options.now level (inlines_of content.now) }
 {

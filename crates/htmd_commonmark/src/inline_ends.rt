@@ -17,7 +17,7 @@ pub struct Following {
     pub is_last: bool,
 }
 
-/// What stands in the line before what is written next.
+/// What is in the line before what is written next.
 pub(crate) fn character_before(text: &str) -> Option<char>
     ensures { result ≡ written.character_before text.now }
 {

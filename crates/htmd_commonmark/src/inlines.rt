@@ -38,7 +38,7 @@ fn ends_in_closing_signs(text: &[u8]) -> bool
     before < text.len() && (before == 0 || text[before - 1] == b' ')
 }
 
-/// Where a text stands after what is written so far.
+/// Where a text is after what is written so far.
 fn place_of(line: Line, so_far: &str, after: Option<char>) -> Place
     ensures { result ≡ spec.place_of line so_far.now after }
 {
@@ -58,7 +58,7 @@ fn is_end_of_heading(line: Line, follows: Following) -> bool
     line.kind == LineKind::Heading && follows.is_last && follows.after.is_none()
 }
 
-/// Whether these signs stand in the text.
+/// Whether these signs are in the text.
 fn holds(text: &[u8], signs: &[u8]) -> bool
     ensures { result ≡ spec.holds signs.now text.now }
 {
@@ -70,7 +70,7 @@ fn holds(text: &[u8], signs: &[u8]) -> bool
     false
 }
 
-/// Whether the code stands between tags: in a cell a `|` after a backslash would end the cell, and in a link `]:` could
+/// Whether the code is between tags: in a cell a `|` after a backslash would end the cell, and in a link `]:` could
 /// make the paragraph a definition.
 fn needs_tags(line: Line, code: &[u8]) -> bool
     ensures { result ≡ spec.needs_tags line code.now }

@@ -1,4 +1,4 @@
-//! The lines of a document, each after the prefix of the quotes and items that it stands in.
+//! The lines of a document, each after the prefix of the quotes and items that it is in.
 ghost use Rattle.std.specs.Prelude.{◌≡◌, ◌≤◌, ◌++◌, IfOk, OnOk, true, false, drop, length, replicate, string_bytes};
 ghost use Rattle.std.specs.List.{list_all, list_any};
 ghost use Rattle.std.specs.Char.{is_ascii};
@@ -12,7 +12,7 @@ use htmd_text::runs::trailing_len;
 use std::alloc::{AllocError, Global};
 use std::marker::Model;
 
-/// What stands before a line of a quote.
+/// What comes before a line of a quote.
 const QUOTE: &str = "> ";
 
 /// What was written so far, and what is due on the line. The prefix is written when the first character of a line
@@ -20,7 +20,7 @@ const QUOTE: &str = "> ";
 #[derive(Drop)]
 pub(crate) struct Lines {
     out: String,
-    /// What stands before each line of the open quotes and items.
+    /// What comes before each line of the open quotes and items.
     prefix: String,
     /// How much of the prefix this line has.
     written: usize,
@@ -84,7 +84,7 @@ impl Lines {
         Ok(())
     }
 
-    /// Ends the line of a block; the next block of a loose text stands after an empty line.
+    /// Ends the line of a block; the next block of a loose text comes after an empty line.
     pub(crate) fn push_separator(&mut self, tight: bool) -> Result<(), AllocError>
         ensures { OnOk result (self.new ≡ page.wrote self.old (separator tight)) }
     {
@@ -131,7 +131,7 @@ impl Lines {
         Ok(())
     }
 
-    /// What follows stands in a quote. Returns how long the prefix is outside of it.
+    /// What follows is in a quote. Returns how long the prefix is outside of it.
     pub(crate) fn open_quote(&mut self) -> Result<usize, AllocError>
         ensures page { OnOk result (self.new ≡ page.in_quote self.old) }
         ensures within { self.old.written ≤ length self.old.prefix }
@@ -155,8 +155,8 @@ impl Lines {
         Ok(())
     }
 
-    /// Appends the marker of an item. What follows stands in the item, this many spaces after the marker. Returns how
-    /// long the prefix is outside of the item.
+    /// Appends the marker of an item. What follows is in the item, this many spaces after the marker. Returns how long
+    /// the prefix is outside of the item.
     pub(crate) fn open_item(&mut self, marker: &str, spaces: usize) -> Result<usize, AllocError>
         ensures page { OnOk result (self.new ≡ page.in_item self.old marker.now spaces) }
         ensures outside { IfOk result (λ len. len ≡ length self.old.prefix) }

@@ -29,7 +29,7 @@ impl Sign {
         }
     }
 
-    /// Whether beside a list stands one with this sign.
+    /// Whether there is a list with this sign beside a list.
     fn is_beside(self, beside: Option<Sign>) -> bool
         ensures { result ≡ spec.is_beside self beside }
     {
@@ -43,7 +43,7 @@ impl Sign {
     }
 }
 
-/// The markers of a list's items, and how many spaces are asked for after them.
+/// The markers of a list's items, and how many spaces come after them.
 #[derive(Clone, Copy)]
 pub enum Markers {
     Bullets {

@@ -5,7 +5,7 @@ ghost use Rattle.htmd_commonmark.specs.MarkViews.{format_of, mark_of};
 
 use crate::character_kind::{is_apart, is_space, is_word};
 
-/// What can stand around inlines, links aside.
+/// What can be around inlines, links aside.
 #[derive(Clone, Copy, PartialEq)]
 pub enum Format {
     Emphasis,
@@ -23,16 +23,16 @@ pub struct Mark {
     pub closer: &'static str,
 }
 
-/// What stands beside a format, none at the ends of a line, and what stands at the ends of its content.
+/// What is beside a format, none at the ends of a line, and what is at the ends of its content.
 #[derive(Clone, Copy)]
 pub struct Sides {
     pub before: Option<char>,
-    /// A backslash escapes what stands before.
+    /// A backslash escapes what comes before.
     pub is_escaped: bool,
     pub first: Option<char>,
     pub last: Option<char>,
     pub after: Option<char>,
-    /// What stands after closes what the format stands in.
+    /// What comes after closes what the format is in.
     pub is_last: bool,
 }
 

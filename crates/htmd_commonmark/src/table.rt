@@ -258,14 +258,14 @@ fn push_delimiter(out: &mut String, alignment: Alignment, width: usize) -> Resul
     })
 }
 
-/// Whether a colon stands at the left.
+/// Whether there is a colon at the left.
 fn is_aligned_left(alignment: Alignment) -> bool
     ensures { result ≡ spec.is_left alignment }
 {
     matches!(alignment, Alignment::Left | Alignment::Center)
 }
 
-/// Whether a colon stands at the right.
+/// Whether there is a colon at the right.
 fn is_aligned_right(alignment: Alignment) -> bool
     ensures { result ≡ spec.is_right alignment }
 {

@@ -11,12 +11,12 @@ use crate::reference::is_reference;
 use htmd_text::runs::{leading_len, trailing_len};
 use std::alloc::AllocError;
 
-/// Where a text stands.
+/// Where a text is.
 #[derive(Clone, Copy)]
 pub struct Place {
     /// Whether the text begins a line of a paragraph.
     pub begins_line: bool,
-    /// Whether it stands in the brackets of a link or an image.
+    /// Whether it is in the brackets of a link or an image.
     pub in_brackets: bool,
     /// The character before it, none at the line's beginning.
     pub before: Option<char>,
@@ -67,7 +67,7 @@ fn begins_row(bytes: &[u8], i: usize) -> bool
     bytes[i] == b'_' && (i == 0 || bytes[i - 1] != b'_')
 }
 
-/// Whether the row of underscores there stands between characters of words.
+/// Whether the row of underscores there is between characters of words.
 fn is_in_word(text: &str, i: usize, place: &Place) -> bool
     requires bound { i < length text.now }
     requires underscore { slice_index text.now i ≡ underscore }
@@ -113,8 +113,8 @@ fn is_marked(bytes: &[u8], i: usize, place: &Place, in_word: bool, line_mark: Op
     is_inline_mark(bytes, i, place, in_word) || line_mark == Some(i)
 }
 
-/// Whether the place gets a backslash wherever the text stands in a line. `in_word` tells of a row of underscores there
-/// whether it stands between characters of words.
+/// Whether the place gets a backslash wherever the text is in a line. `in_word` tells of a row of underscores there
+/// whether it is between characters of words.
 fn is_inline_mark(bytes: &[u8], i: usize, place: &Place, in_word: bool) -> bool
     requires bound { i < length bytes.now }
     requires row { slice_index bytes.now i ≡ underscore

@@ -1,7 +1,7 @@
 -- What an element says, by its role, and a text without carriage returns.
 use Rattle.std.proofs.Common.{◌≡◌, ℕ, ◌<◌, Bool, true, false, ◌&&◌, ◌==◌, if◌then◌else◌, List, [], ◌∷◌, ◌++◌, length}
 use Rattle.std.proofs.Common.{refl, sym, ap, subst, ◌∙◌, fold, encode_utf8_all, append_assoc, arith}
-use Rattle.std.specs.Prelude.{encode_utf8}
+use Rattle.std.specs.Char.{encode_utf8}
 use Rattle.std.specs.List.{list_any}
 use Rattle.std.specs.Str.{chars, IsUtf8}
 use Rattle.std.proofs.lemmas.Bool.Decides.{nat_tests}
@@ -36,13 +36,15 @@ module _ (sight : Sight) (items : List Item) (t : IsTree items) (id : ℕ) (l : 
   plain_text s e = by_data items t id l (λ (x : NumberedTree). all_text (shown sight x)) (text_node s) e
 
   -- only texts and elements show
-  pub document_hidden : {A : Type 0} → data_at items id ≡ document_node → shows sight (tree_of items id) ≡ true → A
+  pub document_hidden : {A : Type 0} → data_at items id ≡ document_node → shows sight (tree_of items id) ≡ true
+      → A
   document_hidden e h = absurd (clash (sym (by_data items t id l (shows sight) document_node e) ∙ h))
     where
       clash : false ≡ true → ⊥
       clash p = (cc)
 
-  pub doctype_hidden : {A : Type 0} → data_at items id ≡ doctype_node → shows sight (tree_of items id) ≡ true → A
+  pub doctype_hidden : {A : Type 0} → data_at items id ≡ doctype_node → shows sight (tree_of items id) ≡ true
+      → A
   doctype_hidden e h = absurd (clash (sym (by_data items t id l (shows sight) doctype_node e) ∙ h))
     where
       clash : false ≡ true → ⊥
@@ -71,11 +73,16 @@ made-plain w c true d e = cc
 made-plain w c false true e = refl
 made-plain w c false false e = refl
 
+return-told : list_any is_return (encode_utf8 carriage_return) ≡ true
+unfolding encode_utf8
+return-told = refl
+
 no-return : (c : ℕ) → list_any is_return (encode_utf8 c) ≡ false → (c == carriage_return) ≡ false
 no-return c h = test (c == carriage_return)
     (λ e.
     let same : c ≡ carriage_return = grind (arith, nat_tests, e) in
-    let no : true ≡ false = subst (λ (x : ℕ). list_any is_return (encode_utf8 x) ≡ false) same h in
+    let no : true ≡ false =
+    sym return-told ∙ subst (λ (x : ℕ). list_any is_return (encode_utf8 x) ≡ false) same h in
     cc)
     (λ e. e)
 

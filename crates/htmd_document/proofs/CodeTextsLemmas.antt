@@ -23,7 +23,8 @@ feed_cut [] = refl
 feed_cut (b ∷ []) = refl
 feed_cut (b ∷ c ∷ s) = ap (λ xs. b ∷ xs) (feed_cut (c ∷ s))
 
-pub no_feed : (s : List ℕ) → ((front : List ℕ) → s ≢ front ++ line_feed ∷ []) → s ≡ without_last_line_feed s
+pub no_feed : (s : List ℕ) → ((front : List ℕ) → s ≢ front ++ line_feed ∷ [])
+    → s ≡ without_last_line_feed s
 no_feed [] n = refl
 no_feed (b ∷ []) n = test (b == line_feed)
     (λ h. absurd (n [] (ap (λ x. x ∷ []) (same b h))))
@@ -31,7 +32,8 @@ no_feed (b ∷ []) n = test (b == line_feed)
   where
     same : (b : ℕ) → (b == line_feed) ≡ true → b ≡ line_feed
     same b h = grind (arith, nat_tests)
-no_feed (b ∷ c ∷ s) n = ap (λ xs. b ∷ xs) (no_feed (c ∷ s) (λ front e. n (b ∷ front) (ap (λ xs. b ∷ xs) e)))
+no_feed (b ∷ c ∷ s) n = ap (λ xs. b ∷ xs)
+    (no_feed (c ∷ s) (λ front e. n (b ∷ front) (ap (λ xs. b ∷ xs) e)))
 
 -- ---- the only element
 
@@ -41,7 +43,8 @@ as_list None = []
 as_list (Some t) = t ∷ []
 
 -- one after another is too many, and after none the first
-pub too_many : (f : ℕ → NumberedTree) (o : Option ℕ) (t : NumberedTree) (ts : List NumberedTree) → is_some o ≡ true
+pub too_many : (f : ℕ → NumberedTree) (o : Option ℕ) (t : NumberedTree) (ts : List NumberedTree)
+    → is_some o ≡ true
     → None ≡ only_one (as_list (option_map f o) ++ t ∷ ts)
 too_many f None t ts h = (cc)
 too_many f (Some id) t ts h = refl
@@ -91,15 +94,19 @@ module _ (s : sights.Sight) where
       (λ h. kids_hidden (sight_of s) (tree_of s.tree.now) ids k id l e h
       ∙ sym (ap (λ b. cond b (more (shown_at s id) rest) rest) h))
 
-  element_with : (ids : List ℕ) (k id : ℕ) (o : Option Role) → k < length ids → id ≡ get_or ids k id → role_at s id ≡ o
+  element_with : (ids : List ℕ) (k id : ℕ) (o : Option Role) → k < length ids → id ≡ get_or ids k id
+      → role_at s id ≡ o
       → is_some o ≡ true
-      → elements_among (shown_among s (drop k ids)) ≡ shown_at s id ∷ elements_among (shown_among s (drop (k + 1) ids))
+      → elements_among (shown_among s (drop k ids))
+      ≡ shown_at s id ∷ elements_among (shown_among s (drop (k + 1) ids))
   element_with ids k id None l e q h = (cc)
   element_with ids k id (Some r) l e q h = ap elements_among (at_child ids k id l e)
       ∙ next_element (sight_of s) (tree_of s.tree.now id) (shown_among s (drop (k + 1) ids)) r q
 
-  pub element_at : (ids : List ℕ) (k id : ℕ) → k < length ids → id ≡ get_or ids k id → is_some (role_at s id) ≡ true
-      → elements_among (shown_among s (drop k ids)) ≡ shown_at s id ∷ elements_among (shown_among s (drop (k + 1) ids))
+  pub element_at : (ids : List ℕ) (k id : ℕ) → k < length ids → id ≡ get_or ids k id
+      → is_some (role_at s id) ≡ true
+      → elements_among (shown_among s (drop k ids))
+      ≡ shown_at s id ∷ elements_among (shown_among s (drop (k + 1) ids))
   element_at ids k id l e h = element_with ids k id (role_at s id) l e refl h
 
   no_element_with : (ids : List ℕ) (k id : ℕ) (o : Option Role) → k < length ids → id ≡ get_or ids k id
@@ -109,6 +116,7 @@ module _ (s : sights.Sight) where
       ∙ no_element (sight_of s) (tree_of s.tree.now id) (shown_among s (drop (k + 1) ids)) q
   no_element_with ids k id (Some r) l e q h = (cc)
 
-  pub no_element_at : (ids : List ℕ) (k id : ℕ) → k < length ids → id ≡ get_or ids k id → is_some (role_at s id) ≡ false
+  pub no_element_at : (ids : List ℕ) (k id : ℕ) → k < length ids → id ≡ get_or ids k id
+      → is_some (role_at s id) ≡ false
       → elements_among (shown_among s (drop k ids)) ≡ elements_among (shown_among s (drop (k + 1) ids))
   no_element_at ids k id l e h = no_element_with ids k id (role_at s id) l e refl h

@@ -100,7 +100,8 @@ some_cells : {A : Type 0} (x : A) (xs : List A) → nat_lt 0 (length (x ∷ xs))
 some_cells x xs = grind (arith, nat_tests)
 
 module _ (s : sights.Sight) where
-  cells_same : (ls : List TableLine) → spec.cells_of_all (tables.lines_at s ls) ≡ tables.nodes_at s (tables.cells_of ls)
+  cells_same : (ls : List TableLine)
+      → spec.cells_of_all (tables.lines_at s ls) ≡ tables.nodes_at s (tables.cells_of ls)
   cells_same [] = refl
   cells_same (Caption n ∷ ls) = cells_same ls
   cells_same (Cells r ∷ ls) = ap (λ cs. tables.nodes_at s r.cells.items ++ cs) (cells_same ls)
@@ -117,12 +118,14 @@ module _ (s : sights.Sight) where
   header_same : (n : ℕ) → spec.is_header (tables.node_at s n) ≡ tables.is_header_at s n
   header_same n = ap (has roles.is_header_cell) (tree_kept (shown_at s n))
 
-  any_header : (ns : List ℕ) → list_any spec.is_header (tables.nodes_at s ns) ≡ list_any (tables.is_header_at s) ns
+  any_header : (ns : List ℕ) → list_any spec.is_header (tables.nodes_at s ns)
+      ≡ list_any (tables.is_header_at s) ns
   any_header [] = refl
   any_header (n ∷ ns) = ap (λ b. b || list_any spec.is_header (tables.nodes_at s ns)) (header_same n)
       ∙ ap (λ b. tables.is_header_at s n || b) (any_header ns)
 
-  pub all_headers : (ns : List ℕ) → list_all spec.is_header (tables.nodes_at s ns) ≡ list_all (tables.is_header_at s) ns
+  pub all_headers : (ns : List ℕ)
+      → list_all spec.is_header (tables.nodes_at s ns) ≡ list_all (tables.is_header_at s) ns
   all_headers [] = refl
   all_headers (n ∷ ns) = ap (λ b. b && list_all spec.is_header (tables.nodes_at s ns)) (header_same n)
       ∙ ap (λ b. tables.is_header_at s n && b) (all_headers ns)
@@ -205,7 +208,8 @@ module _ (s : sights.Sight) where
       clash : ◌≡◌ {A = Option TableRow} (Some r) None → ⊥
       clash e = (cc)
 
-  pub no_first_row : (ls : List TableLine) → tables.first_row ls ≡ None → spec.rows_of (tables.lines_at s ls) ≡ []
+  pub no_first_row : (ls : List TableLine) → tables.first_row ls ≡ None
+      → spec.rows_of (tables.lines_at s ls) ≡ []
   no_first_row [] e = refl
   no_first_row (Caption n ∷ ls) e = no_first_row ls e
   no_first_row (Cells r ∷ ls) e = no_row r ls r.cells.items refl (λ h. no_first_row ls h) e
@@ -217,10 +221,12 @@ module _ (s : sights.Sight) where
       → (tables.first_row ls ≡ Some r → BeginsWith ls r)
       → tables.first_row (Cells q ∷ ls) ≡ Some r → BeginsWith (Cells q ∷ ls) r
   a_row q r ls [] h below e =
-      let i = below (ap (λ (ns : List ℕ). cond (nat_lt 0 (length ns)) (Some q) (tables.first_row ls)) (sym h) ∙ e) in (
+      let i = below (ap (λ (ns : List ℕ). cond (nat_lt 0 (length ns)) (Some q) (tables.first_row ls)) (sym h)
+      ∙ e) in (
         i.0,
         ap (λ ns. cond (nat_lt 0 (length (tables.nodes_at s ns)))
-            (tables.row_at s q ∷ spec.rows_of (tables.lines_at s ls)) (spec.rows_of (tables.lines_at s ls))) h ∙ i.1,
+            (tables.row_at s q ∷ spec.rows_of (tables.lines_at s ls)) (spec.rows_of (tables.lines_at s ls))) h
+            ∙ i.1,
       )
   a_row q r ls (n ∷ ns) h below e =
       let same : q ≡ r = some_same (sym (ap (λ b. cond b (Some q) (tables.first_row ls)) (some_cells n ns))
@@ -245,7 +251,8 @@ module _ (s : sights.Sight) where
   first_row_is (Caption n ∷ ls) r e = first_row_is ls r e
   first_row_is (Cells q ∷ ls) r e = a_row q r ls q.cells.items refl (λ h. first_row_is ls r h) e
 
-all_of_row : (P : ℕ → Type 0) (q r : TableRow) (ls : List TableLine) (b : Bool) → nat_lt 0 (length q.cells.items) ≡ b
+all_of_row : (P : ℕ → Type 0) (q r : TableRow) (ls : List TableLine) (b : Bool)
+    → nat_lt 0 (length q.cells.items) ≡ b
     → (tables.first_row ls ≡ Some r → All P r.cells.items)
     → tables.first_row (Cells q ∷ ls) ≡ Some r → All P q.cells.items → All P r.cells.items
 all_of_row P q r ls false h below e a = below (ap (λ b. cond b (Some q) (tables.first_row ls)) (sym h) ∙ e)

@@ -27,7 +27,8 @@ pub record IsOther (r : Role) : Type 0 where
   pub table : r ≡ role.Table → ⊥
   pub plain : r ≡ role.Plain → ⊥
 
-module _ (id : ℕ) (attributes : List AttributePair) (children : NumberedForest) (nodes : List Node) (lines : List Line)
+module _ (id : ℕ) (attributes : List AttributePair) (children : NumberedForest) (nodes : List Node)
+    (lines : List Line)
     (context : Context) where
   -- such an element gives its content as a block
   pub other_parts : (r : Role) → IsOther r

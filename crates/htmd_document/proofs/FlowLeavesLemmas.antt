@@ -69,7 +69,8 @@ pub at_most_none : (bs : List Block) → length bs < 1 → true ≡ is_paragraph
 at_most_none [] l = refl
 at_most_none (b ∷ bs) l = absurd (omega (arith, l))
 
-pub at_most_one : (bs : List Block) (b : Block) (k : Bool) → length bs ≡ 1 → b ≡ get_or bs 0 b → k ≡ is_paragraph
+pub at_most_one : (bs : List Block) (b : Block) (k : Bool) → length bs ≡ 1 → b ≡ get_or bs 0 b
+    → k ≡ is_paragraph
     (block_of b)
     → k ≡ is_paragraph_at_most (blocks_of bs)
 at_most_one [] b k l e h = absurd (omega (arith, l))
@@ -100,7 +101,8 @@ any_around p [] = refl
 any_around p (x ∷ xs) = ap (λ b. p (around_of x) || b) (any_around p xs)
 
 -- no link without an address, nor in another link
-pub link_none : (id : ℕ) (attributes : List AttributePair) (href : Option (List ℕ)) (context : Context) → href ≡ None
+pub link_none : (id : ℕ) (attributes : List AttributePair) (href : Option (List ℕ)) (context : Context)
+    → href ≡ None
     → context ≡ inside_anchor id attributes href context
 link_none id attributes href context e = sym (ap (λ h. inside_anchor id attributes h context) e)
 
@@ -110,7 +112,8 @@ link_held id attributes None context h = refl
 link_held id attributes (Some s) context h =
     sym (ap (λ b. cond b context (with_around context (linked id (address s) (title_of attributes)))) h)
 
-pub link_new : (id : ℕ) (attributes : List AttributePair) (href : Option (List ℕ)) (context : Context) (s : List ℕ)
+pub link_new : (id : ℕ) (attributes : List AttributePair) (href : Option (List ℕ)) (context : Context)
+    (s : List ℕ)
     → href ≡ Some s → list_any is_link context.around ≡ false
     → with_around context (linked id (address s) (title_of attributes)) ≡ inside_anchor id attributes href context
 link_new id attributes href context s e h =
@@ -221,7 +224,8 @@ alignments_at s cell = ap (λ t. replicate (column_span (attributes_of t)) (alig
     (tree_kept (shown_at s cell))
 
 -- one more cell
-pub alignments_more : (s : sights.Sight) (cells : List ℕ) (k cell : ℕ) → k < length cells → cell ≡ get_or cells k cell
+pub alignments_more : (s : sights.Sight) (cells : List ℕ) (k cell : ℕ) → k < length cells
+    → cell ≡ get_or cells k cell
     → flat_map alignments_of_cell (nodes_at s (take (k + 1) cells))
     ≡ flat_map alignments_of_cell (nodes_at s (take k cells))
     ++ replicate (column_span (attributes_of (shown_at s cell))) (alignment (attributes_of (shown_at s cell)))
@@ -259,7 +263,8 @@ module _ (w : Writing) (attributes : List AttributePair) (children : NumberedFor
         ∙ ap (λ b. fed_all w (cond b (edge ∷ in_lines) in_block)) f)
 
     pub text_block : is_blank_text s ≡ false → context.is_flat ≡ false
-        → fed (fed (fed w edge) (whole (code_block (language_of_block attributes children) (without_last_line_feed s))))
+        → fed (fed (fed w edge) (whole (code_block (language_of_block attributes children)
+        (without_last_line_feed s))))
         edge
         ≡ fed_all w (text_in_lines attributes children s context)
     text_block h f =

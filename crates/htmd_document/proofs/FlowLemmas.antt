@@ -50,7 +50,8 @@ content_open (comment id s) context = refl
 content_open (element id name attributes children) context = refl
 
 -- an element that shows, and what it gives by its role
-pub role_shows : (sight : Sight) (t : NumberedTree) (r : Role) → shown_role sight t ≡ Some r → shows sight t ≡ true
+pub role_shows : (sight : Sight) (t : NumberedTree) (r : Role) → shown_role sight t ≡ Some r
+    → shows sight t ≡ true
 role_shows sight (document id children) r e = (cc)
 role_shows sight (doctype id) r e = (cc)
 role_shows sight (text id s) r e = (cc)
@@ -95,11 +96,13 @@ id_kept id (text_node s) children = refl
 id_kept id (comment_node s) children = refl
 id_kept id (element_node name attributes) children = refl
 
-pub id_at : (items : List tree_items.Item) (id : ℕ) → IsTree items → id < length items → id_of (tree_of items id) ≡ id
+pub id_at : (items : List tree_items.Item) (id : ℕ) → IsTree items → id < length items
+    → id_of (tree_of items id) ≡ id
 id_at items id t l = ap id_of (tree-open items id t l)
     ∙ id_kept id (data_at items id) (forest_of (tree_of items) (tree_items.children_of items id))
 
-module _ (s : sights.Sight) (node : ℕ) (t : IsTree s.tree.now) (l : node < length s.tree.now) (context : Context) where
+module _ (s : sights.Sight) (node : ℕ) (t : IsTree s.tree.now) (l : node < length s.tree.now)
+    (context : Context) where
   -- the node's parts, by its tree
   abbrev part_of : NumberedTree → List Part
   part_of x = cond (shows (sight_of s) x) ((node_of (shown (sight_of s) x)).whole context) []
@@ -132,7 +135,8 @@ module _ (s : sights.Sight) (node : ℕ) (t : IsTree s.tree.now) (l : node < len
 
   -- an element that doesn't show
   pub whole_hidden : (name : List ℕ) (attributes : List AttributePair)
-      → data_at s.tree.now node ≡ element_node name attributes → role_at s node ≡ None → whole_at s node context ≡ []
+      → data_at s.tree.now node ≡ element_node name attributes → role_at s node ≡ None
+      → whole_at s node context ≡ []
   whole_hidden name attributes e h =
       let role = sym (by_data s.tree.now t node l (shown_role (sight_of s)) (element_node name attributes) e) ∙ h in
       by_data s.tree.now t node l part_of (element_node name attributes) e

@@ -66,10 +66,12 @@ module _ (s : sights.Sight) (context : Context) where
       (λ h. ap (λ xs. behind_item xs context) (nodes_shown s n ns h)
       ∙ ap (λ b. cond b [] (edge ∷ (node_at s n).whole context ++ behind_item (nodes_among s ns) context))
       (sym (ap (λ b. b && is_item (node_at s n)) h) ∙ e)
-      ∙ sym (ap (λ b. cond b (edge ∷ cond b ((node_at s n).whole context) [] ++ behind_item (nodes_among s ns) context)
+      ∙ sym (ap (λ b. cond b (edge ∷ cond b ((node_at s n).whole context) [] ++ behind_item
+      (nodes_among s ns) context)
       (behind_item (nodes_among s ns) context)) h))
       (λ h. ap (λ xs. behind_item xs context) (nodes_hidden s n ns h)
-      ∙ sym (ap (λ b. cond b (edge ∷ cond b ((node_at s n).whole context) [] ++ behind_item (nodes_among s ns) context)
+      ∙ sym (ap (λ b. cond b (edge ∷ cond b ((node_at s n).whole context) [] ++ behind_item
+      (nodes_among s ns) context)
       (behind_item (nodes_among s ns) context)) h))
 
   pub behind_shown : (ns : List ℕ) (k n : ℕ) → k < length ns → n ≡ get_or ns k n
@@ -89,7 +91,8 @@ module _ (s : sights.Sight) (context : Context) where
       ∙ ap (λ b. cond b (edge ∷ whole_at s n context ++ behind_item (nodes_among s (drop (k + 1) ns)) context)
       (behind_item (nodes_among s (drop (k + 1) ns)) context)) h
 
-  pub behind_end : (ns : List ℕ) (k : ℕ) → length ns ≤ k → behind_item (nodes_among s (drop k ns)) context ≡ []
+  pub behind_end : (ns : List ℕ) (k : ℕ) → length ns ≤ k
+      → behind_item (nodes_among s (drop k ns)) context ≡ []
   unfolding node_of
   behind_end ns k l = ap (λ xs. behind_item (nodes_among s xs) context) (drop_all k ns l)
 
@@ -111,7 +114,8 @@ module _ (s : sights.Sight) (context : Context) where
       ++ cells_in_one_line (nodes_at s (drop (k + 1) ns)) context
   cells_at ns k n l e = ap (λ xs. cells_in_one_line xs context) (map_at (node_at s) ns k n l e)
 
-  pub cells_end : (ns : List ℕ) (k : ℕ) → length ns ≤ k → cells_in_one_line (nodes_at s (drop k ns)) context ≡ []
+  pub cells_end : (ns : List ℕ) (k : ℕ) → length ns ≤ k
+      → cells_in_one_line (nodes_at s (drop k ns)) context ≡ []
   cells_end ns k l = ap (λ xs. cells_in_one_line xs context) (map_end (node_at s) ns k l)
 
   pub lines_next : (ls : List line.TableLine) (k : ℕ) (l : line.TableLine) → k < length ls → l ≡ get_or ls k l
@@ -119,16 +123,19 @@ module _ (s : sights.Sight) (context : Context) where
       ≡ line_in_one_line context (line_at s l) ++ lines_in_one_line (lines_at s (drop (k + 1) ls)) context
   lines_next ls k l lt e = ap (λ xs. lines_in_one_line xs context) (map_at (line_at s) ls k l lt e)
 
-  pub lines_end : (ls : List line.TableLine) (k : ℕ) → length ls ≤ k → lines_in_one_line (lines_at s (drop k ls))
+  pub lines_end : (ls : List line.TableLine) (k : ℕ) → length ls ≤ k
+      → lines_in_one_line (lines_at s (drop k ls))
       context ≡ []
   lines_end ls k l = ap (λ xs. lines_in_one_line xs context) (map_end (line_at s) ls k l)
 
-  pub captions_next : (ls : List line.TableLine) (k : ℕ) (l : line.TableLine) → k < length ls → l ≡ get_or ls k l
+  pub captions_next : (ls : List line.TableLine) (k : ℕ) (l : line.TableLine) → k < length ls
+      → l ≡ get_or ls k l
       → captions_among (lines_at s (drop k ls)) context
       ≡ captions_of_line context (line_at s l) ++ captions_among (lines_at s (drop (k + 1) ls)) context
   captions_next ls k l lt e = ap (λ xs. captions_among xs context) (map_at (line_at s) ls k l lt e)
 
-  pub captions_end : (ls : List line.TableLine) (k : ℕ) → length ls ≤ k → captions_among (lines_at s (drop k ls))
+  pub captions_end : (ls : List line.TableLine) (k : ℕ) → length ls ≤ k
+      → captions_among (lines_at s (drop k ls))
       context ≡ []
   captions_end ls k l = ap (λ xs. captions_among xs context) (map_end (line_at s) ls k l)
 
@@ -137,7 +144,8 @@ module _ (s : sights.Sight) (context : Context) where
 stopped : {A : Type 0} (p : A → Bool) (x : A) (xs : List A) → p x ≡ false → prefix_len p (x ∷ xs) ≡ 0
 stopped p x xs h = ap (λ b. cond b (1 + prefix_len p xs) 0) h
 
-passed : {A : Type 0} (p : A → Bool) (x : A) (xs : List A) → p x ≡ true → prefix_len p (x ∷ xs) ≡ suc (prefix_len p xs)
+passed : {A : Type 0} (p : A → Bool) (x : A) (xs : List A) → p x ≡ true
+    → prefix_len p (x ∷ xs) ≡ suc (prefix_len p xs)
 passed p x xs h = ap (λ b. cond b (1 + prefix_len p xs) 0) h ∙ (omega arith)
 
 -- what comes after the first that pass begins with one that doesn't
@@ -147,7 +155,8 @@ rest_stops p (x ∷ xs) = test (p x)
     (λ h. ap (λ k. prefix_len p (drop k (x ∷ xs))) (passed p x xs h) ∙ rest_stops p xs)
     (λ h. ap (λ k. prefix_len p (drop k (x ∷ xs))) (stopped p x xs h) ∙ stopped p x xs h)
 
-pub first_stops : {A : Type 0} (p : A → Bool) (x : A) (xs : List A) → prefix_len p (x ∷ xs) ≡ 0 → p x ≡ false
+pub first_stops : {A : Type 0} (p : A → Bool) (x : A) (xs : List A) → prefix_len p (x ∷ xs) ≡ 0
+    → p x ≡ false
 first_stops p x xs e = test (p x)
     (λ h. let n : suc (prefix_len p xs) ≡ 0 = sym (passed p x xs h) ∙ e in absurd (omega (arith, n)))
     (λ h. h)
@@ -158,7 +167,8 @@ front_passes p [] = All-nil (λ x. p x ≡ true)
 front_passes p (x ∷ xs) = test (p x)
     (λ h. subst (λ k. All (λ y. p y ≡ true) (take k (x ∷ xs))) (sym (passed p x xs h))
     (All-cons (λ y. p y ≡ true) x (take (prefix_len p xs) xs) h (front_passes p xs)))
-    (λ h. subst (λ k. All (λ y. p y ≡ true) (take k (x ∷ xs))) (sym (stopped p x xs h)) (All-nil (λ y. p y ≡ true)))
+    (λ h. subst (λ k. All (λ y. p y ≡ true) (take k (x ∷ xs))) (sym (stopped p x xs h))
+    (All-nil (λ y. p y ≡ true)))
 
 -- ---- items, cells and rows as values
 
@@ -175,7 +185,8 @@ module _ (s : sights.Sight) where
       → p ≡ has_paragraph (children_of (shown_at s n)) → b ≡ blocks_of true parts
       → item_made v p b ≡ item_of (node_at s n) parts
   item_is n v p b parts e f g =
-      ap (λ x. item_made x p b) (e ∙ ap (number_at (codes "value")) (attributes_kept (sight_of s) (tree_of s.tree.now n)
+      ap (λ x. item_made x p b) (e ∙ ap (number_at (codes "value"))
+      (attributes_kept (sight_of s) (tree_of s.tree.now n)
       ∙ ap attributes_of (sym (tree_kept (shown_at s n)))))
       ∙ ap (λ x. item_made (number_at (codes "value") (attributes_of (node_at s n).tree)) x b)
       (f ∙ ap (λ t. has_paragraph (children_of t)) (sym (tree_kept (shown_at s n))))
@@ -193,5 +204,6 @@ module _ (s : sights.Sight) where
       (sym (tree_kept (shown_at s n))) in
       ap (λ x. cell_made x columns rows) e
       ∙ ap (λ x. cell_made (line_of (content_at s n (in_one_line context))) x rows) (f ∙ ap column_span kept)
-      ∙ ap (cell_made (line_of (content_at s n (in_one_line context))) (column_span (attributes_of (node_at s n).tree)))
+      ∙ ap (cell_made (line_of (content_at s n (in_one_line context)))
+      (column_span (attributes_of (node_at s n).tree)))
       (g ∙ ap row_span kept)

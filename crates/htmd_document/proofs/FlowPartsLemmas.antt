@@ -31,7 +31,8 @@ pub fed_after : (w u v : Writing) (ps : List Part) (p : Part) → u ≡ fed_all 
 fed_after w u v ps p h e = e ∙ ap (λ x. fed x p) h ∙ sym (fed-append w ps (p ∷ []))
 
 -- parts after parts
-pub fed_both : (w u v : Writing) (ps qs : List Part) → u ≡ fed_all w ps → v ≡ fed_all u qs → v ≡ fed_all w (ps ++ qs)
+pub fed_both : (w u v : Writing) (ps qs : List Part) → u ≡ fed_all w ps → v ≡ fed_all u qs
+    → v ≡ fed_all w (ps ++ qs)
 fed_both w u v ps qs h e = e ∙ ap (λ x. fed_all x qs) h ∙ sym (fed-append w ps qs)
 
 -- parts between edges
@@ -154,7 +155,8 @@ module _ (ns : List spec.Node) (context : Context) where
       (spec.quote_of (spec.blocks_of false (spec.flow_all ns (deeper context)))))) e)
 
   pub quote_filled : is_lined context ≡ false
-      → apart (spec.quote_of (spec.blocks_of false (spec.flow_all ns (deeper context)))) ≡ spec.quote_parts ns context
+      → apart (spec.quote_of (spec.blocks_of false (spec.flow_all ns (deeper context))))
+      ≡ spec.quote_parts ns context
   quote_filled e = sym (ap (λ b. apart (cond b (spec.flow_all ns context)
       (spec.quote_of (spec.blocks_of false (spec.flow_all ns (deeper context)))))) e)
 

@@ -21,7 +21,8 @@ module _ (s : sights.Sight) where
   nodes_shown n ns h = ap (λ b. nodes_of (cond b (more (shown (sight_of s) (tree_of s.tree.now n)) (shown_among s ns))
       (shown_among s ns))) h
 
-  pub nodes_hidden : (n : ℕ) (ns : List ℕ) → shows_at s n ≡ false → nodes_among s (n ∷ ns) ≡ nodes_among s ns
+  pub nodes_hidden : (n : ℕ) (ns : List ℕ) → shows_at s n ≡ false
+      → nodes_among s (n ∷ ns) ≡ nodes_among s ns
   nodes_hidden n ns h = ap (λ b. nodes_of (cond b (more (shown (sight_of s) (tree_of s.tree.now n))
       (shown_among s ns)) (shown_among s ns))) h
 
@@ -29,7 +30,8 @@ module _ (s : sights.Sight) where
   one_more n = omega arith
 
   -- what passes at the front is taken, or not
-  passed : (p : ℕ → Bool) (n : ℕ) (ns : List ℕ) → p n ≡ true → prefix_len p (n ∷ ns) ≡ suc (prefix_len p ns)
+  passed : (p : ℕ → Bool) (n : ℕ) (ns : List ℕ) → p n ≡ true
+      → prefix_len p (n ∷ ns) ≡ suc (prefix_len p ns)
   passed p n ns h = ap (λ b. cond b (1 + prefix_len p ns) 0) h ∙ one_more (prefix_len p ns)
 
   stopped : (p : ℕ → Bool) (n : ℕ) (ns : List ℕ) → p n ≡ false → prefix_len p (n ∷ ns) ≡ 0
@@ -61,7 +63,8 @@ module _ (s : sights.Sight) where
       (λ h. ap (λ xs. flow_all xs context) (nodes_hidden n ns h)
       ∙ sym (ap (λ b. cond b ((node_at s n).whole context) [] ++ flow_all (nodes_among s ns) context) h))
 
-  in_a_row : (ns : List ℕ) → items_in_a_row (nodes_among s ns) ≡ nodes_among s (take (prefix_len (goes_on_at s) ns) ns)
+  in_a_row : (ns : List ℕ) → items_in_a_row (nodes_among s ns)
+      ≡ nodes_among s (take (prefix_len (goes_on_at s) ns) ns)
   unfolding node_of
   in_a_row [] = refl
   in_a_row (n ∷ ns) = test (shows_at s n)
@@ -126,7 +129,8 @@ module _ (s : sights.Sight) where
       ∙ ap (λ b. cond b (list_parts None (node_at s n ∷ items_in_a_row (nodes_among s ns)) context
       ++ flow_after (nodes_among s ns) context)
       ((node_at s n).whole context ++ flow_all (nodes_among s ns) context)) item.1
-      ∙ ap (λ xs. list_parts None (node_at s n ∷ xs) context ++ flow_after (nodes_among s ns) context) (in_a_row ns)
+      ∙ ap (λ xs. list_parts None (node_at s n ∷ xs) context ++ flow_after (nodes_among s ns) context)
+      (in_a_row ns)
       ∙ ap (λ xs. list_parts None xs context ++ flow_after (nodes_among s ns) context)
       (sym (nodes_shown n (take (prefix_len (goes_on_at s) ns) ns) item.0))
       ∙ ap (λ ps. list_parts None (nodes_among s (n ∷ take (prefix_len (goes_on_at s) ns) ns)) context ++ ps)

@@ -25,7 +25,8 @@ pub are_within : (items : List Item) (table : ℕ) (ns : List ℕ) → All (λ n
 are_within items table ns a = All-weaker (λ n. IsLower items table n) (λ n. n < length items) (λ n l. l.within) ns a
 
 module _ (items : List Item) (table : ℕ) (all : List TableLine) (a : tables.AreLinesBelow items table all) where
-  pub nodes_below : (ls : List TableLine) → ls ≡ all → All (λ n. IsLower items table n) (tables.nodes_of_lines ls)
+  pub nodes_below : (ls : List TableLine) → ls ≡ all
+      → All (λ n. IsLower items table n) (tables.nodes_of_lines ls)
   nodes_below ls e =
       subst (λ xs. All (λ n. IsLower items table n) (tables.nodes_of_lines xs)) (sym e)
       (all_of_lines (λ n. IsLower items table n) all a)

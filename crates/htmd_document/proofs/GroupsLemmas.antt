@@ -42,7 +42,8 @@ pub group_step : (g : Groups) (i : ListItem) → (with_item g i).group ≡ (with
 group_step g i = group_with g i (new_number g.next i.value)
 
 -- groups with no list before them are alike where their parts are
-pub same_alone : (g h : Groups) → g.start ≡ h.start → g.next ≡ h.next → g.group ≡ h.group → alone g ≡ alone h
+pub same_alone : (g h : Groups) → g.start ≡ h.start → g.next ≡ h.next → g.group ≡ h.group
+    → alone g ≡ alone h
 same_alone g h a b c =
     ap (λ (x : ℤ). record { done = []; start = x; next = g.next; group = g.group }) a
     ∙ ap (λ (x : ℤ). record { done = []; start = h.start; next = x; group = g.group }) b

@@ -33,7 +33,8 @@ module _ (tree : ℕ → NumberedTree) where
   tallest_take (x ∷ xs) zero = omega arith
   tallest_take (x ∷ xs) (suc k) = let r = tallest_take xs k in omega (arith, r)
 
-  pub tallest_at : (xs : List ℕ) (k d : ℕ) → k < length xs → height (tree (get_or xs k d)) ≤ tallest (forest_of tree xs)
+  pub tallest_at : (xs : List ℕ) (k d : ℕ) → k < length xs
+      → height (tree (get_or xs k d)) ≤ tallest (forest_of tree xs)
   tallest_at [] k d l = absurd (omega arith)
   tallest_at (x ∷ xs) zero d l = omega arith
   tallest_at (x ∷ xs) (suc k) d l = let r = tallest_at xs k d (omega arith) in omega (arith, r)
@@ -57,7 +58,8 @@ module _ (tree : ℕ → NumberedTree) where
       → tallest (forest_of tree (line_nodes l)) ≤ tallest (forest_of tree (nodes_of_lines ls))
   tallest_line [] k l lt e = absurd (omega arith)
   tallest_line (x ∷ ls) zero l lt e =
-      subst (λ y. tallest (forest_of tree (line_nodes y)) ≤ tallest (forest_of tree (nodes_of_lines (x ∷ ls)))) (sym e)
+      subst (λ y. tallest (forest_of tree (line_nodes y)) ≤ tallest (forest_of tree (nodes_of_lines (x ∷ ls))))
+      (sym e)
       (tallest_front (line_nodes x) (nodes_of_lines ls))
   tallest_line (x ∷ ls) (suc k) l lt e =
       let r : tallest (forest_of tree (line_nodes l)) ≤ tallest (forest_of tree (nodes_of_lines ls)) =
@@ -100,11 +102,13 @@ module _ (P : ℕ → Type 0) where
   all_line (x ∷ ls) (suc k) l lt e a =
       all_line ls k l (omega arith) e (all_behind (line_nodes x) (nodes_of_lines ls) a)
 
-  pub all_lines_take : (ls : List TableLine) (k : ℕ) → All P (nodes_of_lines ls) → All P (nodes_of_lines (take k ls))
+  pub all_lines_take : (ls : List TableLine) (k : ℕ) → All P (nodes_of_lines ls)
+      → All P (nodes_of_lines (take k ls))
   all_lines_take ls k a = all_front (nodes_of_lines (take k ls)) (nodes_of_lines (drop k ls))
       (subst (λ xs. All P xs) (lines_cut ls k) a)
 
-  pub all_lines_drop : (ls : List TableLine) (k : ℕ) → All P (nodes_of_lines ls) → All P (nodes_of_lines (drop k ls))
+  pub all_lines_drop : (ls : List TableLine) (k : ℕ) → All P (nodes_of_lines ls)
+      → All P (nodes_of_lines (drop k ls))
   all_lines_drop ls k a = all_behind (nodes_of_lines (take k ls)) (nodes_of_lines (drop k ls))
       (subst (λ xs. All P xs) (lines_cut ls k) a)
 

@@ -17,7 +17,6 @@ pub mod SpacesLemmas
 pub mod PiecesLemmas
 pub mod ParagraphsLemmas
 pub mod PieceFeedLemmas
-pub mod PiecesLemmas
 pub mod ListsLemmas
 pub mod TablesLemmas
 pub mod AllTextsLemmas

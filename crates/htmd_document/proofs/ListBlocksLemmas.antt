@@ -14,7 +14,8 @@ items_shape : (f : Vec Block Global → Vec documents.Block Global)
     ≡ documents.items_of (map (λ bs. blocks_of bs.items) l)
 items_shape f each [] = refl
 items_shape f each (v ∷ l) =
-    ap (λ bs. documents.items_of (documents.blocks_of bs ∷ map (λ w. documents.blocks_of w.items) (map f l))) (each v)
+    ap (λ bs. documents.items_of (documents.blocks_of bs ∷ map (λ w. documents.blocks_of w.items) (map f l)))
+    (each v)
     ∙ ap (documents.item (blocks_of v.items)) (items_shape f each l)
 
 pub block-list : (start : Option ℕ) (tight : Bool) (items : Vec (Vec Block Global) Global)

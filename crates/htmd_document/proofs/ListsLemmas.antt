@@ -36,7 +36,8 @@ many_not_tight (b ∷ c ∷ []) l = absurd (omega arith)
 many_not_tight (b ∷ c ∷ d ∷ bs) l = refl
 
 -- something shows in this item, or it is looked for in the others
-pub filled_at : (items : List code.ListItem) (i : ℕ) (x : code.ListItem) → i < length items → x ≡ get_or items i x
+pub filled_at : (items : List code.ListItem) (i : ℕ) (x : code.ListItem) → i < length items
+    → x ≡ get_or items i x
     → are_filled (map item_of (drop i items))
     ≡ (is_filled (blocks_of x.blocks.items) || are_filled (map item_of (drop (i + 1) items)))
 filled_at items i x l e = ap are_filled (map_at item_of items i x l e)
@@ -47,10 +48,12 @@ pub paragraph_at : (bs : List Block) (i : ℕ) (b : Block) → i < length bs →
 paragraph_at bs i b l e =
     ap (λ ys. holds_paragraph (blocks_of ys)) (drop_more bs i b l ∙ ap (λ y. y ∷ drop (i + 1) bs) (sym e))
 
-pub paragraph_end : (bs : List Block) (i : ℕ) → length bs ≤ i → holds_paragraph (blocks_of (drop i bs)) ≡ false
+pub paragraph_end : (bs : List Block) (i : ℕ) → length bs ≤ i
+    → holds_paragraph (blocks_of (drop i bs)) ≡ false
 paragraph_end bs i l = ap (λ ys. holds_paragraph (blocks_of ys)) (drop_all i bs l)
 
-pub close_at : (items : List code.ListItem) (i : ℕ) (x : code.ListItem) → i < length items → x ≡ get_or items i x
+pub close_at : (items : List code.ListItem) (i : ℕ) (x : code.ListItem) → i < length items
+    → x ≡ get_or items i x
     → list_all is_close (map item_of (drop i items))
     ≡ (is_close (item_of x) && list_all is_close (map item_of (drop (i + 1) items)))
 close_at items i x l e = ap (list_all is_close) (map_at item_of items i x l e)
@@ -60,6 +63,7 @@ pub start_past : (z : ℤ) (count : ℕ) → 1000000000 < count → start_of z c
 start_past (pos n) count l = grind (arith, nat_tests)
 start_past (negsuc n) count l = refl
 
-pub map_twice : {A B C : Type 0} (f : B → C) (g : A → B) (xs : List A) → map f (map g xs) ≡ map (λ x. f (g x)) xs
+pub map_twice : {A B C : Type 0} (f : B → C) (g : A → B) (xs : List A)
+    → map f (map g xs) ≡ map (λ x. f (g x)) xs
 map_twice f g [] = refl
 map_twice f g (x ∷ xs) = ap (λ ys. f (g x) ∷ ys) (map_twice f g xs)

@@ -40,7 +40,8 @@ items-append : (cs ds : List Data) → items_of (cs ++ ds) ≡ beside (items_of 
 items-append [] ds = refl
 items-append (c ∷ cs) ds = ap (json.item c) (items-append cs ds)
 
-pub view-append : (vs ws : List declared_value.Value) → items_view (vs ++ ws) ≡ beside (items_view vs) (items_view ws)
+pub view-append : (vs ws : List declared_value.Value)
+    → items_view (vs ++ ws) ≡ beside (items_view vs) (items_view ws)
 view-append vs ws = ap items_of (map-append view vs ws) ∙ items-append (map view vs) (map view ws)
 
 pub view-push : (vs : List declared_value.Value) (v : declared_value.Value)
@@ -94,7 +95,8 @@ mapped-copy f xs i d old new v h m p q =
 
 -- one more of what is mapped, after a first
 pub headed-step : {A : Type 0} (f : A → Data) (xs : List A) (i : ℕ) (x : A) (d : Data)
-    (old new : List declared_value.Value) (v : declared_value.Value) → i < length xs → x ≡ get_or xs i x → view v ≡ f x
+    (old new : List declared_value.Value) (v : declared_value.Value) → i < length xs → x ≡ get_or xs i x
+    → view v ≡ f x
     → items_view old ≡ json.item d (items_of (take i (map f xs))) → new ≡ old ++ v ∷ []
     → items_view new ≡ json.item d (items_of (take (i + 1) (map f xs)))
 headed-step f xs i x d old new v h e m p q =
@@ -152,7 +154,8 @@ blocks-more false (c ∷ bs) b = ap (json.item (block_data false c (within_data 
 
 pub blocks-step : (in_item is_first : Bool) (bs : List declared_block.Block) (i : ℕ) (b : declared_block.Block)
     (old new children : json.Items) (made : Data)
-    → i < length bs → b ≡ get_or bs i b → children ≡ within_data (block_of b) → is_first ≡ (in_item && (i == 0))
+    → i < length bs → b ≡ get_or bs i b → children ≡ within_data (block_of b)
+    → is_first ≡ (in_item && (i == 0))
     → made ≡ block_data is_first (block_of b) children
     → old ≡ blocks_data in_item (value.blocks_of (take i (map block_of bs)))
     → new ≡ beside old (one_item made)
@@ -188,18 +191,22 @@ pub items-step : (is_tight : Bool) (items : List (Vec declared_block.Block Globa
     → new ≡ items_data is_tight (value.items_of (take (i + 1) (map (λ b. blocks_of b.items) items)))
 items-step is_tight items i bs old new checked made children h e k c m p q =
     let front : List Blocks = take i (map (λ b. blocks_of b.items) items) in
-    let whole : made ≡ item_data is_tight (checked_data (blocks_of bs.items)) (blocks_data true (blocks_of bs.items)) =
-    m ∙ (ap (λ d. item_data is_tight d children) k ∙ ap (item_data is_tight (checked_data (blocks_of bs.items))) c) in
+    let whole : made ≡ item_data is_tight (checked_data (blocks_of bs.items))
+    (blocks_data true (blocks_of bs.items)) =
+    m ∙ (ap (λ d. item_data is_tight d children) k
+    ∙ ap (item_data is_tight (checked_data (blocks_of bs.items))) c) in
     q ∙ (ap (λ ds. beside ds (one_item made)) p
     ∙ (ap (λ d. beside (items_data is_tight (value.items_of front)) (one_item d)) whole
     ∙ (sym (items-more is_tight front (blocks_of bs.items))
-    ∙ ap (λ cs. items_data is_tight (value.items_of cs)) (sym (take-step (λ b. blocks_of b.items) items i bs h e)))))
+    ∙ ap (λ cs. items_data is_tight (value.items_of cs))
+    (sym (take-step (λ b. blocks_of b.items) items i bs h e)))))
 
 -- ---- an inline by its variant
 
 pub inline-emphasis : (xs : Vec declared_inline.Inline Global)
     → inline_of (Emphasis xs) ≡ value.formatted value.emphasis (inlines_of xs.items)
-inline-emphasis xs = ap inline_of (sym (rolls-Emphasis xs)) ∙ fold-roll-Inline Inline inline_step (Inline-F.Emphasis xs)
+inline-emphasis xs = ap inline_of (sym (rolls-Emphasis xs))
+    ∙ fold-roll-Inline Inline inline_step (Inline-F.Emphasis xs)
 
 pub inline-strong : (xs : Vec declared_inline.Inline Global)
     → inline_of (Strong xs) ≡ value.formatted value.strong (inlines_of xs.items)

@@ -31,7 +31,8 @@ beside-plain json.no_items ds h k = k
 beside-plain (json.item c cs) ds h k = parts (has_float c) (items_have_float cs) h
     (λ a b. or-false (has_float c) (items_have_float (beside cs ds)) a (beside-plain cs ds b k))
 
-parent-plain : (kind : List ℕ) (cs : json.Items) → items_have_float cs ≡ false → has_float (parent kind cs) ≡ false
+parent-plain : (kind : List ℕ) (cs : json.Items) → items_have_float cs ≡ false
+    → has_float (parent kind cs) ≡ false
 parent-plain kind cs h = rw h refl
 
 title-plain : (title : Option (List ℕ)) → has_float (text_or_null title) ≡ false
@@ -42,7 +43,8 @@ start-plain : (start : Option ℕ) → has_float (number_or_null start) ≡ fals
 start-plain None = refl
 start-plain (Some n) = refl
 
-node-plain : (x : Inline) (cs : json.Items) → items_have_float cs ≡ false → items_have_float (node_data x cs) ≡ false
+node-plain : (x : Inline) (cs : json.Items) → items_have_float cs ≡ false
+    → items_have_float (node_data x cs) ≡ false
 node-plain (text s) cs h = refl
 node-plain (code s) cs h = refl
 node-plain (formatted emphasis xs) cs h = rw h refl

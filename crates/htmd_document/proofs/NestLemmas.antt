@@ -47,7 +47,8 @@ pub close-frame : (frames rest : List declared_frame.Frame) (f : declared_frame.
 close-frame frames rest f content done x whole wrap put =
     let closed : inlines_of done ≡ followed (inlines_of f.before.items)
     (one_inline (wrapped_by (around_of f.around) (inlines_of content))) =
-    ap inlines_of put ∙ (inlines-push f.before.items x ∙ ap (λ y. followed (inlines_of f.before.items) (one_inline y))
+    ap inlines_of put ∙ (inlines-push f.before.items x
+    ∙ ap (λ y. followed (inlines_of f.before.items) (one_inline y))
     wrap) in
     let open_frames : map frame_of frames ≡ map frame_of rest ++ frame_of f ∷ [] =
     ap (map frame_of) whole ∙ map-append frame_of rest (f ∷ []) in
@@ -71,12 +72,14 @@ take-step f (y ∷ ys) (suc i) x h e =
     rw add-one (ap (λ zs. f y ∷ zs) (rw add-one at (take-step f ys i x (omega arith) e)))
 
 pub drop-step-twice : {A B C : Type 0} (g : B → C) (f : A → B) (xs : List A) (i : ℕ) (x : A)
-    → i < length xs → x ≡ get_or xs i x → drop i (map g (map f xs)) ≡ g (f x) ∷ drop (i + 1) (map g (map f xs))
+    → i < length xs → x ≡ get_or xs i x
+    → drop i (map g (map f xs)) ≡ g (f x) ∷ drop (i + 1) (map g (map f xs))
 drop-step-twice g f xs i x h e =
     drop-step g (map f xs) i (f x) (rw (length-map xs f) h) (ap f e ∙ sym (get_or-map f xs i x))
 
 take-step-twice : {A B C : Type 0} (g : B → C) (f : A → B) (xs : List A) (i : ℕ) (x : A)
-    → i < length xs → x ≡ get_or xs i x → take (i + 1) (map g (map f xs)) ≡ take i (map g (map f xs)) ++ g (f x) ∷ []
+    → i < length xs → x ≡ get_or xs i x
+    → take (i + 1) (map g (map f xs)) ≡ take i (map g (map f xs)) ++ g (f x) ∷ []
 take-step-twice g f xs i x h e =
     take-step g (map f xs) i (f x) (rw (length-map xs f) h) (ap f e ∙ sym (get_or-map f xs i x))
 
@@ -89,7 +92,8 @@ shared-more ms ns rest rest' i m n p q same =
     rw (p, q, same) (omega arith)
 
 pub shared-else : (ms ns rest rest' : List Mark) (i : ℕ) (m n : Mark)
-    → drop i ms ≡ m ∷ rest → drop i ns ≡ n ∷ rest' → is_same m n ≡ false → shared (drop i ms) (drop i ns) ≡ 0
+    → drop i ms ≡ m ∷ rest → drop i ns ≡ n ∷ rest' → is_same m n ≡ false
+    → shared (drop i ms) (drop i ns) ≡ 0
 shared-else ms ns rest rest' i m n p q same = rw (p, q, same) refl
 
 pub shared-end : (ms ns : List Mark) (i : ℕ) → length ms ≤ i → shared (drop i ms) ns ≡ 0
@@ -123,7 +127,8 @@ joined-longer new old xs x x' y p q e = ap inlines_of p ∙ (inlines-push xs x'
 
 -- one more after the last
 pub joined-beside : (old now xs : List declared_inline.Inline) (x : declared_inline.Inline) (y : Inline)
-    → old ≡ xs ++ x ∷ [] → now ≡ xs ++ x ∷ [] → met (inline_of x) y ≡ inline (inline_of x) (one_inline y)
+    → old ≡ xs ++ x ∷ [] → now ≡ xs ++ x ∷ []
+    → met (inline_of x) y ≡ inline (inline_of x) (one_inline y)
     → followed (inlines_of now) (one_inline y) ≡ joined (inlines_of old) y
 joined-beside old now xs x y q r e =
     ap (λ zs. followed (inlines_of zs) (one_inline y)) r
@@ -196,8 +201,10 @@ opened-step fs fs' content content' outer i a x h e p q =
     ∙ (within-open fs content (around_of a) (wrapped rest x)
     ∙ ap (λ rs. within fs (joined content (wrapped rs x))) (sym (drop-step around_of outer i a h e))))
 
-pub opened-marks : (fs₀ fs fs' : List Frame) (outer : List declared_around.Around) (i : ℕ) (a : declared_around.Around)
-    (content : Inlines) → i < length outer → a ≡ get_or outer i a → fs' ≡ fs ++ frame_after content (around_of a) ∷ []
+pub opened-marks : (fs₀ fs fs' : List Frame) (outer : List declared_around.Around) (i : ℕ)
+    (a : declared_around.Around)
+    (content : Inlines) → i < length outer → a ≡ get_or outer i a
+    → fs' ≡ fs ++ frame_after content (around_of a) ∷ []
     → map (λ f. mark_of f.around) fs ≡ map (λ f. mark_of f.around) fs₀ ++ take i (marks_of outer)
     → map (λ f. mark_of f.around) fs' ≡ map (λ f. mark_of f.around) fs₀ ++ take (i + 1) (marks_of outer)
 opened-marks fs₀ fs fs' outer i a content h e p q =
@@ -225,7 +232,8 @@ rest-range : (around : List declared_around.Around) (n : ℕ) → n ≤ length a
     → take (length around - n) (drop n around) ≡ drop n around
 rest-range around n h = take-whole (drop n around) (length around - n) (simp length-drop (omega arith))
 
-pub reached-place : (old fs₀ fs : List Frame) (content content₀ now : Inlines) (around : List declared_around.Around)
+pub reached-place : (old fs₀ fs : List Frame) (content content₀ now : Inlines)
+    (around : List declared_around.Around)
     (n i : ℕ) (x : Inline) → n ≤ length old → n ≤ length around
     → length (take (length around - n) (drop n around)) ≤ i → fs₀ ≡ take n old
     → within fs₀ content₀ ≡ within old content

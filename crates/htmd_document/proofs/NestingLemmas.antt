@@ -98,7 +98,8 @@ within-open fs content a y = within-push fs content a (one_inline y)
 -- a leaf that shares all that is open
 pub behind-within : (fs : List Frame) (content : Inlines) (around : List Around) (y : Inline)
     → length fs ≤ length around
-    → behind (length fs) (within fs content) around y ≡ within fs (joined content (wrapped (drop (length fs) around) y))
+    → behind (length fs) (within fs content) around y
+    ≡ within fs (joined content (wrapped (drop (length fs) around) y))
 behind-within [] content around y h = refl
 behind-within (f ∷ fs) content [] y h = absurd (omega arith)
 behind-within (f ∷ fs) content (a ∷ around) y h =
@@ -151,7 +152,8 @@ joined-skip x x' no_inlines is_code s z = met-skip x x' is_code s z
 joined-skip x x' (inline x'' xs) is_code s z = refl
 
 pub joined-texts : (xs : Inlines) (is_code : Bool) (s t : List ℕ)
-    → joined (joined xs (text_or_code is_code s)) (text_or_code is_code t) ≡ joined xs (text_or_code is_code (s ++ t))
+    → joined (joined xs (text_or_code is_code s)) (text_or_code is_code t)
+    ≡ joined xs (text_or_code is_code (s ++ t))
 joined-texts no_inlines false s t = refl
 joined-texts no_inlines true s t = refl
 joined-texts (inline x no_inlines) is_code s t = met-texts x is_code s t
@@ -174,7 +176,8 @@ after-wrapped xs (a ∷ around) is_code s t =
     ∙ sym (joined-apart xs (wrapped_by a both) (apart-wrapped a both))))
 
 -- a text comes after another with the same around it
-pub behind-texts : (n : ℕ) (xs : Inlines) (around : List Around) (is_code : Bool) (s t : List ℕ) → n ≤ length around
+pub behind-texts : (n : ℕ) (xs : Inlines) (around : List Around) (is_code : Bool) (s t : List ℕ)
+    → n ≤ length around
     → behind (length around) (behind n xs around (text_or_code is_code s)) around (text_or_code is_code t)
     ≡ behind n xs around (text_or_code is_code (s ++ t))
 behind-texts zero xs around is_code s t h = after-wrapped xs around is_code s t

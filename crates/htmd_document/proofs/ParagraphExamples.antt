@@ -46,7 +46,8 @@ unfolding chars encode
 space_outside = refl
 
 -- `<b>a</b> <b>b</b>`: what is beside each other in the same format is one
-pub space_inside : blocks (run (codes "a") bold false ∷ run (codes " ") [] false ∷ run (codes "b") bold false ∷ [])
+pub space_inside : blocks (run (codes "a") bold false ∷ run (codes " ") [] false ∷ run
+    (codes "b") bold false ∷ [])
     ≡ one (in_bold (codes "a b") no_inlines)
 unfolding chars encode
 space_inside = refl
@@ -76,7 +77,8 @@ unfolding chars encode
 one_break = refl
 
 -- two breaks part paragraphs, and edges do; a block stands between them
-pub two_breaks : blocks (run (codes "a") [] false ∷ break ∷ run (codes " ") [] false ∷ break ∷ run (codes "b") []
+pub two_breaks : blocks (run (codes "a") [] false ∷ break ∷ run (codes " ") [] false ∷ break ∷ run
+    (codes "b") []
     false ∷ [])
     ≡ block (paragraph (plain (codes "a") no_inlines)) (one (plain (codes "b") no_inlines))
 unfolding chars encode

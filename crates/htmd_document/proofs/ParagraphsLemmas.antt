@@ -84,7 +84,8 @@ shared-le-other [] ns = omega arith
 shared-le-other (m ∷ ms) [] = omega arith
 shared-le-other (m ∷ ms) (n ∷ ns) = if-suc (is_same m n) (shared ms ns) (length ns) (shared-le-other ms ns)
 
-prefix-step : (b : Bool) (m n : Mark) (ms ns : List Mark) (k : ℕ) → (b ≡ true → m ≡ n) → take k ms ≡ take k ns
+prefix-step : (b : Bool) (m n : Mark) (ms ns : List Mark) (k : ℕ) → (b ≡ true → m ≡ n)
+    → take k ms ≡ take k ns
     → take (cond b (suc k) 0) (m ∷ ms) ≡ take (cond b (suc k) 0) (n ∷ ns)
 prefix-step true m n ms ns k same h = ap (λ x. x ∷ take k ms) (same refl) ∙ ap (λ xs. n ∷ xs) h
 prefix-step false m n ms ns k same h = refl
@@ -176,12 +177,14 @@ gap-break w around is_code n e h =
     ∙ ap (λ b. if b then behind k w.content (take k around) line_break else
     white_behind k w.content around (is_code && is_code_gap w (map mark_of around)) w.gap.white) (sym h)
 
-white-some : (n : ℕ) (xs : Inlines) (around : List Around) (is_code : Bool) (s : List ℕ) → (length s == 0) ≡ false
+white-some : (n : ℕ) (xs : Inlines) (around : List Around) (is_code : Bool) (s : List ℕ)
+    → (length s == 0) ≡ false
     → behind n xs (take n around) (text_or_code is_code s) ≡ white_behind n xs around is_code s
 white-some n xs around is_code [] h = cc
 white-some n xs around is_code (b ∷ s) h = refl
 
-white-none : (n : ℕ) (xs : Inlines) (around : List Around) (is_code : Bool) (s : List ℕ) → (length s == 0) ≡ true
+white-none : (n : ℕ) (xs : Inlines) (around : List Around) (is_code : Bool) (s : List ℕ)
+    → (length s == 0) ≡ true
     → xs ≡ white_behind n xs around is_code s
 white-none n xs around is_code [] h = refl
 white-none n xs around is_code (b ∷ s) h = absurd (grind (arith, nat_tests, h))
@@ -223,7 +226,8 @@ spaced-begun w h = record {
 }
 
 pub spaced-put : (w : Writing) (xs : Inlines) (marks : List Mark) → first_is space w.gap.white ≡ false
-    → xs ≡ behind 0 w.content [] (value.text (space ∷ [])) → IsSpaced w (record w { content = xs; around = marks })
+    → xs ≡ behind 0 w.content [] (value.text (space ∷ []))
+    → IsSpaced w (record w { content = xs; around = marks })
 spaced-put w xs marks h e = record {
   in_item = refl;
   is_flat = refl;
@@ -240,7 +244,8 @@ gap-marks ms rest marks n h e =
     let size : length (take n ms) ≡ n = length-take-le n ms h in
     ap (take n) e ∙ (ap (λ k. take k (take n ms ++ rest)) (sym size) ∙ take-append_seam (take n ms) rest)
 
-pub gap-bound : (ms rest marks : List Mark) (n : ℕ) → n ≤ length ms → marks ≡ take n ms ++ rest → n ≤ length marks
+pub gap-bound : (ms rest marks : List Mark) (n : ℕ) → n ≤ length ms → marks ≡ take n ms ++ rest
+    → n ≤ length marks
 gap-bound ms rest marks n h e =
     let size : length (take n ms) ≡ n = length-take-le n ms h in
     rw (e, length-append) (omega arith)

@@ -58,7 +58,8 @@ not-false false h = refl
 abbrev is_other : ℕ → Bool
 is_other b = not (is_ascii_white_space b)
 
-all-from : (p : ℕ → Bool) (s : List ℕ) → ((k : ℕ) → k < length s → p (get_or s k 0) ≡ true) → list_all p s ≡ true
+all-from : (p : ℕ → Bool) (s : List ℕ) → ((k : ℕ) → k < length s → p (get_or s k 0) ≡ true)
+    → list_all p s ≡ true
 all-from p [] h = refl
 all-from p (b ∷ s) h =
     and-true (p b) (list_all p s) (h 0 (omega arith)) (all-from p s (λ k l. h (suc k) (omega arith)))
@@ -75,8 +76,8 @@ other-bytes c h = all-from is_other (encode_utf8 c) at
     at : (k : ℕ) → k < length (encode_utf8 c) → is_other (get_or (encode_utf8 c) k 0) ≡ true
     at k l = test (nat_lt (get_or (encode_utf8 c) k 0) 128)
         (λ e. subst (λ (x : ℕ). is_other x ≡ true)
-          (inside_one c [] (encode_utf8 c) k (sym (append-nil (encode_utf8 c))) l (grind (arith, nat_tests)))
-          (not-false (is_ascii_white_space c) h))
+        (inside_one c [] (encode_utf8 c) k (sym (append-nil (encode_utf8 c))) l (grind (arith, nat_tests)))
+        (not-false (is_ascii_white_space c) h))
         (λ e. wide-other (get_or (encode_utf8 c) k 0) (grind (arith, nat_tests)))
 
 some-bytes : (c : ℕ) → 0 < length (encode_utf8 c)
@@ -88,7 +89,8 @@ others-stay : (xs t : List ℕ) → list_all is_other xs ≡ true → squeezed_t
 others-stay [] t h = refl
 others-stay (b ∷ xs) t h =
     let parts = both-true (is_other b) (list_all is_other xs) h in
-    other_stays b (xs ++ t) (not-true (is_ascii_white_space b) parts.0) ∙ ap (λ l. b ∷ l) (others-stay xs t parts.1)
+    other_stays b (xs ++ t) (not-true (is_ascii_white_space b) parts.0)
+    ∙ ap (λ l. b ∷ l) (others-stay xs t parts.1)
 
 squeezed-character : (c : ℕ) (t : List ℕ) → is_ascii_white_space c ≡ false
     → squeezed_text (encode_utf8 c ++ t) ≡ encode_utf8 c ++ squeezed_text t
@@ -120,17 +122,17 @@ white-squeezed u (x ∷ t) w h =
     let first : squeezed_text (u ∷ x ∷ t)
     ≡ cond (is_ascii_white_space x) (squeezed_text (x ∷ t)) (space ∷ squeezed_text (x ∷ t)) =
     ap (λ b. cond b (cond (is_ascii_white_space x) (squeezed_text (x ∷ t)) (space ∷ squeezed_text (x ∷ t)))
-      (u ∷ squeezed_text (x ∷ t))) w in
+    (u ∷ squeezed_text (x ∷ t))) w in
     test (is_ascii_white_space x)
     (λ e.
-      let same : skipped (x ∷ t) ≡ skipped t = ap (λ b. cond b (skipped t) (x ∷ t)) e in
-      first ∙ (ap (λ b. cond b (squeezed_text (x ∷ t)) (space ∷ squeezed_text (x ∷ t))) e
-        ∙ (white-squeezed x t e (subst (λ (l : List ℕ). 0 < length l) same h)
-          ∙ ap (λ l. space ∷ squeezed_text l) (sym same))))
+    let same : skipped (x ∷ t) ≡ skipped t = ap (λ b. cond b (skipped t) (x ∷ t)) e in
+    first ∙ (ap (λ b. cond b (squeezed_text (x ∷ t)) (space ∷ squeezed_text (x ∷ t))) e
+    ∙ (white-squeezed x t e (subst (λ (l : List ℕ). 0 < length l) same h)
+    ∙ ap (λ l. space ∷ squeezed_text l) (sym same))))
     (λ e.
-      let same : skipped (x ∷ t) ≡ x ∷ t = ap (λ b. cond b (skipped t) (x ∷ t)) e in
-      first ∙ (ap (λ b. cond b (squeezed_text (x ∷ t)) (space ∷ squeezed_text (x ∷ t))) e
-        ∙ ap (λ l. space ∷ squeezed_text l) (sym same)))
+    let same : skipped (x ∷ t) ≡ x ∷ t = ap (λ b. cond b (skipped t) (x ∷ t)) e in
+    first ∙ (ap (λ b. cond b (squeezed_text (x ∷ t)) (space ∷ squeezed_text (x ∷ t))) e
+    ∙ ap (λ l. space ∷ squeezed_text l) (sym same)))
 
 -- ---- a gap that ends with a space, or doesn't
 
@@ -143,9 +145,9 @@ ends-other : (xs : List ℕ) → list_all is_other xs ≡ true → ends_with_spa
 ends-other [] h = refl
 ends-other (b ∷ []) h = test (b == space)
     (λ e.
-      let same : b ≡ space = grind (arith, nat_tests, e) in
-      let no : false ≡ true = subst (λ (x : ℕ). list_all is_other (x ∷ []) ≡ true) same h in
-      cc)
+    let same : b ≡ space = grind (arith, nat_tests, e) in
+    let no : false ≡ true = subst (λ (x : ℕ). list_all is_other (x ∷ []) ≡ true) same h in
+    cc)
     (λ e. e)
 ends-other (b ∷ c ∷ s) h = ends-other (c ∷ s) (both-true (is_other b) (list_all is_other (c ∷ s)) h).1
 
@@ -177,14 +179,15 @@ same-gap v around true s g b code =
     ∙ number-same (length (map mark_of around)) in
     rw (all, size) refl
 
-gap-put : (xs : Inlines) (n : ℕ) (around : List Around) (is_code w : Bool) (x : ℕ) (g : List ℕ) → n ≡ length around
+gap-put : (xs : Inlines) (n : ℕ) (around : List Around) (is_code w : Bool) (x : ℕ) (g : List ℕ)
+    → n ≡ length around
     → w ≡ is_code
     → white_behind n xs around w (x ∷ g) ≡ behind (length around) xs around (text_or_code is_code (x ∷ g))
 gap-put xs n around is_code w x g e same =
     ap (λ m. behind m xs (take m around) (text_or_code w (x ∷ g))) e
     ∙ (ap (λ l. behind (length around) xs l (text_or_code w (x ∷ g)))
-      (take_all (length around) around (omega arith))
-      ∙ ap (λ b. behind (length around) xs around (text_or_code b (x ∷ g))) same)
+    (take_all (length around) around (omega arith))
+    ∙ ap (λ b. behind (length around) xs around (text_or_code b (x ∷ g))) same)
 
 all-shared : (around : List Around) → shared (map mark_of around) (map mark_of around) ≡ length around
 all-shared around = shared-self (map mark_of around) ∙ length-map around mark_of
@@ -227,9 +230,9 @@ content-again v around is_code s g t b code =
     ap (λ xs. behind (shared_marks w (map mark_of around)) xs around (text_or_code is_code t))
     (gap-content v around is_code s g b code)
     ∙ (ap (λ k. behind k (shown v around is_code (text_or_code is_code (s ++ g))).content around
-        (text_or_code is_code t)) (place-again v around is_code s g b)
-      ∙ (twice v around is_code (s ++ g) t
-        ∙ ap (λ l. (shown v around is_code (text_or_code is_code l)).content) (append_assoc s g t)))
+    (text_or_code is_code t)) (place-again v around is_code s g b)
+    ∙ (twice v around is_code (s ++ g) t
+    ∙ ap (λ l. (shown v around is_code (text_or_code is_code l)).content) (append_assoc s g t)))
 
 unparted : (v : Writing) (around : List Around) (is_code : Bool) (s g : List ℕ) (b : Bool)
     → parted (waiting v around is_code s g b) ≡ waiting v around is_code s g b
@@ -245,37 +248,37 @@ plain-step : (v : Writing) (around : List Around) (is_code : Bool) (s g : List �
 plain-step v around is_code s g b c plain code =
     let w : Writing = waiting v around is_code s g b in
     ap (λ x. if x then spaced_out w c is_code
-      else after_leaf w around is_code (text_or_code is_code (encode_utf8 c))) plain
+    else after_leaf w around is_code (text_or_code is_code (encode_utf8 c))) plain
     ∙ (ap (λ u. shown u around is_code (text_or_code is_code (encode_utf8 c)))
-      (unparted v around is_code s g b)
-      ∙ ap (λ xs. record v {
-            content = xs;
-            latest = latest_of is_code;
-            around = map mark_of around;
-            gap = no_gap;
-            is_blank = false;
-            breaks = 0;
-          }) (content-again v around is_code s g (encode_utf8 c) b code))
+    (unparted v around is_code s g b)
+    ∙ ap (λ xs. record v {
+      content = xs;
+      latest = latest_of is_code;
+      around = map mark_of around;
+      gap = no_gap;
+      is_blank = false;
+      breaks = 0;
+    }) (content-again v around is_code s g (encode_utf8 c) b code))
 
 -- one more white space: it goes, or it waits
 white-step : (v : Writing) (around : List Around) (is_code : Bool) (s g : List ℕ) (b : Bool) (c : ℕ)
     → is_white c ≡ true
     → after_character (waiting v around is_code s g b) around is_code c
     ≡ (if is_ascii_white_space c && ends_with_space g then waiting v around is_code s g b
-      else waiting v around is_code s (g ++ encode_utf8 (shown_white c)) (b && is_code))
+    else waiting v around is_code s (g ++ encode_utf8 (shown_white c)) (b && is_code))
 white-step v around is_code s g b c white =
     let w : Writing = waiting v around is_code s g b in
     ap (λ x. if x then spaced_out w c is_code
-      else after_leaf w around is_code (text_or_code is_code (encode_utf8 c))) white
+    else after_leaf w around is_code (text_or_code is_code (encode_utf8 c))) white
     ∙ by-test (is_ascii_white_space c && ends_with_space g)
   where
     by-test : (x : Bool) → record (waiting v around is_code s g b) {
-        gap = if x then record { white = g; has_break = false; is_code = b }
-        else record { white = g ++ encode_utf8 (shown_white c); has_break = false; is_code = b && is_code };
-        is_blank = false;
-      }
-    ≡ (if x then waiting v around is_code s g b
-      else waiting v around is_code s (g ++ encode_utf8 (shown_white c)) (b && is_code))
+      gap = if x then record { white = g; has_break = false; is_code = b }
+          else record { white = g ++ encode_utf8 (shown_white c); has_break = false; is_code = b && is_code };
+      is_blank = false;
+    }
+        ≡ (if x then waiting v around is_code s g b
+        else waiting v around is_code s (g ++ encode_utf8 (shown_white c)) (b && is_code))
     by-test true = refl
     by-test false = refl
 
@@ -285,7 +288,8 @@ code-kept is_code b code e = and-true b is_code (code e) e
 -- ---- a piece
 
 -- the last characters of a piece show something
-end-shows : (us : List ℕ) (c : ℕ) → is_white c ≡ false → 0 < length (skipped (encode_utf8_all (us ++ c ∷ [])))
+end-shows : (us : List ℕ) (c : ℕ) → is_white c ≡ false
+    → 0 < length (skipped (encode_utf8_all (us ++ c ∷ [])))
 end-shows [] c plain =
     let other = (neither (is_ascii_white_space c) (is_wide_space c) plain).0 in
     rw (skipped-character c [] other) (omega (arith, length-append (encode_utf8 c) [], some-bytes c))
@@ -293,9 +297,9 @@ end-shows (u ∷ us) c plain =
     let t : List ℕ = encode_utf8_all (us ++ c ∷ []) in
     test (is_ascii_white_space u)
     (λ e.
-      let same : skipped (encode_utf8 u ++ t) ≡ skipped t =
-      ap (λ l. skipped (l ++ t)) (white-byte u e) ∙ ap (λ b. cond b (skipped t) (u ∷ t)) e in
-      subst (λ (l : List ℕ). 0 < length l) (sym same) (end-shows us c plain))
+    let same : skipped (encode_utf8 u ++ t) ≡ skipped t =
+    ap (λ l. skipped (l ++ t)) (white-byte u e) ∙ ap (λ b. cond b (skipped t) (u ∷ t)) e in
+    subst (λ (l : List ℕ). 0 < length l) (sym same) (end-shows us c plain))
     (λ e. rw (skipped-character u t e) (omega (arith, length-append (encode_utf8 u) t, some-bytes u)))
 
 -- what follows a gap, squeezed
@@ -314,7 +318,8 @@ after-plain g c t other = by-test (ends_with_space g)
 abbrev step : List Around → Bool → Writing → ℕ → Writing
 step around is_code w c = after_character w around is_code c
 
-pub piece-more : (us : List ℕ) (c : ℕ) (v : Writing) (around : List Around) (is_code : Bool) (s g : List ℕ) (b : Bool)
+pub piece-more : (us : List ℕ) (c : ℕ) (v : Writing) (around : List Around) (is_code : Bool) (s g : List ℕ)
+    (b : Bool)
     → is_white c ≡ false → (is_code ≡ true → b ≡ true)
     → fold (step around is_code) (waiting v around is_code s g b) (us ++ c ∷ [])
     ≡ shown v around is_code (text_or_code is_code (s ++ (g ++ after_gap g (encode_utf8_all (us ++ c ∷ [])))))
@@ -322,73 +327,76 @@ piece-more [] c v around is_code s g b plain code =
     plain-step v around is_code s g b c plain code
     ∙ ap (λ l. shown v around is_code (text_or_code is_code (s ++ (g ++ l))))
     (sym (after-plain g c [] (neither (is_ascii_white_space c) (is_wide_space c) plain).0
-        ∙ append-nil (encode_utf8 c)))
+    ∙ append-nil (encode_utf8 c)))
 piece-more (u ∷ us) c v around is_code s g b plain code =
     let t : List ℕ = encode_utf8_all (us ++ c ∷ []) in
     let put : List ℕ → Writing = λ l. shown v around is_code (text_or_code is_code l) in
     let all : Writing → Writing = λ w. fold (step around is_code) w (us ++ c ∷ []) in
     test (is_white u)
     (λ white. test (is_ascii_white_space u)
-      (λ ascii.
-        let whole : encode_utf8 u ++ t ≡ u ∷ t = ap (λ l. l ++ t) (white-byte u ascii) in
-        test (ends_with_space g)
-        (λ ends.
-          let same : after_character (waiting v around is_code s g b) around is_code u ≡ waiting v around is_code s g b =
-          white-step v around is_code s g b u white
-          ∙ ap (λ x. if x then waiting v around is_code s g b
-            else waiting v around is_code s (g ++ encode_utf8 (shown_white u)) (b && is_code)) (and-true (is_ascii_white_space u) (ends_with_space g) ascii ends) in
-          let rest : after_gap g t ≡ after_gap g (encode_utf8 u ++ t) =
-          ap (λ x. squeezed_text (cond x (skipped t) t)) ends
-          ∙ (ap squeezed_text (sym (ap (λ x. cond x (skipped t) (u ∷ t)) ascii))
-            ∙ (ap (λ x. squeezed_text (cond x (skipped (u ∷ t)) (u ∷ t))) (sym ends)
-              ∙ ap (after_gap g) (sym whole))) in
-          ap all same ∙ (piece-more us c v around is_code s g b plain code ∙ ap (λ l. put (s ++ (g ++ l))) rest))
-        (λ apart.
-          let no : (is_ascii_white_space u && ends_with_space g) ≡ false =
-          ap (λ x. is_ascii_white_space u && x) apart ∙ and-false (is_ascii_white_space u) in
-          let shown-as : encode_utf8 (shown_white u) ≡ space ∷ [] = ap (λ x. encode_utf8 (if x then space else u)) ascii in
-          let more : after_character (waiting v around is_code s g b) around is_code u
-          ≡ waiting v around is_code s (g ++ space ∷ []) (b && is_code) =
-          white-step v around is_code s g b u white
-          ∙ (ap (λ x. if x then waiting v around is_code s g b
-              else waiting v around is_code s (g ++ encode_utf8 (shown_white u)) (b && is_code)) no
-            ∙ ap (λ l. waiting v around is_code s (g ++ l) (b && is_code)) shown-as) in
-          let rest : (g ++ space ∷ []) ++ after_gap (g ++ space ∷ []) t ≡ g ++ after_gap g (encode_utf8 u ++ t) =
-          append_assoc g (space ∷ []) (after_gap (g ++ space ∷ []) t)
-          ∙ (ap (λ x. g ++ space ∷ squeezed_text (cond x (skipped t) t)) (ends-space g)
-            ∙ (ap (λ l. g ++ l) (sym (white-squeezed u t ascii (end-shows us c plain)))
-              ∙ (ap (λ x. g ++ squeezed_text (cond x (skipped (u ∷ t)) (u ∷ t))) (sym apart)
-                ∙ ap (λ l. g ++ after_gap g l) (sym whole)))) in
-          ap all more
-          ∙ (piece-more us c v around is_code s (g ++ space ∷ []) (b && is_code) plain (code-kept is_code b code)
-            ∙ ap (λ l. put (s ++ l)) rest)))
-      (λ other.
-        let no : (is_ascii_white_space u && ends_with_space g) ≡ false = ap (λ x. x && ends_with_space g) other in
-        let shown-as : encode_utf8 (shown_white u) ≡ encode_utf8 u = ap (λ x. encode_utf8 (if x then space else u)) other in
-        let more : after_character (waiting v around is_code s g b) around is_code u
-        ≡ waiting v around is_code s (g ++ encode_utf8 u) (b && is_code) =
-        white-step v around is_code s g b u white
-        ∙ (ap (λ x. if x then waiting v around is_code s g b
-            else waiting v around is_code s (g ++ encode_utf8 (shown_white u)) (b && is_code)) no
-          ∙ ap (λ l. waiting v around is_code s (g ++ l) (b && is_code)) shown-as) in
-        let open : ends_with_space (g ++ encode_utf8 u) ≡ false =
-        ends-append g (encode_utf8 u) (some-bytes u) ∙ ends-other (encode_utf8 u) (other-bytes u other) in
-        let rest : (g ++ encode_utf8 u) ++ after_gap (g ++ encode_utf8 u) t ≡ g ++ after_gap g (encode_utf8 u ++ t) =
-        append_assoc g (encode_utf8 u) (after_gap (g ++ encode_utf8 u) t)
-        ∙ (ap (λ x. g ++ (encode_utf8 u ++ squeezed_text (cond x (skipped t) t))) open
-          ∙ ap (λ l. g ++ l) (sym (after-plain g u t other))) in
-        ap all more
-        ∙ (piece-more us c v around is_code s (g ++ encode_utf8 u) (b && is_code) plain (code-kept is_code b code)
-          ∙ ap (λ l. put (s ++ l)) rest)))
+    (λ ascii.
+    let whole : encode_utf8 u ++ t ≡ u ∷ t = ap (λ l. l ++ t) (white-byte u ascii) in
+    test (ends_with_space g)
+    (λ ends.
+    let same : after_character (waiting v around is_code s g b) around is_code u ≡ waiting v around is_code s g b =
+    white-step v around is_code s g b u white
+    ∙ ap (λ x. if x then waiting v around is_code s g b
+    else waiting v around is_code s (g ++ encode_utf8 (shown_white u)) (b && is_code))
+    (and-true (is_ascii_white_space u) (ends_with_space g) ascii ends) in
+    let rest : after_gap g t ≡ after_gap g (encode_utf8 u ++ t) =
+    ap (λ x. squeezed_text (cond x (skipped t) t)) ends
+    ∙ (ap squeezed_text (sym (ap (λ x. cond x (skipped t) (u ∷ t)) ascii))
+    ∙ (ap (λ x. squeezed_text (cond x (skipped (u ∷ t)) (u ∷ t))) (sym ends)
+    ∙ ap (after_gap g) (sym whole))) in
+    ap all same ∙ (piece-more us c v around is_code s g b plain code ∙ ap (λ l. put (s ++ (g ++ l))) rest))
+    (λ apart.
+    let no : (is_ascii_white_space u && ends_with_space g) ≡ false =
+    ap (λ x. is_ascii_white_space u && x) apart ∙ and-false (is_ascii_white_space u) in
+    let shown-as : encode_utf8 (shown_white u) ≡ space ∷ [] =
+    ap (λ x. encode_utf8 (if x then space else u)) ascii ∙ white-byte space refl in
+    let more : after_character (waiting v around is_code s g b) around is_code u
+    ≡ waiting v around is_code s (g ++ space ∷ []) (b && is_code) =
+    white-step v around is_code s g b u white
+    ∙ (ap (λ x. if x then waiting v around is_code s g b
+    else waiting v around is_code s (g ++ encode_utf8 (shown_white u)) (b && is_code)) no
+    ∙ ap (λ l. waiting v around is_code s (g ++ l) (b && is_code)) shown-as) in
+    let rest : (g ++ space ∷ []) ++ after_gap (g ++ space ∷ []) t ≡ g ++ after_gap g (encode_utf8 u ++ t) =
+    append_assoc g (space ∷ []) (after_gap (g ++ space ∷ []) t)
+    ∙ (ap (λ x. g ++ space ∷ squeezed_text (cond x (skipped t) t)) (ends-space g)
+    ∙ (ap (λ l. g ++ l) (sym (white-squeezed u t ascii (end-shows us c plain)))
+    ∙ (ap (λ x. g ++ squeezed_text (cond x (skipped (u ∷ t)) (u ∷ t))) (sym apart)
+    ∙ ap (λ l. g ++ after_gap g l) (sym whole)))) in
+    ap all more
+    ∙ (piece-more us c v around is_code s (g ++ space ∷ []) (b && is_code) plain (code-kept is_code b code)
+    ∙ ap (λ l. put (s ++ l)) rest)))
+    (λ other.
+    let no : (is_ascii_white_space u && ends_with_space g) ≡ false = ap (λ x. x && ends_with_space g) other in
+    let shown-as : encode_utf8 (shown_white u) ≡ encode_utf8 u =
+    ap (λ x. encode_utf8 (if x then space else u)) other in
+    let more : after_character (waiting v around is_code s g b) around is_code u
+    ≡ waiting v around is_code s (g ++ encode_utf8 u) (b && is_code) =
+    white-step v around is_code s g b u white
+    ∙ (ap (λ x. if x then waiting v around is_code s g b
+    else waiting v around is_code s (g ++ encode_utf8 (shown_white u)) (b && is_code)) no
+    ∙ ap (λ l. waiting v around is_code s (g ++ l) (b && is_code)) shown-as) in
+    let closed : ends_with_space (g ++ encode_utf8 u) ≡ false =
+    ends-append g (encode_utf8 u) (some-bytes u) ∙ ends-other (encode_utf8 u) (other-bytes u other) in
+    let rest : (g ++ encode_utf8 u) ++ after_gap (g ++ encode_utf8 u) t ≡ g ++ after_gap g (encode_utf8 u ++ t) =
+    append_assoc g (encode_utf8 u) (after_gap (g ++ encode_utf8 u) t)
+    ∙ (ap (λ x. g ++ (encode_utf8 u ++ squeezed_text (cond x (skipped t) t))) closed
+    ∙ ap (λ l. g ++ l) (sym (after-plain g u t other))) in
+    ap all more
+    ∙ (piece-more us c v around is_code s (g ++ encode_utf8 u) (b && is_code) plain (code-kept is_code b code)
+    ∙ ap (λ l. put (s ++ l)) rest)))
     (λ shows.
-      let other = (neither (is_ascii_white_space u) (is_wide_space u) shows).0 in
-      let rest : (s ++ (g ++ encode_utf8 u)) ++ squeezed_text t ≡ s ++ (g ++ after_gap g (encode_utf8 u ++ t)) =
-      append_assoc s (g ++ encode_utf8 u) (squeezed_text t)
-      ∙ (ap (λ l. s ++ l) (append_assoc g (encode_utf8 u) (squeezed_text t))
-        ∙ ap (λ l. s ++ (g ++ l)) (sym (after-plain g u t other))) in
-      ap all (plain-step v around is_code s g b u shows code)
-      ∙ (piece-more us c v around is_code (s ++ (g ++ encode_utf8 u)) [] true plain (λ _. refl)
-        ∙ ap put rest))
+    let other = (neither (is_ascii_white_space u) (is_wide_space u) shows).0 in
+    let rest : (s ++ (g ++ encode_utf8 u)) ++ squeezed_text t ≡ s ++ (g ++ after_gap g (encode_utf8 u ++ t)) =
+    append_assoc s (g ++ encode_utf8 u) (squeezed_text t)
+    ∙ (ap (λ l. s ++ l) (append_assoc g (encode_utf8 u) (squeezed_text t))
+    ∙ ap (λ l. s ++ (g ++ l)) (sym (after-plain g u t other))) in
+    ap all (plain-step v around is_code s g b u shows code)
+    ∙ (piece-more us c v around is_code (s ++ (g ++ encode_utf8 u)) [] true plain (λ _. refl)
+    ∙ ap put rest))
 
 -- ---- a text without the white space at its end
 
@@ -396,8 +404,8 @@ abbrev EndsPlain : List ℕ → Type 0
 EndsPlain xs = (xs ≡ []) ⊎ ((us : List ℕ) × (c : ℕ) × (xs ≡ us ++ c ∷ []) × (is_white c ≡ false))
 
 snoc-of : (x : ℕ) (xs : List ℕ) → (us : List ℕ) × (c : ℕ) × (x ∷ xs ≡ us ++ c ∷ [])
-snoc-of x [] = ([], (x, refl))
-snoc-of x (y ∷ xs) = let r = snoc-of y xs in (x ∷ r.0, (r.1, ap (λ l. x ∷ l) r.2))
+snoc-of x [] = ([], x, refl)
+snoc-of x (y ∷ xs) = let r = snoc-of y xs in (x ∷ r.0, r.1, ap (λ l. x ∷ l) r.2)
 
 trimmed-shape : (n : ℕ) (xs : List ℕ) → length xs ≤ n → EndsPlain (trimmed_end is_white xs)
 trimmed-shape n [] h = inl refl
@@ -407,22 +415,25 @@ trimmed-shape (suc n) (x ∷ xs) h =
     let size : length (x ∷ xs) ≡ length r.0 + 1 = ap length r.2 ∙ length-append r.0 (r.1 ∷ []) in
     test (is_white r.1)
     (λ e. subst EndsPlain (sym (ap (trimmed_end is_white) r.2 ∙ trimmed-passing is_white r.0 r.1 e))
-      (trimmed-shape n r.0 (omega (arith, size))))
-    (λ e. inr (r.0, (r.1, (ap (trimmed_end is_white) r.2 ∙ trimmed-failing is_white r.0 r.1 e, e))))
+    (trimmed-shape n r.0 (omega (arith, size))))
+    (λ e. inr (r.0, r.1, ap (trimmed_end is_white) r.2 ∙ trimmed-failing is_white r.0 r.1 e, e))
 
-failing-suffix : (p : ℕ → Bool) (c : ℕ) (xs : List ℕ) → p c ≡ false → suffix_len p (c ∷ xs) ≡ suffix_len p xs
+failing-suffix : (p : ℕ → Bool) (c : ℕ) (xs : List ℕ) → p c ≡ false
+    → suffix_len p (c ∷ xs) ≡ suffix_len p xs
 failing-suffix p c xs h =
     let none : prefix_len p (c ∷ []) ≡ 0 = ap (λ b. cond b 1 0) h in
     ap (prefix_len p) (reverse-append (c ∷ []) xs)
     ∙ (prefix_len-append p (reverse xs) (c ∷ [])
-      ∙ by-test (prefix_len p (reverse xs) == length (reverse xs)) refl none)
+    ∙ by-test (prefix_len p (reverse xs) == length (reverse xs)) refl none)
   where
     by-test : (b : Bool) → (prefix_len p (reverse xs) == length (reverse xs)) ≡ b → prefix_len p (c ∷ []) ≡ 0
-        → cond b (length (reverse xs) + prefix_len p (c ∷ [])) (prefix_len p (reverse xs)) ≡ prefix_len p (reverse xs)
+        → cond b (length (reverse xs) + prefix_len p (c ∷ [])) (prefix_len p (reverse xs))
+        ≡ prefix_len p (reverse xs)
     by-test true e none = grind (arith, nat_tests, e, none)
     by-test false e none = refl
 
-trimmed-cons : (p : ℕ → Bool) (c : ℕ) (xs : List ℕ) → p c ≡ false → trimmed_end p (c ∷ xs) ≡ c ∷ trimmed_end p xs
+trimmed-cons : (p : ℕ → Bool) (c : ℕ) (xs : List ℕ) → p c ≡ false
+    → trimmed_end p (c ∷ xs) ≡ c ∷ trimmed_end p xs
 trimmed-cons p c xs h =
     let within = suffix_len-le-length p xs in
     let size : length (c ∷ xs) - suffix_len p (c ∷ xs) ≡ suc (length xs - suffix_len p xs) =
@@ -430,7 +441,8 @@ trimmed-cons p c xs h =
     ap (λ n. take n (c ∷ xs)) size
 
 -- a piece is fed: its first character shows, and its last one
-pub piece-fed : (c : ℕ) (more : List ℕ) (w : Writing) (around : List Around) (is_code : Bool) → is_white c ≡ false
+pub piece-fed : (c : ℕ) (more : List ℕ) (w : Writing) (around : List Around) (is_code : Bool)
+    → is_white c ≡ false
     → EndsPlain more
     → fold (step around is_code) w (c ∷ more)
     ≡ after_leaf w around is_code (text_or_code is_code (squeezed_text (encode_utf8_all (c ∷ more))))
@@ -440,7 +452,7 @@ piece-fed c more w around is_code plain shape =
     let put : List ℕ → Writing = λ l. shown v around is_code (text_or_code is_code l) in
     let first : after_character w around is_code c ≡ put (encode_utf8 c) =
     ap (λ b. if b then spaced_out w c is_code
-      else after_leaf w around is_code (text_or_code is_code (encode_utf8 c))) plain in
+    else after_leaf w around is_code (text_or_code is_code (encode_utf8 c))) plain in
     let last : put (encode_utf8 c ++ squeezed_text (encode_utf8_all more))
     ≡ put (squeezed_text (encode_utf8_all (c ∷ more))) =
     ap put (sym (squeezed-character c (encode_utf8_all more) other)) in
@@ -448,12 +460,12 @@ piece-fed c more w around is_code plain shape =
     ≡ put (encode_utf8 c ++ squeezed_text (encode_utf8_all more)) =
     ⊎_elim
     (λ (none : more ≡ []). ap (λ xs. fold (step around is_code) (put (encode_utf8 c)) xs) none
-      ∙ (ap put (sym (append-nil (encode_utf8 c)))
-        ∙ ap (λ xs. put (encode_utf8 c ++ squeezed_text (encode_utf8_all xs))) (sym none)))
+    ∙ (ap put (sym (append-nil (encode_utf8 c)))
+    ∙ ap (λ xs. put (encode_utf8 c ++ squeezed_text (encode_utf8_all xs))) (sym none)))
     (λ (r : (us : List ℕ) × (d : ℕ) × (more ≡ us ++ d ∷ []) × (is_white d ≡ false)).
-      ap (λ xs. fold (step around is_code) (put (encode_utf8 c)) xs) r.2
-      ∙ (piece-more r.0 r.1 v around is_code (encode_utf8 c) [] true r.3 (λ _. refl)
-        ∙ ap (λ xs. put (encode_utf8 c ++ squeezed_text (encode_utf8_all xs))) (sym r.2)))
+    ap (λ xs. fold (step around is_code) (put (encode_utf8 c)) xs) r.2
+    ∙ (piece-more r.0 r.1 v around is_code (encode_utf8 c) [] true r.3 (λ _. refl)
+    ∙ ap (λ xs. put (encode_utf8 c ++ squeezed_text (encode_utf8_all xs))) (sym r.2)))
     shape in
     ap (λ u. fold (step around is_code) u more) first ∙ (middle ∙ last)
 
@@ -470,12 +482,12 @@ piece-read w w' around is_code s piece after c more begins plain p cut e =
     ap (trimmed_end is_white) begins ∙ trimmed-cons is_white c more plain in
     let read : w' ≡ fold (step around is_code) w (trimmed_end is_white (chars s)) =
     e ∙ (ap (λ l. after_leaf w around is_code (text_or_code is_code (squeezed_text l)))
-      (p ∙ ap encode_utf8_all whole)
-      ∙ (sym (piece-fed c (trimmed_end is_white more) w around is_code plain shape)
-        ∙ ap (fold (step around is_code) w) (sym whole))) in
+    (p ∙ ap encode_utf8_all whole)
+    ∙ (sym (piece-fed c (trimmed_end is_white more) w around is_code plain shape)
+    ∙ ap (fold (step around is_code) w) (sym whole))) in
     ap (λ u. fold (step around is_code) u (chars after)) read
     ∙ (sym (fold-append (step around is_code) w (trimmed_end is_white (chars s)) (chars after))
-      ∙ ap (fold (step around is_code) w) (sym cut))
+    ∙ ap (fold (step around is_code) w) (sym cut))
 
 -- a piece takes some bytes
 pub piece-some : (s : List ℕ) (c : ℕ) (more : List ℕ) → chars s ≡ c ∷ more → is_white c ≡ false

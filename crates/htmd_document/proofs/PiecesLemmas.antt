@@ -28,7 +28,8 @@ pub record LastCut (s : List ℕ) (c n : ℕ) : Type 0 where
 pub last-cut : (s rest : List ℕ) (c n : ℕ) → IsUtf8 s → IsScalar c → s ≡ rest ++ encode_utf8 c
     → n ≡ length s - len_utf8 c → 0 < len_utf8 c → LastCut s c n
 last-cut s rest c n text scalar whole size some =
-    let total : length s ≡ length rest + length (encode_utf8 c) = ap length whole ∙ length-append rest (encode_utf8 c)
+    let total : length s ≡ length rest + length (encode_utf8 c) = ap length whole
+    ∙ length-append rest (encode_utf8 c)
     in
     let same : n ≡ length rest = omega (arith, size, total, length-encode c) in
     let front : take n s ≡ rest =
@@ -79,7 +80,8 @@ trimmed-empty p = refl
 
 -- ---- the loop of `without_white_end`
 
-pub trim-white : (p : ℕ → Bool) (s front : List ℕ) (c n : ℕ) → LastCut s c n → p c ≡ true → front ≡ take n s
+pub trim-white : (p : ℕ → Bool) (s front : List ℕ) (c n : ℕ) → LastCut s c n → p c ≡ true
+    → front ≡ take n s
     → trimmed_end p (chars front) ≡ trimmed_end p (chars s)
 trim-white p s front c n cut h e =
     ap (λ l. trimmed_end p (chars l)) e

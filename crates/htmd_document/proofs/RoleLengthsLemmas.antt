@@ -36,10 +36,12 @@ bytes-swapped (a ∷ s) [] = refl
 bytes-swapped (a ∷ s) (b ∷ t) =
     ap (λ x. x && bytes_eq s t) (number-swapped a b) ∙ ap (λ x. (b == a) && x) (bytes-swapped s t)
 
-among-swapped : (names : List (List ℕ)) (name : List ℕ) → is_among names name ≡ list_any (λ n. bytes_eq name n) names
+among-swapped : (names : List (List ℕ)) (name : List ℕ)
+    → is_among names name ≡ list_any (λ n. bytes_eq name n) names
 among-swapped [] name = refl
 among-swapped (n ∷ names) name =
-    ap (λ x. x || is_among names name) (bytes-swapped n name) ∙ ap (λ x. bytes_eq name n || x) (among-swapped names name)
+    ap (λ x. x || is_among names name) (bytes-swapped n name)
+    ∙ ap (λ x. bytes_eq name n || x) (among-swapped names name)
 
 -- `heading_or_block`, with the name before the names that it is compared with
 abbrev swapped : List ℕ → Role
@@ -78,7 +80,7 @@ heading-swapped name = with-blocks name (is_among block_names name) (list_any (�
 pub one-is : (name : List ℕ) → length name ≡ 1 → one_role name ≡ role_of name
 unfolding one_role role_of table_role inline_role
 one-is [] h = absurd (omega arith)
-one-is (a ∷ []) h = rw (heading-swapped (a ∷ [])) (simp (and-false, or-false, or-grouped))
+one-is (a ∷ []) h = rw (heading-swapped (a ∷ [])) (simp (and-false, or-false))
 one-is (a ∷ b ∷ s) h = absurd (omega arith)
 
 pub two-is : (name : List ℕ) → length name ≡ 2 → two_role name ≡ role_of name
@@ -102,7 +104,8 @@ four-is [] h = absurd (omega arith)
 four-is (a ∷ []) h = absurd (omega arith)
 four-is (a ∷ b ∷ []) h = absurd (omega arith)
 four-is (a ∷ b ∷ c ∷ []) h = absurd (omega arith)
-four-is (a ∷ b ∷ c ∷ d ∷ []) h = rw (heading-swapped (a ∷ b ∷ c ∷ d ∷ [])) (simp (and-false, or-false, or-grouped))
+four-is (a ∷ b ∷ c ∷ d ∷ []) h =
+    rw (heading-swapped (a ∷ b ∷ c ∷ d ∷ [])) (simp (and-false, or-false, or-grouped))
 four-is (a ∷ b ∷ c ∷ d ∷ e ∷ s) h = absurd (omega arith)
 
 pub five-is : (name : List ℕ) → length name ≡ 5 → five_role name ≡ role_of name
@@ -112,7 +115,8 @@ five-is (a ∷ []) h = absurd (omega arith)
 five-is (a ∷ b ∷ []) h = absurd (omega arith)
 five-is (a ∷ b ∷ c ∷ []) h = absurd (omega arith)
 five-is (a ∷ b ∷ c ∷ d ∷ []) h = absurd (omega arith)
-five-is (a ∷ b ∷ c ∷ d ∷ e ∷ []) h = rw (heading-swapped (a ∷ b ∷ c ∷ d ∷ e ∷ [])) (simp (and-false, or-false, or-grouped))
+five-is (a ∷ b ∷ c ∷ d ∷ e ∷ []) h =
+    rw (heading-swapped (a ∷ b ∷ c ∷ d ∷ e ∷ [])) (simp (and-false, or-false))
 five-is (a ∷ b ∷ c ∷ d ∷ e ∷ f ∷ s) h = absurd (omega arith)
 
 bytes-same : (s t : List ℕ) → bytes_eq s t ≡ true → s ≡ t
@@ -130,18 +134,25 @@ unfolding more_role rare_role role_of table_role heading_or_block inline_role
 strong-is = refl
 
 -- in another order: a name is only one of these
-more-long : (a b c d e f : ℕ) (s : List ℕ) → bytes_eq (a ∷ b ∷ c ∷ d ∷ e ∷ f ∷ s) (codes "strong") ≡ false
+more-long : (a b c d e f : ℕ) (s : List ℕ)
+    → bytes_eq (a ∷ b ∷ c ∷ d ∷ e ∷ f ∷ s) (codes "strong") ≡ false
     → more_role (a ∷ b ∷ c ∷ d ∷ e ∷ f ∷ s) ≡ role_of (a ∷ b ∷ c ∷ d ∷ e ∷ f ∷ s)
 unfolding more_role rare_role role_of table_role inline_role
 more-long a b c d e f s q =
-    rw (heading-swapped (a ∷ b ∷ c ∷ d ∷ e ∷ f ∷ s), among-swapped long_block_names (a ∷ b ∷ c ∷ d ∷ e ∷ f ∷ s), q)
+    rw (
+      heading-swapped (a ∷ b ∷ c ∷ d ∷ e ∷ f ∷ s),
+      among-swapped long_block_names
+          (a ∷ b ∷ c ∷ d ∷ e ∷ f ∷ s),
+      q,
+    )
     (simp (and-false, or-false, or-grouped))
 
 none-is : more_role [] ≡ role_of []
 unfolding more_role rare_role role_of table_role heading_or_block inline_role
 none-is = refl
 
-pub more-is : (name : List ℕ) → ((k : ℕ) → 0 < k → k < 6 → length name ≡ k → ⊥) → more_role name ≡ role_of name
+pub more-is : (name : List ℕ) → ((k : ℕ) → 0 < k → k < 6 → length name ≡ k → ⊥)
+    → more_role name ≡ role_of name
 more-is [] h = none-is
 more-is (a ∷ []) h = absurd (h 1 (omega arith) (omega arith) refl)
 more-is (a ∷ b ∷ []) h = absurd (h 2 (omega arith) (omega arith) refl)

@@ -23,11 +23,13 @@ module _ (sight : Sight) (tree : ℕ → NumberedTree) where
 
   at-place : (ids : List ℕ) (k id : ℕ) → k < length ids → id ≡ get_or ids k id
       → kids (drop k ids)
-      ≡ cond (shows sight (tree id)) (more (shown sight (tree id)) (kids (drop (k + 1) ids))) (kids (drop (k + 1) ids))
+      ≡ cond (shows sight (tree id)) (more (shown sight (tree id)) (kids (drop (k + 1) ids)))
+      (kids (drop (k + 1) ids))
   at-place ids k id l e = ap kids (drop_more ids k id l ∙ ap (λ x. x ∷ drop (k + 1) ids) (sym e))
 
   -- the next node shows, or it doesn't
-  pub kids_shown : (ids : List ℕ) (k id : ℕ) → k < length ids → id ≡ get_or ids k id → shows sight (tree id) ≡ true
+  pub kids_shown : (ids : List ℕ) (k id : ℕ) → k < length ids → id ≡ get_or ids k id
+      → shows sight (tree id) ≡ true
       → kids (drop k ids) ≡ more (shown sight (tree id)) (kids (drop (k + 1) ids))
   kids_shown ids k id l e s = at-place ids k id l e
       ∙ ap (λ b. cond b (more (shown sight (tree id)) (kids (drop (k + 1) ids))) (kids (drop (k + 1) ids))) s

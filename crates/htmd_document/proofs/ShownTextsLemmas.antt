@@ -3,7 +3,7 @@ use Rattle.std.proofs.Common.{◌≡◌, ℕ, suc, ◌<◌, Bool, true, false, c
 use Rattle.std.proofs.Common.{refl, sym, subst, ◌∙◌, ap, filter, encode_utf8_all, HoldsAt, arith}
 use Rattle.std.specs.List.{AllWithin, list_any}
 use Rattle.std.specs.Str.{chars, IsUtf8}
-use Rattle.std.specs.Prelude.{encode_utf8}
+use Rattle.std.specs.Char.{encode_utf8}
 use Rattle.std.proofs.lemmas.List.Elements.{filter-append}
 use Rattle.std.proofs.lemmas.List.{append-nil}
 use Rattle.std.proofs.lemmas.Str.{encodes-append, encodes-chars}
@@ -14,11 +14,13 @@ use Rattle.htmd_document.specs.ShownTexts.{is_shown, shown_text, byte_order_mark
 use Rattle.htmd_document.specs.TextViews.{is_unshown_byte}
 
 -- one more character that shows
-pub shown-push : (cs : List ℕ) (c : ℕ) (before after : List ℕ) → true ≡ is_shown c → after ≡ before ++ encode_utf8 c
+pub shown-push : (cs : List ℕ) (c : ℕ) (before after : List ℕ) → true ≡ is_shown c
+    → after ≡ before ++ encode_utf8 c
     → before ≡ encode_utf8_all (filter is_shown cs) → after ≡ encode_utf8_all (filter is_shown (cs ++ c ∷ []))
 shown-push cs c before after h e p =
     let one : filter is_shown (c ∷ []) ≡ c ∷ [] = ap (λ b. cond b (c ∷ []) []) (sym h) in
-    let more : encode_utf8_all (filter is_shown (cs ++ c ∷ [])) ≡ encode_utf8_all (filter is_shown cs) ++ encode_utf8
+    let more : encode_utf8_all (filter is_shown (cs ++ c ∷ []))
+    ≡ encode_utf8_all (filter is_shown cs) ++ encode_utf8
     c =
     ap encode_utf8_all (filter-append is_shown cs (c ∷ []) ∙ ap (λ xs. filter is_shown cs ++ xs) one)
     ∙ (encodes-append (filter is_shown cs) (c ∷ []) ∙ ap (λ xs. encode_utf8_all (filter is_shown cs) ++ xs)
@@ -57,16 +59,26 @@ none-of-both p (b ∷ s) t h =
     let rest = none-of-both p s t parts.1 in
     (either-false (p b) (list_any p s) parts.0 rest.0, rest.1)
 
+null-told : list_any is_unshown_byte (encode_utf8 null) ≡ true
+unfolding encode_utf8
+null-told = refl
+
+mark-told : list_any is_unshown_byte (encode_utf8 byte_order_mark) ≡ true
+unfolding encode_utf8
+mark-told = refl
+
 shown-character : (c : ℕ) → list_any is_unshown_byte (encode_utf8 c) ≡ false → is_shown c ≡ true
 shown-character c h = test (c == null)
     (λ e.
     let same : c ≡ null = grind (arith, nat_tests, e) in
-    let no : true ≡ false = subst (λ (x : ℕ). list_any is_unshown_byte (encode_utf8 x) ≡ false) same h in
+    let no : true ≡ false =
+    sym null-told ∙ subst (λ (x : ℕ). list_any is_unshown_byte (encode_utf8 x) ≡ false) same h in
     cc)
     (λ e. test (c == byte_order_mark)
     (λ f.
     let same : c ≡ byte_order_mark = grind (arith, nat_tests, f) in
-    let no : true ≡ false = subst (λ (x : ℕ). list_any is_unshown_byte (encode_utf8 x) ≡ false) same h in
+    let no : true ≡ false =
+    sym mark-told ∙ subst (λ (x : ℕ). list_any is_unshown_byte (encode_utf8 x) ≡ false) same h in
     cc)
     (λ f. rw (e, f) refl))
 

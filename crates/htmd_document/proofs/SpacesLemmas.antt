@@ -36,7 +36,8 @@ pub record FrontCut (s : List ℕ) (n k : ℕ) : Type 0 where
   pub boundary : IsCharBoundary s n
 
 -- the text may be cut after so many characters
-pub front-cut : (s : List ℕ) (n k : ℕ) → IsUtf8 s → n ≡ length (encode_utf8_all (take k (chars s))) → FrontCut s n k
+pub front-cut : (s : List ℕ) (n k : ℕ) → IsUtf8 s → n ≡ length (encode_utf8_all (take k (chars s)))
+    → FrontCut s n k
 front-cut s n k text size =
     let cs : List ℕ = chars s in
     let front : List ℕ = encode_utf8_all (take k cs) in

@@ -102,11 +102,14 @@ module _ (s : sights.Sight) where
       test (shows (sight_of s) (tree_of s.tree.now id))
       (λ h. ap (λ f. cells_among (nodes_of f)) (kids_shown (sight_of s) (tree_of s.tree.now) ids k id l e h)
       ∙ cells_more (shown_at s id) (shown_among s (drop (k + 1) ids))
-      ∙ sym (ap (λ b. cond b (node_at s id ∷ rest) rest) (kind ∙ ap (λ b. b && has roles.is_cell (shown_at s id)) h)))
+      ∙ sym (ap (λ b. cond b (node_at s id ∷ rest) rest) (kind
+      ∙ ap (λ b. b && has roles.is_cell (shown_at s id)) h)))
       (λ h. ap (λ f. cells_among (nodes_of f)) (kids_hidden (sight_of s) (tree_of s.tree.now) ids k id l e h)
-      ∙ sym (ap (λ b. cond b (node_at s id ∷ rest) rest) (kind ∙ ap (λ b. b && has roles.is_cell (shown_at s id)) h)))
+      ∙ sym (ap (λ b. cond b (node_at s id ∷ rest) rest) (kind
+      ∙ ap (λ b. b && has roles.is_cell (shown_at s id)) h)))
 
-  pub cells_end : (ids : List ℕ) (k : ℕ) → length ids ≤ k → cells_among (nodes_of (shown_among s (drop k ids))) ≡ []
+  pub cells_end : (ids : List ℕ) (k : ℕ) → length ids ≤ k
+      → cells_among (nodes_of (shown_among s (drop k ids))) ≡ []
   unfolding node_of
   cells_end ids k l = ap (λ f. cells_among (nodes_of f)) (kids_end (sight_of s) (tree_of s.tree.now) ids k l)
 
@@ -120,7 +123,8 @@ module _ (s : sights.Sight) where
   -- ---- the rows of a part
 
   -- the next node is a row, or not
-  pub rows_at_place : (part : Option ℕ) (in_head : Bool) (ids : List ℕ) (k id : ℕ) → k < length ids → id ≡ get_or ids
+  pub rows_at_place : (part : Option ℕ) (in_head : Bool) (ids : List ℕ) (k id : ℕ) → k < length ids
+      → id ≡ get_or ids
       k id
       → rows_of_part part in_head (shown_among s (drop k ids))
       ≡ cond (if_role roles.is_row (role_at s id)) (row_line part in_head (nodes_of (children_of (shown_at s id)))) []

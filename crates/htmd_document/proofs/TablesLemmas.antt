@@ -49,7 +49,8 @@ module _ (sight : Sight) (tree : ℕ → NumberedTree) where
 
 -- a child that a loop comes to
 pub child_lower : (items : List Item) (node : ℕ) (ids : List ℕ) (k id : ℕ)
-    → All (λ child. IsLower items node child) ids → k < length ids → id ≡ get_or ids k id → IsLower items node id
+    → All (λ child. IsLower items node child) ids → k < length ids → id ≡ get_or ids k id
+    → IsLower items node id
 child_lower items node ids k id a l e = subst (λ x. IsLower items node x) (sym e) (a k id l)
 
 -- ---- what doesn't show is in the way of nothing
@@ -104,7 +105,8 @@ blank_hidden sight items t id l name attributes d e =
 
 -- ---- what stands below elements
 
-pub holds_by_role : (sight : Sight) (kind : Role → Bool) (t : NumberedTree) (r : Role) → shown_role sight t ≡ Some r
+pub holds_by_role : (sight : Sight) (kind : Role → Bool) (t : NumberedTree) (r : Role)
+    → shown_role sight t ≡ Some r
     → (shows sight t && (has kind (shown sight t) || holds kind (shown sight t)))
     ≡ (kind r || hold kind (children_of (shown sight t)))
 holds_by_role sight kind (document id children) r e = (cc)
@@ -133,7 +135,8 @@ holds_none sight kind (element id name attributes children) e =
     by_hidden (is_hidden sight name) (role_of name)
     (hold kind (children_of (shown sight (element id name attributes children)))) e
   where
-    by_hidden : (h : Bool) (q : Role) (b : Bool) → cond h None (Some q) ≡ None → (not h && (kind q || b)) ≡ false
+    by_hidden : (h : Bool) (q : Role) (b : Bool) → cond h None (Some q) ≡ None
+        → (not h && (kind q || b)) ≡ false
     by_hidden true q b f = refl
     by_hidden false q b f = (cc)
 

@@ -88,7 +88,8 @@ others-words (b ∷ s) = test (is_ascii_whitespace b)
     ∙ sym (ap (λ c. words (drop (cond (not c) (1 + before is_ascii_whitespace s) 0) (b ∷ s))) e))
     (λ e. ap (λ c. filter is_filled (others is_ascii_whitespace
     (drop (cond (not c) (1 + before is_ascii_whitespace s) 0) (b ∷ s)))) e
-    ∙ ap (λ n. filter is_filled (others is_ascii_whitespace (drop n (b ∷ s)))) (one_more (before is_ascii_whitespace s))
+    ∙ ap (λ n. filter is_filled (others is_ascii_whitespace (drop n (b ∷ s))))
+    (one_more (before is_ascii_whitespace s))
     ∙ others-words s
     ∙ sym (ap (λ c. words (drop (cond (not c) (1 + before is_ascii_whitespace s) 0) (b ∷ s))) e
     ∙ ap (λ n. words (drop n (b ∷ s))) (one_more (before is_ascii_whitespace s))))
@@ -137,7 +138,8 @@ drop_stops (b ∷ s) =
     plus_one n = omega arith
 
 -- white space alone has no words
-pub no_words : (s rest : List ℕ) → rest ≡ drop (prefix_len is_ascii_whitespace s) s → (length rest == 0) ≡ true
+pub no_words : (s rest : List ℕ) → rest ≡ drop (prefix_len is_ascii_whitespace s) s
+    → (length rest == 0) ≡ true
     → words s ≡ []
 no_words s [] e h = sym (words_after s) ∙ ap words (sym e)
 no_words s (b ∷ rest) e h = absurd (grind (arith, nat_tests))
@@ -163,12 +165,14 @@ filled_first (b ∷ rest) e h =
     one_past n e = omega arith
 
 -- what follows white space begins with a word
-pub word_filled : (s rest : List ℕ) → rest ≡ drop (prefix_len is_ascii_whitespace s) s → (length rest == 0) ≡ false
+pub word_filled : (s rest : List ℕ) → rest ≡ drop (prefix_len is_ascii_whitespace s) s
+    → (length rest == 0) ≡ false
     → is_filled (take (before is_ascii_whitespace rest) rest) ≡ true
 word_filled s rest e h = filled_first rest (ap (prefix_len is_ascii_whitespace) e ∙ drop_stops s) h
 
 -- what follows a word is shorter
-pub shorter : (s rest after : List ℕ) (n : ℕ) → rest ≡ drop n s → after ≡ drop (before is_ascii_whitespace rest) rest
+pub shorter : (s rest after : List ℕ) (n : ℕ) → rest ≡ drop n s
+    → after ≡ drop (before is_ascii_whitespace rest) rest
     → is_filled (take (before is_ascii_whitespace rest) rest) ≡ true → length after < length s
 shorter s rest after n e f h =
     let k : ℕ = before is_ascii_whitespace rest in

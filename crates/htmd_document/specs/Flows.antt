@@ -327,7 +327,8 @@ abbrev pub start_of : List AttributePair → ℤ
 start_of attributes = unwrap_or (number_at (codes "start") attributes) (pos 1)
 
 -- what an element gives, by its role
-abbrev pub parts_of : Role → ℕ → List AttributePair → NumberedForest → List Node → List Line → Context → List Part
+abbrev pub parts_of : Role → ℕ → List AttributePair → NumberedForest → List Node → List Line → Context
+    → List Part
 parts_of (role.Format f) id attributes children nodes lines context =
     flow_all nodes (inside_format (format_of f) context)
 parts_of role.Code id attributes children nodes lines context = flow_all nodes (in_code context)
@@ -352,7 +353,8 @@ parts_of _ id attributes children nodes lines context = apart (flow_all nodes co
 
 -- ---- the tree
 
-abbrev pub element_node : ℕ → List ℕ → List AttributePair → NumberedForest → List Node → List Line → Node
+abbrev pub element_node : ℕ → List ℕ → List AttributePair → NumberedForest → List Node → List Line
+    → Node
 element_node id name attributes children nodes lines = record {
   tree = element id name attributes children;
   whole = parts_of (role_of name) id attributes children nodes lines;

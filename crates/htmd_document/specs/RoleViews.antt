@@ -57,7 +57,8 @@ three_role name =
 unfoldable pub four_role : List ℕ → Role
 four_role name =
     if bytes_eq name (codes "menu") then role.BulletList
-    else (if bytes_eq name (codes "body") || bytes_eq name (codes "form") || bytes_eq name (codes "html") || bytes_eq name (codes "main") then role.Block
+    else (if bytes_eq name (codes "body") || bytes_eq name (codes "form") || bytes_eq name (codes "html")
+    || bytes_eq name (codes "main") then role.Block
     else (if bytes_eq name (codes "cite") then role.Format Emphasis
     else (if bytes_eq name (codes "code") || bytes_eq name (codes "samp") then role.Code
     else role.Plain)))

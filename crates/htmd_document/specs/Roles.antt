@@ -82,9 +82,9 @@ abbrev pub block_names : List (List ℕ)
 block_names =
     codes "address" ∷ codes "article" ∷ codes "aside" ∷ codes "body" ∷ codes "center" ∷ codes "dd" ∷
     codes "details" ∷ codes "dialog" ∷ codes "div" ∷ codes "dl" ∷ codes "dt" ∷ codes "fieldset" ∷
-    codes "figcaption" ∷ codes "figure" ∷ codes "footer" ∷ codes "form" ∷ codes "frameset" ∷ codes "header" ∷
-    codes "hgroup" ∷ codes "html" ∷ codes "legend" ∷ codes "main" ∷ codes "nav" ∷ codes "search" ∷
-    codes "section" ∷ codes "summary" ∷ []
+    codes "figcaption" ∷ codes "figure" ∷ codes "footer" ∷ codes "form" ∷ codes "frameset" ∷
+    codes "header" ∷ codes "hgroup" ∷ codes "html" ∷ codes "legend" ∷ codes "main" ∷ codes "nav" ∷
+    codes "search" ∷ codes "section" ∷ codes "summary" ∷ []
 
 unfoldable pub heading_or_block : List ℕ → Role
 heading_or_block name =

@@ -1,4 +1,4 @@
-//! What stands around a leaf of a page.
+//! What is around a leaf of a page.
 
 ghost use Rattle.std.specs.Prelude.{◌≡◌, IfOk};
 ghost use Rattle.htmd_document.specs.Documents.{formatted};
@@ -20,7 +20,7 @@ pub enum Format {
     Subscript,
 }
 
-/// What stands around a leaf: a format, or a link with its node.
+/// What is around a leaf: a format, or a link with its node.
 #[derive(Drop)]
 pub(crate) enum Around {
     Format(Format),

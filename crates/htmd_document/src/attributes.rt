@@ -202,14 +202,14 @@ pub(crate) fn address(alloc: Global, text: &str) -> Result<String, AllocError>
 
 // ---- languages
 
-/// Whether a byte can't stand in the language of a fence.
+/// Whether a byte isn't allowed in the language of a fence.
 fn is_mark(b: u8) -> bool
     ensures { result ≡ spec.is_mark b }
 {
     matches!(b, b'`' | b'~' | b'&' | b'\\')
 }
 
-/// Whether one of the bytes can't stand in the language of a fence.
+/// Whether one of the bytes isn't allowed in the language of a fence.
 fn holds_mark(word: &[u8]) -> bool
     ensures { result ≡ list_any spec.is_mark word.now }
 {
@@ -378,7 +378,7 @@ fn trimmed(text: &str) -> &str
     text.trim_ascii()
 }
 
-/// What a declaration of a style says of `text-align`.
+/// What a declaration of a style says about `text-align`.
 fn alignment_of_declaration(declaration: &str) -> Option<Alignment>
     ensures { result ≡ spec.alignment_of_declaration declaration.now }
 {

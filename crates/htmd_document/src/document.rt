@@ -26,7 +26,7 @@ pub enum Block {
     /// A thematic break.
     ThematicBreak,
     /// Items, each of blocks. A list with a start is numbered from it, and one without has bullets. The items of a
-    /// tight list stand close together.
+    /// tight list have no blank lines between them.
     List {
         start: Option<u32>,
         tight: bool,

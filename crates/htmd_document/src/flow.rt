@@ -1,4 +1,4 @@
-//! What a node gives: leaves with what stands around each, edges of blocks, and blocks, in order.
+//! What a node gives: leaves with what is around each, edges of blocks, and blocks, in order.
 ghost use Rattle.std.specs.Prelude.{◌≡◌, ◌<◌, ◌≤◌, ◌++◌, false, Some, IfOk};
 ghost use Rattle.std.specs.Prelude.{All, OnOk, length, map, replicate};
 ghost use Rattle.std.specs.List.{list_all, flat_map, prefix_len};
@@ -158,7 +158,7 @@ impl<'t> Flow<'t> {
         out.edge()
     }
 
-    /// What stands in a node gives. Items that stand in no list, with white space between, are a list.
+    /// What is in a node gives. Items outside any list, with white space between, are a list.
     #[cycle(flow)]
     fn content(
         &self,
@@ -208,7 +208,7 @@ impl<'t> Flow<'t> {
 
     // ---- what stands around
 
-    /// What stands in an element gives, with one more format or link around it.
+    /// What is in an element gives, with one more format or link around it.
     #[cycle(flow)]
     fn inside(
         &self,
@@ -382,7 +382,7 @@ impl<'t> Flow<'t> {
         Ok(items)
     }
 
-    /// An item, and what stands between it and the next one.
+    /// An item, and what is between it and the next one.
     #[cycle(flow)]
     fn item(
         &self,
@@ -640,7 +640,8 @@ impl<'t> Flow<'t> {
     ) -> Result<Vec<Cell>, AllocError>
         requires { views.AreWithin self.now.sight nodes.now }
         ensures cells { IfOk result (λ cells. map grids.cell_of cells.items
-            ≡ map (spec.cell_of (views.context_in place around.old.items)) (tables.nodes_at self.now.sight nodes.now)) }
+            ≡ map (spec.cell_of (views.context_in place around.old.items))
+            (tables.nodes_at self.now.sight nodes.now)) }
         ensures around { OnOk result (around.new.items ≡ around.old.items) }
     {
         let mut cells = Vec::with_capacity(self.alloc, nodes.len())?;

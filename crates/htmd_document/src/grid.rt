@@ -26,7 +26,7 @@ pub(crate) struct Cell {
 /// A row.
 #[derive(Drop)]
 pub(crate) struct Row {
-    /// The part of the table that it stands in.
+    /// The part of the table that it is in.
     pub(crate) part: Option<NodeId>,
     pub(crate) cells: Vec<Cell>,
 }

@@ -20,7 +20,7 @@ impl<'t> Flow<'t> {
         self.sight.is_item(node)
     }
 
-    /// Whether a node stands in a row of items: an item, white space, or what doesn't show.
+    /// Whether a node is in a row of items: an item, white space, or what doesn't show.
     fn goes_on(&self, node: NodeId) -> bool
         requires { node < length self.now.sight.tree.now }
         ensures { result ≡ views.goes_on_at self.now.sight node }
@@ -62,7 +62,7 @@ impl<'t> Flow<'t> {
         nodes.len()
     }
 
-    /// Whether a paragraph stands right in a node.
+    /// Whether a node has a paragraph as a child.
     pub(crate) fn has_paragraph(&self, node: NodeId) -> bool
         requires { node < length self.now.sight.tree.now }
         ensures { result ≡ spec.has_paragraph (shown.children_of (sights.shown_at self.now.sight node)) }

@@ -27,7 +27,7 @@ use htmd_text::runs::{leading_len, trailing_len};
 use std::alloc::AllocError;
 
 impl<'t> Flow<'t> {
-    /// The link of an anchor, if it has an address and no link stands around.
+    /// The link of an anchor, if it has an address and no link is around it.
     pub(crate) fn link(
         &self,
         node: NodeId,

@@ -19,7 +19,7 @@ use std::mem;
 pub(crate) struct ListItem {
     /// The number that it says.
     pub(crate) value: Option<i64>,
-    /// Whether a paragraph stands right in it.
+    /// Whether it has a paragraph as a child.
     pub(crate) has_paragraph: bool,
     pub(crate) blocks: Vec<Block>,
 }
@@ -117,7 +117,7 @@ fn goes_on_a_paragraph(block: &Block) -> bool
     }
 }
 
-/// Whether the blocks of an item can stand close together.
+/// Whether the blocks of an item can be tight.
 #[tactic(auto, using(crate::proofs::ListsLemmas::many_not_tight))]
 fn is_tight_item(blocks: &[Block]) -> bool
     ensures { result ≡ spec.is_tight_item (views.blocks_of blocks.now) }

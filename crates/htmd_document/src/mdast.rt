@@ -130,7 +130,7 @@ fn push_between(
     Ok(())
 }
 
-/// Appends an inline, by what stands in it.
+/// Appends an inline, by what is in it.
 fn push_node(
     alloc: Global,
     out: &mut Vec<Value>,
@@ -138,7 +138,8 @@ fn push_node(
     children: Vec<Value>,
 ) -> Result<(), AllocError>
     ensures { IfOk result (λ _. items_view out.new.items
-        ≡ spec.beside (items_view out.old.items) (spec.node_data (inline_of inline.now) (items_view children.items))) }
+        ≡ spec.beside (items_view out.old.items)
+        (spec.node_data (inline_of inline.now) (items_view children.items))) }
 {
     match inline {
         Inline::Text(text) => push_value(out, with_value(alloc, "text", text)?),
@@ -163,7 +164,7 @@ fn push_node(
     }
 }
 
-/// What stands in an inline.
+/// What is in an inline.
 #[cycle(inlines)]
 fn children_of(alloc: Global, inline: &Inline) -> Result<Vec<Value>, AllocError>
     ensures { IfOk result (λ vs. items_view vs.items ≡ spec.children_data (inline_of inline.now)) }
@@ -364,7 +365,7 @@ fn list(
     })
 }
 
-/// A block, by what stands in it; the first one of an item has no box.
+/// A block, by what is in it; the first one of an item has no box.
 fn block_value(
     alloc: Global,
     block: &Block,
@@ -389,7 +390,7 @@ fn block_value(
     }
 }
 
-/// What stands in a block.
+/// What is in a block.
 #[cycle(blocks)]
 fn values_within(alloc: Global, block: &Block) -> Result<Vec<Value>, AllocError>
     ensures { IfOk result (λ vs. items_view vs.items ≡ spec.within_data (block_of block.now)) }

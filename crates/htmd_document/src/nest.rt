@@ -1,4 +1,4 @@
-//! Leaves with what stands around them, as inlines in each other.
+//! Leaves with what is around them, as inlines in each other.
 ghost use Rattle.std.specs.Prelude.{◌≡◌, ◌≤◌, ◌-◌, ◌++◌, ◌∷◌, [], true, IfOk, length, take, drop, map};
 ghost use Rattle.htmd_document.specs.DocumentViews.{inline_of, inlines_of};
 ghost use Rattle.htmd_document.specs.Documents as value;
@@ -17,7 +17,7 @@ use std::mem;
 pub(crate) struct Nest {
     alloc: Global,
     frames: Vec<Frame>,
-    /// What stands in the innermost frame.
+    /// What is in the innermost frame.
     content: Vec<Inline>,
 }
 
@@ -64,7 +64,7 @@ impl Nest {
         self.frames.len()
     }
 
-    /// Puts a text, or code, behind what there is. `Err` means out of memory.
+    /// Appends a text, or code, to what there is. `Err` means out of memory.
     pub(crate) fn push_text(
         &mut self,
         shared: usize,
@@ -83,7 +83,7 @@ impl Nest {
         join(self.alloc, &mut self.content, text, is_code)
     }
 
-    /// Puts a leaf that is no text behind what there is. `Err` means out of memory.
+    /// Appends a leaf that isn't a text to what there is. `Err` means out of memory.
     pub(crate) fn push_leaf(
         &mut self,
         shared: usize,

@@ -32,7 +32,7 @@ pub enum Latest {
 #[derive(Drop)]
 pub(crate) struct Paragraphs {
     alloc: Global,
-    /// Whether a task may stand first.
+    /// Whether a task may come first.
     in_item: bool,
     /// Whether all is one line.
     is_flat: bool,
@@ -42,7 +42,7 @@ pub(crate) struct Paragraphs {
     latest: Latest,
     /// What came after what showed last.
     gap: Gap,
-    /// Whether nothing but spaces and breaks stand in this paragraph.
+    /// Whether there is nothing but spaces and breaks in this paragraph.
     is_blank: bool,
     /// The breaks since something showed, up to two.
     breaks: usize,
@@ -233,7 +233,7 @@ impl Paragraphs {
         Ok(())
     }
 
-    /// Puts what stands before a leaf, and gives how many marks the leaf shares with what showed last.
+    /// Puts what comes before a leaf, and gives how many marks the leaf shares with what showed last.
     fn reach(&mut self, around: &[Around], is_code: bool) -> Result<usize, AllocError>
         ensures { IfOk result (λ n. IsReached (writing_in self.old) (writing_in self.new)
             (map around_of around.now) is_code n) }
@@ -311,7 +311,7 @@ impl Paragraphs {
         self.breaks = 0;
     }
 
-    /// Ends the paragraph where two breaks stand before something that shows.
+    /// Ends the paragraph where two breaks come before something that shows.
     fn part(&mut self) -> Result<(), AllocError>
         ensures { IfOk result (λ _. writing_in self.new ≡ spec.parted (writing_in self.old)) }
     {

@@ -1,4 +1,4 @@
-//! What stands around a node.
+//! What is around a node.
 ghost use Rattle.std.specs.Prelude.{◌≡◌, ◌<◌, ◌+◌, ◌||◌, nat_le, true};
 ghost use Rattle.std.specs.Prelude.{map};
 ghost use Rattle.std.specs.List.{list_any};
@@ -11,7 +11,7 @@ use crate::around::{Around, Format};
 /// Lists and quotes in each other.
 const MOST_NESTED: usize = 32;
 
-/// What stands around a node, but for formats and links.
+/// What is around a node, but for formats and links.
 #[derive(Clone, Copy)]
 pub(crate) struct Place {
     pub(crate) is_code: bool,
@@ -28,7 +28,7 @@ impl Place {
         nested: 0,
     };
 
-    /// Whether no list and no quote can stand here.
+    /// Whether no list and no quote is allowed here.
     pub(crate) fn is_lined(self) -> bool
         ensures { result ≡ (self.is_flat || nat_le contexts.most_nested self.nested) }
     {
@@ -81,14 +81,14 @@ fn is_link(around: &Around) -> bool
     matches!(around, Around::Link { .. })
 }
 
-/// Whether this format stands around.
+/// Whether this format is around.
 fn holds_format(around: &[Around], format: Format) -> bool
     ensures { result ≡ list_any (contexts.is_format (format_of format)) (map around_of around.now) }
 {
     around.iter().any(|a| is_format(a, format))
 }
 
-/// This format, if it doesn't stand around yet.
+/// This format, if it isn't around yet.
 pub(crate) fn new_format(around: &[Around], format: Format) -> Option<Around>
     ensures { (place : Place) → views.with_option (views.context_in place around.now) result
         ≡ contexts.inside_format (format_of format) (views.context_in place around.now) }
@@ -99,7 +99,7 @@ pub(crate) fn new_format(around: &[Around], format: Format) -> Option<Around>
     Some(Around::Format(format))
 }
 
-/// Whether a link stands around.
+/// Whether a link is around.
 pub(crate) fn holds_link(around: &[Around]) -> bool
     ensures { result ≡ list_any contexts.is_link (map around_of around.now) }
 {

@@ -13,7 +13,7 @@ pub enum Role {
     Anchor,
     /// A quotation in a line.
     Quotation,
-    /// What stands beside its neighbours with a space between.
+    /// What is beside its neighbours with a space between.
     Apart,
     LineBreak,
     Image,
@@ -211,7 +211,7 @@ fn is_block(name: &str) -> bool
     )
 }
 
-/// Whether the content of such an element counts for nothing.
+/// Whether the content of such an element is ignored.
 pub(crate) fn is_void(role: Role) -> bool
     ensures { result ≡ spec.is_void role }
 {

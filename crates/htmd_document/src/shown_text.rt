@@ -23,8 +23,8 @@ pub(crate) fn is_all_shown(text: &str) -> bool
     text.chars().all(is_shown)
 }
 
-/// Whether a byte is U+0000, or begins U+FEFF as some other characters. All bytes are looked at, so that a processor can
-/// compare many at once.
+/// Whether a byte is U+0000, or begins U+FEFF as some other characters. All bytes are looked at, so that a processor
+/// can compare many at once.
 fn holds_unshown_byte(bytes: &[u8]) -> bool
     ensures { result ≡ list_any views.is_unshown_byte bytes.now }
 {

@@ -40,7 +40,7 @@ pub(crate) fn without_white_end(text: &str) -> &str
     front
 }
 
-/// What stands between two things that show.
+/// What is between two things that show.
 #[derive(Drop)]
 pub(crate) struct Gap {
     /// The white space in it after its last break.

@@ -1,4 +1,4 @@
-//! What stands in a table: its captions and rows, and what else.
+//! What is in a table: its captions and rows, and what else.
 ghost use Rattle.std.specs.Prelude.{◌≡◌, ◌<◌, ◌++◌, ◌&&◌, ◌||◌, true, Some, All, IfOk, IfSome, OnOk, length, map};
 ghost use Rattle.std.specs.List.{list_any, list_all};
 ghost use Rattle.std.specs.Option.{option_copied};
@@ -30,7 +30,7 @@ pub(crate) enum TableLine {
 /// The cells of a row.
 #[derive(Drop)]
 pub(crate) struct TableRow {
-    /// The part of the table that the row stands in.
+    /// The part of the table that the row is in.
     pub(crate) part: Option<NodeId>,
     pub(crate) is_in_head: bool,
     pub(crate) cells: Vec<NodeId>,
@@ -85,7 +85,7 @@ fn is_blank(sight: &Sight, node: NodeId) -> bool
     }
 }
 
-/// Whether nothing shows of what stands in a node.
+/// Whether nothing shows of what is in a node.
 #[cycle(is_blank)]
 fn are_blank(sight: &Sight, node: NodeId) -> bool
     requires { node < length sight.now.tree.now }
@@ -118,7 +118,7 @@ impl Inner {
     }
 }
 
-/// Whether a node is one that shows, or one stands below it.
+/// Whether a node is one that shows, or one below it shows.
 #[cycle(holds)]
 fn is_or_holds(sight: &Sight, node: NodeId, inner: Inner) -> bool
     requires { node < length sight.now.tree.now }
@@ -218,7 +218,7 @@ fn holds_table_alone(sight: &Sight, table: NodeId) -> bool
     true
 }
 
-/// What was seen of a table: nothing or captions, then rows, and then captions behind them.
+/// What was seen of a table: nothing or captions, then rows, and then captions after them.
 #[derive(Clone, Copy)]
 enum Seen {
     NoRows,
@@ -226,7 +226,7 @@ enum Seen {
     CaptionsBehind,
 }
 
-/// What was seen after one more child; `None` where a row comes after captions behind rows.
+/// What was seen after one more child; `None` where a row comes after captions that follow rows.
 fn seen_after(seen: Seen, is_caption: bool, is_row: bool) -> Option<Seen>
     ensures { result ≡ views.seen_after seen is_caption is_row }
 {
@@ -247,7 +247,7 @@ fn seen_after(seen: Seen, is_caption: bool, is_row: bool) -> Option<Seen>
     }
 }
 
-/// Whether no caption stands among the rows and parts of a table.
+/// Whether no caption is among the rows and parts of a table.
 fn has_captions_around(sight: &Sight, table: NodeId) -> bool
     requires { table < length sight.now.tree.now }
     ensures { result ≡ spec.has_captions_around (shown.children_of (shown_at sight.now table)) }

@@ -1,4 +1,4 @@
-//! What a document keeps of what stands around the texts of its tree.
+//! What a document keeps of what is around the texts of its tree.
 ghost use Rattle.std.specs.Prelude.{map};
 ghost use Rattle.htmd_nodes.specs.NumberedTrees.{tree_of};
 ghost use Rattle.htmd_document_laws.specs.MarkLaws.{KeepsMarks, MarksOfDocument};

@@ -5,8 +5,8 @@ ghost use Rattle.htmd_document_laws.specs.TextLaws.{KeepsText, TextOfDocument};
 
 use htmd_nodes::Tree;
 
-/// Every visible character of a tree stands in its document, in order, and no other: of its texts that aren't hidden,
-/// of the descriptions of images, and the quotation marks of `q`.
+/// Every visible character of a tree is in its document, in order, and no other: of its texts that aren't hidden, of
+/// the descriptions of images, and the quotation marks of `q`.
 pub fn text_of_document()
     ensures { TextOfDocument }
 {}

@@ -46,7 +46,6 @@ use Rattle.std.proofs.Common.{Bool, None, Option, Some, ap, false, inl, inr, ref
 use Rattle.std.proofs.lemmas.Bool.{and_parts, true≢false}
 use Rattle.std.specs.Prelude.{not, ◌&&◌, ◌||◌}
 use Rattle.htmd_html5_state.specs.declared.names.TagName.TheVariants as tags
-use Rattle.htmd_grammar.specs.declared.content.RawElement.TheVariants as raw
 use Rattle.htmd_html5_laws.proofs.EndedRules.{add_to_body_ends, add_to_root_ends, cell_is_open, cleared}
 use Rattle.htmd_html5_laws.proofs.EndedRules.{close_heading_ends, close_name_ends, comment_in_ends, doctype_turns}
 use Rattle.htmd_html5_laws.proofs.EndedRules.{empty_form_ends, end_caption_turns, end_cell_turns, end_columns_turns}

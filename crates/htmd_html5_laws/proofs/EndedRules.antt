@@ -54,7 +54,6 @@ use Rattle.htmd_html5_laws.proofs.OpenNodes.{close_option_fewer, fewer_then, gro
 use Rattle.htmd_html5_laws.proofs.OpenNodes.{outermost_fewer, pop_fewer, pop_until_fewer, pop_while_fewer}
 use Rattle.htmd_html5_laws.proofs.OpenNodes.{without_fewer}
 use Rattle.htmd_html5_laws.proofs.PlainAdoption.{found_listed}
-use Rattle.htmd_html5_laws.proofs.Rules.{formatting, head, root}
 use Rattle.htmd_html5_laws.proofs.TakingRuns.{by_first_kind}
 use Rattle.htmd_html5_state.proofs.TagLemmas.{same_tag-true}
 use Rattle.htmd_html5_state.specs.Adoption.{adoption_agency, formatting_element, node_is}

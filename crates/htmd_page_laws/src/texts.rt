@@ -9,7 +9,7 @@ use htmd_document::Document;
 use htmd_html5::parse_html5;
 use std::alloc::{AllocError, Global};
 
-/// Each letter stands in the document of a page as often as in the texts of the page's tokens, but for texts that are
+/// Each letter is in the document of a page as often as in the texts of the page's tokens, but for texts that are
 /// hidden, and for descriptions of images and marks of quotations, if no start tag is named `frameset` or `template`.
 pub fn page_text_is_written()
     ensures { PageTextIsWritten }

@@ -1,5 +1,5 @@
-//! The names that the rules of nesting tell apart. A name is looked up once, and what is asked of it then is asked of a
-//! number.
+//! The names that the rules of nesting tell apart, as numbers: each question of the rules compares a name only with
+//! names that begin like it, and then numbers.
 ghost use Rattle.std.specs.Prelude.{◌≡◌, ◌<◌};
 ghost use Rattle.htmd_tree.specs.KnownNames as spec;
 

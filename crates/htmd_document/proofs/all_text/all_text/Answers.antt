@@ -13,9 +13,11 @@ pub returns-then-not-holds_return : goal.returns-then-not-holds_return
 returns-then-not-holds_return c =
     let all : string_bytes c.push_text_below.new.out
     ≡ all_text_among (children_of (shown_at c.args.sight.now c.args.node)) =
-    c.in_ok-push_text_below.ensures ∙ ap (λ s. s ++ all_text_among (children_of (shown_at c.args.sight.now c.args.node)))
+    c.in_ok-push_text_below.ensures
+    ∙ ap (λ s. s ++ all_text_among (children_of (shown_at c.args.sight.now c.args.node)))
     c.new-text.ensures.bytes in
     let none : list_any is_return (string_bytes c.push_text_below.new.out) ≡ false =
-    ap (list_any is_return) (sym c.as_bytes.ensures.value) ∙ (sym c.holds_return.ensures ∙ c.if-not-holds_return.true) in
+    ap (list_any is_return) (sym c.as_bytes.ensures.value)
+    ∙ (sym c.holds_return.ensures ∙ c.if-not-holds_return.true) in
     sym (no-returns (string_bytes c.push_text_below.new.out) (IsUtf8-string_bytes c.push_text_below.new.out) none)
     ∙ ap with_line_feeds all

@@ -16,5 +16,6 @@ returns c =
     let text = c.without_controls_around-text.result.now in
     let all = YieldsList-end (YieldsList-from_chars text c.without_controls_around-text.utf8 cc) c.loop-c.yielded _
     c.loop-c.yielded_by _ _ c.in-None.is c.next.ensures.steps in
-    c.loop-c.invariant ∙ ap (λ cs. encode_utf8_all (filter is_no_line_end cs)) (sym (map-id c.loop-c.yielded) ∙ all.0)
+    c.loop-c.invariant ∙ ap (λ cs. encode_utf8_all (filter is_no_line_end cs)) (sym (map-id c.loop-c.yielded)
+    ∙ all.0)
     ∙ ap (λ s. encode_utf8_all (filter is_no_line_end (chars s))) c.without_controls_around-text.ensures

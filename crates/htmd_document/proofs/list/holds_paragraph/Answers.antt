@@ -21,4 +21,5 @@ loop-block-preserved c =
 
 pub returns : goal.returns
 returns c =
-    sym (sym c.loop-block.invariant ∙ paragraph_end c.args.blocks.now c.loop-block.block-index c.loop-block-test.false)
+    sym (sym c.loop-block.invariant
+    ∙ paragraph_end c.args.blocks.now c.loop-block.block-index c.loop-block-test.false)

@@ -26,7 +26,8 @@ values_within-loop-blocks-preserved t c = items-step c.in-List.tight c.deref-blo
     (items_view c.push.new.self.items) (view c.checked.result) (view c.in_ok-item-in-List.field-0)
     (items_view c.in_ok-children-in-List.children.items) c.loop-blocks-test.true c.blocks-item.is
     (c.checked.ensures ∙ ap (λ bs. checked_data (blocks_of bs)) c.deref-in-loop-blocks-2.ensures.value)
-    (c.in_ok-children-in-List.ensures ∙ ap (λ bs. blocks_data true (blocks_of bs)) c.deref-in-loop-blocks.ensures.value)
+    (c.in_ok-children-in-List.ensures
+    ∙ ap (λ bs. blocks_data true (blocks_of bs)) c.deref-in-loop-blocks.ensures.value)
     c.in_ok-item-in-List.ensures c.loop-blocks.invariant
     (ap items_view c.in_ok-push-in-List.ensures.items ∙ view-push c.loop-blocks.values.items
     c.in_ok-item-in-List.field-0)

@@ -10,7 +10,8 @@ returns-then-is_header_cell c =
     (drop_more c.args.cells.now c.loop-cell.cell-index
     c.cell-item.result c.loop-cell-test.true ∙ ap (λ y. y ∷ drop (c.loop-cell.cell-index + 1) c.args.cells.now)
     (sym c.cell-item.is))
-    ∙ ap (λ b. b || list_any (views.is_header_at c.args.sight.now) (drop (c.loop-cell.cell-index + 1) c.args.cells.now))
+    ∙ ap (λ b. b || list_any (views.is_header_at c.args.sight.now)
+    (drop (c.loop-cell.cell-index + 1) c.args.cells.now))
     (sym c.is_header_cell.ensures ∙ c.if-is_header_cell.true))
 
 pub loop-cell-preserved : goal.loop-cell-preserved
@@ -18,7 +19,8 @@ loop-cell-preserved c =
     sym (ap (list_any (views.is_header_at c.args.sight.now)) (drop_more c.args.cells.now c.loop-cell.cell-index
     c.cell-item.result c.loop-cell-test.true ∙ ap (λ y. y ∷ drop (c.loop-cell.cell-index + 1) c.args.cells.now)
     (sym c.cell-item.is))
-    ∙ ap (λ b. b || list_any (views.is_header_at c.args.sight.now) (drop (c.loop-cell.cell-index + 1) c.args.cells.now))
+    ∙ ap (λ b. b || list_any (views.is_header_at c.args.sight.now)
+    (drop (c.loop-cell.cell-index + 1) c.args.cells.now))
     (sym c.is_header_cell.ensures ∙ c.if-is_header_cell.false))
     ∙ c.loop-cell.invariant
 

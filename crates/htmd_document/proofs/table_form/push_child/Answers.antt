@@ -40,7 +40,8 @@ returns-then-is_caption-clause-lower c table h a =
 pub returns-then-is_part-clause-lines : goal.returns-then-is_part-clause-lines
 returns-then-is_part-clause-lines c =
     let s = c.args.sight.now in
-    subst (λ (x : List Line). OnOk c.push_part.result (views.lines_at s c.push_part.new.lines.items ≡ views.lines_at s
+    subst (λ (x : List Line). OnOk c.push_part.result
+    (views.lines_at s c.push_part.new.lines.items ≡ views.lines_at s
     c.args.lines.now.items ++ x))
     (ap (λ (b : Bool). rows_of_part (Some c.args.child) b (children_of (shown_at s c.args.child))) c.is_head.ensures
     ∙ sym (child_by_kind s s.is_tree c.args.child c.requires

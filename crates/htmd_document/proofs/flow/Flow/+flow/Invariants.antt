@@ -109,7 +109,8 @@ abbrev pub invariant-items-loop-item : goal.invariant-items-loop-item
 invariant-items-loop-item l = record {
   items : map lists.item_of l.items.items ++ spec.items_of (views.nodes_among l.self.sight l.rest)
       (views.context_in l.place l.initial.around.items)
-      ≡ spec.items_of (views.nodes_among l.self.sight l.initial.rest) (views.context_in l.place l.initial.around.items);
+      ≡ spec.items_of (views.nodes_among l.self.sight l.initial.rest)
+      (views.context_in l.place l.initial.around.items);
   around : l.around.items ≡ l.initial.around.items;
   within : views.AreWithin l.self.sight l.rest;
   first : prefix_len (views.is_no_item_at l.self.sight) l.rest ≡ 0;

@@ -15,7 +15,8 @@ use Rattle.htmd_document.proofs.flow.Flow.push_table.Goals as goal
 pub returns-in_default : goal.returns-in_default
 returns-in_default c = sym (ap (λ rows. fed_all (writing_in c.args.out.now)
     (spec.block_part (spec.block_of_rows rows (map grids.row_of c.args.rows.items))))
-    (no_first_row c.args.self.now.sight c.args.lines.now (sym c.first_row.ensures ∙ ap option_copied c.in_default.is)))
+    (no_first_row c.args.self.now.sight c.args.lines.now (sym c.first_row.ensures
+    ∙ ap option_copied c.in_default.is)))
 
 pub begins_with_header-has_header-requires : goal.begins_with_header-has_header-requires
 begins_with_header-has_header-requires c = all_first_row (λ x. x < length c.args.self.now.sight.tree.now)
@@ -36,7 +37,8 @@ returns-in-Some-2 c =
     let table : option_map block_of c.in_ok-block.field-0
     ≡ spec.block_of_rows (spec.rows_of (tables.lines_at s lines)) contents =
     c.in_ok-block.ensures
-    ∙ ap (λ a. grid.table_if_filled a c.begins_with_header-has_header.result (grids.lines_of c.in_ok-rows.rows.items))
+    ∙ ap (λ a. grid.table_if_filled a c.begins_with_header-has_header.result
+    (grids.lines_of c.in_ok-rows.rows.items))
     c.in_ok-alignments.ensures
     ∙ ap (λ h. grid.table_if_filled (spec.alignments_of (tables.row_at s first)) h
     (grids.lines_of c.in_ok-rows.rows.items))
@@ -59,7 +61,8 @@ returns-in-None c =
     let table : option_map block_of c.in_ok-block.field-0
     ≡ spec.block_of_rows (spec.rows_of (tables.lines_at s lines)) contents =
     c.in_ok-block.ensures
-    ∙ ap (λ a. grid.table_if_filled a c.begins_with_header-has_header.result (grids.lines_of c.in_ok-rows.rows.items))
+    ∙ ap (λ a. grid.table_if_filled a c.begins_with_header-has_header.result
+    (grids.lines_of c.in_ok-rows.rows.items))
     c.in_ok-alignments.ensures
     ∙ ap (λ h. grid.table_if_filled (spec.alignments_of (tables.row_at s first)) h
     (grids.lines_of c.in_ok-rows.rows.items))

@@ -28,43 +28,46 @@ loop-c-preserved-then-is_white c =
           ∙ c.loop-c.invariant.value;
     }
 
-pub range_from-rest-requires-2 : goal.range_from-rest-requires-2
-range_from-rest-requires-2 c =
-    λ _. (front-cut c.loop-c.rest.now c.len.result _ c.loop-c.invariant.utf8
-    (c.len.ensures ∙ ap length c.without_white_end-piece.ensures)).boundary
+pub range_from-rest-requires-else-is_white : goal.range_from-rest-requires-else-is_white
+range_from-rest-requires-else-is_white c =
+    λ _. (front-cut c.loop-c.rest.now (length c.without_white_end-piece.result.now) _ c.loop-c.invariant.utf8
+    (ap length c.without_white_end-piece.ensures)).boundary
 
 pub loop-c-smaller : goal.loop-c-smaller
 loop-c-smaller c =
     let first = character-cut c.loop-c.rest.now c.next.new.self.rest.now c.in-Some.c _
     c.loop-c.invariant.utf8 (sym c.chars.ensures.rest ∙ c.in-Some.ensures.steps.0) refl in
-    let cut = front-cut c.loop-c.rest.now c.len.result _ c.loop-c.invariant.utf8
-    (c.len.ensures ∙ ap length c.without_white_end-piece.ensures) in
+    let cut = front-cut c.loop-c.rest.now (length c.without_white_end-piece.result.now) _ c.loop-c.invariant.utf8
+    (ap length c.without_white_end-piece.ensures) in
     let some = piece-some c.loop-c.rest.now c.in-Some.c _ first.characters (sym c.if-is_white.ensures) in
-    let size : c.len.result ≡ length (encode_utf8_all (trimmed_end is_white (chars c.loop-c.rest.now))) =
-    c.len.ensures ∙ ap length c.without_white_end-piece.ensures in
+    let size : length c.without_white_end-piece.result.now
+    ≡ length (encode_utf8_all (trimmed_end is_white (chars c.loop-c.rest.now))) =
+    ap length c.without_white_end-piece.ensures in
     let within = cut.boundary.0 in
     omega (
       arith,
       some,
       size,
       within,
-      ap length c.range_from-rest-2.ensures.value,
-      length-drop c.len.result c.loop-c.rest.now,
+      ap length c.range_from-rest-else-is_white.ensures.value,
+      length-drop (length c.without_white_end-piece.result.now) c.loop-c.rest.now,
     )
 
 pub loop-c-preserved : goal.loop-c-preserved
 loop-c-preserved c =
     let first = character-cut c.loop-c.rest.now c.next.new.self.rest.now c.in-Some.c _
     c.loop-c.invariant.utf8 (sym c.chars.ensures.rest ∙ c.in-Some.ensures.steps.0) refl in
-    let cut = front-cut c.loop-c.rest.now c.len.result _ c.loop-c.invariant.utf8
-    (c.len.ensures ∙ ap length c.without_white_end-piece.ensures) in
+    let cut = front-cut c.loop-c.rest.now (length c.without_white_end-piece.result.now) _ c.loop-c.invariant.utf8
+    (ap length c.without_white_end-piece.ensures) in
     record {
-      utf8 = subst IsUtf8 (sym c.range_from-rest-2.ensures.value) cut.utf8;
+      utf8 = subst IsUtf8 (sym c.range_from-rest-else-is_white.ensures.value) cut.utf8;
       value = piece-read (writing_in c.loop-c.self) (writing_in c.push_piece.new.self) (map around_of c.args.around.now)
-          c.args.is_code c.loop-c.rest.now c.without_white_end-piece.result.now c.range_from-rest-2.result.now
+          c.args.is_code c.loop-c.rest.now c.without_white_end-piece.result.now
+          c.range_from-rest-else-is_white.result.now
           c.in-Some.c _ first.characters (sym c.if-is_white.ensures) c.without_white_end-piece.ensures
           (cut.characters
-          ∙ ap (λ r. trimmed_end is_white (chars c.loop-c.rest.now) ++ chars r) (sym c.range_from-rest-2.ensures.value))
+          ∙ ap (λ r. trimmed_end is_white (chars c.loop-c.rest.now) ++ chars r)
+          (sym c.range_from-rest-else-is_white.ensures.value))
           c.in_ok-push_piece.ensures
           ∙ c.loop-c.invariant.value;
     }

@@ -10,7 +10,8 @@ abbrev pub invariant-loop-c : goal.invariant-loop-c
 invariant-loop-c l = record {
   utf8 : IsUtf8 l.rest;
   value : fold (λ w c. after_character w (map around_of l.around) l.is_code c) (writing_in l.self) (chars l.rest)
-      ≡ fold (λ w c. after_character w (map around_of l.around) l.is_code c) (writing_in l.initial.self) (chars l.text);
+      ≡ fold (λ w c. after_character w (map around_of l.around) l.is_code c) (writing_in l.initial.self)
+      (chars l.text);
 }
 
 abbrev pub decreases-loop-c : goal.decreases-loop-c
