@@ -7,8 +7,8 @@ use Rattle.htmd_grammar.specs.Rules.{project}
 use Rattle.htmd_grammar.specs.declared.fault.FaultKind.{FaultKind}
 use Rattle.htmd_tree.specs.declared.reader.ReadError.{ReadError}
 use Rattle.htmd_tree.specs.declared.reader.ReadError.TheVariants as read
-use Rattle.htmd.specs.declared.conversion.ConvertError.{ConvertError}
-use Rattle.htmd.specs.declared.conversion.ConvertError.TheVariants as convert
+use Rattle.htmd.specs.declared.convert_error.ConvertError.{ConvertError}
+use Rattle.htmd.specs.declared.convert_error.ConvertError.TheVariants as convert
 use Rattle.htmd_tree.specs.Bodies.{body_part, body_place, StandsAt}
 use Rattle.htmd_walk.specs.BuiltIn.{built_in}
 use Rattle.htmd_walk.specs.Choice.{Config}

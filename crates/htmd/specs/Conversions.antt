@@ -11,8 +11,8 @@ use Rattle.htmd_tree.specs.Bodies.{body_part, body_place}
 use Rattle.htmd_nodes.specs.Layout.{document_items}
 use Rattle.htmd_tree.specs.declared.reader.ReadError.{ReadError}
 use Rattle.htmd_tree.specs.declared.reader.ReadError.TheVariants as read
-use Rattle.htmd.specs.declared.conversion.ConvertError.{ConvertError}
-use Rattle.htmd.specs.declared.conversion.ConvertError.TheVariants as convert
+use Rattle.htmd.specs.declared.convert_error.ConvertError.{ConvertError}
+use Rattle.htmd.specs.declared.convert_error.ConvertError.TheVariants as convert
 use Rattle.htmd_walk.specs.Choice.{Config}
 use Rattle.htmd_walk.specs.Markdown.{markdown}
 

@@ -5,6 +5,7 @@ ghost use Rattle.std.specs.Prelude.{string_bytes};
 ghost use Rattle.htmd_document.specs.DocumentViews.{document_of};
 ghost use Rattle.htmd_tree.specs.Bodies.{body_part};
 ghost use Rattle.htmd_grammar.specs.declared.fault.FaultKind.{FaultKind};
+ghost use Rattle.htmd_walk.specs.BuiltIn.{built_in};
 ghost use Rattle.htmd_walk.specs.Handling.{of_functions};
 ghost use Rattle.htmd_walk.specs.Choice.{no_handler, with_handler, with_options};
 ghost use Rattle.htmd.specs.Conversions.{IsRefused, IsMarkdownOf, IsTreeOf, IsMarkdownOfPage};
@@ -15,7 +16,7 @@ ghost use Rattle.htmd_walk.specs.Defaults.{default_options};
 ghost use Rattle.htmd_walk.specs.Markdown.{markdown};
 ghost use Rattle.htmd_walk.specs.ParagraphLaws.{ParagraphsReadBack};
 
-use crate::conversion::ConvertError;
+use crate::convert_error::ConvertError;
 use crate::documents::document_options;
 use crate::skipped_tags::SkippedTags;
 use htmd_commonmark::DocumentOptions;
@@ -65,10 +66,22 @@ pub struct AddFnRefused<R, H> {
     pub handler: H,
 }
 
+/// The Markdown of a text of HTML, by a new converter: the built-in handlers, the default options and
+/// scripting on. From a table that is written as one it drops each `th` in a body row, each `td` in the row that gives
+/// the headers if that row has a `th`, further rows of a `thead`, and each `thead` but the last. `Refused` for each
+/// text outside the grammar, with the byte place and the kind of its first fault; `Memory` when out of memory.
+pub fn convert(alloc: Global, html: &str) -> Result<String, ConvertError>
+    ensures ok { IfOk result
+        (λ text. IsMarkdownOf (built_in default_options) true html.now (string_bytes text)) }
+    ensures refused { (place : ℕ) (kind : FaultKind) → result ≡ Err (ConvertError.Refused place kind)
+        → IsRefused true html.now place kind }
+{
+    HtmlToMarkdown::new(alloc)?.convert(alloc, html)
+}
+
 impl HtmlToMarkdown {
     ghost use Rattle.htmd.specs.Converters.{handlers_of, handlers_built, scripting_of, scripting_built};
     ghost use Rattle.htmd.specs.Converters.{skipped_of, skipped_built};
-    ghost use Rattle.htmd_walk.specs.BuiltIn.{built_in};
 
     /// A converter with the built-in handlers, the default options and scripting on. `Err` means out of memory.
     pub fn new(alloc: Global) -> Result<HtmlToMarkdown, AllocError>
@@ -165,7 +178,7 @@ impl<R: Registry> HtmlToMarkdown<R> {
         self.tree_to_markdown(alloc, &tree, tree.root())
     }
 
-    /// The Markdown of a node that is handed over by itself. `Err` means out of memory. Neither the converter nor the
+    /// The Markdown of a node that is converted by itself. `Err` means out of memory. Neither the converter nor the
     /// tree is changed.
     pub fn tree_to_markdown(
         &self,
@@ -214,7 +227,6 @@ impl<R: Registry> HtmlToMarkdown<R> {
 impl HtmlToMarkdownBuilder {
     ghost use Rattle.htmd.specs.Converters.{handlers_of, handlers_built, scripting_of, scripting_built};
     ghost use Rattle.htmd.specs.Converters.{skipped_of, skipped_built};
-    ghost use Rattle.htmd_walk.specs.BuiltIn.{built_in};
 
     /// A builder with the built-in handlers, the default options and scripting on. `Err` means out of memory.
     pub fn new(alloc: Global) -> Result<HtmlToMarkdownBuilder, AllocError>

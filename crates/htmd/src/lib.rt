@@ -10,7 +10,7 @@
 //! of a page, and `to_markdown` writes that so that a reader of CommonMark reads it back.
 #![tactic(auto)]
 
-mod conversion;
+mod convert_error;
 mod converter;
 mod documents;
 mod skipped_tags;
@@ -20,8 +20,10 @@ pub mod laws {
     pub use htmd_markdown::{write_fence, write_row, write_span, write_table};
 }
 
-pub use conversion::{ConvertError, convert};
-pub use converter::{AddFnRefused, AddRefused, HtmlToMarkdown, HtmlToMarkdownBuilder, SkipRefused};
+pub use convert_error::ConvertError;
+pub use converter::{
+    AddFnRefused, AddRefused, HtmlToMarkdown, HtmlToMarkdownBuilder, SkipRefused, convert,
+};
 pub use documents::document_options;
 pub use htmd_commonmark::{DocumentOptions, to_markdown};
 pub use htmd_document::{Alignment, Block, Document, Inline};

@@ -23,7 +23,7 @@ const GUARDED: u8 = 2;
 /// What a reader sees of the text is written as JSON, in the form of mdast.
 pub(crate) const MDAST: u8 = 1;
 
-/// What a conversion goes by, in numbers. A new field will take the place of a reserved byte, whose 0 then stands for
+/// The options of a conversion, as numbers. A new field will take the place of a reserved byte, whose 0 then stands for
 /// what is done without it; a new value of a field will be a number that is not good yet.
 #[repr(C)]
 #[derive(Debug, Clone, Copy)]
@@ -47,7 +47,7 @@ pub struct HtmdOptions {
     pub reserved: [u8; 16],
 }
 
-/// The struct for what `convert` goes by.
+/// The struct for the options of `convert`.
 pub(crate) fn default_struct() -> HtmdOptions
     ensures { result ≡ spec.default_struct }
 {

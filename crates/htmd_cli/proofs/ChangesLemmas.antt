@@ -1,7 +1,7 @@
 -- What is done to a page, and lines of front matter.
-use Rattle.std.proofs.Common.{◌≡◌, ◌∙◌, ap, sym, refl, ◌⊎◌, inl, inr, ℕ, ◌-◌, Bool, true, false, not, eqb, List, [], ◌∷◌, ◌++◌}
-use Rattle.std.proofs.Common.{length, take, Option, Some, None, option_map, append_assoc, append-nil, arith}
-use Rattle.std.proofs.Common.{codes, flat_map, length-append, Bor, is_some}
+use Rattle.std.proofs.Common.{◌≡◌, ◌∙◌, ap, sym, refl, inl, inr, ℕ, ◌-◌, not, eqb, List, [], ◌∷◌, ◌++◌}
+use Rattle.std.proofs.Common.{length, take, Option, Some, None, append_assoc, append-nil, arith}
+use Rattle.std.proofs.Common.{codes, flat_map, length-append, Bor}
 use Rattle.std.specs.Option.{option_copied, option_or, unwrap_or}
 use Rattle.std.proofs.lemmas.List.{take-append-le, take_all}
 use Rattle.std.proofs.lemmas.Bool.Decides.{nat_tests}
@@ -14,21 +14,15 @@ use Rattle.htmd_nodes.specs.Parts.{value_at}
 use Rattle.json.specs.Print.{quoted}
 use Rattle.htmd_front_matter.specs.Lines.{front_matter, line_if, keys, tidied}
 use Rattle.htmd_front_matter.specs.Values.{name_of, value_in}
-use Rattle.htmd_addresses.specs.RunViews.{run_page_of}
-use Rattle.htmd_addresses.specs.declared.leads.RunPage.{RunPage}
 use Rattle.url.specs.Parts.{Parts}
 use Rattle.htmd_cli.specs.Changes.{AreLines, are_given}
-use Rattle.htmd_cli.specs.Conversion.{mdast_after}
+use Rattle.htmd_cli.specs.PageOutputs.{mdast_after}
 
 pub are_some : (steps : List Step) → not (eqb (length steps) 0) ≡ are_given steps
 are_some [] = refl
 are_some (step ∷ steps) = grind (arith, nat_tests)
 
 -- ---- addresses
-
-pub run_page_given : (page : Option RunPage) → is_some (option_map run_page_of page) ≡ is_some page
-run_page_given None = refl
-run_page_given (Some page) = refl
 
 -- the base that a page names, or its URL
 pub own_or_url : (own : Option Parts) (url : Parts) → option_or own (Some url) ≡ Some (unwrap_or own url)

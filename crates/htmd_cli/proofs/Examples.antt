@@ -9,10 +9,10 @@ use Rattle.htmd.specs.Rendering.{written_within}
 use Rattle.htmd.specs.Markdown.{markdown}
 use Rattle.htmd.specs.Choice.{Config}
 use Rattle.htmd.specs.BuiltIn.{built_in}
-use Rattle.htmd_cli.specs.Settings.{default_settings, options_of}
+use Rattle.htmd_cli.specs.Settings.{Settings, default_settings, options_of}
 use Rattle.htmd_cli.specs.Options.{Request, after, default_request, meaning, known_options}
-use Rattle.htmd_cli.specs.Changes.{changes_page, part_of}
-use Rattle.htmd_cli.specs.Conversion.{paragraph_markdown, paragraph_output, after_head}
+use Rattle.htmd_cli.specs.Changes.{head_of, part_of}
+use Rattle.htmd_cli.specs.PageOutputs.{paragraph, paragraph_markdown, paragraph_output, after_head, config_of, tree_markdown, tree_output}
 
 abbrev plain : Config
 plain = built_in (options_of false)
@@ -33,6 +33,12 @@ unfolding paragraph_markdown markdown written_within tree_of forest_from ancesto
 faithful_paragraphs [] = refl
 faithful_paragraphs (b ∷ s) = refl
 
+-- by the handlers a text becomes the Markdown of its paragraph
+texts : (settings : Settings) (text : List ℕ) → settings.guarded ≡ false → settings.mdast ≡ false
+    → tree_output settings [] (paragraph text) ≡ paragraph_markdown (config_of settings) text
+unfolding tree_output tree_markdown paragraph_markdown
+texts settings text g m = rw (g, m) refl
+
 -- what is asked for after this option
 abbrev by : List ℕ → Request → Request
 by given = after (meaning known_options given)
@@ -44,7 +50,7 @@ options : (request : Request) → (by (codes "--web") request ≡ by (codes "--g
 options request = (refl, refl, refl)
 
 -- without further options a page stays as it is
-unchanged : (page : List Item) → (changes_page default_settings ≡ false) × (part_of default_settings page ≡ Some page)
+unchanged : (page : List Item) → (head_of default_settings page ≡ []) × (part_of default_settings page ≡ Some page)
 unchanged page = (refl, refl)
 
 -- selectors that are given add up, as if a comma stood between them

@@ -1,6 +1,6 @@
--- Lemmas of runs, options, conversions and rows, and worked rows.
+-- Lemmas of what inputs become, runs, options and rows, and worked rows.
 pub mod ChangesLemmas
-pub mod ConversionLemmas
+pub mod PageOutputsLemmas
 pub mod FailuresLemmas
 pub mod RunsLemmas
 pub mod OptionsLemmas

@@ -1,75 +1,26 @@
 -- What is written for a field and a row.
-use Rattle.std.proofs.Common.{◌≡◌, ◌≢◌, ◌∙◌, ap, subst, refl, ℕ, Bool, true, false, List, [], ◌∷◌, ◌++◌}
-use Rattle.std.proofs.Common.{Result, Ok, Err, OnOk, append_assoc, inl, inr, MatchBool}
-use Rattle.std.specs.Str.{bytes_eq, IsUtf8}
+use Rattle.std.proofs.Common.{◌≡◌, ◌≢◌, ◌∙◌, ap, subst, refl, ℕ, false, List, [], ◌∷◌, ◌++◌}
+use Rattle.std.proofs.Common.{Result, Ok, Err, OnOk, append_assoc, inl, inr}
+use Rattle.std.specs.Str.{bytes_eq}
 use Rattle.htmd.specs.Characters.{line_feed}
 use Rattle.htmd_cli.specs.Settings.{Settings}
-use Rattle.htmd.specs.FaultKind.{FaultKind}
-use Rattle.htmd_encodings.specs.declared.encodings.UnsupportedEncoding.{UnsupportedEncoding}
 use Rattle.htmd_cli.specs.declared.faults.RunError.{RunError}
-use Rattle.htmd_cli.specs.declared.faults.RunError.TheVariants.{NotUtf8, Unsupported, Refused, Memory, Read, Write}
-use Rattle.htmd_cli.specs.declared.faults.RunError.TheVariants.{NothingSelected}
-use Rattle.htmd_cli.specs.Failures.{IsOutputFault, IsTextFault}
-use Rattle.htmd_cli.specs.Conversion.{IsOutputBy, IsReadable, IsRefusedBy, IsUnsupported, SelectsNothing, reads_any}
-use Rattle.htmd_cli.specs.Conversion.{text_in}
+use Rattle.htmd_cli.specs.declared.faults.RunError.TheVariants.{Memory}
+use Rattle.htmd_cli.specs.PageOutputs.{IsFaultOf, IsOutputOf}
 use Rattle.htmd_streams.specs.Fields.{null, read_field, written_field}
 use Rattle.htmd_streams.specs.Lines.{other_fields, last_field}
 use Rattle.htmd_cli.specs.Rows.{IsPageAnswer, IsFieldAnswer, IsRowAnswer}
-use Rattle.htmd_cli.proofs.ConversionLemmas.{match_true, match_false}
+use Rattle.htmd_cli.proofs.PageOutputsLemmas.{match_false}
 
--- a page whose text becomes this
-pub page_answer : (settings : Settings) (page s : List ℕ)
-    → IsReadable settings page × IsOutputBy settings (text_in settings page) s
-    → IsPageAnswer settings page (written_field s)
-page_answer settings page s (r, m) = inl (r, s, m, refl)
+-- a page that becomes this
+pub page_answer : (settings : Settings) (page output : List ℕ) → IsOutputOf settings page output
+    → IsPageAnswer settings page (written_field output)
+page_answer settings page output m = inl (output, m, refl)
 
-of_strict : (P Q : Type 0) (b : Bool) → b ≡ false → MatchBool b P Q → Q
-of_strict P Q true e p = absurd (cc)
-of_strict P Q false e p = p
-
--- a page that holds no text
-pub unread_answer : (settings : Settings) (page : List ℕ) (e : RunError) → (e ≡ NotUtf8 → (reads_any settings ≡ false)
-    × (¬ IsUtf8 page))
-    → ((encoding : UnsupportedEncoding) → e ≡ Unsupported encoding → IsUnsupported settings page encoding)
-    → IsTextFault e → e ≢ Memory → IsPageAnswer settings page null
-unread_answer settings page NotUtf8 n u t m =
-    inr (inl (match_false _ _ (reads_any settings) (n refl).0 (inl (n refl).1)), refl)
-unread_answer settings page (Unsupported encoding) n u t m =
-    inr (inl (match_true _ _ (reads_any settings) (u encoding refl).0 (encoding, u encoding refl)), refl)
-unread_answer settings page Memory n u t m = absurd (m refl)
-unread_answer settings page (Refused place kind) n u t m = absurd t
-unread_answer settings page NothingSelected n u t m = absurd t
-unread_answer settings page Read n u t m = absurd t
-unread_answer settings page Write n u t m = absurd t
-
--- a page whose text becomes nothing
-pub refused_answer : (settings : Settings) (page text found : List ℕ) (e : RunError)
-    → IsReadable settings page × (text ≡ text_in settings page) → found ≡ text
-    → ((place : ℕ) (kind : FaultKind) → e ≡ Refused place kind → settings.text ≡ false)
-    → ((place : ℕ) (kind : FaultKind) → e ≡ Refused place kind → settings.html5 ≡ false)
-    → ((place : ℕ) (kind : FaultKind) → e ≡ Refused place kind → IsRefusedBy settings found place kind)
-    → (e ≡ NothingSelected → SelectsNothing settings found) → IsOutputFault e → e ≢ Memory
+-- a page that becomes nothing
+pub refused_answer : (settings : Settings) (page : List ℕ) (e : RunError) → IsFaultOf settings page e → e ≢ Memory
     → IsPageAnswer settings page null
-refused_answer settings page text found (Refused place kind) (r, t) f x h g n o m =
-    let strict : reads_any settings ≡ false = rw (h place kind refl) refl in
-    let whole : text_in settings page ≡ page = rw strict refl in
-    inr (
-      inl (match_false _ _ (reads_any settings) strict (inr (
-        of_strict _ _ (reads_any settings) strict r,
-        x place kind refl,
-        place,
-        kind,
-        subst (λ s. IsRefusedBy settings s place kind) (f ∙ (t ∙ whole)) (g place kind refl),
-      ))),
-      refl,
-    )
-refused_answer settings page text found NothingSelected (r, t) f x h g n o m =
-    inr (inr (r, subst (SelectsNothing settings) (f ∙ t) (n refl)), refl)
-refused_answer settings page text found Memory (r, t) f x h g n o m = absurd (m refl)
-refused_answer settings page text found NotUtf8 (r, t) f x h g n o m = absurd o
-refused_answer settings page text found (Unsupported encoding) (r, t) f x h g n o m = absurd o
-refused_answer settings page text found Read (r, t) f x h g n o m = absurd o
-refused_answer settings page text found Write (r, t) f x h g n o m = absurd o
+refused_answer settings page e f m = inr ((e, f, m), refl)
 
 -- a field that isn't null, by the page that it stands for
 pub field_answer : {T E : Type 0} (settings : Settings) (field page read before old new : List ℕ) (r : Result T E)

@@ -1,78 +1,55 @@
 -- A run from its input to how it ends.
-use Rattle.std.proofs.Common.{◌≡◌, ◌≢◌, subst, refl, false, ℕ, List, [], ◌∷◌, ◌++◌, Option, Some}
+use Rattle.std.proofs.Common.{◌≡◌, subst, refl, ℕ, List, [], ◌∷◌, ◌++◌, Option, Some}
 use Rattle.std.proofs.Common.{Result, Ok, Err}
 use Rattle.std.proofs.KnownBytes.{Consumes-whole}
 use Rattle.std.specs.Str.{IsUtf8}
 use Rattle.std.specs.Io.KnownBytes.{Appends, Consumes, IsAtEnd}
 use Rattle.htmd.specs.Characters.{line_feed}
-use Rattle.htmd.specs.FaultKind.{FaultKind}
-use Rattle.htmd_encodings.specs.declared.encodings.UnsupportedEncoding.{UnsupportedEncoding}
 use Rattle.htmd_cli.specs.declared.faults.RunError.{RunError}
 use Rattle.htmd_cli.specs.declared.faults.RunError.TheVariants.{NotUtf8, Unsupported, Refused, Memory, Read, Write}
 use Rattle.htmd_cli.specs.declared.faults.RunError.TheVariants.{NothingSelected}
 use Rattle.htmd_cli.specs.Settings.{Settings}
-use Rattle.htmd_cli.specs.Conversion.{IsOutputBy, IsReadable, IsRefusedBy, IsUnsupported, reads_any, text_in}
-use Rattle.htmd_cli.specs.Runs.{Ends, IsConvertible, IsUnselected, Writes}
-
--- the bytes hold a text, and this is what it becomes
-abbrev pub Converted : Settings → List ℕ → List ℕ → Type 0
-Converted settings input markdown =
-    IsReadable settings input × IsOutputBy settings (text_in settings input) markdown
+use Rattle.htmd_cli.specs.Failures.{IsReadFault}
+use Rattle.htmd_cli.specs.PageOutputs.{IsFaultOf, IsOutputOf, IsRefusedBy, IsUnselected, IsUnsupported}
+use Rattle.htmd_cli.specs.Runs.{Ends, IsConvertible, Writes}
 
 -- the whole input was converted, and that was written
 pub ends_well : {W : Type 0} (T : Type 0) (settings : Settings) (contents : W → Option (List ℕ)) (before after : W)
-    (done : T)
-    (input markdown written : List ℕ) → Converted settings input markdown → written ≡ markdown
+    (done : T) (input output written : List ℕ) → IsOutputOf settings input output → written ≡ output
     → Appends (contents before) (contents after) (written ++ line_feed ∷ [])
     → Ends settings (Some input) (Some []) contents before after (Ok done)
-ends_well T settings contents before after done input markdown written m w a = (
-  refl,
-  (m.0, markdown, m.1, subst (λ z. Appends (contents before) (contents after) (z ++ line_feed ∷ [])) w a),
-)
+ends_well T settings contents before after done input output written m w a =
+    (refl, (output, m, subst (λ z. Appends (contents before) (contents after) (z ++ line_feed ∷ [])) w a))
 
 -- the whole input becomes something, and the sink failed
 pub ends_at_sink : {W : Type 0} (T : Type 0) (settings : Settings) (contents : W → Option (List ℕ))
-    (before after : W) (input markdown : List ℕ) → Converted settings input markdown
+    (before after : W) (input output : List ℕ) → IsOutputOf settings input output
     → Ends {T = T} settings (Some input) (Some []) contents before after (Err Write)
-ends_at_sink T settings contents before after input markdown m = (refl, (m.0, markdown, m.1))
+ends_at_sink T settings contents before after input output m = (refl, (output, m))
 
--- a run that ends before anything is written
+-- the whole input becomes nothing, and nothing is written
 pub ends_early : {W : Type 0} (T : Type 0) (settings : Settings) (contents : W → Option (List ℕ)) (before after : W)
-    (input : List ℕ) (e : RunError) → (e ≡ NotUtf8 → ¬ IsUtf8 input)
-    → (e ≡ NotUtf8 → reads_any settings ≡ false)
-    → ((encoding : UnsupportedEncoding) → e ≡ Unsupported encoding → IsUnsupported settings input encoding)
-    → ((place : ℕ) (kind : FaultKind) → e ≡ Refused place kind → settings.text ≡ false)
-    → ((place : ℕ) (kind : FaultKind) → e ≡ Refused place kind → settings.html5 ≡ false)
-    → ((place : ℕ) (kind : FaultKind) → e ≡ Refused place kind → IsRefusedBy settings input place kind)
-    → ((place : ℕ) (kind : FaultKind) → e ≡ Refused place kind → IsUtf8 input)
-    → (e ≡ NothingSelected → IsUnselected settings input)
-    → e ≢ Write → after ≡ before
+    (input : List ℕ) (e : RunError) → IsFaultOf settings input e → after ≡ before
     → Ends {T = T} settings (Some input) (Some []) contents before after (Err e)
-ends_early T settings contents before after input NotUtf8 n s v h g r u l w k = (refl, s refl, n refl, k)
-ends_early T settings contents before after input (Unsupported encoding) n s v h g r u l w k =
-    (refl, v encoding refl, k)
-ends_early T settings contents before after input (Refused place kind) n s v h g r u l w k =
-    (refl, h place kind refl, g place kind refl, (u place kind refl, r place kind refl), k)
-ends_early T settings contents before after input NothingSelected n s v h g r u l w k = (refl, l refl, k)
-ends_early T settings contents before after input Memory n s v h g r u l w k = k
-ends_early T settings contents before after input Read n s v h g r u l w k = k
-ends_early T settings contents before after input Write n s v h g r u l w k = absurd (w refl)
+ends_early T settings contents before after input NotUtf8 (s, n) k = (refl, s, n, k)
+ends_early T settings contents before after input (Unsupported encoding) u k = (refl, u, k)
+ends_early T settings contents before after input (Refused place kind) (x, h, u, r) k = (refl, x, h, (u, r), k)
+ends_early T settings contents before after input NothingSelected l k = (refl, l, k)
+ends_early T settings contents before after input Memory f k = k
+ends_early T settings contents before after input Read f k = k
+ends_early T settings contents before after input Write f k = absurd f
 
 -- a run whose source or memory failed while it was read
 pub ends_unread : {W : Type 0} (T : Type 0) (settings : Settings) (old new : Option (List ℕ))
-    (contents : W → Option (List ℕ))
-    (before after : W) (e : RunError)
-    → (e ≢ Write) × (e ≢ NotUtf8) × (e ≢ NothingSelected) × ((encoding : UnsupportedEncoding) → e ≢ Unsupported encoding)
-    × ((place : ℕ) (kind : FaultKind) → e ≢ Refused place kind)
-    → after ≡ before
+    (contents : W → Option (List ℕ)) (before after : W) (e : RunError) → IsReadFault e → after ≡ before
     → Ends {T = T} settings old new contents before after (Err e)
-ends_unread T settings old new contents before after NotUtf8 (w, n, l, v, r) k = absurd (n refl)
-ends_unread T settings old new contents before after (Unsupported encoding) (w, n, l, v, r) k = absurd (v encoding refl)
-ends_unread T settings old new contents before after (Refused place kind) (w, n, l, v, r) k = absurd (r place kind refl)
-ends_unread T settings old new contents before after NothingSelected (w, n, l, v, r) k = absurd (l refl)
-ends_unread T settings old new contents before after Memory (w, n, l, v, r) k = k
-ends_unread T settings old new contents before after Read (w, n, l, v, r) k = k
-ends_unread T settings old new contents before after Write (w, n, l, v, r) k = absurd (w refl)
+ends_unread T settings old new contents before after Memory f k = k
+ends_unread T settings old new contents before after Read f k = k
+ends_unread T settings old new contents before after NotUtf8 f k = absurd f
+ends_unread T settings old new contents before after (Unsupported encoding) f k = absurd f
+ends_unread T settings old new contents before after (Refused place kind) f k = absurd f
+ends_unread T settings old new contents before after NothingSelected f k = absurd f
+ends_unread T settings old new contents before after Write f k = absurd f
 
 -- how a run ends that has read its whole source, by what that held
 pub ends_over : {W T : Type 0} (settings : Settings) (old new : Option (List ℕ)) (items input : List ℕ)

@@ -1,5 +1,5 @@
 -- What is done to the tree of a page before it is converted, and what the head of the page says of it.
-use Rattle.std.specs.Prelude.{◌≡◌, ◌⊎◌, ◌++◌, ℕ, Bool, true, false, ◌&&◌, ◌||◌, not, if◌then◌else◌, List, [], ◌∷◌, Option, Some, None, is_some, option_map}
+use Rattle.std.specs.Prelude.{◌≡◌, ◌⊎◌, ◌++◌, ℕ, Bool, true, false, ◌&&◌, not, if◌then◌else◌, List, [], ◌∷◌, Option, Some, None, option_map}
 use Rattle.htmd.specs.Characters.{line_feed}
 use Rattle.htmd.specs.Items.{Item}
 use Rattle.htmd_pages.specs.Steps.{Step}
@@ -16,15 +16,9 @@ abbrev pub are_given : List Step → Bool
 are_given [] = false
 are_given (step ∷ steps) = true
 
--- the tree of an input is looked at or changed before it is converted, which that of a text never is
-abbrev pub changes_page : Settings → Bool
-changes_page settings =
-    (settings.front_matter || is_some settings.base || is_some settings.run_page || are_given settings.selected
-    || are_given settings.dropped) && not settings.text
-
--- what the head of a page says of it, if that is written
+-- what the head of a page says of it, if that is written; a text has no head
 abbrev pub head_of : Settings → List Item → List ℕ
-head_of settings page = if settings.front_matter then front_matter page else []
+head_of settings page = if settings.front_matter && not settings.text then front_matter page else []
 
 -- lines that all end with a line feed, or none
 abbrev pub AreLines : List ℕ → Type 0
@@ -51,8 +45,9 @@ with_addresses None (Some base) part = absolute_page base part
 with_addresses (Some page) base part = led_page page.pages page.own base part
 
 -- the part of a page that is converted: what is selected of it, without what is left out, and with the addresses that
--- it is to have, by the base of the whole page
+-- it is to have, by the base of the whole page; of a text all
 abbrev pub part_of : Settings → List Item → Option (List Item)
 part_of settings page =
-    option_map (with_addresses settings.run_page (base_of settings.base page))
+    if settings.text then Some page
+    else option_map (with_addresses settings.run_page (base_of settings.base page))
     (selected_of settings (without_dropped settings page))

@@ -1,7 +1,7 @@
 -- What a refused conversion and bytes that aren't decoded are to a run, and what ends a batch.
 use Rattle.std.specs.Prelude.{◌≡◌, ◌⊎◌, ⊤}
-use Rattle.htmd.specs.declared.conversion.ConvertError.{ConvertError}
-use Rattle.htmd.specs.declared.conversion.ConvertError.TheVariants as conversion
+use Rattle.htmd.specs.declared.convert_error.ConvertError.{ConvertError}
+use Rattle.htmd.specs.declared.convert_error.ConvertError.TheVariants as conversion
 use Rattle.htmd_encodings.specs.declared.decoding.DecodeError.{DecodeError}
 use Rattle.htmd_encodings.specs.declared.decoding.DecodeError.TheVariants as decoding
 use Rattle.htmd_cli.specs.declared.faults.RunError.{RunError}
@@ -21,17 +21,8 @@ decode_error decoding.Memory = run.Memory
 abbrev pub IsRowFault : RunError → Type 0
 IsRowFault error = (error ≡ run.Read) ⊎ ((error ≡ run.Write) ⊎ (error ≡ run.Memory))
 
--- what an input without a text ends at
-abbrev pub IsTextFault : RunError → Type 0
-IsTextFault (run.Refused place kind) = ⊥
-IsTextFault run.NothingSelected = ⊥
-IsTextFault run.Read = ⊥
-IsTextFault run.Write = ⊥
-IsTextFault _ = ⊤
-
--- what a text that becomes nothing ends at
-abbrev pub IsOutputFault : RunError → Type 0
-IsOutputFault (run.Refused place kind) = ⊤
-IsOutputFault run.NothingSelected = ⊤
-IsOutputFault run.Memory = ⊤
-IsOutputFault _ = ⊥
+-- what the reading of a source ends at: the source or the memory failed
+abbrev pub IsReadFault : RunError → Type 0
+IsReadFault run.Read = ⊤
+IsReadFault run.Memory = ⊤
+IsReadFault _ = ⊥

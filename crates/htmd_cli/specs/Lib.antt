@@ -7,7 +7,7 @@ pub use Rattle.htmd_streams.specs.Fields
 pub mod Failures
 pub mod Settings
 pub mod Changes
-pub mod Conversion
+pub mod PageOutputs
 pub mod Runs
 pub mod Options
 pub mod Rows

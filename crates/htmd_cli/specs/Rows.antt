@@ -1,38 +1,31 @@
 -- The rows of a batch, and what is written for them.
-use Rattle.std.specs.Prelude.{◌≡◌, ◌⊎◌, ◌+◌, ◌-◌, ◌^◌, min, false, ℕ, List, [], ◌∷◌, ◌++◌, length, Option}
-use Rattle.std.specs.Prelude.{IfSome, IsUtf8, MatchBool}
+use Rattle.std.specs.Prelude.{◌≡◌, ◌≢◌, ◌⊎◌, ◌+◌, ◌-◌, ◌^◌, min, false, ℕ, List, [], ◌∷◌, ◌++◌, length, Option}
+use Rattle.std.specs.Prelude.{IfSome, MatchBool}
 use Rattle.std.specs.Str.{bytes_eq}
 use Rattle.std.specs.Io.KnownBytes.{Appends}
 use Rattle.htmd.specs.Characters.{line_feed}
-use Rattle.htmd.specs.FaultKind.{FaultKind}
-use Rattle.htmd_encodings.specs.declared.encodings.UnsupportedEncoding.{UnsupportedEncoding}
 use Rattle.htmd_cli.specs.Settings.{Settings}
 use Rattle.htmd_cli.specs.Options.{Request}
-use Rattle.htmd_cli.specs.Runs.{Converts, IsUnselected}
+use Rattle.htmd_cli.specs.Runs.{Converts}
 use Rattle.htmd_streams.specs.Ends.{AppendsSome}
-use Rattle.htmd_cli.specs.Conversion.{IsOutputBy, IsReadable, IsRefusedBy, IsUnsupported, reads_any, text_in}
+use Rattle.htmd_cli.specs.declared.faults.RunError.{RunError}
+use Rattle.htmd_cli.specs.declared.faults.RunError.TheVariants.{Memory}
+use Rattle.htmd_cli.specs.PageOutputs.{IsFaultOf, IsOutputOf}
 use Rattle.htmd_streams.specs.Fields.{null, read_field, written_field}
 use Rattle.htmd_streams.specs.Lines.{rows, other_fields, last_field}
 
--- the page holds a text, and this is what it becomes, as a field
+-- this is what the page becomes, as a field
 abbrev pub IsConverted : Settings → List ℕ → List ℕ → Type 0
 IsConverted settings page field =
-    IsReadable settings page × (output : List ℕ) × IsOutputBy settings (text_in settings page) output
-    × (field ≡ written_field output)
+    (output : List ℕ) × IsOutputOf settings page output × (field ≡ written_field output)
 
--- the page isn't UTF-8, or it is HTML outside the grammar; if any page is read, its encoding isn't supported
+-- the page becomes nothing, and not because memory ran out
 abbrev pub IsRefusedPage : Settings → List ℕ → Type 0
-IsRefusedPage settings page =
-    MatchBool (reads_any settings) ((encoding : UnsupportedEncoding) × IsUnsupported settings page encoding)
-    ((¬ IsUtf8 page)
-    ⊎
-    (IsUtf8 page × (settings.text ≡ false) × (place : ℕ) × (kind : FaultKind)
-    × IsRefusedBy settings page place kind))
+IsRefusedPage settings page = (error : RunError) × IsFaultOf settings page error × (error ≢ Memory)
 
--- this is written for a page: what it becomes, or null if it is refused or nothing of it is selected
+-- this is written for a page: what it becomes, or null if that is nothing
 abbrev pub IsPageAnswer : Settings → List ℕ → List ℕ → Type 0
-IsPageAnswer settings page field =
-    IsConverted settings page field ⊎ ((IsRefusedPage settings page ⊎ IsUnselected settings page) × (field ≡ null))
+IsPageAnswer settings page field = IsConverted settings page field ⊎ (IsRefusedPage settings page × (field ≡ null))
 
 -- this is written for a field: null for null, else what is written for the page that it stands for
 abbrev pub IsFieldAnswer : Settings → List ℕ → List ℕ → Type 0

@@ -6,23 +6,16 @@ use Rattle.htmd_cli.specs.declared.faults.RunError.{RunError}
 use Rattle.htmd_cli.specs.declared.faults.RunError.TheVariants.{NotUtf8, Unsupported, Refused, Memory, Read, Write}
 use Rattle.htmd_cli.specs.declared.faults.RunError.TheVariants.{NothingSelected}
 use Rattle.htmd_cli.specs.Settings.{Settings}
-use Rattle.htmd_cli.specs.Conversion.{IsOutputBy, IsReadable, IsRefusedBy, IsUnsupported, SelectsNothing, reads_any}
-use Rattle.htmd_cli.specs.Conversion.{text_in}
+use Rattle.htmd_cli.specs.PageOutputs.{IsOutputOf, IsRefusedBy, IsUnselected, IsUnsupported, reads_any}
 
--- the bytes hold a text, and what it becomes and a line feed were written
+-- what the bytes become, and a line feed, were written
 abbrev pub Writes : Settings → Option (List ℕ) → Option (List ℕ) → List ℕ → Type 0
 Writes settings before after bytes =
-    IsReadable settings bytes × (output : List ℕ) × IsOutputBy settings (text_in settings bytes) output
-    × Appends before after (output ++ line_feed ∷ [])
+    (output : List ℕ) × IsOutputOf settings bytes output × Appends before after (output ++ line_feed ∷ [])
 
--- the bytes hold a text, which becomes something
+-- the bytes become something
 abbrev pub IsConvertible : Settings → List ℕ → Type 0
-IsConvertible settings bytes =
-    IsReadable settings bytes × (output : List ℕ) × IsOutputBy settings (text_in settings bytes) output
-
--- the bytes hold the text of a page, of which no element is selected
-abbrev pub IsUnselected : Settings → List ℕ → Type 0
-IsUnselected settings bytes = IsReadable settings bytes × SelectsNothing settings (text_in settings bytes)
+IsConvertible settings bytes = (output : List ℕ) × IsOutputOf settings bytes output
 
 -- the whole input was converted by the settings
 abbrev pub Converts : Settings → Option (List ℕ) → Option (List ℕ) → Option (List ℕ) → Type 0

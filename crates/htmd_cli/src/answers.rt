@@ -1,12 +1,11 @@
 //! What is written for a row.
-ghost use Rattle.std.specs.Prelude.{◌≡◌, ◌++◌, [], List, ℕ, OnOk, IfOk, IfErr, string_bytes};
-ghost use Rattle.htmd_cli.specs.Conversion.{GoesBy};
-ghost use Rattle.htmd_streams.specs.Fields.{null, written_field};
+ghost use Rattle.std.specs.Prelude.{◌≡◌, ◌++◌, [], List, ℕ, OnOk};
+ghost use Rattle.htmd_cli.specs.PageOutputs.{GoesBy};
 ghost use Rattle.htmd_cli.specs.Rows.{IsFieldAnswer, IsPageAnswer, IsRowAnswer};
 ghost use Rattle.htmd_cli.specs.Settings.{settings_in};
 
-use crate::conversion::{output_by, text_of};
 use crate::faults::RunError;
+use crate::page_output::output_of;
 use crate::settings::Settings;
 use htmd::HtmlToMarkdown;
 use htmd::element_handler::Registry;
@@ -58,6 +57,7 @@ fn answer_field<H: Registry>(
 }
 
 // The same for a page.
+#[tactic(auto, using(crate::proofs::RowsLemmas::page_answer, crate::proofs::RowsLemmas::refused_answer))]
 fn answer_page<H: Registry>(
     alloc: Global,
     converter: &HtmlToMarkdown<H>,
@@ -69,41 +69,15 @@ fn answer_page<H: Registry>(
     ensures { OnOk result ((written : List ℕ) × IsPageAnswer (settings_in settings.now) page.now written
         × (answer.new.items ≡ answer.old.items ++ written)) }
 {
-    let outcome = page_markdown(alloc, converter, settings, page)?;
-    match outcome {
-        Ok(markdown) => {
-            write_field(markdown.as_bytes(), answer)?;
+    match output_of(alloc, converter, settings, page) {
+        Ok(output) => {
+            write_field(output.as_bytes(), answer)?;
             Ok(None)
         }
+        Err(RunError::Memory) => Err(AllocError),
         Err(error) => {
             answer.extend_from_slice(NULL)?;
             Ok(Some(error))
         }
-    }
-}
-
-// What a page becomes, or why it is refused. `Err` means out of memory.
-#[tactic(auto, using(crate::proofs::RowsLemmas::unread_answer))]
-fn page_markdown<H: Registry>(
-    alloc: Global,
-    converter: &HtmlToMarkdown<H>,
-    settings: &Settings<'_>,
-    page: &[u8],
-) -> Result<Result<String, RunError>, AllocError>
-    requires goes_by { GoesBy H.ready H.config converter.now (settings_in settings.now) }
-    ensures ok { IfOk result (λ outcome. IfOk outcome (λ markdown. IsPageAnswer
-        (settings_in settings.now) page.now (written_field (string_bytes markdown)))) }
-    ensures refused { IfOk result (λ outcome. IfErr outcome
-        (λ _. IsPageAnswer (settings_in settings.now) page.now null)) }
-{
-    let text = match text_of(alloc, settings, page) {
-        Ok(text) => text,
-        Err(RunError::Memory) => return Err(AllocError),
-        Err(error) => return Ok(Err(error)),
-    };
-    match output_by(alloc, converter, settings, &text) {
-        Ok(markdown) => Ok(Ok(markdown)),
-        Err(RunError::Memory) => Err(AllocError),
-        Err(error) => Ok(Err(error)),
     }
 }

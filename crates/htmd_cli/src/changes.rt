@@ -20,20 +20,7 @@ fn are_given(selectors: &Selectors) -> bool
     !selectors.is_empty()
 }
 
-/// Whether the tree of an input is looked at or changed before it is converted.
-#[tactic(auto, using(crate::proofs::ChangesLemmas::run_page_given))]
-pub(crate) fn changes_page(settings: &Settings<'_>) -> bool
-    ensures { result ≡ spec.changes_page (settings_in settings.now) }
-{
-    let asks = settings.front_matter
-        || settings.base.is_some()
-        || settings.run_page.is_some()
-        || are_given(&settings.selected)
-        || are_given(&settings.dropped);
-    asks && !settings.text
-}
-
-/// What the head of a page says of it, if that is written.
+/// What the head of a page says about it, if that is written; a text has no head.
 #[tactic(auto, using(crate::proofs::ChangesLemmas::no_lines, crate::proofs::ChangesLemmas::are_lines))]
 pub(crate) fn head_of(
     alloc: Global,
@@ -43,7 +30,7 @@ pub(crate) fn head_of(
     ensures value { IfOk result (λ lines. string_bytes lines ≡ spec.head_of (settings_in settings.now) page.now) }
     ensures lines { IfOk result (λ lines. spec.AreLines (string_bytes lines)) }
 {
-    if settings.front_matter {
+    if settings.front_matter && !settings.text {
         front_matter(alloc, page)
     } else {
         Ok(String::new(alloc))
@@ -110,7 +97,7 @@ fn with_addresses(
 }
 
 /// The part of a page that is converted, with the addresses that it is to have; none if nothing is selected. Both
-/// kinds of selectors and the base are those of the whole page.
+/// kinds of selectors and the base are those of the whole page. Of a text it is all.
 #[tactic(auto, using(crate::proofs::ChangesLemmas::first_copied))]
 pub(crate) fn part_of(
     alloc: Global,
@@ -119,6 +106,9 @@ pub(crate) fn part_of(
 ) -> Result<Option<Tree>, AllocError>
     ensures { IfOk result (λ part. part ≡ spec.part_of (settings_in settings.now) page) }
 {
+    if settings.text {
+        return Ok(Some(page));
+    }
     let own = own_base(settings, &page)?;
     let base = own.as_ref().or(settings.base.as_ref());
     match chosen(alloc, settings, page)? {

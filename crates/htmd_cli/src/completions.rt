@@ -40,7 +40,7 @@ pub(crate) const ENCODINGS: [&str; 32] = [
     "x-user-defined",
 ];
 
-/// What stands before the words of options, one a line.
+/// What comes before the words of options, one a line.
 const BASH_HEAD: &str = r#"# Completions of htmd for bash.
 _htmd_options='
 "#;
@@ -75,7 +75,7 @@ _htmd() {
 complete -F _htmd htmd
 "#;
 
-/// What stands before the options that are complete.
+/// What comes before the options that are complete.
 const ZSH_HEAD: &str = r#"#compdef htmd
 # Completions of htmd for zsh.
 
@@ -84,12 +84,12 @@ _htmd() {
     complete=(
 "#;
 
-/// What stands before the options that a value follows.
+/// What comes before the options that a value follows.
 const ZSH_MIDDLE: &str = r#"    )
     open=(
 "#;
 
-/// What stands after them.
+/// What comes after them.
 const ZSH_TAIL: &str = r#"    )
     if [[ ${words[CURRENT-1]} == -o ]]; then
         _files -/
@@ -110,7 +110,7 @@ else
 fi
 "#;
 
-/// What stands before the options.
+/// What comes before the options.
 const FISH_HEAD: &str = r#"# Completions of htmd for fish.
 complete -c htmd -k -a '(__fish_complete_suffix .html .htm .xhtml)'
 "#;

@@ -1,4 +1,4 @@
-//! What the program says of a refused input, apart from the line that it always writes.
+//! What the program says about a refused input, apart from the line that it always writes.
 use crate::faults::RunError;
 use htmd::{FaultKind, line_and_column};
 use std::fmt;
@@ -8,7 +8,7 @@ use unicode::width::UnicodeWidthChar;
 /// A line is shown in this many columns of a terminal.
 const COLUMNS: usize = 100;
 
-/// What is at the place of a fault, and what the grammar wants.
+/// What is at the place of a fault, and what the grammar expects.
 fn sentence(kind: FaultKind) -> &'static str {
     match kind {
         FaultKind::Nul => "U+0000 is here; remove it.",

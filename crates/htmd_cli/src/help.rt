@@ -10,7 +10,7 @@ const USAGE: &str = "\
 Usage: htmd [OPTION..] [FILE..]
 
 Reads pages and writes them as Markdown: without FILE from standard input to standard output.
-If two options set the same thing, the last one counts. For most pages take --web.
+If two options set the same thing, the last one wins. For most pages use --web.
 ";
 
 /// The crate that is ported, and its version.

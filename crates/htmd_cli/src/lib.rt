@@ -10,13 +10,13 @@
 mod answers;
 mod changes;
 mod completions;
-mod conversion;
 mod explanations;
 mod faults;
 mod help;
 mod manual;
 mod option_faults;
 mod options;
+mod page_output;
 mod paragraph;
 mod pipeline;
 mod program;

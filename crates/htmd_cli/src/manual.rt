@@ -5,7 +5,7 @@ use crate::help::{GROUPS, title};
 use crate::options::{FILE_OPTIONS, FileOption, Group, OPTIONS, OptionRow};
 use htmd_streams::{Failed, Sink, write_all};
 
-/// What stands before the options.
+/// What comes before the options.
 const HEAD: &str = r#".TH HTMD 1 2026-11-27 "htmd 0.5.6" "User Commands"
 .SH NAME
 htmd \- convert HTML to Markdown
@@ -26,7 +26,7 @@ is standard input too.
 .PP
 For most pages take
 .BR \-\-web .
-It reads any page as browsers do, and writes what a reader sees, so that the Markdown is read back as the same.
+It reads any page as browsers do, and writes what a reader sees, so that reading the Markdown gives the same.
 Without it, and without
 .BR \-\-html5 ,
 htmd refuses pages in which an end tag is missing or an element isn't allowed where it is.
@@ -47,11 +47,11 @@ htmd \-\-web \-o out site/
 An output gets its name only once it is complete.
 A page that fails leaves an earlier output as it was, and the other pages are converted.
 .PP
-If two options set the same thing, the last one counts.
+If two options set the same thing, the last one wins.
 .SH OPTIONS
 "#;
 
-/// What stands after the options.
+/// What comes after the options.
 const TAIL: &str = r#".SH EXIT STATUS
 .TP
 .B 0
@@ -62,7 +62,7 @@ A page was refused, or couldn't be read, converted or written.
 A line on standard error says which one, and why.
 .TP
 .B 2
-An option isn't known or has a wrong value, or the files can't be converted together, as two that have one output.
+An option isn't known or has a wrong value, or the files can't be converted together, for instance because two have one output.
 Nothing was read.
 .SH EXAMPLES
 A page of the Web:

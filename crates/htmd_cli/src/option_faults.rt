@@ -1,4 +1,4 @@
-//! What is said of options that aren't known, and of values that have no effect.
+//! The messages about options that aren't known, and about values that have no effect.
 use crate::options::{OPTIONS, OptionRow, Setting, Valued};
 use crate::reports::Lines;
 use crate::requests::{OptionFault, Request};

@@ -93,7 +93,7 @@ pub(crate) const OPTIONS: [OptionRow; 44] = [
         name: "--web",
         value: "",
         setting: Setting::Web,
-        help: "any page that people read: --html5 and --guarded in one word",
+        help: "short for --html5 --guarded, for pages that people read",
     },
     OptionRow {
         group: Group::Input,
@@ -121,7 +121,7 @@ pub(crate) const OPTIONS: [OptionRow; 44] = [
         name: "--encoding=",
         value: "LABEL",
         setting: Setting::Valued(Valued::Encoding),
-        help: "with --html5: the encoding, in place of what the page says; a mark at its beginning counts first",
+        help: "with --html5: the encoding, whatever the page declares, unless it begins with a byte order mark",
     },
     OptionRow {
         group: Group::Input,
@@ -149,14 +149,14 @@ pub(crate) const OPTIONS: [OptionRow; 44] = [
         name: "--guarded",
         value: "",
         setting: Setting::Guarded,
-        help: "writes what a reader sees, so that its Markdown is read back as the same",
+        help: "writes what a reader sees, so that reading the Markdown gives the same",
     },
     OptionRow {
         group: Group::Written,
         name: "--faithful",
         value: "",
         setting: Setting::Faithful,
-        help: "writes as HTML what Markdown has no form for",
+        help: "writes as HTML what Markdown cannot express",
     },
     OptionRow {
         group: Group::Written,
@@ -177,14 +177,14 @@ pub(crate) const OPTIONS: [OptionRow; 44] = [
         name: "--select=",
         value: "SELECTOR",
         setting: Setting::Valued(Valued::Select),
-        help: "converts only the elements that are named, as main,article",
+        help: "converts only the elements that match, such as main,article",
     },
     OptionRow {
         group: Group::Written,
         name: "--drop=",
         value: "SELECTOR",
         setting: Setting::Valued(Valued::Drop),
-        help: "leaves out the elements that are named, as .headerlink",
+        help: "leaves out the elements that match, such as .headerlink",
     },
     OptionRow {
         group: Group::Written,
@@ -268,7 +268,7 @@ pub(crate) const OPTIONS: [OptionRow; 44] = [
         name: "--link-style=referenced",
         value: "",
         setting: Setting::Style(Style::Link(LinkStyle::Referenced)),
-        help: "links are references, and their definitions stand at the end",
+        help: "links are references, and their definitions are at the end",
     },
     OptionRow {
         group: Group::Written,
@@ -303,7 +303,7 @@ pub(crate) const OPTIONS: [OptionRow; 44] = [
         name: "--code-block-style=fenced",
         value: "",
         setting: Setting::Style(Style::CodeBlock(CodeBlockStyle::Fenced)),
-        help: "code blocks stand between fences (default)",
+        help: "code blocks are between fences (default)",
     },
     OptionRow {
         group: Group::Written,
@@ -425,7 +425,7 @@ pub(crate) const FILE_OPTIONS: [FileOption; 4] = [
         short: "",
         name: "--progress",
         value: "",
-        help: "shows how many pages are converted, also where standard error is no terminal",
+        help: "shows how many pages are converted, also if standard error is not a terminal",
     },
     FileOption {
         short: "",

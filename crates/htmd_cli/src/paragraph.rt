@@ -1,6 +1,6 @@
 //! The tree of a text that is one paragraph.
 ghost use Rattle.std.specs.Prelude.{◌≡◌, ◌≢◌, IfOk, IfErr};
-ghost use Rattle.htmd_cli.specs.Conversion.{paragraph};
+ghost use Rattle.htmd_cli.specs.PageOutputs.{paragraph};
 
 use htmd::{Tree, TreeError};
 use std::alloc::{AllocError, Global};

@@ -3,11 +3,9 @@ ghost use Rattle.std.specs.Prelude.{◌≡◌, ◌≢◌, ◌≤◌, false, true
 ghost use Rattle.std.specs.List.{list_any};
 ghost use Rattle.std.specs.Io.KnownBytes.{IsAtEnd, Keeps};
 ghost use Rattle.htmd_streams.specs.Ends.{FailsAtErr};
-ghost use Rattle.htmd_cli.specs.Rows.{AnswersFirst, AnswersSome, ConvertsRows, Succeeds};
-ghost use Rattle.htmd_cli.specs.Runs.{Converts};
+ghost use Rattle.htmd_cli.specs.Rows.{AnswersSome, Succeeds};
 ghost use Rattle.htmd_cli.specs.OptionRows.{request_in};
 ghost use Rattle.htmd_cli.specs.Options.{are_known, request_by, takes_memory};
-ghost use Rattle.htmd_cli.specs.Settings.{settings_in};
 
 use crate::explanations::explain;
 use crate::faults::RunError;
@@ -17,17 +15,15 @@ use crate::pipeline::run_over;
 use crate::reports::Lines;
 use crate::requests::{OptionFault, Request, read_options};
 use crate::rows::run_rows;
-use crate::settings::Settings;
 use htmd_streams::{Failed, Sink, Source};
 use std::alloc::Global;
-use std::fmt::Write;
+use std::fmt::{Display, Write};
 
-/// The program: reads its options, converts the source into the sink, and answers the exit status. 0 is
-/// success, 1 a run that did not succeed and 2 an option that is not known, or not with its value. If the options ask for the
-/// help or the version, that is written to the sink in place of a conversion, and nothing is read. What
-/// went wrong is a line on the sink for errors; with `--explain`, if an input is refused or isn't UTF-8,
-/// that sink also gets where and why. Faults of that sink are ignored. The source and the sink must not
-/// have failed before.
+/// The program: reads its options, converts the source into the sink, and returns the exit status. 0 is success, 1 a
+/// run that did not succeed and 2 an option that is not known, or not with its value. If the options request the help
+/// or the version, that is written to the sink in place of a conversion, and nothing is read. What went wrong is a line
+/// on the sink for errors; with `--explain`, if an input is refused or isn't UTF-8, that sink also gets where and why.
+/// Faults of that sink are ignored. The source and the sink must not have failed before.
 #[tactic(auto, using(std::proofs::lemmas::Grind::common_steps, crate::proofs::FailuresLemmas::is_unknown))]
 pub fn command<R: Source, W: Sink, E: Sink>(
     alloc: Global,
@@ -71,20 +67,20 @@ pub fn command<R: Source, W: Sink, E: Sink>(
             Ok(()) => 0,
             Err(_) => failed(errors, &RunError::Write),
         },
-        None => convert(alloc, request, source, sink, errors),
+        None => run_request(alloc, request, source, sink, errors),
     }
 }
 
 // Says what went wrong, and answers the status.
-fn failed<E: Sink>(errors: &mut E, error: &RunError) -> u8
+fn failed<E: Sink, T: Display>(errors: &mut E, fault: &T) -> u8
     ensures { result ≡ 1 }
 {
-    let _ = writeln!(Lines { sink: errors }, "htmd: {error}");
+    let _ = writeln!(Lines { sink: errors }, "htmd: {fault}");
     1
 }
 
-// Converts the source into the sink, and answers the status.
-fn convert<R: Source, W: Sink, E: Sink>(
+// Converts the source into the sink, a page or rows with a page each, and answers the status.
+fn run_request<R: Source, W: Sink, E: Sink>(
     alloc: Global,
     request: Request<'_>,
     source: &mut R,
@@ -112,69 +108,19 @@ fn convert<R: Source, W: Sink, E: Sink>(
         ..
     } = request;
     if rows {
-        convert_rows(alloc, source, sink, errors, settings, explains)
-    } else {
-        convert_page(alloc, source, sink, errors, &settings, explains)
+        return match run_rows(alloc, source, sink, errors, settings, explains) {
+            Ok(()) => 0,
+            Err(fault) => failed(errors, &fault),
+        };
     }
-}
-
-// The same for a page.
-fn convert_page<R: Source, W: Sink, E: Sink>(
-    alloc: Global,
-    source: &mut R,
-    sink: &mut W,
-    errors: &mut E,
-    settings: &Settings<'_>,
-    explains: bool,
-) -> u8
-    requires source { R.has_failed source.old ≡ false }
-    requires sink { W.has_failed sink.old ≡ false }
-    ensures success { result ≡ 0 → Converts (settings_in settings.now)
-        (R.remaining source.old) (W.contents sink.old) (W.contents sink.new) }
-    ensures end { result ≡ 0 → IsAtEnd (R.remaining source.new) }
-    ensures no_failure { result ≡ 0 →
-        (R.has_failed source.new ≡ false) × (W.has_failed sink.new ≡ false) }
-    ensures nothing_written { result ≢ 0 → W.has_failed sink.new ≡ false → sink.new ≡ sink.old }
-    ensures status { result ≤ 1 }
-{
-    let (outcome, input) = run_over(alloc, source, sink, settings);
-    match outcome {
-        Ok(()) => 0,
-        Err(error) => {
+    match run_over(alloc, source, sink, &settings) {
+        (Ok(()), _) => 0,
+        (Err(error), input) => {
             let status = failed(errors, &error);
             if explains {
                 let _ = explain(&mut Lines { sink: errors }, &error, input.as_slice());
             }
             status
-        }
-    }
-}
-
-// The same for the rows of a batch.
-fn convert_rows<R: Source, W: Sink, E: Sink>(
-    alloc: Global,
-    source: &mut R,
-    sink: &mut W,
-    errors: &mut E,
-    settings: Settings<'_>,
-    explains: bool,
-) -> u8
-    requires source { R.has_failed source.old ≡ false }
-    requires sink { W.has_failed sink.old ≡ false }
-    ensures success { result ≡ 0 → ConvertsRows (settings_in settings.entry)
-        (R.remaining source.old) (W.contents sink.old) (W.contents sink.new) }
-    ensures no_failure { result ≡ 0 →
-        (R.has_failed source.new ≡ false) × (W.has_failed sink.new ≡ false) }
-    ensures rows_written { result ≢ 0 → W.has_failed sink.new ≡ false
-        → AnswersFirst (settings_in settings.entry)
-        (R.remaining source.old) (W.contents sink.old) (W.contents sink.new) }
-    ensures status { result ≤ 1 }
-{
-    match run_rows(alloc, source, sink, errors, settings, explains) {
-        Ok(()) => 0,
-        Err(fault) => {
-            let _ = writeln!(Lines { sink: errors }, "htmd: {fault}");
-            1
         }
     }
 }

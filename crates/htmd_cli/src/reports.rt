@@ -26,7 +26,7 @@ impl<E: Sink> Write for Lines<'_, E> {
     }
 }
 
-/// Says which page of a batch is refused, and if that is wanted, where and why.
+/// Says which page of a batch is refused, and if requested, where and why.
 pub(crate) fn report<E: Sink>(
     errors: &mut E,
     row: u64,
@@ -41,7 +41,7 @@ pub(crate) fn report<E: Sink>(
     }
 }
 
-/// Says which page of several isn't converted, and if that is wanted, where and why; `input` is what was read of it.
+/// Says which page of several isn't converted, and if requested, where and why; `input` is what was read of it.
 pub fn report_page<E: Sink>(
     errors: &mut E,
     path: &str,

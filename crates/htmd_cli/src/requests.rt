@@ -131,7 +131,7 @@ fn add_selectors<'a>(
 }
 
 impl<'a> Request<'a> {
-    /// What is asked for without any option.
+    /// The request without any option.
     fn new(alloc: Global) -> Request<'a>
         ensures { request_in result ≡ spec.default_request }
     {

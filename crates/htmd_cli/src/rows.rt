@@ -4,7 +4,7 @@ ghost use Rattle.std.specs.Prelude.{IfOk, IfErr, OnOk, OnErr, IsErrAnd};
 ghost use Rattle.std.specs.Io.KnownBytes.{Appends};
 ghost use Rattle.htmd.specs.Characters.{line_feed};
 ghost use Rattle.htmd_cli.specs.Batches.{Answers, followed, rows_from, rows_left};
-ghost use Rattle.htmd_cli.specs.Conversion.{GoesBy};
+ghost use Rattle.htmd_cli.specs.PageOutputs.{GoesBy};
 ghost use Rattle.htmd_streams.specs.Ends.{AppendsSome, FailsAtErr};
 ghost use Rattle.htmd_cli.specs.Failures.{IsRowFault};
 ghost use Rattle.htmd_streams.specs.Lines.{lacks, rows};
@@ -12,8 +12,8 @@ ghost use Rattle.htmd_cli.specs.Rows.{ConvertsRows, IsRowAnswer, StopsAtRow, Sto
 ghost use Rattle.htmd_cli.specs.Settings.{settings_in};
 
 use crate::answers::answer_row;
-use crate::conversion::converter_by;
 use crate::faults::{RowFault, RunError};
+use crate::page_output::converter_by;
 use crate::reports::report;
 use crate::settings::Settings;
 use htmd::HtmlToMarkdown;

@@ -9,7 +9,7 @@ use htmd_pages::Selectors;
 use std::alloc::Global;
 use url::Url;
 
-/// What a run takes its input for, and how it writes what Markdown cannot say.
+/// How a run reads its input, and how it writes what Markdown can't express.
 #[derive(Debug, Clone, Copy, PartialEq, Eq)]
 pub struct Mode {
     /// The input is the text of one paragraph, and not HTML.
@@ -18,7 +18,7 @@ pub struct Mode {
     pub faithful: bool,
 }
 
-/// What a run takes its input for, and how it converts it.
+/// How a run reads its input, and how it converts it.
 #[derive(Drop)]
 pub struct Settings<'a> {
     /// The input is the text of one paragraph, and not HTML. Then what says how a page is read, which parts of it count
@@ -29,7 +29,7 @@ pub struct Settings<'a> {
     /// The input is any page, as browsers read it: bytes that aren't UTF-8 are decoded, and nothing is refused but an
     /// encoding that isn't supported. Then `body` has no effect.
     pub html5: bool,
-    /// The encoding of any page whose bytes have no mark, if it is known. Else what the page says of it counts.
+    /// The encoding of any page whose bytes have no mark, if it is known. Otherwise the page's own declaration counts.
     pub encoding: Option<Encoding>,
     /// What a reader sees of the page is written, so that a reader of CommonMark reads it back.
     pub guarded: bool,
@@ -49,7 +49,7 @@ pub struct Settings<'a> {
     /// The page as one of a run. Addresses of `a` and `area` that lead to pages of the run lead to their outputs, and
     /// aren't made absolute.
     pub run_page: Option<RunPage<'a>>,
-    /// What the head of the page says of it is written first.
+    /// What the head of the page says about it is written first.
     pub front_matter: bool,
 }
 

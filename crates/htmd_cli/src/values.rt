@@ -36,7 +36,7 @@ fn with_digit(number: u8, byte: u8) -> Option<u8>
     number.checked_mul(10)?.checked_add(byte - b'0')
 }
 
-/// Whether names stand between the commas of a text, none of them empty.
+/// Whether there are names between the commas of a text, none of them empty.
 pub(crate) fn are_names(text: &str) -> bool
     ensures { result ≡ list_all spec.is_filled (spec.parts text.now) }
 {

@@ -23,8 +23,8 @@ either_becomes : (rows : Bool) (settings : Settings) (input before after : Optio
 either_becomes true settings None before after s = s
 either_becomes true settings (Some bytes) before after s = s
 either_becomes false settings None before after s = s
-either_becomes false settings (Some bytes) before after (readable, output, is, appended) =
-    (output ++ line_feed ∷ [], (readable, output, is, refl), appended)
+either_becomes false settings (Some bytes) before after (output, is, appended) =
+    (output ++ line_feed ∷ [], (output, is, refl), appended)
 
 -- what was done of a whole input is its answer
 pub succeeds_becomes : (request : Request) (input before after : Option (List ℕ))

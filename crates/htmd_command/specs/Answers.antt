@@ -1,7 +1,7 @@
 -- What the program makes of the bytes of a page, by what its options ask for.
 use Rattle.std.specs.Prelude.{◌≡◌, ℕ, if◌then◌else◌, List, [], ◌∷◌, ◌++◌, map, Option, Some, None, MatchBool, string_bytes}
 use Rattle.htmd.specs.Characters.{line_feed}
-use Rattle.htmd_cli.specs.Conversion.{IsOutputBy, IsReadable, text_in}
+use Rattle.htmd_cli.specs.PageOutputs.{IsOutputOf}
 use Rattle.htmd_addresses.specs.Leads.{PageValue}
 use Rattle.htmd_cli.specs.Options.{Request, is_one_of_run}
 use Rattle.htmd_cli.specs.Rows.{rows_of}
@@ -9,11 +9,10 @@ use Rattle.htmd_cli.specs.Settings.{Settings}
 use Rattle.htmd_files.specs.declared.planning.Page.{Page}
 use Rattle.htmd_files.specs.Words.{Job}
 
--- the bytes hold a text, and this is what it becomes, and a line feed
+-- this is what the bytes become, and a line feed
 abbrev pub IsPageAnswer : Settings → List ℕ → List ℕ → Type 0
 IsPageAnswer settings bytes written =
-    IsReadable settings bytes × (output : List ℕ) × IsOutputBy settings (text_in settings bytes) output
-    × (written ≡ output ++ line_feed ∷ [])
+    (output : List ℕ) × IsOutputOf settings bytes output × (written ≡ output ++ line_feed ∷ [])
 
 -- this is written for the bytes: the answers to their rows, or what the page becomes
 abbrev pub IsAnswer : Request → List ℕ → List ℕ → Type 0

@@ -8,7 +8,7 @@ use htmd_addresses::{Page as LedPage, Pages};
 use htmd_files::{Job, Page};
 use std::alloc::{AllocError, Global};
 
-/// The pages whose addresses are to lead to each other's outputs, if that is asked for.
+/// The pages whose addresses should lead to each other's outputs, if requested.
 pub(crate) fn led_pages(
     alloc: Global,
     job: &Job<'_>,

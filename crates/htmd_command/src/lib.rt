@@ -1,10 +1,10 @@
 //! The program as one function: its words, the files of a store, its standard streams, and its status.
 #![tactic(auto)]
 
-mod conversion;
 mod leads;
 mod operands;
 mod program;
+mod requested;
 
 pub use htmd_cli::{Failed, Input, Output, RunError, Sink, Source};
 pub use htmd_folders::{HostStore, Listing, Store, StoreFault, Unread};

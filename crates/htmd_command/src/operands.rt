@@ -16,7 +16,7 @@ pub(crate) struct Found {
     pub(crate) unread: Vec<Unread>,
 }
 
-/// Looks for operands in a store. What is below folders is only listed if that is wanted.
+/// Looks for operands in a store. What is below folders is listed only if requested.
 pub(crate) fn find_operands<S: Store>(
     alloc: Global,
     store: &mut S,

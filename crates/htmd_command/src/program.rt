@@ -8,9 +8,9 @@ ghost use Rattle.htmd_folders.specs.Changes.{Makes};
 ghost use Rattle.htmd_folders.specs.Runs.{Takes};
 ghost use Rattle.htmd_command.specs.Programs.{IsPlanOf, Runs, RunsInput, RunsWords};
 
-use crate::conversion::Requested;
 use crate::leads::led_pages;
 use crate::operands::{Found, find_operands};
+use crate::requested::Requested;
 use htmd_cli::{
     OptionFault, Request, RunError, Sink, Source, command, read_options, say_fault, say_warnings,
 };
@@ -21,11 +21,10 @@ use htmd_folders::{
 use std::alloc::Global;
 use std::fmt::{Display, Write};
 
-/// The program: converts the files that its words name, or the standard input if they name none, and answers the exit
-/// status. 0 is success, 1 means that a page was not converted, and 2 that the words can't be done: an option that is not
-/// known, or files that would be written over. Without files it is `htmd_cli::command`. What goes wrong is said in lines
-/// on the sink for errors, and with more pages than one so is how many there were, and on a terminal how far the run has
-/// come.
+/// The program: converts the files that its words name, or the standard input if they name none, and returns the exit
+/// status. 0 is success, 1 means that a page was not converted, and 2 that the words can't be done: an option that is
+/// not known, or files that would be written over. Without files it is `htmd_cli::command`. Faults are written as lines
+/// to the sink for errors, and so are, with more than one page, their number, and on a terminal the progress.
 pub fn run_program<S: Store, R: Source, W: Sink, E: Sink>(
     alloc: Global,
     words: &[String],
@@ -109,7 +108,7 @@ fn run_job<S: Store, R: Source, W: Sink, E: Sink>(
                 request,
                 pages: None,
             };
-            convert_file(store, &conversion, &input, sink, errors)
+            show_file(store, &conversion, &input, sink, errors)
         }
         Plan::Files { pages } => {
             let pages = pages.as_slice();
@@ -176,7 +175,7 @@ fn progress_of(job: &Job<'_>, is_terminal: bool) -> Progress {
 }
 
 // Converts a file into the sink, and answers the status.
-fn convert_file<S: Store, W: Sink, E: Sink>(
+fn show_file<S: Store, W: Sink, E: Sink>(
     store: &mut S,
     conversion: &Requested<'_, '_, '_, '_>,
     input: &str,

@@ -13,10 +13,10 @@ use std::alloc::{AllocError, Global};
 /// What the name of a file that is being written has after that of its output.
 const PARTIAL: &str = ".htmd-partial";
 
-/// Converts a page. What it becomes is written to a new file beside the output, which is brought under the output's name
-/// when it is whole. Folders that are missing above the output are made. If the page fails, the output stays as it was,
-/// and the file beside it is taken away.
-pub fn convert_page<S: Store, C: Conversion, E: Sink>(
+/// Converts a page. What it becomes is written to a new file beside the output, which is brought under the output's
+/// name when it is whole. Folders that are missing above the output are made. If the page fails, the output stays as it
+/// was, and the file beside it is removed.
+pub fn convert_to_file<S: Store, C: Conversion, E: Sink>(
     alloc: Global,
     store: &mut S,
     conversion: &C,

@@ -1,4 +1,4 @@
-//! What is said of a run while it goes on, and at its end.
+//! What is written about a run while it goes on, and at its end.
 use crate::lines::{Grouped, Lines};
 use crate::run::Tally;
 use htmd_streams::Sink;
@@ -22,7 +22,7 @@ const STEP: u64 = 16;
 /// This covers a count.
 const BLANK: &str = "\r                                                            \r";
 
-/// Writes how many of the pages are done, if that is wanted after so many.
+/// Writes how many of the pages are done, if that is due after so many.
 pub(crate) fn write_count<E: Sink>(errors: &mut E, progress: Progress, done: u64, pages: u64) {
     if progress == Progress::Count && done.is_multiple_of(STEP) {
         let done = Grouped(done);
@@ -31,7 +31,7 @@ pub(crate) fn write_count<E: Sink>(errors: &mut E, progress: Progress, done: u64
     }
 }
 
-/// Takes the count away, so that a line can follow.
+/// Erases the count, so that a line can follow.
 pub(crate) fn clear_count<E: Sink>(errors: &mut E, progress: Progress) {
     if progress == Progress::Count {
         let _ = Lines { sink: errors }.write_str(BLANK);

@@ -8,7 +8,7 @@ ghost use Rattle.htmd_folders.specs.Runs.{Takes, AreApart, AreSparing, IfKnown, 
 use crate::conversion::Conversion;
 use crate::faults::PageFault;
 use crate::lines::{Lines, ShownName};
-use crate::page::convert_page;
+use crate::page::convert_to_file;
 use crate::progress::{Progress, clear_count, write_count};
 use crate::store::Store;
 use htmd_files::Page;
@@ -23,8 +23,8 @@ pub struct Tally {
     pub failed: u64,
 }
 
-/// Converts pages, each after the other; one that fails has a line on the sink for errors, and the others go on. If there
-/// are more pages than one, that sink also gets the count that `progress` asks for.
+/// Converts pages, each after the other; one that fails has a line on the sink for errors, and the others go on. If
+/// there are more pages than one, that sink also gets the count that `progress` requests.
 pub fn run_pages<S: Store, C: Conversion, E: Sink>(
     alloc: Global,
     store: &mut S,
@@ -91,7 +91,7 @@ fn take_page<S: Store, C: Conversion, E: Sink>(
         ⊎ (Fails page.now (S.changes store.old) (S.changes store.new)
         × (tally.new.failed ≡ suc tally.old.failed)) }
 {
-    match convert_page(alloc, store, conversion, page, errors) {
+    match convert_to_file(alloc, store, conversion, page, errors) {
         Ok(()) => tally.converted += 1,
         Err(fault) => {
             clear_count(errors, progress);

@@ -8,7 +8,7 @@ use htmd_streams::{Sink, Source};
 use std::alloc::Global;
 
 /// Files under names, which are paths with `/` between their parts. A name is the bytes of its path: that two names may
-/// stand for one file is nothing that the clauses know.
+/// stand for one file is unknown to the clauses.
 pub trait Store {
     /// A file that is read.
     type Reader: Source + Drop;

@@ -8,7 +8,7 @@ use Rattle.htmd_walk.specs.ValueTrees.{document}
 use Rattle.htmd_walk.specs.NumberedTrees.{tree_of, forest_from, value_tree}
 use Rattle.htmd_walk.specs.ParagraphLaws.{paragraphs}
 use Rattle.htmd_walk.proofs.ParagraphLawsLemmas.{paragraphs_read_back}
-use Rattle.htmd_cli.specs.Conversion.{empty_paragraph, paragraph, paragraph_markdown}
+use Rattle.htmd_cli.specs.PageOutputs.{empty_paragraph, paragraph, paragraph_markdown}
 use Rattle.htmd_laws.specs.OneParagraphLaws.{ParagraphReadsBack}
 
 -- ---- it is a tree

@@ -3,7 +3,7 @@ use Rattle.std.specs.Prelude.{◌≡◌, ℕ, List, [], ◌∷◌}
 use Rattle.htmd_walk.specs.declared.options.Options.{Options}
 use Rattle.htmd_walk.specs.BuiltIn.{built_in}
 use Rattle.htmd_walk.specs.ParagraphLaws.{texts_read, texts_shown}
-use Rattle.htmd_cli.specs.Conversion.{paragraph_markdown}
+use Rattle.htmd_cli.specs.PageOutputs.{paragraph_markdown}
 
 -- With all options, the Markdown of the paragraph reads back as its text, as that is shown, or as nothing if that is
 -- empty.

@@ -3,6 +3,6 @@
 //! has what it says. The program is built without them.
 #![tactic(auto)]
 
-pub mod runs;
+pub mod program_runs;
 
 pub use htmd_tree_laws::{conversion, grammar};

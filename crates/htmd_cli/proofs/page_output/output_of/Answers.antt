@@ -1,0 +1,27 @@
+-- What is written of the part of the tree that the input's text has, or that nothing of it is selected.
+use Rattle.std.proofs.Common.{◌∙◌, ap, sym, string_bytes}
+use Rattle.std.specs.Cow.{cow_str_bytes}
+use Rattle.htmd_cli.specs.PageOutputs.{tree_output}
+use Rattle.htmd_cli.specs.Settings.{settings_in}
+use Rattle.htmd_cli.proofs.PageOutputsLemmas.{of_readable, of_unselected}
+use Rattle.htmd_cli.proofs.page_output.output_of.Goals as goal
+
+pub returns-clause-ok : goal.returns-clause-ok
+returns-clause-ok g c =
+    let settings = settings_in c.args.settings.now in
+    let part = c.in-Some.part in
+    of_readable settings c.args.input.now (cow_str_bytes c.in_ok-text.text) c.deref.result.now
+    (string_bytes c.in_ok-tree_output.field-0) c.in_ok-text.ensures.ok c.deref.ensures.value (
+      c.in_ok-page.page,
+      c.in_ok-page.ensures.ok,
+      part,
+      sym c.in_ok-part.ensures ∙ c.in-Some.is,
+      c.in_ok-tree_output.ensures ∙ ap (λ head. tree_output settings head part)
+          (c.deref-2.ensures ∙ c.in_ok-head.ensures.value),
+    )
+
+pub returns-in_default-clause-fault : goal.returns-in_default-clause-fault
+returns-in_default-clause-fault g c =
+    of_unselected (settings_in c.args.settings.now) c.args.input.now (cow_str_bytes c.in_ok-text.text)
+    c.deref.result.now c.in_ok-text.ensures.ok c.deref.ensures.value
+    (c.in_ok-page.page, c.in_ok-page.ensures.ok, sym c.in_ok-part.ensures ∙ c.in_default.is)

@@ -1,0 +1,149 @@
+//! What the options ask for, as a conversion.
+ghost use Rattle.std.specs.Prelude.{◌≡◌, false, OnOk, option_map};
+ghost use Rattle.htmd_addresses.specs.RunViews.{pages_in, run_page_of};
+ghost use Rattle.htmd_cli.specs.OptionRows.{request_in};
+ghost use Rattle.htmd_cli.specs.Options.{is_one_of_run, request_by};
+ghost use Rattle.htmd_cli.specs.Runs.{Converts};
+ghost use Rattle.htmd_cli.specs.Settings.{settings_in};
+ghost use Rattle.htmd_folders.specs.Pages.{Becomes};
+ghost use Rattle.htmd_command.specs.Answers.{IsAnswer};
+
+use htmd_addresses::{Pages, RunPage};
+use htmd_cli::{
+    Request, RunError, Settings, Sink, Source, command, read_options, report_page, run_over,
+};
+use htmd_files::Page;
+use htmd_folders::{Conversion, Lines, ShownName};
+use std::alloc::Global;
+use std::fmt::Write;
+
+/// The conversion of one page, or of rows with a page each, by what the options ask for.
+#[derive(Drop)]
+pub(crate) struct Requested<'a, 'b, 'c, 'd> {
+    pub(crate) alloc: Global,
+    pub(crate) options: &'a [String],
+    pub(crate) request: &'b Request<'c>,
+    /// The pages of the run, if addresses that lead to them lead to their outputs.
+    pub(crate) pages: Option<&'d Pages>,
+    ghost is_read: { request_in request.now ≡ request_by options.now },
+    ghost converts: { (request_by options.now).shows ≡ false },
+}
+
+/// Why a conversion did not succeed.
+#[derive(Drop)]
+pub(crate) enum Refusal {
+    /// The page's error, and what was read of it.
+    Page { error: RunError, input: Vec<u8> },
+    /// Rows stopped; where and why was said.
+    Rows,
+}
+
+impl Requested<'_, '_, '_, '_> {
+    /// Converts a page as if it was alone, or rows with a page each.
+    pub(crate) fn convert_alone<R: Source, W: Sink, E: Sink>(
+        &self,
+        source: &mut R,
+        sink: &mut W,
+        errors: &mut E,
+    ) -> Result<(), Refusal>
+        requires source { R.has_failed source.old ≡ false }
+        requires sink { W.has_failed sink.old ≡ false }
+        ensures { OnOk result (Becomes (IsAnswer (request_by self.now.options.now))
+            (R.remaining source.old) (W.contents sink.old) (W.contents sink.new)) }
+    {
+        if self.request.takes_rows() {
+            return match command(self.alloc, self.options, source, sink, errors) {
+                0 => Ok(()),
+                _ => Err(Refusal::Rows),
+            };
+        }
+        convert_by(self.alloc, self.request.settings(), source, sink)
+    }
+
+    /// Converts a page as one of a run.
+    fn convert_in_run<R: Source, W: Sink>(
+        &self,
+        page: RunPage<'_>,
+        source: &mut R,
+        sink: &mut W,
+    ) -> Result<(), Refusal>
+        requires source { R.has_failed source.old ≡ false }
+        requires sink { W.has_failed sink.old ≡ false }
+        ensures { OnOk result (Converts
+            (is_one_of_run (run_page_of page.entry) (request_by self.now.options.now)).settings
+            (R.remaining source.old) (W.contents sink.old) (W.contents sink.new)) }
+    {
+        // The options were read before: only memory can be missing.
+        let Ok(mut request) = read_options(self.alloc, self.options) else {
+            return Err(Refusal::Page {
+                error: RunError::Memory,
+                input: Vec::new(self.alloc),
+            });
+        };
+        request.set_run_page(page);
+        convert_by(self.alloc, request.settings(), source, sink)
+    }
+}
+
+/// Converts a page by settings.
+fn convert_by<R: Source, W: Sink>(
+    alloc: Global,
+    settings: &Settings<'_>,
+    source: &mut R,
+    sink: &mut W,
+) -> Result<(), Refusal>
+    requires source { R.has_failed source.old ≡ false }
+    requires sink { W.has_failed sink.old ≡ false }
+    ensures { OnOk result (Converts (settings_in settings.now)
+        (R.remaining source.old) (W.contents sink.old) (W.contents sink.new)) }
+{
+    match run_over(alloc, source, sink, settings) {
+        (Ok(()), _) => Ok(()),
+        (Err(error), input) => Err(Refusal::Page { error, input }),
+    }
+}
+
+impl Conversion for Requested<'_, '_, '_, '_> {
+    ghost use Rattle.htmd_command.specs.Answers.{IsAnswer, request_for};
+
+    type Fault = Refusal;
+
+    ghost becomes = { λ s page. IsAnswer
+        (request_for (option_map (λ pages. pages_in pages.now) s.pages) page (request_by s.options.now)) };
+
+    fn convert<R: Source, W: Sink, E: Sink>(
+        &self,
+        page: &Page,
+        source: &mut R,
+        sink: &mut W,
+        errors: &mut E,
+    ) -> Result<(), Refusal> {
+        let Some(pages) = self.pages else {
+            return self.convert_alone(source, sink, errors);
+        };
+        if self.request.takes_rows() {
+            return self.convert_alone(source, sink, errors);
+        }
+        let page = RunPage {
+            pages,
+            input: &page.input,
+            output: &page.output,
+        };
+        self.convert_in_run(page, source, sink)
+    }
+
+    fn report<E: Sink>(&self, page: &str, fault: &Refusal, errors: &mut E) {
+        match fault {
+            Refusal::Page { error, input } => {
+                report_page(errors, page, error, input, self.request.explains());
+            }
+            Refusal::Rows => {
+                let page = ShownName(page);
+                let _ = writeln!(
+                    Lines { sink: errors },
+                    "htmd: {page}: not all rows were answered"
+                );
+            }
+        }
+    }
+}
