@@ -2,6 +2,8 @@
 use Rattle.std.proofs.Common.{◌≡◌, List, [], ◌∷◌, codes, refl}
 use Rattle.percent_encoding.specs.AsciiSet.{should_percent_encode}
 use Rattle.percent_encoding.specs.Percent.{percent_decode, percent_encode, percent_encode_byte}
+use Rattle.url.specs.Parts.{Parts}
+use Rattle.htmd_addresses.specs.Addresses.{resolved}
 use Rattle.htmd_addresses.specs.Leads.{PageValue, lead}
 use Rattle.htmd_addresses.specs.Paths.{plain_path}
 
@@ -54,3 +56,7 @@ scheme = refl
 
 fragment : lead pages first (codes "#y") ≡ codes "#y"
 fragment = refl
+
+-- it stays with a base too
+absolute-fragment : (base : Parts) → resolved base (codes "#y") ≡ codes "#y"
+absolute-fragment base = refl

@@ -1,6 +1,7 @@
 -- A page whose addresses are absolute.
-use Rattle.std.specs.Prelude.{ℕ, Bool, ◌||◌, if◌then◌else◌, List, map, Some, Ok, Err, codes}
+use Rattle.std.specs.Prelude.{ℕ, Bool, false, ◌||◌, ◌==◌, if◌then◌else◌, List, [], ◌∷◌, map, Some, Ok, Err, codes}
 use Rattle.std.specs.Str.{bytes_eq}
+use Rattle.htmd_grammar.specs.Characters.{number_sign}
 use Rattle.htmd_grammar.specs.ValueTrees.{AttributePair}
 use Rattle.htmd_nodes.specs.Items.{Item}
 use Rattle.htmd_addresses.specs.Rewriting.{rewritten_page}
@@ -12,9 +13,18 @@ abbrev pub address_of : List ℕ → Parsed Parts → List ℕ
 address_of address (Ok url) = serialize url
 address_of address (Err e) = address
 
+-- an address that is a fragment alone, which leads into the page itself
+abbrev pub is_fragment : List ℕ → Bool
+is_fragment [] = false
+is_fragment (b ∷ s) = b == number_sign
+
 -- an address against a base (URL Standard, 4.4 and 4.5)
+abbrev pub joined : Parts → List ℕ → List ℕ
+joined base address = address_of address (parse_url (Some base) address)
+
+-- the same, but one that leads into the page itself stays
 abbrev pub resolved : Parts → List ℕ → List ℕ
-resolved base address = address_of address (parse_url (Some base) address)
+resolved base address = if is_fragment address then address else joined base address
 
 -- the attributes that hold addresses
 abbrev pub is_address : List ℕ → Bool

@@ -29,7 +29,8 @@ impl Rewrite for Absolute<'_> {
     }
 }
 
-/// The page with the addresses in its `href` and `src` resolved against the base; one that can't be resolved stays.
+/// The page with the addresses in its `href` and `src` resolved against the base; one that is a fragment alone, as
+/// `#part`, leads into the page itself and stays, and so does one that can't be resolved.
 /// `Err` means out of memory, or a URL of 4 GB.
 pub fn make_absolute(alloc: Global, tree: &Tree, base: &Url) -> Result<Tree, AllocError>
     ensures ok { IfOk result (λ page. page ≡ spec.absolute_page base.now tree.now) }

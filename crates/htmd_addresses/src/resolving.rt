@@ -21,14 +21,34 @@ pub(crate) fn url_of(parsed: ParseResult<Url>) -> Result<Option<Url>, AllocError
     }
 }
 
+/// Whether an address is a fragment alone, which leads into the page itself.
+fn is_fragment(address: &[u8]) -> bool
+    ensures { result ≡ spec.is_fragment address.now }
+{
+    match address {
+        [] => false,
+        [first, ..] => *first == b'#',
+    }
+}
+
 /// The address against the base; one that can't be resolved stays.
-fn resolved(alloc: Global, base: &Url, address: &str) -> Result<String, AllocError>
-    ensures { IfOk result (λ s. string_bytes s ≡ spec.resolved base.now address.now) }
+fn joined(alloc: Global, base: &Url, address: &str) -> Result<String, AllocError>
+    ensures { IfOk result (λ s. string_bytes s ≡ spec.joined base.now address.now) }
 {
     match url_of(base.join(address))? {
         Some(url) => String::from_str(alloc, url.as_str()),
         None => String::from_str(alloc, address),
     }
+}
+
+/// The address against the base; one that leads into the page itself or can't be resolved stays.
+fn resolved(alloc: Global, base: &Url, address: &str) -> Result<String, AllocError>
+    ensures { IfOk result (λ s. string_bytes s ≡ spec.resolved base.now address.now) }
+{
+    if is_fragment(address.as_bytes()) {
+        return String::from_str(alloc, address);
+    }
+    joined(alloc, base, address)
 }
 
 /// Whether an attribute holds an address.

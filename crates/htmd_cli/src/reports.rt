@@ -41,7 +41,16 @@ pub(crate) fn report<E: Sink>(
     }
 }
 
+/// What helps if the strict reader refused a page.
+fn hint(error: &RunError) -> &'static str {
+    match error {
+        RunError::Refused { .. } => " (--web reads any page)",
+        _ => "",
+    }
+}
+
 /// Says which page of several isn't converted, and if requested, where and why; `input` is what was read of it.
+/// Without the request, a hint follows if the strict reader refused the page.
 pub fn report_page<E: Sink>(
     errors: &mut E,
     path: &str,
@@ -50,7 +59,8 @@ pub fn report_page<E: Sink>(
     explains: bool,
 ) {
     let mut lines = Lines { sink: errors };
-    let _ = writeln!(lines, "htmd: {path}: {error}");
+    let hint = if explains { "" } else { hint(error) };
+    let _ = writeln!(lines, "htmd: {path}: {error}{hint}");
     if explains {
         let _ = explain(&mut lines, error, input);
     }

@@ -22,13 +22,14 @@ fn absolute(alloc: Global, html: &str) -> Result<String, Fail> {
 fn addresses_are_absolute(rt: HostRuntime) -> Result<(), Fail> {
     let html = absolute(
         rt.alloc(),
-        "<p><a href=x?y#z title=x>a</a><img src=//i.example/j><a href='http://['>b</a></p>",
+        "<p><a href=x?y#z title=x>a</a><img src=//i.example/j><a href='http://['>b</a>\
+        <a href=#y>c</a></p>",
     )?;
     expect_text(
         "no base",
         html.as_str(),
         "<html><head></head><body><p><a href=\"https://a.example/b/x?y#z\" title=\"x\">a</a>\
-        <img src=\"https://i.example/j\"><a href=\"http://[\">b</a></p></body></html>",
+        <img src=\"https://i.example/j\"><a href=\"http://[\">b</a><a href=\"#y\">c</a></p></body></html>",
     )
 }
 
