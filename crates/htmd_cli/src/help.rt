@@ -10,7 +10,8 @@ const USAGE: &str = "\
 Usage: htmd [OPTION..] [FILE..]
 
 Reads pages and writes them as Markdown: without FILE from standard input to standard output.
-If two options set the same thing, the last one wins. For most pages use --web.
+If two options set the same thing, the last one wins; each --skip, --select and --drop adds to those
+before it. For most pages use --web.
 ";
 
 /// The crate that is ported, and its version.

@@ -24,7 +24,7 @@ as a
 .I FILE
 is standard input too.
 .PP
-For most pages take
+For most pages use
 .BR \-\-web .
 It reads any page as browsers do, and writes what a reader sees, so that reading the Markdown gives the same.
 Without it, and without
@@ -48,6 +48,12 @@ An output gets its name only once it is complete.
 A page that fails leaves an earlier output as it was, and the other pages are converted.
 .PP
 If two options set the same thing, the last one wins.
+Each
+.BR \-\-skip ,
+.B \-\-select
+and
+.B \-\-drop
+adds to those before it.
 .SH OPTIONS
 "#;
 
@@ -60,9 +66,13 @@ All pages were converted.
 .B 1
 A page was refused, or couldn't be read, converted or written.
 A line on standard error says which one, and why.
+With
+.B \-\-rows
+a page that is refused becomes a null, and the status is 0.
 .TP
 .B 2
-An option isn't known or has a wrong value, or the files can't be converted together, for instance because two have one output.
+An option isn't known or has a wrong value, or the files can't be converted together,
+for instance because two have one output.
 Nothing was read.
 .SH EXAMPLES
 A page of the Web:

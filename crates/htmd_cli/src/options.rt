@@ -100,14 +100,14 @@ pub(crate) const OPTIONS: [OptionRow; 44] = [
         name: "--html5",
         value: "",
         setting: Setting::Html5,
-        help: "reads any page or piece of one as browsers read it, and refuses none",
+        help: "reads any page or piece of one as browsers read it, and refuses only some encodings",
     },
     OptionRow {
         group: Group::Input,
         name: "--body",
         value: "",
         setting: Setting::Body,
-        help: "the input is a whole page, of which what is between the tags of its body is converted",
+        help: "without --html5: the input is a whole page, and what is between the tags of its body is converted",
     },
     OptionRow {
         group: Group::Input,
@@ -170,14 +170,14 @@ pub(crate) const OPTIONS: [OptionRow; 44] = [
         name: "--front-matter",
         value: "",
         setting: Setting::FrontMatter,
-        help: "writes what the page's head says before the page, as YAML: title, lang, description, author and others",
+        help: "with --html5: writes title, lang, description, author and others of the page's head before it, as YAML",
     },
     OptionRow {
         group: Group::Written,
         name: "--select=",
         value: "SELECTOR",
         setting: Setting::Valued(Valued::Select),
-        help: "converts only the elements that match, such as main,article",
+        help: "converts only the elements that match, such as main,article; a page without one fails",
     },
     OptionRow {
         group: Group::Written,
@@ -359,7 +359,7 @@ pub(crate) const OPTIONS: [OptionRow; 44] = [
         name: "--help",
         value: "",
         setting: Setting::Show(Notice::Help),
-        help: "writes these lines, and reads nothing",
+        help: "writes the list of options, and reads nothing",
     },
     OptionRow {
         group: Group::Help,
@@ -413,7 +413,7 @@ pub(crate) const FILE_OPTIONS: [FileOption; 4] = [
         short: "-o",
         name: "--output=",
         value: "OUT",
-        help: "writes to this file, or for folders and several files below this folder",
+        help: "writes to this file; if it is a folder, or for folders and several files, below it",
     },
     FileOption {
         short: "",
@@ -431,6 +431,6 @@ pub(crate) const FILE_OPTIONS: [FileOption; 4] = [
         short: "",
         name: "--quiet",
         value: "",
-        help: "shows no count of pages",
+        help: "shows no count of pages and no progress",
     },
 ];
