@@ -32,7 +32,8 @@ IsMadeBy page (removed name) = name ≡ partial_name (output_name page)
 
 -- what a page makes
 abbrev pub Made : Page → List Change → Option (List Change) → Type 0
-Made page past after = (changes : List Change) × (after ≡ Some (changes ++ past)) × AllByRecursion (IsMadeBy page) changes
+Made page past after =
+    (changes : List Change) × (after ≡ Some (changes ++ past)) × AllByRecursion (IsMadeBy page) changes
 
 pub converts_made : (becomes : Conversion) (page : Page) (past : List Change) (after : Option (List Change))
     → Converts becomes page (Some past) after → Made page past after
@@ -76,7 +77,8 @@ held_spared name page (removed other ∷ cs) past s (h, a) =
     ∙ held_spared name page cs past s a
 
 -- the output of a page that was converted
-pub held_output : (from to bytes : List ℕ) (past : List Change) → held to (moved from to bytes ∷ past) ≡ whole bytes
+pub held_output : (from to bytes : List ℕ) (past : List Change)
+    → held to (moved from to bytes ∷ past) ≡ whole bytes
 held_output from to bytes past =
     cond-true (bytes_eq to to) (whole bytes) (cond (bytes_eq to from) nothing (held to past)) (is_itself to)
 
@@ -113,8 +115,9 @@ made_whole name page (created other) n h = λ e. n (e ∙ h)
 made_whole name page (moved from to bytes) n h = λ e. n (e ∙ h.0)
 made_whole name page (removed other) n h = λ e. n (e ∙ h)
 
-pub made_whole_all : (name : List ℕ) (page : Page) (changes : List Change) → name ≢ partial_name (output_name page)
-    → AllByRecursion (IsMadeBy page) changes → AllByRecursion (IsWholeUnder name) changes
+pub made_whole_all : (name : List ℕ) (page : Page) (changes : List Change)
+    → name ≢ partial_name (output_name page) → AllByRecursion (IsMadeBy page) changes
+    → AllByRecursion (IsWholeUnder name) changes
 made_whole_all name page [] n a = tt
 made_whole_all name page (c ∷ cs) n (h, a) = (made_whole name page c n h, made_whole_all name page cs n a)
 

@@ -14,11 +14,13 @@ use Rattle.htmd_folders.proofs.ChangesLemmas.{IsMadeBy, Made, made_by, held_spar
 use Rattle.htmd_folders.proofs.ChangesLemmas.{IsWholeUnder, made_whole_all, whole_at_each}
 
 -- two facts of each page give a third one
-all_by : {X : Type 0} (P Q R : X → Type 0) (xs : List X) → ((x : X) → P x → Q x → R x) → AllByRecursion P xs → AllByRecursion Q xs → AllByRecursion R xs
+all_by : {X : Type 0} (P Q R : X → Type 0) (xs : List X) → ((x : X) → P x → Q x → R x)
+    → AllByRecursion P xs → AllByRecursion Q xs → AllByRecursion R xs
 all_by P Q R [] f p q = tt
 all_by P Q R (x ∷ xs) f (p, ps) (q, qs) = (f x p q, all_by P Q R xs f ps qs)
 
-all_append : {X : Type 0} (P : X → Type 0) (xs ys : List X) → AllByRecursion P xs → AllByRecursion P ys → AllByRecursion P (xs ++ ys)
+all_append : {X : Type 0} (P : X → Type 0) (xs ys : List X) → AllByRecursion P xs → AllByRecursion P ys
+    → AllByRecursion P (xs ++ ys)
 all_append P [] ys p q = q
 all_append P (x ∷ xs) ys (p, ps) q = (p, all_append P xs ys ps q)
 
@@ -50,7 +52,8 @@ first_page becomes page past between now failed others k (inl ((bytes, h, (writt
       written,
       h,
       b,
-      k ∙ ap (held out) (some_same e) ∙ held_output (partial_name out) out written (created (partial_name out) ∷ past),
+      k ∙ ap (held out) (some_same e)
+          ∙ held_output (partial_name out) out written (created (partial_name out) ∷ past),
     )
 first_page becomes page past between now failed others k (inr (h, f)) =
     inr (λ z. suc-ne-zero others (sym f ∙ z), k ∙ held_kept page past between h (beside (output_name page)))
@@ -71,8 +74,8 @@ later_page becomes past between now failed others page i o n (inl (bytes, writte
     inl (bytes, written, sym i ∙ h, b, w)
 later_page becomes past between now failed others page i o n (inr (z, k)) = inr (n z, k ∙ o)
 
-pub known : (becomes : Conversion) (pages : List Page) (past : List Change) (after : Option (List Change)) (failed : ℕ)
-    → Takes becomes pages (Some past) after failed
+pub known : (becomes : Conversion) (pages : List Page) (past : List Change) (after : Option (List Change))
+    (failed : ℕ) → Takes becomes pages (Some past) after failed
     → (now : List Change) × (after ≡ Some now) × Known becomes pages past now failed
 known becomes [] past after failed (e, z) = (past, e, record { spared = λ name s. refl; apart = λ a. tt })
 known becomes (page ∷ more) past after failed (between, others, rest, one) =
@@ -141,7 +144,8 @@ kept_law becomes pages (Some past) after failed t a =
 
 pub others_law : (becomes : Conversion) (pages : List Page) (before after : Option (List Change)) (failed : ℕ)
     → Takes becomes pages before after failed
-    → IfKnown before after (λ past now. (name : List ℕ) → AreSparing name pages → held name now ≡ held name past)
+    → IfKnown before after (λ past now. (name : List ℕ) → AreSparing name pages
+    → held name now ≡ held name past)
 others_law becomes pages None after failed t = tt
 others_law becomes pages (Some past) after failed t =
     let k = known becomes pages past after failed t in

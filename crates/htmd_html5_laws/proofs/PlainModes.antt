@@ -35,9 +35,9 @@ IsPlain t = IsMarkup is_plain_name t
 
 -- ---- the rules lead to plain modes, and insert elements with plain names
 
-starts_fit : (name : NameValue) → is_plain_name name ≡ true → (mode : InsertionMode)
-    → is_plain_mode mode ≡ true → reply_fits (plain_act name) (plain_act name) (plain_act name) (start_in mode name)
-    ≡ true
+starts_fit : (name : NameValue) → is_plain_name name ≡ true
+    → (mode : InsertionMode) → is_plain_mode mode ≡ true
+    → reply_fits (plain_act name) (plain_act name) (plain_act name) (start_in mode name) ≡ true
 starts_fit (known tags.FrameSet) q mode p = absurd (true≢false (sym q))
 starts_fit (known tags.Template) q mode p = absurd (true≢false (sym q))
 starts_fit (known tags.Col) q mode p = absurd (true≢false (sym q))
@@ -90,8 +90,8 @@ end_foreign_hung name by_rules foreign.nothing s e h x = x
 
 -- ---- the rules
 
-plainness : Invariant is_plain_name (λ mode. is_plain_mode mode ≡ true) plain_act plain_act plain_act Stays Stays Stays
-    StaysAnswer
+plainness : Invariant is_plain_name (λ mode. is_plain_mode mode ≡ true) plain_act plain_act plain_act
+    Stays Stays Stays StaysAnswer
 plainness = record {
   acts = λ tag p a e. act_stays tag a e;
   turn_acts = λ tag p a e. act_stays tag a e;
