@@ -1,12 +1,12 @@
 -- What a text of HTML becomes.
 use Rattle.std.specs.Prelude.{◌≡◌, ℕ, ◌+◌, Bool, List}
 use Rattle.htmd_grammar.specs.ValueTrees.{ValueTree, ValueForest, document}
-use Rattle.htmd_grammar.specs.Documents.{ReadsDocument}
+use Rattle.htmd_grammar.specs.HtmlDocuments.{ReadsDocument}
 use Rattle.htmd_grammar.specs.Rules.{project}
 use Rattle.htmd_grammar.specs.Faults.{IsFault}
 use Rattle.htmd_grammar.specs.declared.fault.FaultKind.{FaultKind}
 use Rattle.htmd_nodes.specs.Items.{Item, IsTree, HoldTexts}
-use Rattle.htmd_html5.specs.Documents.{html5_document}
+use Rattle.htmd_html5.specs.Html5Documents.{html5_document}
 use Rattle.htmd_tree.specs.Bodies.{body_part, body_place}
 use Rattle.htmd_nodes.specs.Layout.{document_items}
 use Rattle.htmd_tree.specs.declared.reader.ReadError.{ReadError}

@@ -64,7 +64,7 @@ pub use Rattle.htmd_walk.specs.Passing
 pub use Rattle.htmd_walk.specs.Staying
 pub use Rattle.htmd_walk.specs.Walking
 pub use Rattle.htmd_walk.specs.TableViews
-pub use Rattle.htmd_walk.specs.PlainTexts
+pub use Rattle.htmd_walk.specs.UnescapedTexts
 pub use Rattle.htmd_walk.specs.declared.options.Options
 pub use Rattle.htmd_markdown.specs.declared.link.LinkStyle
 pub use Rattle.htmd_walk.specs.declared.options.CodeBlockStyle

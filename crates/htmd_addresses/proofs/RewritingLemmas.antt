@@ -3,7 +3,7 @@ use Rattle.std.proofs.Common.{◌≡◌, ◌+◌, ℕ, List, [], ◌∷◌, ◌+
 use Rattle.htmd_nodes.specs.Items.{Item, document_item, depth_at, children_of, IsTree}
 use Rattle.htmd_nodes.specs.Layout.{document_items, forest_items}
 use Rattle.htmd_nodes.specs.NumberedTrees.{tree_of, forest_of, value_forest}
-use Rattle.htmd_pages.proofs.MarksLemmas.{children_of_document-at}
+use Rattle.htmd_pages.proofs.SelectorStatesLemmas.{children_of_document-at}
 use Rattle.htmd_addresses.specs.Rewriting.{Rule, rewritten, rewritten_page}
 
 pub rewritten-page : (rule : Rule) (items out new : List Item) (under root : ℕ) → IsTree items

@@ -5,7 +5,7 @@ use Rattle.std.specs.Str.{bytes_eq}
 use Rattle.htmd_grammar.specs.ValueTrees.{AttributePair, ValueTree, document, doctype, text, comment, element}
 use Rattle.htmd_grammar.specs.ValueTrees.{ValueForest, none, more}
 use Rattle.htmd_nodes.specs.Items.{Item}
-use Rattle.htmd_nodes.specs.Parts.{value_at}
+use Rattle.htmd_nodes.specs.NodeValues.{value_at}
 use Rattle.url.specs.Parts.{Parts}
 use Rattle.url.specs.Parser.{Parsed, parse_url}
 

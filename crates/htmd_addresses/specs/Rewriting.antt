@@ -4,8 +4,8 @@ use Rattle.htmd_grammar.specs.ValueTrees.{AttributePair, ValueTree, document, do
 use Rattle.htmd_grammar.specs.ValueTrees.{ValueForest, none, more}
 use Rattle.htmd_nodes.specs.Items.{Item}
 use Rattle.htmd_nodes.specs.Layout.{document_items}
-use Rattle.htmd_nodes.specs.Parts.{value_at}
-use Rattle.htmd_pages.specs.Parts.{joined, children_of_document}
+use Rattle.htmd_nodes.specs.NodeValues.{value_at}
+use Rattle.htmd_pages.specs.SelectedParts.{joined, children_of_document}
 
 -- the attributes of an element, by its name and those that it had
 abbrev pub Rule : Type 0

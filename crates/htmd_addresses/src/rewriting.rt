@@ -4,7 +4,7 @@ ghost use Rattle.htmd_grammar.specs.Attributes.{pairs_of};
 ghost use Rattle.htmd_nodes.specs.Items.{children_of, data_at, depth_at, document_item, holds_children};
 ghost use Rattle.htmd_nodes.specs.Layout.{forest_items};
 ghost use Rattle.htmd_nodes.specs.NumberedTrees.{tree_of, forest_of, value_forest};
-ghost use Rattle.htmd_nodes.specs.Parts.{value_at};
+ghost use Rattle.htmd_nodes.specs.NodeValues.{value_at};
 ghost use Rattle.htmd_nodes.specs.declared.tree.TreeError.TheVariants.{TooDeep};
 ghost use Rattle.htmd_addresses.specs.Rewriting as spec;
 

@@ -27,7 +27,8 @@ markdown_of_tree config scripting page text tree node built on is_tree root is_m
 
 -- what is written of the page's document, by the options of the built-in handlers, has the length of its Markdown
 pub document_of_page : (config : Config) (scripting : Bool) (skipped : List (List ℕ)) (page text : List ℕ)
-    (tree : List Item) (document : Blocks) → config ≡ built_in default_options → scripting ≡ true → skipped ≡ []
+    (tree : List Item) (document : Blocks) → config ≡ built_in default_options → scripting ≡ true → skipped
+    ≡ []
     → IsTreeOf scripting page tree → document ≡ document_of_items scripting skipped tree
     → text ≡ markdown_of (document_options config.options) document → HasDocumentLength page (length text)
 document_of_page config scripting skipped page text tree document built on none is_tree seen is_text = (

@@ -1,6 +1,6 @@
 -- How large the answers to an input are.
 use Rattle.std.specs.Prelude.{◌≡◌, ℕ, List, [], true, length}
-use Rattle.htmd_text.specs.EscapeMarks.{escaped_markdown}
+use Rattle.htmd_text.specs.EscapedPlaces.{escaped_markdown}
 use Rattle.htmd_text.specs.SqueezedTexts.{squeezed_text}
 use Rattle.htmd_nodes.specs.Items.{Item, children_of}
 use Rattle.htmd.specs.BuiltIn.{built_in}
@@ -9,7 +9,7 @@ use Rattle.htmd.specs.Defaults.{default_options}
 use Rattle.htmd.specs.Documents.{Blocks}
 use Rattle.htmd.specs.DocumentMarkdown.{markdown_of}
 use Rattle.htmd.specs.PageDocuments.{IsDocumentOf, document_options}
-use Rattle.htmd_html5.specs.Documents.{html5_document}
+use Rattle.htmd_html5.specs.Html5Documents.{html5_document}
 use Rattle.htmd_bench.specs.declared.work.Work.{Work}
 use Rattle.htmd_bench.specs.declared.work.Work.TheVariants.{Copy, Escape, Squeeze, Read, ReadAny, Walk, Document}
 use Rattle.htmd_bench.specs.declared.work.Work.TheVariants.{Convert}

@@ -1,2 +1,2 @@
-pub mod AnswersLemmas
+pub mod CallResultsLemmas
 mod Examples

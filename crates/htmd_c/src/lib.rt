@@ -7,15 +7,15 @@ ghost use Rattle.std.specs.Prelude.{◌≡◌, ◌≢◌, ◌≤◌, ◌<◌, �
 ghost use Rattle.std.specs.Str.{IsValidUpTo};
 ghost use Rattle.htmd.specs.Lines.{characters, line_front, lines_ended};
 ghost use Rattle.htmd_c.specs.Options as spec;
-ghost use Rattle.htmd_c.specs.Answers.{IsWritten, IsTooLong, IsRefusedAt};
+ghost use Rattle.htmd_c.specs.CallResults.{IsWritten, IsTooLong, IsRefusedAt};
 
-mod conversion;
 mod options;
+mod output;
 
-use conversion::{Failure, output_of};
 use htmd::line_and_column;
 pub use options::HtmdOptions;
 use options::default_struct;
+use output::{Failure, output_of};
 use std::alloc::Global;
 
 /// What the text becomes was written.

@@ -9,8 +9,8 @@ use Rattle.htmd.specs.Characters.{line_feed}
 use Rattle.htmd.specs.Items.{Item}
 use Rattle.htmd.specs.Documents.{Blocks}
 use Rattle.htmd.specs.Mdast.{mdast_with_front_matter}
-use Rattle.htmd_pages.specs.Steps.{Step}
-use Rattle.htmd_nodes.specs.Parts.{value_at}
+use Rattle.htmd_pages.specs.SelectorSteps.{Step}
+use Rattle.htmd_nodes.specs.NodeValues.{value_at}
 use Rattle.json.specs.Print.{quoted}
 use Rattle.htmd_front_matter.specs.Lines.{front_matter, line_if, keys, tidied}
 use Rattle.htmd_front_matter.specs.Values.{name_of, value_in}
@@ -29,7 +29,8 @@ pub own_or_url : (own : Option Parts) (url : Parts) → option_or own (Some url)
 own_or_url None url = refl
 own_or_url (Some base) url = refl
 
-pub first_copied : (a b : Option (Bor Parts)) → option_copied (option_or a b) ≡ option_or (option_copied a) (option_copied b)
+pub first_copied : (a b : Option (Bor Parts)) → option_copied (option_or a b)
+    ≡ option_or (option_copied a) (option_copied b)
 first_copied None b = refl
 first_copied (Some base) b = refl
 
@@ -65,7 +66,8 @@ are_lines page =
 
 -- ---- what is written after the head
 
-pub no_end : (head : List ℕ) → AreLines head → ((front : List ℕ) → head ≡ front ++ line_feed ∷ [] → ⊥) → head ≡ []
+pub no_end : (head : List ℕ) → AreLines head → ((front : List ℕ) → head ≡ front ++ line_feed ∷ [] → ⊥)
+    → head ≡ []
 no_end head (inl e) n = e
 no_end head (inr (front, e)) n = absurd (n front e)
 
@@ -80,4 +82,5 @@ without_end (b ∷ s) yaml document e = ap (λ x. mdast_with_front_matter x docu
 
     kept : take (length s) (b ∷ s) ≡ yaml
     kept = ap (λ n. take n (b ∷ s)) count ∙ (ap (take (length yaml)) e
-        ∙ (take-append-le (length yaml) yaml (line_feed ∷ []) (omega arith) ∙ take_all (length yaml) yaml (omega arith)))
+        ∙ (take-append-le (length yaml) yaml (line_feed ∷ []) (omega arith)
+        ∙ take_all (length yaml) yaml (omega arith)))

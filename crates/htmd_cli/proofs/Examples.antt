@@ -50,7 +50,8 @@ options : (request : Request) → (by (codes "--web") request ≡ by (codes "--g
 options request = (refl, refl, refl)
 
 -- without further options a page stays as it is
-unchanged : (page : List Item) → (head_of default_settings page ≡ []) × (part_of default_settings page ≡ Some page)
+unchanged : (page : List Item) → (head_of default_settings page ≡ [])
+    × (part_of default_settings page ≡ Some page)
 unchanged page = (refl, refl)
 
 -- selectors that are given add up, as if a comma stood between them

@@ -2,7 +2,7 @@
 pub mod ChangesLemmas
 pub mod PageOutputsLemmas
 pub mod FailuresLemmas
-pub mod RunsLemmas
+pub mod StreamConversionsLemmas
 pub mod OptionsLemmas
 pub mod RowsLemmas
 pub mod BatchesLemmas

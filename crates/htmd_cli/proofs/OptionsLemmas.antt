@@ -17,7 +17,7 @@ use Rattle.htmd_cli.specs.Options.{takes_memory}
 use Rattle.htmd_cli.specs.OptionRows.{IsOptionFault}
 use Rattle.htmd_cli.specs.declared.requests.OptionFault.{OptionFault}
 use Rattle.htmd_cli.specs.declared.requests.OptionFault.TheVariants as fault
-use Rattle.htmd_pages.specs.Steps.{Step}
+use Rattle.htmd_pages.specs.SelectorSteps.{Step}
 
 -- either way, with what the test says
 test : {P : Type 0} (b : Bool) → (b ≡ true → P) → (b ≡ false → P) → P

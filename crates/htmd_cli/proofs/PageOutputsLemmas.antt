@@ -55,11 +55,13 @@ match_false P Q false e p = p
 -- an element under the Document
 pub element_added : (document after : List Item) (root : ℕ) (attributes : List AttributePair)
     → document ≡ document_item ∷ [] → root ≡ 0 → attributes ≡ []
-    → after ≡ document ++ new_item document root (element_node (codes "p") attributes) ∷ [] → after ≡ empty_paragraph
+    → after ≡ document ++ new_item document root (element_node (codes "p") attributes) ∷ [] → after
+    ≡ empty_paragraph
 element_added document after root attributes d r n e = e ∙ rw (d, r, n) refl
 
 -- and a text in it
-pub text_added : (document before after : List Item) (element : ℕ) (text : List ℕ) → document ≡ document_item ∷ []
+pub text_added : (document before after : List Item) (element : ℕ) (text : List ℕ) → document ≡ document_item
+    ∷ []
     → before ≡ empty_paragraph → element ≡ length document → eqb (length text) 0 ≡ false
     → after ≡ before ++ new_item before element (text_node text) ∷ [] → after ≡ paragraph text
 text_added document before after element [] d b i e a = absurd (grind (arith, nat_tests))
@@ -123,7 +125,8 @@ pub of_refused : (settings : Settings) (input text found : List ℕ) (e : Conver
     → IsReadable settings input × (text ≡ text_in settings input) → found ≡ text
     → ((place : ℕ) (kind : FaultKind) → e ≡ conversion.Refused place kind → settings.text ≡ false)
     → ((place : ℕ) (kind : FaultKind) → e ≡ conversion.Refused place kind → settings.html5 ≡ false)
-    → ((place : ℕ) (kind : FaultKind) → e ≡ conversion.Refused place kind → IsRefusedBy settings found place kind)
+    → ((place : ℕ) (kind : FaultKind) → e ≡ conversion.Refused place kind
+    → IsRefusedBy settings found place kind)
     → IsFaultOf settings input (run_error e)
 of_refused settings input text found (conversion.Refused place kind) (r, t) f x h g =
     let strict : reads_any settings ≡ false = rw (h place kind refl) refl in

@@ -18,7 +18,8 @@ pub page_answer : (settings : Settings) (page output : List ℕ) → IsOutputOf 
 page_answer settings page output m = inl (output, m, refl)
 
 -- a page that becomes nothing
-pub refused_answer : (settings : Settings) (page : List ℕ) (e : RunError) → IsFaultOf settings page e → e ≢ Memory
+pub refused_answer : (settings : Settings) (page : List ℕ) (e : RunError) → IsFaultOf settings page e
+    → e ≢ Memory
     → IsPageAnswer settings page null
 refused_answer settings page e f m = inr ((e, f, m), refl)
 

@@ -2,8 +2,8 @@
 use Rattle.std.specs.Prelude.{◌≡◌, ◌⊎◌, ◌++◌, ℕ, Bool, true, false, ◌&&◌, not, if◌then◌else◌, List, [], ◌∷◌, Option, Some, None, option_map}
 use Rattle.htmd.specs.Characters.{line_feed}
 use Rattle.htmd.specs.Items.{Item}
-use Rattle.htmd_pages.specs.Steps.{Step}
-use Rattle.htmd_pages.specs.Parts.{dropped, selected}
+use Rattle.htmd_pages.specs.SelectorSteps.{Step}
+use Rattle.htmd_pages.specs.SelectedParts.{dropped, selected}
 use Rattle.htmd_addresses.specs.Addresses.{absolute_page}
 use Rattle.htmd_addresses.specs.Bases.{page_base}
 use Rattle.htmd_addresses.specs.Leads.{RunPage, led_page}

@@ -8,7 +8,7 @@ pub mod Failures
 pub mod Settings
 pub mod Changes
 pub mod PageOutputs
-pub mod Runs
+pub mod StreamConversions
 pub mod Options
 pub mod Rows
 pub mod OptionRows

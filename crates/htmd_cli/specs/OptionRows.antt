@@ -11,7 +11,7 @@ use Rattle.htmd_cli.specs.declared.options.OptionRow.{OptionRow}
 use Rattle.htmd_cli.specs.declared.requests.Request as held
 use Rattle.htmd_cli.specs.declared.requests.OptionFault.{OptionFault}
 use Rattle.htmd_cli.specs.declared.requests.OptionFault.TheVariants as fault
-use Rattle.htmd_pages.specs.Steps.{Step}
+use Rattle.htmd_pages.specs.SelectorSteps.{Step}
 use Rattle.htmd_pages.specs.declared.selectors.SelectorError.{SelectorError}
 use Rattle.htmd_pages.specs.declared.selectors.SelectorError.TheVariants.{Memory}
 use Rattle.htmd.specs.Options.{Options}

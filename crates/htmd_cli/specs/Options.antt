@@ -23,7 +23,7 @@ use Rattle.htmd.specs.Options.{Options}
 use Rattle.htmd_encodings.specs.declared.encodings.Encoding.{Encoding}
 use Rattle.htmd_encodings.specs.Labels.{encoding_named}
 use Rattle.std.specs.Result.{result_ok}
-use Rattle.htmd_pages.specs.Steps.{Step}
+use Rattle.htmd_pages.specs.SelectorSteps.{Step}
 use Rattle.htmd_pages.specs.Reading.{steps_of_text}
 use Rattle.htmd_addresses.specs.Leads.{RunPage}
 use Rattle.url.specs.Parts.{Parts}

@@ -6,7 +6,7 @@ use Rattle.std.specs.Io.KnownBytes.{Appends}
 use Rattle.htmd.specs.Characters.{line_feed}
 use Rattle.htmd_cli.specs.Settings.{Settings}
 use Rattle.htmd_cli.specs.Options.{Request}
-use Rattle.htmd_cli.specs.Runs.{Converts}
+use Rattle.htmd_cli.specs.StreamConversions.{Converts}
 use Rattle.htmd_streams.specs.Ends.{AppendsSome}
 use Rattle.htmd_cli.specs.declared.faults.RunError.{RunError}
 use Rattle.htmd_cli.specs.declared.faults.RunError.TheVariants.{Memory}

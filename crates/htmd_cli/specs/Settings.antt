@@ -4,7 +4,7 @@ use Rattle.htmd_encodings.specs.declared.encodings.Encoding.{Encoding}
 use Rattle.htmd.specs.Options.{Options}
 use Rattle.htmd.specs.TranslationMode.TheVariants.{Pure, Faithful}
 use Rattle.htmd.specs.Defaults.{default_options}
-use Rattle.htmd_pages.specs.Steps.{Step}
+use Rattle.htmd_pages.specs.SelectorSteps.{Step}
 use Rattle.htmd_pages.specs.Views.{steps_in}
 use Rattle.htmd_addresses.specs.Leads.{RunPage}
 use Rattle.htmd_addresses.specs.RunViews.{run_page_of}

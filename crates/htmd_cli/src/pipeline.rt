@@ -5,7 +5,7 @@ ghost use Rattle.std.specs.Io.KnownBytes.{Appends, Consumes, IsAtEnd};
 ghost use Rattle.htmd.specs.Characters.{line_feed};
 ghost use Rattle.htmd_streams.specs.Ends.{FailsAtErr};
 ghost use Rattle.htmd_cli.specs.Failures.{IsReadFault};
-ghost use Rattle.htmd_cli.specs.Runs.{Ends};
+ghost use Rattle.htmd_cli.specs.StreamConversions.{Ends};
 ghost use Rattle.htmd_cli.specs.Settings.{settings_in, settings_of};
 
 use crate::faults::RunError;

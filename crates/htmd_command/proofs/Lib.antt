@@ -1,4 +1,4 @@
 -- Lemmas of the program.
-pub mod AnswersLemmas
+pub mod PageResultsLemmas
 pub mod OperandsLemmas
 pub mod ProgramsLemmas

@@ -2,7 +2,7 @@
 use Rattle.std.proofs.Common.{◌≡◌, ◌∙◌, refl, ap, sym, ℕ, List, [], ◌∷◌, ◌++◌, map, codes}
 use Rattle.htmd_files.specs.declared.planning.Operand.{Operand}
 use Rattle.htmd_files.specs.declared.planning.Operand.TheVariants.{StandardInput}
-use Rattle.htmd_files.specs.Plans.{path_of}
+use Rattle.htmd_files.specs.FilePlans.{path_of}
 use Rattle.htmd_files.specs.PlanViews.{operand_of}
 
 -- those of operands with one more

@@ -1,3 +1,3 @@
 -- What the program makes of the bytes of files, and what it changes.
-pub mod Answers
+pub mod PageResults
 pub mod Programs

@@ -2,7 +2,7 @@
 ghost use Rattle.std.specs.Prelude.{◌≡◌, IfOk, option_map};
 ghost use Rattle.htmd_addresses.specs.RunViews.{pages_in};
 ghost use Rattle.htmd_files.specs.WordViews.{job_in};
-ghost use Rattle.htmd_command.specs.Answers.{pages_led_to};
+ghost use Rattle.htmd_command.specs.PageResults.{pages_led_to};
 
 use htmd_addresses::{Page as LedPage, Pages};
 use htmd_files::{Job, Page};

@@ -1,6 +1,6 @@
 //! What a store has where the operands lead.
 ghost use Rattle.std.specs.Prelude.{◌≡◌, ◌++◌, ◌∷◌, [], map, IfOk, OnOk};
-ghost use Rattle.htmd_files.specs.Plans.{path_of};
+ghost use Rattle.htmd_files.specs.FilePlans.{path_of};
 ghost use Rattle.htmd_files.specs.PlanViews.{operand_of};
 ghost use Rattle.htmd_files.specs.WordViews.{text_of};
 ghost use Rattle.htmd_folders.specs.Changes.{Makes};
@@ -23,7 +23,8 @@ pub(crate) fn find_operands<S: Store>(
     names: &[&str],
     lists: bool,
 ) -> Result<Found, AllocError>
-    ensures names { IfOk result (λ found. map path_of (map operand_of found.operands.items) ≡ map text_of names.now) }
+    ensures names { IfOk result (λ found. map path_of (map operand_of found.operands.items)
+        ≡ map text_of names.now) }
     ensures same { Makes (S.changes store.old) (S.changes store.new) [] }
 {
     let mut found = Found {

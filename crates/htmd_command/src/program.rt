@@ -5,7 +5,7 @@ ghost use Rattle.htmd_cli.specs.OptionRows.{request_in};
 ghost use Rattle.htmd_files.specs.PlanViews.{plan_in};
 ghost use Rattle.htmd_files.specs.WordViews.{job_in, texts_of};
 ghost use Rattle.htmd_folders.specs.Changes.{Makes};
-ghost use Rattle.htmd_folders.specs.Runs.{Takes};
+ghost use Rattle.htmd_folders.specs.FolderConversions.{Takes};
 ghost use Rattle.htmd_command.specs.Programs.{IsPlanOf, Runs, RunsInput, RunsWords};
 
 use crate::leads::led_pages;
@@ -14,7 +14,7 @@ use crate::requested::Requested;
 use htmd_cli::{
     OptionFault, Request, RunError, Sink, Source, command, read_options, say_fault, say_warnings,
 };
-use htmd_files::{Destination, Job, Page, Plan, PlanFault, WordFault, job_of, plan_of};
+use htmd_files::{Destination, FilePlan, Job, Page, PlanFault, WordFault, job_of, plan_of};
 use htmd_folders::{
     Conversion, Lines, Progress, ShownName, Store, Tally, Unread, run_pages, write_total,
 };
@@ -98,7 +98,7 @@ fn run_job<S: Store, R: Source, W: Sink, E: Sink>(
     };
     let options = job.options.as_slice();
     match plan {
-        Plan::StandardOutput { input } => {
+        FilePlan::StandardOutput { input } => {
             if input.as_str() == "-" {
                 return command(alloc, options, source, sink, errors);
             }
@@ -110,7 +110,7 @@ fn run_job<S: Store, R: Source, W: Sink, E: Sink>(
             };
             show_file(store, &conversion, &input, sink, errors)
         }
-        Plan::Files { pages } => {
+        FilePlan::Files { pages } => {
             let pages = pages.as_slice();
             let Ok(led) = led_pages(alloc, job, pages) else {
                 return fail(errors, &RunError::Memory, 1);
@@ -144,7 +144,7 @@ fn find_plan<S: Store>(
     alloc: Global,
     store: &mut S,
     job: &Job<'_>,
-) -> Result<(Plan, Vec<Unread>), PlanFault>
+) -> Result<(FilePlan, Vec<Unread>), PlanFault>
     ensures ok { IfOk result (λ found. IsPlanOf (job_in job.now) (plan_in found.0)) }
     ensures same { Makes (S.changes store.old) (S.changes store.new) [] }
 {

@@ -3,10 +3,10 @@ ghost use Rattle.std.specs.Prelude.{◌≡◌, false, OnOk, option_map};
 ghost use Rattle.htmd_addresses.specs.RunViews.{pages_in, run_page_of};
 ghost use Rattle.htmd_cli.specs.OptionRows.{request_in};
 ghost use Rattle.htmd_cli.specs.Options.{is_one_of_run, request_by};
-ghost use Rattle.htmd_cli.specs.Runs.{Converts};
+ghost use Rattle.htmd_cli.specs.StreamConversions.{Converts};
 ghost use Rattle.htmd_cli.specs.Settings.{settings_in};
 ghost use Rattle.htmd_folders.specs.Pages.{Becomes};
-ghost use Rattle.htmd_command.specs.Answers.{IsAnswer};
+ghost use Rattle.htmd_command.specs.PageResults.{IsResultOf};
 
 use htmd_addresses::{Pages, RunPage};
 use htmd_cli::{
@@ -48,7 +48,7 @@ impl Requested<'_, '_, '_, '_> {
     ) -> Result<(), Refusal>
         requires source { R.has_failed source.old ≡ false }
         requires sink { W.has_failed sink.old ≡ false }
-        ensures { OnOk result (Becomes (IsAnswer (request_by self.now.options.now))
+        ensures { OnOk result (Becomes (IsResultOf (request_by self.now.options.now))
             (R.remaining source.old) (W.contents sink.old) (W.contents sink.new)) }
     {
         if self.request.takes_rows() {
@@ -104,11 +104,11 @@ fn convert_by<R: Source, W: Sink>(
 }
 
 impl Conversion for Requested<'_, '_, '_, '_> {
-    ghost use Rattle.htmd_command.specs.Answers.{IsAnswer, request_for};
+    ghost use Rattle.htmd_command.specs.PageResults.{IsResultOf, request_for};
 
     type Fault = Refusal;
 
-    ghost becomes = { λ s page. IsAnswer
+    ghost becomes = { λ s page. IsResultOf
         (request_for (option_map (λ pages. pages_in pages.now) s.pages) page (request_by s.options.now)) };
 
     fn convert<R: Source, W: Sink, E: Sink>(

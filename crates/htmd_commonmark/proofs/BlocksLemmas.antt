@@ -266,7 +266,8 @@ items_step options markers is_tight o pushed next bs rest (suc i) at is =
     put_text p (indented (marker markers (suc i)) (spaces markers (suc i)) w.text) w.definitions)
     (at ∙ ap (λ t. cond t o (put_text o (separator is_tight) o.definitions)) some))
 
-pub pushed_some : (o : Output) (lines : Page) (between : List ℕ) (i : ℕ) → 0 < i → lines ≡ wrote o.page between
+pub pushed_some : (o : Output) (lines : Page) (between : List ℕ) (i : ℕ) → 0 < i → lines
+    ≡ wrote o.page between
     → record { page = lines; definitions = o.definitions } ≡ cond (i == 0) o (put_text o between o.definitions)
 pushed_some o lines between i lt is =
     let some : (i == 0) ≡ false = grind (arith, nat_tests) in

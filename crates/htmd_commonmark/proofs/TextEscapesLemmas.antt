@@ -12,7 +12,7 @@ use Rattle.std.proofs.lemmas.List.Sums.{suffix_len-take_yes, suffix_len-le-lengt
 use Rattle.htmd_grammar.specs.Characters.{underscore, hyphen, colon, number_sign, is_one_of, ampersand}
 use Rattle.htmd_grammar.specs.Characters.{right_square_bracket, backslash, less_than_sign, exclamation_mark}
 use Rattle.htmd_grammar.specs.CharacterClasses.{first_is}
-use Rattle.htmd_text.specs.EscapeMarks.{is_place}
+use Rattle.htmd_text.specs.EscapedPlaces.{is_place}
 use Rattle.htmd_text.specs.ListMarkers.{number_signs}
 use Rattle.htmd_text.specs.Trims.{trimmed_start, trimmed_end}
 use Rattle.htmd_text.proofs.TrimsLemmas.{OfAscii}

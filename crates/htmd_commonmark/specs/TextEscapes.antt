@@ -15,7 +15,7 @@ use Rattle.htmd_grammar.specs.Characters.{
   underscore,
   is_one_of,
 }
-use Rattle.htmd_text.specs.EscapeMarks.{with_backslashes, is_place}
+use Rattle.htmd_text.specs.EscapedPlaces.{with_backslashes, is_place}
 use Rattle.htmd_text.specs.Trims.{trimmed_start, trimmed_end}
 pub use Rattle.htmd_commonmark.specs.declared.text_escape.Place.{Place}
 use Rattle.htmd_commonmark.specs.CharacterKinds.{first_character, last_character, is_word}

@@ -7,7 +7,7 @@ ghost use Rattle.htmd_commonmark.specs.WrittenText as written;
 use crate::character_kind::{first_character, last_character};
 use crate::line::LineKind;
 use htmd_document::Inline;
-use htmd_text::runs::trailing_len;
+use htmd_text::repeats::trailing_len;
 
 /// What follows an inline: the first character, none at the end of a block, and whether it closes what the inline is
 /// in.

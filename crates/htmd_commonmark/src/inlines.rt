@@ -18,7 +18,7 @@ use crate::marks::{Format, Sides, mark_for};
 use crate::text_escape::{Place, push_escaped};
 use htmd_document::Inline;
 use htmd_markdown::{BrStyle, LinkStyle};
-use htmd_text::runs::trailing_len;
+use htmd_text::repeats::trailing_len;
 use std::alloc::{AllocError, Global};
 
 /// What was written so far: the text of a block, and the lines that define the links of the document.

@@ -5,7 +5,7 @@ ghost use Rattle.std.specs.List.{list_all, prefix_len};
 ghost use Rattle.htmd_grammar.specs.Characters.{is_one_of};
 ghost use Rattle.htmd_commonmark.specs.LineMarks as spec;
 
-use htmd_text::runs::leading_len;
+use htmd_text::repeats::leading_len;
 
 /// The place of the character that would make a block of a line that begins with this text, if there is one. `after` is
 /// the character after the text, none at the line's end.

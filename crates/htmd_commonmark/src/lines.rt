@@ -8,7 +8,7 @@ ghost use Rattle.htmd_commonmark.specs.BlockMarkdown.{separator};
 ghost use Rattle.htmd_commonmark.specs.Pages as page;
 
 use htmd_text::push_repeated;
-use htmd_text::runs::trailing_len;
+use htmd_text::repeats::trailing_len;
 use std::alloc::{AllocError, Global};
 use std::marker::Model;
 

@@ -1,14 +1,14 @@
 //! A text with a backslash before each character that a reader would take for more (CommonMark 0.31.2, 2.4).
 ghost use Rattle.std.specs.Prelude.{◌≡◌, ◌<◌, ◌++◌, ◌-◌, ◌&&◌, ◌||◌, ◌==◌, ℕ, not, OnOk, length, slice_index, string_bytes};
 ghost use Rattle.htmd_grammar.specs.Characters.{underscore};
-ghost use Rattle.htmd_text.specs.EscapeMarks.{is_place};
+ghost use Rattle.htmd_text.specs.EscapedPlaces.{is_place};
 ghost use Rattle.htmd_commonmark.specs.LineMarks.{line_mark};
 ghost use Rattle.htmd_commonmark.specs.TextEscapes as spec;
 
 use crate::character_kind::{first_character, is_word, last_character};
 use crate::line_mark::line_mark;
 use crate::reference::is_reference;
-use htmd_text::runs::{leading_len, trailing_len};
+use htmd_text::repeats::{leading_len, trailing_len};
 use std::alloc::AllocError;
 
 /// Where a text is.

@@ -19,7 +19,7 @@ use Rattle.htmd_commonmark.specs.BlockMarkdown.{
 use Rattle.htmd_commonmark.specs.DocumentMarkdown.{outermost}
 use Rattle.htmd_commonmark_reading.specs.LinkDefinitions.{Definition}
 use Rattle.htmd_commonmark_reading.specs.Brackets.{References}
-use Rattle.htmd_commonmark_reading.specs.Boxes.{Part, text, headed, code, rule, html, grid, defined, boxed, Parts, no_parts, part, joined, definition_parts}
+use Rattle.htmd_commonmark_reading.specs.Boxes.{ClosedBlock, text, headed, code, rule, html, grid, defined, boxed, ClosedBlocks, no_closed_blocks, closed_block, joined, definition_parts}
 use Rattle.htmd_commonmark_reading.specs.Lists.{part_definitions, collected}
 use Rattle.htmd_commonmark_laws.specs.DocumentParts.{first_parts, further_parts, block_parts, item_parts, document_parts}
 use Rattle.htmd_commonmark_laws.specs.BlockLaws.{parts_with}
@@ -43,7 +43,7 @@ mutual
       block_none o p before ds (not p.tight) first (further_parts o p after es rest) ∙ further_none o p after es rest
 
   block_none : (o : DocumentOptions) (p : Place) (before : Option Sign) (ds : List (List ℕ)) (g : Bool)
-      (b : documents.Block) (rs : Parts) → collected (block_parts o p before ds g b rs) ≡ collected rs
+      (b : documents.Block) (rs : ClosedBlocks) → collected (block_parts o p before ds g b rs) ≡ collected rs
   block_none o p before ds g (documents.paragraph content) rs = refl
   block_none o p before ds g (documents.heading level content) rs = refl
   block_none o p before ds g (documents.code_block language s) rs = refl
@@ -55,7 +55,7 @@ mutual
   block_none o p before ds g (documents.table alignments header rows) rs = refl
 
   items_none : (o : DocumentOptions) (m : Markers) (t : Bool) (k : ℕ) (ds : List (List ℕ)) (g : Bool)
-      (items : documents.Items) (rs : Parts) → collected (item_parts o m t k ds g items rs) ≡ collected rs
+      (items : documents.Items) (rs : ClosedBlocks) → collected (item_parts o m t k ds g items rs) ≡ collected rs
   items_none o m t k ds g documents.no_items rs = refl
   items_none o m t k ds g (documents.item first others) rs =
       let p = place_in_item m t in
@@ -64,7 +64,7 @@ mutual
       ap (λ (x : References). x ++ collected more) (first_none o p ds first)
       ∙ items_none o m t (suc k) es (not t) others rs
 
-part_before : (p : Part) (a b : References) → part_definitions p (a ++ b) ≡ part_definitions p a ++ b
+part_before : (p : ClosedBlock) (a b : References) → part_definitions p (a ++ b) ≡ part_definitions p a ++ b
 part_before (text s) a b = refl
 part_before (headed level s) a b = refl
 part_before (code language s) a b = refl
@@ -74,19 +74,19 @@ part_before (grid alignments header rows) a b = refl
 part_before (defined d) a b = refl
 part_before (boxed kind ps) a b = sym (append_assoc (collected ps) a b)
 
-collected_joined : (ps qs : Parts) → collected (joined ps qs) ≡ collected ps ++ collected qs
-collected_joined no_parts qs = refl
-collected_joined (part g p ps) qs =
+collected_joined : (ps qs : ClosedBlocks) → collected (joined ps qs) ≡ collected ps ++ collected qs
+collected_joined no_closed_blocks qs = refl
+collected_joined (closed_block g p ps) qs =
     ap (part_definitions p) (collected_joined ps qs) ∙ part_before p (collected ps) (collected qs)
 
-all_defined : (g : Bool) (found : List Definition) → collected (definition_parts g found no_parts) ≡ found
+all_defined : (g : Bool) (found : List Definition) → collected (definition_parts g found no_closed_blocks) ≡ found
 all_defined g [] = refl
 all_defined g (d ∷ ds) = ap (◌∷◌ d) (all_defined false ds)
 
 pub all_collected : (o : DocumentOptions) (d : documents.Blocks) (found : List Definition)
     → collected (parts_with o d found) ≡ found
 all_collected o d found =
-    let ds = definition_parts true found no_parts in
+    let ds = definition_parts true found no_closed_blocks in
     collected_joined (document_parts o d) ds
     ∙ ap (λ (x : References). x ++ collected ds) (first_none o outermost [] d)
     ∙ all_defined true found

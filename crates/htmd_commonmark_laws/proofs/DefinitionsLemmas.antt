@@ -8,10 +8,10 @@ use Rattle.htmd_commonmark.specs.BlockMarkdown.{separator}
 use Rattle.htmd_commonmark.specs.DocumentMarkdown.{outermost, markdown_of, written_definitions}
 use Rattle.htmd_commonmark_reading.specs.LinkDefinitions.{Definition}
 use Rattle.htmd_commonmark_reading.specs.Lines.{placed}
-use Rattle.htmd_commonmark_reading.specs.Boxes.{quoting, listing, Part, text, headed, code, rule, html, grid, defined, boxed, Parts, no_parts, part, joined, joined_lines, definition_parts, parts_of}
+use Rattle.htmd_commonmark_reading.specs.Boxes.{quoting, listing, ClosedBlock, text, headed, code, rule, html, grid, defined, boxed, ClosedBlocks, no_closed_blocks, closed_block, joined, joined_lines, definition_parts, parts_of}
 use Rattle.htmd_commonmark_reading.specs.Brackets.{References, inlines}
 use Rattle.htmd_commonmark_reading.specs.Markup.{Inlines, block, list}
-use Rattle.htmd_commonmark_reading.specs.Lists.{Gapped, no_gapped, shown, hidden, listed, plain, with_item, with_part, gapped, item_gapped, collected}
+use Rattle.htmd_commonmark_reading.specs.Lists.{Gapped, no_gapped, shown, hidden, listed, plain, with_item, with_closed_block, gapped, item_gapped, collected}
 use Rattle.htmd_commonmark_reading.specs.Containers.{parsed}
 use Rattle.htmd_commonmark_reading.specs.Reading.{parts, finished}
 use Rattle.htmd_commonmark_laws.specs.DocumentParts.{document_parts}
@@ -39,11 +39,11 @@ appended (piece g p ps) qs = piece g p (appended ps qs)
 appended_parts : (ps qs : Pieces) → pieces_parts (appended ps qs) ≡ joined (pieces_parts ps) (pieces_parts qs)
 appended_parts no_pieces qs = refl
 appended_parts (piece g p ps) qs =
-    let one = piece_parts g p no_parts in
+    let one = piece_parts g p no_closed_blocks in
     ap (piece_parts g p) (appended_parts ps qs)
     ∙ sym (piece_joined g p (joined (pieces_parts ps) (pieces_parts qs)))
     ∙ sym (joined_assoc one (pieces_parts ps) (pieces_parts qs))
-    ∙ ap (λ (x : Parts). joined x (pieces_parts qs)) (piece_joined g p (pieces_parts ps))
+    ∙ ap (λ (x : ClosedBlocks). joined x (pieces_parts qs)) (piece_joined g p (pieces_parts ps))
 
 good_appended : (ps qs : Pieces) (m : Bool) → AreGood m ps → ((n : Bool) → AreGood n qs) → AreGood m
     (appended ps qs)
@@ -78,25 +78,25 @@ abbrev definition_pieces : List (List ℕ) → List Definition → Pieces
 definition_pieces [] found = no_pieces
 definition_pieces (l ∷ ls) [] = no_pieces
 definition_pieces (l ∷ ls) (d ∷ ds) =
-    piece true (flat (l ∷ ls) (defined d) (definition_parts false ds no_parts)) no_pieces
+    piece true (flat (l ∷ ls) (defined d) (definition_parts false ds no_closed_blocks)) no_pieces
 
 one_lines_clean : (ls : List (List ℕ)) → AreOneLine ls → AreClean ls
 one_lines_clean [] h = tt
 one_lines_clean (l ∷ ls) h = (one_clean l h.0 h.1, one_lines_clean ls h.2)
 
 definitions_parts : (ls : List (List ℕ)) (found : List Definition) → DefinitionTexts ls found
-    → pieces_parts (definition_pieces ls found) ≡ definition_parts true found no_parts
-definitions_parts [] found h = ap (λ (x : List Definition). definition_parts true x no_parts) (sym h)
+    → pieces_parts (definition_pieces ls found) ≡ definition_parts true found no_closed_blocks
+definitions_parts [] found h = ap (λ (x : List Definition). definition_parts true x no_closed_blocks) (sym h)
 definitions_parts (l ∷ ls) [] h = refl
 definitions_parts (l ∷ ls) (d ∷ ds) h =
-    ap (part true (defined d)) (joined_none (definition_parts false ds no_parts))
+    ap (closed_block true (defined d)) (joined_none (definition_parts false ds no_closed_blocks))
 
 definitions_good : (ls : List (List ℕ)) (found : List Definition) → DefinitionTexts ls found
     → ((n : Bool) → AreGood n (definition_pieces ls found)) × CleanPieces (definition_pieces ls found)
 definitions_good [] found h = ((λ n. tt), tt)
 definitions_good (l ∷ ls) [] h = ((λ n. tt), tt)
 definitions_good (l ∷ ls) (d ∷ ds) h =
-    let r = paragraph_reads l ls (defined d) (definition_parts false ds no_parts) record {
+    let r = paragraph_reads l ls (defined d) (definition_parts false ds no_closed_blocks) record {
       first = h.lines.0;
       further = h.lines.1;
       leaves = λ g. ap (parts_of g text) h.all;
@@ -134,12 +134,12 @@ some_read_back o d found n h w v =
     ∙ ap (λ (ls : List (List ℕ)). parsed (placed ls)) (read_lines (pieces_lines (appended ps qs)) is.0 is.1)
     ∙ pieces_read_back (appended ps qs) filled
     ∙ appended_parts ps qs
-    ∙ ap (λ (x : Parts). joined x (pieces_parts qs)) (first_same o outermost [] d h)
+    ∙ ap (λ (x : ClosedBlocks). joined x (pieces_parts qs)) (first_same o outermost [] d h)
     ∙ ap (joined (document_parts o d)) (definitions_parts ds found v)
 
 pub blocks_read_back : BlocksReadBack
 blocks_read_back o documents.no_blocks found h w v =
-    ap (λ (ds : List Definition). definition_parts true ds no_parts) (sym v)
+    ap (λ (ds : List Definition). definition_parts true ds no_closed_blocks) (sym v)
 blocks_read_back o (documents.block b bs) found h w v = some_read_back o (documents.block b bs) found tt h w v
 
 -- ---- definitions don't show
@@ -185,8 +185,9 @@ item_before g sign number c (listed f other start t items rest) h i = go (sign =
     go true e = rw e refl
     go false e = rw e refl
 
-part_before : (refs : References) (reads : List ℕ → Inlines) (g : Bool) (p : Part) (r h : Gapped) → IsHidden h
-    → with_part refs reads g p (before_hidden r h) ≡ before_hidden (with_part refs reads g p r) h
+part_before : (refs : References) (reads : List ℕ → Inlines) (g : Bool) (p : ClosedBlock) (r h : Gapped)
+    → IsHidden h
+    → with_closed_block refs reads g p (before_hidden r h) ≡ before_hidden (with_closed_block refs reads g p r) h
 part_before refs reads g (text s) r h i = refl
 part_before refs reads g (headed level s) r h i = refl
 part_before refs reads g (code language s) r h i = refl
@@ -198,15 +199,15 @@ part_before refs reads g (boxed quoting ps) r h i = refl
 part_before refs reads g (boxed (listing sign number columns) ps) r h i =
     item_before g sign number (item_gapped refs ps) r h i
 
-gapped_before : (refs : References) (ps qs : Parts) → IsHidden (gapped refs qs)
+gapped_before : (refs : References) (ps qs : ClosedBlocks) → IsHidden (gapped refs qs)
     → gapped refs (joined ps qs) ≡ before_hidden (gapped refs ps) (gapped refs qs)
-gapped_before refs no_parts qs i = refl
-gapped_before refs (part g p ps) qs i =
-    ap (with_part refs (inlines refs) g p) (gapped_before refs ps qs i)
+gapped_before refs no_closed_blocks qs i = refl
+gapped_before refs (closed_block g p ps) qs i =
+    ap (with_closed_block refs (inlines refs) g p) (gapped_before refs ps qs i)
     ∙ part_before refs (inlines refs) g p (gapped refs ps) (gapped refs qs) i
 
 definitions_hidden : (refs : References) (g : Bool) (found : List Definition)
-    → IsHidden (gapped refs (definition_parts g found no_parts))
+    → IsHidden (gapped refs (definition_parts g found no_closed_blocks))
 definitions_hidden refs g [] = tt
 definitions_hidden refs g (d ∷ ds) = definitions_hidden refs false ds
 
@@ -214,7 +215,7 @@ pub lists_read_back : ListsReadBack
 lists_read_back o d found h w v =
     let ps = parts_with o d found in
     let refs = collected ps in
-    let ds = definition_parts true found no_parts in
+    let ds = definition_parts true found no_closed_blocks in
     let i = definitions_hidden refs true found in
     ap finished (blocks_read_back o d found h w v)
     ∙ ap plain (gapped_before refs (document_parts o d) ds i)

@@ -26,7 +26,7 @@ use Rattle.htmd_commonmark.specs.BlockMarkdown.{
   further_items,
 }
 use Rattle.htmd_commonmark.specs.BlockMarkdown as writing
-use Rattle.htmd_commonmark_reading.specs.Boxes.{quoting, listing, Part, text, headed, code, rule, grid, boxed, Parts, no_parts, part}
+use Rattle.htmd_commonmark_reading.specs.Boxes.{quoting, listing, ClosedBlock, text, headed, code, rule, grid, boxed, ClosedBlocks, no_closed_blocks, closed_block}
 use Rattle.htmd_commonmark_laws.specs.LineTexts.{lines_of}
 use Rattle.htmd_commonmark_laws.specs.DocumentParts.{
   paragraph_text,
@@ -56,8 +56,8 @@ marker_at markers k =
 abbrev pub fewer_spaces : Markers → ℕ → ℕ
 fewer_spaces markers k = writing.spaces markers k - 1
 
-abbrev pub flat_piece : List ℕ → Part → Piece
-flat_piece s p = pieces.flat (lines_of s) p no_parts
+abbrev pub flat_piece : List ℕ → ClosedBlock → Piece
+flat_piece s p = pieces.flat (lines_of s) p no_closed_blocks
 
 abbrev mutual
   pub first_pieces : DocumentOptions → Place → List (List ℕ) → Blocks → Pieces
@@ -187,25 +187,26 @@ mutual
       (further_same o p after es rest h.1)
 
   block_same : (o : DocumentOptions) (p : Place) (before : Option Sign) (ds : List (List ℕ)) (g : Bool) (b : Block)
-      (rest : Pieces) (rs : Parts) → IsNormalBlock b → pieces_parts rest ≡ rs
+      (rest : Pieces) (rs : ClosedBlocks) → IsNormalBlock b → pieces_parts rest ≡ rs
       → pieces_parts (block_pieces o p before ds g b rest) ≡ block_parts o p before ds g b rs
-  block_same o p before ds g (paragraph content) rest rs h e = ap (part g (text (paragraph_text o ds content))) e
+  block_same o p before ds g (paragraph content) rest rs h e = ap (closed_block g (text (paragraph_text o ds content)))
+      e
   block_same o p before ds g (heading level content) rest rs h e =
-      ap (part g (headed level (heading_text o ds level content))) e
-  block_same o p before ds g (code_block language s) rest rs h e = ap (part g (code language s)) e
+      ap (closed_block g (headed level (heading_text o ds level content))) e
+  block_same o p before ds g (code_block language s) rest rs h e = ap (closed_block g (code language s)) e
   block_same o p before ds g (quote content) rest rs h e =
-      ap (λ (x : Parts). part g (boxed quoting x) (pieces_parts rest))
+      ap (λ (x : ClosedBlocks). closed_block g (boxed quoting x) (pieces_parts rest))
       (first_same o (place_in_quote p.in_item) ds content h.1)
-      ∙ ap (part g (boxed quoting (first_parts o (place_in_quote p.in_item) ds content))) e
-  block_same o p before ds g thematic_break rest rs h e = ap (part g rule) e
+      ∙ ap (closed_block g (boxed quoting (first_parts o (place_in_quote p.in_item) ds content))) e
+  block_same o p before ds g thematic_break rest rs h e = ap (closed_block g rule) e
   block_same o p before ds g (list start t items) rest rs h e =
       items_same o (markers_of o before p.outer start (item_count items)) t 0 ds g items rest rs h.2 e
   block_same o p before ds g (table alignments header rows) rest rs h e =
-      ap (part g (grid alignments (cell_texts o ds header) (row_texts o (after_cells o ds header) rows))) e
+      ap (closed_block g (grid alignments (cell_texts o ds header) (row_texts o (after_cells o ds header) rows))) e
 
   items_same : (o : DocumentOptions) (m : Markers) (t : Bool) (k : ℕ) (ds : List (List ℕ)) (g : Bool)
       (items : Items)
-      (rest : Pieces) (rs : Parts) → AreNormalItems t items → pieces_parts rest ≡ rs
+      (rest : Pieces) (rs : ClosedBlocks) → AreNormalItems t items → pieces_parts rest ≡ rs
       → pieces_parts (item_pieces o m t k ds g items rest) ≡ item_parts o m t k ds g items rs
   items_same o m t k ds g no_items rest rs h e = e
   items_same o m t k ds g (item first others) rest rs h e =
@@ -213,11 +214,11 @@ mutual
       let es = (written_blocks o p ds first).definitions in
       let more = item_pieces o m t (suc k) es (not t) others rest in
       let kind = λ (c : ℕ). listing (item_sign m) (item_number m k) c in
-      ap (λ (c : ℕ). part g (boxed (kind c) (pieces_parts (first_pieces o p ds first))) (pieces_parts more))
+      ap (λ (c : ℕ). closed_block g (boxed (kind c) (pieces_parts (first_pieces o p ds first))) (pieces_parts more))
       (same_columns o m t k ds first h.1)
-      ∙ ap (λ (x : Parts). part g (boxed (kind (item_columns m k first)) x) (pieces_parts more))
+      ∙ ap (λ (x : ClosedBlocks). closed_block g (boxed (kind (item_columns m k first)) x) (pieces_parts more))
       (first_same o p ds first h.1)
-      ∙ ap (part g (boxed (kind (item_columns m k first)) (first_parts o p ds first)))
+      ∙ ap (closed_block g (boxed (kind (item_columns m k first)) (first_parts o p ds first)))
       (items_same o m t (suc k) es (not t) others rest rs h.2 e)
 
 -- ---- text
@@ -231,7 +232,7 @@ HasGap g no_pieces = ⊥
 HasGap g (piece f p ps) = f ≡ g
 
 -- one piece's text before the others
-flat_text : (g : Bool) (s : List ℕ) (p : Part) (rest : Pieces)
+flat_text : (g : Bool) (s : List ℕ) (p : ClosedBlock) (rest : Pieces)
     → pieces_text (piece g (flat_piece s p) rest) ≡ s ++ further_text rest
 flat_text g s p rest = ap (λ (x : List ℕ). x ++ further_text rest) (lines_back s)
 

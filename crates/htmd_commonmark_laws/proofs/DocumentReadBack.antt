@@ -39,7 +39,7 @@ use Rattle.htmd_commonmark.specs.TableLines.{with_escaped_bars, table_text}
 use Rattle.htmd_commonmark.specs.BlockMarkdown as writing
 use Rattle.htmd_commonmark.specs.DocumentMarkdown.{outermost}
 use Rattle.htmd_commonmark_reading.specs.Lines.{spaces}
-use Rattle.htmd_commonmark_reading.specs.Boxes.{Part, text, headed, code, rule, grid}
+use Rattle.htmd_commonmark_reading.specs.Boxes.{ClosedBlock, text, headed, code, rule, grid}
 use Rattle.htmd_commonmark_reading.specs.BlockStarts.{under}
 use Rattle.htmd_commonmark_laws.specs.LineTexts.{IsBlack, IsNotOf, lines_of}
 use Rattle.htmd_commonmark_laws.specs.DocumentParts.{paragraph_text, heading_text, cell_texts, after_cells, row_texts, item_sign, item_number}
@@ -269,7 +269,7 @@ to_after : (g : Bool) (ps : Pieces) → g ≡ true → FirstGood g ps → AfterG
 to_after g no_pieces e h = absurd h
 to_after g (piece f p ps) e h = ((λ m. (with_gap f (h.0 ∙ e) m p, h.1, h.2)), (h.3, h.4))
 
-flat_first : (g : Bool) (s : List ℕ) (p : Part) (rest : Pieces) → Flat s p → AfterGood rest
+flat_first : (g : Bool) (s : List ℕ) (p : ClosedBlock) (rest : Pieces) → Flat s p → AfterGood rest
     → FirstGood g (piece g (flat_piece s p) rest)
 flat_first g s p rest f r = (refl, f.reads, r.0 false, (f.clean, f.full), r.1)
 

@@ -22,13 +22,13 @@ use Rattle.htmd_commonmark.specs.BlockMarkdown as writing
 use Rattle.htmd_commonmark_reading.specs.Characters.{is_space_or_tab, stripped, stripped_end}
 use Rattle.htmd_commonmark_reading.specs.Lines.{line, indent_at}
 use Rattle.htmd_commonmark_reading.specs.LinkDefinitions.{Definitions, definitions}
-use Rattle.htmd_commonmark_reading.specs.Boxes.{Part, text, headed, code, rule, grid, no_parts, part, leaf, fenced, fitted_rows, joined_lines, parts_of, language}
+use Rattle.htmd_commonmark_reading.specs.Boxes.{ClosedBlock, text, headed, code, rule, grid, no_closed_blocks, closed_block, leaf, fenced, fitted_rows, joined_lines, parts_of, language}
 use Rattle.htmd_commonmark_reading.specs.BlockStarts.{alone, under, started, first_line, no_start, is_same, fence_start, fence_with, closes_fence}
 use Rattle.htmd_commonmark_reading.specs.Tables.{cells}
 use Rattle.htmd_commonmark_reading.specs.LeafBlocks.{underline_of, is_row, is_header}
 use Rattle.htmd_commonmark_reading.specs.LeafBlocks as reading
 use Rattle.htmd_commonmark_laws.proofs.LeavesLemmas as leaves
-use Rattle.htmd_commonmark_laws.specs.LineTexts.{IsBlack, IsNotOf, is_plain, lines_of, IsFirstLine, AreFurtherLines, AreTextLines, IsLineText, IsHeadingText, IsUnderlinedText}
+use Rattle.htmd_commonmark_laws.specs.LineTexts.{IsBlack, IsNotOf, is_line_character, lines_of, IsFirstLine, AreFurtherLines, AreTextLines, IsLineText, IsHeadingText, IsUnderlinedText}
 use Rattle.htmd_commonmark_laws.specs.NormalBlocks.{HasLanguage, is_level}
 use Rattle.htmd_commonmark_laws.proofs.LinesLemmas.{black_indent}
 use Rattle.htmd_commonmark_laws.proofs.EndsLemmas.{stripped_end_black, stripped_black}
@@ -40,16 +40,17 @@ use Rattle.htmd_commonmark_laws.proofs.TablesLemmas.{IsSomeCells, AreBarred, Tab
 use Rattle.htmd_commonmark_laws.proofs.TextsLemmas.{IsClean, AreClean, IsSome, IsFull, full_append, clean_append, are_clean_append, written_one, written_last, written_lines, clean_lines, joined_append, joined_onto}
 
 -- the text of a block, with what it is read as
-pub record Flat (s : List ℕ) (p : Part) : Type 0 where
-  pub reads : FlatReads (lines_of s) p no_parts
+pub record Flat (s : List ℕ) (p : ClosedBlock) : Type 0 where
+  pub reads : FlatReads (lines_of s) p no_closed_blocks
   pub clean : AreClean (lines_of s)
   pub full : IsFull (lines_of s)
 
-flat_by : (s : List ℕ) (ls : List (List ℕ)) (p : Part) → lines_of s ≡ ls → FlatReads ls p no_parts
+flat_by : (s : List ℕ) (ls : List (List ℕ)) (p : ClosedBlock) → lines_of s ≡ ls
+    → FlatReads ls p no_closed_blocks
     → AreClean ls
     → IsFull ls → Flat s p
 flat_by s ls p e r c f = record {
-  reads = subst (λ (x : List (List ℕ)). FlatReads x p no_parts) (sym e) r;
+  reads = subst (λ (x : List (List ℕ)). FlatReads x p no_closed_blocks) (sym e) r;
   clean = subst AreClean (sym e) c;
   full = subst IsFull (sym e) f;
 }
@@ -92,7 +93,7 @@ black_some : (l : List ℕ) → IsBlack l → IsSome l
 black_some [] h = absurd h
 black_some (c ∷ s) h = tt
 
-pub one_clean : (s : List ℕ) → list_all is_plain s ≡ true → lines_of s ≡ s ∷ [] → IsClean s
+pub one_clean : (s : List ℕ) → list_all is_line_character s ≡ true → lines_of s ≡ s ∷ [] → IsClean s
 one_clean s p e = let w : AreClean (s ∷ []) = subst AreClean e (clean_lines s p) in w.0
 
 -- ---- paragraphs
@@ -107,7 +108,7 @@ joined_is_some [] ls s b e = absurd b
 joined_is_some (c ∷ l) ls s b e = ap is_empty (sym e)
 
 whole_parts : (g : Bool) (s : List ℕ) → is_empty s ≡ false → definitions s ≡ record { found = []; rest = s }
-    → parts_of g text (definitions s) ≡ part g (text s) no_parts
+    → parts_of g text (definitions s) ≡ closed_block g (text s) no_closed_blocks
 whole_parts g s e w = ap (λ (d : Definitions). parts_of g text d) w ∙ rw e refl
 
 pub paragraph_flat : (s : List ℕ) → IsLineText s → Flat s (text s)
@@ -119,7 +120,7 @@ paragraph_flat s h = go (lines_of s) refl h.lines
         let back : joined_lines (l ∷ ls) ≡ s = ap joined_lines (sym e) ∙ lines_back s in
         let some = joined_is_some l ls s t.0.black back in
         flat_by s (l ∷ ls) (text s) e
-        (paragraph_reads l ls (text s) no_parts record {
+        (paragraph_reads l ls (text s) no_closed_blocks record {
           first = t.0;
           further = t.1;
           leaves = λ g. ap (λ (x : List ℕ). parts_of g text (definitions x)) back ∙ whole_parts g s some h.whole;
@@ -310,7 +311,7 @@ some_run : (c m : ℕ) → IsSome (replicate (suc m) c)
 some_run c m = tt
 
 code_by : (c m : ℕ) (word : Option (List ℕ)) (info s : List ℕ) → IsFenceSign c → IsInfo c info word
-    → nat_le 3 (suc m) ≡ true → list_all is_plain s ≡ true → StaysOpen c (suc m) (lines_of s)
+    → nat_le 3 (suc m) ≡ true → list_all is_line_character s ≡ true → StaysOpen c (suc m) (lines_of s)
     → Flat (between_fences (replicate (suc m) c) info s) (code word s)
 code_by c m word info s f i three p w =
     let u = replicate (suc m) c in
@@ -323,7 +324,7 @@ code_by c m word info s f i three p w =
     ap (λ (x : Option (List ℕ)). code x (joined_lines ls)) i.is_word ∙ ap (code word) (lines_back s) in
     flat_by (between_fences u info s) (o ∷ (ls ++ (u ∷ []))) (code word s)
     (ap lines_of (between_text u info s) ∙ written_lines o (ls ++ (u ∷ [])) a)
-    (subst (λ (x : Part). FlatReads (o ∷ (ls ++ (u ∷ []))) x no_parts) e
+    (subst (λ (x : ClosedBlock). FlatReads (o ∷ (ls ++ (u ∷ []))) x no_closed_blocks) e
     (fence_reads c (suc m) o u info ls (fence_is c m info word f i three) w))
     a (full_append (o ∷ ls) (u ∷ []) (some_run c m))
 
@@ -369,7 +370,7 @@ three_at_least c s = go (longest_run c s + 1)
     go n = (grind (arith, nat_tests), omega arith)
 
 code_with : (c : ℕ) (word : Option (List ℕ)) (s : List ℕ) → IsFenceSign c → IsInfo c (info_string word) word
-    → list_all is_plain s ≡ true → StaysOpen c (fence_len c s) (lines_of s)
+    → list_all is_line_character s ≡ true → StaysOpen c (fence_len c s) (lines_of s)
     → Flat (between_fences (replicate (fence_len c s) c) (info_string word) s) (code word s)
 code_with c word s f i p w =
     let t = three_at_least c s in
@@ -384,7 +385,7 @@ fence_stays c s =
     stays_open c (fence_len c s) (lines_of s) (omega (arith, e))
 
 pub code_flat : (style : CodeBlockFence) (word : Option (List ℕ)) (s : List ℕ) → HasLanguage word
-    → list_all is_plain s ≡ true → Flat (fences.fence s word style) (code word s)
+    → list_all is_line_character s ≡ true → Flat (fences.fence s word style) (code word s)
 code_flat Tildes word s h p = code_with 126 word s tilde_sign (tilde_info word h) p (fence_stays 126 s)
 code_flat Backticks word s h p = code_with 96 word s accent_sign (accent_info word h) p (fence_stays 96 s)
 
@@ -457,7 +458,7 @@ table_flat al hs rows s t n some =
       rows = table_rows rs t.below_bars;
     } in
     flat_by s (h ∷ d ∷ rs) (grid al hs rows) t.is
-    (subst (λ (x : Part). FlatReads (h ∷ d ∷ rs) x no_parts) same (table_reads al h d rs is))
+    (subst (λ (x : ClosedBlock). FlatReads (h ∷ d ∷ rs) x no_closed_blocks) same (table_reads al h d rs is))
     t.clean (rows_full d rs under.black t.below_bars)
 
 -- ---- the first line after a bullet

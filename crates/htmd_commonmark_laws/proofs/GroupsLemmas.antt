@@ -24,7 +24,7 @@ use Rattle.htmd_commonmark.specs.BlockMarkdown.{
   written_block,
 }
 use Rattle.htmd_commonmark.specs.DocumentMarkdown.{outermost}
-use Rattle.htmd_commonmark_reading.specs.Boxes.{Parts, no_parts, part}
+use Rattle.htmd_commonmark_reading.specs.Boxes.{ClosedBlocks, no_closed_blocks, closed_block}
 use Rattle.htmd_commonmark_reading.specs.Brackets.{References, inlines}
 use Rattle.htmd_commonmark_reading.specs.Lists.{
   Gapped,
@@ -37,7 +37,7 @@ use Rattle.htmd_commonmark_reading.specs.Lists.{
   inner_gap,
   one_item,
   with_item,
-  with_part,
+  with_closed_block,
   gapped,
   item_gapped,
   item_text,
@@ -281,21 +281,22 @@ still_tight false true h = refl
 still_tight false false h = absurd (cc)
 
 -- closed blocks of which the first is read so
-abbrev gap_first : References → (List ℕ → Inlines) → Parts → Gapped
-gap_first refs reads no_parts = no_gapped
-gap_first refs reads (part g p ps) = with_part refs reads g p (gapped refs ps)
+abbrev gap_first : References → (List ℕ → Inlines) → ClosedBlocks → Gapped
+gap_first refs reads no_closed_blocks = no_gapped
+gap_first refs reads (closed_block g p ps) = with_closed_block refs reads g p (gapped refs ps)
 
-gapped_first : (refs : References) (ps : Parts) → gapped refs ps ≡ gap_first refs (inlines refs) ps
-gapped_first refs no_parts = refl
-gapped_first refs (part g p ps) = refl
+gapped_first : (refs : References) (ps : ClosedBlocks) → gapped refs ps ≡ gap_first refs (inlines refs) ps
+gapped_first refs no_closed_blocks = refl
+gapped_first refs (closed_block g p ps) = refl
 
-item_gapped_first : (refs : References) (ps : Parts) → item_gapped refs ps ≡ gap_first refs (item_text refs) ps
-item_gapped_first refs no_parts = refl
-item_gapped_first refs (part g p ps) = refl
+item_gapped_first : (refs : References) (ps : ClosedBlocks) → item_gapped refs ps
+    ≡ gap_first refs (item_text refs) ps
+item_gapped_first refs no_closed_blocks = refl
+item_gapped_first refs (closed_block g p ps) = refl
 
 -- an item is no text
 item_first : (refs : References) (reads : List ℕ → Inlines) (o : DocumentOptions) (m : Markers) (t : Bool)
-    (ds : List (List ℕ)) (g : Bool) (items : documents.Items) (rs : Parts) → HasItem items
+    (ds : List (List ℕ)) (g : Bool) (items : documents.Items) (rs : ClosedBlocks) → HasItem items
     → gap_first refs reads (item_parts o m t 0 ds g items rs) ≡ gapped refs (item_parts o m t 0 ds g items rs)
 item_first refs reads o m t ds g documents.no_items rs h = absurd h
 item_first refs reads o m t ds g (documents.item first others) rs h = refl
@@ -326,7 +327,7 @@ item_merged g sign number other c d rs rest l x r bs items e f i p =
 
 mutual
   block_grouped : (refs : References) (reads : List ℕ → Inlines) (o : DocumentOptions) (p : Place)
-      (before : Option Sign) (ds : List (List ℕ)) (g : Bool) (b : documents.Block) (rs : Parts) (rest : Gapped)
+      (before : Option Sign) (ds : List (List ℕ)) (g : Bool) (b : documents.Block) (rs : ClosedBlocks) (rest : Gapped)
       → IsNormalBlock b → gapped refs rs ≡ rest → IsAfter (sign_of o before p.outer b) rest
       → gap_first refs reads (block_parts o p before ds g b rs) ≡ block_gaps refs reads o p before ds g b rest
   block_grouped refs reads o p before ds g (documents.paragraph content) rs rest h e a =
@@ -383,7 +384,8 @@ mutual
       (further_grouped refs o p after es rest n h.1) (further_apart refs o p after es rest n)
 
   items_grouped : (refs : References) (o : DocumentOptions) (m : Markers) (t : Bool) (k : ℕ) (ds : List (List ℕ))
-      (g : Bool) (items : documents.Items) (rs : Parts) (rest : Gapped) → HasItem items → AreNormalItems t items
+      (g : Bool) (items : documents.Items) (rs : ClosedBlocks) (rest : Gapped) → HasItem items
+      → AreNormalItems t items
       → gapped refs rs ≡ rest → IsApartFrom (item_sign m) rest
       → gapped refs (item_parts o m t k ds g items rs)
       ≡ listed g (item_sign m) (item_number m k) (not (not t && is_spread items)) (items_read refs o m t ds items)

@@ -9,7 +9,7 @@ use Rattle.htmd_commonmark_reading.specs.Characters.{is_space_or_tab, stripped_e
 use Rattle.htmd_commonmark_reading.specs.Lines.{Line, line, is_blank, cut}
 use Rattle.htmd_commonmark_reading.specs.LinkDefinitions.{Definitions, definitions}
 use Rattle.htmd_commonmark_reading.specs.Tables.{cells}
-use Rattle.htmd_commonmark_reading.specs.Boxes.{Part, text, headed, code, rule, grid, Parts, no_parts, part, Leaf, paragraph, fenced, table, nothing, leaf, Box, box, joined, joined_lines, parts_of, closed_leaf, fitted_rows, language}
+use Rattle.htmd_commonmark_reading.specs.Boxes.{ClosedBlock, text, headed, code, rule, grid, ClosedBlocks, no_closed_blocks, closed_block, Leaf, paragraph, fenced, table, nothing, leaf, Box, box, joined, joined_lines, parts_of, closed_leaf, fitted_rows, language}
 use Rattle.htmd_commonmark_reading.specs.BlockStarts.{alone, under, Start, no_start, whole, first_line, opened, started, is_same, heading_text, closes_fence}
 use Rattle.htmd_commonmark_reading.specs.LeafBlocks.{begun, on_underline, on_text, table_or_text, delimiter_row_of, underline, underline_of, is_header, ended, with_leaf, after_leaf, on_table, is_row}
 use Rattle.htmd_commonmark_reading.specs.Containers.{holds_nothing, fed, fed_all}
@@ -21,20 +21,23 @@ use Rattle.htmd_commonmark_laws.proofs.PiecesLemmas.{FlatReads, Safe, safe_appen
 
 -- ---- one line that is all
 
-ends_whole : (done : Parts) (g : Bool) (p : Part) (b : Box) → b ≡ box (joined done (part g p no_parts)) false
+ends_whole : (done : ClosedBlocks) (g : Bool) (p : ClosedBlock) (b : Box) → b
+    ≡ box (joined done (closed_block g p no_closed_blocks)) false
     nothing
-    → Ends false b (joined done (part g p no_parts))
+    → Ends false b (joined done (closed_block g p no_closed_blocks))
 ends_whole done g p b e =
-    let qs = joined done (part g p no_parts) in
+    let qs = joined done (closed_block g p no_closed_blocks) in
     subst (λ (x : Box). Ends false x qs) (sym e)
     record { parts = joined_none qs; calm = tt; filled = refl; in_box = tt }
 
-whole_fed : (done : Parts) (g : Bool) (x : Line) (p : Part) → is_blank x ≡ false → started alone x ≡ whole p
-    → fed done g nothing x ≡ box (joined done (part g p no_parts)) false nothing
+whole_fed : (done : ClosedBlocks) (g : Bool) (x : Line) (p : ClosedBlock) → is_blank x ≡ false → started alone x
+    ≡ whole p
+    → fed done g nothing x ≡ box (joined done (closed_block g p no_closed_blocks)) false nothing
 whole_fed done g x p b e = rw b (ap (λ (s : Start). opened done g x s) e)
 
-pub whole_reads : (l : List ℕ) (p : Part) → IsBlack l → ((k : ℕ) → started alone (line k l) ≡ whole p)
-    → FlatReads (l ∷ []) p no_parts
+pub whole_reads : (l : List ℕ) (p : ClosedBlock) → IsBlack l
+    → ((k : ℕ) → started alone (line k l) ≡ whole p)
+    → FlatReads (l ∷ []) p no_closed_blocks
 whole_reads l p b h = record {
   reads = λ k done g. ends_whole done g p (fed done g nothing (line (k zero) l))
       (whole_fed done g (line (k zero) l) p (not_blank l b) (h (k zero)));
@@ -47,13 +50,13 @@ whole_reads l p b h = record {
 abbrev pub rule_line : ℕ → List ℕ
 rule_line c = c ∷ 32 ∷ c ∷ 32 ∷ c ∷ []
 
-pub asterisks_read : FlatReads (rule_line 42 ∷ []) rule no_parts
+pub asterisks_read : FlatReads (rule_line 42 ∷ []) rule no_closed_blocks
 asterisks_read = whole_reads (rule_line 42) rule refl (λ k. refl)
 
-pub hyphens_read : FlatReads (rule_line 45 ∷ []) rule no_parts
+pub hyphens_read : FlatReads (rule_line 45 ∷ []) rule no_closed_blocks
 hyphens_read = whole_reads (rule_line 45) rule refl (λ k. refl)
 
-pub underscores_read : FlatReads (rule_line 95 ∷ []) rule no_parts
+pub underscores_read : FlatReads (rule_line 95 ∷ []) rule no_closed_blocks
 underscores_read = whole_reads (rule_line 95) rule refl (λ k. refl)
 
 -- ---- headings (4.2)
@@ -67,7 +70,7 @@ heading_whole level s t e x f = f ∙ ap (λ (u : List ℕ). whole (headed level
 
 pub heading_reads : (level : ℕ) (s : List ℕ) → nat_le 1 level ≡ true → nat_le level 6 ≡ true
     → heading_text s ≡ s
-    → FlatReads (heading_line level s ∷ []) (headed level s) no_parts
+    → FlatReads (heading_line level s ∷ []) (headed level s) no_closed_blocks
 heading_reads zero s a b h = absurd (cc)
 heading_reads (suc zero) s a b h =
     whole_reads (heading_line 1 s) (headed 1 s) refl (λ k. heading_whole 1 s s h
@@ -93,7 +96,7 @@ heading_reads (suc (suc (suc (suc (suc (suc (suc n))))))) s a b h =
 
 -- ---- paragraphs (4.8)
 
-first_text : (done : Parts) (g : Bool) (k : ℕ) (l : List ℕ) → IsFirstLine l
+first_text : (done : ClosedBlocks) (g : Bool) (k : ℕ) (l : List ℕ) → IsFirstLine l
     → fed done g nothing (line k l) ≡ box done g (leaf (paragraph [] l))
 first_text done g k l h =
     let x = line k l in
@@ -105,7 +108,8 @@ first_text done g k l h =
         → begun done g (line k l) (started alone (line k l)) ≡ opened done g (line k l) (started alone (line k l))
     not_blank_begun b = rw b refl
 
-further_text : (done : Parts) (g : Bool) (earlier : List (List ℕ)) (last : List ℕ) (k : ℕ) (l : List ℕ) →
+further_text : (done : ClosedBlocks) (g : Bool) (earlier : List (List ℕ)) (last : List ℕ) (k : ℕ) (l : List ℕ)
+    →
     IsFurtherLine l
     → fed done g (leaf (paragraph earlier last)) (line k l)
     ≡ box done g (leaf (paragraph (earlier ++ (last ∷ [])) l))
@@ -123,7 +127,7 @@ abbrev grown : List (List ℕ) → List ℕ → List (List ℕ) → Leaf
 grown earlier last [] = paragraph earlier last
 grown earlier last (l ∷ ls) = grown (earlier ++ (last ∷ [])) l ls
 
-further_texts : (ls earlier : List (List ℕ)) (last : List ℕ) (k : Columns) (done : Parts) (g : Bool)
+further_texts : (ls earlier : List (List ℕ)) (last : List ℕ) (k : Columns) (done : ClosedBlocks) (g : Bool)
     → AreFurtherLines ls
     → (fed_all (box done g (leaf (paragraph earlier last))) (place k ls) ≡ box done g
     (leaf (grown earlier last ls)))
@@ -149,24 +153,25 @@ grown_closed (l ∷ ls) earlier last g =
     (append_assoc earlier (last ∷ []) (l ∷ ls))
 
 -- the lines of a paragraph that leaves these parts
-pub record IsParagraph (l : List ℕ) (ls : List (List ℕ)) (p : Part) (more : Parts) : Type 0 where
+pub record IsParagraph (l : List ℕ) (ls : List (List ℕ)) (p : ClosedBlock) (more : ClosedBlocks) : Type 0 where
   pub first : IsFirstLine l
   pub further : AreFurtherLines ls
-  pub leaves : (g : Bool) → parts_of g text (definitions (joined_lines (l ∷ ls))) ≡ part g p more
+  pub leaves : (g : Bool) → parts_of g text (definitions (joined_lines (l ∷ ls))) ≡ closed_block g p more
 
-ends_grown : (done : Parts) (g : Bool) (ls earlier : List (List ℕ)) (last : List ℕ) (qs : Parts)
+ends_grown : (done : ClosedBlocks) (g : Bool) (ls earlier : List (List ℕ)) (last : List ℕ) (qs : ClosedBlocks)
     → joined done (closed_leaf g (grown earlier last ls)) ≡ qs
     → Ends false (box done g (leaf (grown earlier last ls))) qs
 ends_grown done g [] earlier last qs e = record { parts = e; calm = tt; filled = refl; in_box = tt }
 ends_grown done g (l ∷ ls) earlier last qs e = ends_grown done g ls (earlier ++ (last ∷ [])) l qs e
 
-pub paragraph_reads : (l : List ℕ) (ls : List (List ℕ)) (p : Part) (more : Parts) → IsParagraph l ls p more
+pub paragraph_reads : (l : List ℕ) (ls : List (List ℕ)) (p : ClosedBlock) (more : ClosedBlocks)
+    → IsParagraph l ls p more
     → FlatReads (l ∷ ls) p more
 paragraph_reads l ls p more h = record {
-  reads = λ k done g. subst (λ (x : Box). Ends false x (joined done (part g p more)))
+  reads = λ k done g. subst (λ (x : Box). Ends false x (joined done (closed_block g p more)))
       (sym (step k done g ∙ (further_texts ls [] l (tail k) done g h.further).0))
-      (ends_grown done g ls [] l (joined done (part g p more))
-      (ap (λ (ps : Parts). joined done ps) (grown_closed ls [] l g ∙ h.leaves g)));
+      (ends_grown done g ls [] l (joined done (closed_block g p more))
+      (ap (λ (ps : ClosedBlocks). joined done ps) (grown_closed ls [] l g ∙ h.leaves g)));
   safe = λ k done g. (
     (λ f. absurd (let w = not_blank l h.first.black in cc)),
     subst (λ (x : Box). Safe x (place (tail k) ls)) (sym (first_text done g (k zero) l h.first))
@@ -175,7 +180,7 @@ paragraph_reads l ls p more h = record {
   black = h.first.black;
 }
   where
-    step : (k : Columns) (done : Parts) (g : Bool) → fed_all (box done g nothing) (place k (l ∷ ls))
+    step : (k : Columns) (done : ClosedBlocks) (g : Bool) → fed_all (box done g nothing) (place k (l ∷ ls))
         ≡ fed_all (box done g (leaf (paragraph [] l))) (place (tail k) ls)
     step k done g = ap (λ (x : Box). fed_all x (place (tail k) ls)) (first_text done g (k zero) l h.first)
 
@@ -210,9 +215,10 @@ pub record IsHeadingLine (l : List ℕ) : Type 0 where
   pub first : IsFirstLine l
   pub whole : definitions (joined_lines (l ∷ [])) ≡ record { found = []; rest = l }
 
-underlined_fed : (done : Parts) (g : Bool) (level k : ℕ) (l u : List ℕ) → IsHeadingLine l → IsBlack u
+underlined_fed : (done : ClosedBlocks) (g : Bool) (level k : ℕ) (l u : List ℕ) → IsHeadingLine l → IsBlack u
     → underline_of (line k u) ≡ Some level
-    → fed done g (leaf (paragraph [] l)) (line k u) ≡ box (joined done (part g (headed level l) no_parts)) false
+    → fed done g (leaf (paragraph [] l)) (line k u)
+    ≡ box (joined done (closed_block g (headed level l) no_closed_blocks)) false
     nothing
 underlined_fed done g level k [] u h b e = absurd h.first.black
 underlined_fed done g level k (c ∷ s) u h b e =
@@ -224,7 +230,8 @@ underlined_fed done g level k (c ∷ s) u h b e =
     ∙ ap (λ (d : Definitions). on_underline done g (Some level) d o) h.whole
 
 pub underlined_reads : (level : ℕ) (l u : List ℕ) → IsHeadingLine l → IsBlack u
-    → ((k : ℕ) → underline_of (line k u) ≡ Some level) → FlatReads (l ∷ u ∷ []) (headed level l) no_parts
+    → ((k : ℕ) → underline_of (line k u) ≡ Some level)
+    → FlatReads (l ∷ u ∷ []) (headed level l) no_closed_blocks
 underlined_reads level l u h b e = record {
   reads = λ k done g. ends_whole done g (headed level l) (fed_all (box done g nothing) (place k (l ∷ u ∷ [])))
       (step k done g ∙ underlined_fed done g level (k (suc zero)) l u h b (e (k (suc zero))));
@@ -235,13 +242,13 @@ underlined_reads level l u h b e = record {
   black = h.first.black;
 }
   where
-    step : (k : Columns) (done : Parts) (g : Bool) → fed_all (box done g nothing) (place k (l ∷ u ∷ []))
+    step : (k : Columns) (done : ClosedBlocks) (g : Bool) → fed_all (box done g nothing) (place k (l ∷ u ∷ []))
         ≡ fed done g (leaf (paragraph [] l)) (line (k (suc zero)) u)
     step k done g = ap (λ (x : Box). fed_all x (place (tail k) (u ∷ []))) (first_text done g (k zero) l h.first)
 
 pub setext_reads : (level n : ℕ) (l : List ℕ) → nat_le 1 level ≡ true → nat_le level 2 ≡ true
     → IsHeadingLine l
-    → FlatReads (l ∷ replicate (suc n) (underline_sign level) ∷ []) (headed level l) no_parts
+    → FlatReads (l ∷ replicate (suc n) (underline_sign level) ∷ []) (headed level l) no_closed_blocks
 setext_reads zero n l a b h = absurd (cc)
 setext_reads (suc zero) n l a b h = underlined_reads 1 l (replicate (suc n) 61) h refl (λ k. (underlined_by k n).0)
 setext_reads (suc (suc zero)) n l a b h =
@@ -258,7 +265,8 @@ StaysOpen sign count [] = Unit {0}
 StaysOpen sign count (l ∷ ls) =
     ((k : ℕ) → closes_fence sign count (line k l) ≡ false) × StaysOpen sign count ls
 
-code_fed : (ls rows : List (List ℕ)) (sign count : ℕ) (info : List ℕ) (k : Columns) (done : Parts) (g : Bool)
+code_fed : (ls rows : List (List ℕ)) (sign count : ℕ) (info : List ℕ) (k : Columns) (done : ClosedBlocks)
+    (g : Bool)
     → StaysOpen sign count ls
     → (fed_all (box done g (leaf (fenced 0 sign count info rows))) (place k ls)
     ≡ box done g (leaf (fenced 0 sign count info (rows ++ ls))))
@@ -278,9 +286,9 @@ code_fed (l ∷ ls) rows sign count info k done g h =
       ((λ f. holds done), subst (λ (b : Box). Safe b (place (tail k) ls)) (sym e) r.1),
     )
   where
-    holds : (d : Parts) → holds_nothing d (leaf (fenced 0 sign count info rows)) ≡ false
-    holds no_parts = refl
-    holds (part g p ps) = refl
+    holds : (d : ClosedBlocks) → holds_nothing d (leaf (fenced 0 sign count info rows)) ≡ false
+    holds no_closed_blocks = refl
+    holds (closed_block g p ps) = refl
 
 -- how an opening and a closing fence are read
 pub record IsFence (sign count : ℕ) (opening closing info : List ℕ) : Type 0 where
@@ -289,24 +297,24 @@ pub record IsFence (sign count : ℕ) (opening closing info : List ℕ) : Type 0
   pub closes : (k : ℕ) → closes_fence sign count (line k closing) ≡ true
   pub closing_black : IsBlack closing
 
-open_fence : (done : Parts) (g : Bool) (k sign count : ℕ) (o c info : List ℕ) → IsFence sign count o c info
+open_fence : (done : ClosedBlocks) (g : Bool) (k sign count : ℕ) (o c info : List ℕ) → IsFence sign count o c info
     → fed done g nothing (line k o) ≡ box done g (leaf (fenced 0 sign count info []))
 open_fence done g k sign count o c info h =
     let x = line k o in
     let b : is_blank x ≡ false = not_blank o h.opening_black in
     rw b (ap (λ (s : Start). opened done g x s) (h.opens k))
 
-close_fence : (done : Parts) (g : Bool) (k sign count : ℕ) (o c info : List ℕ) (ls : List (List ℕ))
+close_fence : (done : ClosedBlocks) (g : Bool) (k sign count : ℕ) (o c info : List ℕ) (ls : List (List ℕ))
     → IsFence sign count o c info
     → fed done g (leaf (fenced 0 sign count info ls)) (line k c)
-    ≡ box (joined done (part g (code (language info) (joined_lines ls)) no_parts)) false nothing
+    ≡ box (joined done (closed_block g (code (language info) (joined_lines ls)) no_closed_blocks)) false nothing
 close_fence done g k sign count o c info ls h =
     ap (λ (b : Bool). if b then ended done g (fenced 0 sign count info ls)
     else with_leaf done g (fenced 0 sign count info (ls ++ ((cut 0 (line k c)).text ∷ [])))) (h.closes k)
 
 pub fence_reads : (sign count : ℕ) (o c info : List ℕ) (ls : List (List ℕ)) → IsFence sign count o c info
     → StaysOpen sign count ls
-    → FlatReads (o ∷ (ls ++ (c ∷ []))) (code (language info) (joined_lines ls)) no_parts
+    → FlatReads (o ∷ (ls ++ (c ∷ []))) (code (language info) (joined_lines ls)) no_closed_blocks
 fence_reads sign count o c info ls h w = record {
   reads = λ k done g. ends_whole done g (code (language info) (joined_lines ls))
       (fed_all (box done g nothing) (place k (o ∷ (ls ++ (c ∷ [])))))
@@ -345,7 +353,7 @@ pub record IsTable (alignments : List Alignment) (h d : List ℕ) (rs : List (Li
   pub fits : is_header h alignments ≡ true
   pub rows : AreRows rs
 
-delimiters_fed : (done : Parts) (g : Bool) (k : ℕ) (a : List Alignment) (h d : List ℕ) (rs : List (List ℕ))
+delimiters_fed : (done : ClosedBlocks) (g : Bool) (k : ℕ) (a : List Alignment) (h d : List ℕ) (rs : List (List ℕ))
     → IsTable a h d rs
     → fed done g (leaf (paragraph [] h)) (line k d) ≡ box done g (leaf (table a (cells h) []))
 delimiters_fed done g k a h d rs t =
@@ -362,7 +370,8 @@ delimiters_fed done g k a h d rs t =
         → table_or_text done g [] h (line k d) (Some a) ≡ box done g (leaf (table a (cells h) []))
     fitting f = rw f refl
 
-rows_fed : (rs ls : List (List ℕ)) (a : List Alignment) (h : List (List ℕ)) (k : Columns) (done : Parts) (g : Bool)
+rows_fed : (rs ls : List (List ℕ)) (a : List Alignment) (h : List (List ℕ)) (k : Columns) (done : ClosedBlocks)
+    (g : Bool)
     → AreRows rs
     → (fed_all (box done g (leaf (table a h ls))) (place k rs) ≡ box done g (leaf (table a h (ls ++ rs))))
     × Safe (box done g (leaf (table a h ls))) (place k rs)
@@ -388,10 +397,10 @@ rows_fed (r ∷ rs) ls a h k done g w =
         else after_leaf done g (table a h ls) (line (k zero) r) no_start) f
 
 pub table_reads : (a : List Alignment) (h d : List ℕ) (rs : List (List ℕ)) → IsTable a h d rs
-    → FlatReads (h ∷ d ∷ rs) (grid a (cells h) (fitted_rows (length a) rs)) no_parts
+    → FlatReads (h ∷ d ∷ rs) (grid a (cells h) (fitted_rows (length a) rs)) no_closed_blocks
 table_reads a h d rs t = record {
   reads = λ k done g.
-      let qs = joined done (part g (grid a (cells h) (fitted_rows (length a) rs)) no_parts) in
+      let qs = joined done (closed_block g (grid a (cells h) (fitted_rows (length a) rs)) no_closed_blocks) in
       subst (λ (b : Box). Ends false b qs)
       (sym (ap (λ (b : Box). fed_all b (place (tail (tail k)) rs))
       (steps k done g) ∙ (rows_fed rs [] a (cells h) (tail (tail k)) done g t.rows).0))
@@ -410,7 +419,7 @@ table_reads a h d rs t = record {
     second : Box → Columns → Box
     second b k = fed b.done b.gap b.inner (line (k (suc zero)) d)
 
-    steps : (k : Columns) (done : Parts) (g : Bool)
+    steps : (k : Columns) (done : ClosedBlocks) (g : Bool)
         → second (fed done g nothing (line (k zero) h)) k ≡ box done g (leaf (table a (cells h) []))
     steps k done g =
         ap (λ (b : Box). second b k) (first_text done g (k zero) h t.header)

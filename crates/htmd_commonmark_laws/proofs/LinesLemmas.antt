@@ -5,19 +5,19 @@ use Rattle.std.specs.Prelude.{◌==◌, ◌||◌, nat_le}
 use Rattle.htmd_grammar.specs.Characters.{space, tab}
 use Rattle.htmd_commonmark_reading.specs.Characters.{is_space_or_tab, past_blanks}
 use Rattle.htmd_commonmark_reading.specs.Lines.{Line, line, is_blank_text, no_white, width, indent_at, spaces, cut_at, marks, placed}
-use Rattle.htmd_commonmark_reading.specs.Boxes.{Parts, no_parts, part, joined, Box}
+use Rattle.htmd_commonmark_reading.specs.Boxes.{ClosedBlocks, no_closed_blocks, closed_block, joined, Box}
 use Rattle.htmd_commonmark_reading.specs.Containers.{fed, fed_all, goes_with_item}
 use Rattle.htmd_commonmark_laws.specs.LineTexts.{IsBlack}
 
 -- ---- parts
 
-pub joined_none : (ps : Parts) → joined ps no_parts ≡ ps
-joined_none no_parts = refl
-joined_none (part g p ps) = ap (part g p) (joined_none ps)
+pub joined_none : (ps : ClosedBlocks) → joined ps no_closed_blocks ≡ ps
+joined_none no_closed_blocks = refl
+joined_none (closed_block g p ps) = ap (closed_block g p) (joined_none ps)
 
-pub joined_assoc : (ps qs rs : Parts) → joined (joined ps qs) rs ≡ joined ps (joined qs rs)
-joined_assoc no_parts qs rs = refl
-joined_assoc (part g p ps) qs rs = ap (part g p) (joined_assoc ps qs rs)
+pub joined_assoc : (ps qs rs : ClosedBlocks) → joined (joined ps qs) rs ≡ joined ps (joined qs rs)
+joined_assoc no_closed_blocks qs rs = refl
+joined_assoc (closed_block g p ps) qs rs = ap (closed_block g p) (joined_assoc ps qs rs)
 
 -- ---- lines at some columns
 

@@ -9,7 +9,7 @@ use Rattle.htmd_grammar.specs.CharacterClasses.{leading_run, behind_run}
 use Rattle.htmd_grammar.specs.References.{number}
 use Rattle.htmd_commonmark_reading.specs.Characters.{is_space_or_tab, stripped, stripped_end}
 use Rattle.htmd_commonmark_reading.specs.Lines.{Line, line, is_blank, is_blank_text, cut_at, cut, indent, spaces, marks, after_marker}
-use Rattle.htmd_commonmark_reading.specs.Boxes.{listing, no_parts, nothing, within}
+use Rattle.htmd_commonmark_reading.specs.Boxes.{listing, no_closed_blocks, nothing, within}
 use Rattle.htmd_commonmark_reading.specs.BlockStarts.{After, alone, under, lazy, Start, no_start, first_line, started, started_by, is_same, is_rule, fresh, padding, behind_padding, may_begin, item_start, unless_rule, if_numbered, digits, number_of, delimiter, digit, sign}
 use Rattle.htmd_commonmark_reading.specs.LeafBlocks.{underline, underline_of}
 use Rattle.htmd_commonmark_laws.specs.LineTexts.{IsBlack, IsNotOf}
@@ -56,7 +56,7 @@ may_begin_empty lazy (Some n) x h = refl
 
 empty_started : (a : After) (c : ℕ) (number : Option ℕ) (before j : ℕ) (s : Start) → IsNotUnder a
     → item_start a c number before (line j []) s ≡ first_line
-    (within (listing c number (before + 1)) no_parts false nothing)
+    (within (listing c number (before + 1)) no_closed_blocks false nothing)
 empty_started a c number before j s h = rw (may_begin_empty a number (line j []) h) refl
 
 -- ---- bullets
@@ -115,7 +115,7 @@ marker_filled c i b a k n l w h q =
 marker_empty : (c : ℕ) → IsBulletSign c → is_rule c (c ∷ []) ≡ false → (a : After) (k : ℕ) → IsNotUnder
     a
     → started a (line k (c ∷ []))
-    ≡ first_line (within (listing c None (columns (bullet_marker c) 0)) no_parts false nothing)
+    ≡ first_line (within (listing c None (columns (bullet_marker c) 0)) no_closed_blocks false nothing)
 marker_empty c i r a k h =
     let s = started_by [] zero alone (behind_padding (line (k + 1) [])) in
     i a k [] ∙ unless_no_rule c (c ∷ []) (item_start a c None 1 (line (k + 1) []) s) r
@@ -336,7 +336,7 @@ number_filled a k n c d cs l i w h q =
 
 number_empty : (a : After) (k c d : ℕ) (cs : List ℕ) → IsNumber (c ∷ cs) d → IsNotUnder a
     → (let m = number_marker (c ∷ cs) d in
-    started a (line k m.text) ≡ first_line (within (listing d m.number (columns m 0)) no_parts false nothing))
+    started a (line k m.text) ≡ first_line (within (listing d m.number (columns m 0)) no_closed_blocks false nothing))
 number_empty a k c d cs i h =
     let m = number_marker (c ∷ cs) d in
     let j = k + suc (length (c ∷ cs)) in
@@ -344,7 +344,7 @@ number_empty a k c d cs i h =
     let e : suc (length (c ∷ cs)) + 0 + 1 ≡ columns m 0 = number_columns (c ∷ cs) d 0 in
     number_started a k c d cs [] i
     ∙ empty_started a d v (suc (length (c ∷ cs)) + 0) j (started_by [] zero alone (behind_padding (line j []))) h
-    ∙ ap (λ (u : ℕ). first_line (within (listing d v u) no_parts false nothing)) e
+    ∙ ap (λ (u : ℕ). first_line (within (listing d v u) no_closed_blocks false nothing)) e
 
 digit_line : (k c : ℕ) (s : List ℕ) → is_ascii_digit c ≡ true → underline_of (line k (c ∷ s)) ≡ None
 digit_line k c s h =

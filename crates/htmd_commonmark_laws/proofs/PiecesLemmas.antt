@@ -6,7 +6,7 @@ use Rattle.std.specs.Prelude.{◌==◌, nat_le, Option, Some, None}
 use Rattle.htmd_grammar.specs.Characters.{greater_than_sign}
 use Rattle.htmd_grammar.specs.CharacterClasses.{first_is}
 use Rattle.htmd_commonmark_reading.specs.Lines.{Line, line, is_blank, is_blank_text, indent_at, spaces, placed}
-use Rattle.htmd_commonmark_reading.specs.Boxes.{Container, quoting, listing, Part, boxed, Parts, no_parts, part, Open, nothing, leaf, within, Box, box, joined, shut, was_blank}
+use Rattle.htmd_commonmark_reading.specs.Boxes.{Container, quoting, listing, ClosedBlock, boxed, ClosedBlocks, no_closed_blocks, closed_block, Open, nothing, leaf, within, Box, box, joined, shut, was_blank}
 use Rattle.htmd_commonmark_reading.specs.BlockStarts.{After, alone, under, lazy, Start, first_line, opened, started, fresh, within_box}
 use Rattle.htmd_commonmark_reading.specs.LeafBlocks.{underline_of}
 use Rattle.htmd_commonmark_reading.specs.Containers.{holds_nothing, taken, goes_with_item, inside, fed, fed_all, parsed}
@@ -25,7 +25,7 @@ mutual
   -- A flat block with its lines and what they are read as; a quote; or an item with its marker and the spaces after it,
   -- less one.
   pub data Piece : Type 0 where
-    flat : (ls : List (List ℕ)) (p : Part) (more : Parts) → Piece
+    flat : (ls : List (List ℕ)) (p : ClosedBlock) (more : ClosedBlocks) → Piece
     quote : (content : Pieces) → Piece
     item : (marker : Marker) (n : ℕ) (content : Pieces) → Piece
 
@@ -74,14 +74,14 @@ content_columns m n no_pieces = columns m 0
 content_columns m n (piece g p ps) = columns m n
 
 abbrev mutual
-  pub piece_parts : Bool → Piece → Parts → Parts
-  piece_parts g (flat ls p more) rest = part g p (joined more rest)
-  piece_parts g (quote c) rest = part g (boxed quoting (pieces_parts c)) rest
+  pub piece_parts : Bool → Piece → ClosedBlocks → ClosedBlocks
+  piece_parts g (flat ls p more) rest = closed_block g p (joined more rest)
+  piece_parts g (quote c) rest = closed_block g (boxed quoting (pieces_parts c)) rest
   piece_parts g (item m n c) rest =
-      part g (boxed (listing m.sign m.number (content_columns m n c)) (pieces_parts c)) rest
+      closed_block g (boxed (listing m.sign m.number (content_columns m n c)) (pieces_parts c)) rest
 
-  pub pieces_parts : Pieces → Parts
-  pieces_parts no_pieces = no_parts
+  pub pieces_parts : Pieces → ClosedBlocks
+  pieces_parts no_pieces = no_closed_blocks
   pieces_parts (piece g p ps) = piece_parts g p (pieces_parts ps)
 
 -- ---- which pieces
@@ -95,10 +95,10 @@ Safe b [] = Unit {0}
 Safe b (x ∷ xs) = (is_blank x ≡ true → Keeps b) × Safe (fed b.done b.gap b.inner x) xs
 
 -- the lines of a flat block are read as it
-pub record FlatReads (ls : List (List ℕ)) (p : Part) (more : Parts) : Type 0 where
-  pub reads : (k : Columns) (done : Parts) (g : Bool)
-      → Ends false (fed_all (box done g nothing) (place k ls)) (joined done (part g p more))
-  pub safe : (k : Columns) (done : Parts) (g : Bool) → Safe (box done g nothing) (place k ls)
+pub record FlatReads (ls : List (List ℕ)) (p : ClosedBlock) (more : ClosedBlocks) : Type 0 where
+  pub reads : (k : Columns) (done : ClosedBlocks) (g : Bool)
+      → Ends false (fed_all (box done g nothing) (place k ls)) (joined done (closed_block g p more))
+  pub safe : (k : Columns) (done : ClosedBlocks) (g : Bool) → Safe (box done g nothing) (place k ls)
   pub black : First IsBlack ls
 
 -- after a bullet no line comes that is of its sign alone
@@ -128,7 +128,8 @@ pub record IsMarker (m : Marker) : Type 0 where
       ≡ first_line (fresh (listing m.sign m.number (columns m n)) (line (column k n) l)
       (started alone (line (column k n) l)))
   pub empty : (a : After) (k : ℕ) → IsNotUnder a
-      → started a (line k m.text) ≡ first_line (within (listing m.sign m.number (columns m 0)) no_parts false
+      → started a (line k m.text) ≡ first_line
+      (within (listing m.sign m.number (columns m 0)) no_closed_blocks false
       nothing)
   pub no_underline : (k n : ℕ) (l : List ℕ) → IsBlack l → IsApart m.number m.sign l
       → underline_of (line k (m.text ++ spaces (suc n) l)) ≡ None
@@ -178,29 +179,31 @@ safe_append b k [] ms s t = t
 safe_append b k (l ∷ ls) ms s t =
     (s.0, safe_append (fed b.done b.gap b.inner (line (k zero) l)) (tail k) ls ms s.1 t)
 
-holds : (d : Parts) (t : Container) (e : Parts) (h : Bool) (o : Open) → holds_nothing d (within t e h o) ≡ false
-holds no_parts t e h o = refl
-holds (part g p ps) t e h o = refl
+holds : (d : ClosedBlocks) (t : Container) (e : ClosedBlocks) (h : Bool) (o : Open) → holds_nothing d (within t e h o)
+    ≡ false
+holds no_closed_blocks t e h o = refl
+holds (closed_block g p ps) t e h o = refl
 
-keeps_inside : (done : Parts) (g : Bool) (t : Container) (b : Box) → Keeps (inside done g t b)
+keeps_inside : (done : ClosedBlocks) (g : Bool) (t : Container) (b : Box) → Keeps (inside done g t b)
 keeps_inside done g t b = holds done t b.done b.gap b.inner
 
 -- what was read of some parts isn't empty
-keeps_ended : (b : Box) (d : Parts) (g : Bool) (p : Part) (more : Parts) → shut b ≡ joined d (part g p more)
+keeps_ended : (b : Box) (d : ClosedBlocks) (g : Bool) (p : ClosedBlock) (more : ClosedBlocks) → shut b
+    ≡ joined d (closed_block g p more)
     → Keeps b
 keeps_ended b d g p more e = go b.done b.inner refl refl
   where
-    never : (d : Parts) → no_parts ≡ joined d (part g p more) → ⊥
-    never no_parts e = absurd (cc)
-    never (part h q qs) e = absurd (cc)
+    never : (d : ClosedBlocks) → no_closed_blocks ≡ joined d (closed_block g p more) → ⊥
+    never no_closed_blocks e = absurd (cc)
+    never (closed_block h q qs) e = absurd (cc)
 
-    go : (e : Parts) (o : Open) → b.done ≡ e → b.inner ≡ o → holds_nothing e o ≡ false
-    go (part h q qs) o r s = refl
-    go no_parts nothing r s =
-        let a : shut b ≡ no_parts = rw (r, s) refl in
+    go : (e : ClosedBlocks) (o : Open) → b.done ≡ e → b.inner ≡ o → holds_nothing e o ≡ false
+    go (closed_block h q qs) o r s = refl
+    go no_closed_blocks nothing r s =
+        let a : shut b ≡ no_closed_blocks = rw (r, s) refl in
         absurd (never d (sym a ∙ e))
-    go no_parts (leaf f) r s = refl
-    go no_parts (within t f h o) r s = refl
+    go no_closed_blocks (leaf f) r s = refl
+    go no_closed_blocks (within t f h o) r s = refl
 
 -- ---- lines that a container takes are lines of what is in it
 
@@ -208,7 +211,7 @@ abbrev quote_column : ℕ → List ℕ → ℕ
 quote_column k [] = k + 1
 quote_column k (c ∷ s) = suc (k + 1)
 
-quote_takes : (l : List ℕ) (k : ℕ) (done : Parts) (g : Bool) (d : Parts) (h : Bool) (o : Open)
+quote_takes : (l : List ℕ) (k : ℕ) (done : ClosedBlocks) (g : Bool) (d : ClosedBlocks) (h : Bool) (o : Open)
     → fed done g (within quoting d h o) (line k (quoted l))
     ≡ inside done g quoting (fed d h o (line (quote_column k l) l))
 quote_takes [] k done g d h o = refl
@@ -218,7 +221,7 @@ quoted_not_blank : (k : ℕ) (l : List ℕ) → is_blank (line k (quoted l)) ≡
 quoted_not_blank k [] = refl
 quoted_not_blank k (c ∷ s) = refl
 
-quote_takes_all : (ls : List (List ℕ)) (k : Columns) (done : Parts) (g : Bool) (b : Box)
+quote_takes_all : (ls : List (List ℕ)) (k : Columns) (done : ClosedBlocks) (g : Bool) (b : Box)
     → (fed_all (inside done g quoting b) (place k (each quoted ls))
     ≡ inside done g quoting (fed_all b (place (inner quote_column k ls) ls)))
     × Safe (inside done g quoting b) (place k (each quoted ls))
@@ -259,7 +262,8 @@ goes_on e n k l h = go (is_blank_text l) refl
     go true q = rw (spaces_blank n l, q, h q) refl
     go false q = rw (spaces_blank n l, q) deep
 
-item_takes : (l : List ℕ) (sign : ℕ) (number : Option ℕ) (n k : ℕ) (done : Parts) (g : Bool) (d : Parts)
+item_takes : (l : List ℕ) (sign : ℕ) (number : Option ℕ) (n k : ℕ) (done : ClosedBlocks) (g : Bool)
+    (d : ClosedBlocks)
     (h : Bool) (o : Open)
     → (is_blank_text l ≡ true → holds_nothing d o ≡ false)
     → fed done g (within (listing sign number n) d h o) (line k (indented n l))
@@ -275,7 +279,7 @@ item_takes (c ∷ s) sign number n k done g d h o e =
     rw (goes_on (holds_nothing d o) n k (c ∷ s) e, spaces_cut n k (c ∷ s)) refl in
     rw (t, fed) refl
 
-item_takes_all : (ls : List (List ℕ)) (sign : ℕ) (number : Option ℕ) (n : ℕ) (k : Columns) (done : Parts)
+item_takes_all : (ls : List (List ℕ)) (sign : ℕ) (number : Option ℕ) (n : ℕ) (k : Columns) (done : ClosedBlocks)
     (g : Bool)
     (b : Box) → Safe b (place (inner (item_column n) k ls) ls)
     → (fed_all (inside done g (listing sign number n) b) (place k (each (indented n) ls))
@@ -298,11 +302,12 @@ item_takes_all (l ∷ ls) sign number n k done g b s =
 -- ---- a container's first line
 
 fresh_fed : (t : Container) (x : Line) → is_blank x ≡ false
-    → fresh t x (started alone x) ≡ within_box t (fed no_parts false nothing x)
+    → fresh t x (started alone x) ≡ within_box t (fed no_closed_blocks false nothing x)
 fresh_fed t x e = rw e refl
 
 -- what a line begins, if that stays open
-first_fed : (done : Parts) (g : Bool) (x : Line) (o : Open) → is_blank x ≡ false → started alone x ≡ first_line
+first_fed : (done : ClosedBlocks) (g : Bool) (x : Line) (o : Open) → is_blank x ≡ false → started alone x
+    ≡ first_line
     o
     → fed done g nothing x ≡ box done g o
 first_fed done g x o b e = rw b (ap (λ (s : Start). opened done g x s) e)
@@ -313,12 +318,13 @@ quote_starts : (k : ℕ) (l : List ℕ) → IsBlack l
 quote_starts k [] h = absurd h
 quote_starts k (c ∷ s) h = refl
 
-box_back : (t : Container) (b c : Box) (done : Parts) (g : Bool) (ps : Parts) (m : Bool) → IsWide t
-    → b ≡ inside done g t c → Ends m c ps → Ends true b (joined done (part g (boxed t ps) no_parts))
+box_back : (t : Container) (b c : Box) (done : ClosedBlocks) (g : Bool) (ps : ClosedBlocks) (m : Bool) → IsWide t
+    → b ≡ inside done g t c → Ends m c ps
+    → Ends true b (joined done (closed_block g (boxed t ps) no_closed_blocks))
 box_back t b c done g ps m w e r =
-    ends_by true b (inside done g t c) (joined done (part g (boxed t ps) no_parts))
-    (joined done (part g (boxed t ps) no_parts)) e refl record {
-      parts = ap (λ (qs : Parts). joined done (part g (boxed t qs) no_parts)) r.parts;
+    ends_by true b (inside done g t c) (joined done (closed_block g (boxed t ps) no_closed_blocks))
+    (joined done (closed_block g (boxed t ps) no_closed_blocks)) e refl record {
+      parts = ap (λ (qs : ClosedBlocks). joined done (closed_block g (boxed t qs) no_closed_blocks)) r.parts;
       calm = (w, r.calm);
       filled = still t c r.filled;
       in_box = tt;
@@ -330,18 +336,18 @@ box_back t b c done g ps m w e r =
     still (listing sign number n) c h = h
 
 -- lines that are read as parts
-pub record Reads (m : Bool) (ls : List (List ℕ)) (f : Bool → Parts) : Type 0 where
-  pub reads : (k : Columns) (done : Parts) (g : Bool)
+pub record Reads (m : Bool) (ls : List (List ℕ)) (f : Bool → ClosedBlocks) : Type 0 where
+  pub reads : (k : Columns) (done : ClosedBlocks) (g : Bool)
       → Ends m (fed_all (box done g nothing) (place k ls)) (joined done (f g))
-  pub safe : (k : Columns) (done : Parts) (g : Bool) → Safe (box done g nothing) (place k ls)
+  pub safe : (k : Columns) (done : ClosedBlocks) (g : Bool) → Safe (box done g nothing) (place k ls)
 
-quote_back : (ls : List (List ℕ)) (ps : Parts) (m : Bool) → First IsBlack ls
-    → ((k : Columns) → Ends m (fed_all (box no_parts false nothing) (place k ls)) ps)
-    → Reads true (each quoted ls) (λ g. part g (boxed quoting ps) no_parts)
+quote_back : (ls : List (List ℕ)) (ps : ClosedBlocks) (m : Bool) → First IsBlack ls
+    → ((k : Columns) → Ends m (fed_all (box no_closed_blocks false nothing) (place k ls)) ps)
+    → Reads true (each quoted ls) (λ g. closed_block g (boxed quoting ps) no_closed_blocks)
 quote_back [] ps m h r = absurd h
 quote_back (l ∷ ls) ps m h r = record {
   reads = λ k done g. box_back quoting (fed_all (box done g nothing) (place k (each quoted (l ∷ ls))))
-      (fed_all (box no_parts false nothing) (place (columns_of k) (l ∷ ls))) done g ps m tt
+      (fed_all (box no_closed_blocks false nothing) (place (columns_of k) (l ∷ ls))) done g ps m tt
       (ap (λ (x : Box). fed_all x (place (tail k) (each quoted ls))) (step k done g) ∙ (rest k done g).0)
       (r (columns_of k));
   safe = λ k done g. (
@@ -353,32 +359,34 @@ quote_back (l ∷ ls) ps m h r = record {
     columns_of : Columns → Columns
     columns_of k = inner quote_column k (l ∷ ls)
 
-    step : (k : Columns) (done : Parts) (g : Bool) → fed done g nothing (line (k zero) (quoted l))
-        ≡ inside done g quoting (fed no_parts false nothing (line (quote_column (k zero) l) l))
+    step : (k : Columns) (done : ClosedBlocks) (g : Bool) → fed done g nothing (line (k zero) (quoted l))
+        ≡ inside done g quoting (fed no_closed_blocks false nothing (line (quote_column (k zero) l) l))
     step k done g =
         let x = line (quote_column (k zero) l) l in
         first_fed done g (line (k zero) (quoted l)) (fresh quoting x (started alone x)) (quoted_not_blank (k zero) l)
         (quote_starts (k zero) l h)
         ∙ ap (λ (o : Open). box done g o) (fresh_fed quoting x (not_blank l h))
 
-    rest : (k : Columns) (done : Parts) (g : Bool)
-        → (fed_all (inside done g quoting (fed no_parts false nothing (line (quote_column (k zero) l) l)))
+    rest : (k : Columns) (done : ClosedBlocks) (g : Bool)
+        → (fed_all (inside done g quoting (fed no_closed_blocks false nothing (line (quote_column (k zero) l) l)))
         (place (tail k) (each quoted ls))
-        ≡ inside done g quoting (fed_all (box no_parts false nothing) (place (columns_of k) (l ∷ ls))))
-        × Safe (inside done g quoting (fed no_parts false nothing (line (quote_column (k zero) l) l)))
+        ≡ inside done g quoting (fed_all (box no_closed_blocks false nothing) (place (columns_of k) (l ∷ ls))))
+        × Safe (inside done g quoting (fed no_closed_blocks false nothing (line (quote_column (k zero) l) l)))
         (place (tail k) (each quoted ls))
-    rest k done g = quote_takes_all ls (tail k) done g (fed no_parts false nothing (line (quote_column (k zero) l) l))
+    rest k done g = quote_takes_all ls (tail k) done g
+        (fed no_closed_blocks false nothing (line (quote_column (k zero) l) l))
 
-item_back : (mk : Marker) (n : ℕ) (l : List ℕ) (ls : List (List ℕ)) (ps : Parts) (m : Bool) → IsMarker mk
+item_back : (mk : Marker) (n : ℕ) (l : List ℕ) (ls : List (List ℕ)) (ps : ClosedBlocks) (m : Bool) → IsMarker mk
     → n ≤ 3
     → IsBlack l → IsApart mk.number mk.sign l
-    → ((k : Columns) → Ends m (fed_all (box no_parts false nothing) (place k (l ∷ ls))) ps)
-    → ((k : Columns) → Safe (box no_parts false nothing) (place k (l ∷ ls)))
-    → Reads true (item_lines mk n (l ∷ ls)) (λ g. part g (boxed (listing mk.sign mk.number (columns mk n)) ps)
-    no_parts)
+    → ((k : Columns) → Ends m (fed_all (box no_closed_blocks false nothing) (place k (l ∷ ls))) ps)
+    → ((k : Columns) → Safe (box no_closed_blocks false nothing) (place k (l ∷ ls)))
+    → Reads true (item_lines mk n (l ∷ ls))
+    (λ g. closed_block g (boxed (listing mk.sign mk.number (columns mk n)) ps)
+    no_closed_blocks)
 item_back mk n l ls ps m i w h q r s = record {
   reads = λ k done g. box_back t (fed_all (box done g nothing) (place k (item_lines mk n (l ∷ ls))))
-      (fed_all (box no_parts false nothing) (place (columns_of k) (l ∷ ls))) done g ps m tt
+      (fed_all (box no_closed_blocks false nothing) (place (columns_of k) (l ∷ ls))) done g ps m tt
       (ap (λ (x : Box). fed_all x (place (tail k) (each (indented c) ls))) (step k done g) ∙ (rest k done g).0)
       (r (columns_of k));
   safe = λ k done g. (
@@ -402,28 +410,33 @@ item_back mk n l ls ps m i w h q r s = record {
     black_line : (k : Columns) → is_blank (line (k zero) (mk.text ++ spaces (suc n) l)) ≡ false
     black_line k = not_blank (mk.text ++ spaces (suc n) l) (i.black (spaces (suc n) l))
 
-    step : (k : Columns) (done : Parts) (g : Bool) → fed done g nothing (line (k zero) (mk.text ++ spaces (suc n) l))
-        ≡ inside done g t (fed no_parts false nothing (line (at k) l))
+    step : (k : Columns) (done : ClosedBlocks) (g : Bool)
+        → fed done g nothing (line (k zero) (mk.text ++ spaces (suc n) l))
+        ≡ inside done g t (fed no_closed_blocks false nothing (line (at k) l))
     step k done g =
         let x = line (at k) l in
         first_fed done g (line (k zero) (mk.text ++ spaces (suc n) l)) (fresh t x (started alone x)) (black_line k)
         (i.filled alone (k zero) n l w h q tt)
         ∙ ap (λ (o : Open). box done g o) (fresh_fed t x (not_blank l h))
 
-    rest : (k : Columns) (done : Parts) (g : Bool)
-        → (fed_all (inside done g t (fed no_parts false nothing (line (at k) l)))
+    rest : (k : Columns) (done : ClosedBlocks) (g : Bool)
+        → (fed_all (inside done g t (fed no_closed_blocks false nothing (line (at k) l)))
         (place (tail k) (each (indented c) ls))
-        ≡ inside done g t (fed_all (box no_parts false nothing) (place (columns_of k) (l ∷ ls))))
-        × Safe (inside done g t (fed no_parts false nothing (line (at k) l))) (place (tail k) (each (indented c) ls))
-    rest k done g = item_takes_all ls mk.sign mk.number c (tail k) done g (fed no_parts false nothing (line (at k) l))
+        ≡ inside done g t (fed_all (box no_closed_blocks false nothing) (place (columns_of k) (l ∷ ls))))
+        × Safe (inside done g t (fed no_closed_blocks false nothing (line (at k) l)))
+        (place (tail k) (each (indented c) ls))
+    rest k done g = item_takes_all ls mk.sign mk.number c (tail k) done g
+        (fed no_closed_blocks false nothing (line (at k) l))
         (s (columns_of k)).1
 
 empty_back : (mk : Marker) (n : ℕ) → IsMarker mk
-    → Reads true (item_lines mk n []) (λ g. part g (boxed (listing mk.sign mk.number (columns mk 0)) no_parts)
-    no_parts)
+    → Reads true (item_lines mk n [])
+    (λ g. closed_block g (boxed (listing mk.sign mk.number (columns mk 0)) no_closed_blocks)
+    no_closed_blocks)
 empty_back mk n i = record {
   reads = λ k done g. ends_by true (fed done g nothing (line (k zero) mk.text)) (box done g inner_box)
-      (joined done (part g (boxed t no_parts) no_parts)) (joined done (part g (boxed t no_parts) no_parts))
+      (joined done (closed_block g (boxed t no_closed_blocks) no_closed_blocks))
+      (joined done (closed_block g (boxed t no_closed_blocks) no_closed_blocks))
       (first_fed done g (line (k zero) mk.text) inner_box (not_blank mk.text (marker_black mk i))
       (i.empty alone (k zero) tt)) refl
       record { parts = refl; calm = (tt, tt); filled = refl; in_box = tt };
@@ -434,7 +447,7 @@ empty_back mk n i = record {
     t = listing mk.sign mk.number (columns mk 0)
 
     inner_box : Open
-    inner_box = within t no_parts false nothing
+    inner_box = within t no_closed_blocks false nothing
 
     marker_black : (mk : Marker) → IsMarker mk → IsBlack mk.text
     marker_black mk i = subst IsBlack (append-nil mk.text) (i.black [])
@@ -513,26 +526,29 @@ piece_follows m (item mk n c) f g = item_follows m mk n c f g
 
 -- ---- parts of pieces
 
-pub piece_joined : (g : Bool) (p : Piece) (rest : Parts) → joined (piece_parts g p no_parts) rest ≡ piece_parts g p
+pub piece_joined : (g : Bool) (p : Piece) (rest : ClosedBlocks) → joined (piece_parts g p no_closed_blocks) rest
+    ≡ piece_parts g p
     rest
-piece_joined g (flat ls p more) rest = ap (λ (qs : Parts). part g p (joined qs rest)) (joined_none more)
+piece_joined g (flat ls p more) rest = ap (λ (qs : ClosedBlocks). closed_block g p (joined qs rest)) (joined_none more)
 piece_joined g (quote c) rest = refl
 piece_joined g (item m n c) rest = refl
 
-piece_keeps : (b : Box) (d : Parts) (g : Bool) (p : Piece) → shut b ≡ joined d (piece_parts g p no_parts) → Keeps
+piece_keeps : (b : Box) (d : ClosedBlocks) (g : Bool) (p : Piece) → shut b
+    ≡ joined d (piece_parts g p no_closed_blocks) → Keeps
     b
-piece_keeps b d g (flat ls p more) e = keeps_ended b d g p (joined more no_parts) e
-piece_keeps b d g (quote c) e = keeps_ended b d g (boxed quoting (pieces_parts c)) no_parts e
+piece_keeps b d g (flat ls p more) e = keeps_ended b d g p (joined more no_closed_blocks) e
+piece_keeps b d g (quote c) e = keeps_ended b d g (boxed quoting (pieces_parts c)) no_closed_blocks e
 piece_keeps b d g (item m n c) e =
-    keeps_ended b d g (boxed (listing m.sign m.number (content_columns m n c)) (pieces_parts c)) no_parts e
+    keeps_ended b d g (boxed (listing m.sign m.number (content_columns m n c)) (pieces_parts c)) no_closed_blocks e
 
 -- ---- all pieces
 
-any_ends : (m : Bool) (b : Box) (qs : Parts) → Ends m b qs → Ends false b qs
+any_ends : (m : Bool) (b : Box) (qs : ClosedBlocks) → Ends m b qs → Ends false b qs
 any_ends m b qs e = record { parts = e.parts; calm = e.calm; filled = e.filled; in_box = tt }
 
 -- what follows a box whose lines have been read is safe
-safe_next : (h m : Bool) (b : Box) (qs : Parts) (k : Columns) (ls ms : List (List ℕ)) → Ends m b qs → Keeps b
+safe_next : (h m : Bool) (b : Box) (qs : ClosedBlocks) (k : Columns) (ls ms : List (List ℕ)) → Ends m b qs
+    → Keeps b
     → First IsBlack ls → (h ≡ false → First (Interrupts (not m)) ls)
     → Safe (box qs h nothing) (place (gap_columns h k) (ls ++ ms))
     → Safe b (place k (gap_line h (ls ++ ms)))
@@ -565,32 +581,35 @@ firm false e = refl
 
 -- an item that isn't empty, with the lines of its first block
 item_content : (m : Marker) (n : ℕ) (p : Piece) (ps : Pieces) (f : Bool) → IsGood (item m n (piece f p ps))
-    → ((k : Columns) → Ends false (fed_all (box no_parts false nothing)
+    → ((k : Columns) → Ends false (fed_all (box no_closed_blocks false nothing)
     (place k (piece_lines p ++ further_lines ps)))
     (pieces_parts (piece f p ps))
-    × Safe (box no_parts false nothing) (place k (piece_lines p ++ further_lines ps)))
+    × Safe (box no_closed_blocks false nothing) (place k (piece_lines p ++ further_lines ps)))
     → (ls : List (List ℕ)) → piece_lines p ≡ ls
     → Reads true (item_lines m n (piece_lines p ++ further_lines ps))
-    (λ g. part g (boxed (listing m.sign m.number (columns m n)) (pieces_parts (piece f p ps))) no_parts)
+    (λ g. closed_block g (boxed (listing m.sign m.number (columns m n)) (pieces_parts (piece f p ps)))
+    no_closed_blocks)
 item_content m n p ps f w r [] e = absurd (subst (First IsBlack) e (piece_first p w.2.1))
 item_content m n p ps f w r (l ∷ ls) e =
     subst (λ (x : List (List ℕ)). Reads true (item_lines m n (x ++ further_lines ps))
-    (λ g. part g (boxed (listing m.sign m.number (columns m n)) (pieces_parts (piece f p ps))) no_parts)) (sym e)
+    (λ g. closed_block g (boxed (listing m.sign m.number (columns m n)) (pieces_parts (piece f p ps)))
+    no_closed_blocks)) (sym e)
     (item_back m n l (ls ++ further_lines ps) (pieces_parts (piece f p ps)) false w.0 w.1
     (subst (First IsBlack) e (piece_first p w.2.1)) (subst (First (IsApart m.number m.sign)) e w.2.3)
-    (λ k. subst (λ (x : List (List ℕ)). Ends false (fed_all (box no_parts false nothing)
+    (λ k. subst (λ (x : List (List ℕ)). Ends false (fed_all (box no_closed_blocks false nothing)
     (place k (x ++ further_lines ps)))
     (pieces_parts (piece f p ps))) e (r k).0)
-    (λ k. subst (λ (x : List (List ℕ)). Safe (box no_parts false nothing) (place k (x ++ further_lines ps))) e
+    (λ k. subst (λ (x : List (List ℕ)). Safe (box no_closed_blocks false nothing) (place k (x ++ further_lines ps)))
+    e
     (r k).1))
 
 mutual
-  piece_back : (p : Piece) → IsGood p → Reads (is_boxed p) (piece_lines p) (λ g. piece_parts g p no_parts)
+  piece_back : (p : Piece) → IsGood p → Reads (is_boxed p) (piece_lines p) (λ g. piece_parts g p no_closed_blocks)
   piece_back (flat ls p more) w = record {
     reads = λ k done g. ends_by false (fed_all (box done g nothing) (place k ls))
         (fed_all (box done g nothing) (place k ls))
-        (joined done (part g p more)) (joined done (part g p (joined more no_parts))) refl
-        (ap (λ (qs : Parts). joined done (part g p qs)) (sym (joined_none more))) (w.reads k done g);
+        (joined done (closed_block g p more)) (joined done (closed_block g p (joined more no_closed_blocks))) refl
+        (ap (λ (qs : ClosedBlocks). joined done (closed_block g p qs)) (sym (joined_none more))) (w.reads k done g);
     safe = w.safe;
   }
   piece_back (quote c) w =
@@ -601,37 +620,41 @@ mutual
 
   -- a container's pieces, from its beginning
   filled_back : (ps : Pieces) → IsFilled ps → (k : Columns)
-      → Ends false (fed_all (box no_parts false nothing) (place k (pieces_lines ps))) (pieces_parts ps)
-      × Safe (box no_parts false nothing) (place k (pieces_lines ps))
+      → Ends false (fed_all (box no_closed_blocks false nothing) (place k (pieces_lines ps))) (pieces_parts ps)
+      × Safe (box no_closed_blocks false nothing) (place k (pieces_lines ps))
   filled_back no_pieces w k = absurd w
   filled_back (piece f p ps) w k =
       let r = piece_back p w.1 in
-      let b = fed_all (box no_parts false nothing) (place k (piece_lines p)) in
+      let b = fed_all (box no_closed_blocks false nothing) (place k (piece_lines p)) in
       let j = shift (piece_lines p) k in
-      let e = r.reads k no_parts false in
-      let a = after_back ps (is_boxed p) w.2 j b (piece_parts false p no_parts) e
-      (piece_keeps b no_parts false p e.parts) in (
-        ends_by false (fed_all (box no_parts false nothing) (place k (piece_lines p ++ further_lines ps)))
+      let e = r.reads k no_closed_blocks false in
+      let a = after_back ps (is_boxed p) w.2 j b (piece_parts false p no_closed_blocks) e
+      (piece_keeps b no_closed_blocks false p e.parts) in (
+        ends_by false (fed_all (box no_closed_blocks false nothing) (place k (piece_lines p ++ further_lines ps)))
             (fed_all b (place j (further_lines ps)))
-            (joined (piece_parts false p no_parts) (pieces_parts ps)) (piece_parts f p (pieces_parts ps))
-            (fed_append (box no_parts false nothing) k (piece_lines p) (further_lines ps))
+            (joined (piece_parts false p no_closed_blocks) (pieces_parts ps)) (piece_parts f p (pieces_parts ps))
+            (fed_append (box no_closed_blocks false nothing) k (piece_lines p) (further_lines ps))
             (piece_joined false p (pieces_parts ps) ∙ ap (λ (h : Bool). piece_parts h p (pieces_parts ps)) (sym w.0))
             a.0,
-        safe_append (box no_parts false nothing) k (piece_lines p) (further_lines ps) (r.safe k no_parts false) a.1,
+        safe_append (box no_closed_blocks false nothing) k (piece_lines p) (further_lines ps)
+            (r.safe k no_closed_blocks false) a.1,
       )
 
-  after_back : (ps : Pieces) (m : Bool) → AreGood m ps → (k : Columns) (b : Box) (qs : Parts) → Ends m b qs
+  after_back : (ps : Pieces) (m : Bool) → AreGood m ps → (k : Columns) (b : Box) (qs : ClosedBlocks) → Ends m b qs
       → Keeps b
       → Ends false (fed_all b (place k (further_lines ps))) (joined qs (pieces_parts ps))
       × Safe b (place k (further_lines ps))
-  after_back no_pieces m w k b qs e q =
-      (any_ends m b (joined qs no_parts) (ends_by m b b qs (joined qs no_parts) refl (sym (joined_none qs)) e), tt)
+  after_back no_pieces m w k b qs e q = (
+    any_ends m b (joined qs no_closed_blocks)
+        (ends_by m b b qs (joined qs no_closed_blocks) refl (sym (joined_none qs)) e),
+    tt,
+  )
   after_back (piece h p ps) m w k b qs e q =
       let r = piece_back p w.1 in
       let i = gap_columns h k in
       let j = shift (piece_lines p) i in
       let c = fed_all (box qs h nothing) (place i (piece_lines p)) in
-      let rs = joined qs (piece_parts h p no_parts) in
+      let rs = joined qs (piece_parts h p no_closed_blocks) in
       let s = r.reads i qs h in
       let a = after_back ps (is_boxed p) w.2 j c rs s (piece_keeps c qs h p s.parts) in
       let first = piece_first p w.1 in
@@ -639,8 +662,8 @@ mutual
         ends_by false (fed_all b (place k (further_lines (piece h p ps)))) (fed_all c (place j (further_lines ps)))
             (joined rs (pieces_parts ps)) (joined qs (piece_parts h p (pieces_parts ps)))
             (next_lines h m (not m) b qs k (piece_lines p) (further_lines ps) e first (λ f. (starts f, firm m)))
-            (joined_assoc qs (piece_parts h p no_parts) (pieces_parts ps)
-            ∙ ap (λ (x : Parts). joined qs x) (piece_joined h p (pieces_parts ps))) a.0,
+            (joined_assoc qs (piece_parts h p no_closed_blocks) (pieces_parts ps)
+            ∙ ap (λ (x : ClosedBlocks). joined qs x) (piece_joined h p (pieces_parts ps))) a.0,
         safe_next h m b qs k (piece_lines p) (further_lines ps) e q first starts
             (safe_append (box qs h nothing) i (piece_lines p) (further_lines ps) (r.safe i qs h) a.1),
       )

@@ -12,7 +12,7 @@ use Rattle.htmd_commonmark.specs.Pages as pages
 use Rattle.htmd_commonmark_reading.specs.Lines as reading
 use Rattle.htmd_commonmark_reading.specs.Lines.{split_lines, without_null, spaces}
 use Rattle.htmd_commonmark_reading.specs.Boxes.{joined_lines, end_line}
-use Rattle.htmd_commonmark_laws.specs.LineTexts.{is_plain, lines_of}
+use Rattle.htmd_commonmark_laws.specs.LineTexts.{is_line_character, lines_of}
 use Rattle.htmd_commonmark_laws.proofs.PiecesLemmas.{each, quoted, indented}
 
 -- ---- lines without ends of lines and U+0000
@@ -112,12 +112,12 @@ written_lines l [] a = ap lines_of (append-nil l) ∙ written_last l a.0
 written_lines l (m ∷ ls) a = written_one l (joined_lines (m ∷ ls)) a.0 ∙ ap (◌∷◌ l) (written_lines m ls a.1)
 
 -- a plain text's lines are clean, and joined they are the text
-plain_first : (c : ℕ) (s : List ℕ) → list_all is_plain (c ∷ s) ≡ true
-    → ((c == carriage_return) ≡ false) × ((c == null) ≡ false) × (list_all is_plain s ≡ true)
+plain_first : (c : ℕ) (s : List ℕ) → list_all is_line_character (c ∷ s) ≡ true
+    → ((c == carriage_return) ≡ false) × ((c == null) ≡ false) × (list_all is_line_character s ≡ true)
 plain_first c s h = go (c == carriage_return) (c == null) refl refl
   where
     go : (a b : Bool) → (c == carriage_return) ≡ a → (c == null) ≡ b
-        → ((c == carriage_return) ≡ false) × ((c == null) ≡ false) × (list_all is_plain s ≡ true)
+        → ((c == carriage_return) ≡ false) × ((c == null) ≡ false) × (list_all is_line_character s ≡ true)
     go true b e f = absurd (let w = rw e at h in cc)
     go false true e f = absurd (let w = rw (e, f) at h in cc)
     go false false e f = (e, f, let w = rw (e, f) at h in w)
@@ -127,7 +127,7 @@ clean_onto : (c : ℕ) (ls : List (List ℕ)) → (c == line_feed) ≡ false →
 clean_onto c [] a b d h = ((a, b, d, tt), tt)
 clean_onto c (l ∷ ls) a b d h = ((a, b, d, h.0), h.1)
 
-pub clean_lines : (s : List ℕ) → list_all is_plain s ≡ true → AreClean (lines_of s)
+pub clean_lines : (s : List ℕ) → list_all is_line_character s ≡ true → AreClean (lines_of s)
 clean_lines [] h = (tt, tt)
 clean_lines (c ∷ s) h =
     let p = plain_first c s h in

@@ -5,7 +5,7 @@ use Rattle.htmd_commonmark.specs.declared.options.DocumentOptions.{DocumentOptio
 use Rattle.htmd_commonmark.specs.BlockMarkdown.{written_blocks}
 use Rattle.htmd_commonmark.specs.DocumentMarkdown.{outermost, markdown_of}
 use Rattle.htmd_commonmark_reading.specs.LinkDefinitions.{Definition}
-use Rattle.htmd_commonmark_reading.specs.Boxes.{Parts, no_parts, joined, definition_parts}
+use Rattle.htmd_commonmark_reading.specs.Boxes.{ClosedBlocks, no_closed_blocks, joined, definition_parts}
 use Rattle.htmd_commonmark_reading.specs.Reading.{parts, read}
 use Rattle.htmd_commonmark_laws.specs.DocumentParts.{document_parts}
 use Rattle.htmd_commonmark_laws.specs.NormalBlocks.{AreNormalBlocks}
@@ -17,8 +17,9 @@ abbrev pub definition_lines : DocumentOptions → documents.Blocks → List (Lis
 definition_lines options document = (written_blocks options outermost [] document).definitions
 
 -- the closed blocks of a document, and after them the definitions of its links
-abbrev pub parts_with : DocumentOptions → documents.Blocks → List Definition → Parts
-parts_with options document found = joined (document_parts options document) (definition_parts true found no_parts)
+abbrev pub parts_with : DocumentOptions → documents.Blocks → List Definition → ClosedBlocks
+parts_with options document found = joined (document_parts options document)
+    (definition_parts true found no_closed_blocks)
 
 -- For all options, what is written of a normal document has its blocks, with the texts that were written of its
 -- inlines: the closed blocks are the document's, and then come the definitions of its links.

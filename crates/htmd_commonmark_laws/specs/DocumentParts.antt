@@ -24,7 +24,7 @@ use Rattle.htmd_commonmark.specs.BlockMarkdown.{
   written_block,
 }
 use Rattle.htmd_commonmark.specs.DocumentMarkdown.{outermost}
-use Rattle.htmd_commonmark_reading.specs.Boxes.{quoting, listing, text, headed, code, rule, grid, boxed, Parts, no_parts, part}
+use Rattle.htmd_commonmark_reading.specs.Boxes.{quoting, listing, text, headed, code, rule, grid, boxed, ClosedBlocks, no_closed_blocks, closed_block}
 
 -- ---- texts
 
@@ -83,45 +83,48 @@ item_columns markers k (block first rest) = length (marker markers k) + spaces m
 -- `definitions`: those of the links before, as they are written; a blank line stands before each block but the first,
 -- except in a tight item
 abbrev mutual
-  pub first_parts : DocumentOptions → Place → List (List ℕ) → Blocks → Parts
-  first_parts options place definitions no_blocks = no_parts
+  pub first_parts : DocumentOptions → Place → List (List ℕ) → Blocks → ClosedBlocks
+  first_parts options place definitions no_blocks = no_closed_blocks
   first_parts options place definitions (block first rest) =
       block_parts options place None definitions false first
       (further_parts options (behind_first place) (sign_of options None place.outer first)
       (written_block options place None definitions first).definitions rest)
 
-  pub further_parts : DocumentOptions → Place → Option Sign → List (List ℕ) → Blocks → Parts
-  further_parts options place before definitions no_blocks = no_parts
+  pub further_parts : DocumentOptions → Place → Option Sign → List (List ℕ) → Blocks → ClosedBlocks
+  further_parts options place before definitions no_blocks = no_closed_blocks
   further_parts options place before definitions (block first rest) =
       block_parts options place before definitions (not place.tight) first
       (further_parts options place (sign_of options before place.outer first)
       (written_block options place before definitions first).definitions rest)
 
   -- a block, before which a blank line stands or not, and the parts after it
-  pub block_parts : DocumentOptions → Place → Option Sign → List (List ℕ) → Bool → Block → Parts → Parts
+  pub block_parts : DocumentOptions → Place → Option Sign → List (List ℕ) → Bool → Block → ClosedBlocks
+      → ClosedBlocks
   block_parts options place before definitions gap (paragraph content) rest =
-      part gap (text (paragraph_text options definitions content)) rest
+      closed_block gap (text (paragraph_text options definitions content)) rest
   block_parts options place before definitions gap (heading level content) rest =
-      part gap (headed level (heading_text options definitions level content)) rest
-  block_parts options place before definitions gap (code_block language s) rest = part gap (code language s) rest
+      closed_block gap (headed level (heading_text options definitions level content)) rest
+  block_parts options place before definitions gap (code_block language s) rest = closed_block gap (code language s)
+      rest
   block_parts options place before definitions gap (quote content) rest =
-      part gap (boxed quoting (first_parts options (place_in_quote place.in_item) definitions content)) rest
-  block_parts options place before definitions gap thematic_break rest = part gap rule rest
+      closed_block gap (boxed quoting (first_parts options (place_in_quote place.in_item) definitions content)) rest
+  block_parts options place before definitions gap thematic_break rest = closed_block gap rule rest
   block_parts options place before definitions gap (list start is_tight items) rest =
       item_parts options (markers_of options before place.outer start (item_count items)) is_tight 0 definitions gap
       items
       rest
   block_parts options place before definitions gap (table alignments header rows) rest =
-      part gap
+      closed_block gap
       (grid alignments (cell_texts options definitions header)
       (row_texts options (after_cells options definitions header) rows)) rest
 
   -- items, the first at this place
-  pub item_parts : DocumentOptions → Markers → Bool → ℕ → List (List ℕ) → Bool → Items → Parts →
-      Parts
+  pub item_parts : DocumentOptions → Markers → Bool → ℕ → List (List ℕ) → Bool → Items → ClosedBlocks
+      →
+      ClosedBlocks
   item_parts options markers is_tight k definitions gap no_items rest = rest
   item_parts options markers is_tight k definitions gap (item first others) rest =
-      part gap
+      closed_block gap
       (boxed (listing (item_sign markers) (item_number markers k) (item_columns markers k first))
       (first_parts options (place_in_item markers is_tight) definitions first))
       (item_parts options markers is_tight (suc k)
@@ -129,5 +132,5 @@ abbrev mutual
       rest)
 
 -- the closed blocks of a document
-abbrev pub document_parts : DocumentOptions → Blocks → Parts
+abbrev pub document_parts : DocumentOptions → Blocks → ClosedBlocks
 document_parts options document = first_parts options outermost [] document

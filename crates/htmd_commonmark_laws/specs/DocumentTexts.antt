@@ -22,7 +22,7 @@ use Rattle.htmd_commonmark.specs.BlockMarkdown.{
 use Rattle.htmd_commonmark.specs.DocumentMarkdown.{outermost}
 use Rattle.htmd_commonmark_reading.specs.LinkDefinitions.{Definition, definitions}
 use Rattle.htmd_commonmark_reading.specs.Boxes.{joined_lines}
-use Rattle.htmd_commonmark_laws.specs.LineTexts.{is_plain, lines_of, AreTextLines, IsLineText, IsHeadingText, IsUnderlinedText, IsCellText}
+use Rattle.htmd_commonmark_laws.specs.LineTexts.{is_line_character, lines_of, AreTextLines, IsLineText, IsHeadingText, IsUnderlinedText, IsCellText}
 use Rattle.htmd_commonmark_laws.specs.DocumentParts.{paragraph_text, heading_text, cell_texts, after_cells, row_texts}
 
 abbrev pub IsHeading : Bool → List ℕ → Type 0
@@ -83,7 +83,7 @@ DocumentTexts options document = FirstTexts options outermost [] document
 -- texts in one line each
 abbrev pub AreOneLine : List (List ℕ) → Type 0
 AreOneLine [] = Unit {0}
-AreOneLine (l ∷ ls) = (list_all is_plain l ≡ true) × (lines_of l ≡ l ∷ []) × AreOneLine ls
+AreOneLine (l ∷ ls) = (list_all is_line_character l ≡ true) × (lines_of l ≡ l ∷ []) × AreOneLine ls
 
 -- the lines of link definitions: a reader finds these in them, and nothing else (CommonMark 0.31.2, 4.7)
 pub record AreDefinitions (first : List ℕ) (rest : List (List ℕ)) (found : List Definition) : Type 0 where

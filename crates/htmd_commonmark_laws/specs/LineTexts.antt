@@ -42,8 +42,8 @@ AreTextLines [] = ⊥
 AreTextLines (l ∷ ls) = IsFirstLine l × AreFurtherLines ls
 
 -- no carriage return, which ends a line, and no U+0000, which is replaced (CommonMark 0.31.2, 2.1 and 2.3)
-abbrev pub is_plain : ℕ → Bool
-is_plain c = not (c == carriage_return) && not (c == null)
+abbrev pub is_line_character : ℕ → Bool
+is_line_character c = not (c == carriage_return) && not (c == null)
 
 abbrev pub lines_of : List ℕ → List (List ℕ)
 lines_of s = slice_split is_line_feed s
@@ -54,7 +54,7 @@ IsWhole s = definitions s ≡ record { found = []; rest = s }
 
 -- what is written of the inlines of a paragraph: the inlines' half of reading back has to show this of them
 pub record IsLineText (s : List ℕ) : Type 0 where
-  pub plain : list_all is_plain s ≡ true
+  pub plain : list_all is_line_character s ≡ true
   pub lines : AreTextLines (lines_of s)
   pub whole : IsWhole s
 
@@ -71,19 +71,19 @@ IsTrimmed (c ∷ s) = (is_space_or_tab c ≡ false) × EndsBlack (c ∷ s)
 
 -- the text of a table's cell, in which bars are still bars (GFM 0.29, 4.10)
 pub record IsCellText (s : List ℕ) : Type 0 where
-  pub plain : list_all is_plain s ≡ true
+  pub plain : list_all is_line_character s ≡ true
   pub one_line : lines_of s ≡ s ∷ []
   pub trimmed : IsTrimmed s
 
 -- the text of a heading after number signs: in one line, with nothing at its end that a reader cuts (4.2)
 pub record IsHeadingText (s : List ℕ) : Type 0 where
-  pub plain : list_all is_plain s ≡ true
+  pub plain : list_all is_line_character s ≡ true
   pub one_line : lines_of s ≡ s ∷ []
   pub whole : heading_text s ≡ s
 
 -- the text of a heading with a line under it (4.3)
 pub record IsUnderlinedText (s : List ℕ) : Type 0 where
-  pub plain : list_all is_plain s ≡ true
+  pub plain : list_all is_line_character s ≡ true
   pub one_line : lines_of s ≡ s ∷ []
   pub line : IsFirstLine s
   pub whole : IsWhole s

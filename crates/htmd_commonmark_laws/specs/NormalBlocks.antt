@@ -9,14 +9,14 @@ use Rattle.htmd_document.specs.Lists.{is_tight_item, is_short, greatest_start}
 use Rattle.htmd_commonmark.specs.BlockMarkdown.{item_count}
 use Rattle.htmd_commonmark_reading.specs.Characters.{stripped}
 use Rattle.htmd_commonmark_reading.specs.Boxes as reading
-use Rattle.htmd_commonmark_laws.specs.LineTexts.{is_plain, lines_of}
+use Rattle.htmd_commonmark_laws.specs.LineTexts.{is_line_character, lines_of}
 
 abbrev pub is_level : ℕ → Bool
 is_level level = nat_le 1 level && nat_le level 6
 
 -- a word that a reader takes for the language of code, after a fence of either kind (CommonMark 0.31.2, 4.5)
 pub record IsLanguage (s : List ℕ) : Type 0 where
-  pub plain : list_all is_plain s ≡ true
+  pub plain : list_all is_line_character s ≡ true
   pub one_line : lines_of s ≡ s ∷ []
   pub bare : stripped s ≡ s
   pub word : reading.language s ≡ Some s
@@ -29,7 +29,7 @@ HasLanguage (Some s) = IsLanguage s
 
 -- code without characters that a reader changes
 abbrev pub IsCode : List ℕ → Type 0
-IsCode s = list_all is_plain s ≡ true
+IsCode s = list_all is_line_character s ≡ true
 
 abbrev pub HasBlock : Blocks → Type 0
 HasBlock no_blocks = ⊥

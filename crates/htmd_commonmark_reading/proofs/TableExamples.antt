@@ -13,7 +13,8 @@ table_rows = refl
 
 -- a bar with a backslash parts no cells, in code neither
 pub bars : read (codes "a\\|b|`\\|`\n-|:-:\n")
-    ≡ one (table (Alignment.None ∷ Alignment.Center ∷ []) (plain (codes "a|b") ∷ code (codes "|") no_inlines ∷ []) [])
+    ≡ one (table (Alignment.None ∷ Alignment.Center ∷ []) (plain (codes "a|b") ∷ code (codes "|") no_inlines
+    ∷ []) [])
 bars = refl
 
 -- the header is a paragraph's last line, and a block ends a table

@@ -5,7 +5,7 @@ use Rattle.htmd_document.specs.Documents as document
 use Rattle.htmd_document.specs.Documents.{emphasis, strong, superscript, subscript}
 use Rattle.htmd_commonmark_reading.specs.Markup.{Inlines, no_inlines, letters, formatted, code, image, line_break, raw}
 use Rattle.htmd_commonmark_reading.specs.Brackets.{inlines}
-use Rattle.htmd_commonmark_reading.specs.Views.{seen_inlines}
+use Rattle.htmd_commonmark_reading.specs.SeenMarkup.{seen_inlines}
 use Rattle.htmd_commonmark_reading.specs.Reading as reading
 use Rattle.htmd_commonmark_reading.proofs.ExampleTexts.{plain}
 

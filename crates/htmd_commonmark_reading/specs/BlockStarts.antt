@@ -21,7 +21,7 @@ use Rattle.htmd_grammar.specs.CharacterClasses.{first_is, begins_with, holds_in_
 use Rattle.htmd_grammar.specs.References.{number}
 use Rattle.htmd_commonmark_reading.specs.Characters.{is_space_or_tab, past_blanks, stripped}
 use Rattle.htmd_commonmark_reading.specs.Lines.{Line, is_blank, is_blank_text, indent, cut, after_marker, marks}
-use Rattle.htmd_commonmark_reading.specs.Boxes.{Part, headed, rule, html, no_parts, part, Container, quoting, listing, paragraph, indented, fenced, raw, Parts, Open, nothing, leaf, within, Box, box, joined}
+use Rattle.htmd_commonmark_reading.specs.Boxes.{ClosedBlock, headed, rule, html, no_closed_blocks, closed_block, Container, quoting, listing, paragraph, indented, fenced, raw, ClosedBlocks, Open, nothing, leaf, within, Box, box, joined}
 use Rattle.htmd_commonmark_reading.specs.RawTags.{begins_with_letter, open_tag, closing_tag, is_in_tag_name}
 
 -- What a line stands under: nothing that it could go on with, a paragraph, or a paragraph in a container that the line
@@ -44,7 +44,7 @@ is_under lazy = false
 -- what a line starts: nothing, a block that it is the whole of, or one that stays open
 pub data Start : Type 0 where
   no_start : Start
-  whole : (p : Part) → Start
+  whole : (p : ClosedBlock) → Start
   first_line : (o : Open) → Start
 
 -- ---- ATX headings (4.2)
@@ -102,13 +102,17 @@ abbrev pub block_names : List (List ℕ)
 block_names =
     codes "address" ∷ codes "article" ∷ codes "aside" ∷ codes "base" ∷ codes "basefont" ∷ codes "blockquote"
     ∷ codes "body" ∷ codes "caption" ∷ codes "center" ∷ codes "col" ∷ codes "colgroup" ∷ codes "dd"
-    ∷ codes "details" ∷ codes "dialog" ∷ codes "dir" ∷ codes "div" ∷ codes "dl" ∷ codes "dt" ∷ codes "fieldset"
+    ∷ codes "details" ∷ codes "dialog" ∷ codes "dir" ∷ codes "div" ∷ codes "dl" ∷ codes "dt"
+    ∷ codes "fieldset"
     ∷ codes "figcaption" ∷ codes "figure" ∷ codes "footer" ∷ codes "form" ∷ codes "frame" ∷ codes "frameset"
-    ∷ codes "h1" ∷ codes "h2" ∷ codes "h3" ∷ codes "h4" ∷ codes "h5" ∷ codes "h6" ∷ codes "head" ∷ codes "header"
-    ∷ codes "hr" ∷ codes "html" ∷ codes "iframe" ∷ codes "legend" ∷ codes "li" ∷ codes "link" ∷ codes "main"
+    ∷ codes "h1" ∷ codes "h2" ∷ codes "h3" ∷ codes "h4" ∷ codes "h5" ∷ codes "h6" ∷ codes "head"
+    ∷ codes "header"
+    ∷ codes "hr" ∷ codes "html" ∷ codes "iframe" ∷ codes "legend" ∷ codes "li" ∷ codes "link"
+    ∷ codes "main"
     ∷ codes "menu" ∷ codes "menuitem" ∷ codes "nav" ∷ codes "noframes" ∷ codes "ol" ∷ codes "optgroup"
     ∷ codes "option" ∷ codes "p" ∷ codes "param" ∷ codes "search" ∷ codes "section" ∷ codes "summary"
-    ∷ codes "table" ∷ codes "tbody" ∷ codes "td" ∷ codes "tfoot" ∷ codes "th" ∷ codes "thead" ∷ codes "title"
+    ∷ codes "table" ∷ codes "tbody" ∷ codes "td" ∷ codes "tfoot" ∷ codes "th" ∷ codes "thead"
+    ∷ codes "title"
     ∷ codes "tr" ∷ codes "track" ∷ codes "ul" ∷ []
 
 -- names of elements whose content is text, and which begin a block of the first kind
@@ -190,9 +194,9 @@ abbrev pub first_paragraph : List ℕ → Open
 first_paragraph s = leaf (paragraph [] (past_blanks s))
 
 -- nothing is open in a box, and a line that isn't blank starts this there
-abbrev pub opened : Parts → Bool → Line → Start → Box
+abbrev pub opened : ClosedBlocks → Bool → Line → Start → Box
 opened done g l no_start = box done g (first_paragraph l.text)
-opened done g l (whole p) = box (joined done (part g p no_parts)) false nothing
+opened done g l (whole p) = box (joined done (closed_block g p no_closed_blocks)) false nothing
 opened done g l (first_line o) = box done g o
 
 abbrev pub within_box : Container → Box → Open
@@ -201,7 +205,7 @@ within_box kind b = within kind b.done b.gap b.inner
 -- a container that begins with a line
 abbrev pub fresh : Container → Line → Start → Open
 fresh kind l s =
-    within_box kind (if is_blank l then box no_parts false nothing else opened no_parts false l s)
+    within_box kind (if is_blank l then box no_closed_blocks false nothing else opened no_closed_blocks false l s)
 
 -- the rest of a line after `>` and one column
 abbrev pub behind_quote : Line → Line

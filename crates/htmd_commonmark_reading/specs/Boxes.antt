@@ -18,20 +18,20 @@ pub data Container : Type 0 where
 
 mutual
   -- a closed block; an item is one of its own, and cells are raw
-  pub data Part : Type 0 where
-    text : (s : List ℕ) → Part
-    headed : (level : ℕ) (s : List ℕ) → Part
-    code : (language : Option (List ℕ)) (s : List ℕ) → Part
-    rule : Part
-    html : (s : List ℕ) → Part
-    grid : (alignments : List Alignment) (header : List (List ℕ)) (rows : List (List (List ℕ))) → Part
-    defined : (d : Definition) → Part
-    boxed : (kind : Container) (content : Parts) → Part
+  pub data ClosedBlock : Type 0 where
+    text : (s : List ℕ) → ClosedBlock
+    headed : (level : ℕ) (s : List ℕ) → ClosedBlock
+    code : (language : Option (List ℕ)) (s : List ℕ) → ClosedBlock
+    rule : ClosedBlock
+    html : (s : List ℕ) → ClosedBlock
+    grid : (alignments : List Alignment) (header : List (List ℕ)) (rows : List (List (List ℕ))) → ClosedBlock
+    defined : (d : Definition) → ClosedBlock
+    boxed : (kind : Container) (content : ClosedBlocks) → ClosedBlock
 
   -- closed blocks, each with whether a blank line stands before it
-  pub data Parts : Type 0 where
-    no_parts : Parts
-    part : (gap : Bool) (first : Part) (rest : Parts) → Parts
+  pub data ClosedBlocks : Type 0 where
+    no_closed_blocks : ClosedBlocks
+    closed_block : (gap : Bool) (first : ClosedBlock) (rest : ClosedBlocks) → ClosedBlocks
 
 -- An open leaf with its lines: a paragraph (4.8), indented code (4.4), fenced code with the fence's indentation, sign
 -- and length and the info string (4.5), raw HTML with what ends it, by nothing if a blank line does (4.6), or a table's
@@ -47,24 +47,24 @@ pub data Leaf : Type 0 where
 pub data Open : Type 0 where
   nothing : Open
   leaf : (l : Leaf) → Open
-  within : (kind : Container) (done : Parts) (gap : Bool) (inner : Open) → Open
+  within : (kind : Container) (done : ClosedBlocks) (gap : Bool) (inner : Open) → Open
 
 -- What is closed in a container, whether a blank line stands before the block that is open in it (or, if none is open,
 -- before what comes next), and that block.
 pub record Box : Type 0 where
-  pub done : Parts
+  pub done : ClosedBlocks
   pub gap : Bool
   pub inner : Open
 
-abbrev pub box : Parts → Bool → Open → Box
+abbrev pub box : ClosedBlocks → Bool → Open → Box
 box d g o = record { done = d; gap = g; inner = o }
 
-abbrev pub joined : Parts → Parts → Parts
-joined no_parts qs = qs
-joined (part g p ps) qs = part g p (joined ps qs)
+abbrev pub joined : ClosedBlocks → ClosedBlocks → ClosedBlocks
+joined no_closed_blocks qs = qs
+joined (closed_block g p ps) qs = closed_block g p (joined ps qs)
 
-abbrev pub one_part : Bool → Part → Parts
-one_part g p = part g p no_parts
+abbrev pub one_closed_block : Bool → ClosedBlock → ClosedBlocks
+one_closed_block g p = closed_block g p no_closed_blocks
 
 -- ---- closing
 
@@ -97,9 +97,9 @@ nonempty (c ∷ s) = Some (c ∷ s)
 abbrev pub language : List ℕ → Option (List ℕ)
 language info = nonempty (leading_run (λ c. not (is_end_of_word c)) (unescaped info))
 
-abbrev pub definition_parts : Bool → List Definition → Parts → Parts
+abbrev pub definition_parts : Bool → List Definition → ClosedBlocks → ClosedBlocks
 definition_parts g [] ps = ps
-definition_parts g (d ∷ ds) ps = part g (defined d) (definition_parts false ds ps)
+definition_parts g (d ∷ ds) ps = closed_block g (defined d) (definition_parts false ds ps)
 
 abbrev pub is_first : Bool → List Definition → Bool
 is_first g [] = g
@@ -107,30 +107,31 @@ is_first g (d ∷ ds) = false
 
 -- what the text of a paragraph or of a setext heading leaves: the definitions that it begins with, and the rest if
 -- there is any (4.7)
-abbrev pub parts_of : Bool → (List ℕ → Part) → Definitions → Parts
+abbrev pub parts_of : Bool → (List ℕ → ClosedBlock) → Definitions → ClosedBlocks
 parts_of g whole d =
     definition_parts g d.found
-    (if is_empty d.rest then no_parts else one_part (is_first g d.found) (whole d.rest))
+    (if is_empty d.rest then no_closed_blocks else one_closed_block (is_first g d.found) (whole d.rest))
 
 -- the cells of a table's rows
 abbrev pub fitted_rows : ℕ → List (List ℕ) → List (List (List ℕ))
 fitted_rows count [] = []
 fitted_rows count (r ∷ rs) = fitted count (cells r) ∷ fitted_rows count rs
 
-abbrev pub closed_leaf : Bool → Leaf → Parts
+abbrev pub closed_leaf : Bool → Leaf → ClosedBlocks
 closed_leaf g (paragraph earlier last) = parts_of g text (definitions (joined_lines (earlier ++ (last ∷ []))))
-closed_leaf g (indented ls) = one_part g (code None (joined_lines (without_last_blanks ls)))
-closed_leaf g (fenced columns sign count info ls) = one_part g (code (language info) (joined_lines ls))
-closed_leaf g (raw ends ls) = one_part g (html (joined_lines ls))
-closed_leaf g (table alignments header ls) = one_part g (grid alignments header (fitted_rows (length alignments) ls))
+closed_leaf g (indented ls) = one_closed_block g (code None (joined_lines (without_last_blanks ls)))
+closed_leaf g (fenced columns sign count info ls) = one_closed_block g (code (language info) (joined_lines ls))
+closed_leaf g (raw ends ls) = one_closed_block g (html (joined_lines ls))
+closed_leaf g (table alignments header ls) = one_closed_block g
+    (grid alignments header (fitted_rows (length alignments) ls))
 
-abbrev pub closed : Bool → Open → Parts
-closed g nothing = no_parts
+abbrev pub closed : Bool → Open → ClosedBlocks
+closed g nothing = no_closed_blocks
 closed g (leaf l) = closed_leaf g l
-closed g (within k done h o) = one_part g (boxed k (joined done (closed h o)))
+closed g (within k done h o) = one_closed_block g (boxed k (joined done (closed h o)))
 
 -- all that a box leaves
-abbrev pub shut : Box → Parts
+abbrev pub shut : Box → ClosedBlocks
 shut b = joined b.done (closed b.gap b.inner)
 
 -- ---- blank lines

@@ -5,9 +5,9 @@ use Rattle.htmd_grammar.specs.Characters.{greater_than_sign}
 use Rattle.htmd_grammar.specs.CharacterClasses.{first_is}
 use Rattle.htmd_commonmark_reading.specs.Lines.{Line, is_blank, indent, cut}
 use Rattle.htmd_commonmark_reading.specs.Boxes.{
-  Parts,
-  no_parts,
-  part,
+  ClosedBlocks,
+  no_closed_blocks,
+  closed_block,
   Container,
   quoting,
   listing,
@@ -45,9 +45,9 @@ is_nothing nothing = true
 is_nothing (leaf l) = false
 is_nothing (within k done g o) = false
 
-abbrev pub holds_nothing : Parts → Open → Bool
-holds_nothing no_parts o = is_nothing o
-holds_nothing (part g p ps) o = false
+abbrev pub holds_nothing : ClosedBlocks → Open → Bool
+holds_nothing no_closed_blocks o = is_nothing o
+holds_nothing (closed_block g p ps) o = false
 
 -- a line goes on with a quote if it begins with `>`, after at most three columns (5.1)
 abbrev pub quoted : Line → Option Line
@@ -76,11 +76,11 @@ after_container true = lazy
 after_container false = alone
 
 -- a box whose open container ends before a line that starts this
-abbrev pub after_open : Parts → Bool → Open → Line → Start → Box
+abbrev pub after_open : ClosedBlocks → Bool → Open → Line → Start → Box
 after_open done g o l s = begun (joined done (closed g o)) (was_blank g o) l s
 
 -- a box whose open container doesn't go on with a line, which starts this; the flag: it may be a lazy line
-abbrev pub left : Bool → Parts → Bool → Open → Line → Start → Box
+abbrev pub left : Bool → ClosedBlocks → Bool → Open → Line → Start → Box
 left true done g o l no_start = box done g (lazily o l)
 left true done g o l (whole p) = after_open done g o l (whole p)
 left true done g o l (first_line i) = after_open done g o l (first_line i)
@@ -91,11 +91,11 @@ may_be_lazy o l = in_paragraph o && not (is_blank l)
 
 -- ---- one more line
 
-abbrev pub inside : Parts → Bool → Container → Box → Box
+abbrev pub inside : ClosedBlocks → Bool → Container → Box → Box
 inside done g k b = box done g (within_box k b)
 
 -- a box after a line whose markers up to that box are cut off
-abbrev pub fed : Parts → Bool → Open → Line → Box
+abbrev pub fed : ClosedBlocks → Bool → Open → Line → Box
 fed done g nothing l = begun done g l (started alone l)
 fed done g (leaf f) l = on_leaf done g f l
 fed done g (within k d h o) l =
@@ -110,5 +110,5 @@ fed_all b [] = b
 fed_all b (l ∷ ls) = fed_all (fed b.done b.gap b.inner l) ls
 
 -- the closed blocks of lines
-abbrev pub parsed : List Line → Parts
-parsed ls = shut (fed_all (box no_parts false nothing) ls)
+abbrev pub parsed : List Line → ClosedBlocks
+parsed ls = shut (fed_all (box no_closed_blocks false nothing) ls)

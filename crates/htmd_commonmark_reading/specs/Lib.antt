@@ -13,5 +13,5 @@ pub mod DelimiterRuns
 pub mod InlineTokens
 pub mod Brackets
 pub mod Lists
-pub mod Views
+pub mod SeenMarkup
 pub mod Reading

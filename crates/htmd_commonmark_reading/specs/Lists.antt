@@ -6,7 +6,7 @@ use Rattle.std.specs.Prelude.{codes}
 use Rattle.htmd_grammar.specs.Characters.{left_square_bracket, right_square_bracket, space, is_one_of}
 use Rattle.htmd_grammar.specs.CharacterClasses.{behind_run}
 use Rattle.htmd_commonmark_reading.specs.Characters.{is_space_or_tab, is_white}
-use Rattle.htmd_commonmark_reading.specs.Boxes.{Container, quoting, listing, Part, Parts, no_parts, part}
+use Rattle.htmd_commonmark_reading.specs.Boxes.{Container, quoting, listing, ClosedBlock, ClosedBlocks, no_closed_blocks, closed_block}
 use Rattle.htmd_commonmark_reading.specs.Boxes as closed
 use Rattle.htmd_commonmark_reading.specs.Markup.{
   Inlines,
@@ -32,7 +32,7 @@ use Rattle.htmd_commonmark_reading.specs.Brackets.{References, inlines}
 -- ---- definitions (4.7)
 
 abbrev mutual
-  pub part_definitions : Part → References → References
+  pub part_definitions : ClosedBlock → References → References
   part_definitions (closed.text s) rest = rest
   part_definitions (closed.headed level s) rest = rest
   part_definitions (closed.code language s) rest = rest
@@ -43,9 +43,9 @@ abbrev mutual
   part_definitions (closed.boxed kind ps) rest = collected ps ++ rest
 
   -- all definitions of a document, in order
-  pub collected : Parts → References
-  collected no_parts = []
-  collected (part g p ps) = part_definitions p (collected ps)
+  pub collected : ClosedBlocks → References
+  collected no_closed_blocks = []
+  collected (closed_block g p ps) = part_definitions p (collected ps)
 
 -- ---- blocks and lists of items
 
@@ -126,24 +126,24 @@ row_inlines refs (r ∷ rs) = cell_inlines refs r ∷ row_inlines refs rs
 
 abbrev mutual
   -- a closed block before others; the text of a paragraph is read so
-  pub with_part : References → (List ℕ → Inlines) → Bool → Part → Gapped → Gapped
-  with_part refs reads g (closed.text s) rest = shown g (paragraph (reads s)) rest
-  with_part refs reads g (closed.headed level s) rest = shown g (heading level (inlines refs s)) rest
-  with_part refs reads g (closed.code language s) rest = shown g (code_block language s) rest
-  with_part refs reads g closed.rule rest = shown g thematic_break rest
-  with_part refs reads g (closed.html s) rest = shown g (html_block s) rest
-  with_part refs reads g (closed.grid alignments header rows) rest =
+  pub with_closed_block : References → (List ℕ → Inlines) → Bool → ClosedBlock → Gapped → Gapped
+  with_closed_block refs reads g (closed.text s) rest = shown g (paragraph (reads s)) rest
+  with_closed_block refs reads g (closed.headed level s) rest = shown g (heading level (inlines refs s)) rest
+  with_closed_block refs reads g (closed.code language s) rest = shown g (code_block language s) rest
+  with_closed_block refs reads g closed.rule rest = shown g thematic_break rest
+  with_closed_block refs reads g (closed.html s) rest = shown g (html_block s) rest
+  with_closed_block refs reads g (closed.grid alignments header rows) rest =
       shown g (table alignments (cell_inlines refs header) (row_inlines refs rows)) rest
-  with_part refs reads g (closed.defined d) rest = hidden g rest
-  with_part refs reads g (closed.boxed quoting ps) rest = with_box g quoting (gapped refs ps) rest
-  with_part refs reads g (closed.boxed (listing sign number columns) ps) rest =
+  with_closed_block refs reads g (closed.defined d) rest = hidden g rest
+  with_closed_block refs reads g (closed.boxed quoting ps) rest = with_box g quoting (gapped refs ps) rest
+  with_closed_block refs reads g (closed.boxed (listing sign number columns) ps) rest =
       with_box g (listing sign number columns) (item_gapped refs ps) rest
 
-  pub gapped : References → Parts → Gapped
-  gapped refs no_parts = no_gapped
-  gapped refs (part g p ps) = with_part refs (inlines refs) g p (gapped refs ps)
+  pub gapped : References → ClosedBlocks → Gapped
+  gapped refs no_closed_blocks = no_gapped
+  gapped refs (closed_block g p ps) = with_closed_block refs (inlines refs) g p (gapped refs ps)
 
   -- the blocks of an item, which may begin with a task
-  pub item_gapped : References → Parts → Gapped
-  item_gapped refs no_parts = no_gapped
-  item_gapped refs (part g p ps) = with_part refs (item_text refs) g p (gapped refs ps)
+  pub item_gapped : References → ClosedBlocks → Gapped
+  item_gapped refs no_closed_blocks = no_gapped
+  item_gapped refs (closed_block g p ps) = with_closed_block refs (item_text refs) g p (gapped refs ps)

@@ -2,18 +2,18 @@
 use Rattle.std.specs.Prelude.{ℕ, List, Option}
 use Rattle.htmd_document.specs.Documents as documents
 use Rattle.htmd_commonmark_reading.specs.Lines.{lines}
-use Rattle.htmd_commonmark_reading.specs.Boxes.{Parts}
+use Rattle.htmd_commonmark_reading.specs.Boxes.{ClosedBlocks}
 use Rattle.htmd_commonmark_reading.specs.Containers.{parsed}
 use Rattle.htmd_commonmark_reading.specs.Markup.{Blocks}
 use Rattle.htmd_commonmark_reading.specs.Lists.{collected, plain, gapped}
-use Rattle.htmd_commonmark_reading.specs.Views.{seen_blocks, document_blocks}
+use Rattle.htmd_commonmark_reading.specs.SeenMarkup.{seen_blocks, document_blocks}
 
 -- the closed blocks of a text (appendix, phase 1)
-abbrev pub parts : List ℕ → Parts
+abbrev pub parts : List ℕ → ClosedBlocks
 parts s = parsed (lines s)
 
 -- closed blocks with their inlines read (appendix, phase 2)
-abbrev pub finished : Parts → Blocks
+abbrev pub finished : ClosedBlocks → Blocks
 finished ps = plain (gapped (collected ps) ps)
 
 -- what a text says

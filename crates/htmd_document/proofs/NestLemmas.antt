@@ -12,8 +12,8 @@ use Rattle.htmd_document.specs.declared.nest.Frame as declared_frame
 use Rattle.htmd_document.specs.Documents.{Inlines, no_inlines, inline, Inline}
 use Rattle.htmd_document.specs.Documents as value
 use Rattle.htmd_document.specs.DocumentViews.{bytes_of_title, inline_step, inline_of, inlines_of}
-use Rattle.htmd_document.specs.Nesting.{Mark, mark_of, is_same, shared, met, wrapped_by, wrapped, one_inline, joined, behind}
-use Rattle.htmd_document.specs.NestViews.{Frame, frame_of, frame_after, followed, within, marks_of}
+use Rattle.htmd_document.specs.Nesting.{Wrapper, wrapper_of, is_same, shared, met, wrapped_by, wrapped, one_inline, joined, behind}
+use Rattle.htmd_document.specs.NestViews.{Frame, frame_of, frame_after, followed, within, wrappers_of}
 use Rattle.htmd_document.specs.Parts.{Around}
 use Rattle.htmd_document.specs.PartViews.{around_of}
 use Rattle.htmd_document.proofs.NestingLemmas.{within-push, within-open, behind-within, followed-assoc}
@@ -85,24 +85,24 @@ take-step-twice g f xs i x h e =
 
 -- ---- what is shared
 
-pub shared-more : (ms ns rest rest' : List Mark) (i : ℕ) (m n : Mark)
+pub shared-more : (ms ns rest rest' : List Wrapper) (i : ℕ) (m n : Wrapper)
     → drop i ms ≡ m ∷ rest → drop i ns ≡ n ∷ rest' → is_same m n ≡ true
     → (i + 1) + shared rest rest' ≡ i + shared (drop i ms) (drop i ns)
 shared-more ms ns rest rest' i m n p q same =
     rw (p, q, same) (omega arith)
 
-pub shared-else : (ms ns rest rest' : List Mark) (i : ℕ) (m n : Mark)
+pub shared-else : (ms ns rest rest' : List Wrapper) (i : ℕ) (m n : Wrapper)
     → drop i ms ≡ m ∷ rest → drop i ns ≡ n ∷ rest' → is_same m n ≡ false
     → shared (drop i ms) (drop i ns) ≡ 0
 shared-else ms ns rest rest' i m n p q same = rw (p, q, same) refl
 
-pub shared-end : (ms ns : List Mark) (i : ℕ) → length ms ≤ i → shared (drop i ms) ns ≡ 0
+pub shared-end : (ms ns : List Wrapper) (i : ℕ) → length ms ≤ i → shared (drop i ms) ns ≡ 0
 shared-end [] ns zero h = refl
 shared-end [] ns (suc i) h = refl
 shared-end (m ∷ ms) ns zero h = absurd (omega arith)
 shared-end (m ∷ ms) ns (suc i) h = shared-end ms ns i (omega arith)
 
-pub shared-end-other : (ms ns : List Mark) (i : ℕ) → length ns ≤ i → shared ms (drop i ns) ≡ 0
+pub shared-end-other : (ms ns : List Wrapper) (i : ℕ) → length ns ≤ i → shared ms (drop i ns) ≡ 0
 shared-end-other [] ns i h = refl
 shared-end-other (m ∷ ms) [] zero h = refl
 shared-end-other (m ∷ ms) [] (suc i) h = refl
@@ -201,19 +201,20 @@ opened-step fs fs' content content' outer i a x h e p q =
     ∙ (within-open fs content (around_of a) (wrapped rest x)
     ∙ ap (λ rs. within fs (joined content (wrapped rs x))) (sym (drop-step around_of outer i a h e))))
 
-pub opened-marks : (fs₀ fs fs' : List Frame) (outer : List declared_around.Around) (i : ℕ)
+pub opened-wrappers : (fs₀ fs fs' : List Frame) (outer : List declared_around.Around) (i : ℕ)
     (a : declared_around.Around)
     (content : Inlines) → i < length outer → a ≡ get_or outer i a
     → fs' ≡ fs ++ frame_after content (around_of a) ∷ []
-    → map (λ f. mark_of f.around) fs ≡ map (λ f. mark_of f.around) fs₀ ++ take i (marks_of outer)
-    → map (λ f. mark_of f.around) fs' ≡ map (λ f. mark_of f.around) fs₀ ++ take (i + 1) (marks_of outer)
-opened-marks fs₀ fs fs' outer i a content h e p q =
-    let mark : Frame → Mark = λ f. mark_of f.around in
-    ap (map mark) p
-    ∙ (map-append mark fs (frame_after content (around_of a) ∷ [])
-    ∙ (ap (λ ms. ms ++ mark_of (around_of a) ∷ []) q
-    ∙ (append_assoc (map mark fs₀) (take i (marks_of outer)) (mark_of (around_of a) ∷ [])
-    ∙ ap (λ ms. map mark fs₀ ++ ms) (sym (take-step-twice mark_of around_of outer i a h e)))))
+    → map (λ f. wrapper_of f.around) fs ≡ map (λ f. wrapper_of f.around) fs₀ ++ take i (wrappers_of outer)
+    → map (λ f. wrapper_of f.around) fs' ≡ map (λ f. wrapper_of f.around) fs₀
+    ++ take (i + 1) (wrappers_of outer)
+opened-wrappers fs₀ fs fs' outer i a content h e p q =
+    let wrapper : Frame → Wrapper = λ f. wrapper_of f.around in
+    ap (map wrapper) p
+    ∙ (map-append wrapper fs (frame_after content (around_of a) ∷ [])
+    ∙ (ap (λ ms. ms ++ wrapper_of (around_of a) ∷ []) q
+    ∙ (append_assoc (map wrapper fs₀) (take i (wrappers_of outer)) (wrapper_of (around_of a) ∷ [])
+    ∙ ap (λ ms. map wrapper fs₀ ++ ms) (sym (take-step-twice wrapper_of around_of outer i a h e)))))
 
 take-whole : {A : Type 0} (xs : List A) (n : ℕ) → length xs ≤ n → take n xs ≡ xs
 take-whole [] zero h = refl
@@ -254,19 +255,20 @@ reached-place old fs₀ fs content content₀ now around n i x h k all p same e 
     ∙ (ap (λ m. behind m (within fs₀ content₀) (map around_of around) x) size
     ∙ ap (λ xs. behind n xs (map around_of around) x) same))))
 
-pub reached-marks : (old fs₀ fs : List Frame) (around : List declared_around.Around) (n i : ℕ)
+pub reached-wrappers : (old fs₀ fs : List Frame) (around : List declared_around.Around) (n i : ℕ)
     → n ≤ length around → length (take (length around - n) (drop n around)) ≤ i → fs₀ ≡ take n old
-    → map (λ f. mark_of f.around) fs
-    ≡ map (λ f. mark_of f.around) fs₀ ++ take i (marks_of (take (length around - n) (drop n around)))
-    → map (λ f. mark_of f.around) fs
-    ≡ take n (map (λ f. mark_of f.around) old) ++ drop n (marks_of around)
-reached-marks old fs₀ fs around n i h all p e =
-    let mark : Frame → Mark = λ f. mark_of f.around in
+    → map (λ f. wrapper_of f.around) fs
+    ≡ map (λ f. wrapper_of f.around) fs₀ ++ take i (wrappers_of (take (length around - n) (drop n around)))
+    → map (λ f. wrapper_of f.around) fs
+    ≡ take n (map (λ f. wrapper_of f.around) old) ++ drop n (wrappers_of around)
+reached-wrappers old fs₀ fs around n i h all p e =
+    let wrapper : Frame → Wrapper = λ f. wrapper_of f.around in
     let outer : List declared_around.Around = take (length around - n) (drop n around) in
-    let whole : take i (marks_of outer) ≡ marks_of outer =
-    take-whole (marks_of outer) i (simp (length-map, length-map) all) in
-    let rest : marks_of outer ≡ drop n (marks_of around) =
-    ap marks_of (rest-range around n h)
-    ∙ (ap (map mark_of) (sym (drop-map around_of n around)) ∙ sym (drop-map mark_of n (map around_of around))) in
-    e ∙ (ap (λ ms. map mark fs₀ ++ ms) (whole ∙ rest)
-    ∙ ap (λ ms. ms ++ drop n (marks_of around)) (ap (map mark) p ∙ sym (take-map mark n old)))
+    let whole : take i (wrappers_of outer) ≡ wrappers_of outer =
+    take-whole (wrappers_of outer) i (simp (length-map, length-map) all) in
+    let rest : wrappers_of outer ≡ drop n (wrappers_of around) =
+    ap wrappers_of (rest-range around n h)
+    ∙ (ap (map wrapper_of) (sym (drop-map around_of n around))
+    ∙ sym (drop-map wrapper_of n (map around_of around))) in
+    e ∙ (ap (λ ms. map wrapper fs₀ ++ ms) (whole ∙ rest)
+    ∙ ap (λ ms. ms ++ drop n (wrappers_of around)) (ap (map wrapper) p ∙ sym (take-map wrapper n old)))

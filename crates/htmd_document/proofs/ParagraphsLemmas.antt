@@ -12,10 +12,10 @@ use Rattle.htmd_grammar.specs.Characters.{space}
 use Rattle.htmd_grammar.specs.CharacterClasses.{first_is}
 use Rattle.htmd_document.specs.Documents.{Format, emphasis, strong, deleted, superscript, subscript, Inline, Inlines, line_break}
 use Rattle.htmd_document.specs.Documents as value
-use Rattle.htmd_document.specs.Nesting.{Mark, of_format, of_link, mark_of, is_same_format, is_same, shared, behind, text_or_code}
-use Rattle.htmd_document.specs.Paragraphs.{Writing, parted, shown, after_leaf, after_character, gap_behind, shared_marks, latest_of, is_leaf, spaced_out}
+use Rattle.htmd_document.specs.Nesting.{Wrapper, of_format, of_link, wrapper_of, is_same_format, is_same, shared, behind, text_or_code}
+use Rattle.htmd_document.specs.Paragraphs.{Writing, parted, shown, after_leaf, after_character, gap_behind, shared_wrappers, latest_of, is_leaf, spaced_out}
 use Rattle.htmd_document.specs.Paragraphs.{ended, gap_before, white_behind, is_code_gap, gap_after_task}
-use Rattle.htmd_document.specs.ParagraphViews.{settled, IsReached}
+use Rattle.htmd_document.specs.ParagraphViews.{with_latest, IsReached}
 use Rattle.htmd_document.specs.Parts.{Around}
 use Rattle.htmd_document.specs.Spaces.{is_white, no_gap}
 use Rattle.htmd_document.proofs.NestingLemmas.{behind-texts, joined-texts}
@@ -49,11 +49,11 @@ same-format subscript deleted h = cc
 same-format subscript superscript h = cc
 same-format subscript subscript h = refl
 
-same-mark : (m n : Mark) → is_same m n ≡ true → m ≡ n
-same-mark (of_format f) (of_format g) h = ap of_format (same-format f g h)
-same-mark (of_link m) (of_link n) h = ap of_link (grind (arith, nat_tests, h))
-same-mark (of_format f) (of_link n) h = cc
-same-mark (of_link m) (of_format g) h = cc
+same-wrapper : (m n : Wrapper) → is_same m n ≡ true → m ≡ n
+same-wrapper (of_format f) (of_format g) h = ap of_format (same-format f g h)
+same-wrapper (of_link m) (of_link n) h = ap of_link (grind (arith, nat_tests, h))
+same-wrapper (of_format f) (of_link n) h = cc
+same-wrapper (of_link m) (of_format g) h = cc
 
 alike-format : (f : Format) → is_same_format f f ≡ true
 alike-format emphasis = refl
@@ -62,71 +62,74 @@ alike-format deleted = refl
 alike-format superscript = refl
 alike-format subscript = refl
 
-alike-mark : (m : Mark) → is_same m m ≡ true
-alike-mark (of_format f) = alike-format f
-alike-mark (of_link n) = grind (arith, nat_tests)
+alike-wrapper : (m : Wrapper) → is_same m m ≡ true
+alike-wrapper (of_format f) = alike-format f
+alike-wrapper (of_link n) = grind (arith, nat_tests)
 
-pub shared-self : (ms : List Mark) → shared ms ms ≡ length ms
+pub shared-self : (ms : List Wrapper) → shared ms ms ≡ length ms
 shared-self [] = refl
-shared-self (m ∷ ms) = rw (alike-mark m) (ap suc (shared-self ms))
+shared-self (m ∷ ms) = rw (alike-wrapper m) (ap suc (shared-self ms))
 
 if-suc : (b : Bool) (n k : ℕ) → n ≤ k → cond b (suc n) 0 ≤ suc k
 if-suc true n k h = omega arith
 if-suc false n k h = omega arith
 
-pub shared-le : (ms ns : List Mark) → shared ms ns ≤ length ms
+pub shared-le : (ms ns : List Wrapper) → shared ms ns ≤ length ms
 shared-le [] ns = omega arith
 shared-le (m ∷ ms) [] = omega arith
 shared-le (m ∷ ms) (n ∷ ns) = if-suc (is_same m n) (shared ms ns) (length ms) (shared-le ms ns)
 
-pub shared-le-other : (ms ns : List Mark) → shared ms ns ≤ length ns
+pub shared-le-other : (ms ns : List Wrapper) → shared ms ns ≤ length ns
 shared-le-other [] ns = omega arith
 shared-le-other (m ∷ ms) [] = omega arith
 shared-le-other (m ∷ ms) (n ∷ ns) = if-suc (is_same m n) (shared ms ns) (length ns) (shared-le-other ms ns)
 
-prefix-step : (b : Bool) (m n : Mark) (ms ns : List Mark) (k : ℕ) → (b ≡ true → m ≡ n)
+prefix-step : (b : Bool) (m n : Wrapper) (ms ns : List Wrapper) (k : ℕ) → (b ≡ true → m ≡ n)
     → take k ms ≡ take k ns
     → take (cond b (suc k) 0) (m ∷ ms) ≡ take (cond b (suc k) 0) (n ∷ ns)
 prefix-step true m n ms ns k same h = ap (λ x. x ∷ take k ms) (same refl) ∙ ap (λ xs. n ∷ xs) h
 prefix-step false m n ms ns k same h = refl
 
-pub shared-prefix : (ms ns : List Mark) → take (shared ms ns) ms ≡ take (shared ms ns) ns
+pub shared-prefix : (ms ns : List Wrapper) → take (shared ms ns) ms ≡ take (shared ms ns) ns
 shared-prefix [] [] = refl
 shared-prefix [] (n ∷ ns) = refl
 shared-prefix (m ∷ ms) [] = refl
 shared-prefix (m ∷ ms) (n ∷ ns) =
-    prefix-step (is_same m n) m n ms ns (shared ms ns) (same-mark m n) (shared-prefix ms ns)
+    prefix-step (is_same m n) m n ms ns (shared ms ns) (same-wrapper m n) (shared-prefix ms ns)
 
 leaf-le : (b : Bool) (n k : ℕ) → n ≤ k → cond b n 0 ≤ k
 leaf-le true n k h = h
 leaf-le false n k h = omega arith
 
-pub marks-le : (w : Writing) (ns : List Mark) → shared_marks w ns ≤ length ns
-marks-le w ns = leaf-le (is_leaf w.latest) (shared w.around ns) (length ns) (shared-le-other w.around ns)
+pub wrappers-le : (w : Writing) (ns : List Wrapper) → shared_wrappers w ns ≤ length ns
+wrappers-le w ns = leaf-le (is_leaf w.latest) (shared w.around ns) (length ns) (shared-le-other w.around ns)
 
-leaf-prefix : (b : Bool) (n : ℕ) (ms ns : List Mark) → take n ms ≡ take n ns → take (cond b n 0) ms ≡ take
+leaf-prefix : (b : Bool) (n : ℕ) (ms ns : List Wrapper) → take n ms ≡ take n ns → take (cond b n 0) ms ≡ take
     (cond b n 0) ns
 leaf-prefix true n ms ns h = h
 leaf-prefix false n ms ns h = refl
 
-pub marks-prefix : (w : Writing) (ns : List Mark) → take (shared_marks w ns) w.around ≡ take (shared_marks w ns) ns
-marks-prefix w ns = leaf-prefix (is_leaf w.latest) (shared w.around ns) w.around ns (shared-prefix w.around ns)
+pub wrappers-prefix : (w : Writing) (ns : List Wrapper) → take (shared_wrappers w ns) w.around
+    ≡ take (shared_wrappers w ns) ns
+wrappers-prefix w ns = leaf-prefix (is_leaf w.latest) (shared w.around ns) w.around ns (shared-prefix w.around ns)
 
 -- ---- a leaf after a gap
 
 pub reached-shown : (old mid : Writing) (around : List Around) (is_code : Bool) (n : ℕ) (leaf : Inline)
-    (content : Inlines) (marks : List Mark) → IsReached old mid around is_code n
-    → content ≡ behind n mid.content around leaf → marks ≡ take n mid.around ++ drop n (map mark_of around)
-    → settled (record mid { content = content; around = marks }) (latest_of is_code) ≡ after_leaf old around is_code
+    (content : Inlines) (wrappers : List Wrapper) → IsReached old mid around is_code n
+    → content ≡ behind n mid.content around leaf → wrappers ≡ take n mid.around
+    ++ drop n (map wrapper_of around)
+    → with_latest (record mid { content = content; around = wrappers }) (latest_of is_code)
+    ≡ after_leaf old around is_code
     leaf
-reached-shown old mid around is_code n leaf content marks h p q =
-    let outer : List Mark = map mark_of around in
+reached-shown old mid around is_code n leaf content wrappers h p q =
+    let outer : List Wrapper = map wrapper_of around in
     let prefix : take n (parted old).around ≡ take n outer =
-    ap (λ k. take k (parted old).around) h.count ∙ (marks-prefix (parted old) outer ∙ ap (λ k. take k outer)
+    ap (λ k. take k (parted old).around) h.count ∙ (wrappers-prefix (parted old) outer ∙ ap (λ k. take k outer)
     (sym h.count)) in
-    let all : marks ≡ outer =
-    q ∙ (ap (λ xs. xs ++ drop n outer) (h.put.marks ∙ prefix) ∙ take-append-drop n outer) in
-    let put : content ≡ behind (shared_marks (parted old) outer)
+    let all : wrappers ≡ outer =
+    q ∙ (ap (λ xs. xs ++ drop n outer) (h.put.wrappers ∙ prefix) ∙ take-append-drop n outer) in
+    let put : content ≡ behind (shared_wrappers (parted old) outer)
     (gap_behind (parted old).latest (parted old) around is_code) around leaf =
     p ∙ (ap (λ xs. behind n xs around leaf) h.put.content
     ∙ ap (λ k. behind k (gap_behind (parted old).latest (parted old) around is_code) around leaf) h.count) in
@@ -138,7 +141,7 @@ reached-shown old mid around is_code n leaf content marks h p q =
 pub reached-le : (old mid : Writing) (around : List Around) (is_code : Bool) (n : ℕ)
     → IsReached old mid around is_code n → n ≤ length around
 reached-le old mid around is_code n h =
-    rw h.count (rw (length-map around mark_of) at (marks-le (parted old) (map mark_of around)))
+    rw h.count (rw (length-map around wrapper_of) at (wrappers-le (parted old) (map wrapper_of around)))
 
 -- ---- a text, and what follows it
 
@@ -169,13 +172,13 @@ IfOk-two (Ok x) P Q R f p q = f x p q
 IfOk-two (Err e) P Q R f p q = tt
 
 pub gap-break : (w : Writing) (around : List Around) (is_code : Bool) (n : ℕ)
-    → n ≡ shared w.around (map mark_of around) → w.gap.has_break ≡ true
+    → n ≡ shared w.around (map wrapper_of around) → w.gap.has_break ≡ true
     → behind n w.content (take n around) line_break ≡ gap_before w around is_code
 gap-break w around is_code n e h =
-    let k : ℕ = shared w.around (map mark_of around) in
+    let k : ℕ = shared w.around (map wrapper_of around) in
     ap (λ m. behind m w.content (take m around) line_break) e
     ∙ ap (λ b. if b then behind k w.content (take k around) line_break else
-    white_behind k w.content around (is_code && is_code_gap w (map mark_of around)) w.gap.white) (sym h)
+    white_behind k w.content around (is_code && is_code_gap w (map wrapper_of around)) w.gap.white) (sym h)
 
 white-some : (n : ℕ) (xs : Inlines) (around : List Around) (is_code : Bool) (s : List ℕ)
     → (length s == 0) ≡ false
@@ -190,12 +193,13 @@ white-none n xs around is_code [] h = refl
 white-none n xs around is_code (b ∷ s) h = absurd (grind (arith, nat_tests, h))
 
 pub gap-white : (w : Writing) (around : List Around) (is_code : Bool) (n : ℕ)
-    → n ≡ shared w.around (map mark_of around) → w.gap.has_break ≡ false → (length w.gap.white == 0) ≡ false
-    → behind n w.content (take n around) (text_or_code (is_code && is_code_gap w (map mark_of around)) w.gap.white)
+    → n ≡ shared w.around (map wrapper_of around) → w.gap.has_break ≡ false → (length w.gap.white == 0)
+    ≡ false
+    → behind n w.content (take n around) (text_or_code (is_code && is_code_gap w (map wrapper_of around)) w.gap.white)
     ≡ gap_before w around is_code
 gap-white w around is_code n e h some =
-    let k : ℕ = shared w.around (map mark_of around) in
-    let whole : Bool = is_code && is_code_gap w (map mark_of around) in
+    let k : ℕ = shared w.around (map wrapper_of around) in
+    let whole : Bool = is_code && is_code_gap w (map wrapper_of around) in
     white-some n w.content around whole w.gap.white some
     ∙ (ap (λ m. white_behind m w.content around whole w.gap.white) e
     ∙ ap (λ b. if b then behind k w.content (take k around) line_break else
@@ -204,8 +208,8 @@ gap-white w around is_code n e h some =
 pub gap-none : (w : Writing) (around : List Around) (is_code : Bool)
     → w.gap.has_break ≡ false → (length w.gap.white == 0) ≡ true → w.content ≡ gap_before w around is_code
 gap-none w around is_code h none =
-    let k : ℕ = shared w.around (map mark_of around) in
-    let whole : Bool = is_code && is_code_gap w (map mark_of around) in
+    let k : ℕ = shared w.around (map wrapper_of around) in
+    let whole : Bool = is_code && is_code_gap w (map wrapper_of around) in
     white-none k w.content around whole w.gap.white none
     ∙ ap (λ b. if b then behind k w.content (take k around) line_break else
     white_behind k w.content around whole w.gap.white) (sym h)
@@ -225,10 +229,10 @@ spaced-begun w h = record {
   content = ap (λ b. behind 0 w.content [] (value.text (cond b w.gap.white (space ∷ w.gap.white)))) (sym h);
 }
 
-pub spaced-put : (w : Writing) (xs : Inlines) (marks : List Mark) → first_is space w.gap.white ≡ false
+pub spaced-put : (w : Writing) (xs : Inlines) (wrappers : List Wrapper) → first_is space w.gap.white ≡ false
     → xs ≡ behind 0 w.content [] (value.text (space ∷ []))
-    → IsSpaced w (record w { content = xs; around = marks })
-spaced-put w xs marks h e = record {
+    → IsSpaced w (record w { content = xs; around = wrappers })
+spaced-put w xs wrappers h e = record {
   in_item = refl;
   is_flat = refl;
   done = refl;
@@ -238,14 +242,14 @@ spaced-put w xs marks h e = record {
 }
 
 -- what is open after a gap
-pub gap-marks : (ms rest marks : List Mark) (n : ℕ) → n ≤ length ms → marks ≡ take n ms ++ rest
-    → take n marks ≡ take n ms
-gap-marks ms rest marks n h e =
+pub gap-wrappers : (ms rest wrappers : List Wrapper) (n : ℕ) → n ≤ length ms → wrappers ≡ take n ms ++ rest
+    → take n wrappers ≡ take n ms
+gap-wrappers ms rest wrappers n h e =
     let size : length (take n ms) ≡ n = length-take-le n ms h in
     ap (take n) e ∙ (ap (λ k. take k (take n ms ++ rest)) (sym size) ∙ take-append_seam (take n ms) rest)
 
-pub gap-bound : (ms rest marks : List Mark) (n : ℕ) → n ≤ length ms → marks ≡ take n ms ++ rest
-    → n ≤ length marks
-gap-bound ms rest marks n h e =
+pub gap-bound : (ms rest wrappers : List Wrapper) (n : ℕ) → n ≤ length ms → wrappers ≡ take n ms ++ rest
+    → n ≤ length wrappers
+gap-bound ms rest wrappers n h e =
     let size : length (take n ms) ≡ n = length-take-le n ms h in
     rw (e, length-append) (omega arith)

@@ -17,13 +17,13 @@ use Rattle.htmd_text.specs.SqueezedTexts.{squeezed_text}
 use Rattle.htmd_text.specs.Trims.{trimmed_end}
 use Rattle.htmd_text.proofs.WhiteSpaceLemmas.{other_stays}
 use Rattle.htmd_document.specs.Documents.{Inlines}
-use Rattle.htmd_document.specs.Nesting.{mark_of, shared, behind, text_or_code}
-use Rattle.htmd_document.specs.Paragraphs.{Writing, parted, ended, shown, after_leaf, after_character, gap_behind, shared_marks}
+use Rattle.htmd_document.specs.Nesting.{wrapper_of, shared, behind, text_or_code}
+use Rattle.htmd_document.specs.Paragraphs.{Writing, parted, ended, shown, after_leaf, after_character, gap_behind, shared_wrappers}
 use Rattle.htmd_document.specs.Paragraphs.{latest_of, spaced_out, white_behind, is_code_gap}
 use Rattle.htmd_document.specs.Parts.{Around}
 use Rattle.htmd_document.specs.Spaces.{no_gap, shown_white, is_white, is_wide_space, ends_with_space}
 use Rattle.htmd_document.proofs.NestingLemmas.{behind-texts}
-use Rattle.htmd_document.proofs.ParagraphsLemmas.{shared-self, marks-le}
+use Rattle.htmd_document.proofs.ParagraphsLemmas.{shared-self, wrappers-le}
 use Rattle.htmd_document.proofs.PiecesLemmas.{trimmed-passing, trimmed-failing}
 use Rattle.htmd_document.proofs.SpacesLemmas.{front-some}
 
@@ -170,13 +170,13 @@ number-same n = grind (arith, nat_tests)
 
 same-gap : (v : Writing) (around : List Around) (is_code : Bool) (s g : List ℕ) (b : Bool)
     → (is_code ≡ true → b ≡ true)
-    → (is_code && is_code_gap (waiting v around is_code s g b) (map mark_of around)) ≡ is_code
+    → (is_code && is_code_gap (waiting v around is_code s g b) (map wrapper_of around)) ≡ is_code
 same-gap v around false s g b code = refl
 same-gap v around true s g b code =
     let all : b ≡ true = code refl in
-    let size : (shared (map mark_of around) (map mark_of around) == length (map mark_of around)) ≡ true =
-    ap (λ n. n == length (map mark_of around)) (shared-self (map mark_of around))
-    ∙ number-same (length (map mark_of around)) in
+    let size : (shared (map wrapper_of around) (map wrapper_of around) == length (map wrapper_of around)) ≡ true =
+    ap (λ n. n == length (map wrapper_of around)) (shared-self (map wrapper_of around))
+    ∙ number-same (length (map wrapper_of around)) in
     rw (all, size) refl
 
 gap-put : (xs : Inlines) (n : ℕ) (around : List Around) (is_code w : Bool) (x : ℕ) (g : List ℕ)
@@ -189,15 +189,15 @@ gap-put xs n around is_code w x g e same =
     (take_all (length around) around (omega arith))
     ∙ ap (λ b. behind (length around) xs around (text_or_code b (x ∷ g))) same)
 
-all-shared : (around : List Around) → shared (map mark_of around) (map mark_of around) ≡ length around
-all-shared around = shared-self (map mark_of around) ∙ length-map around mark_of
+all-shared : (around : List Around) → shared (map wrapper_of around) (map wrapper_of around) ≡ length around
+all-shared around = shared-self (map wrapper_of around) ∙ length-map around wrapper_of
 
 twice : (v : Writing) (around : List Around) (is_code : Bool) (s t : List ℕ)
     → behind (length around) (shown v around is_code (text_or_code is_code s)).content around (text_or_code is_code t)
     ≡ (shown v around is_code (text_or_code is_code (s ++ t))).content
 twice v around is_code s t =
-    behind-texts (shared_marks v (map mark_of around)) (gap_behind v.latest v around is_code) around is_code s t
-    (rw (length-map around mark_of) at (marks-le v (map mark_of around)))
+    behind-texts (shared_wrappers v (map wrapper_of around)) (gap_behind v.latest v around is_code) around is_code s t
+    (rw (length-map around wrapper_of) at (wrappers-le v (map wrapper_of around)))
 
 gap-content : (v : Writing) (around : List Around) (is_code : Bool) (s g : List ℕ) (b : Bool)
     → (is_code ≡ true → b ≡ true)
@@ -208,16 +208,17 @@ gap-content v around true s [] b code =
 gap-content v around false s [] b code =
     ap (λ t. (shown v around false (text_or_code false t)).content) (sym (append-nil s))
 gap-content v around true s (x ∷ g) b code =
-    gap-put (shown v around true (text_or_code true s)).content (shared (map mark_of around) (map mark_of around))
+    gap-put (shown v around true (text_or_code true s)).content (shared (map wrapper_of around) (map wrapper_of around))
     around true _ x g (all-shared around) (same-gap v around true s (x ∷ g) b code)
     ∙ twice v around true s (x ∷ g)
 gap-content v around false s (x ∷ g) b code =
-    gap-put (shown v around false (text_or_code false s)).content (shared (map mark_of around) (map mark_of around))
+    gap-put (shown v around false (text_or_code false s)).content
+    (shared (map wrapper_of around) (map wrapper_of around))
     around false _ x g (all-shared around) (same-gap v around false s (x ∷ g) b code)
     ∙ twice v around false s (x ∷ g)
 
 place-again : (v : Writing) (around : List Around) (is_code : Bool) (s g : List ℕ) (b : Bool)
-    → shared_marks (waiting v around is_code s g b) (map mark_of around) ≡ length around
+    → shared_wrappers (waiting v around is_code s g b) (map wrapper_of around) ≡ length around
 place-again v around true s g b = all-shared around
 place-again v around false s g b = all-shared around
 
@@ -227,7 +228,7 @@ content-again : (v : Writing) (around : List Around) (is_code : Bool) (s g t : L
     ≡ (shown v around is_code (text_or_code is_code (s ++ (g ++ t)))).content
 content-again v around is_code s g t b code =
     let w : Writing = waiting v around is_code s g b in
-    ap (λ xs. behind (shared_marks w (map mark_of around)) xs around (text_or_code is_code t))
+    ap (λ xs. behind (shared_wrappers w (map wrapper_of around)) xs around (text_or_code is_code t))
     (gap-content v around is_code s g b code)
     ∙ (ap (λ k. behind k (shown v around is_code (text_or_code is_code (s ++ g))).content around
     (text_or_code is_code t)) (place-again v around is_code s g b)
@@ -254,7 +255,7 @@ plain-step v around is_code s g b c plain code =
     ∙ ap (λ xs. record v {
       content = xs;
       latest = latest_of is_code;
-      around = map mark_of around;
+      around = map wrapper_of around;
       gap = no_gap;
       is_blank = false;
       breaks = 0;

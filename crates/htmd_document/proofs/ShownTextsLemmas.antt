@@ -63,9 +63,9 @@ null-told : list_any is_unshown_byte (encode_utf8 null) ≡ true
 unfolding encode_utf8
 null-told = refl
 
-mark-told : list_any is_unshown_byte (encode_utf8 byte_order_mark) ≡ true
+wrapper-told : list_any is_unshown_byte (encode_utf8 byte_order_mark) ≡ true
 unfolding encode_utf8
-mark-told = refl
+wrapper-told = refl
 
 shown-character : (c : ℕ) → list_any is_unshown_byte (encode_utf8 c) ≡ false → is_shown c ≡ true
 shown-character c h = test (c == null)
@@ -78,7 +78,7 @@ shown-character c h = test (c == null)
     (λ f.
     let same : c ≡ byte_order_mark = grind (arith, nat_tests, f) in
     let no : true ≡ false =
-    sym mark-told ∙ subst (λ (x : ℕ). list_any is_unshown_byte (encode_utf8 x) ≡ false) same h in
+    sym wrapper-told ∙ subst (λ (x : ℕ). list_any is_unshown_byte (encode_utf8 x) ≡ false) same h in
     cc)
     (λ f. rw (e, f) refl))
 

@@ -2,7 +2,7 @@
 use Rattle.std.specs.Prelude.{List, [], ◌∷◌, map}
 use Rattle.htmd_document.specs.Documents.{Inline, Inlines, no_inlines, inline}
 use Rattle.htmd_document.specs.DocumentViews.{inlines_of}
-use Rattle.htmd_document.specs.Nesting.{Mark, mark_of, wrapped_by, one_inline, joined}
+use Rattle.htmd_document.specs.Nesting.{Wrapper, wrapper_of, wrapped_by, one_inline, joined}
 use Rattle.htmd_document.specs.Parts.{Around}
 use Rattle.htmd_document.specs.PartViews.{around_of}
 use Rattle.htmd_document.specs.declared.around.Around as declared_around
@@ -42,11 +42,11 @@ abbrev pub put_in : declared_nest.Nest → Inline → Inlines
 put_in n x = within (frames_of n) (joined (content_of n) x)
 
 -- what is open, from the outermost in
-abbrev pub marks_in : declared_nest.Nest → List Mark
-marks_in n = map (λ f. mark_of f.around) (frames_of n)
+abbrev pub wrappers_in : declared_nest.Nest → List Wrapper
+wrappers_in n = map (λ f. wrapper_of f.around) (frames_of n)
 
-abbrev pub marks_of : List declared_around.Around → List Mark
-marks_of around = map mark_of (map around_of around)
+abbrev pub wrappers_of : List declared_around.Around → List Wrapper
+wrappers_of around = map wrapper_of (map around_of around)
 
 -- what opens after these inlines
 abbrev pub frame_after : Inlines → Around → Frame

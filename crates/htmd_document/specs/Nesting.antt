@@ -6,13 +6,13 @@ use Rattle.htmd_document.specs.Documents as value
 use Rattle.htmd_document.specs.Parts.{Around, formatted, linked}
 
 -- which format stands around a leaf, or which link: the number of its node
-pub data Mark : Type 0 where
-  of_format : (format : Format) → Mark
-  of_link : (node : ℕ) → Mark
+pub data Wrapper : Type 0 where
+  of_format : (format : Format) → Wrapper
+  of_link : (node : ℕ) → Wrapper
 
-abbrev pub mark_of : Around → Mark
-mark_of (formatted format) = of_format format
-mark_of (linked node address title) = of_link node
+abbrev pub wrapper_of : Around → Wrapper
+wrapper_of (formatted format) = of_format format
+wrapper_of (linked node address title) = of_link node
 
 abbrev pub is_same_format : Format → Format → Bool
 is_same_format emphasis emphasis = true
@@ -22,14 +22,14 @@ is_same_format superscript superscript = true
 is_same_format subscript subscript = true
 is_same_format f g = false
 
-abbrev pub is_same : Mark → Mark → Bool
+abbrev pub is_same : Wrapper → Wrapper → Bool
 is_same (of_format f) (of_format g) = is_same_format f g
 is_same (of_link m) (of_link n) = m == n
 is_same (of_format f) (of_link n) = false
 is_same (of_link m) (of_format g) = false
 
--- how many marks two leaves share, from the outermost in
-abbrev pub shared : List Mark → List Mark → ℕ
+-- how many wrappers two leaves share, from the outermost in
+abbrev pub shared : List Wrapper → List Wrapper → ℕ
 shared [] ns = 0
 shared (m ∷ ms) [] = 0
 shared (m ∷ ms) (n ∷ ns) = if is_same m n then suc (shared ms ns) else 0
@@ -81,7 +81,8 @@ in_last change no_inlines = no_inlines
 in_last change (inline x no_inlines) = inline (with_content change x) no_inlines
 in_last change (inline x (inline x' xs)) = inline x (in_last change (inline x' xs))
 
--- A leaf after others, in the last format as deep as it shares its marks with the leaf before; what else stands around
+-- A leaf after others, in the last format as deep as it shares its wrappers with the leaf before; what else stands
+-- around
 -- it begins anew.
 abbrev pub behind : ℕ → Inlines → List Around → Inline → Inlines
 behind zero xs around y = joined xs (wrapped around y)

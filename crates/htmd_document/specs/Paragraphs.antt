@@ -10,7 +10,7 @@ use Rattle.htmd_document.specs.declared.paragraphs.Latest.{Latest}
 use Rattle.htmd_document.specs.declared.paragraphs.Latest.TheVariants.{Nothing, Task, Plain, Code}
 use Rattle.htmd_document.specs.Documents.{Inline, text, image, line_break, task, Inlines, no_inlines}
 use Rattle.htmd_document.specs.Documents.{Block, paragraph, Blocks, blocks_of}
-use Rattle.htmd_document.specs.Nesting.{Mark, mark_of, shared, text_or_code, one_inline, behind}
+use Rattle.htmd_document.specs.Nesting.{Wrapper, wrapper_of, shared, text_or_code, one_inline, behind}
 use Rattle.htmd_document.specs.Parts.{Around, Part, run, picture, break, box, edge, whole}
 use Rattle.htmd_document.specs.Spaces.{Gap, no_gap, spaced, broken, is_white}
 
@@ -25,7 +25,7 @@ pub record Writing : Type 0 where
   pub content : Inlines
   -- what showed last in this paragraph, and what stands around it
   pub latest : Latest
-  pub around : List Mark
+  pub around : List Wrapper
   -- what came after it
   pub gap : Gap
   -- whether nothing but spaces and breaks stand in this paragraph
@@ -105,9 +105,9 @@ abbrev pub after_task : List ℕ → List ℕ
 after_task s = if first_is space s then s else space ∷ s
 
 -- whether the gap before a code is code: it stands between two codes with the same around them, and all of it is code
-abbrev pub is_code_gap : Writing → List Mark → Bool
-is_code_gap w marks = is_code_leaf w.latest && w.gap.is_code && (shared w.around marks == length w.around)
-    && (shared w.around marks == length marks)
+abbrev pub is_code_gap : Writing → List Wrapper → Bool
+is_code_gap w wrappers = is_code_leaf w.latest && w.gap.is_code && (shared w.around wrappers == length w.around)
+    && (shared w.around wrappers == length wrappers)
 
 -- the gap after a task has no break
 abbrev pub gap_after_task : Writing → Inlines
@@ -115,10 +115,10 @@ gap_after_task w = behind 0 w.content [] (text (after_task w.gap.white))
 
 -- the gap between two leaves stands in what both share; a break in it takes all white space
 abbrev pub gap_before : Writing → List Around → Bool → Inlines
-gap_before w around is_code = let n = shared w.around (map mark_of around) in
+gap_before w around is_code = let n = shared w.around (map wrapper_of around) in
     if w.gap.has_break
     then behind n w.content (take n around) line_break
-    else white_behind n w.content around (is_code && is_code_gap w (map mark_of around)) w.gap.white
+    else white_behind n w.content around (is_code && is_code_gap w (map wrapper_of around)) w.gap.white
 
 -- the inlines with the gap before a leaf, which goes at the beginning of a paragraph
 abbrev pub gap_behind : Latest → Writing → List Around → Bool → Inlines
@@ -130,16 +130,16 @@ gap_behind Code w around is_code = gap_before w around is_code
 abbrev pub latest_of : Bool → Latest
 latest_of is_code = if is_code then Code else Plain
 
--- how many marks a leaf shares with the leaf before it in the paragraph
-abbrev pub shared_marks : Writing → List Mark → ℕ
-shared_marks w marks = if is_leaf w.latest then shared w.around marks else 0
+-- how many wrappers a leaf shares with the leaf before it in the paragraph
+abbrev pub shared_wrappers : Writing → List Wrapper → ℕ
+shared_wrappers w wrappers = if is_leaf w.latest then shared w.around wrappers else 0
 
 -- after one more leaf of the paragraph
 abbrev pub shown : Writing → List Around → Bool → Inline → Writing
 shown w around is_code leaf = record w {
-  content = behind (shared_marks w (map mark_of around)) (gap_behind w.latest w around is_code) around leaf;
+  content = behind (shared_wrappers w (map wrapper_of around)) (gap_behind w.latest w around is_code) around leaf;
   latest = latest_of is_code;
-  around = map mark_of around;
+  around = map wrapper_of around;
   gap = no_gap;
   is_blank = false;
   breaks = 0;

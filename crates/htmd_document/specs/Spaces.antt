@@ -14,8 +14,8 @@ is_wide_space c = (c == 0xA0) || (c == 0x1680) || is_in_range 0x2000 0x200A c ||
 abbrev pub is_white : ℕ → Bool
 is_white c = is_ascii_white_space c || is_wide_space c
 
-abbrev pub is_plain : ℕ → Bool
-is_plain c = not (is_white c)
+abbrev pub is_not_white : ℕ → Bool
+is_not_white c = not (is_white c)
 
 -- white space as it is shown: a space for each of ASCII
 abbrev pub shown_white : ℕ → ℕ

@@ -49,7 +49,7 @@ impl Format {
 impl Around {
     /// Whether it is the same format, or the same link.
     pub(crate) fn is_same(&self, other: &Around) -> bool
-        ensures { result ≡ spec.is_same (spec.mark_of (around_of self.now)) (spec.mark_of (around_of other.now)) }
+        ensures { result ≡ spec.is_same (spec.wrapper_of (around_of self.now)) (spec.wrapper_of (around_of other.now)) }
     {
         match (self, other) {
             (Around::Format(this), Around::Format(that)) => *this == *that,

@@ -23,7 +23,7 @@ use crate::flow::Flow;
 use crate::paragraphs::Paragraphs;
 use crate::place::{Place, holds_link};
 use htmd_nodes::{Attribute, NodeId};
-use htmd_text::runs::{leading_len, trailing_len};
+use htmd_text::repeats::{leading_len, trailing_len};
 use std::alloc::AllocError;
 
 impl<'t> Flow<'t> {

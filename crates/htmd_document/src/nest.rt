@@ -32,7 +32,7 @@ impl Nest {
     /// Nothing yet.
     pub(crate) fn new(alloc: Global) -> Nest
         ensures inlines { view.inlines_in result ≡ no_inlines }
-        ensures marks { view.marks_in result ≡ [] }
+        ensures wrappers { view.wrappers_in result ≡ [] }
     {
         Nest {
             alloc,
@@ -41,10 +41,10 @@ impl Nest {
         }
     }
 
-    /// How many marks the place where it is open shares with these, from the outermost in.
+    /// How many wrappers the place where it is open shares with these, from the outermost in.
     pub(crate) fn shared(&self, around: &[Around]) -> usize
-        ensures value { result ≡ spec.shared (view.marks_in self.now) (view.marks_of around.now) }
-        ensures bound { result ≤ length (view.marks_in self.now) }
+        ensures value { result ≡ spec.shared (view.wrappers_in self.now) (view.wrappers_of around.now) }
+        ensures bound { result ≤ length (view.wrappers_in self.now) }
         ensures other { result ≤ length around.now }
     {
         let mut count = 0;
@@ -59,7 +59,7 @@ impl Nest {
 
     /// How deep it is open.
     pub(crate) fn depth(&self) -> usize
-        ensures { result ≡ length (view.marks_in self.now) }
+        ensures { result ≡ length (view.wrappers_in self.now) }
     {
         self.frames.len()
     }
@@ -72,12 +72,12 @@ impl Nest {
         text: &str,
         is_code: bool,
     ) -> Result<(), AllocError>
-        requires open { shared ≤ length (view.marks_in self.old) }
+        requires open { shared ≤ length (view.wrappers_in self.old) }
         requires named { shared ≤ length around.now }
         ensures inlines { IfOk result (λ _. view.inlines_in self.new ≡ spec.behind shared (view.inlines_in self.old)
             (map around_of around.now) (spec.text_or_code is_code text.now)) }
-        ensures marks { IfOk result (λ _. view.marks_in self.new
-            ≡ take shared (view.marks_in self.old) ++ drop shared (view.marks_of around.now)) }
+        ensures wrappers { IfOk result (λ _. view.wrappers_in self.new
+            ≡ take shared (view.wrappers_in self.old) ++ drop shared (view.wrappers_of around.now)) }
     {
         self.reach(shared, around)?;
         join(self.alloc, &mut self.content, text, is_code)
@@ -90,13 +90,13 @@ impl Nest {
         around: &[Around],
         leaf: Inline,
     ) -> Result<(), AllocError>
-        requires open { shared ≤ length (view.marks_in self.old) }
+        requires open { shared ≤ length (view.wrappers_in self.old) }
         requires named { shared ≤ length around.now }
         requires apart { spec.is_apart (inline_of leaf) ≡ true }
         ensures inlines { IfOk result (λ _. view.inlines_in self.new
             ≡ spec.behind shared (view.inlines_in self.old) (map around_of around.now) (inline_of leaf)) }
-        ensures marks { IfOk result (λ _. view.marks_in self.new
-            ≡ take shared (view.marks_in self.old) ++ drop shared (view.marks_of around.now)) }
+        ensures wrappers { IfOk result (λ _. view.wrappers_in self.new
+            ≡ take shared (view.wrappers_in self.old) ++ drop shared (view.wrappers_of around.now)) }
     {
         self.reach(shared, around)?;
         self.content.push(leaf)?;
@@ -107,7 +107,7 @@ impl Nest {
     pub(crate) fn take(&mut self) -> Result<Vec<Inline>, AllocError>
         ensures inlines { IfOk result (λ xs. inlines_of xs.items ≡ view.inlines_in self.old) }
         ensures nothing { IfOk result (λ _. view.inlines_in self.new ≡ no_inlines) }
-        ensures marks { IfOk result (λ _. view.marks_in self.new ≡ []) }
+        ensures wrappers { IfOk result (λ _. view.wrappers_in self.new ≡ []) }
     {
         self.close(0)?;
         Ok(mem::replace(&mut self.content, Vec::new(self.alloc)))
@@ -115,12 +115,12 @@ impl Nest {
 
     /// Closes what isn't shared, and opens the rest.
     fn reach(&mut self, shared: usize, around: &[Around]) -> Result<(), AllocError>
-        requires open { shared ≤ length (view.marks_in self.old) }
+        requires open { shared ≤ length (view.wrappers_in self.old) }
         requires named { shared ≤ length around.now }
         ensures place { IfOk result (λ _. (x : value.Inline) → view.put_in self.new x
             ≡ spec.behind shared (view.inlines_in self.old) (map around_of around.now) x) }
-        ensures marks { IfOk result (λ _. view.marks_in self.new
-            ≡ take shared (view.marks_in self.old) ++ drop shared (view.marks_of around.now)) }
+        ensures wrappers { IfOk result (λ _. view.wrappers_in self.new
+            ≡ take shared (view.wrappers_in self.old) ++ drop shared (view.wrappers_of around.now)) }
     {
         self.close(shared)?;
         for frame in &around[shared..] {

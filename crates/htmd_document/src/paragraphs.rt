@@ -3,8 +3,8 @@ ghost use Rattle.std.specs.Prelude.{◌≡◌, ◌≤◌, ◌&&◌, map, length,
 ghost use Rattle.htmd_document.specs.DocumentViews.{block_of, blocks_of, inlines_of, bytes_of_title};
 ghost use Rattle.htmd_document.specs.Nesting as nesting;
 ghost use Rattle.htmd_document.specs.Nesting.{text_or_code};
-ghost use Rattle.htmd_document.specs.NestViews.{marks_of};
-ghost use Rattle.htmd_document.specs.ParagraphViews.{writing_in, IsReached, IsGapPut, settled};
+ghost use Rattle.htmd_document.specs.NestViews.{wrappers_of};
+ghost use Rattle.htmd_document.specs.ParagraphViews.{writing_in, IsReached, IsGapPut, with_latest};
 ghost use Rattle.htmd_document.specs.Paragraphs as spec;
 ghost use Rattle.htmd_document.specs.Parts.{run, picture, break, box, edge, whole};
 ghost use Rattle.htmd_document.specs.PartViews.{around_of};
@@ -233,7 +233,7 @@ impl Paragraphs {
         Ok(())
     }
 
-    /// Puts what comes before a leaf, and gives how many marks the leaf shares with what showed last.
+    /// Puts what comes before a leaf, and gives how many wrappers the leaf shares with what showed last.
     fn reach(&mut self, around: &[Around], is_code: bool) -> Result<usize, AllocError>
         ensures { IfOk result (λ n. IsReached (writing_in self.old) (writing_in self.new)
             (map around_of around.now) is_code n) }
@@ -271,7 +271,7 @@ impl Paragraphs {
         around: &[Around],
         is_code: bool,
     ) -> Result<(), AllocError>
-        requires value { shared ≡ nesting.shared (writing_in self.old).around (marks_of around.now) }
+        requires value { shared ≡ nesting.shared (writing_in self.old).around (wrappers_of around.now) }
         requires bound { shared ≤ length (writing_in self.old).around }
         requires other { shared ≤ length around.now }
         ensures { IfOk result (λ _. IsGapPut (writing_in self.old) (writing_in self.new) shared
@@ -291,8 +291,8 @@ impl Paragraphs {
 
     /// Whether the gap is code.
     fn is_code_gap(&self, shared: usize, around: &[Around], is_code: bool) -> bool
-        requires { shared ≡ nesting.shared (writing_in self.now).around (marks_of around.now) }
-        ensures { result ≡ (is_code && spec.is_code_gap (writing_in self.now) (marks_of around.now)) }
+        requires { shared ≡ nesting.shared (writing_in self.now).around (wrappers_of around.now) }
+        ensures { result ≡ (is_code && spec.is_code_gap (writing_in self.now) (wrappers_of around.now)) }
     {
         is_code
             && self.latest == Latest::Code
@@ -303,7 +303,7 @@ impl Paragraphs {
 
     /// Something showed.
     fn settle(&mut self, latest: Latest)
-        ensures { writing_in self.new ≡ settled (writing_in self.old) latest }
+        ensures { writing_in self.new ≡ with_latest (writing_in self.old) latest }
     {
         self.latest = latest;
         self.gap.clear();

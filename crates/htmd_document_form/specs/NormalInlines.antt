@@ -12,12 +12,12 @@ use Rattle.htmd_document.specs.Documents.{Inlines, no_inlines, inline}
 -- ---- texts
 
 -- no U+0000 and no white space of ASCII but the space
-abbrev pub is_plain : ℕ → Bool
-is_plain b = not (is_one_of (codes "\0\t\n\r") b || (b == 0x0C))
+abbrev pub is_line_byte : ℕ → Bool
+is_line_byte b = not (is_one_of (codes "\0\t\n\r") b || (b == 0x0C))
 
 -- UTF-8 in one line
 abbrev pub is_line : List ℕ → Bool
-is_line s = is_utf8 s && list_all is_plain s
+is_line s = is_utf8 s && list_all is_line_byte s
 
 abbrev pub has_double_space : List ℕ → Bool
 has_double_space [] = false
@@ -44,7 +44,7 @@ is_attribute s = is_utf8 s && list_all is_kept s
 -- a title isn't blank
 abbrev pub is_title : Option (List ℕ) → Bool
 is_title None = true
-is_title (Some s) = is_attribute s && list_any is_plain s && list_any (λ b. not (b == space)) s
+is_title (Some s) = is_attribute s && list_any is_line_byte s && list_any (λ b. not (b == space)) s
 
 -- ---- neighbours
 

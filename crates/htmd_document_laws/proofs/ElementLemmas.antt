@@ -62,9 +62,9 @@ anchor-flat id attributes (Some s) c = link-flat id (address s) (title_of attrib
 
 -- ---- leaves
 
-pub mark-shows : Shows (quotation_mark ∷ []) (quotation_mark ∷ [])
+pub wrapper-shows : Shows (quotation_mark ∷ []) (quotation_mark ∷ [])
 unfolding encode
-mark-shows = shows-character quotation_mark refl
+wrapper-shows = shows-character quotation_mark refl
 
 feed-shows : Shows (line_feed ∷ []) []
 unfolding encode
@@ -74,10 +74,11 @@ between-says : (s : List ℕ) (around : List ℕ) (nodes : List Node) → NodesS
     → (c : Context)
     → Say c.is_flat (between s nodes c) ((around ++ nodes_seen nodes) ++ around)
 between-says s around nodes h t c =
-    let mark : Say c.is_flat (run_in c s ∷ []) around = say-run c.is_flat s c.around c.is_code around t in
+    let wrapper : Say c.is_flat (run_in c s ∷ []) around = say-run c.is_flat s c.around c.is_code around t in
     say-append c.is_flat (run_in c s ∷ flow_all nodes c) (run_in c s ∷ []) (around ++ nodes_seen nodes) around
-    (say-append c.is_flat (run_in c s ∷ []) (flow_all nodes c) around (nodes_seen nodes) mark (flow-says nodes h c))
-    mark
+    (say-append c.is_flat (run_in c s
+    ∷ []) (flow_all nodes c) around (nodes_seen nodes) wrapper (flow-says nodes h c))
+    wrapper
 
 description-says : (b : Bool) (s : List ℕ) (c : Context) (cs : List ℕ) → is_filled s ≡ b → Shows s cs
     → Say c.is_flat (cond b (run_in c s ∷ []) []) cs
@@ -200,8 +201,8 @@ text-shows name attributes children inner =
       quotation = λ g h. shows-append (quotation_mark ∷ inner) (quotation_mark ∷ [])
           (quotation_mark ∷ seen_all children)
           (quotation_mark ∷ [])
-          (shows-append (quotation_mark ∷ []) inner (quotation_mark ∷ []) (seen_all children) mark-shows h)
-          mark-shows;
+          (shows-append (quotation_mark ∷ []) inner (quotation_mark ∷ []) (seen_all children) wrapper-shows h)
+          wrapper-shows;
       apart = λ g h. h;
       line_break = λ g h. feed-shows;
       image = λ g h. shows-itself (text_of (codes "alt") attributes) g.value;
@@ -278,7 +279,7 @@ module _ (id : ℕ) (attributes : List AttributePair) (children : NumberedForest
         quotation = λ g. say-same c.is_flat _ ((quotation_mark ∷ nodes_seen nodes) ++ quotation_mark ∷ [])
             ((quotation_mark ∷ seen_all children) ++ quotation_mark ∷ [])
             (ap (λ t. (quotation_mark ∷ t) ++ quotation_mark ∷ []) same)
-            (between-says (quotation_mark ∷ []) (quotation_mark ∷ []) nodes all mark-shows c);
+            (between-says (quotation_mark ∷ []) (quotation_mark ∷ []) nodes all wrapper-shows c);
         apart = λ g. say-same c.is_flat _ (nodes_seen nodes ++ []) (seen_all children)
             (append-nil (nodes_seen nodes) ∙ same) (between-says (space ∷ []) [] nodes all space-shows c);
         line_break = λ g. record { texts = (tt, tt); is = refl };

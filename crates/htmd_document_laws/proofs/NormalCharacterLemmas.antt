@@ -16,7 +16,7 @@ use Rattle.htmd_grammar.proofs.Cases.{test}
 use Rattle.htmd_document.specs.Nesting.{text_or_code}
 use Rattle.htmd_document.specs.Paragraphs.{after_task}
 use Rattle.htmd_document.specs.Spaces.{Gap, is_white, is_wide_space, shown_white, ends_with_space, spaced}
-use Rattle.htmd_document_form.specs.NormalInlines.{is_plain, is_line, has_double_space, is_text}
+use Rattle.htmd_document_form.specs.NormalInlines.{is_line_byte, is_line, has_double_space, is_text}
 use Rattle.htmd_document_laws.proofs.VisibleLemmas.{both-true}
 use Rattle.htmd_document_laws.proofs.NormalTextLemmas.{false-true}
 use Rattle.htmd_document_laws.proofs.NormalTextLemmas.{and-true, and-false, or-false, from-not}
@@ -26,7 +26,7 @@ use Rattle.htmd_document_laws.proofs.NormalLeafLemmas.{IsWord, IsLeaf}
 
 -- neither a space nor what a text can't hold
 abbrev is_solid : ℕ → Bool
-is_solid b = is_plain b && not (b == space)
+is_solid b = is_line_byte b && not (b == space)
 
 solid-wide : (b : ℕ) → 128 ≤ b → is_solid b ≡ true
 solid-wide b l = grind (arith, nat_tests)
@@ -53,14 +53,14 @@ encode-utf8 c h = (c ∷ [], (ap (λ b. b && true) h, append-nil (encode_utf8 c)
 
 -- ---- solid texts
 
-solid-plain : (s : List ℕ) → list_all is_solid s ≡ true → list_all is_plain s ≡ true
+solid-plain : (s : List ℕ) → list_all is_solid s ≡ true → list_all is_line_byte s ≡ true
 solid-plain [] h = refl
 solid-plain (b ∷ s) h =
     let parts = both-true (is_solid b) (list_all is_solid s) h in
-    and-true (both-true (is_plain b) (not (b == space)) parts.0).0 (solid-plain s parts.1)
+    and-true (both-true (is_line_byte b) (not (b == space)) parts.0).0 (solid-plain s parts.1)
 
 solid-no_space : (b : ℕ) → is_solid b ≡ true → (b == space) ≡ false
-solid-no_space b h = from-not (b == space) (both-true (is_plain b) (not (b == space)) h).1
+solid-no_space b h = from-not (b == space) (both-true (is_line_byte b) (not (b == space)) h).1
 
 solid-single : (s : List ℕ) → list_all is_solid s ≡ true → has_double_space s ≡ false
 solid-single [] h = refl

@@ -21,7 +21,7 @@ use Rattle.htmd_document.specs.Flows.{Node, Line, blocks_of, line_of, flow_all, 
 use Rattle.htmd_document.specs.Flows.{between, heading_of, heading_parts, quote_of, quote_parts, code_parts}
 use Rattle.htmd_document.specs.Flows.{verbatim_parts, start_of, parts_of}
 use Rattle.htmd_document.specs.Lists.{greatest_start}
-use Rattle.htmd_document.specs.Nesting.{mark_of}
+use Rattle.htmd_document.specs.Nesting.{wrapper_of}
 use Rattle.htmd_document.specs.Nesting as nesting
 use Rattle.htmd_document.specs.Parts.{Around, formatted, linked, Part, box, edge, whole}
 use Rattle.htmd_document.specs.Roles.{role_of, table_role, heading_or_block, inline_role}
@@ -45,17 +45,17 @@ use Rattle.htmd_document_laws.proofs.NormalTableLemmas.{FineLines, table-parts-f
 -- what stands around all that stands in these
 abbrev link_after : Bool → List Around → Bool
 link_after l [] = l
-link_after l (a ∷ around) = link_after (in_link l (mark_of a)) around
+link_after l (a ∷ around) = link_after (in_link l (wrapper_of a)) around
 
 abbrev formats_after : List Format → List Around → List Format
 formats_after r [] = r
-formats_after r (a ∷ around) = formats_after (formats_in r (mark_of a)) around
+formats_after r (a ∷ around) = formats_after (formats_in r (wrapper_of a)) around
 
 fit-more : (l : Bool) (r : List Format) (around : List Around) (a : Around) → FitAll l r around
     → Fits (link_after l around) (formats_after r around) a → FitAll l r (around ++ a ∷ [])
 fit-more l r [] a h f = (f, tt)
 fit-more l r (b ∷ around) a h f =
-    (h.0, fit-more (in_link l (mark_of b)) (formats_in r (mark_of b)) around a h.1 f)
+    (h.0, fit-more (in_link l (wrapper_of b)) (formats_in r (wrapper_of b)) around a h.1 f)
 
 turned : (f g : Format) → is_same_format g f ≡ nesting.is_same_format f g
 turned emphasis emphasis = refl
@@ -136,9 +136,9 @@ anchor-bound id attributes (Some s) c = either (list_any is_link c.around)
 
 -- ---- leaves
 
-mark-run : IsRun (quotation_mark ∷ [])
+wrapper-run : IsRun (quotation_mark ∷ [])
 unfolding chars encode
-mark-run = record { scalar = refl; seen = refl }
+wrapper-run = record { scalar = refl; seen = refl }
 
 space-run : IsRun (space ∷ [])
 unfolding chars encode
@@ -290,7 +290,7 @@ module _ (id : ℕ) (attributes : List AttributePair) (children : NumberedForest
         subscript = formats subscript;
         code = flow-fine nodes all (in_code c) f;
         anchor = links;
-        quotation = between-fine (quotation_mark ∷ []) nodes all mark-run c f;
+        quotation = between-fine (quotation_mark ∷ []) nodes all wrapper-run c f;
         apart = between-fine (space ∷ []) nodes all space-run c f;
         line_break = (tt, tt);
         image = image-fine attributes (value_of (codes "src") attributes) clean (clean.values (codes "src")) c f;

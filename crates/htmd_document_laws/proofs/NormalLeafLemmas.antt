@@ -6,7 +6,7 @@ use Rattle.htmd_grammar.specs.CharacterClasses.{first_is}
 use Rattle.htmd_document.specs.Documents.{Format, Inline, text, code, image, line_break, task, link, Inlines, no_inlines}
 use Rattle.htmd_document.specs.Documents.{inline}
 use Rattle.htmd_document.specs.Documents as value
-use Rattle.htmd_document.specs.Nesting.{Mark, mark_of, wrapped_by, wrapped, one_inline, is_apart, met}
+use Rattle.htmd_document.specs.Nesting.{Wrapper, wrapper_of, wrapped_by, wrapped, one_inline, is_apart, met}
 use Rattle.htmd_document.specs.Nesting.{joined}
 use Rattle.htmd_document.specs.NestViews.{followed}
 use Rattle.htmd_document.specs.Parts.{Around, formatted, linked}
@@ -228,7 +228,7 @@ wrapped-first-break (a ∷ around) y h = wrapped-no_break a (one_inline (wrapped
 
 pub wrapped-held : (k l : Bool) (r : List Format) (around : List Around) (y : Inline) → FitAll l r around
     → IsLeaf k y
-    → Held k l r (map mark_of around) (one_inline (wrapped around y))
+    → Held k l r (map wrapper_of around) (one_inline (wrapped around y))
 wrapped-held k l r [] y f h = (y, one-ends l r y, leaf-last k y h)
 wrapped-held k l r (a ∷ around) y f h = (
   a,
@@ -238,7 +238,7 @@ wrapped-held k l r (a ∷ around) y f h = (
   f.0,
   wrapped-first around y (leaf-begins k y h),
   wrapped-first-break around y (leaf-no_break y (leaf-last k y h).leaf),
-  wrapped-held k (in_link l (mark_of a)) (formats_in r (mark_of a)) around y f.1 h,
+  wrapped-held k (in_link l (wrapper_of a)) (formats_in r (wrapper_of a)) around y f.1 h,
 )
 
 -- what a leaf has first around it differs from the last inline
@@ -272,7 +272,7 @@ leaf-after k l r xs x (task b) e n h = absurd h
 
 pub put-after : (k l : Bool) (r : List Format) (xs : Inlines) (x : Inline) (around : List Around) (y : Inline)
     → Ends l r xs x → is_normal l r x ≡ true → FitAll l r around → IsLeaf k y → Differs x around
-    → Held k l r (map mark_of around) (joined xs (wrapped around y))
+    → Held k l r (map wrapper_of around) (joined xs (wrapped around y))
 put-after k l r xs x [] y e n f h d = leaf-after k l r xs x y e n h
 put-after k l r xs x (a ∷ around) y e n f h d =
     let content : Inlines = one_inline (wrapped around y) in (
@@ -284,7 +284,7 @@ put-after k l r xs x (a ∷ around) y e n f h d =
       f.0,
       wrapped-first around y (leaf-begins k y h),
       wrapped-first-break around y (leaf-no_break y (leaf-last k y h).leaf),
-      wrapped-held k (in_link l (mark_of a)) (formats_in r (mark_of a)) around y f.1 h,
+      wrapped-held k (in_link l (wrapper_of a)) (formats_in r (wrapper_of a)) around y f.1 h,
     )
 
 -- ---- what stands between two leaves
@@ -300,8 +300,8 @@ abbrev pub gapped : Inlines → Option Inline → Inlines
 gapped xs None = xs
 gapped xs (Some g) = joined xs g
 
-stop-differs : (l : Bool) (r : List Format) (ms : List Mark) (xs : Inlines) (x : Inline) (around : List Around)
-    → IsStop l r ms xs x → Apart ms (map mark_of around) → Differs x around
+stop-differs : (l : Bool) (r : List Format) (ms : List Wrapper) (xs : Inlines) (x : Inline) (around : List Around)
+    → IsStop l r ms xs x → Apart ms (map wrapper_of around) → Differs x around
 stop-differs l r ms xs x [] s d = tt
 stop-differs l r [] xs x (a ∷ around) s d = λ content. s.apart a content tt
 stop-differs l r (m ∷ ms) xs x (a ∷ around) s d = λ content. s.apart a content d
@@ -315,9 +315,10 @@ break-differs [] = tt
 break-differs (formatted f ∷ around) = λ content. refl
 break-differs (linked n address title ∷ around) = λ content. refl
 
-pub gap-put : (k h l : Bool) (r : List Format) (ms : List Mark) (xs : Inlines) (around : List Around)
+pub gap-put : (k h l : Bool) (r : List Format) (ms : List Wrapper) (xs : Inlines) (around : List Around)
     (g : Option Inline) (y : Inline) → Held k l r ms xs → FitAll l r around → IsGap g → IsLeaf h y
-    → Apart ms (map mark_of around) → Held h l r (map mark_of around) (joined (gapped xs g) (wrapped around y))
+    → Apart ms (map wrapper_of around)
+    → Held h l r (map wrapper_of around) (joined (gapped xs g) (wrapped around y))
 gap-put k h l r ms xs around None y held f g leaf d =
     let stop = held-stop k l r ms xs held in
     put-after h l r xs stop.0 around y stop.1.ends stop.1.normal f leaf (stop-differs l r ms xs stop.0 around stop.1 d)

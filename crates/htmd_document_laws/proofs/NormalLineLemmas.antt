@@ -7,7 +7,7 @@ use Rattle.htmd_grammar.specs.CharacterClasses.{is_empty}
 use Rattle.htmd_document.specs.Documents.{Format, emphasis, strong, deleted, superscript, subscript}
 use Rattle.htmd_document.specs.Documents.{Inline, text, code, image, line_break, task, link, Inlines, no_inlines, inline}
 use Rattle.htmd_document.specs.Documents as value
-use Rattle.htmd_document.specs.Nesting.{Mark, of_format, of_link, mark_of, is_same, shared, wrapped_by, wrapped}
+use Rattle.htmd_document.specs.Nesting.{Wrapper, of_format, of_link, wrapper_of, is_same, shared, wrapped_by, wrapped}
 use Rattle.htmd_document.specs.Nesting.{one_inline, is_apart, met, joined, in_last, with_content, behind, text_or_code}
 use Rattle.htmd_document.specs.Nesting as nesting
 use Rattle.htmd_document.specs.NestViews.{followed}
@@ -190,14 +190,14 @@ same-format subscript deleted e = false-true e
 same-format subscript superscript e = false-true e
 same-format subscript subscript e = refl
 
-pub same-mark : (m n : Mark) → is_same m n ≡ true → m ≡ n
-same-mark (of_format f) (of_format g) e = ap of_format (same-format f g e)
-same-mark (of_link m) (of_link n) e = ap of_link (equal m n e)
+pub same-wrapper : (m n : Wrapper) → is_same m n ≡ true → m ≡ n
+same-wrapper (of_format f) (of_format g) e = ap of_format (same-format f g e)
+same-wrapper (of_link m) (of_link n) e = ap of_link (equal m n e)
   where
     equal : (m n : ℕ) → (m == n) ≡ true → m ≡ n
     equal m n e = grind (arith, nat_tests)
-same-mark (of_format f) (of_link n) e = false-true e
-same-mark (of_link m) (of_format g) e = false-true e
+same-wrapper (of_format f) (of_link n) e = false-true e
+same-wrapper (of_link m) (of_format g) e = false-true e
 
 same-format-itself : (f : Format) → nesting.is_same_format f f ≡ true
 same-format-itself emphasis = refl
@@ -206,7 +206,7 @@ same-format-itself deleted = refl
 same-format-itself superscript = refl
 same-format-itself subscript = refl
 
-pub same-itself : (m : Mark) → is_same m m ≡ true
+pub same-itself : (m : Wrapper) → is_same m m ≡ true
 same-itself (of_format f) = same-format-itself f
 same-itself (of_link n) = equal n
   where
@@ -214,11 +214,11 @@ same-itself (of_link n) = equal n
     equal n = grind (arith, nat_tests)
 
 -- whether a link stands around what is in it, and which formats do
-abbrev pub in_link : Bool → Mark → Bool
+abbrev pub in_link : Bool → Wrapper → Bool
 in_link l (of_format f) = l
 in_link l (of_link node) = true
 
-abbrev pub formats_in : List Format → Mark → List Format
+abbrev pub formats_in : List Format → Wrapper → List Format
 formats_in r (of_format f) = f ∷ r
 formats_in r (of_link node) = r
 
@@ -229,13 +229,13 @@ Fits l r (linked node address title) = (l ≡ false) × (is_attribute address �
 
 abbrev pub FitAll : Bool → List Format → List Around → Type 0
 FitAll l r [] = Unit {0}
-FitAll l r (a ∷ around) = Fits l r a × FitAll (in_link l (mark_of a)) (formats_in r (mark_of a)) around
+FitAll l r (a ∷ around) = Fits l r a × FitAll (in_link l (wrapper_of a)) (formats_in r (wrapper_of a)) around
 
 pub wrapped-normal : (l : Bool) (r : List Format) (a : Around) (content : Inlines) → Fits l r a
     → has_none content ≡ false → first_passes begins_with_space content ≡ false
     → first_passes is_break content ≡ false → last_passes ends_with_space content ≡ false
     → last_passes is_break content ≡ false
-    → are_normal (in_link l (mark_of a)) (formats_in r (mark_of a)) content ≡ true
+    → are_normal (in_link l (wrapper_of a)) (formats_in r (wrapper_of a)) content ≡ true
     → is_normal l r (wrapped_by a content) ≡ true
 wrapped-normal l r (formatted f) content g n b c e d h =
     let trimmed = and-true (not-false b) (not-false e) in
@@ -250,13 +250,13 @@ pub wrapped-like : (a : Around) (xs ys : Inlines) (z : Inline) → may_meet z (w
 wrapped-like (formatted f) xs ys z h = h
 wrapped-like (linked node address title) xs ys z h = h
 
--- the first marks differ, or there are none
-abbrev pub Apart : List Mark → List Mark → Type 0
+-- the first wrappers differ, or there are none
+abbrev pub Apart : List Wrapper → List Wrapper → Type 0
 Apart [] ns = Unit {0}
 Apart (m ∷ ms) [] = Unit {0}
 Apart (m ∷ ms) (n ∷ ns) = is_same m n ≡ false
 
-pub wrapped-no_clash : (b : Around) (ys : Inlines) (a : Around) (xs : Inlines) → is_same (mark_of b) (mark_of a)
+pub wrapped-no_clash : (b : Around) (ys : Inlines) (a : Around) (xs : Inlines) → is_same (wrapper_of b) (wrapper_of a)
     ≡ false
     → is_clash (wrapped_by b ys) (wrapped_by a xs) ≡ false
 wrapped-no_clash (formatted f) ys (formatted g) xs e =
@@ -281,11 +281,11 @@ pub record IsLast (k : Bool) (x : Inline) : Type 0 where
   pub no_space : ends_with_space x ≡ false
   pub kind : is_code x ≡ k
 
--- The inlines are normal, and their last one is in these marks from the outermost in: where the next leaf may go.
-abbrev pub Held : Bool → Bool → List Format → List Mark → Inlines → Type 0
+-- The inlines are normal, and their last one is in these wrappers from the outermost in: where the next leaf may go.
+abbrev pub Held : Bool → Bool → List Format → List Wrapper → Inlines → Type 0
 Held k l r [] xs = (x : Inline) × Ends l r xs x × IsLast k x
 Held k l r (m ∷ ms) xs =
-    (a : Around) × (content : Inlines) × Ends l r xs (wrapped_by a content) × (mark_of a ≡ m) × Fits l r a
+    (a : Around) × (content : Inlines) × Ends l r xs (wrapped_by a content) × (wrapper_of a ≡ m) × Fits l r a
     × (first_passes begins_with_space content ≡ false) × (first_passes is_break content ≡ false)
     × Held k (in_link l m) (formats_in r m) ms content
 
@@ -330,13 +330,15 @@ pub record IsWhole (l : Bool) (r : List Format) (xs : Inlines) : Type 0 where
   pub no_space : last_passes ends_with_space xs ≡ false
   pub no_break : last_passes is_break xs ≡ false
 
-held-inner : (l : Bool) (r : List Format) (m : Mark) (a : Around) (content : Inlines) → mark_of a ≡ m → Fits l r a
+held-inner : (l : Bool) (r : List Format) (m : Wrapper) (a : Around) (content : Inlines) → wrapper_of a ≡ m
+    → Fits l r a
     → first_passes begins_with_space content ≡ false → first_passes is_break content ≡ false
     → IsWhole (in_link l m) (formats_in r m) content → is_normal l r (wrapped_by a content) ≡ true
 held-inner l r m a content e f b c h = wrapped-normal l r a content f h.some b c h.no_space h.no_break
-    (subst (λ (n : Mark). are_normal (in_link l n) (formats_in r n) content ≡ true) (sym e) h.normal)
+    (subst (λ (n : Wrapper). are_normal (in_link l n) (formats_in r n) content ≡ true) (sym e) h.normal)
 
-pub held-whole : (k l : Bool) (r : List Format) (ms : List Mark) (xs : Inlines) → Held k l r ms xs → IsWhole l r xs
+pub held-whole : (k l : Bool) (r : List Format) (ms : List Wrapper) (xs : Inlines) → Held k l r ms xs
+    → IsWhole l r xs
 held-whole k l r [] xs h = record {
   normal = ends-normal l r xs h.0 h.1 (h.2.normal l r);
   some = ends-some l r xs h.0 h.1;
@@ -355,15 +357,15 @@ held-whole k l r (m ∷ ms) xs h =
     }
 
 -- the last inline, and what can come after it
-pub record IsStop (l : Bool) (r : List Format) (ms : List Mark) (xs : Inlines) (x : Inline) : Type 0 where
+pub record IsStop (l : Bool) (r : List Format) (ms : List Wrapper) (xs : Inlines) (x : Inline) : Type 0 where
   pub ends : Ends l r xs x
   pub normal : is_normal l r x ≡ true
   pub no_space : ends_with_space x ≡ false
   pub no_break : is_break x ≡ false
-  pub apart : (a : Around) (content : Inlines) → Apart ms (mark_of a ∷ []) → is_clash x (wrapped_by a content)
+  pub apart : (a : Around) (content : Inlines) → Apart ms (wrapper_of a ∷ []) → is_clash x (wrapped_by a content)
       ≡ false
 
-pub held-stop : (k l : Bool) (r : List Format) (ms : List Mark) (xs : Inlines) → Held k l r ms xs
+pub held-stop : (k l : Bool) (r : List Format) (ms : List Wrapper) (xs : Inlines) → Held k l r ms xs
     → (x : Inline) × IsStop l r ms xs x
 held-stop k l r [] xs h = (
   h.0,
@@ -383,6 +385,6 @@ held-stop k l r (m ∷ ms) xs h = (
         (held-whole k (in_link l m) (formats_in r m) ms h.1 h.7);
     no_space = wrapped-ends h.0 h.1;
     no_break = wrapped-no_break h.0 h.1;
-    apart = λ a content e. wrapped-no_clash h.0 h.1 a content (ap (λ n. is_same n (mark_of a)) h.3 ∙ e);
+    apart = λ a content e. wrapped-no_clash h.0 h.1 a content (ap (λ n. is_same n (wrapper_of a)) h.3 ∙ e);
   },
 )

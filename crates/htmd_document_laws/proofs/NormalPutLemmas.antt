@@ -6,7 +6,7 @@ use Rattle.htmd_grammar.proofs.Cases.{test}
 use Rattle.htmd_document.specs.Documents.{Format, Inline, text, code, image, line_break, task, link, Inlines, no_inlines}
 use Rattle.htmd_document.specs.Documents.{inline}
 use Rattle.htmd_document.specs.Documents as value
-use Rattle.htmd_document.specs.Nesting.{Mark, mark_of, is_same, shared, wrapped_by, wrapped, one_inline, met}
+use Rattle.htmd_document.specs.Nesting.{Wrapper, wrapper_of, is_same, shared, wrapped_by, wrapped, one_inline, met}
 use Rattle.htmd_document.specs.Nesting.{joined, in_last, with_content, behind}
 use Rattle.htmd_document.specs.NestViews.{followed}
 use Rattle.htmd_document.specs.Parts.{Around}
@@ -16,7 +16,7 @@ use Rattle.htmd_document_form.specs.NormalInlines.{meets, is_break}
 use Rattle.htmd_document_laws.proofs.VisibleLemmas.{both-true}
 use Rattle.htmd_document_laws.proofs.NormalTextLemmas.{not-false, from-not, true-false, false-true, first-append}
 use Rattle.htmd_document_laws.proofs.NormalTextLemmas.{filled-append, from-text}
-use Rattle.htmd_document_laws.proofs.NormalLineLemmas.{ends-other, ends-as, same-mark, in_link, formats_in}
+use Rattle.htmd_document_laws.proofs.NormalLineLemmas.{ends-other, ends-as, same-wrapper, in_link, formats_in}
 use Rattle.htmd_document_laws.proofs.NormalLineLemmas.{same-itself}
 use Rattle.htmd_document_laws.proofs.NormalLineLemmas.{FitAll, Apart, Held, IsWhole, held-whole, wrapped-like}
 use Rattle.htmd_document_laws.proofs.NormalLeafLemmas.{IsWord, IsLeaf, IsGap, gapped, gap-put, code-put}
@@ -155,38 +155,41 @@ put-deeper n before b content a around (Some g) y =
     ∙ changed (λ c. behind n c around y) before b (behind n content (take n around) g)
 
 -- a leaf is put at the place where what stands around it begins to differ
-abbrev PutsThere : (k h : Bool) (g : Option Inline) (y : Inline) → (List Mark → List Mark → Type 0) → Type 0
+abbrev PutsThere : (k h : Bool) (g : Option Inline) (y : Inline) → (List Wrapper → List Wrapper → Type 0)
+    → Type 0
 PutsThere k h g y Q =
-    (l : Bool) (r : List Format) (ms : List Mark) (xs : Inlines) (around : List Around) → Held k l r ms xs
-    → FitAll l r around → Q ms (map mark_of around) → Apart ms (map mark_of around)
-    → Held h l r (map mark_of around) (joined (gapped xs g) (wrapped around y))
+    (l : Bool) (r : List Format) (ms : List Wrapper) (xs : Inlines) (around : List Around) → Held k l r ms xs
+    → FitAll l r around → Q ms (map wrapper_of around) → Apart ms (map wrapper_of around)
+    → Held h l r (map wrapper_of around) (joined (gapped xs g) (wrapped around y))
 
-abbrev GoesDeeper : (List Mark → List Mark → Type 0) → Type 0
-GoesDeeper Q = (m : Mark) (ms ns : List Mark) → Q (m ∷ ms) (m ∷ ns) → Q ms ns
+abbrev GoesDeeper : (List Wrapper → List Wrapper → Type 0) → Type 0
+GoesDeeper Q = (m : Wrapper) (ms ns : List Wrapper) → Q (m ∷ ms) (m ∷ ns) → Q ms ns
 
-module _ (k h : Bool) (g : Option Inline) (y : Inline) (Q : List Mark → List Mark → Type 0)
+module _ (k h : Bool) (g : Option Inline) (y : Inline) (Q : List Wrapper → List Wrapper → Type 0)
     (deeper : GoesDeeper Q) (there : PutsThere k h g y Q) where
   abbrev Put : ℕ → Bool → List Format → List Around → Inlines → Type 0
-  Put n l r around xs = Held h l r (map mark_of around) (behind n (put n xs around g) around y)
+  Put n l r around xs = Held h l r (map wrapper_of around) (behind n (put n xs around g) around y)
 
-  at-once : (l : Bool) (r : List Format) (ms : List Mark) (xs : Inlines) (around : List Around) → Held k l r ms xs
-      → FitAll l r around → Q ms (map mark_of around) → Apart ms (map mark_of around) → Put 0 l r around xs
+  at-once : (l : Bool) (r : List Format) (ms : List Wrapper) (xs : Inlines) (around : List Around) → Held k l r ms xs
+      → FitAll l r around → Q ms (map wrapper_of around) → Apart ms (map wrapper_of around)
+      → Put 0 l r around xs
   at-once l r ms xs around held f q d =
-      subst (λ (zs : Inlines). Held h l r (map mark_of around) zs) (sym (put-zero xs around g y))
+      subst (λ (zs : Inlines). Held h l r (map wrapper_of around) zs) (sym (put-zero xs around g y))
       (there l r ms xs around held f q d)
 
-  one-deeper : (n : ℕ) (l : Bool) (r : List Format) (ms : List Mark) (xs : Inlines) (a : Around)
+  one-deeper : (n : ℕ) (l : Bool) (r : List Format) (ms : List Wrapper) (xs : Inlines) (a : Around)
       (around : List Around)
-      → (held : Held k l r (mark_of a ∷ ms) xs)
-      → Put n (in_link l (mark_of a)) (formats_in r (mark_of a)) around held.1 → Put (suc n) l r (a ∷ around) xs
+      → (held : Held k l r (wrapper_of a ∷ ms) xs)
+      → Put n (in_link l (wrapper_of a)) (formats_in r (wrapper_of a)) around held.1
+      → Put (suc n) l r (a ∷ around) xs
   one-deeper n l r ms xs a around held inner =
       let b : Around = held.0 in
       let content : Inlines = held.1 in
       let content' : Inlines = behind n (put n content around g) around y in
-      let whole : IsWhole (in_link l (mark_of a)) (formats_in r (mark_of a)) content =
-      held-whole k (in_link l (mark_of a)) (formats_in r (mark_of a)) ms content held.7 in
+      let whole : IsWhole (in_link l (wrapper_of a)) (formats_in r (wrapper_of a)) content =
+      held-whole k (in_link l (wrapper_of a)) (formats_in r (wrapper_of a)) ms content held.7 in
       let begins : BeginsAs content content' = put-begins n content around g y
-      (normal-begun (in_link l (mark_of a)) (formats_in r (mark_of a)) content whole.normal whole.some) in (
+      (normal-begun (in_link l (wrapper_of a)) (formats_in r (wrapper_of a)) content whole.normal whole.some) in (
         b,
         content',
         ends-as l r (behind (suc n) (put (suc n) xs (a ∷ around) g) (a ∷ around) y)
@@ -201,22 +204,22 @@ module _ (k h : Bool) (g : Option Inline) (y : Inline) (Q : List Mark → List M
         inner,
       )
 
-  pub put-leaf : (ms : List Mark) (l : Bool) (r : List Format) (xs : Inlines) (around : List Around)
-      → Held k l r ms xs → FitAll l r around → Q ms (map mark_of around)
-      → Put (shared ms (map mark_of around)) l r around xs
+  pub put-leaf : (ms : List Wrapper) (l : Bool) (r : List Format) (xs : Inlines) (around : List Around)
+      → Held k l r ms xs → FitAll l r around → Q ms (map wrapper_of around)
+      → Put (shared ms (map wrapper_of around)) l r around xs
   put-leaf [] l r xs around held f q = at-once l r [] xs around held f q tt
   put-leaf (m ∷ ms) l r xs [] held f q = at-once l r (m ∷ ms) xs [] held f q tt
   put-leaf (m ∷ ms) l r xs (a ∷ around) held f q =
-      let n : ℕ = shared ms (map mark_of around) in
-      let below : (ys : Inlines) → Held k (in_link l (mark_of a)) (formats_in r (mark_of a)) ms ys
-      → Q ms (map mark_of around) → Put n (in_link l (mark_of a)) (formats_in r (mark_of a)) around ys =
-      λ ys w p. put-leaf ms (in_link l (mark_of a)) (formats_in r (mark_of a)) ys around w f.1 p in
-      test (is_same m (mark_of a))
+      let n : ℕ = shared ms (map wrapper_of around) in
+      let below : (ys : Inlines) → Held k (in_link l (wrapper_of a)) (formats_in r (wrapper_of a)) ms ys
+      → Q ms (map wrapper_of around) → Put n (in_link l (wrapper_of a)) (formats_in r (wrapper_of a)) around ys =
+      λ ys w p. put-leaf ms (in_link l (wrapper_of a)) (formats_in r (wrapper_of a)) ys around w f.1 p in
+      test (is_same m (wrapper_of a))
       (λ e.
-      let same : m ≡ mark_of a = same-mark m (mark_of a) e in
-      let here : Held k l r (mark_of a ∷ ms) xs = subst (λ (x : Mark). Held k l r (x ∷ ms) xs) same held in
-      let rest : Q ms (map mark_of around) = deeper (mark_of a) ms (map mark_of around)
-      (subst (λ (x : Mark). Q (x ∷ ms) (mark_of a ∷ map mark_of around)) same q) in
+      let same : m ≡ wrapper_of a = same-wrapper m (wrapper_of a) e in
+      let here : Held k l r (wrapper_of a ∷ ms) xs = subst (λ (x : Wrapper). Held k l r (x ∷ ms) xs) same held in
+      let rest : Q ms (map wrapper_of around) = deeper (wrapper_of a) ms (map wrapper_of around)
+      (subst (λ (x : Wrapper). Q (x ∷ ms) (wrapper_of a ∷ map wrapper_of around)) same q) in
       subst (λ (b : Bool). Put (cond b (suc n) 0) l r (a ∷ around) xs) (sym e)
       (one-deeper n l r ms xs a around here (below here.1 here.7 rest)))
       (λ e. subst (λ (b : Bool). Put (cond b (suc n) 0) l r (a ∷ around) xs) (sym e)
@@ -224,20 +227,20 @@ module _ (k h : Bool) (g : Option Inline) (y : Inline) (Q : List Mark → List M
 
 -- ---- the two kinds of gaps
 
-abbrev Any : List Mark → List Mark → Type 0
+abbrev Any : List Wrapper → List Wrapper → Type 0
 Any ms ns = Unit {0}
 
-pub leaf-held : (k h l : Bool) (r : List Format) (ms : List Mark) (xs : Inlines) (around : List Around)
+pub leaf-held : (k h l : Bool) (r : List Format) (ms : List Wrapper) (xs : Inlines) (around : List Around)
     (g : Option Inline) (y : Inline) → Held k l r ms xs → FitAll l r around → IsGap g → IsLeaf h y
-    → Held h l r (map mark_of around)
-    (behind (shared ms (map mark_of around)) (put (shared ms (map mark_of around)) xs around g) around y)
+    → Held h l r (map wrapper_of around)
+    (behind (shared ms (map wrapper_of around)) (put (shared ms (map wrapper_of around)) xs around g) around y)
 leaf-held k h l r ms xs around g y held f gap leaf =
     put-leaf k h g y Any (λ m ms' ns q. tt)
     (λ l' r' ms' xs' around' held' f' q d. gap-put k h l' r' ms' xs' around' g y held' f' gap leaf d)
     ms l r xs around held f tt
 
--- all marks are shared
-abbrev pub AreAlike : List Mark → List Mark → Type 0
+-- all wrappers are shared
+abbrev pub AreAlike : List Wrapper → List Wrapper → Type 0
 AreAlike [] [] = Unit {0}
 AreAlike (m ∷ ms) (n ∷ ns) = (m ≡ n) × AreAlike ms ns
 AreAlike _ _ = ⊥
@@ -248,14 +251,14 @@ code-there s t e h l r [] xs [] held f q d = code-put l r xs s t held e h
 code-there s t e h l r [] xs (a ∷ around) held f q d = absurd q
 code-there s t e h l r (m ∷ ms) xs [] held f q d = absurd q
 code-there s t e h l r (m ∷ ms) xs (a ∷ around) held f q d =
-    true-false (sym (same-itself (mark_of a)) ∙ subst (λ (x : Mark). is_same x (mark_of a) ≡ false) q.0 d)
+    true-false (sym (same-itself (wrapper_of a)) ∙ subst (λ (x : Wrapper). is_same x (wrapper_of a) ≡ false) q.0 d)
 
-pub code-held : (l : Bool) (r : List Format) (ms : List Mark) (xs : Inlines) (around : List Around)
-    (s t : List ℕ) → Held true l r ms xs → FitAll l r around → AreAlike ms (map mark_of around) → is_text s
+pub code-held : (l : Bool) (r : List Format) (ms : List Wrapper) (xs : Inlines) (around : List Around)
+    (s t : List ℕ) → Held true l r ms xs → FitAll l r around → AreAlike ms (map wrapper_of around) → is_text s
     ≡ true
     → IsWord t
-    → Held true l r (map mark_of around) (behind (shared ms (map mark_of around))
-    (put (shared ms (map mark_of around)) xs around (Some (code s))) around (code t))
+    → Held true l r (map wrapper_of around) (behind (shared ms (map wrapper_of around))
+    (put (shared ms (map wrapper_of around)) xs around (Some (code s))) around (code t))
 code-held l r ms xs around s t held f alike e h =
     put-leaf true true (Some (code s)) (code t) AreAlike (λ m ms' ns q. q.1) (code-there s t e h) ms l r xs around
     held f alike

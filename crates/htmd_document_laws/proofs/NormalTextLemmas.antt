@@ -12,7 +12,7 @@ use Rattle.htmd_grammar.specs.Characters.{space}
 use Rattle.htmd_grammar.specs.CharacterClasses.{first_is, is_empty}
 use Rattle.htmd_grammar.proofs.Cases.{test}
 use Rattle.htmd_document.specs.Spaces.{ends_with_space}
-use Rattle.htmd_document_form.specs.NormalInlines.{is_plain, is_line, has_double_space, is_text, ends_in_space, is_trimmed}
+use Rattle.htmd_document_form.specs.NormalInlines.{is_line_byte, is_line, has_double_space, is_text, ends_in_space, is_trimmed}
 use Rattle.htmd_document_laws.proofs.VisibleLemmas.{both-true}
 
 -- ---- tests
@@ -132,11 +132,11 @@ encode-passes p wide c h = all-from p (encode_utf8 c) at
 
 pub line-append : (s t : List ℕ) → is_line s ≡ true → is_line t ≡ true → is_line (s ++ t) ≡ true
 line-append s t g h =
-    let a = both-true (is_utf8 s) (list_all is_plain s) g in
-    let b = both-true (is_utf8 t) (list_all is_plain t) h in
+    let a = both-true (is_utf8 s) (list_all is_line_byte s) g in
+    let b = both-true (is_utf8 t) (list_all is_line_byte t) h in
     and-true
     (is_utf8-from_IsUtf8 (s ++ t) (IsUtf8-append s t (IsUtf8-from_is_utf8 s a.0) (IsUtf8-from_is_utf8 t b.0)))
-    (all-append is_plain s t a.1 b.1)
+    (all-append is_line_byte s t a.1 b.1)
 
 -- what a text is like
 pub record IsText (s : List ℕ) : Type 0 where

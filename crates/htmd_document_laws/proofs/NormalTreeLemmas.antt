@@ -128,9 +128,9 @@ clean-append s t g h = record {
   seen = all-append is_text_character s t g.seen h.seen;
 }
 
-mark-clean : IsClean (quotation_mark ∷ [])
+wrapper-clean : IsClean (quotation_mark ∷ [])
 unfolding encode chars is_utf8
-mark-clean = record { utf8 = IsUtf8-from_is_utf8 (quotation_mark ∷ []) refl; seen = refl }
+wrapper-clean = record { utf8 = IsUtf8-from_is_utf8 (quotation_mark ∷ []) refl; seen = refl }
 
 feed-clean : IsClean (line_feed ∷ [])
 unfolding encode chars is_utf8
@@ -142,8 +142,8 @@ role-text true i q alt inner g h = feed-clean
 role-text false true q alt inner g h = g
 role-text false false true alt inner g h =
     clean-append (quotation_mark ∷ inner) (quotation_mark ∷ [])
-    (clean-append (quotation_mark ∷ []) inner mark-clean h)
-    mark-clean
+    (clean-append (quotation_mark ∷ []) inner wrapper-clean h)
+    wrapper-clean
 role-text false false false alt inner g h = h
 
 mutual

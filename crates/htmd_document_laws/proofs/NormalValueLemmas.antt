@@ -22,7 +22,7 @@ use Rattle.htmd_document.specs.Attributes.{value_of, text_of, is_filled, words, 
 use Rattle.htmd_document.specs.Attributes.{is_space_or_control, is_no_line_end, address, is_mark}
 use Rattle.htmd_document.specs.Attributes.{after_beginning, if_filled, named_language, language_of_word, first_language}
 use Rattle.htmd_document.specs.Attributes.{language_of}
-use Rattle.htmd_document_form.specs.NormalInlines.{is_plain, is_line, is_kept, is_attribute, is_title}
+use Rattle.htmd_document_form.specs.NormalInlines.{is_line_byte, is_line, is_kept, is_attribute, is_title}
 use Rattle.htmd_document_form.specs.NormalDocuments.{is_language_byte, has_language}
 use Rattle.htmd_document_laws.specs.TreeForms.{line_tabulation, is_clean, has_clean_value, has_clean_values}
 use Rattle.htmd_document_laws.proofs.VisibleLemmas.{both-true}
@@ -222,49 +222,49 @@ words-fine q s h =
 
 -- ---- in one line
 
-plain-word : (b : ℕ) → is_word_byte is_text_character b ≡ true → is_plain b ≡ true
+plain-word : (b : ℕ) → is_word_byte is_text_character b ≡ true → is_line_byte b ≡ true
 plain-word b e = grind (arith, nat_tests)
 
 word-no_space : (b : ℕ) → is_word_byte is_text_character b ≡ true → not (b == space) ≡ true
 word-no_space b e = grind (arith, nat_tests)
 
 more-plain : (ws : List (List ℕ)) → AllWords (is_word_byte is_text_character) ws
-    → list_all is_plain (flat_map (λ next. (space ∷ []) ++ next) ws) ≡ true
+    → list_all is_line_byte (flat_map (λ next. (space ∷ []) ++ next) ws) ≡ true
 more-plain [] h = refl
 more-plain (w ∷ ws) h =
-    all-append is_plain ((space ∷ []) ++ w) (flat_map (λ next. (space ∷ []) ++ next) ws)
-    (and-true refl (all-less (is_word_byte is_text_character) is_plain plain-word w h.0)) (more-plain ws h.2)
+    all-append is_line_byte ((space ∷ []) ++ w) (flat_map (λ next. (space ∷ []) ++ next) ws)
+    (and-true refl (all-less (is_word_byte is_text_character) is_line_byte plain-word w h.0)) (more-plain ws h.2)
 
 joined-plain : (ws : List (List ℕ)) → AllWords (is_word_byte is_text_character) ws
-    → list_all is_plain (joined_texts (space ∷ []) ws) ≡ true
+    → list_all is_line_byte (joined_texts (space ∷ []) ws) ≡ true
 joined-plain [] h = refl
 joined-plain (w ∷ ws) h =
-    all-append is_plain w (flat_map (λ next. (space ∷ []) ++ next) ws)
-    (all-less (is_word_byte is_text_character) is_plain plain-word w h.0) (more-plain ws h.2)
+    all-append is_line_byte w (flat_map (λ next. (space ∷ []) ++ next) ws)
+    (all-less (is_word_byte is_text_character) is_line_byte plain-word w h.0) (more-plain ws h.2)
 
 pub in_line-line : (s : List ℕ) → IsClean s → is_line (in_line s) ≡ true
 in_line-line s h =
     and-true (is_utf8-from_IsUtf8 (in_line s) (in_line-shows s h.utf8).utf8)
     (joined-plain (words s) (words-fine is_text_character s h.seen))
 
-plain-text : (b : ℕ) → is_plain b ≡ true → is_text_character b ≡ true
+plain-text : (b : ℕ) → is_line_byte b ≡ true → is_text_character b ≡ true
 plain-text b e = grind (arith, nat_tests)
 
-plain-kept : (b : ℕ) → is_plain b ≡ true → is_kept b ≡ true
+plain-kept : (b : ℕ) → is_line_byte b ≡ true → is_kept b ≡ true
 plain-kept b e = grind (arith, nat_tests)
 
 pub in_line-clean : (s : List ℕ) → IsClean s → IsClean (in_line s)
 in_line-clean s h =
-    let parts = both-true (is_utf8 (in_line s)) (list_all is_plain (in_line s)) (in_line-line s h) in
+    let parts = both-true (is_utf8 (in_line s)) (list_all is_line_byte (in_line s)) (in_line-line s h) in
     record {
       utf8 = (in_line-shows s h.utf8).utf8;
-      seen = all-less is_plain is_text_character plain-text (in_line s) parts.1;
+      seen = all-less is_line_byte is_text_character plain-text (in_line s) parts.1;
     }
 
 -- ---- titles
 
 record IsSeen (s : List ℕ) : Type 0 where
-  plain : list_any is_plain s ≡ true
+  plain : list_any is_line_byte s ≡ true
   black : list_any (λ b. not (b == space)) s ≡ true
 
 any-first : (p : ℕ → Bool) (b : ℕ) (s : List ℕ) → p b ≡ true → list_any p (b ∷ s) ≡ true
@@ -277,7 +277,7 @@ joined-seen ([] ∷ ws) h e = false-true h.1
 joined-seen ((b ∷ w) ∷ ws) h e =
     let first = both-true (is_word_byte is_text_character b) (list_all (is_word_byte is_text_character) w) h.0 in
     record {
-      plain = any-first is_plain b (w ++ flat_map (λ next. (space ∷ []) ++ next) ws) (plain-word b first.0);
+      plain = any-first is_line_byte b (w ++ flat_map (λ next. (space ∷ []) ++ next) ws) (plain-word b first.0);
       black = any-first (λ c. not (c == space)) b (w ++ flat_map (λ next. (space ∷ []) ++ next) ws)
           (word-no_space b first.0);
     }
@@ -287,12 +287,12 @@ pub title-fine : (o : Option (List ℕ)) → ((s : List ℕ) → o ≡ Some s �
 title-fine None h = refl
 title-fine (Some s) h =
     let clean : IsClean s = h s refl in
-    let parts = both-true (is_utf8 (in_line s)) (list_all is_plain (in_line s)) (in_line-line s clean) in
+    let parts = both-true (is_utf8 (in_line s)) (list_all is_line_byte (in_line s)) (in_line-line s clean) in
     test (is_filled (in_line s))
     (λ e.
     let seen : IsSeen (in_line s) = joined-seen (words s) (words-fine is_text_character s clean.seen) e in
     subst (λ (c : Bool). is_title (cond c (Some (in_line s)) None) ≡ true) (sym e)
-    (and-true (and-true (and-true parts.0 (all-less is_plain is_kept plain-kept (in_line s) parts.1)) seen.plain)
+    (and-true (and-true (and-true parts.0 (all-less is_line_byte is_kept plain-kept (in_line s) parts.1)) seen.plain)
     seen.black))
     (λ e. subst (λ (c : Bool). is_title (cond c (Some (in_line s)) None) ≡ true) (sym e) refl)
 
@@ -329,8 +329,8 @@ language-bytes : (s : List ℕ) → list_all (is_word_byte is_class_byte) s ≡ 
 language-bytes [] h m = refl
 language-bytes (b ∷ s) h m =
     let parts = both-true (is_word_byte is_class_byte b) (list_all (is_word_byte is_class_byte) s) h in
-    let marks = neither (is_mark b) (list_any is_mark s) m in
-    and-true (language-byte b parts.0 marks.0) (language-bytes s parts.1 marks.1)
+    let wrappers = neither (is_mark b) (list_any is_mark s) m in
+    and-true (language-byte b parts.0 wrappers.0) (language-bytes s parts.1 wrappers.1)
 
 word-language : (w : List ℕ) → list_all (is_word_byte is_class_byte) w ≡ true
     → has_language (language_of_word w) ≡ true

@@ -10,7 +10,7 @@ use Rattle.htmd_grammar.proofs.Cases.{test}
 use Rattle.htmd_document.specs.Documents.{Inline, text, code, image, line_break, task, link, Inlines, no_inlines, inline}
 use Rattle.htmd_document.specs.Documents.{Block, paragraph, blocks_of}
 use Rattle.htmd_document.specs.Documents as value
-use Rattle.htmd_document.specs.Nesting.{Mark, mark_of, is_same, shared, behind, wrapped, text_or_code, one_inline, joined}
+use Rattle.htmd_document.specs.Nesting.{Wrapper, wrapper_of, is_same, shared, behind, wrapped, text_or_code, one_inline, joined}
 use Rattle.htmd_document.specs.Paragraphs.{Writing, begun, is_leaf, is_code_leaf, open_paragraph, ended_by, ended, parted}
 use Rattle.htmd_document.specs.Paragraphs.{broken_off, spaced_out, white_behind, after_task, is_code_gap, gap_after_task}
 use Rattle.htmd_document.specs.Paragraphs.{gap_before, gap_behind, latest_of, shown, after_leaf}
@@ -22,7 +22,7 @@ use Rattle.htmd_document_form.specs.NormalInlines.{first_passes, is_normal_line}
 use Rattle.htmd_document_laws.proofs.VisibleLemmas.{both-true}
 use Rattle.htmd_document_laws.proofs.NormalTextLemmas.{from-text}
 use Rattle.htmd_document_laws.proofs.NormalTextLemmas.{and-true, not-false, from-not, true-false, false-true}
-use Rattle.htmd_document_laws.proofs.NormalLineLemmas.{FitAll, Held, IsWhole, held-whole, same-mark}
+use Rattle.htmd_document_laws.proofs.NormalLineLemmas.{FitAll, Held, IsWhole, held-whole, same-wrapper}
 use Rattle.htmd_document_laws.proofs.NormalLineLemmas.{leaf-no_break}
 use Rattle.htmd_document_laws.proofs.NormalLeafLemmas.{IsLeaf, IsGap, leaf-begins, leaf-last, one-ends}
 use Rattle.htmd_document_laws.proofs.NormalLeafLemmas.{wrapped-first, wrapped-first-break, wrapped-held, put-after, leaf-differs}
@@ -36,13 +36,13 @@ use Rattle.htmd_document_laws.proofs.NormalBlockLemmas.{fine-first, FineBlocks, 
 -- ---- what is begun
 
 -- a line that is begun, where the next leaf may go
-pub record IsLine (k : Bool) (ms : List Mark) (xs : Inlines) : Type 0 where
+pub record IsLine (k : Bool) (ms : List Wrapper) (xs : Inlines) : Type 0 where
   pub held : Held k false [] ms xs
   pub no_space : first_passes begins_with_space xs ≡ false
   pub no_break : first_passes is_break xs ≡ false
 
 -- a task with what stands after it so far
-pub record IsTasked (k : Bool) (ms : List Mark) (xs : Inlines) : Type 0 where
+pub record IsTasked (k : Bool) (ms : List Wrapper) (xs : Inlines) : Type 0 where
   pub is_checked : Bool
   pub rest : Inlines
   pub is : xs ≡ inline (task is_checked) rest
@@ -75,15 +75,15 @@ nothing-normal n in_item flat =
 first-kept : (v w : Writing) → v.in_item ≡ w.in_item → v.done ≡ w.done → IsFirst w → IsFirst v
 first-kept v w e f h = record { in_item = e ∙ h.in_item; alone = f ∙ h.alone }
 
-line-kept : (k : Bool) (ms ns : List Mark) (xs ys : Inlines) → ms ≡ ns → xs ≡ ys → IsLine k ns ys
+line-kept : (k : Bool) (ms ns : List Wrapper) (xs ys : Inlines) → ms ≡ ns → xs ≡ ys → IsLine k ns ys
     → IsLine k ms xs
 line-kept k ms ns xs ys e f h =
-    subst (λ (ls : List Mark). IsLine k ls xs) (sym e) (subst (λ (zs : Inlines). IsLine k ns zs) (sym f) h)
+    subst (λ (ls : List Wrapper). IsLine k ls xs) (sym e) (subst (λ (zs : Inlines). IsLine k ns zs) (sym f) h)
 
-tasked-kept : (k : Bool) (ms ns : List Mark) (xs ys : Inlines) → ms ≡ ns → xs ≡ ys → IsTasked k ns ys
+tasked-kept : (k : Bool) (ms ns : List Wrapper) (xs ys : Inlines) → ms ≡ ns → xs ≡ ys → IsTasked k ns ys
     → IsTasked k ms xs
 tasked-kept k ms ns xs ys e f h =
-    subst (λ (ls : List Mark). IsTasked k ls xs) (sym e) (subst (λ (zs : Inlines). IsTasked k ns zs) (sym f) h)
+    subst (λ (ls : List Wrapper). IsTasked k ls xs) (sym e) (subst (λ (zs : Inlines). IsTasked k ns zs) (sym f) h)
 
 -- nothing of a state changes but the gap
 record IsSame (v w : Writing) : Type 0 where
@@ -105,7 +105,7 @@ state-kept v w s (in_task k e f h) =
 -- ---- where paragraphs end
 
 -- a line that is whole
-line-normal : (k : Bool) (ms : List Mark) (xs : Inlines) → IsLine k ms xs
+line-normal : (k : Bool) (ms : List Wrapper) (xs : Inlines) → IsLine k ms xs
     → (is_normal_line xs ≡ true) × (has_none xs ≡ false)
 line-normal k ms xs h =
     let w : IsWhole false [] xs = held-whole k false [] ms xs h.held in (
@@ -114,7 +114,7 @@ line-normal k ms xs h =
       w.some,
     )
 
-task-whole : (k : Bool) (ms : List Mark) (xs : Inlines) → IsTasked k ms xs → IsTaskLine xs
+task-whole : (k : Bool) (ms : List Wrapper) (xs : Inlines) → IsTasked k ms xs → IsTaskLine xs
 task-whole k ms xs h = record {
   is_checked = h.is_checked;
   rest = h.rest;
@@ -202,7 +202,7 @@ white_gap c (b ∷ s) = Some (text_or_code c (b ∷ s))
 
 abbrev gap_of : Writing → List Around → Bool → Option Inline
 gap_of w around k =
-    cond w.gap.has_break (Some line_break) (white_gap (k && is_code_gap w (map mark_of around)) w.gap.white)
+    cond w.gap.has_break (Some line_break) (white_gap (k && is_code_gap w (map wrapper_of around)) w.gap.white)
 
 white-put : (n : ℕ) (xs : Inlines) (around : List Around) (c : Bool) (s : List ℕ)
     → white_behind n xs around c s ≡ put n xs around (white_gap c s)
@@ -210,8 +210,9 @@ white-put n xs around c [] = refl
 white-put n xs around c (b ∷ s) = refl
 
 gap-put : (w : Writing) (around : List Around) (k : Bool)
-    → gap_before w around k ≡ put (shared w.around (map mark_of around)) w.content around (gap_of w around k)
-gap-put w around k = at (shared w.around (map mark_of around)) (k && is_code_gap w (map mark_of around)) w.gap.has_break
+    → gap_before w around k ≡ put (shared w.around (map wrapper_of around)) w.content around (gap_of w around k)
+gap-put w around k = at (shared w.around (map wrapper_of around)) (k
+    && is_code_gap w (map wrapper_of around)) w.gap.has_break
   where
     at : (n : ℕ) (c b : Bool)
         → cond b (behind n w.content (take n around) line_break) (white_behind n w.content around c w.gap.white)
@@ -219,15 +220,15 @@ gap-put w around k = at (shared w.around (map mark_of around)) (k && is_code_gap
     at n c true = refl
     at n c false = white-put n w.content around c w.gap.white
 
--- all marks are shared if as many are
-alike : (ms ns : List Mark) → (shared ms ns == length ms) ≡ true → (shared ms ns == length ns) ≡ true
+-- all wrappers are shared if as many are
+alike : (ms ns : List Wrapper) → (shared ms ns == length ms) ≡ true → (shared ms ns == length ns) ≡ true
     → AreAlike ms ns
 alike [] [] e f = tt
 alike [] (n ∷ ns) e f = absurd (grind (arith, nat_tests))
 alike (m ∷ ms) [] e f = absurd (grind (arith, nat_tests))
 alike (m ∷ ms) (n ∷ ns) e f = test (is_same m n)
     (λ s. (
-      same-mark m n s,
+      same-wrapper m n s,
       alike ms ns
           (less (shared ms ns) (length ms) (sym (ap (λ b. cond b (suc (shared ms ns)) 0 == suc (length ms)) s) ∙ e))
           (less (shared ms ns) (length ns) (sym (ap (λ b. cond b (suc (shared ms ns)) 0 == suc (length ns)) s) ∙ f)),
@@ -247,18 +248,18 @@ latest-code false = refl
 module _ (w : Writing) (j k : Bool) (around : List Around) (y : Inline) (xs : Inlines)
     (latest : w.latest ≡ latest_of j) (held : Held j false [] w.around xs) (gap : IsWhite w.gap.white)
     (fits : FitAll false [] around) (leaf : IsLeaf k y) where
-  abbrev marks : List Mark
-  marks = map mark_of around
+  abbrev wrappers : List Wrapper
+  wrappers = map wrapper_of around
 
   abbrev n : ℕ
-  n = shared w.around marks
+  n = shared w.around wrappers
 
   abbrev Goes : Option Inline → Type 0
-  Goes g = Held k false [] marks (behind n (put n xs around g) around y)
+  Goes g = Held k false [] wrappers (behind n (put n xs around g) around y)
 
-  as-code : (s : List ℕ) (y' : Inline) → IsLeaf true y' → j ≡ true → AreAlike w.around marks → is_text s
+  as-code : (s : List ℕ) (y' : Inline) → IsLeaf true y' → j ≡ true → AreAlike w.around wrappers → is_text s
       ≡ true
-      → Held true false [] marks (behind n (put n xs around (Some (code s))) around y')
+      → Held true false [] wrappers (behind n (put n xs around (Some (code s))) around y')
   as-code s (code t) h e a i = code-held false [] w.around xs around s t
       (subst (λ (b : Bool). Held b false [] w.around xs) e held) fits a i h.1
   as-code s (text t) h e a i = true-false h.0
@@ -271,29 +272,29 @@ module _ (w : Writing) (j k : Bool) (around : List Around) (y : Inline) (xs : In
   plain : (g : Option Inline) → IsGap g → Goes g
   plain g h = leaf-held j k false [] w.around xs around g y held fits h leaf
 
-  code-gap : (s : List ℕ) → k ≡ true → is_code_gap w marks ≡ true → is_text s ≡ true
+  code-gap : (s : List ℕ) → k ≡ true → is_code_gap w wrappers ≡ true → is_text s ≡ true
       → Goes (Some (code s))
   code-gap s e c i =
-      let four = both-true (is_code_leaf w.latest && w.gap.is_code && (shared w.around marks == length w.around))
-      (shared w.around marks == length marks) c in
-      let three = both-true (is_code_leaf w.latest && w.gap.is_code) (shared w.around marks == length w.around)
+      let four = both-true (is_code_leaf w.latest && w.gap.is_code && (shared w.around wrappers == length w.around))
+      (shared w.around wrappers == length wrappers) c in
+      let three = both-true (is_code_leaf w.latest && w.gap.is_code) (shared w.around wrappers == length w.around)
       four.0 in
       let two = both-true (is_code_leaf w.latest) w.gap.is_code three.0 in
       let was : j ≡ true = sym (latest-code j) ∙ (sym (ap is_code_leaf latest) ∙ two.0) in
-      subst (λ (b : Bool). Held b false [] marks (behind n (put n xs around (Some (code s))) around y)) (sym e)
+      subst (λ (b : Bool). Held b false [] wrappers (behind n (put n xs around (Some (code s))) around y)) (sym e)
       (as-code s y (subst (λ (b : Bool). IsLeaf b y) e leaf) was
-      (alike w.around marks three.1 four.1) i)
+      (alike w.around wrappers three.1 four.1) i)
 
-  white-goes : (c : Bool) (s : List ℕ) → (k && is_code_gap w marks) ≡ c → IsWhite s → Goes (white_gap c s)
+  white-goes : (c : Bool) (s : List ℕ) → (k && is_code_gap w wrappers) ≡ c → IsWhite s → Goes (white_gap c s)
   white-goes c [] e h = plain None tt
   white-goes false (b ∷ s) e h = plain (Some (text (b ∷ s))) (white-text b s h)
   white-goes true (b ∷ s) e h =
-      let parts = both-true k (is_code_gap w marks) e in
+      let parts = both-true k (is_code_gap w wrappers) e in
       code-gap (b ∷ s) parts.0 parts.1 (white-text b s h)
 
-  gap-goes : (b : Bool) → Goes (cond b (Some line_break) (white_gap (k && is_code_gap w marks) w.gap.white))
+  gap-goes : (b : Bool) → Goes (cond b (Some line_break) (white_gap (k && is_code_gap w wrappers) w.gap.white))
   gap-goes true = plain (Some line_break) tt
-  gap-goes false = white-goes (k && is_code_gap w marks) w.gap.white refl gap
+  gap-goes false = white-goes (k && is_code_gap w wrappers) w.gap.white refl gap
 
   pub goes-on : Goes (gap_of w around k)
   goes-on = gap-goes w.gap.has_break
@@ -328,29 +329,30 @@ module _ (n : ℕ) (in_item : Bool) (w : Writing) (h : IsNormalWriting n in_item
     (k : Bool) (y : Inline) (fits : FitAll false [] around) (leaf : IsLeaf k y) where
   -- the inlines after a leaf more, by what showed last
   abbrev after : Shown → Inlines
-  after l = behind (cond (is_leaf l) (shared w.around (map mark_of around)) 0) (gap_behind l w around k) around y
+  after l = behind (cond (is_leaf l) (shared w.around (map wrapper_of around)) 0) (gap_behind l w around k) around y
 
   abbrev new : Writing
   new = shown w around k y
 
-  first-leaf : w.content ≡ no_inlines → IsLine k (map mark_of around) (behind 0 w.content around y)
-  first-leaf e = subst (λ (xs : Inlines). IsLine k (map mark_of around) (behind 0 xs around y)) (sym e) (record {
+  first-leaf : w.content ≡ no_inlines → IsLine k (map wrapper_of around) (behind 0 w.content around y)
+  first-leaf e = subst (λ (xs : Inlines). IsLine k (map wrapper_of around) (behind 0 xs around y)) (sym e) (record {
     held = wrapped-held k false [] around y fits leaf;
     no_space = wrapped-first around y (leaf-begins k y leaf);
     no_break = wrapped-first-break around y (leaf-no_break y (leaf-last k y leaf).leaf);
   })
 
   task-text : (s : List ℕ) → is_text s ≡ true
-      → Held k false [] (map mark_of around) (joined (one_inline (text s)) (wrapped around y))
+      → Held k false [] (map wrapper_of around) (joined (one_inline (text s)) (wrapped around y))
   task-text s e = put-after k false [] (one_inline (text s)) (text s) around y (one-ends false [] (text s)) e fits leaf
       (leaf-differs (text s) around refl)
 
   task-leaf : (b : Bool) → w.content ≡ one_inline (task b)
-      → IsTasked k (map mark_of around) (behind 0 (gap_after_task w) around y)
+      → IsTasked k (map wrapper_of around) (behind 0 (gap_after_task w) around y)
   task-leaf b e =
       let s : List ℕ = after_task w.gap.white in
       let here : IsAfterTask s = after_task-text w.gap.white h.gap in
-      subst (λ (xs : Inlines). IsTasked k (map mark_of around) (behind 0 (behind 0 xs [] (text s)) around y)) (sym e)
+      subst (λ (xs : Inlines). IsTasked k (map wrapper_of around) (behind 0 (behind 0 xs [] (text s)) around y))
+      (sym e)
       (record {
         is_checked = b;
         rest = joined (one_inline (text s)) (wrapped around y);
@@ -361,14 +363,15 @@ module _ (n : ℕ) (in_item : Bool) (w : Writing) (h : IsNormalWriting n in_item
       })
 
   next-leaf : (j : Bool) → w.latest ≡ latest_of j → IsLine j w.around w.content
-      → IsLine k (map mark_of around) (behind (shared w.around (map mark_of around)) (gap_before w around k) around y)
+      → IsLine k (map wrapper_of around)
+      (behind (shared w.around (map wrapper_of around)) (gap_before w around k) around y)
   next-leaf j e l =
-      let m : ℕ = shared w.around (map mark_of around) in
+      let m : ℕ = shared w.around (map wrapper_of around) in
       let g : Option Inline = gap_of w around k in
       let whole : IsWhole false [] w.content = held-whole j false [] w.around w.content l.held in
       let begins : BeginsAs w.content (behind m (put m w.content around g) around y) =
       put-begins m w.content around g y (normal-begun false [] w.content whole.normal whole.some) in
-      subst (λ (xs : Inlines). IsLine k (map mark_of around) (behind m xs around y)) (sym (gap-put w around k))
+      subst (λ (xs : Inlines). IsLine k (map wrapper_of around) (behind m xs around y)) (sym (gap-put w around k))
       (record {
         held = goes-on w j k around y w.content e l.held h.gap fits leaf;
         no_space = begins.space ∙ l.no_space;
@@ -376,14 +379,14 @@ module _ (n : ℕ) (in_item : Bool) (w : Writing) (h : IsNormalWriting n in_item
       })
 
   next-tasked : (j : Bool) → w.latest ≡ latest_of j → IsTasked j w.around w.content
-      → IsTasked k (map mark_of around) (behind (shared w.around (map mark_of around)) (gap_before w around k)
+      → IsTasked k (map wrapper_of around) (behind (shared w.around (map wrapper_of around)) (gap_before w around k)
       around y)
   next-tasked j e l =
-      let m : ℕ = shared w.around (map mark_of around) in
+      let m : ℕ = shared w.around (map wrapper_of around) in
       let g : Option Inline = gap_of w around k in
       let whole : IsWhole false [] l.rest = held-whole j false [] w.around l.rest l.held in
       let begun : is_begun l.rest ≡ true = normal-begun false [] l.rest whole.normal whole.some in
-      subst (λ (xs : Inlines). IsTasked k (map mark_of around) (behind m xs around y)) (sym (gap-put w around k))
+      subst (λ (xs : Inlines). IsTasked k (map wrapper_of around) (behind m xs around y)) (sym (gap-put w around k))
       (record {
         is_checked = l.is_checked;
         rest = behind m (put m l.rest around g) around y;
@@ -395,20 +398,20 @@ module _ (n : ℕ) (in_item : Bool) (w : Writing) (h : IsNormalWriting n in_item
 
   leaf-state : State w → State new
   leaf-state (at_nothing e f) =
-      at_leaf k refl (subst (λ l. IsLine k (map mark_of around) (after l)) (sym e) (first-leaf f))
+      at_leaf k refl (subst (λ l. IsLine k (map wrapper_of around) (after l)) (sym e) (first-leaf f))
   leaf-state (at_task b e f g) =
       in_task k refl (record { in_item = f.in_item; alone = f.alone })
-      (subst (λ l. IsTasked k (map mark_of around) (after l)) (sym e) (task-leaf b g))
+      (subst (λ l. IsTasked k (map wrapper_of around) (after l)) (sym e) (task-leaf b g))
   leaf-state (at_leaf true e f) =
-      at_leaf k refl (subst (λ l. IsLine k (map mark_of around) (after l)) (sym e) (next-leaf true e f))
+      at_leaf k refl (subst (λ l. IsLine k (map wrapper_of around) (after l)) (sym e) (next-leaf true e f))
   leaf-state (at_leaf false e f) =
-      at_leaf k refl (subst (λ l. IsLine k (map mark_of around) (after l)) (sym e) (next-leaf false e f))
+      at_leaf k refl (subst (λ l. IsLine k (map wrapper_of around) (after l)) (sym e) (next-leaf false e f))
   leaf-state (in_task true e f g) =
       in_task k refl (record { in_item = f.in_item; alone = f.alone })
-      (subst (λ l. IsTasked k (map mark_of around) (after l)) (sym e) (next-tasked true e g))
+      (subst (λ l. IsTasked k (map wrapper_of around) (after l)) (sym e) (next-tasked true e g))
   leaf-state (in_task false e f g) =
       in_task k refl (record { in_item = f.in_item; alone = f.alone })
-      (subst (λ l. IsTasked k (map mark_of around) (after l)) (sym e) (next-tasked false e g))
+      (subst (λ l. IsTasked k (map wrapper_of around) (after l)) (sym e) (next-tasked false e g))
 
   pub shown-normal : IsNormalWriting n in_item new
   shown-normal = record {

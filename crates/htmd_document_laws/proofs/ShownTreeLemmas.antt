@@ -20,7 +20,7 @@ use Rattle.htmd_document_laws.specs.TreeTexts.{text_of_tree, text_of_trees, has_
 use Rattle.htmd_document_laws.specs.TreeTexts.{hold_texts}
 use Rattle.htmd_document_laws.proofs.VisibleLemmas.{Shows, shows-nil, shows-itself, shows-append, shows-encodes, seen-same}
 use Rattle.htmd_document_laws.proofs.VisibleLemmas.{both-true}
-use Rattle.htmd_document_laws.proofs.ElementLemmas.{mark-shows}
+use Rattle.htmd_document_laws.proofs.ElementLemmas.{wrapper-shows}
 use Rattle.htmd_document_laws.proofs.SeenLemmas.{seen, seen_all, IsGood, AreGood}
 
 -- ---- texts
@@ -64,7 +64,7 @@ said-shows false true q alt inner kids u h = shows-nil
 said-shows false false true alt inner kids u h =
     shows-append (quotation_mark ∷ inner) (quotation_mark ∷ []) (quotation_mark ∷ seen_all kids)
     (quotation_mark ∷ [])
-    (shows-append (quotation_mark ∷ []) inner (quotation_mark ∷ []) (seen_all kids) mark-shows h) mark-shows
+    (shows-append (quotation_mark ∷ []) inner (quotation_mark ∷ []) (seen_all kids) wrapper-shows h) wrapper-shows
 said-shows false false false alt inner kids u h = h
 
 more-shows : (b : Bool) (s rest : List ℕ) (t : NumberedTree) (ts : NumberedForest) → Shows s (seen t)

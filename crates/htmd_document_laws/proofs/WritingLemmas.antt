@@ -14,10 +14,10 @@ use Rattle.htmd_grammar.specs.WhiteSpace.{is_ascii_white_space}
 use Rattle.htmd_grammar.proofs.Cases.{test}
 use Rattle.htmd_document.specs.Documents.{Inline, text, line_break, task, Inlines, Block, paragraph}
 use Rattle.htmd_document.specs.Documents.{blocks_of}
-use Rattle.htmd_document.specs.Nesting.{mark_of, shared, behind, text_or_code, one_inline}
+use Rattle.htmd_document.specs.Nesting.{wrapper_of, shared, behind, text_or_code, one_inline}
 use Rattle.htmd_document.specs.Paragraphs.{Writing, begun, is_leaf, open_paragraph, ended_by, ended, parted, broken_off}
 use Rattle.htmd_document.specs.Paragraphs.{spaced_out, white_behind, after_task, is_code_gap, gap_after_task, gap_before}
-use Rattle.htmd_document.specs.Paragraphs.{gap_behind, latest_of, shared_marks, shown, after_leaf, is_task_here, tasked}
+use Rattle.htmd_document.specs.Paragraphs.{gap_behind, latest_of, shared_wrappers, shown, after_leaf, is_task_here, tasked}
 use Rattle.htmd_document.specs.Paragraphs.{after_character, blocks_in, line_in}
 use Rattle.htmd_document.specs.Parts.{Around}
 use Rattle.htmd_document.specs.Spaces.{Gap, no_gap, shown_white, is_white, ends_with_space}
@@ -247,46 +247,46 @@ either-gap false w around n xs ys g h = h
 
 leaf-gap : (w : Writing) (around : List Around) (is_code : Bool) → Shows w.gap.white []
     → Open (length w.around) w.content
-    → IsGap w around (gap_before w around is_code) (shared w.around (map mark_of around))
+    → IsGap w around (gap_before w around is_code) (shared w.around (map wrapper_of around))
 leaf-gap w around is_code h o =
-    let n : ℕ = shared w.around (map mark_of around) in
+    let n : ℕ = shared w.around (map wrapper_of around) in
     let fits : n ≤ length around = omega (
       arith,
-      shared-le-other w.around (map mark_of around),
-      length-map around mark_of,
+      shared-le-other w.around (map wrapper_of around),
+      length-map around wrapper_of,
     ) in
     let opens : Open n w.content =
-    open-less (length w.around) n w.content (shared-le w.around (map mark_of around)) o in
+    open-less (length w.around) n w.content (shared-le w.around (map wrapper_of around)) o in
     either-gap w.gap.has_break w around n (behind n w.content (take n around) line_break)
-    (white_behind n w.content around (is_code && is_code_gap w (map mark_of around)) w.gap.white)
+    (white_behind n w.content around (is_code && is_code_gap w (map wrapper_of around)) w.gap.white)
     (put-gap w around n line_break shows-nil fits opens)
-    (white-gap w around n (is_code && is_code_gap w (map mark_of around)) w.gap.white h fits opens)
+    (white-gap w around n (is_code && is_code_gap w (map wrapper_of around)) w.gap.white h fits opens)
 
 either-leaf : (k : Bool) (w : Writing) (around : List Around) (is_code : Bool) → Shows w.gap.white []
     → Open (length w.around) w.content
     → IsGap w around (gap_behind (latest_of k) w around is_code)
-    (cond (is_leaf (latest_of k)) (shared w.around (map mark_of around)) 0)
+    (cond (is_leaf (latest_of k)) (shared w.around (map wrapper_of around)) 0)
 either-leaf true w around is_code h o = leaf-gap w around is_code h o
 either-leaf false w around is_code h o = leaf-gap w around is_code h o
 
 any-gap : (w : Writing) (around : List Around) (is_code : Bool) → Shows w.gap.white [] → State w
-    → IsGap w around (gap_behind w.latest w around is_code) (shared_marks w (map mark_of around))
+    → IsGap w around (gap_behind w.latest w around is_code) (shared_wrappers w (map wrapper_of around))
 any-gap w around is_code h (at_nothing e t) =
     subst (λ l. IsGap w around (gap_behind l w around is_code)
-    (cond (is_leaf l) (shared w.around (map mark_of around)) 0)) (sym e) (no-gap w around)
+    (cond (is_leaf l) (shared w.around (map wrapper_of around)) 0)) (sym e) (no-gap w around)
 any-gap w around is_code h (at_task e t) =
     subst (λ l. IsGap w around (gap_behind l w around is_code)
-    (cond (is_leaf l) (shared w.around (map mark_of around)) 0)) (sym e) (task-gap w around h)
+    (cond (is_leaf l) (shared w.around (map wrapper_of around)) 0)) (sym e) (task-gap w around h)
 any-gap w around is_code h (at_leaf k e o) =
     subst (λ l. IsGap w around (gap_behind l w around is_code)
-    (cond (is_leaf l) (shared w.around (map mark_of around)) 0)) (sym e) (either-leaf k w around is_code h o)
+    (cond (is_leaf l) (shared w.around (map wrapper_of around)) 0)) (sym e) (either-leaf k w around is_code h o)
 
 -- ---- what shows
 
 shown-wrote : (w : Writing) (flat : Bool) (cs ds : List ℕ) (around : List Around) (is_code : Bool) (y : Inline)
     → Wrote w flat cs → Shows (text_of_inline y) ds → Wrote (shown w around is_code y) flat (cs ++ ds)
 shown-wrote w flat cs ds around is_code y h s =
-    let n : ℕ = shared_marks w (map mark_of around) in
+    let n : ℕ = shared_wrappers w (map wrapper_of around) in
     let xs : Inlines = gap_behind w.latest w around is_code in
     let g : IsGap w around xs n = any-gap w around is_code h.gap h.state in
     let before : List ℕ = text_of_all w.done ++ text_of_line w.content in
@@ -304,7 +304,7 @@ shown-wrote w flat cs ds around is_code y h s =
       blank = λ e. false-true e;
       line = h.line;
       state = at_leaf is_code refl (subst (λ (k : ℕ). Open k (behind n xs around y))
-          (sym (length-map around mark_of))
+          (sym (length-map around wrapper_of))
           (behind-open n xs around y g.fits g.opens));
     }
 

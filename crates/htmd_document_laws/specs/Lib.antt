@@ -3,7 +3,7 @@ pub mod DocumentTexts
 pub mod TreeTexts
 pub mod TextLaws
 pub mod TreeForms
-pub mod DocumentMarks
-pub mod TreeMarks
-pub mod MarkLaws
+pub mod DocumentWrappers
+pub mod TreeWrappers
+pub mod WrapperLaws
 pub mod NormalLaws

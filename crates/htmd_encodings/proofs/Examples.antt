@@ -77,7 +77,8 @@ unfolding utf16_chars encode_utf8 is_utf8 chars
 bytes_decoded = (refl, refl)
 
 -- each longest beginning of a character in UTF-8 is U+FFFD: a cut one, and a byte that begins none
-utf8_errors : decoded Utf8 (0xE2 ∷ 0x82 ∷ 0x41 ∷ 0xFF ∷ []) ≡ encode_utf8_all (0xFFFD ∷ 0x41 ∷ 0xFFFD ∷ [])
+utf8_errors : decoded Utf8 (0xE2 ∷ 0x82 ∷ 0x41 ∷ 0xFF ∷ [])
+    ≡ encode_utf8_all (0xFFFD ∷ 0x41 ∷ 0xFFFD ∷ [])
 unfolding utf8_lossy utf8_valid_len utf8_error_len encode_utf8 is_utf8 chars
 utf8_errors = refl
 

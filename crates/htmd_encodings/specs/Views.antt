@@ -8,8 +8,8 @@ use Rattle.htmd_encodings.specs.declared.attributes.Attributes.{Attributes}
 use Rattle.htmd_encodings.specs.declared.attributes.Part.{Part}
 use Rattle.htmd_encodings.specs.declared.attributes.Part.TheVariants.{Unended, End, Attribute}
 use Rattle.htmd_encodings.specs.declared.encodings.Named.{Named}
-use Rattle.htmd_encodings.specs.declared.runs.Class.{Class}
-use Rattle.htmd_encodings.specs.declared.runs.Class.TheVariants as class
+use Rattle.htmd_encodings.specs.declared.cuts.Class.{Class}
+use Rattle.htmd_encodings.specs.declared.cuts.Class.TheVariants as class
 use Rattle.htmd_encodings.specs.Attributes.{is_gap_byte, is_name_byte, is_unquoted_byte, after_name}
 use Rattle.htmd_encodings.specs.ContentLabels.{is_label_byte}
 use Rattle.htmd_encodings.specs.Declarations.{is_control, is_visible}

@@ -7,9 +7,9 @@ ghost use Rattle.htmd_encodings.specs.Labels as labels;
 ghost use Rattle.htmd_encodings.specs.Views.{attribute_part, part_of, tag_of};
 
 use crate::content_labels::content_label;
+use crate::cuts::{Class, is_in_any_case, split_run, strip_byte};
 use crate::encodings::Named;
 use crate::labels::named;
-use crate::runs::{Class, is_in_any_case, split_run, strip_byte};
 
 /// What comes next in a tag after its name.
 pub(crate) enum Part<'a> {

@@ -3,9 +3,9 @@ ghost use Rattle.std.specs.Prelude.{◌≡◌, map};
 ghost use Rattle.htmd_encodings.specs.Labels as spec;
 ghost use Rattle.htmd_encodings.specs.Views.{label_of};
 
+use crate::cuts::{Class, is_in_any_case, split_run};
 use crate::encodings::Named::{Supported, Unsupported};
 use crate::encodings::{ByteOrder, Encoding, Named, SingleByte, UnsupportedEncoding};
-use crate::runs::{Class, is_in_any_case, split_run};
 
 /// A label in lower case, and what it names.
 type Label = (&'static str, Named);

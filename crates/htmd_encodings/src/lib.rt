@@ -4,13 +4,13 @@
 
 mod attributes;
 mod content_labels;
+mod cuts;
 mod declarations;
 mod decoding;
 mod encodings;
 mod indexes;
 mod labels;
 mod prescan;
-mod runs;
 
 pub use decoding::{DecodeError, page_text};
 pub use encodings::{ByteOrder, Encoding, Named, SingleByte, UnsupportedEncoding};

@@ -5,7 +5,7 @@ use Rattle.htmd_files.specs.Names.{is_page, md_name}
 use Rattle.htmd_files.specs.Paths.{normal, is_same, place, is_below, file_name}
 use Rattle.htmd_files.specs.Relative.{relative}
 use Rattle.htmd_files.specs.Words as words
-use Rattle.htmd_files.specs.Plans as spec
+use Rattle.htmd_files.specs.FilePlans as spec
 
 -- ---- names
 
@@ -124,7 +124,8 @@ page input output = record { input = input; output = output }
 
 plan-folder : spec.plan (site ∷ spec.file (codes "./c.html") ∷ []) (to_folder (codes "out"))
     ≡ Ok (spec.files (page (codes "site/a.xhtml") (codes "out/a.md")
-    ∷ page (codes "site/b/a.HTM") (codes "out/b/a.md") ∷ page (codes "site/z.html") (codes "out/z.md") ∷ page (codes "./c.html") (codes "out/c.md") ∷ []))
+    ∷ page (codes "site/b/a.HTM") (codes "out/b/a.md") ∷ page (codes "site/z.html") (codes "out/z.md")
+    ∷ page (codes "./c.html") (codes "out/c.md") ∷ []))
 plan-folder = refl
 
 plan-one : spec.plan (spec.file (codes "a.html") ∷ []) (Some (record { path = codes "b.md"; is_folder = false }))

@@ -3,6 +3,6 @@ pub mod NamesLemmas
 pub mod PathsLemmas
 pub mod WordsLemmas
 pub mod OrderLemmas
-pub mod PlansLemmas
+pub mod FilePlansLemmas
 pub mod PromisesLemmas
 mod Examples

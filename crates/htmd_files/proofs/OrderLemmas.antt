@@ -16,7 +16,7 @@ use Rattle.std.proofs.lemmas.List.Sorted.{ranks_by, IsPermutation-map, sum_by-Is
 use Rattle.std.proofs.lemmas.Map.Text.{is_eq-slice_cmp}
 use Rattle.std.proofs.lemmas.Slice.Eq.{bytes_eq-Decides}
 use Rattle.htmd_files.specs.PlaceViews.{texts}
-use Rattle.htmd_files.specs.Plans.{comes_before, placed, in_order}
+use Rattle.htmd_files.specs.FilePlans.{comes_before, placed, in_order}
 
 order : IsStrictWeakOrder comes_before
 order = ranks_by nat_list_cmp_total (λ (x : List ℕ). x)

@@ -8,10 +8,10 @@ use Rattle.std.proofs.lemmas.List.Elements.{All-nil, All-cons}
 use Rattle.std.proofs.lemmas.List.Quantifiers.{all_pairs_push}
 use Rattle.std.proofs.lemmas.Slice.Eq.{bytes_eq-Decides}
 use Rattle.htmd_files.specs.Paths.{normal, place, is_same, is_below}
-use Rattle.htmd_files.specs.Plans.{Operand, Destination, Page, Plan, Fault, standard_input, file, folder, is_outside}
-use Rattle.htmd_files.specs.Plans.{unless_outside, if_below, pages_at, pages_to, names_folder, single_input}
-use Rattle.htmd_files.specs.Plans.{writes_to, shared_fault, shared_after, overwritten_fault, overwritten_in, or_fault}
-use Rattle.htmd_files.specs.Plans.{output_fault, unless, if_apart, only_input, plan}
+use Rattle.htmd_files.specs.FilePlans.{Operand, Destination, Page, FilePlan, Fault, standard_input, file, folder, is_outside}
+use Rattle.htmd_files.specs.FilePlans.{unless_outside, if_below, pages_at, pages_to, names_folder, single_input}
+use Rattle.htmd_files.specs.FilePlans.{writes_to, shared_fault, shared_after, overwritten_fault, overwritten_in, or_fault}
+use Rattle.htmd_files.specs.FilePlans.{output_fault, unless, if_apart, only_input, plan}
 use Rattle.htmd_files.specs.Promises.{pages_in, Differ, AreApart, KeepInputs, AreBelow}
 
 either : {P : Type 0} (b : Bool) → (b ≡ true → P) → (b ≡ false → P) → P
@@ -99,7 +99,7 @@ below_at out operands (Some path) now n e =
 
 -- ---- all together
 
-abbrev pages_or_none : Result Plan Fault → List Page
+abbrev pages_or_none : Result FilePlan Fault → List Page
 pages_or_none (Ok made) = pages_in made
 pages_or_none (Err f) = []
 
@@ -114,19 +114,19 @@ no_fault : (a b : Option Fault) → or_fault a b ≡ None → (a ≡ None) × (b
 no_fault None b e = (refl, e)
 no_fault (Some f) b e = absurd (cc)
 
-not_refused : (o : Option Fault) (pages : List Page) (made : Plan) → unless o pages ≡ Ok made
+not_refused : (o : Option Fault) (pages : List Page) (made : FilePlan) → unless o pages ≡ Ok made
     → (o ≡ None) × (pages ≡ pages_in made)
 not_refused None pages made e = (refl, ap pages_or_none e)
 not_refused (Some f) pages made e = absurd (cc)
 
-abbrev pub Keeps : Option Destination → List Operand → Plan → Type 0
+abbrev pub Keeps : Option Destination → List Operand → FilePlan → Type 0
 Keeps out operands made =
     AreApart (pages_in made) × (KeepInputs (pages_in made) × AreBelow out operands (pages_in made))
 
 abbrev IsKept : Option Destination → List Operand → List Page → Type 0
 IsKept out operands pages = AreApart pages × (KeepInputs pages × AreBelow out operands pages)
 
-files_keep : (out : Destination) (operands : List Operand) (r : Result (List Page) Fault) (made : Plan)
+files_keep : (out : Destination) (operands : List Operand) (r : Result (List Page) Fault) (made : FilePlan)
     → pages_to out operands ≡ r → if_apart r ≡ Ok made → Keeps (Some out) operands made
 files_keep out operands (Err f) made s e = absurd (cc)
 files_keep out operands (Ok pages) made s e =
@@ -137,7 +137,8 @@ files_keep out operands (Ok pages) made s e =
       (inputs_kept pages pages f.1, λ w. below_at out operands (single_input operands) pages w s),
     )
 
-pub plan_keeps : (operands : List Operand) (out : Option Destination) (made : Plan) → plan operands out ≡ Ok made
+pub plan_keeps : (operands : List Operand) (out : Option Destination) (made : FilePlan) → plan operands out
+    ≡ Ok made
     → Keeps out operands made
 plan_keeps operands None made e =
     let n : [] ≡ pages_in made = sym (no_pages operands) ∙ ap pages_or_none e in

@@ -5,6 +5,6 @@ pub mod PlaceViews
 pub mod Relative
 pub mod Words
 pub mod WordViews
-pub mod Plans
+pub mod FilePlans
 pub mod PlanViews
 pub mod Promises

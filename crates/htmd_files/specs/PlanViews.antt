@@ -11,10 +11,10 @@ use Rattle.htmd_files.specs.declared.planning.Operand as held_operand
 use Rattle.htmd_files.specs.declared.planning.Operand.TheVariants as operand
 use Rattle.htmd_files.specs.declared.planning.Destination as held_destination
 use Rattle.htmd_files.specs.declared.planning.Page as held_page
-use Rattle.htmd_files.specs.declared.planning.Plan as held_plan
-use Rattle.htmd_files.specs.declared.planning.Plan.TheVariants as held
+use Rattle.htmd_files.specs.declared.planning.FilePlan as held_plan
+use Rattle.htmd_files.specs.declared.planning.FilePlan.TheVariants as held
 use Rattle.htmd_files.specs.Paths.{normal}
-use Rattle.htmd_files.specs.Plans as spec
+use Rattle.htmd_files.specs.FilePlans as spec
 use Rattle.htmd_files.specs.WordViews.{texts_of}
 
 abbrev pub operand_of : held_operand.Operand → spec.Operand
@@ -31,7 +31,7 @@ page_of page = record { input = string_bytes page.input; output = string_bytes p
 abbrev pub pages_of : List held_page.Page → List spec.Page
 pages_of pages = map page_of pages
 
-abbrev pub plan_in : held_plan.Plan → spec.Plan
+abbrev pub plan_in : held_plan.FilePlan → spec.FilePlan
 plan_in (held.StandardOutput input) = spec.standard_output (string_bytes input)
 plan_in (held.Files pages) = spec.files (pages_of pages.items)
 

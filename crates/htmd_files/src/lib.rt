@@ -11,5 +11,5 @@ mod words;
 pub use faults::{PlanFault, WordFault};
 pub use names::{is_page, md_name};
 pub use places::{normal_path, relative};
-pub use planning::{Destination, Operand, Page, Plan, plan_of};
+pub use planning::{Destination, FilePlan, Operand, Page, plan_of};
 pub use words::{Job, job_of};

@@ -3,7 +3,7 @@ ghost use Rattle.std.specs.Prelude.{◌≡◌, [], ◌∷◌, ◌++◌, map, fin
 ghost use Rattle.std.specs.Prelude.{filter, option_copied, option_map};
 ghost use Rattle.htmd_files.specs.Names as names;
 ghost use Rattle.htmd_files.specs.Paths as paths;
-ghost use Rattle.htmd_files.specs.Plans as spec;
+ghost use Rattle.htmd_files.specs.FilePlans as spec;
 ghost use Rattle.htmd_files.specs.PlaceViews.{texts};
 ghost use Rattle.htmd_files.specs.PlanViews.{operand_of, destination_of, page_of, pages_of, plan_in, IsRefusal, HoldsOutputs};
 ghost use Rattle.htmd_files.specs.Promises.{AreApart, KeepInputs, AreBelow, pages_in as pages_written};
@@ -42,7 +42,7 @@ pub struct Page {
 
 /// What is to be done.
 #[derive(Drop)]
-pub enum Plan {
+pub enum FilePlan {
     /// The input, which is `-` for standard input, is converted to standard output.
     StandardOutput { input: String },
     /// The pages are converted to files, in this order.
@@ -424,7 +424,7 @@ pub fn plan_of(
     alloc: Global,
     operands: &[Operand],
     out: Option<Destination<'_>>,
-) -> Result<Plan, PlanFault>
+) -> Result<FilePlan, PlanFault>
     ensures ok { IfOk result (λ plan.
         spec.plan (map operand_of operands.now) (option_map destination_of out.entry) ≡ Ok (plan_in plan)) }
     ensures apart { IfOk result (λ plan. AreApart (pages_written (plan_in plan))) }
@@ -435,10 +435,10 @@ pub fn plan_of(
         (spec.fault_in (spec.plan (map operand_of operands.now) (option_map destination_of out.entry)))) }
 {
     match out {
-        None => Ok(Plan::StandardOutput {
+        None => Ok(FilePlan::StandardOutput {
             input: only_input(alloc, operands)?,
         }),
-        Some(out) => Ok(Plan::Files {
+        Some(out) => Ok(FilePlan::Files {
             pages: files(alloc, operands, out)?,
         }),
     }

@@ -8,8 +8,8 @@ use Rattle.std.proofs.lemmas.Slice.Eq.{bytes_eq-Decides}
 use Rattle.htmd_files.specs.declared.planning.Page.{Page}
 use Rattle.htmd_folders.specs.Changes.{Change, placed, created, moved, removed, Holding, nothing, unfinished, whole, held}
 use Rattle.htmd_folders.specs.Pages.{Conversion, Converts, Fails, output_name, partial_name}
-use Rattle.htmd_folders.specs.Runs.{AtEachMoment, IsAsBeforeOrWhole, IsSpared}
-use Rattle.htmd_folders.proofs.RunsLemmas.{TakesOne}
+use Rattle.htmd_folders.specs.FolderConversions.{AtEachMoment, IsAsBeforeOrWhole, IsSpared}
+use Rattle.htmd_folders.proofs.FolderConversionsLemmas.{TakesOne}
 
 -- two names differ
 pub differs : (name other : List ℕ) → name ≢ other → bytes_eq name other ≡ false

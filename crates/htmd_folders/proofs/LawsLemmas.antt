@@ -7,9 +7,9 @@ use Rattle.std.specs.List.{AllByRecursion}
 use Rattle.htmd_files.specs.declared.planning.Page.{Page}
 use Rattle.htmd_folders.specs.Changes.{Change, created, whole, held}
 use Rattle.htmd_folders.specs.Pages.{Conversion, Converts, Fails, input_name, output_name, partial_name}
-use Rattle.htmd_folders.specs.Runs.{Takes, IsSpared, AreSparing, AreApart, IsConverted, IsConvertedOrKept, IfKnown}
-use Rattle.htmd_folders.specs.Runs.{AtEachMoment, IsAsBeforeOrWhole, AreWholeUnder, IsNeverHalf}
-use Rattle.htmd_folders.proofs.RunsLemmas.{TakesOne}
+use Rattle.htmd_folders.specs.FolderConversions.{Takes, IsSpared, AreSparing, AreApart, IsConverted, IsConvertedOrKept, IfKnown}
+use Rattle.htmd_folders.specs.FolderConversions.{AtEachMoment, IsAsBeforeOrWhole, AreWholeUnder, IsNeverHalf}
+use Rattle.htmd_folders.proofs.FolderConversionsLemmas.{TakesOne}
 use Rattle.htmd_folders.proofs.ChangesLemmas.{IsMadeBy, Made, made_by, held_spared, held_output, held_kept, some_same}
 use Rattle.htmd_folders.proofs.ChangesLemmas.{IsWholeUnder, made_whole_all, whole_at_each}
 

@@ -1,4 +1,4 @@
 -- Lemmas of what a run changes.
-pub mod RunsLemmas
+pub mod FolderConversionsLemmas
 pub mod ChangesLemmas
 pub mod LawsLemmas

@@ -41,6 +41,8 @@ abbrev pub IsNew : Option (List Change) → Option (List ℕ) → Type 0
 IsNew before contents = IfSome before (λ _. contents ≡ Some [])
 
 -- a file that holds this came from the first name under the second
-abbrev pub IsMoved : Option (List Change) → Option (List Change) → List ℕ → List ℕ → Option (List ℕ) → Type 0
+abbrev pub IsMoved : Option (List Change) → Option (List Change) → List ℕ → List ℕ → Option (List ℕ)
+    → Type 0
 IsMoved before after from to contents =
-    IfSome before (λ past. (bytes : List ℕ) × (contents ≡ Some bytes) × (after ≡ Some (moved from to bytes ∷ past)))
+    IfSome before (λ past. (bytes : List ℕ) × (contents ≡ Some bytes)
+    × (after ≡ Some (moved from to bytes ∷ past)))

@@ -1,5 +1,5 @@
 -- What a store holds by the changes that were made to it, and what a run of pages changes.
 pub mod Changes
 pub mod Pages
-pub mod Runs
+pub mod FolderConversions
 pub mod MemoryViews

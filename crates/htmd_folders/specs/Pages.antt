@@ -5,7 +5,8 @@ use Rattle.htmd_files.specs.declared.planning.Page.{Page}
 use Rattle.htmd_folders.specs.Changes.{Change, created, moved, removed, held, whole}
 
 -- what the bytes of a source become was appended to a sink
-abbrev pub Becomes : (List ℕ → List ℕ → Type 0) → Option (List ℕ) → Option (List ℕ) → Option (List ℕ) → Type 0
+abbrev pub Becomes : (List ℕ → List ℕ → Type 0) → Option (List ℕ) → Option (List ℕ)
+    → Option (List ℕ) → Type 0
 Becomes becomes input before after =
     IfSome input (λ bytes. (written : List ℕ) × becomes bytes written × Appends before after written)
 
@@ -44,8 +45,10 @@ abbrev pub Fails : Page → Option (List Change) → Option (List Change) → Ty
 Fails page before after =
     let partial = partial_name (output_name page) in
     IfSome before (λ past. (after ≡ Some past)
-    ⊎ ((after ≡ Some (created partial ∷ past)) ⊎ (after ≡ Some (removed partial ∷ created partial ∷ past))))
+    ⊎ ((after ≡ Some (created partial ∷ past))
+    ⊎ (after ≡ Some (removed partial ∷ created partial ∷ past))))
 
 -- nothing was changed since a file was made, or it was taken away
 abbrev pub IsLeft : List ℕ → Option (List Change) → Option (List Change) → Type 0
-IsLeft partial before after = IfSome before (λ past. (after ≡ Some past) ⊎ (after ≡ Some (removed partial ∷ past)))
+IsLeft partial before after = IfSome before (λ past. (after ≡ Some past)
+    ⊎ (after ≡ Some (removed partial ∷ past)))

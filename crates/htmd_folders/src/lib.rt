@@ -1,7 +1,8 @@
 //! Runs a plan of pages over a store of files: each page is read from its input, and what it becomes is written beside
 //! its output and brought there by one renaming, so that nothing half written is ever under an output's name.
 //!
-//! `Store` is the files, `HostStore` those of the operating system, and `Conversion` what pages become. `convert_to_file`
+//! `Store` is the files, `HostStore` those of the operating system, and `Conversion` what pages become.
+//! `convert_to_file`
 //! takes one page and `run_pages` all of a plan, each after the other whether it failed or not.
 #![tactic(auto)]
 

@@ -30,7 +30,7 @@ impl fmt::Display for ShownName<'_> {
     fn fmt<W: fmt::Write>(&self, f: &mut fmt::Formatter<W>) -> fmt::Result {
         for character in self.0.chars() {
             f.write_char(if character.is_control() {
-                '\u{FFFD}'
+                '\u{fffd}'
             } else {
                 character
             })?;

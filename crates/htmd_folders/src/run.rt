@@ -3,7 +3,7 @@ ghost use Rattle.std.specs.Prelude.{◌≡◌, ◌⊎◌, ◌<◌, ◌+◌, ◌^
 ghost use Rattle.std.specs.List.{AllByRecursion};
 ghost use Rattle.htmd_folders.specs.Changes.{held};
 ghost use Rattle.htmd_folders.specs.Pages.{Converts, Fails};
-ghost use Rattle.htmd_folders.specs.Runs.{Takes, AreApart, AreSparing, IfKnown, IsConverted, IsConvertedOrKept, IsNeverHalf};
+ghost use Rattle.htmd_folders.specs.FolderConversions.{Takes, AreApart, AreSparing, IfKnown, IsConverted, IsConvertedOrKept, IsNeverHalf};
 
 use crate::conversion::Conversion;
 use crate::faults::PageFault;
@@ -36,7 +36,8 @@ pub fn run_pages<S: Store, C: Conversion, E: Sink>(
     ensures all { result.converted + result.failed ≡ length pages.now }
     ensures taken { Takes (C.becomes conversion.now) pages.now (S.changes store.old) (S.changes store.new)
         result.failed }
-    ensures converted { result.failed ≡ 0 → AreApart pages.now → IfKnown (S.changes store.old) (S.changes store.new)
+    ensures converted { result.failed ≡ 0 → AreApart pages.now
+        → IfKnown (S.changes store.old) (S.changes store.new)
         (λ past now. AllByRecursion (IsConverted (C.becomes conversion.now) past now) pages.now) }
     ensures kept { AreApart pages.now → IfKnown (S.changes store.old) (S.changes store.new)
         (λ past now. AllByRecursion (IsConvertedOrKept (C.becomes conversion.now) past now) pages.now) }

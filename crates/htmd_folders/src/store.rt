@@ -32,7 +32,8 @@ pub trait Store {
         ensures ok { OnOk result (Makes (changes self.old) (changes self.new) (created path.now ∷ [])) }
         ensures err { OnErr result (Makes (changes self.old) (changes self.new) []) };
 
-    /// Closes the file that was created under the first name, and brings it under the second name at once, also in place
+    /// Closes the file that was created under the first name, and brings it under the second name at once, also in
+    /// place
     /// of a file that is there.
     fn publish(&mut self, writer: Self::Writer, from: &str, to: &str) -> Result<(), StoreFault>
         ensures ok { OnOk result (IsMoved (changes self.old) (changes self.new) from.now to.now

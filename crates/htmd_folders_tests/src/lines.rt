@@ -83,6 +83,6 @@ fn writes_the_total(rt: HostRuntime) -> Result<(), Fail> {
 // A name in a line takes one line.
 #[test]
 fn shows_names(rt: HostRuntime) -> Result<(), Fail> {
-    let shown = format!(in rt.alloc(); "{}", ShownName("a\nb\u{1B}[1m\u{E9}"))?;
-    expect_text("controls", &shown, "a\u{FFFD}b\u{FFFD}[1m\u{E9}")
+    let shown = format!(in rt.alloc(); "{}", ShownName("a\nb\u{1b}[1m\u{e9}"))?;
+    expect_text("controls", &shown, "a\u{fffd}b\u{fffd}[1m\u{e9}")
 }

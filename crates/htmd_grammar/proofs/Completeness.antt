@@ -16,7 +16,7 @@ use Rattle.htmd_grammar.proofs.Cases.{test}
 use Rattle.htmd_grammar.specs.CharacterClasses.{are_distinct, behind_run, is_among, is_empty, is_tag_name}
 use Rattle.htmd_grammar.specs.CharacterClasses.{is_tag_name_byte, leading_run, up_to}
 use Rattle.htmd_grammar.specs.Comments.{before_comment_end, is_comment_text, normalized}
-use Rattle.htmd_grammar.specs.Documents.{above_body, below_body, body_text}
+use Rattle.htmd_grammar.specs.HtmlDocuments.{above_body, below_body, body_text}
 use Rattle.htmd_grammar.specs.Faults.{top_children}
 use Rattle.htmd_grammar.specs.Grammar.{ReadsForest, ReadsTree, begins_with_row, may_end_rows, reads}
 use Rattle.htmd_grammar.specs.Nesting.{Context, holds_parts, is_allowed, is_outside, is_table, is_table_part, is_tbody}
@@ -27,10 +27,10 @@ use Rattle.htmd_grammar.specs.References.{Names, Piece, after_line_feed, decode,
 use Rattle.htmd_grammar.specs.References.{wrong}
 use Rattle.htmd_grammar.specs.Rules.{Rules}
 use Rattle.htmd_grammar.specs.Serialisation.{is_void}
-use Rattle.htmd_grammar.specs.Steps.{OpenElement, Reaches, State, Step, between, body, close_step, closed, ends_rows}
-use Rattle.htmd_grammar.specs.Steps.{finished, form_step, fresh, has_unknown_reference, here, is_implied, is_text_end}
-use Rattle.htmd_grammar.specs.Steps.{is_too_deep, names_of, place_step, started, step, via, with_children, with_forest}
-use Rattle.htmd_grammar.specs.Steps.{with_tree, ◌+++◌}
+use Rattle.htmd_grammar.specs.ReaderSteps.{OpenElement, Reaches, State, Step, between, body, close_step, closed, ends_rows}
+use Rattle.htmd_grammar.specs.ReaderSteps.{finished, form_step, fresh, has_unknown_reference, here, is_implied, is_text_end}
+use Rattle.htmd_grammar.specs.ReaderSteps.{is_too_deep, names_of, place_step, started, step, via, with_children, with_forest}
+use Rattle.htmd_grammar.specs.ReaderSteps.{with_tree, ◌+++◌}
 use Rattle.htmd_grammar.specs.TagReading.{form_within}
 use Rattle.htmd_grammar.specs.Tags.{IsEndTag, IsStartTag, IsTagRest, attribute_names, decode_values}
 use Rattle.htmd_grammar.specs.ValueTrees.{AttributePair, ValueForest, ValueTree, comment, doctype, document, element}

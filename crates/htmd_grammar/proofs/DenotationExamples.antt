@@ -5,7 +5,7 @@ use lib.Utf8.{encode}
 use Rattle.htmd_grammar.specs.Nesting.{is_allowed}
 use Rattle.htmd_grammar.specs.References.{may_be_numbered}
 use Rattle.htmd_grammar.specs.Serialisation.{is_void}
-use Rattle.htmd_grammar.specs.Steps.{step}
+use Rattle.htmd_grammar.specs.ReaderSteps.{step}
 use Rattle.htmd_grammar.specs.ValueTrees.{AttributePair, comment, element, more, none, text}
 use Rattle.htmd_grammar.proofs.ComputedSteps.{Denotes, denotes}
 

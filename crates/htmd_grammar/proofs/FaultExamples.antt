@@ -5,13 +5,13 @@ use Rattle.std.proofs.lemmas.Bool.Decides.{nat_tests}
 use Rattle.std.specs.Prelude.{nat_le}
 use Rattle.htmd_grammar.specs.Characters.{null}
 use Rattle.htmd_grammar.specs.CharacterClasses.{is_empty, lacks}
-use Rattle.htmd_grammar.specs.Documents.{above_body, byte_order_mark}
+use Rattle.htmd_grammar.specs.HtmlDocuments.{above_body, byte_order_mark}
 use Rattle.htmd_grammar.specs.Faults.{IsFault}
 use Rattle.htmd_grammar.specs.Nesting.{is_allowed}
 use Rattle.htmd_grammar.specs.References.{may_be_numbered}
 use Rattle.htmd_grammar.specs.Rules.{Rules, named_characters, project}
 use Rattle.htmd_grammar.specs.Serialisation.{is_void}
-use Rattle.htmd_grammar.specs.Steps.{State, started, step}
+use Rattle.htmd_grammar.specs.ReaderSteps.{State, started, step}
 use Rattle.htmd_grammar.specs.declared.fault.FaultKind.{FaultKind}
 use Rattle.htmd_grammar.specs.declared.fault.FaultKind.TheVariants.{BadNumber, DuplicateAttribute, MalformedComment}
 use Rattle.htmd_grammar.specs.declared.fault.FaultKind.TheVariants.{MalformedDeclaration, MalformedTag, NotAllowedHere}

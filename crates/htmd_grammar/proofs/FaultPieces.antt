@@ -20,7 +20,7 @@ use Rattle.htmd_grammar.specs.References.{Names, Piece, behind, behind_ampersand
 use Rattle.htmd_grammar.specs.References.{may_be_numbered, named, number, number_at, numbered, piece_at, put, stands}
 use Rattle.htmd_grammar.specs.References.{wrong}
 use Rattle.htmd_grammar.specs.Rules.{character_named}
-use Rattle.htmd_grammar.specs.Steps.{has_unknown_reference, is_unknown}
+use Rattle.htmd_grammar.specs.ReaderSteps.{has_unknown_reference, is_unknown}
 use Rattle.htmd_grammar.specs.TagReading.{TagForm, form, form_within}
 use Rattle.htmd_grammar.specs.Tags.{decode_values, with_value}
 use Rattle.htmd_grammar.specs.ValueTrees.{AttributePair}

@@ -10,7 +10,7 @@ use Rattle.htmd_grammar.specs.Nesting.{Context, is_table, is_table_part, is_tbod
 use Rattle.htmd_grammar.specs.RawContent.{begins_markup, content_of, drops_line_feed, holds_text_alone}
 use Rattle.htmd_grammar.specs.Rules.{Rules}
 use Rattle.htmd_grammar.specs.Serialisation.{is_void}
-use Rattle.htmd_grammar.specs.Steps.{OpenElement, closed, names_of, with_children, ◌+++◌}
+use Rattle.htmd_grammar.specs.ReaderSteps.{OpenElement, closed, names_of, with_children, ◌+++◌}
 use Rattle.htmd_grammar.specs.Tags.{IsEndTag, IsStartTag, IsTagForm}
 use Rattle.htmd_grammar.specs.ValueTrees.{AttributePair, ValueForest, ValueTree, comment, doctype, document, element}
 use Rattle.htmd_grammar.specs.ValueTrees.{more, none, text}

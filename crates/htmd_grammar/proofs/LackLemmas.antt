@@ -11,7 +11,7 @@ use Rattle.htmd_grammar.specs.CharacterClasses.{is_tag_name, is_tag_name_byte, l
 use Rattle.htmd_grammar.specs.Grammar.{ReadsForest, ReadsTree, may_end_rows}
 use Rattle.htmd_grammar.specs.Nesting.{Context}
 use Rattle.htmd_grammar.specs.RawContent.{content_of}
-use Rattle.htmd_grammar.specs.ReadBack.{all_plain, is_plain, is_plain_attribute, is_special}
+use Rattle.htmd_grammar.specs.ReadBack.{all_read_alone, reads_alone, attribute_reads_alone, is_special}
 use Rattle.htmd_grammar.specs.Rules.{Rules}
 use Rattle.htmd_grammar.specs.Serialisation.{all_markup_of, attribute_text, end_tag, escaped_html, is_no_break_space}
 use Rattle.htmd_grammar.specs.Serialisation.{is_raw_text, is_void, markup_of, serialisation, start_tag, text_byte}
@@ -164,22 +164,22 @@ module _ (k : ℕ) (low : k < 32) where
           (node_lacks t c (may_end_rows l ts h.1) raw h.0 h.4 p.0) (nodes_lack ts c l raw h.1 h.5 p.1)
 
 mutual
-  pub plain_lacks : (t : ValueTree) → is_plain t ≡ true → strings_lack 13 t ≡ true
+  pub plain_lacks : (t : ValueTree) → reads_alone t ≡ true → strings_lack 13 t ≡ true
   plain_lacks (document ks) e = absurd (cc)
   plain_lacks doctype e = absurd (cc)
   plain_lacks (text u) e = e
   plain_lacks (comment u) e = absurd (cc)
   plain_lacks (element n attributes ks) e =
-      let p = and_parts (not (is_special n) && list_all is_plain_attribute attributes) (all_plain ks) e in
-      let q = and_parts (not (is_special n)) (list_all is_plain_attribute attributes) p.0 in
+      let p = and_parts (not (is_special n) && list_all attribute_reads_alone attributes) (all_read_alone ks) e in
+      let q = and_parts (not (is_special n)) (list_all attribute_reads_alone attributes) p.0 in
       rw (q.1, plains_lack ks p.1) refl
 
-  pub plains_lack : (ts : ValueForest) → all_plain ts ≡ true → all_lack 13 ts ≡ true
+  pub plains_lack : (ts : ValueForest) → all_read_alone ts ≡ true → all_lack 13 ts ≡ true
   plains_lack none e = refl
-  plains_lack (more t ts) e = let p = and_parts (is_plain t) (all_plain ts) e in
+  plains_lack (more t ts) e = let p = and_parts (reads_alone t) (all_read_alone ts) e in
       rw (plain_lacks t p.0, plains_lack ts p.1) refl
 
 -- no carriage return in what the serialiser writes of a plain tree that was read
 pub ser_no_carriage_return : (rules : Rules) (t : ValueTree) (c : Context) (l : Bool) (s : List ℕ)
-    → ReadsTree rules c l t s → is_plain t ≡ true → lacks 13 (serialisation t) ≡ true
+    → ReadsTree rules c l t s → reads_alone t ≡ true → lacks 13 (serialisation t) ≡ true
 ser_no_carriage_return rules t c l s h p = node_lacks 13 (omega arith) rules t c l false s h (plain_lacks t p)

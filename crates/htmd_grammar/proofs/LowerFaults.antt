@@ -6,7 +6,7 @@ use Rattle.std.specs.List.{list_all, list_any}
 use Rattle.htmd_grammar.specs.Characters.{exclamation_mark, less_than_sign, slash}
 use Rattle.htmd_grammar.specs.WhiteSpace.{is_ascii_white_space}
 use Rattle.htmd_grammar.specs.CharacterClasses.{are_distinct, begins_with, up_to}
-use Rattle.htmd_grammar.specs.Documents.{above_body}
+use Rattle.htmd_grammar.specs.HtmlDocuments.{above_body}
 use Rattle.htmd_grammar.specs.Faults.{HasComment, HasEndTag, HasPiece, HasTagForm, Applies, begins_tag, context_for}
 use Rattle.htmd_grammar.specs.Faults.{has_bad_number, number_of}
 use Rattle.htmd_grammar.specs.Nesting.{holds_parts, is_allowed, is_outside, parent_name}
@@ -14,7 +14,7 @@ use Rattle.htmd_grammar.specs.RawContent.{ends_text, holds_raw_text, raw_text_of
 use Rattle.htmd_grammar.specs.References.{Names, Piece, piece_at, stands, wrong}
 use Rattle.htmd_grammar.specs.Rules.{Rules}
 use Rattle.htmd_grammar.specs.Serialisation.{is_void}
-use Rattle.htmd_grammar.specs.Steps.{OpenElement, has_unknown_reference, names_of}
+use Rattle.htmd_grammar.specs.ReaderSteps.{OpenElement, has_unknown_reference, names_of}
 use Rattle.htmd_grammar.specs.Tags.{attribute_names}
 use Rattle.htmd_grammar.specs.ValueTrees.{AttributePair}
 use Rattle.htmd_grammar.specs.declared.fault.FaultKind.{FaultKind}

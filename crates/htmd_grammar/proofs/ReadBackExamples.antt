@@ -5,7 +5,7 @@ use Rattle.std.proofs.lemmas.Bool.{eqb-true}
 use lib.Utf8.{encode}
 use Rattle.htmd_grammar.specs.Characters.{line_feed}
 use Rattle.htmd_grammar.proofs.Cases.{test}
-use Rattle.htmd_grammar.specs.Documents.{above_body, below_body}
+use Rattle.htmd_grammar.specs.HtmlDocuments.{above_body, below_body}
 use Rattle.htmd_grammar.specs.Grammar.{reads}
 use Rattle.htmd_grammar.specs.Nesting.{is_allowed}
 use Rattle.htmd_grammar.specs.RawBlocks.{RefersToLineFeeds, line_feed_reference, nothing, reference, same}
@@ -13,7 +13,7 @@ use Rattle.htmd_grammar.specs.ReadBack.{DenotesAlone, is_special}
 use Rattle.htmd_grammar.specs.References.{may_be_numbered}
 use Rattle.htmd_grammar.specs.Rules.{project}
 use Rattle.htmd_grammar.specs.Serialisation.{is_raw_text, is_void, serialisation}
-use Rattle.htmd_grammar.specs.Steps.{Reaches, State, finished, started, step}
+use Rattle.htmd_grammar.specs.ReaderSteps.{Reaches, State, finished, started, step}
 use Rattle.htmd_grammar.specs.ValueTrees.{AttributePair, ValueForest, ValueTree, element, more, none, text}
 use Rattle.htmd_grammar.proofs.ViablePrefixes.{sound_end}
 use Rattle.htmd_grammar.proofs.ReferencedLineFeeds.{refers_same}

@@ -13,7 +13,7 @@ use Rattle.htmd_grammar.specs.Nesting.{Context, is_tbody, parent_name}
 use Rattle.htmd_grammar.specs.RawBlocks.{RefersToLineFeeds}
 use Rattle.htmd_grammar.specs.RawContent.{begins_markup, begins_own_end, content_of, drops_line_feed, ends_text}
 use Rattle.htmd_grammar.specs.RawContent.{holds_raw_text, holds_text_alone}
-use Rattle.htmd_grammar.specs.ReadBack.{all_plain, is_plain, is_plain_attribute, is_special}
+use Rattle.htmd_grammar.specs.ReadBack.{all_read_alone, reads_alone, attribute_reads_alone, is_special}
 use Rattle.htmd_grammar.specs.References.{Names}
 use Rattle.htmd_grammar.specs.Rules.{Rules}
 use Rattle.htmd_grammar.specs.Serialisation.{all_markup_of, end_tag, is_raw_text, is_void, markup_of, start_tag}
@@ -95,12 +95,12 @@ module _ (rules : Rules) (has : HasEscapes rules.names) where
   NodeBack t = (c : Context) (l m : Bool) (s x : List ℕ)
       → (IsTextTree t ≡ true → holds_raw_text rules.scripting (parent_name c) ≡ false)
       → ReadsTree rules c l t s
-      → is_plain t ≡ true → RefersToLineFeeds (markup_of false t) x → ReadsTree rules c m t x
+      → reads_alone t ≡ true → RefersToLineFeeds (markup_of false t) x → ReadsTree rules c m t x
 
   abbrev pub NodesBack : ValueForest → Type 0
   NodesBack ts = (c : Context) (l m : Bool) (s x : List ℕ)
       → holds_raw_text rules.scripting (parent_name c) ≡ false
-      → ReadsForest rules c l ts s → all_plain ts ≡ true → RefersToLineFeeds (all_markup_of false ts) x
+      → ReadsForest rules c l ts s → all_read_alone ts ≡ true → RefersToLineFeeds (all_markup_of false ts) x
       → ReadsForest rules c m ts x
 
   -- an element with its end tag
@@ -128,10 +128,11 @@ module _ (rules : Rules) (has : HasEscapes rules.names) where
       → NodeBack (element n attributes ks)
   element_back n attributes ks ih c l m s x _ h p r = (h.0, h.1, inl (go h.2))
     where
-      q : (not (is_special n) ≡ true) × (list_all is_plain_attribute attributes ≡ true) × (all_plain ks ≡ true)
+      q : (not (is_special n) ≡ true) × (list_all attribute_reads_alone attributes ≡ true)
+          × (all_read_alone ks ≡ true)
       q =
-          let a = and_parts (not (is_special n) && list_all is_plain_attribute attributes) (all_plain ks) p in
-          let b = and_parts (not (is_special n)) (list_all is_plain_attribute attributes) a.0 in (b.0, b.1, a.1)
+          let a = and_parts (not (is_special n) && list_all attribute_reads_alone attributes) (all_read_alone ks) p in
+          let b = and_parts (not (is_special n)) (list_all attribute_reads_alone attributes) a.0 in (b.0, b.1, a.1)
 
       raw : holds_raw_text rules.scripting n ≡ false
       raw = no_raw rules.scripting n q.0
@@ -199,7 +200,7 @@ module _ (rules : Rules) (has : HasEscapes rules.names) where
     pub nodes_back : (ts : ValueForest) → NodesBack ts
     nodes_back none c l m s x w h p r = refers_nothing x r
     nodes_back (more t ts) c l m s x w h p r =
-        let q = and_parts (is_plain t) (all_plain ts) p in
+        let q = and_parts (reads_alone t) (all_read_alone ts) p in
         let i = refers_split (markup_of false t) (all_markup_of false ts) x r in (
           i.0,
           i.1,

@@ -16,9 +16,9 @@ use Rattle.htmd_grammar.specs.Nesting.{Context, holds_parts, parent_name}
 use Rattle.htmd_grammar.specs.RawContent.{ends_text, holds_raw_text, text_of}
 use Rattle.htmd_grammar.specs.References.{Names, Piece, behind, decode, piece_at, put, stands, wrong}
 use Rattle.htmd_grammar.specs.Rules.{Rules}
-use Rattle.htmd_grammar.specs.Steps.{OpenElement, Reaches, State, Step, between, body, character_step, ends_rows, fault}
-use Rattle.htmd_grammar.specs.Steps.{here, is_text_end, is_too_deep, markup_step, names_of, raw_text_step, step}
-use Rattle.htmd_grammar.specs.Steps.{tbody_step, text_step, via, with_tree}
+use Rattle.htmd_grammar.specs.ReaderSteps.{OpenElement, Reaches, State, Step, between, body, character_step, ends_rows, fault}
+use Rattle.htmd_grammar.specs.ReaderSteps.{here, is_text_end, is_too_deep, markup_step, names_of, raw_text_step, step}
+use Rattle.htmd_grammar.specs.ReaderSteps.{tbody_step, text_step, via, with_tree}
 use Rattle.htmd_grammar.specs.ValueTrees.{text}
 use Rattle.htmd_grammar.specs.declared.fault.FaultKind.TheVariants.{StrayText, TooDeep, Unclosed}
 use Rattle.htmd_grammar.proofs.BooleanLemmas.{if_then}
@@ -29,7 +29,7 @@ use Rattle.htmd_grammar.proofs.FullPieces.{piece_full}
 use Rattle.htmd_grammar.proofs.RawReadBack.{same_parts}
 use Rattle.htmd_grammar.proofs.ReferencesLemmas.{drop_cut, piece_fits}
 use Rattle.htmd_grammar.proofs.Soundness.{IsConf, Takes, added, cut_stops, flag, kept_text, no_flag, not_stops, shallow}
-use Rattle.htmd_grammar.proofs.Soundness.{sound_any, sound_raw, sound_settled, strict_white}
+use Rattle.htmd_grammar.proofs.Soundness.{sound_any, sound_raw, sound_when_closed, strict_white}
 use Rattle.htmd_grammar.proofs.TextLemmas.{Stops, stop_head}
 
 -- bytes other than `<` end no text
@@ -399,7 +399,7 @@ module _ (rules : Rules) (outer : Context) where
             test (ends_text rules.scripting f.name rest) (λ i. i)
             (λ i. absurd (let z = text_goes_on rules.scripting f rest nm i in let v = y.0 in cc)) in
             let r : run ≡ [] = nothing_yet n (rw t refl) in
-            taken s rest st (sound_settled rules outer (f ∷ gs) s rest st (at_a_piece h r) p.0 p.1 y.1)
+            taken s rest st (sound_when_closed rules outer (f ∷ gs) s rest st (at_a_piece h r) p.0 p.1 y.1)
         | inr y ↦ elim (if_then (ends_text rules.scripting f.name rest)
             (markup_step rules outer (f ∷ gs) (drop 1 rest))
             _ (Ok st) y.1) [

@@ -11,7 +11,7 @@ use Rattle.htmd_grammar.specs.References.{Names, Piece, behind, behind_ampersand
 use Rattle.htmd_grammar.specs.References.{may_be_numbered, named, number, number_at, numbered, piece_at, put, stands}
 use Rattle.htmd_grammar.specs.References.{wrong}
 use Rattle.htmd_grammar.specs.Rules.{character_named}
-use Rattle.htmd_grammar.specs.Steps.{has_unknown_reference, is_unknown}
+use Rattle.htmd_grammar.specs.ReaderSteps.{has_unknown_reference, is_unknown}
 use Rattle.htmd_grammar.proofs.BooleanLemmas.{if_then, lacks-append}
 use Rattle.htmd_grammar.proofs.TagReadingLemmas.{back_split}
 use Rattle.htmd_grammar.proofs.TagSpellingLemmas.{at_head}

@@ -5,7 +5,7 @@ use Rattle.htmd_grammar.specs.Nesting.{is_allowed}
 use Rattle.htmd_grammar.specs.References.{may_be_numbered}
 use Rattle.htmd_grammar.specs.Rules.{Rules, named_characters, project}
 use Rattle.htmd_grammar.specs.Serialisation.{is_void}
-use Rattle.htmd_grammar.specs.Steps.{step}
+use Rattle.htmd_grammar.specs.ReaderSteps.{step}
 use Rattle.htmd_grammar.specs.declared.fault.FaultKind.TheVariants.{BadNumber, MalformedComment, MalformedDeclaration}
 use Rattle.htmd_grammar.specs.declared.fault.FaultKind.TheVariants.{MalformedTag, NotAllowedHere, StrayText, TooDeep}
 use Rattle.htmd_grammar.proofs.ComputedSteps.{Refuses, refuses}

@@ -3,7 +3,7 @@ use Rattle.std.proofs.Common.{Bool, Err, List, [], ap, codes, false, inl, inr, l
 use Rattle.std.proofs.Common.{◌<◌, ◌∷◌, ◌≡◌, ◌⊎◌}
 use Rattle.std.proofs.Math.Bool.{or-true}
 use Rattle.htmd_grammar.specs.CharacterClasses.{is_among, is_empty}
-use Rattle.htmd_grammar.specs.Documents.{above_body, body_text}
+use Rattle.htmd_grammar.specs.HtmlDocuments.{above_body, body_text}
 use Rattle.htmd_grammar.specs.Faults.{IsPieceFault, Applies}
 use Rattle.htmd_grammar.specs.Fronts.{IsFront, with_text}
 use Rattle.htmd_grammar.specs.Grammar.{ReadsForest, may_end_rows}
@@ -11,7 +11,7 @@ use Rattle.htmd_grammar.specs.Laws.{FaultsAreRight}
 use Rattle.htmd_grammar.specs.Nesting.{Context}
 use Rattle.htmd_grammar.specs.RawContent.{content_of, ends_text, holds_raw_text, holds_text_alone}
 use Rattle.htmd_grammar.specs.Rules.{Rules}
-use Rattle.htmd_grammar.specs.Steps.{OpenElement, Reaches, names_of, started, step}
+use Rattle.htmd_grammar.specs.ReaderSteps.{OpenElement, Reaches, names_of, started, step}
 use Rattle.htmd_grammar.specs.ValueTrees.{ValueForest, ValueTree, comment, doctype, document, element, more, none, text}
 use Rattle.htmd_grammar.specs.declared.fault.FaultKind.{FaultKind}
 use Rattle.htmd_grammar.specs.declared.fault.FaultKind.TheVariants.{BadNumber, DuplicateAttribute, MalformedComment}

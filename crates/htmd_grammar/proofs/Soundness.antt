@@ -25,10 +25,10 @@ use Rattle.htmd_grammar.specs.RawContent.{raw_text_of, text_of}
 use Rattle.htmd_grammar.specs.References.{Piece, after_line_feed, less_line_feed, piece_at, stands, wrong}
 use Rattle.htmd_grammar.specs.Rules.{Rules}
 use Rattle.htmd_grammar.specs.Serialisation.{is_void}
-use Rattle.htmd_grammar.specs.Steps.{OpenElement, State, Step, add, between, close_step, closed, comment_step}
-use Rattle.htmd_grammar.specs.Steps.{end_tag_name_at, ends_rows, fault, form_step, fresh, has_unknown_reference}
-use Rattle.htmd_grammar.specs.Steps.{is_implied, is_too_deep, markup_step, name_step, names_of, open_step, place_step}
-use Rattle.htmd_grammar.specs.Steps.{raw_text_step, start_tag_step, tbody_step, values_step, with_tree, ◌+++◌}
+use Rattle.htmd_grammar.specs.ReaderSteps.{OpenElement, State, Step, add, between, close_step, closed, comment_step}
+use Rattle.htmd_grammar.specs.ReaderSteps.{end_tag_name_at, ends_rows, fault, form_step, fresh, has_unknown_reference}
+use Rattle.htmd_grammar.specs.ReaderSteps.{is_implied, is_too_deep, markup_step, name_step, names_of, open_step, place_step}
+use Rattle.htmd_grammar.specs.ReaderSteps.{raw_text_step, start_tag_step, tbody_step, values_step, with_tree, ◌+++◌}
 use Rattle.htmd_grammar.specs.TagReading.{TagForm, form, form_within, no_form}
 use Rattle.htmd_grammar.specs.Tags.{IsEndTag, IsStartTag, IsTagForm, attribute_names, decode_values}
 use Rattle.htmd_grammar.specs.ValueTrees.{AttributePair, ValueForest, ValueTree, comment, doctype, document, element}
@@ -309,12 +309,12 @@ module _ (rules : Rules) (outer : Context) where
       (λ _. onward_stops f.name rest)
       (kept_text f gs s r after c2 (λ k. not_stops f.name (r ++ after) m2 n2 k))))
 
-  pub sound_settled : (fs : List OpenElement) (s rest : List ℕ) (st : State) → IsConf fs s rest
+  pub sound_when_closed : (fs : List OpenElement) (s rest : List ℕ) (st : State) → IsConf fs s rest
       → is_implied fs ≡ true
       → ends_rows rest ≡ true → tbody_step rules outer fs rest ≡ Ok st → Takes s rest st
-  sound_settled [] s rest st c i r e = absurd (c.is_front)
-  sound_settled (f ∷ []) s rest st c i r e = absurd (let h = c.is_front in let q = h.0 in cc)
-  sound_settled (f ∷ g ∷ gs) s rest st c i r e =
+  sound_when_closed [] s rest st c i r e = absurd (c.is_front)
+  sound_when_closed (f ∷ []) s rest st c i r e = absurd (let h = c.is_front in let q = h.0 in cc)
+  sound_when_closed (f ∷ g ∷ gs) s rest st c i r e =
       let h = c.is_front in
       let t : holds_text_alone rules.scripting g.name ≡ false =
       no_text_alone rules.scripting g.name (names_of outer gs) f.name (h.5).0 in

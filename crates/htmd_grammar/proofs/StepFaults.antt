@@ -14,7 +14,7 @@ use Rattle.htmd_grammar.proofs.Cases.{test}
 use Rattle.htmd_grammar.specs.CharacterClasses.{are_distinct, begins_with, behind_run, first_is, is_empty, is_tag_name}
 use Rattle.htmd_grammar.specs.CharacterClasses.{is_tag_name_byte, leading_run, onward, up_to}
 use Rattle.htmd_grammar.specs.Comments.{before_comment_end, is_comment_text, normalized}
-use Rattle.htmd_grammar.specs.Documents.{above_body}
+use Rattle.htmd_grammar.specs.HtmlDocuments.{above_body}
 use Rattle.htmd_grammar.specs.Faults.{HasComment, HasEndTag, HasTagForm, IsTextWithReferences, Applies, context_for}
 use Rattle.htmd_grammar.specs.Faults.{has_bad_number, number_of}
 use Rattle.htmd_grammar.specs.Nesting.{Context, holds_parts, is_allowed, is_outside, is_row}
@@ -22,10 +22,10 @@ use Rattle.htmd_grammar.specs.RawContent.{ends_text, holds_raw_text, holds_text_
 use Rattle.htmd_grammar.specs.References.{Piece, piece_at, stands, wrong}
 use Rattle.htmd_grammar.specs.Rules.{Rules}
 use Rattle.htmd_grammar.specs.Serialisation.{is_void}
-use Rattle.htmd_grammar.specs.Steps.{OpenElement, State, Step, character_step, close_step, comment_step}
-use Rattle.htmd_grammar.specs.Steps.{declaration_step, end_tag_step, ends_rows, fault, form_step, fresh}
-use Rattle.htmd_grammar.specs.Steps.{has_unknown_reference, is_text_end, is_too_deep, markup_step, name_step, names_of}
-use Rattle.htmd_grammar.specs.Steps.{open_step, place_step, raw_text_step, start_tag_step, step, text_step, values_step}
+use Rattle.htmd_grammar.specs.ReaderSteps.{OpenElement, State, Step, character_step, close_step, comment_step}
+use Rattle.htmd_grammar.specs.ReaderSteps.{declaration_step, end_tag_step, ends_rows, fault, form_step, fresh}
+use Rattle.htmd_grammar.specs.ReaderSteps.{has_unknown_reference, is_text_end, is_too_deep, markup_step, name_step, names_of}
+use Rattle.htmd_grammar.specs.ReaderSteps.{open_step, place_step, raw_text_step, start_tag_step, step, text_step, values_step}
 use Rattle.htmd_grammar.specs.TagReading.{TagForm, form, no_form}
 use Rattle.htmd_grammar.specs.Tags.{attribute_names, decode_values}
 use Rattle.htmd_grammar.specs.ValueTrees.{AttributePair, comment, none}
@@ -46,7 +46,7 @@ use Rattle.htmd_grammar.proofs.NestingLemmas.{bytes_same, one_name, row_fits, sa
 use Rattle.htmd_grammar.proofs.Soundness.{shallow}
 use Rattle.htmd_grammar.proofs.TagReadingLemmas.{back_split}
 use Rattle.htmd_grammar.proofs.TagSpellingLemmas.{tag_spelled}
-use Rattle.htmd_grammar.specs.Steps as steps
+use Rattle.htmd_grammar.specs.ReaderSteps as steps
 use Rattle.htmd_grammar.proofs.Readings.{empty_is}
 
 -- the fault of a step

@@ -7,7 +7,7 @@ use Rattle.htmd_grammar.specs.Grammar.{ReadsForest, ReadsTree, begins_with_row, 
 use Rattle.htmd_grammar.specs.Nesting.{Context, is_tbody}
 use Rattle.htmd_grammar.specs.RawBlocks.{RefersToLineFeeds}
 use Rattle.htmd_grammar.specs.RawContent.{content_of}
-use Rattle.htmd_grammar.specs.ReadBack.{AreIn, DenotesAlone, IsIn, RawBlockReadsBack, ReadsBack, is_plain}
+use Rattle.htmd_grammar.specs.ReadBack.{AreIn, DenotesAlone, IsIn, RawBlockReadsBack, ReadsBack, reads_alone}
 use Rattle.htmd_grammar.specs.Rules.{Rules, project}
 use Rattle.htmd_grammar.specs.Serialisation.{is_void, serialisation}
 use Rattle.htmd_grammar.specs.Tags.{IsEndTag, IsStartTag}
@@ -76,7 +76,7 @@ module _ (rules : Rules) (d : Context) (k : List ℕ) (attributes : List Attribu
   -- law 1 and law 2 at once: the serialisation, with references in place of some line feeds, is read as the node
   pub referred_back : HasEscapes rules.names → (c : Context) (s x : List ℕ) (ts : ValueForest)
       → reads rules c s ts
-      → AreIn c ts d Sought → is_plain Sought ≡ true
+      → AreIn c ts d Sought → reads_alone Sought ≡ true
       → RefersToLineFeeds (serialisation Sought) x → reads rules d x (more Sought none)
   referred_back has c s x ts h i p r =
       let w = nodes_in ts c true s h i in
@@ -84,7 +84,7 @@ module _ (rules : Rules) (d : Context) (k : List ℕ) (attributes : List Attribu
 
   -- no carriage return in its serialisation
   pub subtree_lacks : (c : Context) (s : List ℕ) (ts : ValueForest) → reads rules c s ts → AreIn c ts d Sought
-      → is_plain Sought ≡ true → lacks 13 (serialisation Sought) ≡ true
+      → reads_alone Sought ≡ true → lacks 13 (serialisation Sought) ≡ true
   subtree_lacks c s ts h i p = let w = nodes_in ts c true s h i in ser_no_carriage_return rules Sought d w.0 w.1 w.2 p
 
 -- the theorem, for any rules whose names are the serialiser's and more
@@ -92,12 +92,12 @@ pub reads_back : (rules : Rules) → HasEscapes rules.names → ReadsBack rules
 reads_back rules has c s ts h d t p x r = go d t p.context p.is_element p.stands p.plain r
   where
     go : (d : Context) (t : ValueTree) → d ≡ p.parent ∷ p.above → t ≡ element p.name p.attributes p.children
-        → AreIn c ts d t → is_plain t ≡ true → RefersToLineFeeds (serialisation t) x
+        → AreIn c ts d t → reads_alone t ≡ true → RefersToLineFeeds (serialisation t) x
         → DenotesAlone rules d x (more t none)
     go d t e f i q r = rw (e, f) (back (rw (e, f) at i) (rw f at q) (rw f at r))
       where
         back : AreIn c ts (p.parent ∷ p.above) (element p.name p.attributes p.children)
-            → is_plain (element p.name p.attributes p.children) ≡ true
+            → reads_alone (element p.name p.attributes p.children) ≡ true
             → RefersToLineFeeds (serialisation (element p.name p.attributes p.children)) x
             → DenotesAlone rules (p.parent ∷ p.above) x (more (element p.name p.attributes p.children) none)
         back i q r =
@@ -117,7 +117,8 @@ raw_block_reads_back rules has c s ts h d t p u x e =
         let e : AreIn c ts d (element p.name p.attributes p.children) =
         subst (λ (y : ValueTree). AreIn c ts d y) p.is_element p.stands in
         ap (λ (y : ValueTree). lacks 13 (serialisation y)) p.is_element
-        ∙ subtree_lacks rules d p.name p.attributes p.children c s ts h e (ap is_plain (sym p.is_element) ∙ p.plain)
+        ∙ subtree_lacks rules d p.name p.attributes p.children c s ts h e (ap reads_alone (sym p.is_element)
+        ∙ p.plain)
 
 pub project_has : (z : Bool) → HasEscapes (project z).names
 project_has z = record { amp = refl; lt = refl; gt = refl; quot = refl; nbsp = refl }

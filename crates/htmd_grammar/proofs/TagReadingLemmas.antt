@@ -9,7 +9,7 @@ use Rattle.htmd_grammar.specs.WhiteSpace.{is_ascii_white_space}
 use Rattle.htmd_grammar.proofs.Cases.{test}
 use Rattle.htmd_grammar.specs.CharacterClasses.{behind_run, first_is, is_attribute_name, is_attribute_name_byte}
 use Rattle.htmd_grammar.specs.CharacterClasses.{is_empty, is_tag_name_byte, is_unquoted_byte, lacks, leading_run}
-use Rattle.htmd_grammar.specs.Steps.{body}
+use Rattle.htmd_grammar.specs.ReaderSteps.{body}
 use Rattle.htmd_grammar.specs.TagReading.{attribute, behind_attribute_name, behind_gap, form, form_within, is_other}
 use Rattle.htmd_grammar.specs.TagReading.{malformed, next_part, quoted_value, tag_end, value_part}
 use Rattle.htmd_grammar.specs.Tags.{IsTagRest, IsValue, optional_slash}

@@ -10,7 +10,7 @@ use Rattle.htmd_grammar.specs.WhiteSpace.{is_ascii_white_space}
 use Rattle.htmd_grammar.proofs.Cases.{test}
 use Rattle.htmd_grammar.specs.CharacterClasses.{behind_run, first_is, is_attribute_name, is_attribute_name_byte}
 use Rattle.htmd_grammar.specs.CharacterClasses.{is_empty, is_unquoted_byte, lacks, leading_run}
-use Rattle.htmd_grammar.specs.Steps.{body}
+use Rattle.htmd_grammar.specs.ReaderSteps.{body}
 use Rattle.htmd_grammar.specs.TagReading.{TagForm, TagPart, attribute, behind_attribute_name, behind_gap, behind_slash}
 use Rattle.htmd_grammar.specs.TagReading.{form, form_behind, form_within, is_other, malformed, next_part, no_form}
 use Rattle.htmd_grammar.specs.TagReading.{quoted_value, tag_end, unquoted_value, value_part, with_attribute}

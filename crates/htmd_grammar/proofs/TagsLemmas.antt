@@ -7,7 +7,7 @@ use Rattle.std.specs.Prelude.{⊤}
 use Rattle.std.proofs.lemmas.Bool.{and_parts}
 use Rattle.htmd_grammar.specs.CharacterClasses.{are_distinct, is_attribute_name, is_tag_name, lacks}
 use Rattle.htmd_grammar.specs.RawBlocks.{RefersToLineFeeds}
-use Rattle.htmd_grammar.specs.ReadBack.{is_plain_attribute}
+use Rattle.htmd_grammar.specs.ReadBack.{attribute_reads_alone}
 use Rattle.htmd_grammar.specs.References.{Names, decode}
 use Rattle.htmd_grammar.specs.Serialisation.{attribute_text, end_tag, escaped_html, start_tag, value_byte}
 use Rattle.htmd_grammar.specs.Tags.{IsEndTag, IsStartTag, IsTagForm, IsTagRest, attribute_names, decode_values}
@@ -76,11 +76,11 @@ module _ (names : Names) where
 
   -- the attributes as the serialiser writes them
   pub attributes_back : HasEscapes names → (attributes : List AttributePair) (x : List ℕ)
-      → AreTreeKeys (attribute_names attributes) → list_all is_plain_attribute attributes ≡ true
+      → AreTreeKeys (attribute_names attributes) → list_all attribute_reads_alone attributes ≡ true
       → RefersToLineFeeds (flat_map attribute_text attributes ++ codes ">") x → Spells attributes x
   attributes_back has [] x k p r = ([], ([], refers_plain (codes ">") x refl r, refl), refl)
   attributes_back has (a ∷ attributes) x k p r =
-      let q = and_parts (is_plain_attribute a) (list_all is_plain_attribute attributes) p in
+      let q = and_parts (attribute_reads_alone a) (list_all attribute_reads_alone attributes) p in
       let before : List ℕ = 32 ∷ (a.name ++ (61 ∷ 34 ∷ [])) in
       let value : List ℕ = escaped_html value_byte a.value in
       let others : List ℕ = flat_map attribute_text attributes ++ codes ">" in
@@ -123,7 +123,7 @@ module _ (names : Names) where
           )
 
   pub start_tag_back : HasEscapes names → (n : List ℕ) (attributes : List AttributePair) (tag x : List ℕ)
-      → IsStartTag names tag n attributes → list_all is_plain_attribute attributes ≡ true
+      → IsStartTag names tag n attributes → list_all attribute_reads_alone attributes ≡ true
       → RefersToLineFeeds (start_tag n attributes) x → IsStartTag names x n attributes
   start_tag_back has n attributes tag x h p r =
       let f : IsTagForm tag n h.0 h.1 = h.2 in

@@ -13,7 +13,7 @@ use Rattle.htmd_grammar.specs.CharacterClasses.{behind_run, is_tag_name, is_tag_
 use Rattle.htmd_grammar.specs.CharacterClasses.{up_to}
 use Rattle.htmd_grammar.specs.Grammar.{tag_name_at}
 use Rattle.htmd_grammar.specs.RawContent.{begins_markup, begins_own_end, ends_text, goes_on_with_name, holds_text_alone}
-use Rattle.htmd_grammar.specs.Steps.{end_tag_name_at, ends_rows}
+use Rattle.htmd_grammar.specs.ReaderSteps.{end_tag_name_at, ends_rows}
 use Rattle.htmd_grammar.proofs.BooleanLemmas.{and_false, if_then}
 use Rattle.htmd_grammar.proofs.NestingLemmas.{text_alone_passes}
 use Rattle.htmd_grammar.proofs.TagReadingLemmas.{front_cut, halts}

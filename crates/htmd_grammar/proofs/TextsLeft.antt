@@ -6,10 +6,10 @@ use Rattle.htmd_grammar.specs.WhiteSpace.{is_ascii_white_space}
 use Rattle.htmd_grammar.proofs.Cases.{test}
 use Rattle.htmd_grammar.specs.CharacterClasses.{begins_in_any_case, begins_with, behind_run, first_is, leading_run}
 use Rattle.htmd_grammar.specs.Comments.{behind_doctype, doctype_end, doctype_name, white_space_and_name}
-use Rattle.htmd_grammar.specs.Documents.{above_body, behind_mark, behind_prelude, body_text, byte_order_mark}
+use Rattle.htmd_grammar.specs.HtmlDocuments.{above_body, behind_mark, behind_prelude, body_text, byte_order_mark}
 use Rattle.htmd_grammar.specs.Laws.{FaultsRefuseDocuments, RestIsAnEnd}
 use Rattle.htmd_grammar.specs.Rules.{Rules}
-use Rattle.htmd_grammar.specs.Steps.{State, finished, started}
+use Rattle.htmd_grammar.specs.ReaderSteps.{State, finished, started}
 use Rattle.htmd_grammar.specs.ValueTrees.{ValueForest}
 use Rattle.htmd_grammar.proofs.BooleanLemmas.{if_then}
 use Rattle.htmd_grammar.proofs.ViablePrefixes.{refused}

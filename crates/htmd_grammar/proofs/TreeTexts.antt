@@ -7,7 +7,7 @@ use Rattle.htmd_grammar.specs.Nesting.{Context, is_tbody}
 use Rattle.htmd_grammar.specs.RawContent.{begins_markup, content_of, holds_text_alone}
 use Rattle.htmd_grammar.specs.Rules.{Rules}
 use Rattle.htmd_grammar.specs.Serialisation.{is_void}
-use Rattle.htmd_grammar.specs.Steps.{ends_rows}
+use Rattle.htmd_grammar.specs.ReaderSteps.{ends_rows}
 use Rattle.htmd_grammar.specs.Tags.{IsEndTag, IsStartTag}
 use Rattle.htmd_grammar.specs.ValueTrees.{AttributePair, ValueForest, ValueTree, comment, doctype, document, element}
 use Rattle.htmd_grammar.specs.ValueTrees.{more, none, text}

@@ -5,14 +5,14 @@ use Rattle.std.specs.Char.{to_ascii_lowercase}
 use Rattle.std.specs.Prelude.{if◌then◌else◌}
 use Rattle.std.specs.Str.{bytes_eq}
 use Rattle.htmd_grammar.specs.CharacterClasses.{is_tag_name}
-use Rattle.htmd_grammar.specs.Documents.{ReadsDocument, above_body, body_text, document_tree}
+use Rattle.htmd_grammar.specs.HtmlDocuments.{ReadsDocument, above_body, body_text, document_tree}
 use Rattle.htmd_grammar.specs.Faults.{top_children}
 use Rattle.htmd_grammar.specs.Grammar.{reads}
 use Rattle.htmd_grammar.specs.Nesting.{Context, is_table}
 use Rattle.htmd_grammar.specs.RawContent.{goes_on_with_name, holds_text_alone}
 use Rattle.htmd_grammar.specs.Rules.{Rules}
-use Rattle.htmd_grammar.specs.Steps.{OpenElement, Reaches, State, Step, ends_rows, fault, fresh, here, step, via}
-use Rattle.htmd_grammar.specs.Steps.{with_forest}
+use Rattle.htmd_grammar.specs.ReaderSteps.{OpenElement, Reaches, State, Step, ends_rows, fault, fresh, here, step, via}
+use Rattle.htmd_grammar.specs.ReaderSteps.{with_forest}
 use Rattle.htmd_grammar.specs.ValueTrees.{ValueForest, ValueTree}
 use Rattle.htmd_grammar.specs.declared.fault.FaultKind.{FaultKind}
 use Rattle.htmd_grammar.specs.declared.fault.FaultKind.TheVariants.{MalformedTag}

@@ -5,14 +5,14 @@ use Rattle.std.proofs.Common.{◌&&◌, ◌++◌, ◌∷◌, ◌≡◌, ◌⊎�
 use Rattle.std.proofs.iter.runs.Made.{run}
 use Rattle.std.proofs.lemmas.List.{append-nil}
 use Rattle.htmd_grammar.specs.CharacterClasses.{is_empty}
-use Rattle.htmd_grammar.specs.Documents.{above_body, below_body, body_text}
+use Rattle.htmd_grammar.specs.HtmlDocuments.{above_body, below_body, body_text}
 use Rattle.htmd_grammar.specs.Fronts.{IsFront, IsViablePrefix, Opens, end_tags, with_text}
 use Rattle.htmd_grammar.specs.Grammar.{ReadsForest, begins_with_row, reads}
 use Rattle.htmd_grammar.specs.Nesting.{Context}
 use Rattle.htmd_grammar.specs.Rules.{Rules}
 use Rattle.htmd_grammar.specs.Serialisation.{end_tag}
-use Rattle.htmd_grammar.specs.Steps.{OpenElement, Reaches, State, body, closed, ends_rows, fault, finished, names_of}
-use Rattle.htmd_grammar.specs.Steps.{started, step, with_children}
+use Rattle.htmd_grammar.specs.ReaderSteps.{OpenElement, Reaches, State, body, closed, ends_rows, fault, finished, names_of}
+use Rattle.htmd_grammar.specs.ReaderSteps.{started, step, with_children}
 use Rattle.htmd_grammar.specs.ValueTrees.{ValueForest, more, none, text}
 use Rattle.htmd_grammar.specs.declared.fault.FaultKind.{FaultKind}
 use Rattle.htmd_grammar.specs.declared.fault.FaultKind.TheVariants.{Unclosed}

@@ -13,9 +13,9 @@ use Rattle.htmd_grammar.specs.Tags.{attribute_names, IsTagForm, IsEndTag}
 use Rattle.htmd_grammar.specs.Comments.{IsComment}
 use Rattle.htmd_grammar.specs.RawContent.{holds_raw_text, ends_text, raw_text_of}
 use Rattle.htmd_grammar.specs.Nesting.{Context, is_outside, is_row, is_table, holds_parts, is_allowed}
-use Rattle.htmd_grammar.specs.Documents.{above_body, body_text}
+use Rattle.htmd_grammar.specs.HtmlDocuments.{above_body, body_text}
 use Rattle.htmd_grammar.specs.Serialisation.{is_void}
-use Rattle.htmd_grammar.specs.Steps.{OpenElement, names_of, has_unknown_reference}
+use Rattle.htmd_grammar.specs.ReaderSteps.{OpenElement, names_of, has_unknown_reference}
 use Rattle.htmd_grammar.specs.Fronts.{IsViablePrefix}
 use Rattle.htmd_grammar.specs.declared.fault.FaultKind.{FaultKind}
 use Rattle.htmd_grammar.specs.declared.fault.FaultKind.TheVariants.{

@@ -9,9 +9,9 @@ use Rattle.htmd_grammar.specs.Tags.{IsStartTag}
 use Rattle.htmd_grammar.specs.RawContent.{content_of}
 use Rattle.htmd_grammar.specs.Nesting.{Context, is_table_part, is_tbody, is_allowed}
 use Rattle.htmd_grammar.specs.Grammar.{begins_with_row, ReadsForest, reads}
-use Rattle.htmd_grammar.specs.Documents.{above_body, below_body}
+use Rattle.htmd_grammar.specs.HtmlDocuments.{above_body, below_body}
 use Rattle.htmd_grammar.specs.Serialisation.{is_void, end_tag}
-use Rattle.htmd_grammar.specs.Steps.{OpenElement, names_of, closed, with_children, ends_rows, ◌+++◌}
+use Rattle.htmd_grammar.specs.ReaderSteps.{OpenElement, names_of, closed, with_children, ends_rows, ◌+++◌}
 
 -- whether an implied `tbody` may end before this element
 abbrev pub ends_at : OpenElement → Bool

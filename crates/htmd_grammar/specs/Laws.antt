@@ -5,8 +5,8 @@ use Rattle.htmd_grammar.specs.ValueTrees.{ValueTree, ValueForest}
 use Rattle.htmd_grammar.specs.CharacterClasses.{lacks}
 use Rattle.htmd_grammar.specs.Rules.{Rules}
 use Rattle.htmd_grammar.specs.Grammar.{reads}
-use Rattle.htmd_grammar.specs.Documents.{above_body, below_body, body_text, ReadsDocument}
-use Rattle.htmd_grammar.specs.Steps.{OpenElement, State, Reaches, step, started, finished, ends_rows}
+use Rattle.htmd_grammar.specs.HtmlDocuments.{above_body, below_body, body_text, ReadsDocument}
+use Rattle.htmd_grammar.specs.ReaderSteps.{OpenElement, State, Reaches, step, started, finished, ends_rows}
 use Rattle.htmd_grammar.specs.Fronts.{IsViablePrefix, with_text}
 use Rattle.htmd_grammar.specs.Faults.{IsFault}
 use Rattle.htmd_grammar.specs.declared.fault.FaultKind.{FaultKind}

@@ -17,11 +17,11 @@ pub mod Comments
 pub mod RawContent
 pub mod Nesting
 pub mod Grammar
-pub mod Documents
+pub mod HtmlDocuments
 pub mod ReadBack
 pub mod TagReading
 pub mod OpenElements
-pub mod Steps
+pub mod ReaderSteps
 pub mod Fronts
 pub mod Faults
 pub mod FaultNames

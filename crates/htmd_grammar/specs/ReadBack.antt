@@ -20,22 +20,22 @@ use Rattle.htmd_grammar.specs.RawBlocks.{raw_block, RefersToLineFeeds}
 unfoldable pub is_special : List ℕ → Bool
 is_special name = is_raw_text name || is_among (codes "pre" ∷ codes "textarea" ∷ []) name
 
-abbrev pub is_plain_attribute : AttributePair → Bool
-is_plain_attribute attribute = lacks carriage_return attribute.value
+abbrev pub attribute_reads_alone : AttributePair → Bool
+attribute_reads_alone attribute = lacks carriage_return attribute.value
 
 abbrev mutual
   -- no carriage return, comment, `pre`, `textarea` or raw text element
-  pub is_plain : ValueTree → Bool
-  is_plain (document children) = false
-  is_plain doctype = false
-  is_plain (text s) = lacks carriage_return s
-  is_plain (comment s) = false
-  is_plain (element name attributes children) =
-      not (is_special name) && list_all is_plain_attribute attributes && all_plain children
+  pub reads_alone : ValueTree → Bool
+  reads_alone (document children) = false
+  reads_alone doctype = false
+  reads_alone (text s) = lacks carriage_return s
+  reads_alone (comment s) = false
+  reads_alone (element name attributes children) =
+      not (is_special name) && list_all attribute_reads_alone attributes && all_read_alone children
 
-  pub all_plain : ValueForest → Bool
-  all_plain none = true
-  all_plain (more tree trees) = is_plain tree && all_plain trees
+  pub all_read_alone : ValueForest → Bool
+  all_read_alone none = true
+  all_read_alone (more tree trees) = reads_alone tree && all_read_alone trees
 
 abbrev mutual
   -- the tree t, whose ancestors have the names d, is the first tree, whose ancestors have the names c, or stands below
@@ -61,7 +61,7 @@ pub record DenotesAlone (rules : Rules) (c : Context) (x : List ℕ) (ts : Value
   pub alone : (us : ValueForest) → reads rules c x us → us ≡ ts
 
 -- an element that is below these trees, under some parent, and is plain
-pub record IsPlainElement (c : Context) (ts : ValueForest) (d : Context) (t : ValueTree) : Type 0 where
+pub record IsElementAlone (c : Context) (ts : ValueForest) (d : Context) (t : ValueTree) : Type 0 where
   pub parent : List ℕ
   pub above : Context
   pub context : d ≡ parent ∷ above
@@ -70,19 +70,19 @@ pub record IsPlainElement (c : Context) (ts : ValueForest) (d : Context) (t : Va
   pub children : ValueForest
   pub is_element : t ≡ element name attributes children
   pub stands : AreIn c ts d t
-  pub plain : is_plain t ≡ true
+  pub plain : reads_alone t ≡ true
 
 -- Of trees that were read in some context: the serialisation of a plain element, with references in place of some of
 -- its line feeds, denotes that element alone, in the context of its ancestors.
 abbrev pub ReadsBack : Rules → Type 0
 ReadsBack rules =
     (c : Context) (s : List ℕ) (ts : ValueForest) → reads rules c s ts
-    → (d : Context) (t : ValueTree) → IsPlainElement c ts d t
+    → (d : Context) (t : ValueTree) → IsElementAlone c ts d t
     → (x : List ℕ) → RefersToLineFeeds (serialisation t) x → DenotesAlone rules d x (more t none)
 
 -- The same of what is between the blank lines of a block of its raw HTML.
 abbrev pub RawBlockReadsBack : Rules → Type 0
 RawBlockReadsBack rules =
     (c : Context) (s : List ℕ) (ts : ValueForest) → reads rules c s ts
-    → (d : Context) (t : ValueTree) → IsPlainElement c ts d t → IsUtf8 (serialisation t)
+    → (d : Context) (t : ValueTree) → IsElementAlone c ts d t → IsUtf8 (serialisation t)
     → (x : List ℕ) → raw_block (serialisation t) ≡ with_blank_lines x → DenotesAlone rules d x (more t none)

@@ -3,10 +3,10 @@
 #![tactic(auto)]
 
 mod attribute;
-mod content;
+mod content_model;
 mod fault;
 pub mod laws;
 
 pub use attribute::Attribute;
-pub use content::{Content, RawElement};
+pub use content_model::{ContentModel, RawElement};
 pub use fault::FaultKind;

@@ -12,13 +12,13 @@ use Rattle.htmd_grammar.specs.CharacterClasses.{is_empty, leading_run}
 use Rattle.htmd_grammar.proofs.TagReadingLemmas.{front_all, back_split}
 use Rattle.htmd_html5_state.specs.Foreign.{current_is_html}
 use Rattle.htmd_html5_state.specs.Insertion.{insert_text}
-use Rattle.htmd_html5_state.specs.Settled.{is_settled}
+use Rattle.htmd_html5_state.specs.AppendedTexts.{appends_text}
 use Rattle.htmd_html5_state.specs.State.{StateValue}
 use Rattle.htmd_html5_state.specs.declared.modes.InsertionMode.TheVariants.{InBody, InCaption, InCell}
 use Rattle.htmd_html5_state.specs.declared.modes.InsertionMode.{InsertionMode}
-use Rattle.htmd_html5_state.proofs.SettledLemmas.{Settled, settled, insert_text-twice, insert_text-settled, settled-reconstruct}
-use Rattle.htmd_html5.specs.Answers.{answer, done}
-use Rattle.htmd_html5.specs.AtOnce.{is_body_mode, is_not_null, takes_at_once, is_plain, put_at_once}
+use Rattle.htmd_html5_state.proofs.AppendedTextsLemmas.{AppendsText, appends, insert_text-twice, insert_text-appends, appends-reconstruct}
+use Rattle.htmd_html5.specs.Outcomes.{outcome, done}
+use Rattle.htmd_html5.specs.AtOnce.{is_body_mode, is_not_null, takes_at_once, is_without_null, put_at_once}
 use Rattle.htmd_html5.specs.ForeignContent.{is_foreign}
 use Rattle.htmd_html5.specs.InBody.{run_in_body}
 use Rattle.htmd_html5.specs.Modes.{in_mode}
@@ -36,13 +36,13 @@ use Rattle.htmd_html5.proofs.TextsLemmas.{put_part, first_run_shortens, takes_fi
 record Takes (s : StateValue) : Type 0 where
   pub mode : is_body_mode s.mode ≡ true
   pub html : current_is_html s.stack ≡ true
-  pub settles : Settled s
+  pub at_end : AppendsText s
 
 takes : (s : StateValue) → takes_at_once s ≡ true → Takes s
 takes s e =
-    let both = and_parts (is_body_mode s.mode && current_is_html s.stack) (is_settled s) e in
+    let both = and_parts (is_body_mode s.mode && current_is_html s.stack) (appends_text s) e in
     let front = and_parts (is_body_mode s.mode) (current_is_html s.stack) both.0 in
-    record { mode = front.0; html = front.1; settles = settled s both.1 }
+    record { mode = front.0; html = front.1; at_end = appends s both.1 }
 
 -- it takes more after a text
 takes_more : (text : List ℕ) (s : StateValue) → Takes s → Takes (put_at_once text s)
@@ -51,11 +51,11 @@ takes_more text s h =
   where
     inserted : (ok : Bool) → Takes (record (insert_text text s) { frameset_ok = ok })
     inserted ok =
-        let more = insert_text-settled text s h.settles in
+        let more = insert_text-appends text s h.at_end in
         record {
           mode = h.mode;
           html = h.html;
-          settles = record { fosters = more.fosters; listed = more.listed; within = more.within };
+          at_end = record { fosters = more.fosters; listed = more.listed; within = more.within };
         }
 
 -- ---- two texts
@@ -74,7 +74,7 @@ frameset_twice true y s = refl
 frameset_twice false true s = refl
 frameset_twice false false s = refl
 
-put_twice : (a b : List ℕ) (s : StateValue) → Settled s
+put_twice : (a b : List ℕ) (s : StateValue) → AppendsText s
     → put_at_once b (put_at_once a s) ≡ put_at_once (a ++ b) s
 put_twice a b s h =
     ap (with_frameset (list_all is_ascii_white_space b))
@@ -109,16 +109,16 @@ by_body : (kind : RunKind) (text : List ℕ) (s : StateValue) → Takes s
     → by_rules (run kind text) s ≡ done (run_in_body kind text s)
 by_body kind text s h = rw (goes kind text s h.html) (body_rules s.mode kind text s h.mode)
 
-white_run : (r : List ℕ) (s : StateValue) → Settled s → list_all is_ascii_white_space r ≡ true
+white_run : (r : List ℕ) (s : StateValue) → AppendsText s → list_all is_ascii_white_space r ≡ true
     → run_in_body White r s ≡ put_at_once r s
-white_run r s h e = rw e (ap (insert_text r) (settled-reconstruct s h))
+white_run r s h e = rw e (ap (insert_text r) (appends-reconstruct s h))
 
-other_run : (r : List ℕ) (s : StateValue) → Settled s → list_all is_ascii_white_space r ≡ false
+other_run : (r : List ℕ) (s : StateValue) → AppendsText s → list_all is_ascii_white_space r ≡ false
     → run_in_body Characters r s ≡ put_at_once r s
-other_run r s h e = rw e (ap (λ (x : StateValue). no_frameset (insert_text r x)) (settled-reconstruct s h))
+other_run r s h e = rw e (ap (λ (x : StateValue). no_frameset (insert_text r x)) (appends-reconstruct s h))
 
 -- the first run of a text that doesn't begin with U+0000
-kind_first : (b : ℕ) (t : List ℕ) (s : StateValue) → Settled s → is_null b ≡ false
+kind_first : (b : ℕ) (t : List ℕ) (s : StateValue) → AppendsText s → is_null b ≡ false
     → run_in_body (kind_of_byte b) (first_run (b ∷ t)) s ≡ put_at_once (first_run (b ∷ t)) s
 kind_first b t s h n = test (is_ascii_white_space b) (λ e. of_kind White (rw e refl) (as_white e))
     (λ e. of_kind Characters (rw (e, n) refl) (as_other e))
@@ -153,10 +153,10 @@ first_put b t s h n =
     elsewhere : takes_all s ≡ false
     elsewhere = rw (no_table s.mode h.mode) refl
 
-    rules : answer (put_at_once (first_run (b ∷ t)) s) false ≡ by_rules (first_token (b ∷ t)) s
+    rules : outcome (put_at_once (first_run (b ∷ t)) s) false ≡ by_rules (first_token (b ∷ t)) s
     rules =
         sym (by_body (kind_of_byte b) (first_run (b ∷ t)) s h
-        ∙ ap done (kind_first b t s h.settles n))
+        ∙ ap done (kind_first b t s h.at_end n))
 
 -- ---- all runs
 
@@ -173,7 +173,7 @@ not_null b t e =
     ∙ not_from_true (is_null b) q))) (λ q. q)
 
 -- what is left after the first run
-rest_put : (front rest : List ℕ) (s : StateValue) → Settled s
+rest_put : (front rest : List ℕ) (s : StateValue) → AppendsText s
     → (0 < length rest → put_text rest (put_at_once front s) ≡ put_at_once rest (put_at_once front s))
     → put_text rest (put_at_once front s) ≡ put_at_once (front ++ rest) s
 rest_put front [] s h go = ap (λ (x : List ℕ). put_at_once x s) (sym (append-nil front))
@@ -187,7 +187,7 @@ by_runs (suc k) (b ∷ t) s l m h n =
     let shorter = first_run_shortens (b ∷ t) m in
     put_part (b ∷ t) s m
     ∙ (ap (λ (x : Taken). put_text x.rest x.state) (first_put b t s h (not_null b t n))
-    ∙ (rest_put (first_run (b ∷ t)) (after_first_run (b ∷ t)) s h.settles
+    ∙ (rest_put (first_run (b ∷ t)) (after_first_run (b ∷ t)) s h.at_end
     (λ some. by_runs k (after_first_run (b ∷ t)) (put_at_once (first_run (b ∷ t)) s) (omega arith) some
     (takes_more (first_run (b ∷ t)) s h) (nulls_in_rest (b ∷ t) n))
     ∙ ap (λ (x : List ℕ). put_at_once x s) (sym (back_split (is_of_kind (kind_of_byte b)) (b ∷ t)))))
@@ -197,7 +197,7 @@ some [] e = absurd (true≢false (sym e))
 some (b ∷ t) e = omega arith
 
 -- a plain text that is put at once is put
-pub put_as_parts : (text : List ℕ) (s : StateValue) → takes_at_once s ≡ true → is_plain text ≡ true
+pub put_as_parts : (text : List ℕ) (s : StateValue) → takes_at_once s ≡ true → is_without_null text ≡ true
     → put_at_once text s ≡ put_text text s
 put_as_parts text s e f =
     let parts = and_parts (not (is_empty text)) (list_all is_not_null text) f in

@@ -6,7 +6,7 @@ use Rattle.htmd_nodes.specs.Layout.{document_items}
 use Rattle.htmd_html5_state.specs.Adoption.{move_last, wrap_children}
 use Rattle.htmd_html5.specs.BodyEnds.{text_end_rule}
 use Rattle.htmd_html5.specs.BodyStarts.{block_rule, formatting_rule, phrasing_rule}
-use Rattle.htmd_html5.specs.Documents.{html5_document, state_after}
+use Rattle.htmd_html5.specs.Html5Documents.{html5_document, state_after}
 use Rattle.htmd_html5.specs.Layout.{document_of}
 
 -- an element without attributes

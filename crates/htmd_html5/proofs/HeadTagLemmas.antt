@@ -3,7 +3,7 @@ use Rattle.std.proofs.Common.{◌≡◌, true, false, rules}
 use Rattle.htmd_html5_state.specs.Names.{known}
 use Rattle.htmd_html5_state.specs.State.{StateValue}
 use Rattle.htmd_html5_state.specs.declared.names.TagName.{TagName}
-use Rattle.htmd_html5.specs.Answers.{done, again}
+use Rattle.htmd_html5.specs.Outcomes.{done, again}
 use Rattle.htmd_html5.specs.InTemplate.{start_in_template, with_template_mode, mode_of_content}
 use Rattle.htmd_html5.specs.SharedRules.{is_head_tag, insert_head_element}
 use Rattle.htmd_html5.specs.Tokens.{StartTagValue}

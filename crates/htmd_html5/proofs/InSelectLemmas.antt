@@ -3,7 +3,7 @@ use Rattle.std.proofs.Common.{◌≡◌, true, false, rules}
 use Rattle.htmd_html5_state.specs.Names.{known}
 use Rattle.htmd_html5_state.specs.State.{StateValue}
 use Rattle.htmd_html5_state.specs.declared.names.TagName.{TagName}
-use Rattle.htmd_html5.specs.Answers.{done, again}
+use Rattle.htmd_html5.specs.Outcomes.{done, again}
 use Rattle.htmd_html5.specs.InSelect.{end_in_select, end_in_select_in_table, leave_select_in, is_table_part}
 use Rattle.htmd_html5.specs.InSelect.{start_in_select, start_in_select_in_table, close_select}
 use Rattle.htmd_html5.specs.Tokens.{StartTagValue}

@@ -3,8 +3,8 @@ use Rattle.std.proofs.Common.{◌≡◌, ℕ, List, [], ◌∷◌, codes, None, 
 use Rattle.htmd_grammar.specs.ValueTrees.{ValueTree, ValueForest, text, element, comment, doctype, none, more}
 use Rattle.htmd_nodes.specs.Items.{document_item}
 use Rattle.htmd_nodes.specs.Layout.{document_items}
-use Rattle.htmd_html5_state.specs.Documents.{KindValue, NodeValue}
-use Rattle.htmd_html5_state.specs.Documents as nodes
+use Rattle.htmd_html5_state.specs.Nodes.{KindValue, NodeValue}
+use Rattle.htmd_html5_state.specs.Nodes as nodes
 use Rattle.htmd_html5_state.specs.Names.{other, html, svg}
 use Rattle.htmd_html5.specs.Layout.{document_of}
 

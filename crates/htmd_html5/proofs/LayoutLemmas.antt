@@ -7,7 +7,7 @@ use Rattle.std.proofs.lemmas.Result.{on_ok_weaker}
 use Rattle.std.specs.Option.{option_to_list}
 use Rattle.std.specs.Prelude.{reverse}
 use Rattle.htmd_nodes.specs.Items.{Item}
-use Rattle.htmd_html5_state.specs.Documents.{NodeValue, children_at}
+use Rattle.htmd_html5_state.specs.Nodes.{NodeValue, children_at}
 use Rattle.htmd_html5.specs.Layout.{Coming, Layout, coming}
 use Rattle.htmd_html5.specs.Layout.{put_node, put_next, layout_within, with_children_under}
 use Rattle.htmd_html5.specs.Layout.{first_layout, document_of}

@@ -9,7 +9,7 @@ pub mod HeadTagLemmas
 pub mod InSelectLemmas
 pub mod TableTagLemmas
 pub mod InTableLemmas
-pub mod DocumentsLemmas
+pub mod Html5DocumentsLemmas
 pub mod LayoutLemmas
 mod Examples
 mod LayoutExamples

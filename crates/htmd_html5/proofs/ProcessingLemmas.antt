@@ -3,12 +3,12 @@ use Rattle.std.proofs.Common.{◌≡◌, ◌∙◌, ℕ, suc, ◌+◌, ◌-◌, 
 use Rattle.htmd_html5_state.specs.State.{StateValue}
 use Rattle.htmd_html5_state.specs.declared.modes.InsertionMode.{InsertionMode}
 use Rattle.htmd_html5_state.specs.declared.modes.InsertionMode.TheVariants.{InBody}
-use Rattle.htmd_html5.specs.Answers.{Answer, answer, done}
+use Rattle.htmd_html5.specs.Outcomes.{Outcome, outcome, done}
 use Rattle.htmd_html5.specs.BodyStarts.{start_in_body}
 use Rattle.htmd_html5.specs.Tokens.{StartTagValue, TokenValue, start_tag}
 use Rattle.htmd_html5.specs.ForeignContent.{is_foreign, in_foreign_content}
 use Rattle.htmd_html5.specs.Modes.{by_mode_rules, in_mode}
-use Rattle.htmd_html5.specs.Processing.{by_rules, after_answer, process_within, process, turns}
+use Rattle.htmd_html5.specs.Processing.{by_rules, after_outcome, process_within, process, turns}
 
 -- in foreign content or out of it
 pub by_foreign : (token : TokenValue) (s : StateValue) → is_foreign token s ≡ true
@@ -19,13 +19,13 @@ pub by_html : (token : TokenValue) (s : StateValue) → is_foreign token s ≡ f
     → by_rules token s ≡ by_mode_rules token s
 by_html token s e = rw e refl
 
-process_again : (k : ℕ) (token : TokenValue) (s new : StateValue) → answer new true ≡ by_rules token s
+process_again : (k : ℕ) (token : TokenValue) (s new : StateValue) → outcome new true ≡ by_rules token s
     → process_within (suc k) token s ≡ process_within k token new
-process_again k token s new e = ap (λ (a : Answer). after_answer (process_within k token) a) (sym e)
+process_again k token s new e = ap (λ (a : Outcome). after_outcome (process_within k token) a) (sym e)
 
-process_done : (k : ℕ) (token : TokenValue) (s new : StateValue) → answer new false ≡ by_rules token s
+process_done : (k : ℕ) (token : TokenValue) (s new : StateValue) → outcome new false ≡ by_rules token s
     → process_within (suc k) token s ≡ new
-process_done k token s new e = ap (λ (a : Answer). after_answer (process_within k token) a) (sym e)
+process_done k token s new e = ap (λ (a : Outcome). after_outcome (process_within k token) a) (sym e)
 
 -- what is left to process in a turn is what was at first
 abbrev pub Rests : TokenValue → StateValue → StateValue → ℕ → ℕ → Type 0
@@ -37,12 +37,12 @@ rests_first token s all k e =
     let same : k ≡ all = omega arith in ap (λ n. process_within n token s) same
 
 pub rests_again : (token : TokenValue) (first s new : StateValue) (turn all : ℕ) → Rests token first s turn all
-    → answer new true ≡ by_rules token s → Rests token first new (turn + 1) all
+    → outcome new true ≡ by_rules token s → Rests token first new (turn + 1) all
 rests_again token first s new turn all r e k f =
     let more : suc k + turn ≡ all = omega arith in sym (process_again k token s new e) ∙ r (suc k) more
 
 pub rests_done : (token : TokenValue) (first s new : StateValue) (turn all : ℕ) → Rests token first s turn all
-    → turn < all → answer new false ≡ by_rules token s → new ≡ process_within all token first
+    → turn < all → outcome new false ≡ by_rules token s → new ≡ process_within all token first
 rests_done token first s new turn all r l e =
     let k = all - suc turn in
     let more : suc k + turn ≡ all = omega arith in sym (process_done k token s new e) ∙ r (suc k) more
@@ -52,7 +52,7 @@ pub rests_over : (token : TokenValue) (first s : StateValue) (turn all : ℕ) �
 rests_over token first s turn all r e = let none : 0 + turn ≡ all = omega arith in r 0 none
 
 -- what is processed once
-pub process_once : (token : TokenValue) (s new : StateValue) → answer new false ≡ by_rules token s
+pub process_once : (token : TokenValue) (s new : StateValue) → outcome new false ≡ by_rules token s
     → new ≡ process token s
 process_once token s new e =
     rests_done token s s new 0 (turns s) (rests_first token s (turns s)) (omega arith) e
@@ -63,4 +63,5 @@ pub started_in_body : (tag : StartTagValue) (s new : StateValue) → s.mode ≡ 
     → new ≡ process (start_tag tag) s
 started_in_body tag s new m f e =
     process_once (start_tag tag) s new
-    (sym (by_html (start_tag tag) s f ∙ ap (λ (i : InsertionMode). in_mode i (start_tag tag) s) m ∙ ap done (sym e)))
+    (sym (by_html (start_tag tag) s f ∙ ap (λ (i : InsertionMode). in_mode i (start_tag tag) s) m
+    ∙ ap done (sym e)))

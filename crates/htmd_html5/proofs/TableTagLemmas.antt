@@ -5,7 +5,7 @@ use Rattle.htmd_html5_state.specs.State.{StateValue}
 use Rattle.htmd_html5_state.specs.declared.names.TagName.{TagName}
 use Rattle.htmd_html5_state.specs.declared.names.TagName.TheVariants as tags
 use Rattle.htmd_html5_state.specs.declared.sets.NameSet.TheVariants.{Cells}
-use Rattle.htmd_html5.specs.Answers.{done}
+use Rattle.htmd_html5.specs.Outcomes.{done}
 use Rattle.htmd_html5.specs.BodyStarts.{start_in_body}
 use Rattle.htmd_html5.specs.InCaption.{start_in_caption, leave_caption, end_in_caption}
 use Rattle.htmd_html5.specs.InCell.{start_in_cell, leave_cell, leaves_cell}

@@ -5,7 +5,7 @@ use Rattle.htmd_grammar.proofs.Cases.{test}
 use Rattle.htmd_grammar.specs.WhiteSpace.{is_ascii_white_space}
 use Rattle.htmd_grammar.proofs.RunsLemmas.{behind_within}
 use Rattle.htmd_html5_state.specs.State.{StateValue}
-use Rattle.htmd_html5.specs.Answers.{Answer, answer}
+use Rattle.htmd_html5.specs.Outcomes.{Outcome, outcome}
 use Rattle.htmd_html5.specs.Runs.{is_of_kind, kind_of_byte, is_null, first_kind, first_run, after_first_run}
 use Rattle.htmd_html5.specs.Tokens.{run}
 use Rattle.htmd_html5.specs.declared.tokens.RunKind.{RunKind}
@@ -33,7 +33,7 @@ pub run_shorter : (s rest : List ℕ) → (length s == 0) ≡ false → rest ≡
     → length rest < length s
 run_shorter s rest e r = let l = first_run_shortens s (some_left s e) in rw r l
 
-after_shorter : (go : StateValue → Taken) (rest : List ℕ) (a : Answer) (n : ℕ) → length rest < n
+after_shorter : (go : StateValue → Taken) (rest : List ℕ) (a : Outcome) (n : ℕ) → length rest < n
     → ((s : StateValue) → length (go s).rest < n) → length (after_run go rest a).rest < n
 after_shorter go rest a n h g = test a.again (λ e. rw e (g a.state)) (λ e. rw e h)
 
@@ -96,10 +96,10 @@ where_all : (k : ℕ) (text : List ℕ) (s : StateValue) → takes_all s ≡ tru
     → take_within (suc k) text s ≡ taken (table_text text s) []
 where_all k text s e = rw e refl
 
-elsewhere : (k : ℕ) (text : List ℕ) (s : StateValue) (a : Answer) → takes_all s ≡ false
+elsewhere : (k : ℕ) (text : List ℕ) (s : StateValue) (a : Outcome) → takes_all s ≡ false
     → a ≡ by_rules (first_token text) s
     → take_within (suc k) text s ≡ after_run (take_within k text) (after_first_run text) a
-elsewhere k text s a e f = rw e (ap (λ (x : Answer). after_run (take_within k text) (after_first_run text) x) (sym f))
+elsewhere k text s a e f = rw e (ap (λ (x : Outcome). after_run (take_within k text) (after_first_run text) x) (sym f))
 
 pub first_by_rules : (text part : List ℕ) (kind : RunKind) (s : StateValue) → kind ≡ first_kind text
     → part ≡ first_run text → by_rules (run kind part) s ≡ by_rules (first_token text) s
@@ -111,17 +111,17 @@ pub takes_first : (text : List ℕ) (s : StateValue) (all : ℕ) → Takes text 
 takes_first text s all k e = let same : k ≡ all = omega arith in ap (λ n. take_within n text s) same
 
 pub takes_again : (text : List ℕ) (first s new : StateValue) (turn all : ℕ) → Takes text first s turn all
-    → takes_all s ≡ false → answer new true ≡ by_rules (first_token text) s
+    → takes_all s ≡ false → outcome new true ≡ by_rules (first_token text) s
     → Takes text first new (turn + 1) all
 takes_again text first s new turn all r e f k g =
-    let more : suc k + turn ≡ all = omega arith in sym (elsewhere k text s (answer new true) e f) ∙ r (suc k) more
+    let more : suc k + turn ≡ all = omega arith in sym (elsewhere k text s (outcome new true) e f) ∙ r (suc k) more
 
 pub takes_run : (text : List ℕ) (first s new : StateValue) (turn all : ℕ) → Takes text first s turn all
-    → turn < all → takes_all s ≡ false → answer new false ≡ by_rules (first_token text) s
+    → turn < all → takes_all s ≡ false → outcome new false ≡ by_rules (first_token text) s
     → taken new (after_first_run text) ≡ take_within all text first
 takes_run text first s new turn all r l e f =
     let k = all - suc turn in
-    let more : suc k + turn ≡ all = omega arith in sym (elsewhere k text s (answer new false) e f) ∙ r (suc k) more
+    let more : suc k + turn ≡ all = omega arith in sym (elsewhere k text s (outcome new false) e f) ∙ r (suc k) more
 
 pub takes_text : (text : List ℕ) (first s : StateValue) (turn all : ℕ) → Takes text first s turn all
     → turn < all → takes_all s ≡ true → taken (table_text text s) [] ≡ take_within all text first

@@ -5,7 +5,7 @@ use Rattle.htmd_grammar.specs.CharacterClasses.{is_empty}
 use Rattle.htmd_grammar.specs.WhiteSpace.{is_ascii_white_space}
 use Rattle.htmd_html5_state.specs.Foreign.{current_is_html}
 use Rattle.htmd_html5_state.specs.Insertion.{insert_text}
-use Rattle.htmd_html5_state.specs.Settled.{is_settled}
+use Rattle.htmd_html5_state.specs.AppendedTexts.{appends_text}
 use Rattle.htmd_html5_state.specs.State.{StateValue}
 use Rattle.htmd_html5_state.specs.declared.modes.InsertionMode.TheVariants.{InBody, InCaption, InCell}
 use Rattle.htmd_html5_state.specs.declared.modes.InsertionMode.{InsertionMode}
@@ -23,11 +23,11 @@ abbrev pub is_not_null : ℕ → Bool
 is_not_null b = not (is_null b)
 
 abbrev pub takes_at_once : StateValue → Bool
-takes_at_once s = is_body_mode s.mode && current_is_html s.stack && is_settled s
+takes_at_once s = is_body_mode s.mode && current_is_html s.stack && appends_text s
 
 -- a text that is put at once has a character, and none is U+0000
-abbrev pub is_plain : List ℕ → Bool
-is_plain text = not (is_empty text) && list_all is_not_null text
+abbrev pub is_without_null : List ℕ → Bool
+is_without_null text = not (is_empty text) && list_all is_not_null text
 
 -- frameset-ok after a text
 abbrev pub frameset_after : List ℕ → StateValue → StateValue

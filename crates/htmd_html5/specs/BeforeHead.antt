@@ -7,7 +7,7 @@ use Rattle.htmd_html5_state.specs.State.{StateValue}
 use Rattle.htmd_html5_state.specs.Insertion.{insert_comment, insert_element}
 use Rattle.htmd_html5_state.specs.declared.modes.InsertionMode.TheVariants.{InHead}
 use Rattle.htmd_html5.specs.declared.tokens.RunKind.TheVariants.{White}
-use Rattle.htmd_html5.specs.Answers.{Answer, done, again}
+use Rattle.htmd_html5.specs.Outcomes.{Outcome, done, again}
 use Rattle.htmd_html5.specs.SharedRules.{add_to_root}
 use Rattle.htmd_html5_state.specs.declared.names.TagName.TheVariants as tags
 
@@ -15,22 +15,22 @@ abbrev pub with_head : NameValue → List AttributePair → StateValue → State
 with_head name attributes s =
     record (insert_element name attributes s) { head = Some (length s.nodes); mode = InHead }
 
-abbrev pub imply_head : StateValue → Answer
+abbrev pub imply_head : StateValue → Outcome
 imply_head s = again (with_head (known tags.Head) [] s)
 
-abbrev pub start_before_head : NameValue → StartTagValue → StateValue → Answer
+abbrev pub start_before_head : NameValue → StartTagValue → StateValue → Outcome
 start_before_head (known tags.Html) tag s = done (add_to_root tag s)
 start_before_head (known tags.Head) tag s = done (with_head tag.name tag.attributes s)
 start_before_head _ tag s = imply_head s
 
-abbrev pub end_before_head : NameValue → StateValue → Answer
+abbrev pub end_before_head : NameValue → StateValue → Outcome
 end_before_head (known tags.Head) s = imply_head s
 end_before_head (known tags.Body) s = imply_head s
 end_before_head (known tags.Html) s = imply_head s
 end_before_head (known tags.Br) s = imply_head s
 end_before_head _ s = done s
 
-abbrev pub before_head : TokenValue → StateValue → Answer
+abbrev pub before_head : TokenValue → StateValue → Outcome
 before_head (run White text) s = done s
 before_head (comment text) s = done (insert_comment text s)
 before_head (doctype quirks) s = done s

@@ -12,7 +12,7 @@ use Rattle.htmd_html5_state.specs.declared.names.TagName.{TagName}
 use Rattle.htmd_html5_state.specs.declared.sets.NameSet.TheVariants.{Only, Headings, ImpliedEnd}
 use Rattle.htmd_html5_state.specs.declared.sets.Scope.TheVariants.{Default, ListItem, Button as ButtonScope}
 use Rattle.htmd_html5.specs.declared.body_ends.EndRule.{EndRule}
-use Rattle.htmd_html5.specs.Answers.{Answer, answer, done}
+use Rattle.htmd_html5.specs.Outcomes.{Outcome, outcome, done}
 use Rattle.htmd_html5.specs.SharedRules.{with_mode, no_frameset, close_paragraph, end_template}
 use Rattle.htmd_html5_state.specs.declared.names.TagName.TheVariants as tags
 use Rattle.htmd_html5.specs.declared.body_ends.EndRule.TheVariants as rule
@@ -95,8 +95,8 @@ has_body s = is_in_scope (Only tags.Body) Default s.stack
 abbrev pub end_body : StateValue → StateValue
 end_body s = if has_body s then with_mode AfterBody s else s
 
-abbrev pub end_root : StateValue → Answer
-end_root s = answer (end_body s) (has_body s)
+abbrev pub end_root : StateValue → Outcome
+end_root s = outcome (end_body s) (has_body s)
 
 abbrev pub end_block : TagName → StateValue → StateValue
 end_block tag s = on_stack (close (Only tag) Default) s
@@ -127,7 +127,7 @@ line_break s = no_frameset (insert_void (known tags.Br) [] (reconstruct s))
 
 -- ---- the rules
 
-abbrev pub end_by : EndRule → TagName → StateValue → Answer
+abbrev pub end_by : EndRule → TagName → StateValue → Outcome
 end_by rule.Body tag s = done (end_body s)
 end_by rule.Root tag s = end_root s
 end_by rule.Template tag s = done (end_template s)
@@ -141,6 +141,6 @@ end_by rule.Embedded tag s = done (end_embedded tag s)
 end_by rule.LineBreak tag s = done (line_break s)
 end_by rule.Ordinary tag s = done (on_stack (close_name (known tag)) s)
 
-abbrev pub end_in_body : NameValue → StateValue → Answer
+abbrev pub end_in_body : NameValue → StateValue → Outcome
 end_in_body (known tag) s = end_by (end_rule tag) tag s
 end_in_body (other text) s = done (on_stack (close_name (other text)) s)

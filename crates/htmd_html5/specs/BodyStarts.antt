@@ -5,7 +5,7 @@ use Rattle.std.specs.Str.{bytes_eq}
 use Rattle.std.specs.Char.{to_ascii_lowercase}
 use Rattle.htmd_grammar.specs.ValueTrees.{AttributePair}
 use Rattle.htmd_html5_state.specs.Names.{NameValue, known, other}
-use Rattle.htmd_html5_state.specs.Documents.{detach, is_named, add_missing}
+use Rattle.htmd_html5_state.specs.Nodes.{detach, is_named, add_missing}
 use Rattle.htmd_html5.specs.Tokens.{StartTagValue}
 use Rattle.htmd_html5_state.specs.OpenElements.{OpenValue, current_is, is_open, is_in_scope, second_open, pop}
 use Rattle.htmd_html5_state.specs.OpenElements.{pop_while, close, outermost, without}
@@ -29,7 +29,7 @@ use Rattle.htmd_html5.specs.SharedRules.{with_mode, insert_tag, insert_void_tag,
 use Rattle.htmd_html5.specs.SharedRules.{no_frameset, close_paragraph, add_to_root, insert_head_element}
 use Rattle.htmd_html5_state.specs.declared.names.TagName.TheVariants as tags
 use Rattle.htmd_html5.specs.declared.body_starts.StartRule.TheVariants as rule
-use Rattle.htmd_grammar.specs.declared.content.RawElement.TheVariants as raw
+use Rattle.htmd_grammar.specs.declared.content_model.RawElement.TheVariants as raw
 
 -- ---- which rule a name has
 

@@ -7,16 +7,16 @@ use Rattle.htmd_html5.specs.Tokens.{doctype, comment, StartTagValue, start_tag, 
 use Rattle.htmd_html5_state.specs.OpenElements.{pop}
 use Rattle.htmd_html5_state.specs.State.{StateValue, on_stack}
 use Rattle.htmd_html5_state.specs.Insertion.{insert_text}
-use Rattle.htmd_grammar.specs.declared.content.Content.{Content}
-use Rattle.htmd_grammar.specs.declared.content.Content.TheVariants.{Normal, Raw}
+use Rattle.htmd_grammar.specs.declared.content_model.ContentModel.{ContentModel}
+use Rattle.htmd_grammar.specs.declared.content_model.ContentModel.TheVariants.{Normal, Raw}
 use Rattle.htmd_html5_tokens.specs.Tokens.{TagValue}
 use Rattle.htmd_html5.specs.Processing.{process}
 use Rattle.htmd_html5.specs.Texts.{put_text}
-use Rattle.htmd_grammar.specs.declared.content.RawElement.TheVariants as raw
+use Rattle.htmd_grammar.specs.declared.content_model.RawElement.TheVariants as raw
 use Rattle.htmd_html5_tokens.specs.Tokens as tokens
 
 -- an element of only text is open, up to its end tag
-abbrev pub is_text_mode : Content → Bool
+abbrev pub is_text_mode : ContentModel → Bool
 is_text_mode Normal = false
 is_text_mode (Raw raw.Plaintext) = false
 is_text_mode (Raw _) = true

@@ -17,7 +17,7 @@ use Rattle.htmd_html5_state.specs.declared.names.Namespace.{Namespace}
 use Rattle.htmd_html5_tokens.specs.References.{replacement_character}
 use Rattle.htmd_html5.specs.declared.tokens.RunKind.{RunKind}
 use Rattle.htmd_html5.specs.declared.tokens.RunKind.TheVariants.{White, Nulls, Characters}
-use Rattle.htmd_html5.specs.Answers.{Answer, done}
+use Rattle.htmd_html5.specs.Outcomes.{Outcome, done}
 use Rattle.htmd_html5.specs.SharedRules.{insert_foreign_tag, no_frameset}
 use Rattle.htmd_html5.specs.Modes.{by_mode_rules}
 use Rattle.htmd_html5_state.specs.declared.names.TagName.TheVariants as tags
@@ -138,7 +138,7 @@ end_breaks_out (known tags.P) = true
 end_breaks_out _ = false
 
 -- out of foreign content, and then by the rules of the mode
-abbrev pub break_out : TokenValue → StateValue → Answer
+abbrev pub break_out : TokenValue → StateValue → Outcome
 break_out token s = by_mode_rules token (on_stack (leave_foreign s.nodes) s)
 
 -- an element in the namespace of the current node
@@ -149,15 +149,15 @@ insert_alike (Some space) tag s = insert_foreign_tag space tag s
 abbrev pub start_foreign_element : StartTagValue → StateValue → StateValue
 start_foreign_element tag s = insert_alike (namespace_of (current s.stack).name) tag s
 
-abbrev pub start_in_foreign : StartTagValue → StateValue → Answer
+abbrev pub start_in_foreign : StartTagValue → StateValue → Outcome
 start_in_foreign tag s =
     if tag_breaks_out tag.name tag.attributes then break_out (start_tag tag) s else done (start_foreign_element tag s)
 
-abbrev pub end_foreign : NameValue → ForeignEnd → StateValue → Answer
+abbrev pub end_foreign : NameValue → ForeignEnd → StateValue → Outcome
 end_foreign name ending s =
     if goes_by_mode ending then by_mode_rules (end_tag name) s else done (after_foreign_end ending s)
 
-abbrev pub end_in_foreign : NameValue → StateValue → Answer
+abbrev pub end_in_foreign : NameValue → StateValue → Outcome
 end_in_foreign name s =
     if end_breaks_out name then break_out (end_tag name) s
     else end_foreign name (foreign_end (text_of_name name) s.stack) s
@@ -172,7 +172,7 @@ run_in_foreign White text s = insert_text text s
 run_in_foreign Nulls text s = insert_text (replacements text) s
 run_in_foreign Characters text s = no_frameset (insert_text text s)
 
-abbrev pub in_foreign_content : TokenValue → StateValue → Answer
+abbrev pub in_foreign_content : TokenValue → StateValue → Outcome
 in_foreign_content (run kind text) s = done (run_in_foreign kind text s)
 in_foreign_content (comment text) s = done (insert_comment text s)
 in_foreign_content (doctype quirks) s = done s

@@ -8,7 +8,7 @@ use Rattle.htmd_html5_state.specs.Formatting.{clear_to_marker}
 use Rattle.htmd_html5_state.specs.declared.modes.InsertionMode.TheVariants.{InTable}
 use Rattle.htmd_html5_state.specs.declared.sets.NameSet.TheVariants.{Only}
 use Rattle.htmd_html5_state.specs.declared.sets.Scope.TheVariants.{Table as TableScope}
-use Rattle.htmd_html5.specs.Answers.{Answer, answer, done}
+use Rattle.htmd_html5.specs.Outcomes.{Outcome, outcome, done}
 use Rattle.htmd_html5.specs.SharedRules.{with_mode}
 use Rattle.htmd_html5.specs.BodyStarts.{start_in_body}
 use Rattle.htmd_html5.specs.BodyEnds.{end_in_body}
@@ -26,10 +26,10 @@ abbrev pub end_caption : StateValue → StateValue
 end_caption s = if has_caption s then close_caption s else s
 
 -- what can't stand in a caption ends it first
-abbrev pub leave_caption : StateValue → Answer
-leave_caption s = answer (end_caption s) (has_caption s)
+abbrev pub leave_caption : StateValue → Outcome
+leave_caption s = outcome (end_caption s) (has_caption s)
 
-abbrev pub start_in_caption : NameValue → StartTagValue → StateValue → Answer
+abbrev pub start_in_caption : NameValue → StartTagValue → StateValue → Outcome
 start_in_caption (known tags.Caption) tag s = leave_caption s
 start_in_caption (known tags.Col) tag s = leave_caption s
 start_in_caption (known tags.ColGroup) tag s = leave_caption s
@@ -55,7 +55,7 @@ ends_nothing tags.THead = true
 ends_nothing tags.Tr = true
 ends_nothing tag = false
 
-abbrev pub end_in_caption : NameValue → StateValue → Answer
+abbrev pub end_in_caption : NameValue → StateValue → Outcome
 end_in_caption (known tags.Caption) s = done (end_caption s)
 end_in_caption (known tags.Table) s = leave_caption s
 end_in_caption (known tags.Body) s = done s
@@ -70,7 +70,7 @@ end_in_caption (known tags.THead) s = done s
 end_in_caption (known tags.Tr) s = done s
 end_in_caption name s = end_in_body name s
 
-abbrev pub in_caption : TokenValue → StateValue → Answer
+abbrev pub in_caption : TokenValue → StateValue → Outcome
 in_caption (start_tag tag) s = start_in_caption tag.name tag s
 in_caption (end_tag name) s = end_in_caption name s
 in_caption token s = in_body token s

@@ -8,7 +8,7 @@ use Rattle.htmd_html5_state.specs.Insertion.{insert_text, insert_comment}
 use Rattle.htmd_html5_state.specs.declared.modes.InsertionMode.TheVariants.{InTable}
 use Rattle.htmd_html5_state.specs.declared.sets.NameSet.TheVariants.{Only}
 use Rattle.htmd_html5.specs.declared.tokens.RunKind.TheVariants.{White}
-use Rattle.htmd_html5.specs.Answers.{Answer, answer, done}
+use Rattle.htmd_html5.specs.Outcomes.{Outcome, outcome, done}
 use Rattle.htmd_html5.specs.SharedRules.{with_mode, insert_void_tag, add_to_root, end_template, insert_head_element}
 use Rattle.htmd_html5.specs.InBody.{end_of_file_in_body}
 use Rattle.htmd_html5_state.specs.declared.names.TagName.TheVariants as tags
@@ -23,22 +23,22 @@ abbrev pub end_columns : StateValue → StateValue
 end_columns s = if has_columns s then close_columns s else s
 
 -- what can't stand in a column group ends it first
-abbrev pub leave_columns : StateValue → Answer
-leave_columns s = answer (end_columns s) (has_columns s)
+abbrev pub leave_columns : StateValue → Outcome
+leave_columns s = outcome (end_columns s) (has_columns s)
 
-abbrev pub start_in_columns : NameValue → StartTagValue → StateValue → Answer
+abbrev pub start_in_columns : NameValue → StartTagValue → StateValue → Outcome
 start_in_columns (known tags.Html) tag s = done (add_to_root tag s)
 start_in_columns (known tags.Col) tag s = done (insert_void_tag tag s)
 start_in_columns (known tags.Template) tag s = done (insert_head_element tag.name tag s)
 start_in_columns _ tag s = leave_columns s
 
-abbrev pub end_in_columns : NameValue → StateValue → Answer
+abbrev pub end_in_columns : NameValue → StateValue → Outcome
 end_in_columns (known tags.ColGroup) s = done (end_columns s)
 end_in_columns (known tags.Col) s = done s
 end_in_columns (known tags.Template) s = done (end_template s)
 end_in_columns _ s = leave_columns s
 
-abbrev pub in_column_group : TokenValue → StateValue → Answer
+abbrev pub in_column_group : TokenValue → StateValue → Outcome
 in_column_group (run White text) s = done (insert_text text s)
 in_column_group (run kind text) s = leave_columns s
 in_column_group (comment text) s = done (insert_comment text s)

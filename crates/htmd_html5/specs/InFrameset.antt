@@ -10,7 +10,7 @@ use Rattle.htmd_html5_state.specs.declared.modes.InsertionMode.TheVariants.{Afte
 use Rattle.htmd_html5_state.specs.declared.sets.NameSet.TheVariants.{Only}
 use Rattle.htmd_html5.specs.declared.tokens.RunKind.{RunKind}
 use Rattle.htmd_html5.specs.declared.tokens.RunKind.TheVariants.{White}
-use Rattle.htmd_html5.specs.Answers.{Answer, done}
+use Rattle.htmd_html5.specs.Outcomes.{Outcome, done}
 use Rattle.htmd_html5.specs.SharedRules.{with_mode, insert_tag, insert_void_tag, add_to_root, insert_head_element}
 use Rattle.htmd_html5.specs.InBody.{run_in_body}
 use Rattle.htmd_html5_state.specs.declared.names.TagName.TheVariants as tags
@@ -40,7 +40,7 @@ abbrev pub run_in_frameset : RunKind → List ℕ → StateValue → StateValue
 run_in_frameset White text s = insert_text text s
 run_in_frameset _ text s = s
 
-abbrev pub in_frameset : TokenValue → StateValue → Answer
+abbrev pub in_frameset : TokenValue → StateValue → Outcome
 in_frameset (run kind text) s = done (run_in_frameset kind text s)
 in_frameset (comment text) s = done (insert_comment text s)
 in_frameset (doctype quirks) s = done s
@@ -59,7 +59,7 @@ abbrev pub end_after_frameset : NameValue → StateValue → StateValue
 end_after_frameset (known tags.Html) s = with_mode AfterAfterFrameset s
 end_after_frameset _ s = s
 
-abbrev pub after_frameset : TokenValue → StateValue → Answer
+abbrev pub after_frameset : TokenValue → StateValue → Outcome
 after_frameset (run kind text) s = done (run_in_frameset kind text s)
 after_frameset (comment text) s = done (insert_comment text s)
 after_frameset (doctype quirks) s = done s
@@ -72,7 +72,7 @@ abbrev pub run_after_frameset : RunKind → List ℕ → StateValue → StateVal
 run_after_frameset White text s = run_in_body White text s
 run_after_frameset _ text s = s
 
-abbrev pub after_after_frameset : TokenValue → StateValue → Answer
+abbrev pub after_after_frameset : TokenValue → StateValue → Outcome
 after_after_frameset (run kind text) s = done (run_after_frameset kind text s)
 after_after_frameset (comment text) s = done (insert_comment_in 0 text s)
 after_after_frameset (doctype quirks) s = done s

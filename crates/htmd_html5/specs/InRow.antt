@@ -9,7 +9,7 @@ use Rattle.htmd_html5_state.specs.declared.modes.InsertionMode.TheVariants.{InTa
 use Rattle.htmd_html5_state.specs.declared.names.TagName.{TagName}
 use Rattle.htmd_html5_state.specs.declared.sets.NameSet.TheVariants.{Only, TableRowContext}
 use Rattle.htmd_html5_state.specs.declared.sets.Scope.TheVariants.{Table as TableScope}
-use Rattle.htmd_html5.specs.Answers.{Answer, answer, done}
+use Rattle.htmd_html5.specs.Outcomes.{Outcome, outcome, done}
 use Rattle.htmd_html5.specs.SharedRules.{with_mode, insert_tag}
 use Rattle.htmd_html5.specs.InTable.{start_in_table, end_in_table, in_table}
 use Rattle.htmd_html5_state.specs.declared.names.TagName.TheVariants as tags
@@ -31,13 +31,13 @@ abbrev pub end_row : StateValue → StateValue
 end_row s = if has_row s then close_row s else s
 
 -- what can't stand in a row ends it first
-abbrev pub leave_row : StateValue → Answer
-leave_row s = answer (end_row s) (has_row s)
+abbrev pub leave_row : StateValue → Outcome
+leave_row s = outcome (end_row s) (has_row s)
 
-abbrev pub leave_row_of : TagName → StateValue → Answer
+abbrev pub leave_row_of : TagName → StateValue → Outcome
 leave_row_of tag s = if is_in_scope (Only tag) TableScope s.stack then leave_row s else done s
 
-abbrev pub start_in_row : NameValue → StartTagValue → StateValue → Answer
+abbrev pub start_in_row : NameValue → StartTagValue → StateValue → Outcome
 start_in_row (known tags.Td) tag s = done (start_cell tag s)
 start_in_row (known tags.Th) tag s = done (start_cell tag s)
 start_in_row (known tags.Caption) tag s = leave_row s
@@ -60,7 +60,7 @@ ends_nothing tags.Td = true
 ends_nothing tags.Th = true
 ends_nothing tag = false
 
-abbrev pub end_in_row : NameValue → StateValue → Answer
+abbrev pub end_in_row : NameValue → StateValue → Outcome
 end_in_row (known tags.Tr) s = done (end_row s)
 end_in_row (known tags.Table) s = leave_row s
 end_in_row (known tags.TBody) s = leave_row_of tags.TBody s
@@ -75,7 +75,7 @@ end_in_row (known tags.Td) s = done s
 end_in_row (known tags.Th) s = done s
 end_in_row name s = done (end_in_table name s)
 
-abbrev pub in_row : TokenValue → StateValue → Answer
+abbrev pub in_row : TokenValue → StateValue → Outcome
 in_row (start_tag tag) s = start_in_row tag.name tag s
 in_row (end_tag name) s = end_in_row name s
 in_row token s = in_table token s

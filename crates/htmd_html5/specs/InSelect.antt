@@ -12,7 +12,7 @@ use Rattle.htmd_html5_state.specs.declared.sets.NameSet.TheVariants.{Only}
 use Rattle.htmd_html5_state.specs.declared.sets.Scope.TheVariants.{Table as TableScope, Select as SelectScope}
 use Rattle.htmd_html5.specs.declared.tokens.RunKind.{RunKind}
 use Rattle.htmd_html5.specs.declared.tokens.RunKind.TheVariants.{Nulls}
-use Rattle.htmd_html5.specs.Answers.{Answer, answer, done, again}
+use Rattle.htmd_html5.specs.Outcomes.{Outcome, outcome, done, again}
 use Rattle.htmd_html5.specs.SharedRules.{insert_tag, insert_void_tag, add_to_root, end_template, insert_head_element}
 use Rattle.htmd_html5.specs.BodyStarts.{close_option}
 use Rattle.htmd_html5.specs.InBody.{end_of_file_in_body}
@@ -48,10 +48,10 @@ abbrev pub end_select : StateValue → StateValue
 end_select s = if has_select s then close_select s else s
 
 -- what can't stand in a `select` ends it first
-abbrev pub leave_select : StateValue → Answer
-leave_select s = answer (end_select s) (has_select s)
+abbrev pub leave_select : StateValue → Outcome
+leave_select s = outcome (end_select s) (has_select s)
 
-abbrev pub start_in_select : NameValue → StartTagValue → StateValue → Answer
+abbrev pub start_in_select : NameValue → StartTagValue → StateValue → Outcome
 start_in_select (known tags.Html) tag s = done (add_to_root tag s)
 start_in_select (known tags.OptionTag) tag s = done (start_option tag s)
 start_in_select (known tags.OptGroup) tag s = done (start_group tag s)
@@ -75,7 +75,7 @@ abbrev pub run_in_select : RunKind → List ℕ → StateValue → StateValue
 run_in_select Nulls text s = s
 run_in_select kind text s = insert_text text s
 
-abbrev pub in_select : TokenValue → StateValue → Answer
+abbrev pub in_select : TokenValue → StateValue → Outcome
 in_select (run kind text) s = done (run_in_select kind text s)
 in_select (comment text) s = done (insert_comment text s)
 in_select (doctype quirks) s = done s
@@ -97,7 +97,7 @@ is_table_part tags.THead = true
 is_table_part tags.Tr = true
 is_table_part tag = false
 
-abbrev pub start_in_select_in_table : NameValue → StartTagValue → StateValue → Answer
+abbrev pub start_in_select_in_table : NameValue → StartTagValue → StateValue → Outcome
 start_in_select_in_table (known tags.Caption) tag s = again (close_select s)
 start_in_select_in_table (known tags.Table) tag s = again (close_select s)
 start_in_select_in_table (known tags.TBody) tag s = again (close_select s)
@@ -108,10 +108,10 @@ start_in_select_in_table (known tags.THead) tag s = again (close_select s)
 start_in_select_in_table (known tags.Tr) tag s = again (close_select s)
 start_in_select_in_table name tag s = start_in_select name tag s
 
-abbrev pub leave_select_in : TagName → StateValue → Answer
+abbrev pub leave_select_in : TagName → StateValue → Outcome
 leave_select_in tag s = if is_in_scope (Only tag) TableScope s.stack then again (close_select s) else done s
 
-abbrev pub end_in_select_in_table : NameValue → StateValue → Answer
+abbrev pub end_in_select_in_table : NameValue → StateValue → Outcome
 end_in_select_in_table (known tags.Caption) s = leave_select_in tags.Caption s
 end_in_select_in_table (known tags.Table) s = leave_select_in tags.Table s
 end_in_select_in_table (known tags.TBody) s = leave_select_in tags.TBody s
@@ -122,7 +122,7 @@ end_in_select_in_table (known tags.THead) s = leave_select_in tags.THead s
 end_in_select_in_table (known tags.Tr) s = leave_select_in tags.Tr s
 end_in_select_in_table name s = done (end_in_select name s)
 
-abbrev pub in_select_in_table : TokenValue → StateValue → Answer
+abbrev pub in_select_in_table : TokenValue → StateValue → Outcome
 in_select_in_table (start_tag tag) s = start_in_select_in_table tag.name tag s
 in_select_in_table (end_tag name) s = end_in_select_in_table name s
 in_select_in_table token s = in_select token s

@@ -18,7 +18,7 @@ use Rattle.htmd_html5_state.specs.declared.sets.Scope.TheVariants.{Table as Tabl
 use Rattle.htmd_html5.specs.declared.tokens.RunKind.{RunKind}
 use Rattle.htmd_html5.specs.declared.tokens.RunKind.TheVariants.{Nulls}
 use Rattle.htmd_html5.specs.Runs.{is_null, first_kind, first_run, after_first_run}
-use Rattle.htmd_html5.specs.Answers.{Answer, answer, done, again}
+use Rattle.htmd_html5.specs.Outcomes.{Outcome, outcome, done, again}
 use Rattle.htmd_html5.specs.SharedRules.{with_mode, insert_tag, insert_void_tag, end_template, insert_head_element}
 use Rattle.htmd_html5.specs.BodyStarts.{is_in_template, with_form, is_hidden, start_in_body}
 use Rattle.htmd_html5.specs.BodyEnds.{end_in_body}
@@ -86,8 +86,8 @@ abbrev pub end_table : StateValue → StateValue
 end_table s = if has_table s then close_table s else s
 
 -- a table in a table ends that first
-abbrev pub start_another_table : StateValue → Answer
-start_another_table s = answer (end_table s) (has_table s)
+abbrev pub start_another_table : StateValue → Outcome
+start_another_table s = outcome (end_table s) (has_table s)
 
 -- ---- what else comes there
 
@@ -119,7 +119,7 @@ start_part (known tags.Input) tag s = start_table_input tag s
 start_part (known tags.Form) tag s = start_table_form tag s
 start_part _ tag s = fostered (start_in_body tag) s
 
-abbrev pub start_in_table : NameValue → StartTagValue → StateValue → Answer
+abbrev pub start_in_table : NameValue → StartTagValue → StateValue → Outcome
 start_in_table (known tags.Col) tag s = again (imply_columns s)
 start_in_table (known tags.Td) tag s = again (imply_section s)
 start_in_table (known tags.Th) tag s = again (imply_section s)
@@ -159,7 +159,7 @@ end_in_table (known tags.Template) s = end_template s
 end_in_table name s = foster_end name s
 
 -- text in the table itself doesn't come here
-abbrev pub in_table : TokenValue → StateValue → Answer
+abbrev pub in_table : TokenValue → StateValue → Outcome
 in_table (run kind text) s = done (fostered (run_in_body kind text) s)
 in_table (comment text) s = done (insert_comment text s)
 in_table (doctype quirks) s = done s

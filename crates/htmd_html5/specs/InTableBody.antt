@@ -10,7 +10,7 @@ use Rattle.htmd_html5_state.specs.declared.modes.InsertionMode.TheVariants.{InTa
 use Rattle.htmd_html5_state.specs.declared.sets.NameSet.TheVariants.{Only, TableSections, TableBodyContext}
 use Rattle.htmd_html5_state.specs.declared.sets.NameSet.{NameSet}
 use Rattle.htmd_html5_state.specs.declared.sets.Scope.TheVariants.{Table as TableScope}
-use Rattle.htmd_html5.specs.Answers.{Answer, answer, done, again}
+use Rattle.htmd_html5.specs.Outcomes.{Outcome, outcome, done, again}
 use Rattle.htmd_html5.specs.SharedRules.{with_mode}
 use Rattle.htmd_html5.specs.InTable.{start_in_table, end_in_table, in_table}
 use Rattle.htmd_html5_state.specs.declared.names.TagName.{TagName}
@@ -34,10 +34,10 @@ abbrev pub end_section : NameSet → StateValue → StateValue
 end_section wanted s = if is_in_scope wanted TableScope s.stack then close_section s else s
 
 -- what can't stand in a section ends it first
-abbrev pub leave_section : StateValue → Answer
-leave_section s = answer (end_section TableSections s) (is_in_scope TableSections TableScope s.stack)
+abbrev pub leave_section : StateValue → Outcome
+leave_section s = outcome (end_section TableSections s) (is_in_scope TableSections TableScope s.stack)
 
-abbrev pub start_in_section : NameValue → StartTagValue → StateValue → Answer
+abbrev pub start_in_section : NameValue → StartTagValue → StateValue → Outcome
 start_in_section (known tags.Tr) tag s = done (start_row tag.name tag.attributes s)
 start_in_section (known tags.Td) tag s = again (imply_row s)
 start_in_section (known tags.Th) tag s = again (imply_row s)
@@ -61,7 +61,7 @@ ends_nothing tags.Th = true
 ends_nothing tags.Tr = true
 ends_nothing tag = false
 
-abbrev pub end_in_section : NameValue → StateValue → Answer
+abbrev pub end_in_section : NameValue → StateValue → Outcome
 end_in_section (known tags.TBody) s = done (end_section (Only tags.TBody) s)
 end_in_section (known tags.TFoot) s = done (end_section (Only tags.TFoot) s)
 end_in_section (known tags.THead) s = done (end_section (Only tags.THead) s)
@@ -76,7 +76,7 @@ end_in_section (known tags.Th) s = done s
 end_in_section (known tags.Tr) s = done s
 end_in_section name s = done (end_in_table name s)
 
-abbrev pub in_table_body : TokenValue → StateValue → Answer
+abbrev pub in_table_body : TokenValue → StateValue → Outcome
 in_table_body (start_tag tag) s = start_in_section tag.name tag s
 in_table_body (end_tag name) s = end_in_section name s
 in_table_body token s = in_table token s

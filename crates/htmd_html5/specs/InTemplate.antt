@@ -6,7 +6,7 @@ use Rattle.htmd_html5_state.specs.Resetting.{push_template_mode, pop_template_mo
 use Rattle.htmd_html5_state.specs.declared.modes.InsertionMode.TheVariants.{InBody, InTable, InColumnGroup}
 use Rattle.htmd_html5_state.specs.declared.modes.InsertionMode.TheVariants.{InTableBody, InRow}
 use Rattle.htmd_html5_state.specs.declared.modes.InsertionMode.{InsertionMode}
-use Rattle.htmd_html5.specs.Answers.{Answer, done, again}
+use Rattle.htmd_html5.specs.Outcomes.{Outcome, done, again}
 use Rattle.htmd_html5.specs.SharedRules.{with_mode, end_template, insert_head_element}
 use Rattle.htmd_html5.specs.InBody.{end_of_file_in_template, in_body}
 use Rattle.htmd_html5_state.specs.declared.names.TagName.TheVariants as tags
@@ -27,7 +27,7 @@ mode_of_content (known tags.Td) = InRow
 mode_of_content (known tags.Th) = InRow
 mode_of_content _ = InBody
 
-abbrev pub start_in_template : NameValue → StartTagValue → StateValue → Answer
+abbrev pub start_in_template : NameValue → StartTagValue → StateValue → Outcome
 start_in_template (known tags.Base) tag s = done (insert_head_element tag.name tag s)
 start_in_template (known tags.BaseFont) tag s = done (insert_head_element tag.name tag s)
 start_in_template (known tags.BgSound) tag s = done (insert_head_element tag.name tag s)
@@ -44,7 +44,7 @@ abbrev pub end_in_template : NameValue → StateValue → StateValue
 end_in_template (known tags.Template) s = end_template s
 end_in_template _ s = s
 
-abbrev pub in_template : TokenValue → StateValue → Answer
+abbrev pub in_template : TokenValue → StateValue → Outcome
 in_template (start_tag tag) s = start_in_template tag.name tag s
 in_template (end_tag name) s = done (end_in_template name s)
 in_template end_of_file s = end_of_file_in_template s

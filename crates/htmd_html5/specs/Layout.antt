@@ -3,8 +3,8 @@
 use Rattle.std.specs.Prelude.{ℕ, Bool, ◌==◌, if◌then◌else◌, List, [], ◌∷◌, ◌++◌, length, Option, Some, None, suc}
 use Rattle.std.specs.Prelude.{zero, ◌+◌, is_some, map}
 use Rattle.htmd_html5_state.specs.Names.{text_of_element_name}
-use Rattle.htmd_html5_state.specs.Documents.{KindValue, NodeValue, kind_at, children_at, text_of, with_kind, document}
-use Rattle.htmd_html5_state.specs.Documents.{doctype, text, comment, element}
+use Rattle.htmd_html5_state.specs.Nodes.{KindValue, NodeValue, kind_at, children_at, text_of, with_kind, document}
+use Rattle.htmd_html5_state.specs.Nodes.{doctype, text, comment, element}
 use Rattle.htmd_nodes.specs.Items.{Data, doctype_node, text_node, comment_node, element_node, Item, document_item}
 use Rattle.htmd_nodes.specs.Items.{new_item, depth_at}
 

@@ -3,7 +3,7 @@
 -- document; the tree that it is laid out as. `AtOnce` only says where the program puts a text at once.
 pub mod Tokens
 pub mod Runs
-pub mod Answers
+pub mod Outcomes
 pub mod SharedRules
 pub mod Initial
 pub mod BeforeHtml
@@ -32,4 +32,4 @@ pub mod Feeding
 pub mod Layout
 pub mod LayoutViews
 pub mod AtOnce
-pub mod Documents
+pub mod Html5Documents

@@ -13,7 +13,7 @@ use Rattle.htmd_html5_state.specs.declared.modes.InsertionMode.TheVariants.{InFr
 use Rattle.htmd_html5_state.specs.declared.modes.InsertionMode.TheVariants.{AfterAfterFrameset}
 use Rattle.htmd_html5_state.specs.declared.modes.InsertionMode.{InsertionMode}
 use Rattle.htmd_html5.specs.declared.tokens.RunKind.TheVariants.{White}
-use Rattle.htmd_html5.specs.Answers.{Answer, again}
+use Rattle.htmd_html5.specs.Outcomes.{Outcome, again}
 use Rattle.htmd_html5.specs.Initial.{leave_initial, initial}
 use Rattle.htmd_html5.specs.BeforeHtml.{imply_root, before_html}
 use Rattle.htmd_html5.specs.BeforeHead.{imply_head, before_head}
@@ -62,7 +62,7 @@ put_white_space AfterAfterBody text s = run_in_body White text s
 put_white_space _ text s = insert_text text s
 
 -- what ends a mode and is processed again
-abbrev pub leave_mode : InsertionMode → StateValue → Answer
+abbrev pub leave_mode : InsertionMode → StateValue → Outcome
 leave_mode Initial s = leave_initial s
 leave_mode BeforeHtml s = imply_root s
 leave_mode BeforeHead s = imply_head s
@@ -74,7 +74,7 @@ leave_mode _ s = back_to_body s
 
 -- ---- the modes
 
-abbrev pub in_mode : InsertionMode → TokenValue → StateValue → Answer
+abbrev pub in_mode : InsertionMode → TokenValue → StateValue → Outcome
 in_mode Initial = initial
 in_mode BeforeHtml = before_html
 in_mode BeforeHead = before_head
@@ -98,5 +98,5 @@ in_mode AfterAfterBody = after_after_body
 in_mode AfterAfterFrameset = after_after_frameset
 
 -- by those of the mode that it is in
-abbrev pub by_mode_rules : TokenValue → StateValue → Answer
+abbrev pub by_mode_rules : TokenValue → StateValue → Outcome
 by_mode_rules token s = in_mode s.mode token s

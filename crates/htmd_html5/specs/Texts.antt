@@ -8,7 +8,7 @@ use Rattle.htmd_html5_state.specs.declared.modes.InsertionMode.TheVariants.{InTa
 use Rattle.htmd_html5_state.specs.declared.modes.InsertionMode.{InsertionMode}
 use Rattle.htmd_html5_state.specs.declared.sets.NameSet.TheVariants.{Fostering}
 use Rattle.htmd_html5.specs.Runs.{first_kind, first_run, after_first_run}
-use Rattle.htmd_html5.specs.Answers.{Answer}
+use Rattle.htmd_html5.specs.Outcomes.{Outcome}
 use Rattle.htmd_html5.specs.InTable.{table_text}
 use Rattle.htmd_html5.specs.Processing.{by_rules, turns}
 
@@ -29,7 +29,7 @@ takes_all s = is_table_mode s.mode && current_is Fostering s.stack
 abbrev pub taken : StateValue → List ℕ → Taken
 taken s rest = record { state = s; rest = rest }
 
-abbrev pub after_run : (StateValue → Taken) → List ℕ → Answer → Taken
+abbrev pub after_run : (StateValue → Taken) → List ℕ → Outcome → Taken
 after_run go rest a = if a.again then go a.state else taken a.state rest
 
 abbrev pub first_token : List ℕ → TokenValue

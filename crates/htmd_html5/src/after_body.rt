@@ -2,7 +2,7 @@
 ghost use Rattle.std.specs.Prelude.{◌≡◌, is_some, string_bytes, IfOk, IfSome, OnOk};
 ghost use Rattle.htmd_html5_state.specs.Names.{name_of};
 ghost use Rattle.htmd_html5.specs.AfterBody as spec;
-ghost use Rattle.htmd_html5.specs.Answers.{answer};
+ghost use Rattle.htmd_html5.specs.Outcomes.{outcome};
 ghost use Rattle.htmd_html5.specs.Tokens.{tag_of};
 
 use crate::shared_rules::add_to_root;
@@ -14,7 +14,7 @@ pub(crate) fn start_after_body(
     state: &mut HtmlState,
     tag: StartTag,
 ) -> Result<Option<StartTag>, AllocError>
-    ensures answer { IfOk result (λ again. answer state.new (is_some again)
+    ensures outcome { IfOk result (λ again. outcome state.new (is_some again)
         ≡ spec.start_after_body (name_of tag.name) (tag_of tag) state.old) }
     ensures same { IfOk result (λ again. IfSome again (λ t. tag_of t ≡ tag_of tag)) }
 {
@@ -31,7 +31,7 @@ pub(crate) fn start_after_body(
 }
 
 pub(crate) fn end_after_body(state: &mut HtmlState, name: &HtmlName) -> bool
-    ensures { answer state.new result ≡ spec.end_after_body (name_of name.now) state.old }
+    ensures { outcome state.new result ≡ spec.end_after_body (name_of name.now) state.old }
 {
     match name {
         HtmlName::Known(TagName::Html) => {

@@ -2,7 +2,7 @@
 ghost use Rattle.std.specs.Prelude.{◌≡◌, true, is_some, IfOk, IfSome, OnOk};
 ghost use Rattle.htmd_html5_state.specs.Names.{name_of};
 ghost use Rattle.htmd_html5.specs.AfterHead as spec;
-ghost use Rattle.htmd_html5.specs.Answers.{answer};
+ghost use Rattle.htmd_html5.specs.Outcomes.{outcome};
 ghost use Rattle.htmd_html5.specs.SharedRules.{no_frameset};
 ghost use Rattle.htmd_html5.specs.Tokens.{tag_of};
 ghost use Rattle.htmd_grammar.specs.Attributes.{pairs_of};
@@ -28,7 +28,7 @@ fn put_body(
 
 /// Makes a `body` that no tag made.
 pub(crate) fn imply_body(state: &mut HtmlState) -> Result<(), AllocError>
-    ensures { OnOk result (answer state.new true ≡ spec.imply_body state.old) }
+    ensures { OnOk result (outcome state.new true ≡ spec.imply_body state.old) }
 {
     let attributes = Vec::new(state.alloc());
     put_body(state, HtmlName::Known(TagName::Body), attributes)
@@ -68,7 +68,7 @@ pub(crate) fn start_after_head(
     state: &mut HtmlState,
     tag: StartTag,
 ) -> Result<Option<StartTag>, AllocError>
-    ensures answer { IfOk result (λ again. answer state.new (is_some again)
+    ensures outcome { IfOk result (λ again. outcome state.new (is_some again)
         ≡ spec.start_after_head (name_of tag.name) (tag_of tag) state.old) }
     ensures same { IfOk result (λ again. IfSome again (λ t. tag_of t ≡ tag_of tag)) }
 {
@@ -98,7 +98,7 @@ pub(crate) fn start_after_head(
 }
 
 pub(crate) fn end_after_head(state: &mut HtmlState, name: &HtmlName) -> Result<bool, AllocError>
-    ensures { IfOk result (λ again. answer state.new again
+    ensures { IfOk result (λ again. outcome state.new again
         ≡ spec.end_after_head (name_of name.now) state.old) }
 {
     match name {

@@ -1,7 +1,7 @@
 //! The mode "before html".
 ghost use Rattle.std.specs.Prelude.{◌≡◌, true, is_some, IfOk, IfSome, OnOk};
 ghost use Rattle.htmd_html5_state.specs.Names.{name_of};
-ghost use Rattle.htmd_html5.specs.Answers.{answer};
+ghost use Rattle.htmd_html5.specs.Outcomes.{outcome};
 ghost use Rattle.htmd_html5.specs.BeforeHtml as spec;
 ghost use Rattle.htmd_html5.specs.Tokens.{tag_of};
 ghost use Rattle.htmd_grammar.specs.Attributes.{pairs_of};
@@ -26,7 +26,7 @@ fn put_root(
 
 /// Makes an `html` that no tag made.
 pub(crate) fn imply_root(state: &mut HtmlState) -> Result<(), AllocError>
-    ensures { OnOk result (answer state.new true ≡ spec.imply_root state.old) }
+    ensures { OnOk result (outcome state.new true ≡ spec.imply_root state.old) }
 {
     let attributes = Vec::new(state.alloc());
     put_root(state, HtmlName::Known(TagName::Html), attributes)
@@ -36,7 +36,7 @@ pub(crate) fn start_before_html(
     state: &mut HtmlState,
     tag: StartTag,
 ) -> Result<Option<StartTag>, AllocError>
-    ensures answer { IfOk result (λ again. answer state.new (is_some again)
+    ensures outcome { IfOk result (λ again. outcome state.new (is_some again)
         ≡ spec.start_before_html (name_of tag.name) (tag_of tag) state.old) }
     ensures same { IfOk result (λ again. IfSome again (λ t. tag_of t ≡ tag_of tag)) }
 {
@@ -53,7 +53,7 @@ pub(crate) fn start_before_html(
 }
 
 pub(crate) fn end_before_html(state: &mut HtmlState, name: &HtmlName) -> Result<bool, AllocError>
-    ensures { IfOk result (λ again. answer state.new again
+    ensures { IfOk result (λ again. outcome state.new again
         ≡ spec.end_before_html (name_of name.now) state.old) }
 {
     match name {

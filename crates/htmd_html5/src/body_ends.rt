@@ -2,7 +2,7 @@
 ghost use Rattle.std.specs.Prelude.{◌≡◌, IfOk, OnOk};
 ghost use Rattle.htmd_html5_state.specs.Names.{name_of};
 ghost use Rattle.htmd_html5_state.specs.State.{on_stack};
-ghost use Rattle.htmd_html5.specs.Answers.{answer};
+ghost use Rattle.htmd_html5.specs.Outcomes.{outcome};
 ghost use Rattle.htmd_html5.specs.BodyEnds as spec;
 
 use crate::shared_rules::end_template;
@@ -168,7 +168,7 @@ fn put_line_break(state: &mut HtmlState) -> Result<(), AllocError>
 // ---- the rules
 
 fn end_by(state: &mut HtmlState, rule: EndRule, tag: TagName) -> Result<bool, AllocError>
-    ensures { IfOk result (λ again. answer state.new again ≡ spec.end_by rule tag state.old) }
+    ensures { IfOk result (λ again. outcome state.new again ≡ spec.end_by rule tag state.old) }
 {
     match rule {
         EndRule::Body => {
@@ -195,7 +195,7 @@ fn end_by(state: &mut HtmlState, rule: EndRule, tag: TagName) -> Result<bool, Al
 
 /// An end tag in the body.
 pub(crate) fn end_in_body(state: &mut HtmlState, name: &HtmlName) -> Result<bool, AllocError>
-    ensures { IfOk result (λ again. answer state.new again
+    ensures { IfOk result (λ again. outcome state.new again
         ≡ spec.end_in_body (name_of name.now) state.old) }
 {
     match name {

@@ -12,7 +12,7 @@ use crate::processing::{
 use crate::texts::put_text;
 use crate::tokens::StartTag;
 use htmd_html5_state::{HtmlName, HtmlState};
-use htmd_html5_tokens::{Content, RawElement, Token};
+use htmd_html5_tokens::{ContentModel, RawElement, Token};
 use std::alloc::{AllocError, Global};
 
 /// Whether an element of only text is open, up to its end tag: the mode "text".
@@ -20,8 +20,8 @@ fn is_text_mode(state: &HtmlState) -> bool
     ensures { result ≡ spec.is_text_mode state.now.content }
 {
     match state.content() {
-        Content::Normal | Content::Raw(RawElement::Plaintext) => false,
-        Content::Raw(_) => true,
+        ContentModel::Normal | ContentModel::Raw(RawElement::Plaintext) => false,
+        ContentModel::Raw(_) => true,
     }
 }
 
@@ -69,7 +69,7 @@ fn leave_text_mode(state: &mut HtmlState) -> bool
     let found = is_text_mode(state);
     if found {
         state.pop();
-        state.set_content(Content::Normal);
+        state.set_content(ContentModel::Normal);
     }
     found
 }

@@ -2,7 +2,7 @@
 ghost use Rattle.std.specs.Prelude.{◌≡◌, ℕ, List, is_some, not, string_bytes, IfOk, IfSome, OnOk};
 ghost use Rattle.htmd_html5_state.specs.Foreign.{current_is_html};
 ghost use Rattle.htmd_html5_state.specs.Names.{name_of};
-ghost use Rattle.htmd_html5.specs.Answers.{answer};
+ghost use Rattle.htmd_html5.specs.Outcomes.{outcome};
 ghost use Rattle.htmd_html5.specs.ForeignContent as spec;
 ghost use Rattle.htmd_html5.specs.Tokens.{tag_of, start_tag, run};
 ghost use Rattle.htmd_html5.specs.declared.tokens.RunKind.{RunKind};
@@ -168,7 +168,7 @@ pub(crate) fn start_in_foreign(
     state: &mut HtmlState,
     tag: StartTag,
 ) -> Result<Option<StartTag>, AllocError>
-    ensures answer { IfOk result (λ again. answer state.new (is_some again)
+    ensures outcome { IfOk result (λ again. outcome state.new (is_some again)
         ≡ spec.start_in_foreign (tag_of tag) state.old) }
     ensures same { IfOk result (λ again. IfSome again (λ t. tag_of t ≡ tag_of tag)) }
 {
@@ -182,7 +182,7 @@ pub(crate) fn start_in_foreign(
 
 /// An end tag in foreign content. Gives whether it is to be processed again.
 pub(crate) fn end_in_foreign(state: &mut HtmlState, name: &HtmlName) -> Result<bool, AllocError>
-    ensures { IfOk result (λ again. answer state.new again
+    ensures { IfOk result (λ again. outcome state.new again
         ≡ spec.end_in_foreign (name_of name.now) state.old) }
 {
     if end_breaks_out(name) {

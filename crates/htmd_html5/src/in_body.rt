@@ -1,6 +1,6 @@
 //! The mode "in body".
 ghost use Rattle.std.specs.Prelude.{◌≡◌, OnOk};
-ghost use Rattle.htmd_html5.specs.Answers.{answer};
+ghost use Rattle.htmd_html5.specs.Outcomes.{outcome};
 ghost use Rattle.htmd_html5.specs.InBody as spec;
 
 use crate::shared_rules::leave_template;
@@ -10,7 +10,7 @@ use std::alloc::AllocError;
 
 /// The end of the file ends the templates that are open.
 pub(crate) fn end_of_file_in_template(state: &mut HtmlState) -> bool
-    ensures { answer state.new result ≡ spec.end_of_file_in_template state.old }
+    ensures { outcome state.new result ≡ spec.end_of_file_in_template state.old }
 {
     let open = state.is_open(NameSet::Only(TagName::Template));
     if open {
@@ -20,7 +20,7 @@ pub(crate) fn end_of_file_in_template(state: &mut HtmlState) -> bool
 }
 
 pub(crate) fn end_of_file_in_body(state: &mut HtmlState) -> bool
-    ensures { answer state.new result ≡ spec.end_of_file_in_body state.old }
+    ensures { outcome state.new result ≡ spec.end_of_file_in_body state.old }
 {
     state.has_template_modes() && end_of_file_in_template(state)
 }

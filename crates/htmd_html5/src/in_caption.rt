@@ -1,7 +1,7 @@
 //! The mode "in caption".
 ghost use Rattle.std.specs.Prelude.{◌≡◌, is_some, IfOk, IfSome};
 ghost use Rattle.htmd_html5_state.specs.Names.{name_of};
-ghost use Rattle.htmd_html5.specs.Answers.{answer};
+ghost use Rattle.htmd_html5.specs.Outcomes.{outcome};
 ghost use Rattle.htmd_html5.specs.InCaption as spec;
 ghost use Rattle.htmd_html5.specs.Tokens.{tag_of};
 
@@ -30,7 +30,7 @@ pub(crate) fn start_in_caption(
     state: &mut HtmlState,
     tag: StartTag,
 ) -> Result<Option<StartTag>, AllocError>
-    ensures answer { IfOk result (λ again. answer state.new (is_some again)
+    ensures outcome { IfOk result (λ again. outcome state.new (is_some again)
         ≡ spec.start_in_caption (name_of tag.name) (tag_of tag) state.old) }
     ensures same { IfOk result (λ again. IfSome again (λ t. tag_of t ≡ tag_of tag)) }
 {
@@ -69,7 +69,7 @@ fn ends_nothing(tag: TagName) -> bool
 
 #[tactic(auto, using(crate::proofs::TableTagLemmas::caption_nothing))]
 pub(crate) fn end_in_caption(state: &mut HtmlState, name: &HtmlName) -> Result<bool, AllocError>
-    ensures { IfOk result (λ again. answer state.new again
+    ensures { IfOk result (λ again. outcome state.new again
         ≡ spec.end_in_caption (name_of name.now) state.old) }
 {
     match name {

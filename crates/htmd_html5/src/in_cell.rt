@@ -1,7 +1,7 @@
 //! The mode "in cell".
 ghost use Rattle.std.specs.Prelude.{◌≡◌, is_some, IfOk, IfSome};
 ghost use Rattle.htmd_html5_state.specs.Names.{name_of};
-ghost use Rattle.htmd_html5.specs.Answers.{answer};
+ghost use Rattle.htmd_html5.specs.Outcomes.{outcome};
 ghost use Rattle.htmd_html5.specs.InCell as spec;
 ghost use Rattle.htmd_html5.specs.Tokens.{tag_of};
 
@@ -22,7 +22,7 @@ fn end_cell(state: &mut HtmlState, tag: TagName)
 
 /// Closes the cell if one of these is in scope. Gives whether one is.
 fn leave_cell(state: &mut HtmlState, wanted: NameSet) -> bool
-    ensures { answer state.new result ≡ spec.leave_cell wanted state.old }
+    ensures { outcome state.new result ≡ spec.leave_cell wanted state.old }
 {
     let found = state.is_in_scope(wanted, Scope::Table);
     if found {
@@ -56,7 +56,7 @@ pub(crate) fn start_in_cell(
     state: &mut HtmlState,
     tag: StartTag,
 ) -> Result<Option<StartTag>, AllocError>
-    ensures answer { IfOk result (λ again. answer state.new (is_some again)
+    ensures outcome { IfOk result (λ again. outcome state.new (is_some again)
         ≡ spec.start_in_cell (name_of tag.name) (tag_of tag) state.old) }
     ensures same { IfOk result (λ again. IfSome again (λ t. tag_of t ≡ tag_of tag)) }
 {
@@ -75,7 +75,7 @@ pub(crate) fn start_in_cell(
 }
 
 pub(crate) fn end_in_cell(state: &mut HtmlState, name: &HtmlName) -> Result<bool, AllocError>
-    ensures { IfOk result (λ again. answer state.new again
+    ensures { IfOk result (λ again. outcome state.new again
         ≡ spec.end_in_cell (name_of name.now) state.old) }
 {
     match name {

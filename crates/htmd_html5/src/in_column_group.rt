@@ -1,7 +1,7 @@
 //! The mode "in column group".
 ghost use Rattle.std.specs.Prelude.{◌≡◌, is_some, IfOk, IfSome};
 ghost use Rattle.htmd_html5_state.specs.Names.{name_of};
-ghost use Rattle.htmd_html5.specs.Answers.{answer};
+ghost use Rattle.htmd_html5.specs.Outcomes.{outcome};
 ghost use Rattle.htmd_html5.specs.InColumnGroup as spec;
 ghost use Rattle.htmd_html5.specs.Tokens.{tag_of};
 
@@ -27,7 +27,7 @@ pub(crate) fn start_in_columns(
     state: &mut HtmlState,
     tag: StartTag,
 ) -> Result<Option<StartTag>, AllocError>
-    ensures answer { IfOk result (λ again. answer state.new (is_some again)
+    ensures outcome { IfOk result (λ again. outcome state.new (is_some again)
         ≡ spec.start_in_columns (name_of tag.name) (tag_of tag) state.old) }
     ensures same { IfOk result (λ again. IfSome again (λ t. tag_of t ≡ tag_of tag)) }
 {
@@ -45,7 +45,7 @@ pub(crate) fn start_in_columns(
 }
 
 pub(crate) fn end_in_columns(state: &mut HtmlState, name: &HtmlName) -> bool
-    ensures { answer state.new result ≡ spec.end_in_columns (name_of name.now) state.old }
+    ensures { outcome state.new result ≡ spec.end_in_columns (name_of name.now) state.old }
 {
     match name {
         HtmlName::Known(TagName::ColGroup) => {

@@ -1,7 +1,7 @@
 //! The mode "in row".
 ghost use Rattle.std.specs.Prelude.{◌≡◌, is_some, IfOk, IfSome, OnOk};
 ghost use Rattle.htmd_html5_state.specs.Names.{name_of};
-ghost use Rattle.htmd_html5.specs.Answers.{answer};
+ghost use Rattle.htmd_html5.specs.Outcomes.{outcome};
 ghost use Rattle.htmd_html5.specs.InRow as spec;
 ghost use Rattle.htmd_html5.specs.Tokens.{tag_of};
 
@@ -36,7 +36,7 @@ fn end_row(state: &mut HtmlState) -> bool
 
 /// The same, if a section is in scope.
 fn end_row_of(state: &mut HtmlState, section: TagName) -> bool
-    ensures { answer state.new result ≡ spec.leave_row_of section state.old }
+    ensures { outcome state.new result ≡ spec.leave_row_of section state.old }
 {
     state.is_in_scope(NameSet::Only(section), Scope::Table) && end_row(state)
 }
@@ -45,7 +45,7 @@ pub(crate) fn start_in_row(
     state: &mut HtmlState,
     tag: StartTag,
 ) -> Result<Option<StartTag>, AllocError>
-    ensures answer { IfOk result (λ again. answer state.new (is_some again)
+    ensures outcome { IfOk result (λ again. outcome state.new (is_some again)
         ≡ spec.start_in_row (name_of tag.name) (tag_of tag) state.old) }
     ensures same { IfOk result (λ again. IfSome again (λ t. tag_of t ≡ tag_of tag)) }
 {
@@ -90,7 +90,7 @@ fn ends_nothing(tag: TagName) -> bool
 
 #[tactic(auto, using(crate::proofs::TableTagLemmas::row_nothing))]
 pub(crate) fn end_in_row(state: &mut HtmlState, name: &HtmlName) -> Result<bool, AllocError>
-    ensures { IfOk result (λ again. answer state.new again
+    ensures { IfOk result (λ again. outcome state.new again
         ≡ spec.end_in_row (name_of name.now) state.old) }
 {
     match name {

@@ -2,7 +2,7 @@
 ghost use Rattle.std.specs.Prelude.{◌≡◌, is_some, IfOk, IfSome, OnOk};
 ghost use Rattle.htmd_html5_state.specs.Names.{name_of};
 ghost use Rattle.htmd_html5_state.specs.State.{on_stack};
-ghost use Rattle.htmd_html5.specs.Answers.{answer};
+ghost use Rattle.htmd_html5.specs.Outcomes.{outcome};
 ghost use Rattle.htmd_html5.specs.InSelect as spec;
 ghost use Rattle.htmd_html5.specs.Tokens.{tag_of};
 
@@ -79,7 +79,7 @@ pub(crate) fn start_in_select(
     state: &mut HtmlState,
     tag: StartTag,
 ) -> Result<Option<StartTag>, AllocError>
-    ensures answer { IfOk result (λ again. answer state.new (is_some again)
+    ensures outcome { IfOk result (λ again. outcome state.new (is_some again)
         ≡ spec.start_in_select (name_of tag.name) (tag_of tag) state.old) }
     ensures same { IfOk result (λ again. IfSome again (λ t. tag_of t ≡ tag_of tag)) }
 {
@@ -150,7 +150,7 @@ pub(crate) fn start_in_select_in_table(
     state: &mut HtmlState,
     tag: StartTag,
 ) -> Result<Option<StartTag>, AllocError>
-    ensures answer { IfOk result (λ again. answer state.new (is_some again)
+    ensures outcome { IfOk result (λ again. outcome state.new (is_some again)
         ≡ spec.start_in_select_in_table (name_of tag.name) (tag_of tag) state.old) }
     ensures same { IfOk result (λ again. IfSome again (λ t. tag_of t ≡ tag_of tag)) }
 {
@@ -165,7 +165,7 @@ pub(crate) fn start_in_select_in_table(
 
 /// Closes the `select` if an element with this name is in scope. Gives whether one is.
 fn leave_select(state: &mut HtmlState, tag: TagName) -> bool
-    ensures { answer state.new result ≡ spec.leave_select_in tag state.old }
+    ensures { outcome state.new result ≡ spec.leave_select_in tag state.old }
 {
     let found = state.is_in_scope(NameSet::Only(tag), Scope::Table);
     if found {
@@ -176,7 +176,7 @@ fn leave_select(state: &mut HtmlState, tag: TagName) -> bool
 
 #[tactic(auto, using(crate::proofs::InSelectLemmas::part_left, crate::proofs::InSelectLemmas::as_in_select))]
 pub(crate) fn end_in_select_in_table(state: &mut HtmlState, name: &HtmlName) -> bool
-    ensures { answer state.new result ≡ spec.end_in_select_in_table (name_of name.now) state.old }
+    ensures { outcome state.new result ≡ spec.end_in_select_in_table (name_of name.now) state.old }
 {
     match name {
         HtmlName::Known(tag) if is_table_part(*tag) => leave_select(state, *tag),

@@ -3,7 +3,7 @@ ghost use Rattle.std.specs.Prelude.{◌≡◌, ◌++◌, is_some, length, string
 ghost use Rattle.std.specs.List.{list_all};
 ghost use Rattle.htmd_grammar.specs.WhiteSpace.{is_ascii_white_space};
 ghost use Rattle.htmd_html5_state.specs.Names.{name_of};
-ghost use Rattle.htmd_html5.specs.Answers.{answer};
+ghost use Rattle.htmd_html5.specs.Outcomes.{outcome};
 ghost use Rattle.htmd_html5.specs.BodyEnds.{end_in_body};
 ghost use Rattle.htmd_html5.specs.BodyStarts.{start_in_body};
 ghost use Rattle.htmd_html5.specs.InBody.{run_in_body};
@@ -229,7 +229,7 @@ pub(crate) fn start_in_table(
     state: &mut HtmlState,
     tag: StartTag,
 ) -> Result<Option<StartTag>, AllocError>
-    ensures answer { IfOk result (λ again. answer state.new (is_some again)
+    ensures outcome { IfOk result (λ again. outcome state.new (is_some again)
         ≡ spec.start_in_table (name_of tag.name) (tag_of tag) state.old) }
     ensures same { IfOk result (λ again. IfSome again (λ t. tag_of t ≡ tag_of tag)) }
 {

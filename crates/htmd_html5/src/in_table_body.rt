@@ -3,7 +3,7 @@ ghost use Rattle.std.specs.Prelude.{◌≡◌, is_some, IfOk, IfSome, OnOk};
 ghost use Rattle.htmd_html5_state.specs.Names.{name_of};
 ghost use Rattle.htmd_html5_state.specs.OpenElements.{is_in_scope};
 ghost use Rattle.htmd_html5_state.specs.declared.sets.Scope.TheVariants.{Table};
-ghost use Rattle.htmd_html5.specs.Answers.{answer};
+ghost use Rattle.htmd_html5.specs.Outcomes.{outcome};
 ghost use Rattle.htmd_html5.specs.InTableBody as spec;
 ghost use Rattle.htmd_html5.specs.Tokens.{tag_of};
 ghost use Rattle.htmd_grammar.specs.Attributes.{pairs_of};
@@ -53,7 +53,7 @@ pub(crate) fn start_in_section(
     state: &mut HtmlState,
     tag: StartTag,
 ) -> Result<Option<StartTag>, AllocError>
-    ensures answer { IfOk result (λ again. answer state.new (is_some again)
+    ensures outcome { IfOk result (λ again. outcome state.new (is_some again)
         ≡ spec.start_in_section (name_of tag.name) (tag_of tag) state.old) }
     ensures same { IfOk result (λ again. IfSome again (λ t. tag_of t ≡ tag_of tag)) }
 {
@@ -102,7 +102,7 @@ fn ends_nothing(tag: TagName) -> bool
 
 #[tactic(auto, using(crate::proofs::TableTagLemmas::section_nothing))]
 pub(crate) fn end_in_section(state: &mut HtmlState, name: &HtmlName) -> Result<bool, AllocError>
-    ensures { IfOk result (λ again. answer state.new again
+    ensures { IfOk result (λ again. outcome state.new again
         ≡ spec.end_in_section (name_of name.now) state.old) }
 {
     match name {

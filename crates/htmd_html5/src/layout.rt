@@ -1,6 +1,6 @@
 //! The tree of a document: its nodes in document order, to the greatest depth.
 ghost use Rattle.std.specs.Prelude.{◌≡◌, ◌++◌, map, reverse, option_map, string_bytes, IfOk, IsErrOf, OnOk, Ok};
-ghost use Rattle.htmd_html5_state.specs.Documents.{children_at, kind_at};
+ghost use Rattle.htmd_html5_state.specs.Nodes.{children_at, kind_at};
 ghost use Rattle.htmd_html5_state.specs.Views.{kind_of, nodes_of};
 ghost use Rattle.htmd_html5.specs.Layout as spec;
 ghost use Rattle.htmd_html5.specs.LayoutViews.{coming_of, coming_under, layout_of, work_of, AllMayHold, MayHold};

@@ -1,7 +1,7 @@
 //! A token by the rules of the mode.
 ghost use Rattle.std.specs.Prelude.{◌≡◌, is_some, string_bytes, IfOk, IfSome, OnOk};
 ghost use Rattle.htmd_html5_state.specs.Names.{name_of};
-ghost use Rattle.htmd_html5.specs.Answers.{answer, done};
+ghost use Rattle.htmd_html5.specs.Outcomes.{outcome, done};
 ghost use Rattle.htmd_html5.specs.Modes as spec;
 ghost use Rattle.htmd_html5.specs.Tokens.{tag_of, start_tag, end_tag, run, comment, doctype, end_of_file};
 
@@ -52,7 +52,7 @@ pub(crate) fn start_by_mode(
     state: &mut HtmlState,
     tag: StartTag,
 ) -> Result<Option<StartTag>, AllocError>
-    ensures answer { IfOk result (λ again. answer state.new (is_some again)
+    ensures outcome { IfOk result (λ again. outcome state.new (is_some again)
         ≡ spec.by_mode_rules (start_tag (tag_of tag)) state.old) }
     ensures same { IfOk result (λ again. IfSome again (λ t. tag_of t ≡ tag_of tag)) }
 {
@@ -100,7 +100,7 @@ fn end_once(state: &mut HtmlState, mode: InsertionMode, name: &HtmlName) -> Resu
 
 /// An end tag by the rules of the mode. Gives whether it is to be processed again.
 pub(crate) fn end_by_mode(state: &mut HtmlState, name: &HtmlName) -> Result<bool, AllocError>
-    ensures { IfOk result (λ again. answer state.new again
+    ensures { IfOk result (λ again. outcome state.new again
         ≡ spec.by_mode_rules (end_tag (name_of name.now)) state.old) }
 {
     match state.mode() {
@@ -147,7 +147,7 @@ fn put_white_space(state: &mut HtmlState, mode: InsertionMode, text: &str) -> Re
 
 /// What any other run does in a mode that then has it processed again. Gives whether it is.
 fn leave_mode(state: &mut HtmlState, mode: InsertionMode) -> Result<bool, AllocError>
-    ensures { IfOk result (λ again. answer state.new again ≡ spec.leave_mode mode state.old) }
+    ensures { IfOk result (λ again. outcome state.new again ≡ spec.leave_mode mode state.old) }
 {
     match mode {
         InsertionMode::Initial => leave_initial(state),
@@ -168,7 +168,7 @@ pub(crate) fn put_run_by_mode(
     kind: RunKind,
     text: &str,
 ) -> Result<bool, AllocError>
-    ensures { IfOk result (λ again. answer state.new again
+    ensures { IfOk result (λ again. outcome state.new again
         ≡ spec.by_mode_rules (run kind text.now) state.old) }
 {
     match state.mode() {
@@ -221,7 +221,7 @@ pub(crate) fn put_doctype_by_mode(state: &mut HtmlState, quirks: bool) -> Result
 
 /// The end of the file by the rules of the mode. Gives whether it is to be processed again.
 pub(crate) fn end_file_by_mode(state: &mut HtmlState) -> Result<bool, AllocError>
-    ensures { IfOk result (λ again. answer state.new again
+    ensures { IfOk result (λ again. outcome state.new again
         ≡ spec.by_mode_rules end_of_file state.old) }
 {
     match state.mode() {

@@ -1,7 +1,7 @@
 //! Tokens are processed by the rules of one mode after another.
 ghost use Rattle.std.specs.Prelude.{◌≡◌, ◌+◌, length, is_some, string_bytes, IfOk, IfSome, OnOk};
 ghost use Rattle.htmd_html5_state.specs.Names.{name_of};
-ghost use Rattle.htmd_html5.specs.Answers.{answer};
+ghost use Rattle.htmd_html5.specs.Outcomes.{outcome};
 ghost use Rattle.htmd_html5.specs.Processing as spec;
 ghost use Rattle.htmd_html5.specs.Tokens.{tag_of, start_tag, end_tag, run, comment, doctype, end_of_file};
 
@@ -29,7 +29,7 @@ pub(crate) fn turns(state: &HtmlState) -> usize
 }
 
 fn start_by_rules(state: &mut HtmlState, tag: StartTag) -> Result<Option<StartTag>, AllocError>
-    ensures answer { IfOk result (λ again. answer state.new (is_some again)
+    ensures outcome { IfOk result (λ again. outcome state.new (is_some again)
         ≡ spec.by_rules (start_tag (tag_of tag)) state.old) }
     ensures same { IfOk result (λ again. IfSome again (λ t. tag_of t ≡ tag_of tag)) }
 {
@@ -68,7 +68,7 @@ pub(crate) fn process_start(state: &mut HtmlState, tag: StartTag) -> Result<(), 
 }
 
 fn end_by_rules(state: &mut HtmlState, name: &HtmlName) -> Result<bool, AllocError>
-    ensures { IfOk result (λ again. answer state.new again
+    ensures { IfOk result (λ again. outcome state.new again
         ≡ spec.by_rules (end_tag (name_of name.now)) state.old) }
 {
     if is_in_foreign(state) {
@@ -96,7 +96,7 @@ pub(crate) fn put_run_by_rules(
     kind: RunKind,
     text: &str,
 ) -> Result<bool, AllocError>
-    ensures { IfOk result (λ again. answer state.new again
+    ensures { IfOk result (λ again. outcome state.new again
         ≡ spec.by_rules (run kind text.now) state.old) }
 {
     if is_text_foreign(state) {

@@ -1,7 +1,7 @@
 //! The reader of any page.
 ghost use Rattle.std.specs.Prelude.{◌≡◌, IfOk, OnOk};
 ghost use Rattle.std.specs.Cow.{cow_str_bytes};
-ghost use Rattle.htmd_html5.specs.Documents as spec;
+ghost use Rattle.htmd_html5.specs.Html5Documents as spec;
 ghost use Rattle.htmd_html5_state.specs.State.{initial_state};
 ghost use Rattle.htmd_html5_tokens.specs.Tokens.{value_of};
 ghost use Rattle.htmd_html5_state.specs.Views.{nodes_of};

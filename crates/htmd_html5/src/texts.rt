@@ -70,7 +70,7 @@ fn is_body_mode(mode: InsertionMode) -> bool
 fn takes_at_once(state: &HtmlState) -> bool
     ensures { result ≡ at_once.takes_at_once state.now }
 {
-    is_body_mode(state.mode()) && state.current_is_html() && state.is_settled()
+    is_body_mode(state.mode()) && state.current_is_html() && state.appends_text()
 }
 
 /// Whether no character is U+0000. All bytes are looked at, so that a processor can compare many at once.
@@ -85,8 +85,8 @@ fn has_no_nulls(bytes: &[u8]) -> bool
 }
 
 /// Whether it has a character, and none is U+0000.
-fn is_plain(text: &str) -> bool
-    ensures { result ≡ at_once.is_plain text.now }
+fn is_without_null(text: &str) -> bool
+    ensures { result ≡ at_once.is_without_null text.now }
 {
     !text.is_empty() && has_no_nulls(text.as_bytes())
 }
@@ -107,7 +107,7 @@ fn put_at_once(state: &mut HtmlState, text: String) -> Result<(), AllocError>
 pub(crate) fn put_text(state: &mut HtmlState, text: String) -> Result<(), AllocError>
     ensures { OnOk result (state.new ≡ spec.put_text (string_bytes text) state.old) }
 {
-    if takes_at_once(state) && is_plain(text.as_str()) {
+    if takes_at_once(state) && is_without_null(text.as_str()) {
         return put_at_once(state, text);
     }
     put_parts(state, text.as_str())

@@ -2,9 +2,9 @@
 use Rattle.std.proofs.Common.{◌≡◌, ℕ, Bool, true, false, List, [], ◌∷◌, length, Option, Some, None, refl, sym, ap, subst}
 use Rattle.std.specs.Prelude.{if◌then◌else◌}
 use Rattle.std.proofs.lemmas.Bool.{true≢false, or_right}
-use Rattle.htmd_grammar.specs.declared.content.Content.{Content}
+use Rattle.htmd_grammar.specs.declared.content_model.ContentModel.{ContentModel}
 use Rattle.htmd_html5_state.specs.Names.{NameValue, known, html}
-use Rattle.htmd_html5_state.specs.Documents.{KindValue, comment as comment_kind, element, last_in}
+use Rattle.htmd_html5_state.specs.Nodes.{KindValue, comment as comment_kind, element, last_in}
 use Rattle.htmd_html5_state.specs.OpenElements.{OpenValue, current_is, is_open, first_open, pop}
 use Rattle.htmd_html5_state.specs.State.{StateValue}
 use Rattle.htmd_html5_state.specs.Insertion.{current, opened, place, insert_text}
@@ -15,7 +15,7 @@ use Rattle.htmd_html5_state.specs.declared.modes.InsertionMode.{InsertionMode}
 use Rattle.htmd_html5_state.specs.declared.modes.InsertionMode.TheVariants.{InColumnGroup}
 use Rattle.htmd_html5_state.specs.declared.sets.NameSet.TheVariants.{Only}
 use Rattle.htmd_html5.specs.Tokens.{StartTagValue, TokenValue, start_tag, end_tag, run, comment, doctype, end_of_file}
-use Rattle.htmd_html5.specs.Answers.{Answer, done}
+use Rattle.htmd_html5.specs.Outcomes.{Outcome, done}
 use Rattle.htmd_html5.specs.Runs.{first_kind}
 use Rattle.htmd_html5.specs.Feeding.{is_text_mode}
 use Rattle.htmd_html5.specs.SharedRules.{add_missing_to, add_to_root, end_template}
@@ -42,7 +42,7 @@ ColumnStack [] = true ≡ false
 ColumnStack (e ∷ es) = (e.name ≡ html (known tags.ColGroup)) × PlainStack es
 
 pub record ColumnsIn (ks : List KindValue) (entries : List (Option ℕ)) (stack : List OpenValue) (mode : InsertionMode)
-    (template_modes : List InsertionMode) (content : Content)
+    (template_modes : List InsertionMode) (content : ContentModel)
     : Type 0 where
   pub names : ColumnStack stack
   pub entries_at : (n : ℕ) → is_listed n entries ≡ true → PlainAt ks n
@@ -75,7 +75,7 @@ no_template_in [] h = absurd (true≢false h)
 no_template_in (e ∷ es) h = rw h.0 (no_template_open es h.1)
 
 pub columns_grown : {ks new : List KindValue} {entries : List (Option ℕ)} {stack : List OpenValue}
-    {mode : InsertionMode} {modes : List InsertionMode} {content : Content}
+    {mode : InsertionMode} {modes : List InsertionMode} {content : ContentModel}
     → ((n : ℕ) → PlainAt ks n → PlainAt new n) → ColumnsIn ks entries stack mode modes content
     → ColumnsIn new entries stack mode modes content
 columns_grown f h = record {
@@ -119,8 +119,8 @@ root_hung tag s h x = rw (no_template_in s.stack h.names) (added (first_open s.s
 left_hung : (s : StateValue) → Columns s → Hung s → Hung (end_columns s)
 left_hung s h x = rw (columns_current s.stack h.names) (hung_fewer (pop s.stack) (pop_fewer s.stack) x)
 
--- what an answer says
-pub record Answered (a : Answer) : Type 0 where
+-- what an outcome says
+pub record Answered (a : Outcome) : Type 0 where
   pub stands : Stands a.state
   pub no_raw : a.again ≡ true → is_text_mode a.state.content ≡ false
 

@@ -4,7 +4,7 @@ use Rattle.std.specs.Prelude.{if◌then◌else◌}
 use Rattle.std.proofs.lemmas.Bool.{true≢false}
 use Rattle.htmd_grammar.specs.ValueTrees.{AttributePair}
 use Rattle.htmd_html5_state.specs.Names.{NameValue, known, html}
-use Rattle.htmd_html5_state.specs.Documents.{element}
+use Rattle.htmd_html5_state.specs.Nodes.{element}
 use Rattle.htmd_html5_state.specs.OpenElements.{clear_to, is_in_scope}
 use Rattle.htmd_html5_state.specs.State.{StateValue}
 use Rattle.htmd_html5_state.specs.Insertion.{place}
@@ -19,7 +19,7 @@ use Rattle.htmd_html5_state.specs.declared.modes.InsertionMode.TheVariants.{Afte
 use Rattle.htmd_html5_state.specs.declared.sets.NameSet.TheVariants.{TableContext, Cells}
 use Rattle.htmd_html5_state.specs.declared.sets.Scope.TheVariants.{Table as TableScope}
 use Rattle.htmd_html5.specs.Tokens.{StartTagValue, start_tag, end_tag}
-use Rattle.htmd_html5.specs.Answers.{Answer, done, again}
+use Rattle.htmd_html5.specs.Outcomes.{Outcome, done, again}
 use Rattle.htmd_html5.specs.Feeding.{is_text_mode}
 use Rattle.htmd_html5.specs.BeforeHtml.{start_before_html}
 use Rattle.htmd_html5.specs.BeforeHead.{start_before_head}
@@ -77,7 +77,7 @@ breaks_none (known tags.Col) attributes c = refl
 breaks_none (known tags.ColGroup) attributes c = refl
 breaks_none _ attributes c = absurd (true≢false c)
 
-by_column : (f : NameValue → Answer) → Answered (f (known tags.Col)) → Answered (f (known tags.ColGroup))
+by_column : (f : NameValue → Outcome) → Answered (f (known tags.Col)) → Answered (f (known tags.ColGroup))
     → (name : NameValue) → IsColumn name → Answered (f name)
 by_column f a b (known tags.Col) c = a
 by_column f a b (known tags.ColGroup) c = b
@@ -91,12 +91,12 @@ module _ (tag : StartTagValue) (s : StateValue) (h : Plain s) (x : Hung s)
   done_plain : (t : StateValue) → Plain t → Hung t → Answered (done t)
   done_plain t p y = record { stands = is_plain_state p y; no_raw = λ e. absurd (true≢false (sym e)) }
 
-  left_plain : {f : StateValue → Answer} → StaysAnswer f
+  left_plain : {f : StateValue → Outcome} → StaysAnswer f
       → ((f s).again ≡ true → is_text_mode (f s).state.content ≡ false) → Answered (f s)
   left_plain leaves raw = record { stands = is_plain_state (leaves.stays s h) (leaves.hangs s h x); no_raw = raw }
 
   -- the same rule for both
-  both : (f : NameValue → Answer) → Answered (f (known tags.Col)) → Answered (f (known tags.ColGroup))
+  both : (f : NameValue → Outcome) → Answered (f (known tags.Col)) → Answered (f (known tags.ColGroup))
       → IsColumn tag.name → Answered (f tag.name)
   both f a b c = by_column f a b tag.name c
 
@@ -134,9 +134,11 @@ module _ (tag : StartTagValue) (s : StateValue) (h : Plain s) (x : Hung s)
       → Answered (in_mode mode (start_tag tag) s)
   in_mode_answered Initial p c = left_plain (left_stays Initial refl) (λ e. no_raw)
   in_mode_answered BeforeHtml p c =
-      let a = left_plain (left_stays BeforeHtml refl) (λ e. no_raw) in both (λ name. start_before_html name tag s) a a c
+      let a = left_plain (left_stays BeforeHtml refl) (λ e. no_raw) in both (λ name. start_before_html name tag s) a a
+      c
   in_mode_answered BeforeHead p c =
-      let a = left_plain (left_stays BeforeHead refl) (λ e. no_raw) in both (λ name. start_before_head name tag s) a a c
+      let a = left_plain (left_stays BeforeHead refl) (λ e. no_raw) in both (λ name. start_before_head name tag s) a a
+      c
   in_mode_answered InHead p c =
       let a = left_plain (left_stays InHead refl) (λ e. no_raw) in
       both (λ name. start_in_head name tag s) a a c

@@ -9,10 +9,10 @@ use Rattle.std.proofs.lemmas.List.Sums.{sum_by-cons}
 use Rattle.htmd_grammar.proofs.Cases.{test}
 use Rattle.htmd_grammar.specs.Characters.{null}
 use Rattle.htmd_html5_tokens.specs.References.{replacement_character}
-use Rattle.htmd_html5.specs.Documents.{state_after, html5_document}
+use Rattle.htmd_html5.specs.Html5Documents.{state_after, html5_document}
 use Rattle.htmd_nodes.specs.Items.{greatest_depth}
 use Rattle.htmd_html5_laws.specs.PageLetters.{is_character, occurrences, occurrences_in, texts_of}
-use Rattle.htmd_html5_laws.specs.LetterOrder.{all_tags_are_orderly}
+use Rattle.htmd_html5_laws.specs.LetterOrder.{no_tag_moves_text}
 use Rattle.htmd_html5_laws.specs.TextKept.{kept_texts, no_tag_comes_late, no_null_comes}
 use Rattle.htmd_html5_laws.proofs.LetterLemmas.{CharacterTests}
 use Rattle.htmd_html5_laws.proofs.TextsPut.{occurs_cons}
@@ -77,7 +77,7 @@ module _ (choice : Choice) (c : ℕ) where
 -- ---- in order
 
 module _ (choice : Choice) where
-  counted_some : (scripting : Bool) (page : List ℕ) → IsUtf8 page → all_tags_are_orderly scripting page ≡ true
+  counted_some : (scripting : Bool) (page : List ℕ) → IsUtf8 page → no_tag_moves_text scripting page ≡ true
       → (choice.reopens ≡ false → no_tag_comes_late scripting page ≡ true)
       → (choice.nulls ≡ false → no_null_comes scripting page ≡ true)
       → Sub (counted_in choice (texts_of (html5_document scripting page)))
@@ -99,7 +99,7 @@ module _ (choice : Choice) where
       other d f = test (c == d) (λ t. absurd (true≢false (sym e ∙ (ap choice.counts (eqb-true c d t) ∙ f))))
           (λ t. t)
 
-  pub counted_in_order : (scripting : Bool) (page : List ℕ) → IsUtf8 page → all_tags_are_orderly scripting page
+  pub counted_in_order : (scripting : Bool) (page : List ℕ) → IsUtf8 page → no_tag_moves_text scripting page
       ≡ true
       → (choice.reopens ≡ false → no_tag_comes_late scripting page ≡ true)
       → (choice.nulls ≡ false → no_null_comes scripting page ≡ true)

@@ -30,7 +30,7 @@ use Rattle.htmd_html5_state.specs.State.{StateValue, on_formatting, on_nodes, on
 use Rattle.htmd_html5_state.specs.declared.names.TagName.{TagName}
 use Rattle.htmd_html5_state.specs.declared.sets.NameSet.TheVariants.{Only}
 use Rattle.htmd_html5_state.specs.Names.{known, html}
-use Rattle.htmd_html5_state.specs.Documents.{KindValue, kind_at, detach}
+use Rattle.htmd_html5_state.specs.Nodes.{KindValue, kind_at, detach}
 use Rattle.htmd_html5_laws.proofs.NamedKinds.{is_named}
 use Rattle.htmd_html5_state.specs.Adoption.{goes_on}
 

@@ -6,7 +6,7 @@ use Rattle.htmd_html5_state.specs.OpenElements.{OpenValue}
 use Rattle.htmd_html5_state.specs.Insertion.{opened}
 use Rattle.htmd_html5.specs.BodyEnds.{text_end_rule}
 use Rattle.htmd_html5.specs.BodyStarts.{block_rule, formatting_rule, phrasing_rule}
-use Rattle.htmd_html5.specs.Documents.{state_after}
+use Rattle.htmd_html5.specs.Html5Documents.{state_after}
 use Rattle.htmd_html5.specs.Tokens.{TokenValue, start_tag}
 use Rattle.htmd_html5_laws.specs.EndedElements.{ends_in_html, is_ended}
 use Rattle.htmd_html5_laws.specs.EndedTurns.{is_done_within}

@@ -28,10 +28,10 @@ use Rattle.std.proofs.Common.{◌≡◌, ◌∙◌, ◌⊎◌, Some, None}
 use Rattle.htmd_html5.specs.Texts.{Taken, taken, after_run, first_token, take_within, take_part, put_within, put_text}
 use Rattle.htmd_html5.specs.Texts.{is_table_mode}
 use Rattle.htmd_html5.specs.Tokens.{StartTagValue, TokenValue, start_tag, end_tag, run, comment, doctype, end_of_file}
-use Rattle.htmd_html5.specs.Processing.{by_rules, after_answer, process_within, process, turns}
-use Rattle.htmd_html5.specs.Answers.{Answer}
+use Rattle.htmd_html5.specs.Processing.{by_rules, after_outcome, process_within, process, turns}
+use Rattle.htmd_html5.specs.Outcomes.{Outcome}
 use Rattle.htmd_html5.specs.Initial.{initial, leave_initial}
-use Rattle.htmd_html5.specs.Documents.{next_read, is_end}
+use Rattle.htmd_html5.specs.Html5Documents.{next_read, is_end}
 use Rattle.htmd_html5_state.specs.Names.{NameValue, known, html, name_of_text}
 use Rattle.htmd_html5_state.specs.Sets.{is_of}
 use Rattle.htmd_html5_state.specs.declared.sets.NameSet.TheVariants.{Only, Fostering}
@@ -226,9 +226,9 @@ early_run {was} text s h =
 
 -- ---- a token is processed
 
-answered_stands : (go : StateValue → StateValue) (s : StateValue) (a : Answer) → is_text_mode s.content ≡ false
+answered_stands : (go : StateValue → StateValue) (s : StateValue) (a : Outcome) → is_text_mode s.content ≡ false
     → ((t : StateValue) → Ready t → is_text_mode t.content ≡ false → Open (go t)) → Answered s a
-    → Open (after_answer go a)
+    → Open (after_outcome go a)
 answered_stands go s a c more h = either a.again refl (h.rest c)
   where
     either : (b : Bool) → a.again ≡ b
@@ -248,9 +248,9 @@ within_open (suc k) token s e h c =
     answered_stands (process_within k token) s (by_rules token s) c (λ t g d. within_open k token t e g d)
     ((by_rules_ends token e).answers s (covers_any (anchor_of s.mode)) h)
 
-early_answered : {was : Bool} (go : StateValue → StateValue) (a : Answer)
+early_answered : {was : Bool} (go : StateValue → StateValue) (a : Outcome)
     → ((t : StateValue) → Calm was t → Stands was (go t))
-    → Calm was a.state → Stands was (after_answer go a)
+    → Calm was a.state → Stands was (after_outcome go a)
 early_answered {was} go a more h = either a.again
   where
     either : (b : Bool) → Stands was (if b then go a.state else a.state)
@@ -283,7 +283,7 @@ take_calm {was} (suc k) text s (inl h) =
     rw (ap (λ (b : Bool). b && current_is Fostering s.stack) (no_table_mode s.mode h.early))
     (after (take_within k text) (by_rules (first_token text) s) (λ x g. take_calm k text x g) (early_run text s h))
   where
-    after : (go : StateValue → Taken) (a : Answer) → ((x : StateValue) → Calm was x → Calm was (go x).state)
+    after : (go : StateValue → Taken) (a : Outcome) → ((x : StateValue) → Calm was x → Calm was (go x).state)
         → Calm was a.state → Calm was (after_run go (after_first_run text) a).state
     after go a more g = again a.again
       where

@@ -1,9 +1,9 @@
 -- The rules of the modes leave open what must stay so: what each act does.
 use Rattle.htmd_grammar.specs.ValueTrees.{AttributePair}
-use Rattle.htmd_grammar.specs.declared.content.RawElement.{RawElement}
+use Rattle.htmd_grammar.specs.declared.content_model.RawElement.{RawElement}
 use Rattle.htmd_html5.specs.AfterBody.{comment_in}
 use Rattle.htmd_html5.specs.AfterHead.{with_body}
-use Rattle.htmd_html5.specs.Answers.{again, done}
+use Rattle.htmd_html5.specs.Outcomes.{again, done}
 use Rattle.htmd_html5.specs.BeforeHead.{with_head}
 use Rattle.htmd_html5.specs.BeforeHtml.{with_root}
 use Rattle.htmd_html5.specs.BodyEnds.{close_form}
@@ -57,7 +57,7 @@ use Rattle.htmd_html5_laws.proofs.PlainAdoption.{found_listed}
 use Rattle.htmd_html5_laws.proofs.TakingRuns.{by_first_kind}
 use Rattle.htmd_html5_state.proofs.TagLemmas.{same_tag-true}
 use Rattle.htmd_html5_state.specs.Adoption.{adoption_agency, formatting_element, node_is}
-use Rattle.htmd_html5_state.specs.Documents.{KindValue, element}
+use Rattle.htmd_html5_state.specs.Nodes.{KindValue, element}
 use Rattle.htmd_html5_state.specs.Formatting.{clear_to_marker}
 use Rattle.htmd_html5_state.specs.Insertion.{insert_doctype, insert_element, open_again, opened, place}
 use Rattle.htmd_html5_state.specs.Names.{ElementNameValue, NameValue, html, known, math, other, svg, text_of_name}
@@ -84,7 +84,7 @@ use Rattle.std.proofs.lemmas.Bool.{eq-eqb, ne_eqb, true≢false}
 use Rattle.std.proofs.lemmas.List.{length-map}
 use Rattle.std.specs.Prelude.{if◌then◌else◌, ◌==◌}
 use Rattle.htmd_html5_state.specs.declared.names.TagName.TheVariants as tags
-use Rattle.htmd_grammar.specs.declared.content.RawElement.TheVariants as raw
+use Rattle.htmd_grammar.specs.declared.content_model.RawElement.TheVariants as raw
 
 -- ---- rules that many modes share
 

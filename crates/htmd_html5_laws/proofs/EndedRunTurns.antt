@@ -10,7 +10,7 @@ use Rattle.std.proofs.Common.{ℕ, Bool, true, false, List, arith, ◌≤◌}
 use Rattle.std.specs.Prelude.{if◌then◌else◌}
 use Rattle.htmd_html5.specs.Tokens.{run}
 use Rattle.htmd_html5.specs.Processing.{by_rules, turns}
-use Rattle.htmd_html5.specs.Answers.{again}
+use Rattle.htmd_html5.specs.Outcomes.{again}
 use Rattle.htmd_html5.specs.Runs.{kind_of_byte, first_kind, first_run}
 use Rattle.htmd_html5.specs.Texts.{first_token}
 use Rattle.htmd_html5_laws.specs.EndedTurns.{RunIsDone}
@@ -50,7 +50,7 @@ run_bound AfterBody = omega arith
 run_bound AfterAfterBody = omega arith
 run_bound _ = omega arith
 
--- what a mode answers to a run of each kind
+-- the outcome of a run of each kind in a mode
 record RunsFall (mode : InsertionMode) (t : List ℕ) (s : StateValue) : Type 0 where
   white : Falls run_rank mode s (in_mode mode (run (kind_of_byte 32) t) s)
   nulls : Falls run_rank mode s (in_mode mode (run (kind_of_byte 0) t) s)

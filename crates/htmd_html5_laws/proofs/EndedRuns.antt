@@ -1,6 +1,6 @@
 -- Texts leave open what must stay so.
 use Rattle.std.specs.Prelude.{if◌then◌else◌}
-use Rattle.htmd_html5.specs.Answers.{Answer}
+use Rattle.htmd_html5.specs.Outcomes.{Outcome}
 use Rattle.htmd_html5.specs.ForeignContent.{in_foreign_content, is_foreign, replacements, run_in_foreign}
 use Rattle.htmd_html5.specs.InColumnGroup.{end_columns}
 use Rattle.htmd_html5.specs.InHead.{close_head}
@@ -39,16 +39,16 @@ use Rattle.htmd_html5_state.specs.declared.modes.InsertionMode.{InsertionMode}
 -- ---- the modes
 
 -- a run of a text leaves the tokenizer to read on as before
-record RunTurns (mode : InsertionMode) (f : StateValue → Answer) : Type 0 where
+record RunTurns (mode : InsertionMode) (f : StateValue → Outcome) : Type 0 where
   turns : (s : StateValue) → s.mode ≡ mode → Ready s → Turned s (f s).state
 
-any_run : {mode : InsertionMode} {f : StateValue → Answer} → Turns is_any (λ s. (f s).state) → RunTurns mode f
+any_run : {mode : InsertionMode} {f : StateValue → Outcome} → Turns is_any (λ s. (f s).state) → RunTurns mode f
 any_run f = record { turns = λ s e h. f.turns s (covers_any (anchor_of s.mode)) h }
 
-still_run : {mode : InsertionMode} {f : StateValue → Answer} → Ends is_any (λ s. (f s).state) → RunTurns mode f
+still_run : {mode : InsertionMode} {f : StateValue → Outcome} → Ends is_any (λ s. (f s).state) → RunTurns mode f
 still_run f = any_run (steady refl f)
 
--- what a mode answers to a run of each kind
+-- the outcome of a run of each kind in a mode
 record RunsEnd (mode : InsertionMode) (t : List ℕ) : Type 0 where
   white : RunTurns mode (in_mode mode (run (kind_of_byte 32) t))
   nulls : RunTurns mode (in_mode mode (run (kind_of_byte 0) t))
@@ -62,18 +62,18 @@ initial_left = record {
   };
 }
 
-head_run : {f : StateValue → Answer} → ((s : StateValue) → (f s).state ≡ close_head s) → RunTurns InHead f
+head_run : {f : StateValue → Outcome} → ((s : StateValue) → (f s).state ≡ close_head s) → RunTurns InHead f
 head_run {f} same = record {
   turns = λ s e h. subst (λ (x : StateValue). Turned s x) (sym (same s)) (head_closed s e h);
 }
 
-noscript_run : {f : StateValue → Answer} → ((s : StateValue) → (f s).state ≡ close_noscript s)
+noscript_run : {f : StateValue → Outcome} → ((s : StateValue) → (f s).state ≡ close_noscript s)
     → RunTurns InHeadNoscript f
 noscript_run {f} same = record {
   turns = λ s e h. subst (λ (x : StateValue). Turned s x) (sym (same s)) (noscript_closed s e h);
 }
 
-columns_run : {f : StateValue → Answer} → ((s : StateValue) → (f s).state ≡ end_columns s)
+columns_run : {f : StateValue → Outcome} → ((s : StateValue) → (f s).state ≡ end_columns s)
     → RunTurns InColumnGroup f
 columns_run {f} same = record {
   turns = λ s e h. subst (λ (x : StateValue). Turned s x) (sym (same s))
@@ -230,7 +230,7 @@ take_left (suc k) text s h =
     either (takes_all s)
     (after (take_within k text) (by_rules (first_token text) s) (λ x g. take_left k text x g) (run_left text s h))
   where
-    after : (go : StateValue → Taken) (a : Answer) → ((x : StateValue) → Ready x → Turned x (go x).state)
+    after : (go : StateValue → Taken) (a : Outcome) → ((x : StateValue) → Ready x → Turned x (go x).state)
         → Turned s a.state → Turned s (after_run go (after_first_run text) a).state
     after go a more g = again a.again
       where

@@ -9,7 +9,7 @@ use Rattle.htmd_html5.specs.InSelect.{close_group, close_option_in_group}
 use Rattle.htmd_html5_laws.proofs.OpenNodes.{EachOpen}
 use Rattle.htmd_html5_state.proofs.TagLemmas.{same_tag-true}
 use Rattle.htmd_html5_state.specs.Adoption.{bounds_any}
-use Rattle.htmd_html5_state.specs.Documents.{NodeValue}
+use Rattle.htmd_html5_state.specs.Nodes.{NodeValue}
 use Rattle.htmd_html5_state.specs.Foreign.{ends_foreign, foreign_end, is_html, is_html_name, is_spelled_so}
 use Rattle.htmd_html5_state.specs.Foreign.{leave_foreign}
 use Rattle.htmd_html5_state.specs.OpenElements.{OpenValue, around, clear_to, close, close_name, current_is, has_name}

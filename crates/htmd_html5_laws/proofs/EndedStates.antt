@@ -12,7 +12,7 @@ use Rattle.htmd_html5_laws.proofs.NamedKinds.{Grows, NamedAt, grows_added, grows
 use Rattle.htmd_html5_laws.proofs.NamedKinds.{grows_then, named_added}
 use Rattle.htmd_html5_laws.proofs.NodeTexts.{kind_read, kinds, kinds_add, kinds_detach}
 use Rattle.htmd_html5_laws.proofs.OpenNodes.{EachOpen, Fewer, each_more}
-use Rattle.htmd_html5_state.specs.Documents.{add_missing, detach, last_in}
+use Rattle.htmd_html5_state.specs.Nodes.{add_missing, detach, last_in}
 use Rattle.htmd_html5_state.specs.Foreign.{foreign_attributes, foreign_name, insert_foreign}
 use Rattle.htmd_html5_state.specs.Formatting.{after_closed, clear_to_marker, closed_elements, insert_formatting}
 use Rattle.htmd_html5_state.specs.Formatting.{insert_like, is_listed, push_marker, reconstruct, reopen_all}
@@ -24,8 +24,8 @@ use Rattle.htmd_html5_state.specs.OpenElements.{OpenValue, is_open_node}
 use Rattle.htmd_html5_state.specs.State.{StateValue, on_formatting, on_nodes, on_stack}
 use Rattle.htmd_html5_state.specs.declared.modes.InsertionMode.{InsertionMode}
 use Rattle.htmd_html5_state.specs.declared.names.Namespace.{Namespace}
-use Rattle.htmd_grammar.specs.declared.content.Content.{Content}
-use Rattle.htmd_html5_state.specs.Documents.{KindValue, NodeValue, document, doctype, text, comment, element, kind_at}
+use Rattle.htmd_grammar.specs.declared.content_model.ContentModel.{ContentModel}
+use Rattle.htmd_html5_state.specs.Nodes.{KindValue, NodeValue, document, doctype, text, comment, element, kind_at}
 use Rattle.htmd_html5_state.specs.Names.{NameValue, ElementNameValue, html}
 use Rattle.htmd_html5_laws.proofs.NamedKinds.{is_named}
 
@@ -59,7 +59,7 @@ Whole s = WholeIn (kinds s.nodes) s.formatting s.head s.form s.stack
 
 -- how a state goes on
 pub record Manner : Type 0 where
-  pub content : Content
+  pub content : ContentModel
   pub mode : InsertionMode
   pub template_modes : List InsertionMode
 

@@ -3,7 +3,7 @@ use Rattle.std.proofs.Common.{Bool, List, None, Option, Some, [], ap, false, inl
 use Rattle.std.proofs.Common.{ℕ, ◌∙◌, ◌∷◌, ◌≡◌, ◌⊎◌}
 use Rattle.std.specs.Prelude.{if◌then◌else◌}
 use Rattle.htmd_grammar.proofs.Cases.{test}
-use Rattle.htmd_html5.specs.Answers.{Answer, answer, done}
+use Rattle.htmd_html5.specs.Outcomes.{Outcome, outcome, done}
 use Rattle.htmd_html5.specs.Feeding.{is_text_mode}
 use Rattle.htmd_html5.specs.SharedRules.{insert_raw_tag, with_mode}
 use Rattle.htmd_html5.specs.Tokens.{StartTagValue}
@@ -17,7 +17,7 @@ use Rattle.htmd_html5_state.specs.State.{StateValue, on_stack}
 use Rattle.htmd_html5_state.specs.declared.modes.InsertionMode.{InsertionMode}
 use Rattle.htmd_html5_state.specs.declared.sets.NameSet.{NameSet}
 use Rattle.htmd_html5_state.specs.declared.sets.NameSet.TheVariants.{Only}
-use Rattle.htmd_grammar.specs.declared.content.RawElement.{RawElement}
+use Rattle.htmd_grammar.specs.declared.content_model.RawElement.{RawElement}
 use Rattle.htmd_html5_state.specs.Names.{ElementNameValue, html, known, other, svg, math}
 use Rattle.htmd_html5_state.specs.declared.sets.Scope.TheVariants.{Template as TemplateScope}
 use Rattle.htmd_html5_state.specs.declared.modes.InsertionMode.TheVariants.{InHead, InHeadNoscript, InCell, InSelectInTable}
@@ -93,14 +93,14 @@ pub record TagEnds (p : Anchor → Bool) (f : StateValue → StateValue) : Type 
   pub leaves : (s : StateValue) → Covers p (anchor_of s.mode) → Ready s → Tagged s (f s)
 
 -- the token isn't processed again where one is open
-pub record Answered (s : StateValue) (a : Answer) : Type 0 where
+pub record Answered (s : StateValue) (a : Outcome) : Type 0 where
   pub ready : Ready a.state
   pub rest : is_text_mode s.content ≡ false
       → (is_text_mode a.state.content ≡ false)
       ⊎ ((a.again ≡ false)
       × (Has at_root (pop a.state.stack) × HasSome (anchor_of a.state.mode) (pop a.state.stack)))
 
-pub record AnswerEnds (p : Anchor → Bool) (f : StateValue → Answer) : Type 0 where
+pub record AnswerEnds (p : Anchor → Bool) (f : StateValue → Outcome) : Type 0 where
   pub answers : (s : StateValue) → Covers p (anchor_of s.mode) → Ready s → Answered s (f s)
 
 -- ---- steps put together
@@ -186,17 +186,17 @@ raw_tag_ends {p} {g} element tag r f = record {
       };
 }
 
--- ---- answers
+-- ---- outcomes
 
 pub says : {p : Anchor → Bool} {f : StateValue → StateValue} {more : StateValue → Bool} → Turns p f
-    → AnswerEnds p (λ s. answer (f s) (more s))
+    → AnswerEnds p (λ s. outcome (f s) (more s))
 says f = record {
   answers = λ s c h. let x = f.turns s c h in
       record { ready = x.ready; rest = λ e. inl (ap is_text_mode x.content ∙ e) };
 }
 
 pub says_still : {p : Anchor → Bool} {f : StateValue → StateValue} {more : StateValue → Bool} → Ends is_any f
-    → AnswerEnds p (λ s. answer (f s) (more s))
+    → AnswerEnds p (λ s. outcome (f s) (more s))
 says_still f = says (turns_fewer (any_covers _) (steady {p = is_any} refl f))
 
 pub tagged_answered : {s new : StateValue} → Tagged s new → Answered s (done new)
@@ -209,7 +209,7 @@ tagged_answered {s} {new} x = record { ready = x.ready; rest = λ e. either (x.r
     either (inl e) = inl e
     either (inr r) = inr (refl, r)
 
-pub answers_by_test : {p : Anchor → Bool} {f g : StateValue → Answer} (b : StateValue → Bool) → AnswerEnds p f
+pub answers_by_test : {p : Anchor → Bool} {f g : StateValue → Outcome} (b : StateValue → Bool) → AnswerEnds p f
     → AnswerEnds p g → AnswerEnds p (λ s. if b s then f s else g s)
 answers_by_test {p} {f} {g} b first second = record { answers = λ s c h. either (b s) s c h }
   where
@@ -218,12 +218,12 @@ answers_by_test {p} {f} {g} b first second = record { answers = λ s c h. either
     either true s c h = first.answers s c h
     either false s c h = second.answers s c h
 
-pub turned_answered : {s new : StateValue} (more : Bool) → Turned s new → Answered s (answer new more)
+pub turned_answered : {s new : StateValue} (more : Bool) → Turned s new → Answered s (outcome new more)
 turned_answered more x = record { ready = x.ready; rest = λ e. inl (ap is_text_mode x.content ∙ e) }
 
 -- ---- the rules of one mode
 
-pub record ModeEnds (mode : InsertionMode) (f : StateValue → Answer) : Type 0 where
+pub record ModeEnds (mode : InsertionMode) (f : StateValue → Outcome) : Type 0 where
   pub answers : (s : StateValue) → s.mode ≡ mode → Ready s → Answered s (f s)
 
 pub fact_at : {s : StateValue} (mode : InsertionMode) → s.mode ≡ mode → Ready s

@@ -1,5 +1,5 @@
 -- Each token that is no text leaves open what must stay so, by the rules of the mode and in foreign content.
-use Rattle.htmd_html5.specs.Answers.{Answer, answer}
+use Rattle.htmd_html5.specs.Outcomes.{Outcome, outcome}
 use Rattle.htmd_html5.specs.Feeding.{is_text_mode}
 use Rattle.htmd_html5.specs.ForeignContent.{break_out, end_breaks_out, end_foreign, end_in_foreign}
 use Rattle.htmd_html5.specs.ForeignContent.{in_foreign_content, is_foreign, start_foreign_element, start_in_foreign}
@@ -23,7 +23,7 @@ use Rattle.htmd_html5_laws.proofs.OpenNodes.{leave_foreign_fewer}
 use Rattle.htmd_html5_laws.proofs.RuleBook.{end_in, rule_in, start_in}
 use Rattle.htmd_html5_laws.proofs.RuleWalk.{Invariant, IsMarkup, in_mode_holds, tag_name}
 use Rattle.htmd_html5_laws.proofs.Rules.{reply_fits}
-use Rattle.htmd_html5_state.specs.Documents.{NodeValue}
+use Rattle.htmd_html5_state.specs.Nodes.{NodeValue}
 use Rattle.htmd_html5_state.specs.Foreign.{ForeignEnd, by_mode, closed_to, foreign_end, leave_foreign, namespace_of}
 use Rattle.htmd_html5_state.specs.Insertion.{current}
 use Rattle.htmd_html5_state.specs.Names.{NameValue, known, text_of_name}
@@ -123,7 +123,7 @@ tags_fostered f = record {
       };
 }
 
-mode_either : {mode : InsertionMode} {f g : StateValue → Answer} (b : StateValue → Bool) → ModeEnds mode f
+mode_either : {mode : InsertionMode} {f g : StateValue → Outcome} (b : StateValue → Bool) → ModeEnds mode f
     → ModeEnds mode g → ModeEnds mode (λ s. if b s then f s else g s)
 mode_either {mode} {f} {g} b first second = record { answers = λ s e h. either (b s) s e h }
   where
@@ -132,7 +132,7 @@ mode_either {mode} {f} {g} b first second = record { answers = λ s e h. either 
     either false s e h = second.answers s e h
 
 says_onward : {mode : InsertionMode} {f : StateValue → StateValue} {more : StateValue → Bool} → Onward mode f
-    → ModeEnds mode (λ s. answer (f s) (more s))
+    → ModeEnds mode (λ s. outcome (f s) (more s))
 says_onward {mode} {f} {more} h =
     record { answers = λ s e x. turned_answered (more s) (h.turns s e x) }
 

@@ -30,9 +30,9 @@ use Rattle.std.proofs.Common.{◌≡◌, ◌∙◌, ◌<◌, ◌≤◌, ◌+◌}
 use Rattle.std.specs.Prelude.{not, ◌||◌, if◌then◌else◌}
 use Rattle.htmd_html5.specs.Tokens.{StartTagValue, TokenValue, start_tag, end_tag, run, comment, doctype, end_of_file}
 use Rattle.htmd_html5.specs.Processing.{by_rules, turns}
-use Rattle.htmd_html5.specs.Answers.{Answer, answer, done, again}
+use Rattle.htmd_html5.specs.Outcomes.{Outcome, outcome, done, again}
 use Rattle.htmd_html5_state.specs.Names.{NameValue, known, other, text_of_name}
-use Rattle.htmd_html5_state.specs.Documents.{NodeValue}
+use Rattle.htmd_html5_state.specs.Nodes.{NodeValue}
 use Rattle.htmd_html5_state.specs.Foreign.{ends_foreign, leave_foreign, foreign_end, goes_by_mode, after_foreign_end}
 use Rattle.htmd_html5_state.specs.declared.names.TagName.{TagName}
 use Rattle.htmd_html5_state.specs.declared.sets.NameSet.{NameSet}
@@ -239,10 +239,10 @@ current_fewer : (set : NameSet) (stack : List OpenValue) → current_is set stac
 current_fewer set [] t = absurd (true≢false (sym t))
 current_fewer set (e ∷ es) t = omega arith
 
--- ---- answers
+-- ---- outcomes
 
 -- what is processed again is of a lower rank
-pub record Falls (rank : InsertionMode → ℕ) (mode : InsertionMode) (s : StateValue) (a : Answer) : Type 0 where
+pub record Falls (rank : InsertionMode → ℕ) (mode : InsertionMode) (s : StateValue) (a : Outcome) : Type 0 where
   pub falls : a.again ≡ true → length a.state.stack + rank a.state.mode < length s.stack + rank mode
 
 pub stops : {rank : InsertionMode → ℕ} {mode : InsertionMode} {s t : StateValue} → Falls rank mode s (done t)
@@ -255,7 +255,7 @@ goes h = record { falls = λ e. h }
 -- if a test holds
 goes_where : {rank : InsertionMode → ℕ} {mode : InsertionMode} {s : StateValue} (t : StateValue) (b : Bool)
     → (b ≡ true → length t.stack + rank t.mode < length s.stack + rank mode)
-    → Falls rank mode s (answer (if b then t else s) b)
+    → Falls rank mode s (outcome (if b then t else s) b)
 goes_where t true h = record { falls = λ e. h refl }
 goes_where t false h = record { falls = λ e. absurd (true≢false (sym e)) }
 
@@ -714,7 +714,7 @@ no_doctype Initial quirks s = refl
 no_doctype BeforeHtml quirks s = refl
 no_doctype _ quirks s = refl
 
-never : {rank : InsertionMode → ℕ} {mode : InsertionMode} {s : StateValue} {a : Answer} → a.again ≡ false
+never : {rank : InsertionMode → ℕ} {mode : InsertionMode} {s : StateValue} {a : Outcome} → a.again ≡ false
     → Falls rank mode s a
 never e = record { falls = λ f. absurd (true≢false (sym f ∙ e)) }
 

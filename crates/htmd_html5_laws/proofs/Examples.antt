@@ -5,12 +5,12 @@ use Rattle.htmd_nodes.specs.Items.{document_item, text_node, comment_node}
 use Rattle.htmd_html5_state.specs.Adoption.{move_last, wrap_children}
 use Rattle.htmd_html5.specs.BodyEnds.{text_end_rule}
 use Rattle.htmd_html5.specs.BodyStarts.{block_rule, formatting_rule, phrasing_rule}
-use Rattle.htmd_html5.specs.Documents.{state_after, html5_document}
+use Rattle.htmd_html5.specs.Html5Documents.{state_after, html5_document}
 use Rattle.htmd_html5_laws.specs.PageLetters.{is_letter, texts_of, token_texts}
 use Rattle.htmd_html5_laws.specs.DocumentLetters.{node_texts, all_texts_are_taken}
 use Rattle.htmd_html5_laws.specs.KeptLetters.{is_whole}
-use Rattle.htmd_html5_laws.specs.HarmlessTags.{all_tags_are_harmless}
-use Rattle.htmd_html5_laws.specs.LetterOrder.{all_tags_are_orderly}
+use Rattle.htmd_html5_laws.specs.DroppedTexts.{no_tag_drops_text}
+use Rattle.htmd_html5_laws.specs.LetterOrder.{no_tag_moves_text}
 use Rattle.htmd_html5_laws.specs.TextKept.{kept_texts, no_tag_comes_late, no_null_comes}
 
 a_is_one : is_letter 0x61 ≡ true
@@ -55,15 +55,15 @@ texts_of_a_document : node_texts (state_after true (codes "<table>a<td>b")).node
 unfolding block_rule formatting_rule phrasing_rule
 texts_of_a_document = refl
 
--- ---- harmless tags
+-- ---- tags that drop no text
 
-a_start_tag_of_frames_counts : all_tags_are_harmless true (codes "a<FrameSet>") ≡ false
+a_start_tag_of_frames_counts : no_tag_drops_text true (codes "a<FrameSet>") ≡ false
 unfolding block_rule formatting_rule phrasing_rule
 a_start_tag_of_frames_counts = refl
 
-an_end_tag_is_harmless : all_tags_are_harmless true (codes "<table><col>a</template>") ≡ true
+an_end_tag_drops_no_text : no_tag_drops_text true (codes "<table><col>a</template>") ≡ true
 unfolding block_rule formatting_rule phrasing_rule
-an_end_tag_is_harmless = refl
+an_end_tag_drops_no_text = refl
 
 -- ---- documents in one piece
 
@@ -78,13 +78,13 @@ frames_take_the_place_of_the_body = refl
 
 -- ---- letters in order
 
-a_start_tag_of_a_table_counts : all_tags_are_orderly true (codes "<p>a<table>") ≡ false
+a_start_tag_of_a_table_counts : no_tag_moves_text true (codes "<p>a<table>") ≡ false
 unfolding block_rule formatting_rule phrasing_rule
 a_start_tag_of_a_table_counts = refl
 
-a_row_without_a_table_is_orderly : all_tags_are_orderly true (codes "<tr>a<col></table>") ≡ true
+a_row_without_a_table_moves_no_text : no_tag_moves_text true (codes "<tr>a<col></table>") ≡ true
 unfolding block_rule formatting_rule phrasing_rule text_end_rule
-a_row_without_a_table_is_orderly = refl
+a_row_without_a_table_moves_no_text = refl
 
 text_goes_before_a_table : texts_of (html5_document true (codes "<table><td>a</td>b")) ≡ codes "b" ∷ codes "a"
     ∷ []

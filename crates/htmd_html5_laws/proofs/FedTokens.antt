@@ -13,13 +13,13 @@ use Rattle.htmd_grammar.specs.Characters.{line_feed}
 use Rattle.htmd_grammar.specs.WhiteSpace.{is_ascii_white_space}
 use Rattle.htmd_grammar.specs.CharacterClasses.{first_is}
 use Rattle.htmd_html5_state.specs.Names.{NameValue, name_of_text}
-use Rattle.htmd_html5_state.specs.Documents.{new_node, document, children_at, parent_at}
+use Rattle.htmd_html5_state.specs.Nodes.{new_node, document, children_at, parent_at}
 use Rattle.htmd_html5_state.specs.OpenElements.{pop}
 use Rattle.htmd_html5_state.specs.State.{StateValue, initial_state}
 use Rattle.htmd_html5.specs.Tokens.{start_tag, end_tag, comment, doctype, end_of_file}
 use Rattle.htmd_html5.specs.Feeding.{is_text_mode, without_line_feed, with_nothing_skipped, close_raw, out_of_text_mode}
 use Rattle.htmd_html5.specs.Feeding.{feed_end_tag, named, feed_at}
-use Rattle.htmd_html5.specs.Documents.{is_end}
+use Rattle.htmd_html5.specs.Html5Documents.{is_end}
 use Rattle.htmd_html5_laws.specs.PageLetters.{occurrences, occurrences_in, is_character, with_text_of}
 use Rattle.htmd_html5_laws.proofs.NodeParts.{times}
 use Rattle.htmd_html5_laws.proofs.Forests.{once_under}

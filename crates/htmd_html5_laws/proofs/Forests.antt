@@ -6,10 +6,10 @@ use Rattle.std.specs.Prelude.{◌==◌, insert}
 use Rattle.std.proofs.lemmas.Bool.{eqb-true, eqb-false, eq-eqb, ne_eqb}
 use Rattle.std.proofs.lemmas.List.{length-set, length-append}
 use Rattle.htmd_grammar.proofs.Cases.{test}
-use Rattle.htmd_html5_state.specs.Documents.{NodeValue, KindValue, new_node, parent_at, children_at, with_kind}
-use Rattle.htmd_html5_state.specs.Documents.{with_parent, with_children, with_parents, index_of, place_index}
-use Rattle.htmd_html5_state.specs.Documents.{without_child, remove_child, detach_from, detach, put_child, put, attach}
-use Rattle.htmd_html5_state.specs.Documents.{add, move_children}
+use Rattle.htmd_html5_state.specs.Nodes.{NodeValue, KindValue, new_node, parent_at, children_at, with_kind}
+use Rattle.htmd_html5_state.specs.Nodes.{with_parent, with_children, with_parents, index_of, place_index}
+use Rattle.htmd_html5_state.specs.Nodes.{without_child, remove_child, detach_from, detach, put_child, put, attach}
+use Rattle.htmd_html5_state.specs.Nodes.{add, move_children}
 use Rattle.htmd_html5_laws.proofs.NodeParts.{times, times_append, times_insert, remove_fewer, removed_once}
 use Rattle.htmd_html5_laws.proofs.NodeParts.{children_same, children_other, parent_of_children, children_of_parent}
 use Rattle.htmd_html5_laws.proofs.NodeParts.{parent_same, parent_other, has_parent, children_of_kind, parent_of_kind}

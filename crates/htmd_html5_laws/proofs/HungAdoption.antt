@@ -5,8 +5,8 @@ use Rattle.std.specs.Prelude.{◌==◌}
 use Rattle.std.proofs.lemmas.Bool.{eqb-true, eqb-false}
 use Rattle.htmd_grammar.proofs.Cases.{test}
 use Rattle.htmd_html5_state.specs.Names.{known, html}
-use Rattle.htmd_html5_state.specs.Documents.{NodeValue, KindValue, kind_at, parent_at, children_at, new_node}
-use Rattle.htmd_html5_state.specs.Documents.{place_index, detach, move_children}
+use Rattle.htmd_html5_state.specs.Nodes.{NodeValue, KindValue, kind_at, parent_at, children_at, new_node}
+use Rattle.htmd_html5_state.specs.Nodes.{place_index, detach, move_children}
 use Rattle.htmd_html5_state.specs.OpenElements.{OpenValue}
 use Rattle.htmd_html5_state.specs.State.{StateValue, on_nodes}
 use Rattle.htmd_html5_state.specs.Insertion.{opened, place}

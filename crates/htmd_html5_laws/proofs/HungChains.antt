@@ -6,8 +6,8 @@ use Rattle.std.specs.Prelude.{◌==◌, ◌&&◌, if◌then◌else◌, nat_lt}
 use Rattle.std.proofs.lemmas.Bool.{true≢false, and_parts, eqb-true, eqb-false}
 use Rattle.std.proofs.lemmas.List.{length-set}
 use Rattle.htmd_grammar.proofs.Cases.{test}
-use Rattle.htmd_html5_state.specs.Documents.{NodeValue, KindValue, kind_at, parent_at, children_at, new_node, last_in}
-use Rattle.htmd_html5_state.specs.Documents.{detach, detach_from, remove_child}
+use Rattle.htmd_html5_state.specs.Nodes.{NodeValue, KindValue, kind_at, parent_at, children_at, new_node, last_in}
+use Rattle.htmd_html5_state.specs.Nodes.{detach, detach_from, remove_child}
 use Rattle.htmd_html5_state.specs.OpenElements.{OpenValue, is_open_node, inside, around}
 use Rattle.htmd_html5_state.specs.State.{StateValue, on_formatting}
 use Rattle.htmd_html5_state.specs.Insertion.{opened}

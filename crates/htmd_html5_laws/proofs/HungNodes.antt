@@ -6,10 +6,10 @@ use Rattle.std.specs.List.{list_any}
 use Rattle.std.proofs.lemmas.Bool.{true≢false, eqb-true, eqb-false, eq-eqb, ne_eqb}
 use Rattle.std.proofs.lemmas.List.{length-set}
 use Rattle.htmd_grammar.proofs.Cases.{test}
-use Rattle.htmd_html5_state.specs.Documents.{NodeValue, KindValue, document, doctype, text, comment, element, new_node}
-use Rattle.htmd_html5_state.specs.Documents.{kind_at, parent_at, children_at, with_parent, with_children, is_number}
-use Rattle.htmd_html5_state.specs.Documents.{index_of, without_child, remove_child, detach_from, detach, with_parents}
-use Rattle.htmd_html5_state.specs.Documents.{move_children}
+use Rattle.htmd_html5_state.specs.Nodes.{NodeValue, KindValue, document, doctype, text, comment, element, new_node}
+use Rattle.htmd_html5_state.specs.Nodes.{kind_at, parent_at, children_at, with_parent, with_children, is_number}
+use Rattle.htmd_html5_state.specs.Nodes.{index_of, without_child, remove_child, detach_from, detach, with_parents}
+use Rattle.htmd_html5_state.specs.Nodes.{move_children}
 use Rattle.htmd_html5_laws.proofs.NodeTexts.{kinds, is_element, kind_read, kinds_with_parent, kinds_with_children}
 use Rattle.htmd_html5_laws.proofs.NodeTexts.{kinds_detach, kinds_move_children}
 use Rattle.htmd_html5_laws.proofs.NodeParts.{times, times_append, times_insert, children_other, parent_of_children}

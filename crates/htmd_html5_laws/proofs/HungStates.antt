@@ -7,10 +7,10 @@ use Rattle.std.proofs.lemmas.List.{length-set}
 use Rattle.htmd_grammar.proofs.Cases.{test}
 use Rattle.htmd_grammar.specs.ValueTrees.{AttributePair}
 use Rattle.htmd_html5_state.specs.Names.{ElementNameValue, known, html}
-use Rattle.htmd_html5_state.specs.Documents.{NodeValue, KindValue, document, doctype, text, comment, element, new_node}
-use Rattle.htmd_html5_state.specs.Documents.{kind_at, parent_at, children_at, with_kind, last_in, place_index, add}
-use Rattle.htmd_html5_state.specs.Documents.{kind_with_missing, add_missing, text_of, preceding, joined_with, joined_to}
-use Rattle.htmd_html5_state.specs.Documents.{or_add}
+use Rattle.htmd_html5_state.specs.Nodes.{NodeValue, KindValue, document, doctype, text, comment, element, new_node}
+use Rattle.htmd_html5_state.specs.Nodes.{kind_at, parent_at, children_at, with_kind, last_in, place_index, add}
+use Rattle.htmd_html5_state.specs.Nodes.{kind_with_missing, add_missing, text_of, preceding, joined_with, joined_to}
+use Rattle.htmd_html5_state.specs.Nodes.{or_add}
 use Rattle.htmd_html5_state.specs.OpenElements.{OpenValue, is_in, without}
 use Rattle.htmd_html5_state.specs.State.{StateValue}
 use Rattle.htmd_html5_state.specs.Insertion.{opened, current, place_by_table, foster_place, place, insert_named, insert_text}

@@ -6,7 +6,7 @@ use Rattle.std.proofs.lemmas.Bool.{true≢false, eqb-true}
 use Rattle.std.proofs.lemmas.List.{length-map}
 use Rattle.htmd_grammar.proofs.Cases.{test}
 use Rattle.htmd_html5_state.specs.Names.{ElementNameValue}
-use Rattle.htmd_html5_state.specs.Documents.{KindValue, NodeValue, document}
+use Rattle.htmd_html5_state.specs.Nodes.{KindValue, NodeValue, document}
 use Rattle.htmd_html5_state.specs.OpenElements.{OpenValue, is_open_node}
 use Rattle.htmd_html5_state.specs.Insertion.{opened}
 use Rattle.htmd_html5_state.specs.State.{StateValue, on_stack}

@@ -6,8 +6,8 @@ use Rattle.std.specs.List.{list_any}
 use Rattle.std.proofs.lemmas.Bool.{true≢false, and_parts, eqb-true, eq-eqb}
 use Rattle.htmd_grammar.proofs.Cases.{test}
 use Rattle.htmd_html5_state.specs.Names.{known, html}
-use Rattle.htmd_html5_state.specs.Documents.{KindValue, NodeValue, document, doctype, text, comment, element, kind_at}
-use Rattle.htmd_html5_state.specs.Documents.{last_in, new_node, detach, move_children}
+use Rattle.htmd_html5_state.specs.Nodes.{KindValue, NodeValue, document, doctype, text, comment, element, kind_at}
+use Rattle.htmd_html5_state.specs.Nodes.{last_in, new_node, detach, move_children}
 use Rattle.htmd_html5_state.specs.OpenElements.{OpenValue, pop, close_name, inside, around, is_open_node}
 use Rattle.htmd_html5_state.specs.State.{StateValue, on_stack, on_formatting, on_nodes}
 use Rattle.htmd_html5_state.specs.Insertion.{opened, place}

@@ -5,10 +5,10 @@ use Rattle.std.specs.Prelude.{IsUtf8, ◌==◌}
 use Rattle.std.proofs.lemmas.Bool.{true≢false, eqb-true, eq-eqb}
 use Rattle.htmd_grammar.proofs.Cases.{test}
 use Rattle.htmd_grammar.specs.ValueTrees.{AttributePair}
-use Rattle.htmd_grammar.specs.declared.content.RawElement.{RawElement}
+use Rattle.htmd_grammar.specs.declared.content_model.RawElement.{RawElement}
 use Rattle.htmd_html5_state.specs.Names.{ElementNameValue, NameValue, html}
-use Rattle.htmd_html5_state.specs.Documents.{KindValue, NodeValue, document, doctype, text, comment, element, kind_at}
-use Rattle.htmd_html5_state.specs.Documents.{last_in, add_missing, kind_with_missing, detach}
+use Rattle.htmd_html5_state.specs.Nodes.{KindValue, NodeValue, document, doctype, text, comment, element, kind_at}
+use Rattle.htmd_html5_state.specs.Nodes.{last_in, add_missing, kind_with_missing, detach}
 use Rattle.htmd_html5_state.specs.OpenElements.{OpenValue, pop}
 use Rattle.htmd_html5_state.specs.State.{StateValue, on_formatting, on_nodes}
 use Rattle.htmd_html5_state.specs.Insertion.{insert_at, insert_named, insert_element, insert_root, insert_void, insert_raw}

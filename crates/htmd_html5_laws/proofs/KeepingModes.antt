@@ -12,8 +12,8 @@ use Rattle.htmd_html5_state.specs.declared.modes.InsertionMode.TheVariants.{Init
 use Rattle.htmd_html5_state.specs.declared.modes.InsertionMode.TheVariants.{InHeadNoscript, AfterHead, InColumnGroup}
 use Rattle.htmd_html5_state.specs.declared.modes.InsertionMode.TheVariants.{AfterBody}
 use Rattle.htmd_html5.specs.Tokens.{TokenValue, start_tag, end_tag, run, comment, doctype, end_of_file}
-use Rattle.htmd_html5.specs.Answers.{Answer, done}
-use Rattle.htmd_html5.specs.Processing.{by_rules, after_answer, process_within, process, turns}
+use Rattle.htmd_html5.specs.Outcomes.{Outcome, done}
+use Rattle.htmd_html5.specs.Processing.{by_rules, after_outcome, process_within, process, turns}
 use Rattle.htmd_html5.specs.BodyStarts.{is_in_template}
 use Rattle.htmd_html5.specs.InTable.{fostered}
 use Rattle.htmd_html5.specs.ForeignContent.{end_foreign}
@@ -89,7 +89,8 @@ end_foreign_kept name ending s fewer by_rules h = either (goes_by_mode ending)
 fostered_keeps : {f : StateValue → StateValue} → Keeps f → Keeps (fostered f)
 fostered_keeps h = record { keeps = λ s sound. h.keeps (record s { foster_parenting = true }) sound }
 
-keeping : Invariant any_name (λ mode. Unit {0}) (λ name. any_act) (λ name. any_act) (λ name. any_act) Keeps Keeps Keeps
+keeping : Invariant any_name (λ mode. Unit {0}) (λ name. any_act) (λ name. any_act) (λ name. any_act) Keeps Keeps
+    Keeps
     KeepsAnswer
 keeping = record {
   acts = λ tag p a e. act_keeps tag a;
@@ -144,8 +145,8 @@ by_rules_keeps token e = by_rules_hold keeping keeping_everywhere refl token (is
 
 -- ---- a token is processed
 
-after_answer_kept : (go : StateValue → StateValue) (s : StateValue) (a : Answer)
-    → ((t : StateValue) → Sound t → Kept t (go t)) → Kept s a.state → Kept s (after_answer go a)
+after_answer_kept : (go : StateValue → StateValue) (s : StateValue) (a : Outcome)
+    → ((t : StateValue) → Sound t → Kept t (go t)) → Kept s a.state → Kept s (after_outcome go a)
 after_answer_kept go s a more here = either a.again
   where
     either : (t : Bool) → Kept s (if t then go a.state else a.state)

@@ -4,7 +4,7 @@ use Rattle.std.specs.Prelude.{if◌then◌else◌}
 use Rattle.std.proofs.lemmas.Bool.{eqb-true, eq-eqb}
 use Rattle.htmd_grammar.specs.ValueTrees.{AttributePair}
 use Rattle.htmd_html5_state.specs.Names.{NameValue, html, text_of_name, known}
-use Rattle.htmd_html5_state.specs.Documents.{element}
+use Rattle.htmd_html5_state.specs.Nodes.{element}
 use Rattle.htmd_html5_state.specs.OpenElements.{OpenValue, first_open, pop, pop_until, clear_to, without}
 use Rattle.htmd_html5_state.specs.OpenElements.{outermost, pop_while, is_in_scope, is_node_in_scope, current_is}
 use Rattle.htmd_html5_state.specs.OpenElements.{has_second}
@@ -22,7 +22,7 @@ use Rattle.htmd_html5_state.specs.declared.sets.NameSet.TheVariants.{TableRowCon
 use Rattle.htmd_html5_state.specs.declared.sets.Scope.TheVariants.{Table as TableScope}
 use Rattle.htmd_html5_state.specs.declared.names.Namespace.{Namespace}
 use Rattle.htmd_html5.specs.Tokens.{StartTagValue}
-use Rattle.htmd_html5.specs.Answers.{Answer, answer}
+use Rattle.htmd_html5.specs.Outcomes.{Outcome, outcome}
 use Rattle.htmd_html5.specs.SharedRules.{with_mode, no_frameset, add_missing_to, open_template, leave_template}
 use Rattle.htmd_html5.specs.SharedRules.{insert_head_element}
 use Rattle.htmd_html5.specs.BodyStarts.{is_in_template, open_body, add_to_this_body, replace_this_body}
@@ -67,19 +67,19 @@ use Rattle.htmd_html5_laws.proofs.RuleWalk.{left_fewer}
 use Rattle.htmd_html5_state.specs.declared.modes.InsertionMode.TheVariants.{InHead, InHeadNoscript, AfterHead, InCell}
 use Rattle.htmd_html5.specs.SharedRules.{insert_tag}
 use Rattle.htmd_html5_state.specs.declared.names.TagName.TheVariants as tags
-use Rattle.htmd_grammar.specs.declared.content.RawElement.TheVariants as raw
+use Rattle.htmd_grammar.specs.declared.content_model.RawElement.TheVariants as raw
 
--- ---- what a mode answers
+-- ---- outcomes in a mode
 
--- an answer whose state has the same texts
-pub record KeepsAnswer (f : StateValue → Answer) : Type 0 where
+-- an outcome whose state has the same texts
+pub record KeepsAnswer (f : StateValue → Outcome) : Type 0 where
   pub keeps : (s : StateValue) → Sound s → Kept s (f s).state
 
 pub says : {f : StateValue → StateValue} {more : StateValue → Bool} → Keeps f
-    → KeepsAnswer (λ s. answer (f s) (more s))
+    → KeepsAnswer (λ s. outcome (f s) (more s))
 says h = record { keeps = λ s sound. h.keeps s sound }
 
-pub answers_by_test : {f g : StateValue → Answer} (b : StateValue → Bool) → KeepsAnswer f → KeepsAnswer g
+pub answers_by_test : {f g : StateValue → Outcome} (b : StateValue → Bool) → KeepsAnswer f → KeepsAnswer g
     → KeepsAnswer (λ s. if b s then f s else g s)
 answers_by_test {f} {g} b first second = record { keeps = λ s h. either (b s) s h }
   where

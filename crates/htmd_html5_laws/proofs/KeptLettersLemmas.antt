@@ -1,6 +1,6 @@
 -- Letters are kept.
 use Rattle.std.proofs.Common.{arith}
-use Rattle.htmd_html5.specs.Documents.{state_after, html5_document}
+use Rattle.htmd_html5.specs.Html5Documents.{state_after, html5_document}
 use Rattle.htmd_nodes.specs.Items.{greatest_depth}
 use Rattle.htmd_html5_laws.specs.KeptLetters.{LettersAreKept}
 use Rattle.htmd_html5_laws.proofs.LetterLemmas.{letter_tests}

@@ -16,7 +16,7 @@ use Rattle.htmd_html5_state.specs.declared.modes.InsertionMode.TheVariants.{Afte
 use Rattle.htmd_html5_state.specs.declared.sets.NameSet.TheVariants.{Fostering}
 use Rattle.htmd_html5.specs.Tokens.{TokenValue, run}
 use Rattle.htmd_html5.specs.Runs.{kind_of_byte, is_of_kind, first_kind, first_run, after_first_run}
-use Rattle.htmd_html5.specs.Answers.{Answer}
+use Rattle.htmd_html5.specs.Outcomes.{Outcome}
 use Rattle.htmd_html5.specs.InTable.{table_text}
 use Rattle.htmd_html5.specs.Modes.{in_mode, by_mode_rules}
 use Rattle.htmd_html5.specs.ForeignContent.{is_foreign, in_foreign_content}
@@ -34,7 +34,7 @@ use Rattle.htmd_html5_laws.proofs.TextsPut.{occurs_nil}
 use Rattle.htmd_html5_laws.proofs.Taking.{Grew, kept_grew, grew_as, grew_then}
 use Rattle.htmd_html5_laws.proofs.TakingRuns.{by_first_kind}
 use Rattle.htmd_html5_laws.proofs.TakingTexts.{RunParts, run_parts}
-use Rattle.htmd_html5_laws.proofs.PuttingRuns.{rank, rank_positive, rank_at_most, Ended, Outcome, finished, goes_on, white_of}
+use Rattle.htmd_html5_laws.proofs.PuttingRuns.{rank, rank_positive, rank_at_most, Ended, PutOutcome, finished, goes_on, white_of}
 use Rattle.htmd_html5_laws.proofs.PuttingRuns.{white_ended, nulls_outcome, characters_outcome}
 use Rattle.htmd_html5_laws.proofs.PuttingTexts.{filled}
 use Rattle.htmd_html5_laws.proofs.OrderedEarly.{Stage, Staged, Calm}
@@ -95,7 +95,7 @@ by_mode_again token s f e = either (is_foreign token s) f
     either false g = e
 
 -- the state that a run is left to
-abbrev Going : List ℕ → Answer → Type 0
+abbrev Going : List ℕ → Outcome → Type 0
 Going letters a = (a.again ≡ true → Staged letter_choice letters a.state) × Calm a.state
 
 module _ (c : ℕ) (nulls : Bool) (tests : nulls ≡ true → CharacterTests c) where
@@ -111,7 +111,7 @@ module _ (c : ℕ) (nulls : Bool) (tests : nulls ≡ true → CharacterTests c) 
     fits : count + occurrences c (kept t.rest t.state) ≡ occurrences c (kept text s)
     clean : Clean nulls t.rest
 
-  white_part : (text : List ℕ) (s : StateValue) (a : Answer) (go : StateValue → Taken)
+  white_part : (text : List ℕ) (s : StateValue) (a : Outcome) (go : StateValue → Taken)
       → first_kind text ≡ kind_of_byte 32 → Clean nulls text → RunParts c text → Ended c
       (white_of c s.mode (first_run text)) s a
       → KeptPart text s (after_run go (after_first_run text) a)
@@ -136,11 +136,11 @@ module _ (c : ℕ) (nulls : Bool) (tests : nulls ≡ true → CharacterTests c) 
           omega arith
       fits_by false = sym parts.count
 
-  other_part : (text letters : List ℕ) (s : StateValue) (a : Answer) (go : StateValue → Taken)
+  other_part : (text letters : List ℕ) (s : StateValue) (a : Outcome) (go : StateValue → Taken)
       → Clean nulls text →
       Dark text
       → (is_before_head s.mode ≡ true → a.again ≡ true) → RunParts c text → Going letters a
-      → Outcome c (occurrences c (first_run text)) (rank s.mode) s a
+      → PutOutcome c (occurrences c (first_run text)) (rank s.mode) s a
       → ((t : StateValue) → rank t.mode < rank s.mode → Sound t → Calm t → Staged letter_choice letters t
       → KeptPart text t (go t))
       → KeptPart text s (after_run go (after_first_run text) a)

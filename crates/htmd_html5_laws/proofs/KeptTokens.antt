@@ -12,14 +12,14 @@ use Rattle.htmd_html5_state.specs.State.{StateValue, initial_state}
 use Rattle.htmd_html5_state.specs.Foreign.{current_is_html}
 use Rattle.htmd_html5.specs.Texts.{put_text}
 use Rattle.htmd_html5.specs.Feeding.{is_text_mode, put_raw_text, feed_text, without_line_feed, with_nothing_skipped, feed}
-use Rattle.htmd_html5.specs.Documents.{next_read, is_end, after_token, read_within, state_after, html5_document}
+use Rattle.htmd_html5.specs.Html5Documents.{next_read, is_end, after_token, read_within, state_after, html5_document}
 use Rattle.htmd_html5_laws.specs.PageLetters.{occurrences, occurrences_in, texts_of}
 use Rattle.htmd_html5_laws.specs.TextKept.{has_no_null, no_null_comes}
 use Rattle.htmd_html5_laws.proofs.WhiteRuns.{Clean, clean_shortened}
-use Rattle.htmd_html5_laws.specs.HarmlessTags.{tokens_after, tokens_within, page_tokens, drops_text_in, is_harmless}
+use Rattle.htmd_html5_laws.specs.DroppedTexts.{tokens_after, tokens_within, page_tokens, drops_text_in, drops_no_text}
 use Rattle.std.specs.Prelude.{codes}
 use Rattle.std.specs.Str.{bytes_eq}
-use Rattle.htmd_html5_laws.specs.LetterOrder.{is_orderly, all_tags_are_orderly, moves_text_in}
+use Rattle.htmd_html5_laws.specs.LetterOrder.{moves_no_text, no_tag_moves_text, moves_text_in}
 use Rattle.htmd_html5_laws.specs.TextKept.{is_before_head, drops_white, without_white, kept_text, with_kept_text, kept_after}
 use Rattle.htmd_html5_laws.specs.TextKept.{kept_within, kept_texts, is_kept, CharactersAreKept}
 use Rattle.htmd_html5_laws.proofs.Utf8Tokens.{TokenUtf8, ReadUtf8, next_token_utf8, preprocessed_utf8}
@@ -33,7 +33,7 @@ use Rattle.htmd_html5_laws.proofs.KeptTexts.{put_text_kept}
 use Rattle.htmd_html5_laws.proofs.NodeWeights.{nodes_utf8}
 use Rattle.htmd_html5_laws.proofs.LaidTexts.{laid_texts}
 use Rattle.htmd_html5_laws.proofs.WholeTrees.{ranked_hang, whole_texts}
-use Rattle.htmd_html5_laws.proofs.HarmlessTokens.{harmless_hung}
+use Rattle.htmd_html5_laws.proofs.UndroppedTokens.{harmless_hung}
 use Rattle.htmd_html5_laws.proofs.OrderedEarly.{Staged}
 use Rattle.htmd_html5_laws.proofs.OrderedTokens.{feed_stage, stage_skipped, begins_staged, kept_letters, both_false, orderly_tag}
 use Rattle.htmd_html5_tokens.specs.Tokens as tokens
@@ -130,11 +130,11 @@ module _ (c : ℕ) (nulls : Bool) (tests : nulls ≡ true → CharacterTests c) 
 
   -- the tokens that are read from a state on
   record Allowed (k : ℕ) (page : List ℕ) (s : StateValue) : Type 0 where
-    orderly : list_all is_orderly (tokens_within k page s) ≡ true
+    moving_none : list_all moves_no_text (tokens_within k page s) ≡ true
     clean : nulls ≡ false → list_all has_no_null (tokens_within k page s) ≡ true
 
   after_kept_all : (k : ℕ) (read : Read) (letters : List ℕ) (s : StateValue) → Sound s → ReadUtf8 read
-      → list_all is_orderly (tokens_after (tokens_within k) read s) ≡ true
+      → list_all moves_no_text (tokens_after (tokens_within k) read s) ≡ true
       → (nulls ≡ false → list_all has_no_null (tokens_after (tokens_within k) read s) ≡ true)
       → Staged letter_choice letters s
       → ((more : List ℕ) (t : StateValue) → Allowed k read.rest t → Staged letter_choice more t → Sound t
@@ -143,7 +143,7 @@ module _ (c : ℕ) (nulls : Bool) (tests : nulls ≡ true → CharacterTests c) 
   after_kept_all k read letters s sound u e n h more = either (is_end read.token) refl e n
     where
       either : (b : Bool) → is_end read.token ≡ b
-          → list_all is_orderly
+          → list_all moves_no_text
           (if b then [] else read.token ∷ tokens_within k read.rest (feed read.token s)) ≡ true
           → (nulls ≡ false → list_all has_no_null
           (if b then [] else read.token ∷ tokens_within k read.rest (feed read.token s)) ≡ true)
@@ -156,8 +156,8 @@ module _ (c : ℕ) (nulls : Bool) (tests : nulls ≡ true → CharacterTests c) 
           (fed_kept read.token letters s u.token (λ z. end_is_clean read.token g) h sound)
       either false g f n =
           let sum = count_kept read.token s (kept_within k read.rest (feed read.token s)) in
-          let both = and_parts (is_orderly read.token)
-          (list_all is_orderly (tokens_within k read.rest (feed read.token s))) f in
+          let both = and_parts (moves_no_text read.token)
+          (list_all moves_no_text (tokens_within k read.rest (feed read.token s))) f in
           let none = λ (z : nulls ≡ false). and_parts (has_no_null read.token)
           (list_all has_no_null (tokens_within k read.rest (feed read.token s))) (n z) in
           let first = fed_kept read.token letters s u.token (λ z. (none z).0) h sound in
@@ -165,7 +165,7 @@ module _ (c : ℕ) (nulls : Bool) (tests : nulls ≡ true → CharacterTests c) 
           (occurrences_in c (with_kept_text read.token s (kept_within k read.rest (feed read.token s))))
           (omega arith) first
           (more (letters ++ kept_letters letter_choice read.token s) (feed read.token s)
-          (record { orderly = both.1; clean = λ z. (none z).1 })
+          (record { moving_none = both.1; clean = λ z. (none z).1 })
           (feed_stage letter_choice letters read.token s u.token both.0 (λ z. absurd (true≢false z))
           (λ z. absurd (true≢false z)) h) first.sound)
 
@@ -175,47 +175,47 @@ module _ (c : ℕ) (nulls : Bool) (tests : nulls ≡ true → CharacterTests c) 
   read_kept zero page letters s u a h sound = fed_kept tokens.end_of_file letters s tt (λ z. refl) h sound
   read_kept (suc k) page letters s u a h sound =
       let r = next_token_utf8 s.content (not (current_is_html s.stack)) page u in
-      after_kept_all k (next_read page s) letters s sound r a.orderly a.clean h
+      after_kept_all k (next_read page s) letters s sound r a.moving_none a.clean h
       (λ more t f g x. read_kept k (next_read page s).rest more t r.rest f g x)
 
-  state_kept : (scripting : Bool) (page : List ℕ) → IsUtf8 page → all_tags_are_orderly scripting page ≡ true
+  state_kept : (scripting : Bool) (page : List ℕ) → IsUtf8 page → no_tag_moves_text scripting page ≡ true
       → (nulls ≡ false → no_null_comes scripting page ≡ true)
       → Grew c (occurrences_in c (kept_texts scripting page)) (initial_state scripting) (state_after scripting page)
   state_kept scripting page u e n =
       read_kept (length (preprocessed page)) (preprocessed page) [] (initial_state scripting)
-      (preprocessed_utf8 page u) (record { orderly = e; clean = n }) (begins_staged letter_choice scripting)
+      (preprocessed_utf8 page u) (record { moving_none = e; clean = n }) (begins_staged letter_choice scripting)
       (initial_sound scripting)
 
 -- ---- such a page drops no text
 
-one_harmless : (token : tokens.TokenValue) → is_orderly token ≡ true → is_harmless token ≡ true
-one_harmless (tokens.start_tag tag) e =
+one_drops_no_text : (token : tokens.TokenValue) → moves_no_text token ≡ true → drops_no_text token ≡ true
+one_drops_no_text (tokens.start_tag tag) e =
     ap not (both_false (drops_text_in tag.name) (bytes_eq tag.name (codes "table"))
     (orderly_tag (moves_text_in tag.name) e)).0
-one_harmless (tokens.text s) e = refl
-one_harmless (tokens.end_tag tag) e = refl
-one_harmless (tokens.comment s) e = refl
-one_harmless (tokens.doctype quirks) e = refl
-one_harmless tokens.end_of_file e = refl
+one_drops_no_text (tokens.text s) e = refl
+one_drops_no_text (tokens.end_tag tag) e = refl
+one_drops_no_text (tokens.comment s) e = refl
+one_drops_no_text (tokens.doctype quirks) e = refl
+one_drops_no_text tokens.end_of_file e = refl
 
-pub all_harmless : (ts : List tokens.TokenValue) → list_all is_orderly ts ≡ true → list_all is_harmless ts
+pub none_drops_text : (ts : List tokens.TokenValue) → list_all moves_no_text ts ≡ true → list_all drops_no_text ts
     ≡ true
-all_harmless [] e = refl
-all_harmless (t ∷ ts) e =
-    let parts = and_parts (is_orderly t) (list_all is_orderly ts) e in
-    rw (one_harmless t parts.0) (all_harmless ts parts.1)
+none_drops_text [] e = refl
+none_drops_text (t ∷ ts) e =
+    let parts = and_parts (moves_no_text t) (list_all moves_no_text ts) e in
+    rw (one_drops_no_text t parts.0) (none_drops_text ts parts.1)
 
 -- ---- the law
 
 module _ (c : ℕ) (nulls : Bool) (tests : nulls ≡ true → CharacterTests c) where
-  pub counts_kept : (scripting : Bool) (page : List ℕ) → IsUtf8 page → all_tags_are_orderly scripting page
+  pub counts_kept : (scripting : Bool) (page : List ℕ) → IsUtf8 page → no_tag_moves_text scripting page
       ≡ true
       → (nulls ≡ false → no_null_comes scripting page ≡ true)
       → occurrences_in c (texts_of (html5_document scripting page)) ≡ occurrences_in c (kept_texts scripting page)
   unfolding html5_document
-  counts_kept scripting page u orderly clean =
-      let a = state_kept c nulls tests scripting page u orderly clean in
-      let hung = harmless_hung scripting page (all_harmless (page_tokens scripting page) orderly) in
+  counts_kept scripting page u moving_none clean =
+      let a = state_kept c nulls tests scripting page u moving_none clean in
+      let hung = harmless_hung scripting page (none_drops_text (page_tokens scripting page) moving_none) in
       let b = laid_texts c greatest_depth (state_after scripting page).nodes a.sound in
       let d = whole_texts c (state_after scripting page).nodes a.sound.root a.sound.forest
       (ranked_hang hung.rank (state_after scripting page).nodes a.sound.root hung.root hung.hangs) greatest_depth
@@ -224,5 +224,5 @@ module _ (c : ℕ) (nulls : Bool) (tests : nulls ≡ true → CharacterTests c) 
       omega arith
 
 pub characters_kept : CharactersAreKept
-characters_kept scripting page c u orderly is =
-    counts_kept c true (λ n. character_tests c is) scripting page u orderly (λ z. absurd (true≢false z))
+characters_kept scripting page c u moving_none is =
+    counts_kept c true (λ n. character_tests c is) scripting page u moving_none (λ z. absurd (true≢false z))

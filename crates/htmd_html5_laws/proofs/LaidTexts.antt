@@ -4,8 +4,8 @@ use Rattle.std.proofs.Common.{◌++◌, length, refl, sym, ap, subst, arith, con
 use Rattle.std.specs.Prelude.{if◌then◌else◌, IsUtf8}
 use Rattle.std.proofs.lemmas.Bool.{true≢false}
 use Rattle.htmd_html5_state.specs.Names.{text_of_element_name}
-use Rattle.htmd_html5_state.specs.Documents.{KindValue, NodeValue, document, doctype, text, comment, element, kind_at}
-use Rattle.htmd_html5_state.specs.Documents.{node_at, children_at, with_kind}
+use Rattle.htmd_html5_state.specs.Nodes.{KindValue, NodeValue, document, doctype, text, comment, element, kind_at}
+use Rattle.htmd_html5_state.specs.Nodes.{node_at, children_at, with_kind}
 use Rattle.htmd_html5_state.specs.OpenElements.{OpenValue}
 use Rattle.htmd_html5.specs.Layout.{Coming, coming, Layout, next_texts, with_text, with_kind_of, without_node, put_next}
 use Rattle.htmd_html5.specs.Layout.{layout_within, first_layout, document_of, is_deepest}

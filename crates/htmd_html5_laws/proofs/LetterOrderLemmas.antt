@@ -15,7 +15,7 @@ use Rattle.htmd_html5_state.specs.State.{StateValue, initial_state}
 use Rattle.htmd_html5_state.specs.Foreign.{current_is_html}
 use Rattle.htmd_html5.specs.Runs.{first_kind, first_run, after_first_run, is_of_kind}
 use Rattle.htmd_html5.specs.Feeding.{without_line_feed, feed}
-use Rattle.htmd_html5.specs.Documents.{next_read, is_end, html5_document}
+use Rattle.htmd_html5.specs.Html5Documents.{next_read, is_end, html5_document}
 use Rattle.htmd_html5_laws.specs.PageLetters.{is_letter, with_text_of, texts_within, texts_of, token_texts}
 use Rattle.htmd_html5_laws.specs.LetterOrder.{letters_of, letters_in, LettersStandInOrder}
 use Rattle.htmd_html5_laws.specs.TextKept.{without_white, drops_white, kept_text, with_kept_text, kept_within, kept_texts}

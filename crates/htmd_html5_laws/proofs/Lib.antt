@@ -58,11 +58,11 @@ pub mod PlainModes
 pub mod PlainRuns
 pub mod ColumnStates
 pub mod ColumnTags
-pub mod HarmlessTokens
-pub mod HarmlessLettersLemmas
+pub mod UndroppedTokens
+pub mod UndroppedLettersLemmas
 pub mod PageLettersLemmas
 pub mod Sublists
-pub mod Rows
+pub mod ChildRows
 pub mod Counted
 pub mod OrderedNodes
 pub mod OrderedInserts
@@ -91,7 +91,7 @@ pub mod StrictReferencesLemmas
 pub mod StrictCuts
 pub mod StrictBytes
 pub mod StrictTagsLemmas
-pub mod StrictPieces
+pub mod StrictTokenCuts
 pub mod StrictRawTexts
 pub mod StrictLineFeeds
 pub mod StrictSteps

@@ -5,9 +5,9 @@ use Rattle.std.proofs.lemmas.Bool.{true≢false}
 use Rattle.std.proofs.lemmas.List.{length-map, length-set, length-append}
 use Rattle.htmd_grammar.specs.ValueTrees.{AttributePair}
 use Rattle.htmd_html5_state.specs.Names.{ElementNameValue}
-use Rattle.htmd_html5_state.specs.Documents.{KindValue, NodeValue, document, doctype, text, comment, element, kind_at}
-use Rattle.htmd_html5_state.specs.Documents.{add, add_text, add_missing, kind_with_missing, text_of, joined_with, joined_to}
-use Rattle.htmd_html5_state.specs.Documents.{or_add, preceding}
+use Rattle.htmd_html5_state.specs.Nodes.{KindValue, NodeValue, document, doctype, text, comment, element, kind_at}
+use Rattle.htmd_html5_state.specs.Nodes.{add, add_text, add_missing, kind_with_missing, text_of, joined_with, joined_to}
+use Rattle.htmd_html5_state.specs.Nodes.{or_add, preceding}
 use Rattle.htmd_html5_laws.proofs.NodeTexts.{kinds, kinds_add, kinds_with_kind, kind_read, kind_new}
 
 -- an element whose name passes

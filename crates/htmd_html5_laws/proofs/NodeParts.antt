@@ -6,8 +6,8 @@ use Rattle.std.specs.Prelude.{◌==◌, insert, remove}
 use Rattle.std.specs.List.{list_any}
 use Rattle.std.proofs.lemmas.List.{take-append-drop}
 use Rattle.htmd_grammar.proofs.Cases.{test}
-use Rattle.htmd_html5_state.specs.Documents.{NodeValue, KindValue, new_node, parent_at, children_at, with_kind}
-use Rattle.htmd_html5_state.specs.Documents.{with_parent, with_children, is_number, index_of}
+use Rattle.htmd_html5_state.specs.Nodes.{NodeValue, KindValue, new_node, parent_at, children_at, with_kind}
+use Rattle.htmd_html5_state.specs.Nodes.{with_parent, with_children, is_number, index_of}
 
 -- ---- how often a number stands in a list
 

@@ -5,11 +5,11 @@ use Rattle.std.proofs.Math.Seq.{map-set_same}
 use Rattle.std.proofs.lemmas.List.{map-set, map-append}
 use Rattle.std.proofs.lemmas.Bool.{true≢false}
 use Rattle.htmd_grammar.specs.ValueTrees.{AttributePair}
-use Rattle.htmd_html5_state.specs.Documents.{NodeValue, KindValue, document, doctype, text, comment, element}
-use Rattle.htmd_html5_state.specs.Documents.{new_node, kind_at, with_kind, with_parent, with_children, with_parents}
-use Rattle.htmd_html5_state.specs.Documents.{detach, detach_from, put, attach, add, move_children}
+use Rattle.htmd_html5_state.specs.Nodes.{NodeValue, KindValue, document, doctype, text, comment, element}
+use Rattle.htmd_html5_state.specs.Nodes.{new_node, kind_at, with_kind, with_parent, with_children, with_parents}
+use Rattle.htmd_html5_state.specs.Nodes.{detach, detach_from, put, attach, add, move_children}
 use Rattle.htmd_html5_laws.specs.DocumentLetters.{with_text_at, node_texts}
-use Rattle.htmd_html5_state.specs.Documents.{remove_child, put_child, kind_with_missing, parent_at, children_at}
+use Rattle.htmd_html5_state.specs.Nodes.{remove_child, put_child, kind_with_missing, parent_at, children_at}
 
 -- ---- what the nodes are
 

@@ -6,8 +6,8 @@ use Rattle.std.specs.Prelude.{◌==◌, is_some, if◌then◌else◌, IsUtf8}
 use Rattle.std.proofs.lemmas.Bool.{eqb-true, eqb-false, eq-eqb}
 use Rattle.std.proofs.lemmas.List.Elements.{All-head}
 use Rattle.htmd_grammar.proofs.Cases.{test}
-use Rattle.htmd_html5_state.specs.Documents.{KindValue, NodeValue, document, doctype, text, comment, element, kind_at}
-use Rattle.htmd_html5_state.specs.Documents.{node_at, children_at, parent_at, with_kind, text_of}
+use Rattle.htmd_html5_state.specs.Nodes.{KindValue, NodeValue, document, doctype, text, comment, element, kind_at}
+use Rattle.htmd_html5_state.specs.Nodes.{node_at, children_at, parent_at, with_kind, text_of}
 use Rattle.htmd_html5.specs.Layout.{Coming, coming, Layout, or_text, next_texts, after_next_texts, without_node}
 use Rattle.htmd_nodes.specs.Items.{Item, Data, document_node, doctype_node, text_node, comment_node, element_node}
 use Rattle.htmd_html5_laws.specs.PageLetters.{occurrences, occurrences_in, with_text_in, texts_of}

@@ -4,7 +4,7 @@ use Rattle.std.proofs.lemmas.Bool.{true≢false}
 use Rattle.std.specs.Prelude.{◌==◌, ◌&&◌, if◌then◌else◌}
 use Rattle.htmd_grammar.proofs.Cases.{test}
 use Rattle.htmd_html5_state.specs.Names.{NameValue, html}
-use Rattle.htmd_html5_state.specs.Documents.{NodeValue}
+use Rattle.htmd_html5_state.specs.Nodes.{NodeValue}
 use Rattle.htmd_html5_state.specs.OpenElements.{OpenValue, is_in, has_name, is_open_node, current_is, is_in_scope, is_closable}
 use Rattle.htmd_html5_state.specs.OpenElements.{pop, pop_through, pop_until, clear_to, pop_while, close, close_name}
 use Rattle.htmd_html5_state.specs.OpenElements.{outermost, without, inside, around}

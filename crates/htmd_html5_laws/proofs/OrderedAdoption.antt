@@ -5,7 +5,7 @@ use Rattle.std.specs.Prelude.{if◌then◌else◌, ◌&&◌, ◌-◌, not, nat_l
 use Rattle.std.specs.List.{list_any}
 use Rattle.std.proofs.lemmas.Bool.{and_parts, eq-eqb, ne_eqb}
 use Rattle.htmd_html5_state.specs.Names.{known, html}
-use Rattle.htmd_html5_state.specs.Documents.{NodeValue, kind_at, children_at, new_node, last_in, detach, put}
+use Rattle.htmd_html5_state.specs.Nodes.{NodeValue, kind_at, children_at, new_node, last_in, detach, put}
 use Rattle.htmd_html5_state.specs.OpenElements.{OpenValue, is_open_node, pop, close_name, inside, around}
 use Rattle.htmd_html5_state.specs.State.{StateValue, on_nodes, on_stack, on_formatting}
 use Rattle.htmd_html5_state.specs.Insertion.{opened, current, place}

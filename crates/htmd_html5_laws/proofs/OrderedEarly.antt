@@ -5,7 +5,7 @@ use Rattle.std.specs.Prelude.{if◌then◌else◌}
 use Rattle.std.proofs.lemmas.Bool.{true≢false}
 use Rattle.htmd_grammar.specs.ValueTrees.{AttributePair}
 use Rattle.htmd_html5_state.specs.Names.{NameValue, known, html}
-use Rattle.htmd_html5_state.specs.Documents.{doctype as doctype_kind, text}
+use Rattle.htmd_html5_state.specs.Nodes.{doctype as doctype_kind, text}
 use Rattle.htmd_html5_state.specs.OpenElements.{OpenValue, is_open, first_open, pop}
 use Rattle.htmd_html5_state.specs.State.{StateValue}
 use Rattle.htmd_html5_state.specs.Insertion.{opened, current, insert_doctype}
@@ -16,7 +16,7 @@ use Rattle.htmd_html5_state.specs.declared.modes.InsertionMode.TheVariants.{Afte
 use Rattle.htmd_html5_state.specs.declared.modes.InsertionMode.{InsertionMode}
 use Rattle.htmd_html5_state.specs.declared.sets.NameSet.TheVariants.{Only}
 use Rattle.htmd_html5.specs.Tokens.{StartTagValue, TokenValue, start_tag, end_tag, run, comment, doctype, end_of_file}
-use Rattle.htmd_html5.specs.Answers.{Answer, answer, done}
+use Rattle.htmd_html5.specs.Outcomes.{Outcome, outcome, done}
 use Rattle.htmd_html5.specs.Feeding.{is_text_mode}
 use Rattle.htmd_html5.specs.SharedRules.{add_missing_to, add_to_root}
 use Rattle.htmd_html5.specs.Initial.{leave_initial, initial}
@@ -133,14 +133,14 @@ abbrev pub Calm : StateValue → Type 0
 Calm s = is_text_mode s.content ≡ false
 
 module _ (choice : Choice) where
-  -- what a mode answers
-  pub record StageAnswer (letters : List ℕ) (a : Answer) : Type 0 where
+  -- outcomes in a mode
+  pub record StageAnswer (letters : List ℕ) (a : Outcome) : Type 0 where
     pub stage : Staged choice letters a.state
     pub calm : a.again ≡ true → Calm a.state
 
   pub calm_answer : (mode : InsertionMode) (more : Bool) (letters : List ℕ) (s : StateValue)
       → is_text_mode s.content ≡ false → s.mode ≡ mode → Stage choice false mode letters s
-      → StageAnswer letters (answer s more)
+      → StageAnswer letters (outcome s more)
   calm_answer mode more letters s e f h =
       record { stage = staged choice false mode letters s e f h; calm = λ z. e }
 
@@ -150,7 +150,7 @@ module _ (choice : Choice) where
       record { stage = staged choice true mode letters s e f h; calm = λ z. absurd (true≢false (sym z)) }
 
   pub late_answers : (more : Bool) (letters : List ℕ) (s : StateValue) → Late choice letters s
-      → is_text_mode s.content ≡ false → StageAnswer letters (answer s more)
+      → is_text_mode s.content ≡ false → StageAnswer letters (outcome s more)
   late_answers more letters s h e = record { stage = staged_late choice letters s h; calm = λ z. e }
 
   -- ---- steps

@@ -4,10 +4,10 @@ use Rattle.std.proofs.Common.{Option, Some, None, refl, sym, ap, subst, arith, c
 use Rattle.std.specs.Prelude.{if◌then◌else◌, ◌||◌, not}
 use Rattle.std.proofs.lemmas.Bool.{true≢false, eq-eqb, ne_eqb}
 use Rattle.htmd_grammar.specs.ValueTrees.{AttributePair}
-use Rattle.htmd_grammar.specs.declared.content.RawElement.{RawElement}
+use Rattle.htmd_grammar.specs.declared.content_model.RawElement.{RawElement}
 use Rattle.htmd_html5_state.specs.Names.{NameValue, ElementNameValue, known, html, svg, math}
-use Rattle.htmd_html5_state.specs.Documents.{comment as comment_kind}
-use Rattle.htmd_html5_state.specs.Documents.{NodeValue, kind_at, last_in}
+use Rattle.htmd_html5_state.specs.Nodes.{comment as comment_kind}
+use Rattle.htmd_html5_state.specs.Nodes.{NodeValue, kind_at, last_in}
 use Rattle.htmd_html5_state.specs.OpenElements.{OpenValue, pop, without}
 use Rattle.htmd_html5_state.specs.State.{StateValue, on_stack}
 use Rattle.htmd_html5_state.specs.Foreign.{current_is_html, is_html_name}
@@ -19,7 +19,7 @@ use Rattle.htmd_html5_state.specs.declared.modes.InsertionMode.TheVariants.{InHe
 use Rattle.htmd_html5_state.specs.declared.modes.InsertionMode.TheVariants.{AfterAfterBody, InSelect}
 use Rattle.htmd_html5_state.specs.declared.modes.InsertionMode.{InsertionMode}
 use Rattle.htmd_html5.specs.Tokens.{StartTagValue, TokenValue, start_tag, end_tag, run, comment, doctype, end_of_file}
-use Rattle.htmd_html5.specs.Answers.{answer, done, again}
+use Rattle.htmd_html5.specs.Outcomes.{outcome, done, again}
 use Rattle.htmd_html5.specs.Feeding.{is_text_mode}
 use Rattle.htmd_html5.specs.SharedRules.{add_to_root, insert_head_element, insert_raw_tag, insert_void_tag}
 use Rattle.htmd_html5.specs.SharedRules.{end_template, insert_tag}
@@ -49,7 +49,7 @@ use Rattle.htmd_html5_laws.proofs.OrderedStates.{insert_void_orders, insert_raw_
 use Rattle.htmd_html5_laws.proofs.OrderedLate.{Late, late_step, by_rules_late}
 use Rattle.htmd_html5_laws.proofs.OrderedRules.{IsOrderly, plain_or_column, by_column_name, no_frameset_orders}
 use Rattle.htmd_html5_state.specs.declared.names.TagName.TheVariants as tags
-use Rattle.htmd_grammar.specs.declared.content.RawElement.TheVariants as raw
+use Rattle.htmd_grammar.specs.declared.content_model.RawElement.TheVariants as raw
 use Rattle.htmd_html5.specs.ForeignContent.{is_for_math_text, is_for_annotation, is_for_html_point}
 use Rattle.htmd_html5_state.specs.Foreign.{is_math_text_point, is_annotation, is_html_point}
 use Rattle.std.specs.Prelude.{◌&&◌}
@@ -174,13 +174,13 @@ module _ (choice : Choice) where
   pub head_closed : (more : Bool) (letters : List ℕ) (s : StateValue) → is_text_mode s.content ≡ false
       → Early choice
       letters s
-      → HeadAt 0 s → StageAnswer choice letters (answer (close_head s) more)
+      → HeadAt 0 s → StageAnswer choice letters (outcome (close_head s) more)
   head_closed more letters s e h at =
       calm_answer choice AfterHead more letters (close_head s) e refl
       (head_closed_in choice.reopens letters s s.head refl h at)
 
   pub noscript_closed : (more : Bool) (letters : List ℕ) (s : StateValue) → is_text_mode s.content ≡ false
-      → Early choice letters s → HeadAt 1 s → StageAnswer choice letters (answer (close_noscript s) more)
+      → Early choice letters s → HeadAt 1 s → StageAnswer choice letters (outcome (close_noscript s) more)
   noscript_closed more letters s e h at =
       calm_answer choice InHead more letters (close_noscript s) e refl (
         to_mode letters s (pop s.stack) (pop s.stack) InHead refl

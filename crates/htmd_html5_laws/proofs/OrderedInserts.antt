@@ -6,16 +6,16 @@ use Rattle.std.specs.Prelude.{◌==◌, insert, IsUtf8}
 use Rattle.std.proofs.lemmas.Bool.{eqb-true, eqb-false, eq-eqb, ne_eqb}
 use Rattle.std.proofs.Math.Seq.{take-length, drop-length}
 use Rattle.htmd_grammar.proofs.Cases.{test}
-use Rattle.htmd_html5_state.specs.Documents.{NodeValue, KindValue, text, new_node}
-use Rattle.htmd_html5_state.specs.Documents.{kind_at, parent_at, children_at, with_children, last_in}
-use Rattle.htmd_html5_state.specs.Documents.{add}
+use Rattle.htmd_html5_state.specs.Nodes.{NodeValue, KindValue, text, new_node}
+use Rattle.htmd_html5_state.specs.Nodes.{kind_at, parent_at, children_at, with_children, last_in}
+use Rattle.htmd_html5_state.specs.Nodes.{add}
 use Rattle.htmd_html5_laws.proofs.NodeParts.{times, children_other, children_of_parent}
 use Rattle.htmd_html5_laws.proofs.NodeParts.{children_with_new, parent_beyond}
 use Rattle.htmd_html5_laws.proofs.Forests.{IsForest, length_new, once_under}
 use Rattle.htmd_html5_laws.proofs.HungNodes.{put_kind, children_in, kind_with_new, kind_new_at}
 use Rattle.htmd_html5_laws.proofs.Sublists.{Sub, window_grown, window_new, sub_all}
-use Rattle.htmd_html5_laws.proofs.Rows.{Row}
-use Rattle.htmd_html5_laws.proofs.Rows.{row_marks}
+use Rattle.htmd_html5_laws.proofs.ChildRows.{Row}
+use Rattle.htmd_html5_laws.proofs.ChildRows.{row_marks}
 use Rattle.htmd_html5_laws.proofs.OrderedNodes.{bears, Labels, until, marks, TextIn, FitsBy, none_out}
 use Rattle.htmd_html5_laws.proofs.Counted.{Choice, counted_of}
 

@@ -10,7 +10,7 @@ use Rattle.htmd_html5_state.specs.Foreign.{ForeignEnd, by_mode, closed_to, forei
 use Rattle.htmd_html5_state.specs.declared.modes.InsertionMode.{InsertionMode}
 use Rattle.htmd_html5_state.specs.declared.modes.InsertionMode.TheVariants.{InBody, InSelect, AfterBody, AfterAfterBody}
 use Rattle.htmd_html5.specs.Tokens.{TokenValue, start_tag, end_tag}
-use Rattle.htmd_html5.specs.Answers.{Answer, answer}
+use Rattle.htmd_html5.specs.Outcomes.{Outcome, outcome}
 use Rattle.htmd_html5.specs.BodyStarts.{is_in_template}
 use Rattle.htmd_html5.specs.Feeding.{is_text_mode}
 use Rattle.htmd_html5.specs.ForeignContent.{end_foreign}
@@ -77,8 +77,8 @@ module _ (choice : Choice) where
     hung : Hung s
     ordered : Ordered choice letters s
 
-  -- an answer to such a state
-  record LateOrders (f : StateValue → Answer) : Type 0 where
+  -- an outcome to such a state
+  record LateOrders (f : StateValue → Outcome) : Type 0 where
     orders : (letters : List ℕ) (s : StateValue) → is_late s.mode ≡ true → InOrder letters s
         → InOrder letters (f s).state
 
@@ -105,7 +105,7 @@ module _ (choice : Choice) where
   end_foreign_order name by_rules (closed_to es) letters s e l h = order_fewer letters es s e h
   end_foreign_order name by_rules foreign.nothing letters s e l h = h
 
-  either_order : {f g : StateValue → Answer} (b : StateValue → Bool) → LateOrders f → LateOrders g
+  either_order : {f g : StateValue → Outcome} (b : StateValue → Bool) → LateOrders f → LateOrders g
       → LateOrders (λ s. if b s then f s else g s)
   either_order {f} {g} b first second = record { orders = λ letters s l h. either (b s) letters s l h }
     where
@@ -115,7 +115,7 @@ module _ (choice : Choice) where
       either false letters s l h = second.orders letters s l h
 
   said : {f : StateValue → StateValue} {more : StateValue → Bool} → Orders choice f
-      → LateOrders (λ s. answer (f s) (more s))
+      → LateOrders (λ s. outcome (f s) (more s))
   said h = record { orders = λ letters s l x. order_step h letters s x }
 
   order : Invariant is_orderly_name (λ mode. is_late mode ≡ true) orderly_act orderly_act orderly_act (Orders choice)
@@ -168,7 +168,7 @@ module _ (choice : Choice) where
     pub rooted : RootedAt body s
     pub raw : is_text_mode s.content ≡ true → Rooted body (pop s.stack)
 
-  pub record LateAnswer (letters : List ℕ) (a : Answer) : Type 0 where
+  pub record LateAnswer (letters : List ℕ) (a : Outcome) : Type 0 where
     pub late : Late letters a.state
     pub calm : a.again ≡ true → is_text_mode a.state.content ≡ false
 
@@ -190,13 +190,13 @@ module _ (choice : Choice) where
         calm = calm_of h.body (by_rules t s) (y.rest e);
       }
     where
-      raw_of : (body : ℕ) (a : Answer)
+      raw_of : (body : ℕ) (a : Outcome)
           → (is_text_mode a.state.content ≡ false) ⊎ ((a.again ≡ false) × Rooted body (pop a.state.stack))
           → is_text_mode a.state.content ≡ true → Rooted body (pop a.state.stack)
       raw_of body a (inl c) r = absurd (true≢false (sym r ∙ c))
       raw_of body a (inr x) r = x.1
 
-      calm_of : (body : ℕ) (a : Answer)
+      calm_of : (body : ℕ) (a : Outcome)
           → (is_text_mode a.state.content ≡ false) ⊎ ((a.again ≡ false) × Rooted body (pop a.state.stack))
           → a.again ≡ true → is_text_mode a.state.content ≡ false
       calm_of body a (inl c) r = c

@@ -8,8 +8,8 @@ use Rattle.std.proofs.lemmas.Str.{IsUtf8-nil, IsUtf8-append}
 use Rattle.htmd_grammar.proofs.Cases.{test}
 use Rattle.htmd_grammar.specs.CharacterClasses.{is_empty}
 use Rattle.htmd_html5_state.specs.Names.{text_of_element_name}
-use Rattle.htmd_html5_state.specs.Documents.{KindValue, NodeValue, document, doctype, text, comment, element, kind_at}
-use Rattle.htmd_html5_state.specs.Documents.{children_at, with_kind, text_of}
+use Rattle.htmd_html5_state.specs.Nodes.{KindValue, NodeValue, document, doctype, text, comment, element, kind_at}
+use Rattle.htmd_html5_state.specs.Nodes.{children_at, with_kind, text_of}
 use Rattle.htmd_html5.specs.Layout.{Coming, coming, Layout, text_under, or_text, next_texts, after_next_texts, with_text}
 use Rattle.htmd_html5.specs.Layout.{with_kind_of, without_node, put_next, layout_within, first_layout, document_of}
 use Rattle.htmd_html5.specs.Layout.{is_deepest}
@@ -18,7 +18,7 @@ use Rattle.htmd_html5_laws.specs.PageLetters.{texts_of, with_text_in}
 use Rattle.htmd_html5_laws.proofs.NodeParts.{children_of_kind}
 use Rattle.htmd_html5_laws.proofs.PendingNodes.{numbers, numbers_coming}
 use Rattle.htmd_html5_laws.proofs.Sublists.{append_nil, Sub, window, sub_joined, sub_wider, window_all}
-use Rattle.htmd_html5_laws.proofs.Rows.{Row, row_from, row_to, row_append, row_marks}
+use Rattle.htmd_html5_laws.proofs.ChildRows.{Row, row_from, row_to, row_append, row_marks}
 use Rattle.htmd_html5_laws.proofs.OrderedNodes.{bears, Labels, until, marks, TextIn, FitsBy, none_out}
 use Rattle.htmd_html5_laws.proofs.OrderedTexts.{letters_append, kind_set_other}
 use Rattle.htmd_html5_laws.proofs.WholeTexts.{kind_same}

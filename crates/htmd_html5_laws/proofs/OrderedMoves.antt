@@ -5,9 +5,9 @@ use Rattle.std.specs.Prelude.{◌==◌, ◌&&◌, not, insert}
 use Rattle.std.proofs.lemmas.Bool.{true≢false, and_parts, eqb-true, eqb-false, eq-eqb, ne_eqb}
 use Rattle.std.proofs.lemmas.List.{length-set}
 use Rattle.htmd_grammar.proofs.Cases.{test}
-use Rattle.htmd_html5_state.specs.Documents.{NodeValue, KindValue, new_node, kind_at, parent_at, children_at}
-use Rattle.htmd_html5_state.specs.Documents.{with_children, with_parents, index_of, without_child, remove_child}
-use Rattle.htmd_html5_state.specs.Documents.{detach_from, detach, move_children}
+use Rattle.htmd_html5_state.specs.Nodes.{NodeValue, KindValue, new_node, kind_at, parent_at, children_at}
+use Rattle.htmd_html5_state.specs.Nodes.{with_children, with_parents, index_of, without_child, remove_child}
+use Rattle.htmd_html5_state.specs.Nodes.{detach_from, detach, move_children}
 use Rattle.htmd_html5_state.specs.Adoption.{wrap_children}
 use Rattle.htmd_html5_laws.proofs.NodeTexts.{is_element, kinds_move_children}
 use Rattle.htmd_html5_laws.proofs.NodeParts.{times, times_append, children_same, children_other, children_of_parent}
@@ -16,7 +16,7 @@ use Rattle.htmd_html5_laws.proofs.Forests.{IsForest, length_new, once_under, onc
 use Rattle.htmd_html5_laws.proofs.Forests.{length_with_parents, length_moved}
 use Rattle.htmd_html5_laws.proofs.HungNodes.{put_at, put_kind, children_in, kind_with_new, kind_new_at, kind_by_kinds}
 use Rattle.htmd_html5_laws.proofs.HungChains.{detach_size, detach_kind}
-use Rattle.htmd_html5_laws.proofs.Rows.{Marks, Row, row_low, row_append, row_without, row_marks}
+use Rattle.htmd_html5_laws.proofs.ChildRows.{Marks, Row, row_low, row_append, row_without, row_marks}
 use Rattle.htmd_html5_laws.proofs.OrderedNodes.{bears, Labels, until, counted, marks, FitsBy, none_out}
 use Rattle.htmd_html5_laws.proofs.OrderedInserts.{mark, inserted_last, children_beyond, no_child}
 use Rattle.htmd_html5_laws.proofs.Counted.{Choice}

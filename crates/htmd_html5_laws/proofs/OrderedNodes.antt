@@ -4,14 +4,14 @@ use Rattle.std.proofs.Common.{refl, sym, ap, subst, arith, cond, Some, inl, inr}
 use Rattle.std.specs.Prelude.{◌&&◌, not, nat_lt, IsUtf8}
 use Rattle.std.proofs.lemmas.Bool.{true≢false}
 use Rattle.htmd_grammar.specs.CharacterClasses.{is_empty}
-use Rattle.htmd_html5_state.specs.Documents.{NodeValue, KindValue, document, doctype, text, comment, element}
-use Rattle.htmd_html5_state.specs.Documents.{kind_at, parent_at, children_at}
+use Rattle.htmd_html5_state.specs.Nodes.{NodeValue, KindValue, document, doctype, text, comment, element}
+use Rattle.htmd_html5_state.specs.Nodes.{kind_at, parent_at, children_at}
 use Rattle.htmd_html5_laws.proofs.NodeParts.{times}
 use Rattle.htmd_html5_laws.proofs.Forests.{IsForest, under_itself}
 use Rattle.htmd_html5_laws.proofs.HungNodes.{is_solid, Hangs, AllHang}
 use Rattle.htmd_html5_laws.proofs.Sublists.{Sub, window}
-use Rattle.htmd_html5_laws.proofs.Rows.{Marks, Row, row_ends}
-use Rattle.htmd_html5_laws.proofs.Rows.{row_marks}
+use Rattle.htmd_html5_laws.proofs.ChildRows.{Marks, Row, row_ends}
+use Rattle.htmd_html5_laws.proofs.ChildRows.{row_marks}
 use Rattle.htmd_html5_laws.proofs.Counted.{Choice, counted_of}
 
 module _ (choice : Choice) where
@@ -197,7 +197,7 @@ lt_less a b e = grind (arith, e)
 
 module _ (choice : Choice) where
   -- labels with which all that stands above a node has ended
-  pub record Settled (rank : ℕ → ℕ) (p : ℕ) (letters : List ℕ) (nodes : List NodeValue)
+  pub record EndedAbove (rank : ℕ → ℕ) (p : ℕ) (letters : List ℕ) (nodes : List NodeValue)
       (old : Labels) : Type 0 where
     pub labels : Labels
     pub fits : FitsBy choice none_out letters nodes labels
@@ -205,10 +205,10 @@ module _ (choice : Choice) where
     pub children : (c : ℕ) → 1 ≤ times c (children_at nodes p) → bears choice (kind_at nodes c) ≡ true
         → labels.live c ≡ false
 
-  pub settled : (rank : ℕ → ℕ) (p : ℕ) (letters : List ℕ) (nodes : List NodeValue) (l : Labels)
+  pub ended_above : (rank : ℕ → ℕ) (p : ℕ) (letters : List ℕ) (nodes : List NodeValue) (l : Labels)
       → Ranked rank nodes
-      → FitsBy choice none_out letters nodes l → Settled rank p letters nodes l
-  settled rank p letters nodes l ranked h = record {
+      → FitsBy choice none_out letters nodes l → EndedAbove rank p letters nodes l
+  ended_above rank p letters nodes l ranked h = record {
     labels = ended (above rank p) (length letters) l;
     fits = fits_ended choice none_out (above rank p) (length letters) letters nodes l (omega arith) (record {
       begins = λ n e f. let a = h.span n in let b = h.high n in omega arith;

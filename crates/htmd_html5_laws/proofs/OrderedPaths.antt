@@ -4,12 +4,12 @@ use Rattle.std.proofs.Common.{refl, sym, ap, subst, arith, cond, inl, inr, ◌�
 use Rattle.std.specs.Prelude.{◌==◌, ◌&&◌, not, nat_lt}
 use Rattle.std.proofs.lemmas.Bool.{true≢false, and_parts, eqb-true, eqb-false, cases_lt}
 use Rattle.htmd_grammar.proofs.Cases.{test}
-use Rattle.htmd_html5_state.specs.Documents.{NodeValue, KindValue, document, doctype, text, comment, element, kind_at}
-use Rattle.htmd_html5_state.specs.Documents.{children_at}
+use Rattle.htmd_html5_state.specs.Nodes.{NodeValue, KindValue, document, doctype, text, comment, element, kind_at}
+use Rattle.htmd_html5_state.specs.Nodes.{children_at}
 use Rattle.htmd_html5_laws.proofs.NodeTexts.{is_element}
 use Rattle.htmd_html5_laws.proofs.NodeParts.{times}
 use Rattle.htmd_html5_laws.proofs.HungNodes.{is_solid, Hangs, element_solid}
-use Rattle.htmd_html5_laws.proofs.Rows.{Row, row_member, row_last, row_marks, row_ends}
+use Rattle.htmd_html5_laws.proofs.ChildRows.{Row, row_member, row_last, row_marks, row_ends}
 use Rattle.htmd_html5_laws.proofs.OrderedNodes.{bears, Labels, until, counted, marks, FitsBy, none_out, Ranked, above}
 use Rattle.htmd_html5_laws.proofs.OrderedNodes.{ended, fits_ended, lt_true, lt_less, child_above}
 use Rattle.htmd_html5_laws.proofs.Counted.{Choice}

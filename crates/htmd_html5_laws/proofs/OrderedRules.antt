@@ -5,7 +5,7 @@ use Rattle.std.proofs.Common.{subst}
 use Rattle.std.proofs.lemmas.Bool.{true≢false}
 use Rattle.htmd_grammar.specs.ValueTrees.{AttributePair}
 use Rattle.htmd_html5_state.specs.Names.{NameValue, known, other, text_of_name}
-use Rattle.htmd_html5_state.specs.Documents.{NodeValue, comment as comment_kind}
+use Rattle.htmd_html5_state.specs.Nodes.{NodeValue, comment as comment_kind}
 use Rattle.htmd_html5_state.specs.OpenElements.{OpenValue, first_open, pop_until, pop_while, without}
 use Rattle.htmd_html5_state.specs.OpenElements.{is_node_in_scope}
 use Rattle.htmd_html5_state.specs.State.{StateValue}
@@ -48,7 +48,7 @@ use Rattle.htmd_html5_laws.proofs.Rules.{to_marker, reconstructed, to_mode, fram
 use Rattle.htmd_html5_laws.proofs.Rules.{noted_element}
 use Rattle.htmd_html5_laws.proofs.RuleWalk.{IsMarkup, left_fewer}
 use Rattle.htmd_html5_state.specs.declared.names.TagName.TheVariants as tags
-use Rattle.htmd_grammar.specs.declared.content.RawElement.TheVariants as raw
+use Rattle.htmd_grammar.specs.declared.content_model.RawElement.TheVariants as raw
 
 -- ---- names
 
@@ -63,7 +63,7 @@ abbrev pub is_orderly_name : NameValue → Bool
 is_orderly_name (known tag) = is_orderly_tag tag
 is_orderly_name (other s) = true
 
--- an orderly name is plain, or that of columns, which count for nothing outside a table
+-- a name that moves no text is plain, or that of columns, which count for nothing outside a table
 pub plain_or_column : (P : Type 0) (name : NameValue) → is_orderly_name name ≡ true
     → (is_plain_name name ≡ true → P)
     → (IsColumn name → P)

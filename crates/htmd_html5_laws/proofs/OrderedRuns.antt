@@ -10,9 +10,9 @@ use Rattle.htmd_grammar.proofs.CharacterClassesLemmas.{white_is_ascii}
 use Rattle.htmd_grammar.specs.WhiteSpace.{is_ascii_white_space}
 use Rattle.htmd_grammar.specs.Characters.{null}
 use Rattle.htmd_html5_tokens.specs.References.{replacement_character}
-use Rattle.htmd_html5_state.specs.Documents.{NodeValue, KindValue, document, doctype, text, comment, element, new_node}
-use Rattle.htmd_html5_state.specs.Documents.{kind_at, children_at, last_in, add_text, or_add, joined_with, joined_to, preceding}
-use Rattle.htmd_html5_state.specs.Documents.{text_of}
+use Rattle.htmd_html5_state.specs.Nodes.{NodeValue, KindValue, document, doctype, text, comment, element, new_node}
+use Rattle.htmd_html5_state.specs.Nodes.{kind_at, children_at, last_in, add_text, or_add, joined_with, joined_to, preceding}
+use Rattle.htmd_html5_state.specs.Nodes.{text_of}
 use Rattle.htmd_html5_state.specs.OpenElements.{OpenValue}
 use Rattle.htmd_html5_state.specs.State.{StateValue}
 use Rattle.htmd_html5_state.specs.Insertion.{current, place, insert_text}
@@ -27,7 +27,7 @@ use Rattle.htmd_html5.specs.Texts.{first_token}
 use Rattle.htmd_grammar.specs.CharacterClasses.{behind_run}
 use Rattle.htmd_html5_laws.specs.TextKept.{is_before_head}
 use Rattle.htmd_html5_laws.proofs.WhiteRuns.{Dark, behind_white, dark_nulls, dark_characters, late_is_after, Clean, nulls_come}
-use Rattle.htmd_html5.specs.Answers.{Answer, done}
+use Rattle.htmd_html5.specs.Outcomes.{Outcome, done}
 use Rattle.htmd_html5.specs.Feeding.{is_text_mode}
 use Rattle.htmd_html5.specs.InBody.{run_in_body}
 use Rattle.htmd_html5.specs.AfterBody.{back_to_body}
@@ -194,14 +194,14 @@ module _ (choice : Choice) where
   -- ---- what a run does
 
   -- What counts of it may stand after all others then. White space before the head goes, and is never processed again.
-  pub record RunStage (letters t : List ℕ) (before white : Bool) (a : Answer) : Type 0 where
+  pub record RunStage (letters t : List ℕ) (before white : Bool) (a : Outcome) : Type 0 where
     pub keeps : a.again ≡ true → Staged choice letters a.state
     pub dark : a.again ≡ true → white ≡ false
     pub puts : a.again ≡ false → Staged choice (letters ++ counted_of choice (unless (before && white) t)) a.state
     pub after : a.again ≡ false → is_before_head a.state.mode ≡ (before && white)
     pub calm : Calm a.state
 
-  run_again : (letters t : List ℕ) (before : Bool) {a : Answer} → a.again ≡ true → StageAnswer choice letters a
+  run_again : (letters t : List ℕ) (before : Bool) {a : Outcome} → a.again ≡ true → StageAnswer choice letters a
       → RunStage letters t before false a
   run_again letters t before e h = record {
     keeps = λ z. h.stage;
@@ -318,7 +318,7 @@ module _ (choice : Choice) where
         (staged choice false mode (letters ++ counted_of choice t) (insert_text t s) e m h)
         (ap is_before_head m ∙ after) e
 
-  -- what a mode answers to a run of each kind
+  -- the outcome of a run of each kind in a mode
   record RunsStage (mode : InsertionMode) (letters t : List ℕ) (s : StateValue) : Type 0 where
     white : (choice.reopens ≡ true → counted_of choice t ≡ [])
         → RunStage choice letters t (is_before_head mode) true (in_mode mode (run (kind_of_byte 32) t) s)
@@ -440,35 +440,35 @@ module _ (choice : Choice) where
   -- ---- in foreign content or by the mode
 
   module _ (letters t : List ℕ) (before white : Bool) where
-    chosen : {foreign mode : Answer} (b : Bool) → RunStage choice letters t before white foreign
+    chosen : {foreign mode : Outcome} (b : Bool) → RunStage choice letters t before white foreign
         → RunStage choice letters t before white mode
         → RunStage choice letters t before white (if b then foreign else mode)
     chosen true f m = f
     chosen false f m = m
 
     -- by the mode before the body
-    not_chosen : (foreign : Answer) {mode : Answer} (b : Bool) → b ≡ false
+    not_chosen : (foreign : Outcome) {mode : Outcome} (b : Bool) → b ≡ false
         → RunStage choice letters t before white mode
         → RunStage choice letters t before white (if b then foreign else mode)
     not_chosen foreign true e m = absurd (true≢false e)
     not_chosen foreign false e m = m
 
   module _ (letters t : List ℕ) (u : IsUtf8 t) (s : StateValue) where
-    abbrev Outcome : ℕ → Bool → Type 0
-    Outcome b white =
+    abbrev PutOutcome : ℕ → Bool → Type 0
+    PutOutcome b white =
         list_all (is_of_kind (kind_of_byte b)) t ≡ true
         → RunStage choice letters t (is_before_head s.mode) white (by_rules (run (kind_of_byte b) t) s)
 
     -- in the body
     module _ (e : is_text_mode s.content ≡ false) (h : Late choice letters s) where
-      late_white : Outcome 32 true
+      late_white : PutOutcome 32 true
       late_white all =
           chosen letters t (is_before_head s.mode) true (is_foreign (run (kind_of_byte 32) t) s)
           (late_run letters t (is_before_head s.mode) true (insert_text t s) (late_is_after s.mode h.rooted.late) e
           (late_writes letters t s u h))
           ((late_runs s.mode letters t s u h.rooted.late e h).white (λ r. white_letters choice t r all))
 
-      late_nulls : choice.nulls ≡ true → Outcome 0 false
+      late_nulls : choice.nulls ≡ true → PutOutcome 0 false
       late_nulls n all =
           let x = late_writes letters (replacements t) s (replaced_utf8 0 t) h in
           chosen letters t (is_before_head s.mode) false (is_foreign (run (kind_of_byte 0) t) s)
@@ -478,7 +478,7 @@ module _ (choice : Choice) where
           (replaced_letters choice n t ∙ sym (null_letters choice t n all)) x))
           ((late_runs s.mode letters t s u h.rooted.late e h).nulls (null_letters choice t n all))
 
-      late_characters : Outcome 97 false
+      late_characters : PutOutcome 97 false
       late_characters all =
           chosen letters t (is_before_head s.mode) false (is_foreign (run (kind_of_byte 97) t) s)
           (late_run letters t (is_before_head s.mode) false (no_frameset (insert_text t s))
@@ -490,21 +490,21 @@ module _ (choice : Choice) where
     -- before it
     module _ (l : is_late s.mode ≡ false) (e : is_text_mode s.content ≡ false)
         (h : Stage choice false s.mode letters s) where
-      early_white : Outcome 32 true
+      early_white : PutOutcome 32 true
       early_white all =
           not_chosen letters t (is_before_head s.mode) true _ (is_foreign (run (kind_of_byte 32) t) s)
           (stays_html (run (kind_of_byte 32) t) s
           (current_html s.stack (stage_names choice s.mode letters s l h)))
           ((early_runs s.mode letters t s u refl l e h).white (λ r. white_letters choice t r all))
 
-      early_nulls : choice.nulls ≡ true → Outcome 0 false
+      early_nulls : choice.nulls ≡ true → PutOutcome 0 false
       early_nulls n all =
           not_chosen letters t (is_before_head s.mode) false _ (is_foreign (run (kind_of_byte 0) t) s)
           (stays_html (run (kind_of_byte 0) t) s
           (current_html s.stack (stage_names choice s.mode letters s l h)))
           ((early_runs s.mode letters t s u refl l e h).nulls (null_letters choice t n all))
 
-      early_characters : Outcome 97 false
+      early_characters : PutOutcome 97 false
       early_characters all =
           not_chosen letters t (is_before_head s.mode) false _ (is_foreign (run (kind_of_byte 97) t) s)
           (stays_html (run (kind_of_byte 97) t) s
@@ -522,19 +522,19 @@ module _ (choice : Choice) where
           either true l = late (stage_late choice (is_text_mode s.content) s.mode letters s l h)
           either false l = early l calm (unstaged choice false s.mode letters s calm refl h)
 
-      white_stage : Outcome 32 true
+      white_stage : PutOutcome 32 true
       white_stage all = by_stage (λ x. late_white calm x all) (λ l c x. early_white l c x all)
 
-      nulls_stage : choice.nulls ≡ true → Outcome 0 false
+      nulls_stage : choice.nulls ≡ true → PutOutcome 0 false
       nulls_stage n all = by_stage (λ x. late_nulls calm x n all) (λ l c x. early_nulls l c x n all)
 
-      characters_stage : Outcome 97 false
+      characters_stage : PutOutcome 97 false
       characters_stage all = by_stage (λ x. late_characters calm x all) (λ l c x. early_characters l c x all)
 
   -- ---- the first run of a text
 
   -- a run of white space, or one of a whole that begins with none
-  pub record RunOf (letters whole : List ℕ) (s : StateValue) (a : Answer) : Type 0 where
+  pub record RunOf (letters whole : List ℕ) (s : StateValue) (a : Outcome) : Type 0 where
     pub white : Bool
     pub bright : white ≡ true → after_first_run whole ≡ behind_run is_ascii_white_space whole
     pub dark : white ≡ false → Dark whole

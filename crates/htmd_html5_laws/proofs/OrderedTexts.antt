@@ -9,18 +9,18 @@ use Rattle.std.specs.Prelude.{filter}
 use Rattle.std.specs.Str.{chars}
 use Rattle.htmd_grammar.proofs.Cases.{test}
 use Rattle.htmd_grammar.specs.CharacterClasses.{is_empty}
-use Rattle.htmd_html5_state.specs.Documents.{NodeValue, KindValue, document, doctype, text, comment, element}
-use Rattle.htmd_html5_state.specs.Documents.{kind_at, parent_at, children_at, with_kind, last_in, text_of, child_before}
-use Rattle.htmd_html5_state.specs.Documents.{preceding, add_text, or_add, joined_with, joined_to}
+use Rattle.htmd_html5_state.specs.Nodes.{NodeValue, KindValue, document, doctype, text, comment, element}
+use Rattle.htmd_html5_state.specs.Nodes.{kind_at, parent_at, children_at, with_kind, last_in, text_of, child_before}
+use Rattle.htmd_html5_state.specs.Nodes.{preceding, add_text, or_add, joined_with, joined_to}
 use Rattle.htmd_html5_laws.proofs.NodeParts.{times, times_append, children_of_kind}
 use Rattle.htmd_html5_laws.proofs.Forests.{IsForest, once_under, once_at_most, elsewhere}
 use Rattle.htmd_html5_laws.proofs.HungNodes.{is_solid, Hangs}
 use Rattle.htmd_html5_laws.proofs.NodeTexts.{is_element}
 use Rattle.htmd_html5_laws.proofs.Sublists.{append_nil, Sub, window, window_grown, window_new, sub_all, sub_joined}
-use Rattle.htmd_html5_laws.proofs.Rows.{Marks, Row, after, row_append, row_ends}
-use Rattle.htmd_html5_laws.proofs.Rows.{row_marks}
+use Rattle.htmd_html5_laws.proofs.ChildRows.{Marks, Row, after, row_append, row_ends}
+use Rattle.htmd_html5_laws.proofs.ChildRows.{row_marks}
 use Rattle.htmd_html5_laws.proofs.OrderedNodes.{bears, bears_solid, Labels, until, marks, TextIn, FitsBy, none_out}
-use Rattle.htmd_html5_laws.proofs.OrderedNodes.{Ranked, settled, child_parent}
+use Rattle.htmd_html5_laws.proofs.OrderedNodes.{Ranked, ended_above, child_parent}
 use Rattle.htmd_html5_laws.proofs.OrderedInserts.{mark, grown, no_child, kind_grown_new, RowOk, row_kept, own_lo}
 use Rattle.htmd_html5_laws.proofs.OrderedInserts.{own_until, fits_added, marked}
 use Rattle.htmd_html5_laws.proofs.Counted.{Choice, counted_of}
@@ -578,7 +578,7 @@ module _ (choice : Choice) where
       pub element_added : (k : KindValue) → is_element k ≡ true
           → Opens rank p letters (length nodes) l (grown k p nodes)
       element_added k e =
-          let s = settled choice rank p letters nodes l ranked h in
+          let s = ended_above choice rank p letters nodes l ranked h in
           record {
             opened_new = rw (eq-eqb (length nodes) (length nodes) refl) refl;
             labels = marked choice letters nodes s.labels s.fits ranked.forest k p within [] true;
@@ -592,7 +592,7 @@ module _ (choice : Choice) where
       pub text_added : (t : List ℕ) → IsUtf8 t
           → Goes rank p (letters ++ counted_of choice t) (length nodes) l (grown (text t) p nodes)
       text_added t u =
-          let s = settled choice rank p letters nodes l ranked h in
+          let s = ended_above choice rank p letters nodes l ranked h in
           record {
             labels = marked choice letters nodes s.labels s.fits ranked.forest (text t) p within (counted_of choice t)
                 false;
@@ -618,7 +618,7 @@ module _ (choice : Choice) where
           → Goes rank p (letters ++ counted_of choice t) (length nodes) l (with_kind n (text (s ++ t)) nodes)
       text_joined n s t is u e =
           let d = last_child n (children_at nodes p) e in
-          let x = settled choice rank p letters nodes l ranked h in
+          let x = ended_above choice rank p letters nodes l ranked h in
           record {
             labels = with_more rank letters nodes x.labels x.fits ranked p n s t is d.0 d.1
                 (x.still p live (omega arith)) u x.children;

@@ -10,7 +10,7 @@ use Rattle.htmd_grammar.proofs.TagReadingLemmas.{front_all, back_split}
 use Rattle.htmd_html5_tokens.specs.Preprocessing.{preprocessed}
 use Rattle.htmd_html5_tokens.specs.Tokens.{Read}
 use Rattle.htmd_html5_state.specs.Names.{NameValue, known, known_name, known_or, name_of_text, spelling}
-use Rattle.htmd_html5_state.specs.Documents.{document, text as text_kind, new_node, kind_at, children_at, last_in, add_text}
+use Rattle.htmd_html5_state.specs.Nodes.{document, text as text_kind, new_node, kind_at, children_at, last_in, add_text}
 use Rattle.htmd_html5_state.specs.OpenElements.{OpenValue, current_is, pop}
 use Rattle.htmd_html5_state.specs.State.{StateValue, initial_state}
 use Rattle.htmd_html5_state.specs.Insertion.{current, place, insert_text}
@@ -23,22 +23,22 @@ use Rattle.htmd_html5_state.specs.declared.modes.InsertionMode.TheVariants.{Afte
 use Rattle.htmd_html5_state.specs.declared.sets.NameSet.TheVariants.{Fostering}
 use Rattle.htmd_html5.specs.Tokens.{TokenValue, start_tag, end_tag, comment, doctype, end_of_file}
 use Rattle.htmd_html5.specs.Runs.{is_of_kind, first_kind, first_run, after_first_run}
-use Rattle.htmd_html5.specs.Answers.{Answer}
+use Rattle.htmd_html5.specs.Outcomes.{Outcome}
 use Rattle.htmd_html5.specs.InTable.{table_text}
 use Rattle.htmd_html5.specs.Processing.{by_rules, turns, process_within, process}
 use Rattle.htmd_html5.specs.Texts.{Taken, is_table_mode, takes_all, taken, after_run, first_token, take_within, take_part}
 use Rattle.htmd_html5.specs.Texts.{put_within, put_text}
 use Rattle.htmd_html5.specs.Feeding.{is_text_mode, put_raw_text, feed_text, without_line_feed, with_nothing_skipped, close_raw}
 use Rattle.htmd_html5.specs.Feeding.{out_of_text_mode, feed_end_tag, named, feed}
-use Rattle.htmd_html5.specs.Documents.{next_read, is_end, after_token, read_within, state_after}
-use Rattle.htmd_html5_laws.specs.HarmlessTags.{drops_text_in, tokens_after, tokens_within}
-use Rattle.htmd_html5_laws.specs.LetterOrder.{moves_text_in, is_orderly, all_tags_are_orderly}
+use Rattle.htmd_html5.specs.Html5Documents.{next_read, is_end, after_token, read_within, state_after}
+use Rattle.htmd_html5_laws.specs.DroppedTexts.{drops_text_in, tokens_after, tokens_within}
+use Rattle.htmd_html5_laws.specs.LetterOrder.{moves_text_in, moves_no_text, no_tag_moves_text}
 use Rattle.htmd_html5_laws.proofs.Utf8Tokens.{TokenUtf8, ReadUtf8, next_token_utf8, preprocessed_utf8}
 use Rattle.htmd_html5_laws.proofs.TakingTexts.{run_parts}
 use Rattle.htmd_html5_laws.proofs.FedTokens.{shortened}
 use Rattle.htmd_html5_laws.proofs.OpenNodes.{Fewer, all_of, skip, pop_fewer}
-use Rattle.htmd_html5_laws.proofs.HarmlessTokens.{spelled, begins_plain, begins_hung}
-use Rattle.htmd_html5_laws.proofs.Rows.{Row}
+use Rattle.htmd_html5_laws.proofs.UndroppedTokens.{spelled, begins_plain, begins_hung}
+use Rattle.htmd_html5_laws.proofs.ChildRows.{Row}
 use Rattle.htmd_html5_laws.proofs.OrderedNodes.{FitsBy, Labels, none_out, marks}
 use Rattle.htmd_html5_laws.proofs.OrderedTexts.{letters_append}
 use Rattle.htmd_html5_laws.proofs.OrderedStates.{OrderedIn, Ordered, place_last, on_stack_orders}
@@ -151,7 +151,7 @@ module _ (choice : Choice) where
                 ∙ (letters_split text u ∙ ap (counted_of choice) (sym dark))),
           )
 
-  run_part : (k : ℕ) (text : List ℕ) (letters : List ℕ) (s : StateValue) (a : Answer) → IsUtf8 text → Clean
+  run_part : (k : ℕ) (text : List ℕ) (letters : List ℕ) (s : StateValue) (a : Outcome) → IsUtf8 text → Clean
       choice.nulls text
       → RunOf choice letters text s a
       → ((t : StateValue) → Calm t → Staged choice letters t → Part letters text t (take_within k text t))
@@ -547,7 +547,7 @@ module _ (choice : Choice) where
         none_put (process t (out_of_text_mode s))
         (processed choice t p letters (out_of_text_mode s) (out_of_text choice letters s h) may)
 
-    pub feed_stage : (token : tokens.TokenValue) (s : StateValue) → TokenUtf8 token → is_orderly token ≡ true
+    pub feed_stage : (token : tokens.TokenValue) (s : StateValue) → TokenUtf8 token → moves_no_text token ≡ true
         → NotLate token s → NoNull token → Staged choice letters s
         → Staged choice (letters ++ kept_letters token s) (feed token s)
     feed_stage token s u e late clean h =
@@ -556,7 +556,7 @@ module _ (choice : Choice) where
         skipped : StateValue
         skipped = with_nothing_skipped s
 
-        by_token : (token : tokens.TokenValue) → TokenUtf8 token → is_orderly token ≡ true → NotLate token s
+        by_token : (token : tokens.TokenValue) → TokenUtf8 token → moves_no_text token ≡ true → NotLate token s
             → NoNull
             token
             → Staged choice letters (with_nothing_skipped s)
@@ -580,7 +580,7 @@ module _ (choice : Choice) where
   -- ---- all tokens
 
   record EndToken (token : tokens.TokenValue) (s : StateValue) : Type 0 where
-    orderly : is_orderly token ≡ true
+    moving_none : moves_no_text token ≡ true
     none : kept_letters token s ≡ []
     early : comes_late token s ≡ false
     clean : has_no_null token ≡ true
@@ -588,19 +588,19 @@ module _ (choice : Choice) where
   ends : (token : tokens.TokenValue) (s : StateValue) → is_end token ≡ true → EndToken token s
   ends (tokens.text t) s f = absurd (true≢false (sym f))
   ends (tokens.start_tag tag) s f = absurd (true≢false (sym f))
-  ends (tokens.end_tag tag) s f = record { orderly = refl; none = refl; early = refl; clean = refl }
-  ends (tokens.comment t) s f = record { orderly = refl; none = refl; early = refl; clean = refl }
-  ends (tokens.doctype quirks) s f = record { orderly = refl; none = refl; early = refl; clean = refl }
-  ends tokens.end_of_file s f = record { orderly = refl; none = refl; early = refl; clean = refl }
+  ends (tokens.end_tag tag) s f = record { moving_none = refl; none = refl; early = refl; clean = refl }
+  ends (tokens.comment t) s f = record { moving_none = refl; none = refl; early = refl; clean = refl }
+  ends (tokens.doctype quirks) s f = record { moving_none = refl; none = refl; early = refl; clean = refl }
+  ends tokens.end_of_file s f = record { moving_none = refl; none = refl; early = refl; clean = refl }
 
   -- the tokens that are read from a state on
   pub record Allowed (k : ℕ) (page : List ℕ) (s : StateValue) : Type 0 where
-    pub orderly : list_all is_orderly (tokens_within k page s) ≡ true
+    pub moving_none : list_all moves_no_text (tokens_within k page s) ≡ true
     pub early : choice.reopens ≡ false → early_within k page s ≡ true
     pub clean : choice.nulls ≡ false → list_all has_no_null (tokens_within k page s) ≡ true
 
   after_stage : (k : ℕ) (read : Read) (letters : List ℕ) (s : StateValue) → ReadUtf8 read
-      → list_all is_orderly (tokens_after (tokens_within k) read s) ≡ true
+      → list_all moves_no_text (tokens_after (tokens_within k) read s) ≡ true
       → (choice.reopens ≡ false → early_after (early_within k) read s ≡ true)
       → (choice.nulls ≡ false → list_all has_no_null (tokens_after (tokens_within k) read s) ≡ true)
       → Staged choice letters s
@@ -611,7 +611,7 @@ module _ (choice : Choice) where
   after_stage k read letters s u e l n h more = either (is_end read.token) refl e l n
     where
       either : (b : Bool) → is_end read.token ≡ b
-          → list_all is_orderly
+          → list_all moves_no_text
           (if b then [] else read.token ∷ tokens_within k read.rest (feed read.token s)) ≡ true
           → (choice.reopens ≡ false
           → (if b then true else not (comes_late read.token s) && early_within k read.rest (feed read.token s))
@@ -624,10 +624,10 @@ module _ (choice : Choice) where
       either true g f l n =
           let x = ends read.token s g in
           subst (λ (x : List ℕ). Staged choice (letters ++ x) (feed read.token s)) x.none
-          (feed_stage letters read.token s u.token x.orderly (λ z. x.early) (λ z. x.clean) h)
+          (feed_stage letters read.token s u.token x.moving_none (λ z. x.early) (λ z. x.clean) h)
       either false g f l n =
-          let parts = and_parts (is_orderly read.token)
-          (list_all is_orderly (tokens_within k read.rest (feed read.token s))) f in
+          let parts = and_parts (moves_no_text read.token)
+          (list_all moves_no_text (tokens_within k read.rest (feed read.token s))) f in
           let apart = λ (z : choice.reopens ≡ false). and_parts (not (comes_late read.token s))
           (early_within k read.rest (feed read.token s)) (l z) in
           let none = λ (z : choice.nulls ≡ false). and_parts (has_no_null read.token)
@@ -638,7 +638,7 @@ module _ (choice : Choice) where
           ∙ ap (λ (x : List ℕ). letters ++ x)
           (sym (letters_with read.token s (kept_within k read.rest (feed read.token s)))))
           (more (letters ++ kept_letters read.token s) (feed read.token s)
-          (record { orderly = parts.1; early = λ z. (apart z).1; clean = λ z. (none z).1 })
+          (record { moving_none = parts.1; early = λ z. (apart z).1; clean = λ z. (none z).1 })
           (feed_stage letters read.token s u.token parts.0 (λ z. orderly_tag (comes_late read.token s) (apart z).0)
           (λ z. (none z).0) h))
 
@@ -648,7 +648,7 @@ module _ (choice : Choice) where
   read_stage zero page letters s u a h = feed_stage letters tokens.end_of_file s tt refl (λ z. refl) (λ z. refl) h
   read_stage (suc k) page letters s u a h =
       let r = next_token_utf8 s.content (not (current_is_html s.stack)) page u in
-      after_stage k (next_read page s) letters s r a.orderly a.early a.clean h
+      after_stage k (next_read page s) letters s r a.moving_none a.early a.clean h
       (λ more t f g. read_stage k (next_read page s).rest more t r.rest f g)
 
   -- ---- the first state
@@ -696,14 +696,14 @@ module _ (choice : Choice) where
     refl,
   )
 
-  pub state_staged : (scripting : Bool) (page : List ℕ) → IsUtf8 page → all_tags_are_orderly scripting page
+  pub state_staged : (scripting : Bool) (page : List ℕ) → IsUtf8 page → no_tag_moves_text scripting page
       ≡ true
       → (choice.reopens ≡ false → no_tag_comes_late scripting page ≡ true)
       → (choice.nulls ≡ false → no_null_comes scripting page ≡ true)
       → Staged choice (counted_in choice (kept_texts scripting page)) (state_after scripting page)
   state_staged scripting page u e l n =
       read_stage (length (preprocessed page)) (preprocessed page) [] (initial_state scripting)
-      (preprocessed_utf8 page u) (record { orderly = e; early = l; clean = n }) (begins_staged scripting)
+      (preprocessed_utf8 page u) (record { moving_none = e; early = l; clean = n }) (begins_staged scripting)
 
   -- the letters stand in order among the nodes, in whatever mode the page ends
   pub staged_ordered : (letters : List ℕ) (s : StateValue) → Staged choice letters s

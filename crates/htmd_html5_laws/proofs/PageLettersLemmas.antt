@@ -1,6 +1,6 @@
 -- No letter is made up.
 use Rattle.std.proofs.Common.{arith}
-use Rattle.htmd_html5.specs.Documents.{state_after, html5_document}
+use Rattle.htmd_html5.specs.Html5Documents.{state_after, html5_document}
 use Rattle.htmd_nodes.specs.Items.{greatest_depth}
 use Rattle.htmd_html5_laws.specs.PageLetters.{NoLetterIsMadeUp}
 use Rattle.htmd_html5_laws.proofs.LetterLemmas.{letter_tests}

@@ -4,8 +4,8 @@ use Rattle.std.proofs.Common.{refl, sym, ap, arith, cond, map, Option, None, inl
 use Rattle.std.specs.Prelude.{◌==◌, is_some}
 use Rattle.std.proofs.lemmas.Bool.{true≢false, eqb-true, eqb-false, eq-eqb, cases_lt}
 use Rattle.htmd_grammar.proofs.Cases.{test}
-use Rattle.htmd_html5_state.specs.Documents.{KindValue, NodeValue, document, doctype, text, comment, element, kind_at, node_at}
-use Rattle.htmd_html5_state.specs.Documents.{children_at, with_kind, text_of}
+use Rattle.htmd_html5_state.specs.Nodes.{KindValue, NodeValue, document, doctype, text, comment, element, kind_at, node_at}
+use Rattle.htmd_html5_state.specs.Nodes.{children_at, with_kind, text_of}
 use Rattle.htmd_html5.specs.Layout.{Coming, coming, text_under, after_next_texts}
 use Rattle.htmd_html5_laws.proofs.NodeTexts.{kinds, is_element}
 use Rattle.htmd_html5_laws.proofs.NodeParts.{times, times_append, parent_beyond}

@@ -6,8 +6,8 @@ use Rattle.std.specs.List.{list_any}
 use Rattle.std.proofs.lemmas.Bool.{true≢false, and_parts, eq-eqb}
 use Rattle.htmd_grammar.proofs.Cases.{test}
 use Rattle.htmd_html5_state.specs.Names.{known, html}
-use Rattle.htmd_html5_state.specs.Documents.{NodeValue, KindValue, document, doctype, text, comment, element, kind_at}
-use Rattle.htmd_html5_state.specs.Documents.{new_node, last_in, detach}
+use Rattle.htmd_html5_state.specs.Nodes.{NodeValue, KindValue, document, doctype, text, comment, element, kind_at}
+use Rattle.htmd_html5_state.specs.Nodes.{new_node, last_in, detach}
 use Rattle.htmd_html5_state.specs.OpenElements.{OpenValue, is_open_node, pop, close_name, inside, around}
 use Rattle.htmd_html5_state.specs.State.{StateValue, on_nodes, on_stack, on_formatting}
 use Rattle.htmd_html5_state.specs.Insertion.{opened, place}

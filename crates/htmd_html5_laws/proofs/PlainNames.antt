@@ -3,7 +3,7 @@ use Rattle.std.proofs.Common.{◌≡◌, ℕ, Bool, true, false, List, [], ◌�
 use Rattle.std.proofs.lemmas.Bool.{true≢false}
 use Rattle.htmd_html5_state.specs.Names.{NameValue, ElementNameValue, known, other, html, svg, math}
 use Rattle.htmd_html5_state.specs.Sets.{is_of}
-use Rattle.htmd_html5_state.specs.Documents.{KindValue}
+use Rattle.htmd_html5_state.specs.Nodes.{KindValue}
 use Rattle.htmd_html5_state.specs.OpenElements.{OpenValue, is_open}
 use Rattle.htmd_html5_state.specs.Foreign.{foreign_name}
 use Rattle.htmd_html5_state.specs.declared.names.TagName.{TagName}

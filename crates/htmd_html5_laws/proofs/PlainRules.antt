@@ -4,7 +4,7 @@ use Rattle.std.specs.Prelude.{if◌then◌else◌}
 use Rattle.std.proofs.lemmas.Bool.{true≢false}
 use Rattle.htmd_grammar.specs.ValueTrees.{AttributePair}
 use Rattle.htmd_html5_state.specs.Names.{NameValue, html, known, text_of_name}
-use Rattle.htmd_html5_state.specs.Documents.{kind_at}
+use Rattle.htmd_html5_state.specs.Nodes.{kind_at}
 use Rattle.htmd_html5_state.specs.OpenElements.{first_open, pop, pop_until, clear_to, pop_while, without}
 use Rattle.htmd_html5_state.specs.OpenElements.{is_in_scope, is_node_in_scope}
 use Rattle.htmd_html5_state.specs.State.{StateValue, on_stack}
@@ -22,7 +22,7 @@ use Rattle.htmd_html5_state.specs.declared.sets.NameSet.TheVariants.{Only, Impli
 use Rattle.htmd_html5_state.specs.declared.sets.NameSet.TheVariants.{TableRowContext}
 use Rattle.htmd_html5_state.specs.declared.sets.Scope.TheVariants.{Table as TableScope}
 use Rattle.htmd_html5.specs.Tokens.{StartTagValue}
-use Rattle.htmd_html5.specs.Answers.{Answer, answer}
+use Rattle.htmd_html5.specs.Outcomes.{Outcome, outcome}
 use Rattle.htmd_html5.specs.SharedRules.{with_mode, no_frameset, add_missing_to, leave_template, end_template}
 use Rattle.htmd_html5.specs.SharedRules.{insert_head_element}
 use Rattle.htmd_html5.specs.BodyStarts.{is_in_template, open_body, add_to_this_body, skip_line_feed, with_form, forget}
@@ -64,20 +64,20 @@ use Rattle.htmd_html5_laws.proofs.RuleWalk.{left_fewer}
 use Rattle.htmd_html5_state.specs.declared.modes.InsertionMode.TheVariants.{InHeadNoscript, AfterHead}
 use Rattle.htmd_html5.specs.SharedRules.{insert_tag}
 use Rattle.htmd_html5_state.specs.declared.names.TagName.TheVariants as tags
-use Rattle.htmd_grammar.specs.declared.content.RawElement.TheVariants as raw
+use Rattle.htmd_grammar.specs.declared.content_model.RawElement.TheVariants as raw
 
--- ---- what a mode answers
+-- ---- outcomes in a mode
 
--- an answer whose state is plain, and in which what hung under the Document does so
-pub record StaysAnswer (f : StateValue → Answer) : Type 0 where
+-- an outcome whose state is plain, and in which what hung under the Document does so
+pub record StaysAnswer (f : StateValue → Outcome) : Type 0 where
   pub stays : (s : StateValue) → Plain s → Plain (f s).state
   pub hangs : (s : StateValue) → Plain s → Hung s → Hung (f s).state
 
 pub says_plain : {f : StateValue → StateValue} {more : StateValue → Bool} → Stays f
-    → StaysAnswer (λ s. answer (f s) (more s))
+    → StaysAnswer (λ s. outcome (f s) (more s))
 says_plain h = record { stays = λ s plain. h.stays s plain; hangs = λ s plain x. h.hangs s plain x }
 
-pub answers_either : {f g : StateValue → Answer} (b : StateValue → Bool) → StaysAnswer f → StaysAnswer g
+pub answers_either : {f g : StateValue → Outcome} (b : StateValue → Bool) → StaysAnswer f → StaysAnswer g
     → StaysAnswer (λ s. if b s then f s else g s)
 answers_either {f} {g} b first second =
     record { stays = λ s h. either (b s) s h; hangs = λ s h x. each (b s) s h x }

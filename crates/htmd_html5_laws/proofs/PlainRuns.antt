@@ -1,8 +1,8 @@
 -- A run of a text leaves a plain state plain.
 use Rattle.std.proofs.Common.{◌≡◌, ℕ, true, List, sym, refl}
 use Rattle.std.proofs.lemmas.Bool.{true≢false}
-use Rattle.htmd_html5_state.specs.Documents.{NodeValue}
-use Rattle.htmd_html5_state.specs.Documents.{add_text}
+use Rattle.htmd_html5_state.specs.Nodes.{NodeValue}
+use Rattle.htmd_html5_state.specs.Nodes.{add_text}
 use Rattle.htmd_html5_state.specs.Insertion.{place, insert_text}
 use Rattle.htmd_html5_state.specs.declared.modes.InsertionMode.{InsertionMode}
 use Rattle.htmd_html5_state.specs.declared.modes.InsertionMode.TheVariants.{Initial, BeforeHtml, BeforeHead, InHead}
@@ -53,7 +53,7 @@ run_in_body_stays s t =
 
 -- ---- the modes
 
--- what a mode answers to a run of each kind
+-- the outcome of a run of each kind in a mode
 record RunsStay (mode : InsertionMode) (t : List ℕ) : Type 0 where
   white : StaysAnswer (in_mode mode (run (kind_of_byte 32) t))
   nulls : StaysAnswer (in_mode mode (run (kind_of_byte 0) t))

@@ -6,7 +6,7 @@ use Rattle.std.proofs.lemmas.Bool.{true≢false}
 use Rattle.std.proofs.lemmas.Bool.Decides.{nat_tests}
 use Rattle.std.proofs.lemmas.Str.{IsUtf8-nil}
 use Rattle.htmd_grammar.proofs.CharacterClassesLemmas.{white_is_ascii}
-use Rattle.htmd_html5_state.specs.Documents.{KindValue, document, doctype, text, comment, element, kind_at}
+use Rattle.htmd_html5_state.specs.Nodes.{KindValue, document, doctype, text, comment, element, kind_at}
 use Rattle.htmd_html5_state.specs.OpenElements.{OpenValue, current_is}
 use Rattle.htmd_html5_state.specs.State.{StateValue, on_formatting}
 use Rattle.htmd_html5_state.specs.Insertion.{insert_text}
@@ -22,7 +22,7 @@ use Rattle.htmd_html5_state.specs.declared.modes.InsertionMode.{InsertionMode}
 use Rattle.htmd_html5_state.specs.declared.sets.NameSet.TheVariants.{Only}
 use Rattle.htmd_html5.specs.Runs.{kind_of_byte, first_kind, is_of_kind}
 use Rattle.htmd_html5.specs.Tokens.{run}
-use Rattle.htmd_html5.specs.Answers.{Answer, done, again}
+use Rattle.htmd_html5.specs.Outcomes.{Outcome, done, again}
 use Rattle.htmd_html5.specs.InBody.{run_in_body}
 use Rattle.htmd_html5.specs.InTable.{fostered, kept_of}
 use Rattle.htmd_html5.specs.InColumnGroup.{leave_columns}
@@ -111,26 +111,26 @@ body_mode s t state =
     by_first_kind (λ kind. (run_in_body kind t state).mode ≡ state.mode) (reconstruct_mode state) refl
     (reconstruct_mode state) s
 
--- ---- what a mode answers
+-- ---- outcomes in a mode
 
 -- It puts so many in, and is done, in the same mode; text is taken then too.
-pub record Ended (c n : ℕ) (s : StateValue) (a : Answer) : Type 0 where
+pub record Ended (c n : ℕ) (s : StateValue) (a : Outcome) : Type 0 where
   pub again : a.again ≡ false
   pub grew : Grew c n s a.state
   pub mode : a.state.mode ≡ s.mode
   pub takes : drops_text a.state ≡ false
 
 -- Or it goes on with a mode that comes later.
-pub data Outcome (c n limit : ℕ) (s : StateValue) (a : Answer) : Type 0 where
-  finished : Ended c n s a → Outcome c n limit s a
+pub data PutOutcome (c n limit : ℕ) (s : StateValue) (a : Outcome) : Type 0 where
+  finished : Ended c n s a → PutOutcome c n limit s a
   goes_on : a.again ≡ true → Grew c 0 s a.state → drops_text a.state ≡ false → rank a.state.mode < limit
-      → Outcome c n limit s a
+      → PutOutcome c n limit s a
 
-ended_as : {c m : ℕ} (n : ℕ) {s : StateValue} {a : Answer} → m ≡ n → Ended c m s a → Ended c n s a
+ended_as : {c m : ℕ} (n : ℕ) {s : StateValue} {a : Outcome} → m ≡ n → Ended c m s a → Ended c n s a
 ended_as n e h = record { again = h.again; grew = grew_as n e h.grew; mode = h.mode; takes = h.takes }
 
-outcome_as : {c m limit : ℕ} (n : ℕ) {s : StateValue} {a : Answer} → m ≡ n → Outcome c m limit s a
-    → Outcome c n limit s a
+outcome_as : {c m limit : ℕ} (n : ℕ) {s : StateValue} {a : Outcome} → m ≡ n → PutOutcome c m limit s a
+    → PutOutcome c n limit s a
 outcome_as n e (finished h) = finished (ended_as n e h)
 outcome_as n e (goes_on t g d l) = goes_on t g d l
 
@@ -142,18 +142,18 @@ abbrev pub white_of : ℕ → InsertionMode → List ℕ → ℕ
 white_of c mode t = cond (is_before_head mode) 0 (occurrences c t)
 
 module _ (c : ℕ) where
-  -- a mode's answer, where it takes text
-  abbrev Answers : ℕ → InsertionMode → (StateValue → Answer) → Type 0
+  -- a mode's outcome, where it takes text
+  abbrev Answers : ℕ → InsertionMode → (StateValue → Outcome) → Type 0
   Answers n mode f =
       (s : StateValue) → s.mode ≡ mode → drops_in mode s.stack ≡ false → Sound s
-      → Outcome c n (rank mode) s (f s)
+      → PutOutcome c n (rank mode) s (f s)
 
   -- one that ends the run
-  abbrev Ends : ℕ → InsertionMode → (StateValue → Answer) → Type 0
+  abbrev Ends : ℕ → InsertionMode → (StateValue → Outcome) → Type 0
   Ends n mode f =
       (s : StateValue) → s.mode ≡ mode → drops_in mode s.stack ≡ false → Sound s → Ended c n s (f s)
 
-  ends : {n : ℕ} {mode : InsertionMode} {f : StateValue → Answer} → Ends n mode f → Answers n mode f
+  ends : {n : ℕ} {mode : InsertionMode} {f : StateValue → Outcome} → Ends n mode f → Answers n mode f
   ends f s e d h = finished (f s e d h)
 
   nothing_done : (mode : InsertionMode) → Ends 0 mode (λ s. done s)
@@ -220,9 +220,9 @@ module _ (c : ℕ) where
 
   -- ---- modes that others follow
 
-  again_by : {n limit : ℕ} {f : StateValue → Answer} → KeepsAnswer f → (s : StateValue) → Sound s
+  again_by : {n limit : ℕ} {f : StateValue → Outcome} → KeepsAnswer f → (s : StateValue) → Sound s
       → (f s).again ≡ true → drops_text (f s).state ≡ false → rank (f s).state.mode < limit
-      → Outcome c n limit s (f s)
+      → PutOutcome c n limit s (f s)
   again_by k s h t d l = goes_on t (kept_grew (k.keeps s h)) d l
 
   initial_left : {n : ℕ} → Answers n Initial leave_initial
@@ -267,7 +267,7 @@ module _ (c : ℕ) where
     characters : Answers (occurrences c t) mode (in_mode mode (run (kind_of_byte 97) t))
 
   -- in a mode of frames
-  frames : {n : ℕ} (mode : InsertionMode) (f : StateValue → Answer)
+  frames : {n : ℕ} (mode : InsertionMode) (f : StateValue → Outcome)
       → ((stack : List OpenValue) → drops_in mode stack ≡ true) → Answers n mode f
   frames mode f drops s e d h = absurd (true≢false (sym (drops s.stack) ∙ d))
 
@@ -385,10 +385,10 @@ module _ (c : ℕ) where
   RunOutcome b =
       (t : List ℕ) → IsUtf8 t → list_all (is_of_kind (kind_of_byte b)) t ≡ true → (s : StateValue)
       → drops_text s ≡ false → Sound s
-      → Outcome c (occurrences c t) (rank s.mode) s (by_rules (run (kind_of_byte b) t) s)
+      → PutOutcome c (occurrences c t) (rank s.mode) s (by_rules (run (kind_of_byte b) t) s)
 
-  chosen : {n : ℕ} {s : StateValue} {foreign mode : Answer} (b : Bool) → Outcome c n (rank s.mode) s foreign
-      → Outcome c n (rank s.mode) s mode → Outcome c n (rank s.mode) s (if b then foreign else mode)
+  chosen : {n : ℕ} {s : StateValue} {foreign mode : Outcome} (b : Bool) → PutOutcome c n (rank s.mode) s foreign
+      → PutOutcome c n (rank s.mode) s mode → PutOutcome c n (rank s.mode) s (if b then foreign else mode)
   chosen true f m = f
   chosen false f m = m
 
@@ -484,7 +484,7 @@ module _ (c : ℕ) (letter : LetterTests c) where
   white_outcome : (t : List ℕ) → IsUtf8 t → list_all (is_of_kind (kind_of_byte 32)) t ≡ true
       → (s : StateValue)
       → drops_text s ≡ false → Sound s
-      → Outcome c (occurrences c t) (rank s.mode) s (by_rules (run (kind_of_byte 32) t) s)
+      → PutOutcome c (occurrences c t) (rank s.mode) s (by_rules (run (kind_of_byte 32) t) s)
   white_outcome t u all s d h =
       finished (white_by c (occurrences c t) t u s d h (λ f. refl) (none_in (is_before_head s.mode)))
     where
@@ -494,10 +494,10 @@ module _ (c : ℕ) (letter : LetterTests c) where
 
   pub run_outcome : (whole t : List ℕ) → IsUtf8 t → list_all (is_of_kind (first_kind whole)) t ≡ true
       → (s : StateValue) → drops_text s ≡ false → Sound s
-      → Outcome c (occurrences c t) (rank s.mode) s (by_rules (run (first_kind whole) t) s)
+      → PutOutcome c (occurrences c t) (rank s.mode) s (by_rules (run (first_kind whole) t) s)
   run_outcome whole t =
       by_first_kind
       (λ kind. IsUtf8 t → list_all (is_of_kind kind) t ≡ true → (s : StateValue) → drops_text s ≡ false
       → Sound s
-      → Outcome c (occurrences c t) (rank s.mode) s (by_rules (run kind t) s))
+      → PutOutcome c (occurrences c t) (rank s.mode) s (by_rules (run kind t) s))
       (white_outcome t) (nulls_outcome c letter.character t) (characters_outcome c t) whole

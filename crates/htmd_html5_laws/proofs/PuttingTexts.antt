@@ -15,7 +15,7 @@ use Rattle.htmd_html5_state.specs.declared.modes.InsertionMode.TheVariants.{InTa
 use Rattle.htmd_html5_state.specs.declared.modes.InsertionMode.{InsertionMode}
 use Rattle.htmd_html5_state.specs.declared.sets.NameSet.TheVariants.{Fostering}
 use Rattle.htmd_html5.specs.Runs.{is_of_kind, first_kind, first_run, after_first_run}
-use Rattle.htmd_html5.specs.Answers.{Answer}
+use Rattle.htmd_html5.specs.Outcomes.{Outcome}
 use Rattle.htmd_html5.specs.InBody.{run_in_body}
 use Rattle.htmd_html5.specs.InTable.{without_nulls, kept_of, fostered, foster_runs, put_table_text, table_text}
 use Rattle.htmd_html5.specs.Processing.{by_rules, turns}
@@ -30,7 +30,7 @@ use Rattle.htmd_html5_laws.proofs.Keeping.{Sound, kept_same}
 use Rattle.htmd_html5_laws.proofs.TextsPut.{occurs_append, occurs_nil}
 use Rattle.htmd_html5_laws.proofs.Taking.{Grew, kept_grew, grew_as, grew_then, fostered_puts, insert_text_puts}
 use Rattle.htmd_html5_laws.proofs.TakingTexts.{RunParts, run_parts}
-use Rattle.htmd_html5_laws.proofs.PuttingRuns.{rank, rank_positive, rank_at_most, body_mode, Outcome, finished, goes_on}
+use Rattle.htmd_html5_laws.proofs.PuttingRuns.{rank, rank_positive, rank_at_most, body_mode, PutOutcome, finished, goes_on}
 use Rattle.htmd_html5_laws.proofs.PuttingRuns.{run_outcome, run_in_body_puts, SameLetters, kept_letters}
 
 pub empty_none : (c : ℕ) (s : List ℕ) → is_empty s ≡ true → occurrences c s ≡ 0
@@ -150,8 +150,8 @@ module _ (c : ℕ) (letter : LetterTests c) where
     utf8 : IsUtf8 t.rest
     takes : drops_text t.state ≡ false
 
-  run_part : (k : ℕ) (text : List ℕ) (s : StateValue) (a : Answer) → RunParts c text
-      → Outcome c (occurrences c (first_run text)) (rank s.mode) s a
+  run_part : (k : ℕ) (text : List ℕ) (s : StateValue) (a : Outcome) → RunParts c text
+      → PutOutcome c (occurrences c (first_run text)) (rank s.mode) s a
       → ((t : StateValue) → rank t.mode < rank s.mode → drops_text t ≡ false → Sound t
       → PutPart text t (take_within k text t))
       → PutPart text s (after_run (take_within k text) (after_first_run text) a)

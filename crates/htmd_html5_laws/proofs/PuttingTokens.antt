@@ -10,7 +10,7 @@ use Rattle.htmd_html5_state.specs.State.{StateValue, initial_state}
 use Rattle.htmd_html5_state.specs.Foreign.{current_is_html}
 use Rattle.htmd_html5.specs.Texts.{put_text}
 use Rattle.htmd_html5.specs.Feeding.{is_text_mode, put_raw_text, feed_text, without_line_feed, with_nothing_skipped, feed_at, feed}
-use Rattle.htmd_html5.specs.Documents.{next_read, is_end, after_token, read_within, state_after}
+use Rattle.htmd_html5.specs.Html5Documents.{next_read, is_end, after_token, read_within, state_after}
 use Rattle.htmd_html5_laws.specs.PageLetters.{occurrences, occurrences_in, with_text_of, texts_after, texts_within, token_texts}
 use Rattle.htmd_html5_laws.specs.DocumentLetters.{node_texts, drops_text, takes_text, is_taken, taken_after, taken_within}
 use Rattle.htmd_html5_laws.specs.DocumentLetters.{all_texts_are_taken, LettersAreTaken}

@@ -6,7 +6,7 @@ use Rattle.std.specs.List.{list_any}
 use Rattle.std.proofs.lemmas.Bool.{and_parts}
 use Rattle.htmd_grammar.proofs.Cases.{test}
 use Rattle.htmd_html5_state.specs.Names.{known, html}
-use Rattle.htmd_html5_state.specs.Documents.{kind_at, detach}
+use Rattle.htmd_html5_state.specs.Nodes.{kind_at, detach}
 use Rattle.htmd_html5_state.specs.OpenElements.{OpenValue, is_in, is_open_node, current_is, pop, close_name, inside, around}
 use Rattle.htmd_html5_state.specs.State.{StateValue, on_nodes, on_stack, on_formatting}
 use Rattle.htmd_html5_state.specs.Insertion.{opened, current, place}

@@ -5,7 +5,7 @@ use Rattle.std.proofs.Common.{subst, inl, inr, ◌⊎◌}
 use Rattle.std.specs.Prelude.{if◌then◌else◌, not}
 use Rattle.std.proofs.lemmas.Bool.{true≢false}
 use Rattle.htmd_grammar.specs.ValueTrees.{AttributePair}
-use Rattle.htmd_grammar.specs.declared.content.RawElement.{RawElement}
+use Rattle.htmd_grammar.specs.declared.content_model.RawElement.{RawElement}
 use Rattle.htmd_html5_state.specs.Names.{NameValue, known, text_of_name, same_name}
 use Rattle.htmd_html5_state.specs.Sets.{has}
 use Rattle.htmd_html5_state.specs.OpenElements.{OpenValue, first_open, is_node_in_scope, pop, pop_until, pop_while}
@@ -21,7 +21,7 @@ use Rattle.htmd_html5_state.specs.declared.names.Namespace.{Namespace}
 use Rattle.htmd_html5_state.specs.declared.sets.NameSet.{NameSet}
 use Rattle.htmd_html5_state.specs.declared.sets.NameSet.TheVariants.{Only, Headings, DescriptionParts, ImpliedEnd}
 use Rattle.htmd_html5.specs.Tokens.{StartTagValue}
-use Rattle.htmd_html5.specs.Answers.{Answer, answer, done}
+use Rattle.htmd_html5.specs.Outcomes.{Outcome, outcome, done}
 use Rattle.htmd_html5.specs.Feeding.{is_text_mode}
 use Rattle.htmd_html5.specs.SharedRules.{with_mode, insert_raw_tag, no_frameset, add_missing_to, end_template}
 use Rattle.htmd_html5.specs.SharedRules.{insert_head_element}
@@ -53,7 +53,7 @@ use Rattle.htmd_html5_laws.proofs.Rules.{marked, to_marker, reconstructed, to_mo
 use Rattle.htmd_html5_laws.proofs.Rules.{noted_element}
 use Rattle.htmd_html5_laws.proofs.RuleWalk.{is_off}
 use Rattle.htmd_html5_state.specs.declared.names.TagName.TheVariants as tags
-use Rattle.htmd_grammar.specs.declared.content.RawElement.TheVariants as raw
+use Rattle.htmd_grammar.specs.declared.content_model.RawElement.TheVariants as raw
 
 -- ---- what a tag leaves
 
@@ -89,19 +89,19 @@ tag_after {f} {g} last first = record {
       record { rooted = x.rooted; rest = λ e. x.rest (ap is_text_mode (first.content body s h) ∙ e) };
 }
 
--- ---- what a mode answers
+-- ---- outcomes in a mode
 
 -- the token isn't processed again where an element of only text was opened
-pub record AnswerRooted (body : ℕ) (s : StateValue) (a : Answer) : Type 0 where
+pub record AnswerRooted (body : ℕ) (s : StateValue) (a : Outcome) : Type 0 where
   pub rooted : RootedAt body a.state
   pub rest : is_text_mode s.content ≡ false
       → (is_text_mode a.state.content ≡ false) ⊎ ((a.again ≡ false) × Rooted body (pop a.state.stack))
 
-pub record AnswerRoots (f : StateValue → Answer) : Type 0 where
+pub record AnswerRoots (f : StateValue → Outcome) : Type 0 where
   pub leaves : (body : ℕ) (s : StateValue) → Plain s → RootedAt body s → AnswerRooted body s (f s)
 
 pub says_rooted : {f : StateValue → StateValue} {more : StateValue → Bool} → Roots f
-    → AnswerRoots (λ s. answer (f s) (more s))
+    → AnswerRoots (λ s. outcome (f s) (more s))
 says_rooted f = record {
   leaves = λ body s plain h. record {
     rooted = f.rooted body s h;
@@ -120,7 +120,7 @@ tag_rooted {f} g = record {
     either body s (inl e) = inl e
     either body s (inr r) = inr (refl, r)
 
-pub answers_rooted : {f g : StateValue → Answer} (b : StateValue → Bool) → AnswerRoots f → AnswerRoots g
+pub answers_rooted : {f g : StateValue → Outcome} (b : StateValue → Bool) → AnswerRoots f → AnswerRoots g
     → AnswerRoots (λ s. if b s then f s else g s)
 answers_rooted {f} {g} b first second = record { leaves = λ body s plain h. either (b s) body s plain h }
   where

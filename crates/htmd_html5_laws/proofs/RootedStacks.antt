@@ -6,7 +6,7 @@ use Rattle.htmd_grammar.proofs.Cases.{test}
 use Rattle.htmd_html5_state.specs.Names.{NameValue, ElementNameValue, known, other, html, svg, math, same_tag, same_name}
 use Rattle.htmd_html5_state.specs.Names.{same_element_name}
 use Rattle.htmd_html5_state.specs.Sets.{is_of, has, bounds}
-use Rattle.htmd_html5_state.specs.Documents.{NodeValue}
+use Rattle.htmd_html5_state.specs.Nodes.{NodeValue}
 use Rattle.htmd_html5_state.specs.OpenElements.{OpenValue, is_in, has_name, is_open, is_open_node, current_is, is_in_scope}
 use Rattle.htmd_html5_state.specs.OpenElements.{scope_has, is_closable, pop, pop_through, pop_until, pop_while, close}
 use Rattle.htmd_html5_state.specs.OpenElements.{close_name, without, inside, around}

@@ -41,7 +41,7 @@ use Rattle.htmd_html5_laws.proofs.Rules.{body_replaced, marked, to_marker, recon
 use Rattle.htmd_html5_laws.proofs.Rules.{frames_refused, line_feed_skipped, noted_element, Rule, nothing, act, ◌⨾◌, when}
 use Rattle.htmd_html5_laws.proofs.Rules.{foster, Reply, ends, again_if, either, template_ended}
 use Rattle.htmd_html5_state.specs.declared.names.TagName.TheVariants as tags
-use Rattle.htmd_grammar.specs.declared.content.RawElement.TheVariants as raw
+use Rattle.htmd_grammar.specs.declared.content_model.RawElement.TheVariants as raw
 use Rattle.htmd_html5_laws.proofs.Rules.{head_left, noscript_put, noscript_left, cell_put, empty_form}
 use Rattle.htmd_html5_laws.proofs.Rules as rules
 use Rattle.htmd_html5.specs.InTable as table

@@ -11,7 +11,7 @@ use Rattle.htmd_html5_state.specs.Foreign.{leave_foreign, foreign_end}
 use Rattle.htmd_html5_state.specs.declared.modes.InsertionMode.{InsertionMode}
 use Rattle.htmd_html5_state.specs.declared.modes.InsertionMode.TheVariants.{Initial, BeforeHtml}
 use Rattle.htmd_html5.specs.Tokens.{StartTagValue, TokenValue, start_tag, end_tag, run, comment, doctype, end_of_file}
-use Rattle.htmd_html5.specs.Answers.{Answer, answer, done}
+use Rattle.htmd_html5.specs.Outcomes.{Outcome, outcome, done}
 use Rattle.htmd_html5.specs.BodyStarts.{block_rule, formatting_rule, phrasing_rule}
 use Rattle.htmd_html5.specs.BodyEnds.{text_end_rule}
 use Rattle.htmd_html5.specs.InBody.{end_of_file_in_template}
@@ -58,12 +58,12 @@ abbrev pub tag_name : TokenValue → NameValue
 tag_name (start_tag tag) = tag.name
 tag_name _ = known tags.P
 
--- what holds of a step (P), of what is done for a token that is processed again (U) or not (T), and of an answer (A),
+-- what holds of a step (P), of what is done for a token that is processed again (U) or not (T), and of an outcome (A),
 -- if each start tag has one of these names, the mode is one of these, and each act, and the last act, is allowed for a
 -- tag of that name
 pub record Invariant (names : NameValue → Bool) (Modes : InsertionMode → Type 0)
     (may turn last : NameValue → Act → Bool) (P U T : (StateValue → StateValue) → Type 0)
-    (A : (StateValue → Answer) → Type 0)
+    (A : (StateValue → Outcome) → Type 0)
     : Type 0 where
   -- each act, and each rule
   pub acts : (tag : StartTagValue) → names tag.name ≡ true → (a : Act) → may tag.name a ≡ true
@@ -93,20 +93,20 @@ pub record Invariant (names : NameValue → Bool) (Modes : InsertionMode → Typ
       → T (fostered f)
   -- answers
   pub says_done : {f : StateValue → StateValue} → T f → A (λ s. done (f s))
-  pub says : {f : StateValue → StateValue} {more : StateValue → Bool} → U f → A (λ s. answer (f s) (more s))
-  pub by_answer : {f g : StateValue → Answer} (b : StateValue → Bool) → A f → A g
+  pub says : {f : StateValue → StateValue} {more : StateValue → Bool} → U f → A (λ s. outcome (f s) (more s))
+  pub by_answer : {f g : StateValue → Outcome} (b : StateValue → Bool) → A f → A g
       → A (λ s. if b s then f s else g s)
   pub ends_template : A end_of_file_in_template
 
 -- and it holds in any mode, and in foreign content
 pub record Everywhere (names : NameValue → Bool) (Modes : InsertionMode → Type 0) (may : NameValue → Act → Bool)
-    (A : (StateValue → Answer) → Type 0)
+    (A : (StateValue → Outcome) → Type 0)
     : Type 0 where
   pub by_mode : (t : TokenValue) → ((mode : InsertionMode) → Modes mode → A (in_mode mode t))
       → A (by_mode_rules t)
   pub alike_allowed : (name : NameValue) → may name foreign_alike ≡ true
   pub comment_allowed : (text : List ℕ) → may (known tags.P) (rules.comment text) ≡ true
-  pub leaves : {f : StateValue → Answer} → A f → A (λ s. f (on_stack (leave_foreign s.nodes) s))
+  pub leaves : {f : StateValue → Outcome} → A f → A (λ s. f (on_stack (leave_foreign s.nodes) s))
   pub ends_foreign : (name : NameValue) → A (by_mode_rules (end_tag name))
       → A (λ s. end_foreign name (foreign_end (text_of_name name) s.stack) s)
 
@@ -115,7 +115,7 @@ abbrev no_tag : StartTagValue
 no_tag = record { name = known tags.P; attributes = []; self_closing = false }
 
 module _ {names : NameValue → Bool} {Modes : InsertionMode → Type 0} {may turn last : NameValue → Act → Bool}
-    {P U T : (StateValue → StateValue) → Type 0} {A : (StateValue → Answer) → Type 0}
+    {P U T : (StateValue → StateValue) → Type 0} {A : (StateValue → Outcome) → Type 0}
     (i : Invariant names Modes may turn last P U T A) (plain : names (known tags.P) ≡ true) where
   module _ (tag : StartTagValue) (p : names tag.name ≡ true) where
     holds : (r : Rule) → fits (may tag.name) r ≡ true → P (rules.run r tag)
@@ -204,7 +204,7 @@ module _ {names : NameValue → Bool} {Modes : InsertionMode → Type 0} {may tu
   in_mode_holds end_of_file p mode q = file_ends_hold mode (i.fit mode q end_of_file p)
 
 module _ {names : NameValue → Bool} {Modes : InsertionMode → Type 0} {may turn last : NameValue → Act → Bool}
-    {P U T : (StateValue → StateValue) → Type 0} {A : (StateValue → Answer) → Type 0}
+    {P U T : (StateValue → StateValue) → Type 0} {A : (StateValue → Outcome) → Type 0}
     (i : Invariant names Modes may turn last P U T A) (b : Everywhere names Modes may A)
     (plain : names (known tags.P) ≡ true) where
   pub by_mode_holds : (t : TokenValue) → IsMarkup names t → A (by_mode_rules t)

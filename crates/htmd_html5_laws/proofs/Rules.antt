@@ -3,7 +3,7 @@ use Rattle.std.proofs.Common.{refl}
 use Rattle.std.proofs.lemmas.Bool.{and_from}
 use Rattle.std.specs.Prelude.{ℕ, Bool, true, false, ◌≡◌, ◌&&◌, if◌then◌else◌, List, [], None}
 use Rattle.htmd_grammar.specs.ValueTrees.{AttributePair}
-use Rattle.htmd_grammar.specs.declared.content.RawElement.{RawElement}
+use Rattle.htmd_grammar.specs.declared.content_model.RawElement.{RawElement}
 use Rattle.htmd_html5_state.specs.Names.{NameValue, known}
 use Rattle.htmd_html5_state.specs.OpenElements.{OpenValue, pop_while, pop_until, clear_to, close, close_name}
 use Rattle.htmd_html5_state.specs.State.{StateValue, on_stack}
@@ -18,7 +18,7 @@ use Rattle.htmd_html5_state.specs.declared.names.TagName.{TagName}
 use Rattle.htmd_html5_state.specs.declared.sets.NameSet.{NameSet}
 use Rattle.htmd_html5_state.specs.declared.sets.Scope.{Scope}
 use Rattle.htmd_html5.specs.Tokens.{StartTagValue}
-use Rattle.htmd_html5.specs.Answers.{Answer, answer}
+use Rattle.htmd_html5.specs.Outcomes.{Outcome, outcome}
 use Rattle.htmd_html5.specs.SharedRules.{with_mode, insert_tag, insert_raw_tag, insert_foreign_tag, no_frameset, add_to_root}
 use Rattle.htmd_html5.specs.SharedRules.{end_template, insert_head_element}
 use Rattle.htmd_html5.specs.BodyStarts.{add_to_body, replace_body, close_heading, skip_line_feed, with_form, forget}
@@ -208,7 +208,7 @@ run (first ⨾ more) tag s = run more tag (run first tag s)
 run (when test first other) tag s = if test tag s then run first tag s else run other tag s
 run (foster r) tag s = fostered (run r tag) s
 
--- what a mode answers: it is done; the token is processed again, if that holds of the state; one of two, by what holds
+-- outcomes in a mode: it is done; the token is processed again, if that holds of the state; one of two, by what holds
 -- of the state; and what ends a template at the end of the file
 pub data Reply : Type 0 where
   ends : Rule → Reply
@@ -216,9 +216,9 @@ pub data Reply : Type 0 where
   either : (StateValue → Bool) → Reply → Reply → Reply
   template_ended : Reply
 
-abbrev pub reply_of : Reply → StartTagValue → StateValue → Answer
-reply_of (ends r) tag s = answer (run r tag s) false
-reply_of (again_if more r) tag s = answer (run r tag s) (more s)
+abbrev pub reply_of : Reply → StartTagValue → StateValue → Outcome
+reply_of (ends r) tag s = outcome (run r tag s) false
+reply_of (again_if more r) tag s = outcome (run r tag s) (more s)
 reply_of (either test first other) tag s = if test s then reply_of first tag s else reply_of other tag s
 reply_of template_ended tag s = end_of_file_in_template s
 

@@ -13,13 +13,13 @@ use Rattle.htmd_grammar.specs.CharacterClasses.{is_among}
 use Rattle.htmd_grammar.specs.Grammar.{Apart}
 use Rattle.htmd_grammar.specs.Serialisation.{is_void}
 use Rattle.htmd_html5_tokens.specs.Tokens.{TokenValue, start_tag, end_tag}
-use Rattle.htmd_grammar.specs.declared.content.Content.TheVariants.{Normal}
+use Rattle.htmd_grammar.specs.declared.content_model.ContentModel.TheVariants.{Normal}
 use Rattle.htmd_html5_state.specs.Names.{html, name_of_text}
-use Rattle.htmd_html5_state.specs.Documents.{NodeValue, kind_at, append_children, add, add_text, last_in}
+use Rattle.htmd_html5_state.specs.Nodes.{NodeValue, kind_at, append_children, add, add_text, last_in}
 use Rattle.htmd_html5_state.specs.OpenElements.{OpenValue}
 use Rattle.htmd_html5_state.specs.Insertion.{current, place}
 use Rattle.htmd_html5_state.specs.State.{StateValue}
-use Rattle.htmd_html5.specs.AtOnce.{is_plain}
+use Rattle.htmd_html5.specs.AtOnce.{is_without_null}
 use Rattle.htmd_html5.specs.Feeding.{feed}
 use Rattle.htmd_html5_laws.specs.StrictTokens.{content_after, tag_named, SpellsTree, SpellsForest}
 use Rattle.htmd_html5_laws.specs.StrictTokens.{after_feed, content_tokens}
@@ -43,13 +43,13 @@ use Rattle.htmd_html5_laws.proofs.StrictRules.{IsInBody, Fits, within, comment_f
 use Rattle.htmd_html5_laws.proofs.StrictRules.{void_fed, opened_with, pre_start}
 use Rattle.htmd_html5_laws.proofs.StrictEnds.{plain_end, formatting_end, pre_end}
 use Rattle.htmd_html5_tokens.specs.Tokens as tokens
-use Rattle.htmd_html5_state.specs.Documents as documents
+use Rattle.htmd_html5_state.specs.Nodes as documents
 
 -- ---- trees that fit
 
 abbrev mutual
   pub FitsTree : List (List ℕ) → ValueTree → Type 0
-  FitsTree c (text u) = is_plain u ≡ true
+  FitsTree c (text u) = is_without_null u ≡ true
   FitsTree c (element n attributes children) =
       Fits c n × FitsForest (n ∷ c) children × (is_among text_names n ≡ true → IsOneText children)
   FitsTree c _ = Unit {0}

@@ -1,4 +1,4 @@
--- A part of a settled text is settled, if it ends where no reference goes on.
+-- A part of an unambiguous text is unambiguous, if it ends where no reference goes on.
 use Rattle.std.proofs.Common.{◌≡◌, ℕ, Bool, true, false, not, ◌&&◌, List, [], ◌∷◌, ◌++◌, Option, Some, None, length}
 use Rattle.std.proofs.Common.{drop, map, refl, sym, ap, ◌∙◌, codes, append_assoc, subst, arith}
 use Rattle.std.specs.Prelude.{◌==◌, if◌then◌else◌}
@@ -20,7 +20,7 @@ use Rattle.htmd_grammar.proofs.TextLemmas.{run_head, stops_not}
 use Rattle.htmd_html5_tokens.specs.NamedReferences.{NamedReference, first_in, old_names, longest_old}
 use Rattle.htmd_html5_tokens.specs.References.{goes_on}
 use Rattle.htmd_html5_laws.specs.StrictReferences.{Place, outside, in_tag, after_title, is_in_tag, begins_letter, place_after}
-use Rattle.htmd_html5_laws.specs.StrictReferences.{counts, is_bare_reference, has_bare_reference, IsSettledAt, IsSettled}
+use Rattle.htmd_html5_laws.specs.StrictReferences.{counts, is_bare_reference, has_bare_reference, IsUnambiguousAt, IsUnambiguous}
 use Rattle.htmd_html5_laws.proofs.StrictPlaces.{covers, covers_tag, covers_itself, place_covered, bare_covered}
 use Rattle.htmd_html5_laws.proofs.StrictPlaces.{covered, stays_outside}
 use Rattle.htmd_html5_laws.proofs.StrictReferencesLemmas.{Ending, ending_for_both}
@@ -136,34 +136,35 @@ references_after here (b ∷ s) t e =
 
 -- ---- parts
 
--- the end of a settled text, which may begin in a tag
-pub settled_back : {here : Place} (s t : List ℕ) → IsSettledAt here (s ++ t) → IsSettledAt in_tag t
-settled_back s t h = record {
+-- the end of an unambiguous text, which may begin in a tag
+pub unambiguous_back : {here : Place} (s t : List ℕ) → IsUnambiguousAt here (s ++ t) → IsUnambiguousAt in_tag t
+unambiguous_back s t h = record {
   line_feeds = (lacks_cut 13 s t h.line_feeds).1;
   no_null = (lacks_cut 0 s t h.no_null).1;
   references_end = references_after _ s t h.references_end;
 }
 
 -- its beginning, before what is no letter, digit, `;` or `=`
-pub settled_front : {here : Place} (s t : List ℕ) → IsSettledAt here (s ++ t)
+pub unambiguous_front : {here : Place} (s t : List ℕ) → IsUnambiguousAt here (s ++ t)
     → halts is_ascii_alphanumeric t ≡ true → first_is 59 t ≡ false → goes_on t ≡ false
-    → IsSettledAt here s
-settled_front s t h k e g = record {
+    → IsUnambiguousAt here s
+unambiguous_front s t h k e g = record {
   line_feeds = (lacks_cut 13 s t h.line_feeds).0;
   no_null = (lacks_cut 0 s t h.no_null).0;
   references_end = references_cut _ _ s t (covers_itself _) k e g h.references_end;
 }
 
 -- what counts at a place counts where less does
-pub settled_less : (q p : Place) (s : List ℕ) → covers q p ≡ true → IsSettledAt q s → IsSettledAt p s
-settled_less q p s c h = record {
+pub unambiguous_less : (q p : Place) (s : List ℕ) → covers q p ≡ true → IsUnambiguousAt q s
+    → IsUnambiguousAt p s
+unambiguous_less q p s c h = record {
   line_feeds = h.line_feeds;
   no_null = h.no_null;
   references_end = covered q p s c h.references_end;
 }
 
-pub settled_in_tag : {here : Place} (s : List ℕ) → IsSettledAt here s → IsSettledAt in_tag s
-settled_in_tag s h = settled_less _ in_tag s (covers_tag _) h
+pub unambiguous_in_tag : {here : Place} (s : List ℕ) → IsUnambiguousAt here s → IsUnambiguousAt in_tag s
+unambiguous_in_tag s h = unambiguous_less _ in_tag s (covers_tag _) h
 
 -- ---- what follows a text
 
@@ -176,7 +177,8 @@ past_text (b ∷ s) t l h e =
     let w = rw stays at (or_parts (b == 38 && is_bare_reference false (s ++ t)) _ e).1 in
     past_text s t p.1 h w
 
-pub settled_past : (s t : List ℕ) → up_to begins_markup s ≡ s → Ending t → IsSettled (s ++ t) → IsSettled t
+pub settled_past : (s t : List ℕ) → up_to begins_markup s ≡ s → Ending t → IsUnambiguous (s ++ t)
+    → IsUnambiguous t
 settled_past s t l e h = record {
   line_feeds = (lacks_cut 13 s t h.line_feeds).1;
   no_null = (lacks_cut 0 s t h.no_null).1;
@@ -200,7 +202,7 @@ past_sign here (b ∷ s) t e =
     past_sign (place_after here b (s ++ (62 ∷ t))) s t
     (or_parts (b == 38 && is_bare_reference (is_in_tag here) (s ++ (62 ∷ t))) _ e).1
 
-pub settled_behind : (s t : List ℕ) → EndsInSign s → IsSettled (s ++ t) → IsSettled t
+pub settled_behind : (s t : List ℕ) → EndsInSign s → IsUnambiguous (s ++ t) → IsUnambiguous t
 settled_behind s t g h =
     let e : s ++ t ≡ g.0 ++ (62 ∷ t) = ap (λ (y : List ℕ). y ++ t) g.1 ∙ append_assoc g.0 (62 ∷ []) t in
     record {
@@ -269,7 +271,8 @@ title_opened name rest x t n e =
 
 -- what follows a start tag
 pub settled_inside : (tag n x : List ℕ) (attributes : List AttributePair)
-    → IsStartTag named_characters tag n attributes → IsSettled (tag ++ x) → IsSettledAt (content_place n) x
+    → IsStartTag named_characters tag n attributes → IsUnambiguous (tag ++ x)
+    → IsUnambiguousAt (content_place n) x
 settled_inside tag n x attributes h k =
     test (bytes_eq n (codes "title"))
     (λ t. let f = h.2 in
@@ -283,8 +286,8 @@ settled_inside tag n x attributes h k =
     }))
     (λ t. rw t (settled_behind tag x (start_sign tag n attributes h) k))
 
-pub settled_outside : (n x : List ℕ) → IsSettledAt (content_place n) x → IsSettled x
-settled_outside n x k =
+pub unambiguous_outside : (n x : List ℕ) → IsUnambiguousAt (content_place n) x → IsUnambiguous x
+unambiguous_outside n x k =
     test (bytes_eq n (codes "title"))
-    (λ t. settled_less after_title outside x refl (rw t at k))
+    (λ t. unambiguous_less after_title outside x refl (rw t at k))
     (λ t. (rw t at k))

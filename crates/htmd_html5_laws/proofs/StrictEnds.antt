@@ -8,7 +8,7 @@ use Rattle.htmd_grammar.specs.ValueTrees.{AttributePair}
 use Rattle.htmd_grammar.proofs.NestingLemmas.{bytes_same}
 use Rattle.htmd_html5_tokens.specs.Tokens.{end_tag}
 use Rattle.htmd_html5_state.specs.Names.{NameValue, known, other, html, name_of_text, spelling}
-use Rattle.htmd_html5_state.specs.Documents.{kind_at, element}
+use Rattle.htmd_html5_state.specs.Nodes.{kind_at, element}
 use Rattle.htmd_html5_state.specs.OpenElements.{OpenValue, is_in_scope, close, close_name, pop, pop_until}
 use Rattle.htmd_html5_state.specs.Insertion.{opened}
 use Rattle.htmd_html5_state.specs.Formatting.{is_listed}
@@ -18,7 +18,7 @@ use Rattle.htmd_html5_state.specs.State.{StateValue, on_stack}
 use Rattle.htmd_html5_state.specs.declared.names.TagName.{TagName}
 use Rattle.htmd_html5_state.specs.declared.sets.NameSet.TheVariants.{Only, Headings}
 use Rattle.htmd_html5_state.specs.declared.sets.Scope.TheVariants.{Default, Button, ListItem}
-use Rattle.htmd_html5.specs.Answers.{done}
+use Rattle.htmd_html5.specs.Outcomes.{done}
 use Rattle.htmd_html5.specs.BodyEnds.{text_end_rule, end_by, end_in_body, end_paragraph}
 use Rattle.htmd_html5.specs.Feeding.{feed, feed_end_tag}
 use Rattle.htmd_html5_laws.specs.StrictTokens.{tag_named}

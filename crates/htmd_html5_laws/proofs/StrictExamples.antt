@@ -1,15 +1,15 @@
--- Settled texts, the tokens of texts of the strict grammar, and plain trees.
+-- AppendsText texts, the tokens of texts of the strict grammar, and plain trees.
 use Rattle.std.proofs.Common.{◌≡◌, true, false, [], ◌∷◌, refl}
 use Rattle.std.specs.Prelude.{codes}
 use Rattle.htmd_grammar.specs.ValueTrees.{none, more}
 use Rattle.htmd_grammar.specs.Serialisation.{is_void}
 use Rattle.htmd_html5_tokens.specs.NamedReferences.{old_names}
 use Rattle.htmd_html5_tokens.specs.Tokens.{start_tag, end_tag, text, comment}
-use Rattle.htmd_grammar.specs.Documents.{skeleton}
+use Rattle.htmd_grammar.specs.HtmlDocuments.{skeleton}
 use Rattle.htmd_nodes.specs.Layout.{document_items}
 use Rattle.htmd_html5.specs.BodyEnds.{text_end_rule}
 use Rattle.htmd_html5.specs.BodyStarts.{block_rule, formatting_rule, phrasing_rule}
-use Rattle.htmd_html5.specs.Documents.{html5_document}
+use Rattle.htmd_html5.specs.Html5Documents.{html5_document}
 use Rattle.htmd_html5_laws.specs.StrictReferences.{outside, has_bare_reference}
 use Rattle.htmd_html5_laws.specs.StrictTokens.{tokens_of_text, tag_named, after_feed, is_simple}
 use Rattle.htmd_html5_laws.specs.StrictTrees.{is_plain_element, are_plain}

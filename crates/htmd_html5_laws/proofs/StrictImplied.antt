@@ -10,18 +10,18 @@ use Rattle.htmd_grammar.specs.ValueTrees.{ValueForest, none, more, document, doc
 use Rattle.htmd_grammar.specs.ValueTrees.{comment, element}
 use Rattle.htmd_grammar.specs.CharacterClasses.{is_among}
 use Rattle.htmd_grammar.specs.Comments.{normalized}
-use Rattle.htmd_grammar.specs.Documents.{skeleton}
+use Rattle.htmd_grammar.specs.HtmlDocuments.{skeleton}
 use Rattle.htmd_nodes.specs.Items.{greatest_depth}
 use Rattle.htmd_html5_tokens.specs.Tokens.{TagValue, TokenValue, start_tag}
-use Rattle.htmd_grammar.specs.declared.content.Content.TheVariants.{Normal}
+use Rattle.htmd_grammar.specs.declared.content_model.ContentModel.TheVariants.{Normal}
 use Rattle.htmd_html5_state.specs.Names.{NameValue, known, other, html, name_of_text, text_of_name, spelling}
-use Rattle.htmd_html5_state.specs.Documents.{NodeValue}
+use Rattle.htmd_html5_state.specs.Nodes.{NodeValue}
 use Rattle.htmd_html5_state.specs.Foreign.{current_is_html, is_math_text_point, is_annotation, is_html_point}
 use Rattle.htmd_html5_state.specs.Insertion.{current}
 use Rattle.htmd_html5_state.specs.State.{StateValue, initial_state}
 use Rattle.htmd_html5_state.specs.declared.names.TagName.{TagName}
 use Rattle.htmd_html5_state.specs.declared.modes.InsertionMode.TheVariants.{BeforeHtml}
-use Rattle.htmd_html5.specs.Answers.{Answer, again, done}
+use Rattle.htmd_html5.specs.Outcomes.{Outcome, again, done}
 use Rattle.htmd_html5.specs.BeforeHtml.{with_root, start_before_html, imply_root}
 use Rattle.htmd_html5.specs.BeforeHead.{with_head, start_before_head, imply_head}
 use Rattle.htmd_html5.specs.InHead.{close_head, start_in_head}
@@ -31,16 +31,16 @@ use Rattle.htmd_html5.specs.AtOnce.{is_not_null}
 use Rattle.htmd_html5.specs.Tokens.{StartTagValue}
 use Rattle.htmd_html5.specs.Runs.{is_null}
 use Rattle.htmd_html5.specs.ForeignContent.{goes_to_html, is_for_math_text, is_for_annotation, is_for_html_point}
-use Rattle.htmd_html5.specs.Processing.{by_rules, after_answer, process_within}
+use Rattle.htmd_html5.specs.Processing.{by_rules, after_outcome, process_within}
 use Rattle.htmd_html5.specs.Texts.{Taken, take_part, put_within}
 use Rattle.htmd_html5.specs.Feeding.{named, feed}
-use Rattle.htmd_html5.specs.Documents.{read_within, state_after, html5_document}
+use Rattle.htmd_html5.specs.Html5Documents.{read_within, state_after, html5_document}
 use Rattle.htmd_html5.specs.Layout.{document_of}
 use Rattle.htmd_html5.proofs.ProcessingLemmas.{by_html}
-use Rattle.htmd_html5_laws.specs.StrictReferences.{IsSettled}
+use Rattle.htmd_html5_laws.specs.StrictReferences.{IsUnambiguous}
 use Rattle.htmd_html5_laws.specs.StrictTokens.{tag_named, SpellsForest}
 use Rattle.htmd_html5_laws.specs.StrictTrees.{head_names, begins_body, PlainTextsAgree}
-use Rattle.htmd_html5_laws.proofs.StrictPieces.{lines_same}
+use Rattle.htmd_html5_laws.proofs.StrictTokenCuts.{lines_same}
 use Rattle.htmd_html5_laws.proofs.StrictRuns.{content_read}
 use Rattle.htmd_html5_laws.proofs.StrictNodes.{numbers, node, forest_nodes, with_forest}
 use Rattle.htmd_html5_laws.proofs.StrictOpen.{name_kept}
@@ -49,13 +49,13 @@ use Rattle.htmd_html5_laws.proofs.StrictRules.{IsInBody}
 use Rattle.htmd_html5_laws.proofs.StrictThrough.{Through, Parts, parts}
 use Rattle.htmd_html5_laws.proofs.StrictBuilt.{FitsForest, forest_built}
 use Rattle.htmd_html5_laws.proofs.StrictPages.{fits_apart, forest_depth}
-use Rattle.htmd_grammar.specs.Documents.{below_body}
+use Rattle.htmd_grammar.specs.HtmlDocuments.{below_body}
 use Rattle.htmd_grammar.specs.Rules.{project}
 use Rattle.htmd_html5_laws.proofs.StrictPages.{plain_is_simple, forest_fits, in_step, root, page_laid}
 use Rattle.htmd_html5_state.specs.declared.names.TagName.TheVariants as tags
 use Rattle.htmd_html5.specs.Tokens as construction
 use Rattle.htmd_html5_tokens.specs.Tokens as tokens
-use Rattle.htmd_html5_state.specs.Documents as documents
+use Rattle.htmd_html5_state.specs.Nodes as documents
 
 -- ---- the states up to the body
 
@@ -205,9 +205,9 @@ goes_html token s h =
     || (is_for_html_point token && is_html_point s.nodes (current s.stack))) (current_is_html s.stack) h
 
 -- one turn
-turn : (k : ℕ) (token : construction.TokenValue) (s : StateValue) (a : Answer) → by_rules token s ≡ a
-    → process_within (suc k) token s ≡ after_answer (process_within k token) a
-turn k token s a e = ap (after_answer (process_within k token)) e
+turn : (k : ℕ) (token : construction.TokenValue) (s : StateValue) (a : Outcome) → by_rules token s ≡ a
+    → process_within (suc k) token s ≡ after_outcome (process_within k token) a
+turn k token s a e = ap (after_outcome (process_within k token)) e
 
 start_implied : (z : Bool) (tag : TagValue) → Passes (name_of_text tag.name)
     → feed (start_tag tag) (initial_state z) ≡ feed (start_tag tag) (implied_state z)
@@ -277,7 +277,7 @@ implied_nodes z content =
     ∷ node (documents.element (html (name_of_text (codes "body"))) []) 1 (numbers 4 content) ∷ ns)
     (sym (append-nil (held ++ []) ∙ append-nil held))
 
-whole_read : (z : Bool) (s : List ℕ) (new : StateValue) → IsSettled s
+whole_read : (z : Bool) (s : List ℕ) (new : StateValue) → IsUnambiguous s
     → read_within (length s) s (initial_state z) ≡ new → (m : List ℕ) → m ≡ s
     → read_within (length m) m (initial_state z) ≡ new
 whole_read z s new k e m q = ap (λ (t : List ℕ). read_within (length t) t (initial_state z)) q ∙ e

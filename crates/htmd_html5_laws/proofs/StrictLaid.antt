@@ -12,7 +12,7 @@ use Rattle.htmd_nodes.specs.Items.{Data, text_node, comment_node, element_node, 
 use Rattle.htmd_nodes.specs.Layout.{size, sizes, item_under, tree_items, forest_items}
 use Rattle.htmd_nodes.proofs.LayoutLemmas.{item_at-middle, length-tree_items}
 use Rattle.htmd_html5_state.specs.Names.{ElementNameValue, html, name_of_text, text_of_name, text_of_element_name}
-use Rattle.htmd_html5_state.specs.Documents.{text_of, NodeValue, kind_at, children_at, with_kind}
+use Rattle.htmd_html5_state.specs.Nodes.{text_of, NodeValue, kind_at, children_at, with_kind}
 use Rattle.htmd_html5.specs.Layout.{next_text, next_texts, after_next_texts, parent_of_children}
 use Rattle.htmd_html5.specs.Layout.{Coming, coming, Layout, is_deepest, with_kind_of, without_node, put_node}
 use Rattle.htmd_html5.specs.Layout.{layout_within}
@@ -22,7 +22,7 @@ use Rattle.htmd_grammar.specs.Grammar.{Apart}
 use Rattle.htmd_html5_laws.proofs.StrictNodes.{numbers, node, tree_nodes, forest_nodes, tree_count, kind_after}
 use Rattle.htmd_html5_laws.proofs.StrictNodes.{children_after}
 use Rattle.htmd_html5_laws.proofs.StrictOpen.{name_kept}
-use Rattle.htmd_html5_state.specs.Documents as documents
+use Rattle.htmd_html5_state.specs.Nodes as documents
 
 -- ---- a node that was laid out
 

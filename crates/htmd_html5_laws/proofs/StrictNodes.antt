@@ -8,10 +8,10 @@ use Rattle.htmd_grammar.specs.ValueTrees.{comment, element}
 use Rattle.htmd_grammar.specs.Grammar.{Apart}
 use Rattle.htmd_nodes.specs.Layout.{size, sizes}
 use Rattle.htmd_html5_state.specs.Names.{html, name_of_text}
-use Rattle.htmd_html5_state.specs.Documents.{KindValue, NodeValue, node_at, kind_at, children_at, text_of, new_node}
-use Rattle.htmd_html5_state.specs.Documents.{with_children, append_children, add, add_text, last_in, preceding, child_before}
-use Rattle.htmd_html5_state.specs.Documents.{joined_to, put_child, with_parent}
-use Rattle.htmd_html5_state.specs.Documents as documents
+use Rattle.htmd_html5_state.specs.Nodes.{KindValue, NodeValue, node_at, kind_at, children_at, text_of, new_node}
+use Rattle.htmd_html5_state.specs.Nodes.{with_children, append_children, add, add_text, last_in, preceding, child_before}
+use Rattle.htmd_html5_state.specs.Nodes.{joined_to, put_child, with_parent}
+use Rattle.htmd_html5_state.specs.Nodes as documents
 
 -- ---- the nodes of trees
 

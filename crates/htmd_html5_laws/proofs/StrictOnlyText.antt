@@ -4,16 +4,16 @@ use Rattle.std.proofs.Common.{arith, subst, codes, length-append}
 use Rattle.htmd_grammar.specs.ValueTrees.{AttributePair, ValueTree, ValueForest, none, more, text, element}
 use Rattle.htmd_grammar.specs.CharacterClasses.{is_among, is_empty}
 use Rattle.htmd_html5_tokens.specs.Tokens.{TokenValue, start_tag, end_tag}
-use Rattle.htmd_grammar.specs.declared.content.Content.TheVariants.{Normal, Raw}
-use Rattle.htmd_grammar.specs.declared.content.RawElement.{RawElement}
+use Rattle.htmd_grammar.specs.declared.content_model.ContentModel.TheVariants.{Normal, Raw}
+use Rattle.htmd_grammar.specs.declared.content_model.RawElement.{RawElement}
 use Rattle.htmd_html5_state.specs.Names.{known, html, name_of_text}
-use Rattle.htmd_html5_state.specs.Documents.{NodeValue, append_children, add, add_text, last_in}
+use Rattle.htmd_html5_state.specs.Nodes.{NodeValue, append_children, add, add_text, last_in}
 use Rattle.htmd_html5_state.specs.Foreign.{current_is_html}
 use Rattle.htmd_html5_state.specs.OpenElements.{OpenValue}
 use Rattle.htmd_html5_state.specs.Insertion.{current, place, place_in, opened, insert_raw}
 use Rattle.htmd_html5_state.specs.Formatting.{reconstruct}
 use Rattle.htmd_html5_state.specs.State.{StateValue}
-use Rattle.htmd_html5.specs.AtOnce.{is_plain}
+use Rattle.htmd_html5.specs.AtOnce.{is_without_null}
 use Rattle.htmd_html5.specs.BodyStarts.{block_rule, formatting_rule, phrasing_rule}
 use Rattle.htmd_html5.specs.Feeding.{feed, feed_text, is_text_mode, without_line_feed}
 use Rattle.htmd_html5.specs.SharedRules.{no_frameset}
@@ -26,9 +26,9 @@ use Rattle.htmd_html5_laws.proofs.StrictOpen.{stands_html}
 use Rattle.htmd_html5_laws.proofs.StrictThrough.{Through, nothing, with_fed}
 use Rattle.htmd_html5_laws.proofs.StrictRules.{IsInBody, Fits, within, fed_start, nothing_again, no_p_closed}
 use Rattle.htmd_html5_tokens.specs.Tokens as tokens
-use Rattle.htmd_grammar.specs.declared.content.RawElement.TheVariants as raw
+use Rattle.htmd_grammar.specs.declared.content_model.RawElement.TheVariants as raw
 use Rattle.htmd_html5_state.specs.declared.names.TagName.TheVariants as tags
-use Rattle.htmd_html5_state.specs.Documents as documents
+use Rattle.htmd_html5_state.specs.Nodes as documents
 
 -- ---- where it stands, and the element
 
@@ -142,12 +142,12 @@ module _ (z : Bool) where
     abbrev skipping : OpenValue → List NodeValue → Bool → RawElement → Bool → StateValue
     skipping e nodes ok kind b = record (held e nodes ok kind) { skips_line_feed = b }
 
-    filled_text : (u : List ℕ) → is_plain u ≡ true → is_empty u ≡ false
+    filled_text : (u : List ℕ) → is_without_null u ≡ true → is_empty u ≡ false
     filled_text [] e = absurd (cc)
     filled_text (b ∷ u) e = refl
 
     text_held : (e : OpenValue) (nodes : List NodeValue) (ok : Bool) (kind : RawElement) (u : List ℕ)
-        → is_text_mode (Raw kind) ≡ true → is_plain u ≡ true
+        → is_text_mode (Raw kind) ≡ true → is_without_null u ≡ true
         → feed (tokens.text u) (held e nodes ok kind) ≡ held e (add_text u (last_in e.node) nodes) ok kind
     text_held e nodes ok kind u m f =
         let now : StateValue = skipping e nodes ok kind false in
@@ -207,7 +207,7 @@ module _ (z : Bool) where
           omega (arith, append_length (at s) (length s.nodes ∷ []) s.nodes, length-append front (new ∷ [])) in
           subst (λ ns. length s.nodes < length ns) (sym (element_added p c n attributes s h)) l
 
-      pub text_put : (u : List ℕ) → is_plain u ≡ true → Put s (element n attributes (more (text u) none))
+      pub text_put : (u : List ℕ) → is_without_null u ≡ true → Put s (element n attributes (more (text u) none))
           (start_tag (tag_named n attributes slash) ∷ tokens.text u ∷ end_tag (tag_named n [] false) ∷ [])
       text_put u i =
           let r = starts n e f attributes slash in

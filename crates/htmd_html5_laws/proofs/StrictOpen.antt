@@ -13,7 +13,7 @@ use Rattle.htmd_grammar.proofs.BooleanLemmas.{and_false}
 use Rattle.htmd_grammar.proofs.NestingLemmas.{same_bytes, bytes_same}
 use Rattle.htmd_html5_state.specs.Names.{NameValue, html, known, other, name_of_text, text_of_name}
 use Rattle.htmd_html5_state.specs.Names.{known_or, is_spelled, spelling, names_with, same_tag, is_tag}
-use Rattle.htmd_html5_state.specs.Documents.{KindValue, NodeValue, kind_at, element}
+use Rattle.htmd_html5_state.specs.Nodes.{KindValue, NodeValue, kind_at, element}
 use Rattle.htmd_html5_state.specs.OpenElements.{OpenValue, is_in, is_open_node, scope_has}
 use Rattle.htmd_html5_state.specs.Foreign.{current_is_html}
 use Rattle.htmd_html5_state.specs.Insertion.{current}

@@ -15,29 +15,29 @@ use Rattle.htmd_grammar.specs.Nesting.{parent_name, is_allowed, is_outside, fits
 use Rattle.htmd_grammar.specs.Nesting.{fits_lists, closes_paragraph, excludes_itself, is_optgroup, is_heading, is_open}
 use Rattle.htmd_grammar.specs.Nesting.{is_met_before}
 use Rattle.htmd_grammar.specs.RawContent.{holds_text_alone, content_of}
-use Rattle.htmd_grammar.specs.Documents.{below_body, skeleton}
+use Rattle.htmd_grammar.specs.HtmlDocuments.{below_body, skeleton}
 use Rattle.htmd_grammar.proofs.NestingLemmas.{allowed_parts}
 use Rattle.htmd_grammar.proofs.TreeTexts.{Inside}
 use Rattle.htmd_nodes.specs.Items.{document_item, greatest_depth}
 use Rattle.htmd_nodes.specs.Layout.{sizes, document_items}
 use Rattle.htmd_html5_tokens.specs.Tokens.{TokenValue, start_tag}
 use Rattle.htmd_html5_tokens.specs.NextToken.{next_token}
-use Rattle.htmd_grammar.specs.declared.content.Content.{Content}
-use Rattle.htmd_grammar.specs.declared.content.Content.TheVariants.{Normal}
+use Rattle.htmd_grammar.specs.declared.content_model.ContentModel.{ContentModel}
+use Rattle.htmd_grammar.specs.declared.content_model.ContentModel.TheVariants.{Normal}
 use Rattle.htmd_html5_state.specs.Names.{html, name_of_text}
-use Rattle.htmd_html5_state.specs.Documents.{NodeValue}
+use Rattle.htmd_html5_state.specs.Nodes.{NodeValue}
 use Rattle.htmd_html5_state.specs.Foreign.{current_is_html}
 use Rattle.htmd_html5_state.specs.State.{StateValue, initial_state}
 use Rattle.htmd_html5.specs.Feeding.{feed}
-use Rattle.htmd_html5.specs.Documents.{next_read, after_token, read_within, state_after, html5_document}
+use Rattle.htmd_html5.specs.Html5Documents.{next_read, after_token, read_within, state_after, html5_document}
 use Rattle.htmd_html5.specs.Layout.{coming, Layout, document_of, layout_within}
-use Rattle.htmd_html5_laws.specs.StrictReferences.{IsSettled}
+use Rattle.htmd_html5_laws.specs.StrictReferences.{IsUnambiguous}
 use Rattle.htmd_html5_laws.specs.StrictTokens.{content_after, tag_named, is_simple_tree, is_simple}
 use Rattle.htmd_html5_laws.specs.StrictTrees.{is_plain_element, is_plain_tree, are_plain, text_names}
 use Rattle.htmd_html5_laws.specs.StrictTrees.{PlainPagesAgree}
 use Rattle.htmd_html5_laws.proofs.StrictCuts.{lacks_cut}
 use Rattle.htmd_html5_laws.proofs.StrictPlainTexts.{plain_text, content_lacks}
-use Rattle.htmd_html5_laws.proofs.StrictPieces.{read, lines_same}
+use Rattle.htmd_html5_laws.proofs.StrictTokenCuts.{read, lines_same}
 use Rattle.htmd_html5_laws.proofs.StrictRawTexts.{raw_children}
 use Rattle.htmd_html5_laws.proofs.StrictSteps.{Run, here, onward, no_tbody}
 use Rattle.htmd_html5_laws.proofs.StrictRuns.{content_read}
@@ -50,7 +50,7 @@ use Rattle.htmd_html5_laws.proofs.StrictRules.{IsInBody, Fits, end_of_file_fed}
 use Rattle.htmd_html5_laws.proofs.StrictOnlyText.{IsOneText}
 use Rattle.htmd_html5_laws.proofs.StrictBuilt.{FitsTree, FitsForest, forest_built}
 use Rattle.htmd_html5_laws.proofs.StrictThrough.{Parts, parts}
-use Rattle.htmd_html5_state.specs.Documents as documents
+use Rattle.htmd_html5_state.specs.Nodes as documents
 
 -- ---- plain trees are simple
 
@@ -170,7 +170,7 @@ nothing_left (suc k) p c s h =
     ap (λ m. after_token (read_within k) (next_token m (not (current_is_html s.stack)) []) s) h.content
     ∙ end_of_file_fed p c s h
 
-pub in_step : (z : Bool) (k : ℕ) (now after : Content) (page left : List ℕ) (xs : List TokenValue)
+pub in_step : (z : Bool) (k : ℕ) (now after : ContentModel) (page left : List ℕ) (xs : List TokenValue)
     (s new : StateValue)
     (p : List ℕ) (c : List (List ℕ)) → Run z now page xs after left → s.content ≡ now → left ≡ []
     → Parts z s xs new → IsInBody (p ∷ c) new
@@ -212,7 +212,7 @@ body_tag_read : (z : Bool) (s : List ℕ)
     → next_read (codes "<body>" ++ s) (initial_state z) ≡ read (start_tag (tag_named (codes "body") [] false)) s
 body_tag_read z s = refl
 
-page_read : (z : Bool) (s : List ℕ) → IsSettled s
+page_read : (z : Bool) (s : List ℕ) → IsUnambiguous s
     → state_after z (codes "<body>" ++ s) ≡ read_within (length (codes "body>" ++ s)) s (body_state z)
 page_read z s k =
     ap (λ (t : List ℕ). read_within (length (codes "<body>" ++ t)) (codes "<body>" ++ t) (initial_state z))

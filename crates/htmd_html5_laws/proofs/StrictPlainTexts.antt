@@ -17,7 +17,7 @@ use Rattle.htmd_grammar.specs.References.{less_line_feed}
 use Rattle.htmd_grammar.specs.RawContent.{holds_raw_text, has_script_escape, text_of, content_of, drops_line_feed}
 use Rattle.htmd_grammar.specs.Rules.{NamedCharacter, character_named, named_characters, project}
 use Rattle.htmd_grammar.proofs.ReferencesLemmas.{stands_same, put_parts}
-use Rattle.htmd_html5.specs.AtOnce.{is_not_null, is_plain}
+use Rattle.htmd_html5.specs.AtOnce.{is_not_null, is_without_null}
 
 abbrev AreNotNull : List ℕ → Type 0
 AreNotNull v = list_all is_not_null v ≡ true
@@ -145,7 +145,7 @@ lines_not_null (b ∷ s) l =
 
 pub plain_text : (z : Bool) (p s u : List ℕ) → lacks 0 s ≡ true → text_of (project z) p s ≡ Some u → u ≢
     []
-    → is_plain u ≡ true
+    → is_without_null u ≡ true
 plain_text z p s u l e f = rw (filled u f, text_not_null) refl
   where
     filled : (u : List ℕ) → u ≢ [] → is_empty u ≡ false

@@ -21,16 +21,16 @@ use Rattle.htmd_html5_tokens.specs.RawTexts.{reading_of, raw_text_len, own_text_
 use Rattle.htmd_html5_tokens.specs.Tags.{tag_from_name}
 use Rattle.htmd_html5_tokens.specs.Tokens.{end_tag}
 use Rattle.htmd_html5_tokens.specs.NextToken.{next_token}
-use Rattle.htmd_grammar.specs.declared.content.Content.TheVariants.{Normal, Raw}
-use Rattle.htmd_grammar.specs.declared.content.RawElement.{RawElement}
-use Rattle.htmd_html5_laws.specs.StrictReferences.{outside, after_title, IsSettledAt}
+use Rattle.htmd_grammar.specs.declared.content_model.ContentModel.TheVariants.{Normal, Raw}
+use Rattle.htmd_grammar.specs.declared.content_model.RawElement.{RawElement}
+use Rattle.htmd_html5_laws.specs.StrictReferences.{outside, after_title, IsUnambiguousAt}
 use Rattle.htmd_html5_laws.specs.StrictTokens.{content_in, is_set_aside}
 use Rattle.htmd_html5_laws.proofs.StrictReferencesLemmas.{title_same}
 use Rattle.htmd_html5_laws.proofs.StrictCuts.{content_place}
 use Rattle.htmd_html5_laws.proofs.StrictTagsLemmas.{raw_itself}
-use Rattle.htmd_html5_laws.proofs.StrictPieces.{read, lines_same}
+use Rattle.htmd_html5_laws.proofs.StrictTokenCuts.{read, lines_same}
 use Rattle.htmd_html5_tokens.specs.Tokens as tokens
-use Rattle.htmd_grammar.specs.declared.content.RawElement.TheVariants as raw
+use Rattle.htmd_grammar.specs.declared.content_model.RawElement.TheVariants as raw
 
 -- ---- which content an element has
 
@@ -70,18 +70,18 @@ void_content z n e = no (holds_text_alone z n) (void_holds_none z n e)
 pub record IsRaw (z : Bool) (n : List ℕ) (kind : RawElement) : Type 0 where
   pub content : content_in z n ≡ Raw kind
   pub size : (s : List ℕ) → raw_text_len kind s ≡ own_text_len n s
-  pub text : (s u : List ℕ) → IsSettledAt (content_place n) s → text_of (project z) n s ≡ Some u
+  pub text : (s u : List ℕ) → IsUnambiguousAt (content_place n) s → text_of (project z) n s ≡ Some u
       → decoded (reading_of kind) 0 s ≡ u
 
 title_text : (z : Bool) → holds_raw_text z (codes "title") ≡ false
 title_text true = refl
 title_text false = refl
 
-is_title : (z : Bool) (s u : List ℕ) → IsSettledAt after_title s
+is_title : (z : Bool) (s u : List ℕ) → IsUnambiguousAt after_title s
     → text_of (project z) (codes "title") s ≡ Some u → decoded (reading_of raw.Title) 0 s ≡ u
 is_title z s u k e = let w = rw (title_text z) at e in title_same s u k w
 
-plain : (kind : RawElement) (s u : List ℕ) → IsSettledAt outside s → Some (normalized s) ≡ Some u
+plain : (kind : RawElement) (s u : List ℕ) → IsUnambiguousAt outside s → Some (normalized s) ≡ Some u
     → reading_of kind ≡ reading_of raw.Style → decoded (reading_of kind) 0 s ≡ u
 plain kind s u k e f =
     let q : normalized s ≡ u = cc in
@@ -201,7 +201,7 @@ front_taken (b ∷ s) x = let i = front_taken s x in (ap (λ (y : List ℕ). b �
 
 pub raw_text_next : (z : Bool) (n : List ℕ) (kind : RawElement) (s u x : List ℕ) → IsRaw z n kind
     → holds_text_alone z n ≡ true → s ≢ [] → up_to (ends_text z n) s ≡ s → ends_text z n x ≡ true
-    → text_of (project z) n s ≡ Some u → IsSettledAt (content_place n) s
+    → text_of (project z) n s ≡ Some u → IsUnambiguousAt (content_place n) s
     → next_token (Raw kind) false (s ++ x) ≡ read (tokens.text u) x
 raw_text_next z n kind s u x r e f l k t m =
     let size : raw_text_len kind (s ++ x) ≡ length s = r.size (s ++ x) ∙ own_run z n s x e l k in

@@ -25,8 +25,8 @@ use Rattle.htmd_html5_tokens.specs.Contents.{has_references, is_text, decoded}
 use Rattle.htmd_html5_tokens.specs.Tokens.{Read, text}
 use Rattle.htmd_html5_tokens.specs.RawTexts.{reading_of}
 use Rattle.htmd_html5_tokens.specs.NextToken.{goes_on, read_text}
-use Rattle.htmd_grammar.specs.declared.content.RawElement.TheVariants.{Title}
-use Rattle.htmd_html5_laws.specs.StrictReferences.{in_tag, after_title, counts, is_bare_reference, IsSettledAt, IsSettled}
+use Rattle.htmd_grammar.specs.declared.content_model.RawElement.TheVariants.{Title}
+use Rattle.htmd_html5_laws.specs.StrictReferences.{in_tag, after_title, counts, is_bare_reference, IsUnambiguousAt, IsUnambiguous}
 use Rattle.htmd_html5_laws.specs.StrictReferences.{value_spelled, ReferencesAgree}
 use Rattle.htmd_html5_laws.proofs.StrictPlaces.{has_bare_in, in_title, in_any_value, in_text}
 use Rattle.htmd_html5_tokens.specs.NextToken as next
@@ -287,14 +287,14 @@ text_run (b ∷ s) rest e h =
     (rw (q, i.0) refl, rw (q, i.1) refl)
 
 text_same : (r : _) (s u rest : List ℕ) → has_references r ≡ true → contents.is_value r ≡ false
-    → IsSettled s → decode named_characters 0 s ≡ Some u → up_to begins_markup s ≡ s
+    → IsUnambiguous s → decode named_characters 0 s ≡ Some u → up_to begins_markup s ≡ s
     → ◌≡◌ {A = Read} (record { token = text (decoded r 0 s); rest = rest })
     (record { token = text u; rest = rest })
 text_same r s u rest f z h e l =
     let bare : has_bare_in (contents.is_value r) s ≡ false = rw z (in_text s l h.references_end) in
     rw (decoded_same r f 0 s u h.line_feeds h.no_null bare (λ t. l) e) refl
 
-pub text_read : (s u rest : List ℕ) → IsSettled s → decode named_characters 0 s ≡ Some u
+pub text_read : (s u rest : List ℕ) → IsUnambiguous s → decode named_characters 0 s ≡ Some u
     → up_to begins_markup s ≡ s → Ending rest
     → read_text (s ++ rest) ≡ record { token = text u; rest = rest }
 text_read s u rest h e l k =
@@ -302,17 +302,17 @@ text_read s u rest h e l k =
     rw (r.0, r.1) (search (text_same, h, e, l))
 
 value_any : (r : _) (s u : List ℕ) → has_references r ≡ true → is_text r ≡ false
-    → contents.is_value r ≡ true → IsSettledAt in_tag s → decode named_characters 0 s ≡ Some u
+    → contents.is_value r ≡ true → IsUnambiguousAt in_tag s → decode named_characters 0 s ≡ Some u
     → decoded r 0 s ≡ u
 value_any r s u f t z h e =
     let bare : has_bare_in (contents.is_value r) s ≡ false = rw z (in_any_value in_tag s h.references_end) in
     decoded_same r f 0 s u h.line_feeds h.no_null bare (λ q. absurd (let w = sym t ∙ q in cc)) e
 
-pub value_same : (s u : List ℕ) → IsSettledAt in_tag s → decode named_characters 0 s ≡ Some u
+pub value_same : (s u : List ℕ) → IsUnambiguousAt in_tag s → decode named_characters 0 s ≡ Some u
     → value_spelled s ≡ u
 value_same s u h e = search (value_any, h, e)
 
-pub title_same : (s u : List ℕ) → IsSettledAt after_title s → decode named_characters 0 s ≡ Some u
+pub title_same : (s u : List ℕ) → IsUnambiguousAt after_title s → decode named_characters 0 s ≡ Some u
     → decoded (reading_of Title) 0 s ≡ u
 title_same s u h e =
     decoded_same (reading_of Title) refl 0 s u h.line_feeds h.no_null (in_title s h.references_end)

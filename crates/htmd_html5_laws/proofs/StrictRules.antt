@@ -9,9 +9,9 @@ use Rattle.htmd_grammar.specs.ValueTrees.{AttributePair}
 use Rattle.htmd_grammar.specs.CharacterClasses.{is_among}
 use Rattle.htmd_grammar.specs.Nesting.{parent_name, closes_paragraph, excludes_itself, is_outside, is_met_before}
 use Rattle.htmd_html5_tokens.specs.Tokens.{TagValue, start_tag, comment, text, end_of_file}
-use Rattle.htmd_grammar.specs.declared.content.Content.TheVariants.{Normal}
+use Rattle.htmd_grammar.specs.declared.content_model.ContentModel.TheVariants.{Normal}
 use Rattle.htmd_html5_state.specs.Names.{NameValue, known, other, html, name_of_text}
-use Rattle.htmd_html5_state.specs.Documents.{NodeValue, element, add, kind_at}
+use Rattle.htmd_html5_state.specs.Nodes.{NodeValue, element, add, kind_at}
 use Rattle.htmd_html5_state.specs.OpenElements.{OpenValue, is_in_scope, current_is, close}
 use Rattle.htmd_html5_state.specs.Foreign.{current_is_html, is_math_text_point, is_annotation, is_html_point}
 use Rattle.htmd_html5_state.specs.Insertion.{opened, current, place, insert_comment, insert_element, insert_void}
@@ -23,9 +23,9 @@ use Rattle.htmd_html5_state.specs.declared.names.TagName.{TagName}
 use Rattle.htmd_html5_state.specs.declared.modes.InsertionMode.TheVariants.{InBody}
 use Rattle.htmd_html5_state.specs.declared.sets.NameSet.TheVariants.{Only, Headings, DescriptionParts}
 use Rattle.htmd_html5_state.specs.declared.sets.Scope.TheVariants.{Default, Button, Items}
-use Rattle.htmd_html5_state.proofs.SettledLemmas.{Settled, settled-reconstruct}
-use Rattle.htmd_html5.specs.AtOnce.{is_plain, takes_at_once, put_at_once}
-use Rattle.htmd_html5.specs.Answers.{done}
+use Rattle.htmd_html5_state.proofs.AppendedTextsLemmas.{AppendsText, appends-reconstruct}
+use Rattle.htmd_html5.specs.AtOnce.{is_without_null, takes_at_once, put_at_once}
+use Rattle.htmd_html5.specs.Outcomes.{done}
 use Rattle.htmd_html5.specs.SharedRules.{no_frameset}
 use Rattle.htmd_html5.specs.BodyStarts.{block_rule, formatting_rule, phrasing_rule, start_by}
 use Rattle.htmd_html5.specs.BodyStarts.{start_in_body, close_heading, forget, close_no_break, is_hidden}
@@ -99,15 +99,15 @@ module _ (p : List ℕ) (c : List (List ℕ)) (s : StateValue) (h : IsInBody (p 
   pub within : (current s.stack).node < length s.nodes
   within = stands_within s.nodes p c s.stack h.stands
 
-  settles : Settled s
-  settles = record {
+  at_end : AppendsText s
+  at_end = record {
     fosters = h.no_foster;
     listed = rw (none_closed s.formatting s.stack h.listed) refl;
     within = within;
   }
 
   pub nothing_again : reconstruct s ≡ s
-  nothing_again = settled-reconstruct s settles
+  nothing_again = appends-reconstruct s at_end
 
   pub goes : (token : construction.TokenValue) → goes_to_html token s ≡ true
   goes token =
@@ -146,7 +146,7 @@ module _ (p : List ℕ) (c : List (List ℕ)) (s : StateValue) (h : IsInBody (p 
       below : {x y : ℕ} → x < y → nat_lt x y ≡ true
       below l = grind (arith, nat_tests)
 
-  pub text_fed : (u : List ℕ) → is_plain u ≡ true → feed (text u) s ≡ put_at_once u s
+  pub text_fed : (u : List ℕ) → is_without_null u ≡ true → feed (text u) s ≡ put_at_once u s
   text_fed u e =
       ap (λ (x : StateValue). feed_text (without_line_feed s.skips_line_feed u) x) unskipped
       ∙ ap (λ (b : Bool). feed_text (without_line_feed b u) s) h.no_skip

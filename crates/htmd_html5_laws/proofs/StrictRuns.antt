@@ -15,22 +15,22 @@ use Rattle.htmd_grammar.specs.Rules.{named_characters, project}
 use Rattle.htmd_grammar.specs.References.{decode, after_line_feed}
 use Rattle.htmd_grammar.specs.Serialisation.{is_void}
 use Rattle.htmd_grammar.specs.Tags.{IsStartTag, IsEndTag}
-use Rattle.htmd_grammar.specs.Documents.{above_body, below_body}
+use Rattle.htmd_grammar.specs.HtmlDocuments.{above_body, below_body}
 use Rattle.htmd_grammar.proofs.NestingLemmas.{allowed_parts}
 use Rattle.htmd_grammar.proofs.Completeness.{end_tag_stops}
 use Rattle.htmd_grammar.proofs.TreeTexts.{Inside, IsTextTree}
 use Rattle.htmd_html5_tokens.specs.Tokens.{TokenValue, start_tag, end_tag}
 use Rattle.htmd_html5_tokens.specs.NextToken.{next_token}
-use Rattle.htmd_grammar.specs.declared.content.Content.TheVariants.{Normal, Raw}
-use Rattle.htmd_grammar.specs.declared.content.RawElement.{RawElement}
-use Rattle.htmd_html5_laws.specs.StrictReferences.{outside, in_tag, IsSettledAt, IsSettled}
+use Rattle.htmd_grammar.specs.declared.content_model.ContentModel.TheVariants.{Normal, Raw}
+use Rattle.htmd_grammar.specs.declared.content_model.RawElement.{RawElement}
+use Rattle.htmd_html5_laws.specs.StrictReferences.{outside, in_tag, IsUnambiguousAt, IsUnambiguous}
 use Rattle.htmd_html5_laws.specs.StrictTokens.{content_in, tag_named, SpellsTree, SpellsForest}
 use Rattle.htmd_html5_laws.specs.StrictTokens.{with_text_token, after_feed, content_tokens}
 use Rattle.htmd_html5_laws.specs.StrictTokens.{is_set_aside, is_simple_tree, is_simple, TokensAgree}
-use Rattle.htmd_html5_laws.proofs.StrictCuts.{settled_back, settled_in_tag, settled_past, settled_inside, settled_outside, content_place}
+use Rattle.htmd_html5_laws.proofs.StrictCuts.{unambiguous_back, unambiguous_in_tag, settled_past, settled_inside, unambiguous_outside, content_place}
 use Rattle.htmd_html5_laws.proofs.StrictReferencesLemmas.{Ending}
-use Rattle.htmd_html5_laws.proofs.StrictPieces.{read, start_read, end_read, raw_end_read, text_token_read}
-use Rattle.htmd_html5_laws.proofs.StrictPieces.{settled_before}
+use Rattle.htmd_html5_laws.proofs.StrictTokenCuts.{read, start_read, end_read, raw_end_read, text_token_read}
+use Rattle.htmd_html5_laws.proofs.StrictTokenCuts.{unambiguous_before}
 use Rattle.htmd_html5_laws.proofs.StrictRawTexts.{normal_content, void_content, IsRaw, raw_content, pre_plain, raw_keeps}
 use Rattle.htmd_html5_laws.proofs.StrictLineFeeds.{kept_begins, feed_case, dropped_feed, Feed, feed_text}
 use Rattle.htmd_html5_laws.proofs.StrictRawTexts.{raw_children, stop_same, raw_text_next, raw_end_next}
@@ -47,10 +47,10 @@ module _ (z : Bool) where
   nothing_content n = test (drops_line_feed n) (λ t. rw t refl) (λ t. rw t refl)
 
   void_run : (n tag rest : List ℕ) (attributes : List AttributePair) → IsStartTag named_characters tag n attributes
-      → is_void n ≡ true → is_outside n ≡ false → IsSettled (tag ++ rest)
+      → is_void n ≡ true → is_outside n ≡ false → IsUnambiguous (tag ++ rest)
       → Made z (SpellsTree (element n attributes none)) tag rest
   void_run n tag rest attributes h v o k =
-      let r = start_read tag n rest attributes h (settled_in_tag (tag ++ rest) k) in
+      let r = start_read tag n rest attributes h (unambiguous_in_tag (tag ++ rest) k) in
       let now = normal_content z n (void_content z n v) o in (
         start_tag (tag_named n attributes r.0) ∷ [],
         (r.0, [], [], refl, nothing_content n, rw v (refl, refl)),
@@ -65,9 +65,9 @@ module _ (z : Bool) where
   normal_closed : (n : List ℕ) (ks : ValueForest) → ForestRun z ks → (c : Context) (inner end rest : List ℕ)
       → ReadsForest (project z) (n ∷ c) true ks inner → IsEndTag end n → drops_line_feed n ≡ false
       → holds_text_alone z n ≡ false → is_outside n ≡ false → is_simple ks ≡ true
-      → IsSettled (inner ++ (end ++ rest)) → Closed n ks (inner ++ (end ++ rest)) rest
+      → IsUnambiguous (inner ++ (end ++ rest)) → Closed n ks (inner ++ (end ++ rest)) rest
   normal_closed n ks ih c inner end rest h g d e o i k =
-      let m = settled_back inner (end ++ rest) k in
+      let m = unambiguous_back inner (end ++ rest) k in
       let r = end_read end n rest g m in
       let inside = ih n c true inner (end ++ rest) h e i k (inr r.1) in
       let last = one_token z (end_tag (tag_named n [] false)) end rest (end_filled z end n g) r.0 refl refl in (
@@ -78,7 +78,7 @@ module _ (z : Bool) where
 
   raw_closed : (n : List ℕ) (ks : ValueForest) (c : Context) (inner end rest : List ℕ)
       → ReadsForest (project z) (n ∷ c) true ks inner → IsEndTag end n → holds_text_alone z n ≡ true
-      → is_set_aside n ≡ false → IsSettledAt (content_place n) (inner ++ (end ++ rest))
+      → is_set_aside n ≡ false → IsUnambiguousAt (content_place n) (inner ++ (end ++ rest))
       → Closed n ks (inner ++ (end ++ rest)) rest
   raw_closed n ks c inner end rest h g e a k = go (raw_children z n c true ks inner h e)
     where
@@ -90,7 +90,7 @@ module _ (z : Bool) where
 
       last : Run z (Raw found.0) (end ++ rest) (end_tag (tag_named n [] false) ∷ []) Normal rest
       last =
-          let r = raw_end_read end n rest g (settled_back inner (end ++ rest) k) in
+          let r = raw_end_read end n rest g (unambiguous_back inner (end ++ rest) k) in
           onward (end_tag (tag_named n [] false)) rest
           (raw_end_next z n found.0 (end ++ rest) r.0 found.1 e stops r.1 ∙ r.2) refl
           (shorter z end rest (end_filled z end n g)) here
@@ -102,8 +102,8 @@ module _ (z : Bool) where
           → Closed n ks (inner ++ (end ++ rest)) rest
       go (inl w) = rw (w.0, w.1) ([], nothing_content n, from_content z (found.1).content last)
       go (inr w) =
-          let m = settled_before (content_place n) inner (end ++ rest)
-          (inr (end_read end n rest g (settled_back inner (end ++ rest) k)).1) k in
+          let m = unambiguous_before (content_place n) inner (end ++ rest)
+          (inr (end_read end n rest g (unambiguous_back inner (end ++ rest) k)).1) k in
           rw w.1 (
             tokens.text w.0 ∷ [],
             rw (raw_keeps z n e a) (tokens.text w.0 ∷ [], [], refl, refl, refl),
@@ -115,9 +115,10 @@ module _ (z : Bool) where
 
   -- ---- elements that drop a line feed
 
-  after_piece : (b : ℕ) (w r x : List ℕ) → IsSettled ((b ∷ (w ++ r)) ++ x) → IsSettledAt in_tag (r ++ x)
+  after_piece : (b : ℕ) (w r x : List ℕ) → IsUnambiguous ((b ∷ (w ++ r)) ++ x)
+      → IsUnambiguousAt in_tag (r ++ x)
   after_piece b w r x k =
-      settled_back (b ∷ w) (r ++ x) (subst IsSettled (ap (λ (y : List ℕ). b ∷ y) (append_assoc w r x)) k)
+      unambiguous_back (b ∷ w) (r ++ x) (subst IsUnambiguous (ap (λ (y : List ℕ). b ∷ y) (append_assoc w r x)) k)
 
   abbrev Tail : ValueForest → Type 0
   Tail none = Unit {0}
@@ -147,7 +148,7 @@ module _ (z : Bool) where
 
   begins_no_feed : (ts : ValueForest) (p : List ℕ) (c : Context) (last : Bool) (s rest : List ℕ)
       → ReadsForest (project z) (p ∷ c) last ts s → holds_text_alone z p ≡ false → is_simple ts ≡ true
-      → IsSettled (s ++ rest) → Ending rest → after_line_feed [] s ≡ s → begins_feed ts ≡ false
+      → IsUnambiguous (s ++ rest) → Ending rest → after_line_feed [] s ≡ s → begins_feed ts ≡ false
   begins_no_feed none p c last s rest h e o k st a = refl
   begins_no_feed (more (document ks) ts) p c last s rest h e o k st a = refl
   begins_no_feed (more doctype ts) p c last s rest h e o k st a = refl
@@ -156,9 +157,10 @@ module _ (z : Bool) where
   begins_no_feed (more (text u) ts) p c last s rest h e o k st a =
       let q : s ++ rest ≡ h.0 ++ (h.1 ++ rest) =
       ap (λ (y : List ℕ). y ++ rest) h.2 ∙ append_assoc h.0 h.1 rest in
-      let i = subst IsSettled q k in
-      let follows = text_ending z (text u) ts p c last h.1 rest refl h.3 h.5 o (settled_back h.0 (h.1 ++ rest) i) st in
-      let this = settled_before outside h.0 (h.1 ++ rest) follows i in
+      let i = subst IsUnambiguous q k in
+      let follows = text_ending z (text u) ts p c last h.1 rest refl h.3 h.5 o (unambiguous_back h.0 (h.1 ++ rest) i) st
+      in
+      let this = unambiguous_before outside h.0 (h.1 ++ rest) follows i in
       let d : decode named_characters 0 h.0 ≡ Some u = rw (plain_text z p e) at (h.4).2 in
       kept_begins h.0 u h.1 this.line_feeds d (no_feed_there h.1 rest follows)
       (ap (after_line_feed []) (sym h.2) ∙ a ∙ h.2)
@@ -169,7 +171,7 @@ module _ (z : Bool) where
 
   no_line_dropped : (n : List ℕ) (ks : ValueForest) → ForestRun z ks → (c : Context) (s x rest : List ℕ)
       → ReadsForest (project z) (n ∷ c) true ks s → after_line_feed [] s ≡ s → holds_text_alone z n ≡ false
-      → is_simple ks ≡ true → IsSettled (s ++ x) → Ending x → Fed n ks s x rest
+      → is_simple ks ≡ true → IsUnambiguous (s ++ x) → Ending x → Fed n ks s x rest
   no_line_dropped n ks ih c s x rest h a e o k st =
       let r = ih n c true s x h e o k st in
       let same = feed_kept ks r.0 r.1 (begins_no_feed ks n c true s x h e o k st a) in
@@ -177,14 +179,14 @@ module _ (z : Bool) where
 
   line_alone : (n : List ℕ) (ks : ValueForest) → ForestRun z ks → (c : Context) (b : ℕ) (w r x rest : List ℕ)
       → Feed b w r → ReadsForest (project z) (n ∷ c) true ks r → holds_text_alone z n ≡ false
-      → is_simple ks ≡ true → IsSettled ((b ∷ (w ++ r)) ++ x) → Ending (r ++ x) → Ending x
+      → is_simple ks ≡ true → IsUnambiguous ((b ∷ (w ++ r)) ++ x) → Ending (r ++ x) → Ending x
       → Fed n ks (b ∷ (w ++ r)) x rest
   line_alone n ks ih c b w r x rest f h e o k begins st =
       let front : List ℕ = b ∷ (w ++ []) in
       let q : (b ∷ (w ++ r)) ++ x ≡ front ++ (r ++ x) =
       ap (λ (y : List ℕ). b ∷ y) (append_assoc w r x ∙ ap (λ (y : List ℕ). y ++ (r ++ x))
       (sym (append-nil w))) in
-      let i = subst IsSettled q k in
+      let i = subst IsUnambiguous q k in
       let t = feed_text b w r [] r [] f refl refl refl in
       let token = text_token_read front (10 ∷ []) (r ++ x) (λ y. (let z = y in cc)) t.0 t.1 begins i in
       let inside = ih n c true r x h e o (settled_past front (r ++ x) t.1 begins i) st in (
@@ -198,7 +200,8 @@ module _ (z : Bool) where
   line_dropped : (n : List ℕ) (ks : ValueForest) → ForestRun z ks → Tail ks → (c : Context) (b : ℕ)
       (w r x rest : List ℕ)
       → Feed b w r → ReadsForest (project z) (n ∷ c) true ks r → holds_text_alone z n ≡ false
-      → is_simple ks ≡ true → IsSettled ((b ∷ (w ++ r)) ++ x) → Ending x → Fed n ks (b ∷ (w ++ r)) x rest
+      → is_simple ks ≡ true → IsUnambiguous ((b ∷ (w ++ r)) ++ x) → Ending x
+      → Fed n ks (b ∷ (w ++ r)) x rest
   line_dropped n none ih tail c b w r x rest f h e o k st =
       line_alone n none ih c b w r x rest f h e o k (rw h st) st
   line_dropped n (more (document ks) ts) ih tail c b w r x rest f h e o k st = absurd (h.4)
@@ -215,8 +218,8 @@ module _ (z : Bool) where
       let q : (b ∷ (w ++ r)) ++ x ≡ front ++ (h.1 ++ x) =
       ap (λ (y : List ℕ). b ∷ y) (ap (λ (y : List ℕ). (w ++ y) ++ x) h.2
       ∙ ap (λ (y : List ℕ). y ++ x) (sym (append_assoc w h.0 h.1)) ∙ append_assoc (w ++ h.0) h.1 x) in
-      let i = subst IsSettled q k in
-      let follows = text_ending z (text u) ts n c true h.1 x refl h.3 h.5 o (settled_back front (h.1 ++ x) i) st in
+      let i = subst IsUnambiguous q k in
+      let follows = text_ending z (text u) ts n c true h.1 x refl h.3 h.5 o (unambiguous_back front (h.1 ++ x) i) st in
       let d : decode named_characters 0 h.0 ≡ Some u = rw (plain_text z n e) at (h.4).2 in
       let same : (y : List ℕ) → begins_markup y ≡ ends_text z n y = λ y. rw e refl in
       let l : up_to begins_markup h.0 ≡ h.0 = stop_same begins_markup (ends_text z n) same h.0 ∙ (h.4).1 in
@@ -239,15 +242,15 @@ module _ (z : Bool) where
       → ReadsForest (project z) (n ∷ c) true ks (after_line_feed [] inner) → IsEndTag end n
       → drops_line_feed n ≡ true → holds_text_alone z n ≡ false → is_outside n ≡ false → is_simple
       ks ≡ true
-      → IsSettled (inner ++ (end ++ rest)) → Closed n ks (inner ++ (end ++ rest)) rest
+      → IsUnambiguous (inner ++ (end ++ rest)) → Closed n ks (inner ++ (end ++ rest)) rest
   feed_closed n ks ih tail c inner end rest h g d e o i k = whole (fed inner h k)
     where
       r : (next_token Normal false (end ++ rest) ≡ read (end_tag (tag_named n [] false)) rest)
           × (next.begins_markup (end ++ rest) ≡ true) × ((t : List ℕ) × (end ++ rest ≡ 60 ∷ t))
-      r = end_read end n rest g (settled_back inner (end ++ rest) k)
+      r = end_read end n rest g (unambiguous_back inner (end ++ rest) k)
 
       fed : (inner : List ℕ) → ReadsForest (project z) (n ∷ c) true ks (after_line_feed [] inner)
-          → IsSettled (inner ++ (end ++ rest)) → Fed n ks inner (end ++ rest) rest
+          → IsUnambiguous (inner ++ (end ++ rest)) → Fed n ks inner (end ++ rest) rest
       fed [] h k = no_line_dropped n ks ih c [] (end ++ rest) rest h refl e i k (inr r.1)
       fed (b ∷ s) h k = elim (feed_case b s) [
         | inl a ↦ no_line_dropped n ks ih c (b ∷ s) (end ++ rest) rest
@@ -259,7 +262,7 @@ module _ (z : Bool) where
             subst (λ y. Fed n ks y (end ++ rest) rest) (sym whole_)
             (line_dropped n ks ih tail c b f.0 (drop a.0 s) (end ++ rest) rest f.2
             (subst (ReadsForest (project z) (n ∷ c) true ks) a.2 h) e i
-            (subst (λ y. IsSettled (y ++ (end ++ rest))) whole_ k) (inr r.1))
+            (subst (λ y. IsUnambiguous (y ++ (end ++ rest))) whole_ k) (inr r.1))
       ]
 
       whole : Fed n ks inner (end ++ rest) rest → Closed n ks (inner ++ (end ++ rest)) rest
@@ -272,11 +275,11 @@ module _ (z : Bool) where
 
   closed_run : (n tag inner end rest : List ℕ) (attributes : List AttributePair) (ks : ValueForest)
       → IsStartTag named_characters tag n attributes → is_void n ≡ false
-      → IsSettled (tag ++ (inner ++ (end ++ rest))) → Closed n ks (inner ++ (end ++ rest)) rest
+      → IsUnambiguous (tag ++ (inner ++ (end ++ rest))) → Closed n ks (inner ++ (end ++ rest)) rest
       → Made z (SpellsTree (element n attributes ks)) (tag ++ (inner ++ end)) rest
   closed_run n tag inner end rest attributes ks h v k w =
       let r = start_read tag n (inner ++ (end ++ rest)) attributes h
-      (settled_in_tag (tag ++ (inner ++ (end ++ rest))) k) in
+      (unambiguous_in_tag (tag ++ (inner ++ (end ++ rest))) k) in
       let no_slash : r.0 ≡ false = test r.0 (λ t. absurd (let f = sym (r.2 t) ∙ v in cc)) (λ t. t) in
       let q : (tag ++ (inner ++ end)) ++ rest ≡ tag ++ (inner ++ (end ++ rest)) =
       append_assoc tag (inner ++ end) rest ∙ ap (λ (y : List ℕ). tag ++ y) (append_assoc inner end rest) in (
@@ -310,15 +313,15 @@ module _ (z : Bool) where
           let q : s ≡ w.0 =
           w.3 ∙ ap (λ (y : List ℕ). w.0 ++ (y ++ w.2)) m.0 ∙ ap (λ (y : List ℕ). w.0 ++ y) m.1 ∙ append-nil
           w.0 in
-          let i : IsSettled (w.0 ++ rest) = subst (λ (y : List ℕ). IsSettled (y ++ rest)) q k in
+          let i : IsUnambiguous (w.0 ++ rest) = subst (λ (y : List ℕ). IsUnambiguous (y ++ rest)) q k in
           rw (q, m.2) (void_run n w.0 rest attributes w.4 v outside i))
           (λ v. let m = rw v at w.5 in
           let q : s ++ rest ≡ w.0 ++ (w.1 ++ (w.2 ++ rest)) =
           ap (λ (y : List ℕ). y ++ rest) w.3 ∙ append_assoc w.0 (w.1 ++ w.2) rest
           ∙ ap (λ (y : List ℕ). w.0 ++ y) (append_assoc w.1 w.2 rest) in
-          let i : IsSettled (w.0 ++ (w.1 ++ (w.2 ++ rest))) = subst IsSettled q k in
+          let i : IsUnambiguous (w.0 ++ (w.1 ++ (w.2 ++ rest))) = subst IsUnambiguous q k in
           let content = settled_inside w.0 n (w.1 ++ (w.2 ++ rest)) attributes w.4 i in
-          let j = settled_outside n (w.1 ++ (w.2 ++ rest)) content in
+          let j = unambiguous_outside n (w.1 ++ (w.2 ++ rest)) content in
           rw w.3 (closed_run n w.0 w.1 w.2 rest attributes ks w.4 v i
           (test (drops_line_feed n)
           (λ d. feed_closed n ks ih tail (p ∷ c) w.1 w.2 rest (rw d at m.0) m.1 d (pre_plain z n d aside) outside
@@ -335,9 +338,9 @@ module _ (z : Bool) where
       let b = and_parts (is_simple_tree t) (is_simple ts) o in
       let q : s ++ rest ≡ h.0 ++ (h.1 ++ rest) =
       ap (λ (y : List ℕ). y ++ rest) h.2 ∙ append_assoc h.0 h.1 rest in
-      let i = subst IsSettled q k in
+      let i = subst IsUnambiguous q k in
       let follows : IsTextTree t ≡ true → Ending (h.1 ++ rest) =
-      λ f. text_ending z t ts p c last h.1 rest f h.3 h.5 b.1 (settled_back h.0 (h.1 ++ rest) i) st in
+      λ f. text_ending z t ts p c last h.1 rest f h.3 h.5 b.1 (unambiguous_back h.0 (h.1 ++ rest) i) st in
       let j = settled_after z t p c _ h.0 (h.1 ++ rest) h.4 e b.0 follows i in
       let first = one p c _ h.0 (h.1 ++ rest) h.4 e b.0 i follows in
       let others = all p c last h.1 rest h.5 e b.1 j st in (
@@ -369,13 +372,13 @@ body_plain true = refl
 body_plain false = refl
 
 -- the tokens that are read of a text
-pub content_read : (z : Bool) (s : List ℕ) (content : ValueForest) → IsSettled s → is_simple content ≡ true
+pub content_read : (z : Bool) (s : List ℕ) (content : ValueForest) → IsUnambiguous s → is_simple content ≡ true
     → reads (project z) below_body s content
     → (xs : List TokenValue) × SpellsForest content xs × Run z Normal s xs Normal []
 content_read z s content k o h =
     let e = append-nil s in
     let r = forest_run z content (codes "body") above_body true s [] h (body_plain z) o
-    (subst IsSettled (sym e) k) (inl refl) in
+    (subst IsUnambiguous (sym e) k) (inl refl) in
     (r.0, r.1, from_text z (sym e) r.2)
 
 pub tokens_same : TokensAgree

@@ -6,7 +6,7 @@ use Rattle.htmd_grammar.specs.CharacterClasses.{is_among}
 use Rattle.htmd_grammar.proofs.NestingLemmas.{same_bytes, one_name, among_passes}
 use Rattle.htmd_grammar.specs.RawContent.{drops_line_feed, holds_text_alone}
 use Rattle.htmd_grammar.specs.Serialisation.{is_void, void_elements}
-use Rattle.htmd_grammar.specs.declared.content.Content.TheVariants.{Normal}
+use Rattle.htmd_grammar.specs.declared.content_model.ContentModel.TheVariants.{Normal}
 use Rattle.htmd_html5_state.specs.Names.{known, html, spelling}
 use Rattle.htmd_html5_state.specs.Sets.{is_of}
 use Rattle.htmd_html5_state.specs.declared.names.TagName.{TagName}

@@ -18,16 +18,16 @@ use Rattle.htmd_grammar.proofs.NestingLemmas.{one_name}
 use Rattle.htmd_grammar.proofs.TreeTexts.{Inside, IsTextTree}
 use Rattle.htmd_html5_tokens.specs.Tokens.{TokenValue, start_tag, end_tag}
 use Rattle.htmd_html5_tokens.specs.NextToken.{next_token}
-use Rattle.htmd_grammar.specs.declared.content.Content.{Content}
-use Rattle.htmd_grammar.specs.declared.content.Content.TheVariants.{Normal}
-use Rattle.htmd_html5.specs.Documents.{is_end}
-use Rattle.htmd_html5_laws.specs.StrictReferences.{in_tag, IsSettledAt, IsSettled}
+use Rattle.htmd_grammar.specs.declared.content_model.ContentModel.{ContentModel}
+use Rattle.htmd_grammar.specs.declared.content_model.ContentModel.TheVariants.{Normal}
+use Rattle.htmd_html5.specs.Html5Documents.{is_end}
+use Rattle.htmd_html5_laws.specs.StrictReferences.{in_tag, IsUnambiguousAt, IsUnambiguous}
 use Rattle.htmd_html5_laws.specs.StrictTokens.{content_after, tokens_within, SpellsTree, SpellsForest}
 use Rattle.htmd_html5_laws.specs.StrictTokens.{is_set_aside, is_simple_tree, is_simple}
 use Rattle.htmd_html5_laws.proofs.StrictReferencesLemmas.{Ending}
-use Rattle.htmd_html5_laws.proofs.StrictCuts.{settled_in_tag, settled_past, settled_behind, EndsInSign, sign_before}
+use Rattle.htmd_html5_laws.proofs.StrictCuts.{unambiguous_in_tag, settled_past, settled_behind, EndsInSign, sign_before}
 use Rattle.htmd_html5_laws.proofs.StrictCuts.{start_sign, end_sign}
-use Rattle.htmd_html5_laws.proofs.StrictPieces.{read, start_read, comment_read, comment_sign, text_token_read}
+use Rattle.htmd_html5_laws.proofs.StrictTokenCuts.{read, start_read, comment_read, comment_sign, text_token_read}
 use Rattle.htmd_html5_laws.proofs.StrictRawTexts.{text_nothing, stop_same}
 use Rattle.htmd_html5_tokens.specs.Tokens as tokens
 use Rattle.htmd_html5_tokens.specs.NextToken as next
@@ -36,22 +36,24 @@ module _ (z : Bool) where
   -- ---- reading tokens one after another
 
   -- from one content and text to another these tokens are read
-  pub data Run : Content → List ℕ → List TokenValue → Content → List ℕ → Type 0 where
-    here : {now : Content} {s : List ℕ} → Run now s [] now s
-    onward : {now after : Content} {s left : List ℕ} {tokens : List TokenValue} (token : TokenValue) (rest : List ℕ)
+  pub data Run : ContentModel → List ℕ → List TokenValue → ContentModel → List ℕ → Type 0 where
+    here : {now : ContentModel} {s : List ℕ} → Run now s [] now s
+    onward : {now after : ContentModel} {s left : List ℕ} {tokens : List TokenValue} (token : TokenValue)
+        (rest : List ℕ)
         → next_token now false s ≡ read token rest → is_end token ≡ false → length rest < length s
         → Run (content_after z now token) rest tokens after left → Run now s (token ∷ tokens) after left
 
-  pub joined : {a b c : Content} {s t u : List ℕ} {xs ys : List TokenValue} → Run a s xs b t → Run b t ys c u
+  pub joined : {a b c : ContentModel} {s t u : List ℕ} {xs ys : List TokenValue} → Run a s xs b t → Run b t ys c u
       → Run a s (xs ++ ys) c u
   joined here q = q
   joined (onward token rest e f l r) q = onward token rest e f l (joined r q)
 
-  pub from_content : {now other after : Content} {s left : List ℕ} {xs : List TokenValue} → other ≡ now
+  pub from_content : {now other after : ContentModel} {s left : List ℕ} {xs : List TokenValue} → other ≡ now
       → Run now s xs after left → Run other s xs after left
   from_content e r = rw e r
 
-  pub from_text : {now after : Content} {s t left : List ℕ} {xs : List TokenValue} → t ≡ s → Run now s xs after
+  pub from_text : {now after : ContentModel} {s t left : List ℕ} {xs : List TokenValue} → t ≡ s
+      → Run now s xs after
       left
       → Run now t xs after left
   from_text e r = rw e r
@@ -60,7 +62,8 @@ module _ (z : Bool) where
   nothing_left zero = refl
   nothing_left (suc k) = refl
 
-  pub all_read : (k : ℕ) {now after : Content} {s left : List ℕ} {xs : List TokenValue} → Run now s xs after left
+  pub all_read : (k : ℕ) {now after : ContentModel} {s left : List ℕ} {xs : List TokenValue}
+      → Run now s xs after left
       → after ≡ Normal → left ≡ [] → length s ≤ k → tokens_within z k now s ≡ xs
   all_read k here e f l = rw (e, f) (nothing_left k)
   all_read zero (onward token rest e f l r) g h m = absurd (omega arith)
@@ -87,13 +90,13 @@ module _ (z : Bool) where
   abbrev pub TreeRun : ValueTree → Type 0
   TreeRun t = (p : List ℕ) (c : Context) (last : Bool) (s rest : List ℕ) → ReadsTree (project z) (p ∷ c) last t
       s
-      → holds_text_alone z p ≡ false → is_simple_tree t ≡ true → IsSettled (s ++ rest)
+      → holds_text_alone z p ≡ false → is_simple_tree t ≡ true → IsUnambiguous (s ++ rest)
       → (IsTextTree t ≡ true → Ending rest) → Made (SpellsTree t) s rest
 
   abbrev pub ForestRun : ValueForest → Type 0
   ForestRun ts = (p : List ℕ) (c : Context) (last : Bool) (s rest : List ℕ) → ReadsForest (project z) (p ∷ c)
       last ts s
-      → holds_text_alone z p ≡ false → is_simple ts ≡ true → IsSettled (s ++ rest) → Ending rest
+      → holds_text_alone z p ≡ false → is_simple ts ≡ true → IsUnambiguous (s ++ rest) → Ending rest
       → Made (SpellsForest ts) s rest
 
   pub tag_filled : (tag n : List ℕ) (attributes : List AttributePair) → IsStartTag named_characters tag n attributes
@@ -122,7 +125,7 @@ module _ (z : Bool) where
 
   pub comment_run : (u : List ℕ) → TreeRun (comment u)
   comment_run u p c last s rest h e o k st =
-      let r = comment_read s u rest h.0 (settled_in_tag (s ++ rest) k) in
+      let r = comment_read s u rest h.0 (unambiguous_in_tag (s ++ rest) k) in
       let filled : s ≢ [] = λ q. (let w = sym (h.0).2 ∙ q in cc) in
       (tokens.comment u ∷ [], refl, one_token (tokens.comment u) s rest filled r.0 refl refl)
 
@@ -134,7 +137,7 @@ module _ (z : Bool) where
   -- a text ends at the end, or before markup
   pub text_ending : (t : ValueTree) (ts : ValueForest) (p : List ℕ) (c : Context) (last : Bool) (s rest : List ℕ)
       → IsTextTree t ≡ true → Apart t ts → ReadsForest (project z) (p ∷ c) last ts s → is_simple ts ≡ true
-      → IsSettledAt in_tag (s ++ rest) → Ending rest → Ending (s ++ rest)
+      → IsUnambiguousAt in_tag (s ++ rest) → Ending rest → Ending (s ++ rest)
   text_ending t none p c last s rest i a h o k st = rw h st
   text_ending (document ks) (more (text v) ts) p c last s rest i a h o k st = absurd (cc)
   text_ending doctype (more (text v) ts) p c last s rest i a h o k st = absurd (cc)
@@ -146,7 +149,8 @@ module _ (z : Bool) where
   text_ending t (more (comment v) ts) p c last s rest i a h o k st =
       let q : s ++ rest ≡ h.0 ++ (h.1 ++ rest) =
       ap (λ (y : List ℕ). y ++ rest) h.2 ∙ append_assoc h.0 h.1 rest in
-      inr (ap next.begins_markup q ∙ (comment_read h.0 v (h.1 ++ rest) (h.4).0 (subst (IsSettledAt in_tag) q k)).1)
+      inr (ap next.begins_markup q ∙ (comment_read h.0 v (h.1
+      ++ rest) (h.4).0 (subst (IsUnambiguousAt in_tag) q k)).1)
   text_ending t (more (element n attributes ks) ts) p c last s rest i a h o k st = go (h.4).2
     where
       aside : is_set_aside n ≡ false
@@ -160,13 +164,13 @@ module _ (z : Bool) where
           ap (λ (y : List ℕ). y ++ rest) h.2 ∙ append_assoc h.0 h.1 rest
           ∙ ap (λ (y : List ℕ). y ++ (h.1 ++ rest)) w.3 ∙ append_assoc w.0 (w.1 ++ w.2) (h.1 ++ rest) in
           inr (ap next.begins_markup q
-          ∙ (start_read w.0 n ((w.1 ++ w.2) ++ (h.1 ++ rest)) attributes w.4 (subst (IsSettledAt in_tag) q k)).3)
+          ∙ (start_read w.0 n ((w.1 ++ w.2) ++ (h.1 ++ rest)) attributes w.4 (subst (IsUnambiguousAt in_tag) q k)).3)
       go (inr w) = absurd (no_tbody n aside w.3)
 
-  -- what follows a tree is settled
+  -- what follows a tree is unambiguous
   pub settled_after : (t : ValueTree) (p : List ℕ) (c : Context) (last : Bool) (s x : List ℕ)
       → ReadsTree (project z) (p ∷ c) last t s → holds_text_alone z p ≡ false → is_simple_tree t ≡ true
-      → (IsTextTree t ≡ true → Ending x) → IsSettled (s ++ x) → IsSettled x
+      → (IsTextTree t ≡ true → Ending x) → IsUnambiguous (s ++ x) → IsUnambiguous x
   settled_after (document ks) p c last s x h e o st k = absurd h
   settled_after doctype p c last s x h e o st k = absurd h
   settled_after (text u) p c last s x h e o st k =
@@ -179,7 +183,7 @@ module _ (z : Bool) where
       aside : is_set_aside n ≡ false
       aside = not-true (is_set_aside n) (and_parts (not (is_set_aside n)) (is_simple ks) o).0
 
-      go : Inside (project z) (p ∷ c) last n attributes ks s → IsSettled x
+      go : Inside (project z) (p ∷ c) last n attributes ks s → IsUnambiguous x
       go (inl w) =
           test (is_void n)
           (λ v. let m = rw v at w.5 in

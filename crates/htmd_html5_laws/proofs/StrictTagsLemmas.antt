@@ -29,14 +29,14 @@ use Rattle.htmd_html5_tokens.specs.Tags.{next_part, ended, form_within, tag_form
 use Rattle.htmd_html5_tokens.specs.Tags.{tag_value, tag_token, tag_from_name}
 use Rattle.htmd_html5_tokens.specs.Tokens.{TagValue, TokenValue, Read}
 use Rattle.htmd_html5_tokens.specs.RawTexts.{reading_of}
-use Rattle.htmd_grammar.specs.declared.content.RawElement.TheVariants.{Style}
-use Rattle.htmd_html5_laws.specs.StrictReferences.{in_tag, IsSettledAt, value_spelled}
+use Rattle.htmd_grammar.specs.declared.content_model.RawElement.TheVariants.{Style}
+use Rattle.htmd_html5_laws.specs.StrictReferences.{in_tag, IsUnambiguousAt, value_spelled}
 use Rattle.htmd_html5_laws.specs.StrictTokens.{tag_named}
 use Rattle.htmd_html5_laws.proofs.StrictBytes.{key_byte, key_head, key_no_null, white_gap, white_ends}
 use Rattle.htmd_html5_laws.proofs.StrictBytes.{white_no_slash, ends_key, ends_reference, bare_byte, bare_head}
 use Rattle.htmd_html5_laws.proofs.StrictBytes.{ends_bare, name_byte}
 use Rattle.htmd_html5_laws.proofs.StrictReferencesLemmas.{value_same}
-use Rattle.htmd_html5_laws.proofs.StrictCuts.{settled_back, settled_front}
+use Rattle.htmd_html5_laws.proofs.StrictCuts.{unambiguous_back, unambiguous_front}
 use Rattle.htmd_grammar.specs.CharacterClasses as strict
 use Rattle.htmd_html5_tokens.specs.Tags as lenient
 
@@ -286,32 +286,34 @@ form_read (a ∷ spelled) present (suc k) s x h l =
       rw (key_same a h.1 h.7 h.8, i.2) refl,
     )
 
-value_settled : (value r x v : List ℕ) → IsValue value r v → Ends r x → IsSettledAt in_tag (value ++ (r ++ x))
-    → IsSettledAt in_tag v
-value_settled value r x v (inl h) n k =
+value_unambiguous : (value r x v : List ℕ) → IsValue value r v → Ends r x
+    → IsUnambiguousAt in_tag (value ++ (r ++ x))
+    → IsUnambiguousAt in_tag v
+value_unambiguous value r x v (inl h) n k =
     rw h.1 (record { line_feeds = refl; no_null = refl; references_end = refl })
-value_settled value r x v (inr (inl h)) n k =
+value_unambiguous value r x v (inr (inl h)) n k =
     let e : value ++ (r ++ x) ≡ h.0 ++ (h.1 ∷ (v ++ (h.1 ∷ (r ++ x)))) =
     ap (λ (y : List ℕ). y ++ (r ++ x)) h.2 ∙ append_assoc h.0 (h.1 ∷ (v ++ h.1 ∷ [])) (r ++ x)
     ∙ ap (λ (y : List ℕ). h.0 ++ (h.1 ∷ y)) (append_assoc v (h.1 ∷ []) (r ++ x)) in
     let q = quote h.4 in
-    let m = settled_back (h.1 ∷ []) (v ++ (h.1 ∷ (r ++ x)))
-    (settled_back h.0 (h.1 ∷ (v ++ (h.1 ∷ (r ++ x)))) (subst (IsSettledAt in_tag) e k)) in
-    settled_front v (h.1 ∷ (r ++ x)) m (ap not q.0) q.1 q.2
+    let m = unambiguous_back (h.1 ∷ []) (v ++ (h.1 ∷ (r ++ x)))
+    (unambiguous_back h.0 (h.1 ∷ (v ++ (h.1 ∷ (r ++ x)))) (subst (IsUnambiguousAt in_tag) e k)) in
+    unambiguous_front v (h.1 ∷ (r ++ x)) m (ap not q.0) q.1 q.2
   where
     quote : {q : ℕ} → (q ≡ 34) ⊎ (q ≡ 39)
         → (is_ascii_alphanumeric q ≡ false) × ((q == 59) ≡ false)
         × (((q == 61) || is_ascii_alphanumeric q) ≡ false)
     quote (inl e) = rw e (refl, refl, refl)
     quote (inr e) = rw e (refl, refl, refl)
-value_settled value r x v (inr (inr h)) n k =
+value_unambiguous value r x v (inr (inr h)) n k =
     let e : value ++ (r ++ x) ≡ h.0 ++ (v ++ (r ++ x)) =
     ap (λ (y : List ℕ). y ++ (r ++ x)) h.1 ∙ append_assoc h.0 v (r ++ x) in
-    settled_front v (r ++ x) (settled_back h.0 (v ++ (r ++ x)) (subst (IsSettledAt in_tag) e k)) n.letter
+    unambiguous_front v (r ++ x) (unambiguous_back h.0 (v ++ (r ++ x)) (subst (IsUnambiguousAt in_tag) e k)) n.letter
     n.semicolon n.further
 
 values_same : (spelled : List AttributePair) (present : Bool) (s x : List ℕ) (attributes : List AttributePair)
-    → IsTagRest spelled present s → IsSettledAt in_tag (s ++ x) → decode_values named_characters spelled ≡ Some
+    → IsTagRest spelled present s → IsUnambiguousAt in_tag (s ++ x) → decode_values named_characters spelled
+    ≡ Some
     attributes
     → map valued spelled ≡ attributes
 values_same [] present s x attributes h k e = nothing e
@@ -326,10 +328,10 @@ values_same (a ∷ spelled) present s x attributes h k e =
     ap (λ (y : List ℕ). y ++ x) h.4 ∙ append_assoc h.0 (h.1 ++ (h.2 ++ h.3)) x
     ∙ ap (λ (y : List ℕ). h.0 ++ y) (append_assoc h.1 (h.2 ++ h.3) x)
     ∙ ap (λ (y : List ℕ). h.0 ++ (h.1 ++ y)) (append_assoc h.2 h.3 x) in
-    let m = settled_back h.1 (h.2 ++ (h.3 ++ x))
-    (settled_back h.0 (h.1 ++ (h.2 ++ (h.3 ++ x))) (subst (IsSettledAt in_tag) q k)) in
-    let v = value_same a.value w.0 (value_settled h.2 h.3 x a.value h.9 n m) w.2 in
-    let i = values_same spelled present h.3 x w.1 h.10 (settled_back h.2 (h.3 ++ x) m) w.3 in
+    let m = unambiguous_back h.1 (h.2 ++ (h.3 ++ x))
+    (unambiguous_back h.0 (h.1 ++ (h.2 ++ (h.3 ++ x))) (subst (IsUnambiguousAt in_tag) q k)) in
+    let v = value_same a.value w.0 (value_unambiguous h.2 h.3 x a.value h.9 n m) w.2 in
+    let i = values_same spelled present h.3 x w.1 h.10 (unambiguous_back h.2 (h.3 ++ x) m) w.3 in
     rw (v, i) (sym w.4)
 
 -- ---- the tag
@@ -359,7 +361,7 @@ read token rest = record { token = token; rest = rest }
 pub tag_read : (kind : TagValue → TokenValue) (name n : List ℕ) (spelled attributes : List AttributePair)
     (present : Bool) (s x : List ℕ)
     → is_tag_name name ≡ true → map to_ascii_lowercase name ≡ n → IsTagRest spelled present s
-    → IsSettledAt in_tag (s ++ x)
+    → IsUnambiguousAt in_tag (s ++ x)
     → decode_values named_characters spelled ≡ Some attributes → are_distinct (attribute_names spelled) ≡ true
     → tag_from_name kind (name ++ (s ++ x)) ≡ read (kind (tag_named n attributes present)) x
 tag_read kind name n spelled attributes present s x t l h k d distinct =

@@ -3,7 +3,7 @@ use Rattle.std.proofs.Common.{◌≡◌, ℕ, Bool, true, false, List, [], ◌�
 use Rattle.std.specs.Prelude.{◌==◌}
 use Rattle.htmd_grammar.proofs.Cases.{test}
 use Rattle.htmd_html5_tokens.specs.Tokens.{TagValue, TokenValue, start_tag, end_tag, text, comment, doctype, end_of_file}
-use Rattle.htmd_grammar.specs.declared.content.Content.TheVariants.{Normal}
+use Rattle.htmd_grammar.specs.declared.content_model.ContentModel.TheVariants.{Normal}
 use Rattle.htmd_html5_state.specs.Foreign.{current_is_html}
 use Rattle.htmd_html5_state.specs.State.{StateValue}
 use Rattle.htmd_html5.specs.Feeding.{feed, feed_text, is_text_mode, with_nothing_skipped, without_line_feed}

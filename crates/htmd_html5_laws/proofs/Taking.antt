@@ -3,12 +3,12 @@ use Rattle.std.proofs.Common.{◌≡◌, ◌∙◌, ℕ, zero, suc, ◌+◌, ◌
 use Rattle.std.proofs.Common.{Option, Some, None, refl, sym, ap, subst, arith, All}
 use Rattle.std.specs.Prelude.{IsUtf8, if◌then◌else◌}
 use Rattle.std.proofs.lemmas.Bool.{true≢false}
-use Rattle.htmd_html5_state.specs.Documents.{KindValue, NodeValue, document, doctype, text, comment, element, kind_at}
-use Rattle.htmd_html5_state.specs.Documents.{text_of, add, or_add, joined_to, joined_with, preceding}
+use Rattle.htmd_html5_state.specs.Nodes.{KindValue, NodeValue, document, doctype, text, comment, element, kind_at}
+use Rattle.htmd_html5_state.specs.Nodes.{text_of, add, or_add, joined_to, joined_with, preceding}
 use Rattle.htmd_html5_state.specs.State.{StateValue}
 use Rattle.htmd_html5_state.specs.Insertion.{insert_text, place}
 use Rattle.htmd_html5_state.specs.OpenElements.{OpenValue}
-use Rattle.htmd_html5.specs.Answers.{Answer, done}
+use Rattle.htmd_html5.specs.Outcomes.{Outcome, done}
 use Rattle.htmd_html5.specs.InTable.{fostered}
 use Rattle.htmd_html5_laws.specs.PageLetters.{occurrences, occurrences_in}
 use Rattle.htmd_html5_laws.proofs.NodeTexts.{kinds, texts, is_element, kinds_add, kinds_with_kind, kind_read, element_before}
@@ -221,23 +221,23 @@ insert_text_puts c t u = record {
 pub insert_text_takes : (c : ℕ) (t : List ℕ) → IsUtf8 t → Takes c (occurrences c t) (insert_text t)
 insert_text_takes c t u = record { takes = λ s h. grew_took ((insert_text_puts c t u).puts s h) }
 
--- ---- what a mode answers to a text
+-- ---- the outcome of a text in a mode
 
 -- it takes the text at most; where it is to be processed again, the texts are as they were
-pub record Offers (c n : ℕ) (f : StateValue → Answer) : Type 0 where
+pub record Offers (c n : ℕ) (f : StateValue → Outcome) : Type 0 where
   pub taken : (s : StateValue) → Sound s → Took c n s (f s).state
   pub kept : (s : StateValue) → Sound s → (f s).again ≡ true → Kept s (f s).state
 
 pub offers : {c n : ℕ} {f : StateValue → StateValue} → Takes c n f → Offers c n (λ s. done (f s))
 offers h = record { taken = λ s sound. h.takes s sound; kept = λ s sound e. absurd (true≢false (sym e)) }
 
-pub offers_kept : {c n : ℕ} {f : StateValue → Answer} → KeepsAnswer f → Offers c n f
+pub offers_kept : {c n : ℕ} {f : StateValue → Outcome} → KeepsAnswer f → Offers c n f
 offers_kept {c} {n} h = record {
   taken = λ s sound. kept_took n (h.keeps s sound);
   kept = λ s sound e. h.keeps s sound;
 }
 
-pub offers_by_test : {c n : ℕ} {f g : StateValue → Answer} (b : StateValue → Bool) → Offers c n f
+pub offers_by_test : {c n : ℕ} {f g : StateValue → Outcome} (b : StateValue → Bool) → Offers c n f
     → Offers c n g
     → Offers c n (λ s. if b s then f s else g s)
 offers_by_test {c} {n} {f} {g} b first second = record {

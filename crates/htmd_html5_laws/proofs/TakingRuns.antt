@@ -76,7 +76,7 @@ module _ (c : ℕ) where
       by_first_kind (λ kind. Takes c (occurrences c t) (run_in_body kind t)) (body_white t u) (body_nulls t)
       (body_characters t u) s
 
-  -- what a mode answers to a run of each kind
+  -- the outcome of a run of each kind in a mode
   record OffersEach (mode : InsertionMode) (t : List ℕ) : Type 0 where
     white : Offers c (occurrences c t) (in_mode mode (run (kind_of_byte 32) t))
     nulls : Offers c (occurrences c t) (in_mode mode (run (kind_of_byte 0) t))

@@ -12,7 +12,7 @@ use Rattle.htmd_html5_tokens.specs.References.{replacement_character}
 use Rattle.htmd_html5_state.specs.State.{StateValue}
 use Rattle.htmd_html5_state.specs.Insertion.{insert_text}
 use Rattle.htmd_html5.specs.Runs.{is_of_kind, first_kind, first_run, after_first_run}
-use Rattle.htmd_html5.specs.Answers.{Answer}
+use Rattle.htmd_html5.specs.Outcomes.{Outcome}
 use Rattle.htmd_html5.specs.InBody.{run_in_body}
 use Rattle.htmd_html5.specs.InTable.{without_nulls, kept_of, fostered, foster_runs, put_table_text, table_text}
 use Rattle.htmd_html5.specs.Processing.{by_rules, turns}
@@ -140,7 +140,7 @@ module _ (c : ℕ) (other : (c == replacement_character) ≡ false) where
     fits : count + occurrences c t.rest ≤ occurrences c text
     utf8 : IsUtf8 t.rest
 
-  run_took : (k : ℕ) (text : List ℕ) (s : StateValue) (a : Answer) → RunParts c text
+  run_took : (k : ℕ) (text : List ℕ) (s : StateValue) (a : Outcome) → RunParts c text
       → Took c (occurrences c (first_run text)) s a.state
       → (a.again ≡ true → Took c 0 s a.state)
       → (Sound a.state → TookPart text a.state (take_within k text a.state))

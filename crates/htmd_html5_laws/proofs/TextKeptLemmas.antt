@@ -3,7 +3,7 @@ use Rattle.std.proofs.Common.{◌≡◌, ◌∙◌, ℕ, true, false, List, [], 
 use Rattle.std.proofs.lemmas.Bool.{true≢false}
 use Rattle.std.specs.Prelude.{filter}
 use Rattle.std.specs.Str.{chars}
-use Rattle.htmd_html5.specs.Documents.{html5_document}
+use Rattle.htmd_html5.specs.Html5Documents.{html5_document}
 use Rattle.htmd_html5_laws.specs.PageLetters.{texts_of}
 use Rattle.htmd_html5_laws.specs.TextKept.{is_kept, kept_texts, characters_of, characters_in, TextIsKept, all_characters, WholeTextIsKept}
 use Rattle.htmd_html5_laws.proofs.Counted.{Choice, counted_of, counted_in}

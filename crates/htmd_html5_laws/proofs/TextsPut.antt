@@ -6,7 +6,7 @@ use Rattle.std.specs.Str.{chars}
 use Rattle.std.proofs.lemmas.List.Sums.{sum_by-cons, sum_by-append, sum_by_push}
 use Rattle.std.proofs.lemmas.List.Elements.{All-nil, All-cons, All-head, All-tail, All-append}
 use Rattle.std.proofs.lemmas.Str.{chars-append, chars-nil, IsUtf8-append}
-use Rattle.htmd_html5_state.specs.Documents.{KindValue, document, doctype, text, comment, element}
+use Rattle.htmd_html5_state.specs.Nodes.{KindValue, document, doctype, text, comment, element}
 use Rattle.htmd_html5_laws.specs.PageLetters.{occurrences, occurrences_in, is_character}
 use Rattle.htmd_html5_laws.proofs.NodeTexts.{texts, with_text}
 

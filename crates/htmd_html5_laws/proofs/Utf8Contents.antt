@@ -23,7 +23,7 @@ use Rattle.htmd_html5_tokens.specs.References.{is_no_character, character_number
 use Rattle.htmd_html5_tokens.specs.References.{after_number_sign, old_reference, reference_or, reference_by_name}
 use Rattle.htmd_html5_tokens.specs.References.{after_ampersand}
 use Rattle.htmd_html5_tokens.specs.Contents.{has_references, is_text, is_value, piece_at, decoded}
-use Rattle.htmd_html5_tokens.specs.Plain.{is_plain}
+use Rattle.htmd_html5_tokens.specs.AppendedCharacters.{is_literal}
 use Rattle.htmd_html5_tokens.proofs.ReferencesLemmas.{cut_after_first, old_front}
 use Rattle.htmd_html5_tokens.proofs.ContentsLemmas.{decoded_skip, plain_pushed, plain_cut, cut_after_slash, cut_after_special}
 use Rattle.htmd_html5_laws.proofs.Utf8Parts.{after_first_utf8, after_any_case_utf8}
@@ -248,11 +248,11 @@ piece_utf8 r b s one u =
 
 -- ---- a whole text
 
-decoded_rest : (r : _) (k : ℕ) (s : List ℕ) → halts (is_plain r) s ≡ true → length s ≤ suc k → IsUtf8 s
+decoded_rest : (r : _) (k : ℕ) (s : List ℕ) → halts (is_literal r) s ≡ true → length s ≤ suc k → IsUtf8 s
     → ((t : List ℕ) → length t ≤ k → IsUtf8 t → IsUtf8 (decoded r 0 t)) → IsUtf8 (decoded r 0 s)
 decoded_rest r k [] h l u go = IsUtf8-nil
 decoded_rest r k (b ∷ s) h l u go =
-    let off : is_plain r b ≡ false = not_true (is_plain r b) h in
+    let off : is_literal r b ≡ false = not_true (is_literal r b) h in
     let cut = cut_after_special r (b ∷ s) u (omega arith) off in
     let piece = piece_utf8 r b s (IsUtf8-take (b ∷ s) 1 u cut) (IsUtf8-drop (b ∷ s) 1 u cut) in
     let n : ℕ = (piece_at r b s).following in
@@ -267,23 +267,23 @@ decoded_within : (r : _) (k : ℕ) (s : List ℕ) → length s ≤ k → IsUtf8 
 decoded_within r zero [] l u = IsUtf8-nil
 decoded_within r zero (b ∷ s) l u = absurd (omega arith)
 decoded_within r (suc k) s l u =
-    subst IsUtf8 (plain_pushed r [] s front front rest (length front) refl (sym (take_run (is_plain r) s))
-    (sym (drop_run (is_plain r) s)) refl)
+    subst IsUtf8 (plain_pushed r [] s front front rest (length front) refl (sym (take_run (is_literal r) s))
+    (sym (drop_run (is_literal r) s)) refl)
     (IsUtf8-append front (decoded r 0 rest) front_utf8
-    (decoded_rest r k rest (back_halts (is_plain r) s) (omega (arith, behind_within (is_plain r) s)) rest_utf8
+    (decoded_rest r k rest (back_halts (is_literal r) s) (omega (arith, behind_within (is_literal r) s)) rest_utf8
     (λ t m v. decoded_within r k t m v)))
   where
     front : List ℕ
-    front = leading_run (is_plain r) s
+    front = leading_run (is_literal r) s
 
     rest : List ℕ
-    rest = behind_run (is_plain r) s
+    rest = behind_run (is_literal r) s
 
     front_utf8 : IsUtf8 front
-    front_utf8 = subst IsUtf8 (take_run (is_plain r) s) (IsUtf8-take s (length front) u (plain_cut r s _ refl))
+    front_utf8 = subst IsUtf8 (take_run (is_literal r) s) (IsUtf8-take s (length front) u (plain_cut r s _ refl))
 
     rest_utf8 : IsUtf8 rest
-    rest_utf8 = subst IsUtf8 (drop_run (is_plain r) s) (IsUtf8-drop s (length front) u (plain_cut r s _ refl))
+    rest_utf8 = subst IsUtf8 (drop_run (is_literal r) s) (IsUtf8-drop s (length front) u (plain_cut r s _ refl))
 
 pub decoded_utf8 : (r : _) (s : List ℕ) → IsUtf8 s → IsUtf8 (decoded r 0 s)
 decoded_utf8 r s u = decoded_within r (length s) s (omega arith) u

@@ -10,7 +10,7 @@ use Rattle.std.proofs.lemmas.Str.{IsUtf8-take, IsUtf8-drop, IsUtf8-past_char}
 use Rattle.htmd_grammar.proofs.Cases.{test}
 use Rattle.htmd_grammar.specs.CharacterClasses.{first_is, begins_with, begins_in_any_case, leading_run, behind_run}
 use Rattle.htmd_grammar.specs.CharacterClasses.{up_to, onward}
-use Rattle.htmd_grammar.specs.Documents.{byte_order_mark, behind_mark}
+use Rattle.htmd_grammar.specs.HtmlDocuments.{byte_order_mark, behind_mark}
 use Rattle.htmd_grammar.specs.TagReading.{is_other}
 use Rattle.htmd_grammar.proofs.BooleanLemmas.{and_false}
 use Rattle.htmd_grammar.proofs.RunsLemmas.{take_run, drop_run, behind_last}

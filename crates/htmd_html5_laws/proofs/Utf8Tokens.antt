@@ -14,7 +14,7 @@ use Rattle.htmd_grammar.specs.WhiteSpace.{is_ascii_white_space}
 use Rattle.htmd_grammar.specs.CharacterClasses.{is_empty, first_is, begins_with, begins_in_any_case, leading_run, behind_run}
 use Rattle.htmd_grammar.specs.CharacterClasses.{up_to, onward}
 use Rattle.htmd_grammar.specs.Comments.{normalized}
-use Rattle.htmd_grammar.specs.Documents.{behind_mark}
+use Rattle.htmd_grammar.specs.HtmlDocuments.{behind_mark}
 use Rattle.htmd_grammar.specs.TagReading.{TagPart, malformed, tag_end, attribute, is_other, quoted_value}
 use Rattle.htmd_grammar.proofs.RunsLemmas.{drop_run}
 use Rattle.htmd_grammar.proofs.RunsLemmas.{behind_within}
@@ -30,16 +30,16 @@ use Rattle.htmd_html5_tokens.specs.NextToken.{begins_section, after_empty_piece,
 use Rattle.htmd_html5_tokens.specs.NextToken.{begins_letter, read_markup, begins_markup, read_text, read_piece}
 use Rattle.htmd_html5_tokens.specs.NextToken.{read_held, read_raw, next_token}
 use Rattle.htmd_html5_tokens.specs.RawTexts.{reading_of, raw_text_len}
-use Rattle.htmd_grammar.specs.declared.content.Content.{Content}
-use Rattle.htmd_grammar.specs.declared.content.Content.TheVariants.{Normal, Raw}
-use Rattle.htmd_grammar.specs.declared.content.RawElement.{RawElement}
+use Rattle.htmd_grammar.specs.declared.content_model.ContentModel.{ContentModel}
+use Rattle.htmd_grammar.specs.declared.content_model.ContentModel.TheVariants.{Normal, Raw}
+use Rattle.htmd_grammar.specs.declared.content_model.RawElement.{RawElement}
 use Rattle.htmd_html5_tokens.proofs.RunCuts.{cut_before_ascii, outside_attribute_name}
 use Rattle.htmd_html5_tokens.proofs.RawTextsLemmas.{raw_cut}
 use Rattle.htmd_html5_tokens.proofs.BeginningsLemmas.{other_ends, comment_end_begins, section_end_begins, markup_begins}
 use Rattle.htmd_html5_state.specs.State.{StateValue, initial_state}
 use Rattle.htmd_html5_state.specs.Foreign.{current_is_html}
 use Rattle.htmd_html5.specs.Feeding.{feed}
-use Rattle.htmd_html5.specs.Documents.{next_read, is_end}
+use Rattle.htmd_html5.specs.Html5Documents.{next_read, is_end}
 use Rattle.htmd_html5_laws.specs.PageLetters.{with_text_of, texts_after, texts_within, TokensAreUtf8}
 use Rattle.htmd_html5_laws.proofs.Utf8Parts.{open_run_utf8, after_ascii_utf8, other_run_utf8, after_first_utf8, after_beginning_utf8, after_any_case_utf8}
 use Rattle.htmd_html5_laws.proofs.Utf8Parts.{after_other_utf8, up_to_utf8, unmarked_utf8}
@@ -313,7 +313,7 @@ raw_utf8 element s u =
     held_utf8 (reading_of element) _ _ (IsUtf8-take s (raw_text_len element s) u cut)
     (IsUtf8-drop s (raw_text_len element s) u cut)
 
-pub next_token_utf8 : (content : Content) (foreign : Bool) (s : List ℕ) → IsUtf8 s
+pub next_token_utf8 : (content : ContentModel) (foreign : Bool) (s : List ℕ) → IsUtf8 s
     → ReadUtf8 (next_token content foreign s)
 next_token_utf8 Normal foreign s u = piece_utf8 foreign _ (pieces_utf8 (length s) s foreign u)
 next_token_utf8 (Raw element) foreign s u = raw_utf8 element s u

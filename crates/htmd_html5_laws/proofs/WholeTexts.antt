@@ -6,8 +6,8 @@ use Rattle.std.specs.List.{list_any}
 use Rattle.std.proofs.lemmas.Bool.{true≢false, and_parts, eqb-true}
 use Rattle.htmd_grammar.proofs.Cases.{test}
 use Rattle.htmd_html5_state.specs.Names.{text_of_element_name}
-use Rattle.htmd_html5_state.specs.Documents.{KindValue, NodeValue, document, doctype, text, comment, element, kind_at, node_at}
-use Rattle.htmd_html5_state.specs.Documents.{children_at, parent_at, with_kind, text_of, is_number}
+use Rattle.htmd_html5_state.specs.Nodes.{KindValue, NodeValue, document, doctype, text, comment, element, kind_at, node_at}
+use Rattle.htmd_html5_state.specs.Nodes.{children_at, parent_at, with_kind, text_of, is_number}
 use Rattle.htmd_html5.specs.Layout.{Coming, coming, Layout, next_texts, with_text}
 use Rattle.htmd_html5.specs.Layout.{with_kind_of, without_node}
 use Rattle.htmd_nodes.specs.Items.{Item, Data, doctype_node, text_node, comment_node, element_node, new_item}

@@ -4,8 +4,8 @@ use Rattle.std.proofs.Common.{refl, sym, ap, subst, arith, cond, Some, inl, inr,
 use Rattle.std.specs.Prelude.{◌==◌}
 use Rattle.std.proofs.lemmas.Bool.{true≢false, eqb-true, eqb-false, eq-eqb}
 use Rattle.htmd_grammar.proofs.Cases.{test}
-use Rattle.htmd_html5_state.specs.Documents.{KindValue, NodeValue, document, doctype, text, comment, element, kind_at, node_at}
-use Rattle.htmd_html5_state.specs.Documents.{children_at, parent_at, with_kind}
+use Rattle.htmd_html5_state.specs.Nodes.{KindValue, NodeValue, document, doctype, text, comment, element, kind_at, node_at}
+use Rattle.htmd_html5_state.specs.Nodes.{children_at, parent_at, with_kind}
 use Rattle.htmd_html5.specs.Layout.{Coming, Layout, put_next, layout_within, first_layout, document_of, is_deepest}
 use Rattle.htmd_html5_laws.specs.PageLetters.{occurrences_in, texts_of}
 use Rattle.htmd_html5_laws.specs.KeptLetters.{hangs_within, is_whole}

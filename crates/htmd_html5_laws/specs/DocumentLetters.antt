@@ -3,7 +3,7 @@ use Rattle.std.specs.Prelude.{◌≡◌, ℕ, zero, suc, Bool, true, false, not,
 use Rattle.std.specs.Prelude.{length, IsUtf8}
 use Rattle.htmd_html5_tokens.specs.Preprocessing.{preprocessed}
 use Rattle.htmd_html5_tokens.specs.Tokens.{TokenValue, Read, text}
-use Rattle.htmd_html5_state.specs.Documents.{KindValue, NodeValue, text as text_kind}
+use Rattle.htmd_html5_state.specs.Nodes.{KindValue, NodeValue, text as text_kind}
 use Rattle.htmd_html5_state.specs.OpenElements.{OpenValue, current_is}
 use Rattle.htmd_html5_state.specs.State.{StateValue, initial_state}
 use Rattle.htmd_html5_state.specs.declared.modes.InsertionMode.{InsertionMode}
@@ -11,7 +11,7 @@ use Rattle.htmd_html5_state.specs.declared.modes.InsertionMode.TheVariants.{InCo
 use Rattle.htmd_html5_state.specs.declared.modes.InsertionMode.TheVariants.{AfterAfterFrameset}
 use Rattle.htmd_html5_state.specs.declared.sets.NameSet.TheVariants.{Only}
 use Rattle.htmd_html5.specs.Feeding.{is_text_mode, feed}
-use Rattle.htmd_html5.specs.Documents.{next_read, is_end, state_after}
+use Rattle.htmd_html5.specs.Html5Documents.{next_read, is_end, state_after}
 use Rattle.htmd_html5_laws.specs.PageLetters.{is_letter, occurrences_in, token_texts}
 use Rattle.htmd_html5_state.specs.declared.names.TagName.TheVariants as tags
 

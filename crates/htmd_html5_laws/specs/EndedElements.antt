@@ -6,7 +6,7 @@ use Rattle.htmd_html5_state.specs.OpenElements.{OpenValue, is_in, is_empty}
 use Rattle.htmd_html5_state.specs.State.{StateValue, initial_state}
 use Rattle.htmd_html5_state.specs.declared.sets.NameSet.TheVariants.{Only}
 use Rattle.htmd_html5.specs.Feeding.{feed}
-use Rattle.htmd_html5.specs.Documents.{next_read, is_end}
+use Rattle.htmd_html5.specs.Html5Documents.{next_read, is_end}
 use Rattle.htmd_html5_state.specs.declared.names.TagName.TheVariants as tags
 
 -- the outermost open element is `html`; the innermost stands first

@@ -2,9 +2,9 @@
 use Rattle.std.specs.Prelude.{◌≡◌, ℕ, zero, suc, Bool, true, false, not, ◌||◌, ◌&&◌, ◌==◌, List, [], ◌∷◌}
 use Rattle.std.specs.Prelude.{Option, Some, None, is_some, length, IsUtf8}
 use Rattle.std.specs.List.{list_any}
-use Rattle.htmd_html5_state.specs.Documents.{KindValue, NodeValue, element, kind_at, parent_at, children_at, text_of}
-use Rattle.htmd_html5_state.specs.Documents.{is_number}
-use Rattle.htmd_html5.specs.Documents.{state_after, html5_document}
+use Rattle.htmd_html5_state.specs.Nodes.{KindValue, NodeValue, element, kind_at, parent_at, children_at, text_of}
+use Rattle.htmd_html5_state.specs.Nodes.{is_number}
+use Rattle.htmd_html5.specs.Html5Documents.{state_after, html5_document}
 use Rattle.htmd_html5_laws.specs.PageLetters.{is_letter, occurrences_in, texts_of, token_texts}
 use Rattle.htmd_html5_laws.specs.DocumentLetters.{all_texts_are_taken}
 

@@ -3,9 +3,9 @@ use Rattle.std.specs.Prelude.{◌≡◌, ℕ, Bool, true, not, ◌||◌, List, [
 use Rattle.std.specs.List.{list_all}
 use Rattle.std.specs.Str.{bytes_eq, chars}
 use Rattle.htmd_html5_tokens.specs.Tokens.{TokenValue, start_tag}
-use Rattle.htmd_html5.specs.Documents.{html5_document}
+use Rattle.htmd_html5.specs.Html5Documents.{html5_document}
 use Rattle.htmd_html5_laws.specs.PageLetters.{is_letter, texts_of, token_texts}
-use Rattle.htmd_html5_laws.specs.HarmlessTags.{drops_text_in, page_tokens}
+use Rattle.htmd_html5_laws.specs.DroppedTexts.{drops_text_in, page_tokens}
 
 -- ---- letters in order
 
@@ -24,18 +24,18 @@ letters_in (s ∷ texts) = letters_of s ++ letters_in texts
 abbrev pub moves_text_in : List ℕ → Bool
 moves_text_in name = drops_text_in name || bytes_eq name (codes "table")
 
-abbrev pub is_orderly : TokenValue → Bool
-is_orderly (start_tag tag) = not (moves_text_in tag.name)
-is_orderly _ = true
+abbrev pub moves_no_text : TokenValue → Bool
+moves_no_text (start_tag tag) = not (moves_text_in tag.name)
+moves_no_text _ = true
 
 -- no start tag of the page is named so
-abbrev pub all_tags_are_orderly : Bool → List ℕ → Bool
-all_tags_are_orderly scripting page = list_all is_orderly (page_tokens scripting page)
+abbrev pub no_tag_moves_text : Bool → List ℕ → Bool
+no_tag_moves_text scripting page = list_all moves_no_text (page_tokens scripting page)
 
 -- ---- the law
 
 -- The letters of the tree's texts, in document order, are those of the tokens' texts, in the same order.
 abbrev pub LettersStandInOrder : Type 0
 LettersStandInOrder =
-    (scripting : Bool) (page : List ℕ) → IsUtf8 page → all_tags_are_orderly scripting page ≡ true
+    (scripting : Bool) (page : List ℕ) → IsUtf8 page → no_tag_moves_text scripting page ≡ true
     → letters_in (texts_of (html5_document scripting page)) ≡ letters_in (token_texts scripting page)

@@ -2,7 +2,7 @@
 pub mod PageLetters
 pub mod DocumentLetters
 pub mod KeptLetters
-pub mod HarmlessTags
+pub mod DroppedTexts
 pub mod LetterOrder
 pub mod TextKept
 pub mod EndedElements

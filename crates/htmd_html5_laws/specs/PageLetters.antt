@@ -11,7 +11,7 @@ use Rattle.htmd_html5_tokens.specs.References.{replacement_character}
 use Rattle.htmd_html5_tokens.specs.Tokens.{TokenValue, Read, text}
 use Rattle.htmd_html5_state.specs.State.{StateValue, initial_state}
 use Rattle.htmd_html5.specs.Feeding.{feed}
-use Rattle.htmd_html5.specs.Documents.{next_read, is_end, html5_document}
+use Rattle.htmd_html5.specs.Html5Documents.{next_read, is_end, html5_document}
 
 -- ---- letters
 

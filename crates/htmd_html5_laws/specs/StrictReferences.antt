@@ -14,7 +14,7 @@ use Rattle.htmd_html5_tokens.specs.Tags.{attribute_of}
 use Rattle.htmd_html5_tokens.specs.RawTexts.{reading_of}
 use Rattle.htmd_html5_tokens.specs.NextToken.{read_text}
 use Rattle.htmd_html5_tokens.specs.Tokens.{text}
-use Rattle.htmd_grammar.specs.declared.content.RawElement.TheVariants.{Title}
+use Rattle.htmd_grammar.specs.declared.content_model.RawElement.TheVariants.{Title}
 
 -- ---- where a reference stands
 
@@ -68,13 +68,13 @@ has_bare_reference here (b ∷ s) =
 
 -- A text that begins at such a place, whose line ends are line feeds, without U+0000, and where each reference by name
 -- that counts has its `;`.
-pub record IsSettledAt (here : Place) (s : List ℕ) : Type 0 where
+pub record IsUnambiguousAt (here : Place) (s : List ℕ) : Type 0 where
   pub line_feeds : lacks carriage_return s ≡ true
   pub no_null : lacks null s ≡ true
   pub references_end : has_bare_reference here s ≡ false
 
-abbrev pub IsSettled : List ℕ → Type 0
-IsSettled s = IsSettledAt outside s
+abbrev pub IsUnambiguous : List ℕ → Type 0
+IsUnambiguous s = IsUnambiguousAt outside s
 
 -- ---- the law
 
@@ -87,6 +87,6 @@ value_spelled s = (attribute_of (record { name = []; value = s })).value
 abbrev pub ReferencesAgree : Type 0
 ReferencesAgree =
     (s u : List ℕ) → decode named_characters 0 s ≡ Some u
-    → (IsSettled s → up_to begins_markup s ≡ s → read_text s ≡ record { token = text u; rest = [] })
-    × (IsSettledAt after_title s → decoded (reading_of Title) 0 s ≡ u)
-    × (IsSettledAt in_tag s → value_spelled s ≡ u)
+    → (IsUnambiguous s → up_to begins_markup s ≡ s → read_text s ≡ record { token = text u; rest = [] })
+    × (IsUnambiguousAt after_title s → decoded (reading_of Title) 0 s ≡ u)
+    × (IsUnambiguousAt in_tag s → value_spelled s ≡ u)

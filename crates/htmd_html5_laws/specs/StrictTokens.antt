@@ -10,20 +10,20 @@ use Rattle.htmd_grammar.specs.RawContent.{drops_line_feed}
 use Rattle.htmd_grammar.specs.Rules.{project}
 use Rattle.htmd_grammar.specs.Serialisation.{is_void}
 use Rattle.htmd_grammar.specs.Grammar.{reads}
-use Rattle.htmd_grammar.specs.Documents.{below_body}
+use Rattle.htmd_grammar.specs.HtmlDocuments.{below_body}
 use Rattle.htmd_html5_tokens.specs.Tokens.{TagValue, TokenValue, start_tag, end_tag, text, comment, Read}
 use Rattle.htmd_html5_tokens.specs.NextToken.{next_token}
-use Rattle.htmd_grammar.specs.declared.content.Content.{Content}
-use Rattle.htmd_grammar.specs.declared.content.Content.TheVariants.{Normal, Raw}
-use Rattle.htmd_html5.specs.Documents.{is_end}
-use Rattle.htmd_html5_laws.specs.StrictReferences.{IsSettled}
+use Rattle.htmd_grammar.specs.declared.content_model.ContentModel.{ContentModel}
+use Rattle.htmd_grammar.specs.declared.content_model.ContentModel.TheVariants.{Normal, Raw}
+use Rattle.htmd_html5.specs.Html5Documents.{is_end}
+use Rattle.htmd_html5_laws.specs.StrictReferences.{IsUnambiguous}
 use Rattle.htmd_grammar.specs.ValueTrees as trees
-use Rattle.htmd_grammar.specs.declared.content.RawElement.TheVariants as raw
+use Rattle.htmd_grammar.specs.declared.content_model.RawElement.TheVariants as raw
 
 -- ---- the tokenizer, told by each start tag what the element holds (HTML Standard, 13.2.6.4)
 
 -- `noscript` holds only text if scripting is on
-abbrev pub content_in : Bool → List ℕ → Content
+abbrev pub content_in : Bool → List ℕ → ContentModel
 content_in scripting n =
     if bytes_eq n (codes "title") then Raw raw.Title
     else if bytes_eq n (codes "textarea") then Raw raw.Textarea
@@ -38,16 +38,17 @@ content_in scripting n =
     else Normal
 
 -- what follows a token
-abbrev pub content_after : Bool → Content → TokenValue → Content
+abbrev pub content_after : Bool → ContentModel → TokenValue → ContentModel
 content_after scripting now (start_tag tag) = content_in scripting tag.name
 content_after scripting now (end_tag tag) = Normal
 content_after scripting now _ = now
 
-abbrev pub tokens_after : (Content → List ℕ → List TokenValue) → Bool → Content → Read → List TokenValue
+abbrev pub tokens_after : (ContentModel → List ℕ → List TokenValue) → Bool → ContentModel → Read
+    → List TokenValue
 tokens_after go scripting now read =
     if is_end read.token then [] else read.token ∷ go (content_after scripting now read.token) read.rest
 
-abbrev pub tokens_within : Bool → ℕ → Content → List ℕ → List TokenValue
+abbrev pub tokens_within : Bool → ℕ → ContentModel → List ℕ → List TokenValue
 tokens_within scripting zero now s = []
 tokens_within scripting (suc k) now s =
     tokens_after (tokens_within scripting k) scripting now (next_token now false s)
@@ -113,8 +114,8 @@ abbrev mutual
 
 -- ---- the law
 
--- Of a settled text that denotes such trees by the strict grammar, the tokens are those of the trees, in order.
+-- Of an unambiguous text that denotes such trees by the strict grammar, the tokens are those of the trees, in order.
 abbrev pub TokensAgree : Type 0
 TokensAgree =
-    (scripting : Bool) (s : List ℕ) (content : ValueForest) → IsSettled s → is_simple content ≡ true
+    (scripting : Bool) (s : List ℕ) (content : ValueForest) → IsUnambiguous s → is_simple content ≡ true
     → reads (project scripting) below_body s content → SpellsForest content (tokens_of_text scripting s)

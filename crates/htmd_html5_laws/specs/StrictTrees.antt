@@ -7,11 +7,11 @@ use Rattle.htmd_grammar.specs.CharacterClasses.{is_among}
 use Rattle.htmd_grammar.specs.Rules.{project}
 use Rattle.htmd_grammar.specs.Serialisation.{is_void}
 use Rattle.htmd_grammar.specs.Grammar.{reads}
-use Rattle.htmd_grammar.specs.Documents.{behind_mark, below_body, skeleton}
+use Rattle.htmd_grammar.specs.HtmlDocuments.{behind_mark, below_body, skeleton}
 use Rattle.htmd_nodes.specs.Layout.{document_items}
 use Rattle.htmd_html5_state.specs.Names.{NameValue, known, other, name_of_text}
-use Rattle.htmd_html5.specs.Documents.{html5_document}
-use Rattle.htmd_html5_laws.specs.StrictReferences.{IsSettled}
+use Rattle.htmd_html5.specs.Html5Documents.{html5_document}
+use Rattle.htmd_html5_laws.specs.StrictReferences.{IsUnambiguous}
 
 -- ---- plain trees
 
@@ -77,11 +77,12 @@ abbrev mutual
 
 -- ---- the law
 
--- Where a settled text denotes plain trees by the strict grammar, the lenient reader gives the same tree if `<body>`
+-- Where an unambiguous text denotes plain trees by the strict grammar, the lenient reader gives the same tree if
+-- `<body>`
 -- stands before the text.
 abbrev pub PlainPagesAgree : Type 0
 PlainPagesAgree =
-    (scripting : Bool) (s : List ℕ) (content : ValueForest) → IsSettled s → are_plain content ≡ true
+    (scripting : Bool) (s : List ℕ) (content : ValueForest) → IsUnambiguous s → are_plain content ≡ true
     → reads (project scripting) below_body s content
     → html5_document scripting (codes "<body>" ++ s) ≡ document_items (skeleton content)
 
@@ -108,7 +109,7 @@ begins_body _ = false
 -- Where the content begins so, the trees agree without `<body>` too, if no byte order mark stands there.
 abbrev pub PlainTextsAgree : Type 0
 PlainTextsAgree =
-    (scripting : Bool) (s : List ℕ) (content : ValueForest) → IsSettled s → behind_mark s ≡ s
+    (scripting : Bool) (s : List ℕ) (content : ValueForest) → IsUnambiguous s → behind_mark s ≡ s
     → are_plain content ≡ true → begins_body content ≡ true
     → reads (project scripting) below_body s content
     → html5_document scripting s ≡ document_items (skeleton content)

@@ -15,10 +15,10 @@ use Rattle.htmd_html5_state.specs.declared.modes.InsertionMode.{InsertionMode}
 use Rattle.htmd_html5_state.specs.declared.modes.InsertionMode.TheVariants.{Initial, BeforeHtml, BeforeHead, AfterHead}
 use Rattle.htmd_html5.specs.Runs.{is_null}
 use Rattle.htmd_html5.specs.Feeding.{is_text_mode, without_line_feed, feed}
-use Rattle.htmd_html5.specs.Documents.{next_read, is_end, html5_document}
+use Rattle.htmd_html5.specs.Html5Documents.{next_read, is_end, html5_document}
 use Rattle.htmd_html5_laws.specs.PageLetters.{occurrences_in, texts_of}
-use Rattle.htmd_html5_laws.specs.HarmlessTags.{page_tokens}
-use Rattle.htmd_html5_laws.specs.LetterOrder.{all_tags_are_orderly}
+use Rattle.htmd_html5_laws.specs.DroppedTexts.{page_tokens}
+use Rattle.htmd_html5_laws.specs.LetterOrder.{no_tag_moves_text}
 use Rattle.htmd_html5_state.specs.declared.names.TagName.TheVariants as tags
 
 -- ---- what is kept of a text
@@ -123,7 +123,7 @@ is_kept c = not ((c == null) || (c == replacement_character))
 -- Each character, white space too, stands in the texts of the tree as often as in what is kept of the tokens' texts.
 abbrev pub CharactersAreKept : Type 0
 CharactersAreKept =
-    (scripting : Bool) (page : List ℕ) (c : ℕ) → IsUtf8 page → all_tags_are_orderly scripting page ≡ true
+    (scripting : Bool) (page : List ℕ) (c : ℕ) → IsUtf8 page → no_tag_moves_text scripting page ≡ true
     → is_kept c ≡ true
     → occurrences_in c (texts_of (html5_document scripting page)) ≡ occurrences_in c (kept_texts scripting page)
 
@@ -139,7 +139,7 @@ characters_in (s ∷ texts) = characters_of s ++ characters_in texts
 -- The characters of the tree's texts, in document order, are what is kept of the tokens' texts, in the same order.
 abbrev pub TextIsKept : Type 0
 TextIsKept =
-    (scripting : Bool) (page : List ℕ) → IsUtf8 page → all_tags_are_orderly scripting page ≡ true
+    (scripting : Bool) (page : List ℕ) → IsUtf8 page → no_tag_moves_text scripting page ≡ true
     → no_tag_comes_late scripting page ≡ true
     → characters_in (texts_of (html5_document scripting page)) ≡ characters_in (kept_texts scripting page)
 
@@ -151,6 +151,6 @@ all_characters (s ∷ texts) = chars s ++ all_characters texts
 -- Without U+0000 the same holds of all characters.
 abbrev pub WholeTextIsKept : Type 0
 WholeTextIsKept =
-    (scripting : Bool) (page : List ℕ) → IsUtf8 page → all_tags_are_orderly scripting page ≡ true
+    (scripting : Bool) (page : List ℕ) → IsUtf8 page → no_tag_moves_text scripting page ≡ true
     → no_tag_comes_late scripting page ≡ true → no_null_comes scripting page ≡ true
     → all_characters (texts_of (html5_document scripting page)) ≡ all_characters (kept_texts scripting page)

@@ -1,6 +1,6 @@
 //! The letters of a page and of its tree.
 ghost use Rattle.htmd_html5_laws.specs.DocumentLetters.{LettersAreTaken};
-ghost use Rattle.htmd_html5_laws.specs.HarmlessTags.{HarmlessLettersAreKept, HarmlessLettersAreTaken, HarmlessTextsAreTaken};
+ghost use Rattle.htmd_html5_laws.specs.DroppedTexts.{HarmlessLettersAreKept, HarmlessLettersAreTaken, HarmlessTextsAreTaken};
 ghost use Rattle.htmd_html5_laws.specs.KeptLetters.{LettersAreKept};
 ghost use Rattle.htmd_html5_laws.specs.LetterOrder.{LettersStandInOrder};
 ghost use Rattle.htmd_html5_laws.specs.PageLetters.{NoLetterIsMadeUp, TokensAreUtf8};
@@ -30,19 +30,19 @@ pub fn letters_are_kept()
 {}
 
 /// Without a start tag of `frameset` or `template` no text comes to a state that drops text.
-pub fn harmless_texts_are_taken()
+pub fn undropped_texts_are_taken()
     ensures { HarmlessTextsAreTaken }
 {}
 
 /// Without a start tag of `frameset` or `template` each letter is in the texts of the document that is made of the page
 /// as often as in those of the page's tokens.
-pub fn harmless_letters_are_taken()
+pub fn undropped_letters_are_taken()
     ensures { HarmlessLettersAreTaken }
 {}
 
 /// Without a start tag of `frameset` or `template` letters are kept: each letter is in the texts of the tree as often
 /// as in those of the page's tokens.
-pub fn harmless_letters_are_kept()
+pub fn undropped_letters_are_kept()
     ensures { HarmlessLettersAreKept }
 {}
 

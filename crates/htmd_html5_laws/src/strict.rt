@@ -17,7 +17,8 @@ pub fn tokens_agree()
     ensures { TokensAgree }
 {}
 
-/// A settled text of the strict grammar whose elements are plain is read after `<body>` as the tree that the strict
+/// An unambiguous text of the strict grammar whose elements are plain is read after `<body>` as the tree that the
+/// strict
 /// grammar gives: `html` with an empty `head`, and a `body` with the content. Plain are all elements but those of
 /// tables, `select`, `form`, `object`, `applet`, `marquee`, parts of `ruby`, `noscript`, `script`, `textarea`, and
 /// those of MathML and SVG.
@@ -25,7 +26,8 @@ pub fn plain_pages_agree()
     ensures { PlainPagesAgree }
 {}
 
-/// A settled text of the strict grammar whose elements are plain, and whose content begins with a character that is no
+/// An unambiguous text of the strict grammar whose elements are plain, and whose content begins with a character that
+/// is no
 /// white space, or with an element that belongs in no head, is read as that tree without `<body>` too.
 pub fn plain_texts_agree()
     ensures { PlainTextsAgree }

@@ -2,8 +2,8 @@
 use Rattle.std.proofs.Common.{◌≡◌, ℕ, true, false, List, [], ◌∷◌, Option, Some, None, refl}
 use Rattle.std.specs.Prelude.{codes}
 use Rattle.htmd_html5_state.specs.Names.{NameValue, known, other, html, svg, ElementNameValue, name_of_text}
-use Rattle.htmd_html5_state.specs.Documents.{NodeValue, KindValue, document, text, element, add, add_text, last_in}
-use Rattle.htmd_html5_state.specs.Documents.{before_in, new_node}
+use Rattle.htmd_html5_state.specs.Nodes.{NodeValue, KindValue, document, text, element, add, add_text, last_in}
+use Rattle.htmd_html5_state.specs.Nodes.{before_in, new_node}
 use Rattle.htmd_html5_state.specs.OpenElements.{OpenValue, is_in_scope, close_name, clear_to}
 use Rattle.htmd_html5_state.specs.State.{StateValue, initial_state}
 use Rattle.htmd_html5_state.specs.Insertion.{opened, insert_text, insert_element}

@@ -4,7 +4,7 @@ pub mod StackLemmas
 pub mod PlacesLemmas
 pub mod FormattingLemmas
 pub mod DocumentLemmas
-pub mod SettledLemmas
+pub mod AppendedTextsLemmas
 mod Examples
 pub mod NamesLemmas
 pub mod TagLemmas

@@ -4,8 +4,8 @@ use Rattle.std.specs.Prelude.{length, find, Option, Some, None}
 use Rattle.std.specs.List.{list_any}
 use Rattle.htmd_html5_state.specs.Names.{known, html, is_tag}
 use Rattle.htmd_html5_state.specs.Sets.{bounds}
-use Rattle.htmd_html5_state.specs.Documents.{NodeValue, KindValue, element, kind_at, detach, put, new_node, last_in}
-use Rattle.htmd_html5_state.specs.Documents.{attach, move_children}
+use Rattle.htmd_html5_state.specs.Nodes.{NodeValue, KindValue, element, kind_at, detach, put, new_node, last_in}
+use Rattle.htmd_html5_state.specs.Nodes.{attach, move_children}
 use Rattle.htmd_html5_state.specs.OpenElements.{OpenValue, is_in, is_open_node, inside, around, pop, close_name}
 use Rattle.htmd_html5_state.specs.State.{StateValue, on_nodes, on_stack, on_formatting}
 use Rattle.htmd_html5_state.specs.Insertion.{current, opened, place}

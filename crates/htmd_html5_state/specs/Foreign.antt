@@ -6,7 +6,7 @@ use Rattle.std.specs.Str.{bytes_eq}
 use Rattle.htmd_grammar.specs.ValueTrees.{AttributePair}
 use Rattle.htmd_html5_state.specs.Names.{ElementNameValue, html, svg, math}
 use Rattle.htmd_html5_state.specs.Sets.{is_math_text, is_svg_point}
-use Rattle.htmd_html5_state.specs.Documents.{NodeValue, attributes_at, value_of}
+use Rattle.htmd_html5_state.specs.Nodes.{NodeValue, attributes_at, value_of}
 use Rattle.htmd_html5_state.specs.OpenElements.{OpenValue, pop}
 use Rattle.htmd_html5_state.specs.State.{StateValue, on_stack}
 use Rattle.htmd_html5_state.specs.Insertion.{current, insert_named}

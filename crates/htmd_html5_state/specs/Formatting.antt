@@ -3,7 +3,7 @@ use Rattle.std.specs.Prelude.{ℕ, Bool, true, false, ◌==◌, nat_le, if◌the
 use Rattle.std.specs.Prelude.{Option, Some, None}
 use Rattle.htmd_grammar.specs.ValueTrees.{AttributePair}
 use Rattle.htmd_html5_state.specs.Names.{NameValue}
-use Rattle.htmd_html5_state.specs.Documents.{NodeValue, KindValue, element, kind_at, same_element}
+use Rattle.htmd_html5_state.specs.Nodes.{NodeValue, KindValue, element, kind_at, same_element}
 use Rattle.htmd_html5_state.specs.OpenElements.{OpenValue, is_open_node}
 use Rattle.htmd_html5_state.specs.State.{StateValue, on_formatting}
 use Rattle.htmd_html5_state.specs.Insertion.{insert_element, insert_named}

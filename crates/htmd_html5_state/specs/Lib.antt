@@ -4,7 +4,7 @@
 -- where text needs nothing before it.
 pub mod Names
 pub mod Sets
-pub mod Documents
+pub mod Nodes
 pub mod OpenElements
 pub mod State
 pub mod Insertion
@@ -21,4 +21,4 @@ pub mod FormattingViews
 pub mod AdoptionViews
 pub mod ForeignViews
 pub mod StateViews
-pub mod Settled
+pub mod AppendedTexts

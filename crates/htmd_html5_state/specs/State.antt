@@ -1,8 +1,8 @@
 -- The state of tree construction (HTML Standard, 13.2.4).
 use Rattle.std.specs.Prelude.{ℕ, Bool, true, false, List, [], ◌∷◌, Option, None}
-use Rattle.htmd_grammar.specs.declared.content.Content.{Content}
-use Rattle.htmd_grammar.specs.declared.content.Content.TheVariants.{Normal}
-use Rattle.htmd_html5_state.specs.Documents.{NodeValue, document, new_node}
+use Rattle.htmd_grammar.specs.declared.content_model.ContentModel.{ContentModel}
+use Rattle.htmd_grammar.specs.declared.content_model.ContentModel.TheVariants.{Normal}
+use Rattle.htmd_html5_state.specs.Nodes.{NodeValue, document, new_node}
 use Rattle.htmd_html5_state.specs.OpenElements.{OpenValue}
 use Rattle.htmd_html5_state.specs.declared.modes.InsertionMode.{InsertionMode}
 use Rattle.htmd_html5_state.specs.declared.modes.InsertionMode.TheVariants.{Initial}
@@ -24,7 +24,7 @@ pub record StateValue : Type 0 where
   pub quirks : Bool
   pub scripting : Bool
   -- how the tokenizer reads on; with any element but `plaintext` the mode is "text"
-  pub content : Content
+  pub content : ContentModel
   -- whether a line feed that comes next is dropped
   pub skips_line_feed : Bool
 

@@ -3,7 +3,7 @@ use Rattle.std.specs.Prelude.{ℕ, Bool, true, false, List, [], ◌∷◌, map, 
 use Rattle.std.specs.Borrow.{Bor}
 use Rattle.htmd_grammar.specs.Attributes.{pairs_of}
 use Rattle.htmd_html5_state.specs.Names.{element_name_of, html, known, same_element_name}
-use Rattle.htmd_html5_state.specs.Documents.{KindValue, NodeValue, document, doctype, text, comment, element}
+use Rattle.htmd_html5_state.specs.Nodes.{KindValue, NodeValue, document, doctype, text, comment, element}
 use Rattle.htmd_html5_state.specs.declared.children.Children.{Children}
 use Rattle.htmd_html5_state.specs.declared.children.Children.TheVariants as kept
 use Rattle.htmd_html5_state.specs.declared.document.Node.{Node}

@@ -2,7 +2,7 @@
 ghost use Rattle.std.specs.Prelude.{◌≡◌, IfOk, OnOk, option_map};
 ghost use Rattle.std.specs.List.{list_all};
 ghost use Rattle.htmd_grammar.specs.Attributes.{pair_of, pairs_of};
-ghost use Rattle.htmd_html5_state.specs.Documents as spec;
+ghost use Rattle.htmd_html5_state.specs.Nodes as spec;
 
 use htmd_grammar::Attribute;
 use std::alloc::{AllocError, Global};

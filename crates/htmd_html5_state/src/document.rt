@@ -1,6 +1,6 @@
 //! Documents while they are made: nodes by number, each with its parent and its children.
 ghost use Rattle.std.specs.Prelude.{◌≡◌, ◌∷◌, ◌++◌, ◌≤◌, [], insert, length, string_bytes, IfOk, OnOk, MatchBool, MatchOption, Some, None, false};
-ghost use Rattle.htmd_html5_state.specs.Documents as spec;
+ghost use Rattle.htmd_html5_state.specs.Nodes as spec;
 ghost use Rattle.htmd_html5_state.specs.Names.{element_name_of};
 ghost use Rattle.htmd_html5_state.specs.Views.{is_element, kind_of, kind_seen, nodes_of, numbers_of};
 ghost use Rattle.htmd_grammar.specs.Attributes.{pairs_of};
@@ -59,7 +59,7 @@ pub(crate) struct Document {
 
 impl Model for Document {
     ghost use Rattle.std.specs.Prelude.{List};
-    ghost use Rattle.htmd_html5_state.specs.Documents.{NodeValue};
+    ghost use Rattle.htmd_html5_state.specs.Nodes.{NodeValue};
 
     ghost Value = { List NodeValue };
 

@@ -1,6 +1,6 @@
 //! Elements of foreign content: their names, and what the current node is.
 ghost use Rattle.std.specs.Prelude.{◌≡◌, ◌≤◌, ◌-◌, map, length, drop, IfOk};
-ghost use Rattle.htmd_html5_state.specs.Documents.{attributes_of};
+ghost use Rattle.htmd_html5_state.specs.Nodes.{attributes_of};
 ghost use Rattle.htmd_html5_state.specs.Foreign as spec;
 ghost use Rattle.htmd_html5_state.specs.Insertion.{current};
 ghost use Rattle.htmd_html5_state.specs.Names.{element_name_of};

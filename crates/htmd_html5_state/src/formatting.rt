@@ -43,7 +43,7 @@ impl HtmlState {
     }
 
     /// Reconstructs the active formatting elements: opens those again that were closed. `Err` means out of memory.
-    #[tactic(auto, using(crate::proofs::SettledLemmas::none_reopened))]
+    #[tactic(auto, using(crate::proofs::AppendedTextsLemmas::none_reopened))]
     pub fn reconstruct(&mut self) -> Result<(), AllocError>
         ensures { OnOk result (self.new ≡ spec.reconstruct self.old) }
     {

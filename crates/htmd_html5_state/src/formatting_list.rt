@@ -2,7 +2,7 @@
 ghost use Rattle.std.specs.Prelude.{◌≡◌, ◌∷◌, ◌++◌, ◌<◌, [], length, IfSome, true, false, Some, None, IfOk, OnOk, MatchOption, find, filter};
 ghost use Rattle.htmd_grammar.specs.CharacterClasses.{is_empty};
 ghost use Rattle.htmd_html5_state.specs.Adoption as adoption;
-ghost use Rattle.htmd_html5_state.specs.Documents.{same_element, kind_at};
+ghost use Rattle.htmd_html5_state.specs.Nodes.{same_element, kind_at};
 ghost use Rattle.htmd_html5_state.specs.Formatting as spec;
 ghost use Rattle.htmd_html5_state.specs.Views.{have_same_name, kind_of, kind_seen};
 ghost use Rattle.htmd_html5_state.specs.OpenViews.{stack_of};

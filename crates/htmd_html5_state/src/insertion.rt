@@ -1,6 +1,6 @@
 //! How nodes are inserted.
 ghost use Rattle.std.specs.Prelude.{◌≡◌, IfOk, OnOk, length, string_bytes};
-ghost use Rattle.htmd_html5_state.specs.Documents.{parent_at};
+ghost use Rattle.htmd_html5_state.specs.Nodes.{parent_at};
 ghost use Rattle.htmd_html5_state.specs.Foreign as foreign;
 ghost use Rattle.htmd_html5_state.specs.Insertion as spec;
 ghost use Rattle.htmd_html5_state.specs.Names.{name_of, element_name_of};
@@ -13,7 +13,7 @@ use crate::names::{ElementName, HtmlName, Namespace, TagName};
 use crate::open_elements::{OpenElement, split_innermost};
 use crate::sets::NameSet;
 use crate::state::HtmlState;
-use htmd_grammar::{Attribute, Content, RawElement};
+use htmd_grammar::{Attribute, ContentModel, RawElement};
 use std::alloc::AllocError;
 
 /// The place by a table: before it in its parent, or else in the element that is open around it.
@@ -186,7 +186,7 @@ impl HtmlState {
             ≡ spec.insert_raw (name_of name) element (pairs_of attributes.items) self.old) }
     {
         self.insert_element(name, attributes)?;
-        self.set_content(Content::Raw(element));
+        self.set_content(ContentModel::Raw(element));
         Ok(())
     }
 

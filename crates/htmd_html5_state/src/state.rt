@@ -1,12 +1,12 @@
 //! The state of tree construction, and the steps that change one part of it.
 ghost use Rattle.std.specs.Prelude.{◌≡◌, ◌<◌, ◌^◌, IfOk, OnOk, length};
-ghost use Rattle.htmd_html5_state.specs.Documents as documents;
+ghost use Rattle.htmd_html5_state.specs.Nodes as documents;
 ghost use Rattle.htmd_html5_state.specs.Formatting as list;
 ghost use Rattle.htmd_html5_state.specs.Insertion as insertion;
 ghost use Rattle.htmd_html5_state.specs.Names.{name_of};
 ghost use Rattle.htmd_html5_state.specs.OpenElements as elements;
 ghost use Rattle.htmd_html5_state.specs.Resetting as resetting;
-ghost use Rattle.htmd_html5_state.specs.Settled as settled;
+ghost use Rattle.htmd_html5_state.specs.AppendedTexts as appends;
 ghost use Rattle.htmd_html5_state.specs.State as spec;
 ghost use Rattle.htmd_html5_state.specs.Views.{nodes_of};
 ghost use Rattle.htmd_grammar.specs.Attributes.{pairs_of};
@@ -17,7 +17,7 @@ use crate::modes::InsertionMode;
 use crate::names::{ElementName, HtmlName};
 use crate::open_elements::OpenElements;
 use crate::sets::{NameSet, Scope};
-use htmd_grammar::{Attribute, Content};
+use htmd_grammar::{Attribute, ContentModel};
 use std::alloc::{AllocError, Global};
 use std::marker::Model;
 
@@ -37,7 +37,7 @@ pub struct HtmlState {
     pub(crate) foster_parenting: bool,
     quirks: bool,
     scripting: bool,
-    content: Content,
+    content: ContentModel,
     skips_line_feed: bool,
 }
 
@@ -73,7 +73,7 @@ impl HtmlState {
             foster_parenting: false,
             quirks: false,
             scripting,
-            content: Content::Normal,
+            content: ContentModel::Normal,
             skips_line_feed: false,
         })
     }
@@ -114,7 +114,7 @@ impl HtmlState {
     }
 
     /// How the tokenizer reads on.
-    pub fn content(&self) -> Content
+    pub fn content(&self) -> ContentModel
         ensures { result ≡ self.now.content }
     {
         self.content
@@ -165,7 +165,7 @@ impl HtmlState {
         self.quirks = value;
     }
 
-    pub fn set_content(&mut self, value: Content)
+    pub fn set_content(&mut self, value: ContentModel)
         ensures { self.new ≡ record self.old { content = value } }
     {
         self.content = value;
@@ -409,8 +409,8 @@ impl HtmlState {
     }
 
     /// Whether nothing is to be reconstructed, and text goes to the end of the current node.
-    pub fn is_settled(&self) -> bool
-        ensures { result ≡ settled.is_settled self.now }
+    pub fn appends_text(&self) -> bool
+        ensures { result ≡ appends.appends_text self.now }
     {
         !self.foster_parenting
             && self.formatting.is_reconstructed(&self.stack)

@@ -14,7 +14,7 @@ use Rattle.htmd_grammar.specs.CharacterClasses.{leading_run, behind_run, begins_
 use Rattle.htmd_grammar.proofs.CharacterClassesLemmas.{take_leading_run, drop_leading_run}
 use Rattle.htmd_html5_tokens.specs.References.{Piece, after_ampersand, replacement_character}
 use Rattle.htmd_html5_tokens.specs.Contents.{has_references, is_text, is_value, name_of, piece_at, decoded}
-use Rattle.htmd_html5_tokens.specs.Plain.{is_plain, is_small, HasPushed}
+use Rattle.htmd_html5_tokens.specs.AppendedCharacters.{is_literal, is_small, HasPushed}
 use Rattle.htmd_html5_tokens.specs.declared.contents.Reading.{Reading}
 use Rattle.htmd_html5_tokens.specs.declared.contents.Reading.TheVariants.{Text, EscapableRawText, RawText, AttributeValue}
 use Rattle.htmd_scanning.proofs.RunCuts.{cut_before_ascii}
@@ -41,7 +41,7 @@ no : (x : Bool) → not x ≡ true → x ≡ false
 no true e = cc
 no false e = refl
 
-plain_piece : (r : Reading) (b : ℕ) (s : List ℕ) → is_plain r b ≡ true → piece_at r b s ≡ itself b
+plain_piece : (r : Reading) (b : ℕ) (s : List ℕ) → is_literal r b ≡ true → piece_at r b s ≡ itself b
 plain_piece Text b s e =
     let h = and_parts (not (b == 38)) (not (b == 60)) e in
     test (b == 0) (λ z. rw (no (b == 38) h.0, no (b == 60) h.1, z) refl)
@@ -58,19 +58,19 @@ plain_piece AttributeValue b s e =
     test (b == 60) (λ z. rw (no (b == 38) h.0, no (b == 0) h.1, z) refl)
     (λ z. rw (no (b == 38) h.0, no (b == 0) h.1, z) refl)
 
--- ---- plain characters
+-- ---- literal characters
 
 decoded_plain : (r : Reading) (s : List ℕ)
-    → decoded r 0 s ≡ leading_run (is_plain r) s ++ decoded r 0 (behind_run (is_plain r) s)
+    → decoded r 0 s ≡ leading_run (is_literal r) s ++ decoded r 0 (behind_run (is_literal r) s)
 decoded_plain r [] = refl
 decoded_plain r (b ∷ s) =
-    test (is_plain r b) (λ e. let p = plain_piece r b s e in rw (p, e, decoded_plain r s) refl) (λ e. rw e refl)
+    test (is_literal r b) (λ e. let p = plain_piece r b s e in rw (p, e, decoded_plain r s) refl) (λ e. rw e refl)
 
--- a text of plain characters
-pub decoded_itself : (r : Reading) (s : List ℕ) → list_all (is_plain r) s ≡ true → decoded r 0 s ≡ s
+-- a text of literal characters
+pub decoded_itself : (r : Reading) (s : List ℕ) → list_all (is_literal r) s ≡ true → decoded r 0 s ≡ s
 decoded_itself r [] e = refl
 decoded_itself r (b ∷ s) e =
-    let both = and_parts (is_plain r b) (list_all (is_plain r) s) e in
+    let both = and_parts (is_literal r b) (list_all (is_literal r) s) e in
     rw (plain_piece r b s both.0, decoded_itself r s both.1) refl
 
 -- a character that is no capital
@@ -88,27 +88,28 @@ name_itself (b ∷ s) e =
     rw (plain_piece RawText b s small.0, small_lower b (no (is_ascii_uppercase b) small.1), name_itself s both.1) refl
 
 pub plain_pushed : (r : Reading) (before s after front rest : List ℕ) (len : ℕ)
-    → len ≡ length (leading_run (is_plain r) s) → front ≡ take len s → rest ≡ drop len s
+    → len ≡ length (leading_run (is_literal r) s) → front ≡ take len s → rest ≡ drop len s
     → after ≡ before ++ front
     → HasPushed r before s after rest
 plain_pushed r before s after front rest len e f g h =
-    let x : front ≡ leading_run (is_plain r) s = f ∙ ap (λ n. take n s) e ∙ take_leading_run (is_plain r) s in
-    let y : rest ≡ behind_run (is_plain r) s = g ∙ ap (λ n. drop n s) e ∙ drop_leading_run (is_plain r) s in
+    let x : front ≡ leading_run (is_literal r) s = f ∙ ap (λ n. take n s) e
+    ∙ take_leading_run (is_literal r) s in
+    let y : rest ≡ behind_run (is_literal r) s = g ∙ ap (λ n. drop n s) e ∙ drop_leading_run (is_literal r) s in
     rw (h, x, y, append_assoc, sym (decoded_plain r s)) refl
 
-special_is_ascii : (r : Reading) (b : ℕ) → is_plain r b ≡ false → b < 128
+special_is_ascii : (r : Reading) (b : ℕ) → is_literal r b ≡ false → b < 128
 special_is_ascii Text b e = grind (arith, nat_tests)
 special_is_ascii EscapableRawText b e = grind (arith, nat_tests)
 special_is_ascii RawText b e = grind (arith, nat_tests)
 special_is_ascii AttributeValue b e = grind (arith, nat_tests)
 
-pub plain_cut : (r : Reading) (s : List ℕ) (len : ℕ) → len ≡ length (leading_run (is_plain r) s)
+pub plain_cut : (r : Reading) (s : List ℕ) (len : ℕ) → len ≡ length (leading_run (is_literal r) s)
     → IsCharBoundary s len
-plain_cut r s len e = subst (IsCharBoundary s) (sym e) (cut_before_ascii (is_plain r) s (special_is_ascii r))
+plain_cut r s len e = subst (IsCharBoundary s) (sym e) (cut_before_ascii (is_literal r) s (special_is_ascii r))
 
 -- ---- other pieces
 
-pub special_has_references : (r : Reading) (b : ℕ) → is_plain r b ≡ false → b ≡ 38
+pub special_has_references : (r : Reading) (b : ℕ) → is_literal r b ≡ false → b ≡ 38
     → has_references r ≡ true
 special_has_references Text b e k = refl
 special_has_references EscapableRawText b e k = refl
@@ -116,7 +117,7 @@ special_has_references RawText b e k = absurd (let f : false ≡ true = sym (rw 
 special_has_references AttributeValue b e k = refl
 
 -- `<` is special only in a text
-pub special_is_text : (r : Reading) (b : ℕ) → is_plain r b ≡ false → b ≡ 60 → r ≡ Text
+pub special_is_text : (r : Reading) (b : ℕ) → is_literal r b ≡ false → b ≡ 60 → r ≡ Text
 special_is_text Text b e k = refl
 special_is_text EscapableRawText b e k = absurd (let f : false ≡ true = sym (rw k at e) in cc)
 special_is_text RawText b e k = absurd (let f : false ≡ true = sym (rw k at e) in cc)
@@ -144,14 +145,15 @@ less_than_pushed before s after e f =
     let p : piece_at Text 60 s ≡ itself 60 = rw e refl in
     rw (p, f, append_assoc) refl
 
-null_is : (r : Reading) (b : ℕ) → is_plain r b ≡ false → (b ≡ 38 → ⊥) → (b ≡ 60 → ⊥)
+null_is : (r : Reading) (b : ℕ) → is_literal r b ≡ false → (b ≡ 38 → ⊥) → (b ≡ 60 → ⊥)
     → (b ≡ 0) × (is_text r ≡ false)
 null_is Text b e amp less = absurd (grind (arith, nat_tests))
 null_is EscapableRawText b e amp less = (grind (arith, nat_tests), refl)
 null_is RawText b e amp less = (grind (arith, nat_tests), refl)
 null_is AttributeValue b e amp less = (grind (arith, nat_tests), refl)
 
-pub null_pushed : (r : Reading) (b : ℕ) (before s after : List ℕ) → is_plain r b ≡ false → (b ≡ 38 → ⊥)
+pub null_pushed : (r : Reading) (b : ℕ) (before s after : List ℕ) → is_literal r b ≡ false
+    → (b ≡ 38 → ⊥)
     → (b ≡ 60 → ⊥) → after ≡ before ++ encode_utf8 replacement_character
     → HasPushed r before (b ∷ s) after s
 null_pushed r b before s after e amp less f =
@@ -178,6 +180,6 @@ cut_after_slash (b ∷ c ∷ s) u e =
 
 -- after a special character it may be cut, too
 pub cut_after_special : (r : Reading) (s : List ℕ) → IsUtf8 s → 0 < length s
-    → is_plain r (get_or s 0 0) ≡ false
+    → is_literal r (get_or s 0 0) ≡ false
     → IsCharBoundary s 1
 cut_after_special r s u l e = IsCharBoundary-after_ascii s 0 u l (special_is_ascii r (get_or s 0 0) e)

@@ -14,9 +14,9 @@ use Rattle.htmd_html5_tokens.specs.References.{character_numbered}
 use Rattle.htmd_html5_tokens.specs.Doctypes.{quirky_identifiers, quirky_beginnings, loose_beginnings}
 use Rattle.htmd_html5_tokens.specs.Doctypes.{quirky_system_identifier}
 use Rattle.htmd_html5_tokens.specs.NextToken.{next_token}
-use Rattle.htmd_grammar.specs.declared.content.Content.TheVariants.{Normal, Raw}
-use Rattle.htmd_grammar.specs.declared.content.RawElement.{RawElement}
-use Rattle.htmd_grammar.specs.declared.content.RawElement.TheVariants.{Title, Style, Script, Plaintext}
+use Rattle.htmd_grammar.specs.declared.content_model.ContentModel.TheVariants.{Normal, Raw}
+use Rattle.htmd_grammar.specs.declared.content_model.RawElement.{RawElement}
+use Rattle.htmd_grammar.specs.declared.content_model.RawElement.TheVariants.{Title, Style, Script, Plaintext}
 
 -- the first token of a text
 abbrev token : List ℕ → TokenValue

@@ -11,8 +11,8 @@ use Rattle.htmd_grammar.specs.RawContent.{begins_own_end}
 use Rattle.htmd_html5_tokens.specs.RawTexts.{ends_script, escape_after, script_len, own_text_len, raw_text_len}
 use Rattle.htmd_html5_tokens.specs.declared.raw_texts.Escape.{Escape}
 use Rattle.htmd_html5_tokens.specs.declared.raw_texts.Escape.TheVariants.{Unescaped, Escaped, DoublyEscaped}
-use Rattle.htmd_grammar.specs.declared.content.RawElement.{RawElement}
-use Rattle.htmd_grammar.specs.declared.content.RawElement.TheVariants.{
+use Rattle.htmd_grammar.specs.declared.content_model.RawElement.{RawElement}
+use Rattle.htmd_grammar.specs.declared.content_model.RawElement.TheVariants.{
   Title,
   Textarea,
   Style,

@@ -9,8 +9,8 @@ use Rattle.htmd_scanning.proofs.RunCuts.{IsUniform, outside_other, cut_at}
 use Rattle.htmd_html5_tokens.specs.Tags.{is_name_byte, is_attribute_name_byte, is_unquoted_byte, is_gap_byte}
 use Rattle.htmd_html5_tokens.specs.Doctypes.{is_black}
 use Rattle.htmd_html5_tokens.specs.Classes.{is_in, is_ascii}
-use Rattle.htmd_html5_tokens.specs.declared.runs.Class.{Class}
-use Rattle.htmd_html5_tokens.specs.declared.runs.Class.TheVariants.{
+use Rattle.htmd_html5_tokens.specs.declared.classes.Class.{Class}
+use Rattle.htmd_html5_tokens.specs.declared.classes.Class.TheVariants.{
   Name,
   AttributeName,
   UnquotedValue,

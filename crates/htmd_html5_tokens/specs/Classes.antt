@@ -4,8 +4,8 @@ use Rattle.htmd_grammar.specs.WhiteSpace.{is_ascii_white_space}
 use Rattle.htmd_grammar.specs.TagReading.{is_other}
 use Rattle.htmd_html5_tokens.specs.Tags.{is_name_byte, is_attribute_name_byte, is_unquoted_byte, is_gap_byte}
 use Rattle.htmd_html5_tokens.specs.Doctypes.{is_black}
-use Rattle.htmd_html5_tokens.specs.declared.runs.Class.{Class}
-use Rattle.htmd_html5_tokens.specs.declared.runs.Class.TheVariants.{
+use Rattle.htmd_html5_tokens.specs.declared.classes.Class.{Class}
+use Rattle.htmd_html5_tokens.specs.declared.classes.Class.TheVariants.{
   Name,
   AttributeName,
   UnquotedValue,

@@ -13,7 +13,7 @@ pub mod RawTexts
 pub mod NextToken
 pub mod Classes
 pub mod ReferenceViews
-pub mod Plain
+pub mod AppendedCharacters
 pub mod TagViews
 pub mod Firsts
 pub mod Readings

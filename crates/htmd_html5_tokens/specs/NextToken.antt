@@ -12,9 +12,9 @@ use Rattle.htmd_html5_tokens.specs.Doctypes.{read_doctype}
 use Rattle.htmd_html5_tokens.specs.RawTexts.{reading_of, raw_text_len}
 use Rattle.htmd_html5_tokens.specs.declared.contents.Reading.{Reading}
 use Rattle.htmd_html5_tokens.specs.declared.contents.Reading.TheVariants.{Text}
-use Rattle.htmd_grammar.specs.declared.content.Content.{Content}
-use Rattle.htmd_grammar.specs.declared.content.Content.TheVariants.{Normal, Raw}
-use Rattle.htmd_grammar.specs.declared.content.RawElement.{RawElement}
+use Rattle.htmd_grammar.specs.declared.content_model.ContentModel.{ContentModel}
+use Rattle.htmd_grammar.specs.declared.content_model.ContentModel.TheVariants.{Normal, Raw}
+use Rattle.htmd_grammar.specs.declared.content_model.RawElement.{RawElement}
 
 abbrev pub at_end : Read
 at_end = record { token = end_of_file; rest = [] }
@@ -131,6 +131,6 @@ read_raw element s =
     read_held (reading_of element) (take (raw_text_len element s) s) (drop (raw_text_len element s) s)
 
 -- The flag says whether the adjusted current node is in foreign content.
-abbrev pub next_token : Content → Bool → List ℕ → Read
+abbrev pub next_token : ContentModel → Bool → List ℕ → Read
 next_token Normal foreign s = read_piece foreign (after_empty_pieces foreign s)
 next_token (Raw element) foreign s = read_raw element s

@@ -3,7 +3,7 @@
 use Rattle.std.specs.Prelude.{ℕ, Bool, not, ◌==◌, List}
 use Rattle.htmd_grammar.specs.Characters.{carriage_return}
 use Rattle.htmd_grammar.specs.Comments.{normalized}
-use Rattle.htmd_grammar.specs.Documents.{behind_mark}
+use Rattle.htmd_grammar.specs.HtmlDocuments.{behind_mark}
 
 abbrev pub preprocessed : List ℕ → List ℕ
 preprocessed s = normalized (behind_mark s)

@@ -8,8 +8,8 @@ use Rattle.htmd_html5_tokens.specs.declared.contents.Reading.{Reading}
 use Rattle.htmd_html5_tokens.specs.declared.contents.Reading.TheVariants.{EscapableRawText, RawText}
 use Rattle.htmd_html5_tokens.specs.declared.raw_texts.Escape.{Escape}
 use Rattle.htmd_html5_tokens.specs.declared.raw_texts.Escape.TheVariants.{Unescaped, Escaped, DoublyEscaped}
-use Rattle.htmd_grammar.specs.declared.content.RawElement.{RawElement}
-use Rattle.htmd_grammar.specs.declared.content.RawElement.TheVariants.{
+use Rattle.htmd_grammar.specs.declared.content_model.RawElement.{RawElement}
+use Rattle.htmd_grammar.specs.declared.content_model.RawElement.TheVariants.{
   Title,
   Textarea,
   Style,

@@ -5,7 +5,7 @@ ghost use Rattle.htmd_grammar.specs.TagReading as reading;
 ghost use Rattle.htmd_html5_tokens.specs.Tags as spec;
 ghost use Rattle.htmd_html5_tokens.specs.TagViews.{part_of, all_spelled_of, attribute_part};
 
-use crate::runs::{Class, run_len, split_run};
+use crate::classes::{Class, run_len, split_run};
 use htmd_scanning::strip_byte;
 use std::alloc::{AllocError, Global};
 

@@ -4,8 +4,8 @@ ghost use Rattle.htmd_grammar.specs.CharacterClasses.{up_to, onward};
 ghost use Rattle.htmd_html5_tokens.specs.Comments as spec;
 ghost use Rattle.htmd_html5_tokens.specs.Readings.{read_of};
 
+use crate::classes::{Class, split_run};
 use crate::contents::{Reading, decoded};
-use crate::runs::{Class, split_run};
 use crate::tokens::Token;
 use htmd_scanning::{strip, strip_byte};
 use std::alloc::{AllocError, Global};

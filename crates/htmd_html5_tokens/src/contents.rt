@@ -8,7 +8,7 @@ ghost use Rattle.htmd_html5_tokens.specs.Contents as spec;
 ghost use Rattle.htmd_html5_tokens.specs.ReferenceViews.{characters_of};
 ghost use Rattle.htmd_html5_tokens.specs.declared.contents.Reading.TheVariants.{Text};
 ghost use Rattle.htmd_grammar.specs.Characters.{ampersand, less_than_sign};
-ghost use Rattle.htmd_html5_tokens.specs.Plain.{is_plain, is_small, HasPushed};
+ghost use Rattle.htmd_html5_tokens.specs.AppendedCharacters.{is_literal, is_small, HasPushed};
 
 use crate::references::{Characters, read_reference};
 use htmd_scanning::begins_with;
@@ -28,8 +28,8 @@ pub(crate) enum Reading {
 }
 
 /// Whether a character stands for itself, as its first byte tells.
-fn is_plain(byte: u8, reading: Reading) -> bool
-    ensures { result ≡ is_plain reading byte }
+fn is_literal(byte: u8, reading: Reading) -> bool
+    ensures { result ≡ is_literal reading byte }
 {
     match reading {
         Reading::Text => byte != b'&' && byte != b'<',
@@ -38,48 +38,48 @@ fn is_plain(byte: u8, reading: Reading) -> bool
     }
 }
 
-/// Whether all bytes are plain. All are looked at, so that a processor can compare many at once.
-fn are_plain(bytes: &[u8], reading: Reading) -> bool
-    ensures { result ≡ list_all (is_plain reading) bytes.now }
+/// Whether all bytes are literal. All are looked at, so that a processor can compare many at once.
+fn are_literal(bytes: &[u8], reading: Reading) -> bool
+    ensures { result ≡ list_all (is_literal reading) bytes.now }
 {
-    let mut are_plain = true;
+    let mut are_literal = true;
     for byte in bytes {
-        are_plain &= is_plain(*byte, reading);
+        are_literal &= is_literal(*byte, reading);
     }
-    are_plain
+    are_literal
 }
 
-/// How many bytes at the beginning are plain.
+/// How many bytes at the beginning are literal.
 #[tactic(auto, using(htmd_grammar::proofs::RunsLemmas::run_more, htmd_grammar::proofs::RunsLemmas::run_stops))]
-fn plain_len(bytes: &[u8], reading: Reading) -> usize
+fn literal_len(bytes: &[u8], reading: Reading) -> usize
     ensures bound { result ≤ length bytes.now }
-    ensures value { result ≡ length (leading_run (is_plain reading) bytes.now) }
+    ensures value { result ≡ length (leading_run (is_literal reading) bytes.now) }
 {
     for (len, byte) in bytes.iter().enumerate() {
-        if !is_plain(*byte, reading) {
+        if !is_literal(*byte, reading) {
             return len;
         }
     }
     bytes.len()
 }
 
-/// The plain characters with which a text begins, and what follows them.
-pub(crate) fn split_plain(text: &str) -> (&str, &str)
-    ensures front { result.0.now ≡ leading_run (is_plain Text) text.now }
-    ensures rest { result.1.now ≡ behind_run (is_plain Text) text.now }
+/// The literal characters with which a text begins, and what follows them.
+pub(crate) fn split_literals(text: &str) -> (&str, &str)
+    ensures front { result.0.now ≡ leading_run (is_literal Text) text.now }
+    ensures rest { result.1.now ≡ behind_run (is_literal Text) text.now }
 {
-    text.split_at(plain_len(text.as_bytes(), Reading::Text))
+    text.split_at(literal_len(text.as_bytes(), Reading::Text))
 }
 
-/// Appends the plain characters with which the text begins, and returns the rest.
-fn push_plain<'a>(
+/// Appends the literal characters with which the text begins, and returns the rest.
+fn push_literals<'a>(
     held: &mut String,
     text: &'a str,
     len: usize,
     reading: Reading,
 ) -> Result<&'a str, AllocError>
     requires some { 0 < len }
-    requires plain { len ≡ length (leading_run (is_plain reading) text.now) }
+    requires plain { len ≡ length (leading_run (is_literal reading) text.now) }
     ensures pushed { IfOk result (λ rest. HasPushed reading (string_bytes held.old) text.now (string_bytes held.new)
         rest.now) }
     ensures text { IfOk result (λ rest. IsUtf8 rest.now) }
@@ -137,14 +137,14 @@ fn push_less_than<'a>(held: &mut String, after: &'a str) -> Result<&'a str, Allo
     Ok(after)
 }
 
-/// Appends what the first character begins, which isn't plain, and returns what follows it.
+/// Appends what the first character begins, which isn't literal, and returns what follows it.
 fn push_special<'a>(
     held: &mut String,
     text: &'a str,
     reading: Reading,
 ) -> Result<&'a str, AllocError>
     requires more { 0 < length text.now }
-    requires special { is_plain reading (slice_index text.now 0) ≡ false }
+    requires special { is_literal reading (slice_index text.now 0) ≡ false }
     ensures pushed { IfOk result (λ rest. HasPushed reading (string_bytes held.old) text.now (string_bytes held.new)
         rest.now) }
     ensures text { IfOk result (λ rest. IsUtf8 rest.now) }
@@ -162,7 +162,7 @@ fn push_special<'a>(
     }
 }
 
-/// Appends what comes next in a text, plain characters or one other piece, and returns the rest.
+/// Appends what comes next in a text, literal characters or one other piece, and returns the rest.
 fn push_next<'a>(held: &mut String, text: &'a str, reading: Reading) -> Result<&'a str, AllocError>
     requires { 0 < length text.now }
     ensures pushed { IfOk result (λ rest. HasPushed reading (string_bytes held.old) text.now (string_bytes held.new)
@@ -170,11 +170,11 @@ fn push_next<'a>(held: &mut String, text: &'a str, reading: Reading) -> Result<&
     ensures text { IfOk result (λ rest. IsUtf8 rest.now) }
     ensures shorter { IfOk result (λ rest. length rest.now < length text.now) }
 {
-    let len = plain_len(text.as_bytes(), reading);
+    let len = literal_len(text.as_bytes(), reading);
     if len == 0 {
         push_special(held, text, reading)
     } else {
-        push_plain(held, text, len, reading)
+        push_literals(held, text, len, reading)
     }
 }
 
@@ -195,7 +195,7 @@ fn decoded_pieces(alloc: Global, text: &str, reading: Reading) -> Result<String,
 pub(crate) fn decoded(alloc: Global, text: &str, reading: Reading) -> Result<String, AllocError>
     ensures { IfOk result (λ t. string_bytes t ≡ spec.decoded reading 0 text.now) }
 {
-    if are_plain(text.as_bytes(), reading) {
+    if are_literal(text.as_bytes(), reading) {
         return String::from_str(alloc, text);
     }
     decoded_pieces(alloc, text, reading)

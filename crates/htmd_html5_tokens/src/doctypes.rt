@@ -5,8 +5,8 @@ ghost use Rattle.htmd_grammar.specs.CharacterClasses.{is_among};
 ghost use Rattle.htmd_html5_tokens.specs.Doctypes as spec;
 ghost use Rattle.htmd_html5_tokens.specs.Readings.{read_of, quoted_of};
 
+use crate::classes::{Class, split_run};
 use crate::comments::split_at_sign;
-use crate::runs::{Class, split_run};
 use crate::tokens::Token;
 use htmd_scanning::{begins_in_any_case, strip_byte, strip_in_any_case};
 

@@ -3,6 +3,7 @@
 #![tactic(auto, using(std::proofs::lemmas::Grind::common_steps))]
 
 mod attributes;
+mod classes;
 mod comments;
 mod contents;
 mod distinct;
@@ -12,13 +13,12 @@ mod names;
 mod preprocessing;
 mod raw_texts;
 mod references;
-mod runs;
 mod sections;
 mod tags;
 mod tokenizer;
 mod tokens;
 
-pub use htmd_grammar::{Content, RawElement};
+pub use htmd_grammar::{ContentModel, RawElement};
 pub use preprocessing::preprocess;
 pub use tokenizer::Tokenizer;
 pub use tokens::{Tag, Token};

@@ -2,11 +2,11 @@
 ghost use Rattle.std.specs.Prelude.{◌≡◌, ◌<◌, ◌≤◌, drop, length, IfOk};
 ghost use Rattle.htmd_grammar.specs.CharacterClasses.{up_to, onward};
 ghost use Rattle.htmd_html5_tokens.specs.NextToken as spec;
-ghost use Rattle.htmd_html5_tokens.specs.Plain as plain;
+ghost use Rattle.htmd_html5_tokens.specs.AppendedCharacters as plain;
 ghost use Rattle.htmd_html5_tokens.specs.Readings.{read_of};
 
 use crate::comments::{read_bogus_comment, read_comment};
-use crate::contents::{Reading, decoded, split_plain};
+use crate::contents::{Reading, decoded, split_literals};
 use crate::doctypes::read_doctype;
 use crate::tags::read_tag;
 use crate::tokens::Token;
@@ -73,7 +73,7 @@ fn ends_text(bytes: &[u8]) -> bool
 pub(crate) fn read_text(alloc: Global, text: &str) -> Result<(Token<'_>, &str), AllocError>
     ensures { IfOk result (λ r. read_of r ≡ spec.read_text text.now) }
 {
-    let (front, rest) = split_plain(text);
+    let (front, rest) = split_literals(text);
     if !ends_text(rest.as_bytes()) {
         return read_decoded(alloc, text);
     }

@@ -8,9 +8,9 @@ ghost use Rattle.htmd_html5_tokens.specs.Tokens.{tag_of, start_tag, end_tag};
 ghost use Rattle.htmd_html5_tokens.specs.Readings.{read_of};
 
 use crate::attributes::{SpelledAttribute, TagForm, tag_form};
+use crate::classes::{Class, split_run};
 use crate::contents::{Reading, decoded, name_of, tag_name_of};
 use crate::distinct::first_marks;
-use crate::runs::{Class, split_run};
 use crate::tokens::{Tag, Token};
 use htmd_grammar::Attribute;
 use htmd_scanning::{are_distinct, strip_byte};

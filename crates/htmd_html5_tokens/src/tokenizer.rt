@@ -11,7 +11,7 @@ use crate::raw_texts::{raw_text_len, reading_of};
 use crate::sections::{after_empty_pieces, read_section};
 use crate::tags::read_tag;
 use crate::tokens::Token;
-use htmd_grammar::{Content, RawElement};
+use htmd_grammar::{ContentModel, RawElement};
 use htmd_scanning::{strip, strip_byte};
 use std::alloc::{AllocError, Global};
 use std::marker::Model;
@@ -72,14 +72,14 @@ fn read_raw(alloc: Global, text: &str, element: RawElement) -> Result<(Token<'_>
 fn next_token(
     alloc: Global,
     text: &str,
-    content: Content,
+    content: ContentModel,
     foreign: bool,
 ) -> Result<(Token<'_>, &str), AllocError>
     ensures { IfOk result (λ r. read_of r ≡ spec.next_token content foreign text.now) }
 {
     match content {
-        Content::Normal => read_piece(alloc, after_empty_pieces(text, foreign), foreign),
-        Content::Raw(element) => read_raw(alloc, text, element),
+        ContentModel::Normal => read_piece(alloc, after_empty_pieces(text, foreign), foreign),
+        ContentModel::Raw(element) => read_raw(alloc, text, element),
     }
 }
 
@@ -117,7 +117,7 @@ impl<'a> Tokenizer<'a> {
     pub fn next(
         &mut self,
         alloc: Global,
-        content: Content,
+        content: ContentModel,
         foreign: bool,
     ) -> Result<Token<'a>, AllocError>
         ensures token { IfOk result (λ t. value_of t ≡ (spec.next_token content foreign self.old).token) }

@@ -6,7 +6,7 @@ use Rattle.std.proofs.lemmas.Bool.{eqb-true, and_parts, not-true}
 use Rattle.std.proofs.lemmas.List.{append_assoc, append-nil}
 use Rattle.htmd_grammar.specs.Characters.{is_one_of}
 use Rattle.htmd_grammar.specs.CharacterClasses.{first_is, is_empty}
-use Rattle.htmd_text.specs.EscapeMarks.{with_backslashes}
+use Rattle.htmd_text.specs.EscapedPlaces.{with_backslashes}
 use Rattle.htmd_markdown.specs.Runs.{longest_run, has_run}
 use Rattle.htmd_markdown.specs.CodeSpans.{delimited_text, meets_delimiter, smallest_unused_len, space_if}
 use Rattle.htmd_markdown.specs.declared.link.LinkStyle.{LinkStyle}

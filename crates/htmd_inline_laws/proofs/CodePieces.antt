@@ -19,7 +19,7 @@ use Rattle.htmd_commonmark_reading.specs.InlineTokens.{
   without_last,
 }
 use Rattle.htmd_commonmark_reading.specs.Brackets.{References, and_tokens, scanned, code_with, code_step}
-use Rattle.htmd_document_form.specs.NormalInlines.{is_plain}
+use Rattle.htmd_document_form.specs.NormalInlines.{is_line_byte}
 use Rattle.htmd_inline_laws.proofs.Pieces.{IsRead, steps_to, pushed}
 use Rattle.htmd_inline_laws.proofs.TextPieces.{skips, test, differs}
 
@@ -160,17 +160,17 @@ span_read refs in_link before ks n x c s l w f h t =
 
 -- ---- what is in the span
 
-plain_line : (s : List ℕ) → list_all is_plain s ≡ true → in_one_line s ≡ s
+plain_line : (s : List ℕ) → list_all is_line_byte s ≡ true → in_one_line s ≡ s
 plain_line [] h = refl
 plain_line (c ∷ s) h =
-    let p = and_parts (is_plain c) (list_all is_plain s) h in
-    rw (differs is_plain c 10 p.0 refl, plain_line s p.1) refl
+    let p = and_parts (is_line_byte c) (list_all is_line_byte s) h in
+    rw (differs is_line_byte c 10 p.0 refl, plain_line s p.1) refl
 
-plain_push : (s : List ℕ) → list_all is_plain s ≡ true → list_all is_plain (s ++ (32 ∷ [])) ≡ true
+plain_push : (s : List ℕ) → list_all is_line_byte s ≡ true → list_all is_line_byte (s ++ (32 ∷ [])) ≡ true
 plain_push [] h = refl
 plain_push (c ∷ s) h =
-    let p = and_parts (is_plain c) (list_all is_plain s) h in
-    and_from (is_plain c) (list_all is_plain (s ++ (32 ∷ []))) p.0 (plain_push s p.1)
+    let p = and_parts (is_line_byte c) (list_all is_line_byte s) h in
+    and_from (is_line_byte c) (list_all is_line_byte (s ++ (32 ∷ []))) p.0 (plain_push s p.1)
 
 lacks_push : (n k : ℕ) (s : List ℕ) → (0 == n) ≡ false → lacks n k (s ++ (32 ∷ [])) ≡ lacks n k s
 lacks_push n k [] h = rw h (test (k == n) (λ e. rw e refl) (λ e. rw e refl))
@@ -254,7 +254,7 @@ no_spaces x s m =
 
 -- between so many and one more grave accents, of which the code has no row
 pub delimited_read : (refs : References) (in_link : Bool) (before ks : List ℕ) (n x : ℕ) (s : List ℕ)
-    → list_all is_plain (x ∷ s) ≡ true → (x == 32) ≡ false → has_run 96 (suc n) (x ∷ s) ≡ false
+    → list_all is_line_byte (x ∷ s) ≡ true → (x == 32) ≡ false → has_run 96 (suc n) (x ∷ s) ≡ false
     → first_is 96 ks ≡ false
     → IsRead refs in_link before (delimited_text (meets_delimiter (x ∷ s)) (suc n) (x ∷ s)) ks
     (code (x ∷ s) no_inlines)

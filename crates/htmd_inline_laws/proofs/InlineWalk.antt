@@ -9,7 +9,7 @@ use Rattle.std.proofs.lemmas.List.{append_assoc, append-nil}
 use Rattle.std.proofs.lemmas.Str.{IsUtf8-from_is_utf8}
 use Rattle.htmd_grammar.specs.Characters.{is_one_of}
 use Rattle.htmd_grammar.specs.CharacterClasses.{first_is}
-use Rattle.htmd_text.specs.EscapeMarks.{with_backslashes}
+use Rattle.htmd_text.specs.EscapedPlaces.{with_backslashes}
 use Rattle.htmd_markdown.specs.declared.link.LinkStyle.{LinkStyle}
 use Rattle.htmd_markdown.specs.declared.link.LinkStyle.TheVariants.{Inlined, InlinedPreferAutolinks, Referenced}
 use Rattle.htmd_document.specs.Documents.{Format}
@@ -29,7 +29,7 @@ use Rattle.htmd_commonmark_reading.specs.Markup as markup
 use Rattle.htmd_commonmark_reading.specs.LinkDefinitions.{label_key}
 use Rattle.htmd_commonmark_reading.specs.Brackets.{References, Brackets, bracket, scanned, and_tokens, without_links, target_of}
 use Rattle.htmd_commonmark_reading.specs.DelimiterRuns.{Token, finished, processed, may_open, may_close}
-use Rattle.htmd_document_form.specs.NormalInlines.{is_normal, are_normal, meets, is_around, has_none, are_whole, is_text, is_line, is_plain, is_trimmed, is_attribute, is_title, is_kept, last_passes, ends_in_space}
+use Rattle.htmd_document_form.specs.NormalInlines.{is_normal, are_normal, meets, is_around, has_none, are_whole, is_text, is_line, is_line_byte, is_trimmed, is_attribute, is_title, is_kept, last_passes, ends_in_space}
 use Rattle.htmd_inline_laws.proofs.Pieces.{pushed, pushed_append}
 use Rattle.htmd_inline_laws.proofs.TextPieces.{test}
 use Rattle.htmd_inline_laws.proofs.RowsRead.{text_read}
@@ -528,7 +528,7 @@ mutual
     shown =
         let q = and_parts (is_attribute b && is_title t) (is_line s) n in
         let r = and_parts (is_attribute b) (is_title t) q.0 in
-        let l = and_parts (is_utf8 s) (list_all is_plain s) q.1 in
+        let l = and_parts (is_utf8 s) (list_all is_line_byte s) q.1 in
         image_shown rows refs line.in_link (pushed w.text []) ks b t s
         (and_parts (is_utf8 b) (list_all is_kept b) r.0).1 (IsUtf8-from_is_utf8 s l.0) l.1;
     begins = image_begins line w.text b t s _;

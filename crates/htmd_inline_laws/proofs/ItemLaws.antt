@@ -7,7 +7,7 @@ use Rattle.std.proofs.lemmas.Bool.{eqb-true, and_parts, or_parts, not-true}
 use Rattle.std.proofs.lemmas.List.{append_assoc, append-nil}
 use Rattle.std.proofs.lemmas.Str.{IsUtf8-past_char, encode_ascii}
 use Rattle.htmd_grammar.specs.CharacterClasses.{first_is, behind_run}
-use Rattle.htmd_text.specs.EscapeMarks.{with_backslashes}
+use Rattle.htmd_text.specs.EscapedPlaces.{with_backslashes}
 use Rattle.htmd_document.specs.Documents.{Inline, text, code, formatted, link, image, line_break, task}
 use Rattle.htmd_document.specs.Documents.{Inlines, no_inlines, inline}
 use Rattle.htmd_commonmark.specs.declared.line.Line.{Line}
@@ -19,8 +19,8 @@ use Rattle.htmd_commonmark_reading.specs.Characters.{is_white, past_blanks}
 use Rattle.htmd_commonmark_reading.specs.Markup as markup
 use Rattle.htmd_commonmark_reading.specs.Brackets.{References, inlines}
 use Rattle.htmd_commonmark_reading.specs.Lists.{item_text, is_checked}
-use Rattle.htmd_commonmark_reading.specs.Views.{outside, seen_inlines, document_inlines, with_first, all_seen}
-use Rattle.htmd_document_form.specs.NormalInlines.{are_whole, are_trimmed, is_normal_line, is_normal, are_normal, meets, is_plain, is_text, first_passes, last_passes, begins_with_space, ends_with_space, is_break, is_normal_item, ends_in_space, has_double_space}
+use Rattle.htmd_commonmark_reading.specs.SeenMarkup.{outside, seen_inlines, document_inlines, with_first, all_seen}
+use Rattle.htmd_document_form.specs.NormalInlines.{are_whole, are_trimmed, is_normal_line, is_normal, are_normal, meets, is_line_byte, is_text, first_passes, last_passes, begins_with_space, ends_with_space, is_break, is_normal_item, ends_in_space, has_double_space}
 use Rattle.htmd_inline_laws.specs.ReadBack.{ItemsReadBack, references_of, are_numbered, AreFew, seen_document}
 use Rattle.htmd_inline_laws.proofs.Pieces.{joined_none}
 use Rattle.htmd_inline_laws.proofs.TextPieces.{test, differs}
@@ -195,7 +195,7 @@ alike_behind line d w v [] (inline y rest) marked e g q h n m =
 -- a text without the space that it begins with
 record IsTail (s : List ℕ) : Type 0 where
   utf8 : IsUtf8 s
-  plain : list_all is_plain s ≡ true
+  plain : list_all is_line_byte s ≡ true
   no_space : first_is 32 s ≡ false
 
 tail_of : (s : List ℕ) → is_text (32 ∷ s) ≡ true → IsTail s
@@ -203,7 +203,7 @@ tail_of s h =
     let t = textual (32 ∷ s) h in
     record {
       utf8 = IsUtf8-past_char (32 ∷ s) s 32 t.utf8 (ap (λ l. l ++ s) (sym (encode_ascii 32 (omega arith))));
-      plain = (and_parts (is_plain 32) (list_all is_plain s) t.plain).1;
+      plain = (and_parts (is_line_byte 32) (list_all is_line_byte s) t.plain).1;
       no_space = (or_parts (first_is 32 s) (has_double_space s) t.single).0;
     }
 
@@ -219,13 +219,13 @@ bare_behind : (refs : References) (line : Line) (v : Written) (s : List ℕ) (mo
     → behind_run is_white (v.text ++ c.text) ≡ v.text ++ c.text
 bare_behind refs line v (x ∷ s) more marked e t m n c =
     let w = written_first marked x s in
-    let plain = (and_parts (is_plain x) (list_all is_plain s) t.plain).0 in
+    let plain = (and_parts (is_line_byte x) (list_all is_line_byte s) t.plain).0 in
     let start : v.text ++ c.text ≡ w.0 ∷ (w.1.0 ++ c.text) = ap (λ l. l ++ c.text) (e ∙ w.1.1.0) in
     let no_white : is_white w.0 ≡ false =
     elim (w.1.1.1) as (λ q. is_white w.0 ≡ false) [
       | inl q ↦ ap is_white q
       | inr q ↦ ap is_white q
-          ∙ rw (t.no_space, differs is_plain x 9 plain refl) (differs is_plain x 10 plain refl)
+          ∙ rw (t.no_space, differs is_line_byte x 9 plain refl) (differs is_line_byte x 10 plain refl)
     ] in
     ap (behind_run is_white) start ∙ rw no_white refl ∙ sym start
 bare_behind refs line v [] no_inlines marked e t m n c = absurd (cc)

@@ -11,7 +11,7 @@ use Rattle.std.proofs.lemmas.List.{append_assoc, reverse-append, length-append}
 use Rattle.std.proofs.lemmas.Str.{chars-append, chars-encodes}
 use Rattle.htmd_grammar.specs.Characters.{is_one_of}
 use Rattle.htmd_grammar.specs.CharacterClasses.{is_empty}
-use Rattle.htmd_text.specs.EscapeMarks.{with_backslashes}
+use Rattle.htmd_text.specs.EscapedPlaces.{with_backslashes}
 use Rattle.htmd_text.specs.Trims.{trimmed_end}
 use Rattle.htmd_commonmark.specs.declared.text_escape.Place.{Place}
 use Rattle.htmd_commonmark.specs.WrittenText.{in_line, character_before, is_last_escaped}

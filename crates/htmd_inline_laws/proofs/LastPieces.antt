@@ -9,7 +9,7 @@ use Rattle.std.proofs.lemmas.Bool.{eqb-true, and_parts, not-true, or_parts, agre
 use Rattle.std.proofs.lemmas.List.{append-nil}
 use Rattle.std.proofs.lemmas.Str.{encodes-append, encode_ascii, chars-nil}
 use Rattle.htmd_grammar.specs.Characters.{is_one_of}
-use Rattle.htmd_text.specs.EscapeMarks.{with_backslashes}
+use Rattle.htmd_text.specs.EscapedPlaces.{with_backslashes}
 use Rattle.htmd_markdown.specs.declared.link.LinkStyle.{LinkStyle}
 use Rattle.htmd_markdown.specs.declared.link.LinkStyle.TheVariants.{Inlined, InlinedPreferAutolinks, Referenced}
 use Rattle.htmd_markdown.specs.declared.line_break.BrStyle.{BrStyle}

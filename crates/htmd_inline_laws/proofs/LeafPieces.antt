@@ -16,7 +16,7 @@ use Rattle.htmd_commonmark.specs.InlineMarkdown.{written_code, needs_tags, place
 use Rattle.htmd_commonmark_reading.specs.Characters.{past_blanks}
 use Rattle.htmd_commonmark_reading.specs.Markup.{Inlines, no_inlines, letters, code, image, line_break, raw, joined}
 use Rattle.htmd_commonmark_reading.specs.Brackets.{References}
-use Rattle.htmd_document_form.specs.NormalInlines.{is_plain, is_kept, ends_in_space}
+use Rattle.htmd_document_form.specs.NormalInlines.{is_line_byte, is_kept, ends_in_space}
 use Rattle.htmd_inline_laws.proofs.Pieces.{IsRead, both_read, pushed}
 use Rattle.std.specs.Char.{is_ascii_punctuation}
 use Rattle.htmd_inline_laws.proofs.CharacterPieces.{no_punctuation}
@@ -45,30 +45,30 @@ last_space c d s =
     ap (first_is 32) (ap (λ l. reverse (c ∷ l)) v.is ∙ reverse-append (c ∷ v.front) (v.last ∷ []))
     ∙ sym (ap (first_is 32) (ap reverse v.is ∙ reverse-append v.front (v.last ∷ [])))
 
-no_line_after : (d : ℕ) (s ks : List ℕ) → list_all is_plain (d ∷ s) ≡ true
+no_line_after : (d : ℕ) (s ks : List ℕ) → list_all is_line_byte (d ∷ s) ≡ true
     → (ends_in_space (d ∷ s) ≡ true → first_is 10 (past_blanks ks) ≡ false)
     → first_is 10 (past_blanks ((d ∷ s) ++ ks)) ≡ false
 no_line_after d [] ks h n =
-    let p = (and_parts (is_plain d) true h).0 in
+    let p = (and_parts (is_line_byte d) true h).0 in
     test (d == 32) (λ e. rw e (n (rw e refl)))
-    (λ e. rw (e, differs is_plain d 9 p refl) (differs is_plain d 10 p refl))
+    (λ e. rw (e, differs is_line_byte d 9 p refl) (differs is_line_byte d 10 p refl))
 no_line_after d (c ∷ s) ks h n =
-    let p = and_parts (is_plain d) (list_all is_plain (c ∷ s)) h in
+    let p = and_parts (is_line_byte d) (list_all is_line_byte (c ∷ s)) h in
     test (d == 32)
     (λ e. rw e (no_line_after c s ks p.1 (λ x. n (last_space d c s ∙ x))))
-    (λ e. rw (e, differs is_plain d 9 p.0 refl) (differs is_plain d 10 p.0 refl))
+    (λ e. rw (e, differs is_line_byte d 9 p.0 refl) (differs is_line_byte d 10 p.0 refl))
 
-pub spaced_before : (s ks : List ℕ) → list_all is_plain s ≡ true
+pub spaced_before : (s ks : List ℕ) → list_all is_line_byte s ≡ true
     → (ends_in_space s ≡ true → first_is 10 (past_blanks ks) ≡ false) → is_spaced s ks ≡ true
 spaced_before [] ks h n = refl
 spaced_before (c ∷ []) ks h n =
-    and_from (is_plain c) _ ((and_parts (is_plain c) true h).0)
+    and_from (is_line_byte c) _ ((and_parts (is_line_byte c) true h).0)
     (test (c == 32) (λ e. rw (e, n (rw e refl)) refl) (λ e. rw e refl))
 spaced_before (c ∷ d ∷ s) ks h n =
-    let p = and_parts (is_plain c) (list_all is_plain (d ∷ s)) h in
+    let p = and_parts (is_line_byte c) (list_all is_line_byte (d ∷ s)) h in
     let m : ends_in_space (d ∷ s) ≡ true → first_is 10 (past_blanks ks)
     ≡ false = λ x. n (last_space c d s ∙ x) in
-    and_from (is_plain c) _ p.0
+    and_from (is_line_byte c) _ p.0
     (and_from (not (c == 32) || no_blank_next (d ∷ s) ks) (is_spaced (d ∷ s) ks)
     (or_right (not (c == 32)) (no_blank_next (d ∷ s) ks) (ap not (no_line_after d s ks p.1 m)))
     (spaced_before (d ∷ s) ks p.1 m))
@@ -79,7 +79,7 @@ no_word_mark c h before e = let x = no_punctuation c e in absurd (cc)
 
 -- ---- codes
 
-tagged_read : (line : Line) (refs : References) (before ks s : List ℕ) → IsUtf8 s → list_all is_plain s
+tagged_read : (line : Line) (refs : References) (before ks s : List ℕ) → IsUtf8 s → list_all is_line_byte s
     ≡ true
     → IsRead refs line.in_link before (codes "<code>" ++ (escaped (place_in_tags line) s ++ codes "</code>")) ks
     (joined (raw (codes "<code>") no_inlines) (joined (letters s no_inlines) (raw (codes "</code>") no_inlines)))
@@ -99,7 +99,7 @@ tagged_read line refs before ks s u p =
 
 pub code_shown : (around : List RowFormat) (line : Line) (refs : References) (before ks : List ℕ) (x : ℕ)
     (s : List ℕ)
-    → IsUtf8 (x ∷ s) → list_all is_plain (x ∷ s) ≡ true → (x == 32) ≡ false
+    → IsUtf8 (x ∷ s) → list_all is_line_byte (x ∷ s) ≡ true → (x == 32) ≡ false
     → first_is 96 ks ≡ false
     → IsShown around refs line.in_link before (written_code line (x ∷ s)) ks (code (x ∷ s) no_inlines)
 code_shown around line refs before ks x s u p sp g =
@@ -143,7 +143,8 @@ break_shown around line refs before ks h =
 -- ---- images
 
 pub image_shown : (around : List RowFormat) (refs : References) (in_link : Bool) (before ks a : List ℕ)
-    (t : Option (List ℕ)) (s : List ℕ) → list_all is_kept a ≡ true → IsUtf8 s → list_all is_plain s ≡ true
+    (t : Option (List ℕ)) (s : List ℕ) → list_all is_kept a ≡ true → IsUtf8 s → list_all is_line_byte s
+    ≡ true
     → IsShown around refs in_link before (written_image a t s) ks (image a t (letters s no_inlines) no_inlines)
 image_shown around refs in_link before ks a t s h u p =
     let inner = escaped place_of_description s in

@@ -10,7 +10,7 @@ use Rattle.std.proofs.lemmas.List.{append_assoc}
 use Rattle.std.proofs.lemmas.Str.{encode_ascii, chars-nil, chars-encodes}
 use Rattle.htmd_grammar.specs.Characters.{is_one_of}
 use Rattle.htmd_grammar.specs.CharacterClasses.{first_is, leading_run}
-use Rattle.htmd_text.specs.EscapeMarks.{with_backslashes}
+use Rattle.htmd_text.specs.EscapedPlaces.{with_backslashes}
 use Rattle.htmd_document.specs.Documents.{Inline, text, code, formatted, link, image, line_break, task}
 use Rattle.htmd_document.specs.Documents.{Inlines, no_inlines, inline}
 use Rattle.htmd_commonmark.specs.declared.line.Line.{Line}
@@ -30,7 +30,7 @@ use Rattle.htmd_commonmark.specs.InlineMarkdown.{place_of}
 use Rattle.htmd_commonmark_reading.specs.Characters.{first_character, past_blanks, goes_on}
 use Rattle.htmd_commonmark_reading.specs.DelimiterRuns.{is_white_beside, is_punctuation_beside}
 use Rattle.htmd_commonmark_reading.specs.Brackets.{kind}
-use Rattle.htmd_document_form.specs.NormalInlines.{is_plain, is_code, is_break, begins_with_space, ends_with_space, may_meet}
+use Rattle.htmd_document_form.specs.NormalInlines.{is_line_byte, is_code, is_break, begins_with_space, ends_with_space, may_meet}
 use Rattle.htmd_inline_laws.proofs.TextPieces.{in_some, test, differs}
 use Rattle.htmd_inline_laws.proofs.ReferencePieces.{one_of, is_small, follows_text, ends_text, AreEscapes}
 use Rattle.htmd_inline_laws.proofs.CharacterPieces.{no_punctuation, shape, no_tildes, first_is_character, plain_encode}
@@ -289,7 +289,7 @@ text_begins line so_far after (x ∷ r) rest marked m t f =
     let place = place_of line so_far after in
     let a = are_due place (x ∷ r) marked m [] (x ∷ r) 0 refl refl in
     let first = first_of_text place x r rest marked t.utf8 a f in
-    let p = (and_parts (is_plain x) (list_all is_plain r) t.plain).0 in
+    let p = (and_parts (is_line_byte x) (list_all is_line_byte r) t.plain).0 in
     record {
       follows = λ e. absurd (cc);
       no_end = λ e b. absurd (cc);
@@ -298,7 +298,7 @@ text_begins line so_far after (x ∷ r) rest marked m t f =
           (λ k. ap (first_is 96) (bare_head marked x r rest k) ∙ always_marked place marked x 96 r a refl refl k);
       well = λ b e.
           test (marked 0) (λ k. ap begins_well (slash_head marked x r rest k))
-          (λ k. ap begins_well (bare_head marked x r rest k) ∙ rw (e, differs is_plain x 9 p refl) refl);
+          (λ k. ap begins_well (bare_head marked x r rest k) ∙ rw (e, differs is_line_byte x 9 p refl) refl);
       no_sign = λ sign i e n.
           test (marked 0)
           (λ k. ap (first_is sign) (slash_head marked x r rest k) ∙ other_than sign i)

@@ -7,7 +7,7 @@ use Rattle.std.proofs.lemmas.Bool.{eqb-true, and_parts, not-true, not-false, or_
 use Rattle.htmd_grammar.specs.Characters.{is_one_of}
 use Rattle.htmd_grammar.specs.CharacterClasses.{first_is, leading_run, behind_run}
 use Rattle.htmd_html5_tokens.specs.NamedReferences.{named, small_names}
-use Rattle.htmd_text.specs.EscapeMarks.{with_backslashes}
+use Rattle.htmd_text.specs.EscapedPlaces.{with_backslashes}
 use Rattle.htmd_commonmark.specs.References.{is_semicolon, is_run, is_number, is_reference, ends_behind}
 use Rattle.htmd_commonmark_reading.specs.Characters.{reference, numbered, number_reference, name_reference, name_meaning}
 use Rattle.htmd_inline_laws.proofs.TextPieces.{test, differs, is_no_reference}

@@ -10,7 +10,7 @@ use Rattle.std.proofs.lemmas.Bool.{eqb-true, and_parts, not-true, not-false}
 use Rattle.std.proofs.lemmas.List.{append_assoc, append-nil, length-append, reverse-append, take_at, take_all, get_or_at}
 use Rattle.std.proofs.lemmas.Str.{chars-encodes, chars-nil, encodes-append, IsUtf8-take, IsUtf8-drop, IsCharBoundary-before_ascii, IsCharBoundary-after_ascii}
 use Rattle.htmd_grammar.specs.CharacterClasses.{first_is, leading_run}
-use Rattle.htmd_text.specs.EscapeMarks.{with_backslashes}
+use Rattle.htmd_text.specs.EscapedPlaces.{with_backslashes}
 use Rattle.htmd_text.specs.Trims.{trimmed_start, trimmed_end}
 use Rattle.htmd_commonmark.specs.declared.text_escape.Place.{Place}
 use Rattle.htmd_commonmark.specs.CharacterKinds.{is_word}

@@ -20,7 +20,7 @@ use Rattle.htmd_commonmark_reading.specs.Markup.{
   letters,
   plain_text,
 }
-use Rattle.htmd_commonmark_reading.specs.Views.{
+use Rattle.htmd_commonmark_reading.specs.SeenMarkup.{
   Tags,
   outside,
   inside,

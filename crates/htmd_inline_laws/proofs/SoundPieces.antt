@@ -11,7 +11,7 @@ use Rattle.std.proofs.lemmas.Bool.{or_parts, eqb-true, ne_eqb, eq-eqb, not-true}
 use Rattle.std.proofs.lemmas.List.{append_assoc, append-nil}
 use Rattle.std.proofs.lemmas.Str.{IsUtf8-append}
 use Rattle.htmd_grammar.specs.Characters.{is_one_of}
-use Rattle.htmd_text.specs.EscapeMarks.{with_backslashes}
+use Rattle.htmd_text.specs.EscapedPlaces.{with_backslashes}
 use Rattle.htmd_markdown.specs.CodeSpans.{delimited_text, meets_delimiter, smallest_unused_len, space_if}
 use Rattle.htmd_markdown.specs.Runs.{longest_run, has_run}
 use Rattle.htmd_commonmark.specs.declared.line.Line.{Line}

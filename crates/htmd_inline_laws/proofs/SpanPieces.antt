@@ -23,7 +23,7 @@ use Rattle.htmd_commonmark_reading.specs.RawTags.{raw_tag}
 use Rattle.htmd_commonmark_reading.specs.Markup.{no_inlines, code, link, letters}
 use Rattle.htmd_commonmark_reading.specs.DelimiterRuns.{finished}
 use Rattle.htmd_commonmark_reading.specs.Brackets.{References, and_tokens, scanned, token_step, angle_step}
-use Rattle.htmd_document_form.specs.NormalInlines.{is_plain}
+use Rattle.htmd_document_form.specs.NormalInlines.{is_line_byte}
 use Rattle.htmd_inline_laws.proofs.Pieces.{IsRead, steps_to}
 use Rattle.htmd_inline_laws.proofs.TextPieces.{test, skips, is_no_reference}
 use Rattle.htmd_inline_laws.proofs.ReferencePieces.{Writes, written_none}
@@ -54,7 +54,7 @@ unused_at s n k most first (inr le) = no_run_so_long 96 (1 + k) s (omega arith)
 
 -- a code span is read as its code
 pub code_read : (refs : References) (in_link : Bool) (before ks : List ℕ) (x : ℕ) (s : List ℕ)
-    → list_all is_plain (x ∷ s) ≡ true → (x == 32) ≡ false → first_is 96 ks ≡ false
+    → list_all is_line_byte (x ∷ s) ≡ true → (x == 32) ≡ false → first_is 96 ks ≡ false
     → IsRead refs in_link before (code_span (x ∷ s)) ks (code (x ∷ s) no_inlines)
 code_read refs in_link before ks x s p sp h =
     let n = longest_run 96 (x ∷ s) in

@@ -8,7 +8,7 @@ use Rattle.std.proofs.lemmas.List.{append-nil}
 use Rattle.std.proofs.lemmas.Str.{chars-nil, IsUtf8-from_is_utf8}
 use Rattle.htmd_grammar.specs.CharacterClasses.{is_empty}
 use Rattle.htmd_document.specs.Documents as document
-use Rattle.htmd_text.specs.EscapeMarks.{with_backslashes}
+use Rattle.htmd_text.specs.EscapedPlaces.{with_backslashes}
 use Rattle.htmd_commonmark.specs.declared.line.Line.{Line}
 use Rattle.htmd_commonmark.specs.TextEscapes.{is_of_word}
 use Rattle.htmd_commonmark.specs.InlineMarkdown.{place_of, written_line}
@@ -19,8 +19,8 @@ use Rattle.htmd_inline_laws.proofs.LeafPieces.{spaced_before}
 use Rattle.htmd_commonmark_reading.specs.Markup.{Inlines, no_inlines, letter, letters, joined}
 use Rattle.htmd_commonmark_reading.specs.DelimiterRuns.{base, unstacked, processed}
 use Rattle.htmd_commonmark_reading.specs.Brackets.{References, outermost, scanned, all_tokens, inlines}
-use Rattle.htmd_commonmark_reading.specs.Views.{seen_inlines, document_inlines, seen, all_seen, outside, with_letter}
-use Rattle.htmd_document_form.specs.NormalInlines.{are_whole, are_normal, is_plain, is_text, has_double_space, is_line}
+use Rattle.htmd_commonmark_reading.specs.SeenMarkup.{seen_inlines, document_inlines, seen, all_seen, outside, with_letter}
+use Rattle.htmd_document_form.specs.NormalInlines.{are_whole, are_normal, is_line_byte, is_text, has_double_space, is_line}
 use Rattle.htmd_inline_laws.specs.ReadBack.{TextsReadBack}
 use Rattle.htmd_inline_laws.proofs.Pieces.{joined_none, joined_joined}
 use Rattle.htmd_inline_laws.proofs.OpenRuns.{no_openers}
@@ -92,7 +92,7 @@ texts_read_back line before refs s l n =
     let b = (and_parts (is_text s) true a).0 in
     let d = and_parts (is_line s && not (is_empty s)) (not (has_double_space s)) b in
     let e = and_parts (is_line s) (not (is_empty s)) d.0 in
-    let f = and_parts (is_utf8 s) (list_all is_plain s) e.0 in
+    let f = and_parts (is_utf8 s) (list_all is_line_byte s) e.0 in
     let full = not-true (is_empty s) e.1 in
     ap (λ x. document_inlines (seen_inlines x))
     (text_inlines line before refs s l (IsUtf8-from_is_utf8 s f.0) (spaced_before s [] f.1 (λ e. refl))

@@ -8,7 +8,7 @@ use Rattle.std.proofs.lemmas.Bool.{eqb-true, eq-eqb, ne_eqb, and_parts, or_parts
 use Rattle.std.proofs.lemmas.List.{append_assoc, get_or_at, drop_at, take_at, length-append, reverse-append, take-append-le}
 use Rattle.htmd_grammar.specs.Characters.{is_one_of}
 use Rattle.htmd_grammar.specs.CharacterClasses.{is_empty}
-use Rattle.htmd_text.specs.EscapeMarks.{is_place}
+use Rattle.htmd_text.specs.EscapedPlaces.{is_place}
 use Rattle.htmd_text.specs.Trims.{trimmed_start, trimmed_end}
 use Rattle.htmd_commonmark.specs.declared.text_escape.Place.{Place}
 use Rattle.htmd_commonmark.specs.References.{is_reference}

@@ -5,7 +5,7 @@ use Rattle.std.specs.Option.{option_or}
 use Rattle.std.specs.Char.{is_ascii_punctuation}
 use Rattle.std.proofs.lemmas.Bool.{eqb-true, and_parts, not-true, not-false, or_parts}
 use Rattle.htmd_grammar.specs.CharacterClasses.{is_empty, first_is}
-use Rattle.htmd_text.specs.EscapeMarks.{with_backslashes}
+use Rattle.htmd_text.specs.EscapedPlaces.{with_backslashes}
 use Rattle.htmd_commonmark.specs.declared.text_escape.Place.{Place}
 use Rattle.htmd_commonmark.specs.References.{is_reference}
 use Rattle.htmd_commonmark.specs.TextEscapes.{may_be_escaped, may_be_in_tag, is_bracket}
@@ -13,7 +13,7 @@ use Rattle.htmd_commonmark_reading.specs.Characters.{past_blanks, is_space_or_ta
 use Rattle.htmd_commonmark_reading.specs.DelimiterRuns.{past_tildes}
 use Rattle.htmd_commonmark_reading.specs.Brackets.{References, kind, Kind}
 use Rattle.htmd_commonmark_reading.specs.Markup.{no_inlines, letter, letters, joined}
-use Rattle.htmd_document_form.specs.NormalInlines.{is_plain}
+use Rattle.htmd_document_form.specs.NormalInlines.{is_line_byte}
 use Rattle.htmd_inline_laws.proofs.Pieces.{IsRead, none_read, both_read, pushed}
 use Rattle.htmd_inline_laws.proofs.TextPieces.{test, differs, escaped_read, plain_read, row_read, begins_nothing, begins_no_tag, underscores, is_word_beside, is_line_end, is_blank}
 use Rattle.htmd_inline_laws.proofs.ReferencePieces.{AreEscapes, follows_text, reference_none}
@@ -35,7 +35,7 @@ no_blank_next t ks = not (first_is 10 (past_blanks (t ++ ks)))
 
 abbrev pub is_spaced : List ℕ → List ℕ → Bool
 is_spaced [] ks = true
-is_spaced (c ∷ t) ks = is_plain c && ((not (c == 32) || no_blank_next t ks) && is_spaced t ks)
+is_spaced (c ∷ t) ks = is_line_byte c && ((not (c == 32) || no_blank_next t ks) && is_spaced t ks)
 
 -- ---- where backslashes are due
 
@@ -76,18 +76,18 @@ no_line_end : (place : Place) (marked : ℕ → Bool) (k : ℕ) (t ks : List ℕ
     → is_spaced t ks ≡ true → not (first_is 10 (past_blanks (with_backslashes marked k t ++ ks))) ≡ true
 no_line_end place marked k [] ks h s = h
 no_line_end place marked k (d ∷ t) ks h s =
-    let p = and_parts (is_plain d) ((not (d == 32) || no_blank_next t ks) && is_spaced t ks) s in
+    let p = and_parts (is_line_byte d) ((not (d == 32) || no_blank_next t ks) && is_spaced t ks) s in
     let q = (and_parts (not (d == 32) || no_blank_next t ks) (is_spaced t ks) p.1).1 in
     test (marked k) (λ m. rw m refl)
     (λ m. test (d == 32)
     (λ e. rw (m, e) (no_line_end place marked (suc k) t ks (rw e at h) q))
-    (λ e. rw (m, e, differs is_plain d 9 p.0 refl) (rw (differs is_plain d 10 p.0 refl) refl)))
+    (λ e. rw (m, e, differs is_line_byte d 9 p.0 refl) (rw (differs is_line_byte d 10 p.0 refl) refl)))
 
 blank_next : (place : Place) (marked : ℕ → Bool) (k c : ℕ) (t ks : List ℕ) → is_space_or_tab c ≡ true
     → is_spaced (c ∷ t) ks ≡ true
     → not (first_is 10 (past_blanks (with_backslashes marked k t ++ ks))) ≡ true
 blank_next place marked k c t ks b s =
-    let p = and_parts (is_plain c) ((not (c == 32) || no_blank_next t ks) && is_spaced t ks) s in
+    let p = and_parts (is_line_byte c) ((not (c == 32) || no_blank_next t ks) && is_spaced t ks) s in
     let q = and_parts (not (c == 32) || no_blank_next t ks) (is_spaced t ks) p.1 in
     let e : c ≡ 32 =
     test (c == 32) (λ x. eqb-true c 32 x)
@@ -129,7 +129,7 @@ begins_here : (place : Place) (marked : ℕ → Bool) (k c : ℕ) (t ks : List �
     → begins_nothing x place.in_brackets (with_backslashes marked k t ++ ks) ≡ true
 begins_here place marked k c t ks Kind.blank e f a s h = blank_next place marked k c t ks (is_blank c e) s
 begins_here place marked k c t ks Kind.line_end e f a s h =
-    let p = (and_parts (is_plain c) _ s).0 in
+    let p = (and_parts (is_line_byte c) _ s).0 in
     let q : false ≡ true = rw (is_line_end c e) at p in absurd (cc)
 begins_here place marked k c t ks Kind.slash e f a s h =
     slash_next place marked k t ks f (escapes_of place marked k t a) h
@@ -284,7 +284,7 @@ chunks_read refs place marked (one c rest) k before ks f a s r =
     (one_read refs place marked k c (flat rest) before ks r.0 f a s)
     (chunks_read refs place marked rest (suc k) (pushed (one_text (marked k) c) before) ks f a.2
     (and_parts (not (c == 32) || no_blank_next (flat rest) ks) (is_spaced (flat rest) ks)
-    (and_parts (is_plain c) ((not (c == 32) || no_blank_next (flat rest) ks) && is_spaced (flat rest) ks) s).1).1
+    (and_parts (is_line_byte c) ((not (c == 32) || no_blank_next (flat rest) ks) && is_spaced (flat rest) ks) s).1).1
     r.1))
 chunks_read refs place marked (row n rest) k before ks f a s r =
     let b = marked k in

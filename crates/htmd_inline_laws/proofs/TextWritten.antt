@@ -5,14 +5,14 @@ use Rattle.std.specs.List.{suffix_len, prefix_len}
 use Rattle.std.proofs.lemmas.Bool.{eqb-true, eq-eqb, ne_eqb, and_parts, or_parts, or_cases, or_right, and_left, and_right}
 use Rattle.std.proofs.lemmas.List.{append_assoc, take_at, reverse-append}
 use Rattle.htmd_grammar.specs.CharacterClasses.{is_empty}
-use Rattle.htmd_text.specs.EscapeMarks.{with_backslashes}
+use Rattle.htmd_text.specs.EscapedPlaces.{with_backslashes}
 use Rattle.htmd_commonmark.specs.declared.line.Line.{Line}
 use Rattle.htmd_commonmark.specs.declared.text_escape.Place.{Place}
 use Rattle.htmd_commonmark.specs.TextEscapes.{is_of_word, is_marked}
 use Rattle.htmd_commonmark.specs.TextEscapes as text
 use Rattle.htmd_commonmark.specs.InlineMarkdown.{place_of, is_number_sign, ends_in_closing_signs, with_last_escaped, with_text, is_end_of_heading}
 use Rattle.htmd_commonmark.specs.declared.inline_ends.Following.{Following}
-use Rattle.htmd_text.specs.EscapeMarks.{is_place}
+use Rattle.htmd_text.specs.EscapedPlaces.{is_place}
 use Rattle.htmd_commonmark.specs.LineMarks.{line_mark}
 use Rattle.htmd_commonmark.specs.WrittenText.{Written, wrote, is_heading, is_one_line, begins_line}
 use Rattle.htmd_commonmark.specs.declared.line.LineKind.{LineKind}

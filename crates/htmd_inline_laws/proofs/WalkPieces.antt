@@ -7,7 +7,7 @@ use lib.Utf8.{encode, encodes, scalar, scalars}
 use Rattle.std.proofs.lemmas.Bool.{and_parts, ltb-true, lt-ltb}
 use Rattle.std.proofs.lemmas.List.{append-nil}
 use Rattle.std.proofs.lemmas.Str.{chars-nil, encodes-append, encode_ascii, IsUtf8-append}
-use Rattle.htmd_text.specs.EscapeMarks.{with_backslashes}
+use Rattle.htmd_text.specs.EscapedPlaces.{with_backslashes}
 use Rattle.htmd_commonmark.specs.CharacterKinds.{is_word}
 use Rattle.htmd_commonmark.specs.CharacterKinds as writer
 use Rattle.htmd_commonmark.specs.TextEscapes.{is_of_word, may_be_escaped, may_be_in_tag}

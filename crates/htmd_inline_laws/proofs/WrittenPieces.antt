@@ -26,7 +26,7 @@ use Rattle.htmd_commonmark.specs.Marks.{Mark}
 use Rattle.htmd_commonmark.specs.Addresses as address
 use Rattle.htmd_commonmark.specs.InlineEnds.{first_of, follows}
 use Rattle.htmd_commonmark.specs.InlineMarkdown.{written, with_inline, written_image, written_resource, written_code, place_of_description, is_autolinked, autolink, with_address, in_link, sides_of, reference_number}
-use Rattle.htmd_document_form.specs.NormalInlines.{is_normal, are_normal, meets, may_meet, is_around, has_none, are_whole, is_text, is_line, is_plain, has_double_space, is_trimmed, is_attribute, is_title, is_kept}
+use Rattle.htmd_document_form.specs.NormalInlines.{is_normal, are_normal, meets, may_meet, is_around, has_none, are_whole, is_text, is_line, is_line_byte, has_double_space, is_trimmed, is_attribute, is_title, is_kept}
 use Rattle.htmd_inline_laws.proofs.TextPieces.{test, differs}
 use Rattle.htmd_inline_laws.proofs.ReferencePieces.{one_of}
 use Rattle.htmd_inline_laws.proofs.OpenRuns.{RowFormat, one, two, tildes}
@@ -42,7 +42,7 @@ use Rattle.htmd_inline_laws.proofs.SoundPieces.{EndsIn, one_end, then_end, IsSou
 
 pub record IsTextual (s : List ℕ) : Type 0 where
   pub utf8 : IsUtf8 s
-  pub plain : list_all is_plain s ≡ true
+  pub plain : list_all is_line_byte s ≡ true
   pub single : has_double_space s ≡ false
   pub full : is_empty s ≡ false
 
@@ -50,7 +50,7 @@ pub textual : (s : List ℕ) → is_text s ≡ true → IsTextual s
 textual s h =
     let a = and_parts (is_line s && not (is_empty s)) (not (has_double_space s)) h in
     let b = and_parts (is_line s) (not (is_empty s)) a.0 in
-    let c = and_parts (is_utf8 s) (list_all is_plain s) b.0 in
+    let c = and_parts (is_utf8 s) (list_all is_line_byte s) b.0 in
     record {
       utf8 = IsUtf8-from_is_utf8 s c.0;
       plain = c.1;
@@ -66,8 +66,8 @@ title_text (Some s) = s
 title_utf8 : (t : Option (List ℕ)) → is_title t ≡ true → (s : List ℕ) → t ≡ Some s → IsUtf8 s
 title_utf8 None h s e = absurd (cc)
 title_utf8 (Some t) h s e =
-    let p = and_parts (is_attribute t && list_any is_plain t) _ h in
-    let q = and_parts (is_attribute t) (list_any is_plain t) p.0 in
+    let p = and_parts (is_attribute t && list_any is_line_byte t) _ h in
+    let q = and_parts (is_attribute t) (list_any is_line_byte t) p.0 in
     let u : IsUtf8 t = IsUtf8-from_is_utf8 t (and_parts (is_utf8 t) (list_all is_kept t) q.0).0 in
     subst (λ (o : Option (List ℕ)). IsUtf8 (title_text o)) e u
 
@@ -269,7 +269,7 @@ mutual
   sound_one line around w f (image a t s) n c h =
       let p = and_parts (is_attribute a && is_title t) (is_line s) n in
       let q = and_parts (is_attribute a) (is_title t) p.0 in
-      let u = IsUtf8-from_is_utf8 s (and_parts (is_utf8 s) (list_all is_plain s) p.1).0 in
+      let u = IsUtf8-from_is_utf8 s (and_parts (is_utf8 s) (list_all is_line_byte s) p.1).0 in
       sound_end w.text (written_image a t s) 41 h
       (IsUtf8-append (codes "![" ++ escaped place_of_description s) (written_resource a t)
       (IsUtf8-append (codes "![") (escaped place_of_description s) short_utf8.5

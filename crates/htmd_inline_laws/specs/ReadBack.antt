@@ -10,7 +10,7 @@ use Rattle.htmd_commonmark_reading.specs.LinkDefinitions.{Definition, definition
 use Rattle.htmd_commonmark_reading.specs.Brackets.{References, inlines}
 use Rattle.htmd_commonmark_reading.specs.Lists.{item_text}
 use Rattle.htmd_commonmark_reading.specs.Markup as markup
-use Rattle.htmd_commonmark_reading.specs.Views.{seen_inlines, document_inlines}
+use Rattle.htmd_commonmark_reading.specs.SeenMarkup.{seen_inlines, document_inlines}
 use Rattle.htmd_document_form.specs.NormalInlines.{is_normal_line, is_normal_item}
 
 -- the inlines of a document that a reader sees

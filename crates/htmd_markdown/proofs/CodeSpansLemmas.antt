@@ -229,7 +229,8 @@ code_span-reads_back s some = trimmed_back s (trimmed_text is_document_white_spa
 
 pub first_unused : (s : List ℕ) (k : ℕ) → k ≤ longest_run grave_accent s
     → ((i : ℕ) → 1 ≤ i → i < 1 + k → has_run grave_accent i s ≡ true)
-    → (k < longest_run grave_accent s → has_run grave_accent (1 + k) s ≡ false) → 1 + k ≡ smallest_unused_len s
+    → (k < longest_run grave_accent s → has_run grave_accent (1 + k) s ≡ false) → 1 + k
+    ≡ smallest_unused_len s
 first_unused s k le taken free =
     let size = range_length 1 (longest_run grave_accent s) in
     let first : position_or_len (λ m. not (has_run grave_accent m s))

@@ -10,7 +10,7 @@ use Rattle.std.proofs.lemmas.List.Edits.{between_more, between_none}
 use Rattle.std.proofs.lemmas.Slice.{between_to_end}
 use Rattle.std.proofs.lemmas.Str.{IsCharBoundary-start, IsCharBoundary-after_ascii}
 use Rattle.htmd_markdown.specs.Rewriting.{StandsFor}
-use Rattle.htmd_text.proofs.EscapeMarksLemmas.{below_ascii_end}
+use Rattle.htmd_text.proofs.EscapedPlacesLemmas.{below_ascii_end}
 
 -- What was written after a text, the piece that waits, and what the rest becomes, are the whole.
 pub record Rewriting (made_of : List ℕ → List ℕ) (s before out : List ℕ) (from i : ℕ) : Type 0 where

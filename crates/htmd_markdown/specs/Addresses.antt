@@ -2,7 +2,7 @@
 use Rattle.std.specs.Prelude.{◌≡◌, ℕ, Bool, ◌==◌, if◌then◌else◌, List, [], ◌++◌, slice_index, codes}
 use Rattle.std.specs.List.{list_any}
 use Rattle.htmd_grammar.specs.Characters.{space, backslash, is_one_of}
-use Rattle.htmd_text.specs.EscapeMarks.{with_backslashes}
+use Rattle.htmd_text.specs.EscapedPlaces.{with_backslashes}
 use Rattle.htmd_text.specs.Unescape.{unescape}
 
 -- the text with a backslash before each of these characters

@@ -7,7 +7,7 @@ ghost use Rattle.htmd_markdown.specs.ListItems as items;
 ghost use Rattle.htmd_markdown.specs.ListColumns.{HasEqualColumns};
 ghost use Rattle.htmd_markdown.specs.Lists as spec;
 
-use htmd_text::runs::leading_len;
+use htmd_text::repeats::leading_len;
 use htmd_text::{
     TrimDocumentWhitespace, digits, join_blocks, push_indented, push_repeated, trim_newlines,
 };

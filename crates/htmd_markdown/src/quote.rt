@@ -4,7 +4,7 @@ ghost use Rattle.std.specs.Str.Lines.{lines};
 ghost use Rattle.htmd_markdown.specs.Quotes as spec;
 
 use htmd_text::TrimDocumentWhitespace;
-use htmd_text::runs::leading_len;
+use htmd_text::repeats::leading_len;
 use std::alloc::{AllocError, Global};
 
 /// The content's lines, each after `> `, with blank lines around; line feeds at the content's start and document white

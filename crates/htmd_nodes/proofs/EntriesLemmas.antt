@@ -145,7 +145,8 @@ items_of-added texts attributes entries p id old last here =
     (items_of-set texts attributes entries p id old here)
 
 -- the parent's entry gets a child more, and the child's entry comes last
-pub IsStored-added : (texts : List ℕ) (attributes : List Attribute) (entries : List Entry) (p : ℕ) (old last : Entry)
+pub IsStored-added : (texts : List ℕ) (attributes : List Attribute) (entries : List Entry) (p : ℕ)
+    (old last : Entry)
     → p < length entries → old ≡ get_or entries p old
     → item_of texts attributes last
     ≡ new_item (items_of texts attributes entries) p (data_in texts attributes last)
@@ -256,7 +257,8 @@ pub IsWithin-added : (texts s : List ℕ) (attributes more : List Attribute) (e 
     → IsPart e.text texts s → IsPart e.attributes attributes more
     → IsWithin (texts ++ s) (attributes ++ more) e
 IsWithin-added texts s attributes more e u v text part = record {
-  text_start = subst (IsCharBoundary (texts ++ s)) (sym text.start) (IsCharBoundary-at_seam (texts ++ s) texts s refl v);
+  text_start = subst (IsCharBoundary (texts ++ s)) (sym text.start)
+      (IsCharBoundary-at_seam (texts ++ s) texts s refl v);
   text_end = subst (IsCharBoundary (texts ++ s))
       (let same : length (texts ++ s) ≡ e.text.end = omega (arith, text.end, length-append texts s) in same)
       (IsCharBoundary-end (texts ++ s));

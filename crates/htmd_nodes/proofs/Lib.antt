@@ -6,6 +6,6 @@ pub mod NumberedTreesLemmas
 pub mod AncestorsLemmas
 pub mod LayoutLemmas
 pub mod SerialiserLemmas
-pub mod PartsLemmas
+pub mod NodeValuesLemmas
 pub mod RawBlockLemmas
 mod Examples

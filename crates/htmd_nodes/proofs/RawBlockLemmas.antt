@@ -8,19 +8,19 @@ use Rattle.htmd_grammar.specs.ValueTrees.{ValueForest, none, more}
 use Rattle.htmd_grammar.specs.Rules.{project}
 use Rattle.htmd_grammar.specs.Nesting.{Context}
 use Rattle.htmd_grammar.specs.Comments.{behind_doctype}
-use Rattle.htmd_grammar.specs.Documents.{above_body, below_body, body_text, behind_mark, with_doctype, skeleton}
-use Rattle.htmd_grammar.specs.Documents.{ReadsDocument}
+use Rattle.htmd_grammar.specs.HtmlDocuments.{above_body, below_body, body_text, behind_mark, with_doctype, skeleton}
+use Rattle.htmd_grammar.specs.HtmlDocuments.{ReadsDocument}
 use Rattle.htmd_grammar.specs.Serialisation.{serialisation}
 use Rattle.htmd_grammar.specs.RawBlocks.{raw_block}
-use Rattle.htmd_grammar.specs.ReadBack.{IsIn, AreIn, is_plain, IsPlainElement, DenotesAlone, RawBlockReadsBack}
-use Rattle.htmd_grammar.specs.Steps.{body, with_children}
+use Rattle.htmd_grammar.specs.ReadBack.{IsIn, AreIn, reads_alone, IsElementAlone, DenotesAlone, RawBlockReadsBack}
+use Rattle.htmd_grammar.specs.ReaderSteps.{body, with_children}
 use Rattle.htmd_nodes.specs.Items.{Data, Item, element_node, data_at, depth_at}
 use Rattle.htmd_nodes.specs.NumberedTrees.{forest_from, tree_of, value_tree, value_forest}
 use Rattle.htmd_nodes.specs.NumberedTrees as numbered
 use Rattle.htmd_nodes.specs.Layout.{document_items}
 use Rattle.htmd_nodes.specs.OpenItems.{stack_items}
-use Rattle.htmd_nodes.specs.Parts.{ancestor_names, value_at}
-use Rattle.htmd_nodes.proofs.PartsLemmas.{laid_out, are_content, parts_with, parts_without, forest_is_content}
+use Rattle.htmd_nodes.specs.NodeValues.{ancestor_names, value_at}
+use Rattle.htmd_nodes.proofs.NodeValuesLemmas.{laid_out, are_content, parts_with, parts_without, forest_is_content}
 
 -- a node below others has a parent
 mutual
@@ -77,7 +77,7 @@ pub block_reads_back : (scripting : Bool) → RawBlockReadsBack (project scripti
     → ReadsDocument (project scripting) s (document children) → (id : ℕ) → 2 < depth_at items id
     → id < length items
     → (n : List ℕ) (attributes : List AttributePair) → data_at items id ≡ element_node n attributes
-    → is_plain (value_at items id) ≡ true → IsUtf8 (serialisation (value_at items id))
+    → reads_alone (value_at items id) ≡ true → IsUtf8 (serialisation (value_at items id))
     → (x : List ℕ) → raw_block (serialisation (value_at items id)) ≡ with_blank_lines x
     → DenotesAlone (project scripting) (ancestor_names items id) x (more (value_at items id) none)
 block_reads_back scripting law s children items same r id l m n attributes what plain utf8 x block =
@@ -87,7 +87,7 @@ block_reads_back scripting law s children items same r id l m n attributes what 
     (forest_is_content (project scripting) content below_body true (body_text s) (r.3))
     (children_are children (with_doctype o (skeleton content)) (r.2)) items same id l m in
     let p = are_in_context content _ above_body (ancestor_names items id) (value_at items id) part in
-    let here : IsPlainElement below_body content (ancestor_names items id) (value_at items id) = record {
+    let here : IsElementAlone below_body content (ancestor_names items id) (value_at items id) = record {
       parent = p.0;
       above = p.1;
       context = p.2;

@@ -10,6 +10,6 @@ pub mod Ancestors
 pub mod Views
 pub mod Layout
 pub mod OpenItems
-pub mod Parts
+pub mod NodeValues
 pub mod ChildLists
 pub mod Entries

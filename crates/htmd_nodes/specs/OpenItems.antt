@@ -1,8 +1,8 @@
 -- The items of a document of which some elements are still open: what stands above `body`, and then what each open
 -- element holds so far.
 use Rattle.std.specs.Prelude.{ℕ, suc, Bool, true, false, List, [], ◌∷◌, ◌++◌, length, codes}
-use Rattle.htmd_grammar.specs.Documents.{above_body}
-use Rattle.htmd_grammar.specs.Steps.{OpenElement, names_of}
+use Rattle.htmd_grammar.specs.HtmlDocuments.{above_body}
+use Rattle.htmd_grammar.specs.ReaderSteps.{OpenElement, names_of}
 use Rattle.htmd_nodes.specs.Items.{Item, document_item, doctype_node, element_node}
 use Rattle.htmd_nodes.specs.Layout.{item_under, forest_items}
 

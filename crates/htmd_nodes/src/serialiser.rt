@@ -4,7 +4,7 @@ ghost use Rattle.std.specs.Str.{chars, encode_utf8_all};
 ghost use Rattle.htmd_nodes.specs.Items.{children_of};
 ghost use Rattle.htmd_nodes.specs.NumberedTrees.{tree_of, forest_of, value_tree, value_forest};
 ghost use Rattle.htmd_grammar.specs.Attributes.{pair_of, pairs_of};
-ghost use Rattle.htmd_nodes.specs.Parts.{IsReadBack};
+ghost use Rattle.htmd_nodes.specs.NodeValues.{IsReadBack};
 ghost use Rattle.htmd_text.specs.Beginnings.{IsBeginning};
 ghost use Rattle.htmd_grammar.specs.Serialisation as spec;
 ghost use Rattle.htmd_grammar.specs.RawBlocks as blocks;

@@ -6,7 +6,7 @@ use Rattle.htmd_nodes.specs.NumberedTrees.{forest_from, tree_of}
 use Rattle.htmd_html5_state.specs.Adoption.{move_last, wrap_children}
 use Rattle.htmd_html5.specs.BodyEnds.{text_end_rule}
 use Rattle.htmd_html5.specs.BodyStarts.{block_rule, formatting_rule, phrasing_rule}
-use Rattle.htmd_html5.specs.Documents.{html5_document}
+use Rattle.htmd_html5.specs.Html5Documents.{html5_document}
 use Rattle.htmd_html5_laws.specs.PageLetters.{token_texts}
 use Rattle.htmd_document.specs.Flows.{node_of}
 use Rattle.htmd_document.specs.Roles.{role_of, table_role, heading_or_block, inline_role}

@@ -5,8 +5,8 @@ use Rattle.std.specs.Prelude.{◌==◌, ◌||◌, is_some}
 use Rattle.std.proofs.lemmas.Bool.{true≢false, eqb-true, eq-eqb, ne_eqb}
 use Rattle.htmd_grammar.proofs.Cases.{test}
 use Rattle.htmd_html5_state.specs.Names.{text_of_element_name}
-use Rattle.htmd_html5_state.specs.Documents.{KindValue, NodeValue, document, doctype, text, comment, element, kind_at}
-use Rattle.htmd_html5_state.specs.Documents.{children_at, text_of}
+use Rattle.htmd_html5_state.specs.Nodes.{KindValue, NodeValue, document, doctype, text, comment, element, kind_at}
+use Rattle.htmd_html5_state.specs.Nodes.{children_at, text_of}
 use Rattle.htmd_html5.specs.Layout.{Coming, coming, Layout, text_under, after_next_texts, with_text}
 use Rattle.htmd_html5.specs.Layout.{with_kind_of, without_node, put_next, layout_within, first_layout, document_of}
 use Rattle.htmd_html5.specs.Layout.{is_deepest, joined}

@@ -3,7 +3,7 @@ use Rattle.std.proofs.Common.{◌≡◌, ℕ, List, Result, Ok, Err, IfOk, sym, 
 use Rattle.std.specs.Prelude.{IsUtf8}
 use Rattle.htmd_nodes.specs.Items.{Item, HoldTexts}
 use Rattle.htmd_nodes.specs.NumberedTrees.{tree_of}
-use Rattle.htmd_html5.specs.Documents.{html5_document}
+use Rattle.htmd_html5.specs.Html5Documents.{html5_document}
 use Rattle.htmd_document.specs.declared.document.Document.{Document}
 use Rattle.htmd_document.specs.Documents.{Blocks}
 use Rattle.htmd_document.specs.DocumentViews.{document_of}

@@ -8,11 +8,11 @@ use Rattle.std.proofs.lemmas.List.Elements.{filter-append}
 use Rattle.std.proofs.lemmas.List.Sums.{sum_by-cons, sum_by-append}
 use Rattle.htmd_grammar.proofs.Cases.{test}
 use Rattle.htmd_nodes.specs.Items.{greatest_depth}
-use Rattle.htmd_html5.specs.Documents.{state_after, html5_document}
+use Rattle.htmd_html5.specs.Html5Documents.{state_after, html5_document}
 use Rattle.htmd_html5_laws.specs.PageLetters.{is_letter, is_character, occurrences, occurrences_in, texts_of, token_texts}
 use Rattle.htmd_html5_laws.specs.LetterOrder.{letters_of, letters_in}
 use Rattle.htmd_html5_laws.specs.TextKept.{all_characters}
-use Rattle.htmd_html5_laws.proofs.HarmlessLettersLemmas.{harmless_letters_kept}
+use Rattle.htmd_html5_laws.proofs.UndroppedLettersLemmas.{harmless_letters_kept}
 use Rattle.htmd_html5_laws.proofs.LetterOrderLemmas.{letters_in_order}
 use Rattle.htmd_document.specs.Shown.{Sight}
 use Rattle.htmd_document_laws.specs.DocumentTexts.{text_of_blocks, is_visible}

@@ -3,10 +3,10 @@ use Rattle.std.specs.Prelude.{◌≡◌, ℕ, ◌+◌, Bool, true, ◌&&◌, Lis
 use Rattle.std.specs.Str.{chars}
 use Rattle.htmd_nodes.specs.Items.{HoldTexts}
 use Rattle.htmd_nodes.specs.NumberedTrees.{NumberedTree, tree_of}
-use Rattle.htmd_html5.specs.Documents.{html5_document}
+use Rattle.htmd_html5.specs.Html5Documents.{html5_document}
 use Rattle.htmd_html5_laws.specs.PageLetters.{is_letter, occurrences, occurrences_in, token_texts}
-use Rattle.htmd_html5_laws.specs.HarmlessTags.{all_tags_are_harmless}
-use Rattle.htmd_html5_laws.specs.LetterOrder.{all_tags_are_orderly}
+use Rattle.htmd_html5_laws.specs.DroppedTexts.{no_tag_drops_text}
+use Rattle.htmd_html5_laws.specs.LetterOrder.{no_tag_moves_text}
 use Rattle.htmd_document.specs.Documents.{Blocks}
 use Rattle.htmd_document.specs.Shown.{Sight}
 use Rattle.htmd_document.specs.TreeDocuments.{document_of_tree}
@@ -52,7 +52,7 @@ pub record IsRead (sight : Sight) (page : List ℕ) : Type 0 where
 -- texts of the page.
 abbrev pub CountsLetters : Sight → List ℕ → Blocks → Type 0
 CountsLetters sight page d =
-    (c : ℕ) → all_tags_are_harmless sight.scripting page ≡ true → is_seen c ≡ true
+    (c : ℕ) → no_tag_drops_text sight.scripting page ≡ true → is_seen c ≡ true
     → occurrences c (text_of_blocks d) + occurrences_in c (hidden_texts (page_pieces sight page))
     ≡ occurrences_in c (token_texts sight.scripting page) + occurrences_in c (said_texts (page_pieces sight page))
 
@@ -64,12 +64,12 @@ pub record IsInOrder (sight : Sight) (page : List ℕ) (d : Blocks) : Type 0 whe
 
 -- So it is without a start tag of `frameset`, `template` or `table`.
 abbrev pub KeepsOrder : Sight → List ℕ → Blocks → Type 0
-KeepsOrder sight page d = all_tags_are_orderly sight.scripting page ≡ true → IsInOrder sight page d
+KeepsOrder sight page d = no_tag_moves_text sight.scripting page ≡ true → IsInOrder sight page d
 
 -- And where no letter is hidden, and none is said, the letters of the document are in order those of the tokens' texts.
 abbrev pub HasAllText : Sight → List ℕ → Blocks → Type 0
 HasAllText sight page d =
-    all_tags_are_orderly sight.scripting page ≡ true → seen_in (hidden_texts (page_pieces sight page)) ≡ []
+    no_tag_moves_text sight.scripting page ≡ true → seen_in (hidden_texts (page_pieces sight page)) ≡ []
     → seen_in (said_texts (page_pieces sight page)) ≡ []
     → seen_of (text_of_blocks d) ≡ seen_in (token_texts sight.scripting page)
 

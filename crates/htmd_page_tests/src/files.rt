@@ -1,7 +1,8 @@
 //! What concerns files: the words of the command line, a small plan, paths, and what the faults write.
 use htmd_expected::{expect_text, expect_that};
 use htmd_files::{
-    Destination, Operand, Plan, PlanFault, is_page, job_of, md_name, normal_path, plan_of, relative,
+    Destination, FilePlan, Operand, PlanFault, is_page, job_of, md_name, normal_path, plan_of,
+    relative,
 };
 use std::alloc::{AllocError, Global};
 use std::test::Fail;
@@ -83,8 +84,8 @@ fn planned(
     out: Option<Destination<'_>>,
 ) -> Result<String, Fail> {
     match plan_of(alloc, operands, out) {
-        Ok(Plan::StandardOutput { input }) => Ok(input),
-        Ok(Plan::Files { pages }) => {
+        Ok(FilePlan::StandardOutput { input }) => Ok(input),
+        Ok(FilePlan::Files { pages }) => {
             let mut lines = String::new(alloc);
             for page in pages.as_slice() {
                 lines.push_str(page.input.as_str())?;

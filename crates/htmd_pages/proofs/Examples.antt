@@ -5,10 +5,10 @@ use Rattle.htmd_grammar.specs.ValueTrees.{ValueForest, text, element, none, more
 use Rattle.htmd_pages.specs.declared.selectors.Relation.{Relation}
 use Rattle.htmd_pages.specs.declared.selectors.Relation.TheVariants.{Start, Same, Child, Below}
 use Rattle.htmd_pages.specs.declared.selectors.SelectorError.TheVariants.{NoSelector, NoName, Unclosed, Unsupported}
-use Rattle.htmd_pages.specs.Steps.{Condition, is_type, has_class, has_id, has_attribute, has_value, Step}
+use Rattle.htmd_pages.specs.SelectorSteps.{Condition, is_type, has_class, has_id, has_attribute, has_value, Step}
 use Rattle.htmd_pages.specs.Reading.{read, steps_of_text}
 use Rattle.htmd_pages.specs.Matching.{Element, meets, is_named}
-use Rattle.htmd_pages.specs.Parts.{without, outermost}
+use Rattle.htmd_pages.specs.SelectedParts.{without, outermost}
 
 abbrev step : Relation → Condition → Step
 step relation condition = record { relation = relation; condition = condition }

@@ -1,6 +1,6 @@
 -- Lemmas on selectors and on the parts of pages.
-pub mod MarksLemmas
+pub mod SelectorStatesLemmas
 pub mod ReadingLemmas
-pub mod PartsLemmas
+pub mod SelectedPartsLemmas
 pub mod PagesLemmas
 mod Examples

@@ -6,20 +6,20 @@ use Rattle.htmd_grammar.specs.ValueTrees.{document, doctype, text, comment, elem
 use Rattle.htmd_nodes.specs.Items.{Item, document_item, depth_at, children_of, IsTree}
 use Rattle.htmd_nodes.specs.Layout.{document_items, forest_items}
 use Rattle.htmd_nodes.specs.NumberedTrees.{tree_of, forest_of, value_forest}
-use Rattle.htmd_nodes.specs.Parts.{value_at}
-use Rattle.htmd_pages.specs.declared.matching.Mark.{Mark}
+use Rattle.htmd_nodes.specs.NodeValues.{value_at}
+use Rattle.htmd_pages.specs.declared.matching.StepState.{StepState}
 use Rattle.htmd_pages.specs.declared.selectors.Step.{Step}
-use Rattle.htmd_pages.specs.Marks.{kept, outermost, no_mark}
-use Rattle.htmd_pages.specs.Parts.{dropped, page_of, selected, one_document, children_of_document}
-use Rattle.htmd_pages.specs.Parts as spec
+use Rattle.htmd_pages.specs.SelectorStates.{kept, outermost, no_state}
+use Rattle.htmd_pages.specs.SelectedParts.{dropped, page_of, selected, one_document, children_of_document}
+use Rattle.htmd_pages.specs.SelectedParts as spec
 use Rattle.htmd_pages.specs.Views.{step_of, steps_of}
-use Rattle.htmd_pages.proofs.MarksLemmas.{kept-page, outermost-page}
+use Rattle.htmd_pages.proofs.SelectorStatesLemmas.{kept-page, outermost-page}
 
-module _ (items : List Item) (steps : List Step) (outside : List Mark) (t : IsTree items)
-    (is : outside ≡ replicate (length steps) no_mark) (out new : List Item) (root : ℕ)
+module _ (items : List Item) (steps : List Step) (outside : List StepState) (t : IsTree items)
+    (is : outside ≡ replicate (length steps) no_state) (out new : List Item) (root : ℕ)
     (only : out ≡ document_item ∷ []) (first : root ≡ 0) where
-  none_outside : outside ≡ replicate (length (steps_of steps)) no_mark
-  none_outside = is ∙ ap (λ n. replicate n no_mark) (sym (length-map steps step_of))
+  none_outside : outside ≡ replicate (length (steps_of steps)) no_state
+  none_outside = is ∙ ap (λ n. replicate n no_state) (sym (length-map steps step_of))
 
   pub dropped-is : (under : ℕ) → under ≡ 0
       → new ≡ out ++ forest_items (depth_at out under + 1) under (length out) (kept (steps_of steps) outside

@@ -7,7 +7,7 @@ use Rattle.htmd_grammar.specs.ValueTrees.{AttributePair}
 use Rattle.htmd_grammar.specs.WhiteSpace.{is_ascii_white_space}
 use Rattle.htmd_pages.specs.declared.selectors.Relation.{Relation}
 use Rattle.htmd_pages.specs.declared.selectors.Relation.TheVariants as relation
-use Rattle.htmd_pages.specs.Steps.{Condition, is_type, has_class, has_id, has_attribute, has_value, Step}
+use Rattle.htmd_pages.specs.SelectorSteps.{Condition, is_type, has_class, has_id, has_attribute, has_value, Step}
 
 -- an element, as a selector sees it
 pub record Element : Type 0 where

@@ -12,7 +12,7 @@ reading_of r = record {
   relation = r.relation;
   name = r.name.items;
   word = r.word.items;
-  mode = r.mode;
+  position = r.position;
 }
 
 -- an error is out of memory, or that of the definition

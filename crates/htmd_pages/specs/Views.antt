@@ -4,7 +4,7 @@ use Rattle.htmd_pages.specs.declared.selectors.Condition.{Condition}
 use Rattle.htmd_pages.specs.declared.selectors.Condition.TheVariants.{Tag, Class, Id, Attribute, Value}
 use Rattle.htmd_pages.specs.declared.selectors.Step.{Step}
 use Rattle.htmd_pages.specs.declared.selectors.Selectors.{Selectors}
-use Rattle.htmd_pages.specs.Steps as spec
+use Rattle.htmd_pages.specs.SelectorSteps as spec
 
 abbrev pub condition_of : Condition → spec.Condition
 condition_of (Tag name) = spec.is_type name.items

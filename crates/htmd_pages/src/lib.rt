@@ -3,10 +3,10 @@
 #![tactic(auto)]
 
 mod matching;
-mod parts;
 mod reader;
+mod selection;
 mod selectors;
 
-pub use parts::{drop_elements, select_elements};
 pub use reader::parse_selectors;
+pub use selection::{drop_elements, select_elements};
 pub use selectors::{SelectorError, Selectors};

@@ -3,7 +3,7 @@ ghost use Rattle.std.specs.Prelude.{◌≡◌, ◌&&◌, length, codes, true, fa
 ghost use Rattle.std.specs.Str.{bytes_eq};
 ghost use Rattle.htmd_grammar.specs.Attributes.{pairs_of};
 ghost use Rattle.htmd_pages.specs.Matching as spec;
-ghost use Rattle.htmd_pages.specs.Marks as spec_marks;
+ghost use Rattle.htmd_pages.specs.SelectorStates as spec_states;
 ghost use Rattle.htmd_pages.specs.Views.{condition_of, steps_of};
 
 use crate::selectors::{Condition, Relation, Step};
@@ -77,21 +77,21 @@ fn meets(name: &str, attrs: &[Attribute], condition: &Condition) -> bool
 /// What is known of an open element at a step: that the steps up to it name this element, and that they name it or one
 /// around it.
 #[derive(Clone, Copy, Drop)]
-pub(crate) struct Mark {
+pub(crate) struct StepState {
     here: bool,
     within: bool,
 }
 
 /// What is known outside of all elements.
-pub(crate) const NO_MARK: Mark = Mark {
+pub(crate) const NO_MARK: StepState = StepState {
     here: false,
     within: false,
 };
 
 /// Whether the steps before this one name what this one needs: `same` is said of the element itself, and `parent` of
 /// the one around it.
-fn is_reached(relation: Relation, same: bool, parent: Mark) -> bool
-    ensures { result ≡ spec_marks.is_reached relation same parent }
+fn is_reached(relation: Relation, same: bool, parent: StepState) -> bool
+    ensures { result ≡ spec_states.is_reached relation same parent }
 {
     match relation {
         Relation::Start => true,
@@ -101,44 +101,44 @@ fn is_reached(relation: Relation, same: bool, parent: Mark) -> bool
     }
 }
 
-/// The marks of an element, by those of its parent.
-pub(crate) fn marks_of(
+/// The states of an element, by those of its parent.
+pub(crate) fn states_of(
     alloc: Global,
     steps: &[Step],
-    parent: &[Mark],
+    parent: &[StepState],
     name: &str,
     attrs: &[Attribute],
-) -> Result<Vec<Mark>, AllocError>
+) -> Result<Vec<StepState>, AllocError>
     requires { length parent.now ≡ length steps.now }
-    ensures value { IfOk result (λ m. m.items ≡ spec_marks.marks_below (steps_of steps.now) parent.now
+    ensures value { IfOk result (λ m. m.items ≡ spec_states.states_below (steps_of steps.now) parent.now
         (record { name = name.now; attributes = pairs_of attrs.now })) }
     ensures count { IfOk result (λ m. vec_len m ≡ length steps.now) }
 {
-    let mut marks = Vec::with_capacity(alloc, steps.len())?;
+    let mut states = Vec::with_capacity(alloc, steps.len())?;
     let mut same = false;
     let mut above = NO_MARK;
     for (i, step) in steps.iter().enumerate() {
-        let mark = parent[i];
+        let state = parent[i];
         let here = is_reached(step.relation, same, above) && meets(name, attrs, &step.condition);
-        let within = here || mark.within;
-        marks.push(Mark { here, within })?;
+        let within = here || state.within;
+        states.push(StepState { here, within })?;
         same = here;
-        above = mark;
+        above = state;
     }
-    Ok(marks)
+    Ok(states)
 }
 
-/// Whether an element with these marks is named.
-pub(crate) fn is_named(steps: &[Step], marks: &[Mark]) -> bool
-    requires { length marks.now ≡ length steps.now }
-    ensures { result ≡ spec_marks.is_named_by false (steps_of steps.now) marks.now }
+/// Whether an element with these states is named.
+pub(crate) fn is_named(steps: &[Step], states: &[StepState]) -> bool
+    requires { length states.now ≡ length steps.now }
+    ensures { result ≡ spec_states.is_named_by false (steps_of steps.now) states.now }
 {
     let mut here = false;
     for (i, step) in steps.iter().enumerate() {
         if step.relation == Relation::Start && here {
             return true;
         }
-        here = marks[i].here;
+        here = states[i].here;
     }
     here
 }

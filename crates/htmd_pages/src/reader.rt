@@ -10,7 +10,7 @@ use std::mem;
 
 /// What a word in a compound names.
 #[derive(Clone, Copy)]
-pub(crate) enum Part {
+pub(crate) enum WordKind {
     Tag,
     Class,
     Id,
@@ -18,10 +18,10 @@ pub(crate) enum Part {
 
 /// Where in a selector the reader is.
 #[derive(Clone, Copy)]
-pub(crate) enum Mode {
+pub(crate) enum Position {
     BeforeCompound,
-    InWord(Part),
-    AfterPart,
+    InWord(WordKind),
+    AfterSimple,
     AfterCompound,
     BeforeName,
     InName,
@@ -39,7 +39,7 @@ pub(crate) struct Reader {
     relation: Relation,
     name: Vec<u8>,
     word: Vec<u8>,
-    mode: Mode,
+    position: Position,
     alloc: Global,
 }
 
@@ -64,11 +64,11 @@ fn is_name(word: &[u8]) -> bool
 
 impl Reader {
     /// A word begins.
-    fn begin(&mut self, mode: Mode)
-        ensures { reading_of self.new ≡ spec.begin mode (reading_of self.old) }
+    fn begin(&mut self, position: Position)
+        ensures { reading_of self.new ≡ spec.begin position (reading_of self.old) }
     {
         self.word.clear();
-        self.mode = mode;
+        self.position = position;
     }
 
     fn push(&mut self, b: u8) -> Result<(), SelectorError>
@@ -104,19 +104,19 @@ impl Reader {
             condition,
         })?;
         self.relation = Relation::Same;
-        self.mode = Mode::AfterPart;
+        self.position = Position::AfterSimple;
         Ok(())
     }
 
     /// A part of a compound begins with this byte.
-    fn begin_part(&mut self, place: usize, b: u8) -> Result<(), SelectorError>
-        ensures ok { OnOk result (spec.begin_part place b (reading_of self.old) ≡ Ok (reading_of self.new)) }
-        ensures err { IfErr result (IsFault (spec.begin_part place b (reading_of self.old))) }
+    fn begin_simple(&mut self, place: usize, b: u8) -> Result<(), SelectorError>
+        ensures ok { OnOk result (spec.begin_simple place b (reading_of self.old) ≡ Ok (reading_of self.new)) }
+        ensures err { IfErr result (IsFault (spec.begin_simple place b (reading_of self.old))) }
     {
         match b {
-            b'.' => self.begin(Mode::InWord(Part::Class)),
-            b'#' => self.begin(Mode::InWord(Part::Id)),
-            b'[' => self.begin(Mode::BeforeName),
+            b'.' => self.begin(Position::InWord(WordKind::Class)),
+            b'#' => self.begin(Position::InWord(WordKind::Id)),
+            b'[' => self.begin(Position::BeforeName),
             b'>' | b',' => return Err(SelectorError::NoSelector { place }),
             _ => return Err(SelectorError::Unsupported { place }),
         }
@@ -129,9 +129,9 @@ impl Reader {
         ensures err { IfErr result (IsFault (spec.begin_compound place b (reading_of self.old))) }
     {
         if !is_name_byte(b) {
-            return self.begin_part(place, b);
+            return self.begin_simple(place, b);
         }
-        self.begin(Mode::InWord(Part::Tag));
+        self.begin(Position::InWord(WordKind::Tag));
         self.push(b)
     }
 
@@ -144,17 +144,17 @@ impl Reader {
         match b {
             b'>' => {
                 self.relation = Relation::Child;
-                self.mode = Mode::BeforeCompound;
+                self.position = Position::BeforeCompound;
             }
             b',' => {
                 self.relation = Relation::Start;
-                self.mode = Mode::BeforeCompound;
+                self.position = Position::BeforeCompound;
             }
             _ => {
                 if !b.is_ascii_whitespace() {
                     return false;
                 }
-                self.mode = Mode::AfterCompound;
+                self.position = Position::AfterCompound;
             }
         }
         true
@@ -170,14 +170,14 @@ impl Reader {
         self.begin_compound(place, b)
     }
 
-    fn after_part(&mut self, place: usize, b: u8) -> Result<(), SelectorError>
-        ensures ok { OnOk result (spec.after_part place b (reading_of self.old) ≡ Ok (reading_of self.new)) }
-        ensures err { IfErr result (IsFault (spec.after_part place b (reading_of self.old))) }
+    fn after_simple(&mut self, place: usize, b: u8) -> Result<(), SelectorError>
+        ensures ok { OnOk result (spec.after_simple place b (reading_of self.old) ≡ Ok (reading_of self.new)) }
+        ensures err { IfErr result (IsFault (spec.after_simple place b (reading_of self.old))) }
     {
         if self.end_compound(b) {
             return Ok(());
         }
-        self.begin_part(place, b)
+        self.begin_simple(place, b)
     }
 
     fn after_compound(&mut self, place: usize, b: u8) -> Result<(), SelectorError>
@@ -191,7 +191,7 @@ impl Reader {
         self.begin_compound(place, b)
     }
 
-    fn in_word(&mut self, part: Part, place: usize, b: u8) -> Result<(), SelectorError>
+    fn in_word(&mut self, part: WordKind, place: usize, b: u8) -> Result<(), SelectorError>
         ensures ok { OnOk result (spec.in_word part place b (reading_of self.old) ≡ Ok (reading_of self.new)) }
         ensures err { IfErr result (IsFault (spec.in_word part place b (reading_of self.old))) }
     {
@@ -200,12 +200,12 @@ impl Reader {
         }
         let name = self.take_name(place)?;
         let condition = match part {
-            Part::Tag => Condition::Tag(name),
-            Part::Class => Condition::Class(name),
-            Part::Id => Condition::Id(name),
+            WordKind::Tag => Condition::Tag(name),
+            WordKind::Class => Condition::Class(name),
+            WordKind::Id => Condition::Id(name),
         };
         self.add(condition)?;
-        self.after_part(place, b)
+        self.after_simple(place, b)
     }
 
     /// After the name of an attribute.
@@ -214,7 +214,7 @@ impl Reader {
         ensures err { IfErr result (IsFault (spec.after_name place b (reading_of self.old))) }
     {
         match b {
-            b'=' => self.begin(Mode::BeforeValue),
+            b'=' => self.begin(Position::BeforeValue),
             b']' => {
                 let name = mem::replace(&mut self.name, Vec::new(self.alloc));
                 return self.add(Condition::Attribute(name));
@@ -223,7 +223,7 @@ impl Reader {
                 if !b.is_ascii_whitespace() {
                     return Err(SelectorError::Unclosed { place });
                 }
-                self.mode = Mode::AfterName;
+                self.position = Position::AfterName;
             }
         }
         Ok(())
@@ -234,7 +234,7 @@ impl Reader {
         ensures err { IfErr result (IsFault (spec.in_name place b (reading_of self.old))) }
     {
         if is_name_byte(b) {
-            self.mode = Mode::InName;
+            self.position = Position::InName;
             return self.push(b);
         }
         self.name = self.take_name(place)?;
@@ -264,7 +264,7 @@ impl Reader {
         if !b.is_ascii_whitespace() {
             return Err(SelectorError::Unclosed { place });
         }
-        self.mode = Mode::AfterValue;
+        self.position = Position::AfterValue;
         Ok(())
     }
 
@@ -273,7 +273,7 @@ impl Reader {
         ensures err { IfErr result (IsFault (spec.in_value place b (reading_of self.old))) }
     {
         if is_name_byte(b) {
-            self.mode = Mode::InValue;
+            self.position = Position::InValue;
             return self.push(b);
         }
         self.word = self.take_name(place)?;
@@ -285,7 +285,7 @@ impl Reader {
         ensures err { IfErr result (IsFault (spec.before_value place b (reading_of self.old))) }
     {
         if b == b'"' || b == b'\'' {
-            self.mode = Mode::InQuotes(b);
+            self.position = Position::InQuotes(b);
             return Ok(());
         }
         if b.is_ascii_whitespace() {
@@ -294,12 +294,12 @@ impl Reader {
         self.in_value(place, b)
     }
 
-    fn in_quotes(&mut self, mark: u8, place: usize, b: u8) -> Result<(), SelectorError>
-        ensures ok { OnOk result (spec.in_quotes mark place b (reading_of self.old) ≡ Ok (reading_of self.new)) }
-        ensures err { IfErr result (IsFault (spec.in_quotes mark place b (reading_of self.old))) }
+    fn in_quotes(&mut self, state: u8, place: usize, b: u8) -> Result<(), SelectorError>
+        ensures ok { OnOk result (spec.in_quotes state place b (reading_of self.old) ≡ Ok (reading_of self.new)) }
+        ensures err { IfErr result (IsFault (spec.in_quotes state place b (reading_of self.old))) }
     {
-        if b == mark {
-            self.mode = Mode::AfterValue;
+        if b == state {
+            self.position = Position::AfterValue;
             return Ok(());
         }
         if b == b'\\' || b == b'\n' {
@@ -314,28 +314,29 @@ impl Reader {
         ensures ok { OnOk result (spec.read place b (reading_of self.old) ≡ Ok (reading_of self.new)) }
         ensures err { IfErr result (IsFault (spec.read place b (reading_of self.old))) }
     {
-        match self.mode {
-            Mode::BeforeCompound => self.before_compound(place, b),
-            Mode::InWord(part) => self.in_word(part, place, b),
-            Mode::AfterPart => self.after_part(place, b),
-            Mode::AfterCompound => self.after_compound(place, b),
-            Mode::BeforeName => self.before_name(place, b),
-            Mode::InName => self.in_name(place, b),
-            Mode::AfterName => self.after_name(place, b),
-            Mode::BeforeValue => self.before_value(place, b),
-            Mode::InValue => self.in_value(place, b),
-            Mode::InQuotes(mark) => self.in_quotes(mark, place, b),
-            Mode::AfterValue => self.after_value(place, b),
+        match self.position {
+            Position::BeforeCompound => self.before_compound(place, b),
+            Position::InWord(part) => self.in_word(part, place, b),
+            Position::AfterSimple => self.after_simple(place, b),
+            Position::AfterCompound => self.after_compound(place, b),
+            Position::BeforeName => self.before_name(place, b),
+            Position::InName => self.in_name(place, b),
+            Position::AfterName => self.after_name(place, b),
+            Position::BeforeValue => self.before_value(place, b),
+            Position::InValue => self.in_value(place, b),
+            Position::InQuotes(state) => self.in_quotes(state, place, b),
+            Position::AfterValue => self.after_value(place, b),
         }
     }
 
     /// What was read, if the text may end here.
     fn finish(self, place: usize) -> Result<Selectors, SelectorError>
-        ensures ok { IfOk result (λ s. spec.finished self.mode place (steps_of self.steps.items) ≡ Ok (steps_in s)) }
-        ensures err { IfErr result (IsFault (spec.finished self.mode place (steps_of self.steps.items))) }
+        ensures ok { IfOk result (λ s. spec.finished self.position place (steps_of self.steps.items)
+            ≡ Ok (steps_in s)) }
+        ensures err { IfErr result (IsFault (spec.finished self.position place (steps_of self.steps.items))) }
     {
-        match self.mode {
-            Mode::BeforeCompound => Ok(Selectors { steps: self.steps }),
+        match self.position {
+            Position::BeforeCompound => Ok(Selectors { steps: self.steps }),
             _ => Err(SelectorError::Unclosed { place }),
         }
     }
@@ -349,7 +350,7 @@ fn new_reader(alloc: Global) -> Reader
         relation: Relation::Start,
         name: Vec::new(alloc),
         word: Vec::new(alloc),
-        mode: Mode::BeforeCompound,
+        position: Position::BeforeCompound,
         alloc,
     }
 }

@@ -11,17 +11,17 @@ const PAGE: &str = "<ul><li>a<li>b</ul><p>x<b>y<p>z";
 #[test]
 fn reads_each_encoding(rt: HostRuntime) -> Result<(), Fail> {
     const ROWS: &[(&[u8], &str)] = &[
-        (b"<p>caf\xC3\xA9<p>\xE2\x82\xAC", "caf\u{E9}\n\n\u{20AC}\n"),
+        (b"<p>caf\xC3\xA9<p>\xE2\x82\xAC", "caf\u{e9}\n\n\u{20ac}\n"),
         (b"\xEF\xBB\xBF<p>a", "a\n"),
-        (b"\xFE\xFF\0<\0p\0>\0\xE9\x20\xAC", "\u{E9}\u{20AC}\n"),
-        (b"\xFF\xFE<\0p\0>\0\xE9\0\xAC\x20", "\u{E9}\u{20AC}\n"),
+        (b"\xFE\xFF\0<\0p\0>\0\xE9\x20\xAC", "\u{e9}\u{20ac}\n"),
+        (b"\xFF\xFE<\0p\0>\0\xE9\0\xAC\x20", "\u{e9}\u{20ac}\n"),
         (
             b"\xFF\xFEa\0\x3D\xD8\x00\xDE\x3D\xD8",
-            "a\u{1F600}\u{FFFD}\n",
+            "a\u{1f600}\u{fffd}\n",
         ),
-        (b"<p>caf\xE9<p>\x80", "caf\u{E9}\n\n\u{20AC}\n"),
-        (b"<p>\x93a\x94 \x81", "\u{201C}a\u{201D} \u{81}\n"),
-        (b"\xFF", "\u{FF}\n"),
+        (b"<p>caf\xE9<p>\x80", "caf\u{e9}\n\n\u{20ac}\n"),
+        (b"<p>\x93a\x94 \x81", "\u{201c}a\u{201d} \u{81}\n"),
+        (b"\xFF", "\u{ff}\n"),
     ];
     for &(page, markdown) in ROWS {
         expect_answer(rt.alloc(), &["--html5"], page, (0, markdown, ""), 0)?;
@@ -50,7 +50,7 @@ fn finds_the_encoding(rt: HostRuntime) -> Result<(), Fail> {
         (
             &["--encoding= KOI8-R", "--html5"],
             b"<p>\xD0\xB0",
-            (0, "\u{43F}\u{255F}\n", ""),
+            (0, "\u{43f}\u{255f}\n", ""),
         ),
         (
             &["--html5", "--encoding=koi8-r"],
@@ -82,7 +82,7 @@ fn reads_utf8_alone_otherwise(rt: HostRuntime) -> Result<(), Fail> {
 fn answers_rows(rt: HostRuntime) -> Result<(), Fail> {
     let rows = b"1\t<p>a<p>b\n2\t<p><div>\n\\N\n4\t\\377\\376\\x61\\0\n5\t\xE9\n6\t<b>c\\n<i>d\\0\n\
           7\t<meta charset=big5>\xE9\n";
-    let wanted = "1\ta\\n\\nb\n2\t\n\\N\n4\ta\n5\t\u{E9}\n6\t**c *d***\n7\t\\N\n";
+    let wanted = "1\ta\\n\\nb\n2\t\n\\N\n4\ta\n5\t\u{e9}\n6\t**c *d***\n7\t\\N\n";
     let big5 =
         "htmd: row 7: the page says big5, which is not supported: convert it to UTF-8 first, or give --encoding\n";
     for options in [["--html5", "--rows"], ["--rows", "--html5"]] {

@@ -19,8 +19,8 @@ mod explanations;
 #[cfg(test)]
 mod options;
 #[cfg(test)]
-mod runs;
-#[cfg(test)]
 mod statuses;
+#[cfg(test)]
+mod streams;
 #[cfg(test)]
 mod truncations;

@@ -56,7 +56,7 @@ fn expect_token(row: &str, token: &Token, want: Want) -> Result<(), Fail> {
 /// The first token of a text.
 fn expect_first(
     alloc: Global,
-    content: Content,
+    content: ContentModel,
     foreign: bool,
     text: &str,
     want: Want,
@@ -67,9 +67,9 @@ fn expect_first(
 
 /// The next token, at a second try if need be.
 fn next<'a>(tokenizer: &mut Tokenizer<'a>, alloc: Global) -> Result<Token<'a>, AllocError> {
-    match tokenizer.next(alloc, Content::Normal, false) {
+    match tokenizer.next(alloc, ContentModel::Normal, false) {
         Ok(token) => Ok(token),
-        Err(_) => tokenizer.next(alloc, Content::Normal, false),
+        Err(_) => tokenizer.next(alloc, ContentModel::Normal, false),
     }
 }
 
@@ -155,58 +155,68 @@ fn takes_what_is_wrong(rt: HostRuntime) -> Result<(), Fail> {
         ),
     ];
     for &(text, want) in ROWS {
-        expect_first(rt.alloc(), Content::Normal, false, text, want)?;
+        expect_first(rt.alloc(), ContentModel::Normal, false, text, want)?;
     }
     Ok(())
 }
 
 #[test]
 fn takes_raw_texts_and_sections(rt: HostRuntime) -> Result<(), Fail> {
-    const ROWS: &[(Content, bool, &str, Want)] = &[
+    const ROWS: &[(ContentModel, bool, &str, Want)] = &[
         (
-            Content::Raw(RawElement::Title),
+            ContentModel::Raw(RawElement::Title),
             false,
             "a&lt;\0</b></TITLE>",
             Want::Text("a<\u{fffd}</b>"),
         ),
         (
-            Content::Raw(RawElement::Style),
+            ContentModel::Raw(RawElement::Style),
             false,
             "a&lt;\0</styles></style",
             Want::Text("a&lt;\u{fffd}</styles></style"),
         ),
         (
-            Content::Raw(RawElement::Script),
+            ContentModel::Raw(RawElement::Script),
             false,
             "<!--<script></script></script>--></script>",
             Want::Text("<!--<script></script>"),
         ),
         (
-            Content::Raw(RawElement::Script),
+            ContentModel::Raw(RawElement::Script),
             false,
             "<!--<script>--></script>",
             Want::Text("<!--<script>-->"),
         ),
         (
-            Content::Raw(RawElement::Script),
+            ContentModel::Raw(RawElement::Script),
             false,
             "</script/>",
             Want::End("script"),
         ),
         (
-            Content::Raw(RawElement::Plaintext),
+            ContentModel::Raw(RawElement::Plaintext),
             false,
             "</plaintext>",
             Want::Text("</plaintext>"),
         ),
-        (Content::Raw(RawElement::Xmp), false, "", Want::EndOfFile),
         (
-            Content::Normal,
+            ContentModel::Raw(RawElement::Xmp),
+            false,
+            "",
+            Want::EndOfFile,
+        ),
+        (
+            ContentModel::Normal,
             true,
             "<![CDATA[]]><![CDATA[a]]&lt;\0]]>b",
             Want::Text("a]]&lt;\0"),
         ),
-        (Content::Normal, true, "<![CDATA[a]]", Want::Text("a]]")),
+        (
+            ContentModel::Normal,
+            true,
+            "<![CDATA[a]]",
+            Want::Text("a]]"),
+        ),
     ];
     for &(content, foreign, text, want) in ROWS {
         expect_first(rt.alloc(), content, foreign, text, want)?;
@@ -241,7 +251,7 @@ fn expect_many_attributes(alloc: Global, token: &Token) -> Result<(), Fail> {
 #[test]
 fn takes_a_thousand_attributes(rt: HostRuntime) -> Result<(), Fail> {
     let html = with_many_attributes(rt.alloc())?;
-    let token = Tokenizer::new(html.as_str()).next(rt.alloc(), Content::Normal, false)?;
+    let token = Tokenizer::new(html.as_str()).next(rt.alloc(), ContentModel::Normal, false)?;
     expect_many_attributes(rt.alloc(), &token)
 }
 
@@ -266,6 +276,6 @@ fn expect_many(token: &Token) -> Result<(), Fail> {
 #[test]
 fn takes_many_references(rt: HostRuntime) -> Result<(), Fail> {
     let text = many_references(rt.alloc())?;
-    let token = Tokenizer::new(text.as_str()).next(rt.alloc(), Content::Normal, false)?;
+    let token = Tokenizer::new(text.as_str()).next(rt.alloc(), ContentModel::Normal, false)?;
     expect_many(&token)
 }

@@ -15,7 +15,7 @@ use Rattle.htmd_commonmark_reading.specs.Boxes.{joined_lines}
 use Rattle.htmd_commonmark_reading.specs.Containers.{parsed}
 use Rattle.htmd_commonmark_reading.specs.LinkDefinitions.{Definition}
 use Rattle.htmd_commonmark_reading.specs.Reading.{document, finished}
-use Rattle.htmd_commonmark_reading.specs.Views.{seen_blocks, document_blocks}
+use Rattle.htmd_commonmark_reading.specs.SeenMarkup.{seen_blocks, document_blocks}
 use Rattle.htmd_commonmark_laws.specs.BlockLaws.{definition_lines}
 use Rattle.htmd_commonmark_laws.specs.DocumentTexts.{AreOneLine, DefinitionTexts}
 use Rattle.htmd_commonmark_laws.proofs.TextsLemmas.{IsClean, AreClean, IsFull}

@@ -2,7 +2,7 @@
 use Rattle.std.proofs.Common.{◌∙◌, ap, [], false}
 use Rattle.std.proofs.lemmas.List.{append-nil}
 use Rattle.htmd_commonmark.specs.DocumentMarkdown.{outermost}
-use Rattle.htmd_commonmark_reading.specs.Views.{seen_blocks, document_blocks}
+use Rattle.htmd_commonmark_reading.specs.SeenMarkup.{seen_blocks, document_blocks}
 use Rattle.htmd_commonmark_laws.specs.BlockLaws.{definition_lines}
 use Rattle.htmd_text_laws.proofs.NormalForm.{document_parts}
 use Rattle.htmd_text_laws.proofs.DocumentLaws.{lists_read_back}

@@ -34,7 +34,7 @@ use Rattle.htmd_commonmark.specs.InlineMarkdown.{written_line}
 use Rattle.htmd_commonmark_reading.specs.Brackets.{inlines}
 use Rattle.htmd_commonmark_reading.specs.Lists.{item_text, cell_inlines, row_inlines}
 use Rattle.htmd_commonmark_reading.specs.Markup as markup
-use Rattle.htmd_commonmark_reading.specs.Views.{
+use Rattle.htmd_commonmark_reading.specs.SeenMarkup.{
   seen_block,
   seen_blocks,
   seen_items,

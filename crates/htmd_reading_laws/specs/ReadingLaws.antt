@@ -10,8 +10,8 @@ use Rattle.htmd_document.specs.TreeDocuments.{document_of_tree}
 use Rattle.htmd_document_form.specs.NormalDocuments.{IsNormal}
 use Rattle.htmd_document_laws.specs.DocumentTexts.{text_of_blocks, visible}
 use Rattle.htmd_document_laws.specs.TreeTexts.{text_of_tree}
-use Rattle.htmd_document_laws.specs.DocumentMarks.{marks_of_blocks}
-use Rattle.htmd_document_laws.specs.TreeMarks.{marks_of_tree}
+use Rattle.htmd_document_laws.specs.DocumentWrappers.{wrappers_of_blocks}
+use Rattle.htmd_document_laws.specs.TreeWrappers.{wrappers_of_tree}
 use Rattle.htmd_document_laws.specs.TreeForms.{is_clean_tree}
 use Rattle.htmd_commonmark.specs.declared.options.DocumentOptions.{DocumentOptions}
 use Rattle.htmd_commonmark.specs.DocumentMarkdown.{markdown_of}
@@ -54,7 +54,7 @@ abbrev pub Shows : Sight → NumberedTree → Option Blocks → Type 0
 Shows sight tree None = ⊥
 Shows sight tree (Some d) =
     (visible (text_of_blocks d) ≡ visible (text_of_tree sight tree))
-    × (marks_of_blocks d ≡ marks_of_tree (shown sight tree) bare false)
+    × (wrappers_of_blocks d ≡ wrappers_of_tree (shown sight tree) bare false)
 
 -- That is what a reader sees of the file that is written of a page. The trees are those of the source, in which no two
 -- nodes have one number.

@@ -25,6 +25,7 @@ cut_before_ascii p s h =
     )
 
 -- after a run of such a class
-pub cut_at : (p : ℕ → Bool) (s : List ℕ) → IsUtf8 s → IsUniform p → IsCharBoundary s (length (leading_run p s))
+pub cut_at : (p : ℕ → Bool) (s : List ℕ) → IsUtf8 s → IsUniform p
+    → IsCharBoundary s (length (leading_run p s))
 cut_at p s u (inl h) = cut_before_ascii p s h
 cut_at p s u (inr h) = behind_last p s (length (leading_run p s)) u h refl

@@ -6,7 +6,7 @@ use Rattle.std.specs.Prelude.{◌&&◌, ◌==◌, if◌then◌else◌, codes, no
 use Rattle.std.specs.Fmt.{digits, digits_onto, digit_glyph, decimal}
 use Rattle.std.specs.List.{prefix_len, position_or_len, range_with_len}
 use Rattle.htmd_grammar.specs.Characters.{ampersand, backslash, grave_accent, space}
-use Rattle.htmd_text.specs.EscapeMarks.{with_backslashes}
+use Rattle.htmd_text.specs.EscapedPlaces.{with_backslashes}
 use Rattle.htmd_markdown.specs.CodeSpans.{space_if, delimited_text, meets_delimiter, smallest_unused_len}
 use Rattle.htmd_markdown.specs.Runs.{longest_run, has_run}
 use Rattle.htmd_markdown.specs.LineBreaks as breaks

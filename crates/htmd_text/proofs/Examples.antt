@@ -4,7 +4,7 @@ use lib.Utf8.{encode}
 use Rattle.std.specs.Str.{chars}
 use Rattle.unicode.proofs.CategoryComputing.{ucd_category}
 use Rattle.htmd_text.specs.ListMarkers.{is_atx_heading}
-use Rattle.htmd_text.specs.EscapeMarks.{escaped_markdown, escaped_angle_brackets, escaped_pre_text}
+use Rattle.htmd_text.specs.EscapedPlaces.{escaped_markdown, escaped_angle_brackets, escaped_pre_text}
 use Rattle.htmd_text.specs.SqueezedTexts.{squeezed_text}
 use Rattle.htmd_text.specs.Blocks.{is_block}
 use Rattle.htmd_grammar.specs.BlankLines.{with_blank_lines}

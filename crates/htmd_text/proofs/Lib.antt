@@ -3,8 +3,8 @@ pub mod Examples
 pub mod BeginningsLemmas
 pub mod ListMarkersLemmas
 pub mod BlocksLemmas
-pub mod EscapeMarksLemmas
-pub mod MarksLemmas
+pub mod EscapedPlacesLemmas
+pub mod EscapeKindsLemmas
 pub mod UnescapeLemmas
 pub mod PlainTextLemmas
 pub mod TrimsLemmas

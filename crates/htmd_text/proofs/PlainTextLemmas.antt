@@ -12,10 +12,10 @@ use Rattle.std.proofs.lemmas.Bool.Decides.{Decides-eqb, nat_tests}
 use Rattle.std.proofs.lemmas.Slice.Eq.{starts_is}
 use Rattle.htmd_grammar.specs.Characters.{backslash, less_than_sign, question_mark, slash, exclamation_mark, space}
 use Rattle.htmd_grammar.specs.Characters.{full_stop, number_sign, is_one_of}
-use Rattle.htmd_text.specs.EscapeMarks.{with_backslashes, is_always_marked, is_html_mark, opens_html, begins_block}
-use Rattle.htmd_text.specs.EscapeMarks.{numbered_item_dot, is_place, is_marked, escaped_markdown}
+use Rattle.htmd_text.specs.EscapedPlaces.{with_backslashes, is_always_escaped, is_html_opener, opens_html, begins_block}
+use Rattle.htmd_text.specs.EscapedPlaces.{numbered_item_dot, is_place, is_escaped, escaped_markdown}
 use Rattle.htmd_text.specs.PlainText.{each_bare, begins_no_inline, begins_no_html, follows_no_html, begins_item}
-use Rattle.htmd_text.proofs.MarksLemmas.{marked_is_punctuation, unmarked_is_no_backslash, dot_at, place_if}
+use Rattle.htmd_text.proofs.EscapeKindsLemmas.{marked_is_punctuation, unmarked_is_no_backslash, dot_at, place_if}
 use Rattle.std.specs.Str.{chars}
 use Rattle.std.proofs.lemmas.List.{get_or-drop, get_or_past, length-drop}
 use Rattle.std.proofs.lemmas.List.Sums.{prefix_len_passes, prefix_len_is, take_while-cons}
@@ -51,30 +51,31 @@ tail_part (x ∷ w) (suc k) b s e = tail_part w k b s e
 
 -- if what stands bare passes, each of them does
 pub each_bare-escaped : (passes : List ℕ → Bool) (w : List ℕ) (k : ℕ) (s : List ℕ) → s ≡ drop k w
-    → ((i b : ℕ) (t : List ℕ) → b ∷ t ≡ drop i w → is_marked w i ≡ false
-    → passes (b ∷ with_backslashes (is_marked w) (suc i) t) ≡ true)
-    → each_bare passes (with_backslashes (is_marked w) k s) ≡ true
+    → ((i b : ℕ) (t : List ℕ) → b ∷ t ≡ drop i w → is_escaped w i ≡ false
+    → passes (b ∷ with_backslashes (is_escaped w) (suc i) t) ≡ true)
+    → each_bare passes (with_backslashes (is_escaped w) k s) ≡ true
 each_bare-escaped passes w k [] part bare = refl
 each_bare-escaped passes w k (b ∷ s) part bare =
     let parts = tail_part w k b s part in
-    one_more passes (is_marked w k) b (with_backslashes (is_marked w) (suc k) s)
+    one_more passes (is_escaped w k) b (with_backslashes (is_escaped w) (suc k) s)
     (λ m. ap is_ascii_punctuation parts.1 ∙ marked_is_punctuation w k m)
     (λ m. ap (λ x. x == backslash) parts.1 ∙ unmarked_is_no_backslash w k m)
     (λ m. bare k b s part m)
     (each_bare-escaped passes w (suc k) s parts.0 bare)
 
-unmarked_parts : (w : List ℕ) (i : ℕ) → is_marked w i ≡ false → (is_always_marked (slice_index w i) ≡ false)
-    × (is_html_mark w i ≡ false)
+unmarked_parts : (w : List ℕ) (i : ℕ) → is_escaped w i ≡ false
+    → (is_always_escaped (slice_index w i) ≡ false)
+    × (is_html_opener w i ≡ false)
 unmarked_parts w i e =
-    let special = is_always_marked (slice_index w i) in
-    let html = is_html_mark w i in
+    let special = is_always_escaped (slice_index w i) in
+    let html = is_html_opener w i in
     let begins = (i == 0) && begins_block w in
     or_parts special html (or_parts (special || html) begins
     (or_parts (special || html || begins) (is_place (numbered_item_dot w) i) e).0).0
 
 pub no_inline : (w : List ℕ) → each_bare begins_no_inline (escaped_markdown w) ≡ true
 no_inline w = each_bare-escaped begins_no_inline w 0 w refl
-    (λ i b t part m. not_from_false (is_always_marked b) (ap is_always_marked (tail_part w i b t part).1
+    (λ i b t part m. not_from_false (is_always_escaped b) (ap is_always_escaped (tail_part w i b t part).1
     ∙ (unmarked_parts w i m).0))
 
 -- ---- what follows a bare `<`
@@ -96,18 +97,18 @@ cdata_marked : (marked : ℕ → Bool) (k : ℕ) (r : List ℕ) → marked k ≡
     → starts_with nat_eq (with_backslashes marked k (codes "[CDATA[" ++ r)) (codes "\\[CDATA\\[") ≡ true
 cdata_marked marked k r m0 m1 m2 m3 m4 m5 m6 = rw (m0, m1, m2, m3, m4, m5, m6) refl
 
-bracket_marked : (w : List ℕ) (k : ℕ) → get_or w k 0 ≡ 0x5B → is_marked w k ≡ true
+bracket_marked : (w : List ℕ) (k : ℕ) → get_or w k 0 ≡ 0x5B → is_escaped w k ≡ true
 bracket_marked w k here = rw here refl
 
 pub letter_unmarked : (w : List ℕ) (k c : ℕ) → c ≡ get_or w k 0 → is_ascii_punctuation c ≡ false
-    → is_marked w k ≡ false
+    → is_escaped w k ≡ false
 letter_unmarked w k c here other =
     ⊎_elim (λ m. absurd (false≢true (sym other ∙ ap is_ascii_punctuation here ∙ marked_is_punctuation w k m)))
     (λ m. m)
-    (cases_Bool (is_marked w k))
+    (cases_Bool (is_escaped w k))
 
 cdata_escaped : (w : List ℕ) (k : ℕ) (r : List ℕ) → codes "[CDATA[" ++ r ≡ drop k w
-    → starts_with nat_eq (with_backslashes (is_marked w) k (codes "[CDATA[" ++ r)) (codes "\\[CDATA\\[") ≡ true
+    → starts_with nat_eq (with_backslashes (is_escaped w) k (codes "[CDATA[" ++ r)) (codes "\\[CDATA\\[") ≡ true
 cdata_escaped w k r part =
     let p0 = tail_part w k _ _ part in
     let p1 = tail_part w (suc k) _ _ p0.0 in
@@ -116,24 +117,24 @@ cdata_escaped w k r part =
     let p4 = tail_part w (suc (suc (suc (suc k)))) _ _ p3.0 in
     let p5 = tail_part w (suc (suc (suc (suc (suc k))))) _ _ p4.0 in
     let p6 = tail_part w (suc (suc (suc (suc (suc (suc k)))))) _ _ p5.0 in
-    cdata_marked (is_marked w) k r (bracket_marked w k (sym p0.1)) (letter_unmarked w _ _ p1.1 refl)
+    cdata_marked (is_escaped w) k r (bracket_marked w k (sym p0.1)) (letter_unmarked w _ _ p1.1 refl)
     (letter_unmarked w _ _ p2.1 refl) (letter_unmarked w _ _ p3.1 refl) (letter_unmarked w _ _ p4.1 refl)
     (letter_unmarked w _ _ p5.1 refl) (bracket_marked w _ (sym p6.1))
 
 cdata_stays : (w : List ℕ) (k : ℕ) (t : List ℕ) → t ≡ drop k w
     → starts_with nat_eq t (codes "[CDATA[") ≡ true
-    → starts_with nat_eq (with_backslashes (is_marked w) k t) (codes "\\[CDATA\\[") ≡ true
+    → starts_with nat_eq (with_backslashes (is_escaped w) k t) (codes "\\[CDATA\\[") ≡ true
 cdata_stays w k t part begins =
     let whole = (starts_is Decides-eqb t (codes "[CDATA[") true (sym begins)).0 refl in
     rw whole (cdata_escaped w k (drop (length (codes "[CDATA[")) t) (sym whole ∙ part))
 
 no_html_first : (w : List ℕ) (k c : ℕ) (t : List ℕ) (m : Bool) → t ≡ drop (suc k) w
     → opens_html (c ∷ t) ≡ false
-    → follows_no_html (cond m (backslash ∷ c ∷ with_backslashes (is_marked w) (suc k) t)
-    (c ∷ with_backslashes (is_marked w) (suc k) t)) ≡ true
+    → follows_no_html (cond m (backslash ∷ c ∷ with_backslashes (is_escaped w) (suc k) t)
+    (c ∷ with_backslashes (is_escaped w) (suc k) t)) ≡ true
 no_html_first w k c t true part closed = refl
 no_html_first w k c t false part closed =
-    let out = with_backslashes (is_marked w) (suc k) t in
+    let out = with_backslashes (is_escaped w) (suc k) t in
     let letter = is_ascii_alphabetic c in
     let instruction = c == question_mark in
     let end_tag = (c == slash) && is_ascii_alphabetic (slice_index t 0) in
@@ -141,7 +142,7 @@ no_html_first w k c t false part closed =
     let three = or_parts (letter || instruction || end_tag) declaration closed in
     let two = or_parts (letter || instruction) end_tag three.0 in
     let no_end_tag : ((c == slash) && is_ascii_alphabetic (slice_index out 0)) ≡ false =
-    ⊎_elim (and_left (c == slash) _) (λ e. and_right (c == slash) _ (no_letter (is_marked w) (suc k) t e))
+    ⊎_elim (and_left (c == slash) _) (λ e. and_right (c == slash) _ (no_letter (is_escaped w) (suc k) t e))
     (and_cases (c == slash) (is_ascii_alphabetic (slice_index t 0)) two.1) in
     let no_declaration : ((c == exclamation_mark) && not (starts_with nat_eq out (codes "\\[CDATA\\["))) ≡ false =
     ⊎_elim (and_left (c == exclamation_mark) _)
@@ -150,12 +151,12 @@ no_html_first w k c t false part closed =
     not_from_false _ (or_from _ _ (or_from _ _ two.0 no_end_tag) no_declaration)
 
 follows : (w : List ℕ) (k : ℕ) (t : List ℕ) → t ≡ drop k w → opens_html t ≡ false
-    → follows_no_html (with_backslashes (is_marked w) k t) ≡ true
+    → follows_no_html (with_backslashes (is_escaped w) k t) ≡ true
 follows w k [] part closed = refl
-follows w k (c ∷ t) part closed = no_html_first w k c t (is_marked w k) (tail_part w k c t part).0 closed
+follows w k (c ∷ t) part closed = no_html_first w k c t (is_escaped w k) (tail_part w k c t part).0 closed
 
-bare_less : (w : List ℕ) (i b : ℕ) (t : List ℕ) → b ∷ t ≡ drop i w → is_marked w i ≡ false
-    → begins_no_html (b ∷ with_backslashes (is_marked w) (suc i) t) ≡ true
+bare_less : (w : List ℕ) (i b : ℕ) (t : List ℕ) → b ∷ t ≡ drop i w → is_escaped w i ≡ false
+    → begins_no_html (b ∷ with_backslashes (is_escaped w) (suc i) t) ≡ true
 bare_less w i b t part m =
     let parts = tail_part w i b t part in
     let behind : t ≡ drop (i + 1) w = rw add-one parts.0 in
@@ -167,7 +168,7 @@ bare_less w i b t part m =
 pub no_html : (w : List ℕ) → each_bare begins_no_html (escaped_markdown w) ≡ true
 no_html w = each_bare-escaped begins_no_html w 0 w refl (bare_less w)
 
--- ---- where nothing below n is marked, the byte at n stays or a backslash stands there
+-- ---- where nothing below n is escaped, the byte at n stays or a backslash stands there
 
 first_or_backslash : (m : Bool) (b : ℕ) (t : List ℕ)
     → (get_or (cond m (backslash ∷ b ∷ t) (b ∷ t)) 0 0 ≡ b)
@@ -185,7 +186,7 @@ stays_or_backslash marked k (b ∷ s) (suc n) plain =
     let here : marked k ≡ false = ap marked (omega arith) ∙ plain 0 (omega arith) in
     rw here (stays_or_backslash marked (suc k) s n (λ i lt. ap marked (omega arith) ∙ plain (suc i) (omega arith)))
 
--- ---- a run whose characters are never marked stays
+-- ---- a run whose characters are never escaped stays
 
 front_head : (p : ℕ → Bool) (m : Bool) (b : ℕ) (t s : List ℕ) → p backslash ≡ false
     → (p b ≡ true → m ≡ false)
@@ -213,19 +214,19 @@ not_spaced marked k s other =
     ⊎_elim (λ e. ap (λ x. x == space) e ∙ other) (λ e. rw e refl)
     (stays_or_backslash marked k s 0 (λ i lt. absurd (omega arith)))
 
-at_start : (w : List ℕ) → is_marked w 0 ≡ false → begins_block w ≡ false
+at_start : (w : List ℕ) → is_escaped w 0 ≡ false → begins_block w ≡ false
 at_start w e =
-    let special = is_always_marked (slice_index w 0) in
-    let html = is_html_mark w 0 in
+    let special = is_always_escaped (slice_index w 0) in
+    let html = is_html_opener w 0 in
     (or_parts (special || html) (begins_block w)
     (or_parts (special || html || begins_block w) (is_place (numbered_item_dot w) 0) e).0).1
 
 sign_unmarked : (w : List ℕ) (i : ℕ) → 0 < i → (get_or w i 0 == number_sign) ≡ true
-    → is_marked w i ≡ false
+    → is_escaped w i ≡ false
 sign_unmarked w i later sign =
     let here : get_or w i 0 ≡ number_sign = grind (arith, nat_tests) in
-    let special : is_always_marked (slice_index w i) ≡ false = rw here refl in
-    let html : is_html_mark w i ≡ false = rw here refl in
+    let special : is_always_escaped (slice_index w i) ≡ false = rw here refl in
+    let html : is_html_opener w i ≡ false = rw here refl in
     let begins : ((i == 0) && begins_block w) ≡ false =
     and_left (i == 0) (begins_block w) (grind (arith, nat_tests)) in
     let dot : is_place (numbered_item_dot w) i ≡ false =
@@ -234,19 +235,19 @@ sign_unmarked w i later sign =
     omega arith) in
     or_from _ _ (or_from _ _ (or_from _ _ special html) begins) dot
 
-sign_at : (w : List ℕ) → is_marked w 0 ≡ false → (i : ℕ) → (get_or w i 0 == number_sign) ≡ true
-    → is_marked w i ≡ false
+sign_at : (w : List ℕ) → is_escaped w 0 ≡ false → (i : ℕ) → (get_or w i 0 == number_sign) ≡ true
+    → is_escaped w i ≡ false
 sign_at w start zero sign = start
 sign_at w start (suc i) sign = sign_unmarked w (suc i) (omega arith) sign
 
-no_heading : (w : List ℕ) → is_marked w 0 ≡ false → is_atx_heading w ≡ false
+no_heading : (w : List ℕ) → is_escaped w 0 ≡ false → is_atx_heading w ≡ false
     → is_atx_heading (escaped_markdown w) ≡ false
 no_heading w start closed =
     let p : ℕ → Bool = λ b. b == number_sign in
-    let from_start : (i : ℕ) → is_marked w (0 + i) ≡ is_marked w i = λ i. ap (is_marked w) (omega arith) in
+    let from_start : (i : ℕ) → is_escaped w (0 + i) ≡ is_escaped w i = λ i. ap (is_escaped w) (omega arith) in
     let len : number_signs (escaped_markdown w) ≡ number_signs w =
-    front_len p (is_marked w) 0 w refl (λ i lt e. from_start i ∙ sign_at w start i e) in
-    let next = stays_or_backslash (is_marked w) 0 w (number_signs w) (λ i lt. from_start i
+    front_len p (is_escaped w) 0 w refl (λ i lt e. from_start i ∙ sign_at w start i e) in
+    let next = stays_or_backslash (is_escaped w) 0 w (number_signs w) (λ i lt. from_start i
     ∙ sign_at w start i (prefix_len_passes p w i 0 lt)) in
     let at_next : (x : ℕ) → (x ≡ get_or w (number_signs w) 0) ⊎ (x ≡ backslash)
     → (nat_lt 0 (number_signs w) && (x == space)) ≡ false =
@@ -262,32 +263,32 @@ no_heading_of (b ∷ s) plain =
     (is_atx_heading (b ∷ s)) plain).1
 
 no_block_first : (w : List ℕ) (b : ℕ) (s : List ℕ)
-    → is_atx_heading (b ∷ with_backslashes (is_marked w) 1 s) ≡ false
-    → begins_block (b ∷ s) ≡ false → begins_block (b ∷ with_backslashes (is_marked w) 1 s) ≡ false
+    → is_atx_heading (b ∷ with_backslashes (is_escaped w) 1 s) ≡ false
+    → begins_block (b ∷ s) ≡ false → begins_block (b ∷ with_backslashes (is_escaped w) 1 s) ≡ false
 no_block_first w b s closed plain =
     let always = is_one_of (codes "=~>") b in
     let bullet = is_one_of (codes "-+") b in
     let parts = or_parts always (bullet && (slice_index s 0 == space))
     (or_parts (always || (bullet && (slice_index s 0 == space))) (is_atx_heading (b ∷ s)) plain).0 in
-    let no_bullet : (bullet && (slice_index (with_backslashes (is_marked w) 1 s) 0 == space)) ≡ false =
-    ⊎_elim (and_left bullet _) (λ e. and_right bullet _ (not_spaced (is_marked w) 1 s e))
+    let no_bullet : (bullet && (slice_index (with_backslashes (is_escaped w) 1 s) 0 == space)) ≡ false =
+    ⊎_elim (and_left bullet _) (λ e. and_right bullet _ (not_spaced (is_escaped w) 1 s e))
     (and_cases bullet (slice_index s 0 == space) parts.1) in
     or_from _ _ (or_from _ _ parts.0 no_bullet) closed
 
-no_block_of : (w t : List ℕ) → w ≡ t → begins_block (with_backslashes (is_marked w) 0 t) ≡ false
+no_block_of : (w t : List ℕ) → w ≡ t → begins_block (with_backslashes (is_escaped w) 0 t) ≡ false
 no_block_of w [] whole = refl
 no_block_of w (b ∷ s) whole =
     ⊎_elim
     (λ here. rw here refl)
     (λ start.
     let plain = at_start w start in
-    let same : escaped_markdown w ≡ b ∷ with_backslashes (is_marked w) 1 s =
-    ap (with_backslashes (is_marked w) 0) whole
+    let same : escaped_markdown w ≡ b ∷ with_backslashes (is_escaped w) 1 s =
+    ap (with_backslashes (is_escaped w) 0) whole
     ∙ rw start refl in
     let heading : is_atx_heading w ≡ false = no_heading_of w plain in
     let closed = ap is_atx_heading (sym same) ∙ no_heading w start heading in
     rw start (no_block_first w b s closed (ap begins_block (sym whole) ∙ plain)))
-    (cases_Bool (is_marked w 0))
+    (cases_Bool (is_escaped w 0))
 
 pub no_block : (w : List ℕ) → begins_block (escaped_markdown w) ≡ false
 no_block w = no_block_of w w refl
@@ -350,7 +351,7 @@ marked_shows marked k (b ∷ s) (suc n) lt plain here =
     rw first (marked_shows marked (suc k) s n (omega arith) (λ i le. ap marked (omega arith)
     ∙ plain (suc i) (omega arith)) (ap marked (omega arith) ∙ here))
 
-digit_unmarked : (w : List ℕ) (i : ℕ) → is_ascii_digit (get_or w i 0) ≡ true → is_marked w i ≡ false
+digit_unmarked : (w : List ℕ) (i : ℕ) → is_ascii_digit (get_or w i 0) ≡ true → is_escaped w i ≡ false
 digit_unmarked w i digit = letter_unmarked w i (get_or w i 0) refl (grind (arith, nat_tests))
 
 one_dot : (w : List ℕ) (d : ℕ) → d < length w → get_or w d 0 ≡ full_stop → get_or w (d + 1) 0 ≡ space
@@ -362,10 +363,10 @@ one_dot w d within here next =
     (λ k lt. ap p (at k ∙ ap (λ n. get_or w n 0) (omega arith) ∙ here))
     (λ _. ap p (at 1 ∙ next))
 
--- digits, a dot and a space: the dot is marked
+-- digits, a dot and a space: the dot is escaped
 item_marked : (w : List ℕ) (d : ℕ) → d ≡ prefix_len is_ascii_digit w → 0 < d → d < length w
     → get_or w d 0 ≡ full_stop
-    → get_or w (d + 1) 0 ≡ space → is_marked w d ≡ true
+    → get_or w (d + 1) 0 ≡ space → is_escaped w d ≡ true
 item_marked w d e some within here next =
     let run : numerals_len w ≡ d = numerals_run w (ap (λ n. get_or w n 0) (sym e) ∙ here) ∙ sym e in
     let dots : dots_len w ≡ 1 = ap (λ n. prefix_len (λ b. b == full_stop) (drop n w)) run
@@ -385,8 +386,8 @@ item_marked w d e some within here next =
 pub no_item : (w : List ℕ) → begins_item (escaped_markdown w) ≡ false
 no_item w = false_from_ne_true (begins_item (escaped_markdown w)) (λ e.
     let d = prefix_len is_ascii_digit w in
-    let from_start : (i : ℕ) → is_marked w (0 + i) ≡ is_marked w i = λ i. ap (is_marked w) (omega arith) in
-    let len : prefix_len is_ascii_digit (escaped_markdown w) ≡ d = front_len is_ascii_digit (is_marked w) 0 w refl
+    let from_start : (i : ℕ) → is_escaped w (0 + i) ≡ is_escaped w i = λ i. ap (is_escaped w) (omega arith) in
+    let len : prefix_len is_ascii_digit (escaped_markdown w) ≡ d = front_len is_ascii_digit (is_escaped w) 0 w refl
     (λ i lt digit. from_start i ∙ digit_unmarked w i digit) in
     let test = subst (λ (n : ℕ). (nat_lt 0 n && (slice_index (escaped_markdown w) n == full_stop)
     && (slice_index (escaped_markdown w) (n + 1) == space)) ≡ true) len e in
@@ -395,14 +396,15 @@ no_item w = false_from_ne_true (begins_item (escaped_markdown w)) (λ e.
     let some : 0 < d = grind (arith, nat_tests, one.0) in
     let dot : get_or (escaped_markdown w) d 0 ≡ full_stop = grind (arith, nat_tests, one.1) in
     let gap : get_or (escaped_markdown w) (d + 1) 0 ≡ space = grind (arith, nat_tests, two.1) in
-    let digits : (i : ℕ) → i < d → is_marked w (0 + i) ≡ false = λ i lt. from_start i
+    let digits : (i : ℕ) → i < d → is_escaped w (0 + i) ≡ false = λ i lt. from_start i
     ∙ digit_unmarked w i (prefix_len_passes is_ascii_digit w i 0 lt) in
     let here : get_or w d 0 ≡ full_stop = ⊎_elim (λ same. sym same ∙ dot) (λ mark. absurd (omega arith))
-    (stays_or_backslash (is_marked w) 0 w d digits) in
+    (stays_or_backslash (is_escaped w) 0 w d digits) in
     let within : d < length w = ⊎_elim (λ lt. lt) (λ past. absurd (omega (arith, get_or_past w d 0 past)))
     (cases_lt d (length w)) in
-    let plain : is_marked w (0 + d) ≡ false =
-    false_from_ne_true _ (λ m. absurd (omega (arith, marked_shows (is_marked w) 0 w d within digits m))) in
+    let plain : is_escaped w (0 + d) ≡ false =
+    false_from_ne_true _ (λ m. absurd (omega (arith, marked_shows (is_escaped w) 0 w d within digits m))) in
     let next : get_or w (d + 1) 0 ≡ space = ⊎_elim (λ same. sym same ∙ gap) (λ mark. absurd (omega arith))
-    (stays_or_backslash (is_marked w) 0 w (d + 1) (below_more (λ i. is_marked w (0 + i) ≡ false) d digits plain)) in
+    (stays_or_backslash (is_escaped w) 0 w (d + 1) (below_more (λ i. is_escaped w (0 + i) ≡ false) d digits plain))
+    in
     absurd (cc (item_marked w d refl some within here next, from_start d)))

@@ -4,9 +4,9 @@ use Rattle.std.proofs.Common.{◌∙◌, arith}
 use Rattle.std.specs.Prelude.{◌==◌}
 use Rattle.std.specs.Char.{is_ascii_punctuation}
 use Rattle.htmd_grammar.specs.Characters.{backslash}
-use Rattle.htmd_text.specs.EscapeMarks.{with_backslashes, is_marked, escaped_markdown}
+use Rattle.htmd_text.specs.EscapedPlaces.{with_backslashes, is_escaped, escaped_markdown}
 use Rattle.htmd_text.specs.Unescape.{unescape}
-use Rattle.htmd_text.proofs.MarksLemmas.{marked_is_punctuation, unmarked_is_no_backslash}
+use Rattle.htmd_text.proofs.EscapeKindsLemmas.{marked_is_punctuation, unmarked_is_no_backslash}
 
 pub unescape_other : (b : ℕ) (t : List ℕ) → (b == backslash) ≡ false → unescape (b ∷ t) ≡ b ∷ unescape t
 unescape_other b [] other = refl
@@ -22,7 +22,7 @@ one_more : (m : Bool) (b : ℕ) (s t : List ℕ) → (m ≡ true → is_ascii_pu
 one_more true b s t marked plain rest = unescape_escaped b t (marked refl) ∙ ap (λ l. b ∷ l) rest
 one_more false b s t marked plain rest = unescape_other b t (plain refl) ∙ ap (λ l. b ∷ l) rest
 
--- where marks stand before punctuation, and before each backslash, the text reads back
+-- where backslashes stand before punctuation, and before each backslash, the text reads back
 pub reads_back : (marked : ℕ → Bool) (k : ℕ) (s : List ℕ)
     → ((i : ℕ) → marked (k + i) ≡ true → is_ascii_punctuation (get_or s i 0) ≡ true)
     → ((i : ℕ) → i < length s → marked (k + i) ≡ false → (get_or s i 0 == backslash) ≡ false)
@@ -38,6 +38,6 @@ reads_back marked k (b ∷ s) punctuation plain =
 
 pub unescape-escaped : (s : List ℕ) → unescape (escaped_markdown s) ≡ s
 unescape-escaped s =
-    let from_start : (i : ℕ) → is_marked s i ≡ is_marked s (0 + i) = λ i. ap (is_marked s) (omega arith) in
-    reads_back (is_marked s) 0 s (λ i m. marked_is_punctuation s i (from_start i ∙ m))
+    let from_start : (i : ℕ) → is_escaped s i ≡ is_escaped s (0 + i) = λ i. ap (is_escaped s) (omega arith) in
+    reads_back (is_escaped s) 0 s (λ i m. marked_is_punctuation s i (from_start i ∙ m))
     (λ i _ m. unmarked_is_no_backslash s i (from_start i ∙ m))

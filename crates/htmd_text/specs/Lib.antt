@@ -9,8 +9,8 @@ pub mod Indents
 pub mod Blocks
 pub mod Digits
 pub mod ListMarkers
-pub mod EscapeMarks
+pub mod EscapedPlaces
 pub mod Unescape
 pub mod PlainText
-pub mod Marks
+pub mod EscapeKinds
 pub mod Replacement

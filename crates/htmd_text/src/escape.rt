@@ -2,10 +2,10 @@
 ghost use Rattle.std.specs.Prelude.{◌≡◌, ◌<◌, IfOk, IsOkAnd, IsTrue, false, length};
 ghost use Rattle.std.specs.List.{list_any};
 ghost use Rattle.std.specs.Cow.{cow_str_bytes, IsBorrowedStr};
-ghost use Rattle.htmd_text.specs.EscapeMarks as spec;
+ghost use Rattle.htmd_text.specs.EscapedPlaces as spec;
 ghost use Rattle.htmd_text.specs.Unescape.{unescape};
 ghost use Rattle.htmd_text.specs.PlainText.{each_bare, begins_no_inline, begins_no_html, begins_item};
-ghost use Rattle.htmd_text.specs.Marks.{is_marked_by, is_plain, is_special, AreAscii};
+ghost use Rattle.htmd_text.specs.EscapeKinds.{is_escaped_by, needs_no_escape, is_special, AreAscii};
 
 use crate::list_markers::{index_of_markdown_ordered_item_dot, is_markdown_atx_heading};
 use std::alloc::{AllocError, Global};
@@ -13,7 +13,7 @@ use std::borrow::CowStr;
 
 /// Which places of a text get a backslash.
 #[derive(Clone, Copy)]
-pub(crate) enum Marks {
+pub(crate) enum EscapeKind {
     /// each `<` that opens HTML; brackets may have been escaped before
     Html,
     /// each place that `escape_if_needed` names
@@ -23,10 +23,11 @@ pub(crate) enum Marks {
     },
 }
 
-/// The text with a backslash before each marked place: `\`, `*`, `_`, backquote, `[` and `]`; a `<` that opens HTML; at
+/// The text with a backslash before each escaped place: `\`, `*`, `_`, backquote, `[` and `]`; a `<` that opens HTML;
+/// at
 /// the front `=`, `~`, `>`, `-` or `+` before a space, the first `#` of an ATX heading; and the dot of an ordered list
 /// item whose number begins with an ASCII digit (CommonMark 0.31.2, 2.4). So `---`, `1) a`, `#` alone and `-` alone
-/// stay as they are. A text without marked places is borrowed; `Err` means out of memory for one with marks.
+/// stay as they are. A text without escaped places is borrowed; `Err` means out of memory for one with escaped places.
 pub fn escape_if_needed(alloc: Global, text: &str) -> Result<CowStr<'_>, AllocError>
     ensures text { IfOk result (λ c. cow_str_bytes c ≡ spec.escaped_markdown text.now) }
     ensures reads_back { IfOk result (λ c. unescape (cow_str_bytes c) ≡ text.now) }
@@ -36,22 +37,22 @@ pub fn escape_if_needed(alloc: Global, text: &str) -> Result<CowStr<'_>, AllocEr
     ensures item { IfOk result (λ c. begins_item (cow_str_bytes c) ≡ false) }
     ensures borrowed { spec.escaped_markdown text.now ≡ text.now → IsOkAnd result (λ c. IsBorrowedStr c) }
 {
-    let marks = Marks::Markdown {
+    let kind = EscapeKind::Markdown {
         begins_block: begins_block(text),
         item_dot: numbered_item_dot(text),
     };
-    with_backslashes(alloc, text, marks)
+    with_backslashes(alloc, text, kind)
 }
 
 /// The text with a backslash before each `<` that opens HTML: before an ASCII letter, `?`, `/` and a letter, or `!`
 /// that does not begin a CDATA section, escaped or not (CommonMark 0.31.2, 4.6 and 6.6). A text without such a `<` is
-/// borrowed; `Err` means out of memory for one with marks.
+/// borrowed; `Err` means out of memory for one with escaped places.
 pub fn escape_html(alloc: Global, text: &str) -> Result<CowStr<'_>, AllocError>
     ensures text { IfOk result (λ c. cow_str_bytes c ≡ spec.escaped_angle_brackets text.now) }
     ensures borrowed { spec.escaped_angle_brackets text.now ≡ text.now
         → IsOkAnd result (λ c. IsBorrowedStr c) }
 {
-    with_backslashes(alloc, text, Marks::Html)
+    with_backslashes(alloc, text, EscapeKind::Html)
 }
 
 /// The text of a `pre`, with a backslash in front if it begins with a backquote or a tilde, so that no fence opens
@@ -70,22 +71,22 @@ pub fn escape_pre_text_if_needed(alloc: Global, text: &str) -> Result<CowStr<'_>
     Ok(CowStr::Owned(escaped))
 }
 
-/// The text with a backslash before each marked place.
-fn with_backslashes(alloc: Global, text: &str, marks: Marks) -> Result<CowStr<'_>, AllocError>
-    requires { AreAscii marks text.now }
+/// The text with a backslash before each escaped place.
+fn with_backslashes(alloc: Global, text: &str, kind: EscapeKind) -> Result<CowStr<'_>, AllocError>
+    requires { AreAscii kind text.now }
     ensures text { IfOk result
-        (λ c. cow_str_bytes c ≡ spec.with_backslashes (is_marked_by marks text.now) 0 text.now) }
-    ensures borrowed { spec.with_backslashes (is_marked_by marks text.now) 0 text.now ≡ text.now
+        (λ c. cow_str_bytes c ≡ spec.with_backslashes (is_escaped_by kind text.now) 0 text.now) }
+    ensures borrowed { spec.with_backslashes (is_escaped_by kind text.now) 0 text.now ≡ text.now
         → IsOkAnd result (λ c. IsBorrowedStr c) }
 {
     let bytes = text.as_bytes();
-    if is_plain(bytes, marks) {
+    if needs_no_escape(bytes, kind) {
         return Ok(CowStr::Borrowed(text));
     }
     let mut escaped = String::new(alloc);
     let mut from = 0;
     for i in 0..bytes.len() {
-        if is_marked(bytes, i, marks) {
+        if is_escaped(bytes, i, kind) {
             if escaped.is_empty() {
                 escaped.reserve(bytes.len() + bytes.len() / 8 + 8)?;
             }
@@ -102,12 +103,12 @@ fn with_backslashes(alloc: Global, text: &str, marks: Marks) -> Result<CowStr<'_
 }
 
 /// Whether no place gets a backslash, as far as its characters alone tell.
-fn is_plain(bytes: &[u8], marks: Marks) -> bool
-    ensures { result ≡ is_plain marks bytes.now }
+fn needs_no_escape(bytes: &[u8], kind: EscapeKind) -> bool
+    ensures { result ≡ needs_no_escape kind bytes.now }
 {
-    match marks {
-        Marks::Html => !has_special(bytes),
-        Marks::Markdown {
+    match kind {
+        EscapeKind::Html => !has_special(bytes),
+        EscapeKind::Markdown {
             begins_block,
             item_dot,
         } => !begins_block && item_dot.is_none() && !has_special(bytes),
@@ -134,26 +135,28 @@ fn is_special(byte: u8) -> bool
 }
 
 /// Whether the character gets a backslash wherever it is.
-fn is_always_marked(byte: u8) -> bool
-    ensures { result ≡ spec.is_always_marked byte }
+fn is_always_escaped(byte: u8) -> bool
+    ensures { result ≡ spec.is_always_escaped byte }
 {
     matches!(byte, b'\\' | b'*' | b'_' | b'`' | b'[' | b']')
 }
 
 /// Whether the place gets a backslash.
-fn is_marked(bytes: &[u8], place: usize, marks: Marks) -> bool
+fn is_escaped(bytes: &[u8], place: usize, kind: EscapeKind) -> bool
     requires { place < length bytes.now }
-    ensures { result ≡ is_marked_by marks bytes.now place }
+    ensures { result ≡ is_escaped_by kind bytes.now place }
 {
     let byte = bytes[place];
     let behind = &bytes[place + 1..];
-    match marks {
-        Marks::Html => byte == b'<' && opens_html(behind) && !behind.starts_with(b"!\\[CDATA\\["),
-        Marks::Markdown {
+    match kind {
+        EscapeKind::Html => byte == b'<'
+            && opens_html(behind)
+            && !behind.starts_with(b"!\\[CDATA\\["),
+        EscapeKind::Markdown {
             begins_block,
             item_dot,
         } => {
-            is_always_marked(byte)
+            is_always_escaped(byte)
                 || byte == b'<' && opens_html(behind)
                 || place == 0 && begins_block
                 || item_dot == Some(place)

@@ -5,7 +5,7 @@ ghost use Rattle.std.specs.Iterator.{IsFinite};
 ghost use Rattle.std.specs.Iterator.Runs.{WholeRun};
 ghost use Rattle.htmd_text.specs.Joins as spec;
 
-use crate::runs::{leading_len, trailing_len};
+use crate::repeats::{leading_len, trailing_len};
 use std::alloc::{AllocError, Global};
 use std::convert::AsStr;
 

@@ -10,8 +10,8 @@ mod indent;
 mod join;
 mod list_markers;
 mod numbers;
+pub mod repeats;
 mod repetition;
-pub mod runs;
 mod trim;
 mod white_space;
 

@@ -3,7 +3,7 @@ ghost use Rattle.std.specs.Prelude.{◌≡◌, ◌==◌, ◌&&◌, ◌≤◌, �
 ghost use Rattle.htmd_grammar.specs.Characters.{space};
 ghost use Rattle.htmd_text.specs.ListMarkers as spec;
 
-use crate::runs::leading_len;
+use crate::repeats::leading_len;
 use unicode::properties::GeneralCategory;
 
 /// Whether the text begins with one or more `#` and then a space, as an ATX heading does (CommonMark 0.31.2, 4.2).

@@ -7,7 +7,7 @@ ghost use Rattle.htmd_text.specs.Trims.{trimmed_text, trimmed_start, trimmed_end
 ghost use Rattle.htmd_text.specs.Trims.{white_space_at_start, white_space_at_end, is_line_feed, is_space};
 ghost use Rattle.htmd_grammar.specs.WhiteSpace as white;
 
-use crate::runs::{leading_len, trailing_len};
+use crate::repeats::{leading_len, trailing_len};
 use std::convert::AsStr;
 
 /// A text without document white space (tab, line feed, carriage return, space) at its ends.

@@ -17,7 +17,7 @@ use Rattle.htmd_commonmark.specs.InlineEnds.{follows}
 use Rattle.htmd_commonmark.specs.InlineMarkdown.{with_inline, written_line, written_task}
 use Rattle.htmd_commonmark.specs.WrittenText.{Written, wrote, begins_line, in_line}
 use Rattle.htmd_commonmark_reading.specs.LinkDefinitions.{definition}
-use Rattle.htmd_commonmark_laws.specs.LineTexts.{is_plain, lines_of, AreTextLines, IsFirstLine, IsLineText, IsHeadingText, IsUnderlinedText, IsCellText}
+use Rattle.htmd_commonmark_laws.specs.LineTexts.{is_line_character, lines_of, AreTextLines, IsFirstLine, IsLineText, IsHeadingText, IsUnderlinedText, IsCellText}
 use Rattle.htmd_commonmark_laws.specs.DocumentParts.{paragraph_text, heading_text}
 use Rattle.htmd_commonmark_laws.specs.DocumentTexts.{IsHeading}
 use Rattle.htmd_document_form.specs.NormalDocuments.{is_level, is_normal_paragraph, is_normal_heading}
@@ -131,8 +131,8 @@ undefined_line options w x rest l =
 text_lines : (s : List ℕ) → AllBegun s → IsFirstLine (first_line s) → AreTextLines (lines_of s)
 text_lines s a f = let i = lines_are s a in subst AreTextLines (sym i.1.0) (f, i.1.1)
 
-allowed_plain : (s : List ℕ) → list_all (is_allowed true) s ≡ true → list_all is_plain s ≡ true
-allowed_plain s h = all_by (is_allowed true) is_plain (λ c a. (and_parts (is_plain c) _ a).0) s h
+allowed_plain : (s : List ℕ) → list_all (is_allowed true) s ≡ true → list_all is_line_character s ≡ true
+allowed_plain s h = all_by (is_allowed true) is_line_character (λ c a. (and_parts (is_line_character c) _ a).0) s h
 
 normal_text : (options : DocumentOptions) (definitions : List (List ℕ)) (x : Inline) (rest : Inlines)
     → is_normal_line (inline x rest) ≡ true

@@ -7,7 +7,7 @@ use Rattle.std.specs.Char.{is_ascii_punctuation}
 use Rattle.std.proofs.lemmas.Bool.{and_parts, or_parts, eqb-true, not-true}
 use Rattle.htmd_grammar.specs.Characters.{grave_accent, is_one_of}
 use Rattle.htmd_grammar.specs.CharacterClasses.{first_is}
-use Rattle.htmd_text.specs.EscapeMarks.{with_backslashes}
+use Rattle.htmd_text.specs.EscapedPlaces.{with_backslashes}
 use Rattle.htmd_document.specs.Documents.{Format, Inline, text, code, formatted, link, image, line_break, task}
 use Rattle.htmd_document.specs.Documents.{Inlines, no_inlines, inline}
 use Rattle.htmd_markdown.specs.declared.line_break.BrStyle.{BrStyle}

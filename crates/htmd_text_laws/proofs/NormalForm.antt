@@ -38,7 +38,7 @@ use Rattle.htmd_document_form.specs.NormalDocuments.{
 use Rattle.htmd_commonmark.specs.BlockMarkdown.{item_count}
 use Rattle.htmd_commonmark_reading.specs.Boxes.{is_end_of_word, nonempty}
 use Rattle.htmd_commonmark_reading.specs.Characters.{is_space_or_tab, escaped, unescaped, resolved, itself, Piece}
-use Rattle.htmd_commonmark_laws.specs.LineTexts.{is_plain}
+use Rattle.htmd_commonmark_laws.specs.LineTexts.{is_line_character}
 use Rattle.htmd_commonmark_laws.specs.NormalBlocks.{
   IsLanguage,
   HasLanguage,
@@ -158,7 +158,7 @@ language_read s h =
     let q = and_parts (not (is_empty s)) (list_all is_language_byte s) h in
     let black = all_by is_language_byte (λ b. not (is_space_or_tab b)) black_byte s q.1 in
     record {
-      plain = all_by is_language_byte is_plain plain_byte s q.1;
+      plain = all_by is_language_byte is_line_character plain_byte s q.1;
       one_line = clean_line s (all_by is_language_byte (is_allowed false) line_byte s q.1);
       bare = ap (λ t. reverse (behind_run is_space_or_tab (reverse t))) (no_run is_space_or_tab s black)
           ∙ ap reverse (no_run is_space_or_tab (reverse s) (all_reverse (λ b. not (is_space_or_tab b)) s black))
@@ -173,7 +173,7 @@ language_read s h =
     black_byte : (b : ℕ) → is_language_byte b ≡ true → not (is_space_or_tab b) ≡ true
     black_byte b h = grind (arith, nat_tests)
 
-    plain_byte : (b : ℕ) → is_language_byte b ≡ true → is_plain b ≡ true
+    plain_byte : (b : ℕ) → is_language_byte b ≡ true → is_line_character b ≡ true
     plain_byte b h = grind (arith, nat_tests)
 
     line_byte : (b : ℕ) → is_language_byte b ≡ true → is_allowed false b ≡ true

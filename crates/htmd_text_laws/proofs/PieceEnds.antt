@@ -8,7 +8,7 @@ use Rattle.std.proofs.lemmas.List.{append-nil}
 use mathlib.Core.List.{reverse-cons}
 use Rattle.htmd_grammar.specs.Characters.{grave_accent, is_one_of}
 use Rattle.htmd_grammar.specs.CharacterClasses.{first_is}
-use Rattle.htmd_text.specs.EscapeMarks.{with_backslashes}
+use Rattle.htmd_text.specs.EscapedPlaces.{with_backslashes}
 use Rattle.htmd_document.specs.Documents.{Format, Inline, text, code, formatted, link, image, line_break, task}
 use Rattle.htmd_document.specs.Documents.{Inlines, no_inlines, inline}
 use Rattle.htmd_markdown.specs.CodeSpans.{meets_delimiter, smallest_unused_len, space_if}
@@ -96,18 +96,18 @@ first_of_turned : (d c : ℕ) (r : List ℕ) → first_is 32 ((r ++ (d ∷ [])) 
 first_of_turned d c [] = refl
 first_of_turned d c (x ∷ r) = refl
 
-plain_ink : (c : ℕ) → normal.is_plain c ≡ true → (c == 32) ≡ false → is_white c ≡ false
-plain_ink c p h = rw (h, differs normal.is_plain c 9 p refl, differs normal.is_plain c 10 p refl) refl
+plain_ink : (c : ℕ) → normal.is_line_byte c ≡ true → (c == 32) ≡ false → is_white c ≡ false
+plain_ink c p h = rw (h, differs normal.is_line_byte c 9 p refl, differs normal.is_line_byte c 10 p refl) refl
 
-words_ink : (c : ℕ) (s : List ℕ) → list_all normal.is_plain (c ∷ s) ≡ true
+words_ink : (c : ℕ) (s : List ℕ) → list_all normal.is_line_byte (c ∷ s) ≡ true
     → first_is 32 (reverse (c ∷ s)) ≡ false
     → EndsInk (c ∷ s)
-words_ink c [] p h = plain_ink c (and_parts (normal.is_plain c) true p).0 h
+words_ink c [] p h = plain_ink c (and_parts (normal.is_line_byte c) true p).0 h
 words_ink c (d ∷ s) p h =
     let e : first_is 32 (reverse (c ∷ d ∷ s)) ≡ first_is 32 (reverse (d ∷ s)) =
     ap (first_is 32) (reverse-cons c (d ∷ s) ∙ ap (λ l. l ++ (c ∷ [])) (reverse-cons d s))
     ∙ first_of_turned d c (reverse s) ∙ ap (first_is 32) (sym (reverse-cons d s)) in
-    words_ink d s (and_parts (normal.is_plain c) (list_all normal.is_plain (d ∷ s)) p).1 (sym e ∙ h)
+    words_ink d s (and_parts (normal.is_line_byte c) (list_all normal.is_line_byte (d ∷ s)) p).1 (sym e ∙ h)
 
 pub text_ink : (s : List ℕ) → is_text s ≡ true → ends_in_space s ≡ false → EndsInk s
 text_ink [] h e = absurd (no_text h)

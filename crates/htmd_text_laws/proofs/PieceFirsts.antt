@@ -8,7 +8,7 @@ use Rattle.std.proofs.lemmas.Bool.{and_parts, eqb-true, not-true}
 use Rattle.std.proofs.lemmas.Str.{chars-nil, IsUtf8-append}
 use Rattle.htmd_grammar.specs.Characters.{is_one_of}
 use Rattle.htmd_grammar.specs.CharacterClasses.{is_empty}
-use Rattle.htmd_text.specs.EscapeMarks.{with_backslashes}
+use Rattle.htmd_text.specs.EscapedPlaces.{with_backslashes}
 use Rattle.htmd_document.specs.Documents.{Format, emphasis, strong, superscript, subscript, deleted, Inline, text, code, formatted, link, image, line_break, task}
 use Rattle.htmd_document.specs.Documents.{Inlines, no_inlines, inline}
 use Rattle.htmd_markdown.specs.declared.line_break.BrStyle.{BrStyle}
@@ -274,7 +274,7 @@ next_is line p w closing around s k (inline x rest) m h n =
 -- ---- content of a row of signs
 
 -- a character that is no mark and no white space
-solid_text : (place : Place) (b : ℕ) (t u : List ℕ) → is_of_word place.before ≡ false → normal.is_plain b
+solid_text : (place : Place) (b : ℕ) (t u : List ℕ) → is_of_word place.before ≡ false → normal.is_line_byte b
     ≡ true
     → (b == 32) ≡ false → mark_at place [] b t ≡ false → solid (b ∷ u) ≡ true
 solid_text place b t u k p n h =
@@ -290,8 +290,8 @@ solid_text place b t u k p n h =
       not_it 95 (rw none refl),
       not_it 126 refl,
       n,
-      differs normal.is_plain b 9 p refl,
-      differs normal.is_plain b 10 p refl,
+      differs normal.is_line_byte b 9 p refl,
+      differs normal.is_line_byte b 10 p refl,
     ) refl
 
 abbrev IsSolid : List ℕ → Type 0
@@ -349,7 +349,7 @@ mutual
   solid_piece line p w f around (text (c ∷ t)) k u b n s h =
       text_first line p w.text f c t k IsSolid (λ u. refl)
       (λ m u. solid_text (place_of line w.text f.after) c t u b
-      (and_parts (normal.is_plain c) (list_all normal.is_plain t) (text_plain (c ∷ t) h)).0 s m)
+      (and_parts (normal.is_line_byte c) (list_all normal.is_line_byte t) (text_plain (c ∷ t) h)).0 s m)
   solid_piece line p w f around (code t) k u b n s h =
       code_first line t k IsSolid (and_parts (is_text t) _ h).0 (λ u. refl) (λ u. refl)
   solid_piece line p w f around (formatted g content) k u b n s h =

@@ -7,7 +7,7 @@ use Rattle.std.specs.Char.{is_ascii_digit}
 use Rattle.std.specs.Fmt.{decimal, digits, digits_onto, digit_glyph}
 use Rattle.std.proofs.lemmas.Bool.{and_parts, and_from}
 use Rattle.std.proofs.lemmas.Bool.Decides.{nat_tests}
-use Rattle.htmd_text.specs.EscapeMarks.{with_backslashes}
+use Rattle.htmd_text.specs.EscapedPlaces.{with_backslashes}
 use Rattle.htmd_document.specs.Documents.{Format, Inline, text, code, formatted, link, image, line_break, task}
 use Rattle.htmd_document.specs.Documents.{Inlines, no_inlines, inline}
 use Rattle.htmd_markdown.specs.declared.link.LinkStyle.{LinkStyle}
@@ -60,11 +60,16 @@ all_by p q h (c ∷ s) a =
 
 -- no carriage return and no U+0000, and no line feed unless breaks are there
 abbrev pub is_allowed : Bool → ℕ → Bool
-is_allowed b c = texts.is_plain c && (not (c == 10) || b)
+is_allowed b c = texts.is_line_character c && (not (c == 10) || b)
 
-pub plain_allowed : (b : Bool) (c : ℕ) → normal.is_plain c ≡ true → is_allowed b c ≡ true
+pub plain_allowed : (b : Bool) (c : ℕ) → normal.is_line_byte c ≡ true → is_allowed b c ≡ true
 plain_allowed b c h =
-    rw (differs normal.is_plain c 13 h refl, differs normal.is_plain c 0 h refl, differs normal.is_plain c 10 h refl)
+    rw (
+      differs normal.is_line_byte c 13 h refl,
+      differs normal.is_line_byte c 0 h refl,
+      differs normal.is_line_byte c
+          10 h refl,
+    )
     refl
 
 pub kept_allowed : (b : Bool) (c : ℕ) → is_kept c ≡ true → is_allowed b c ≡ true
@@ -106,14 +111,14 @@ escaped_all p marked k (c ∷ s) b h =
     test (marked k)
     (λ e. rw e (and_from (p 92) (list_all p (c ∷ with_backslashes marked (suc k) s)) b i)) (λ e. rw e i)
 
-text_all : (b : Bool) (place : Place) (s : List ℕ) → list_all normal.is_plain s ≡ true
+text_all : (b : Bool) (place : Place) (s : List ℕ) → list_all normal.is_line_byte s ≡ true
     → list_all (is_allowed b) (escaped place s) ≡ true
 text_all b place s h =
     escaped_all (is_allowed b) (is_marked place s) 0 s refl
-    (all_by normal.is_plain (is_allowed b) (plain_allowed b) s h)
+    (all_by normal.is_line_byte (is_allowed b) (plain_allowed b) s h)
 
 piece_all : (b : Bool) (line : Line) (so_far : List ℕ) (f : Following) (s : List ℕ)
-    → list_all normal.is_plain s ≡ true → list_all (is_allowed b) (text_piece line so_far f s) ≡ true
+    → list_all normal.is_line_byte s ≡ true → list_all (is_allowed b) (text_piece line so_far f s) ≡ true
 piece_all b line so_far f s h =
     let t = escaped (place_of line so_far f.after) s in
     let a = text_all b (place_of line so_far f.after) s h in
@@ -126,7 +131,8 @@ pad_all : (b x : Bool) → list_all (is_allowed b) (space_if x) ≡ true
 pad_all b true = refl
 pad_all b false = refl
 
-span_all : (b : Bool) (s : List ℕ) → list_all normal.is_plain s ≡ true → list_all (is_allowed b) (code_span s)
+span_all : (b : Bool) (s : List ℕ) → list_all normal.is_line_byte s ≡ true
+    → list_all (is_allowed b) (code_span s)
     ≡ true
 span_all b s h =
     let p = is_allowed b in
@@ -137,9 +143,9 @@ span_all b s h =
     let xs = pad_all b (meets_delimiter s) in
     all_append p (((g ++ x) ++ s) ++ x) g
     (all_append p ((g ++ x) ++ s) x
-    (all_append p (g ++ x) s (all_append p g x gs xs) (all_by normal.is_plain p (plain_allowed b) s h)) xs) gs
+    (all_append p (g ++ x) s (all_append p g x gs xs) (all_by normal.is_line_byte p (plain_allowed b) s h)) xs) gs
 
-code_all : (b : Bool) (line : Line) (s : List ℕ) → list_all normal.is_plain s ≡ true
+code_all : (b : Bool) (line : Line) (s : List ℕ) → list_all normal.is_line_byte s ≡ true
     → list_all (is_allowed b) (written_code line s) ≡ true
 code_all b line s h =
     let e = escaped (place_in_tags line) s in
@@ -262,7 +268,7 @@ closer_all b del_tag = refl
 closer_all b sup_tag = refl
 closer_all b sub_tag = refl
 
-pub text_plain : (s : List ℕ) → is_text s ≡ true → list_all normal.is_plain s ≡ true
+pub text_plain : (s : List ℕ) → is_text s ≡ true → list_all normal.is_line_byte s ≡ true
 text_plain s h = (and_parts _ _ (and_parts _ _ (and_parts _ _ h).0).0).1
 
 mutual

@@ -8,7 +8,7 @@ use Rattle.std.proofs.lemmas.Bool.{and_parts, or_parts, eqb-true, not-false}
 use Rattle.std.proofs.lemmas.Str.{chars-nil}
 use Rattle.htmd_grammar.specs.Characters.{is_one_of}
 use Rattle.htmd_grammar.specs.CharacterClasses.{first_is}
-use Rattle.htmd_text.specs.EscapeMarks.{with_backslashes, is_place}
+use Rattle.htmd_text.specs.EscapedPlaces.{with_backslashes, is_place}
 use Rattle.htmd_commonmark.specs.declared.text_escape.Place.{Place}
 use Rattle.htmd_commonmark.specs.LineMarks.{line_mark, begins_block}
 use Rattle.htmd_commonmark.specs.TextEscapes.{may_be_escaped, may_be_in_tag, is_inline_mark, is_marked, is_of_word, character_before, escaped}
@@ -33,12 +33,13 @@ pub item_none : (a : After) (k c : ℕ) (s : List ℕ) (x : Start) → is_empty_
     → item_start a c None 1 (after_marker 1 (line k (c ∷ s))) x ≡ no_start
 item_none a k c s x h = rw h refl
 
-plus_line : (place : Place) (t m : List ℕ) → IsNext place.after m → list_all normal.is_plain (43 ∷ t) ≡ true
+plus_line : (place : Place) (t m : List ℕ) → IsNext place.after m → list_all normal.is_line_byte (43 ∷ t)
+    ≡ true
     → begins_block 43 t place.after ≡ false → (marked : ℕ → Bool)
     → Both (43 ∷ (with_backslashes marked 1 t ++ m))
 plus_line place t m n p b marked =
     let u = with_backslashes marked 1 t ++ m in
-    let q = (and_parts (normal.is_plain 43) (list_all normal.is_plain t) p).1 in
+    let q = (and_parts (normal.is_line_byte 43) (list_all normal.is_line_byte t) p).1 in
     let e = marker_goes_on place.after marked 1 t m n q (begins_none 43 t place.after b).no_bullet in
     let lead : IsLead 43 =
     record { black = refl; no_hyphen = refl; no_colon = refl; no_bar = refl; no_equals = refl } in
@@ -48,11 +49,11 @@ plus_line place t m n p b marked =
 
 foreign_text : (place : Place) (whole m : List ℕ) → IsNext place.after m → (pre t : List ℕ) (k : ℕ)
     → whole ≡ pre ++ t → length pre ≡ k → list_all (is_one_of (codes "-:| ")) t ≡ false
-    → list_all normal.is_plain t ≡ true → HasForeign (with_backslashes (is_marked place whole) k t ++ m)
+    → list_all normal.is_line_byte t ≡ true → HasForeign (with_backslashes (is_marked place whole) k t ++ m)
 foreign_text place whole m n pre [] k e l h p = absurd (cc)
 foreign_text place whole m n pre (c ∷ t) k e l h p =
     let marked = is_marked place whole in
-    let q = and_parts (normal.is_plain c) (list_all normal.is_plain t) p in
+    let q = and_parts (normal.is_line_byte c) (list_all normal.is_line_byte t) p in
     let u = with_backslashes marked (suc k) t ++ m in
     let slash : (s : List ℕ) → first_is 124 s ≡ false → IsForeign 92 s =
     λ s x. record { black = refl; no_hyphen = refl; no_colon = refl; no_bar = refl; no_escape = x } in
@@ -76,7 +77,7 @@ foreign_text place whole m n pre (c ∷ t) k e l h p =
       after = u;
       is = refl;
       foreign = record {
-        black = rw (not_it 32 refl, differs normal.is_plain c 9 q.0 refl) refl;
+        black = rw (not_it 32 refl, differs normal.is_line_byte c 9 q.0 refl) refl;
         no_hyphen = not_it 45 refl;
         no_colon = not_it 58 refl;
         no_bar = not_it 124 refl;
@@ -85,7 +86,7 @@ foreign_text place whole m n pre (c ∷ t) k e l h p =
     })))
   where
     -- after a backslash that has none before it no bar stands
-    no_bar_next : (t : List ℕ) (k : ℕ) → list_all normal.is_plain t ≡ true
+    no_bar_next : (t : List ℕ) (k : ℕ) → list_all normal.is_line_byte t ≡ true
         → may_be_escaped (option_or (slice_get t 0) place.after) ≡ false
         → first_is 124 (with_backslashes (is_marked place whole) (suc k) t ++ m) ≡ false
     no_bar_next [] k p f = let x = next_escapes place.after m n in let y : true ≡ false = sym x ∙ f in absurd (cc)
@@ -112,13 +113,14 @@ hyphen_underline : (s : List ℕ) → HasForeign s → underline (45 ∷ s) ≡ 
 hyphen_underline s h =
     let e : list_all (is_same 45) s ≡ false = foreign_all (is_same 45) s h h.foreign.no_hyphen in rw e refl
 
-hyphen_line : (place : Place) (t m : List ℕ) → IsNext place.after m → list_all normal.is_plain (45 ∷ t) ≡ true
+hyphen_line : (place : Place) (t m : List ℕ) → IsNext place.after m → list_all normal.is_line_byte (45 ∷ t)
+    ≡ true
     → begins_block 45 t place.after ≡ false
     → Both (45 ∷ (with_backslashes (is_marked place (45 ∷ t)) 1 t ++ m))
 hyphen_line place t m n p b =
     let marked = is_marked place (45 ∷ t) in
     let u = with_backslashes marked 1 t ++ m in
-    let q = (and_parts (normal.is_plain 45) (list_all normal.is_plain t) p).1 in
+    let q = (and_parts (normal.is_line_byte 45) (list_all normal.is_line_byte t) p).1 in
     let z = begins_none 45 t place.after b in
     let e = marker_goes_on place.after marked 1 t m n q z.no_bullet in
     let h = foreign_text place (45 ∷ t) m n (45 ∷ []) t 1 refl refl z.no_dashes q in
@@ -253,7 +255,7 @@ angle_line place t m n h marked =
 pub record IsTextLine (place : Place) (b : ℕ) (t m : List ℕ) : Type 0 where
   pub begins : place.begins_line ≡ true
   pub before : place.before ≡ None
-  pub plain : list_all normal.is_plain (b ∷ t) ≡ true
+  pub plain : list_all normal.is_line_byte (b ∷ t) ≡ true
   pub no_space : (b == 32) ≡ false
   pub next : IsNext place.after m
 
@@ -296,7 +298,7 @@ text_line place b t m h =
     let none = begins_none b t place.after q in
     test (b == 35)
     (λ e. subst (λ c. Both (with_backslashes (is_marked place (c ∷ t)) 0 (c ∷ t) ++ m)) (sym (eqb-true b 35 e))
-    (sign_line place t m h.next (ap (λ c. list_all normal.is_plain (c ∷ t)) (sym (eqb-true b 35 e)) ∙ h.plain)
+    (sign_line place t m h.next (ap (λ c. list_all normal.is_line_byte (c ∷ t)) (sym (eqb-true b 35 e)) ∙ h.plain)
     (ap (λ c. begins_block c t place.after) (sym (eqb-true b 35 e)) ∙ q)))
     (λ n35. test (is_ascii_digit b)
     (λ d. digit_line place b t m d h.next h.plain q h.begins)
@@ -304,12 +306,12 @@ text_line place b t m h =
     (test (b == 43)
     (λ e. let is = eqb-true b 43 e in
     subst (λ c. Both (c ∷ u)) (sym is)
-    (plus_line place t m h.next (ap (λ c. list_all normal.is_plain (c ∷ t)) (sym is) ∙ h.plain)
+    (plus_line place t m h.next (ap (λ c. list_all normal.is_line_byte (c ∷ t)) (sym is) ∙ h.plain)
     (ap (λ c. begins_block c t place.after) (sym is) ∙ q) marked))
     (λ n43. test (b == 45)
     (λ e. let is = eqb-true b 45 e in
     subst (λ c. Both (c ∷ (with_backslashes (is_marked place (c ∷ t)) 1 t ++ m))) (sym is)
-    (hyphen_line place t m h.next (ap (λ c. list_all normal.is_plain (c ∷ t)) (sym is) ∙ h.plain)
+    (hyphen_line place t m h.next (ap (λ c. list_all normal.is_line_byte (c ∷ t)) (sym is) ∙ h.plain)
     (ap (λ c. begins_block c t place.after) (sym is) ∙ q)))
     (λ n45. test (b == 58)
     (λ e. let is = eqb-true b 58 e in
@@ -333,7 +335,7 @@ text_line place b t m h =
     ∙ none.no_sign in absurd (cc))
     (λ z. z) in
     let black : is_space_or_tab b ≡ false =
-    rw (h.no_space, differs normal.is_plain b 9 (and_parts (normal.is_plain b) _ h.plain).0 refl) refl in
+    rw (h.no_space, differs normal.is_line_byte b 9 (and_parts (normal.is_line_byte b) _ h.plain).0 refl) refl in
     plain_line b u
     (record {
       black = black;

@@ -6,7 +6,7 @@ use Rattle.std.specs.Char.{is_ascii_digit}
 use Rattle.std.proofs.lemmas.Bool.{and_parts, and_cases, and_right, le-leb, or_parts, or_right, eq-eqb}
 use Rattle.htmd_grammar.specs.Characters.{is_one_of}
 use Rattle.htmd_grammar.specs.CharacterClasses.{first_is, behind_run}
-use Rattle.htmd_text.specs.EscapeMarks.{with_backslashes, is_place}
+use Rattle.htmd_text.specs.EscapedPlaces.{with_backslashes, is_place}
 use Rattle.htmd_commonmark.specs.declared.text_escape.Place.{Place}
 use Rattle.htmd_commonmark.specs.LineMarks.{line_mark, number_mark, begins_block, ends_marker, is_bullet, is_dashes, is_heading_marker}
 use Rattle.htmd_commonmark.specs.TextEscapes.{is_inline_mark, is_marked}
@@ -49,14 +49,14 @@ begins_none b s after h =
 -- ---- number signs
 
 heading_none : (after : Option ℕ) (marked : ℕ → Bool) (t m : List ℕ) → IsNext after m
-    → list_all normal.is_plain (35 ∷ t) ≡ true → is_heading_marker (35 ∷ t) after ≡ false
+    → list_all normal.is_line_byte (35 ∷ t) ≡ true → is_heading_marker (35 ∷ t) after ≡ false
     → (r : Run starts.is_number_sign marked (35 ∷ t) (35 ∷ t) m 0)
     → heading_start (with_backslashes marked 0 (35 ∷ t) ++ m) ≡ no_start
 heading_none after marked t m n p h r =
     let s = with_backslashes marked 0 (35 ∷ t) ++ m in
     let k = prefix_len starts.is_number_sign (35 ∷ t) in
     let v = drop k (35 ∷ t) in
-    let plain : list_all normal.is_plain v ≡ true = all_drop normal.is_plain k (35 ∷ t) p in
+    let plain : list_all normal.is_line_byte v ≡ true = all_drop normal.is_line_byte k (35 ∷ t) p in
     let some : nat_le 1 k ≡ true = le-leb 1 k (omega arith) in
     let end : (nat_le k 6 && ends_marker v after) ≡ false = rw some at h in
     ap (λ j. heading_with j (behind_run starts.is_number_sign s)) r.run_len ∙ ap (heading_with k) r.rest
@@ -70,7 +70,7 @@ heading_none after marked t m n p h r =
     ]
 
 pub sign_line : (place : Place) (t m : List ℕ) → IsNext place.after m
-    → list_all normal.is_plain (35 ∷ t) ≡ true → begins_block 35 t place.after ≡ false
+    → list_all normal.is_line_byte (35 ∷ t) ≡ true → begins_block 35 t place.after ≡ false
     → Both (with_backslashes (is_marked place (35 ∷ t)) 0 (35 ∷ t) ++ m)
 sign_line place t m n p b =
     let marked = is_marked place (35 ∷ t) in
@@ -151,10 +151,10 @@ and_all false y z h = refl
 
 -- where the backslash isn't, the digits and what follows them are no marker
 number_ends : (place : Place) (b : ℕ) (t m front v : List ℕ) → is_ascii_digit b ≡ true → IsNext place.after m
-    → list_all normal.is_plain (b ∷ t) ≡ true → begins_block b t place.after ≡ false → place.begins_line
+    → list_all normal.is_line_byte (b ∷ t) ≡ true → begins_block b t place.after ≡ false → place.begins_line
     ≡ true
     → b ∷ t ≡ front ++ v → length front ≡ prefix_len is_ascii_digit (b ∷ t)
-    → list_all normal.is_plain v ≡ true
+    → list_all normal.is_line_byte v ≡ true
     → (nat_le (prefix_len is_ascii_digit (b ∷ t)) 9
     && is_one_of (codes ".)") (first_or (with_backslashes (is_marked place (b ∷ t)) (length front) v ++ m))
     && is_empty_or_blank (drop 1 (with_backslashes (is_marked place (b ∷ t)) (length front) v ++ m)))
@@ -179,7 +179,7 @@ number_ends place b t m front (c ∷ v) d n p q bl e l pv =
     (λ x. and_all x0 (is_one_of (codes ".)") (first_or line)) (is_empty_or_blank (drop 1 line))
     (λ y z. let w : is_one_of (codes ".)") c ≡ true = rw x at z in
     rw x (marker_goes_on place.after marked (suc k) v m n
-    (and_parts (normal.is_plain c) (list_all normal.is_plain v) pv).1
+    (and_parts (normal.is_line_byte c) (list_all normal.is_line_byte v) pv).1
     (test (ends_marker v place.after)
     (λ f. let some : nat_le 1 (prefix_len is_ascii_digit (b ∷ t)) ≡ true =
     rw d (le-leb 1 (1 + prefix_len is_ascii_digit t) (omega arith)) in
@@ -201,7 +201,7 @@ number_ends place b t m front (c ∷ v) d n p q bl e l pv =
     (λ f. f)))))
 
 pub digit_line : (place : Place) (b : ℕ) (t m : List ℕ) → is_ascii_digit b ≡ true → IsNext place.after m
-    → list_all normal.is_plain (b ∷ t) ≡ true → begins_block b t place.after ≡ false → place.begins_line
+    → list_all normal.is_line_byte (b ∷ t) ≡ true → begins_block b t place.after ≡ false → place.begins_line
     ≡ true
     → Both (with_backslashes (is_marked place (b ∷ t)) 0 (b ∷ t) ++ m)
 digit_line place b t m d n p q bl =
@@ -217,7 +217,8 @@ digit_line place b t m d n p q bl =
     let x = with_backslashes marked (length r.front) v ++ m in
     let run : length (digits (b ∷ u)) ≡ j = ap (λ y. length (digits y)) (sym w) ∙ r.run_len in
     let rest : behind_run is_ascii_digit (b ∷ u) ≡ x = ap (behind_run is_ascii_digit) (sym w) ∙ r.rest in
-    let ends = number_ends place b t m r.front v d n p q bl r.whole_is len (all_drop normal.is_plain j (b ∷ t) p) in
+    let ends = number_ends place b t m r.front v d n p q bl r.whole_is len (all_drop normal.is_line_byte j (b ∷ t) p)
+    in
     let none : (nat_le (length (digits (b ∷ u))) 9 && is_one_of (codes ".)") (delimiter (b ∷ u))
     && is_empty_or_blank (drop 1 (behind_run is_ascii_digit (b ∷ u)))) ≡ false =
     ap (λ i. nat_le i 9 && is_one_of (codes ".)") (delimiter (b ∷ u))

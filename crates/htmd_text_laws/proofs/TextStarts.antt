@@ -6,7 +6,7 @@ use Rattle.std.specs.Char.{is_ascii_digit}
 use Rattle.std.proofs.lemmas.Bool.{and_parts, eqb-true, not-true}
 use Rattle.htmd_grammar.specs.Characters.{is_one_of}
 use Rattle.htmd_grammar.specs.CharacterClasses.{leading_run, behind_run}
-use Rattle.htmd_text.specs.EscapeMarks.{with_backslashes, is_place}
+use Rattle.htmd_text.specs.EscapedPlaces.{with_backslashes, is_place}
 use Rattle.htmd_commonmark.specs.declared.text_escape.Place.{Place}
 use Rattle.htmd_commonmark.specs.LineMarks.{line_mark, begins_block, ends_marker}
 use Rattle.htmd_commonmark.specs.TextEscapes.{may_be_escaped, may_be_in_tag, is_inline_mark, is_marked}
@@ -59,15 +59,15 @@ next_escapes (Some g) (h ∷ m) n = one_of (λ c. may_be_escaped (Some c)) (code
 
 -- what ends no marker is there
 pub marker_goes_on : (after : Option ℕ) (marked : ℕ → Bool) (k : ℕ) (v m : List ℕ) → IsNext after m
-    → list_all normal.is_plain v ≡ true → ends_marker v after ≡ false
+    → list_all normal.is_line_byte v ≡ true → ends_marker v after ≡ false
     → is_empty_or_blank (with_backslashes marked k v ++ m) ≡ false
 marker_goes_on None marked k [] m n p e = absurd (cc)
 marker_goes_on (Some g) marked k [] [] n p e = absurd n
 marker_goes_on (Some g) marked k [] (h ∷ m) n p e =
     not-true (is_space_or_tab h) (one_of (λ c. not (is_space_or_tab c)) (codes "`*_~<[]!\\") h (n.2 e) refl)
 marker_goes_on after marked k (d ∷ v) m n p e =
-    let q = (and_parts (normal.is_plain d) (list_all normal.is_plain v) p).0 in
-    let t = differs normal.is_plain d 9 q refl in
+    let q = (and_parts (normal.is_line_byte d) (list_all normal.is_line_byte v) p).0 in
+    let t = differs normal.is_line_byte d 9 q refl in
     test (marked k) (λ x. rw x refl) (λ x. rw (x, e, t) refl)
 
 -- ---- places without a backslash

@@ -6,7 +6,7 @@ use Rattle.std.proofs.lemmas.Bool.{and_parts, lt-ltb, or_parts, eqb-true, eq-eqb
 use Rattle.std.proofs.lemmas.List.{reverse-append, reverse-reverse, length-append}
 use mathlib.Core.List.{reverse-cons}
 use Rattle.htmd_grammar.specs.CharacterClasses.{behind_run}
-use Rattle.htmd_text.specs.EscapeMarks.{with_backslashes}
+use Rattle.htmd_text.specs.EscapedPlaces.{with_backslashes}
 use Rattle.htmd_document.specs.Documents.{Format, Inline, text, code, formatted, link, image, line_break, task}
 use Rattle.htmd_document.specs.Documents.{Inlines, no_inlines, inline}
 use Rattle.htmd_commonmark.specs.declared.line.Line.{Line}
@@ -125,7 +125,7 @@ all_at p [] v c h = (and_parts (p c) (list_all p v) h).0
 all_at p (d ∷ u) v c h = all_at p u v c (and_parts (p d) (list_all p (u ++ (c ∷ v))) h).1
 
 -- a text whose number signs at the end stand after a character that isn't white
-signs_shut : (t : List ℕ) → list_all normal.is_plain t ≡ true → EndsInk t → ends_in_closing_signs t
+signs_shut : (t : List ℕ) → list_all normal.is_line_byte t ≡ true → EndsInk t → ends_in_closing_signs t
     ≡ false → Shut t
 signs_shut t p e h a =
     let l = last_ink t e in
@@ -144,9 +144,9 @@ signs_shut t p e h a =
     sym (reverse-reverse t) ∙ ap reverse b.is ∙ reverse-append b.front (b.sign ∷ b.rest)
     ∙ ap (λ y. y ++ reverse b.front) (reverse-cons b.sign b.rest)
     ∙ append_assoc (reverse b.rest) (b.sign ∷ []) (reverse b.front) in
-    let plain : normal.is_plain b.sign ≡ true =
-    all_at normal.is_plain (reverse b.rest) (reverse b.front) b.sign
-    (ap (list_all normal.is_plain) (sym parts) ∙ p) in
+    let plain : normal.is_line_byte b.sign ≡ true =
+    all_at normal.is_line_byte (reverse b.rest) (reverse b.front) b.sign
+    (ap (list_all normal.is_line_byte) (sym parts) ∙ p) in
     let l1 = ap length parts in
     let l2 = length-append (reverse b.rest) (b.sign ∷ reverse b.front) in
     let l3 = length-reverse b.front in
@@ -158,7 +158,7 @@ signs_shut t p e h a =
     ∙ ap (λ j. slice_index t j == 32) (sym place) ∙ q.1 in
     ap (λ r. is_empty_or_blank (behind_run starts.is_number_sign r)) whole
     ∙ ap is_empty_or_blank (b.behind (reverse a))
-    ∙ rw (black, differs normal.is_plain b.sign 9 plain refl) refl)
+    ∙ rw (black, differs normal.is_line_byte b.sign 9 plain refl) refl)
     (λ x. ap (λ r. is_empty_or_blank (behind_run starts.is_number_sign r))
     (whole ∙ ap (λ r. r ++ reverse a) turned)
     ∙ rw x (or_parts (is_space_or_tab l.last) (l.last == 10) l.ink).0)
@@ -182,7 +182,7 @@ heading_shut line w around xs k n b e h =
         test (ends_in_closing_signs t)
         (λ z. rw (k, z) (escaped_sign t))
         (λ z. rw (k, z) (signs_shut t
-        (escaped_all normal.is_plain (is_marked (place_of line so_far None) s) 0 s refl (text_plain s x))
+        (escaped_all normal.is_line_byte (is_marked (place_of line so_far None) s) 0 s refl (text_plain s x))
         (marks_ink (is_marked (place_of line so_far None) s) 0 s (text_ink s x y)) z))
 
 -- a text with ink at its ends that shuts is a heading's as it stands
@@ -218,10 +218,10 @@ text_black : (line : Line) (so_far : List ℕ) (f : Following) (s : List ℕ) �
 text_black line so_far f [] h n = absurd (no_text h)
 text_black line so_far f (c ∷ s) h n =
     let t = escaped (place_of line so_far f.after) (c ∷ s) in
-    let p = (and_parts (normal.is_plain c) (list_all normal.is_plain s) (text_plain (c ∷ s) h)).0 in
+    let p = (and_parts (normal.is_line_byte c) (list_all normal.is_line_byte s) (text_plain (c ∷ s) h)).0 in
     let b : IsBlack t =
     marks_black (is_marked (place_of line so_far f.after) (c ∷ s)) c s
-    (rw (n, differs normal.is_plain c 9 p refl) refl) in
+    (rw (n, differs normal.is_line_byte c 9 p refl) refl) in
     test (is_end_of_heading line f && ends_in_closing_signs t)
     (λ x. rw x (last_escaped_black t b)) (λ x. rw x b)
 

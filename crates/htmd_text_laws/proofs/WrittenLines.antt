@@ -19,7 +19,7 @@ use Rattle.htmd_commonmark.specs.InlineMarkdown.{sides_of, place_of, written_cod
 use Rattle.htmd_commonmark.specs.TextEscapes.{escaped}
 use Rattle.htmd_commonmark.specs.WrittenText as written_text
 use Rattle.htmd_commonmark.specs.WrittenText.{Written, wrote, is_one_line, is_heading, is_cell, begins_line}
-use Rattle.htmd_commonmark_laws.specs.LineTexts.{IsFirstLine, IsFurtherLine, AreFurtherLines, is_plain, lines_of}
+use Rattle.htmd_commonmark_laws.specs.LineTexts.{IsFirstLine, IsFurtherLine, AreFurtherLines, is_line_character, lines_of}
 use Rattle.htmd_document_form.specs.NormalInlines.{is_normal, are_normal, has_none, is_around, first_passes, is_break, begins_with_space, is_text, is_attribute, is_title, is_kept}
 use Rattle.htmd_inline_laws.proofs.TextPieces.{test}
 use Rattle.htmd_text_laws.proofs.WrittenPieces.{pieces, piece, text_piece, row_sign, row_signs, row_format, opener, closer, mark_cases}
@@ -90,8 +90,8 @@ lines_are (c ∷ s) a =
     ))
 
 -- a text without ends of lines is plain and one line
-pub plain_of_clean : (s : List ℕ) → IsClean s → list_all is_plain s ≡ true
-plain_of_clean s h = all_by (is_allowed false) is_plain (λ c a. (and_parts (is_plain c) _ a).0) s h
+pub plain_of_clean : (s : List ℕ) → IsClean s → list_all is_line_character s ≡ true
+plain_of_clean s h = all_by (is_allowed false) is_line_character (λ c a. (and_parts (is_line_character c) _ a).0) s h
 
 pub clean_line : (s : List ℕ) → IsClean s → lines_of s ≡ s ∷ []
 clean_line [] h = refl

@@ -15,16 +15,16 @@ use Rattle.htmd_grammar.specs.ValueTrees.{ValueTree, ValueForest, document}
 use Rattle.htmd_grammar.specs.CharacterClasses.{lacks}
 use Rattle.htmd_grammar.specs.Comments.{behind_doctype}
 use Rattle.htmd_grammar.specs.Rules.{project}
-use Rattle.htmd_grammar.specs.Documents.{above_body, body_text, behind_mark, with_doctype, skeleton}
-use Rattle.htmd_grammar.specs.Documents.{ReadsDocument}
-use Rattle.htmd_grammar.specs.Steps.{step, Reaches, started, finished, body, with_children}
+use Rattle.htmd_grammar.specs.HtmlDocuments.{above_body, body_text, behind_mark, with_doctype, skeleton}
+use Rattle.htmd_grammar.specs.HtmlDocuments.{ReadsDocument}
+use Rattle.htmd_grammar.specs.ReaderSteps.{step, Reaches, started, finished, body, with_children}
 use Rattle.htmd_grammar.specs.Faults.{IsFault, IsFirstNul}
 use Rattle.htmd_grammar.specs.Laws.{StepsReadRightly, FaultsAreRight, FaultsRefuseDocuments, RestIsAnEnd}
 use Rattle.htmd_grammar.specs.declared.fault.FaultKind.{FaultKind}
 use Rattle.htmd_grammar.specs.declared.fault.FaultKind.TheVariants.{Nul}
 use Rattle.htmd_nodes.specs.Items.{Item}
 use Rattle.htmd_nodes.specs.Layout.{forest_items, document_items}
-use Rattle.htmd_nodes.proofs.PartsLemmas.{laid_out}
+use Rattle.htmd_nodes.proofs.NodeValuesLemmas.{laid_out}
 use Rattle.htmd_tree.specs.Advances.{Ends, state_at, rules_of}
 use Rattle.htmd_tree.specs.declared.reader.Reader.{Reader}
 use Rattle.htmd_tree.specs.declared.reader.Stop.TheVariants.{Refused}

@@ -4,8 +4,8 @@ use Rattle.std.proofs.Common.{sym, ap, ◌∙◌, arith, add-zero, add_assoc, ge
 use Rattle.std.proofs.lemmas.List.{append_assoc, append-nil, length-append}
 use Rattle.htmd_grammar.specs.ValueTrees.{ValueTree, document, doctype, text, comment, element, ValueForest, none, more}
 use Rattle.htmd_grammar.specs.ValueTrees.{AttributePair}
-use Rattle.htmd_grammar.specs.Documents.{above_body}
-use Rattle.htmd_grammar.specs.Steps.{OpenElement, names_of, closed, fresh, with_forest, with_tree, ◌+++◌}
+use Rattle.htmd_grammar.specs.HtmlDocuments.{above_body}
+use Rattle.htmd_grammar.specs.ReaderSteps.{OpenElement, names_of, closed, fresh, with_forest, with_tree, ◌+++◌}
 use Rattle.htmd_nodes.specs.Items.{Data, document_node, doctype_node, text_node, comment_node, element_node, Item}
 use Rattle.htmd_nodes.specs.Items.{item_at, depth_at, data_at, new_item}
 use Rattle.htmd_nodes.specs.Layout.{size, sizes, item_under, tree_items, forest_items}

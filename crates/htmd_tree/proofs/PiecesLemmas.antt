@@ -10,15 +10,15 @@ use Rattle.htmd_grammar.specs.Rules.{Rules, project}
 use Rattle.htmd_grammar.specs.RawContent.{holds_text_alone, holds_raw_text, begins_own_end, begins_markup, ends_text}
 use Rattle.htmd_grammar.specs.RawContent.{text_of}
 use Rattle.htmd_grammar.specs.CharacterClasses.{up_to}
-use Rattle.htmd_grammar.specs.Documents.{above_body}
-use Rattle.htmd_grammar.specs.Steps.{OpenElement, State, step, Reaches, here, via, closed, with_tree, fault}
-use Rattle.htmd_grammar.specs.Steps.{between, is_too_deep, is_implied, ends_rows, markup_step, raw_text_step}
-use Rattle.htmd_grammar.specs.Steps.{with_children, body}
+use Rattle.htmd_grammar.specs.HtmlDocuments.{above_body}
+use Rattle.htmd_grammar.specs.ReaderSteps.{OpenElement, State, step, Reaches, here, via, closed, with_tree, fault}
+use Rattle.htmd_grammar.specs.ReaderSteps.{between, is_too_deep, is_implied, ends_rows, markup_step, raw_text_step}
+use Rattle.htmd_grammar.specs.ReaderSteps.{with_children, body}
 use Rattle.htmd_grammar.specs.declared.fault.FaultKind.TheVariants.{Unclosed, TooDeep}
 use Rattle.htmd_grammar.proofs.NestingLemmas.{tbody_not_table}
 use Rattle.htmd_nodes.specs.OpenItems.{stack_items}
 use Rattle.htmd_tree.specs.OpenNodes.{innermost_name, AreOpen, Holds, IsReading}
-use Rattle.htmd_tree.specs.Advances.{Answer, state_at, rules_of, Follows, Advances, Ends, HasSettled, HasRead}
+use Rattle.htmd_tree.specs.Advances.{Answer, state_at, rules_of, Follows, Advances, Ends, HasImpliedClosed, HasRead}
 use Rattle.htmd_tree.specs.Advances.{IsAtText}
 use Rattle.htmd_tree.specs.declared.reader.OpenNode.{OpenNode}
 use Rattle.htmd_tree.specs.declared.reader.Reader.{Reader}
@@ -73,13 +73,13 @@ outer_is_tag f g (k ∷ fs) h i =
 
 pub settled_open : (reader : Reader) (has_doctype : Bool) (fs : List OpenElement) (o : OpenNode)
     → Holds reader has_doctype fs → IsTop reader o → (o.implied && ends_rows reader.rest.now) ≡ false
-    → HasSettled reader reader has_doctype fs
+    → HasImpliedClosed reader reader has_doctype fs
 settled_open reader has_doctype [] o h t e = absurd h.are_open
 settled_open reader has_doctype (f ∷ fs) o h t e = record {
   opened = f ∷ fs;
   holds = h;
   reaches = here;
-  settled =
+  implied_is_closed =
       subst (λ b. (b && ends_rows reader.rest.now) ≡ false)
       (ap (λ (y : OpenNode). y.implied) (t has_doctype f fs h)) e;
   scripting = refl;
@@ -89,7 +89,7 @@ pub settled_closed : (old new : Reader) (has_doctype : Bool) (fs : List OpenElem
     → Holds old has_doctype fs → IsTop old o → o.implied ≡ true → ends_rows old.rest.now ≡ true
     → ((has_doctype : Bool) (f g : OpenElement) (fs : List OpenElement) → Holds old has_doctype (f ∷ g ∷ fs)
     → Holds new has_doctype (with_tree (g ∷ fs) (closed f)))
-    → new.scripting ≡ old.scripting → HasSettled old new has_doctype fs
+    → new.scripting ≡ old.scripting → HasImpliedClosed old new has_doctype fs
 settled_closed old new has_doctype [] o h t i e close scripting = absurd h.are_open
 settled_closed old new has_doctype (f ∷ []) o h t i e close scripting =
     let flag : f.implied ≡ true = sym (ap (λ (y : OpenNode). y.implied) (t has_doctype f [] h)) ∙ i in
@@ -102,7 +102,7 @@ settled_closed old new has_doctype (f ∷ g ∷ fs) o h t i e close scripting =
       opened = with_tree (g ∷ fs) (closed f);
       holds = close has_doctype f g fs h;
       reaches = via (tbody_is (rules_of old) (g ∷ fs) old.rest.now f flag e) here;
-      settled =
+      implied_is_closed =
           ap (λ b. b && ends_rows old.rest.now) outer;
       scripting = scripting;
     }
@@ -143,14 +143,14 @@ joined old middle new has_doctype fs gs (Err (Refused left kind)) p e a = (
 )
 
 module _ (old middle new : Reader) (has_doctype : Bool) (fs : List OpenElement) (r : Answer)
-    (s : HasSettled old middle has_doctype fs) (same : middle.rest.now ≡ old.rest.now)
+    (s : HasImpliedClosed old middle has_doctype fs) (same : middle.rest.now ≡ old.rest.now)
     (left_over : is_empty old.rest.now ≡ false) where
   reached : Reaches (rules_of old) above_body (state_at fs old.rest.now) (state_at s.opened middle.rest.now)
   reached = subst (λ t. Reaches (rules_of old) above_body (state_at fs old.rest.now) (state_at s.opened t)) (sym same)
       s.reaches
 
-  settled_there : (is_implied s.opened && ends_rows middle.rest.now) ≡ false
-  settled_there = ap (λ t. is_implied s.opened && ends_rows t) same ∙ s.settled
+  implied_is_closed_there : (is_implied s.opened && ends_rows middle.rest.now) ≡ false
+  implied_is_closed_there = ap (λ t. is_implied s.opened && ends_rows t) same ∙ s.implied_is_closed
 
   pub markup_advances : ends_text middle.scripting (innermost_name s.opened) middle.rest.now ≡ true
       → Follows middle new has_doctype r (markup_step (rules_of middle) above_body s.opened (drop 1 middle.rest.now))
@@ -159,7 +159,8 @@ module _ (old middle new : Reader) (has_doctype : Bool) (fs : List OpenElement) 
       joined old middle new has_doctype fs s.opened r reached s.scripting
       (advance middle new has_doctype s.opened r
       (markup_step (rules_of middle) above_body s.opened (drop 1 middle.rest.now))
-      (markup_is (rules_of middle) s.opened middle.rest.now settled_there e) (ap is_empty same ∙ left_over) f)
+      (markup_is (rules_of middle) s.opened middle.rest.now implied_is_closed_there e) (ap is_empty same
+      ∙ left_over) f)
 
   pub raw_text_advances : ends_text middle.scripting (innermost_name s.opened) middle.rest.now ≡ false
       → holds_raw_text middle.scripting (innermost_name s.opened) ≡ true
@@ -175,7 +176,8 @@ module _ (old middle new : Reader) (has_doctype : Bool) (fs : List OpenElement) 
       (text_of (rules_of middle) (innermost_name s.opened)
       (up_to (ends_text middle.scripting (innermost_name s.opened)) middle.rest.now))
       (onward (ends_text middle.scripting (innermost_name s.opened)) middle.rest.now))
-      (raw_text_is (rules_of middle) s.opened middle.rest.now settled_there e (ap is_empty same ∙ left_over) h)
+      (raw_text_is (rules_of middle) s.opened middle.rest.now implied_is_closed_there e (ap is_empty same
+      ∙ left_over) h)
       (ap is_empty same ∙ left_over) f)
 
   pub text_advances : ends_text middle.scripting (innermost_name s.opened) middle.rest.now ≡ false
@@ -187,7 +189,7 @@ module _ (old middle new : Reader) (has_doctype : Bool) (fs : List OpenElement) 
         more_text = ap is_empty same ∙ left_over;
         no_markup = e;
         no_raw_text = h;
-        no_end_of_rows = settled_there;
+        no_end_of_rows = implied_is_closed_there;
       }))
 
 -- what ends a text begins with `<`

@@ -1,15 +1,15 @@
 -- What the calls on tags answer, by the grammar's steps.
 use Rattle.std.proofs.Common.{◌≡◌, ℕ, ◌<◌, ◌≤◌, Bool, true, List, [], ◌∷◌, length, refl, sym, ◌∙◌, ap, subst, arith}
 use Rattle.std.proofs.Common.{Ok, Err, OnOk}
-use Rattle.htmd_grammar.specs.Documents.{above_body}
+use Rattle.htmd_grammar.specs.HtmlDocuments.{above_body}
 use Rattle.std.specs.Prelude.{◌&&◌, cond, codes}
 use Rattle.std.specs.Str.{bytes_eq}
 use Rattle.htmd_grammar.proofs.Cases.{test}
 use Rattle.htmd_grammar.specs.ValueTrees.{AttributePair}
 use Rattle.htmd_grammar.specs.Rules.{project}
 use Rattle.htmd_grammar.specs.Nesting.{is_row}
-use Rattle.htmd_grammar.specs.Steps.{OpenElement, Step, fault, between, fresh, closed, with_tree, is_too_deep}
-use Rattle.htmd_grammar.specs.Steps.{open_step, place_step, close_step}
+use Rattle.htmd_grammar.specs.ReaderSteps.{OpenElement, Step, fault, between, fresh, closed, with_tree, is_too_deep}
+use Rattle.htmd_grammar.specs.ReaderSteps.{open_step, place_step, close_step}
 use Rattle.htmd_grammar.specs.declared.fault.FaultKind.{FaultKind}
 use Rattle.htmd_grammar.specs.declared.fault.FaultKind.TheVariants.{TooDeep}
 use Rattle.htmd_tree.specs.OpenNodes.{Holds, IsReading, innermost_name}

@@ -19,9 +19,9 @@ use Rattle.htmd_grammar.specs.Nesting.{Context, is_outside, is_row, is_allowed}
 use Rattle.htmd_grammar.specs.Serialisation.{is_void}
 use Rattle.htmd_grammar.specs.TagReading.{TagForm, form, form_within}
 use Rattle.htmd_grammar.specs.OpenElements.{has_unknown_reference}
-use Rattle.htmd_grammar.specs.Steps.{OpenElement, Step, fault, between, fresh, with_tree, names_of, innermost}
-use Rattle.htmd_grammar.specs.Steps.{is_too_deep, add, open_step, place_step, values_step, form_step, start_tag_step}
-use Rattle.htmd_grammar.specs.Steps.{close_step, end_tag_step, markup_step}
+use Rattle.htmd_grammar.specs.ReaderSteps.{OpenElement, Step, fault, between, fresh, with_tree, names_of, innermost}
+use Rattle.htmd_grammar.specs.ReaderSteps.{is_too_deep, add, open_step, place_step, values_step, form_step, start_tag_step}
+use Rattle.htmd_grammar.specs.ReaderSteps.{close_step, end_tag_step, markup_step}
 use Rattle.htmd_grammar.specs.declared.fault.FaultKind.{FaultKind}
 use Rattle.htmd_grammar.specs.declared.fault.FaultKind.TheVariants.{MalformedTag, SelfClosing, TagOutside}
 use Rattle.htmd_tree.specs.TagParts.{read_attributes, distinct_attributes, fault_of_name}

@@ -16,20 +16,20 @@ use Rattle.htmd_grammar.proofs.Cases.{test}
 use Rattle.htmd_grammar.specs.WhiteSpace.{is_ascii_white_space}
 use Rattle.htmd_grammar.proofs.CharacterClassesLemmas.{white_is_ascii}
 use Rattle.htmd_grammar.specs.CharacterClasses.{is_empty, leading_run, behind_run}
-use Rattle.htmd_grammar.specs.Documents.{above_body}
+use Rattle.htmd_grammar.specs.HtmlDocuments.{above_body}
 use Rattle.htmd_grammar.specs.Nesting.{parent_name, holds_parts}
 use Rattle.htmd_grammar.specs.RawContent.{begins_markup, begins_own_end, holds_raw_text, ends_text}
 use Rattle.htmd_grammar.specs.References.{Piece, stands, wrong, piece_at}
 use Rattle.htmd_grammar.specs.Rules.{project, named_characters}
-use Rattle.htmd_grammar.specs.Steps.{OpenElement, Reaches, here, via, step, names_of, is_implied, ends_rows}
-use Rattle.htmd_grammar.specs.Steps.{is_too_deep, character_step}
+use Rattle.htmd_grammar.specs.ReaderSteps.{OpenElement, Reaches, here, via, step, names_of, is_implied, ends_rows}
+use Rattle.htmd_grammar.specs.ReaderSteps.{is_too_deep, character_step}
 use Rattle.htmd_grammar.specs.declared.fault.FaultKind.{FaultKind}
 use Rattle.htmd_grammar.specs.declared.fault.FaultKind.TheVariants.{StrayText, TooDeep}
 use Rattle.htmd_grammar.proofs.BooleanLemmas.{and_false}
 use Rattle.htmd_grammar.proofs.TextLemmas.{rows_go_on}
 use Rattle.htmd_grammar.proofs.ReadBackLemmas.{no_markup, no_end}
 use Rattle.htmd_tree.specs.DecodedCharacters.{piece_of, IsPieceEnd}
-use Rattle.htmd_tree.specs.TextRuns.{is_plain, is_run_end, TellsOfText, in_run, fault_of, IsCharacterIn}
+use Rattle.htmd_tree.specs.TextRuns.{is_literal, is_run_end, TellsOfText, in_run, fault_of, IsCharacterIn}
 use Rattle.htmd_tree.specs.TextRuns.{IsFaultIn, Pushes, StopsRun}
 use Rattle.htmd_tree.specs.declared.reader.Stop.{Stop}
 use Rattle.htmd_tree.specs.declared.reader.Stop.TheVariants.{Memory, Refused}
@@ -48,42 +48,42 @@ before_others p s h = (
       absurd (omega arith),
 )
 
-plain_white_is_ascii : (b : ℕ) → is_plain true b ≡ true → b < 128
+plain_white_is_ascii : (b : ℕ) → is_literal true b ≡ true → b < 128
 plain_white_is_ascii b e = grind (arith, nat_tests)
 
-other_is_ascii : (b : ℕ) → is_plain false b ≡ false → b < 128
+other_is_ascii : (b : ℕ) → is_literal false b ≡ false → b < 128
 other_is_ascii b e = grind (arith, nat_tests)
 
-pub plain_cut : (parts : Bool) (s : List ℕ) (n : ℕ) → IsUtf8 s → n ≡ length (leading_run (is_plain parts) s)
+pub plain_cut : (parts : Bool) (s : List ℕ) (n : ℕ) → IsUtf8 s → n ≡ length (leading_run (is_literal parts) s)
     → IsCharBoundary s n
-plain_cut true s n u e = behind_last (is_plain true) s n u plain_white_is_ascii (sym e)
-plain_cut false s n u e = subst (IsCharBoundary s) (sym e) (before_others (is_plain false) s other_is_ascii)
+plain_cut true s n u e = behind_last (is_literal true) s n u plain_white_is_ascii (sym e)
+plain_cut false s n u e = subst (IsCharBoundary s) (sym e) (before_others (is_literal false) s other_is_ascii)
 
--- ---- plain characters
+-- ---- literal characters
 
-white_is_other : (b : ℕ) → is_plain true b ≡ true → ((b == 60) ≡ false) × ((b == 38) ≡ false)
+white_is_other : (b : ℕ) → is_literal true b ≡ true → ((b == 60) ≡ false) × ((b == 38) ≡ false)
     × ((b == 13) ≡ false)
 white_is_other b e = (grind (arith, nat_tests), grind (arith, nat_tests), grind (arith, nat_tests))
 
-plain_is_other : (b : ℕ) → is_plain false b ≡ true → ((b == 60) ≡ false) × ((b == 38) ≡ false)
+plain_is_other : (b : ℕ) → is_literal false b ≡ true → ((b == 60) ≡ false) × ((b == 38) ≡ false)
     × ((b == 13) ≡ false)
 plain_is_other b e = (grind (arith, nat_tests), grind (arith, nat_tests), grind (arith, nat_tests))
 
-other : (parts : Bool) (b : ℕ) → is_plain parts b ≡ true
+other : (parts : Bool) (b : ℕ) → is_literal parts b ≡ true
     → ((b == 60) ≡ false) × ((b == 38) ≡ false) × ((b == 13) ≡ false)
 other true b e = white_is_other b e
 other false b e = plain_is_other b e
 
-plain_piece : (parts : Bool) (b : ℕ) (s : List ℕ) → is_plain parts b ≡ true
+plain_piece : (parts : Bool) (b : ℕ) (s : List ℕ) → is_literal parts b ≡ true
     → piece_at named_characters b s ≡ stands 0 (b ∷ [])
 plain_piece parts b s e = let k = other parts b e in rw (k.1, k.2) refl
 
-plain_goes_on : (alone parts : Bool) (n : List ℕ) (b : ℕ) (s : List ℕ) → is_plain parts b ≡ true
+plain_goes_on : (alone parts : Bool) (n : List ℕ) (b : ℕ) (s : List ℕ) → is_literal parts b ≡ true
     → is_run_end alone n (b ∷ s) ≡ false
 plain_goes_on true parts n b s e = no_end n b s (other parts b e).0
 plain_goes_on false parts n b s e = no_markup b s (other parts b e).0
 
-plain_white : (parts : Bool) (b : ℕ) → is_plain parts b ≡ true
+plain_white : (parts : Bool) (b : ℕ) → is_literal parts b ≡ true
     → (parts && not (list_all is_ascii_white_space (b ∷ []))) ≡ false
 plain_white true b e = let k = and_parts (is_ascii_white_space b) (not (b == 13)) e in rw k.0 refl
 plain_white false b e = refl
@@ -157,13 +157,13 @@ module _ (scripting : Bool) (around : TextSurroundings) (n : List ℕ) (fs : Lis
       rw stray (ap (λ x. Err x) same))
       (λ q. absurd (let w = rw q at e in cc))
 
-  -- ---- plain characters
+  -- ---- literal characters
 
-  no_fault : (b : ℕ) → is_plain around.parts b ≡ true → fault_of around.parts (stands 0 (b ∷ [])) ≡ None
+  no_fault : (b : ℕ) → is_literal around.parts b ≡ true → fault_of around.parts (stands 0 (b ∷ [])) ≡ None
   no_fault b p = rw (plain_white around.parts b p) refl
 
   plain_step : (run : List ℕ) (b : ℕ) (s : List ℕ) → around.too_deep ≡ false
-      → is_plain around.parts b ≡ true
+      → is_literal around.parts b ≡ true
       → step (project scripting) above_body (in_run fs run (b ∷ s)) ≡ Ok (in_run fs (run ++ b ∷ []) s)
   plain_step run b s d p =
       let e = plain_piece around.parts b s p in
@@ -173,38 +173,38 @@ module _ (scripting : Bool) (around : TextSurroundings) (n : List ℕ) (fs : Lis
 
   plain_reaches : (s run : List ℕ) → around.too_deep ≡ false
       → Reaches (project scripting) above_body (in_run fs run s)
-      (in_run fs (run ++ leading_run (is_plain around.parts) s) (behind_run (is_plain around.parts) s))
+      (in_run fs (run ++ leading_run (is_literal around.parts) s) (behind_run (is_literal around.parts) s))
   plain_reaches [] run d =
       subst (λ r. Reaches (project scripting) above_body (in_run fs run []) (in_run fs r [])) (sym (append-nil run))
       here
   plain_reaches (b ∷ s) run d =
-      test (is_plain around.parts b)
+      test (is_literal around.parts b)
       (λ q. rw q (via (plain_step run b s d q)
       (subst (λ r. Reaches (project scripting) above_body (in_run fs (run ++ b ∷ []) s)
-      (in_run fs r (behind_run (is_plain around.parts) s)))
-      (append_assoc run (b ∷ []) (leading_run (is_plain around.parts) s)) (plain_reaches s (run ++ b ∷ []) d))))
+      (in_run fs r (behind_run (is_literal around.parts) s)))
+      (append_assoc run (b ∷ []) (leading_run (is_literal around.parts) s)) (plain_reaches s (run ++ b ∷ []) d))))
       (λ q. rw q (subst (λ r. Reaches (project scripting) above_body (in_run fs run (b ∷ s))
       (in_run fs r (b ∷ s)))
       (sym (append-nil run)) here))
 
   pub plain_pushed : (run s front rest after : List ℕ) (len : ℕ) → around.too_deep ≡ false
-      → len ≡ length (leading_run (is_plain around.parts) s) → front ≡ take len s → rest ≡ drop len s
+      → len ≡ length (leading_run (is_literal around.parts) s) → front ≡ take len s → rest ≡ drop len s
       → after ≡ run ++ front → Reaches (project scripting) above_body (in_run fs run s) (in_run fs after rest)
   plain_pushed run s front rest after len d e f r a =
-      let g : after ≡ run ++ leading_run (is_plain around.parts) s =
-      a ∙ ap (λ x. run ++ x) (f ∙ ap (λ m. take m s) e ∙ take_leading_run (is_plain around.parts) s) in
-      let h : rest ≡ behind_run (is_plain around.parts) s =
-      r ∙ ap (λ m. drop m s) e ∙ drop_leading_run (is_plain around.parts) s in
+      let g : after ≡ run ++ leading_run (is_literal around.parts) s =
+      a ∙ ap (λ x. run ++ x) (f ∙ ap (λ m. take m s) e ∙ take_leading_run (is_literal around.parts) s) in
+      let h : rest ≡ behind_run (is_literal around.parts) s =
+      r ∙ ap (λ m. drop m s) e ∙ drop_leading_run (is_literal around.parts) s in
       subst (λ x. Reaches (project scripting) above_body (in_run fs run s) (in_run fs x rest)) (sym g)
       (subst (λ x. Reaches (project scripting) above_body (in_run fs run s)
-      (in_run fs (run ++ leading_run (is_plain around.parts) s) x)) (sym h) (plain_reaches s run d))
+      (in_run fs (run ++ leading_run (is_literal around.parts) s) x)) (sym h) (plain_reaches s run d))
 
   pub plain_deep : (run s : List ℕ) → around.too_deep ≡ true
-      → 0 < length (leading_run (is_plain around.parts) s)
+      → 0 < length (leading_run (is_literal around.parts) s)
       → step (project scripting) above_body (in_run fs run s) ≡ Err TooDeep
   plain_deep run [] d l = absurd (omega arith)
   plain_deep run (b ∷ s) d l =
-      test (is_plain around.parts b)
+      test (is_literal around.parts b)
       (λ p. let e = plain_piece around.parts b s p in
       is_step run b s (plain_goes_on around.alone around.parts n b s p)
       ∙ deep_piece run s (b ∷ []) 0 (piece_at named_characters b s) d e

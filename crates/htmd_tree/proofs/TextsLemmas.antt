@@ -9,14 +9,14 @@ use Rattle.htmd_grammar.proofs.Cases.{test}
 use Rattle.htmd_grammar.specs.ValueTrees.{text}
 use Rattle.htmd_grammar.specs.CharacterClasses.{is_empty, is_among, up_to, onward}
 use Rattle.htmd_grammar.specs.Comments.{normalized}
-use Rattle.htmd_grammar.specs.Documents.{above_body}
+use Rattle.htmd_grammar.specs.HtmlDocuments.{above_body}
 use Rattle.htmd_grammar.specs.Nesting.{parent_name}
 use Rattle.htmd_grammar.specs.RawContent.{begins_markup, begins_own_end, ends_text, holds_raw_text, holds_text_alone}
 use Rattle.htmd_grammar.specs.RawContent.{has_script_escape, raw_text_of, text_of}
 use Rattle.htmd_grammar.specs.References.{decode}
 use Rattle.htmd_grammar.specs.Rules.{project, named_characters}
-use Rattle.htmd_grammar.specs.Steps.{OpenElement, Reaches, here, via, step, names_of, is_too_deep}
-use Rattle.htmd_grammar.specs.Steps.{Step, add, between, fault, with_tree, raw_text_step}
+use Rattle.htmd_grammar.specs.ReaderSteps.{OpenElement, Reaches, here, via, step, names_of, is_too_deep}
+use Rattle.htmd_grammar.specs.ReaderSteps.{Step, add, between, fault, with_tree, raw_text_step}
 use Rattle.htmd_grammar.specs.declared.fault.FaultKind.TheVariants.{ScriptEscape, TooDeep}
 use Rattle.htmd_grammar.proofs.NestingLemmas.{tbody_no_text_alone}
 use Rattle.htmd_tree.specs.OpenNodes.{Holds, AreOpen, innermost_name, open_node}

@@ -4,9 +4,9 @@ use Rattle.htmd_grammar.specs.ValueTrees.{ValueTree, ValueForest, none, doctype,
 use Rattle.htmd_grammar.specs.CharacterClasses.{is_empty}
 use Rattle.htmd_grammar.specs.Rules.{Rules, project}
 use Rattle.htmd_grammar.specs.RawContent.{ends_text, holds_raw_text}
-use Rattle.htmd_grammar.specs.Documents.{above_body}
-use Rattle.htmd_grammar.specs.Steps.{OpenElement, State, Step, step, Reaches, is_implied, ends_rows}
-use Rattle.htmd_grammar.specs.Steps.{with_children, body, finished, is_too_deep}
+use Rattle.htmd_grammar.specs.HtmlDocuments.{above_body}
+use Rattle.htmd_grammar.specs.ReaderSteps.{OpenElement, State, Step, step, Reaches, is_implied, ends_rows}
+use Rattle.htmd_grammar.specs.ReaderSteps.{with_children, body, finished, is_too_deep}
 use Rattle.htmd_grammar.specs.declared.fault.FaultKind.TheVariants.{TooDeep}
 use Rattle.htmd_nodes.specs.Items.{Data, document_node, doctype_node, text_node, comment_node, element_node, new_item}
 use Rattle.htmd_nodes.specs.OpenItems.{stack_items, innermost_number}
@@ -100,11 +100,11 @@ StopsDeep reader fs (Refused left kind) =
     (kind ≡ TooDeep) × (left ≡ length reader.rest.now) × (is_too_deep (rules_of reader) above_body fs ≡ true)
 
 -- No implied `tbody` that ends where the text that is left begins is open any more.
-pub record HasSettled (old new : Reader) (has_doctype : Bool) (fs : List OpenElement) : Type 0 where
+pub record HasImpliedClosed (old new : Reader) (has_doctype : Bool) (fs : List OpenElement) : Type 0 where
   pub opened : List OpenElement
   pub holds : Holds new has_doctype opened
   pub reaches : Reaches (rules_of old) above_body (state_at fs old.rest.now) (state_at opened old.rest.now)
-  pub settled : (is_implied opened && ends_rows old.rest.now) ≡ false
+  pub implied_is_closed : (is_implied opened && ends_rows old.rest.now) ≡ false
   pub scripting : new.scripting ≡ old.scripting
 
 -- Some steps lead from where the first elements are open to where the reader is.

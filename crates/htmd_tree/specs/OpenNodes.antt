@@ -1,8 +1,8 @@
 -- The tree that a reader builds and the open elements that it keeps, as those of the grammar's steps.
 use Rattle.std.specs.Prelude.{◌≡◌, ℕ, suc, Bool, true, false, List, [], ◌∷◌, ◌++◌, length, codes}
 use Rattle.htmd_grammar.specs.Nesting.{parent_name, is_tbody, is_table}
-use Rattle.htmd_grammar.specs.Documents.{above_body}
-use Rattle.htmd_grammar.specs.Steps.{OpenElement, names_of}
+use Rattle.htmd_grammar.specs.HtmlDocuments.{above_body}
+use Rattle.htmd_grammar.specs.ReaderSteps.{OpenElement, names_of}
 use Rattle.htmd_nodes.specs.OpenItems.{stack_items}
 use Rattle.htmd_tree.specs.Surroundings.{surroundings_of}
 use Rattle.htmd_tree.specs.declared.reader.OpenNode.{OpenNode}

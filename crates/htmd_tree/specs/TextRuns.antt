@@ -7,12 +7,12 @@ use Rattle.std.specs.List.{list_all}
 use Rattle.htmd_grammar.specs.Characters.{less_than_sign, ampersand, carriage_return}
 use Rattle.htmd_grammar.specs.WhiteSpace.{is_ascii_white_space}
 use Rattle.htmd_grammar.specs.CharacterClasses.{is_empty}
-use Rattle.htmd_grammar.specs.Documents.{above_body}
+use Rattle.htmd_grammar.specs.HtmlDocuments.{above_body}
 use Rattle.htmd_grammar.specs.Nesting.{parent_name, holds_parts}
 use Rattle.htmd_grammar.specs.RawContent.{begins_markup, begins_own_end, holds_raw_text, holds_text_alone}
 use Rattle.htmd_grammar.specs.References.{Piece, stands, wrong, piece_at}
 use Rattle.htmd_grammar.specs.Rules.{project, named_characters}
-use Rattle.htmd_grammar.specs.Steps.{OpenElement, State, step, Reaches, names_of, is_implied, is_too_deep}
+use Rattle.htmd_grammar.specs.ReaderSteps.{OpenElement, State, step, Reaches, names_of, is_implied, is_too_deep}
 use Rattle.htmd_grammar.specs.declared.fault.FaultKind.{FaultKind}
 use Rattle.htmd_grammar.specs.declared.fault.FaultKind.TheVariants.{StrayText}
 use Rattle.htmd_tree.specs.DecodedCharacters.{piece_of, IsPieceEnd}
@@ -22,8 +22,8 @@ use Rattle.htmd_tree.specs.declared.reader.references.Character.{Character}
 use Rattle.htmd_tree.specs.declared.reader.texts.TextSurroundings.{TextSurroundings}
 
 -- a character stands for itself and may stand there, as its first byte tells
-abbrev pub is_plain : Bool → ℕ → Bool
-is_plain parts b =
+abbrev pub is_literal : Bool → ℕ → Bool
+is_literal parts b =
     if parts then is_ascii_white_space b && not (b == carriage_return)
     else not (b == less_than_sign) && not (b == ampersand) && not (b == carriage_return)
 

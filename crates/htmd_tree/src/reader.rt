@@ -1,11 +1,11 @@
 //! The reader of HTML: a tree from a text of the strict grammar, or the first fault of any other text.
 ghost use Rattle.std.specs.Prelude.{◌≡◌, ◌∷◌, ◌<◌, ℕ, Bool, true, false, List, [], length};
 ghost use Rattle.std.specs.Prelude.{◌==◌, OnOk, IfOk, IfErr, IsTrue, Ok, Err, if◌then◌else◌, codes};
-ghost use Rattle.htmd_grammar.specs.Documents.{above_body};
+ghost use Rattle.htmd_grammar.specs.HtmlDocuments.{above_body};
 ghost use Rattle.htmd_grammar.specs.Nesting.{is_table};
-ghost use Rattle.htmd_grammar.specs.Steps.{OpenElement, is_too_deep, add, fault, between};
-ghost use Rattle.htmd_grammar.specs.Steps.{fresh, closed, with_tree};
-ghost use Rattle.htmd_grammar.specs.Documents.{ReadsDocument};
+ghost use Rattle.htmd_grammar.specs.ReaderSteps.{OpenElement, is_too_deep, add, fault, between};
+ghost use Rattle.htmd_grammar.specs.ReaderSteps.{fresh, closed, with_tree};
+ghost use Rattle.htmd_grammar.specs.HtmlDocuments.{ReadsDocument};
 ghost use Rattle.htmd_grammar.specs.Faults.{IsFault};
 ghost use Rattle.htmd_grammar.specs.Rules.{project};
 ghost use Rattle.htmd_grammar.specs.ValueTrees.{ValueTree, ValueForest, document};

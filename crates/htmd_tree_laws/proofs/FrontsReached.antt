@@ -2,14 +2,14 @@
 use Rattle.std.proofs.Common.{Bool, List, Ok, [], ap, append_assoc, codes, false, inl, inr, not, refl, subst}
 use Rattle.std.proofs.Common.{sym, true, ℕ, ◌&&◌, ◌++◌, ◌∙◌, ◌∷◌, ◌≡◌, ◌≢◌, ◌⊎◌}
 use Rattle.htmd_grammar.specs.CharacterClasses.{is_empty}
-use Rattle.htmd_grammar.specs.Documents.{above_body}
+use Rattle.htmd_grammar.specs.HtmlDocuments.{above_body}
 use Rattle.htmd_grammar.specs.Fronts.{IsFront, IsViablePrefix, IsKept, Opens, content_so_far, ends_at, with_text}
 use Rattle.htmd_grammar.specs.Grammar.{ReadsForest, begins_with_row, may_end_rows}
 use Rattle.htmd_grammar.specs.Nesting.{Context, is_table, is_tbody}
 use Rattle.htmd_grammar.specs.RawContent.{begins_markup, content_of, ends_text, holds_raw_text, holds_text_alone}
 use Rattle.htmd_grammar.specs.Rules.{Rules}
-use Rattle.htmd_grammar.specs.Steps.{OpenElement, Reaches, State, body, closed, ends_rows, fresh, here, is_text_end}
-use Rattle.htmd_grammar.specs.Steps.{names_of, step, via, with_children, with_forest, ◌+++◌}
+use Rattle.htmd_grammar.specs.ReaderSteps.{OpenElement, Reaches, State, body, closed, ends_rows, fresh, here, is_text_end}
+use Rattle.htmd_grammar.specs.ReaderSteps.{names_of, step, via, with_children, with_forest, ◌+++◌}
 use Rattle.htmd_grammar.specs.Tags.{IsStartTag}
 use Rattle.htmd_grammar.specs.ValueTrees.{ValueForest, ValueTree, comment, doctype, document, element, more, none, text}
 use Rattle.htmd_grammar.proofs.BooleanLemmas.{and_false}

@@ -11,7 +11,7 @@ use Rattle.htmd_grammar.specs.Characters.{null}
 use Rattle.htmd_grammar.specs.WhiteSpace.{is_ascii_white_space}
 use Rattle.htmd_grammar.proofs.Cases.{test}
 use Rattle.htmd_grammar.specs.CharacterClasses.{first_is, is_empty, lacks}
-use Rattle.htmd_grammar.specs.Documents.{above_body, body_text}
+use Rattle.htmd_grammar.specs.HtmlDocuments.{above_body, body_text}
 use Rattle.htmd_grammar.specs.Faults.{HasPiece, IsFirstNul, IsPieceFault, IsTextWithReferences, Applies}
 use Rattle.htmd_grammar.specs.Faults.{number_of}
 use Rattle.htmd_grammar.specs.Fronts.{IsFront, IsKept, content_so_far, with_text}
@@ -21,8 +21,8 @@ use Rattle.htmd_grammar.specs.Nesting.{Context, holds_parts}
 use Rattle.htmd_grammar.specs.RawContent.{content_of, drops_line_feed, ends_text, holds_raw_text}
 use Rattle.htmd_grammar.specs.References.{Names, piece_at, stands, wrong}
 use Rattle.htmd_grammar.specs.Rules.{Rules}
-use Rattle.htmd_grammar.specs.Steps.{OpenElement, Reaches, State, Step, body, ends_rows, is_text_end, names_of}
-use Rattle.htmd_grammar.specs.Steps.{started, step}
+use Rattle.htmd_grammar.specs.ReaderSteps.{OpenElement, Reaches, State, Step, body, ends_rows, is_text_end, names_of}
+use Rattle.htmd_grammar.specs.ReaderSteps.{started, step}
 use Rattle.htmd_grammar.specs.ValueTrees.{ValueForest, comment, doctype, document, element, more, none, text}
 use Rattle.htmd_grammar.specs.declared.fault.FaultKind.{FaultKind}
 use Rattle.htmd_grammar.specs.declared.fault.FaultKind.TheVariants.{BadNumber, DuplicateAttribute, MalformedComment}

@@ -4,7 +4,7 @@ use Rattle.std.proofs.Common.{sym, true, zero, ℕ, ◌&&◌, ◌∙◌, ◌∷�
 use Rattle.std.specs.Char.{is_ascii_alphanumeric}
 use Rattle.std.specs.Prelude.{◌==◌}
 use Rattle.htmd_grammar.specs.CharacterClasses.{behind_run, first_is, leading_run}
-use Rattle.htmd_grammar.specs.Documents.{below_body, body_text}
+use Rattle.htmd_grammar.specs.HtmlDocuments.{below_body, body_text}
 use Rattle.htmd_grammar.specs.Grammar.{ReadsForest, ReadsTree, may_end_rows}
 use Rattle.htmd_tree_laws.specs.GrammarLaws.{MoreRulesReadMore, MoreRulesReadMoreDocuments}
 use Rattle.htmd_grammar.specs.Nesting.{Context, parent_name}

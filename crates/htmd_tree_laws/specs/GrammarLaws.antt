@@ -4,7 +4,7 @@ use Rattle.htmd_grammar.specs.ValueTrees.{ValueTree, ValueForest}
 use Rattle.htmd_grammar.specs.Rules.{Rules, character_named}
 use Rattle.htmd_grammar.specs.Nesting.{Context}
 use Rattle.htmd_grammar.specs.Grammar.{reads}
-use Rattle.htmd_grammar.specs.Documents.{ReadsDocument}
+use Rattle.htmd_grammar.specs.HtmlDocuments.{ReadsDocument}
 use Rattle.htmd_grammar.specs.Faults.{IsFault}
 use Rattle.htmd_grammar.specs.declared.fault.FaultKind.{FaultKind}
 

@@ -2,7 +2,7 @@
 pub use Rattle.htmd_nodes.proofs.ItemsLemmas
 pub mod Cuts
 pub mod SeamsLemmas
-pub mod PlainTextsLemmas
+pub mod UnescapedTextsLemmas
 pub mod Nodes
 pub mod ChoiceLemmas
 pub mod LatestLemmas

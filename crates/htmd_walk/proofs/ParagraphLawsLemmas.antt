@@ -6,7 +6,7 @@ use Rattle.std.proofs.lemmas.Bool.{and_right}
 use Rattle.std.proofs.lemmas.List.{append-nil}
 use Rattle.htmd_text.specs.Blocks.{is_block}
 use Rattle.htmd_grammar.specs.BlankLines.{with_blank_lines}
-use Rattle.htmd_text.specs.EscapeMarks.{escaped_markdown}
+use Rattle.htmd_text.specs.EscapedPlaces.{escaped_markdown}
 use Rattle.htmd_text.specs.Trims.{trimmed_end, trimmed_text, is_space, is_line_feed}
 use Rattle.htmd_grammar.specs.WhiteSpace.{is_document_white_space}
 use Rattle.htmd_nodes.specs.ValueTrees as value

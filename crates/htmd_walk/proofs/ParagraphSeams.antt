@@ -10,7 +10,7 @@ use Rattle.htmd_grammar.specs.Characters.{line_feed}
 use Rattle.htmd_grammar.specs.BlankLines.{blank_line, with_blank_lines}
 use Rattle.htmd_text.specs.Trims.{trimmed_start, trimmed_end, trimmed_text, is_space, is_line_feed}
 use Rattle.htmd_grammar.specs.WhiteSpace.{is_document_white_space}
-use Rattle.htmd_text.specs.EscapeMarks.{escaped_markdown}
+use Rattle.htmd_text.specs.EscapedPlaces.{escaped_markdown}
 use Rattle.htmd_walk.specs.Seams.{joined_at_seam, joined_by_line_feeds}
 use Rattle.htmd_walk.specs.ParagraphLaws.{text_shown, texts_shown, texts_read}
 use Rattle.htmd_walk.proofs.SeamsLemmas.{joined_by_drop}

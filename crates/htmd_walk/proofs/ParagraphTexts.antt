@@ -11,7 +11,7 @@ use Rattle.htmd_grammar.specs.Characters.{line_feed}
 use Rattle.htmd_grammar.specs.BlankLines.{blank_line}
 use Rattle.htmd_text.specs.Trims.{trimmed_end, trimmed_text, is_space, is_line_feed}
 use Rattle.htmd_grammar.specs.WhiteSpace.{is_document_white_space}
-use Rattle.htmd_text.specs.EscapeMarks.{is_marked, escaped_markdown}
+use Rattle.htmd_text.specs.EscapedPlaces.{is_marked, escaped_markdown}
 use Rattle.htmd_text.specs.Unescape.{unescape}
 use Rattle.htmd_text.proofs.UnescapeLemmas.{unescape-escaped}
 use Rattle.htmd_walk.specs.ParagraphLaws.{cut_at_blank_lines, parts_of, texts_read, with_last_trimmed}

@@ -12,9 +12,9 @@ use Rattle.htmd_grammar.specs.Characters.{space, backslash}
 use Rattle.htmd_text.specs.Trims.{trimmed_end, is_space, is_line_feed}
 use Rattle.htmd_grammar.specs.WhiteSpace.{is_ascii_white_space, is_document_white_space, begins_with_white_space}
 use Rattle.htmd_text.specs.SqueezedTexts.{squeezed_text}
-use Rattle.htmd_text.specs.EscapeMarks.{with_backslashes, is_marked, escaped_markdown}
+use Rattle.htmd_text.specs.EscapedPlaces.{with_backslashes, is_marked, escaped_markdown}
 use Rattle.htmd_text.specs.Unescape.{unescape}
-use Rattle.htmd_text.proofs.MarksLemmas.{marked_is_punctuation, unmarked_is_no_backslash}
+use Rattle.htmd_text.proofs.EscapeKindsLemmas.{marked_is_punctuation, unmarked_is_no_backslash}
 use Rattle.htmd_text.proofs.UnescapeLemmas.{reads_back}
 use Rattle.htmd_text.proofs.WhiteSpaceLemmas.{other_stays}
 use Rattle.htmd_walk.specs.ParagraphLaws.{text_shown}

@@ -138,7 +138,8 @@ text_inside (suc n) conversion inside (more (document i c) ts) s definitions e l
 text_inside (suc n) conversion inside (more (doctype i) ts) s definitions e l = cc
 text_inside (suc n) conversion inside (more (text i t) none) s definitions e l =
     let same : s ≡ t = cc in
-    ap (λ x. write_text x (context_of inside (in_pre_or_code inside) (trims_first inside)) (empty_output definitions)) same
+    ap (λ x. write_text x (context_of inside (in_pre_or_code inside) (trims_first inside)) (empty_output definitions))
+    same
 text_inside (suc n) conversion inside (more (text i t) (more u us)) s definitions e l = cc
 text_inside (suc n) conversion inside (more (comment i t) ts) s definitions e l = cc
 text_inside (suc n) conversion inside (more (element i m a c) ts) s definitions e l = cc

@@ -64,4 +64,4 @@ pub mod Passing
 pub mod Staying
 pub mod Walking
 pub mod TableViews
-pub mod PlainTexts
+pub mod UnescapedTexts

@@ -2,7 +2,7 @@
 use Rattle.std.specs.Prelude.{ℕ, Bool, false, ◌&&◌, ◌||◌, if◌then◌else◌, List, [], ◌∷◌, drop, codes}
 use Rattle.std.specs.List.{list_any}
 use Rattle.std.specs.Str.{bytes_eq}
-use Rattle.htmd_text.specs.EscapeMarks.{escaped_markdown, escaped_pre_text}
+use Rattle.htmd_text.specs.EscapedPlaces.{escaped_markdown, escaped_pre_text}
 use Rattle.htmd_text.specs.SqueezedTexts.{squeezed_text}
 use Rattle.htmd_nodes.specs.Ancestors.{Ancestor}
 use Rattle.htmd_walk.specs.Seams.{begins_with_space, ends_with_space}

@@ -17,7 +17,8 @@ is_left_out view = is_markdown_alone view.options && not (has_table_form view.it
 -- the captions and cells, each by itself
 abbrev pub table_plan : ElementView → PlanView
 table_plan view =
-    unless_attributes view (if is_left_out view then content_of_fallback else contents_of_each (nodes_of (layout_at view).parts))
+    unless_attributes view (if is_left_out view then content_of_fallback else contents_of_each
+    (nodes_of (layout_at view).parts))
 
 -- in Faithful a table with a cell that isn't Markdown is raw HTML; without headers and rows the children's
 -- content is asked for

@@ -5,7 +5,7 @@ ghost use Rattle.std.specs.List.{prefix_len, suffix_len};
 ghost use Rattle.htmd_text.specs.Trims.{is_line_feed};
 ghost use Rattle.htmd_walk.specs.Seams.{begins_with_space, ends_with_space, joined_by_white_space, joined_at_seam};
 
-use htmd_text::runs::{leading_len, trailing_len};
+use htmd_text::repeats::{leading_len, trailing_len};
 use std::alloc::AllocError;
 
 /// Whether a space meets a space, with no line feed between.

@@ -2,13 +2,13 @@
 
 ghost use Rattle.std.specs.Prelude.{◌≡◌, ◌++◌, Bool, false, IsTrue, OnOk, if◌then◌else◌, string_bytes};
 ghost use Rattle.std.specs.Result.{is_ok};
-ghost use Rattle.htmd_text.specs.EscapeMarks.{escaped_markdown};
+ghost use Rattle.htmd_text.specs.EscapedPlaces.{escaped_markdown};
 ghost use Rattle.htmd_text.specs.SqueezedTexts.{squeezed_text};
 ghost use Rattle.htmd_walk.specs.OrdinaryText as spec;
-ghost use Rattle.htmd_walk.specs.PlainTexts.{is_plain_byte, stays_plain, may_begin, begins_plain};
+ghost use Rattle.htmd_walk.specs.UnescapedTexts.{is_literal_byte, stays_literal, may_begin, begins_literal};
 
 use crate::spare_texts::SpareTexts;
-use htmd_text::runs::{leading_len, trailing_len};
+use htmd_text::repeats::{leading_len, trailing_len};
 use htmd_text::{escape_if_needed, escape_pre_text_if_needed, is_squeezed, push_squeezed};
 use std::alloc::{AllocError, Global};
 
@@ -30,8 +30,8 @@ fn without_first_space(text: &str, goes: bool) -> &str
 }
 
 /// Whether the byte stands for itself wherever it is.
-fn is_plain_byte(byte: u8) -> bool
-    ensures { result ≡ is_plain_byte byte }
+fn is_literal_byte(byte: u8) -> bool
+    ensures { result ≡ is_literal_byte byte }
 {
     // Most bytes are letters in lower case, which are greater than each of the marks.
     byte > b'`' || byte > b' ' && !matches!(byte, b'\\' | b'*' | b'_' | b'`' | b'[' | b']' | b'<')
@@ -39,14 +39,14 @@ fn is_plain_byte(byte: u8) -> bool
 
 /// Whether each byte stands for itself or is a single space. All bytes are looked at, so that a processor can compare
 /// many at once.
-fn stays_plain(bytes: &[u8]) -> bool
-    ensures { result ≡ stays_plain false bytes.now }
+fn stays_literal(bytes: &[u8]) -> bool
+    ensures { result ≡ stays_literal false bytes.now }
 {
     let mut plain = true;
     let mut after_space = false;
     for b in bytes {
         let space = *b == b' ';
-        plain &= is_plain_byte(*b) | (!after_space & space);
+        plain &= is_literal_byte(*b) | (!after_space & space);
         after_space = space;
     }
     plain
@@ -60,8 +60,8 @@ fn may_begin(byte: u8) -> bool
 }
 
 /// Whether neither the text nor what follows a space at its start begins with such a byte.
-fn begins_plain(bytes: &[u8]) -> bool
-    ensures { result ≡ begins_plain bytes.now }
+fn begins_literal(bytes: &[u8]) -> bool
+    ensures { result ≡ begins_literal bytes.now }
 {
     match bytes {
         [b' ', b, ..] => !may_begin(*b),
@@ -71,12 +71,12 @@ fn begins_plain(bytes: &[u8]) -> bool
 }
 
 /// Whether a text is written as it is, with the space at its start or without it.
-fn is_plain(text: &str) -> bool
+fn is_written_as_is(text: &str) -> bool
     ensures { IsTrue result → (goes : Bool)
         → escaped_markdown (spec.without_first_space goes (squeezed_text text.now))
         ≡ spec.without_first_space goes text.now }
 {
-    begins_plain(text.as_bytes()) && stays_plain(text.as_bytes())
+    begins_literal(text.as_bytes()) && stays_literal(text.as_bytes())
 }
 
 /// The least room that is made in an empty text: 64 bytes with what malloc adds.
@@ -122,7 +122,7 @@ fn append_ordinary(
         ≡ string_bytes out.old ++ spec.ordinary_text trim (string_bytes out.old) text.now) }
 {
     let goes = trim || trailing_len(out.as_bytes(), b' ') > 0;
-    if is_plain(text) {
+    if is_written_as_is(text) {
         return push_with_room(out, without_first_space(text, goes));
     }
     if is_squeezed(text) {

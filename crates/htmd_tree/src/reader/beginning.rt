@@ -2,13 +2,13 @@
 //! with its `head`, and `body`, which is open.
 ghost use Rattle.std.specs.Prelude.{◌≡◌, length, option_map, ◌≢◌, ◌∷◌, [], IfOk, IfErr, is_some};
 ghost use Rattle.htmd_grammar.specs.WhiteSpace.{is_ascii_white_space};
-ghost use Rattle.htmd_grammar.specs.Documents.{behind_mark, body_text};
-ghost use Rattle.htmd_grammar.specs.Steps.{body};
+ghost use Rattle.htmd_grammar.specs.HtmlDocuments.{behind_mark, body_text};
+ghost use Rattle.htmd_grammar.specs.ReaderSteps.{body};
 ghost use Rattle.htmd_nodes.specs.OpenItems.{stack_items};
 ghost use Rattle.htmd_tree.specs.OpenNodes.{Holds};
 ghost use Rattle.htmd_grammar.specs.CharacterClasses as classes;
 ghost use Rattle.htmd_grammar.specs.Comments as comments;
-ghost use Rattle.htmd_grammar.specs.Documents as documents;
+ghost use Rattle.htmd_grammar.specs.HtmlDocuments as documents;
 
 use crate::reader::scan::{Class, split_run};
 use crate::reader::surroundings::Surroundings;

@@ -5,7 +5,7 @@ ghost use Rattle.std.specs.Char.{to_ascii_lowercase};
 ghost use Rattle.htmd_grammar.specs.CharacterClasses.{is_empty};
 ghost use Rattle.htmd_grammar.specs.RawContent.{ends_text};
 ghost use Rattle.htmd_tree.specs.OpenNodes.{IsReading, innermost_name, WhateverIsOpen};
-ghost use Rattle.htmd_tree.specs.Advances.{Advances, Ends, HasSettled};
+ghost use Rattle.htmd_tree.specs.Advances.{Advances, Ends, HasImpliedClosed};
 ghost use Rattle.htmd_grammar.specs.CharacterClasses as classes;
 ghost use Rattle.htmd_grammar.specs.OpenElements as spec;
 ghost use Rattle.htmd_grammar.specs.Nesting as nesting;
@@ -68,8 +68,8 @@ impl<'a> Reader<'a> {
     /// Closes an implied `tbody` that ends where the text that is left begins.
     fn close_implied_body(&mut self)
         requires reading { IsReading self.old }
-        ensures settled { WhateverIsOpen self.old (λ has_doctype fs.
-            HasSettled self.old self.new has_doctype fs) }
+        ensures implied_is_closed { WhateverIsOpen self.old (λ has_doctype fs.
+            HasImpliedClosed self.old self.new has_doctype fs) }
         ensures reading { IsReading self.new }
         ensures rest { self.new.rest.now ≡ self.old.rest.now }
     {

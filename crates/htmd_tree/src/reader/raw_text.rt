@@ -4,9 +4,9 @@ ghost use Rattle.std.specs.Prelude.{◌≡◌, codes, ◌++◌, ◌∷◌, IfOk,
 ghost use Rattle.std.specs.Prelude.{false};
 ghost use Rattle.htmd_grammar.specs.CharacterClasses.{begins_with, up_to, is_empty, onward};
 ghost use Rattle.htmd_grammar.specs.Characters.{carriage_return};
-ghost use Rattle.htmd_grammar.specs.Documents.{above_body};
+ghost use Rattle.htmd_grammar.specs.HtmlDocuments.{above_body};
 ghost use Rattle.htmd_grammar.specs.RawContent.{ends_text, holds_raw_text, text_of};
-ghost use Rattle.htmd_grammar.specs.Steps.{raw_text_step};
+ghost use Rattle.htmd_grammar.specs.ReaderSteps.{raw_text_step};
 ghost use Rattle.htmd_tree.specs.OpenNodes.{IsReading, innermost_name, WhateverIsOpen};
 ghost use Rattle.htmd_tree.specs.Advances.{Follows, rules_of};
 ghost use Rattle.htmd_grammar.specs.RawContent as spec;

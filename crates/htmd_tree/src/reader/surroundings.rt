@@ -1,7 +1,7 @@
 //! What is kept of an open element and its ancestors, so that looking up what is allowed there costs the same at any
 //! depth.
 ghost use Rattle.std.specs.Prelude.{◌≡◌, ◌∷◌, Bool};
-ghost use Rattle.htmd_grammar.specs.Documents.{below_body};
+ghost use Rattle.htmd_grammar.specs.HtmlDocuments.{below_body};
 ghost use Rattle.htmd_grammar.specs.Nesting as spec;
 ghost use Rattle.htmd_tree.specs.Surroundings.{surroundings_of};
 ghost use Rattle.htmd_tree.specs.Surroundings as flags;

@@ -3,9 +3,9 @@ ghost use Rattle.std.specs.Prelude.{◌≡◌, ◌<◌, ◌≤◌, Bool, List, [
 ghost use Rattle.std.specs.Prelude.{OnOk, MatchResult};
 ghost use Rattle.std.specs.Str.{IsUtf8};
 ghost use Rattle.htmd_grammar.specs.CharacterClasses.{leading_run, is_empty};
-ghost use Rattle.htmd_grammar.specs.Steps.{OpenElement};
+ghost use Rattle.htmd_grammar.specs.ReaderSteps.{OpenElement};
 ghost use Rattle.htmd_tree.specs.declared.reader.Stop.TheVariants.{Refused};
-ghost use Rattle.htmd_tree.specs.TextRuns.{is_plain, is_run_end, TellsOfText, Pushes, ReadsRun, IsCharacterIn};
+ghost use Rattle.htmd_tree.specs.TextRuns.{is_literal, is_run_end, TellsOfText, Pushes, ReadsRun, IsCharacterIn};
 ghost use Rattle.htmd_tree.specs.TextRuns.{IsFaultIn};
 ghost use Rattle.htmd_tree.specs.OpenNodes.{IsReading, innermost_name, WhateverIsOpen};
 ghost use Rattle.htmd_tree.specs.Advances.{Advances, IsAtText};
@@ -29,8 +29,8 @@ pub(crate) struct TextSurroundings {
 }
 
 /// Whether a character stands for itself and may be there, as its first byte tells.
-fn is_plain(byte: u8, parts: bool) -> bool
-    ensures { result ≡ is_plain parts byte }
+fn is_literal(byte: u8, parts: bool) -> bool
+    ensures { result ≡ is_literal parts byte }
 {
     if parts {
         byte.is_ascii_whitespace() && byte != b'\r'
@@ -39,13 +39,13 @@ fn is_plain(byte: u8, parts: bool) -> bool
     }
 }
 
-/// How many bytes at the beginning are plain.
-fn plain_len(bytes: &[u8], parts: bool) -> usize
+/// How many bytes at the beginning are literal.
+fn literal_len(bytes: &[u8], parts: bool) -> usize
     ensures bound { result ≤ length bytes.now }
-    ensures value { result ≡ length (leading_run (is_plain parts) bytes.now) }
+    ensures value { result ≡ length (leading_run (is_literal parts) bytes.now) }
 {
     let mut len = 0;
-    while len < bytes.len() && is_plain(bytes[len], parts) {
+    while len < bytes.len() && is_literal(bytes[len], parts) {
         len += 1;
     }
     len
@@ -68,7 +68,7 @@ fn is_run_end(bytes: &[u8], name: &[u8], alone: bool) -> bool
 /// The character where the text begins, if it may be there.
 fn character_in(bytes: &[u8], parts: bool) -> Result<Character, FaultKind>
     requires more { 0 < length bytes.now }
-    requires special { is_plain parts (slice_index bytes.now 0) ≡ false }
+    requires special { is_literal parts (slice_index bytes.now 0) ≡ false }
     ensures { MatchResult result (IsCharacterIn parts bytes.now) (IsFaultIn parts bytes.now) }
 {
     let (first, behind) = (bytes[0], &bytes[1..]);
@@ -92,15 +92,15 @@ fn refused(text: &str, kind: FaultKind) -> Stop
     }
 }
 
-/// Appends the plain characters with which the text begins to a run. Returns what is left.
-fn push_plain<'a>(
+/// Appends the literal characters with which the text begins to a run. Returns what is left.
+fn push_literals<'a>(
     run: &mut String,
     around: TextSurroundings,
     text: &'a str,
     len: usize,
 ) -> Result<&'a str, Stop>
     requires some { 0 < len }
-    requires plain { len ≡ length (leading_run (is_plain around.parts) text.now) }
+    requires plain { len ≡ length (leading_run (is_literal around.parts) text.now) }
     ensures steps { (scripting : Bool) (n : List ℕ) (fs : List OpenElement)
         → TellsOfText scripting around n fs
         → Pushes scripting fs (string_bytes run.old) text.now (string_bytes run.new) result }
@@ -117,14 +117,14 @@ fn push_plain<'a>(
     Ok(rest)
 }
 
-/// Appends the character with which the text begins, which isn't plain, to a run. Returns what is left.
+/// Appends the character with which the text begins, which isn't literal, to a run. Returns what is left.
 fn push_special<'a>(
     run: &mut String,
     around: TextSurroundings,
     text: &'a str,
 ) -> Result<&'a str, Stop>
     requires more { 0 < length text.now }
-    requires special { is_plain around.parts (slice_index text.now 0) ≡ false }
+    requires special { is_literal around.parts (slice_index text.now 0) ≡ false }
     ensures steps { (scripting : Bool) (n : List ℕ) (fs : List OpenElement)
         → TellsOfText scripting around n fs → is_run_end around.alone n text.now ≡ false
         → Pushes scripting fs (string_bytes run.old) text.now (string_bytes run.new) result }
@@ -145,7 +145,7 @@ fn push_special<'a>(
     }
 }
 
-/// Appends what comes next in a text to a run: plain characters, or one other. Returns what is left.
+/// Appends what comes next in a text to a run: literal characters, or one other. Returns what is left.
 fn push_next<'a>(run: &mut String, around: TextSurroundings, text: &'a str) -> Result<&'a str, Stop>
     requires more { 0 < length text.now }
     ensures steps { (scripting : Bool) (n : List ℕ) (fs : List OpenElement)
@@ -156,11 +156,11 @@ fn push_next<'a>(run: &mut String, around: TextSurroundings, text: &'a str) -> R
     ensures longer { OnOk result (0 < length (string_bytes run.new)) }
     ensures deep { OnOk result (around.too_deep ≡ false) }
 {
-    let len = plain_len(text.as_bytes(), around.parts);
+    let len = literal_len(text.as_bytes(), around.parts);
     if len == 0 {
         push_special(run, around, text)
     } else {
-        push_plain(run, around, text, len)
+        push_literals(run, around, text, len)
     }
 }
 
@@ -202,7 +202,8 @@ impl<'a> Reader<'a> {
         }
     }
 
-    /// Reads a text with references, up to what ends it. It is made in `run`, whose memory serves one text after another.
+    /// Reads a text with references, up to what ends it. It is made in `run`, whose memory serves one text after
+    /// another.
     pub(super) fn read_text(&mut self, run: &mut String) -> Result<(), Stop>
         requires reading { IsReading self.old }
         requires more { is_empty self.old.rest.now ≡ false }

@@ -37,7 +37,7 @@ pub fn is_raw_html_due(options: &Options, element: &Element, allowed: i64) -> bo
 }
 
 /// Whether the element is written as Markdown, as far as its attributes decide.
-pub(crate) fn is_plain(element: &Element) -> bool
+pub(crate) fn is_written_as_markdown(element: &Element) -> bool
     ensures { result ≡ not (spec.is_raw_html_due (element_view element.now) 0) }
 {
     is_markdown_alone(element.options) || element.attrs.is_empty()
@@ -54,7 +54,7 @@ pub(crate) fn has_attributes_beyond(element: &Element, allowed: usize) -> bool
 pub(crate) fn plain_plan(element: &Element) -> Plan
     ensures { plan_view result ≡ spec.plain_plan (element_view element.now) }
 {
-    if is_plain(element) {
+    if is_written_as_markdown(element) {
         Plan::Children
     } else {
         Plan::RawHtml

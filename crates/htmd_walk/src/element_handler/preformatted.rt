@@ -5,7 +5,7 @@ ghost use Rattle.htmd_nodes.specs.Items.{children_of};
 ghost use Rattle.htmd_walk.specs.Preformatted as spec;
 ghost use Rattle.htmd_walk.specs.Views.{plan_view, element_view, result_view, optional_result};
 
-use super::plans::{is_markdown_alone, is_plain, plan_if, raw_block_result, wrap};
+use super::plans::{is_markdown_alone, is_written_as_markdown, plan_if, raw_block_result, wrap};
 use super::{Element, HandlerResult, Plan};
 use std::alloc::{AllocError, Global};
 
@@ -24,7 +24,7 @@ fn is_code_alone(element: &Element) -> bool
 pub(crate) fn plan(element: &Element) -> Plan
     ensures { plan_view result ≡ spec.preformatted_texts.plan (element_view element.now) }
 {
-    if !is_plain(element) {
+    if !is_written_as_markdown(element) {
         return Plan::RawHtml;
     }
     plan_if(

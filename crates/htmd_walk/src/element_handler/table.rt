@@ -13,7 +13,7 @@ ghost use Rattle.htmd_walk.specs.TableViews.{parts_view, texts_view};
 ghost use Rattle.htmd_walk.specs.Views.{element_view, result_view, results_view, optional_result};
 ghost use Rattle.htmd_walk.specs.Walking.{request_view, outcome_view};
 
-use super::plans::{are_markdown, is_markdown_alone, is_plain, raw_block_result};
+use super::plans::{are_markdown, is_markdown_alone, is_written_as_markdown, raw_block_result};
 use super::registry::{Outcome, Request};
 use super::table_layout::{Part, PartKind, has_tag, layout_of, nodes_of};
 use super::{Element, HandlerResult, Plan};
@@ -117,7 +117,7 @@ pub(crate) fn plan(alloc: Global, element: &Element) -> Result<Request, AllocErr
     ensures plan { IfOk result (λ p. request_view p ≡ handler.table_plan (element_view element.now)) }
     ensures proper { IfOk result (λ p. IsProper element.now.tree.now element.now.node (request_view p)) }
 {
-    if !is_plain(element) {
+    if !is_written_as_markdown(element) {
         return Ok(Request::OfPlan(Plan::RawHtml));
     }
     if is_left_out(element) {

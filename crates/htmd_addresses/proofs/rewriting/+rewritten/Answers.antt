@@ -7,11 +7,11 @@ use Rattle.htmd_nodes.specs.Items.{Item, document_node, doctype_node, text_node,
 use Rattle.htmd_nodes.specs.Items.{holds_children, children_of}
 use Rattle.htmd_nodes.specs.Layout.{forest_items}
 use Rattle.htmd_nodes.specs.NumberedTrees.{tree_of, forest_of, value_forest}
-use Rattle.htmd_nodes.specs.Parts.{value_at}
+use Rattle.htmd_nodes.specs.NodeValues.{value_at}
 use Rattle.htmd_nodes.specs.Views.{data_of}
 use Rattle.htmd_nodes.proofs.ItemsLemmas.{child_read}
 use Rattle.htmd_addresses.specs.Rewriting.{Rule, rewritten, rewritten_tree}
-use Rattle.htmd_pages.proofs.PartsLemmas.{laid-turn, laid-element, part-node, item_at-kept, within-kept}
+use Rattle.htmd_pages.proofs.SelectedPartsLemmas.{laid-turn, laid-element, part-node, item_at-kept, within-kept}
 use Rattle.htmd_addresses.proofs.rewriting.+rewritten.Goals as goal
 
 pub push_rewritten-push_rewritten_child-requires : goal.push_rewritten-push_rewritten_child-requires

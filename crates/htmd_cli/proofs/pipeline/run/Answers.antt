@@ -1,6 +1,6 @@
 -- The settings of a mode.
 use Rattle.std.proofs.Common.{subst}
-use Rattle.htmd_cli.specs.Runs.{Ends}
+use Rattle.htmd_cli.specs.StreamConversions.{Ends}
 use Rattle.htmd_cli.proofs.pipeline.run.Goals as goal
 
 pub returns-clause-ends : goal.returns-clause-ends

@@ -1,7 +1,7 @@
 -- All was read, or not.
 use Rattle.std.proofs.Common.{refl}
 use Rattle.htmd_cli.specs.Settings.{settings_in}
-use Rattle.htmd_cli.proofs.RunsLemmas.{ends_over, ends_unread}
+use Rattle.htmd_cli.proofs.StreamConversionsLemmas.{ends_over, ends_unread}
 use Rattle.htmd_cli.proofs.pipeline.run_over.Goals as goal
 
 pub returns-in-Ok-clause-ends : goal.returns-in-Ok-clause-ends

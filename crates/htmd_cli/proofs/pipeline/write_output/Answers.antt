@@ -2,7 +2,7 @@
 use Rattle.std.proofs.Common.{refl, string_bytes}
 use Rattle.std.proofs.lemmas.Result.{err_from_is_err_and}
 use Rattle.htmd_cli.specs.Settings.{settings_in}
-use Rattle.htmd_cli.proofs.RunsLemmas.{ends_well, ends_at_sink, ends_early}
+use Rattle.htmd_cli.proofs.StreamConversionsLemmas.{ends_well, ends_at_sink, ends_early}
 use Rattle.htmd_cli.proofs.pipeline.write_output.Goals as goal
 
 pub returns-in_err-output-clause-ends : goal.returns-in_err-output-clause-ends

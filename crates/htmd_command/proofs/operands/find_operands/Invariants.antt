@@ -1,6 +1,6 @@
 -- The names so far were looked for, and no file was changed.
 use Rattle.std.proofs.Common.{◌≡◌, [], map, take}
-use Rattle.htmd_files.specs.Plans.{path_of}
+use Rattle.htmd_files.specs.FilePlans.{path_of}
 use Rattle.htmd_files.specs.PlanViews.{operand_of}
 use Rattle.htmd_files.specs.WordViews.{text_of}
 use Rattle.htmd_folders.specs.Changes.{Makes}

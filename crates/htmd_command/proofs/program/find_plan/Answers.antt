@@ -1,6 +1,6 @@
 -- The output is a folder that is there or not, and that was looked up.
 use Rattle.std.proofs.Common.{◌≡◌, ◌∙◌, ap, sym, map, false, option_map}
-use Rattle.htmd_files.specs.Plans.{path_of, plan}
+use Rattle.htmd_files.specs.FilePlans.{path_of, plan}
 use Rattle.htmd_files.specs.PlanViews.{destination_of, operand_of}
 use Rattle.htmd_files.specs.WordViews.{text_of}
 use Rattle.htmd_command.specs.Programs.{destination}

@@ -25,5 +25,6 @@ pub returns : goal.returns
 returns c =
     let html = c.args.html.now in
     IfOk-weaker c.convert.result _ _
-    (λ text h other o. only_one html (string_bytes text) other (c.at_most_one_tree.ensures.document (project true)) h o)
+    (λ text h other o. only_one html (string_bytes text) other (c.at_most_one_tree.ensures.document (project true)) h
+    o)
     c.convert.ensures.ok

@@ -7,9 +7,9 @@ use Rattle.std.specs.Str.{bytes_eq}
 use Rattle.std.proofs.lemmas.Map.Text.{btree_map_updates_text}
 use Rattle.htmd_files.specs.declared.planning.Page.{Page}
 use Rattle.htmd_files.specs.Paths.{normal}
-use Rattle.htmd_files.specs.Plans as spec
+use Rattle.htmd_files.specs.FilePlans as spec
 use Rattle.htmd_files.specs.PlanViews.{page_of, pages_of, IsRefusal}
-use Rattle.htmd_files.proofs.PlansLemmas.{next_page, page_done, shared_step, found_more, map_either, at}
+use Rattle.htmd_files.proofs.FilePlansLemmas.{next_page, page_done, shared_step, found_more, map_either, at}
 use Rattle.htmd_files.proofs.planning.by_output.Goals as goal
 
 pub returns-in-Some-clause-err : goal.returns-in-Some-clause-err

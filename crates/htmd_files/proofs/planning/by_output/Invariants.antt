@@ -1,6 +1,6 @@
 -- The pages so far by their outputs, and what is shared among those that are left.
 use Rattle.std.proofs.Common.{◌≡◌, drop, take, []}
-use Rattle.htmd_files.specs.Plans.{shared_after}
+use Rattle.htmd_files.specs.FilePlans.{shared_after}
 use Rattle.htmd_files.specs.PlanViews.{pages_of, HoldsOutputs}
 use Rattle.htmd_files.proofs.planning.by_output.Given as goal
 

@@ -2,7 +2,7 @@
 use Rattle.std.proofs.Common.{◌≡◌, drop}
 use Rattle.std.specs.Prelude.{find}
 use Rattle.htmd_files.specs.Paths.{place}
-use Rattle.htmd_files.specs.Plans.{is_outside}
+use Rattle.htmd_files.specs.FilePlans.{is_outside}
 use Rattle.htmd_files.specs.PlaceViews.{place_in}
 use Rattle.htmd_files.specs.PlanViews.{pages_of}
 use Rattle.htmd_files.proofs.planning.check_below.Given as goal

@@ -4,9 +4,9 @@ use Rattle.std.specs.Prelude.{find, option_map}
 use Rattle.std.specs.BTreeMap.{get_by_text}
 use Rattle.htmd_files.specs.declared.planning.Page.{Page}
 use Rattle.htmd_files.specs.Paths.{normal}
-use Rattle.htmd_files.specs.Plans as spec
+use Rattle.htmd_files.specs.FilePlans as spec
 use Rattle.htmd_files.specs.PlanViews.{page_of, pages_of, IsRefusal}
-use Rattle.htmd_files.proofs.PlansLemmas.{next_page, overwritten_step, at}
+use Rattle.htmd_files.proofs.FilePlansLemmas.{next_page, overwritten_step, at}
 use Rattle.htmd_files.proofs.planning.check_inputs.Goals as goal
 
 pub returns-in-Some-clause-err : goal.returns-in-Some-clause-err

@@ -1,6 +1,6 @@
 -- The first input that is an output is among those that are left.
 use Rattle.std.proofs.Common.{◌≡◌, drop}
-use Rattle.htmd_files.specs.Plans.{overwritten_in}
+use Rattle.htmd_files.specs.FilePlans.{overwritten_in}
 use Rattle.htmd_files.specs.PlanViews.{pages_of}
 use Rattle.htmd_files.proofs.planning.check_inputs.Given as goal
 

@@ -1,6 +1,6 @@
 -- The pages, sorted.
 use Rattle.std.proofs.Common.{◌∙◌, ap}
-use Rattle.htmd_files.specs.Plans.{in_order}
+use Rattle.htmd_files.specs.FilePlans.{in_order}
 use Rattle.htmd_files.proofs.OrderLemmas.{sorted_is}
 use Rattle.htmd_files.proofs.planning.pages_among.Goals as goal
 

@@ -1,9 +1,9 @@
 -- The pages of an operand after those before, or its fault.
 use Rattle.std.proofs.Common.{◌∙◌, drop, map, arith, ◌+◌, List, Result}
 use Rattle.std.proofs.lemmas.Result.{err_from_is_err_and}
-use Rattle.htmd_files.specs.Plans as spec
+use Rattle.htmd_files.specs.FilePlans as spec
 use Rattle.htmd_files.specs.PlanViews.{operand_of, pages_of}
-use Rattle.htmd_files.proofs.PlansLemmas.{next_operand, after_both, fault_of_pages, refusal_goes}
+use Rattle.htmd_files.proofs.FilePlansLemmas.{next_operand, after_both, fault_of_pages, refusal_goes}
 use Rattle.htmd_files.proofs.planning.pages_in.Goals as goal
 
 pub loop-operand-preserved : goal.loop-operand-preserved

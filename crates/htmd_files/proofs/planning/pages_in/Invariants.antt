@@ -1,6 +1,6 @@
 -- The pages so far, and those of the operands that are left.
 use Rattle.std.proofs.Common.{◌≡◌, drop, map}
-use Rattle.htmd_files.specs.Plans.{after, pages_in}
+use Rattle.htmd_files.specs.FilePlans.{after, pages_in}
 use Rattle.htmd_files.specs.PlanViews.{pages_of, operand_of}
 use Rattle.htmd_files.proofs.planning.pages_in.Given as goal
 

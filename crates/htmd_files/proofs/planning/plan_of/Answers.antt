@@ -2,7 +2,7 @@
 use Rattle.std.proofs.Common.{map, sym, subst, List, Option, Some}
 use Rattle.std.specs.Prelude.{option_map}
 use Rattle.htmd_files.specs.declared.planning.Destination.{Destination}
-use Rattle.htmd_files.specs.Plans as spec
+use Rattle.htmd_files.specs.FilePlans as spec
 use Rattle.htmd_files.specs.PlanViews.{operand_of, destination_of, pages_of}
 use Rattle.htmd_files.specs.Promises.{AreBelow}
 use Rattle.htmd_files.proofs.PromisesLemmas.{plan_keeps}

@@ -1,6 +1,6 @@
 -- The pages so far, and those of the paths that are left.
 use Rattle.std.proofs.Common.{◌≡◌, ◌++◌, drop, map}
-use Rattle.htmd_files.specs.Plans.{page_below}
+use Rattle.htmd_files.specs.FilePlans.{page_below}
 use Rattle.htmd_files.specs.PlaceViews.{texts}
 use Rattle.htmd_files.specs.PlanViews.{pages_of}
 use Rattle.htmd_files.proofs.planning.push_paths.Given as goal

@@ -2,8 +2,8 @@
 use Rattle.std.proofs.Common.{◌≡◌, ◌++◌, List, [], ◌∷◌, ◌∙◌, ap, subst, sym, take, arith}
 use Rattle.std.proofs.lemmas.List.{take_more}
 use Rattle.htmd_files.specs.declared.planning.Page.{Page}
-use Rattle.htmd_folders.specs.Runs.{Takes}
-use Rattle.htmd_folders.proofs.RunsLemmas.{takes_more}
+use Rattle.htmd_folders.specs.FolderConversions.{Takes}
+use Rattle.htmd_folders.proofs.FolderConversionsLemmas.{takes_more}
 use Rattle.htmd_folders.proofs.run.take_pages.Goals as goal
 
 pub loop-page-preserved : goal.loop-page-preserved
@@ -15,7 +15,8 @@ loop-page-preserved g c =
     let before = g.S.Store.changes c.args.store.now in
     let after = g.S.Store.changes c.take_page.new.store in
     let P : List Page → Type 0 = λ ps. Takes becomes ps before after c.take_page.new.tally.failed in
-    let more = take_more pages i page c.loop-page-test.true ∙ ap (λ p. take i pages ++ p ∷ []) (sym c.page-item.is) in
+    let more = take_more pages i page c.loop-page-test.true
+    ∙ ap (λ p. take i pages ++ p ∷ []) (sym c.page-item.is) in
     let taken =
     takes_more becomes (take i pages) page before (g.S.Store.changes c.loop-page.store) after
     c.loop-page.tally.failed c.take_page.new.tally.failed c.loop-page.invariant.taken c.take_page.ensures.taken in

@@ -1,6 +1,6 @@
 -- The pages so far were taken.
 use Rattle.std.proofs.Common.{◌≡◌, ◌+◌, take}
-use Rattle.htmd_folders.specs.Runs.{Takes}
+use Rattle.htmd_folders.specs.FolderConversions.{Takes}
 use Rattle.htmd_folders.proofs.run.take_pages.Given as goal
 
 abbrev pub invariant-loop-page : goal.invariant-loop-page

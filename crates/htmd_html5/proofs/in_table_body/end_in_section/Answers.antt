@@ -1,7 +1,7 @@
 -- Other names are read as in a table.
 use Rattle.std.proofs.Common.{◌≡◌, ◌∙◌, false, ap, rules}
 use Rattle.htmd_html5_state.specs.Names.{name_of}
-use Rattle.htmd_html5.specs.Answers.{done}
+use Rattle.htmd_html5.specs.Outcomes.{done}
 use Rattle.htmd_html5.proofs.TableTagLemmas.{is_end_in_section, section_other_end}
 use Rattle.htmd_html5.proofs.in_table_body.end_in_section.Goals as goal
 

@@ -1,10 +1,10 @@
 -- The text without its mark, its nodes, and their tree.
 use Rattle.std.proofs.Common.{◌≡◌, ◌∙◌, ℕ, List, ap, subst}
 use Rattle.std.specs.Prelude.{IfOk}
-use Rattle.htmd_html5_state.specs.Documents.{NodeValue}
+use Rattle.htmd_html5_state.specs.Nodes.{NodeValue}
 use Rattle.htmd_html5_state.specs.State.{initial_state}
 use Rattle.htmd_nodes.specs.Items.{greatest_depth}
-use Rattle.htmd_html5.specs.Documents.{html5_document, read_all}
+use Rattle.htmd_html5.specs.Html5Documents.{html5_document, read_all}
 use Rattle.htmd_html5.specs.Layout.{document_of}
 use Rattle.htmd_html5.proofs.reader.parse_html5.Goals as goal
 

@@ -4,9 +4,9 @@ use Rattle.std.specs.Prelude.{not, OnOk}
 use Rattle.htmd_html5_state.specs.State.{StateValue}
 use Rattle.htmd_html5_tokens.specs.NextToken.{next_token}
 use Rattle.htmd_html5_tokens.specs.Tokens.{Read, value_of}
-use Rattle.htmd_grammar.specs.declared.content.Content.{Content}
-use Rattle.htmd_html5.specs.Documents.{next_read}
-use Rattle.htmd_html5.proofs.DocumentsLemmas.{turn_on, turn_ends, reads_over}
+use Rattle.htmd_grammar.specs.declared.content_model.ContentModel.{ContentModel}
+use Rattle.htmd_html5.specs.Html5Documents.{next_read}
+use Rattle.htmd_html5.proofs.Html5DocumentsLemmas.{turn_on, turn_ends, reads_over}
 use Rattle.htmd_html5.proofs.reader.read_all.Goals as goal
 
 pub returns-then-ends : goal.returns-then-ends
@@ -15,7 +15,7 @@ returns-then-ends c =
     let rest = c.loop-token.tokenizer in
     let s = c.loop-token.state in
     let read : next_token c.content.result (not c.current_is_html.result) rest ≡ next_read rest s =
-    ap (λ (x : Content). next_token x (not c.current_is_html.result) rest) c.content.ensures
+    ap (λ (x : ContentModel). next_token x (not c.current_is_html.result) rest) c.content.ensures
     ∙ ap (λ (b : Bool). next_token s.content (not b) rest) c.current_is_html.ensures in
     turn_ends text c.args.state.now rest s c.feed.new.state (value_of c.in_ok-token.token) c.loop-token._token
     (length text) c.loop-token.invariant (omega arith)
@@ -28,7 +28,7 @@ loop-token-preserved c =
     let rest = c.loop-token.tokenizer in
     let s = c.loop-token.state in
     let read : next_token c.content.result (not c.current_is_html.result) rest ≡ next_read rest s =
-    ap (λ (x : Content). next_token x (not c.current_is_html.result) rest) c.content.ensures
+    ap (λ (x : ContentModel). next_token x (not c.current_is_html.result) rest) c.content.ensures
     ∙ ap (λ (b : Bool). next_token s.content (not b) rest) c.current_is_html.ensures in
     turn_on text c.args.state.now rest c.next.new.self s c.feed.new.state (value_of c.in_ok-token.token)
     c.loop-token._token (length text) c.loop-token.invariant

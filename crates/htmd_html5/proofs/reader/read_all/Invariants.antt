@@ -1,5 +1,5 @@
 -- What is left to read is the same in each turn.
-use Rattle.htmd_html5.proofs.DocumentsLemmas.{Reads}
+use Rattle.htmd_html5.proofs.Html5DocumentsLemmas.{Reads}
 use Rattle.htmd_html5.proofs.reader.read_all.Given as goal
 
 abbrev pub invariant-loop-token : goal.invariant-loop-token

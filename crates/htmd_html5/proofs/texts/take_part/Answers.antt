@@ -1,7 +1,7 @@
 -- The turns of a part.
 use Rattle.std.proofs.Common.{◌≡◌, ◌∙◌, ℕ, Bool, true, false, List, [], ap, sym, arith}
 use Rattle.htmd_html5_state.specs.State.{StateValue}
-use Rattle.htmd_html5.specs.Answers.{answer}
+use Rattle.htmd_html5.specs.Outcomes.{outcome}
 use Rattle.htmd_html5.specs.Texts.{taken, takes_all, take_within}
 use Rattle.htmd_html5.proofs.TextsLemmas.{first_by_rules, takes_again, takes_run, takes_text, takes_over}
 use Rattle.htmd_html5.proofs.texts.take_part.Goals as goal
@@ -24,7 +24,7 @@ returns-then-not-branch-clause-value c =
     let split = c.split_run-split in
     let some : takes_all s ≡ false = cc in
     let again : c.in_ok-put_run_by_rules.field-0 ≡ false = cc in
-    let e = ap (λ (b : Bool). answer new b) (sym again) ∙ c.in_ok-put_run_by_rules.ensures
+    let e = ap (λ (b : Bool). outcome new b) (sym again) ∙ c.in_ok-put_run_by_rules.ensures
     ∙ first_by_rules text split.result.run.now split.result.kind s split.ensures.kind split.ensures.run in
     ap (λ (x : List ℕ). taken new x) split.ensures.rest
     ∙ takes_run text c.args.state.now s new c.loop-turn._turn c.turns-turn-end.result c.loop-turn.invariant
@@ -39,7 +39,7 @@ loop-turn-preserved c =
     let split = c.split_run-split in
     let some : takes_all s ≡ false = cc in
     let again : c.in_ok-put_run_by_rules.field-0 ≡ true = cc in
-    let e = ap (λ (b : Bool). answer new b) (sym again) ∙ c.in_ok-put_run_by_rules.ensures
+    let e = ap (λ (b : Bool). outcome new b) (sym again) ∙ c.in_ok-put_run_by_rules.ensures
     ∙ first_by_rules text split.result.run.now split.result.kind s split.ensures.kind split.ensures.run in
     takes_again text c.args.state.now s new c.loop-turn._turn c.turns-turn-end.result c.loop-turn.invariant some e
 

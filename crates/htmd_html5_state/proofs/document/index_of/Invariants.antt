@@ -1,7 +1,7 @@
 -- No child that was met is this one.
 use Rattle.std.proofs.Common.{◌≡◌, ℕ, false, List, ◌++◌, length}
 use Rattle.std.specs.List.{list_any}
-use Rattle.htmd_html5_state.specs.Documents.{is_number}
+use Rattle.htmd_html5_state.specs.Nodes.{is_number}
 use Rattle.htmd_html5_state.proofs.document.index_of.Given as goal
 
 abbrev pub invariant-loop-rest : goal.invariant-loop-rest

@@ -1,7 +1,7 @@
 -- One more element that is alike.
 use Rattle.std.proofs.Common.{◌≡◌, ◌∙◌, ◌+◌, ◌++◌, ◌∷◌, [], ℕ, true, sym, ap, arith}
 use Rattle.std.proofs.lemmas.List.{length_push}
-use Rattle.htmd_html5_state.specs.Documents.{KindValue, same_element}
+use Rattle.htmd_html5_state.specs.Nodes.{KindValue, same_element}
 use Rattle.htmd_html5_state.specs.Formatting.{is_alike}
 use Rattle.htmd_html5_state.specs.Views.{kind_seen}
 use Rattle.htmd_html5_state.proofs.FormattingLemmas.{last_of-push, filter-more}

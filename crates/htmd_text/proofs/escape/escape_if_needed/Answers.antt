@@ -7,13 +7,13 @@ use Rattle.htmd_text.proofs.PlainTextLemmas.{no_inline, no_html}
 use Rattle.htmd_text.proofs.PlainTextLemmas.{no_block, no_item}
 use Rattle.std.proofs.lemmas.Result.{IfOk-weaker}
 use Rattle.std.specs.Cow.{cow_str_bytes, IsBorrowedStr}
-use Rattle.htmd_text.specs.EscapeMarks.{escaped_markdown, begins_block, numbered_item_dot, with_backslashes}
-use Rattle.htmd_text.specs.Marks.{is_marked_by}
-use Rattle.htmd_text.specs.declared.escape.Marks.{Marks}
-use Rattle.htmd_text.specs.declared.escape.Marks.TheVariants.{Markdown}
+use Rattle.htmd_text.specs.EscapedPlaces.{escaped_markdown, begins_block, numbered_item_dot, with_backslashes}
+use Rattle.htmd_text.specs.EscapeKinds.{is_escaped_by}
+use Rattle.htmd_text.specs.declared.escape.EscapeKind.{EscapeKind}
+use Rattle.htmd_text.specs.declared.escape.EscapeKind.TheVariants.{Markdown}
 use Rattle.htmd_text.specs.Unescape.{unescape}
 use Rattle.htmd_text.proofs.UnescapeLemmas.{unescape-escaped}
-use Rattle.htmd_text.proofs.MarksLemmas.{marks_are_ascii}
+use Rattle.htmd_text.proofs.EscapeKindsLemmas.{marks_are_ascii}
 use Rattle.htmd_text.proofs.escape.escape_if_needed.Goals as goal
 
 pub with_backslashes-requires : goal.with_backslashes-requires
@@ -24,15 +24,15 @@ returns-clause-text c =
     let s = c.args.text.now in
     let same : Markdown c.begins_block.result c.numbered_item_dot.result ≡ Markdown (begins_block s)
     (numbered_item_dot s) = cc in
-    subst (λ (m : Marks). IfOk c.with_backslashes.result
-    (λ t. cow_str_bytes t ≡ with_backslashes (is_marked_by m s) 0 s)) same c.with_backslashes.ensures.text
+    subst (λ (m : EscapeKind). IfOk c.with_backslashes.result
+    (λ t. cow_str_bytes t ≡ with_backslashes (is_escaped_by m s) 0 s)) same c.with_backslashes.ensures.text
 
 pub returns-clause-borrowed : goal.returns-clause-borrowed
 returns-clause-borrowed c =
     let s = c.args.text.now in
     let same : Markdown c.begins_block.result c.numbered_item_dot.result ≡ Markdown (begins_block s)
     (numbered_item_dot s) = cc in
-    subst (λ (m : Marks). with_backslashes (is_marked_by m s) 0 s ≡ s
+    subst (λ (m : EscapeKind). with_backslashes (is_escaped_by m s) 0 s ≡ s
     → IsOkAnd c.with_backslashes.result (λ t. IsBorrowedStr t)) same c.with_backslashes.ensures.borrowed
 
 -- what holds for the escaped text holds for the answer

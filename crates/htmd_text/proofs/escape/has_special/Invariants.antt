@@ -1,7 +1,7 @@
 -- What the loop of `has_special` keeps.
 use Rattle.std.proofs.Common.{◌≡◌, take}
 use Rattle.std.specs.List.{list_any}
-use Rattle.htmd_text.specs.Marks.{is_special}
+use Rattle.htmd_text.specs.EscapeKinds.{is_special}
 use Rattle.htmd_text.proofs.escape.has_special.Given as goal
 
 abbrev pub invariant-loop-b : goal.invariant-loop-b

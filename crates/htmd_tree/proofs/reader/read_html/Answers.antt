@@ -1,10 +1,10 @@
 -- What is left to prove of `read_html`.
 use Rattle.std.proofs.Common.{◌-◌, ◌∷◌, [], Err, length, is_some, sym, subst}
 use Rattle.htmd_grammar.specs.Comments.{behind_doctype}
-use Rattle.htmd_grammar.specs.Documents.{behind_mark}
+use Rattle.htmd_grammar.specs.HtmlDocuments.{behind_mark}
 use Rattle.htmd_grammar.specs.Faults.{IsFault}
 use Rattle.htmd_grammar.specs.Rules.{project}
-use Rattle.htmd_grammar.specs.Steps.{body}
+use Rattle.htmd_grammar.specs.ReaderSteps.{body}
 use Rattle.htmd_tree.specs.Advances.{Ends}
 use Rattle.htmd_tree.proofs.DocumentsLemmas.{read_rightly, left_within, fault_right, fault_refuses, null_found}
 use Rattle.htmd_tree.proofs.DocumentsLemmas.{null_lacks, nul_refuses, nul_is_right, same_refusal}

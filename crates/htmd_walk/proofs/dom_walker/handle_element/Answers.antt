@@ -38,7 +38,8 @@ returns g c =
     ∙ ap (λ j. shown_occurrence n v id translated (group_children j (children_at there id))) here.joined)
     ∙ ap (λ r. answer c.in-Element.name.now (occurrence_in_tree (conversion_of (g.R.Registry.config r) there) id
     translated)) c.new-walk.ensures.registry
-    ∙ ap (λ (x : List Item). answer c.in-Element.name.now (occurrence_in_tree (conversion_of config x) id translated))
+    ∙ ap (λ (x : List Item). answer c.in-Element.name.now
+    (occurrence_in_tree (conversion_of config x) id translated))
     c.new-walk.ensures.tree
     ∙ ap (λ s. answer s (occurrence_in_tree (conversion_of config items) id translated)) tag in
     let low : height (tree_of there c.element-element.result.node) ≤ suc n =

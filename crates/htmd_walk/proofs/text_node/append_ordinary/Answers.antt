@@ -2,7 +2,7 @@ use Rattle.std.proofs.Common.{◌≡◌, ◌++◌, ◌∙◌, ◌||◌, ap, sym,
 use Rattle.std.specs.List.{suffix_len}
 use Rattle.std.proofs.lemmas.Result.{on_ok_weaker}
 use Rattle.htmd_grammar.proofs.Cases.{pushed}
-use Rattle.htmd_text.specs.EscapeMarks.{escaped_markdown}
+use Rattle.htmd_text.specs.EscapedPlaces.{escaped_markdown}
 use Rattle.htmd_text.specs.SqueezedTexts.{squeezed_text}
 use Rattle.htmd_text.specs.Trims.{is_space}
 use Rattle.htmd_walk.specs.Seams.{ends_with_space}
@@ -10,8 +10,8 @@ use Rattle.htmd_walk.specs.OrdinaryText.{without_first_space}
 use Rattle.htmd_walk.proofs.text_node.append_ordinary.Goals as goal
 use Rattle.htmd_walk.proofs.text_node.append_ordinary.Goals.{then-trim, else-trim}
 
-pub returns-then-is_plain : goal.returns-then-is_plain
-returns-then-is_plain c =
+pub returns-then-is_written_as_is : goal.returns-then-is_written_as_is
+returns-then-is_written_as_is c =
     let out = string_bytes c.args.out.now in
     let goes : c.if-trim.goes ≡ (c.args.trim || ends_with_space out) = elim c.if-trim.branch [
       | then-trim w ↦ w.goes-is ∙ w.if-trim.true ∙ sym (ap (λ t. t || ends_with_space out) w.if-trim.true)
@@ -19,7 +19,8 @@ returns-then-is_plain c =
           ∙ ap (ltb 0) (w.trailing_len.ensures.value ∙ ap (suffix_len is_space) w.as_bytes.ensures.value)
           ∙ sym (ap (λ t. t || ends_with_space out) w.if-trim.false)
     ] in
-    let rest = c.without_first_space.ensures ∙ sym (c.is_plain.ensures c.if-is_plain.true c.if-trim.goes)
+    let rest = c.without_first_space.ensures
+    ∙ sym (c.is_written_as_is.ensures c.if-is_written_as_is.true c.if-trim.goes)
     ∙ ap (λ t. escaped_markdown (without_first_space t (squeezed_text c.args.text.now))) goes in
     pushed c.push_with_room.result (string_bytes c.push_with_room.new.out) (out ++ c.without_first_space.result.now) out
     c.push_with_room.ensures.bytes (ap (λ s. out ++ s) rest)

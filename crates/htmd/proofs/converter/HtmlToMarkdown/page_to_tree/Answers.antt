@@ -9,7 +9,8 @@ overflow_add-result g c =
     let place = c.in-Err-Refused.place in
     let kind = c.in-Err-Refused.kind in
     let part = c.body_of-start.result.0.now in
-    let refused = c.html_to_tree.ensures.refused place kind (c.in-Err-Refused.is ∙ ap Err c.in-Err-Refused.field-0-is) in
+    let refused = c.html_to_tree.ensures.refused place kind (c.in-Err-Refused.is
+    ∙ ap Err c.in-Err-Refused.field-0-is) in
     let within = page_place part c.args.page.now c.body_of-start.result.1 place c.body_of-start.ensures.stands
     (place_within (scripting_of c.args.self.now) part place kind refused) in
     omega arith

@@ -3,9 +3,9 @@ use Rattle.std.proofs.Common.{◌≡◌, ◌∙◌, ap, sym, subst, false}
 use Rattle.std.proofs.lemmas.Result.{on_ok_weaker}
 use Rattle.htmd_cli.specs.OptionRows.{request_in}
 use Rattle.htmd_cli.specs.Options.{Request, request_by}
-use Rattle.htmd_cli.specs.Runs.{Converts}
+use Rattle.htmd_cli.specs.StreamConversions.{Converts}
 use Rattle.htmd_cli.specs.Settings.{Settings, settings_in}
-use Rattle.htmd_command.proofs.AnswersLemmas.{converts_becomes, succeeds_becomes}
+use Rattle.htmd_command.proofs.PageResultsLemmas.{converts_becomes, succeeds_becomes}
 use Rattle.htmd_command.proofs.requested.Requested.convert_alone.Goals as goal
 
 pub returns-in-0 : goal.returns-in-0

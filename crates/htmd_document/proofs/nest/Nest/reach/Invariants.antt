@@ -2,7 +2,7 @@
 use Rattle.std.proofs.Common.{◌≡◌, ◌++◌, drop, take, map}
 use Rattle.htmd_document.specs.Documents.{Inline}
 use Rattle.htmd_document.specs.Nesting.{joined, wrapped}
-use Rattle.htmd_document.specs.NestViews.{frames_of, content_of, marks_in, marks_of, within}
+use Rattle.htmd_document.specs.NestViews.{frames_of, content_of, wrappers_in, wrappers_of, within}
 use Rattle.htmd_document.specs.PartViews.{around_of}
 use Rattle.htmd_document.proofs.nest.Nest.reach.Given as goal
 
@@ -12,5 +12,5 @@ invariant-loop-frame l = record {
       (joined (content_of l.self) (wrapped (drop l.frame-index (map around_of l.frame-items)) x))
       ≡ within (frames_of l.initial.self) (joined (content_of l.initial.self)
       (wrapped (map around_of l.frame-items) x));
-  marks : marks_in l.self ≡ marks_in l.initial.self ++ take l.frame-index (marks_of l.frame-items);
+  wrappers : wrappers_in l.self ≡ wrappers_in l.initial.self ++ take l.frame-index (wrappers_of l.frame-items);
 }

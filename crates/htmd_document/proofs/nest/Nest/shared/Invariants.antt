@@ -1,15 +1,15 @@
 -- What the loop of `shared` keeps.
 use Rattle.std.proofs.Common.{◌≡◌, ◌≤◌, ◌+◌, ◌-◌, drop, length, vec_len}
 use Rattle.htmd_document.specs.Nesting.{shared}
-use Rattle.htmd_document.specs.NestViews.{marks_in, marks_of}
+use Rattle.htmd_document.specs.NestViews.{wrappers_in, wrappers_of}
 use Rattle.htmd_document.proofs.nest.Nest.shared.Given as goal
 
 abbrev pub invariant-loop-count : goal.invariant-loop-count
 invariant-loop-count l = record {
   bound : l.count ≤ vec_len l.self.frames;
   other : l.count ≤ length l.around;
-  value : l.count + shared (drop l.count (marks_in l.self)) (drop l.count (marks_of l.around))
-      ≡ shared (marks_in l.self) (marks_of l.around);
+  value : l.count + shared (drop l.count (wrappers_in l.self)) (drop l.count (wrappers_of l.around))
+      ≡ shared (wrappers_in l.self) (wrappers_of l.around);
 }
 
 abbrev pub decreases-loop-count : goal.decreases-loop-count

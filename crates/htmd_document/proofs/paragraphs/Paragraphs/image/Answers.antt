@@ -3,7 +3,7 @@ use Rattle.std.proofs.Common.{◌∙◌, ap, false, map, string_bytes}
 use Rattle.std.proofs.lemmas.List.{length-map}
 use Rattle.htmd_document.specs.Documents as value
 use Rattle.htmd_document.specs.DocumentViews.{bytes_of_title}
-use Rattle.htmd_document.specs.NestViews.{marks_in, inlines_in}
+use Rattle.htmd_document.specs.NestViews.{wrappers_in, inlines_in}
 use Rattle.htmd_document.specs.Nesting.{behind}
 use Rattle.htmd_document.specs.ParagraphViews.{writing_in}
 use Rattle.htmd_document.specs.PartViews.{around_of}
@@ -21,8 +21,8 @@ returns c = c.settle.ensures
     ∙ reached-shown (writing_in c.args.self.now) (writing_in c.reach.new.self) (map around_of c.args.around.now)
     false c.in_ok-shared.shared
     (value.image (string_bytes c.args.address) (bytes_of_title c.args.title) (string_bytes c.args.description))
-    (inlines_in c.push_leaf.new.self) (marks_in c.push_leaf.new.self) c.in_ok-shared.ensures
+    (inlines_in c.push_leaf.new.self) (wrappers_in c.push_leaf.new.self) c.in_ok-shared.ensures
     (c.in_ok-push_leaf.ensures.inlines
     ∙ ap (behind c.in_ok-shared.shared (inlines_in c.reach.new.self.nest) (map around_of c.args.around.now))
     (inline-image c.args.address c.args.title c.args.description))
-    c.in_ok-push_leaf.ensures.marks
+    c.in_ok-push_leaf.ensures.wrappers

@@ -4,15 +4,15 @@ use Rattle.std.proofs.lemmas.List.{take-map}
 use Rattle.htmd_document.specs.Nesting.{behind, text_or_code}
 use Rattle.htmd_document.specs.Paragraphs.{is_code_gap}
 use Rattle.htmd_document.specs.Documents.{line_break}
-use Rattle.htmd_document.specs.NestViews.{inlines_in, marks_in, marks_of}
+use Rattle.htmd_document.specs.NestViews.{inlines_in, wrappers_in, wrappers_of}
 use Rattle.htmd_document.specs.ParagraphViews.{writing_in}
 use Rattle.htmd_document.specs.PartViews.{around_of}
-use Rattle.htmd_document.proofs.ParagraphsLemmas.{IfOk-two, gap-break, gap-white, gap-marks, gap-bound}
+use Rattle.htmd_document.proofs.ParagraphsLemmas.{IfOk-two, gap-break, gap-white, gap-wrappers, gap-bound}
 use Rattle.htmd_document.proofs.NestLemmas.{inline-break}
 use Rattle.htmd_document.proofs.paragraphs.Paragraphs.push_gap.Goals as goal
 
 pub returns-then-self : goal.returns-then-self
-returns-then-self c = IfOk-two c.push_leaf.result _ _ _ (λ _ inlines marks. record {
+returns-then-self c = IfOk-two c.push_leaf.result _ _ _ (λ _ inlines wrappers. record {
   in_item = refl;
   is_flat = refl;
   done = refl;
@@ -24,12 +24,12 @@ returns-then-self c = IfOk-two c.push_leaf.result _ _ _ (λ _ inlines marks. rec
       (sym (take-map around_of c.args.shared c.args.around.now))
       ∙ gap-break (writing_in c.args.self.now) (map around_of c.args.around.now) c.args.is_code c.args.shared
       c.requires.value c.if-self.true));
-  marks = gap-marks (marks_in c.args.self.now.nest) _ _ c.args.shared c.requires.bound marks;
-  bound = gap-bound (marks_in c.args.self.now.nest) _ _ c.args.shared c.requires.bound marks;
-}) c.push_leaf.ensures.inlines c.push_leaf.ensures.marks
+  wrappers = gap-wrappers (wrappers_in c.args.self.now.nest) _ _ c.args.shared c.requires.bound wrappers;
+  bound = gap-bound (wrappers_in c.args.self.now.nest) _ _ c.args.shared c.requires.bound wrappers;
+}) c.push_leaf.ensures.inlines c.push_leaf.ensures.wrappers
 
 pub returns : goal.returns
-returns c = IfOk-two c.push_text.result _ _ _ (λ _ inlines marks. record {
+returns c = IfOk-two c.push_text.result _ _ _ (λ _ inlines wrappers. record {
   in_item = refl;
   is_flat = refl;
   done = refl;
@@ -42,10 +42,10 @@ returns c = IfOk-two c.push_text.result _ _ _ (λ _ inlines marks. record {
       (text_or_code b c.deref.result.now)) c.is_code_gap-is_code.ensures
       ∙ (ap (λ s. behind c.args.shared (inlines_in c.args.self.now.nest)
       (take c.args.shared (map around_of c.args.around.now))
-      (text_or_code (c.args.is_code && is_code_gap (writing_in c.args.self.now) (marks_of c.args.around.now)) s))
+      (text_or_code (c.args.is_code && is_code_gap (writing_in c.args.self.now) (wrappers_of c.args.around.now)) s))
       c.deref.ensures
       ∙ gap-white (writing_in c.args.self.now) (map around_of c.args.around.now) c.args.is_code c.args.shared
       c.requires.value c.if-self.false (search rules))));
-  marks = gap-marks (marks_in c.args.self.now.nest) _ _ c.args.shared c.requires.bound marks;
-  bound = gap-bound (marks_in c.args.self.now.nest) _ _ c.args.shared c.requires.bound marks;
-}) c.push_text.ensures.inlines c.push_text.ensures.marks
+  wrappers = gap-wrappers (wrappers_in c.args.self.now.nest) _ _ c.args.shared c.requires.bound wrappers;
+  bound = gap-bound (wrappers_in c.args.self.now.nest) _ _ c.args.shared c.requires.bound wrappers;
+}) c.push_text.ensures.inlines c.push_text.ensures.wrappers

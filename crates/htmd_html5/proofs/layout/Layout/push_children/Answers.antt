@@ -1,7 +1,7 @@
 -- The children come before what came.
 use Rattle.std.proofs.Common.{◌≡◌, ◌∙◌, List, ap, refl}
 use Rattle.std.specs.Prelude.{reverse}
-use Rattle.htmd_html5_state.specs.Documents.{children_at}
+use Rattle.htmd_html5_state.specs.Nodes.{children_at}
 use Rattle.htmd_html5_state.specs.Views.{nodes_of}
 use Rattle.htmd_html5_state.specs.declared.document.Node.{Node}
 use Rattle.htmd_html5.specs.LayoutViews.{layout_of}

@@ -1,6 +1,6 @@
 -- One part of one node is written.
 use Rattle.std.proofs.Common.{◌≡◌, ◌∙◌, List, length, refl, ap, arith, rules}
-use Rattle.htmd_html5_state.specs.Documents.{NodeValue, document}
+use Rattle.htmd_html5_state.specs.Nodes.{NodeValue, document}
 use Rattle.htmd_html5_state.specs.Views.{kind_of, node_of, nodes_of}
 use Rattle.htmd_html5_state.specs.declared.document.NodeKind.{NodeKind}
 use Rattle.htmd_html5_state.proofs.DocumentLemmas.{written}

@@ -1,6 +1,6 @@
 -- One part of one node is written.
 use Rattle.std.proofs.Common.{◌≡◌, ◌∙◌, ◌++◌, ℕ, List, length, ap, arith, rules}
-use Rattle.htmd_html5_state.specs.Documents.{NodeValue}
+use Rattle.htmd_html5_state.specs.Nodes.{NodeValue}
 use Rattle.htmd_html5_state.specs.Views.{node_of}
 use Rattle.htmd_html5_state.proofs.DocumentLemmas.{written}
 use Rattle.htmd_html5_state.proofs.document.Document.append_children.Goals as goal

@@ -120,7 +120,8 @@ returns-clause-ok c =
     let read : c.index.result.now ≡ get_or entries p c.index.result.now =
     c.index.ensures ∙ ap (λ n. get_or entries n c.index.result.now) c.parent.view_is in
     let this : item_of (texts ++ s) (attributes ++ more) last
-    ≡ new_item (items_of (texts ++ s) (attributes ++ more) entries) p (data_in (texts ++ s) (attributes ++ more) last) =
+    ≡ new_item (items_of (texts ++ s) (attributes ++ more) entries) p
+    (data_in (texts ++ s) (attributes ++ more) last) =
     last_item (texts ++ s) (attributes ++ more) entries p c.index.result.now last within read refl refl in
     let node : data_in (texts ++ s) (attributes ++ more) last ≡ data_from c.args.kind s (pairs_of more) =
     ap (λ t. data_from c.args.kind t (pairs_of (part_of (attributes ++ more) c.in_ok-attributes.attributes)))

@@ -1,7 +1,7 @@
 -- What is left to prove of `add_leaf`.
 use Rattle.std.proofs.Common.{◌∷◌, refl}
-use Rattle.htmd_grammar.specs.Documents.{above_body}
-use Rattle.htmd_grammar.specs.Steps.{add}
+use Rattle.htmd_grammar.specs.HtmlDocuments.{above_body}
+use Rattle.htmd_grammar.specs.ReaderSteps.{add}
 use Rattle.htmd_nodes.specs.Views.{new_data_of}
 use Rattle.htmd_tree.specs.Advances.{rules_of, leaf}
 use Rattle.htmd_tree.proofs.AdvancesLemmas.{leaf_follows, reading_after}

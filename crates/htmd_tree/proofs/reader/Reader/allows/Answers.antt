@@ -1,6 +1,6 @@
 -- What is kept of the innermost open element knows its place.
-use Rattle.htmd_grammar.specs.Documents.{above_body}
-use Rattle.htmd_grammar.specs.Steps.{names_of}
+use Rattle.htmd_grammar.specs.HtmlDocuments.{above_body}
+use Rattle.htmd_grammar.specs.ReaderSteps.{names_of}
 use Rattle.htmd_tree.proofs.AdvancesLemmas.{top_at}
 use Rattle.htmd_tree.proofs.reader.Reader.allows.Goals as goal
 

@@ -1,7 +1,7 @@
 -- What is left to prove of `open_node`.
 use Rattle.std.proofs.Common.{◌∷◌, [], ◌++◌, ◌∙◌, ap, refl}
-use Rattle.htmd_grammar.specs.Documents.{above_body}
-use Rattle.htmd_grammar.specs.Steps.{names_of}
+use Rattle.htmd_grammar.specs.HtmlDocuments.{above_body}
+use Rattle.htmd_grammar.specs.ReaderSteps.{names_of}
 use Rattle.htmd_grammar.specs.Attributes.{pairs_of}
 use Rattle.htmd_tree.specs.declared.reader.OpenNode.{OpenNode}
 use Rattle.htmd_tree.proofs.AdvancesLemmas.{opened_follows, top_at}

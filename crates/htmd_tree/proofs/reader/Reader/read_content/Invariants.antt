@@ -1,6 +1,6 @@
 -- What the loop of `read_content` keeps.
 use Rattle.std.proofs.Common.{Bool, List, length}
-use Rattle.htmd_grammar.specs.Steps.{OpenElement}
+use Rattle.htmd_grammar.specs.ReaderSteps.{OpenElement}
 use Rattle.htmd_tree.specs.OpenNodes.{Holds, IsReading}
 use Rattle.htmd_tree.specs.Advances.{HasRead}
 use Rattle.htmd_tree.proofs.reader.Reader.read_content.Given as goal

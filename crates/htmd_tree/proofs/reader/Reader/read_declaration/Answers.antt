@@ -3,8 +3,8 @@ use Rattle.std.proofs.Common.{◌<◌, ◌∙◌, length, codes, ap, sym, arith}
 use Rattle.std.proofs.lemmas.List.{length-drop}
 use Rattle.htmd_grammar.specs.ValueTrees.{comment}
 use Rattle.htmd_grammar.specs.CharacterClasses.{begins_with}
-use Rattle.htmd_grammar.specs.Documents.{above_body}
-use Rattle.htmd_grammar.specs.Steps.{add}
+use Rattle.htmd_grammar.specs.HtmlDocuments.{above_body}
+use Rattle.htmd_grammar.specs.ReaderSteps.{add}
 use Rattle.htmd_tree.specs.Advances.{rules_of}
 use Rattle.htmd_tree.proofs.CommentTextsLemmas.{comment_within, dashes_cut}
 use Rattle.htmd_tree.proofs.TagAnswersLemmas.{shorter_follows}

@@ -2,8 +2,8 @@
 use Rattle.std.proofs.Common.{◌<◌, length, ap, arith, length-drop}
 use Rattle.htmd_grammar.specs.WhiteSpace.{is_ascii_white_space}
 use Rattle.htmd_grammar.specs.CharacterClasses.{is_tag_name_byte}
-use Rattle.htmd_grammar.specs.Documents.{above_body}
-use Rattle.htmd_grammar.specs.Steps.{close_step}
+use Rattle.htmd_grammar.specs.HtmlDocuments.{above_body}
+use Rattle.htmd_grammar.specs.ReaderSteps.{close_step}
 use Rattle.htmd_tree.specs.Advances.{rules_of}
 use Rattle.htmd_grammar.proofs.RunsLemmas.{behind_within}
 use Rattle.htmd_tree.proofs.TagStepsLemmas.{close_within}

@@ -1,6 +1,6 @@
 -- An end tag.
 use Rattle.std.proofs.Common.{drop, ◌∙◌, ap}
-use Rattle.htmd_grammar.specs.Documents.{above_body}
+use Rattle.htmd_grammar.specs.HtmlDocuments.{above_body}
 use Rattle.htmd_tree.proofs.TagStepsLemmas.{end_tag_begins}
 use Rattle.htmd_tree.proofs.TagAnswersLemmas.{same_follows}
 use Rattle.htmd_tree.proofs.reader.Reader.read_markup.Goals as goal

@@ -14,7 +14,7 @@ read_markup-requires-clause-markup c =
 
 pub returns-then-is_at_markup-clause-advances : goal.returns-then-is_at_markup-clause-advances
 returns-then-is_at_markup-clause-advances c = λ has_doctype fs h.
-    let s = c.close_implied_body.ensures.settled has_doctype fs h in
+    let s = c.close_implied_body.ensures.implied_is_closed has_doctype fs h in
     markup_advances c.args.self.now c.close_implied_body.new.self c.read_markup.new.self has_doctype fs
     c.read_markup.result s c.close_implied_body.ensures.rest c.requires.more
     (sym (c.is_at_markup.ensures has_doctype s.opened s.holds) ∙ c.if-is_at_markup.true)
@@ -22,7 +22,7 @@ returns-then-is_at_markup-clause-advances c = λ has_doctype fs h.
 
 pub returns-then-top-clause-advances : goal.returns-then-top-clause-advances
 returns-then-top-clause-advances c = λ has_doctype fs h.
-    let s = c.close_implied_body.ensures.settled has_doctype fs h in
+    let s = c.close_implied_body.ensures.implied_is_closed has_doctype fs h in
     let raw =
     sym (raw_text_at c.close_implied_body.new.self has_doctype s.opened c.top.result c.top.ensures.top s.holds)
     ∙ c.if-top.true in
@@ -43,7 +43,7 @@ returns-then-top-clause-shorter c =
 
 pub returns-else-top-clause-advances : goal.returns-else-top-clause-advances
 returns-else-top-clause-advances c = λ has_doctype fs h.
-    let s = c.close_implied_body.ensures.settled has_doctype fs h in
+    let s = c.close_implied_body.ensures.implied_is_closed has_doctype fs h in
     text_advances c.args.self.now c.close_implied_body.new.self c.read_text.new.self has_doctype fs
     c.read_text.result s c.close_implied_body.ensures.rest c.requires.more
     (sym (c.is_at_markup.ensures has_doctype s.opened s.holds) ∙ c.if-is_at_markup.false)

@@ -4,9 +4,9 @@ use Rattle.std.specs.Prelude.{◌&&◌}
 use Rattle.std.specs.Str.{bytes_eq}
 use Rattle.htmd_grammar.specs.ValueTrees.{text}
 use Rattle.htmd_grammar.specs.CharacterClasses.{is_among, up_to}
-use Rattle.htmd_grammar.specs.Documents.{above_body}
+use Rattle.htmd_grammar.specs.HtmlDocuments.{above_body}
 use Rattle.htmd_grammar.specs.RawContent.{begins_own_end, has_script_escape}
-use Rattle.htmd_grammar.specs.Steps.{add}
+use Rattle.htmd_grammar.specs.ReaderSteps.{add}
 use Rattle.htmd_grammar.specs.declared.fault.FaultKind.TheVariants.{ScriptEscape}
 use Rattle.htmd_tree.specs.Advances.{rules_of}
 use Rattle.htmd_tree.specs.OpenNodes.{innermost_name}

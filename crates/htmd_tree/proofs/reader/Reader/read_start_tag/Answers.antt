@@ -2,8 +2,8 @@
 use Rattle.std.proofs.Common.{◌≡◌, ◌<◌, ◌≤◌, rules, suc, length, map, refl, sym, ◌∙◌, ap, arith, Ok, Err, None}
 use Rattle.std.specs.Char.{to_ascii_lowercase}
 use Rattle.htmd_grammar.specs.CharacterClasses.{is_tag_name_byte}
-use Rattle.htmd_grammar.specs.Documents.{above_body}
-use Rattle.htmd_grammar.specs.Steps.{place_step}
+use Rattle.htmd_grammar.specs.HtmlDocuments.{above_body}
+use Rattle.htmd_grammar.specs.ReaderSteps.{place_step}
 use Rattle.htmd_grammar.specs.TagReading.{form, form_within}
 use Rattle.htmd_tree.specs.Advances.{rules_of}
 use Rattle.htmd_tree.specs.TagParts.{all_spelled_of, read_attributes, fault_of_name}

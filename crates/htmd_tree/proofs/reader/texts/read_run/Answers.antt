@@ -2,7 +2,7 @@
 use Rattle.std.proofs.Common.{◌≡◌, ◌∙◌, [], false, sym, ap, arith}
 use Rattle.std.proofs.lemmas.Result.{err_from_is_err_and}
 use Rattle.std.specs.String.{string_bytes}
-use Rattle.htmd_grammar.specs.Steps.{here}
+use Rattle.htmd_grammar.specs.ReaderSteps.{here}
 use Rattle.htmd_tree.specs.TextRuns.{is_run_end}
 use Rattle.htmd_tree.proofs.TextRunsLemmas.{stops_there}
 use Rattle.htmd_tree.proofs.reader.texts.read_run.Goals as goal

@@ -1,0 +1,11 @@
+-- What is left to prove of `begins_with`.
+use Rattle.std.proofs.Common.{◌∙◌, ℕ, drop, sym, arith}
+use Rattle.std.proofs.lemmas.List.{length-drop}
+use Rattle.htmd_encodings.proofs.RunsLemmas.{begins_no_further}
+use Rattle.htmd_encodings.proofs.cuts.begins_with.Goals as goal
+
+pub returns-in_default : goal.returns-in_default
+returns-in_default c =
+    let rest = drop c.loop-byte.byte-index c.args.beginning.now in
+    sym (begins_no_further rest c.loop-byte.rest.now (omega (arith, length-drop {A = ℕ})) c.in_default.len_below)
+    ∙ c.loop-byte.invariant

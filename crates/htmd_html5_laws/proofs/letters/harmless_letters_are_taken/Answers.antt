@@ -1,5 +1,0 @@
-use Rattle.htmd_html5_laws.proofs.HarmlessLettersLemmas.{harmless_letters_taken}
-use Rattle.htmd_html5_laws.proofs.letters.harmless_letters_are_taken.Goals as goal
-
-pub returns : goal.returns
-returns c = harmless_letters_taken

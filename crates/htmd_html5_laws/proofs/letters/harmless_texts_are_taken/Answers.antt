@@ -1,5 +1,0 @@
-use Rattle.htmd_html5_laws.proofs.HarmlessTokens.{harmless_taken}
-use Rattle.htmd_html5_laws.proofs.letters.harmless_texts_are_taken.Goals as goal
-
-pub returns : goal.returns
-returns c = harmless_taken
