@@ -1,10 +1,10 @@
--- Worked rows: paths in their one form, and addresses that lead to pages of a run.
+-- Worked rows: paths in their one form, addresses that lead to pages of a run, and those of pages in a folder.
 use Rattle.std.proofs.Common.{◌≡◌, List, [], ◌∷◌, codes, refl}
 use Rattle.percent_encoding.specs.AsciiSet.{should_percent_encode}
 use Rattle.percent_encoding.specs.Percent.{percent_decode, percent_encode, percent_encode_byte}
 use Rattle.url.specs.Parts.{Parts}
 use Rattle.htmd_addresses.specs.Addresses.{resolved}
-use Rattle.htmd_addresses.specs.Leads.{PageValue, lead}
+use Rattle.htmd_addresses.specs.Leads.{PageValue, lead, relative}
 use Rattle.htmd_addresses.specs.Paths.{plain_path}
 
 same-path : plain_path (codes "./site//a/../b.html") ≡ codes "site/b.html"
@@ -56,6 +56,11 @@ scheme = refl
 
 fragment : lead pages first (codes "#y") ≡ codes "#y"
 fragment = refl
+
+-- a page of a folder, whose path is escaped name by name: none is read as a scheme or a query
+in_folder : relative [] (codes "a b/c:d?.html") ≡ codes "a%20b/c%3Ad%3F.html"
+unfolding percent_decode percent_encode percent_encode_byte should_percent_encode
+in_folder = refl
 
 -- it stays with a base too
 absolute-fragment : (base : Parts) → resolved base (codes "#y") ≡ codes "#y"

@@ -142,7 +142,7 @@ fn push_parents(address: &mut String, names: &[&[u8]]) -> Result<(), AllocError>
 }
 
 /// The address of a file, in the files of a folder.
-fn relative(alloc: Global, from: &[&[u8]], to: &str) -> Result<String, AllocError>
+pub(crate) fn relative(alloc: Global, from: &[&[u8]], to: &str) -> Result<String, AllocError>
     ensures { IfOk result (λ address. string_bytes address ≡ spec.relative (names_of from.now) to.now) }
 {
     let to = to.as_bytes();

@@ -1,9 +1,11 @@
-//! The addresses of a page, made absolute, or leading to the outputs of other pages: functions from trees to trees.
+//! The addresses of a page, made absolute, or leading to the outputs of other pages: functions from trees to trees. And
+//! the URL of a page of a folder.
 #![tactic(auto)]
 
 mod absolute;
 mod bases;
 mod leads;
+mod page_urls;
 mod pages;
 mod paths;
 mod resolving;
@@ -12,4 +14,5 @@ mod rewriting;
 pub use absolute::make_absolute;
 pub use bases::base_of;
 pub use leads::{RunPage, lead_to_pages};
+pub use page_urls::page_url;
 pub use pages::{Page, Pages};

@@ -1,7 +1,7 @@
 -- The program's command-line options, and what they ask for.
 use Rattle.std.specs.Prelude.{ℕ, ◌+◌, ◌-◌, ◌*◌, Bool, true, false, ◌&&◌, ◌==◌, nat_lt, if◌then◌else◌}
 use Rattle.std.specs.Prelude.{List, [], ◌∷◌, ◌++◌, length, drop, Option, Some, None, is_some, option_map}
-use Rattle.std.specs.Prelude.{option_and_then, codes}
+use Rattle.std.specs.Prelude.{option_and_then, unwrap_or, codes}
 use Rattle.std.specs.Prelude.{string_bytes}
 use Rattle.std.specs.List.{list_all}
 use Rattle.std.specs.Char.{is_ascii_digit}
@@ -26,6 +26,7 @@ use Rattle.std.specs.Result.{result_ok}
 use Rattle.htmd_pages.specs.SelectorSteps.{Step}
 use Rattle.htmd_pages.specs.Reading.{steps_of_text}
 use Rattle.htmd_addresses.specs.Leads.{RunPage}
+use Rattle.htmd_addresses.specs.PageUrls.{page_url}
 use Rattle.url.specs.Parts.{Parts}
 use Rattle.url.specs.Parser.{parse_url}
 use Rattle.htmd_cli.specs.Settings.{Settings, default_settings}
@@ -100,6 +101,13 @@ drops steps = sets (λ settings. record settings { dropped = settings.dropped ++
 -- addresses are made absolute
 abbrev pub is_based_on : Parts → Request → Request
 is_based_on url = sets (λ settings. record settings { base = Some url })
+
+-- the page has this path in the folder whose URL the options say, if they do: no option says that, but what the options
+-- ask for is done of each page of a folder by its own URL
+abbrev pub is_at : List ℕ → Request → Request
+is_at path = sets (λ settings. record settings {
+  base = option_map (λ url. unwrap_or (page_url url path) url) settings.base;
+})
 
 -- the page is one of a run: no option says that, but what the options ask for is done of each page of a run
 abbrev pub is_one_of_run : RunPage → Request → Request

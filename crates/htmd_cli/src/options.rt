@@ -198,7 +198,7 @@ pub(crate) const OPTIONS: [OptionRow; 44] = [
         name: "--base=",
         value: "URL",
         setting: Setting::Valued(Valued::Base),
-        help: "makes addresses absolute, against this URL of the page or the page's own base",
+        help: "makes addresses absolute, by this URL of the page or of its folder, or by the page's own base",
     },
     OptionRow {
         group: Group::Written,

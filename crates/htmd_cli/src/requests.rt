@@ -14,7 +14,7 @@ use crate::options::{Notice, OPTIONS, OptionRow, Setting, Style, Valued};
 use crate::settings::Settings;
 use crate::values::{are_names, number, push_names, push_selectors, url};
 use htmd::options::{Options, TranslationMode};
-use htmd_addresses::RunPage;
+use htmd_addresses::{RunPage, page_url};
 use htmd_encodings::encoding_named;
 use htmd_pages::{SelectorError, Selectors};
 use std::alloc::{AllocError, Global};
@@ -150,11 +150,32 @@ impl<'a> Request<'a> {
         &self.settings
     }
 
+    /// The page has this path in the folder whose URL is the base, if there is one: its own URL becomes the base. `Err`
+    /// means out of memory, or a URL of 4 GB.
+    pub fn set_path_in_folder(&mut self, alloc: Global, path: &str) -> Result<(), AllocError>
+        ensures { OnOk result (request_in self.new ≡ spec.is_at path.now (request_in self.old)) }
+    {
+        let Some(url) = &self.settings.base else {
+            return Ok(());
+        };
+        if let Some(url) = page_url(alloc, url, path)? {
+            self.settings.base = Some(url);
+        }
+        Ok(())
+    }
+
     /// The page is one of a run.
     pub fn set_run_page(&mut self, page: RunPage<'a>)
         ensures { request_in self.new ≡ spec.is_one_of_run (run_page_of page.entry) (request_in self.old) }
     {
         self.settings.run_page = Some(page);
+    }
+
+    /// Whether addresses are made absolute, by a URL.
+    pub fn has_base(&self) -> bool
+        ensures { result ≡ is_some (request_in self.now).settings.base }
+    {
+        self.settings.base.is_some()
     }
 
     /// Whether the source is rows with a page each.

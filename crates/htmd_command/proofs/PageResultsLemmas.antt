@@ -8,13 +8,20 @@ use Rattle.htmd_addresses.specs.RunViews.{pages_in}
 use Rattle.htmd_addresses.specs.declared.pages.Pages.{Pages}
 use Rattle.htmd.specs.Characters.{line_feed}
 use Rattle.htmd_cli.specs.declared.faults.RunError.{RunError}
-use Rattle.htmd_cli.specs.Options.{Request, is_one_of_run}
+use Rattle.htmd_cli.specs.Options.{Request}
 use Rattle.htmd_cli.specs.Rows.{ConvertsRows, Succeeds, rows_of}
 use Rattle.htmd_cli.specs.StreamConversions.{Converts, Ends}
 use Rattle.htmd_cli.specs.Settings.{Settings}
 use Rattle.htmd_files.specs.declared.planning.Page.{Page}
 use Rattle.htmd_folders.specs.Pages.{Becomes}
-use Rattle.htmd_command.specs.PageResults.{IsResultOf, IsPageResult, request_for, value_of}
+use Rattle.htmd_command.specs.PageResults.{IsResultOf, IsPageResult, at, in_run, page_request, pages_led, path_in_folder}
+use Rattle.htmd_command.specs.PageResults.{request_for, value_of}
+use Rattle.htmd_addresses.specs.PageUrls.{page_url}
+use Rattle.std.specs.Option.{is_some, unwrap_or}
+use Rattle.std.specs.Prelude.{if◌then◌else◌}
+use Rattle.std.specs.declared.alloc.Global.{Global}
+use Rattle.std.specs.declared.string.String.{String}
+use Rattle.url.specs.Parts.{Parts}
 
 either_becomes : (rows : Bool) (settings : Settings) (input before after : Option (List ℕ))
     → MatchBool rows (ConvertsRows settings input before after) (Converts settings input before after)
@@ -51,35 +58,69 @@ converts_becomes request input before after e converts =
     (Converts request.settings input before after) in
     either_becomes request.rows request.settings input before after (subst P (sym e) converts)
 
-abbrev value_by : List ℕ → List ℕ → PageValue
-value_by input output = record { input = input; output = output }
+-- a page holds rows if the options say so
+at_rows : (path : Option (List ℕ)) (request : Request) → (at path request).rows ≡ request.rows
+at_rows None request = refl
+at_rows (Some path) request = refl
 
--- a page that was converted as one of a run is answered, unless rows are asked for
-pub run_page_becomes : (pages : List PageValue) (page : Page) (request : Request)
+in_run_rows : (pages : Option (List PageValue)) (own : PageValue) (request : Request)
+    → (in_run pages own request).rows ≡ request.rows
+in_run_rows None own request = refl
+in_run_rows (Some pages) own request = refl
+
+-- a page that was converted by what is asked for of it is answered, unless rows are asked for
+pub page_becomes : (pages : Option (List PageValue)) (page : Page) (request : Request)
     (input before after : Option (List ℕ)) → request.rows ≡ false
-    → Converts (is_one_of_run (record { pages = pages; own = value_of page }) request).settings input before after
-    → Becomes (IsResultOf (request_for (Some pages) page request)) input before after
-run_page_becomes pages page request input before after e converts =
-    let led : Request = is_one_of_run (record { pages = pages; own = value_of page }) request in
+    → Converts (page_request pages page request).settings input before after
+    → Becomes (IsResultOf (request_for pages page request)) input before after
+page_becomes pages page request input before after e converts =
+    let own : Request = page_request pages page request in
     let P : Request → Type 0 = λ asked. Becomes (IsResultOf asked) input before after in
-    subst P (sym (cond-false request.rows request led e)) (converts_becomes led input before after e converts)
+    let rows : own.rows ≡ false =
+    in_run_rows pages (value_of page) (at (path_in_folder page) request)
+    ∙ at_rows (path_in_folder page) request ∙ e in
+    subst P (sym (cond-false request.rows request own e)) (converts_becomes own input before after rows converts)
 
 -- rows are answered alike in a run
-pub rows_alike : (pages : Option (List PageValue)) (page : Page) (request : Request) → request.rows ≡ true
-    → request_for pages page request ≡ request
-rows_alike None page request e = refl
-rows_alike (Some pages) page request e = cond-true request.rows _ _ e
+pub rows_alike : (pages : Option (Bor Pages)) (page : Page) (request : Request) → request.rows ≡ true
+    → request_for (pages_led pages) page request ≡ request
+rows_alike pages page request e = cond-true request.rows _ _ e
 
--- a page of no run is as it was
-pub without_run : (pages : Option (Bor Pages)) (page : Page) (request : Request) → pages ≡ None
-    → request ≡ request_for (option_map (λ led. pages_in led.now) pages) page request
-without_run None page request e = refl
-without_run (Some pages) page request e = absurd (cc)
+either_way : (b : Bool) (x y : Request) → y ≡ x → (if b then x else y) ≡ x
+either_way true x y e = refl
+either_way false x y e = e
 
--- a page by its paths
-pub by_paths : (page : Page) (input output : List ℕ) → input ≡ string_bytes page.input
-    → output ≡ string_bytes page.output → value_by input output ≡ value_of page
-by_paths page input output e f = ap (λ i. value_by i output) e ∙ ap (value_by (string_bytes page.input)) f
+-- a page of no run, which is that of a file
+pub page_of_file : (pages : Option (Bor Pages)) (page : Page) (request : Request) → is_some pages ≡ false
+    → is_some page.path_in_folder ≡ false → request_for (pages_led pages) page request ≡ request
+page_of_file (Some pages) page request n p = absurd (cc)
+page_of_file None page request n p = either_way request.rows request _ (at_none page.path_in_folder p)
+  where
+    at_none : (path : Option (String Global)) → is_some path ≡ false
+        → at (option_map (λ s. string_bytes s) path) request ≡ request
+    at_none None e = refl
+    at_none (Some s) e = absurd (cc)
+
+-- a path changes nothing without a base
+same_url : (path : Option (List ℕ)) (request : Request) → is_some request.settings.base ≡ false
+    → at path request ≡ request
+same_url None request e = refl
+same_url (Some path) request e =
+    let change : Option Parts → Option Parts = option_map (λ url. unwrap_or (page_url url path) url) in
+    let none : request.settings.base ≡ None = is_none request.settings.base e in
+    ap (λ (base : Option Parts). record request { settings = record request.settings { base = base } })
+    (ap change none ∙ sym none)
+  where
+    is_none : (base : Option Parts) → is_some base ≡ false → base ≡ None
+    is_none None e = refl
+    is_none (Some url) e = absurd (cc)
+
+-- a page of no run, without a base
+pub page_without_base : (pages : Option (Bor Pages)) (page : Page) (request : Request) → is_some pages ≡ false
+    → is_some request.settings.base ≡ false → request_for (pages_led pages) page request ≡ request
+page_without_base (Some pages) page request n b = absurd (cc)
+page_without_base None page request n b =
+    either_way request.rows request _ (same_url (path_in_folder page) request b)
 
 -- pages that are lent
 pub led_copied : (led : Option (Bor Pages))

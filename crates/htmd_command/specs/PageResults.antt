@@ -1,9 +1,13 @@
 -- What the program makes of the bytes of a page, by what its options ask for.
-use Rattle.std.specs.Prelude.{◌≡◌, ℕ, if◌then◌else◌, List, [], ◌∷◌, ◌++◌, map, Option, Some, None, MatchBool, string_bytes}
+use Rattle.std.specs.Prelude.{◌≡◌, ℕ, if◌then◌else◌, List, [], ◌∷◌, ◌++◌, map, Option, Some, None, option_map}
+use Rattle.std.specs.Prelude.{MatchBool, string_bytes}
+use Rattle.std.specs.Borrow.{Bor}
 use Rattle.htmd.specs.Characters.{line_feed}
 use Rattle.htmd_cli.specs.PageOutputs.{IsOutputOf}
 use Rattle.htmd_addresses.specs.Leads.{PageValue}
-use Rattle.htmd_cli.specs.Options.{Request, is_one_of_run}
+use Rattle.htmd_addresses.specs.RunViews.{pages_in}
+use Rattle.htmd_addresses.specs.declared.pages.Pages.{Pages}
+use Rattle.htmd_cli.specs.Options.{Request, is_at, is_one_of_run}
 use Rattle.htmd_cli.specs.Rows.{rows_of}
 use Rattle.htmd_cli.specs.Settings.{Settings}
 use Rattle.htmd_files.specs.declared.planning.Page.{Page}
@@ -27,8 +31,28 @@ value_of page = record { input = string_bytes page.input; output = string_bytes 
 abbrev pub pages_led_to : Job → List Page → Option (List PageValue)
 pages_led_to asked pages = if asked.links_to_markdown then Some (map value_of pages) else None
 
--- what is asked for of a page: if addresses lead to these pages, it is one of them, but not if it holds rows
+-- the path of a page in the folder that it was found below
+abbrev pub path_in_folder : Page → Option (List ℕ)
+path_in_folder page = option_map (λ path. string_bytes path) page.path_in_folder
+
+-- the pages that are kept of a run, if addresses lead to them
+abbrev pub pages_led : Option (Bor Pages) → Option (List PageValue)
+pages_led kept = option_map (λ pages. pages_in pages.now) kept
+
+-- a page that was found below a folder has its own URL, if that of the folder is known
+abbrev pub at : Option (List ℕ) → Request → Request
+at None request = request
+at (Some path) request = is_at path request
+
+-- a page is one of a run, if addresses lead to its pages
+abbrev pub in_run : Option (List PageValue) → PageValue → Request → Request
+in_run None own request = request
+in_run (Some pages) own request = is_one_of_run (record { pages = pages; own = own }) request
+
+-- what is asked for of a page that holds no rows
+abbrev pub page_request : Option (List PageValue) → Page → Request → Request
+page_request pages page request = in_run pages (value_of page) (at (path_in_folder page) request)
+
+-- what is asked for of a page; rows are pages of their own
 abbrev pub request_for : Option (List PageValue) → Page → Request → Request
-request_for None page request = request
-request_for (Some pages) page request =
-    if request.rows then request else is_one_of_run (record { pages = pages; own = value_of page }) request
+request_for pages page request = if request.rows then request else page_request pages page request

@@ -1,12 +1,11 @@
 //! What the options ask for, as a conversion.
-ghost use Rattle.std.specs.Prelude.{◌≡◌, false, OnOk, option_map};
-ghost use Rattle.htmd_addresses.specs.RunViews.{pages_in, run_page_of};
+ghost use Rattle.std.specs.Prelude.{◌≡◌, true, false, IfOk, OnOk};
 ghost use Rattle.htmd_cli.specs.OptionRows.{request_in};
-ghost use Rattle.htmd_cli.specs.Options.{is_one_of_run, request_by};
+ghost use Rattle.htmd_cli.specs.Options.{request_by};
 ghost use Rattle.htmd_cli.specs.StreamConversions.{Converts};
 ghost use Rattle.htmd_cli.specs.Settings.{settings_in};
 ghost use Rattle.htmd_folders.specs.Pages.{Becomes};
-ghost use Rattle.htmd_command.specs.PageResults.{IsResultOf};
+ghost use Rattle.htmd_command.specs.PageResults.{IsResultOf, at, in_run, page_request, pages_led, path_in_folder, request_for, value_of};
 
 use htmd_addresses::{Pages, RunPage};
 use htmd_cli::{
@@ -14,7 +13,7 @@ use htmd_cli::{
 };
 use htmd_files::Page;
 use htmd_folders::{Conversion, Lines, ShownName};
-use std::alloc::Global;
+use std::alloc::{AllocError, Global};
 use std::fmt::Write;
 
 /// The conversion of one page, or of rows with a page each, by what the options ask for.
@@ -60,28 +59,74 @@ impl Requested<'_, '_, '_, '_> {
         convert_by(self.alloc, self.request.settings(), source, sink)
     }
 
-    /// Converts a page as one of a run.
+    /// Whether a page is converted as if it was alone.
+    fn is_alone(&self, page: &Page) -> bool
+        ensures alone { result ≡ true
+            → request_for (pages_led self.now.pages) page.now (request_by self.now.options.now)
+            ≡ request_by self.now.options.now }
+        ensures others { result ≡ false → (request_by self.now.options.now).rows ≡ false }
+    {
+        self.request.takes_rows()
+            || self.pages.is_none() && (page.path_in_folder.is_none() || !self.request.has_base())
+    }
+
+    /// What is asked for of a page that holds no rows. `Err` means out of memory.
+    fn page_request<'x>(&'x self, page: &'x Page) -> Result<Request<'x>, AllocError>
+        ensures { IfOk result (λ request. request_in request
+            ≡ page_request (pages_led self.now.pages) page.now (request_by self.now.options.now)) }
+    {
+        // The options were read before: only memory can be missing.
+        let Ok(mut request) = read_options(self.alloc, self.options) else {
+            return Err(AllocError);
+        };
+        set_path(self.alloc, &mut request, page)?;
+        set_run(&mut request, self.pages, page);
+        Ok(request)
+    }
+
+    /// Converts a page by what is asked for of it.
     fn convert_in_run<R: Source, W: Sink>(
         &self,
-        page: RunPage<'_>,
+        page: &Page,
         source: &mut R,
         sink: &mut W,
     ) -> Result<(), Refusal>
         requires source { R.has_failed source.old ≡ false }
         requires sink { W.has_failed sink.old ≡ false }
         ensures { OnOk result (Converts
-            (is_one_of_run (run_page_of page.entry) (request_by self.now.options.now)).settings
+            (page_request (pages_led self.now.pages) page.now (request_by self.now.options.now)).settings
             (R.remaining source.old) (W.contents sink.old) (W.contents sink.new)) }
     {
-        // The options were read before: only memory can be missing.
-        let Ok(mut request) = read_options(self.alloc, self.options) else {
-            return Err(Refusal::Page {
+        match self.page_request(page) {
+            Ok(request) => convert_by(self.alloc, request.settings(), source, sink),
+            Err(AllocError) => Err(Refusal::Page {
                 error: RunError::Memory,
                 input: Vec::new(self.alloc),
-            });
-        };
-        request.set_run_page(page);
-        convert_by(self.alloc, request.settings(), source, sink)
+            }),
+        }
+    }
+}
+
+/// A page that was found below a folder has its own URL.
+fn set_path(alloc: Global, request: &mut Request<'_>, page: &Page) -> Result<(), AllocError>
+    ensures { OnOk result (request_in request.new ≡ at (path_in_folder page.now) (request_in request.old)) }
+{
+    match &page.path_in_folder {
+        Some(path) => request.set_path_in_folder(alloc, path),
+        None => Ok(()),
+    }
+}
+
+/// A page is one of a run, if addresses lead to its pages.
+fn set_run<'a>(request: &mut Request<'a>, pages: Option<&'a Pages>, page: &'a Page)
+    ensures { request_in request.new ≡ in_run (pages_led pages.entry) (value_of page.now) (request_in request.old) }
+{
+    if let Some(pages) = pages {
+        request.set_run_page(RunPage {
+            pages,
+            input: &page.input,
+            output: &page.output,
+        });
     }
 }
 
@@ -104,12 +149,11 @@ fn convert_by<R: Source, W: Sink>(
 }
 
 impl Conversion for Requested<'_, '_, '_, '_> {
-    ghost use Rattle.htmd_command.specs.PageResults.{IsResultOf, request_for};
+    ghost use Rattle.htmd_command.specs.PageResults.{IsResultOf, pages_led, request_for};
 
     type Fault = Refusal;
 
-    ghost becomes = { λ s page. IsResultOf
-        (request_for (option_map (λ pages. pages_in pages.now) s.pages) page (request_by s.options.now)) };
+    ghost becomes = { λ s page. IsResultOf (request_for (pages_led s.pages) page (request_by s.options.now)) };
 
     fn convert<R: Source, W: Sink, E: Sink>(
         &self,
@@ -118,17 +162,9 @@ impl Conversion for Requested<'_, '_, '_, '_> {
         sink: &mut W,
         errors: &mut E,
     ) -> Result<(), Refusal> {
-        let Some(pages) = self.pages else {
-            return self.convert_alone(source, sink, errors);
-        };
-        if self.request.takes_rows() {
+        if self.is_alone(page) {
             return self.convert_alone(source, sink, errors);
         }
-        let page = RunPage {
-            pages,
-            input: &page.input,
-            output: &page.output,
-        };
         self.convert_in_run(page, source, sink)
     }
 

@@ -119,12 +119,18 @@ site = spec.folder (codes "site") (codes "z.html" ∷ codes "b/a.HTM" ∷ codes 
 abbrev to_folder : List ℕ → Option spec.Destination
 to_folder path = Some (record { path = path; is_folder = true })
 
+-- the page of a file
 abbrev page : List ℕ → List ℕ → spec.Page
-page input output = record { input = input; output = output }
+page input output = record { input = input; output = output; path_in_folder = None }
+
+-- a page of a folder, which has this path there
+abbrev page_at : List ℕ → List ℕ → List ℕ → spec.Page
+page_at path input output = record { input = input; output = output; path_in_folder = Some path }
 
 plan-folder : spec.plan (site ∷ spec.file (codes "./c.html") ∷ []) (to_folder (codes "out"))
-    ≡ Ok (spec.files (page (codes "site/a.xhtml") (codes "out/a.md")
-    ∷ page (codes "site/b/a.HTM") (codes "out/b/a.md") ∷ page (codes "site/z.html") (codes "out/z.md")
+    ≡ Ok (spec.files (page_at (codes "a.xhtml") (codes "site/a.xhtml") (codes "out/a.md")
+    ∷ page_at (codes "b/a.HTM") (codes "site/b/a.HTM") (codes "out/b/a.md")
+    ∷ page_at (codes "z.html") (codes "site/z.html") (codes "out/z.md")
     ∷ page (codes "./c.html") (codes "out/c.md") ∷ []))
 plan-folder = refl
 

@@ -18,10 +18,11 @@ pub record Destination : Type 0 where
   pub path : List ℕ
   pub is_folder : Bool
 
--- a page: the path that is read and the one that is written
+-- a page: the path that is read and the one that is written, and if it was found below a folder, its path from there
 pub record Page : Type 0 where
   pub input : List ℕ
   pub output : List ℕ
+  pub path_in_folder : Option (List ℕ)
 
 -- an input to standard output, or pages to files
 pub data FilePlan : Type 0 where
@@ -67,12 +68,17 @@ pages_among paths = in_order (filter is_page paths)
 
 -- a page of a folder: its Markdown has the same path below the output
 abbrev pub page_below : List ℕ → List ℕ → List ℕ → Page
-page_below out from path = record { input = below from path; output = below out (md_name path) }
+page_below out from path = record {
+  input = below from path;
+  output = below out (md_name path);
+  path_in_folder = Some path;
+}
 
 -- a page whose Markdown is named after it
 abbrev pub named_page : List ℕ → List ℕ → Option (List ℕ) → Result (List Page) Fault
 named_page out path None = Err (no_name path)
-named_page out path (Some name) = Ok (record { input = path; output = below out (md_name name) } ∷ [])
+named_page out path (Some name) =
+    Ok (record { input = path; output = below out (md_name name); path_in_folder = None } ∷ [])
 
 abbrev pub pages_of : List ℕ → Operand → Result (List Page) Fault
 pages_of out standard_input = Err (no_name (codes "-"))
@@ -183,7 +189,7 @@ abbrev pub pages_at : Destination → List Operand → Option (List ℕ) → Res
 pages_at out operands None = pages_below out.path operands
 pages_at out operands (Some path) =
     if names_folder out then pages_below out.path operands
-    else Ok (record { input = path; output = out.path } ∷ [])
+    else Ok (record { input = path; output = out.path; path_in_folder = None } ∷ [])
 
 abbrev pub pages_to : Destination → List Operand → Result (List Page) Fault
 pages_to out operands = pages_at out operands (single_input operands)

@@ -26,7 +26,11 @@ abbrev pub destination_of : held_destination.Destination → spec.Destination
 destination_of out = record { path = out.path.now; is_folder = out.is_folder }
 
 abbrev pub page_of : held_page.Page → spec.Page
-page_of page = record { input = string_bytes page.input; output = string_bytes page.output }
+page_of page = record {
+  input = string_bytes page.input;
+  output = string_bytes page.output;
+  path_in_folder = option_map (λ path. string_bytes path) page.path_in_folder;
+}
 
 abbrev pub pages_of : List held_page.Page → List spec.Page
 pages_of pages = map page_of pages

@@ -38,6 +38,8 @@ pub struct Destination<'a> {
 pub struct Page {
     pub input: String,
     pub output: String,
+    /// Its path from the folder on that was named, if it was found below one.
+    pub path_in_folder: Option<String>,
 }
 
 /// What is to be done.
@@ -130,6 +132,7 @@ fn page_below(alloc: Global, folder: &str, path: &str, out: &str) -> Result<Page
     Ok(Page {
         input: joined(alloc, folder, path)?,
         output: joined(alloc, out, name.as_str())?,
+        path_in_folder: Some(String::from_str(alloc, path)?),
     })
 }
 
@@ -174,6 +177,7 @@ fn named_page(alloc: Global, path: &str, name: &str, out: &str) -> Result<Page, 
     Ok(Page {
         input: String::from_str(alloc, path)?,
         output: joined(alloc, out, name.as_str())?,
+        path_in_folder: None,
     })
 }
 
@@ -275,12 +279,14 @@ fn pages_below(alloc: Global, operands: &[Operand], out: &str) -> Result<Vec<Pag
 
 /// The page of an input whose output is named.
 fn one_page(alloc: Global, path: &str, out: &str) -> Result<Vec<Page>, AllocError>
-    ensures { IfOk result (λ pages. pages_of pages.items ≡ record { input = path.now; output = out.now } ∷ []) }
+    ensures { IfOk result (λ pages. pages_of pages.items
+        ≡ record { input = path.now; output = out.now; path_in_folder = None } ∷ []) }
 {
     let mut pages = Vec::new(alloc);
     pages.push(Page {
         input: String::from_str(alloc, path)?,
         output: String::from_str(alloc, out)?,
+        path_in_folder: None,
     })?;
     Ok(pages)
 }

@@ -28,6 +28,7 @@ fn pages(alloc: Global) -> Result<Vec<Page>, AllocError> {
         pages.push(Page {
             input: String::from_str(alloc, input)?,
             output: output_of(alloc, input)?,
+            path_in_folder: None,
         })?;
     }
     Ok(pages)

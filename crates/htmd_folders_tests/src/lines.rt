@@ -10,6 +10,7 @@ fn page(alloc: Global, number: usize) -> Result<Page, AllocError> {
     Ok(Page {
         input: format!(in alloc; "{number}.html")?,
         output: format!(in alloc; "{number}.md")?,
+        path_in_folder: None,
     })
 }
 

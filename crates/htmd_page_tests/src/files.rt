@@ -91,6 +91,10 @@ fn planned(
                 lines.push_str(page.input.as_str())?;
                 lines.push_str(" > ")?;
                 lines.push_str(page.output.as_str())?;
+                if let Some(path) = &page.path_in_folder {
+                    lines.push_str(" at ")?;
+                    lines.push_str(path.as_str())?;
+                }
                 lines.push_str("\n")?;
             }
             Ok(lines)
@@ -114,7 +118,8 @@ fn pages_are_planned(rt: HostRuntime) -> Result<(), Fail> {
     expect_text(
         "plan",
         lines.as_str(),
-        "site/a/c.HTM > out/a/c.md\nsite/b.html > out/b.md\nsite/é.xhtml > out/é.md\nx/y.txt > out/y.txt.md\n",
+        "site/a/c.HTM > out/a/c.md at a/c.HTM\nsite/b.html > out/b.md at b.html\n\
+        site/é.xhtml > out/é.md at é.xhtml\nx/y.txt > out/y.txt.md\n",
     )
 }
 

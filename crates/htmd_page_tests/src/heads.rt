@@ -1,5 +1,5 @@
 //! Absolute addresses of a small page, and what it says of itself.
-use htmd_addresses::{base_of, make_absolute};
+use htmd_addresses::{base_of, make_absolute, page_url};
 use htmd_expected::expect_text;
 use htmd_front_matter::front_matter;
 use htmd_tree::{read_html, serialize};
@@ -45,6 +45,40 @@ fn a_page_names_its_base(rt: HostRuntime) -> Result<(), Fail> {
         "<html><head></head><body><base><base href=\"https://a.example/d/\"><base href=\"https://a.example/e/\">\
         <a href=\"https://a.example/d/x\">a</a></body></html>",
     )
+}
+
+/// URLs of folders, paths of pages in them, and the URLs of these pages.
+const PAGE_URLS: &[(&str, &str, &str)] = &[
+    ("https://a.example/", "b.html", "https://a.example/b.html"),
+    (
+        "https://a.example/b/?x#y",
+        "c/d.html",
+        "https://a.example/b/c/d.html",
+    ),
+    ("https://a.example/b", "c.html", "https://a.example/c.html"),
+    (
+        "https://a.example/",
+        "é f/100%.html",
+        "https://a.example/%C3%A9%20f/100%25.html",
+    ),
+    (
+        "https://a.example/",
+        "c:\\d?e#f.html",
+        "https://a.example/c%3A%5Cd%3Fe%23f.html",
+    ),
+    ("file:///a/", "b.html", "file:///a/b.html"),
+    ("mailto:x", "b.html", "none"),
+];
+
+#[test]
+fn pages_of_folders_have_urls(rt: HostRuntime) -> Result<(), Fail> {
+    for (folder, path, want) in PAGE_URLS {
+        let url = Url::parse(rt.alloc(), folder)?;
+        let found = page_url(rt.alloc(), &url, path)?;
+        let found = found.as_ref().map_or("none", Url::as_str);
+        expect_text(path, found, want)?;
+    }
+    Ok(())
 }
 
 const HEAD: &str =

@@ -14,8 +14,8 @@ use Rattle.htmd_document.specs.Documents.{Inline, text, code, formatted, link, i
 use Rattle.htmd_document.specs.Documents.{no_inlines, inline, Block, Blocks, paragraph}
 use Rattle.htmd_document.specs.Documents as documents
 use Rattle.htmd_document.specs.Flows.{blocks_of, line_of}
-use Rattle.htmd_document.specs.Nesting.{wrapped, one_inline, text_or_code, met, joined, with_content, in_last, behind, mark_of, shared}
-use Rattle.htmd_document.specs.Paragraphs.{Writing, begun, is_leaf, open_paragraph, ended_by, ended, parted, broken_off, spaced_out, white_behind, after_task, is_code_gap, gap_before, gap_behind, shared_marks, shown, after_leaf, is_task_here, tasked, after_character, fed, fed_all}
+use Rattle.htmd_document.specs.Nesting.{wrapped, one_inline, text_or_code, met, joined, with_content, in_last, behind, wrapper_of, shared}
+use Rattle.htmd_document.specs.Paragraphs.{Writing, begun, is_leaf, open_paragraph, ended_by, ended, parted, broken_off, spaced_out, white_behind, after_task, is_code_gap, gap_before, gap_behind, shared_wrappers, shown, after_leaf, is_task_here, tasked, after_character, fed, fed_all}
 use Rattle.htmd_document.specs.Parts.{Around, Part, run, picture, break, box, edge, whole}
 use Rattle.htmd_document.specs.Parts as part
 use Rattle.htmd_document.specs.Spaces.{Gap, spaced, shown_white, is_white, ends_with_space}
@@ -173,16 +173,16 @@ before_le : (w : Writing) (around : List Around) (t : Bool)
 before_le w around t = go w.gap.has_break
   where
     n : ℕ
-    n = shared w.around (map mark_of around)
+    n = shared w.around (map wrapper_of around)
 
     go : (b : Bool)
         → size_of_inlines
         (if b then behind n w.content (take n around) line_break
-        else white_behind n w.content around (t && is_code_gap w (map mark_of around)) w.gap.white)
+        else white_behind n w.content around (t && is_code_gap w (map wrapper_of around)) w.gap.white)
         ≤ size_of_inlines w.content + size_around around + 2 + length w.gap.white
     go true = omega (arith, behind_le n w.content (take n around) line_break, taken_le n around)
     go false =
-        omega (arith, white_le n w.content around (t && is_code_gap w (map mark_of around)) w.gap.white)
+        omega (arith, white_le n w.content around (t && is_code_gap w (map wrapper_of around)) w.gap.white)
 
 gap_le : (l : Latest) (w : Writing) (around : List Around) (t : Bool)
     → size_of_inlines (gap_behind l w around t)
@@ -198,7 +198,7 @@ shown_le : (w : Writing) (around : List Around) (t : Bool) (leaf : Inline)
 shown_le w around t leaf =
     omega (
       arith,
-      behind_le (shared_marks w (map mark_of around)) (gap_behind w.latest w around t) around leaf,
+      behind_le (shared_wrappers w (map wrapper_of around)) (gap_behind w.latest w around t) around leaf,
       gap_le w.latest w around t,
     )
 

@@ -1,23 +1,26 @@
 -- What is asked of a node, against its value tree and its ancestors.
 use Rattle.std.proofs.Common.{◌≡◌, ℕ, ◌<◌, List, [], ◌∷◌, length, get_or, Some, None, refl, sym, ap, ◌∙◌, arith, subst}
-use Rattle.std.proofs.Common.{Bool, ◌||◌, not, ◌&&◌, true, false, codes}
+use Rattle.std.proofs.Common.{Bool, ◌||◌, not, ◌&&◌, true, false, codes, eqb}
+use Rattle.std.specs.List.{list_any}
 use Rattle.std.specs.Str.{bytes_eq}
+use Rattle.std.proofs.lemmas.Bool.Decides.{nat_tests}
 use Rattle.htmd_text.specs.Blocks.{is_block}
 use Rattle.htmd_text.proofs.BlocksLemmas.{block-nil}
 use Rattle.htmd_nodes.specs.Items.{Item, Data, document_node, doctype_node, text_node, comment_node, element_node}
-use Rattle.htmd_nodes.specs.Items.{IsTree, data_at, parent_at, tag_of}
+use Rattle.htmd_nodes.specs.Items.{IsTree, data_at, parent_at, tag_of, holds_children}
 use Rattle.htmd_nodes.specs.NumberedTrees.{NumberedTree, document, doctype, text, comment, element, NumberedForest, none}
 use Rattle.htmd_nodes.specs.NumberedTrees.{more, with_children, forest_of, tree_of}
-use Rattle.htmd_nodes.specs.Ancestors.{ancestor_of, ancestors_of, chain_from}
+use Rattle.htmd_nodes.specs.Ancestors.{Ancestor, ancestor_of, ancestors_of, chain_from}
 use Rattle.htmd_nodes.specs.Views.{data_of}
 use Rattle.htmd_grammar.specs.declared.attribute.Attribute.{Attribute}
 use Rattle.htmd_nodes.specs.declared.tree.NodeData.{NodeData}
 use Rattle.htmd_nodes.specs.declared.tree.NodeData.TheVariants.{Document, Doctype, Text, Comment, Element}
 use Rattle.std.specs.Borrow.{Bor}
-use Rattle.std.proofs.Math.Bool.{and-false, and-true}
+use Rattle.std.proofs.Math.Bool.{and-false, and-true, or-false}
 use Rattle.htmd_nodes.proofs.NumberedTreesLemmas.{tree-open}
 use Rattle.htmd_nodes.proofs.AncestorsLemmas.{ancestors-open}
 use Rattle.htmd_walk.specs.OrdinaryText.{is_pre_or_code, in_pre_or_code, parent_is_pre}
+use Rattle.htmd_walk.specs.ElementPlans.{is_tag_among}
 use Rattle.htmd_walk.specs.Groups.{only_text, children_at}
 use Rattle.htmd_walk.specs.Children.{is_block_tree, trims_first}
 use Rattle.htmd_walk.specs.Rendering.{is_text, inside_of}
@@ -38,6 +41,39 @@ block-put id (text_node s) children = refl
 block-put id (comment_node s) children = refl
 block-put id (element_node name attributes) children = refl
 
+-- a node that others are under has a tag
+pub tag-held : (tags : List (List ℕ)) (c : Data) → holds_children c ≡ true
+    → is_tag_among tags (tag_of c) ≡ is_tag_among tags (Some (ancestor_of c).tag)
+tag-held tags document_node h = refl
+tag-held tags doctype_node h = cc
+tag-held tags (text_node s) h = cc
+tag-held tags (comment_node s) h = cc
+tag-held tags (element_node name attributes) h = refl
+
+bytes_eq-swapped : (n m : List ℕ) → bytes_eq n m ≡ bytes_eq m n
+bytes_eq-swapped [] [] = refl
+bytes_eq-swapped [] (b ∷ m) = refl
+bytes_eq-swapped (b ∷ n) [] = refl
+bytes_eq-swapped (b ∷ n) (c ∷ m) = rw (byte_swapped b c, bytes_eq-swapped n m) refl
+  where
+    byte_swapped : (b c : ℕ) → eqb b c ≡ eqb c b
+    byte_swapped b c = grind (arith, nat_tests)
+
+pre_or_code-tag : (tag : List ℕ) → is_tag_among (codes "pre" ∷ codes "code" ∷ []) (Some tag)
+    ≡ (bytes_eq tag (codes "pre") || bytes_eq tag (codes "code"))
+pre_or_code-tag tag =
+    ap (λ b. b || (bytes_eq (codes "code") tag || false)) (bytes_eq-swapped (codes "pre") tag)
+    ∙ ap (λ b. bytes_eq tag (codes "pre") || (b || false)) (bytes_eq-swapped (codes "code") tag)
+    ∙ ap (λ b. bytes_eq tag (codes "pre") || b) (or-false (bytes_eq tag (codes "code")))
+
+pub pre_or_code-among : (above : List Ancestor)
+    → list_any (λ a. is_tag_among (codes "pre" ∷ codes "code" ∷ []) (Some a.tag)) above ≡ in_pre_or_code above
+pre_or_code-among [] = refl
+pre_or_code-among (a ∷ above) =
+    ap (λ b. b || list_any (λ x. is_tag_among (codes "pre" ∷ codes "code" ∷ []) (Some x.tag)) above)
+    (pre_or_code-tag a.tag)
+    ∙ ap (λ b. is_pre_or_code a || b) (pre_or_code-among above)
+
 module _ (items : List Item) (t : IsTree items) where
   pub is_block_tree-open : (id : ℕ) → id < length items → is_block_tree (tree_of items id) ≡ is_block_content
       (data_at items id)
@@ -45,23 +81,22 @@ module _ (items : List Item) (t : IsTree items) where
       ∙ block-put id (data_at items id) (children_at items id)
 
   -- one step up
-  pub pre-root : (id : ℕ) → id < length items → parent_at items id ≡ None
-      → in_pre_or_code (ancestors_of items id) ≡ false
-  pre-root id l e = ap in_pre_or_code (ancestors-open items id t l ∙ ap (chain_from (ancestors_of items) items) e)
+  pub any-root : (f : Ancestor → Bool) (id : ℕ) → id < length items → parent_at items id ≡ None
+      → list_any f (ancestors_of items id) ≡ false
+  any-root f id l e = ap (list_any f) (ancestors-open items id t l ∙ ap (chain_from (ancestors_of items) items) e)
 
-  pub pre-up : (id p : ℕ) → id < length items → parent_at items id ≡ Some p
-      → in_pre_or_code (ancestors_of items id)
-      ≡ (is_pre_or_code (ancestor_of (data_at items p)) || in_pre_or_code (ancestors_of items p))
-  pre-up id p l e = ap in_pre_or_code (ancestors-open items id t l ∙ ap (chain_from (ancestors_of items) items) e)
+  pub any-hit : (f : Ancestor → Bool) (id p : ℕ) → id < length items → parent_at items id ≡ Some p
+      → f (ancestor_of (data_at items p)) ≡ true → list_any f (ancestors_of items id) ≡ true
+  any-hit f id p l e h =
+      ap (list_any f) (ancestors-open items id t l ∙ ap (chain_from (ancestors_of items) items) e)
+      ∙ ap (λ b. b || list_any f (ancestors_of items p)) h
 
-  pub pre-hit : (id p : ℕ) → id < length items → parent_at items id ≡ Some p
-      → true ≡ is_pre_or_code (ancestor_of (data_at items p)) → in_pre_or_code (ancestors_of items id) ≡ true
-  pre-hit id p l e b = pre-up id p l e ∙ ap (λ x. x || in_pre_or_code (ancestors_of items p)) (sym b)
-
-  pub pre-miss : (id p : ℕ) → id < length items → parent_at items id ≡ Some p
-      → false ≡ is_pre_or_code (ancestor_of (data_at items p))
-      → in_pre_or_code (ancestors_of items id) ≡ in_pre_or_code (ancestors_of items p)
-  pre-miss id p l e b = pre-up id p l e ∙ ap (λ x. x || in_pre_or_code (ancestors_of items p)) (sym b)
+  pub any-miss : (f : Ancestor → Bool) (id p : ℕ) → id < length items → parent_at items id ≡ Some p
+      → f (ancestor_of (data_at items p)) ≡ false
+      → list_any f (ancestors_of items id) ≡ list_any f (ancestors_of items p)
+  any-miss f id p l e h =
+      ap (list_any f) (ancestors-open items id t l ∙ ap (chain_from (ancestors_of items) items) e)
+      ∙ ap (λ b. b || list_any f (ancestors_of items p)) h
 
   pub parent_pre-root : (id : ℕ) → id < length items → parent_at items id ≡ None
       → parent_is_pre (ancestors_of items id) ≡ false

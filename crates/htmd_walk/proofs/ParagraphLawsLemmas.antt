@@ -25,7 +25,7 @@ use Rattle.htmd_walk.specs.Groups.{Joint, joint_with, joint_of, both_join, is_jo
 use Rattle.htmd_walk.specs.Groups.{in_front, groups_of}
 use Rattle.htmd_walk.specs.Outputs.{Conversion, conversion_of, Output, context_of, empty_output, is_markdown_alone}
 use Rattle.htmd_walk.specs.Children.{trim_after, write_children, content_inside}
-use Rattle.htmd_walk.specs.ElementPlans.{plain_plan}
+use Rattle.htmd_walk.specs.ElementPlans.{children_plan}
 use Rattle.htmd_walk.specs.Elements.{Occurrence, Answer, content_of, answer_after, first_answer, plan_answer, with_finish}
 use Rattle.htmd_walk.specs.Elements.{without_handler, view_at, occurrence_at}
 use Rattle.htmd_walk.specs.Rendering.{with_answer, end_of_document, written_within}
@@ -180,7 +180,7 @@ module _ (options : Options) (items : List Item) where
   at n id kids = occurrence_at (written_within n conversion) conversion id inside kids
 
   plan_is : (id : ℕ) (kids : NumberedForest) → data_at items id ≡ element_node (codes "p") []
-      → plain_plan (view_at conversion id true kids) ≡ content_of_children
+      → children_plan (view_at conversion id true kids) ≡ content_of_children
   plan_is id kids e =
       ap (λ d. cond (not (is_markdown_alone options) && nat_lt 0 (length (ancestor_of d).attributes)) raw_html
       content_of_children) e

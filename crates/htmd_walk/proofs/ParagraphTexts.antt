@@ -11,7 +11,7 @@ use Rattle.htmd_grammar.specs.Characters.{line_feed}
 use Rattle.htmd_grammar.specs.BlankLines.{blank_line}
 use Rattle.htmd_text.specs.Trims.{trimmed_end, trimmed_text, is_space, is_line_feed}
 use Rattle.htmd_grammar.specs.WhiteSpace.{is_document_white_space}
-use Rattle.htmd_text.specs.EscapedPlaces.{is_marked, escaped_markdown}
+use Rattle.htmd_text.specs.EscapedPlaces.{is_escaped, escaped_markdown}
 use Rattle.htmd_text.specs.Unescape.{unescape}
 use Rattle.htmd_text.proofs.UnescapeLemmas.{unescape-escaped}
 use Rattle.htmd_walk.specs.ParagraphLaws.{cut_at_blank_lines, parts_of, texts_read, with_last_trimmed}
@@ -66,7 +66,7 @@ last_written s is = record {
       (end_cut_of s)) blank_line_is_white;
   whole = append-nil (escaped_markdown s ++ blank_line) ∙ ap (λ l. l ++ blank_line) (escaped_parts s)
       ∙ append_assoc (front_of s) (cut_of s) blank_line;
-  bare = written_ends_bare is_document_white_space (is_marked s) 0 (trimmed_end is_space s) (left_ends_bare s is);
+  bare = written_ends_bare is_document_white_space (is_escaped s) 0 (trimmed_end is_space s) (left_ends_bare s is);
   some = some_front s is;
   first = ap (prefix_len is_line_feed) (sym (append-nil (front_of s)))
       ∙ none_first (front_of s) [] (some_front s is) (front_without s is.plain);

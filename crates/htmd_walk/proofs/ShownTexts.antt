@@ -12,7 +12,7 @@ use Rattle.htmd_grammar.specs.Characters.{space, backslash}
 use Rattle.htmd_text.specs.Trims.{trimmed_end, is_space, is_line_feed}
 use Rattle.htmd_grammar.specs.WhiteSpace.{is_ascii_white_space, is_document_white_space, begins_with_white_space}
 use Rattle.htmd_text.specs.SqueezedTexts.{squeezed_text}
-use Rattle.htmd_text.specs.EscapedPlaces.{with_backslashes, is_marked, escaped_markdown}
+use Rattle.htmd_text.specs.EscapedPlaces.{with_backslashes, is_escaped, escaped_markdown}
 use Rattle.htmd_text.specs.Unescape.{unescape}
 use Rattle.htmd_text.proofs.EscapeKindsLemmas.{marked_is_punctuation, unmarked_is_no_backslash}
 use Rattle.htmd_text.proofs.UnescapeLemmas.{reads_back}
@@ -205,7 +205,7 @@ written_ends_bare passes marked k (b ∷ c ∷ s) bare =
 
 -- what is written of a text but its final space
 abbrev pub front_of : List ℕ → List ℕ
-front_of s = with_backslashes (is_marked s) 0 (trimmed_end is_space s)
+front_of s = with_backslashes (is_escaped s) 0 (trimmed_end is_space s)
 
 -- its final space
 abbrev pub cut_of : List ℕ → List ℕ
@@ -240,15 +240,15 @@ within_left s i below =
 pub escaped_parts : (s : List ℕ) → escaped_markdown s ≡ front_of s ++ cut_of s
 escaped_parts s =
     let left = trimmed_end is_space s in
-    let unmarked : (i : ℕ) → i < length (cut_of s) → is_marked s (0 + length left + i) ≡ false =
+    let unmarked : (i : ℕ) → i < length (cut_of s) → is_escaped s (0 + length left + i) ≡ false =
     λ i below. false_from_ne_true _ (λ m.
     false≢true (sym (behind_left s (0 + length left + i) (omega arith))
     ∙ marked_is_punctuation s (0 + length left + i) m)) in
-    ap (with_backslashes (is_marked s) 0) (sym (end_parts is_space s))
-    ∙ backslashes_behind (is_marked s) 0 left (cut_of s)
-    ∙ ap (λ l. front_of s ++ l) (backslashes_none (is_marked s) (0 + length left) (cut_of s) unmarked)
+    ap (with_backslashes (is_escaped s) 0) (sym (end_parts is_space s))
+    ∙ backslashes_behind (is_escaped s) 0 left (cut_of s)
+    ∙ ap (λ l. front_of s ++ l) (backslashes_none (is_escaped s) (0 + length left) (cut_of s) unmarked)
 
-punctuation_left : (s : List ℕ) (i : ℕ) → is_marked s i ≡ true
+punctuation_left : (s : List ℕ) (i : ℕ) → is_escaped s i ≡ true
     → is_ascii_punctuation (get_or (trimmed_end is_space s) i 0) ≡ true
 punctuation_left s i m =
     ⊎_elim
@@ -258,8 +258,8 @@ punctuation_left s i m =
 
 pub front_reads_back : (s : List ℕ) → unescape (front_of s) ≡ trimmed_end is_space s
 front_reads_back s =
-    let from_start : (i : ℕ) → is_marked s i ≡ is_marked s (0 + i) = λ i. ap (is_marked s) (omega arith) in
-    reads_back (is_marked s) 0 (trimmed_end is_space s)
+    let from_start : (i : ℕ) → is_escaped s i ≡ is_escaped s (0 + i) = λ i. ap (is_escaped s) (omega arith) in
+    reads_back (is_escaped s) 0 (trimmed_end is_space s)
     (λ i m. punctuation_left s i (from_start i ∙ m))
     (λ i below m. ap (λ b. b == backslash) (sym (within_left s i below))
     ∙ unmarked_is_no_backslash s i (from_start i ∙ m))
@@ -282,11 +282,11 @@ pub plain_without : (s : List ℕ) → All IsPlain s → All IsNoLineFeed s
 plain_without s all = All-weaker IsPlain IsNoLineFeed plain_is_no_line_feed s all
 
 pub escaped_without : (s : List ℕ) → All IsPlain s → All IsNoLineFeed (escaped_markdown s)
-escaped_without s all = each_written IsNoLineFeed (is_marked s) 0 s refl (plain_without s all)
+escaped_without s all = each_written IsNoLineFeed (is_escaped s) 0 s refl (plain_without s all)
 
 pub front_without : (s : List ℕ) → All IsPlain s → All IsNoLineFeed (front_of s)
 front_without s all =
-    each_written IsNoLineFeed (is_marked s) 0 (trimmed_end is_space s) refl
+    each_written IsNoLineFeed (is_escaped s) 0 (trimmed_end is_space s) refl
     (All-take IsNoLineFeed (length s - suffix_len is_space s) s (plain_without s all))
 
 some_written : (marked : ℕ → Bool) (s : List ℕ) → 0 < length s → 0 < length (with_backslashes marked 0 s)
@@ -294,7 +294,7 @@ some_written marked [] some = some
 some_written marked (b ∷ s) some = grows_not marked 0 b s
 
 pub some_escaped : (s : List ℕ) → 0 < length s → 0 < length (escaped_markdown s)
-some_escaped s some = some_written (is_marked s) s some
+some_escaped s some = some_written (is_escaped s) s some
 
 pub some_front : (s : List ℕ) → IsShown s → 0 < length (front_of s)
-some_front s is = some_written (is_marked s) (trimmed_end is_space s) (shown_is_left s is)
+some_front s is = some_written (is_escaped s) (trimmed_end is_space s) (shown_is_left s is)

@@ -1,18 +1,16 @@
 -- Explicit headers and cells above, as loops find them.
 use Rattle.std.proofs.Common.{◌≡◌, ℕ, ◌<◌, List, [], ◌∷◌, length, refl, sym, ap, ◌∙◌, arith, Bool, true, false}
-use Rattle.std.proofs.Common.{not, ◌&&◌, ◌||◌, Some, None, codes}
+use Rattle.std.proofs.Common.{not, ◌&&◌, ◌||◌, codes}
 use Rattle.std.specs.List.{list_any}
 use Rattle.htmd_nodes.specs.Items.{Item, Data, document_node, doctype_node, text_node, comment_node, element_node}
-use Rattle.htmd_nodes.specs.Items.{IsTree, data_at, parent_at, children_of, holds_children, tag_of}
+use Rattle.htmd_nodes.specs.Items.{IsTree, data_at, children_of, holds_children, tag_of}
 use Rattle.htmd_nodes.specs.NumberedTrees.{NumberedForest, with_children, tree_of, forest_of}
-use Rattle.htmd_nodes.specs.Ancestors.{Ancestor, ancestor_of, ancestors_of, chain_from}
 use Rattle.htmd_nodes.proofs.NumberedTreesLemmas.{tree-open}
-use Rattle.htmd_nodes.proofs.AncestorsLemmas.{ancestors-open}
 use Rattle.htmd_nodes.proofs.ItemsLemmas.{child_read}
 use Rattle.htmd_walk.specs.Groups.{children_at}
 use Rattle.htmd_walk.specs.ElementPlans.{is_tag_among}
 use Rattle.htmd_walk.specs.TableLayouts.{has_tag}
-use Rattle.htmd_walk.specs.Tables.{header_tags, cell_tags, tag_of_tree, is_header, is_table, is_cell}
+use Rattle.htmd_walk.specs.Tables.{header_tags, tag_of_tree, is_header, is_table}
 use Rattle.htmd_walk.specs.Tables.{has_header_below, has_header_among, has_explicit_headers}
 
 tag-put : (id : ℕ) (d : Data) (children : NumberedForest) → tag_of_tree (with_children id d children) ≡ tag_of d
@@ -31,13 +29,6 @@ below-put id doctype_node children h = sym (h refl)
 below-put id (text_node s) children h = sym (h refl)
 below-put id (comment_node s) children h = sym (h refl)
 below-put id (element_node name attributes) children h = refl
-
-pub cell-tag : (d : Data) → is_tag_among cell_tags (tag_of d) ≡ is_cell (ancestor_of d)
-cell-tag document_node = refl
-cell-tag doctype_node = refl
-cell-tag (text_node s) = refl
-cell-tag (comment_node s) = refl
-cell-tag (element_node name attributes) = refl
 
 -- how a child is looked into: below the table, and deeper
 abbrev pub shows_header : List Item → ℕ → Bool
@@ -120,21 +111,3 @@ module _ (items : List Item) (t : IsTree items) where
       (ap (is_tag_among header_tags) (tree_tag id l) ∙ h)
       ∙ ap (λ b. not b && has_header_below (tree_of items id))
       (ap (is_tag_among (codes "table" ∷ [])) (tree_tag id l) ∙ k)
-
-  -- one step up
-  pub any-root : (f : Ancestor → Bool) (id : ℕ) → id < length items → parent_at items id ≡ None
-      → list_any f (ancestors_of items id) ≡ false
-  any-root f id l e = ap (list_any f) (ancestors-open items id t l ∙ ap (chain_from (ancestors_of items) items) e)
-
-  pub any-hit : (f : Ancestor → Bool) (id p : ℕ) → id < length items → parent_at items id ≡ Some p
-      → f (ancestor_of (data_at items p)) ≡ true → list_any f (ancestors_of items id) ≡ true
-  any-hit f id p l e h =
-      ap (list_any f) (ancestors-open items id t l ∙ ap (chain_from (ancestors_of items) items) e)
-      ∙ ap (λ b. b || list_any f (ancestors_of items p)) h
-
-  pub any-miss : (f : Ancestor → Bool) (id p : ℕ) → id < length items → parent_at items id ≡ Some p
-      → f (ancestor_of (data_at items p)) ≡ false
-      → list_any f (ancestors_of items id) ≡ list_any f (ancestors_of items p)
-  any-miss f id p l e h =
-      ap (list_any f) (ancestors-open items id t l ∙ ap (chain_from (ancestors_of items) items) e)
-      ∙ ap (λ b. b || list_any f (ancestors_of items p)) h

@@ -12,7 +12,7 @@ use Rattle.htmd_text.specs.SqueezedTexts.{squeezed_text}
 use Rattle.htmd_text.specs.Replacement.{is_squeezed}
 use Rattle.htmd_text.specs.Trims.{is_space}
 use Rattle.htmd_text.specs.EscapeKinds.{is_special}
-use Rattle.htmd_text.specs.EscapedPlaces.{begins_block, numbered_item_dot, escaped_markdown, is_marked, is_place}
+use Rattle.htmd_text.specs.EscapedPlaces.{begins_block, numbered_item_dot, escaped_markdown, is_escaped, is_place}
 use Rattle.htmd_text.specs.EscapedPlaces.{is_always_escaped, opens_html}
 use Rattle.htmd_text.proofs.WhiteSpaceLemmas.{squeezed_stays}
 use Rattle.htmd_text.proofs.EscapedPlacesLemmas.{special_at, unmarked_stays}
@@ -129,7 +129,7 @@ rest_unmarked false s e = e
 -- ---- what gets no backslash
 
 unmarked_at : (s : List ℕ) (k : ℕ) → begins_block s ≡ false → numbered_item_dot s ≡ None
-    → list_any is_special s ≡ false → is_marked s k ≡ false
+    → list_any is_special s ≡ false → is_escaped s k ≡ false
 unmarked_at s k begins dot none =
     let other = or_parts (is_always_escaped (slice_index s k)) (slice_index s k == less_than_sign)
     (special_at s k none) in
@@ -145,5 +145,6 @@ plain_written goes s begins stays =
     let start = start_of_rest goes s begins in
     let unmarked = rest_unmarked (goes && begins_with_space s) s (plain_unmarked false s stays) in
     ap (λ t. escaped_markdown (without_first_space goes t)) (squeezed_stays s false (plain_squeezed false s stays))
-    ∙ unmarked_stays (is_marked rest) 0 rest (λ k. unmarked_at rest k (start_block rest start) (start_dot rest start)
+    ∙ unmarked_stays (is_escaped rest) 0 rest
+    (λ k. unmarked_at rest k (start_block rest start) (start_dot rest start)
     unmarked)

@@ -65,8 +65,8 @@ is_more_than (negsuc n) count = true
 abbrev pub unless_attributes : ElementView → PlanView → PlanView
 unless_attributes view plan = if is_raw_html_due view 0 then raw_html else plan
 
-abbrev pub plain_plan : ElementView → PlanView
-plain_plan view = unless_attributes view content_of_children
+abbrev pub children_plan : ElementView → PlanView
+children_plan view = unless_attributes view content_of_children
 
 -- the children's content, unless the mode is Faithful and this doesn't hold
 abbrev pub plan_if : Bool → ElementView → PlanView

@@ -3,7 +3,7 @@ use Rattle.std.specs.Prelude.{ℕ, if◌then◌else◌, List, Option, codes}
 use Rattle.std.specs.Str.{bytes_eq}
 use Rattle.htmd_markdown.specs.Headings.{heading}
 use Rattle.htmd_walk.specs.Handling.{ElementView, ResultView, HandlerMeaning, of_plan}
-use Rattle.htmd_walk.specs.ElementPlans.{tag_of, plain_plan, markdown_result}
+use Rattle.htmd_walk.specs.ElementPlans.{tag_of, children_plan, markdown_result}
 
 -- the level that a tag names
 abbrev pub level_of : List ℕ → ℕ
@@ -19,4 +19,4 @@ heading_result view content =
     markdown_result (heading view.options.heading_style (level_of (tag_of view)) content.content)
 
 abbrev pub headings : HandlerMeaning
-headings = of_plan plain_plan heading_result
+headings = of_plan children_plan heading_result

@@ -25,7 +25,7 @@ use Rattle.htmd_walk.specs.Views.{plan_view, element_view, element_children, opt
 
 abbrev pub request_view : Request → PlanView
 request_view (OfPlan plan) = plan_view plan
-request_view (Each nodes may_ask_children) = contents_of_each nodes.items
+request_view (Each descendants) = contents_of_each descendants.nodes.items
 
 abbrev pub outcome_view : Outcome → OutcomeView
 outcome_view (Final result) = final_result (optional_result result)

@@ -34,7 +34,7 @@ ghost use Rattle.htmd_walk.specs.Walking.{AlwaysGives, AreRemembered, content_be
 
 use crate::element_handler::code::{language_above, language_inside};
 use crate::element_handler::plans::is_markdown_alone;
-use crate::element_handler::registry::{Outcome, Registry, Request};
+use crate::element_handler::registry::{Descendants, Outcome, Registry, Request};
 use crate::element_handler::span::formula_mark;
 use crate::element_handler::{Element, HandlerResult, Links, Plan};
 use crate::group::{group_length, joined_text};
@@ -49,7 +49,7 @@ use htmd_text::{
 };
 use results::{
     append_copy, append_result, between_tags, copied, cut_before_child, empty_result, lent,
-    passed_on, push_comment, raw_result, text_shown, trim_after,
+    passed_on, push_comment, raw_result, result_alone, text_shown, trim_after,
 };
 use std::alloc::{AllocError, Global};
 use visit::Visit;
@@ -59,6 +59,21 @@ use visit::Visit;
 pub(crate) struct Remembered {
     node: NodeId,
     result: Option<HandlerResult>,
+}
+
+/// What is remembered so far, and whether more is to be.
+#[derive(Drop)]
+pub(crate) struct Notes {
+    remembered: Vec<Remembered>,
+    are_taken: bool,
+}
+
+/// A call of the handlers of an element, from the one after this many newer ones on.
+#[derive(Clone, Copy)]
+pub(crate) struct HandlerCall {
+    pub(crate) node: NodeId,
+    pub(crate) markdown_translated: bool,
+    pub(crate) skipped: usize,
 }
 
 /// A walk over a tree, and what is remembered of nodes on the way.
@@ -75,14 +90,14 @@ pub(crate) struct Walk<'a, R: Registry> {
 
 impl<'a, R: Registry> Walk<'a, R> {
     /// A walk over a tree, by these handlers.
-    pub(crate) fn new(registry: &'a R, alloc: Global, tree: &'a Tree, spare: &'a SpareTexts) -> Self
+    pub(crate) fn new(registry: &'a R, tree: &'a Tree, spare: &'a SpareTexts) -> Self
         ensures registry { result.registry.now ≡ registry.now }
         ensures tree { result.tree.now ≡ tree.now }
     {
         let _root = tree.root();
         Walk {
             registry,
-            alloc,
+            alloc: spare.alloc,
             tree,
             remembered: &[],
             spare,
@@ -163,31 +178,27 @@ impl<'a, R: Registry> Walk<'a, R> {
         Some(known)
     }
 
-    /// The content that an element gives by itself. It is remembered if that added no definition.
+    /// Remembers what an element gives, if that added no definition.
     fn keep(
         &self,
         node: NodeId,
-        given: Option<HandlerResult>,
+        given: &Option<HandlerResult>,
         adds_none: bool,
-        whole: bool,
-        remembered: &mut Vec<Remembered>,
-    ) -> Result<HandlerResult, AllocError>
+        notes: &mut Notes,
+    ) -> Result<(), AllocError>
         requires right { IsTrue adds_none
             → AlwaysGives (conversion_of (R.config self.now.registry.now) self.now.tree.now) node
-            (optional_result given) }
-        requires remembered { AreRemembered (R.config self.now.registry.now) self.now.tree.now remembered.old.items }
-        ensures content { IfOk result (λ r. (definitions : List (List ℕ)) → output_view r definitions
-            ≡ with_result (empty_output definitions) whole (optional_result given) definitions) }
-        ensures remembered { OnOk result
-            (AreRemembered (R.config self.now.registry.now) self.now.tree.now remembered.new.items) }
+            (optional_result given.now) }
+        requires remembered { AreRemembered (R.config self.now.registry.now) self.now.tree.now
+            notes.old.remembered.items }
+        ensures { OnOk result
+            (AreRemembered (R.config self.now.registry.now) self.now.tree.now notes.new.remembered.items) }
     {
         if adds_none {
-            let result = copied(self.alloc, &given)?;
-            remembered.push(Remembered { node, result })?;
+            let result = copied(self.alloc, given)?;
+            notes.remembered.push(Remembered { node, result })?;
         }
-        let mut out = empty_result(self.alloc, self.spare);
-        append_result(&mut out, given, whole, self.alloc, self.spare)?;
-        Ok(out)
+        Ok(())
     }
 
     /// Whether `span` has the built-in handler alone.
@@ -268,10 +279,7 @@ impl<'a, R: Registry> Walk<'a, R> {
                     }
                 }
             },
-            Request::Each {
-                nodes,
-                may_ask_children,
-            } => self.handle_each(element, index, nodes.as_slice(), may_ask_children, links),
+            Request::Each(descendants) => self.handle_each(element, index, &descendants, links),
         }
     }
 
@@ -299,20 +307,22 @@ impl<'a, R: Registry> Walk<'a, R> {
         &self,
         element: &Element,
         index: usize,
-        nodes: &[NodeId],
-        may_ask_children: bool,
+        descendants: &Descendants,
         links: &mut Links,
     ) -> Result<Option<HandlerResult>, AllocError>
         requires ready { R.ready self.now.registry.now }
         requires here { IsElementOf (R.config self.now.registry.now).options self.now.tree.now element.now }
         requires index { index < length (R.config self.now.registry.now).handlers }
-        requires proper { IsProper self.now.tree.now element.now.node (contents_of_each nodes.now) }
+        requires proper { IsProper self.now.tree.now element.now.node (contents_of_each descendants.now.nodes.items) }
         ensures { ElementGives (R.config self.now.registry.now) self.now.tree.now element.now
             (λ at. each_answer (handler_at at.conversion.config.handlers index) at
-            (contents_alone at nodes.now links.old)) (λ r. answer_view r links.new) result }
+            (contents_alone at descendants.now.nodes.items links.old)) (λ r. answer_view r links.new) result }
     {
-        let mut remembered = Vec::new(self.alloc);
-        let contents = self.walk_each(element, nodes, may_ask_children, &mut remembered, links)?;
+        let mut notes = Notes {
+            remembered: Vec::new(self.alloc),
+            are_taken: descendants.may_ask_children,
+        };
+        let contents = self.walk_each(element, &descendants.nodes, &mut notes, links)?;
         match self
             .registry
             .finish_each(self.alloc, index, element, contents)?
@@ -323,7 +333,7 @@ impl<'a, R: Registry> Walk<'a, R> {
                     registry: self.registry,
                     alloc: self.alloc,
                     tree: self.tree,
-                    remembered: remembered.as_slice(),
+                    remembered: notes.remembered.as_slice(),
                     spare: self.spare,
                 };
                 let content = knowing.content(element, links)?;
@@ -385,22 +395,22 @@ impl<'a, R: Registry> Walk<'a, R> {
         &self,
         element: &Element,
         nodes: &[NodeId],
-        may_keep: bool,
-        remembered: &mut Vec<Remembered>,
+        notes: &mut Notes,
         links: &mut Links,
     ) -> Result<Vec<HandlerResult>, AllocError>
         requires ready { R.ready self.now.registry.now }
         requires here { IsElementOf (R.config self.now.registry.now).options self.now.tree.now element.now }
         requires proper { IsProper self.now.tree.now element.now.node (contents_of_each nodes.now) }
-        requires remembered { AreRemembered (R.config self.now.registry.now) self.now.tree.now remembered.old.items }
+        requires remembered { AreRemembered (R.config self.now.registry.now) self.now.tree.now
+            notes.old.remembered.items }
         ensures ok { ElementGives (R.config self.now.registry.now) self.now.tree.now element.now
             (λ at. contents_alone at nodes.now links.old) (λ r. contents_view r.items links.new) result }
         ensures remembered { OnOk result
-            (AreRemembered (R.config self.now.registry.now) self.now.tree.now remembered.new.items) }
+            (AreRemembered (R.config self.now.registry.now) self.now.tree.now notes.new.remembered.items) }
     {
         let mut results = Vec::with_capacity(self.alloc, nodes.len())?;
         for node in nodes {
-            let result = self.walk_kept(element, *node, may_keep, remembered, links)?;
+            let result = self.walk_kept(element, *node, notes, links)?;
             results.push(result)?;
         }
         Ok(results)
@@ -414,21 +424,14 @@ impl<'a, R: Registry> Walk<'a, R> {
         ensures { ElementGives (R.config self.now.registry.now) self.now.tree.now element.now
             (λ at. content_of at links.old) (λ r. output_view r links.new) result }
     {
-        let mut out = empty_result(self.alloc, self.spare);
+        let mut out = empty_result(self.spare);
         if let Some(text) = element.text {
             let context = Context {
                 preformatted: element.preformatted,
                 trim: trims_first(self.tree, element.node, element.preformatted),
             };
             let in_pre = element.tag == "pre";
-            append_text(
-                self.alloc,
-                text,
-                in_pre,
-                context,
-                self.spare,
-                &mut out.content,
-            )?;
+            append_text(text, in_pre, context, self.spare, &mut out.content)?;
             return Ok(out);
         }
         self.walk_children(element.node, element.preformatted, &mut out, links)?;
@@ -495,19 +498,12 @@ impl<'a, R: Registry> Walk<'a, R> {
         let Some(text) = element.text else {
             return self.walk_alone(below, links);
         };
-        let mut out = empty_result(self.alloc, self.spare);
+        let mut out = empty_result(self.spare);
         let context = Context {
             preformatted: false,
             trim: true,
         };
-        append_text(
-            self.alloc,
-            text,
-            false,
-            context,
-            self.spare,
-            &mut out.content,
-        )?;
+        append_text(text, false, context, self.spare, &mut out.content)?;
         Ok(out)
     }
 
@@ -518,22 +514,22 @@ impl<'a, R: Registry> Walk<'a, R> {
         &self,
         element: &Element,
         below: NodeId,
-        may_keep: bool,
-        remembered: &mut Vec<Remembered>,
+        notes: &mut Notes,
         links: &mut Links,
     ) -> Result<HandlerResult, AllocError>
         requires ready { R.ready self.now.registry.now }
         requires behind { element.now.node < below }
         requires within { below < length self.now.tree.now }
-        requires remembered { AreRemembered (R.config self.now.registry.now) self.now.tree.now remembered.old.items }
+        requires remembered { AreRemembered (R.config self.now.registry.now) self.now.tree.now
+            notes.old.remembered.items }
         ensures ok { NodeGives (R.config self.now.registry.now) self.now.tree.now below
             (content_below (R.config self.now.registry.now) self.now.tree.now
             (option_copied element.now.text) below links.old)
             (λ r. output_view r links.new) result }
         ensures remembered { OnOk result
-            (AreRemembered (R.config self.now.registry.now) self.now.tree.now remembered.new.items) }
+            (AreRemembered (R.config self.now.registry.now) self.now.tree.now notes.new.remembered.items) }
     {
-        if !may_keep || element.text.is_some() {
+        if !notes.are_taken || element.text.is_some() {
             return self.walk_descendant(element, below, links);
         }
         let NodeData::Element { name, attrs } = self.tree.data(below) else {
@@ -544,13 +540,8 @@ impl<'a, R: Registry> Walk<'a, R> {
         let before = links.lines.len();
         let given = self.walk_element(&child, links)?;
         let adds_none = links.lines.len() == before;
-        self.keep(
-            below,
-            given,
-            adds_none,
-            visit.context.preformatted,
-            remembered,
-        )
+        self.keep(below, &given, adds_none, notes)?;
+        result_alone(given, visit.context.preformatted, self.spare)
     }
 
     /// The content of a node that is converted by itself.
@@ -567,7 +558,7 @@ impl<'a, R: Registry> Walk<'a, R> {
             (tree_of self.now.tree.now node) node links.old) (λ r. output_view r links.new) result }
     {
         let visit = self.alone(node);
-        let mut out = empty_result(self.alloc, self.spare);
+        let mut out = empty_result(self.spare);
         self.walk_node(&visit, &mut out, links)?;
         Ok(out)
     }
@@ -581,7 +572,7 @@ impl<'a, R: Registry> Walk<'a, R> {
             ++ written_text context.preformatted in_pre context.trim (string_bytes out.old) text.now) }
     {
         let in_pre = is_parent_pre(self.tree, visit.node);
-        append_text(self.alloc, text, in_pre, visit.context, self.spare, out)
+        append_text(text, in_pre, visit.context, self.spare, out)
     }
 
     /// Writes a node, or the group that begins at it, after what is written so far.
@@ -621,18 +612,12 @@ impl<'a, R: Registry> Walk<'a, R> {
             NodeData::Text(text) => self.write_text(visit, text, &mut out.content),
             NodeData::Element { name, attrs } => {
                 if let Some(known) = self.recall(node, visit.joined) {
-                    return append_copy(
-                        self.alloc,
-                        out,
-                        &known.result,
-                        context.preformatted,
-                        self.spare,
-                    );
+                    return append_copy(out, &known.result, context.preformatted, self.spare);
                 }
                 // In a cycle of calls the check asks that both are lent again.
                 let element = (&*self).element(&*visit, name, attrs, true);
                 let given = self.walk_element(&element, links)?;
-                append_result(out, given, context.preformatted, self.alloc, self.spare)
+                append_result(out, given, context.preformatted, self.spare)
             }
         }
     }
@@ -653,7 +638,7 @@ pub fn tree_to_markdown<R: Registry>(
         (λ text. ParagraphsReadBack (R.config registry.now) tree.now node (string_bytes text)) }
 {
     let spare = SpareTexts::new(alloc);
-    let walk = Walk::new(registry, alloc, tree, &spare);
+    let walk = Walk::new(registry, tree, &spare);
     let mut links = Links::new(alloc);
     let mut markdown = walk.walk_alone(node, &mut links)?.content;
     trim_newlines(&mut markdown);
@@ -663,28 +648,27 @@ pub fn tree_to_markdown<R: Registry>(
     Ok(markdown)
 }
 
-/// What the handlers of an element's tag make of it, from the one after this many newer ones on.
+/// What the handlers that are called make of an element.
 pub(crate) fn handle_element<R: Registry>(
     registry: &R,
     alloc: Global,
     tree: &Tree,
-    node: NodeId,
-    markdown_translated: bool,
-    skipped: usize,
+    call: HandlerCall,
     links: &mut Links,
 ) -> Result<Option<HandlerResult>, AllocError>
     requires ready { R.ready registry.now }
-    requires within { node < length tree.now }
-    requires element { IsElement (data_at tree.now node) }
-    ensures { let answer = handled (R.config registry.now) tree.now node markdown_translated skipped links.old in
+    requires within { call.node < length tree.now }
+    requires element { IsElement (data_at tree.now call.node) }
+    ensures { let config = R.config registry.now in
+        let answer = handled config tree.now call.node call.markdown_translated call.skipped links.old in
         IfOk result (λ r. answer_view r links.new ≡ answer) }
 {
-    let NodeData::Element { name, attrs } = tree.data(node) else {
+    let NodeData::Element { name, attrs } = tree.data(call.node) else {
         unreachable!();
     };
     let spare = SpareTexts::new(alloc);
-    let walk = Walk::new(registry, alloc, tree, &spare);
-    let visit = walk.alone(node);
-    let element = walk.element(&visit, name, attrs, markdown_translated);
-    walk.handle(&element, skipped, links)
+    let walk = Walk::new(registry, tree, &spare);
+    let visit = walk.alone(call.node);
+    let element = walk.element(&visit, name, attrs, call.markdown_translated);
+    walk.handle(&element, call.skipped, links)
 }

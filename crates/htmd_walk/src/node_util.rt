@@ -1,11 +1,13 @@
 //! Queries about a node of a tree.
 
-ghost use Rattle.std.specs.Prelude.{◌≡◌, ◌<◌, ◌||◌, true, false, length};
+ghost use Rattle.std.specs.Prelude.{◌≡◌, ◌<◌, ◌||◌, true, false, Some, [], ◌∷◌, length};
+ghost use Rattle.std.specs.List.{list_any};
 ghost use Rattle.std.specs.Option.{option_copied};
-ghost use Rattle.htmd_nodes.specs.Items.{data_at, IsTree};
+ghost use Rattle.htmd_nodes.specs.Items.{data_at, tag_of, IsTree};
 ghost use Rattle.htmd_nodes.specs.NumberedTrees.{tree_of};
 ghost use Rattle.htmd_nodes.specs.Ancestors.{ancestor_of, ancestors_of};
 ghost use Rattle.htmd_walk.specs.OrdinaryText.{is_pre_or_code, in_pre_or_code, parent_is_pre};
+ghost use Rattle.htmd_walk.specs.ElementPlans.{is_tag_among};
 ghost use Rattle.htmd_walk.specs.Groups.{only_text, children_at};
 ghost use Rattle.htmd_walk.specs.Children.{is_block_tree, trims_first};
 ghost use Rattle.htmd_walk.specs.Rendering.{is_text, inside_of};
@@ -24,19 +26,39 @@ pub(crate) fn is_pre_or_code(tree: &Tree, node: NodeId) -> bool
     }
 }
 
-/// Whether an ancestor is `pre` or `code`.
-pub(crate) fn is_in_pre_or_code(tree: &Tree, node: NodeId) -> bool
+/// Whether a node has one of two tags.
+fn has_either_tag(tree: &Tree, node: NodeId, first: &str, second: &str) -> bool
     requires { node < length tree.now }
-    ensures { result ≡ in_pre_or_code (ancestors_of tree.now node) }
+    ensures { result ≡ is_tag_among (first.now ∷ second.now ∷ []) (tag_of (data_at tree.now node)) }
+{
+    match tree.tag_name(node) {
+        Some(tag) => first == tag || second == tag,
+        None => false,
+    }
+}
+
+/// Whether an ancestor has one of two tags.
+pub(crate) fn has_ancestor_of(tree: &Tree, node: NodeId, first: &str, second: &str) -> bool
+    requires { node < length tree.now }
+    ensures { let tags = first.now ∷ second.now ∷ [] in
+        result ≡ list_any (λ a. is_tag_among tags (Some a.tag)) (ancestors_of tree.now node) }
 {
     let mut at = node;
     while let Some(parent) = tree.parent(at) {
-        if is_pre_or_code(tree, parent) {
+        if has_either_tag(tree, parent, first, second) {
             return true;
         }
         at = parent;
     }
     false
+}
+
+/// Whether an ancestor is `pre` or `code`.
+pub(crate) fn is_in_pre_or_code(tree: &Tree, node: NodeId) -> bool
+    requires { node < length tree.now }
+    ensures { result ≡ in_pre_or_code (ancestors_of tree.now node) }
+{
+    has_ancestor_of(tree, node, "pre", "code")
 }
 
 /// Whether what is in an element is preformatted, if this says whether the element itself is.

@@ -112,11 +112,10 @@ fn push_escaped(alloc: Global, out: &mut String, text: &str) -> Result<(), Alloc
 
 /// Appends the text squeezed, without its first space where a space is not wanted, and escaped.
 fn append_ordinary(
-    alloc: Global,
-    out: &mut String,
     text: &str,
     trim: bool,
     spare: &SpareTexts,
+    out: &mut String,
 ) -> Result<(), AllocError>
     ensures { OnOk result (string_bytes out.new
         ≡ string_bytes out.old ++ spec.ordinary_text trim (string_bytes out.old) text.now) }
@@ -126,12 +125,16 @@ fn append_ordinary(
         return push_with_room(out, without_first_space(text, goes));
     }
     if is_squeezed(text) {
-        return push_escaped(alloc, out, without_first_space(text, goes));
+        return push_escaped(spare.alloc, out, without_first_space(text, goes));
     }
-    let mut squeezed = spare.take(alloc);
+    let mut squeezed = spare.take();
     push_squeezed(&mut squeezed, text)?;
-    push_escaped(alloc, out, without_first_space(squeezed.as_str(), goes))?;
-    spare.keep(alloc, squeezed);
+    push_escaped(
+        spare.alloc,
+        out,
+        without_first_space(squeezed.as_str(), goes),
+    )?;
+    spare.keep(squeezed);
     Ok(())
 }
 
@@ -154,7 +157,6 @@ fn append_preformatted(
 
 /// Appends the text of a text node to what is written so far.
 pub(crate) fn append_text(
-    alloc: Global,
     text: &str,
     in_pre: bool,
     context: Context,
@@ -165,7 +167,7 @@ pub(crate) fn append_text(
         ++ spec.written_text context.preformatted in_pre context.trim (string_bytes out.old) text.now) }
 {
     if context.preformatted {
-        return append_preformatted(alloc, out, text, in_pre);
+        return append_preformatted(spare.alloc, out, text, in_pre);
     }
-    append_ordinary(alloc, out, text, context.trim, spare)
+    append_ordinary(text, context.trim, spare, out)
 }

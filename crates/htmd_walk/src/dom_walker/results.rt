@@ -9,6 +9,7 @@ ghost use Rattle.htmd_nodes.specs.Serialisation.{start_tag, comment_of};
 ghost use Rattle.htmd_walk.specs.Groups.{only_text, group_children, children_at};
 ghost use Rattle.htmd_walk.specs.Elements.{raw_result, end_of_element};
 ghost use Rattle.htmd_walk.specs.Passing.{passed_text};
+ghost use Rattle.htmd_walk.specs.Outputs.{empty_output};
 ghost use Rattle.htmd_walk.specs.Rendering.{with_result};
 ghost use Rattle.htmd_walk.specs.Spans.{is_span};
 ghost use Rattle.htmd_walk.specs.Views.{optional_text, optional_result, output_view, result_view};
@@ -50,12 +51,12 @@ pub(crate) fn lent(text: &Option<String>) -> Option<&str>
 }
 
 /// The result when nothing is written yet, with a text of its own.
-pub(crate) fn empty_result(alloc: Global, spare: &SpareTexts) -> HandlerResult
+pub(crate) fn empty_result(spare: &SpareTexts) -> HandlerResult
     ensures content { string_bytes result.content ≡ [] }
     ensures markdown_translated { result.markdown_translated ≡ true }
 {
     HandlerResult {
-        content: spare.take(alloc),
+        content: spare.take(),
         markdown_translated: true,
     }
 }
@@ -144,7 +145,6 @@ pub(crate) fn append_result(
     out: &mut HandlerResult,
     given: Option<HandlerResult>,
     whole: bool,
-    alloc: Global,
     spare: &SpareTexts,
 ) -> Result<(), AllocError>
     ensures { OnOk result ((definitions : List (List ℕ)) → output_view out.new definitions
@@ -156,7 +156,7 @@ pub(crate) fn append_result(
             let mut content = given.content;
             append_normalized_content(&mut out.content, &mut content, whole)?;
             out.markdown_translated = out.markdown_translated && given.markdown_translated;
-            spare.keep(alloc, content);
+            spare.keep(content);
             Ok(())
         }
     }
@@ -164,7 +164,6 @@ pub(crate) fn append_result(
 
 /// Appends a copy of what an element gives to what is written so far.
 pub(crate) fn append_copy(
-    alloc: Global,
     out: &mut HandlerResult,
     given: &Option<HandlerResult>,
     whole: bool,
@@ -173,8 +172,22 @@ pub(crate) fn append_copy(
     ensures { OnOk result ((definitions : List (List ℕ)) → output_view out.new definitions
         ≡ with_result (output_view out.old definitions) whole (optional_result given.now) definitions) }
 {
-    let given = copied(alloc, given)?;
-    append_result(out, given, whole, alloc, spare)
+    let given = copied(spare.alloc, given)?;
+    append_result(out, given, whole, spare)
+}
+
+/// What an element gives, as the content of the element by itself.
+pub(crate) fn result_alone(
+    given: Option<HandlerResult>,
+    whole: bool,
+    spare: &SpareTexts,
+) -> Result<HandlerResult, AllocError>
+    ensures { IfOk result (λ r. (definitions : List (List ℕ)) → output_view r definitions
+        ≡ with_result (empty_output definitions) whole (optional_result given) definitions) }
+{
+    let mut out = empty_result(spare);
+    append_result(&mut out, given, whole, spare)?;
+    Ok(out)
 }
 
 /// Appends a comment to a text.

@@ -56,7 +56,7 @@ fn passes<R: Registry>(handlers: &R, alloc: Global, tree: &Tree, element: NodeId
     requires { element < length tree.now }
 {
     let spare = SpareTexts::new(alloc);
-    let walk = Walk::new(handlers, alloc, tree, &spare);
+    let walk = Walk::new(handlers, tree, &spare);
     walk.goes_past(tree, element)
 }
 

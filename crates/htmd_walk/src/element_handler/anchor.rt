@@ -63,26 +63,9 @@ fn refer(
 {
     let number = links.lines.len() + 1;
     let reference = write_reference(alloc, style, number, content)?;
-    define(alloc, style, number, content, target, links)?;
-    Ok(reference)
-}
-
-/// Puts the definition of a reference after those of the conversion so far.
-fn define(
-    alloc: Global,
-    style: LinkReferenceStyle,
-    number: usize,
-    content: &str,
-    target: Target,
-    links: &mut Links,
-) -> Result<(), AllocError>
-    ensures { OnOk result (links.new ≡ links.old
-        ++ piece.definition style number content.now target.entry.address.now (option_copied target.entry.title)
-        ∷ []) }
-{
     let line = write_definition(alloc, style, number, content, target.address, target.title)?;
     links.lines.push(line)?;
-    Ok(())
+    Ok(reference)
 }
 
 /// The content as a link, or as it is if there is no address.

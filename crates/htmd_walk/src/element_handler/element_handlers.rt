@@ -14,7 +14,7 @@ use super::built_in::{BuiltIn, HANDLERS_AND_TAGS};
 use super::registrations::Registrations;
 use super::registry::{Outcome, Registry, Request};
 use super::{Element, ElementHandler, HandlerResult, Links, Plan};
-use crate::dom_walker::handle_element;
+use crate::dom_walker::{HandlerCall, handle_element};
 use crate::options::Options;
 use htmd_nodes::{NodeId, Tree};
 use std::alloc::{AllocError, Global};
@@ -245,15 +245,12 @@ impl ElementHandlers {
         ensures err { OnErr result (links.new ≡ links.old) }
     {
         let mut walked = links.copied(alloc)?;
-        let result = handle_element(
-            self,
-            alloc,
-            tree,
+        let call = HandlerCall {
             node,
             markdown_translated,
-            skipped_handlers,
-            &mut walked,
-        )?;
+            skipped: skipped_handlers,
+        };
+        let result = handle_element(self, alloc, tree, call, &mut walked)?;
         *links = walked;
         Ok(result)
     }

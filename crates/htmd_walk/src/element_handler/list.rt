@@ -11,7 +11,7 @@ ghost use Rattle.htmd_walk.specs.Views.{element_view, result_view, results_view,
 ghost use Rattle.htmd_walk.specs.Walking.{request_view};
 
 use super::plans::{are_markdown, find_value, is_markdown_alone, parent_tag, raw_block_result};
-use super::registry::Request;
+use super::registry::{Descendants, Request};
 use super::{Element, HandlerResult, Plan};
 use htmd_markdown::{ListBlock, first_number, write_list_block, write_ordered_list};
 use htmd_nodes::{Attribute, NodeId, Tree};
@@ -77,10 +77,10 @@ pub(crate) fn plan(alloc: Global, element: &Element) -> Result<Request, AllocErr
         return Ok(Request::OfPlan(Plan::Children));
     }
     let nodes = Vec::from_slice(alloc, element.tree.children(element.node))?;
-    Ok(Request::Each {
+    Ok(Request::Each(Descendants {
         nodes,
         may_ask_children: false,
-    })
+    }))
 }
 
 /// A list among the blocks around it, or its raw HTML if not all of it is Markdown.

@@ -51,8 +51,8 @@ pub(crate) fn has_attributes_beyond(element: &Element, allowed: usize) -> bool
 }
 
 /// The children's content, unless the element has attributes that Markdown has no form for.
-pub(crate) fn plain_plan(element: &Element) -> Plan
-    ensures { plan_view result ≡ spec.plain_plan (element_view element.now) }
+pub(crate) fn children_plan(element: &Element) -> Plan
+    ensures { plan_view result ≡ spec.children_plan (element_view element.now) }
 {
     if is_written_as_markdown(element) {
         Plan::Children

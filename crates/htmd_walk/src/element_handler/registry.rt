@@ -20,11 +20,14 @@ use std::alloc::{AllocError, Global};
 #[derive(Drop)]
 pub enum Request {
     OfPlan(Plan),
-    /// Each of these nodes by itself, in order; the children's content may be needed afterwards.
-    Each {
-        nodes: Vec<NodeId>,
-        may_ask_children: bool,
-    },
+    Each(Descendants),
+}
+
+/// Each of these nodes by itself, in order; the children's content may be needed afterwards.
+#[derive(Drop)]
+pub struct Descendants {
+    pub(crate) nodes: Vec<NodeId>,
+    pub(crate) may_ask_children: bool,
 }
 
 /// What a handler makes of the contents of nodes.

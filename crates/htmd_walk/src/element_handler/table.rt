@@ -1,9 +1,8 @@
 //! The handler of `table`.
 
 ghost use Rattle.std.specs.Prelude.{◌≡◌, ◌<◌, ◌++◌, IfOk, OnOk, map, length, string_bytes};
-ghost use Rattle.std.specs.List.{list_any, flat_map};
+ghost use Rattle.std.specs.List.{flat_map};
 ghost use Rattle.htmd_nodes.specs.NumberedTrees.{tree_of};
-ghost use Rattle.htmd_nodes.specs.Ancestors.{ancestors_of};
 ghost use Rattle.htmd_walk.specs.Groups.{children_at};
 ghost use Rattle.htmd_walk.specs.Handling.{IsProper};
 ghost use Rattle.htmd_walk.specs.TableLayouts as layouts;
@@ -14,9 +13,10 @@ ghost use Rattle.htmd_walk.specs.Views.{element_view, result_view, results_view,
 ghost use Rattle.htmd_walk.specs.Walking.{request_view, outcome_view};
 
 use super::plans::{are_markdown, is_markdown_alone, is_written_as_markdown, raw_block_result};
-use super::registry::{Outcome, Request};
+use super::registry::{Descendants, Outcome, Request};
 use super::table_layout::{Part, PartKind, has_tag, layout_of, nodes_of};
 use super::{Element, HandlerResult, Plan};
+use crate::node_util::has_ancestor_of;
 use htmd_markdown::write_table;
 use htmd_nodes::{NodeId, Tree};
 use htmd_text::{TrimDocumentWhitespace, surround_with_blank_lines, trim_newlines};
@@ -74,35 +74,12 @@ fn has_explicit_headers(tree: &Tree, table: NodeId) -> bool
     false
 }
 
-/// Whether a node is `td` or `th`.
-fn is_cell(tree: &Tree, node: NodeId) -> bool
-    requires { node < length tree.now }
-    ensures { result ≡ layouts.has_tag spec.cell_tags tree.now node }
-{
-    matches!(tree.tag_name(node), Some("td" | "th"))
-}
-
-/// Whether an ancestor is `td` or `th`.
-fn is_in_cell(tree: &Tree, node: NodeId) -> bool
-    requires { node < length tree.now }
-    ensures { result ≡ list_any spec.is_cell (ancestors_of tree.now node) }
-{
-    let mut at = node;
-    while let Some(parent) = tree.parent(at) {
-        if is_cell(tree, parent) {
-            return true;
-        }
-        at = parent;
-    }
-    false
-}
-
 /// Whether a table has explicit headers and is in no cell of another table.
 fn has_table_form(tree: &Tree, table: NodeId) -> bool
     requires { table < length tree.now }
     ensures { result ≡ spec.has_table_form tree.now table }
 {
-    has_explicit_headers(tree, table) && !is_in_cell(tree, table)
+    has_explicit_headers(tree, table) && !has_ancestor_of(tree, table, "td", "th")
 }
 
 /// Whether the next handler is asked.
@@ -124,10 +101,10 @@ pub(crate) fn plan(alloc: Global, element: &Element) -> Result<Request, AllocErr
         return Ok(Request::OfPlan(Plan::Fallback));
     }
     let layout = layout_of(alloc, element.tree, element.node)?;
-    Ok(Request::Each {
+    Ok(Request::Each(Descendants {
         nodes: nodes_of(alloc, &layout.parts)?,
         may_ask_children: !layout.has_lines(),
-    })
+    }))
 }
 
 /// The content without document white space at its ends.

@@ -28,7 +28,7 @@ fn is_in_table(element: &Element) -> bool
 }
 
 /// In Faithful, the element without attributes, if this holds.
-fn plain_plan_if(holds: bool, element: &Element) -> Plan
+fn children_plan_if(holds: bool, element: &Element) -> Plan
     ensures { let view = element_view element.now in
         plan_view result ≡ unless_attributes view (spec.plan_if holds view) }
 {
@@ -42,14 +42,14 @@ fn plain_plan_if(holds: bool, element: &Element) -> Plan
 pub(crate) fn plan_of_row(element: &Element) -> Plan
     ensures { plan_view result ≡ table_rows.plan (element_view element.now) }
 {
-    plain_plan_if(is_in_section(element), element)
+    children_plan_if(is_in_section(element), element)
 }
 
 /// In Faithful, `tbody`, `thead` or `caption` without attributes, under `table`.
 pub(crate) fn plan_of_part(element: &Element) -> Plan
     ensures { plan_view result ≡ table_parts.plan (element_view element.now) }
 {
-    plain_plan_if(is_in_table(element), element)
+    children_plan_if(is_in_table(element), element)
 }
 
 /// The content without line feeds at its ends, with blank lines around.

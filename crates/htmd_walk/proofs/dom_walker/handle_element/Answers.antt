@@ -19,18 +19,19 @@ unfolding handled
 returns g c =
     let config = g.R.Registry.config c.args.registry.now in
     let items = c.args.tree.now in
-    let id = c.args.node in
+    let id = c.args.call.node in
     let there = c.new-walk.result.tree.now in
     let v = conversion_of (g.R.Registry.config c.new-walk.result.registry.now) there in
     let here = c.alone-visit.ensures in
     let shown = c.element-element.ensures in
-    let translated = c.args.markdown_translated in
+    let translated = c.args.call.markdown_translated in
     let n = height (tree_of there id) in
-    let answer : List ℕ → Occurrence → Answer = λ tag at. answer_after c.args.skipped tag at c.args.links.now in
+    let answer : List ℕ → Occurrence → Answer =
+    λ tag at. answer_after c.args.call.skipped tag at c.args.links.now in
     let tag : c.in-Element.name.now ≡ (ancestor_of (data_at items id)).tag =
     sym (ap (λ (d : Data). (ancestor_of d).tag) (sym c.data.ensures.value ∙ ap data_of c.in-Element.is)) in
     let same : answer c.element-element.result.tag.now (occurrence_of n v c.element-element.result)
-    ≡ handled config items id translated c.args.skipped c.args.links.now =
+    ≡ handled config items id translated c.args.call.skipped c.args.links.now =
     ap (λ s. answer s (occurrence_of n v c.element-element.result)) shown.tag
     ∙ ap (answer c.in-Element.name.now) (shown.occurrence n
     ∙ ap (λ d. shown_occurrence n v d translated (group_children (option_copied c.alone-visit.result.joined)
@@ -45,5 +46,5 @@ returns g c =
     let low : height (tree_of there c.element-element.result.node) ≤ suc n =
     subst (λ d. height (tree_of there d) ≤ suc n) (sym (shown.node ∙ here.node)) (omega arith) in
     IfOk-weaker c.handle.result _ (λ r. answer_view r c.handle.new.links
-    ≡ handled config items id translated c.args.skipped c.args.links.now)
+    ≡ handled config items id translated c.args.call.skipped c.args.links.now)
     (λ r h. h n low ∙ same) c.handle.ensures

@@ -85,7 +85,7 @@ abbrev pub invariant-walk_each-loop-node : goal.invariant-walk_each-loop-node
 invariant-walk_each-loop-node g l =
     let conversion = conversion_of (g.R.Registry.config l.self.registry.now) l.self.tree.now in
     record {
-      remembered : All (IsRemembered conversion) l.remembered.items;
+      remembered : All (IsRemembered conversion) l.notes.remembered.items;
       rest : (n : ℕ) → height (tree_of l.self.tree.now l.element.node) ≤ suc n →
           following (results_view l.results.items) (contents_alone (occurrence_of n conversion l.element)
           (drop l.node-index l.nodes) l.links)

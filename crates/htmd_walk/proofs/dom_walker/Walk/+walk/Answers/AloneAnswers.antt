@@ -186,10 +186,10 @@ walk_kept-returns-clause-ok g t c =
     let inside : c.alone-visit.result.context.preformatted ≡ in_pre_or_code (ancestors_of items c.args.below) =
     here.here.context (ap (λ d. is_text (data_at items d)) here.node ∙ ap is_text is)
     ∙ ap (λ d. in_pre_or_code (ancestors_of items d)) here.node in
-    IfOk-weaker c.keep.result _ (λ r. AtNode v c.args.below (λ write. output_view r new
+    IfOk-weaker c.result_alone.result _ (λ r. AtNode v c.args.below (λ write. output_view r new
     ≡ content_alone write v (descendant_tree items (option_copied c.args.element.now.text) c.args.below) c.args.below
     old)) (λ r p n h. p new
     ∙ result_put (g.R.Registry.config c.args.self.now.registry.now) items None c.data.ensures.tree c.args.below
     c.requires.within name attributes is (empty_output old) (optional_result c.in_ok-given.given) new made n false true
     c.alone-visit.result.context.preformatted h inside
-    ∙ ap (λ tree. content_alone (written_within n v) v tree c.args.below old) alone) c.keep.ensures.content
+    ∙ ap (λ tree. content_alone (written_within n v) v tree c.args.below old) alone) c.result_alone.ensures

@@ -150,13 +150,12 @@ handle-returns-in-Each g t c =
     let v = conversion_of (g.R.Registry.config c.args.self.now.registry.now) c.args.self.now.tree.now in
     let e = c.args.element.now in
     let at : ℕ → Occurrence = λ n. occurrence_of n v e in
-    let nodes = c.in-Each.nodes.items in
+    let nodes = c.in-Each.descendants.nodes.items in
     let handler = handler_at v.config.handlers c.in-Some.index in
     at-ok (λ r. answer_view r c.handle_each.new.links) v e
-    (λ o. each_answer handler o (contents_alone o c.as_slice.result.now c.args.links.now))
+    (λ o. each_answer handler o (contents_alone o nodes c.args.links.now))
     (λ o. answer_after c.args.skipped c.args.element.now.tag.now o c.args.links.now) c.handle_each.result
-    (λ n l. ap (λ xs. each_answer handler (at n) (contents_alone (at n) xs c.args.links.now)) c.as_slice.ensures.value
-    ∙ sym (answer-some c.args.element.now.tag.now (at n) c.args.skipped c.args.links.now c.in-Some.index
+    (λ n l. sym (answer-some c.args.element.now.tag.now (at n) c.args.skipped c.args.links.now c.in-Some.index
     (contents_of_each nodes) c.in-Some.ensures.value
     (sym (ap request_view c.in-Each.is) ∙ c.in_ok-plan.ensures.plan)))
     c.handle_each.ensures
@@ -166,8 +165,12 @@ handle_each-returns-in-Final g t c =
     let v = conversion_of (g.R.Registry.config c.args.self.now.registry.now) c.args.self.now.tree.now in
     let at : ℕ → Occurrence = λ n. occurrence_of n v c.args.element.now in
     let contents = contents_view c.in_ok-contents.contents.items c.walk_each.new.links in
-    λ n l. each-outcome (handler_at v.config.handlers c.args.index) (at n) contents c.args.nodes.now c.args.links.now
-    (final_result (optional_result c.in-Final.result)) (c.in_ok-contents.ensures.ok n l)
+    let asked : AtElement v c.args.element.now (λ o. contents
+    ≡ contents_alone o c.args.descendants.now.nodes.items c.args.links.now) =
+    λ n l. c.in_ok-contents.ensures.ok n l
+    ∙ ap (λ xs. contents_alone (at n) xs c.args.links.now) c.deref.ensures.value in
+    λ n l. each-outcome (handler_at v.config.handlers c.args.index) (at n) contents c.args.descendants.now.nodes.items
+    c.args.links.now (final_result (optional_result c.in-Final.result)) (asked n l)
     (sym (ap outcome_view c.in-Final.is) ∙ c.in_ok-result.ensures)
 
 pub handle_each-returns : goal.handle_each-returns
@@ -177,14 +180,16 @@ handle_each-returns g t c =
     let at : ℕ → Occurrence = λ n. occurrence_of n v e in
     let handler = handler_at v.config.handlers c.args.index in
     let links = c.walk_each.new.links in
+    let nodes = c.args.descendants.now.nodes.items in
     let contents = contents_view c.in_ok-contents.contents.items links in
     let asks : AtElement v e (λ o. with_finish handler o.view (content_of o links)
-    ≡ each_answer handler o (contents_alone o c.args.nodes.now c.args.links.now)) =
-    λ n l. each-outcome handler (at n) contents c.args.nodes.now c.args.links.now children_too
-    (c.in_ok-contents.ensures.ok n l) (sym (ap outcome_view c.in-ChildrenToo.is) ∙ c.in_ok-result.ensures) in
+    ≡ each_answer handler o (contents_alone o nodes c.args.links.now)) =
+    λ n l. each-outcome handler (at n) contents nodes c.args.links.now children_too
+    (c.in_ok-contents.ensures.ok n l ∙ ap (λ xs. contents_alone (at n) xs c.args.links.now) c.deref.ensures.value)
+    (sym (ap outcome_view c.in-ChildrenToo.is) ∙ c.in_ok-result.ensures) in
     now-ok (λ r. answer_view r c.finish.new.links) v e
     (finish_answer (handler.finish (element_view e) (result_view c.in_ok-content-in-ChildrenToo.content)
     c.content.new.links) c.content.new.links)
-    (λ o. each_answer handler o (contents_alone o c.args.nodes.now c.args.links.now)) c.finish.result
+    (λ o. each_answer handler o (contents_alone o nodes c.args.links.now)) c.finish.result
     (λ n l. ap (with_finish handler (element_view e)) (c.in_ok-content-in-ChildrenToo.ensures n l) ∙ asks n l)
     c.finish.ensures
