@@ -43,6 +43,26 @@ backslash : lead pages first (codes "b\\c d.html") ≡ codes "b/c%20d.md"
 unfolding percent_decode percent_encode percent_encode_byte should_percent_encode
 backslash = refl
 
+-- a folder leads to its index, also by `..`
+abbrev index : PageValue
+index = record { input = codes "site/b/index.html"; output = codes "out/b/index.md" }
+
+abbrev with_index : List PageValue
+with_index = index ∷ pages
+
+down_to_index : lead with_index first (codes "b/#y") ≡ codes "b/index.md#y"
+unfolding percent_decode percent_encode percent_encode_byte should_percent_encode
+down_to_index = refl
+
+up_to_index : lead with_index (record { input = codes "site/b/e/f.html"; output = codes "out/b/e/f.md" }) (codes "..")
+    ≡ codes "../index.md"
+unfolding percent_decode percent_encode percent_encode_byte should_percent_encode
+up_to_index = refl
+
+without_index : lead pages first (codes "b/") ≡ codes "b/"
+unfolding percent_decode
+without_index = refl
+
 -- no page, another host, a scheme, a part of the same page
 others : lead pages first (codes "c.html") ≡ codes "c.html"
 unfolding percent_decode

@@ -8,7 +8,7 @@ use Rattle.htmd_grammar.specs.Characters.{backslash, colon, full_stop, hyphen, n
 use Rattle.htmd_grammar.specs.ValueTrees.{AttributePair}
 use Rattle.htmd_nodes.specs.Items.{Item}
 use Rattle.htmd_addresses.specs.Addresses as addresses
-use Rattle.htmd_addresses.specs.Paths.{Folder, folder_of, name_of, path_in, plain_path, way}
+use Rattle.htmd_addresses.specs.Paths.{Folder, folder_of, name_of, page_in, plain_path, way}
 use Rattle.htmd_addresses.specs.Rewriting.{rewritten_page}
 use Rattle.htmd_addresses.specs.declared.leads.TheConstants.{SEGMENT}
 use Rattle.url.specs.Parts.{Parts}
@@ -79,7 +79,7 @@ file_path path = map with_slash (percent_decode path)
 abbrev pub output_for : List PageValue → List ℕ → List ℕ → Option (List ℕ)
 output_for pages input address =
     if is_relative address
-    then output_at pages (path_in (folder_of input) (file_path (take (path_len address) address)))
+    then output_at pages (page_in (folder_of input) (file_path (take (path_len address) address)))
     else None
 
 -- names as an address has them, each with a slash after it

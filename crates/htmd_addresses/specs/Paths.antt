@@ -69,6 +69,19 @@ path_of folder name = flat_map (λ s. s ++ slash ∷ []) folder ++ name
 abbrev pub path_in : Folder → List ℕ → List ℕ
 path_in folder path = path_of (folder_in folder path) (name_of path)
 
+-- the name leads to a folder: none after a slash, `.` or `..`
+abbrev pub is_of_folder : List ℕ → Bool
+is_of_folder name = stays name || bytes_eq name parent
+
+-- the page with this name in a folder: that of a folder is its index
+abbrev pub page_named : Folder → List ℕ → List ℕ
+page_named folder name =
+    if is_of_folder name then path_of (enter folder name) (codes "index.html") else path_of folder name
+
+-- the page that a path leads to which is read in a folder
+abbrev pub page_in : Folder → List ℕ → List ℕ
+page_in folder path = page_named (folder_in folder path) (name_of path)
+
 -- a path in its one form
 abbrev pub plain_path : List ℕ → List ℕ
 plain_path path = path_in (start_of path) path

@@ -10,7 +10,7 @@ ghost use Rattle.htmd_addresses.specs.RunViews.{own_of, pages_in};
 ghost use Rattle.percent_encoding.specs.Percent.{percent_encode};
 
 use crate::pages::Pages;
-use crate::paths::{folder_of, name_of, path_in, same_names};
+use crate::paths::{folder_of, name_of, page_in, same_names};
 use crate::resolving::value_of as absolute_value;
 use crate::rewriting::{Rewrite, rewritten};
 use htmd_nodes::{Attribute, Tree};
@@ -202,8 +202,8 @@ impl<'a, 'b> Leads<'a, 'b> {
             return Ok(None);
         }
         let file = file_path(alloc, path)?;
-        let file = path_in(alloc, self.input_folder.as_slice(), file.as_slice())?;
-        Ok(self.page.pages.output_at(file.as_slice()))
+        let page = page_in(alloc, self.input_folder.as_slice(), file.as_slice())?;
+        Ok(self.page.pages.output_at(page.as_slice()))
     }
 
     /// The address of the output that an address leads to; one that leads to no page of the run stays.

@@ -96,17 +96,39 @@ pub(crate) fn path_of(alloc: Global, folder: &[&[u8]], name: &[u8]) -> Result<Ve
     Ok(path)
 }
 
-/// A path that is read in a folder, in its one form.
-pub(crate) fn path_in<'x>(
+/// Whether a name leads to a folder: none after a slash, `.` or `..`.
+fn is_of_folder(name: &[u8]) -> bool
+    ensures { result ≡ spec.is_of_folder name.now }
+{
+    name.is_empty() || name == b".".as_slice() || name == b"..".as_slice()
+}
+
+/// The path of the page with a name in a folder; that of a folder is its index.
+fn page_named<'a>(
+    alloc: Global,
+    mut folder: Vec<&'a [u8]>,
+    name: &'a [u8],
+) -> Result<Vec<u8>, AllocError>
+    ensures { IfOk result (λ page. page.items ≡ spec.page_named (names_of folder.entry.items) name.now) }
+{
+    if is_of_folder(name) {
+        enter(&mut folder, name)?;
+        return path_of(alloc, folder.as_slice(), b"index.html");
+    }
+    path_of(alloc, folder.as_slice(), name)
+}
+
+/// The path of the page that a path leads to which is read in a folder.
+pub(crate) fn page_in<'x>(
     alloc: Global,
     folder: &'x [&'x [u8]],
     path: &'x [u8],
 ) -> Result<Vec<u8>, AllocError>
-    ensures { IfOk result (λ plain. plain.items ≡ spec.path_in (names_of folder.now) path.now) }
+    ensures { IfOk result (λ page. page.items ≡ spec.page_in (names_of folder.now) path.now) }
 {
     let mut names = Vec::from_slice(alloc, folder)?;
     enter_folder(&mut names, path)?;
-    path_of(alloc, names.as_slice(), name_of(path))
+    page_named(alloc, names, name_of(path))
 }
 
 /// How many names two folders begin with alike.

@@ -8,7 +8,7 @@ use Rattle.htmd_addresses.specs.RunViews.{pages_in}
 use Rattle.htmd_addresses.specs.declared.pages.Pages.{Pages}
 use Rattle.htmd.specs.Characters.{line_feed}
 use Rattle.htmd_cli.specs.declared.faults.RunError.{RunError}
-use Rattle.htmd_cli.specs.Options.{Request}
+use Rattle.htmd_cli.specs.Options.{Request, is_at, is_one_of_run}
 use Rattle.htmd_cli.specs.Rows.{ConvertsRows, Succeeds, rows_of}
 use Rattle.htmd_cli.specs.StreamConversions.{Converts, Ends}
 use Rattle.htmd_cli.specs.Settings.{Settings}
@@ -21,7 +21,6 @@ use Rattle.std.specs.Option.{is_some, unwrap_or}
 use Rattle.std.specs.Prelude.{if◌then◌else◌}
 use Rattle.std.specs.declared.alloc.Global.{Global}
 use Rattle.std.specs.declared.string.String.{String}
-use Rattle.url.specs.Parts.{Parts}
 
 either_becomes : (rows : Bool) (settings : Settings) (input before after : Option (List ℕ))
     → MatchBool rows (ConvertsRows settings input before after) (Converts settings input before after)
@@ -101,19 +100,17 @@ page_of_file None page request n p = either_way request.rows request _ (at_none 
     at_none None e = refl
     at_none (Some s) e = absurd (cc)
 
+mapped_same : {A : Type 0} (f : A → A) (o : Option A) → is_some o ≡ false → option_map f o ≡ o
+mapped_same f None e = refl
+mapped_same f (Some x) e = absurd (cc)
+
 -- a path changes nothing without a base
 same_url : (path : Option (List ℕ)) (request : Request) → is_some request.settings.base ≡ false
     → at path request ≡ request
 same_url None request e = refl
 same_url (Some path) request e =
-    let change : Option Parts → Option Parts = option_map (λ url. unwrap_or (page_url url path) url) in
-    let none : request.settings.base ≡ None = is_none request.settings.base e in
-    ap (λ (base : Option Parts). record request { settings = record request.settings { base = base } })
-    (ap change none ∙ sym none)
-  where
-    is_none : (base : Option Parts) → is_some base ≡ false → base ≡ None
-    is_none None e = refl
-    is_none (Some url) e = absurd (cc)
+    ap (λ base. record request { settings = record request.settings { base = base } })
+    (mapped_same (λ url. unwrap_or (page_url url path) url) request.settings.base e)
 
 -- a page of no run, without a base
 pub page_without_base : (pages : Option (Bor Pages)) (page : Page) (request : Request) → is_some pages ≡ false
@@ -121,6 +118,42 @@ pub page_without_base : (pages : Option (Bor Pages)) (page : Page) (request : Re
 page_without_base (Some pages) page request n b = absurd (cc)
 page_without_base None page request n b =
     either_way request.rows request _ (same_url (path_in_folder page) request b)
+
+-- the URL of a page was set, or there is none
+pub path_set : (page : Page) (path : String Global) (text : List ℕ) (before after : Request)
+    → page.path_in_folder ≡ Some path → text ≡ string_bytes path → after ≡ is_at text before
+    → after ≡ at (path_in_folder page) before
+path_set page path text before after p t r =
+    r ∙ ap (λ (s : List ℕ). is_at s before) t
+    ∙ ap (λ (o : Option (String Global)). at (option_map (λ s. string_bytes s) o) before) (sym p)
+
+pub path_kept : (page : Page) (before : Request) → page.path_in_folder ≡ None
+    → before ≡ at (path_in_folder page) before
+path_kept page before p =
+    ap (λ (o : Option (String Global)). at (option_map (λ s. string_bytes s) o) before) (sym p)
+
+-- the run of a page was set, or there is none
+abbrev value_by : List ℕ → List ℕ → PageValue
+value_by input output = record { input = input; output = output }
+
+by_paths : (page : Page) (input output : List ℕ) → input ≡ string_bytes page.input
+    → output ≡ string_bytes page.output → value_by input output ≡ value_of page
+by_paths page input output e f = ap (λ i. value_by i output) e ∙ ap (value_by (string_bytes page.input)) f
+
+pub run_set : (pages : Option (Bor Pages)) (led : Bor Pages) (page : Page) (input output : List ℕ)
+    (before after : Request) → pages ≡ Some led → input ≡ string_bytes page.input
+    → output ≡ string_bytes page.output
+    → after ≡ is_one_of_run (record { pages = pages_in led.now; own = record { input = input; output = output } })
+    before
+    → after ≡ in_run (pages_led pages) (value_of page) before
+run_set pages led page input output before after p e f r =
+    r ∙ ap (λ (own : PageValue). in_run (Some (pages_in led.now)) own before) (by_paths page input output e f)
+    ∙ ap (λ (o : Option (Bor Pages)). in_run (pages_led o) (value_of page) before) (sym p)
+
+pub run_kept : (pages : Option (Bor Pages)) (page : Page) (before : Request) → pages ≡ None
+    → before ≡ in_run (pages_led pages) (value_of page) before
+run_kept pages page before p =
+    ap (λ (o : Option (Bor Pages)). in_run (pages_led o) (value_of page) before) (sym p)
 
 -- pages that are lent
 pub led_copied : (led : Option (Bor Pages))

@@ -5,15 +5,45 @@ ghost use Rattle.htmd_files.specs.PlanViews.{operand_of};
 ghost use Rattle.htmd_files.specs.WordViews.{text_of};
 ghost use Rattle.htmd_folders.specs.Changes.{Makes};
 
-use htmd_files::Operand;
-use htmd_folders::{Listing, Store, Unread};
+use htmd_files::{Operand, is_page};
+use htmd_folders::{Listing, Store, StoreFault, Unread};
 use std::alloc::{AllocError, Global};
+use std::fmt;
 
-/// The operands, and what can't be read below them.
+/// The operands, and of what nothing is converted.
 #[derive(Drop)]
 pub(crate) struct Found {
     pub(crate) operands: Vec<Operand>,
-    pub(crate) unread: Vec<Unread>,
+    pub(crate) missed: Vec<Missed>,
+}
+
+/// A path of which nothing is converted, and why.
+#[derive(Drop)]
+pub(crate) struct Missed {
+    pub(crate) path: String,
+    pub(crate) cause: Cause,
+}
+
+/// Why nothing is converted of a path.
+#[derive(Drop)]
+pub(crate) enum Cause {
+    /// It can't be read.
+    Unread(StoreFault),
+    /// It is a folder without a page.
+    NoPage,
+}
+
+impl fmt::Display for Cause {
+    fn fmt<W: fmt::Write>(&self, f: &mut fmt::Formatter<W>) -> fmt::Result {
+        match self {
+            Cause::Unread(fault) => write!(f, "{fault}"),
+            Cause::NoPage => f.write_str("no file below it ends in .html, .htm or .xhtml"),
+        }
+    }
+}
+
+fn holds_page(files: &[String]) -> bool {
+    files.iter().any(|file| is_page(file.as_str()))
 }
 
 /// Looks for operands in a store. What is below folders is listed only if requested.
@@ -29,7 +59,7 @@ pub(crate) fn find_operands<S: Store>(
 {
     let mut found = Found {
         operands: Vec::new(alloc),
-        unread: Vec::new(alloc),
+        missed: Vec::new(alloc),
     };
     for name in names {
         found.add(alloc, store, name, lists)?;
@@ -82,7 +112,7 @@ impl Found {
         Ok(())
     }
 
-    // The files below a folder; none, and the folder among what can't be read, if it isn't.
+    // The files below a folder; none, and the folder is missed, if it can't be read.
     fn files_below<S: Store>(
         &mut self,
         alloc: Global,
@@ -95,14 +125,22 @@ impl Found {
         match store.list(alloc, name) {
             Ok(listing) => self.take_listing(alloc, name, listing),
             Err(fault) => {
-                let path = String::from_str(alloc, name)?;
-                self.unread.push(Unread { path, fault })?;
+                self.push_missed(alloc, name, Cause::Unread(fault))?;
                 Ok(Vec::new(alloc))
             }
         }
     }
 
-    // Keeps what can't be read, with the folder's name before its path, and gives the files.
+    fn push_missed(&mut self, alloc: Global, path: &str, cause: Cause) -> Result<(), AllocError>
+        ensures { self.new.operands.items ≡ self.old.operands.items }
+    {
+        let path = String::from_str(alloc, path)?;
+        self.missed.push(Missed { path, cause })?;
+        Ok(())
+    }
+
+    // Gives the files. The folder is missed if it has no page, and so is what can't be read, with the folder's name
+    // before its path.
     fn take_listing(
         &mut self,
         alloc: Global,
@@ -112,6 +150,9 @@ impl Found {
         ensures { self.new.operands.items ≡ self.old.operands.items }
     {
         let Listing { files, unread } = listing;
+        if unread.is_empty() && !holds_page(&files) {
+            self.push_missed(alloc, name, Cause::NoPage)?;
+        }
         for item in unread {
             let Unread { path, fault } = item;
             let mut whole = String::from_str(alloc, name)?;
@@ -119,7 +160,10 @@ impl Found {
                 whole.push('/')?;
             }
             whole.push_str(&path)?;
-            self.unread.push(Unread { path: whole, fault })?;
+            self.missed.push(Missed {
+                path: whole,
+                cause: Cause::Unread(fault),
+            })?;
         }
         Ok(files)
     }

@@ -9,15 +9,13 @@ ghost use Rattle.htmd_folders.specs.FolderConversions.{Takes};
 ghost use Rattle.htmd_command.specs.Programs.{IsPlanOf, Runs, RunsInput, RunsWords};
 
 use crate::leads::led_pages;
-use crate::operands::{Found, find_operands};
+use crate::operands::{Found, Missed, find_operands};
 use crate::requested::Requested;
 use htmd_cli::{
     OptionFault, Request, RunError, Sink, Source, command, read_options, say_fault, say_warnings,
 };
 use htmd_files::{Destination, FilePlan, Job, Page, PlanFault, WordFault, job_of, plan_of};
-use htmd_folders::{
-    Conversion, Lines, Progress, ShownName, Store, Tally, Unread, run_pages, write_total,
-};
+use htmd_folders::{Conversion, Lines, Progress, ShownName, Store, Tally, run_pages, write_total};
 use std::alloc::Global;
 use std::fmt::{Display, Write};
 
@@ -92,7 +90,7 @@ fn run_job<S: Store, R: Source, W: Sink, E: Sink>(
         ⊎ Runs (job_in job.now) (request_by job.now.options.items) (S.changes store.old) (S.changes store.new) result }
     ensures status { result ≤ 2 }
 {
-    let (plan, unread) = match find_plan(alloc, store, job) {
+    let (plan, missed) = match find_plan(alloc, store, job) {
         Ok(found) => found,
         Err(fault) => return fail_plan(errors, &fault),
     };
@@ -122,7 +120,7 @@ fn run_job<S: Store, R: Source, W: Sink, E: Sink>(
                 pages: led.as_ref(),
             };
             let progress = progress_of(job, is_terminal);
-            convert_files(alloc, store, &conversion, pages, &unread, errors, progress)
+            convert_files(alloc, store, &conversion, pages, &missed, errors, progress)
         }
     }
 }
@@ -139,16 +137,16 @@ fn fail_plan<E: Sink>(errors: &mut E, fault: &PlanFault) -> u8
     fail(errors, fault, status)
 }
 
-// The plan for the operands, and what can't be read below them.
+// The plan for the operands, and of what nothing is converted.
 fn find_plan<S: Store>(
     alloc: Global,
     store: &mut S,
     job: &Job<'_>,
-) -> Result<(FilePlan, Vec<Unread>), PlanFault>
+) -> Result<(FilePlan, Vec<Missed>), PlanFault>
     ensures ok { IfOk result (λ found. IsPlanOf (job_in job.now) (plan_in found.0)) }
     ensures same { Makes (S.changes store.old) (S.changes store.new) [] }
 {
-    let Found { operands, unread } = find_operands(
+    let Found { operands, missed } = find_operands(
         alloc,
         store,
         &job.operands,
@@ -161,7 +159,7 @@ fn find_plan<S: Store>(
         }),
         None => None,
     };
-    Ok((plan_of(alloc, &operands, destination)?, unread))
+    Ok((plan_of(alloc, &operands, destination)?, missed))
 }
 
 fn progress_of(job: &Job<'_>, is_terminal: bool) -> Progress {
@@ -208,7 +206,7 @@ fn convert_files<S: Store, C: Conversion, E: Sink>(
     store: &mut S,
     conversion: &C,
     pages: &[Page],
-    unread: &[Unread],
+    missed: &[Missed],
     errors: &mut E,
     progress: Progress,
 ) -> u8
@@ -216,23 +214,23 @@ fn convert_files<S: Store, C: Conversion, E: Sink>(
         (S.changes store.old) (S.changes store.new) failed × (result ≡ 0 → failed ≡ 0) }
     ensures status { result ≤ 1 }
 {
-    for item in unread {
+    for item in missed {
         let path = ShownName(&item.path);
-        let fault = &item.fault;
-        let _ = writeln!(Lines { sink: errors }, "htmd: {path}: {fault}");
+        let cause = &item.cause;
+        let _ = writeln!(Lines { sink: errors }, "htmd: {path}: {cause}");
     }
     let tally = run_pages(alloc, store, conversion, pages, errors, progress);
-    let unread = unread.len() as u64;
+    let missed = missed.len() as u64;
     if tally
         .converted
         .saturating_add(tally.failed)
-        .saturating_add(unread)
+        .saturating_add(missed)
         > 1
     {
-        let failed = tally.failed.saturating_add(unread);
+        let failed = tally.failed.saturating_add(missed);
         write_total(errors, progress, Tally { failed, ..tally });
     }
-    if tally.failed == 0 && unread == 0 {
+    if tally.failed == 0 && missed == 0 {
         0
     } else {
         1

@@ -59,15 +59,18 @@ impl Requested<'_, '_, '_, '_> {
         convert_by(self.alloc, self.request.settings(), source, sink)
     }
 
-    /// Whether a page is converted as if it was alone.
-    fn is_alone(&self, page: &Page) -> bool
-        ensures alone { result ≡ true
+    /// Whether of a page something else is asked for than of one alone. Of rows it isn't.
+    #[tactic(auto, using(crate::proofs::PageResultsLemmas::rows_alike, crate::proofs::PageResultsLemmas::page_of_file, crate::proofs::PageResultsLemmas::page_without_base))]
+    fn has_own_request(&self, page: &Page) -> bool
+        ensures alone { result ≡ false
             → request_for (pages_led self.now.pages) page.now (request_by self.now.options.now)
             ≡ request_by self.now.options.now }
-        ensures others { result ≡ false → (request_by self.now.options.now).rows ≡ false }
+        ensures own { result ≡ true → (request_by self.now.options.now).rows ≡ false }
     {
-        self.request.takes_rows()
-            || self.pages.is_none() && (page.path_in_folder.is_none() || !self.request.has_base())
+        if self.request.takes_rows() {
+            return false;
+        }
+        self.pages.is_some() || page.path_in_folder.is_some() && self.request.has_base()
     }
 
     /// What is asked for of a page that holds no rows. `Err` means out of memory.
@@ -108,26 +111,30 @@ impl Requested<'_, '_, '_, '_> {
 }
 
 /// A page that was found below a folder has its own URL.
+#[tactic(auto, using(crate::proofs::PageResultsLemmas::path_set, crate::proofs::PageResultsLemmas::path_kept))]
 fn set_path(alloc: Global, request: &mut Request<'_>, page: &Page) -> Result<(), AllocError>
     ensures { OnOk result (request_in request.new ≡ at (path_in_folder page.now) (request_in request.old)) }
 {
-    match &page.path_in_folder {
-        Some(path) => request.set_path_in_folder(alloc, path),
-        None => Ok(()),
-    }
+    let Some(path) = &page.path_in_folder else {
+        return Ok(());
+    };
+    request.set_path_in_folder(alloc, path)?;
+    Ok(())
 }
 
 /// A page is one of a run, if addresses lead to its pages.
+#[tactic(auto, using(crate::proofs::PageResultsLemmas::run_set, crate::proofs::PageResultsLemmas::run_kept))]
 fn set_run<'a>(request: &mut Request<'a>, pages: Option<&'a Pages>, page: &'a Page)
     ensures { request_in request.new ≡ in_run (pages_led pages.entry) (value_of page.now) (request_in request.old) }
 {
-    if let Some(pages) = pages {
-        request.set_run_page(RunPage {
-            pages,
-            input: &page.input,
-            output: &page.output,
-        });
-    }
+    let Some(pages) = pages else {
+        return;
+    };
+    request.set_run_page(RunPage {
+        pages,
+        input: &page.input,
+        output: &page.output,
+    });
 }
 
 /// Converts a page by settings.
@@ -162,10 +169,10 @@ impl Conversion for Requested<'_, '_, '_, '_> {
         sink: &mut W,
         errors: &mut E,
     ) -> Result<(), Refusal> {
-        if self.is_alone(page) {
-            return self.convert_alone(source, sink, errors);
+        if self.has_own_request(page) {
+            return self.convert_in_run(page, source, sink);
         }
-        self.convert_in_run(page, source, sink)
+        self.convert_alone(source, sink, errors)
     }
 
     fn report<E: Sink>(&self, page: &str, fault: &Refusal, errors: &mut E) {

@@ -12,6 +12,7 @@ const PAGES: &[(&str, &str)] = &[
     ("site/100%.html", "out/100%.md"),
     ("site/sub/../a.html", "out/later.md"),
     ("site/é:.htm", "out/é:.md"),
+    ("site/sub/index.html", "out/sub/index.md"),
 ];
 
 fn pages(alloc: Global) -> Result<Pages, AllocError> {
@@ -48,6 +49,11 @@ const ADDRESSES: &[(&str, &str)] = &[
     ("%C3%A9:.htm#", "%C3%A9%3A.md#"),
     ("é:.htm", "%C3%A9%3A.md"),
     ("sub/b%20c.html/", "sub/b%20c.html/"),
+    ("sub/?x#y", "sub/index.md?x#y"),
+    ("sub/.", "sub/index.md"),
+    ("sub/index.html/..", "sub/index.md"),
+    ("sub", "sub"),
+    ("./", "./"),
     ("a.htm", "a.htm"),
     ("../a.html", "../a.html"),
     ("/site/a.html", "/site/a.html"),
