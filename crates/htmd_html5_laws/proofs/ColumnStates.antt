@@ -1,7 +1,6 @@
 -- States in the mode "in column group" with a `colgroup` as the current node, and start tags of columns.
-use Rattle.std.proofs.Common.{◌≡◌, ℕ, Bool, true, false, List, [], ◌∷◌, length, Option, Some, None, refl, sym, ap, subst}
-use Rattle.std.specs.Prelude.{if◌then◌else◌}
-use Rattle.std.proofs.lemmas.Bool.{true≢false, or_right}
+use Rattle.std.proofs.Common.{◌≡◌, ℕ, true, false, List, [], ◌∷◌, length, Option, Some, None, refl, sym, ap, subst, ◌∙◌}
+use Rattle.std.proofs.lemmas.Bool.{true≢false, cond_both, or_right}
 use Rattle.htmd_grammar.specs.declared.content_model.ContentModel.{ContentModel}
 use Rattle.htmd_html5_state.specs.Names.{NameValue, known, html}
 use Rattle.htmd_html5_state.specs.Nodes.{KindValue, comment as comment_kind, element, last_in}
@@ -19,12 +18,11 @@ use Rattle.htmd_html5.specs.Outcomes.{Outcome, done}
 use Rattle.htmd_html5.specs.Runs.{first_kind}
 use Rattle.htmd_html5.specs.Feeding.{is_text_mode}
 use Rattle.htmd_html5.specs.SharedRules.{add_missing_to, add_to_root, end_template}
-use Rattle.htmd_html5.specs.InBody.{end_of_file_in_template, end_of_file_in_body}
+use Rattle.htmd_html5.specs.InBody.{end_of_file_in_body}
 use Rattle.htmd_html5.specs.InColumnGroup.{end_columns, leave_columns, start_in_columns, end_in_columns}
 use Rattle.htmd_html5.specs.InColumnGroup.{close_columns, in_column_group}
 use Rattle.htmd_html5.specs.ForeignContent.{goes_to_html, is_foreign}
-use Rattle.htmd_html5.specs.ForeignContent.{in_foreign_content}
-use Rattle.htmd_html5.specs.Modes.{in_mode, by_mode_rules}
+use Rattle.htmd_html5.specs.Modes.{in_mode}
 use Rattle.htmd_html5.specs.Processing.{by_rules}
 use Rattle.htmd_html5_laws.proofs.NodeTexts.{kinds}
 use Rattle.htmd_html5_laws.proofs.TakingRuns.{by_first_kind}
@@ -137,11 +135,9 @@ end_template_answered : (s : StateValue) → Columns s → Hung s → Answered (
 end_template_answered s h x = rw (no_template_in s.stack h.names) (answered_columns h x)
 
 end_of_file_answered : (s : StateValue) → Columns s → Hung s → Answered (end_of_file_in_body s)
-end_of_file_answered s h x = either (has_modes s.template_modes) (ap has_modes h.no_modes)
-  where
-    either : (b : Bool) → b ≡ false → Answered (if b then end_of_file_in_template s else done s)
-    either true e = absurd (true≢false e)
-    either false e = answered_columns h x
+end_of_file_answered s h x =
+    cond_both (has_modes s.template_modes) _ _ Answered
+    (λ t. absurd (true≢false (sym t ∙ ap has_modes h.no_modes))) (λ t. answered_columns h x)
 
 -- a token, with no start tag of a template
 abbrev pub IsFreeName : NameValue → Type 0
@@ -194,20 +190,14 @@ html_applies : (t : TokenValue) (s : StateValue) → Columns s → goes_to_html 
 html_applies t s h = or_right _ (current_is_html s.stack) (columns_html s.stack h.names)
 
 not_foreign : (t : TokenValue) (s : StateValue) → Columns s → is_foreign t s ≡ false
-not_foreign (run kind text) s h = rw (html_applies (run kind text) s h) refl
-not_foreign (comment text) s h = rw (html_applies (comment text) s h) refl
-not_foreign (doctype quirks) s h = rw (html_applies (doctype quirks) s h) refl
-not_foreign (start_tag tag) s h = rw (html_applies (start_tag tag) s h) refl
-not_foreign (end_tag name) s h = rw (html_applies (end_tag name) s h) refl
 not_foreign end_of_file s h = refl
+not_foreign t s h = rw (html_applies t s h) refl
 
 by_columns : (t : TokenValue) (s : StateValue) → Columns s → Answered (in_column_group t s)
     → Answered (by_rules t s)
-by_columns t s h a = either (is_foreign t s) (not_foreign t s h)
-  where
-    either : (b : Bool) → b ≡ false → Answered (if b then in_foreign_content t s else by_mode_rules t s)
-    either true e = absurd (true≢false e)
-    either false e = subst (λ (mode : InsertionMode). Answered (in_mode mode t s)) (sym h.in_columns) a
+by_columns t s h a =
+    cond_both (is_foreign t s) _ _ Answered (λ f. absurd (true≢false (sym f ∙ not_foreign t s h)))
+    (λ f. subst (λ (mode : InsertionMode). Answered (in_mode mode t s)) (sym h.in_columns) a)
 
 pub columns_answered : (t : TokenValue) (s : StateValue) → IsFree t → Columns s → Hung s
     → Answered (by_rules t s)

@@ -1,7 +1,6 @@
 -- Start tags of `col` and `colgroup`, which begin columns in a table.
-use Rattle.std.proofs.Common.{◌≡◌, Bool, true, false, List, [], refl, sym, ap}
-use Rattle.std.specs.Prelude.{if◌then◌else◌}
-use Rattle.std.proofs.lemmas.Bool.{true≢false}
+use Rattle.std.proofs.Common.{◌≡◌, true, false, List, [], refl, sym, ap, subst}
+use Rattle.std.proofs.lemmas.Bool.{true≢false, cond_both}
 use Rattle.htmd_grammar.specs.ValueTrees.{AttributePair}
 use Rattle.htmd_html5_state.specs.Names.{NameValue, known, html}
 use Rattle.htmd_html5_state.specs.Nodes.{element}
@@ -11,15 +10,13 @@ use Rattle.htmd_html5_state.specs.Insertion.{place}
 use Rattle.htmd_html5_state.specs.declared.modes.InsertionMode.{InsertionMode}
 use Rattle.htmd_html5_state.specs.declared.modes.InsertionMode.TheVariants.{Initial, BeforeHtml, BeforeHead, InHead}
 use Rattle.htmd_html5_state.specs.declared.modes.InsertionMode.TheVariants.{InHeadNoscript, AfterHead, InBody, InTable}
-use Rattle.htmd_html5_state.specs.declared.modes.InsertionMode.TheVariants.{InCaption, InColumnGroup, InTableBody}
-use Rattle.htmd_html5_state.specs.declared.modes.InsertionMode.TheVariants.{InRow, InCell, InSelect, InSelectInTable}
-use Rattle.htmd_html5_state.specs.declared.modes.InsertionMode.TheVariants.{InTemplate, AfterBody, InFrameset}
-use Rattle.htmd_html5_state.specs.declared.modes.InsertionMode.TheVariants.{AfterFrameset, AfterAfterBody}
-use Rattle.htmd_html5_state.specs.declared.modes.InsertionMode.TheVariants.{AfterAfterFrameset}
+use Rattle.htmd_html5_state.specs.declared.modes.InsertionMode.TheVariants.{InCaption, InTableBody, InRow, InCell}
+use Rattle.htmd_html5_state.specs.declared.modes.InsertionMode.TheVariants.{InSelect, InSelectInTable, AfterBody}
+use Rattle.htmd_html5_state.specs.declared.modes.InsertionMode.TheVariants.{AfterAfterBody}
 use Rattle.htmd_html5_state.specs.declared.sets.NameSet.TheVariants.{TableContext, Cells}
 use Rattle.htmd_html5_state.specs.declared.sets.Scope.TheVariants.{Table as TableScope}
 use Rattle.htmd_html5.specs.Tokens.{StartTagValue, start_tag, end_tag}
-use Rattle.htmd_html5.specs.Outcomes.{Outcome, done, again}
+use Rattle.htmd_html5.specs.Outcomes.{Outcome, done}
 use Rattle.htmd_html5.specs.Feeding.{is_text_mode}
 use Rattle.htmd_html5.specs.BeforeHtml.{start_before_html}
 use Rattle.htmd_html5.specs.BeforeHead.{start_before_head}
@@ -29,21 +26,21 @@ use Rattle.htmd_html5.specs.AfterHead.{start_after_head}
 use Rattle.htmd_html5.specs.AfterBody.{start_after_body}
 use Rattle.htmd_html5.specs.BodyStarts.{rule_of_start, start_by}
 use Rattle.htmd_html5.specs.InTable.{to_table, start_columns, start_in_table}
-use Rattle.htmd_html5.specs.InCaption.{start_in_caption, leave_caption}
-use Rattle.htmd_html5.specs.InTableBody.{start_in_section, leave_section}
-use Rattle.htmd_html5.specs.InRow.{start_in_row, leave_row}
-use Rattle.htmd_html5.specs.InCell.{start_in_cell, leave_cell, close_cell}
+use Rattle.htmd_html5.specs.InCaption.{start_in_caption}
+use Rattle.htmd_html5.specs.InTableBody.{start_in_section}
+use Rattle.htmd_html5.specs.InRow.{start_in_row}
+use Rattle.htmd_html5.specs.InCell.{start_in_cell, leave_cell}
 use Rattle.htmd_html5.specs.InSelect.{start_in_select, start_in_select_in_table}
 use Rattle.htmd_html5.specs.ForeignContent.{is_foreign, tag_breaks_out, text_breaks_out, start_foreign_element}
 use Rattle.htmd_html5.specs.ForeignContent.{in_foreign_content}
-use Rattle.htmd_html5.specs.Modes.{in_mode, by_mode_rules}
+use Rattle.htmd_html5.specs.Modes.{in_mode}
 use Rattle.htmd_html5.specs.Processing.{by_rules}
 use Rattle.htmd_html5_laws.proofs.OpenNodes.{clear_to_fewer}
 use Rattle.htmd_html5_laws.proofs.PlainNames.{is_plain_open}
 use Rattle.htmd_html5_laws.proofs.HungStates.{Hung, hung_fewer, hung_named}
 use Rattle.htmd_html5_laws.proofs.PlainStates.{is_plain_mode, Plain, added_grows}
 use Rattle.htmd_html5_laws.proofs.PlainRules.{StaysAnswer, part_stays, start_foreign_stays}
-use Rattle.htmd_html5_laws.proofs.PlainModes.{in_mode_stays, left_stays, back_to_body_stays}
+use Rattle.htmd_html5_laws.proofs.PlainModes.{in_mode_stays, leave_stays}
 use Rattle.htmd_html5_laws.proofs.ColumnStates.{Columns, is_plain_state, is_in_columns, Answered, answered_columns}
 use Rattle.htmd_html5_state.specs.declared.names.TagName.TheVariants as tags
 
@@ -77,11 +74,12 @@ breaks_none (known tags.Col) attributes c = refl
 breaks_none (known tags.ColGroup) attributes c = refl
 breaks_none _ attributes c = absurd (true≢false c)
 
-by_column : (f : NameValue → Outcome) → Answered (f (known tags.Col)) → Answered (f (known tags.ColGroup))
-    → (name : NameValue) → IsColumn name → Answered (f name)
-by_column f a b (known tags.Col) c = a
-by_column f a b (known tags.ColGroup) c = b
-by_column f a b _ c = absurd (true≢false c)
+-- the same rule for both
+by_column : (f : NameValue → Outcome) → f (known tags.Col) ≡ f (known tags.ColGroup)
+    → Answered (f (known tags.ColGroup)) → (name : NameValue) → IsColumn name → Answered (f name)
+by_column f e a (known tags.Col) c = subst Answered (sym e) a
+by_column f e a (known tags.ColGroup) c = a
+by_column f e a _ c = absurd (true≢false c)
 
 -- ---- by the rules of each mode
 
@@ -95,29 +93,17 @@ module _ (tag : StartTagValue) (s : StateValue) (h : Plain s) (x : Hung s)
       → ((f s).again ≡ true → is_text_mode (f s).state.content ≡ false) → Answered (f s)
   left_plain leaves raw = record { stands = is_plain_state (leaves.stays s h) (leaves.hangs s h x); no_raw = raw }
 
-  -- the same rule for both
-  both : (f : NameValue → Outcome) → Answered (f (known tags.Col)) → Answered (f (known tags.ColGroup))
-      → IsColumn tag.name → Answered (f tag.name)
-  both f a b c = by_column f a b tag.name c
-
-  caption_left : Answered (leave_caption s)
-  caption_left = left_plain (in_mode_stays (end_tag (known tags.Table)) tt InCaption refl) (λ e. rw e no_raw)
-
-  section_left : Answered (leave_section s)
-  section_left = left_plain (in_mode_stays (end_tag (known tags.Table)) tt InTableBody refl) (λ e. rw e no_raw)
-
-  row_left : Answered (leave_row s)
-  row_left = left_plain (in_mode_stays (end_tag (known tags.Table)) tt InRow refl) (λ e. rw e no_raw)
+  both : (f : NameValue → Outcome) → f (known tags.Col) ≡ f (known tags.ColGroup)
+      → Answered (f (known tags.ColGroup)) → IsColumn tag.name → Answered (f tag.name)
+  both f e a c = by_column f e a tag.name c
 
   cell_left : Answered (leave_cell Cells s)
-  cell_left = either (is_in_scope Cells TableScope s.stack)
-    where
-      either : (b : Bool) → Answered (if b then again (close_cell Cells s) else done s)
-      either true = record {
+  cell_left =
+      cond_both (is_in_scope Cells TableScope s.stack) _ _ (λ a. Answered a)
+      (λ t. record {
         stands = is_plain_state ((part_stays Cells InRow refl).stays s h) ((part_stays Cells InRow refl).hangs s h x);
         no_raw = λ e. no_raw;
-      }
-      either false = done_plain s h x
+      }) (λ t. done_plain s h x)
 
   in_table_answered : (name : NameValue) → tag.name ≡ name → IsColumn name
       → Answered (start_in_table name tag s)
@@ -132,40 +118,36 @@ module _ (tag : StartTagValue) (s : StateValue) (h : Plain s) (x : Hung s)
 
   in_mode_answered : (mode : InsertionMode) → is_plain_mode mode ≡ true → IsColumn tag.name
       → Answered (in_mode mode (start_tag tag) s)
-  in_mode_answered Initial p c = left_plain (left_stays Initial refl) (λ e. no_raw)
+  in_mode_answered Initial p c = left_plain (leave_stays Initial refl) (λ e. no_raw)
   in_mode_answered BeforeHtml p c =
-      let a = left_plain (left_stays BeforeHtml refl) (λ e. no_raw) in both (λ name. start_before_html name tag s) a a
-      c
+      both (λ name. start_before_html name tag s) refl (left_plain (leave_stays BeforeHtml refl) (λ e. no_raw)) c
   in_mode_answered BeforeHead p c =
-      let a = left_plain (left_stays BeforeHead refl) (λ e. no_raw) in both (λ name. start_before_head name tag s) a a
-      c
-  in_mode_answered InHead p c =
-      let a = left_plain (left_stays InHead refl) (λ e. no_raw) in
-      both (λ name. start_in_head name tag s) a a c
+      both (λ name. start_before_head name tag s) refl (left_plain (leave_stays BeforeHead refl) (λ e. no_raw)) c
+  in_mode_answered InHead p c = both (λ name. start_in_head name tag s) refl
+      (left_plain (leave_stays InHead refl) (λ e. no_raw)) c
   in_mode_answered InHeadNoscript p c =
-      let a = left_plain (left_stays InHeadNoscript refl) (λ e. no_raw) in
-      both (λ name. start_in_noscript name tag s) a a c
+      both (λ name. start_in_noscript name tag s) refl (left_plain (leave_stays InHeadNoscript refl) (λ e. no_raw)) c
   in_mode_answered AfterHead p c =
-      let a = left_plain (left_stays AfterHead refl) (λ e. no_raw) in both (λ name. start_after_head name tag s) a a c
-  in_mode_answered InBody p c =
-      both (λ name. done (start_by (rule_of_start name) tag s)) (done_plain s h x) (done_plain s h x) c
+      both (λ name. start_after_head name tag s) refl (left_plain (leave_stays AfterHead refl) (λ e. no_raw)) c
+  in_mode_answered InBody p c = both (λ name. done (start_by (rule_of_start name) tag s)) refl (done_plain s h x) c
   in_mode_answered InTable p c = in_table_answered tag.name refl c
-  in_mode_answered InCaption p c = both (λ name. start_in_caption name tag s) caption_left caption_left c
-  in_mode_answered InColumnGroup p c = absurd (true≢false (sym p))
-  in_mode_answered InTableBody p c = both (λ name. start_in_section name tag s) section_left section_left c
-  in_mode_answered InRow p c = both (λ name. start_in_row name tag s) row_left row_left c
-  in_mode_answered InCell p c = both (λ name. start_in_cell name tag s) cell_left cell_left c
-  in_mode_answered InSelect p c = both (λ name. start_in_select name tag s) (done_plain s h x) (done_plain s h x) c
-  in_mode_answered InSelectInTable p c =
-      both (λ name. start_in_select_in_table name tag s) (done_plain s h x) (done_plain s h x) c
-  in_mode_answered InTemplate p c = absurd (true≢false (sym p))
+  in_mode_answered InCaption p c =
+      both (λ name. start_in_caption name tag s) refl
+      (left_plain (in_mode_stays (end_tag (known tags.Table)) tt InCaption refl) (λ e. rw e no_raw)) c
+  in_mode_answered InTableBody p c =
+      both (λ name. start_in_section name tag s) refl
+      (left_plain (in_mode_stays (end_tag (known tags.Table)) tt InTableBody refl) (λ e. rw e no_raw)) c
+  in_mode_answered InRow p c =
+      both (λ name. start_in_row name tag s) refl
+      (left_plain (in_mode_stays (end_tag (known tags.Table)) tt InRow refl) (λ e. rw e no_raw)) c
+  in_mode_answered InCell p c = both (λ name. start_in_cell name tag s) refl cell_left c
+  in_mode_answered InSelect p c = both (λ name. start_in_select name tag s) refl (done_plain s h x) c
+  in_mode_answered InSelectInTable p c = both (λ name. start_in_select_in_table name tag s) refl (done_plain s h x) c
   in_mode_answered AfterBody p c =
-      let a = left_plain back_to_body_stays (λ e. no_raw) in both (λ name. start_after_body name tag s) a a c
-  in_mode_answered InFrameset p c = absurd (true≢false (sym p))
-  in_mode_answered AfterFrameset p c = absurd (true≢false (sym p))
+      both (λ name. start_after_body name tag s) refl (left_plain (leave_stays AfterBody refl) (λ e. no_raw)) c
   in_mode_answered AfterAfterBody p c =
-      let a = left_plain back_to_body_stays (λ e. no_raw) in both (λ name. start_after_body name tag s) a a c
-  in_mode_answered AfterAfterFrameset p c = absurd (true≢false (sym p))
+      both (λ name. start_after_body name tag s) refl (left_plain (leave_stays AfterAfterBody refl) (λ e. no_raw)) c
+  in_mode_answered _ p c = absurd (true≢false (sym p))
 
   foreign_answered : IsColumn tag.name → Answered (in_foreign_content (start_tag tag) s)
   foreign_answered c =
@@ -174,9 +156,6 @@ module _ (tag : StartTagValue) (s : StateValue) (h : Plain s) (x : Hung s)
       ((start_foreign_stays tag).hangs s h x))
 
   pub column_tag_answered : IsColumn tag.name → Answered (by_rules (start_tag tag) s)
-  column_tag_answered c = either (is_foreign (start_tag tag) s)
-    where
-      either : (b : Bool)
-          → Answered (if b then in_foreign_content (start_tag tag) s else by_mode_rules (start_tag tag) s)
-      either true = foreign_answered c
-      either false = in_mode_answered s.mode h.plain_mode c
+  column_tag_answered c =
+      cond_both (is_foreign (start_tag tag) s) _ _ (λ a. Answered a) (λ t. foreign_answered c)
+      (λ t. in_mode_answered s.mode h.plain_mode c)

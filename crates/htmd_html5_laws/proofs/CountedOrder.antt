@@ -1,7 +1,6 @@
 -- The characters that count stand in order in the tree: they are some of those that are kept of the tokens' texts, in
 -- their order, and as many of each.
-use Rattle.std.proofs.Common.{◌≡◌, ◌∙◌, ℕ, Bool, true, false, List, [], ◌∷◌}
-use Rattle.std.proofs.Common.{refl, sym, ap, arith, cond}
+use Rattle.std.proofs.Common.{◌≡◌, ◌∙◌, ℕ, Bool, true, false, List, [], ◌∷◌, refl, sym, ap, arith, cond}
 use Rattle.std.specs.Prelude.{◌==◌, filter, count_by, IsUtf8}
 use Rattle.std.specs.Str.{chars}
 use Rattle.std.proofs.lemmas.Bool.{true≢false, eqb-true}
@@ -31,9 +30,7 @@ many_kept f c [] e = refl
 many_kept f c (x ∷ xs) e =
     let h = many_kept f c xs e in
     let sum = sum_by-cons (λ y. cond (is_character c y) 1 0) x xs in
-    test (f x)
-    (λ t. rw t (omega arith))
-    (λ t. test (x == c)
+    test (f x) (λ t. rw t (omega arith)) (λ t. test (x == c)
     (λ u. absurd (true≢false (sym e ∙ (sym (ap f (eqb-true x c u)) ∙ t))))
     (λ u. let none : ◌≡◌ {A = ℕ} (cond (is_character c x) 1 0) 0 = rw u refl in rw t (omega arith)))
 
@@ -41,11 +38,8 @@ many_none : (f : ℕ → Bool) (c : ℕ) (xs : List ℕ) → f c ≡ false → m
 many_none f c [] e = refl
 many_none f c (x ∷ xs) e =
     let h = many_none f c xs e in
-    test (f x)
-    (λ t. test (x == c)
-    (λ u. absurd (true≢false (sym t ∙ (ap f (eqb-true x c u) ∙ e))))
-    (λ u. rw (t, u) (omega arith)))
-    (λ t. rw t h)
+    test (f x) (λ t. test (x == c) (λ u. absurd (true≢false (sym t ∙ (ap f (eqb-true x c u) ∙ e))))
+    (λ u. rw (t, u) (omega arith))) (λ t. rw t h)
 
 module _ (choice : Choice) (c : ℕ) where
   many_counted : (s : List ℕ) → choice.counts c ≡ true → many c (counted_of choice s) ≡ occurrences c s
@@ -100,8 +94,7 @@ module _ (choice : Choice) where
           (λ t. t)
 
   pub counted_in_order : (scripting : Bool) (page : List ℕ) → IsUtf8 page → no_tag_moves_text scripting page
-      ≡ true
-      → (choice.reopens ≡ false → no_tag_comes_late scripting page ≡ true)
+      ≡ true → (choice.reopens ≡ false → no_tag_comes_late scripting page ≡ true)
       → (choice.nulls ≡ false → no_null_comes scripting page ≡ true)
       → counted_in choice (texts_of (html5_document scripting page)) ≡ counted_in choice (kept_texts scripting page)
   counted_in_order scripting page u e early clean =

@@ -1,33 +1,31 @@
 -- States that keep the root and cells open, and steps that leave them so.
-use Rattle.std.proofs.Common.{Bool, List, None, Option, Some, [], ap, false, get_or, inl, inr, length, refl, subst}
-use Rattle.std.proofs.Common.{sym, true, ℕ, ◌++◌, ◌∙◌, ◌∷◌, ◌≡◌, ◌⊎◌}
-use Rattle.std.proofs.lemmas.Bool.{eq-eqb, eqb-true, true≢false}
+use Rattle.std.proofs.Common.{Bool, List, Option, Some, ap, false, get_or, inr, length, refl, subst, sym}
+use Rattle.std.proofs.Common.{true, ℕ, [], ◌++◌, ◌∙◌, ◌∷◌, ◌≡◌, ⊎_elim, ◌⊎◌}
+use Rattle.std.proofs.lemmas.Bool.{cond_both, eqb-true, true≢false}
 use Rattle.std.specs.Prelude.{if◌then◌else◌, not, ◌==◌, ◌||◌}
 use Rattle.htmd_grammar.proofs.Cases.{test}
 use Rattle.htmd_grammar.specs.ValueTrees.{AttributePair}
+use Rattle.htmd_grammar.specs.declared.content_model.ContentModel.{ContentModel}
 use Rattle.htmd_html5_laws.proofs.EndedStacks.{Anchor, Apart, Has, is_any, is_common, is_common_name}
-use Rattle.htmd_html5_laws.proofs.KeepingInsertion.{listed_after_marker, listed_closed, listed_first, listed_more}
-use Rattle.htmd_html5_laws.proofs.KeepingInsertion.{listed_pushed, listed_without}
+use Rattle.htmd_html5_laws.proofs.KeepingInsertion.{listed_after_marker, listed_closed, listed_first, listed_pushed}
+use Rattle.htmd_html5_laws.proofs.KeepingInsertion.{listed_without, reconstructed}
 use Rattle.htmd_html5_laws.proofs.NamedKinds.{Grows, NamedAt, grows_added, grows_missing, grows_same, grows_text}
-use Rattle.htmd_html5_laws.proofs.NamedKinds.{grows_then, named_added}
+use Rattle.htmd_html5_laws.proofs.NamedKinds.{grows_then, is_named, named_added}
 use Rattle.htmd_html5_laws.proofs.NodeTexts.{kind_read, kinds, kinds_add, kinds_detach}
 use Rattle.htmd_html5_laws.proofs.OpenNodes.{EachOpen, Fewer, each_more}
-use Rattle.htmd_html5_state.specs.Nodes.{add_missing, detach, last_in}
 use Rattle.htmd_html5_state.specs.Foreign.{foreign_attributes, foreign_name, insert_foreign}
-use Rattle.htmd_html5_state.specs.Formatting.{after_closed, clear_to_marker, closed_elements, insert_formatting}
-use Rattle.htmd_html5_state.specs.Formatting.{insert_like, is_listed, push_marker, reconstruct, reopen_all}
-use Rattle.htmd_html5_state.specs.Formatting.{without_entry}
+use Rattle.htmd_html5_state.specs.Formatting.{after_closed, clear_to_marker, insert_formatting, insert_like, is_listed}
+use Rattle.htmd_html5_state.specs.Formatting.{push_marker, reconstruct, reopen, without_entry}
 use Rattle.htmd_html5_state.specs.Insertion.{current, insert_at, insert_comment, insert_comment_in, insert_doctype}
 use Rattle.htmd_html5_state.specs.Insertion.{insert_element, insert_named, insert_root, insert_text, insert_void}
 use Rattle.htmd_html5_state.specs.Insertion.{opened, place}
-use Rattle.htmd_html5_state.specs.OpenElements.{OpenValue, is_open_node}
+use Rattle.htmd_html5_state.specs.Names.{ElementNameValue, NameValue, html}
+use Rattle.htmd_html5_state.specs.Nodes.{KindValue, NodeValue, add_missing, comment, detach, doctype, document, element}
+use Rattle.htmd_html5_state.specs.Nodes.{kind_at, last_in}
+use Rattle.htmd_html5_state.specs.OpenElements.{OpenValue}
 use Rattle.htmd_html5_state.specs.State.{StateValue, on_formatting, on_nodes, on_stack}
 use Rattle.htmd_html5_state.specs.declared.modes.InsertionMode.{InsertionMode}
 use Rattle.htmd_html5_state.specs.declared.names.Namespace.{Namespace}
-use Rattle.htmd_grammar.specs.declared.content_model.ContentModel.{ContentModel}
-use Rattle.htmd_html5_state.specs.Nodes.{KindValue, NodeValue, document, doctype, text, comment, element, kind_at}
-use Rattle.htmd_html5_state.specs.Names.{NameValue, ElementNameValue, html}
-use Rattle.htmd_html5_laws.proofs.NamedKinds.{is_named}
 
 -- ---- states
 
@@ -86,26 +84,13 @@ pub ends_still : {p : Anchor → Bool} → Ends p (λ s. s)
 ends_still = record { whole = λ s h. h; keeps = λ a k s h l. l; same = λ s h. refl }
 
 pub ends_by_test : {p : Anchor → Bool} {f g : StateValue → StateValue} (b : StateValue → Bool) → Ends p f
-    → Ends p g
-    → Ends p (λ s. if b s then f s else g s)
-ends_by_test {p} {f} {g} b first second = record {
-  whole = λ s h. whole_of (b s) s h;
-  keeps = λ a k s h l. keeps_of (b s) a k s h l;
-  same = λ s h. same_of (b s) s h;
+    → Ends p g → Ends p (λ s. if b s then f s else g s)
+ends_by_test b first second = record {
+  whole = λ s h. cond_both (b s) _ _ (λ x. Whole x) (λ t. first.whole s h) (λ t. second.whole s h);
+  keeps = λ a k s h l. cond_both (b s) _ _ (λ (x : StateValue). Has a x.stack) (λ t. first.keeps a k s h l)
+      (λ t. second.keeps a k s h l);
+  same = λ s h. cond_both (b s) _ _ (λ x. manner x ≡ manner s) (λ t. first.same s h) (λ t. second.same s h);
 }
-  where
-    whole_of : (t : Bool) (s : StateValue) → Whole s → Whole (if t then f s else g s)
-    whole_of true s h = first.whole s h
-    whole_of false s h = second.whole s h
-
-    keeps_of : (t : Bool) (a : Anchor) → p a ≡ true → (s : StateValue) → Whole s → Has a s.stack
-        → Has a (if t then f s else g s).stack
-    keeps_of true a k s h l = first.keeps a k s h l
-    keeps_of false a k s h l = second.keeps a k s h l
-
-    same_of : (t : Bool) (s : StateValue) → Whole s → manner (if t then f s else g s) ≡ manner s
-    same_of true s h = first.same s h
-    same_of false s h = second.same s h
 
 pub ends_by_state : {p : Anchor → Bool} {A : Type 0} {f : A → StateValue → StateValue} (a : StateValue → A)
     → ((x : A) → Ends p (f x)) → Ends p (λ s. f (a s) s)
@@ -115,14 +100,21 @@ ends_by_state a h = record {
   same = λ s k. (h (a s)).same s k;
 }
 
+-- a step that opens and closes none
+pub stack_kept : {p : Anchor → Bool} {f : StateValue → StateValue}
+    → ((s : StateValue) → Whole s → Whole (f s))
+    → ((s : StateValue) → (f s).stack ≡ s.stack) → ((s : StateValue) → manner (f s) ≡ manner s) → Ends p f
+stack_kept w e m = record {
+  whole = w;
+  keeps = λ a k s h l. subst (λ (es : List OpenValue). Has a es) (sym (e s)) l;
+  same = λ s h. m s;
+}
+
 -- ---- the root and cells have nodes of their own
 
 both_named : (k : KindValue) → is_named is_common k ≡ true → is_named is_uncommon k ≡ true → ⊥
 both_named (element name attributes) c u = true≢false (sym u ∙ ap not c)
-both_named (text t) c u = true≢false (sym c)
-both_named document c u = true≢false (sym c)
-both_named doctype c u = true≢false (sym c)
-both_named (comment t) c u = true≢false (sym c)
+both_named k c u = true≢false (sym c)
 
 -- what is guarded and may go by its number is neither
 pub common_named : (ks : List KindValue) (e : OpenValue) → is_guarded ks e ≡ true → CommonAt ks e.node
@@ -136,15 +128,12 @@ apart ks n c stack h = each_more stack one h
   where
     one : (e : OpenValue) → is_guarded ks e ≡ true → is_common e.name ≡ false → (e.node == n) ≡ false
     one e g u =
-        test (e.node == n)
-        (λ t. absurd (true≢false (sym (common_named ks e g
-        (subst (λ (m : ℕ). CommonAt ks m) (sym (eqb-true e.node n t)) c)) ∙ u)))
-        (λ t. t)
+        test (e.node == n) (λ t. absurd (true≢false (sym (common_named ks e g
+        (subst (λ (m : ℕ). CommonAt ks m) (sym (eqb-true e.node n t)) c)) ∙ u))) (λ t. t)
 
 pub grown_guarded : {ks new : List KindValue} → Grows ks new → (e : OpenValue) → is_guarded ks e ≡ true
     → is_guarded new e ≡ true
-grown_guarded g e h =
-    test (is_common e.name) (λ t. rw t refl) (λ t. rw t (g.names is_uncommon e.node (rw t at h)))
+grown_guarded g e h = test (is_common e.name) (λ t. rw t refl) (λ t. rw t (g.names is_uncommon e.node (rw t at h)))
 
 fresh_guarded : (nodes : List NodeValue) (name : ElementNameValue) (attributes : List AttributePair)
     {new : List KindValue} → new ≡ kinds nodes ++ element name attributes ∷ []
@@ -225,20 +214,16 @@ insert_root_ends name attributes = insert_at_ends (λ s. last_in 0) (html name) 
 
 pub insert_void_ends : {p : Anchor → Bool} (name : NameValue) (attributes : List AttributePair)
     → Ends p (insert_void name attributes)
-insert_void_ends name attributes = record {
-  whole = λ s h. whole_grown (grows_added (element (html name) attributes) (place s) s.nodes) h;
-  keeps = λ a k s h l. l;
-  same = λ s h. refl;
-}
+insert_void_ends name attributes =
+    stack_kept (λ s h. whole_grown (grows_added (element (html name) attributes) (place s) s.nodes) h)
+    (λ s. refl) (λ s. refl)
 
 pub insert_foreign_ends : {p : Anchor → Bool} (space : Namespace) (name : List ℕ)
     (attributes : List AttributePair) (closes : Bool) → Ends p (insert_foreign space name attributes closes)
-insert_foreign_ends space name attributes true = record {
-  whole = λ s h. whole_grown
-      (grows_added (element (foreign_name space name) (foreign_attributes space attributes)) (place s) s.nodes) h;
-  keeps = λ a k s h l. l;
-  same = λ s h. refl;
-}
+insert_foreign_ends space name attributes true =
+    stack_kept (λ s h. whole_grown (grows_added
+    (element (foreign_name space name) (foreign_attributes space attributes)) (place s) s.nodes) h)
+    (λ s. refl) (λ s. refl)
 insert_foreign_ends space name attributes false = record {
   whole = λ s h.
       (insert_named_ends {p = is_any} (foreign_name space name) (foreign_attributes space attributes)).whole s h;
@@ -247,77 +232,49 @@ insert_foreign_ends space name attributes false = record {
 }
 
 pub insert_comment_in_ends : {p : Anchor → Bool} (parent : ℕ) (c : List ℕ) → Ends p (insert_comment_in parent c)
-insert_comment_in_ends parent c = record {
-  whole = λ s h. whole_grown (grows_added (comment c) (last_in parent) s.nodes) h;
-  keeps = λ a k s h l. l;
-  same = λ s h. refl;
-}
+insert_comment_in_ends parent c =
+    stack_kept (λ s h. whole_grown (grows_added (comment c) (last_in parent) s.nodes) h) (λ s. refl) (λ s. refl)
 
 pub insert_comment_ends : {p : Anchor → Bool} (c : List ℕ) → Ends p (insert_comment c)
 insert_comment_ends c = ends_by_state (λ s. (current s.stack).node) (λ n. insert_comment_in_ends n c)
 
 pub insert_doctype_ends : {p : Anchor → Bool} → Ends p insert_doctype
-insert_doctype_ends = record {
-  whole = λ s h. whole_grown (grows_added doctype (last_in 0) s.nodes) h;
-  keeps = λ a k s h l. l;
-  same = λ s h. refl;
-}
+insert_doctype_ends =
+    stack_kept (λ s h. whole_grown (grows_added doctype (last_in 0) s.nodes) h) (λ s. refl) (λ s. refl)
 
 pub add_missing_ends : {p : Anchor → Bool} (n : ℕ) (more : List AttributePair)
     → Ends p (on_nodes (add_missing n more))
-add_missing_ends n more = record {
-  whole = λ s h. whole_grown (grows_missing n more s.nodes) h;
-  keeps = λ a k s h l. l;
-  same = λ s h. refl;
-}
+add_missing_ends n more = stack_kept (λ s h. whole_grown (grows_missing n more s.nodes) h) (λ s. refl) (λ s. refl)
 
 pub detach_ends : {p : Anchor → Bool} (n : ℕ) → Ends p (on_nodes (detach n))
-detach_ends n = record {
-  whole = λ s h. whole_grown (grows_same (kinds_detach n s.nodes)) h;
-  keeps = λ a k s h l. l;
-  same = λ s h. refl;
-}
+detach_ends n = stack_kept (λ s h. whole_grown (grows_same (kinds_detach n s.nodes)) h) (λ s. refl) (λ s. refl)
 
 pub insert_text_ends : {p : Anchor → Bool} (t : List ℕ) → Ends p (insert_text t)
-insert_text_ends t = record {
-  whole = λ s h. whole_grown (grows_text t (place s) s.nodes) h;
-  keeps = λ a k s h l. l;
-  same = λ s h. refl;
-}
+insert_text_ends t = stack_kept (λ s h. whole_grown (grows_text t (place s) s.nodes) h) (λ s. refl) (λ s. refl)
 
 -- ---- the list of active formatting elements
 
 pub without_entry_ends : {p : Anchor → Bool} (n : ℕ) → Ends p (on_formatting (without_entry n))
-without_entry_ends n = record {
-  whole = λ s h. whole_entries (λ m l. h.entries_at m (listed_without m n s.formatting l)) h;
-  keeps = λ a k s h l. l;
-  same = λ s h. refl;
-}
+without_entry_ends n =
+    stack_kept (λ s h. whole_entries (λ m l. h.entries_at m (listed_without m n s.formatting l)) h)
+    (λ s. refl) (λ s. refl)
 
 pub push_marker_ends : {p : Anchor → Bool} → Ends p push_marker
-push_marker_ends = record {
-  whole = λ s h. whole_entries (λ n l. h.entries_at n l) h;
-  keeps = λ a k s h l. l;
-  same = λ s h. refl;
-}
+push_marker_ends = stack_kept (λ s h. whole_entries (λ n l. h.entries_at n l) h) (λ s. refl) (λ s. refl)
 
 pub clear_to_marker_ends : {p : Anchor → Bool} → Ends p clear_to_marker
-clear_to_marker_ends = record {
-  whole = λ s h. whole_entries (λ n l. h.entries_at n (listed_after_marker n s.formatting l)) h;
-  keeps = λ a k s h l. l;
-  same = λ s h. refl;
-}
+clear_to_marker_ends =
+    stack_kept (λ s h. whole_entries (λ n l. h.entries_at n (listed_after_marker n s.formatting l)) h)
+    (λ s. refl) (λ s. refl)
 
 -- what is listed then is one new element, or was listed before
 pub whole_listed : {ks : List KindValue} {entries later : List (Option ℕ)} {first form : Option ℕ}
     {stack : List OpenValue} (m : ℕ) → CommonAt ks m
     → ((n : ℕ) → is_listed n later ≡ true → (n ≡ m) ⊎ (is_listed n entries ≡ true))
     → WholeIn ks entries first form stack → WholeIn ks later first form stack
-whole_listed {ks} {entries} m p f h = whole_entries (λ n l. either n (f n l)) h
-  where
-    either : (n : ℕ) → (n ≡ m) ⊎ (is_listed n entries ≡ true) → CommonAt ks n
-    either n (inl e) = subst (λ (x : ℕ). CommonAt ks x) (sym e) p
-    either n (inr l) = h.entries_at n l
+whole_listed {ks} m p f h =
+    whole_entries
+    (λ n l. ⊎_elim (λ e. subst (λ (x : ℕ). CommonAt ks x) (sym e) p) (λ k. h.entries_at n k) (f n l)) h
 
 -- a new element with a common name
 pub common_added : (name : NameValue) (attributes : List AttributePair) → is_common_name name ≡ true
@@ -344,15 +301,10 @@ record Reopened (s new : StateValue) : Type 0 where
   keeps : (a : Anchor) → Has a s.stack → Has a new.stack
   same : manner new ≡ manner s
 
-abbrev EachCommon : List KindValue → List ℕ → Type 0
-EachCommon ks [] = Unit {0}
-EachCommon ks (n ∷ ns) = CommonAt ks n × EachCommon ks ns
-
 like_reopened : (s : StateValue) (k : KindValue) → is_named is_common k ≡ true → Whole s
     → Reopened s (on_formatting (λ entries. Some (length s.nodes) ∷ entries) (insert_like k s))
 like_reopened s (element name attributes) p h = record {
-  whole = whole_listed (length s.nodes)
-      (named_added is_common s.nodes (element name attributes)
+  whole = whole_listed (length s.nodes) (named_added is_common s.nodes (element name attributes)
       (kinds_add (element name attributes) (place s) s.nodes) p)
       (λ n l. listed_first n (length s.nodes) s.formatting l)
       ((insert_named_ends {p = is_any} name attributes).whole s h);
@@ -360,20 +312,13 @@ like_reopened s (element name attributes) p h = record {
   keeps = λ a l. inr l;
   same = refl;
 }
-like_reopened s (text t) p h = absurd (true≢false (sym p))
-like_reopened s document p h = absurd (true≢false (sym p))
-like_reopened s doctype p h = absurd (true≢false (sym p))
-like_reopened s (comment t) p h = absurd (true≢false (sym p))
+like_reopened s k p h = absurd (true≢false (sym p))
 
-reopen_all_reopened : (ns : List ℕ) (s : StateValue) → EachCommon (kinds s.nodes) ns → Whole s
-    → Reopened s (reopen_all ns s)
-reopen_all_reopened [] s all h =
-    record { whole = h; grows = grows_same refl; keeps = λ a l. l; same = refl }
-reopen_all_reopened (n ∷ ns) s all h =
-    let before : Reopened s (reopen_all ns s) = reopen_all_reopened ns s all.1 h in
-    let last = like_reopened (reopen_all ns s) (kind_at (reopen_all ns s).nodes n)
-    (ap (is_named is_common) (kind_read (reopen_all ns s).nodes n) ∙ before.grows.names is_common n all.0)
-    before.whole in
+reopened : (s : StateValue) (n : ℕ) (t : StateValue) → CommonAt (kinds s.nodes) n → Reopened s t
+    → Reopened s (reopen n t)
+reopened s n t c before =
+    let last = like_reopened t (kind_at t.nodes n)
+    (ap (is_named is_common) (kind_read t.nodes n) ∙ before.grows.names is_common n c) before.whole in
     record {
       whole = last.whole;
       grows = grows_then before.grows last.grows;
@@ -381,26 +326,19 @@ reopen_all_reopened (n ∷ ns) s all h =
       same = last.same ∙ before.same;
     }
 
-closed_common : (ks : List KindValue) (stack : List OpenValue) (entries : List (Option ℕ))
-    → ((n : ℕ) → is_listed n entries ≡ true → CommonAt ks n) → EachCommon ks (closed_elements stack entries)
-closed_common ks stack [] f = tt
-closed_common ks stack (None ∷ entries) f = tt
-closed_common ks stack (Some m ∷ entries) f =
-    test (is_open_node m stack) (λ t. rw t tt)
-    (λ t. rw t (
-      f m (rw (eq-eqb m m refl) refl),
-      closed_common ks stack entries (λ n l. f n (listed_more n (Some m) entries l)),
-    ))
-
-reconstructed : (s : StateValue) → Whole s → Reopened (on_formatting (after_closed s.stack) s) (reconstruct s)
-reconstructed s h =
-    reopen_all_reopened (closed_elements s.stack s.formatting) (on_formatting (after_closed s.stack) s)
-    (closed_common (kinds s.nodes) s.stack s.formatting h.entries_at)
-    (whole_entries (λ n l. h.entries_at n (listed_closed n s.stack s.formatting l)) h)
+all_reopened : (s : StateValue) → Whole s → Reopened (on_formatting (after_closed s.stack) s) (reconstruct s)
+all_reopened s h =
+    reconstructed (CommonAt (kinds s.nodes)) (Reopened (on_formatting (after_closed s.stack) s)) s h.entries_at
+    (record {
+      whole = whole_entries (λ n l. h.entries_at n (listed_closed n s.stack s.formatting l)) h;
+      grows = grows_same refl;
+      keeps = λ a l. l;
+      same = refl;
+    }) (reopened (on_formatting (after_closed s.stack) s))
 
 pub reconstruct_ends : {p : Anchor → Bool} → Ends p reconstruct
 reconstruct_ends = record {
-  whole = λ s h. (reconstructed s h).whole;
-  keeps = λ a k s h l. (reconstructed s h).keeps a l;
-  same = λ s h. (reconstructed s h).same;
+  whole = λ s h. (all_reopened s h).whole;
+  keeps = λ a k s h l. (all_reopened s h).keeps a l;
+  same = λ s h. (all_reopened s h).same;
 }

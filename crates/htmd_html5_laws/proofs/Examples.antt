@@ -97,8 +97,7 @@ unfolding block_rule formatting_rule phrasing_rule html5_document
 a_select_keeps_the_order = refl
 
 formatting_keeps_the_order : texts_of (html5_document true (codes "<b>a<p>b</b>c")) ≡ codes "a" ∷ codes "b"
-    ∷ codes
-    "c" ∷ []
+    ∷ codes "c" ∷ []
 unfolding block_rule formatting_rule phrasing_rule text_end_rule move_last wrap_children html5_document
 formatting_keeps_the_order = refl
 

@@ -1,10 +1,10 @@
 -- What a token's text holds, and tokens that are no text, which leave the texts as they are.
-use Rattle.std.proofs.Common.{◌≡◌, ◌∙◌, ℕ, zero, suc, ◌+◌, ◌≤◌, Bool, true, false, List, [], ◌∷◌, ◌++◌, drop}
-use Rattle.std.proofs.Common.{refl, sym, ap, arith, cond}
-use Rattle.std.specs.Prelude.{IsUtf8, if◌then◌else◌, ◌==◌, ◌&&◌, count_by}
+use Rattle.std.proofs.Common.{◌≡◌, ◌∙◌, ℕ, zero, suc, ◌+◌, ◌≤◌, Bool, true, false, List, [], ◌∷◌, ◌++◌, drop, refl, sym}
+use Rattle.std.proofs.Common.{ap, arith, cond}
+use Rattle.std.specs.Prelude.{IsUtf8, ◌==◌, ◌&&◌, count_by}
 use Rattle.std.specs.Str.{chars}
 use Rattle.std.specs.Char.{encode_utf8}
-use Rattle.std.proofs.lemmas.Bool.{true≢false, and_parts, eqb-true}
+use Rattle.std.proofs.lemmas.Bool.{true≢false, and_parts, eqb-true, cond_both}
 use Rattle.std.proofs.lemmas.List.Elements.{All-nil}
 use Rattle.std.proofs.lemmas.List.Sums.{sum_by-cons}
 use Rattle.std.proofs.lemmas.Str.{IsUtf8-past_char, chars_past_char, encode_ascii}
@@ -24,7 +24,8 @@ use Rattle.htmd_html5_laws.specs.PageLetters.{occurrences, occurrences_in, is_ch
 use Rattle.htmd_html5_laws.proofs.NodeParts.{times}
 use Rattle.htmd_html5_laws.proofs.Forests.{once_under}
 use Rattle.htmd_html5_laws.proofs.OpenNodes.{pop_fewer}
-use Rattle.htmd_html5_laws.proofs.Keeping.{none_held, Sound, Kept, Keeps, after, nothing, by_test, untouched, on_stack_keeps}
+use Rattle.htmd_html5_laws.proofs.Keeping.{none_held, Sound, Kept, Keeps, after, nothing, by_test, untouched}
+use Rattle.htmd_html5_laws.proofs.Keeping.{on_stack_keeps}
 use Rattle.htmd_html5_laws.proofs.KeepingModes.{process_keeps}
 use Rattle.htmd_html5_laws.proofs.TextsPut.{occurs_cons}
 use Rattle.htmd_html5_tokens.specs.Tokens as tokens
@@ -66,11 +67,10 @@ dropped c (b ∷ s) e u = record {
     first = ap (count_by (is_character c)) (chars_past_char (b ∷ s) s line_feed u whole)
 
 pub shortened : (c : ℕ) (skips : Bool) (s : List ℕ) → IsUtf8 s → Shortened c s (without_line_feed skips s)
-shortened c skips s u = either (skips && first_is line_feed s) refl
-  where
-    either : (t : Bool) → (skips && first_is line_feed s) ≡ t → Shortened c s (if t then drop 1 s else s)
-    either true e = dropped c s (and_parts skips (first_is line_feed s) e).1 u
-    either false e = record { utf8 = u; fewer = omega arith; same = λ w. refl }
+shortened c skips s u =
+    cond_both (skips && first_is line_feed s) _ _ (λ t. Shortened c s t)
+    (λ e. dropped c s (and_parts skips (first_is line_feed s) e).1 u)
+    (λ e. record { utf8 = u; fewer = omega arith; same = λ w. refl })
 
 -- ---- tokens that are no text
 
@@ -81,8 +81,7 @@ out_of_text_mode_keeps : Keeps out_of_text_mode
 out_of_text_mode_keeps = by_test (λ s. is_text_mode s.content) close_raw_keeps nothing
 
 feed_end_tag_keeps : (name : NameValue) → Keeps (feed_end_tag name)
-feed_end_tag_keeps name =
-    by_test (λ s. is_text_mode s.content) close_raw_keeps (process_keeps (end_tag name) refl)
+feed_end_tag_keeps name = by_test (λ s. is_text_mode s.content) close_raw_keeps (process_keeps (end_tag name) refl)
 
 pub with_nothing_skipped_keeps : Keeps with_nothing_skipped
 with_nothing_skipped_keeps = untouched (λ s. refl) (λ s n l. l)
@@ -100,8 +99,7 @@ others_kept (tokens.comment text) skips s h =
     (after (process_keeps (comment text) refl) out_of_text_mode_keeps).keeps s h
 others_kept (tokens.doctype quirks) skips s h =
     (after (process_keeps (doctype quirks) refl) out_of_text_mode_keeps).keeps s h
-others_kept tokens.end_of_file skips s h =
-    (after (process_keeps end_of_file refl) out_of_text_mode_keeps).keeps s h
+others_kept tokens.end_of_file skips s h = (after (process_keeps end_of_file refl) out_of_text_mode_keeps).keeps s h
 
 -- ---- how often a character stands in a token's text
 
@@ -112,19 +110,11 @@ count c _ = 0
 pub count_with : (c : ℕ) (token : tokens.TokenValue) (more : List (List ℕ))
     → occurrences_in c (with_text_of token more) ≡ count c token + occurrences_in c more
 count_with c (tokens.text text) more = occurs_cons c text more
-count_with c (tokens.start_tag tag) more = omega arith
-count_with c (tokens.end_tag tag) more = omega arith
-count_with c (tokens.comment text) more = omega arith
-count_with c (tokens.doctype quirks) more = omega arith
-count_with c tokens.end_of_file more = omega arith
+count_with c _ more = omega arith
 
 pub end_counts_none : (c : ℕ) (token : tokens.TokenValue) → is_end token ≡ true → count c token ≡ 0
 end_counts_none c (tokens.text text) e = absurd (true≢false (sym e))
-end_counts_none c (tokens.start_tag tag) e = refl
-end_counts_none c (tokens.end_tag tag) e = refl
-end_counts_none c (tokens.comment text) e = refl
-end_counts_none c (tokens.doctype quirks) e = refl
-end_counts_none c tokens.end_of_file e = refl
+end_counts_none c _ e = refl
 
 -- ---- the first state
 

@@ -6,10 +6,9 @@ use Rattle.std.specs.Prelude.{◌==◌, insert}
 use Rattle.std.proofs.lemmas.Bool.{eqb-true, eqb-false, eq-eqb, ne_eqb}
 use Rattle.std.proofs.lemmas.List.{length-set, length-append}
 use Rattle.htmd_grammar.proofs.Cases.{test}
-use Rattle.htmd_html5_state.specs.Nodes.{NodeValue, KindValue, new_node, parent_at, children_at, with_kind}
-use Rattle.htmd_html5_state.specs.Nodes.{with_parent, with_children, with_parents, index_of, place_index}
-use Rattle.htmd_html5_state.specs.Nodes.{without_child, remove_child, detach_from, detach, put_child, put, attach}
-use Rattle.htmd_html5_state.specs.Nodes.{add, move_children}
+use Rattle.htmd_html5_state.specs.Nodes.{NodeValue, KindValue, new_node, parent_at, children_at, with_kind, with_parent}
+use Rattle.htmd_html5_state.specs.Nodes.{with_children, with_parents, index_of, place_index, without_child}
+use Rattle.htmd_html5_state.specs.Nodes.{remove_child, detach_from, detach, put_child, put, attach, add, move_children}
 use Rattle.htmd_html5_laws.proofs.NodeParts.{times, times_append, times_insert, remove_fewer, removed_once}
 use Rattle.htmd_html5_laws.proofs.NodeParts.{children_same, children_other, parent_of_children, children_of_parent}
 use Rattle.htmd_html5_laws.proofs.NodeParts.{parent_same, parent_other, has_parent, children_of_kind, parent_of_kind}
@@ -24,6 +23,10 @@ once_under (Some q) p = cond (q == p) 1 0
 
 pub record IsForest (nodes : List NodeValue) : Type 0 where
   pub once : (n p : ℕ) → times n (children_at nodes p) ≤ once_under (parent_at nodes n) p
+
+-- of one node, and of all others
+by_node : (P : ℕ → Type 0) (n m : ℕ) → P n → ((n ≡ m → ⊥) → P m) → P m
+by_node P n m own others = test (n == m) (λ t. subst P (eqb-true n m t) own) (λ t. others (eqb-false n m t))
 
 one_at_most : (b : Bool) → cond b 1 0 ≤ 1
 one_at_most true = omega arith
@@ -44,22 +47,18 @@ by_place : (m p q k : ℕ) (cs : List ℕ) (nodes : List NodeValue) → (p ≡ q
     → ((p ≡ q → ⊥) → times m (children_at nodes q) ≤ k)
     → times m (children_at (with_children p cs nodes) q) ≤ k
 by_place m p q k cs nodes same other =
-    test (p == q) (λ e. at_same (eqb-true p q e) (children_same p cs nodes))
+    test (p == q) (λ e. subst (λ (x : ℕ). times m (children_at (with_children p cs nodes) x) ≤ k) (eqb-true p q e)
+    (at_same (same (eqb-true p q e)) (children_same p cs nodes)))
     (λ e. let g = eqb-false p q e in
-    let f : times m (children_at (with_children p cs nodes) q) ≡ times m (children_at nodes q) =
-    ap (times m) (children_other p q cs nodes g) in
+    let f = ap (times m) (children_other p q cs nodes g) in
     let l = other g in
     omega arith)
   where
-    at_same : p ≡ q
+    at_same : times m cs ≤ k
         → (children_at (with_children p cs nodes) p ≡ cs) ⊎ (children_at (with_children p cs nodes) p ≡ [])
-        → times m (children_at (with_children p cs nodes) q) ≤ k
-    at_same f (inl g) =
-        subst (λ (x : ℕ). times m (children_at (with_children p cs nodes) x) ≤ k) f
-        (subst (λ (x : List ℕ). times m x ≤ k) (sym g) (same f))
-    at_same f (inr g) =
-        subst (λ (x : ℕ). times m (children_at (with_children p cs nodes) x) ≤ k) f
-        (subst (λ (x : List ℕ). times m x ≤ k) (sym g) (omega arith))
+        → times m (children_at (with_children p cs nodes) p) ≤ k
+    at_same l (inl g) = subst (λ (x : List ℕ). times m x ≤ k) (sym g) l
+    at_same l (inr g) = subst (λ (x : List ℕ). times m x ≤ k) (sym g) (omega arith)
 
 -- ---- a node is taken out
 
@@ -97,20 +96,17 @@ detached_from (Some p) n nodes e h = record {
         let b : once_under (parent_at nodes n) q ≡ 0 = ap (λ (o : Option ℕ). once_under o q) e
         ∙ elsewhere p q g in
         omega arith) in
-        let same : times n (children_at (with_parent n None left) q) ≡ times n (children_at left q) =
-        ap (times n) (children_of_parent n q None left) in
+        let same = ap (times n) (children_of_parent n q None left) in
         omega arith
 
     others : (m q : ℕ) → (n ≡ m → ⊥) → times m (children_at (with_parent n None left) q)
         ≤ once_under (parent_at (with_parent n None left) m) q
     others m q g =
-        let a : times m (children_at (with_parent n None left) q) ≡ times m (children_at left q) =
-        ap (times m) (children_of_parent n q None left) in
+        let a = ap (times m) (children_of_parent n q None left) in
         let b : times m (children_at left q) ≤ times m (children_at nodes q) =
         by_place m p q (times m (children_at nodes q)) (without_child n (children_at nodes p)) nodes
         (λ f. let l = remove_fewer m (index_of n (children_at nodes p)) (children_at nodes p) in
-        let k : times m (children_at nodes p) ≡ times m (children_at nodes q) =
-        ap (λ (x : ℕ). times m (children_at nodes x)) f in
+        let k = ap (λ (x : ℕ). times m (children_at nodes x)) f in
         omega arith)
         (λ f. omega arith) in
         let d = h.once m q in
@@ -122,10 +118,8 @@ detached_from (Some p) n nodes e h = record {
     bound : (m q : ℕ) → times m (children_at (with_parent n None left) q)
         ≤ once_under (parent_at (with_parent n None left) m) q
     bound m q =
-        test (n == m)
-        (λ t. subst (λ (x : ℕ). times x (children_at (with_parent n None left) q)
-        ≤ once_under (parent_at (with_parent n None left) x) q) (eqb-true n m t) (own q))
-        (λ t. others m q (eqb-false n m t))
+        by_node (λ x. times x (children_at (with_parent n None left) q)
+        ≤ once_under (parent_at (with_parent n None left) x) q) n m (own q) (others m q)
 
 detached : (n : ℕ) (nodes : List NodeValue) → IsForest nodes → Detached n nodes (detach n nodes)
 detached n nodes h = detached_from (parent_at nodes n) n nodes refl h
@@ -167,10 +161,8 @@ forest_put n place nodes l e h = record { once = λ m q. bound m q }
         (λ g. let b = h.once n q in
         let d : once_under (parent_at nodes n) q ≡ 0 = ap (λ (o : Option ℕ). once_under o q) e in
         omega arith) in
-        let b : times n (children_at new q) ≡ times n (children_at held q) =
-        ap (times n) (children_of_parent n q (Some p) held) in
-        let d : once_under (parent_at new n) q ≡ once_under (Some p) q =
-        ap (λ (o : Option ℕ). once_under o q) (parent_same n (Some p) held within) in
+        let b = ap (times n) (children_of_parent n q (Some p) held) in
+        let d = ap (λ (o : Option ℕ). once_under o q) (parent_same n (Some p) held within) in
         omega arith
 
     others : (m q : ℕ) → (n ≡ m → ⊥) → times m (children_at new q) ≤ once_under (parent_at new m) q
@@ -179,12 +171,10 @@ forest_put n place nodes l e h = record { once = λ m q. bound m q }
         by_place m p q (times m (children_at nodes q)) more nodes
         (λ f. let i = times_insert m n (place_index place.next (children_at nodes p)) (children_at nodes p) in
         let o : cond (n == m) 1 0 ≡ 0 = elsewhere n m g in
-        let k : times m (children_at nodes p) ≡ times m (children_at nodes q) =
-        ap (λ (x : ℕ). times m (children_at nodes x)) f in
+        let k = ap (λ (x : ℕ). times m (children_at nodes x)) f in
         omega arith)
         (λ f. omega arith) in
-        let b : times m (children_at new q) ≡ times m (children_at held q) =
-        ap (times m) (children_of_parent n q (Some p) held) in
+        let b = ap (times m) (children_of_parent n q (Some p) held) in
         let d = h.once m q in
         let f : once_under (parent_at new m) q ≡ once_under (parent_at nodes m) q =
         ap (λ (o : Option ℕ). once_under o q)
@@ -192,11 +182,7 @@ forest_put n place nodes l e h = record { once = λ m q. bound m q }
         omega arith
 
     bound : (m q : ℕ) → times m (children_at new q) ≤ once_under (parent_at new m) q
-    bound m q =
-        test (n == m)
-        (λ t. subst (λ (x : ℕ). times x (children_at new q) ≤ once_under (parent_at new x) q) (eqb-true n m t)
-        (own q))
-        (λ t. others m q (eqb-false n m t))
+    bound m q = by_node (λ x. times x (children_at new q) ≤ once_under (parent_at new x) q) n m (own q) (others m q)
 
 pub forest_detached_put : (n : ℕ) (place : _) (nodes : List NodeValue) → n < length nodes → IsForest nodes
     → IsForest (put n place (detach n nodes))
@@ -213,10 +199,8 @@ forest_attach n place nodes l h = forest_detached_put n place nodes l h
 pub forest_new : (k : KindValue) (nodes : List NodeValue) → IsForest nodes → IsForest (nodes ++ new_node k ∷ [])
 forest_new k nodes h = record {
   once = λ m q.
-      let a : times m (children_at (nodes ++ new_node k ∷ []) q) ≡ times m (children_at nodes q) =
-      ap (times m) (children_with_new q k nodes) in
-      let b : once_under (parent_at (nodes ++ new_node k ∷ []) m) q ≡ once_under (parent_at nodes m) q =
-      ap (λ (o : Option ℕ). once_under o q) (parent_with_new m k nodes) in
+      let a = ap (times m) (children_with_new q k nodes) in
+      let b = ap (λ (o : Option ℕ). once_under o q) (parent_with_new m k nodes) in
       let d = h.once m q in
       omega arith;
 }
@@ -238,10 +222,8 @@ pub forest_with_kind : (n : ℕ) (k : KindValue) (nodes : List NodeValue) → Is
     → IsForest (with_kind n k nodes)
 forest_with_kind n k nodes h = record {
   once = λ m q.
-      let a : times m (children_at (with_kind n k nodes) q) ≡ times m (children_at nodes q) =
-      ap (times m) (children_of_kind n q k nodes) in
-      let b : once_under (parent_at (with_kind n k nodes) m) q ≡ once_under (parent_at nodes m) q =
-      ap (λ (o : Option ℕ). once_under o q) (parent_of_kind n m k nodes) in
+      let a = ap (times m) (children_of_kind n q k nodes) in
+      let b = ap (λ (o : Option ℕ). once_under o q) (parent_of_kind n m k nodes) in
       let d = h.once m q in
       omega arith;
 }
@@ -270,8 +252,7 @@ parent_among p m (c ∷ cs) nodes l w =
     test (times m cs == 0)
     (λ z. let none : times m cs ≡ 0 = eqb-true (times m cs) 0 z in
     let first : parent_at (with_parent c (Some p) nodes) m ≡ Some p =
-    test (c == m)
-    (λ t. subst (λ (x : ℕ). parent_at (with_parent c (Some p) nodes) x ≡ Some p) (eqb-true c m t)
+    test (c == m) (λ t. subst (λ (x : ℕ). parent_at (with_parent c (Some p) nodes) x ≡ Some p) (eqb-true c m t)
     (parent_same c (Some p) nodes (let e = eqb-true c m t in omega arith)))
     (λ t. absurd (let f = rw t at l in omega arith)) in
     parent_not_among p m cs (with_parent c (Some p) nodes) none ∙ first)
@@ -319,8 +300,7 @@ forest_move from to nodes h = record { once = λ m q. bound m q }
         (λ f. let i = times_append m (children_at named to) moved in
         let j = named_children m to in
         let k = fewer m to in
-        let l : times m (children_at nodes to) ≡ times m (children_at nodes q) =
-        ap (λ (x : ℕ). times m (children_at nodes x)) f in
+        let l = ap (λ (x : ℕ). times m (children_at nodes x)) f in
         omega arith)
         (λ f. let j = named_children m q in let k = fewer m q in omega arith) in
         let b = new_parent m q in

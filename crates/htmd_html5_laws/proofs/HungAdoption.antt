@@ -1,39 +1,37 @@
 -- After a round of the adoption agency each text and each element hangs under the Document still.
-use Rattle.std.proofs.Common.{◌≡◌, ◌∙◌, ℕ, suc, ◌+◌, ◌-◌, ◌*◌, ◌<◌, ◌≤◌, true, false, List, [], ◌∷◌, ◌++◌}
-use Rattle.std.proofs.Common.{length, sym, ap, subst, arith, Option, Some, None, inl, inr, ◌⊎◌}
+use Rattle.std.proofs.Common.{◌≡◌, ◌∙◌, ℕ, suc, ◌+◌, ◌-◌, ◌*◌, ◌<◌, ◌≤◌, true, false, List, [], ◌∷◌, ◌++◌, length, sym}
+use Rattle.std.proofs.Common.{ap, subst, arith, Option, Some, None, inl, inr, ◌⊎◌}
 use Rattle.std.specs.Prelude.{◌==◌}
 use Rattle.std.proofs.lemmas.Bool.{eqb-true, eqb-false}
 use Rattle.htmd_grammar.proofs.Cases.{test}
 use Rattle.htmd_html5_state.specs.Names.{known, html}
-use Rattle.htmd_html5_state.specs.Nodes.{NodeValue, KindValue, kind_at, parent_at, children_at, new_node}
-use Rattle.htmd_html5_state.specs.Nodes.{place_index, detach, move_children}
+use Rattle.htmd_html5_state.specs.Nodes.{NodeValue, KindValue, kind_at, parent_at, children_at, new_node, place_index}
+use Rattle.htmd_html5_state.specs.Nodes.{detach, move_children}
 use Rattle.htmd_html5_state.specs.OpenElements.{OpenValue}
 use Rattle.htmd_html5_state.specs.State.{StateValue, on_nodes}
 use Rattle.htmd_html5_state.specs.Insertion.{opened, place}
-use Rattle.htmd_html5_state.specs.Adoption.{Furthest, Chain}
-use Rattle.htmd_html5_state.specs.Adoption.{move_last, wrap_children}
-use Rattle.htmd_html5_state.specs.Adoption.{finish}
+use Rattle.htmd_html5_state.specs.Adoption.{Furthest, Chain, move_last, wrap_children, finish}
 use Rattle.htmd_html5_state.specs.declared.names.TagName.{TagName}
 use Rattle.htmd_html5_laws.proofs.NodeTexts.{is_element, kinds_new, kinds_move_children}
-use Rattle.htmd_html5_laws.proofs.Forests.{IsForest, length_new, new_is_free, forest_new}
-use Rattle.htmd_html5_laws.proofs.Forests.{forest_detached_put, length_moved}
+use Rattle.htmd_html5_laws.proofs.Forests.{IsForest, length_new, new_is_free, forest_new, forest_detached_put}
+use Rattle.htmd_html5_laws.proofs.Forests.{length_moved}
 use Rattle.htmd_html5_laws.proofs.KeepingAdoption.{wrap_kinds, wrap_forest}
 use Rattle.htmd_html5_laws.proofs.OpenNodes.{EachOpen, Below, below_more, each_more, each_append}
-use Rattle.htmd_html5_laws.proofs.HungNodes.{is_solid, element_solid, Hangs, Torn, AllHang, put_at, put_kind}
-use Rattle.htmd_html5_laws.proofs.HungNodes.{put_size, put_torn, appended_torn, detached_torn, moved_torn, kind_by_kinds}
+use Rattle.htmd_html5_laws.proofs.HungNodes.{is_solid, element_solid, Hangs, Torn, AllHang, put_at, put_kind, put_size}
+use Rattle.htmd_html5_laws.proofs.HungNodes.{put_torn, appended_torn, detached_torn, moved_torn, kind_by_kinds}
 use Rattle.htmd_html5_laws.proofs.HungNodes.{kind_with_new, kind_new_at}
-use Rattle.htmd_html5_laws.proofs.HungStates.{ElementOpen, HungIn, Hung, element_number, below_moved, raised, raised_own}
-use Rattle.htmd_html5_laws.proofs.HungStates.{raised_other, raised_order, none_out, HangsOpen, PlaceOk, place_ok}
-use Rattle.htmd_html5_laws.proofs.HungChains.{within_append, within_same, within_scaled, below_scaled, FurthestRanks}
-use Rattle.htmd_html5_laws.proofs.HungChains.{FurthestAt, detach_size, detach_kind, ChainHung}
+use Rattle.htmd_html5_laws.proofs.HungStates.{ElementOpen, HungIn, Hung, element_number, below_mapped, raised}
+use Rattle.htmd_html5_laws.proofs.HungStates.{raised_own, raised_other, raised_order, none_out, HangsOpen, PlaceOk}
+use Rattle.htmd_html5_laws.proofs.HungStates.{place_ok}
+use Rattle.htmd_html5_laws.proofs.HungChains.{within_append, within_mapped, FurthestRanks}
+use Rattle.htmd_html5_laws.proofs.HungChains.{detach_size, detach_kind, ChainHung}
+use Rattle.htmd_html5_laws.proofs.AdoptionWalk.{FurthestAt}
 
 -- ---- the furthest block's children are wrapped
 
 wrapped_hang : (formatting block r : ℕ) (rank : ℕ → ℕ) (nodes : List NodeValue) → AllHang rank nodes
-    → IsForest nodes
-    → is_element (kind_at nodes formatting) ≡ true → is_element (kind_at nodes block) ≡ true → rank block
-    ≡ 8 * r
-    → ((m : ℕ) → 8 * r < rank m → 8 * r + 8 ≤ rank m)
+    → IsForest nodes → is_element (kind_at nodes formatting) ≡ true → is_element (kind_at nodes block) ≡ true
+    → rank block ≡ 8 * r → ((m : ℕ) → 8 * r < rank m → 8 * r + 8 ≤ rank m)
     → AllHang (raised (length nodes) (8 * r + 1) rank) (wrap_children formatting block nodes)
 unfolding wrap_children
 wrapped_hang formatting block r rank nodes all forest at block_at own spaced =
@@ -86,8 +84,7 @@ wrapped_hang formatting block r rank nodes all forest at block_at own spaced =
 
     above : (m : ℕ) → parent_at more m ≡ Some block → new block < new m → new n < new m
     above m e less =
-        test (m == n)
-        (λ t. absurd
+        test (m == n) (λ t. absurd
         (none_some (sym (ap (λ (x : ℕ). parent_at more x) (eqb-true m n t) ∙ new_is_free k nodes) ∙ e)))
         (λ t. let a = raised_other n (8 * r + 1) rank m (eqb-false m n t) in
         let b = raised_own n (8 * r + 1) rank in
@@ -150,7 +147,8 @@ module _ (formatting : ℕ) (tag : TagName) (f : Furthest) (s : StateValue) (h :
   around_low =
       let a = above_formatting in
       below_more ch.rank (8 * h.rank formatting) (8 * r - 7) s.stack (omega arith)
-      (below_scaled h.rank ch.rank (h.rank formatting) s.stack (scaled s.stack h.opened_at) h.order)
+      (below_mapped (λ n. 8 * n) (λ a b l. omega arith) h.rank ch.rank (h.rank formatting) s.stack
+      (scaled s.stack h.opened_at) h.order)
 
   torn_out : Torn (λ m. (m ≡ c.last) ⊎ ⊥) ch.rank out
   torn_out m solid = group (detached_torn (λ m. m ≡ c.last) ch.rank c.last c.state.nodes ch.torn m solid)
@@ -168,8 +166,7 @@ module _ (formatting : ℕ) (tag : TagName) (f : Furthest) (s : StateValue) (h :
       (below_each ch.rank (8 * r - 7) s.stack around_low))
     where
       hangs : (e : OpenValue) → ch.rank e.node < 8 * r - 7
-          → ((e.node ≡ c.last) ⊎ ⊥) ⊎ Hangs ch.rank out e.node
-          → Hangs ch.rank out e.node
+          → ((e.node ≡ c.last) ⊎ ⊥) ⊎ Hangs ch.rank out e.node → Hangs ch.rank out e.node
       hangs e l (inr a) = a
       hangs e l (inl (inr a)) = absurd a
       hangs e l (inl (inl a)) =
@@ -203,8 +200,7 @@ module _ (formatting : ℕ) (tag : TagName) (f : Furthest) (s : StateValue) (h :
 
   put_back_hangs : AllHang ch.rank put_back
   put_back_hangs =
-      none_out ch.rank put_back
-      (put_torn (λ m. ⊥) ch.rank c.last (place moved).parent index out torn_out
+      none_out ch.rank put_back (put_torn (λ m. ⊥) ch.rank c.last (place moved).parent index out torn_out
       (let a = out_size in let b = last_within in omega arith) place_found.fits
       (let a = above_formatting in
       let b = place_found.low (8 * r - 7) (subst (Below ch.rank (8 * r - 7)) (sym ch.same_stack) around_low)
@@ -282,8 +278,10 @@ module _ (formatting : ℕ) (tag : TagName) (f : Furthest) (s : StateValue) (h :
   outer_order =
       let a = ch.low in
       within_append rank (8 * r) c.copies (ch.rank c.last) s.stack
-      (within_same ch.rank rank (8 * r) c.copies (ch.rank c.last) (moved_ranks c.copies ch.copies_at) ch.copies)
-      (below_moved ch.rank rank (ch.rank c.last) s.stack (moved_ranks s.stack (in_chain s.stack h.opened_at))
+      (within_mapped (λ n. n) (λ a b l. l) (λ a b l. l) ch.rank rank (8 * r) c.copies (ch.rank c.last)
+      (moved_ranks c.copies ch.copies_at) ch.copies)
+      (below_mapped (λ n. n) (λ a b l. l) ch.rank rank (ch.rank c.last) s.stack
+      (moved_ranks s.stack (in_chain s.stack h.opened_at))
       (below_more ch.rank (8 * r - 7) (ch.rank c.last) s.stack (omega arith) around_low))
 
   new_rank : rank n ≡ 8 * r + 1
@@ -310,7 +308,8 @@ module _ (formatting : ℕ) (tag : TagName) (f : Furthest) (s : StateValue) (h :
   whole_order : Below rank (8 * h.limit) (f.inner ++ new_open ∷ f.block ∷ (c.copies ++ s.stack))
   whole_order =
       within_append rank (8 * h.limit) f.inner (8 * suc r) (new_open ∷ f.block ∷ (c.copies ++ s.stack))
-      (within_scaled h.rank rank h.limit f.inner (suc r) inner_scaled h.ranks.inner) middle_order
+      (within_mapped (λ n. 8 * n) (λ a b l. omega arith) (λ a b l. omega arith) h.rank rank h.limit f.inner (suc r)
+      inner_scaled h.ranks.inner) middle_order
 
   new_at : is_element (kind_at wrapped n) ≡ true
   new_at =
@@ -358,7 +357,6 @@ unfolding move_last
 finish_hung formatting tag f s h left c ch =
     subst (λ (stack : List OpenValue). HungIn (wrapped formatting tag f s h left c ch)
     (f.inner ++ new_open formatting tag f s h left c ch ∷ f.block ∷ (c.copies ++ stack)) c.state.head)
-    (sym ch.same_stack)
-    (subst (λ (head : Option ℕ). HungIn (wrapped formatting tag f s h left c ch)
+    (sym ch.same_stack) (subst (λ (head : Option ℕ). HungIn (wrapped formatting tag f s h left c ch)
     (f.inner ++ new_open formatting tag f s h left c ch ∷ f.block ∷ (c.copies ++ s.stack)) head) (sym ch.same_head)
     (adopted formatting tag f s h left c ch))

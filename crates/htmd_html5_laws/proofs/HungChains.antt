@@ -1,9 +1,10 @@
 -- Where the copies hang that the adoption agency makes of the elements between the formatting element and the furthest
 -- block. All ranks are multiplied by 8, which leaves room for those of the copies.
-use Rattle.std.proofs.Common.{◌≡◌, ◌∙◌, ℕ, zero, suc, ◌+◌, ◌-◌, ◌*◌, ◌<◌, ◌≤◌, Bool, true, false, List, [], ◌∷◌, ◌++◌}
-use Rattle.std.proofs.Common.{length, refl, sym, ap, subst, arith, Option, Some, None, inl, inr, ◌⊎◌}
-use Rattle.std.specs.Prelude.{◌==◌, ◌&&◌, if◌then◌else◌, nat_lt}
-use Rattle.std.proofs.lemmas.Bool.{true≢false, and_parts, eqb-true, eqb-false}
+use Rattle.std.proofs.Common.{◌≡◌, ◌∙◌, ℕ, suc, ◌+◌, ◌-◌, ◌*◌, ◌<◌, ◌≤◌, true}
+use Rattle.std.proofs.Common.{List, [], ◌∷◌, ◌++◌, length, refl}
+use Rattle.std.proofs.Common.{sym, ap, subst, arith, Option, Some, None, inl, inr, ◌⊎◌}
+use Rattle.std.specs.Prelude.{◌==◌}
+use Rattle.std.proofs.lemmas.Bool.{true≢false, eqb-true, eqb-false}
 use Rattle.std.proofs.lemmas.List.{length-set}
 use Rattle.htmd_grammar.proofs.Cases.{test}
 use Rattle.htmd_html5_state.specs.Nodes.{NodeValue, KindValue, kind_at, parent_at, children_at, new_node, last_in}
@@ -11,17 +12,16 @@ use Rattle.htmd_html5_state.specs.Nodes.{detach, detach_from, remove_child}
 use Rattle.htmd_html5_state.specs.OpenElements.{OpenValue, is_open_node, inside, around}
 use Rattle.htmd_html5_state.specs.State.{StateValue, on_formatting}
 use Rattle.htmd_html5_state.specs.Insertion.{opened}
-use Rattle.htmd_html5_state.specs.Formatting.{is_listed, without_entry}
+use Rattle.htmd_html5_state.specs.Formatting.{without_entry}
 use Rattle.htmd_html5_state.specs.Adoption.{is_special_element, Furthest, furthest_with, furthest_block, Chain}
-use Rattle.htmd_html5_state.specs.Adoption.{begin_chain, with_copy, with_next}
+use Rattle.htmd_html5_state.specs.Adoption.{begin_chain, with_copy}
 use Rattle.htmd_html5_laws.proofs.NodeTexts.{is_element, kinds_detach}
 use Rattle.htmd_html5_laws.proofs.Forests.{IsForest, length_new, forest_new, forest_attach}
 use Rattle.htmd_html5_laws.proofs.OpenNodes.{EachOpen, Below, below_more, each_more, each_append}
-use Rattle.htmd_html5_laws.proofs.HungNodes.{Hangs, Torn, AllHang, put_at, put_kind}
-use Rattle.htmd_html5_laws.proofs.HungNodes.{put_size, put_torn, appended_torn, detached_torn, kind_by_kinds}
-use Rattle.htmd_html5_laws.proofs.HungNodes.{kind_with_new, kind_new_at}
-use Rattle.htmd_html5_laws.proofs.HungStates.{ElementOpen, element_number, raised, raised_own}
-use Rattle.htmd_html5_laws.proofs.HungStates.{raised_other, raised_order}
+use Rattle.htmd_html5_laws.proofs.HungNodes.{Hangs, Torn, AllHang, put_at, put_kind, put_size, put_torn, appended_torn}
+use Rattle.htmd_html5_laws.proofs.HungNodes.{detached_torn, kind_by_kinds, kind_with_new, kind_new_at}
+use Rattle.htmd_html5_laws.proofs.HungStates.{ElementOpen, element_number, raised, raised_own, raised_other}
+use Rattle.htmd_html5_laws.proofs.HungStates.{raised_order}
 
 -- ---- ranks of what is open between two bounds
 
@@ -41,40 +41,23 @@ within_append rank high [] low fs h g = below_more rank low high fs h g
 within_append rank high (e ∷ es) low fs h g = (h.0, within_append rank (rank e.node) es low fs h.1 g)
 
 within_push : (rank : ℕ → ℕ) (high : ℕ) (es : List OpenValue) (low : ℕ) (e : OpenValue)
-    → Within rank high es low
-    → rank e.node < low → Within rank high (es ++ e ∷ []) (rank e.node)
+    → Within rank high es low → rank e.node < low → Within rank high (es ++ e ∷ []) (rank e.node)
 within_push rank high [] low e h l = (omega arith, omega arith)
 within_push rank high (x ∷ es) low e h l = (h.0, within_push rank (rank x.node) es low e h.1 l)
 
-pub within_same : (rank new : ℕ → ℕ) (high : ℕ) (es : List OpenValue) (low : ℕ)
-    → EachOpen (λ e. new e.node ≡ rank e.node) es → Within rank high es low → Within new high es low
-within_same rank new high [] low same h = h
-within_same rank new high (e ∷ es) low same h =
+-- mapped, with the same order
+pub within_mapped : (f : ℕ → ℕ) → ((a b : ℕ) → a < b → f a < f b)
+    → ((a b : ℕ) → a ≤ b → f a ≤ f b) → (rank new : ℕ → ℕ) (high : ℕ) (es : List OpenValue)
+    (low : ℕ) → EachOpen (λ e. new e.node ≡ f (rank e.node)) es → Within rank high es low
+    → Within new (f high) es (f low)
+within_mapped f order least rank new high [] low same h = least low high h
+within_mapped f order least rank new high (e ∷ es) low same h =
     let a = same.0 in
-    let b = h.0 in (
+    let b = order (rank e.node) high h.0 in (
       omega arith,
-      subst (λ (x : ℕ). Within new x es low) (sym a)
-          (within_same rank new (rank e.node) es low same.1 h.1),
+      subst (λ (x : ℕ). Within new x es (f low)) (sym a)
+          (within_mapped f order least rank new (rank e.node) es low same.1 h.1),
     )
-
-pub within_scaled : (rank new : ℕ → ℕ) (high : ℕ) (es : List OpenValue) (low : ℕ)
-    → EachOpen (λ e. new e.node ≡ 8 * rank e.node) es → Within rank high es low
-    → Within new (8 * high) es (8 * low)
-within_scaled rank new high [] low same h = omega arith
-within_scaled rank new high (e ∷ es) low same h =
-    let a = same.0 in
-    let b = h.0 in (
-      omega arith,
-      subst (λ (x : ℕ). Within new x es (8 * low)) (sym a) (within_scaled rank new (rank e.node) es low same.1 h.1),
-    )
-
-pub below_scaled : (rank new : ℕ → ℕ) (limit : ℕ) (es : List OpenValue)
-    → EachOpen (λ e. new e.node ≡ 8 * rank e.node) es → Below rank limit es → Below new (8 * limit) es
-below_scaled rank new limit [] same h = tt
-below_scaled rank new limit (e ∷ es) same h =
-    let a = same.0 in
-    let b = h.0 in
-    (omega arith, subst (λ (x : ℕ). Below new x es) (sym a) (below_scaled rank new (rank e.node) es same.1 h.1))
 
 -- ---- what is open inside the formatting element, and around it
 
@@ -82,8 +65,7 @@ pub around_below : (rank : ℕ → ℕ) (limit m : ℕ) (stack : List OpenValue)
     → Below rank limit stack → Below rank (rank m) (around m stack)
 around_below rank limit m [] l h = absurd (true≢false (sym l))
 around_below rank limit m (e ∷ es) l h =
-    test (e.node == m)
-    (λ t. rw t (subst (λ (x : ℕ). Below rank (rank x) es) (eqb-true e.node m t) h.1))
+    test (e.node == m) (λ t. rw t (subst (λ (x : ℕ). Below rank (rank x) es) (eqb-true e.node m t) h.1))
     (λ t. rw t (around_below rank (rank e.node) m es (rw t at l) h.1))
 
 pub inside_within : (rank : ℕ → ℕ) (limit m : ℕ) (stack : List OpenValue) → is_open_node m stack ≡ true
@@ -93,48 +75,34 @@ inside_within rank limit m (e ∷ es) l h =
     test (e.node == m)
     (λ t. let a : rank e.node ≡ rank m = ap rank (eqb-true e.node m t) in
     let b = h.0 in
-    rw t (omega arith))
-    (λ t. rw t (h.0, inside_within rank (rank e.node) m es (rw t at l) h.1))
+    rw t (omega arith)) (λ t. rw t (h.0, inside_within rank (rank e.node) m es (rw t at l) h.1))
 
 -- the furthest block, and what is inside it
 pub record FurthestRanks (rank : ℕ → ℕ) (high low : ℕ) (f : Furthest) : Type 0 where
   pub inner : Within rank high f.inner (suc (rank f.block.node))
   pub block : low ≤ rank f.block.node
 
-abbrev pub SomeRanks : (ℕ → ℕ) → ℕ → ℕ → Option Furthest → Type 0
+abbrev SomeRanks : (ℕ → ℕ) → ℕ → ℕ → Option Furthest → Type 0
 SomeRanks rank high low None = Unit {0}
 SomeRanks rank high low (Some f) = FurthestRanks rank high low f
 
-pub furthest_ranks : (rank : ℕ → ℕ) (high : ℕ) (es : List OpenValue) (low : ℕ) → Within rank high es low
+some_ranks : (rank : ℕ → ℕ) (high : ℕ) (es : List OpenValue) (low : ℕ) → Within rank high es low
     → SomeRanks rank high low (furthest_block es)
-furthest_ranks rank high [] low h = tt
-furthest_ranks rank high (e ∷ es) low h =
-    more (furthest_block es) (furthest_ranks rank (rank e.node) es low h.1)
+some_ranks rank high [] low h = tt
+some_ranks rank high (e ∷ es) low h =
+    more (furthest_block es) (some_ranks rank (rank e.node) es low h.1)
   where
     more : (f : Option Furthest) → SomeRanks rank (rank e.node) low f
         → SomeRanks rank high low (furthest_with e es f)
     more None g =
         let a = h.0 in
         test (is_special_element e)
-        (λ t. rw t (record { inner = omega arith; block = within_low rank (rank e.node) es low h.1 }))
-        (λ t. rw t tt)
+        (λ t. rw t (record { inner = omega arith; block = within_low rank (rank e.node) es low h.1 })) (λ t. rw t tt)
     more (Some f) g = record { inner = (h.0, g.inner); block = g.block }
 
-pub record FurthestAt (P : OpenValue → Type 0) (f : Furthest) : Type 0 where
-  pub inner : EachOpen P f.inner
-  pub block : P f.block
-
-abbrev pub SomeAt : (OpenValue → Type 0) → Option Furthest → Type 0
-SomeAt P None = Unit {0}
-SomeAt P (Some f) = FurthestAt P f
-
-pub furthest_at : (P : OpenValue → Type 0) (es : List OpenValue) → EachOpen P es → SomeAt P (furthest_block es)
-furthest_at P [] h = tt
-furthest_at P (e ∷ es) h = more (furthest_block es) (furthest_at P es h.1)
-  where
-    more : (f : Option Furthest) → SomeAt P f → SomeAt P (furthest_with e es f)
-    more None g = test (is_special_element e) (λ t. rw t (record { inner = tt; block = h.0 })) (λ t. rw t tt)
-    more (Some f) g = record { inner = (h.0, g.inner); block = g.block }
+pub furthest_ranks : (rank : ℕ → ℕ) (high : ℕ) (es : List OpenValue) (low : ℕ) (f : Furthest)
+    → furthest_block es ≡ Some f → Within rank high es low → FurthestRanks rank high low f
+furthest_ranks rank high es low f e h = subst (SomeRanks rank high low) e (some_ranks rank high es low h)
 
 -- ---- the elements between
 
@@ -147,10 +115,6 @@ detach_size n nodes = by_parent (parent_at nodes n)
 
 pub detach_kind : (n : ℕ) (nodes : List NodeValue) (m : ℕ) → kind_at (detach n nodes) m ≡ kind_at nodes m
 detach_kind n nodes m = kind_by_kinds nodes (detach n nodes) m (kinds_detach n nodes)
-
-positive : (left : ℕ) → nat_lt 0 left ≡ true → 1 ≤ left
-positive zero e = absurd (true≢false (sym e))
-positive (suc left) e = omega arith
 
 -- what is made between hangs, but for what was made last: `r` is the rank of the furthest block, and `old` the ranks
 -- before
@@ -172,9 +136,8 @@ pub record ChainHung (s : StateValue) (old : ℕ → ℕ) (r left : ℕ) (c : Ch
   pub same_head : c.state.head ≡ s.head
 
 module _ (s : StateValue) (old : ℕ → ℕ) (r : ℕ) where
-  copied : (left : ℕ) (e : OpenValue) (c : Chain) → 1 ≤ left → is_element (kind_at c.state.nodes e.node)
-      ≡ true
-      → ChainHung s old r left c → ChainHung s old r (left - 1) (with_copy e c)
+  pub copied : (left : ℕ) (e : OpenValue) (c : Chain) → 1 ≤ left → is_element (kind_at c.state.nodes e.node)
+      ≡ true → ChainHung s old r left c → ChainHung s old r (left - 1) (with_copy e c)
   copied left e c more_left at h = record {
     some = h.some;
     rank = rank;
@@ -189,11 +152,10 @@ module _ (s : StateValue) (old : ℕ → ℕ) (r : ℕ) where
     low = let a = own in let z = h.some in omega arith;
     high = let a = own in let l = h.low in let g = h.high in let z = h.some in omega arith;
     copies = within_push rank (8 * r) c.copies (h.rank c.last) (opened n e.name)
-        (within_same h.rank rank (8 * r) c.copies (h.rank c.last)
+        (within_mapped (λ n. n) (λ a b l. l) (λ a b l. l) h.rank rank (8 * r) c.copies (h.rank c.last)
         (each_more c.copies (λ x o. others x.node (element_number x.node c.state.nodes o)) h.copies_at) h.copies)
         (let a = own in let l = h.low in let z = h.some in omega arith);
-    copies_at = each_append (ElementOpen new) c.copies (opened n e.name ∷ [])
-        (each_more c.copies
+    copies_at = each_append (ElementOpen new) c.copies (opened n e.name ∷ []) (each_more c.copies
         (λ x o. ap is_element (kept x.node (element_number x.node c.state.nodes o)) ∙ o) h.copies_at)
         (ap is_element (put_kind c.last n (length (children_at out n)) out n) ∙ new_element, tt);
     before = λ m l. let z = h.size in others m (omega arith) ∙ h.before m l;
@@ -257,8 +219,7 @@ module _ (s : StateValue) (old : ℕ → ℕ) (r : ℕ) where
       regrouped m solid =
           group (detached_torn (λ m. (m ≡ n) ⊎ (m ≡ c.last)) rank c.last more
           (appended_torn (λ m. m ≡ c.last) h.rank rank k c.state.nodes
-          (raised_order n (8 * r + left - 4) h.rank) h.torn)
-          m solid)
+          (raised_order n (8 * r + left - 4) h.rank) h.torn) m solid)
         where
           group : ((m ≡ c.last) ⊎ ((m ≡ n) ⊎ (m ≡ c.last))) ⊎ Hangs rank out m
               → ((m ≡ c.last) ⊎ (m ≡ n)) ⊎ Hangs rank out m
@@ -268,43 +229,9 @@ module _ (s : StateValue) (old : ℕ → ℕ) (r : ℕ) where
           group (inr a) = inr a
 
   -- what isn't copied only goes from the list
-  passed : (left : ℕ) (e : OpenValue) (c : Chain) → ChainHung s old r left c
+  pub passed : (left : ℕ) (e : OpenValue) (c : Chain) → ChainHung s old r left c
       → ChainHung s old r (left - 1) (record c { state = on_formatting (without_entry e.node) c.state })
   passed left e c h = record {
-    some = h.some;
-    rank = h.rank;
-    torn = h.torn;
-    last_at = h.last_at;
-    low = let l = h.low in omega arith;
-    high = h.high;
-    copies = h.copies;
-    copies_at = h.copies_at;
-    before = h.before;
-    spaced = h.spaced;
-    grows = h.grows;
-    size = h.size;
-    forest = h.forest;
-    same_stack = h.same_stack;
-    same_head = h.same_head;
-  }
-
-  -- each listed element is an element
-  pub next_hung : (left : ℕ) (e : OpenValue) (c : Chain)
-      → (is_listed e.node c.state.formatting ≡ true → is_element (kind_at c.state.nodes e.node) ≡ true)
-      → ChainHung s old r left c → ChainHung s old r (left - 1) (with_next left e c)
-  next_hung left e c at h = either (nat_lt 0 left && is_listed e.node c.state.formatting) refl
-    where
-      either : (t : Bool) → (nat_lt 0 left && is_listed e.node c.state.formatting) ≡ t
-          → ChainHung s old r (left - 1)
-          (if t then with_copy e c else record c { state = on_formatting (without_entry e.node) c.state })
-      either true t =
-          let both = and_parts (nat_lt 0 left) (is_listed e.node c.state.formatting) t in
-          copied left e c (positive left both.0) (at both.1) h
-      either false t = passed left e c h
-
-  -- what is left counts for nothing at the end
-  pub rested : (left : ℕ) (c : Chain) → ChainHung s old r left c → ChainHung s old r 0 c
-  rested left c h = record {
     some = h.some;
     rank = h.rank;
     torn = h.torn;

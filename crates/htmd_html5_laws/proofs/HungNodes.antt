@@ -6,10 +6,9 @@ use Rattle.std.specs.List.{list_any}
 use Rattle.std.proofs.lemmas.Bool.{true≢false, eqb-true, eqb-false, eq-eqb, ne_eqb}
 use Rattle.std.proofs.lemmas.List.{length-set}
 use Rattle.htmd_grammar.proofs.Cases.{test}
-use Rattle.htmd_html5_state.specs.Nodes.{NodeValue, KindValue, document, doctype, text, comment, element, new_node}
-use Rattle.htmd_html5_state.specs.Nodes.{kind_at, parent_at, children_at, with_parent, with_children, is_number}
-use Rattle.htmd_html5_state.specs.Nodes.{index_of, without_child, remove_child, detach_from, detach, with_parents}
-use Rattle.htmd_html5_state.specs.Nodes.{move_children}
+use Rattle.htmd_html5_state.specs.Nodes.{NodeValue, KindValue, document, text, element, new_node, kind_at, parent_at}
+use Rattle.htmd_html5_state.specs.Nodes.{children_at, with_parent, with_children, is_number, index_of, without_child}
+use Rattle.htmd_html5_state.specs.Nodes.{remove_child, detach_from, detach, with_parents, move_children}
 use Rattle.htmd_html5_laws.proofs.NodeTexts.{kinds, is_element, kind_read, kinds_with_parent, kinds_with_children}
 use Rattle.htmd_html5_laws.proofs.NodeTexts.{kinds_detach, kinds_move_children}
 use Rattle.htmd_html5_laws.proofs.NodeParts.{times, times_append, times_insert, children_other, parent_of_children}
@@ -28,9 +27,7 @@ is_solid _ = false
 pub element_solid : (k : KindValue) → is_element k ≡ true → is_solid k ≡ true
 element_solid (element name attributes) e = refl
 element_solid (text s) e = refl
-element_solid document e = e
-element_solid doctype e = e
-element_solid (comment s) e = e
+element_solid _ e = e
 
 -- ---- a node that hangs by its parent
 
@@ -98,8 +95,7 @@ holder_within rank nodes n h = children_within h.by n nodes h.holder.stands
 removed_other : (m n : ℕ) (cs : List ℕ) → (n ≡ m → ⊥) → times m (remove cs (index_of n cs)) ≡ times m cs
 removed_other m n [] h = refl
 removed_other m n (c ∷ cs) h =
-    test (c == n)
-    (λ t. test (list_any (is_number n) cs)
+    test (c == n) (λ t. test (list_any (is_number n) cs)
     (λ u. let i = removed_other m n cs h in rw (t, u) (omega arith))
     (λ u. let z : ◌≡◌ {A = ℕ} (cond (c == m) 1 0) 0 =
     rw (ne_eqb c m (λ e. h (sym (eqb-true c n t) ∙ e))) refl in
@@ -123,18 +119,31 @@ pub put_size : (n p i : ℕ) (nodes : List NodeValue) → length (put_at n p i n
 put_size n p i nodes =
     length-set (with_children p (insert (children_at nodes p) i n) nodes) n _ ∙ length-set nodes p _
 
-pub either_by : (nodes new : List NodeValue) (p : ℕ) → kind_at new p ≡ kind_at nodes p
+either_by : (nodes new : List NodeValue) (p : ℕ) → is_element (kind_at new p) ≡ is_element (kind_at nodes p)
     → (p ≡ 0) ⊎ (is_element (kind_at nodes p) ≡ true) → (p ≡ 0) ⊎ (is_element (kind_at new p) ≡ true)
 either_by nodes new p e (inl z) = inl z
-either_by nodes new p e (inr f) = inr (ap is_element e ∙ f)
+either_by nodes new p e (inr f) = inr (e ∙ f)
+
+-- a node hangs still where its parent is the same, and holds it as before
+pub hangs_still : (rank order : ℕ → ℕ) (nodes new : List NodeValue) (n : ℕ) (h : HangsBy rank nodes n)
+    → parent_at new n ≡ parent_at nodes n → is_element (kind_at new h.by) ≡ is_element (kind_at nodes h.by)
+    → times n (children_at nodes h.by) ≤ times n (children_at new h.by) → order h.by < order n
+    → HangsBy order new n
+hangs_still rank order nodes new n h parent same more less = record {
+  by = h.by;
+  parent = parent ∙ h.parent;
+  holder = record {
+    either = either_by nodes new h.by same h.holder.either;
+    stands = let b = h.holder.stands in omega arith;
+  };
+  less = less;
+}
 
 -- one child more
 put_more : (m n p i : ℕ) (nodes : List NodeValue) (q : ℕ) → q < length nodes
     → times m (children_at nodes q) ≤ times m (children_at (put_at n p i nodes) q)
 put_more m n p i nodes q l =
-    let a : times m (children_at (put_at n p i nodes) q)
-    ≡ times m (children_at (with_children p (insert (children_at nodes p) i n) nodes) q) =
-    ap (times m) (children_of_parent n q (Some p) (with_children p (insert (children_at nodes p) i n) nodes)) in
+    let a = ap (times m) (children_of_parent n q (Some p) (with_children p (insert (children_at nodes p) i n) nodes)) in
     test (p == q)
     (λ t. let e = eqb-true p q t in
     let j = times_insert m n i (children_at nodes p) in
@@ -142,51 +151,34 @@ put_more m n p i nodes q l =
     ≡ times m (insert (children_at nodes p) i n) =
     ap (λ (x : ℕ). times m (children_at (with_children p (insert (children_at nodes p) i n) nodes) x)) (sym e)
     ∙ ap (times m) (children_in p (insert (children_at nodes p) i n) nodes (omega arith)) in
-    let d : times m (children_at nodes p) ≡ times m (children_at nodes q) =
-    ap (λ (x : ℕ). times m (children_at nodes x)) e in
+    let d = ap (λ (x : ℕ). times m (children_at nodes x)) e in
     omega arith)
-    (λ t. let b : times m (children_at (with_children p (insert (children_at nodes p) i n) nodes) q)
-    ≡ times m (children_at nodes q) =
-    ap (times m) (children_other p q _ nodes (eqb-false p q t)) in
+    (λ t. let b = ap (times m) (children_other p q (insert (children_at nodes p) i n) nodes (eqb-false p q t)) in
     omega arith)
 
 put_other : (rank : ℕ → ℕ) (n p i : ℕ) (nodes : List NodeValue) (m : ℕ) → (n ≡ m → ⊥)
-    → HangsBy rank nodes m
-    → HangsBy rank (put_at n p i nodes) m
-put_other rank n p i nodes m f h = record {
-  by = h.by;
-  parent =
-      parent_other n m (Some p) (with_children p (insert (children_at nodes p) i n) nodes) f
-      ∙ (parent_of_children p m _ nodes ∙ h.parent);
-  holder = record {
-    either = either_by nodes (put_at n p i nodes) h.by (put_kind n p i nodes h.by) h.holder.either;
-    stands =
-        let a = put_more m n p i nodes h.by (holder_within rank nodes m h) in
-        let b = h.holder.stands in
-        omega arith;
-  };
-  less = h.less;
-}
+    → HangsBy rank nodes m → HangsBy rank (put_at n p i nodes) m
+put_other rank n p i nodes m f h =
+    hangs_still rank rank nodes (put_at n p i nodes) m h
+    (parent_other n m (Some p) (with_children p (insert (children_at nodes p) i n) nodes) f
+    ∙ parent_of_children p m _ nodes) (ap is_element (put_kind n p i nodes h.by))
+    (put_more m n p i nodes h.by (holder_within rank nodes m h)) h.less
 
 put_own : (rank : ℕ → ℕ) (n p i : ℕ) (nodes : List NodeValue) → n < length nodes → Fits nodes p
-    → rank p < rank n
-    → HangsBy rank (put_at n p i nodes) n
+    → rank p < rank n → HangsBy rank (put_at n p i nodes) n
 put_own rank n p i nodes l fits less = record {
   by = p;
   parent = parent_same n (Some p) (with_children p (insert (children_at nodes p) i n) nodes)
       (let e : length (with_children p (insert (children_at nodes p) i n) nodes) ≡ length nodes =
       length-set nodes p _ in omega arith);
   holder = record {
-    either = either_by nodes (put_at n p i nodes) p (put_kind n p i nodes p) fits.1;
+    either = either_by nodes (put_at n p i nodes) p (ap is_element (put_kind n p i nodes p)) fits.1;
     stands =
-        let a : times n (children_at (put_at n p i nodes) p)
-        ≡ times n (children_at (with_children p (insert (children_at nodes p) i n) nodes) p) =
+        let a =
         ap (times n) (children_of_parent n p (Some p) (with_children p (insert (children_at nodes p) i n) nodes)) in
         let j = times_insert n n i (children_at nodes p) in
         let own : ◌≡◌ {A = ℕ} (cond (n == n) 1 0) 1 = rw (eq-eqb n n refl) refl in
-        let b : times n (children_at (with_children p (insert (children_at nodes p) i n) nodes) p)
-        ≡ times n (insert (children_at nodes p) i n) =
-        ap (times n) (children_in p (insert (children_at nodes p) i n) nodes fits.0) in
+        let b = ap (times n) (children_in p (insert (children_at nodes p) i n) nodes fits.0) in
         omega arith;
   };
   less = less;
@@ -228,29 +220,16 @@ put_loose rank n p i nodes loose all m s = by_hangs (all m solid)
 
 pub appended_hangs : (rank new : ℕ → ℕ) (k : KindValue) (nodes : List NodeValue) (n : ℕ)
     → ((a b : ℕ) → a < length nodes → b < length nodes → rank a < rank b → new a < new b)
-    → n < length nodes
-    → HangsBy rank nodes n → HangsBy new (nodes ++ new_node k ∷ []) n
+    → n < length nodes → HangsBy rank nodes n → HangsBy new (nodes ++ new_node k ∷ []) n
 appended_hangs rank new k nodes n order l h =
     let within = holder_within rank nodes n h in
-    record {
-      by = h.by;
-      parent = parent_with_new n k nodes ∙ h.parent;
-      holder = record {
-        either = either_by nodes (nodes ++ new_node k ∷ []) h.by
-            (kind_with_new h.by k nodes (λ e. omega arith)) h.holder.either;
-        stands =
-            let a : times n (children_at (nodes ++ new_node k ∷ []) h.by) ≡ times n (children_at nodes h.by) =
-            ap (times n) (children_with_new h.by k nodes) in
-            let b = h.holder.stands in
-            omega arith;
-      };
-      less = order h.by n within l h.less;
-    }
+    let a = ap (times n) (children_with_new h.by k nodes) in
+    hangs_still rank new nodes (nodes ++ new_node k ∷ []) n h (parent_with_new n k nodes)
+    (ap is_element (kind_with_new h.by k nodes (λ e. omega arith))) (omega arith) (order h.by n within l h.less)
 
 pub appended_torn : (Out : ℕ → Type 0) (rank new : ℕ → ℕ) (k : KindValue) (nodes : List NodeValue)
     → ((a b : ℕ) → a < length nodes → b < length nodes → rank a < rank b → new a < new b)
-    → Torn Out rank nodes
-    → Torn (λ m. (m ≡ length nodes) ⊎ Out m) new (nodes ++ new_node k ∷ [])
+    → Torn Out rank nodes → Torn (λ m. (m ≡ length nodes) ⊎ Out m) new (nodes ++ new_node k ∷ [])
 appended_torn Out rank new k nodes order torn m s =
     test (m == length nodes) (λ t. inl (inl (eqb-true m (length nodes) t)))
     (λ t. let solid : is_solid (kind_at nodes m) ≡ true =
@@ -266,44 +245,28 @@ appended_torn Out rank new k nodes order torn m s =
 -- ---- a node is taken out
 
 detach_from_other : (rank : ℕ → ℕ) (o : Option ℕ) (n : ℕ) (nodes : List NodeValue) (m : ℕ)
-    → (n ≡ m → ⊥)
-    → HangsBy rank nodes m → HangsBy rank (detach_from o n nodes) m
+    → (n ≡ m → ⊥) → HangsBy rank nodes m → HangsBy rank (detach_from o n nodes) m
 detach_from_other rank None n nodes m f h = h
-detach_from_other rank (Some p) n nodes m f h = record {
-  by = h.by;
-  parent =
-      parent_other n m None (remove_child p n nodes) f
-      ∙ (parent_of_children p m (without_child n (children_at nodes p)) nodes ∙ h.parent);
-  holder = record {
-    either = either_by nodes (detach_from (Some p) n nodes) h.by
-        (kind_by_kinds nodes (detach_from (Some p) n nodes) h.by
-        (kinds_with_parent n None (remove_child p n nodes) ∙ kinds_with_children p _ nodes)) h.holder.either;
-    stands =
-        let a : times m (children_at (detach_from (Some p) n nodes) h.by)
-        ≡ times m (children_at (remove_child p n nodes) h.by) =
-        ap (times m) (children_of_parent n h.by None (remove_child p n nodes)) in
-        let b = h.holder.stands in
-        let within = holder_within rank nodes m h in
-        test (p == h.by)
-        (λ t. let e = eqb-true p h.by t in
-        let d : times m (children_at (remove_child p n nodes) h.by)
-        ≡ times m (without_child n (children_at nodes p)) =
-        ap (λ (x : ℕ). times m (children_at (remove_child p n nodes) x)) (sym e)
-        ∙ ap (times m) (children_in p (without_child n (children_at nodes p)) nodes (omega arith)) in
-        let g = removed_other m n (children_at nodes p) f in
-        let i : times m (children_at nodes p) ≡ times m (children_at nodes h.by) =
-        ap (λ (x : ℕ). times m (children_at nodes x)) e in
-        omega arith)
-        (λ t. let d : times m (children_at (remove_child p n nodes) h.by) ≡ times m (children_at nodes h.by) =
-        ap (times m) (children_other p h.by _ nodes (eqb-false p h.by t)) in
-        omega arith);
-  };
-  less = h.less;
-}
+detach_from_other rank (Some p) n nodes m f h =
+    let a = ap (times m) (children_of_parent n h.by None (remove_child p n nodes)) in
+    let within = holder_within rank nodes m h in
+    hangs_still rank rank nodes (detach_from (Some p) n nodes) m h (parent_other n m None (remove_child p n nodes) f
+    ∙ parent_of_children p m (without_child n (children_at nodes p)) nodes)
+    (ap is_element (kind_by_kinds nodes (detach_from (Some p) n nodes) h.by
+    (kinds_with_parent n None (remove_child p n nodes) ∙ kinds_with_children p _ nodes))) (test (p == h.by)
+    (λ t. let e = eqb-true p h.by t in
+    let d : times m (children_at (remove_child p n nodes) h.by) ≡ times m (without_child n (children_at nodes p)) =
+    ap (λ (x : ℕ). times m (children_at (remove_child p n nodes) x)) (sym e)
+    ∙ ap (times m) (children_in p (without_child n (children_at nodes p)) nodes (omega arith)) in
+    let g = removed_other m n (children_at nodes p) f in
+    let i = ap (λ (x : ℕ). times m (children_at nodes x)) e in
+    omega arith)
+    (λ t. let d = ap (times m)
+    (children_other p h.by (without_child n (children_at nodes p)) nodes (eqb-false p h.by t)) in
+    omega arith)) h.less
 
 pub detached_torn : (Out : ℕ → Type 0) (rank : ℕ → ℕ) (n : ℕ) (nodes : List NodeValue)
-    → Torn Out rank nodes
-    → Torn (λ m. (m ≡ n) ⊎ Out m) rank (detach n nodes)
+    → Torn Out rank nodes → Torn (λ m. (m ≡ n) ⊎ Out m) rank (detach n nodes)
 detached_torn Out rank n nodes torn m s =
     by_torn (torn m (sym (ap is_solid (kind_by_kinds nodes (detach n nodes) m (kinds_detach n nodes))) ∙ s))
   where
@@ -312,8 +275,7 @@ detached_torn Out rank n nodes torn m s =
     by_torn (inr (inl z)) = inr (inl z)
     by_torn (inr (inr h)) =
         test (m == n) (λ t. inl (inl (eqb-true m n t)))
-        (λ t. inr (inr (detach_from_other rank (parent_at nodes n) n nodes m
-        (λ e. eqb-false m n t (sym e)) h)))
+        (λ t. inr (inr (detach_from_other rank (parent_at nodes n) n nodes m (λ e. eqb-false m n t (sym e)) h)))
 
 -- ---- what a node is changes, but not what it is like
 
@@ -321,30 +283,14 @@ pub same_hang : (rank : ℕ → ℕ) (nodes new : List NodeValue)
     → ((m : ℕ) → is_solid (kind_at new m) ≡ is_solid (kind_at nodes m))
     → ((m : ℕ) → is_element (kind_at new m) ≡ is_element (kind_at nodes m))
     → ((m : ℕ) → parent_at new m ≡ parent_at nodes m)
-    → ((m : ℕ) → children_at new m ≡ children_at nodes m)
-    → AllHang rank nodes → AllHang rank new
+    → ((m : ℕ) → children_at new m ≡ children_at nodes m) → AllHang rank nodes → AllHang rank new
 same_hang rank nodes new solid same parent children all m s = by_hangs (all m (sym (solid m) ∙ s))
   where
-    either : (p : ℕ) → (p ≡ 0) ⊎ (is_element (kind_at nodes p) ≡ true)
-        → (p ≡ 0) ⊎ (is_element (kind_at new p) ≡ true)
-    either p (inl z) = inl z
-    either p (inr e) = inr (same p ∙ e)
-
     by_hangs : Hangs rank nodes m → Hangs rank new m
     by_hangs (inl z) = inl z
-    by_hangs (inr h) = inr (record {
-      by = h.by;
-      parent = parent m ∙ h.parent;
-      holder = record {
-        either = either h.by h.holder.either;
-        stands =
-            let a : times m (children_at new h.by) ≡ times m (children_at nodes h.by) =
-            ap (times m) (children h.by) in
-            let b = h.holder.stands in
-            omega arith;
-      };
-      less = h.less;
-    })
+    by_hangs (inr h) =
+        let a = ap (times m) (children h.by) in
+        inr (hangs_still rank rank nodes new m h (parent m) (same h.by) (omega arith) h.less)
 
 -- ---- all children of one node to another
 
@@ -382,8 +328,7 @@ moved_torn Out rank from to nodes forest apart fits above torn m s =
         ap (times m) (children_in to (children_at named to ++ moved) named
         (let f = named_size in let l = fits.0 in omega arith)) in
         let b = times_append m (children_at named to) moved in
-        let d : times m (children_at named to) ≡ times m (children_at nodes to) =
-        ap (times m) (children_with_parents to to moved emptied ∙ children_other from to [] nodes apart) in
+        let d = ap (times m) (children_with_parents to to moved emptied ∙ children_other from to [] nodes apart) in
         omega arith
 
     parent : parent_at new m ≡ parent_at named m
@@ -395,7 +340,7 @@ moved_torn Out rank from to nodes forest apart fits above torn m s =
       by = to;
       parent = parent ∙ parent_among to m moved emptied l (let f = emptied_size in omega arith);
       holder = record {
-        either = either_by nodes new to (kind to) fits.1;
+        either = either_by nodes new to (ap is_element (kind to)) fits.1;
         stands = let a = in_to in omega arith;
       };
       less = above m e less;
@@ -404,50 +349,34 @@ moved_torn Out rank from to nodes forest apart fits above torn m s =
     none : (h : HangsBy rank nodes m) → (h.by ≡ from → ⊥) → times m moved ≡ 0
     none h f =
         let a = forest.once m from in
-        let b : once_under (parent_at nodes m) from ≡ 0 =
-        ap (λ (o : Option ℕ). once_under o from) h.parent ∙ elsewhere h.by from f in
+        let b = ap (λ (o : Option ℕ). once_under o from) h.parent ∙ elsewhere h.by from f in
         omega arith
 
     other : (h : HangsBy rank nodes m) → (h.by ≡ from → ⊥) → HangsBy rank new m
-    other h f = record {
-      by = h.by;
-      parent =
-          parent
-          ∙ (parent_not_among to m moved emptied (none h f) ∙ (parent_of_children from m [] nodes ∙ h.parent));
-      holder = record {
-        either = either_by nodes new h.by (kind h.by) h.holder.either;
-        stands =
-            let b = h.holder.stands in
-            test (to == h.by)
-            (λ t. let a = in_to in
-            let e : times m (children_at new to) ≡ times m (children_at new h.by) =
-            ap (λ (x : ℕ). times m (children_at new x)) (eqb-true to h.by t) in
-            let g : times m (children_at nodes to) ≡ times m (children_at nodes h.by) =
-            ap (λ (x : ℕ). times m (children_at nodes x)) (eqb-true to h.by t) in
-            omega arith)
-            (λ t. let a : times m (children_at new h.by) ≡ times m (children_at nodes h.by) =
-            ap (times m) (children_other to h.by _ named (eqb-false to h.by t)
-            ∙ (children_with_parents to h.by moved emptied
-            ∙ children_other from h.by [] nodes (λ e. f (sym e)))) in
-            omega arith);
-      };
-      less = h.less;
-    }
+    other h f =
+        hangs_still rank rank nodes new m h
+        (parent ∙ (parent_not_among to m moved emptied (none h f) ∙ parent_of_children from m [] nodes))
+        (ap is_element (kind h.by)) (test (to == h.by)
+        (λ t. let a = in_to in
+        let e = ap (λ (x : ℕ). times m (children_at new x)) (eqb-true to h.by t) in
+        let g = ap (λ (x : ℕ). times m (children_at nodes x)) (eqb-true to h.by t) in
+        omega arith)
+        (λ t. let a : times m (children_at new h.by) ≡ times m (children_at nodes h.by) =
+        ap (times m) (children_other to h.by _ named (eqb-false to h.by t)
+        ∙ (children_with_parents to h.by moved emptied ∙ children_other from h.by [] nodes (λ e. f (sym e)))) in
+        omega arith)) h.less
 
     by_parent : (h : HangsBy rank nodes m) → m < length nodes → HangsBy rank new m
     by_parent h within =
         test (h.by == from)
         (λ t. let e = eqb-true h.by from t in
         let b = h.holder.stands in
-        let g : times m (children_at nodes h.by) ≡ times m moved =
-        ap (λ (x : ℕ). times m (children_at nodes x)) e in
+        let g = ap (λ (x : ℕ). times m (children_at nodes x)) e in
         let i : rank h.by ≡ rank from = ap rank e in
         let less = h.less in
-        child h (omega arith) (h.parent ∙ ap Some e) (omega arith) within)
-        (λ t. other h (eqb-false h.by from t))
+        child h (omega arith) (h.parent ∙ ap Some e) (omega arith) within) (λ t. other h (eqb-false h.by from t))
 
     by_torn : Out m ⊎ Hangs rank nodes m → Out m ⊎ Hangs rank new m
     by_torn (inl o) = inl o
     by_torn (inr (inl z)) = inr (inl z)
-    by_torn (inr (inr h)) =
-        inr (inr (by_parent h (solid_within m nodes (sym (ap is_solid (kind m)) ∙ s))))
+    by_torn (inr (inr h)) = inr (inr (by_parent h (solid_within m nodes (sym (ap is_solid (kind m)) ∙ s))))

@@ -1,23 +1,22 @@
 -- States in which each text and each element hangs under the Document, and steps that leave it so.
-use Rattle.std.proofs.Common.{◌≡◌, ◌∙◌, ℕ, zero, suc, ◌+◌, ◌<◌, Bool, true, false, List, [], ◌∷◌, ◌++◌, length}
-use Rattle.std.proofs.Common.{refl, sym, ap, subst, arith, cond, Option, Some, None, inl, inr, ◌⊎◌}
+use Rattle.std.proofs.Common.{◌≡◌, ◌∙◌, ℕ, zero, suc, ◌+◌, ◌<◌, Bool, true, false, List, [], ◌∷◌, ◌++◌, length, refl}
+use Rattle.std.proofs.Common.{sym, ap, subst, arith, cond, Option, Some, None, inl, inr, ◌⊎◌}
 use Rattle.std.specs.Prelude.{◌==◌, ◌&&◌, if◌then◌else◌}
 use Rattle.std.proofs.lemmas.Bool.{true≢false, eq-eqb, ne_eqb}
 use Rattle.std.proofs.lemmas.List.{length-set}
 use Rattle.htmd_grammar.proofs.Cases.{test}
 use Rattle.htmd_grammar.specs.ValueTrees.{AttributePair}
 use Rattle.htmd_html5_state.specs.Names.{ElementNameValue, known, html}
-use Rattle.htmd_html5_state.specs.Nodes.{NodeValue, KindValue, document, doctype, text, comment, element, new_node}
-use Rattle.htmd_html5_state.specs.Nodes.{kind_at, parent_at, children_at, with_kind, last_in, place_index, add}
-use Rattle.htmd_html5_state.specs.Nodes.{kind_with_missing, add_missing, text_of, preceding, joined_with, joined_to}
-use Rattle.htmd_html5_state.specs.Nodes.{or_add}
+use Rattle.htmd_html5_state.specs.Nodes.{NodeValue, KindValue, text, element, new_node, kind_at, parent_at, children_at}
+use Rattle.htmd_html5_state.specs.Nodes.{with_kind, last_in, place_index, add, kind_with_missing, add_missing, add_text}
 use Rattle.htmd_html5_state.specs.OpenElements.{OpenValue, is_in, without}
 use Rattle.htmd_html5_state.specs.State.{StateValue}
-use Rattle.htmd_html5_state.specs.Insertion.{opened, current, place_by_table, foster_place, place, insert_named, insert_text}
-use Rattle.htmd_html5_state.specs.Insertion.{open_again}
+use Rattle.htmd_html5_state.specs.Insertion.{opened, current, place_by_table, foster_place, place, insert_named}
+use Rattle.htmd_html5_state.specs.Insertion.{insert_text, open_again}
 use Rattle.htmd_html5_state.specs.declared.sets.NameSet.TheVariants.{Only, Fostering}
 use Rattle.htmd_html5_state.specs.declared.names.TagName.TheVariants.{Table, Template, Head}
 use Rattle.htmd_html5_laws.proofs.NodeTexts.{is_element, with_missing_element}
+use Rattle.htmd_html5_laws.proofs.NamedKinds.{by_text}
 use Rattle.htmd_html5_laws.proofs.NodeParts.{children_of_kind, parent_of_kind}
 use Rattle.htmd_html5_laws.proofs.Forests.{IsForest, length_new, forest_add, forest_with_kind}
 use Rattle.htmd_html5_laws.proofs.HungNodes.{is_solid, element_solid, Hangs, Torn, AllHang, Fits, solid_within}
@@ -48,33 +47,44 @@ pub record HungIn (nodes : List NodeValue) (stack : List OpenValue) (head : Opti
 abbrev pub Hung : StateValue → Type 0
 Hung s = HungIn s.nodes s.stack s.head
 
-pub hung_fewer : {nodes : List NodeValue} {stack : List OpenValue} {head : Option ℕ} (es : List OpenValue)
-    → Fewer es stack → HungIn nodes stack head → HungIn nodes es head
-hung_fewer {nodes} es f h = record {
+-- others are open, and another is the head
+hung_open : {nodes : List NodeValue} {stack es : List OpenValue} {head first : Option ℕ} (limit : ℕ)
+    (h : HungIn nodes stack head) → Below h.rank limit es → EachOpen (ElementOpen nodes) es
+    → ((n : ℕ) → first ≡ Some n → is_element (kind_at nodes n) ≡ true) → HungIn nodes es first
+hung_open limit h order opens head_at = record {
   rank = h.rank;
-  limit = h.limit;
+  limit = limit;
   at_root = h.at_root;
-  order = f.below h.rank h.limit h.order;
+  order = order;
   hangs = h.hangs;
-  opened_at = f.each (is_element_open nodes) h.opened_at;
-  head_at = h.head_at;
+  opened_at = opens;
+  head_at = head_at;
   forest = h.forest;
   filled = h.filled;
   root = h.root;
 }
+
+pub hung_fewer : {nodes : List NodeValue} {stack : List OpenValue} {head : Option ℕ} (es : List OpenValue)
+    → Fewer es stack → HungIn nodes stack head → HungIn nodes es head
+hung_fewer {nodes} es f h =
+    hung_open h.limit h (f.below h.rank h.limit h.order) (f.each (is_element_open nodes) h.opened_at) h.head_at
 
 pub element_number : (n : ℕ) (nodes : List NodeValue) → is_element (kind_at nodes n) ≡ true → n < length nodes
 element_number n nodes e = solid_within n nodes (element_solid (kind_at nodes n) e)
 
 -- ---- ranks
 
-pub below_moved : (rank new : ℕ → ℕ) (limit : ℕ) (es : List OpenValue)
-    → EachOpen (λ e. new e.node ≡ rank e.node) es → Below rank limit es → Below new limit es
-below_moved rank new limit [] same h = tt
-below_moved rank new limit (e ∷ es) same h =
+-- mapped, with the same order
+pub below_mapped : (f : ℕ → ℕ) → ((a b : ℕ) → a < b → f a < f b) → (rank new : ℕ → ℕ)
+    (limit : ℕ) (es : List OpenValue) → EachOpen (λ e. new e.node ≡ f (rank e.node)) es → Below rank limit es
+    → Below new (f limit) es
+below_mapped f order rank new limit [] same h = tt
+below_mapped f order rank new limit (e ∷ es) same h =
     let a = same.0 in
-    let b = h.0 in
-    (omega arith, subst (λ (x : ℕ). Below new x es) (sym a) (below_moved rank new (rank e.node) es same.1 h.1))
+    let b = order (rank e.node) limit h.0 in (
+      omega arith,
+      subst (λ (x : ℕ). Below new x es) (sym a) (below_mapped f order rank new (rank e.node) es same.1 h.1),
+    )
 
 abbrev pub raised : ℕ → ℕ → (ℕ → ℕ) → ℕ → ℕ
 raised n v rank m = cond (m == n) v (rank m)
@@ -96,7 +106,7 @@ raised_order n v rank a b k l less =
 pub below_raised : (nodes : List NodeValue) (v : ℕ) (rank : ℕ → ℕ) (limit : ℕ) (es : List OpenValue)
     → EachOpen (ElementOpen nodes) es → Below rank limit es → Below (raised (length nodes) v rank) limit es
 below_raised nodes v rank limit es opens h =
-    below_moved rank (raised (length nodes) v rank) limit es
+    below_mapped (λ n. n) (λ a b l. l) rank (raised (length nodes) v rank) limit es
     (each_more es (λ e o. raised_other (length nodes) v rank e.node
     (λ f. let w = element_number e.node nodes o in omega arith)) opens) h
 
@@ -145,8 +155,7 @@ hung_added k p i nodes {stack} {head} fits forest h = record {
     hangs = none_out rank (added_at k p i nodes)
         (put_torn (λ m. ⊥) rank (length nodes) p i (nodes ++ new_node k ∷ [])
         (appended_torn (λ m. ⊥) h.rank rank k nodes (raised_order (length nodes) _ h.rank)
-        (λ m s. inr (h.hangs m s)))
-        (let e = length_new k nodes in omega arith)
+        (λ m s. inr (h.hangs m s))) (let e = length_new k nodes in omega arith)
         (let e = length_new k nodes in let l = fits.0 in (omega arith, either fits.1))
         (let l = fits.0 in
         let a = raised_other (length nodes) (suc (h.rank p + h.limit)) h.rank p (λ e. omega arith) in
@@ -174,28 +183,16 @@ hung_added k p i nodes {stack} {head} fits forest h = record {
 -- and so it may be open
 pub hung_opened : (name : ElementNameValue) (attributes : List AttributePair) (nodes : List NodeValue)
     {new : List NodeValue} {stack : List OpenValue} {head : Option ℕ}
-    → Added (element name attributes) nodes new stack head
-    → HungIn new (opened (length nodes) name ∷ stack) head
+    → Added (element name attributes) nodes new stack head → HungIn new (opened (length nodes) name ∷ stack) head
 hung_opened name attributes nodes {new} {stack} a =
-    let h = a.hung in
-    record {
-      rank = h.rank;
-      limit = suc h.limit;
-      at_root = h.at_root;
-      order = (let e = a.top in omega arith, subst (λ (x : ℕ). Below h.rank x stack) (sym a.top) h.order);
-      hangs = h.hangs;
-      opened_at = (ap is_element a.kind, h.opened_at);
-      head_at = h.head_at;
-      forest = h.forest;
-      filled = h.filled;
-      root = h.root;
-    }
+    hung_open (suc a.hung.limit) a.hung
+    (let e = a.top in omega arith, subst (λ (x : ℕ). Below a.hung.rank x stack) (sym a.top) a.hung.order)
+    (ap is_element a.kind, a.hung.opened_at) a.hung.head_at
 
 -- what is neither text nor element hangs anywhere
-pub hung_loose : (k : KindValue) (p i : ℕ) (nodes : List NodeValue) {stack : List OpenValue} {head : Option ℕ}
-    → is_solid k ≡ false → IsForest (added_at k p i nodes) → HungIn nodes stack head
-    → HungIn (added_at k p i nodes) stack head
-hung_loose k p i nodes {stack} {head} loose forest h = record {
+pub hung_last : (k : KindValue) (p : ℕ) (nodes : List NodeValue) {stack : List OpenValue} {head : Option ℕ}
+    → is_solid k ≡ false → HungIn nodes stack head → HungIn (add k (last_in p) nodes) stack head
+hung_last k p nodes {stack} {head} loose h = record {
   rank = h.rank;
   limit = h.limit;
   at_root = h.at_root;
@@ -205,11 +202,14 @@ hung_loose k p i nodes {stack} {head} loose forest h = record {
       (λ m s. inr (h.hangs m s)) m s));
   opened_at = each_more stack (λ e o. elements_stay k p i nodes e.node o) h.opened_at;
   head_at = λ n e. elements_stay k p i nodes n (h.head_at n e);
-  forest = forest;
+  forest = forest_add k (last_in p) nodes h.forest;
   filled = let e = added_size k p i nodes in omega arith;
   root = ap is_solid (added_before k p i nodes 0 h.filled) ∙ h.root;
 }
   where
+    i : ℕ
+    i = length (children_at (nodes ++ new_node k ∷ []) p)
+
     by_torn : (m : ℕ) → is_solid (kind_at (nodes ++ new_node k ∷ []) m) ≡ true
         → ((m ≡ length nodes) ⊎ ⊥) ⊎ Hangs h.rank (nodes ++ new_node k ∷ []) m
         → Hangs h.rank (nodes ++ new_node k ∷ []) m
@@ -252,10 +252,7 @@ hung_like n k nodes {stack} solid same h = record {
 
 missing_solid : (more : List AttributePair) (k : KindValue) → is_solid (kind_with_missing more k) ≡ is_solid k
 missing_solid more (element name attributes) = refl
-missing_solid more (text s) = refl
-missing_solid more document = refl
-missing_solid more doctype = refl
-missing_solid more (comment s) = refl
+missing_solid more _ = refl
 
 pub hung_missing : (n : ℕ) (more : List AttributePair) (nodes : List NodeValue) {stack : List OpenValue}
     {head : Option ℕ} → HungIn nodes stack head → HungIn (add_missing n more nodes) stack head
@@ -310,8 +307,7 @@ module _ (rank : ℕ → ℕ) (nodes : List NodeValue) (at_root : rank 0 ≡ 0) 
   foster_ok (e ∷ []) h = in_element e [] h.0.0
   foster_ok (e ∷ f ∷ es) h =
       let later = foster_ok (f ∷ es) h.1 in
-      test (is_in (Only Template) e) (λ t. rw t (in_element e (f ∷ es) h.0.0))
-      (λ t. test (is_in (Only Table) e)
+      test (is_in (Only Template) e) (λ t. rw t (in_element e (f ∷ es) h.0.0)) (λ t. test (is_in (Only Table) e)
       (λ u. rw (t, u) (by_table e f es (parent_at nodes e.node) refl h.0 h.1.0.0))
       (λ u. rw (t, u) (record {
         fits = later.fits;
@@ -347,8 +343,7 @@ fits_place s h = (place_ok h.rank s h.at_root h.filled h.root (opens_hang h)).fi
 pub hung_named : (name : ElementNameValue) (attributes : List AttributePair) (s : StateValue) → Hung s
     → Hung (insert_named name attributes s)
 hung_named name attributes s h =
-    hung_opened name attributes s.nodes
-    (hung_added (element name attributes) (place s).parent
+    hung_opened name attributes s.nodes (hung_added (element name attributes) (place s).parent
     (place_index (place s).next (children_at (s.nodes ++ new_node (element name attributes) ∷ []) (place s).parent))
     s.nodes (fits_place s h) (forest_add (element name attributes) (place s) s.nodes h.forest) h)
 
@@ -356,66 +351,38 @@ pub hung_under_root : (name : ElementNameValue) (attributes : List AttributePair
     {stack : List OpenValue} {head : Option ℕ} → HungIn nodes stack head
     → HungIn (add (element name attributes) (last_in 0) nodes) (opened (length nodes) name ∷ stack) head
 hung_under_root name attributes nodes h =
-    hung_opened name attributes nodes
-    (hung_added (element name attributes) 0
+    hung_opened name attributes nodes (hung_added (element name attributes) 0
     (length (children_at (nodes ++ new_node (element name attributes) ∷ []) 0)) nodes (h.filled, inl refl)
     (forest_add (element name attributes) (last_in 0) nodes h.forest) h)
 
-pub hung_last : (k : KindValue) (p : ℕ) (nodes : List NodeValue) {stack : List OpenValue} {head : Option ℕ}
-    → is_solid k ≡ false → HungIn nodes stack head → HungIn (add k (last_in p) nodes) stack head
-hung_last k p nodes loose h =
-    hung_loose k p (length (children_at (nodes ++ new_node k ∷ []) p)) nodes loose
-    (forest_add k (last_in p) nodes h.forest) h
+pub hung_joined : (t : List ℕ) (at : _) (nodes : List NodeValue) {stack : List OpenValue} {head : Option ℕ}
+    → HungIn (add (text t) at nodes) stack head → HungIn nodes stack head
+    → HungIn (add_text t at nodes) stack head
+hung_joined t at nodes {stack} {head} added h = by_text (λ new. HungIn new stack head) t at nodes added
+    (λ n before e. hung_like n (text (before ++ t)) nodes (sym (ap is_solid e)) (sym (ap is_element e)) h)
 
 pub hung_text : (t : List ℕ) (s : StateValue) → Hung s → Hung (insert_text t s)
-hung_text t s h = by_before (preceding (place s) s.nodes)
-  where
-    added : HungIn (or_add t (place s) s.nodes None) s.stack s.head
-    added = (hung_added (text t) (place s).parent
-        (place_index (place s).next (children_at (s.nodes ++ new_node (text t) ∷ []) (place s).parent)) s.nodes
-        (fits_place s h) (forest_add (text t) (place s) s.nodes h.forest) h).hung
-
-    by_kind : (n : ℕ) (k : KindValue) → kind_at s.nodes n ≡ k
-        → HungIn (or_add t (place s) s.nodes (joined_with t n (text_of k) s.nodes)) s.stack s.head
-    by_kind n (text before) e =
-        hung_like n (text (before ++ t)) s.nodes (sym (ap is_solid e)) (sym (ap is_element e)) h
-    by_kind n document e = added
-    by_kind n doctype e = added
-    by_kind n (comment c) e = added
-    by_kind n (element name attributes) e = added
-
-    by_before : (before : Option ℕ)
-        → HungIn (or_add t (place s) s.nodes (joined_to t before s.nodes)) s.stack s.head
-    by_before None = added
-    by_before (Some n) = by_kind n (kind_at s.nodes n) refl
+hung_text t s h =
+    hung_joined t (place s) s.nodes (hung_added (text t) (place s).parent
+    (place_index (place s).next (children_at (s.nodes ++ new_node (text t) ∷ []) (place s).parent)) s.nodes
+    (fits_place s h) (forest_add (text t) (place s) s.nodes h.forest) h).hung h
 
 pub hung_headed : (m : ℕ) {nodes : List NodeValue} {stack : List OpenValue} {head : Option ℕ}
     → is_element (kind_at nodes m) ≡ true → HungIn nodes stack head → HungIn nodes stack (Some m)
-hung_headed m {nodes} e h = record {
-  rank = h.rank;
-  limit = h.limit;
-  at_root = h.at_root;
-  order = h.order;
-  hangs = h.hangs;
-  opened_at = h.opened_at;
-  head_at = λ n f. let same : m ≡ n = cc in subst (λ (x : ℕ). is_element (kind_at nodes x) ≡ true) same e;
-  forest = h.forest;
-  filled = h.filled;
-  root = h.root;
-}
+hung_headed m {nodes} e h =
+    hung_open h.limit h h.order h.opened_at
+    (λ n f. let same : m ≡ n = cc in subst (λ (x : ℕ). is_element (kind_at nodes x) ≡ true) same e)
 
 -- ---- an element of the head that comes after it, while the head is open once more
 
 late_added : (name : ElementNameValue) (attributes : List AttributePair) (n : ℕ) (s : StateValue)
-    → is_element (kind_at s.nodes n) ≡ true → Hung s
-    → Added (element name attributes) s.nodes
+    → is_element (kind_at s.nodes n) ≡ true → Hung s → Added (element name attributes) s.nodes
     (add (element name attributes) (place (open_again n (known Head) s)) s.nodes) s.stack s.head
 late_added name attributes n s e h =
     hung_added (element name attributes) (place (open_again n (known Head) s)).parent
     (place_index (place (open_again n (known Head) s)).next
     (children_at (s.nodes ++ new_node (element name attributes) ∷ []) (place (open_again n (known Head) s)).parent))
-    s.nodes
-    (place_ok h.rank (open_again n (known Head) s) h.at_root h.filled h.root
+    s.nodes (place_ok h.rank (open_again n (known Head) s) h.at_root h.filled h.root
     ((e, h.hangs n (element_solid (kind_at s.nodes n) e)), opens_hang h)).fits
     (forest_add (element name attributes) (place (open_again n (known Head) s)) s.nodes h.forest) h
 

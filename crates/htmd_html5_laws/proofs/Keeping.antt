@@ -2,7 +2,7 @@
 use Rattle.std.proofs.Common.{◌≡◌, ◌∙◌, ℕ, zero, suc, ◌<◌, Bool, true, false, List, [], ◌∷◌, ◌++◌, length, get_or}
 use Rattle.std.proofs.Common.{Option, refl, sym, ap, subst, arith, All, inl, inr, ◌⊎◌}
 use Rattle.std.specs.Prelude.{if◌then◌else◌, IsUtf8, ◌==◌}
-use Rattle.std.proofs.lemmas.Bool.{true≢false, eqb-true}
+use Rattle.std.proofs.lemmas.Bool.{true≢false, eqb-true, cond_both}
 use Rattle.std.proofs.lemmas.List.{length-map}
 use Rattle.htmd_grammar.proofs.Cases.{test}
 use Rattle.htmd_html5_state.specs.Names.{ElementNameValue}
@@ -103,11 +103,8 @@ nothing = record { keeps = λ s h. kept_same h }
 
 pub by_test : {f g : StateValue → StateValue} (b : StateValue → Bool) → Keeps f → Keeps g
     → Keeps (λ s. if b s then f s else g s)
-by_test {f} {g} b first second = record { keeps = λ s h. either (b s) s h }
-  where
-    either : (t : Bool) (s : StateValue) → Sound s → Kept s (if t then f s else g s)
-    either true s h = first.keeps s h
-    either false s h = second.keeps s h
+by_test b first second =
+    record { keeps = λ s h. cond_both (b s) _ _ (λ x. Kept s x) (λ t. first.keeps s h) (λ t. second.keeps s h) }
 
 pub by_state : {A : Type 0} {f : A → StateValue → StateValue} (a : StateValue → A) → ((x : A) → Keeps (f x))
     → Keeps (λ s. f (a s) s)
@@ -172,8 +169,7 @@ new_element nodes k n e t =
 pub kept_new : {nodes new : List NodeValue} {head first : Option ℕ} {entries later : List (Option ℕ)}
     {stack inner : List OpenValue} (k : KindValue) → kinds new ≡ kinds nodes ++ k ∷ [] → is_text k ≡ false
     → IsForest new → SoundIn nodes head entries stack
-    → ((n : ℕ) → Held n first later inner → IsElement nodes k n)
-    → KeptIn nodes new first later inner
+    → ((n : ℕ) → Held n first later inner → IsElement nodes k n) → KeptIn nodes new first later inner
 kept_new {nodes} {new} k e t f h elements = record {
   same = ap texts e ∙ texts_new (kinds nodes) k t;
   stays = λ n a. subst (λ (ks : List KindValue). ElementAt ks n) (sym e) (element_before (kinds nodes) k n a);

@@ -1,23 +1,23 @@
 -- What is inserted that isn't text, and what the list of active formatting elements becomes.
-use Rattle.std.proofs.Common.{◌≡◌, ◌∙◌, ℕ, zero, suc, Bool, true, List, [], ◌∷◌, length, get_or, set}
-use Rattle.std.proofs.Common.{Option, Some, None, refl, sym, ap, subst, All, inl, inr, ◌⊎◌}
+use Rattle.std.proofs.Common.{◌≡◌, ◌∙◌, ℕ, zero, suc, Bool, true, List, [], ◌∷◌, length, get_or, set, Option, Some}
+use Rattle.std.proofs.Common.{None, refl, sym, ap, subst, All, inl, inr, ◌⊎◌}
 use Rattle.std.specs.Prelude.{IsUtf8, ◌==◌}
 use Rattle.std.proofs.lemmas.Bool.{true≢false, eqb-true, eq-eqb}
 use Rattle.htmd_grammar.proofs.Cases.{test}
 use Rattle.htmd_grammar.specs.ValueTrees.{AttributePair}
 use Rattle.htmd_grammar.specs.declared.content_model.RawElement.{RawElement}
 use Rattle.htmd_html5_state.specs.Names.{ElementNameValue, NameValue, html}
-use Rattle.htmd_html5_state.specs.Nodes.{KindValue, NodeValue, document, doctype, text, comment, element, kind_at}
-use Rattle.htmd_html5_state.specs.Nodes.{last_in, add_missing, kind_with_missing, detach}
-use Rattle.htmd_html5_state.specs.OpenElements.{OpenValue, pop}
+use Rattle.htmd_html5_state.specs.Nodes.{KindValue, NodeValue, document, doctype, comment, element, kind_at, last_in}
+use Rattle.htmd_html5_state.specs.Nodes.{add_missing, kind_with_missing, detach}
+use Rattle.htmd_html5_state.specs.OpenElements.{OpenValue, pop, is_open_node}
 use Rattle.htmd_html5_state.specs.State.{StateValue, on_formatting, on_nodes}
-use Rattle.htmd_html5_state.specs.Insertion.{insert_at, insert_named, insert_element, insert_root, insert_void, insert_raw}
-use Rattle.htmd_html5_state.specs.Insertion.{insert_comment_in, insert_comment, insert_doctype, open_again, place, current}
-use Rattle.htmd_html5_state.specs.Formatting.{is_listed, is_entry, without_entry, after_marker, replace_entry, insert_after}
-use Rattle.htmd_html5_state.specs.Formatting.{without_some, with_room, with_room_for, push_entry, push_marker}
-use Rattle.htmd_html5_state.specs.Formatting.{clear_to_marker, insert_formatting, closed_elements}
+use Rattle.htmd_html5_state.specs.Insertion.{insert_at, insert_named, insert_element, insert_root, insert_void}
+use Rattle.htmd_html5_state.specs.Insertion.{insert_raw, insert_comment_in, insert_comment, insert_doctype, open_again}
+use Rattle.htmd_html5_state.specs.Insertion.{place, current}
+use Rattle.htmd_html5_state.specs.Formatting.{is_listed, is_entry, without_entry, after_marker, replace_entry}
+use Rattle.htmd_html5_state.specs.Formatting.{insert_after, without_some, with_room, with_room_for, push_entry}
+use Rattle.htmd_html5_state.specs.Formatting.{push_marker, clear_to_marker, insert_formatting, closed_elements}
 use Rattle.htmd_html5_state.specs.Formatting.{after_closed, insert_like, reopen, reopen_all, reconstruct}
-use Rattle.htmd_html5_state.specs.OpenElements.{is_open_node}
 use Rattle.htmd_html5_state.specs.Foreign.{insert_foreign, foreign_name, foreign_attributes, pop_if}
 use Rattle.htmd_html5_state.specs.Resetting.{push_template_mode, pop_template_mode, reset_insertion_mode}
 use Rattle.htmd_html5_state.specs.declared.names.Namespace.{Namespace}
@@ -26,9 +26,9 @@ use Rattle.htmd_html5_laws.proofs.NodeTexts.{kinds, texts, with_text, is_element
 use Rattle.htmd_html5_laws.proofs.NodeTexts.{kinds_with_kind, kind_read, element_set, with_missing_element}
 use Rattle.htmd_html5_laws.proofs.Forests.{forest_add, forest_detach, forest_with_kind}
 use Rattle.htmd_html5_laws.proofs.OpenNodes.{pop_fewer, pop_if_fewer}
-use Rattle.htmd_html5_laws.proofs.Keeping.{ElementAt, IsRooted, Held, as_head, as_entry, as_open, SoundIn, Sound, Kept, Keeps}
-use Rattle.htmd_html5_laws.proofs.Keeping.{held_in, held_opened, kept_same, kept_then, after, by_state, kept_kinds}
-use Rattle.htmd_html5_laws.proofs.Keeping.{sound_held, untouched, on_stack_keeps, IsElement, kept_new}
+use Rattle.htmd_html5_laws.proofs.Keeping.{ElementAt, IsRooted, Held, as_head, as_entry, as_open, SoundIn, Sound, Kept}
+use Rattle.htmd_html5_laws.proofs.Keeping.{Keeps, held_in, held_opened, kept_same, kept_then, after, by_state}
+use Rattle.htmd_html5_laws.proofs.Keeping.{kept_kinds, sound_held, untouched, on_stack_keeps, IsElement, kept_new}
 
 -- ---- elements, comments and doctypes
 
@@ -94,10 +94,7 @@ detach_keeps n = record { keeps = λ s h. kept_kinds (kinds_detach n s.nodes) (f
 missing_text : (more : List AttributePair) (k : KindValue) (ts : List (List ℕ))
     → with_text (kind_with_missing more k) ts ≡ with_text k ts
 missing_text more (element name attributes) ts = refl
-missing_text more (text s) ts = refl
-missing_text more document ts = refl
-missing_text more doctype ts = refl
-missing_text more (comment s) ts = refl
+missing_text more _ ts = refl
 
 missing_texts : (ks : List KindValue) (n : ℕ) (more : List AttributePair)
     → texts (set ks n (kind_with_missing more (get_or ks n document))) ≡ texts ks
@@ -114,8 +111,7 @@ rooted_missing (k ∷ ks) (suc n) more r = r
 pub add_missing_keeps : (n : ℕ) (more : List AttributePair) → Keeps (on_nodes (add_missing n more))
 add_missing_keeps n more = record { keeps = λ s h. kept s h }
   where
-    is : (nodes : List NodeValue)
-        → kinds (add_missing n more nodes)
+    is : (nodes : List NodeValue) → kinds (add_missing n more nodes)
         ≡ set (kinds nodes) n (kind_with_missing more (get_or (kinds nodes) n document))
     is nodes =
         kinds_with_kind n (kind_with_missing more (kind_at nodes n)) nodes
@@ -182,37 +178,32 @@ pub listed_first : (n m : ℕ) (entries : List (Option ℕ)) → is_listed n (So
     → (n ≡ m) ⊎ (is_listed n entries ≡ true)
 listed_first n m entries l = test (m == n) (λ t. inl (sym (eqb-true m n t))) (λ t. inr (rw t at l))
 
-pub listed_replaced : (n old new : ℕ) (entries : List (Option ℕ)) → is_listed n (replace_entry old new entries)
-    ≡ true
-    → (n ≡ new) ⊎ (is_listed n entries ≡ true)
+-- what holds of a number, and of all that are listed, holds of one that is that number or listed
+pub one_or_listed : {Listed : Type 0} (P : ℕ → Type 0) (m n : ℕ) → P m → (Listed → P n)
+    → (n ≡ m) ⊎ Listed → P n
+one_or_listed P m n p f (inl e) = subst P (sym e) p
+one_or_listed P m n p f (inr l) = f l
+
+or_listed : (n new : ℕ) (e : Option ℕ) (entries : List (Option ℕ))
+    → (n ≡ new) ⊎ (is_listed n entries ≡ true) → (n ≡ new) ⊎ (is_listed n (e ∷ entries) ≡ true)
+or_listed n new e entries (inl p) = inl p
+or_listed n new e entries (inr p) = inr (listed_more n e entries p)
+
+pub listed_replaced : (n old new : ℕ) (entries : List (Option ℕ))
+    → is_listed n (replace_entry old new entries) ≡ true → (n ≡ new) ⊎ (is_listed n entries ≡ true)
 listed_replaced n old new [] l = inr l
 listed_replaced n old new (e ∷ entries) l =
-    test (is_entry old e)
-    (λ t. first (listed_first n new entries (rw t at l)))
+    test (is_entry old e) (λ t. or_listed n new e entries (listed_first n new entries (rw t at l)))
     (λ t. test (is_entry n e) (λ u. inr (rw u refl))
-    (λ u. later (listed_replaced n old new entries (rw u at (rw t at l)))))
-  where
-    first : (n ≡ new) ⊎ (is_listed n entries ≡ true) → (n ≡ new) ⊎ (is_listed n (e ∷ entries) ≡ true)
-    first (inl p) = inl p
-    first (inr p) = inr (listed_more n e entries p)
+    (λ u. or_listed n new e entries (listed_replaced n old new entries (rw u at (rw t at l)))))
 
-    later : (n ≡ new) ⊎ (is_listed n entries ≡ true) → (n ≡ new) ⊎ (is_listed n (e ∷ entries) ≡ true)
-    later (inl p) = inl p
-    later (inr p) = inr (listed_more n e entries p)
-
-pub listed_inserted : (n old new : ℕ) (entries : List (Option ℕ)) → is_listed n (insert_after old new entries)
-    ≡ true
-    → (n ≡ new) ⊎ (is_listed n entries ≡ true)
+pub listed_inserted : (n old new : ℕ) (entries : List (Option ℕ))
+    → is_listed n (insert_after old new entries) ≡ true → (n ≡ new) ⊎ (is_listed n entries ≡ true)
 listed_inserted n old new [] l = inr l
 listed_inserted n old new (e ∷ entries) l =
-    test (is_entry old e)
-    (λ t. listed_first n new (e ∷ entries) (rw t at l))
+    test (is_entry old e) (λ t. listed_first n new (e ∷ entries) (rw t at l))
     (λ t. test (is_entry n e) (λ u. inr (rw u refl))
-    (λ u. later (listed_inserted n old new entries (rw u at (rw t at l)))))
-  where
-    later : (n ≡ new) ⊎ (is_listed n entries ≡ true) → (n ≡ new) ⊎ (is_listed n (e ∷ entries) ≡ true)
-    later (inl p) = inl p
-    later (inr p) = inr (listed_more n e entries p)
+    (λ u. or_listed n new e entries (listed_inserted n old new entries (rw u at (rw t at l)))))
 
 pub without_entry_keeps : (n : ℕ) → Keeps (on_formatting (without_entry n))
 without_entry_keeps n = untouched (λ s. refl)
@@ -225,10 +216,21 @@ pub clear_to_marker_keeps : Keeps clear_to_marker
 clear_to_marker_keeps = untouched (λ s. refl)
     (λ s n l. held_in s.formatting s.stack (listed_after_marker n s.formatting) (λ e. e) l)
 
-pub entry_or_held : {n m : ℕ} {head : Option ℕ} {entries : List (Option ℕ)} {stack : List OpenValue}
-    → (n ≡ m) ⊎ (is_listed n entries ≡ true) → (n ≡ m) ⊎ Held n head entries stack
-entry_or_held (inl p) = inl p
-entry_or_held (inr l) = inr (as_entry l)
+-- where one number more is listed, that is held, or what was held before
+pub held_more : {n m : ℕ} {head : Option ℕ} {entries later : List (Option ℕ)} {stack : List OpenValue}
+    → (is_listed n later ≡ true → (n ≡ m) ⊎ (is_listed n entries ≡ true))
+    → (n ≡ m) ⊎ Held n head later stack → (n ≡ m) ⊎ Held n head entries stack
+held_more {n} {m} {head} {entries} {later} {stack} f h = of_held h
+  where
+    of_entry : (n ≡ m) ⊎ (is_listed n entries ≡ true) → (n ≡ m) ⊎ Held n head entries stack
+    of_entry (inl p) = inl p
+    of_entry (inr l) = inr (as_entry l)
+
+    of_held : (n ≡ m) ⊎ Held n head later stack → (n ≡ m) ⊎ Held n head entries stack
+    of_held (inl p) = inl p
+    of_held (inr (as_head e)) = inr (as_head e)
+    of_held (inr (as_entry e)) = of_entry (f e)
+    of_held (inr (as_open e)) = inr (as_open e)
 
 pub listed_pushed : (n m : ℕ) (nodes : List NodeValue) (entries : List (Option ℕ))
     → is_listed n (push_entry nodes m entries) ≡ true → (n ≡ m) ⊎ (is_listed n entries ≡ true)
@@ -241,15 +243,6 @@ listed_pushed n m nodes entries l =
     further (inr p) = inr (listed_without_some n _ entries
         (listed_without_some n _ (with_room_for nodes (kind_at nodes m) entries) p))
 
--- the same of all numbers that are held
-held_pushed : {n m : ℕ} {head : Option ℕ} {stack : List OpenValue} (nodes : List NodeValue)
-    (entries : List (Option ℕ))
-    → (n ≡ m) ⊎ Held n head (push_entry nodes m entries) stack → (n ≡ m) ⊎ Held n head entries stack
-held_pushed {n} {m} nodes entries (inl p) = inl p
-held_pushed {n} {m} nodes entries (inr (as_head e)) = inr (as_head e)
-held_pushed {n} {m} nodes entries (inr (as_entry e)) = entry_or_held (listed_pushed n m nodes entries e)
-held_pushed {n} {m} nodes entries (inr (as_open e)) = inr (as_open e)
-
 pub insert_formatting_keeps : (name : NameValue) (attributes : List AttributePair)
     → Keeps (insert_formatting name attributes)
 insert_formatting_keeps name attributes = record {
@@ -257,23 +250,36 @@ insert_formatting_keeps name attributes = record {
       (kinds_add (element (html name) attributes) (place s) s.nodes) refl
       (forest_add (element (html name) attributes) (place s) s.nodes h.forest) h
       (λ n l. opened_new (element (html name) attributes) n refl h
-      (held_pushed (insert_element name attributes s).nodes s.formatting
+      (held_more (listed_pushed n (length s.nodes) (insert_element name attributes s).nodes s.formatting)
       (held_opened (length s.nodes) (html name) s.stack l)));
 }
 
 -- ---- elements are reconstructed
 
--- each of these is an element
-abbrev EachAt : List KindValue → List ℕ → Type 0
-EachAt ks [] = Unit {0}
-EachAt ks (n ∷ ns) = ElementAt ks n × EachAt ks ns
+abbrev EachOf : (ℕ → Type 0) → List ℕ → Type 0
+EachOf Q [] = Unit {0}
+EachOf Q (n ∷ ns) = Q n × EachOf Q ns
 
-held_first : {n m : ℕ} {head : Option ℕ} {stack : List OpenValue} (entries : List (Option ℕ))
-    → (n ≡ m) ⊎ Held n head (Some m ∷ entries) stack → (n ≡ m) ⊎ Held n head entries stack
-held_first {n} {m} entries (inl p) = inl p
-held_first {n} {m} entries (inr (as_head e)) = inr (as_head e)
-held_first {n} {m} entries (inr (as_entry e)) = entry_or_held (listed_first n m entries e)
-held_first {n} {m} entries (inr (as_open e)) = inr (as_open e)
+closed_each : (Q : ℕ → Type 0) (stack : List OpenValue) (entries : List (Option ℕ))
+    → ((n : ℕ) → is_listed n entries ≡ true → Q n) → EachOf Q (closed_elements stack entries)
+closed_each Q stack [] f = tt
+closed_each Q stack (None ∷ entries) f = tt
+closed_each Q stack (Some m ∷ entries) f =
+    test (is_open_node m stack) (λ t. rw t tt)
+    (λ t. rw t (
+      f m (rw (eq-eqb m m refl) refl),
+      closed_each Q stack entries (λ n l. f n (listed_more n (Some m) entries l)),
+    ))
+
+-- what holds at first (R), and after each of the elements that are listed (Q) is opened again, holds of the end
+pub reconstructed : (Q : ℕ → Type 0) (R : StateValue → Type 0) (s : StateValue)
+    → ((n : ℕ) → is_listed n s.formatting ≡ true → Q n) → R (on_formatting (after_closed s.stack) s)
+    → ((n : ℕ) (t : StateValue) → Q n → R t → R (reopen n t)) → R (reconstruct s)
+reconstructed Q R s q first next = all (closed_elements s.stack s.formatting) (closed_each Q s.stack s.formatting q)
+  where
+    all : (ns : List ℕ) → EachOf Q ns → R (reopen_all ns (on_formatting (after_closed s.stack) s))
+    all [] each = first
+    all (n ∷ ns) each = next n _ each.0 (all ns each.1)
 
 like_kept : (s : StateValue) (n : ℕ) (k : KindValue) → is_element k ≡ true → Sound s
     → Kept s (on_formatting (λ entries. Some (length s.nodes) ∷ entries) (insert_like k s))
@@ -281,43 +287,18 @@ like_kept s n (element name attributes) e h =
     kept_new (element name attributes) (kinds_add (element name attributes) (place s) s.nodes) refl
     (forest_add (element name attributes) (place s) s.nodes h.forest) h
     (λ m l. opened_new (element name attributes) m refl h
-    (held_first s.formatting (held_opened (length s.nodes) name s.stack l)))
-like_kept s n (text t) e h = absurd (true≢false (sym e))
-like_kept s n document e h = absurd (true≢false (sym e))
-like_kept s n doctype e h = absurd (true≢false (sym e))
-like_kept s n (comment t) e h = absurd (true≢false (sym e))
+    (held_more (listed_first m (length s.nodes) s.formatting) (held_opened (length s.nodes) name s.stack l)))
+like_kept s n _ e h = absurd (true≢false (sym e))
 
 reopen_kept : (n : ℕ) (s : StateValue) → ElementAt (kinds s.nodes) n → Sound s → Kept s (reopen n s)
 reopen_kept n s e h = like_kept s n (kind_at s.nodes n) (ap is_element (kind_read s.nodes n) ∙ e) h
 
-reopen_all_kept : (ns : List ℕ) (s : StateValue) → EachAt (kinds s.nodes) ns → Sound s
-    → Kept s (reopen_all ns s)
-reopen_all_kept [] s all h = kept_same h
-reopen_all_kept (n ∷ ns) s all h =
-    let before : Kept s (reopen_all ns s) = reopen_all_kept ns s all.1 h in
-    kept_then before (reopen_kept n (reopen_all ns s) (before.stays n all.0) before.sound)
-
-closed_listed : (ks : List KindValue) (stack : List OpenValue) (entries : List (Option ℕ))
-    → ((n : ℕ) → is_listed n entries ≡ true → ElementAt ks n) → EachAt ks (closed_elements stack entries)
-closed_listed ks stack [] f = tt
-closed_listed ks stack (None ∷ entries) f = tt
-closed_listed ks stack (Some m ∷ entries) f =
-    test (is_open_node m stack) (λ t. rw t tt)
-    (λ t. rw t (
-      f m (rw (own m) refl),
-      closed_listed ks stack entries
-          (λ n l. f n (listed_more n (Some m) entries l)),
-    ))
-  where
-    own : (n : ℕ) → (n == n) ≡ true
-    own n = eq-eqb n n refl
-
 pub reconstruct_keeps : Keeps reconstruct
 reconstruct_keeps = record {
-  keeps = λ s h. reopen_all_kept (closed_elements s.stack s.formatting) (on_formatting (after_closed s.stack) s)
-      (closed_listed (kinds s.nodes) s.stack s.formatting (λ n l. h.held n (as_entry l)))
+  keeps = λ s h. reconstructed (ElementAt (kinds s.nodes)) (Kept (on_formatting (after_closed s.stack) s)) s
+      (λ n l. h.held n (as_entry l)) (kept_same
       (sound_held (λ n l. h.held n (held_in s.formatting s.stack (listed_closed n s.stack s.formatting) (λ e. e) l))
-      h);
+      h)) (λ n t e k. kept_then k (reopen_kept n t (k.stays n e) k.sound));
 }
 
 -- ---- what isn't a node

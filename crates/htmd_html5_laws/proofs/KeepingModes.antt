@@ -1,38 +1,33 @@
 -- Tokens that are no text leave the texts as they are, by the rules of the mode and in foreign content.
+use Rattle.std.proofs.lemmas.Bool.{cond_both}
 use Rattle.std.proofs.Common.{◌≡◌, ℕ, zero, suc, Bool, true, false, List, [], ◌∷◌, refl}
-use Rattle.std.specs.Prelude.{if◌then◌else◌}
 use Rattle.htmd_grammar.proofs.Cases.{test}
 use Rattle.htmd_html5_state.specs.Names.{NameValue, known, text_of_name}
 use Rattle.htmd_html5_state.specs.OpenElements.{OpenValue}
 use Rattle.htmd_html5_state.specs.State.{StateValue, on_stack}
-use Rattle.htmd_html5_state.specs.Foreign.{ForeignEnd, by_mode, closed_to, foreign_end, goes_by_mode}
-use Rattle.htmd_html5_state.specs.Foreign.{after_foreign_end, leave_foreign, is_html, is_spelled_so}
+use Rattle.htmd_html5_state.specs.Foreign.{ForeignEnd, by_mode, closed_to, foreign_end, goes_by_mode, after_foreign_end}
+use Rattle.htmd_html5_state.specs.Foreign.{leave_foreign, is_html, is_spelled_so}
 use Rattle.htmd_html5_state.specs.declared.modes.InsertionMode.{InsertionMode}
-use Rattle.htmd_html5_state.specs.declared.modes.InsertionMode.TheVariants.{Initial, BeforeHtml, BeforeHead, InHead}
-use Rattle.htmd_html5_state.specs.declared.modes.InsertionMode.TheVariants.{InHeadNoscript, AfterHead, InColumnGroup}
-use Rattle.htmd_html5_state.specs.declared.modes.InsertionMode.TheVariants.{AfterBody}
-use Rattle.htmd_html5.specs.Tokens.{TokenValue, start_tag, end_tag, run, comment, doctype, end_of_file}
-use Rattle.htmd_html5.specs.Outcomes.{Outcome, done}
+use Rattle.htmd_html5_state.specs.declared.modes.InsertionMode.TheVariants.{BeforeHtml, Initial}
+use Rattle.htmd_html5.specs.Tokens.{TokenValue, start_tag, end_tag, run, end_of_file}
+use Rattle.htmd_html5.specs.Outcomes.{Outcome}
 use Rattle.htmd_html5.specs.Processing.{by_rules, after_outcome, process_within, process, turns}
 use Rattle.htmd_html5.specs.BodyStarts.{is_in_template}
 use Rattle.htmd_html5.specs.InTable.{fostered}
 use Rattle.htmd_html5.specs.ForeignContent.{end_foreign}
-use Rattle.htmd_html5.specs.Modes.{leave_mode, by_mode_rules}
+use Rattle.htmd_html5.specs.Modes.{by_mode_rules}
 use Rattle.htmd_html5_laws.proofs.OpenNodes.{Fewer, all_of, skip, leave_foreign_fewer}
-use Rattle.htmd_html5_laws.proofs.Keeping.{Sound, Kept, Keeps, kept_same, kept_then, after, nothing, by_test, sound_open}
-use Rattle.htmd_html5_laws.proofs.KeepingRules.{KeepsAnswer, says, answers_by_test, act_keeps}
-use Rattle.htmd_html5_laws.proofs.KeepingRules.{leave_template_keeps}
-use Rattle.htmd_html5_laws.proofs.Rules.{any_act, any_reply}
-use Rattle.htmd_html5_laws.proofs.RuleBook.{rule_in}
-use Rattle.htmd_html5_laws.proofs.RuleWalk.{IsMarkup, Invariant, Everywhere, in_mode_holds, by_rules_hold}
+use Rattle.htmd_html5_laws.proofs.Keeping.{Sound, Kept, Keeps, kept_same, kept_then, after, nothing, by_test}
+use Rattle.htmd_html5_laws.proofs.Keeping.{sound_open}
+use Rattle.htmd_html5_laws.proofs.KeepingRules.{KeepsAnswer, says, answers_by_test, act_keeps, leave_template_keeps}
+use Rattle.htmd_html5_laws.proofs.Rules.{any_act, reply_fits, reply_of}
+use Rattle.htmd_html5_laws.proofs.RuleBook.{rule_in, end_in, start_in}
+use Rattle.htmd_html5_laws.proofs.RuleWalk.{IsMarkup, Invariant, Everywhere, tag_of, replies, by_rules_hold, is_run}
+use Rattle.htmd_html5_laws.proofs.RunRules.{leave_in}
 use Rattle.htmd_html5_state.specs.declared.names.TagName.TheVariants as tags
 use Rattle.htmd_html5_state.specs.Foreign as foreign
 
 -- ---- tokens
-
-abbrev pub is_run : TokenValue → Bool
-is_run (run kind text) = true
-is_run _ = false
 
 abbrev pub any_name : NameValue → Bool
 any_name name = true
@@ -40,10 +35,7 @@ any_name name = true
 pub is_markup : (t : TokenValue) → is_run t ≡ false → IsMarkup any_name t
 is_markup (run kind s) e = e
 is_markup (start_tag tag) e = refl
-is_markup (end_tag name) e = tt
-is_markup (comment s) e = tt
-is_markup (doctype quirks) e = tt
-is_markup end_of_file e = tt
+is_markup _ e = tt
 
 -- ---- foreign content
 
@@ -65,8 +57,7 @@ foreign_end_in name (e ∷ []) = tt
 foreign_end_in name (e ∷ f ∷ es) =
     let more = ends_more e (foreign_end name (f ∷ es)) (f ∷ es) (foreign_end_in name (f ∷ es)) in
     test (is_html e) (λ t. rw t tt)
-    (λ t. test (is_spelled_so name e.name) (λ u. rw (t, u) (skip e (all_of (f ∷ es))))
-    (λ u. rw (t, u) more))
+    (λ t. test (is_spelled_so name e.name) (λ u. rw (t, u) (skip e (all_of (f ∷ es)))) (λ u. rw (t, u) more))
 
 after_foreign_end_kept : (ending : ForeignEnd) (s : StateValue) → EndsIn ending s.stack → Sound s
     → Kept s (after_foreign_end ending s)
@@ -75,28 +66,40 @@ after_foreign_end_kept (closed_to es) s fewer h = kept_same (sound_open es fewer
 after_foreign_end_kept foreign.nothing s fewer h = kept_same h
 
 end_foreign_kept : (name : NameValue) (ending : ForeignEnd) (s : StateValue) → EndsIn ending s.stack
-    → KeepsAnswer (by_mode_rules (end_tag name)) → Sound s
-    → Kept s (end_foreign name ending s).state
-end_foreign_kept name ending s fewer by_rules h = either (goes_by_mode ending)
-  where
-    either : (t : Bool) → Kept s
-        (if t then by_mode_rules (end_tag name) s else done (after_foreign_end ending s)).state
-    either true = by_rules.keeps s h
-    either false = after_foreign_end_kept ending s fewer h
+    → KeepsAnswer (by_mode_rules (end_tag name)) → Sound s → Kept s (end_foreign name ending s).state
+end_foreign_kept name ending s fewer by_rules h =
+    cond_both (goes_by_mode ending) _ _ (λ (a : Outcome). Kept s a.state) (λ t. by_rules.keeps s h)
+    (λ t. after_foreign_end_kept ending s fewer h)
 
 -- ---- the rules
 
 fostered_keeps : {f : StateValue → StateValue} → Keeps f → Keeps (fostered f)
 fostered_keeps h = record { keeps = λ s sound. h.keeps (record s { foster_parenting = true }) sound }
 
+starts_fit : (name : NameValue) (mode : InsertionMode)
+    → reply_fits any_act any_act any_act (start_in mode name) ≡ true
+starts_fit (known tags.A) Initial = refl
+starts_fit name BeforeHtml = refl
+starts_fit name mode = refl
+
+ends_fit : (name : NameValue) (mode : InsertionMode) → reply_fits any_act any_act any_act (end_in mode name) ≡ true
+ends_fit (known tags.A) Initial = refl
+ends_fit name BeforeHtml = refl
+ends_fit name mode = refl
+
+all_fit : (mode : InsertionMode) (t : TokenValue) → reply_fits any_act any_act any_act (rule_in mode t) ≡ true
+all_fit mode (start_tag tag) = starts_fit tag.name mode
+all_fit mode (end_tag name) = ends_fit name mode
+all_fit Initial t = refl
+all_fit mode t = refl
+
 keeping : Invariant any_name (λ mode. Unit {0}) (λ name. any_act) (λ name. any_act) (λ name. any_act) Keeps Keeps
-    Keeps
-    KeepsAnswer
+    Keeps KeepsAnswer
 keeping = record {
   acts = λ tag p a e. act_keeps tag a;
   turn_acts = λ tag p a e. act_keeps tag a;
   last_acts = λ tag p a e. act_keeps tag a;
-  fit = λ mode q t p. any_reply (rule_in mode t);
+  fit = λ mode q t p. all_fit mode t;
   still = nothing;
   after = after;
   by_test = by_test;
@@ -129,16 +132,13 @@ keeping_everywhere = record {
   };
 }
 
+leave_fits : (mode : InsertionMode) → reply_fits any_act any_act any_act (leave_in mode) ≡ true
+leave_fits Initial = refl
+leave_fits mode = refl
+
 -- what ends a mode and is processed again
-pub leave_mode_keeps : (mode : InsertionMode) → KeepsAnswer (leave_mode mode)
-leave_mode_keeps Initial = in_mode_holds keeping refl end_of_file tt Initial tt
-leave_mode_keeps BeforeHtml = in_mode_holds keeping refl end_of_file tt BeforeHtml tt
-leave_mode_keeps BeforeHead = in_mode_holds keeping refl end_of_file tt BeforeHead tt
-leave_mode_keeps InHead = in_mode_holds keeping refl end_of_file tt InHead tt
-leave_mode_keeps InHeadNoscript = in_mode_holds keeping refl end_of_file tt InHeadNoscript tt
-leave_mode_keeps AfterHead = in_mode_holds keeping refl end_of_file tt AfterHead tt
-leave_mode_keeps InColumnGroup = in_mode_holds keeping refl (end_tag (known tags.P)) tt InColumnGroup tt
-leave_mode_keeps _ = in_mode_holds keeping refl (end_tag (known tags.P)) tt AfterBody tt
+pub leave_keeps : (mode : InsertionMode) → KeepsAnswer (reply_of (leave_in mode) (tag_of end_of_file))
+leave_keeps mode = replies keeping refl (tag_of end_of_file) refl (leave_in mode) (leave_fits mode)
 
 by_rules_keeps : (token : TokenValue) → is_run token ≡ false → KeepsAnswer (by_rules token)
 by_rules_keeps token e = by_rules_hold keeping keeping_everywhere refl token (is_markup token e)
@@ -147,11 +147,8 @@ by_rules_keeps token e = by_rules_hold keeping keeping_everywhere refl token (is
 
 after_answer_kept : (go : StateValue → StateValue) (s : StateValue) (a : Outcome)
     → ((t : StateValue) → Sound t → Kept t (go t)) → Kept s a.state → Kept s (after_outcome go a)
-after_answer_kept go s a more here = either a.again
-  where
-    either : (t : Bool) → Kept s (if t then go a.state else a.state)
-    either true = kept_then here (more a.state here.sound)
-    either false = here
+after_answer_kept go s a more here =
+    cond_both a.again _ _ (λ x. Kept s x) (λ t. kept_then here (more a.state here.sound)) (λ t. here)
 
 process_within_kept : (k : ℕ) (token : TokenValue) (s : StateValue) → is_run token ≡ false → Sound s
     → Kept s (process_within k token s)

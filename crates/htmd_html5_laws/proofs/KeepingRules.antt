@@ -1,13 +1,12 @@
 -- The rules of the modes leave the texts as they are, where a token is no text: what each act does.
-use Rattle.std.proofs.Common.{◌≡◌, ℕ, Bool, true, false, List, length, Option, Some, None, refl, sym, inl, inr, ◌⊎◌}
+use Rattle.std.proofs.Common.{◌≡◌, ℕ, Bool, true, List, length, Option, Some, None, refl, sym, inl, inr, ◌⊎◌}
 use Rattle.std.specs.Prelude.{if◌then◌else◌}
-use Rattle.std.proofs.lemmas.Bool.{eqb-true, eq-eqb}
+use Rattle.std.proofs.lemmas.Bool.{eqb-true, eq-eqb, cond_both}
 use Rattle.htmd_grammar.specs.ValueTrees.{AttributePair}
 use Rattle.htmd_html5_state.specs.Names.{NameValue, html, text_of_name, known}
 use Rattle.htmd_html5_state.specs.Nodes.{element}
-use Rattle.htmd_html5_state.specs.OpenElements.{OpenValue, first_open, pop, pop_until, clear_to, without}
-use Rattle.htmd_html5_state.specs.OpenElements.{outermost, pop_while, is_in_scope, is_node_in_scope, current_is}
-use Rattle.htmd_html5_state.specs.OpenElements.{has_second}
+use Rattle.htmd_html5_state.specs.OpenElements.{OpenValue, first_open, pop, pop_until, clear_to, without, outermost}
+use Rattle.htmd_html5_state.specs.OpenElements.{pop_while, is_in_scope, is_node_in_scope, current_is, has_second}
 use Rattle.htmd_html5_state.specs.State.{StateValue, on_stack}
 use Rattle.htmd_html5_state.specs.Insertion.{current, place, open_again}
 use Rattle.htmd_html5_state.specs.Formatting.{is_entry, clear_to_marker}
@@ -15,7 +14,8 @@ use Rattle.htmd_html5_state.specs.Foreign.{namespace_of}
 use Rattle.htmd_html5_state.specs.Adoption.{formatting_element}
 use Rattle.htmd_html5_state.specs.declared.modes.InsertionMode.{InsertionMode}
 use Rattle.htmd_html5_state.specs.declared.modes.InsertionMode.TheVariants.{InTable, InTableBody, InRow, InFrameset}
-use Rattle.htmd_html5_state.specs.declared.modes.InsertionMode.TheVariants.{AfterFrameset}
+use Rattle.htmd_html5_state.specs.declared.modes.InsertionMode.TheVariants.{AfterFrameset, InHead, InHeadNoscript}
+use Rattle.htmd_html5_state.specs.declared.modes.InsertionMode.TheVariants.{AfterHead, InCell, BeforeHead, InBody}
 use Rattle.htmd_html5_state.specs.declared.sets.NameSet.{NameSet}
 use Rattle.htmd_html5_state.specs.declared.sets.NameSet.TheVariants.{Only, ImpliedEnd, TableBodyContext}
 use Rattle.htmd_html5_state.specs.declared.sets.NameSet.TheVariants.{TableRowContext}
@@ -24,9 +24,9 @@ use Rattle.htmd_html5_state.specs.declared.names.Namespace.{Namespace}
 use Rattle.htmd_html5.specs.Tokens.{StartTagValue}
 use Rattle.htmd_html5.specs.Outcomes.{Outcome, outcome}
 use Rattle.htmd_html5.specs.SharedRules.{with_mode, no_frameset, add_missing_to, open_template, leave_template}
-use Rattle.htmd_html5.specs.SharedRules.{insert_head_element}
-use Rattle.htmd_html5.specs.BodyStarts.{is_in_template, open_body, add_to_this_body, replace_this_body}
-use Rattle.htmd_html5.specs.BodyStarts.{with_form, forget, start_select}
+use Rattle.htmd_html5.specs.SharedRules.{insert_head_element, insert_tag}
+use Rattle.htmd_html5.specs.BodyStarts.{is_in_template, open_body, add_to_this_body, replace_this_body, with_form}
+use Rattle.htmd_html5.specs.BodyStarts.{forget, start_select}
 use Rattle.htmd_html5.specs.BodyEnds.{close_form}
 use Rattle.htmd_html5.specs.BeforeHead.{with_head}
 use Rattle.htmd_html5.specs.AfterHead.{insert_in_head, insert_late}
@@ -54,18 +54,17 @@ use Rattle.htmd_html5_laws.proofs.KeepingInsertion.{clear_to_marker_keeps, recon
 use Rattle.htmd_html5_laws.proofs.KeepingInsertion.{push_template_mode_keeps, pop_template_mode_keeps}
 use Rattle.htmd_html5_laws.proofs.KeepingInsertion.{reset_insertion_mode_keeps}
 use Rattle.htmd_html5_laws.proofs.KeepingAdoption.{adoption_agency_keeps}
-use Rattle.htmd_html5_laws.proofs.Rules.{given_name, given_attributes, left_open, Act, act_on, element as put, void, root}
-use Rattle.htmd_html5_laws.proofs.Rules.{head, raw_text, of_head, late_of_head, foreign, foreign_alike, formatting}
-use Rattle.htmd_html5_laws.proofs.Rules.{select, comment, comment_in_root, comment_in_document, started, cut, agency}
-use Rattle.htmd_html5_laws.proofs.Rules.{forget_anchor, noted_form, table_closed, caption_closed, columns_closed}
-use Rattle.htmd_html5_laws.proofs.Rules.{section_closed, row_closed, cell_closed, cell_left, select_closed, select_left}
-use Rattle.htmd_html5_laws.proofs.Rules.{frameset_closed, template_closed, root_attributes}
+use Rattle.htmd_html5_laws.proofs.Rules.{given_name, given_attributes, left_open, Act, act_on, element as put, void}
+use Rattle.htmd_html5_laws.proofs.Rules.{root, head, raw_text, of_head, late_of_head, foreign, foreign_alike}
+use Rattle.htmd_html5_laws.proofs.Rules.{formatting, select, comment, comment_in_root, comment_in_document, started}
+use Rattle.htmd_html5_laws.proofs.Rules.{cut, agency, forget_anchor, noted_form, table_closed, caption_closed}
+use Rattle.htmd_html5_laws.proofs.Rules.{columns_closed, section_closed, row_closed, cell_closed, cell_left}
+use Rattle.htmd_html5_laws.proofs.Rules.{select_closed, select_left, frameset_closed, template_closed, root_attributes}
 use Rattle.htmd_html5_laws.proofs.Rules.{body_attributes, body_replaced, marked, to_marker, reconstructed, to_mode}
-use Rattle.htmd_html5_laws.proofs.Rules.{to_quirks, to_content, frames_refused, line_feed_skipped, noted_element, fostering}
-use Rattle.htmd_html5_laws.proofs.Rules.{empty_form, noscript_put, cell_put, head_left, noscript_left}
+use Rattle.htmd_html5_laws.proofs.Rules.{to_quirks, to_content, frames_refused, line_feed_skipped, noted_element}
+use Rattle.htmd_html5_laws.proofs.Rules.{fostering, empty_form, noscript_put, cell_put, head_left, noscript_left}
+use Rattle.htmd_html5_laws.proofs.Rules.{body_put}
 use Rattle.htmd_html5_laws.proofs.RuleWalk.{left_fewer}
-use Rattle.htmd_html5_state.specs.declared.modes.InsertionMode.TheVariants.{InHead, InHeadNoscript, AfterHead, InCell}
-use Rattle.htmd_html5.specs.SharedRules.{insert_tag}
 use Rattle.htmd_html5_state.specs.declared.names.TagName.TheVariants as tags
 use Rattle.htmd_grammar.specs.declared.content_model.RawElement.TheVariants as raw
 
@@ -81,11 +80,10 @@ says h = record { keeps = λ s sound. h.keeps s sound }
 
 pub answers_by_test : {f g : StateValue → Outcome} (b : StateValue → Bool) → KeepsAnswer f → KeepsAnswer g
     → KeepsAnswer (λ s. if b s then f s else g s)
-answers_by_test {f} {g} b first second = record { keeps = λ s h. either (b s) s h }
-  where
-    either : (t : Bool) (s : StateValue) → Sound s → Kept s (if t then f s else g s).state
-    either true s h = first.keeps s h
-    either false s h = second.keeps s h
+answers_by_test b first second = record {
+  keeps = λ s h. cond_both (b s) _ _ (λ (a : Outcome). Kept s a.state) (λ t. first.keeps s h)
+      (λ t. second.keeps s h);
+}
 
 -- ---- what is inserted
 
@@ -131,8 +129,7 @@ insert_in_head_kept None tag s at h = (of_head_keeps tag.name tag).keeps s h
 insert_in_head_kept (Some n) tag s at h =
     let opened : Kept s (open_again n (known tags.Head) s) =
     open_again_kept n (known tags.Head) s (at n refl) h in
-    kept_then opened
-    ((after (on_stack_keeps (without n) (without_fewer n)) (of_head_keeps tag.name tag)).keeps
+    kept_then opened ((after (on_stack_keeps (without n) (without_fewer n)) (of_head_keeps tag.name tag)).keeps
     (open_again n (known tags.Head) s) opened.sound)
 
 late_keeps : (tag : StartTagValue) → Keeps (insert_late tag)
@@ -201,8 +198,7 @@ leave_template_keeps =
     (after pop_template_mode_keeps (after clear_to_marker_keeps (popped_keeps (Only tags.Template))))
 
 frameset_closed_keeps : Keeps with_frameset_closed
-frameset_closed_keeps =
-    by_test (λ s. current_is (Only tags.FrameSet) s.stack) nothing (with_mode_keeps AfterFrameset)
+frameset_closed_keeps = by_test (λ s. current_is (Only tags.FrameSet) s.stack) nothing (with_mode_keeps AfterFrameset)
 
 -- ---- attributes
 
@@ -218,25 +214,25 @@ add_to_body_keeps tag (Some body) =
 replace_body_keeps : (tag : StartTagValue) (body : Option ℕ) → Keeps (replace_this_body body tag)
 replace_body_keeps tag None = nothing
 replace_body_keeps tag (Some body) =
-    by_test (λ s. s.frameset_ok)
-    (after (with_mode_keeps InFrameset)
+    by_test (λ s. s.frameset_ok) (after (with_mode_keeps InFrameset)
     (after (insert_element_keeps tag.name tag.attributes)
-    (after (on_stack_keeps outermost outermost_fewer) (detach_keeps body))))
-    nothing
+    (after (on_stack_keeps outermost outermost_fewer) (detach_keeps body)))) nothing
 
 -- ---- acts
 
 pub act_keeps : (tag : StartTagValue) (a : Act) → Keeps (act_on a tag)
 act_keeps tag (put given) = insert_element_keeps (given_name given tag) (given_attributes given tag)
 act_keeps tag (void given) = insert_void_keeps (given_name given tag) (given_attributes given tag)
-act_keeps tag (root given) = insert_root_keeps (given_name given tag) (given_attributes given tag)
+act_keeps tag (root given) =
+    after (with_mode_keeps BeforeHead) (insert_root_keeps (given_name given tag) (given_attributes given tag))
 act_keeps tag (head given) = with_head_keeps (given_name given tag) (given_attributes given tag)
+act_keeps tag (body_put given) =
+    after (with_mode_keeps InBody) (insert_element_keeps (given_name given tag) (given_attributes given tag))
 act_keeps tag (raw_text raw) = insert_raw_keeps tag.name raw tag.attributes
 act_keeps tag of_head = of_head_keeps tag.name tag
 act_keeps tag late_of_head = late_keeps tag
 act_keeps tag (foreign space) = insert_foreign_keeps space (text_of_name tag.name) tag.attributes tag.self_closing
-act_keeps tag foreign_alike =
-    by_state (λ s. namespace_of (current s.stack).name) (λ space. alike_keeps space tag)
+act_keeps tag foreign_alike = by_state (λ s. namespace_of (current s.stack).name) (λ space. alike_keeps space tag)
 act_keeps tag formatting = insert_formatting_keeps tag.name tag.attributes
 act_keeps tag select = select_keeps tag
 act_keeps tag (comment text) = insert_comment_keeps text

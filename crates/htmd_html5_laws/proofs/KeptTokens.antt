@@ -1,27 +1,27 @@
 -- The tokens of a page, one after another: the texts of the nodes hold what is kept of the tokens' texts.
-use Rattle.std.proofs.Common.{◌≡◌, ℕ, zero, suc, ◌+◌, Bool, true, false, List, [], ◌∷◌, ◌++◌, length, refl, sym, ap, arith}
-use Rattle.std.specs.Prelude.{IsUtf8, if◌then◌else◌, ◌&&◌, ◌||◌, ◌==◌, not}
+use Rattle.std.proofs.Common.{◌≡◌, ℕ, zero, suc, ◌+◌, Bool, true, false, List, [], ◌∷◌, ◌++◌, length, refl, sym, ap}
+use Rattle.std.proofs.Common.{arith}
+use Rattle.std.specs.Prelude.{IsUtf8, ◌||◌, ◌==◌, not, codes, if◌then◌else◌}
 use Rattle.std.specs.List.{list_all}
-use Rattle.std.proofs.lemmas.Bool.{true≢false, and_parts}
+use Rattle.std.proofs.lemmas.Bool.{true≢false, and_parts, or_parts, not-true}
 use Rattle.htmd_grammar.specs.Characters.{null}
+use Rattle.htmd_grammar.proofs.Cases.{test}
 use Rattle.htmd_nodes.specs.Items.{greatest_depth}
 use Rattle.htmd_html5_tokens.specs.Preprocessing.{preprocessed}
 use Rattle.htmd_html5_tokens.specs.References.{replacement_character}
 use Rattle.htmd_html5_tokens.specs.Tokens.{Read}
 use Rattle.htmd_html5_state.specs.State.{StateValue, initial_state}
 use Rattle.htmd_html5_state.specs.Foreign.{current_is_html}
-use Rattle.htmd_html5.specs.Texts.{put_text}
-use Rattle.htmd_html5.specs.Feeding.{is_text_mode, put_raw_text, feed_text, without_line_feed, with_nothing_skipped, feed}
+use Rattle.htmd_html5.specs.Feeding.{is_text_mode, feed_text, without_line_feed, with_nothing_skipped, feed}
 use Rattle.htmd_html5.specs.Html5Documents.{next_read, is_end, after_token, read_within, state_after, html5_document}
 use Rattle.htmd_html5_laws.specs.PageLetters.{occurrences, occurrences_in, texts_of}
-use Rattle.htmd_html5_laws.specs.TextKept.{has_no_null, no_null_comes}
+use Rattle.htmd_html5_laws.specs.TextKept.{has_no_null, no_null_comes, drops_white, without_white}
+use Rattle.htmd_html5_laws.specs.TextKept.{kept_text, with_kept_text, kept_after, kept_within, kept_texts, is_kept}
+use Rattle.htmd_html5_laws.specs.TextKept.{CharactersAreKept}
 use Rattle.htmd_html5_laws.proofs.WhiteRuns.{Clean, clean_shortened}
 use Rattle.htmd_html5_laws.specs.DroppedTexts.{tokens_after, tokens_within, page_tokens, drops_text_in, drops_no_text}
-use Rattle.std.specs.Prelude.{codes}
 use Rattle.std.specs.Str.{bytes_eq}
 use Rattle.htmd_html5_laws.specs.LetterOrder.{moves_no_text, no_tag_moves_text, moves_text_in}
-use Rattle.htmd_html5_laws.specs.TextKept.{is_before_head, drops_white, without_white, kept_text, with_kept_text, kept_after}
-use Rattle.htmd_html5_laws.specs.TextKept.{kept_within, kept_texts, is_kept, CharactersAreKept}
 use Rattle.htmd_html5_laws.proofs.Utf8Tokens.{TokenUtf8, ReadUtf8, next_token_utf8, preprocessed_utf8}
 use Rattle.htmd_html5_laws.proofs.LetterLemmas.{CharacterTests}
 use Rattle.htmd_html5_laws.proofs.Keeping.{Sound}
@@ -35,9 +35,9 @@ use Rattle.htmd_html5_laws.proofs.LaidTexts.{laid_texts}
 use Rattle.htmd_html5_laws.proofs.WholeTrees.{ranked_hang, whole_texts}
 use Rattle.htmd_html5_laws.proofs.UndroppedTokens.{harmless_hung}
 use Rattle.htmd_html5_laws.proofs.OrderedEarly.{Staged}
-use Rattle.htmd_html5_laws.proofs.OrderedTokens.{feed_stage, stage_skipped, begins_staged, kept_letters, both_false, orderly_tag}
-use Rattle.htmd_html5_tokens.specs.Tokens as tokens
+use Rattle.htmd_html5_laws.proofs.OrderedTokens.{feed_stage, stage_skipped, begins_staged, kept_letters}
 use Rattle.htmd_html5_laws.proofs.Counted.{letter_choice}
+use Rattle.htmd_html5_tokens.specs.Tokens as tokens
 
 character_tests : (c : ℕ) → is_kept c ≡ true → CharacterTests c
 character_tests c e =
@@ -56,14 +56,10 @@ module _ (c : ℕ) (nulls : Bool) (tests : nulls ≡ true → CharacterTests c) 
 
   feed_text_kept : (text letters : List ℕ) (s : StateValue) → IsUtf8 text → Clean nulls text
       → Staged letter_choice letters s → Sound s
-      → Grew c (occurrences c (without_white (drops_white s) text)) s (feed_text text s)
-  feed_text_kept text letters s u clean h sound = either (is_text_mode s.content) refl
-    where
-      either : (b : Bool) → is_text_mode s.content ≡ b
-          → Grew c (occurrences c (without_white (not b && is_before_head s.mode) text)) s
-          (if b then put_raw_text text s else put_text text s)
-      either true e = raw_grew c text s u sound
-      either false e = put_text_kept c nulls tests text letters s u clean e h sound
+      → Grew true c (occurrences c (without_white (drops_white s) text)) s (feed_text text s)
+  feed_text_kept text letters s u clean h sound =
+      test (is_text_mode s.content) (λ e. rw e (raw_grew true c text s u sound))
+      (λ e. rw e (put_text_kept c nulls tests text letters s u clean e h sound))
 
   -- how often the character stands in what is kept of a token
   abbrev kept_count : tokens.TokenValue → StateValue → ℕ
@@ -71,60 +67,35 @@ module _ (c : ℕ) (nulls : Bool) (tests : nulls ≡ true → CharacterTests c) 
   kept_count _ s = 0
 
   fed_kept : (token : tokens.TokenValue) (letters : List ℕ) (s : StateValue) → TokenUtf8 token → NoNull token
-      → Staged letter_choice letters s → Sound s → Grew c (kept_count token s) s (feed token s)
+      → Staged letter_choice letters s → Sound s → Grew true c (kept_count token s) s (feed token s)
   fed_kept token letters s u clean h sound = by_token token u clean
       (kept_grew (with_nothing_skipped_keeps.keeps s sound))
     where
       skipped : StateValue
       skipped = with_nothing_skipped s
 
-      by_token : (token : tokens.TokenValue) → TokenUtf8 token → NoNull token → Grew c 0 s skipped
-          → Grew c (kept_count token s) s (feed token s)
+      by_token : (token : tokens.TokenValue) → TokenUtf8 token → NoNull token → Grew true c 0 s skipped
+          → Grew true c (kept_count token s) s (feed token s)
       by_token (tokens.text text) u clean a =
           grew_then (occurrences c (kept_text text s)) (omega arith) a
           (feed_text_kept (without_line_feed s.skips_line_feed text) letters skipped
           (shortened c s.skips_line_feed text u).utf8 (clean_shortened nulls s.skips_line_feed text clean)
-          (stage_skipped letter_choice (is_text_mode s.content) s.mode letters s h) a.sound)
-      by_token (tokens.start_tag tag) u clean a =
-          grew_then 0 (omega arith) a
-          (kept_grew (others_kept (tokens.start_tag tag) s.skips_line_feed skipped a.sound))
-      by_token (tokens.end_tag tag) u clean a =
-          grew_then 0 (omega arith) a
-          (kept_grew (others_kept (tokens.end_tag tag) s.skips_line_feed skipped a.sound))
-      by_token (tokens.comment text) u clean a =
-          grew_then 0 (omega arith) a
-          (kept_grew (others_kept (tokens.comment text) s.skips_line_feed skipped a.sound))
-      by_token (tokens.doctype quirks) u clean a =
-          grew_then 0 (omega arith) a
-          (kept_grew (others_kept (tokens.doctype quirks) s.skips_line_feed skipped a.sound))
-      by_token tokens.end_of_file u clean a =
-          grew_then 0 (omega arith) a
-          (kept_grew (others_kept tokens.end_of_file s.skips_line_feed skipped a.sound))
+          (stage_skipped letter_choice letters s h) a.sound)
+      by_token token u clean a =
+          grew_then 0 (omega arith) a (kept_grew (others_kept token s.skips_line_feed skipped a.sound))
 
   count_kept : (token : tokens.TokenValue) (s : StateValue) (more : List (List ℕ))
       → occurrences_in c (with_kept_text token s more) ≡ kept_count token s + occurrences_in c more
   count_kept (tokens.text text) s more = occurs_cons c (kept_text text s) more
-  count_kept (tokens.start_tag tag) s more = omega arith
-  count_kept (tokens.end_tag tag) s more = omega arith
-  count_kept (tokens.comment text) s more = omega arith
-  count_kept (tokens.doctype quirks) s more = omega arith
-  count_kept tokens.end_of_file s more = omega arith
+  count_kept _ s more = omega arith
 
   end_keeps_none : (token : tokens.TokenValue) (s : StateValue) → is_end token ≡ true → kept_count token s ≡ 0
   end_keeps_none (tokens.text text) s e = absurd (true≢false (sym e))
-  end_keeps_none (tokens.start_tag tag) s e = refl
-  end_keeps_none (tokens.end_tag tag) s e = refl
-  end_keeps_none (tokens.comment text) s e = refl
-  end_keeps_none (tokens.doctype quirks) s e = refl
-  end_keeps_none tokens.end_of_file s e = refl
+  end_keeps_none _ s e = refl
 
   end_is_clean : (token : tokens.TokenValue) → is_end token ≡ true → has_no_null token ≡ true
   end_is_clean (tokens.text text) e = absurd (true≢false (sym e))
-  end_is_clean (tokens.start_tag tag) e = refl
-  end_is_clean (tokens.end_tag tag) e = refl
-  end_is_clean (tokens.comment text) e = refl
-  end_is_clean (tokens.doctype quirks) e = refl
-  end_is_clean tokens.end_of_file e = refl
+  end_is_clean _ e = refl
 
   -- ---- all tokens
 
@@ -138,19 +109,16 @@ module _ (c : ℕ) (nulls : Bool) (tests : nulls ≡ true → CharacterTests c) 
       → (nulls ≡ false → list_all has_no_null (tokens_after (tokens_within k) read s) ≡ true)
       → Staged letter_choice letters s
       → ((more : List ℕ) (t : StateValue) → Allowed k read.rest t → Staged letter_choice more t → Sound t
-      → Grew c (occurrences_in c (kept_within k read.rest t)) t (read_within k read.rest t))
-      → Grew c (occurrences_in c (kept_after (kept_within k) read s)) s (after_token (read_within k) read s)
+      → Grew true c (occurrences_in c (kept_within k read.rest t)) t (read_within k read.rest t))
+      → Grew true c (occurrences_in c (kept_after (kept_within k) read s)) s (after_token (read_within k) read s)
   after_kept_all k read letters s sound u e n h more = either (is_end read.token) refl e n
     where
-      either : (b : Bool) → is_end read.token ≡ b
-          → list_all moves_no_text
+      either : (b : Bool) → is_end read.token ≡ b → list_all moves_no_text
           (if b then [] else read.token ∷ tokens_within k read.rest (feed read.token s)) ≡ true
           → (nulls ≡ false → list_all has_no_null
-          (if b then [] else read.token ∷ tokens_within k read.rest (feed read.token s)) ≡ true)
-          → Grew c
+          (if b then [] else read.token ∷ tokens_within k read.rest (feed read.token s)) ≡ true) → Grew true c
           (occurrences_in c (if b then [] else with_kept_text read.token s (kept_within k read.rest
-          (feed read.token s)))) s
-          (if b then feed read.token s else read_within k read.rest (feed read.token s))
+          (feed read.token s)))) s (if b then feed read.token s else read_within k read.rest (feed read.token s))
       either true g f n =
           grew_as 0 (end_keeps_none read.token s g)
           (fed_kept read.token letters s u.token (λ z. end_is_clean read.token g) h sound)
@@ -161,17 +129,15 @@ module _ (c : ℕ) (nulls : Bool) (tests : nulls ≡ true → CharacterTests c) 
           let none = λ (z : nulls ≡ false). and_parts (has_no_null read.token)
           (list_all has_no_null (tokens_within k read.rest (feed read.token s))) (n z) in
           let first = fed_kept read.token letters s u.token (λ z. (none z).0) h sound in
-          grew_then
-          (occurrences_in c (with_kept_text read.token s (kept_within k read.rest (feed read.token s))))
-          (omega arith) first
-          (more (letters ++ kept_letters letter_choice read.token s) (feed read.token s)
+          grew_then (occurrences_in c (with_kept_text read.token s (kept_within k read.rest (feed read.token s))))
+          (omega arith) first (more (letters ++ kept_letters letter_choice read.token s) (feed read.token s)
           (record { moving_none = both.1; clean = λ z. (none z).1 })
           (feed_stage letter_choice letters read.token s u.token both.0 (λ z. absurd (true≢false z))
           (λ z. absurd (true≢false z)) h) first.sound)
 
   read_kept : (k : ℕ) (page : List ℕ) (letters : List ℕ) (s : StateValue) → IsUtf8 page → Allowed k page s
       → Staged letter_choice letters s → Sound s
-      → Grew c (occurrences_in c (kept_within k page s)) s (read_within k page s)
+      → Grew true c (occurrences_in c (kept_within k page s)) s (read_within k page s)
   read_kept zero page letters s u a h sound = fed_kept tokens.end_of_file letters s tt (λ z. refl) h sound
   read_kept (suc k) page letters s u a h sound =
       let r = next_token_utf8 s.content (not (current_is_html s.stack)) page u in
@@ -180,7 +146,8 @@ module _ (c : ℕ) (nulls : Bool) (tests : nulls ≡ true → CharacterTests c) 
 
   state_kept : (scripting : Bool) (page : List ℕ) → IsUtf8 page → no_tag_moves_text scripting page ≡ true
       → (nulls ≡ false → no_null_comes scripting page ≡ true)
-      → Grew c (occurrences_in c (kept_texts scripting page)) (initial_state scripting) (state_after scripting page)
+      → Grew true c (occurrences_in c (kept_texts scripting page)) (initial_state scripting)
+      (state_after scripting page)
   state_kept scripting page u e n =
       read_kept (length (preprocessed page)) (preprocessed page) [] (initial_state scripting)
       (preprocessed_utf8 page u) (record { moving_none = e; clean = n }) (begins_staged letter_choice scripting)
@@ -190,13 +157,9 @@ module _ (c : ℕ) (nulls : Bool) (tests : nulls ≡ true → CharacterTests c) 
 
 one_drops_no_text : (token : tokens.TokenValue) → moves_no_text token ≡ true → drops_no_text token ≡ true
 one_drops_no_text (tokens.start_tag tag) e =
-    ap not (both_false (drops_text_in tag.name) (bytes_eq tag.name (codes "table"))
-    (orderly_tag (moves_text_in tag.name) e)).0
-one_drops_no_text (tokens.text s) e = refl
-one_drops_no_text (tokens.end_tag tag) e = refl
-one_drops_no_text (tokens.comment s) e = refl
-one_drops_no_text (tokens.doctype quirks) e = refl
-one_drops_no_text tokens.end_of_file e = refl
+    ap not (or_parts (drops_text_in tag.name) (bytes_eq tag.name (codes "table"))
+    (not-true (moves_text_in tag.name) e)).0
+one_drops_no_text _ e = refl
 
 pub none_drops_text : (ts : List tokens.TokenValue) → list_all moves_no_text ts ≡ true → list_all drops_no_text ts
     ≡ true
@@ -208,8 +171,7 @@ none_drops_text (t ∷ ts) e =
 -- ---- the law
 
 module _ (c : ℕ) (nulls : Bool) (tests : nulls ≡ true → CharacterTests c) where
-  pub counts_kept : (scripting : Bool) (page : List ℕ) → IsUtf8 page → no_tag_moves_text scripting page
-      ≡ true
+  pub counts_kept : (scripting : Bool) (page : List ℕ) → IsUtf8 page → no_tag_moves_text scripting page ≡ true
       → (nulls ≡ false → no_null_comes scripting page ≡ true)
       → occurrences_in c (texts_of (html5_document scripting page)) ≡ occurrences_in c (kept_texts scripting page)
   unfolding html5_document
@@ -220,7 +182,8 @@ module _ (c : ℕ) (nulls : Bool) (tests : nulls ≡ true → CharacterTests c) 
       let d = whole_texts c (state_after scripting page).nodes a.sound.root a.sound.forest
       (ranked_hang hung.rank (state_after scripting page).nodes a.sound.root hung.root hung.hangs) greatest_depth
       (nodes_utf8 (state_after scripting page).nodes a.sound.utf8) in
-      let e = a.grows in
+      let e = a.at_most in
+      let f = a.at_least refl in
       omega arith
 
 pub characters_kept : CharactersAreKept

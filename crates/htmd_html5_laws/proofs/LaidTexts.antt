@@ -5,7 +5,7 @@ use Rattle.std.specs.Prelude.{if◌then◌else◌, IsUtf8}
 use Rattle.std.proofs.lemmas.Bool.{true≢false}
 use Rattle.htmd_html5_state.specs.Names.{text_of_element_name}
 use Rattle.htmd_html5_state.specs.Nodes.{KindValue, NodeValue, document, doctype, text, comment, element, kind_at}
-use Rattle.htmd_html5_state.specs.Nodes.{node_at, children_at, with_kind}
+use Rattle.htmd_html5_state.specs.Nodes.{children_at, with_kind}
 use Rattle.htmd_html5_state.specs.OpenElements.{OpenValue}
 use Rattle.htmd_html5.specs.Layout.{Coming, coming, Layout, next_texts, with_text, with_kind_of, without_node, put_next}
 use Rattle.htmd_html5.specs.Layout.{layout_within, first_layout, document_of, is_deepest}
@@ -17,7 +17,7 @@ use Rattle.htmd_html5_laws.proofs.Forests.{IsForest}
 use Rattle.htmd_html5_laws.proofs.Keeping.{IsRooted, SoundIn}
 use Rattle.htmd_html5_laws.proofs.TextsPut.{occurs_append}
 use Rattle.htmd_html5_laws.proofs.NodeWeights.{all_children, children_once, TextsUtf8, marked_utf8, nodes_utf8, in_data}
-use Rattle.htmd_html5_laws.proofs.NodeWeights.{in_kind, in_items, in_nodes, item_more, weigh, weigh_work, under}
+use Rattle.htmd_html5_laws.proofs.NodeWeights.{in_kind, in_items, in_nodes, item_more, weigh, weigh_work}
 use Rattle.htmd_html5_laws.proofs.NodeWeights.{under_all, weigh_append, weigh_coming, weigh_fewer, work_fewer}
 use Rattle.htmd_html5_laws.proofs.NodeWeights.{under_taken, weigh_once, under_children, joined_same}
 
@@ -43,9 +43,7 @@ module _ (c : ℕ) where
         let a = item_more c l.items (new_item l.items at d) in
         let b : in_items c new.items ≡ in_items c (l.items ++ new_item l.items at d ∷ []) = ap (in_items c) e in
         let f = under_taken c m l.nodes in
-        let g : under_all c new.nodes new.nodes
-        ≡ under_all c (with_kind m document l.nodes) (with_kind m document l.nodes) =
-        ap (λ (x : List NodeValue). under_all c x x) same in
+        let g = ap (λ (x : List NodeValue). under_all c x x) same in
         let w = work_fewer c m l.nodes l.work in
         omega arith;
     utf8 = subst TextsUtf8 (sym same) (marked_utf8 m l.nodes h);
@@ -75,12 +73,9 @@ module _ (c : ℕ) where
         let a = item_more c l.items (new_item l.items at d) in
         let b = under_taken c m l.nodes in
         let f = weigh_coming c (with_kind m document l.nodes) u (children_at (with_kind m document l.nodes) m) l.work in
-        let g : weigh c (with_kind m document l.nodes) (children_at (with_kind m document l.nodes) m)
-        ≡ weigh c (with_kind m document l.nodes) (children_at l.nodes m) =
-        ap (weigh c (with_kind m document l.nodes)) (children_of_kind m m document l.nodes) in
+        let g = ap (weigh c (with_kind m document l.nodes)) (children_of_kind m m document l.nodes) in
         let i = weigh_fewer c m l.nodes (children_at l.nodes m) in
-        let j : under c l.nodes (node_at l.nodes m) ≡ weigh c l.nodes (children_at l.nodes m) =
-        ap (λ (k : KindValue). cond (is_element k) (weigh c l.nodes (children_at l.nodes m)) 0) e in
+        let j = ap (λ (k : KindValue). cond (is_element k) (weigh c l.nodes (children_at l.nodes m)) 0) e in
         let w = work_fewer c m l.nodes l.work in
         omega arith;
     utf8 = marked_utf8 m l.nodes h;
@@ -107,8 +102,7 @@ module _ (c : ℕ) where
   put_first limit (x ∷ work) l e h =
       let p = kind_put (kind_at l.nodes x.node) x (record l { work = work })
       (is_deepest limit l.items x.under) refl h in
-      let f : weigh_work c l.nodes l.work ≡ in_kind c (kind_at l.nodes x.node) + weigh_work c l.nodes work =
-      ap (weigh_work c l.nodes) e in
+      let f = ap (weigh_work c l.nodes) e in
       record { fewer = let g = p.fewer in omega arith; utf8 = p.utf8 }
 
   put_all : (limit k : ℕ) (l : Layout) → TextsUtf8 l.nodes → in_layout (layout_within limit k l) ≤ in_layout l
@@ -131,8 +125,7 @@ module _ (c : ℕ) where
       let d = weigh_append c (x ∷ nodes) x.children (all_children nodes) in
       let e = weigh_once c (x.children ++ all_children nodes) (x ∷ nodes)
       (λ n. children_once n (x ∷ nodes) forest) in
-      let f : under c (x ∷ nodes) x ≡ 0 =
-      ap (λ (t : Bool). cond t (weigh c (x ∷ nodes) x.children) 0) root in
+      let f = ap (λ (t : Bool). cond t (weigh c (x ∷ nodes) x.children) 0) root in
       omega arith
 
   pub items_held : (l : Layout) → in_items c l.items ≤ in_layout l

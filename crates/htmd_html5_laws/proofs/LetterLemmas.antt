@@ -49,13 +49,11 @@ not_counted c p (b ∷ t) off e =
     let parts = and_parts (p b) (list_all p t) e in
     let more = not_counted c p t off parts.1 in
     let sum = sum_by-cons (λ x. cond (is_character c x) 1 0) b t in
-    test (b == c)
-    (λ f. absurd (true≢false (sym parts.0 ∙ ap p (eqb-true b c f) ∙ off)))
+    test (b == c) (λ f. absurd (true≢false (sym parts.0 ∙ ap p (eqb-true b c f) ∙ off)))
     (λ f. let none : ◌≡◌ {A = ℕ} (cond (is_character c b) 1 0) 0 = rw f refl in omega arith)
 
 pub none_of_class : (c : ℕ) (p : ℕ → Bool) (t : List ℕ) → ((b : ℕ) → p b ≡ true → b < 128) → p c
-    ≡ false
-    → list_all p t ≡ true → occurrences c t ≡ 0
+    ≡ false → list_all p t ≡ true → occurrences c t ≡ 0
 unfolding occurrences
 none_of_class c p t low off e =
     ap (count_by (is_character c)) (chars-IsAscii t (all_ascii p t low e)) ∙ not_counted c p t off e

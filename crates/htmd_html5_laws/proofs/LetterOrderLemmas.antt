@@ -1,16 +1,16 @@
 -- The letters of a page stand in order in the tree.
-use Rattle.std.proofs.Common.{◌≡◌, ◌∙◌, ℕ, zero, suc, Bool, true, false, List, [], ◌∷◌, ◌++◌, length, drop}
-use Rattle.std.proofs.Common.{refl, sym, ap, arith}
+use Rattle.std.proofs.Common.{◌≡◌, ◌∙◌, ℕ, zero, suc, Bool, true, false, List, [], ◌∷◌, ◌++◌, length, drop, refl, sym}
+use Rattle.std.proofs.Common.{ap, arith}
 use Rattle.std.specs.Prelude.{◌&&◌, not, if◌then◌else◌, filter, IsUtf8}
 use Rattle.std.specs.List.{list_all}
 use Rattle.std.specs.Char.{encode_utf8}
-use Rattle.std.proofs.lemmas.Bool.{true≢false, and_parts, eqb-true}
+use Rattle.std.proofs.lemmas.Bool.{true≢false, and_parts, cond_both, eqb-true}
 use Rattle.std.proofs.lemmas.Str.{chars_past_char, encode_ascii}
 use Rattle.htmd_grammar.specs.Characters.{line_feed}
 use Rattle.htmd_grammar.specs.WhiteSpace.{is_ascii_white_space}
 use Rattle.htmd_grammar.specs.CharacterClasses.{first_is, behind_run}
 use Rattle.htmd_html5_tokens.specs.Preprocessing.{preprocessed}
-use Rattle.htmd_html5_tokens.specs.Tokens.{TokenValue, text, start_tag, end_tag, comment, doctype, end_of_file}
+use Rattle.htmd_html5_tokens.specs.Tokens.{TokenValue, text}
 use Rattle.htmd_html5_state.specs.State.{StateValue, initial_state}
 use Rattle.htmd_html5_state.specs.Foreign.{current_is_html}
 use Rattle.htmd_html5.specs.Runs.{first_kind, first_run, after_first_run, is_of_kind}
@@ -18,14 +18,16 @@ use Rattle.htmd_html5.specs.Feeding.{without_line_feed, feed}
 use Rattle.htmd_html5.specs.Html5Documents.{next_read, is_end, html5_document}
 use Rattle.htmd_html5_laws.specs.PageLetters.{is_letter, with_text_of, texts_within, texts_of, token_texts}
 use Rattle.htmd_html5_laws.specs.LetterOrder.{letters_of, letters_in, LettersStandInOrder}
-use Rattle.htmd_html5_laws.specs.TextKept.{without_white, drops_white, kept_text, with_kept_text, kept_within, kept_texts}
+use Rattle.htmd_html5_laws.specs.TextKept.{without_white, drops_white, kept_text, with_kept_text, kept_within}
+use Rattle.htmd_html5_laws.specs.TextKept.{kept_texts}
 use Rattle.htmd_html5_laws.proofs.Utf8Tokens.{TokenUtf8, next_token_utf8, preprocessed_utf8}
 use Rattle.htmd_html5_laws.proofs.FedTokens.{shortened}
 use Rattle.htmd_html5_laws.proofs.TakingRuns.{by_first_kind}
 use Rattle.htmd_html5_laws.proofs.Counted.{letter_choice, counted_of, counted_in}
 use Rattle.htmd_html5_laws.proofs.WhiteRuns.{behind_white, dark_nulls, dark_characters}
 use Rattle.htmd_html5_laws.proofs.OrderedRuns.{white_letters}
-use Rattle.htmd_html5_laws.proofs.OrderedTokens.{first_all, letters_split}
+use Rattle.htmd_html5_laws.proofs.PuttingTexts.{first_all}
+use Rattle.htmd_html5_laws.proofs.OrderedTokens.{letters_split}
 use Rattle.htmd_html5_laws.proofs.CountedOrder.{counted_in_order}
 
 -- ---- what is kept of a text has all of its letters
@@ -42,12 +44,9 @@ letters_dropped (b ∷ s) e u = sym (ap (filter is_letter) (chars_past_char (b �
 
 letters_shortened : (skips : Bool) (s : List ℕ) → IsUtf8 s → letters_of (without_line_feed skips s)
     ≡ letters_of s
-letters_shortened skips s u = either (skips && first_is line_feed s) refl
-  where
-    either : (t : Bool) → (skips && first_is line_feed s) ≡ t → letters_of (if t then drop 1 s else s)
-        ≡ letters_of s
-    either true e = letters_dropped s (and_parts skips (first_is line_feed s) e).1 u
-    either false e = refl
+letters_shortened skips s u =
+    cond_both (skips && first_is line_feed s) _ _ (λ (x : List ℕ). letters_of x ≡ letters_of s)
+    (λ e. letters_dropped s (and_parts skips (first_is line_feed s) e).1 u) (λ e. refl)
 
 letters_whitened : (drops : Bool) (s : List ℕ) → IsUtf8 s → letters_of (without_white drops s) ≡ letters_of s
 unfolding letters_of counted_of
@@ -55,10 +54,8 @@ letters_whitened false s u = refl
 letters_whitened true s u =
     by_first_kind (λ kind. first_kind s ≡ kind → list_all (is_of_kind kind) (first_run s) ≡ true
     → letters_of (behind_run is_ascii_white_space s) ≡ letters_of s)
-    (λ e all. ap letters_of (sym (behind_white s e))
-    ∙ (ap (λ (x : List ℕ). x ++ letters_of (after_first_run s))
-    (sym (white_letters letter_choice (first_run s) refl all))
-    ∙ letters_split letter_choice s u))
+    (λ e all. ap letters_of (sym (behind_white s e)) ∙ (ap (λ (x : List ℕ). x ++ letters_of (after_first_run s))
+    (sym (white_letters letter_choice (first_run s) refl all)) ∙ letters_split letter_choice s u))
     (λ e all. ap letters_of (dark_nulls s e)) (λ e all. ap letters_of (dark_characters s e)) s refl (first_all s)
 
 letters_of_kept : (t : List ℕ) (s : StateValue) → IsUtf8 t → letters_of (kept_text t s) ≡ letters_of t
@@ -71,11 +68,7 @@ letters_with : (token : TokenValue) (s : StateValue) (kept more : List (List ℕ
     → letters_in (with_kept_text token s kept) ≡ letters_in (with_text_of token more)
 letters_with (text t) s kept more u e =
     ap (λ (x : List ℕ). x ++ letters_in kept) (letters_of_kept t s u) ∙ ap (λ (x : List ℕ). letters_of t ++ x) e
-letters_with (start_tag tag) s kept more u e = e
-letters_with (end_tag tag) s kept more u e = e
-letters_with (comment t) s kept more u e = e
-letters_with (doctype quirks) s kept more u e = e
-letters_with end_of_file s kept more u e = e
+letters_with _ s kept more u e = e
 
 within_same : (k : ℕ) (page : List ℕ) (s : StateValue) → IsUtf8 page
     → letters_in (kept_within k page s) ≡ letters_in (texts_within k page s)
@@ -86,8 +79,7 @@ within_same (suc k) page s u =
     either (is_end read.token) (with_kept_text read.token s (kept_within k read.rest (feed read.token s)))
     (with_text_of read.token (texts_within k read.rest (feed read.token s)))
     (letters_with read.token s (kept_within k read.rest (feed read.token s))
-    (texts_within k read.rest (feed read.token s)) r.token
-    (within_same k read.rest (feed read.token s) r.rest))
+    (texts_within k read.rest (feed read.token s)) r.token (within_same k read.rest (feed read.token s) r.rest))
   where
     either : (b : Bool) (kept more : List (List ℕ)) → letters_in kept ≡ letters_in more
         → letters_in (if b then [] else kept) ≡ letters_in (if b then [] else more)

@@ -5,8 +5,8 @@ use Rattle.std.proofs.lemmas.Bool.{true≢false}
 use Rattle.std.proofs.lemmas.List.{length-map, length-set, length-append}
 use Rattle.htmd_grammar.specs.ValueTrees.{AttributePair}
 use Rattle.htmd_html5_state.specs.Names.{ElementNameValue}
-use Rattle.htmd_html5_state.specs.Nodes.{KindValue, NodeValue, document, doctype, text, comment, element, kind_at}
-use Rattle.htmd_html5_state.specs.Nodes.{add, add_text, add_missing, kind_with_missing, text_of, joined_with, joined_to}
+use Rattle.htmd_html5_state.specs.Nodes.{KindValue, NodeValue, document, text, element, kind_at, add, add_text}
+use Rattle.htmd_html5_state.specs.Nodes.{add_missing, kind_with_missing, with_kind, text_of, joined_with, joined_to}
 use Rattle.htmd_html5_state.specs.Nodes.{or_add, preceding}
 use Rattle.htmd_html5_laws.proofs.NodeTexts.{kinds, kinds_add, kinds_with_kind, kind_read, kind_new}
 
@@ -28,10 +28,8 @@ grows_same {ks} {new} e =
     subst (λ (x : List KindValue). Grows ks x) (sym e) (record { size = omega arith; names = λ p n q. q })
 
 pub grows_then : {ks some new : List KindValue} → Grows ks some → Grows some new → Grows ks new
-grows_then a b = record {
-  size = let x = a.size in let y = b.size in omega arith;
-  names = λ p n q. b.names p n (a.names p n q);
-}
+grows_then a b =
+    record { size = let x = a.size in let y = b.size in omega arith; names = λ p n q. b.names p n (a.names p n q) }
 
 -- ---- one more node
 
@@ -70,18 +68,12 @@ grows_set : {ks new : List KindValue} (n : ℕ) (k : KindValue) → new ≡ set 
     → ((p : ElementNameValue → Bool) → is_named p k ≡ is_named p (get_or ks n document)) → Grows ks new
 grows_set {ks} n k e same =
     subst (λ (x : List KindValue). Grows ks x) (sym e)
-    (record {
-      size = let a = length-set ks n k in omega arith;
-      names = λ p m q. named_set p ks n m k (same p) q;
-    })
+    (record { size = let a = length-set ks n k in omega arith; names = λ p m q. named_set p ks n m k (same p) q })
 
 missing_named : (p : ElementNameValue → Bool) (more : List AttributePair) (k : KindValue)
     → is_named p (kind_with_missing more k) ≡ is_named p k
 missing_named p more (element name attributes) = refl
-missing_named p more (text s) = refl
-missing_named p more document = refl
-missing_named p more doctype = refl
-missing_named p more (comment s) = refl
+missing_named p more _ = refl
 
 pub grows_missing : (n : ℕ) (more : List AttributePair) (nodes : List NodeValue)
     → Grows (kinds nodes) (kinds (add_missing n more nodes))
@@ -92,22 +84,24 @@ grows_missing n more nodes =
 
 -- ---- a text
 
-pub grows_text : (t : List ℕ) (at : _) (nodes : List NodeValue) → Grows (kinds nodes) (kinds (add_text t at nodes))
-grows_text t at nodes = by_before (preceding at nodes)
+-- it is a new node, or is joined to the text before it
+pub by_text : (P : List NodeValue → Type 0) (t : List ℕ) (at : _) (nodes : List NodeValue)
+    → P (add (text t) at nodes)
+    → ((n : ℕ) (c : List ℕ) → kind_at nodes n ≡ text c → P (with_kind n (text (c ++ t)) nodes))
+    → P (add_text t at nodes)
+by_text P t at nodes added joined = by_before (preceding at nodes)
   where
-    added : Grows (kinds nodes) (kinds (or_add t at nodes None))
-    added = grows_added (text t) at nodes
-
     by_kind : (n : ℕ) (k : KindValue) → kind_at nodes n ≡ k
-        → Grows (kinds nodes) (kinds (or_add t at nodes (joined_with t n (text_of k) nodes)))
-    by_kind n (text c) e =
-        grows_set n (text (c ++ t)) (kinds_with_kind n (text (c ++ t)) nodes)
-        (λ p. sym (sym (ap (is_named p) (kind_read nodes n)) ∙ ap (is_named p) e))
-    by_kind n document e = added
-    by_kind n doctype e = added
-    by_kind n (comment c) e = added
-    by_kind n (element name attributes) e = added
+        → P (or_add t at nodes (joined_with t n (text_of k) nodes))
+    by_kind n (text before) e = joined n before e
+    by_kind n _ e = added
 
-    by_before : (before : Option ℕ) → Grows (kinds nodes) (kinds (or_add t at nodes (joined_to t before nodes)))
+    by_before : (before : Option ℕ) → P (or_add t at nodes (joined_to t before nodes))
     by_before None = added
     by_before (Some n) = by_kind n (kind_at nodes n) refl
+
+pub grows_text : (t : List ℕ) (at : _) (nodes : List NodeValue) → Grows (kinds nodes) (kinds (add_text t at nodes))
+grows_text t at nodes =
+    by_text (λ new. Grows (kinds nodes) (kinds new)) t at nodes (grows_added (text t) at nodes)
+    (λ n c e. grows_set n (text (c ++ t)) (kinds_with_kind n (text (c ++ t)) nodes)
+    (λ p. sym (sym (ap (is_named p) (kind_read nodes n)) ∙ ap (is_named p) e)))

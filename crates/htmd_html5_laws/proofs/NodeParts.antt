@@ -1,13 +1,12 @@
 -- Lists of children, and what a node has after a step on another part of it or on another node.
-use Rattle.std.proofs.Common.{◌≡◌, ℕ, zero, suc, ◌+◌, ◌<◌, ◌≤◌, true, false, List, [], ◌∷◌}
-use Rattle.std.proofs.Common.{◌++◌, length, take, drop, refl, ap, arith, cond, Option, Some, None, inl, inr}
-use Rattle.std.proofs.Common.{◌⊎◌}
-use Rattle.std.specs.Prelude.{◌==◌, insert, remove}
+use Rattle.std.proofs.Common.{◌≡◌, ℕ, zero, suc, ◌+◌, ◌<◌, ◌≤◌, true, false, List, [], ◌∷◌, ◌++◌, length, take, drop}
+use Rattle.std.proofs.Common.{refl, ap, arith, cond, Option, Some, None, inl, inr, ◌⊎◌}
+use Rattle.std.specs.Prelude.{◌==◌, insert, remove, slice_set}
 use Rattle.std.specs.List.{list_any}
 use Rattle.std.proofs.lemmas.List.{take-append-drop}
 use Rattle.htmd_grammar.proofs.Cases.{test}
-use Rattle.htmd_html5_state.specs.Nodes.{NodeValue, KindValue, new_node, parent_at, children_at, with_kind}
-use Rattle.htmd_html5_state.specs.Nodes.{with_parent, with_children, is_number, index_of}
+use Rattle.htmd_html5_state.specs.Nodes.{NodeValue, KindValue, new_node, parent_at, children_at, with_kind, with_parent}
+use Rattle.htmd_html5_state.specs.Nodes.{with_children, is_number, index_of, node_at}
 
 -- ---- how often a number stands in a list
 
@@ -55,8 +54,7 @@ no_times n (c ∷ cs) e =
 pub removed_once : (n : ℕ) (cs : List ℕ) → times n cs ≤ 1 → times n (remove cs (index_of n cs)) ≡ 0
 removed_once n [] l = refl
 removed_once n (c ∷ cs) l =
-    test (c == n)
-    (λ t. test (list_any (is_number n) cs)
+    test (c == n) (λ t. test (list_any (is_number n) cs)
     (λ u. absurd (let m = rw t at l in let h = some_times n cs u in omega arith))
     (λ u. rw (t, u) (no_times n cs u)))
     (λ t. let m = rw t at l in
@@ -79,21 +77,22 @@ children_other zero (suc p) cs (x ∷ nodes) h = refl
 children_other (suc n) zero cs (x ∷ nodes) h = refl
 children_other (suc n) (suc p) cs (x ∷ nodes) h = children_other n p cs nodes (λ e. h (ap suc e))
 
+-- a part that a node keeps is everywhere as it was
+part_kept : {A : Type 0} (part : NodeValue → A) (n m : ℕ) (x : NodeValue) (nodes : List NodeValue)
+    → part x ≡ part (node_at nodes n) → part (node_at (slice_set nodes n x) m) ≡ part (node_at nodes m)
+part_kept part n m x [] e = refl
+part_kept part zero zero x (y ∷ nodes) e = e
+part_kept part zero (suc m) x (y ∷ nodes) e = refl
+part_kept part (suc n) zero x (y ∷ nodes) e = refl
+part_kept part (suc n) (suc m) x (y ∷ nodes) e = part_kept part n m x nodes e
+
 pub parent_of_children : (n m : ℕ) (cs : List ℕ) (nodes : List NodeValue)
     → parent_at (with_children n cs nodes) m ≡ parent_at nodes m
-parent_of_children n m cs [] = refl
-parent_of_children zero zero cs (x ∷ nodes) = refl
-parent_of_children zero (suc m) cs (x ∷ nodes) = refl
-parent_of_children (suc n) zero cs (x ∷ nodes) = refl
-parent_of_children (suc n) (suc m) cs (x ∷ nodes) = parent_of_children n m cs nodes
+parent_of_children n m cs nodes = part_kept (λ x. x.parent) n m _ nodes refl
 
 pub children_of_parent : (n p : ℕ) (q : Option ℕ) (nodes : List NodeValue)
     → children_at (with_parent n q nodes) p ≡ children_at nodes p
-children_of_parent n p q [] = refl
-children_of_parent zero zero q (x ∷ nodes) = refl
-children_of_parent zero (suc p) q (x ∷ nodes) = refl
-children_of_parent (suc n) zero q (x ∷ nodes) = refl
-children_of_parent (suc n) (suc p) q (x ∷ nodes) = children_of_parent n p q nodes
+children_of_parent n p q nodes = part_kept (λ x. x.children) n p _ nodes refl
 
 pub parent_same : (n : ℕ) (q : Option ℕ) (nodes : List NodeValue) → n < length nodes
     → parent_at (with_parent n q nodes) n ≡ q
@@ -116,19 +115,11 @@ has_parent (suc n) p (x ∷ nodes) e = let h = has_parent n p nodes e in omega a
 
 pub children_of_kind : (n p : ℕ) (k : KindValue) (nodes : List NodeValue)
     → children_at (with_kind n k nodes) p ≡ children_at nodes p
-children_of_kind n p k [] = refl
-children_of_kind zero zero k (x ∷ nodes) = refl
-children_of_kind zero (suc p) k (x ∷ nodes) = refl
-children_of_kind (suc n) zero k (x ∷ nodes) = refl
-children_of_kind (suc n) (suc p) k (x ∷ nodes) = children_of_kind n p k nodes
+children_of_kind n p k nodes = part_kept (λ x. x.children) n p _ nodes refl
 
 pub parent_of_kind : (n m : ℕ) (k : KindValue) (nodes : List NodeValue)
     → parent_at (with_kind n k nodes) m ≡ parent_at nodes m
-parent_of_kind n m k [] = refl
-parent_of_kind zero zero k (x ∷ nodes) = refl
-parent_of_kind zero (suc m) k (x ∷ nodes) = refl
-parent_of_kind (suc n) zero k (x ∷ nodes) = refl
-parent_of_kind (suc n) (suc m) k (x ∷ nodes) = parent_of_kind n m k nodes
+parent_of_kind n m k nodes = part_kept (λ x. x.parent) n m _ nodes refl
 
 pub children_with_new : (p : ℕ) (k : KindValue) (nodes : List NodeValue)
     → children_at (nodes ++ new_node k ∷ []) p ≡ children_at nodes p

@@ -5,11 +5,11 @@ use Rattle.std.proofs.Math.Seq.{map-set_same}
 use Rattle.std.proofs.lemmas.List.{map-set, map-append}
 use Rattle.std.proofs.lemmas.Bool.{true≢false}
 use Rattle.htmd_grammar.specs.ValueTrees.{AttributePair}
-use Rattle.htmd_html5_state.specs.Nodes.{NodeValue, KindValue, document, doctype, text, comment, element}
-use Rattle.htmd_html5_state.specs.Nodes.{new_node, kind_at, with_kind, with_parent, with_children, with_parents}
-use Rattle.htmd_html5_state.specs.Nodes.{detach, detach_from, put, attach, add, move_children}
+use Rattle.htmd_html5_state.specs.Nodes.{NodeValue, KindValue, document, text, element, new_node, kind_at, with_kind}
+use Rattle.htmd_html5_state.specs.Nodes.{with_parent, with_children, with_parents, detach, detach_from, put, attach}
+use Rattle.htmd_html5_state.specs.Nodes.{add, move_children, remove_child, put_child, kind_with_missing, parent_at}
+use Rattle.htmd_html5_state.specs.Nodes.{children_at}
 use Rattle.htmd_html5_laws.specs.DocumentLetters.{with_text_at, node_texts}
-use Rattle.htmd_html5_state.specs.Nodes.{remove_child, put_child, kind_with_missing, parent_at, children_at}
 
 -- ---- what the nodes are
 
@@ -48,8 +48,7 @@ kinds_with_children n cs nodes = map-set_same kind_in nodes n _ (new_node docume
 pub kinds_detach_from : (p : Option ℕ) (n : ℕ) (nodes : List NodeValue) → kinds (detach_from p n nodes)
     ≡ kinds nodes
 kinds_detach_from None n nodes = refl
-kinds_detach_from (Some p) n nodes =
-    kinds_with_parent n None (remove_child p n nodes) ∙ kinds_with_children p _ nodes
+kinds_detach_from (Some p) n nodes = kinds_with_parent n None (remove_child p n nodes) ∙ kinds_with_children p _ nodes
 
 pub kinds_detach : (n : ℕ) (nodes : List NodeValue) → kinds (detach n nodes) ≡ kinds nodes
 kinds_detach n nodes = kinds_detach_from (parent_at nodes n) n nodes
@@ -98,20 +97,14 @@ kind_read (x ∷ nodes) (suc n) = kind_read nodes n
 
 pub texts_new : (ks : List KindValue) (k : KindValue) → is_text k ≡ false → texts (ks ++ k ∷ []) ≡ texts ks
 texts_new [] (text s) e = absurd (true≢false e)
-texts_new [] document e = refl
-texts_new [] doctype e = refl
-texts_new [] (comment s) e = refl
-texts_new [] (element name attributes) e = refl
+texts_new [] _ e = refl
 texts_new (k' ∷ ks) k e = ap (with_text k') (texts_new ks k e)
 
 -- ---- elements stay elements
 
 pub element_no_text : (k : KindValue) → is_element k ≡ true → is_text k ≡ false
-element_no_text (element name attributes) e = refl
 element_no_text (text s) e = absurd (true≢false (sym e))
-element_no_text document e = refl
-element_no_text doctype e = refl
-element_no_text (comment s) e = refl
+element_no_text _ e = refl
 
 pub element_before : (ks : List KindValue) (k : KindValue) (n : ℕ) → is_element (get_or ks n document) ≡ true
     → is_element (get_or (ks ++ k ∷ []) n document) ≡ true
@@ -125,8 +118,7 @@ kind_new (x ∷ ks) k = kind_new ks k
 
 pub element_set : (ks : List KindValue) (n m : ℕ) (k : KindValue)
     → (is_element (get_or ks n document) ≡ true → is_element k ≡ true) → is_element (get_or ks m document)
-    ≡ true
-    → is_element (get_or (set ks n k) m document) ≡ true
+    ≡ true → is_element (get_or (set ks n k) m document) ≡ true
 element_set [] n m k h e = e
 element_set (x ∷ ks) zero zero k h e = h e
 element_set (x ∷ ks) zero (suc m) k h e = e
@@ -136,19 +128,13 @@ element_set (x ∷ ks) (suc n) (suc m) k h e = element_set ks n m k h e
 pub with_missing_element : (more : List AttributePair) (k : KindValue)
     → is_element (kind_with_missing more k) ≡ is_element k
 with_missing_element more (element name attributes) = refl
-with_missing_element more (text s) = refl
-with_missing_element more document = refl
-with_missing_element more doctype = refl
-with_missing_element more (comment s) = refl
+with_missing_element more _ = refl
 
 -- ---- the texts of the nodes, as the laws have them
 
 with_text_same : (k : KindValue) (ts : List (List ℕ)) → with_text_at k ts ≡ with_text k ts
 with_text_same (text s) ts = refl
-with_text_same document ts = refl
-with_text_same doctype ts = refl
-with_text_same (comment s) ts = refl
-with_text_same (element name attributes) ts = refl
+with_text_same _ ts = refl
 
 pub texts_same : (nodes : List NodeValue) → node_texts nodes ≡ texts (kinds nodes)
 texts_same [] = refl

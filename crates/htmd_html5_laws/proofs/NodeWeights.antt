@@ -1,15 +1,14 @@
 -- What nodes, lists of nodes and items hold of a character.
-use Rattle.std.proofs.Common.{◌≡◌, ◌∙◌, ℕ, zero, suc, ◌+◌, ◌≤◌, true, List, [], ◌∷◌}
-use Rattle.std.proofs.Common.{◌++◌, get_or, set, refl, sym, ap, subst, arith, cond, All, map, Option, Some, None}
-use Rattle.std.proofs.Common.{inl, inr, ◌⊎◌}
+use Rattle.std.proofs.Common.{◌≡◌, ◌∙◌, ℕ, zero, suc, ◌+◌, ◌≤◌, true, List, [], ◌∷◌, ◌++◌, get_or, set, refl, sym, ap}
+use Rattle.std.proofs.Common.{subst, arith, cond, All, map, Option, Some, None, inl, inr, ◌⊎◌}
 use Rattle.std.specs.Prelude.{◌==◌, is_some, if◌then◌else◌, IsUtf8}
 use Rattle.std.proofs.lemmas.Bool.{eqb-true, eqb-false, eq-eqb}
 use Rattle.std.proofs.lemmas.List.Elements.{All-head}
 use Rattle.htmd_grammar.proofs.Cases.{test}
-use Rattle.htmd_html5_state.specs.Nodes.{KindValue, NodeValue, document, doctype, text, comment, element, kind_at}
+use Rattle.htmd_html5_state.specs.Nodes.{KindValue, NodeValue, document, text, kind_at}
 use Rattle.htmd_html5_state.specs.Nodes.{node_at, children_at, parent_at, with_kind, text_of}
 use Rattle.htmd_html5.specs.Layout.{Coming, coming, Layout, or_text, next_texts, after_next_texts, without_node}
-use Rattle.htmd_nodes.specs.Items.{Item, Data, document_node, doctype_node, text_node, comment_node, element_node}
+use Rattle.htmd_nodes.specs.Items.{Item, Data, text_node}
 use Rattle.htmd_html5_laws.specs.PageLetters.{occurrences, occurrences_in, with_text_in, texts_of}
 use Rattle.htmd_html5_laws.proofs.NodeTexts.{kinds, texts, with_text as with_node_text, kinds_with_kind, kind_read}
 use Rattle.htmd_html5_laws.proofs.NodeTexts.{is_element}
@@ -68,8 +67,7 @@ children_once n nodes h =
 
 -- ---- a node that was taken
 
-pub kind_marked : (n m : ℕ) (nodes : List NodeValue)
-    → (kind_at (with_kind n document nodes) m ≡ kind_at nodes m)
+pub kind_marked : (n m : ℕ) (nodes : List NodeValue) → (kind_at (with_kind n document nodes) m ≡ kind_at nodes m)
     ⊎ (kind_at (with_kind n document nodes) m ≡ document)
 kind_marked n m [] = inl refl
 kind_marked zero zero (x ∷ nodes) = inr refl
@@ -100,10 +98,7 @@ marked_utf8 n nodes h m s e = either (kind_marked n m nodes)
 text_is_utf8 : (k : KindValue) (s : List ℕ) (ts : List (List ℕ)) → k ≡ text s
     → All IsUtf8 (with_node_text k ts) → IsUtf8 s
 text_is_utf8 (text t) s ts e all = let same : t ≡ s = cc in subst IsUtf8 same (All-head IsUtf8 t ts all)
-text_is_utf8 document s ts e all = absurd (cc)
-text_is_utf8 doctype s ts e all = absurd (cc)
-text_is_utf8 (comment t) s ts e all = absurd (cc)
-text_is_utf8 (element name attributes) s ts e all = absurd (cc)
+text_is_utf8 _ s ts e all = absurd (cc)
 
 pub nodes_utf8 : (nodes : List NodeValue) → All IsUtf8 (texts (kinds nodes)) → TextsUtf8 nodes
 nodes_utf8 [] all n s e = absurd (cc)
@@ -113,18 +108,12 @@ nodes_utf8 (x ∷ nodes) all (suc n) s e = nodes_utf8 nodes (all_under x.kind (t
 module _ (c : ℕ) where
   -- how often the character stands in an item, and in a node
   unfoldable pub in_data : Data → ℕ
-  in_data document_node = 0
-  in_data doctype_node = 0
   in_data (text_node s) = occurrences c s
-  in_data (comment_node s) = 0
-  in_data (element_node name attributes) = 0
+  in_data _ = 0
 
   unfoldable pub in_kind : KindValue → ℕ
-  in_kind document = 0
-  in_kind doctype = 0
   in_kind (text s) = occurrences c s
-  in_kind (comment s) = 0
-  in_kind (element name attributes) = 0
+  in_kind _ = 0
 
   unfoldable pub in_items : List Item → ℕ
   in_items items = occurrences_in c (texts_of items)
@@ -135,11 +124,8 @@ module _ (c : ℕ) where
   pub data_more : (d : Data) (ts : List (List ℕ)) → occurrences_in c (with_text_in d ts)
       ≡ in_data d + occurrences_in c ts
   unfolding in_data
-  data_more document_node ts = omega arith
-  data_more doctype_node ts = omega arith
   data_more (text_node s) ts = occurs_cons c s ts
-  data_more (comment_node s) ts = omega arith
-  data_more (element_node name attributes) ts = omega arith
+  data_more _ ts = omega arith
 
   pub item_more : (items : List Item) (item : Item)
       → in_items (items ++ item ∷ []) ≡ in_items items + in_data item.node_data
@@ -154,11 +140,8 @@ module _ (c : ℕ) where
   pub kind_more : (k : KindValue) (ts : List (List ℕ))
       → occurrences_in c (with_node_text k ts) ≡ in_kind k + occurrences_in c ts
   unfolding in_kind
-  kind_more document ts = omega arith
-  kind_more doctype ts = omega arith
   kind_more (text s) ts = occurs_cons c s ts
-  kind_more (comment s) ts = omega arith
-  kind_more (element name attributes) ts = omega arith
+  kind_more _ ts = omega arith
 
   kind_taken : (ks : List KindValue) (n : ℕ)
       → occurrences_in c (texts (set ks n document)) + in_kind (get_or ks n document) ≡ occurrences_in c (texts ks)
@@ -183,8 +166,7 @@ module _ (c : ℕ) where
       ∙ (ap (λ (x : List KindValue). occurrences_in c (texts x) + in_kind (kind_at nodes n))
       (kinds_with_kind n document nodes)
       ∙ (ap (λ (k : KindValue). occurrences_in c (texts (set (kinds nodes) n document)) + in_kind k)
-      (kind_read nodes n)
-      ∙ kind_taken (kinds nodes) n))
+      (kind_read nodes n) ∙ kind_taken (kinds nodes) n))
 
   -- ---- what nodes and elements hold
 
@@ -303,8 +285,7 @@ module _ (c : ℕ) where
   JoinedSame nodes u x work k =
       occurrences c (or_text (if x.under == u then text_of k else None) (next_texts nodes u work))
       + weigh_work nodes (if is_some (if x.under == u then text_of k else None)
-      then after_next_texts nodes u work else x ∷ work)
-      ≡ in_kind k + weigh_work nodes work
+      then after_next_texts nodes u work else x ∷ work) ≡ in_kind k + weigh_work nodes work
 
   pub joined_same : (nodes : List NodeValue) (u : ℕ) (work : List Coming) → TextsUtf8 nodes
       → occurrences c (next_texts nodes u work) + weigh_work nodes (after_next_texts nodes u work)
@@ -327,7 +308,4 @@ module _ (c : ℕ) where
           let a = occurs_append c s (next_texts nodes u work) (h x.node s e) in
           let f : in_kind (kind_at nodes x.node) ≡ occurrences c s = ap in_kind e in
           test (x.under == u) (λ t. rw t (omega arith)) (λ t. rw t (omega arith))
-      by_kind document e l = other document refl e
-      by_kind doctype e l = other doctype refl e
-      by_kind (comment s) e l = other (comment s) refl e
-      by_kind (element name attributes) e l = other (element name attributes) refl e
+      by_kind k e l = other k refl e

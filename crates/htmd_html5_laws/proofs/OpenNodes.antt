@@ -1,13 +1,13 @@
 -- What is open after elements were popped was open before, in the same order.
-use Rattle.std.proofs.Common.{◌≡◌, ℕ, ◌<◌, ◌≤◌, Bool, true, false, List, [], ◌∷◌, ◌++◌, refl, sym, arith, inl, inr, ◌⊎◌}
+use Rattle.std.proofs.Common.{◌≡◌, ℕ, ◌<◌, ◌≤◌, Bool, true, false, List, [], ◌∷◌, ◌++◌, length, refl, sym, arith}
 use Rattle.std.proofs.lemmas.Bool.{true≢false}
 use Rattle.std.specs.Prelude.{◌==◌, ◌&&◌, if◌then◌else◌}
 use Rattle.htmd_grammar.proofs.Cases.{test}
 use Rattle.htmd_html5_state.specs.Names.{NameValue, html}
 use Rattle.htmd_html5_state.specs.Nodes.{NodeValue}
-use Rattle.htmd_html5_state.specs.OpenElements.{OpenValue, is_in, has_name, is_open_node, current_is, is_in_scope, is_closable}
-use Rattle.htmd_html5_state.specs.OpenElements.{pop, pop_through, pop_until, clear_to, pop_while, close, close_name}
-use Rattle.htmd_html5_state.specs.OpenElements.{outermost, without, inside, around}
+use Rattle.htmd_html5_state.specs.OpenElements.{OpenValue, is_in, has_name, is_open_node, current_is, is_in_scope}
+use Rattle.htmd_html5_state.specs.OpenElements.{is_closable, pop, pop_through, pop_until, clear_to, pop_while, close}
+use Rattle.htmd_html5_state.specs.OpenElements.{close_name, outermost, without, inside, around}
 use Rattle.htmd_html5_state.specs.Foreign.{pop_if, leave_foreign, ends_foreign}
 use Rattle.htmd_html5_state.specs.declared.sets.NameSet.{NameSet}
 use Rattle.htmd_html5_state.specs.declared.sets.NameSet.TheVariants.{Only, Headings}
@@ -25,19 +25,6 @@ open_more e es n l = test (e.node == n) (λ t. rw t refl) (λ t. rw t l)
 
 pub open_under : (e : OpenValue) (es stack : List OpenValue) → OpenIn es stack → OpenIn (e ∷ es) (e ∷ stack)
 open_under e es stack f n l = test (e.node == n) (λ t. rw t refl) (λ t. rw t (f n (rw t at l)))
-
--- what is open in two lists
-pub open_append : (n : ℕ) (es stack : List OpenValue) → is_open_node n (es ++ stack) ≡ true
-    → (is_open_node n es ≡ true) ⊎ (is_open_node n stack ≡ true)
-open_append n [] stack l = inr l
-open_append n (e ∷ es) stack l =
-    test (e.node == n) (λ t. inl (rw t refl))
-    (λ t. later t (open_append n es stack (rw t at l)))
-  where
-    later : (e.node == n) ≡ false → (is_open_node n es ≡ true) ⊎ (is_open_node n stack ≡ true)
-        → (is_open_node n (e ∷ es) ≡ true) ⊎ (is_open_node n stack ≡ true)
-    later t (inl l) = inl (rw t l)
-    later t (inr l) = inr l
 
 -- ---- lists of what is open
 
@@ -57,13 +44,11 @@ below_more rank low high [] l h = tt
 below_more rank low high (e ∷ es) l h = let a = h.0 in (omega arith, h.1)
 
 pub below_tail : (rank : ℕ → ℕ) (limit : ℕ) (e : OpenValue) (es : List OpenValue)
-    → Below rank limit (e ∷ es)
-    → Below rank limit es
+    → Below rank limit (e ∷ es) → Below rank limit es
 below_tail rank limit e es h = let a = h.0 in below_more rank (rank e.node) limit es (omega arith) h.1
 
 pub each_more : {P Q : OpenValue → Type 0} (es : List OpenValue) → ((e : OpenValue) → P e → Q e)
-    → EachOpen P es
-    → EachOpen Q es
+    → EachOpen P es → EachOpen Q es
 each_more [] f h = tt
 each_more (e ∷ es) f h = (f e h.0, each_more es f h.1)
 
@@ -78,19 +63,25 @@ pub record Fewer (es stack : List OpenValue) : Type 0 where
   pub opened : OpenIn es stack
   pub each : (p : OpenValue → Bool) → EachOpen (λ e. p e ≡ true) stack → EachOpen (λ e. p e ≡ true) es
   pub below : (rank : ℕ → ℕ) (limit : ℕ) → Below rank limit stack → Below rank limit es
+  pub shorter : length es ≤ length stack
 
 pub all_of : (es : List OpenValue) → Fewer es es
-all_of es = record { opened = λ n l. l; each = λ p h. h; below = λ rank limit h. h }
+all_of es = record { opened = λ n l. l; each = λ p h. h; below = λ rank limit h. h; shorter = omega arith }
 
 none_of : (es : List OpenValue) → Fewer [] es
-none_of es =
-    record { opened = λ n l. absurd (true≢false (sym l)); each = λ p h. tt; below = λ rank limit h. tt }
+none_of es = record {
+  opened = λ n l. absurd (true≢false (sym l));
+  each = λ p h. tt;
+  below = λ rank limit h. tt;
+  shorter = omega arith;
+}
 
 pub fewer_then : {es some stack : List OpenValue} → Fewer es some → Fewer some stack → Fewer es stack
-fewer_then a b = record {
+fewer_then {es} {some} {stack} a b = record {
   opened = λ n l. b.opened n (a.opened n l);
   each = λ p h. a.each p (b.each p h);
   below = λ rank limit h. a.below rank limit (b.below rank limit h);
+  shorter = let x = a.shorter in let y = b.shorter in omega arith;
 }
 
 pub skip : (e : OpenValue) {es stack : List OpenValue} → Fewer es stack → Fewer es (e ∷ stack)
@@ -98,20 +89,23 @@ skip e {es} {stack} f = record {
   opened = λ n l. open_more e stack n (f.opened n l);
   each = λ p h. f.each p h.1;
   below = λ rank limit h. f.below rank limit (below_tail rank limit e stack h);
+  shorter = let x = f.shorter in omega arith;
 }
 
-keep : (e : OpenValue) {es stack : List OpenValue} → Fewer es stack → Fewer (e ∷ es) (e ∷ stack)
+pub keep : (e : OpenValue) {es stack : List OpenValue} → Fewer es stack → Fewer (e ∷ es) (e ∷ stack)
 keep e {es} {stack} f = record {
   opened = open_under e es stack f.opened;
   each = λ p h. (h.0, f.each p h.1);
   below = λ rank limit h. (h.0, f.below rank (rank e.node) h.1);
+  shorter = let x = f.shorter in omega arith;
 }
 
 pub pop_fewer : (stack : List OpenValue) → Fewer (pop stack) stack
 pop_fewer [] = all_of []
 pop_fewer (e ∷ es) = skip e (all_of es)
 
-pop_through_fewer : (wanted : OpenValue → Bool) (stack : List OpenValue) → Fewer (pop_through wanted stack) stack
+pub pop_through_fewer : (wanted : OpenValue → Bool) (stack : List OpenValue)
+    → Fewer (pop_through wanted stack) stack
 pop_through_fewer wanted [] = all_of []
 pop_through_fewer wanted (e ∷ es) =
     test (wanted e) (λ t. rw t (skip e (all_of es))) (λ t. rw t (skip e (pop_through_fewer wanted es)))

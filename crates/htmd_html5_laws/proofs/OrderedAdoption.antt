@@ -1,42 +1,36 @@
 -- The adoption agency leaves the letters in order.
-use Rattle.std.proofs.Common.{◌≡◌, ◌∙◌, ℕ, zero, suc, ◌<◌, ◌≤◌, Bool, true, false, List, [], ◌∷◌, ◌++◌, length}
-use Rattle.std.proofs.Common.{refl, sym, ap, subst, arith, Option, Some, None, inl, inr, ◌⊎◌}
-use Rattle.std.specs.Prelude.{if◌then◌else◌, ◌&&◌, ◌-◌, not, nat_lt}
-use Rattle.std.specs.List.{list_any}
-use Rattle.std.proofs.lemmas.Bool.{and_parts, eq-eqb, ne_eqb}
+use Rattle.std.proofs.Common.{◌≡◌, ◌∙◌, ℕ, suc, ◌<◌, ◌≤◌, Bool, true, false, List, [], ◌∷◌, ◌++◌, length, refl, sym, ap}
+use Rattle.std.proofs.Common.{subst, arith, inl, inr, ◌⊎◌}
+use Rattle.std.specs.Prelude.{◌&&◌, not, nat_lt}
+use Rattle.std.proofs.lemmas.Bool.{eq-eqb, ne_eqb}
 use Rattle.htmd_html5_state.specs.Names.{known, html}
 use Rattle.htmd_html5_state.specs.Nodes.{NodeValue, kind_at, children_at, new_node, last_in, detach, put}
-use Rattle.htmd_html5_state.specs.OpenElements.{OpenValue, is_open_node, pop, close_name, inside, around}
-use Rattle.htmd_html5_state.specs.State.{StateValue, on_nodes, on_stack, on_formatting}
+use Rattle.htmd_html5_state.specs.OpenElements.{OpenValue, pop, close_name, inside, around}
+use Rattle.htmd_html5_state.specs.State.{StateValue, on_nodes, on_stack}
 use Rattle.htmd_html5_state.specs.Insertion.{opened, current, place}
-use Rattle.htmd_html5_state.specs.Formatting.{is_listed, without_entry}
-use Rattle.htmd_html5_state.specs.Adoption.{formatting_element, node_is, bounds_any, Furthest, furthest_block, Chain}
-use Rattle.htmd_html5_state.specs.Adoption.{begin_chain, with_copy, with_next, chain, move_last, wrap_children, adopt}
-use Rattle.htmd_html5_state.specs.Adoption.{Round, last_round, goes_on, round_by, round_open, round_with, round_of, round}
-use Rattle.htmd_html5_state.specs.Adoption.{go_on, rounds, closes_at_once, adoption_agency}
+use Rattle.htmd_html5_state.specs.Adoption.{Furthest, Chain, begin_chain, with_copy, chain, move_last, wrap_children}
+use Rattle.htmd_html5_state.specs.Adoption.{adopt, adoption_agency}
 use Rattle.htmd_html5_state.specs.declared.names.TagName.{TagName}
 use Rattle.htmd_html5_laws.proofs.NodeTexts.{is_element}
 use Rattle.htmd_html5_laws.proofs.Forests.{IsForest, length_new, forest_new, forest_attach, forest_detached_put}
 use Rattle.htmd_html5_laws.proofs.OpenNodes.{EachOpen, Below, each_more, each_append, pop_fewer, close_name_fewer}
 use Rattle.htmd_html5_laws.proofs.OpenNodes.{inside_fewer, around_fewer}
 use Rattle.htmd_html5_laws.proofs.HungNodes.{put_kind, put_size}
-use Rattle.htmd_html5_laws.proofs.HungStates.{ElementOpen, is_element_open, Hung, element_number}
-use Rattle.htmd_html5_laws.proofs.HungChains.{Within, within_low}
-use Rattle.htmd_html5_laws.proofs.HungChains.{SomeAt, SomeRanks, furthest_at, furthest_ranks, inside_within}
-use Rattle.htmd_html5_laws.proofs.HungChains.{around_below, ChainHung, begun, next_hung, detach_size, detach_kind}
+use Rattle.htmd_html5_laws.proofs.HungStates.{ElementOpen, Hung, element_number}
+use Rattle.htmd_html5_laws.proofs.HungChains.{Within, within_low, ChainHung, begun, detach_size, detach_kind}
 use Rattle.htmd_html5_laws.proofs.HungAdoption.{RoundHung, each_both}
-use Rattle.htmd_html5_laws.proofs.PlainNames.{is_plain, PlainStack, is_plain_open}
-use Rattle.htmd_html5_laws.proofs.PlainStates.{Plain, Stays, plain_stack}
-use Rattle.htmd_html5_laws.proofs.PlainAdoption.{Chained, next_chained, FurthestPlain, SomePlain, furthest_plain}
-use Rattle.htmd_html5_laws.proofs.PlainAdoption.{after_round, of_plain, of_hung, found_listed, element_at, chain_hung}
-use Rattle.htmd_html5_laws.proofs.PlainAdoption.{rounds_stay}
+use Rattle.htmd_html5_laws.proofs.PlainNames.{is_plain, PlainOpen}
+use Rattle.htmd_html5_laws.proofs.PlainStates.{Plain}
+use Rattle.htmd_html5_laws.proofs.PlainAdoption.{Chained, element_at, hung_chain, hung_steps, names_at, round_hung}
+use Rattle.htmd_html5_laws.proofs.PlainAdoption.{adoption_agency_stays}
 use Rattle.htmd_html5_laws.proofs.OrderedNodes.{Labels, FitsBy, none_out, Ranked, lt_false}
 use Rattle.htmd_html5_laws.proofs.OrderedPaths.{Alive, parted, parted_fits, front_ends}
 use Rattle.htmd_html5_laws.proofs.OrderedMoves.{Apart, apart_copied, copied_labels, fits_placed, fits_wrapped}
 use Rattle.htmd_html5_laws.proofs.OrderedMoves.{wrapped_labels}
 use Rattle.htmd_html5_laws.proofs.OrderedStates.{OrderedIn, Ordered, Orders, ordered_fewer, low_ranks, place_last}
-use Rattle.htmd_html5_laws.proofs.OrderedStates.{orders_by_test, on_stack_orders}
 use Rattle.htmd_html5_laws.proofs.Counted.{Choice}
+use Rattle.htmd_html5_laws.proofs.AdoptionWalk.{FurthestAt, furthest_at, ChainSteps, chain_holds, AdoptionSteps}
+use Rattle.htmd_html5_laws.proofs.AdoptionWalk.{agency_holds}
 
 module _ (choice : Choice) where
   -- ---- the elements between
@@ -61,17 +55,13 @@ module _ (choice : Choice) where
         (let w = length_new k c.state.nodes in omega arith) (forest_new k c.state.nodes h.forest) in
         record {
           labels = copied_labels choice letters c.state.nodes a.labels p c.last a.apart a.within last_in_nodes a.other
-              k is
-              forest;
+              k is forest;
           apart = apart_copied choice letters c.state.nodes a.labels p c.last a.apart a.within last_in_nodes a.other k
-              is
-              forest;
+              is forest;
           copies = each_append
               (λ x. (copied_labels choice letters c.state.nodes a.labels p c.last a.apart a.within last_in_nodes
-              a.other k is
-              forest).live x.node ≡ true) c.copies (opened (length c.state.nodes) e.name ∷ [])
-              (each_more c.copies
-              (λ x o. rw (ne_eqb x.node (length c.state.nodes)
+              a.other k is forest).live x.node ≡ true) c.copies (opened (length c.state.nodes) e.name ∷ [])
+              (each_more c.copies (λ x o. rw (ne_eqb x.node (length c.state.nodes)
               (λ f. let w = element_number x.node c.state.nodes o.0 in omega arith)) o.1)
               (each_both (ElementOpen c.state.nodes)
               (λ x. a.labels.live x.node ≡ true) c.copies h.copies_at a.copies))
@@ -90,42 +80,34 @@ module _ (choice : Choice) where
           no_fostering = a.no_fostering;
         }
 
-    next_apart : (left : ℕ) (e : OpenValue) (c : Chain)
-        → (is_listed e.node c.state.formatting ≡ true → is_element (kind_at c.state.nodes e.node) ≡ true)
-        → ChainHung s old r left c → ChainApart letters s p base c
-        → ChainApart letters s p base (with_next left e c)
-    next_apart left e c at h a = either (nat_lt 0 left && is_listed e.node c.state.formatting) refl
-      where
-        either : (t : Bool) → (nat_lt 0 left && is_listed e.node c.state.formatting) ≡ t
-            → ChainApart letters s p base
-            (if t then with_copy e c else record c { state = on_formatting (without_entry e.node) c.state })
-        either true t =
-            copy_apart left e c (at (and_parts (nat_lt 0 left) (is_listed e.node c.state.formatting) t).1) h a
-        either false t = record {
-          labels = a.labels;
-          apart = a.apart;
-          copies = a.copies;
-          still = a.still;
-          other = a.other;
-          within = a.within;
-          no_fostering = a.no_fostering;
+    apart_chain : ChainSteps PlainOpen
+        (λ left c. (Chained s c × ChainHung s old r left c) × ChainApart letters s p base c)
+    apart_chain =
+        let hung = hung_chain s old r in
+        record {
+          copied = λ left e c q more listed h. (
+            hung.copied left e c q more listed h.0,
+            copy_apart left e c (element_at c.state.nodes e.node (h.0.0.grown.plain.entries_at e.node listed)) h.0.1
+                h.1,
+          );
+          passed = λ left e c h. (
+            hung.passed left e c h.0,
+            record {
+              labels = h.1.labels;
+              apart = h.1.apart;
+              copies = h.1.copies;
+              still = h.1.still;
+              other = h.1.other;
+              within = h.1.within;
+              no_fostering = h.1.no_fostering;
+            },
+          );
         }
-
-    chain_apart : (left : ℕ) (es : List OpenValue) (c : Chain) → PlainStack es → Chained s c
-        → ChainHung s old r left c → ChainApart letters s p base c
-        → ChainApart letters s p base (chain left es c)
-    chain_apart left [] c names plain h a = a
-    chain_apart left (e ∷ es) c names plain h a =
-        let at : is_listed e.node c.state.formatting ≡ true → is_element (kind_at c.state.nodes e.node) ≡ true =
-        λ l. element_at c.state.nodes e.node (plain.grown.plain.entries_at e.node l) in
-        chain_apart (left - 1) es (with_next left e c) names.1 (next_chained left e s c names.0 plain)
-        (next_hung s old r left e c at h) (next_apart left e c at h a)
 
   -- ---- a round
 
   module _ (letters : List ℕ) (formatting : ℕ) (tag : TagName) (f : Furthest) (s : StateValue)
-      (names : FurthestPlain f)
-      (plain : Plain s) (x : RoundHung formatting f s) (o : Ordered choice letters s)
+      (names : FurthestAt PlainOpen f) (plain : Plain s) (x : RoundHung formatting f s) (o : Ordered choice letters s)
       (inner : EachOpen (λ e. o.labels.live e.node ≡ true) f.inner)
       (block : o.labels.live f.block.node ≡ true) where
     abbrev b : ℕ
@@ -167,8 +149,7 @@ module _ (choice : Choice) where
         by_stack (e ∷ es) opens = element_number e.node s.nodes opens.0
 
     abbrev base : Labels
-    base =
-        parted choice x.rank letters s.nodes o.labels o.fits ranked x.at_root p b alive block x.furthest.block less
+    base = parted choice x.rank letters s.nodes o.labels o.fits ranked x.at_root p b alive block x.furthest.block less
 
     -- at most as deep as the common ancestor, or as deep as the block
     live_low : (m : ℕ) → o.labels.live m ≡ true → x.rank m ≤ x.rank p → base.live m ≡ true
@@ -180,8 +161,7 @@ module _ (choice : Choice) where
 
     live_high : (m : ℕ) → o.labels.live m ≡ true → x.rank b ≤ x.rank m → base.live m ≡ true
     live_high m e l =
-        rw (e, lt_false (x.rank m) (x.rank b) l)
-        (ends (is_element (kind_at s.nodes m)) (nat_lt (x.rank p) (x.rank m)))
+        rw (e, lt_false (x.rank m) (x.rank b) l) (ends (is_element (kind_at s.nodes m)) (nat_lt (x.rank p) (x.rank m)))
       where
         ends : (t u : Bool) → not (t && (u && false)) ≡ true
         ends true true = refl
@@ -207,21 +187,25 @@ module _ (choice : Choice) where
       no_fostering = o.no_fostering;
     }
 
-    abbrev first_chained : Chained s (begin_chain b s)
-    first_chained = record { grown = record { plain = plain; grows = λ n q. q }; copies = tt }
-
     abbrev made : Chain
     made = chain 3 f.between (begin_chain b s)
 
-    made_apart : ChainApart letters s p base made
-    made_apart =
-        chain_apart letters s p base x.rank (x.rank b) 3 f.between (begin_chain b s) names.between first_chained
-        (begun s f.block x.rank x.hangs x.furthest.block x.forest (let a = x.ranks.block in omega arith)) begun_apart
+    all_made : (left : ℕ) × ((Chained s made × ChainHung s x.rank (x.rank b) left made)
+        × ChainApart letters s p base made)
+    all_made =
+        chain_holds (apart_chain letters s p base x.rank (x.rank b)) 3 f.between (begin_chain b s) names.between (
+          (
+            record { grown = record { plain = plain; grows = λ n q. q }; copies = tt },
+            begun s f.block x.rank x.hangs x.furthest.block x.forest (let a = x.ranks.block in omega arith),
+          ),
+          begun_apart,
+        )
 
-    made_hung : ChainHung s x.rank (x.rank b) 0 made
-    made_hung =
-        chain_hung x.rank (x.rank b) 3 f.between s (begin_chain b s) names.between first_chained
-        (begun s f.block x.rank x.hangs x.furthest.block x.forest (let a = x.ranks.block in omega arith))
+    made_apart : ChainApart letters s p base made
+    made_apart = (all_made.1).1
+
+    made_hung : ChainHung s x.rank (x.rank b) all_made.0 made
+    made_hung = ((all_made.1).0).1
 
     last_within : made.last < length made.state.nodes
     last_within = element_number made.last made.state.nodes made_hung.last_at
@@ -235,8 +219,7 @@ module _ (choice : Choice) where
     back_fits : FitsBy choice none_out letters back made_apart.labels
     back_fits =
         fits_placed choice letters made.state.nodes made_apart.labels p made.last made_apart.apart made_apart.within
-        last_within
-        made_apart.other back_forest
+        last_within made_apart.other back_forest
 
     back_kind : (m : ℕ) → m < length s.nodes → kind_at back m ≡ kind_at s.nodes m
     back_kind m l =
@@ -263,8 +246,7 @@ module _ (choice : Choice) where
     abbrev after_labels : Labels
     after_labels =
         wrapped_labels choice letters back made_apart.labels back_fits back_forest formatting b formatting_at
-        block_within
-        block_live
+        block_within block_live
 
     after_fits : FitsBy choice none_out letters (wrap_children formatting b back) after_labels
     after_fits =
@@ -279,8 +261,7 @@ module _ (choice : Choice) where
 
     inner_live : EachOpen (λ e. after_labels.live e.node ≡ true) f.inner
     inner_live =
-        each_more f.inner
-        (λ e y. old_live e.node (element_number e.node s.nodes y.0) (live_high e.node y.1.0 y.1.1))
+        each_more f.inner (λ e y. old_live e.node (element_number e.node s.nodes y.0) (live_high e.node y.1.0 y.1.1))
         (each_both (ElementOpen s.nodes) (λ e. (o.labels.live e.node ≡ true) × (x.rank b ≤ x.rank e.node)) f.inner
         x.furthest.inner
         (each_both (λ e. o.labels.live e.node ≡ true) (λ e. x.rank b ≤ x.rank e.node) f.inner inner
@@ -306,11 +287,9 @@ module _ (choice : Choice) where
 
     around_live : EachOpen (λ e. after_labels.live e.node ≡ true) s.stack
     around_live =
-        each_more s.stack
-        (λ e y. old_live e.node (element_number e.node s.nodes y.0) (live_low e.node y.1.0 y.1.1))
+        each_more s.stack (λ e y. old_live e.node (element_number e.node s.nodes y.0) (live_low e.node y.1.0 y.1.1))
         (each_both (ElementOpen s.nodes) (λ e. (o.labels.live e.node ≡ true) × (x.rank e.node ≤ x.rank p)) s.stack
-        x.opened_at
-        (each_both (λ e. o.labels.live e.node ≡ true) (λ e. x.rank e.node ≤ x.rank p) s.stack o.opens
+        x.opened_at (each_both (λ e. o.labels.live e.node ≡ true) (λ e. x.rank e.node ≤ x.rank p) s.stack o.opens
         (low_ranks x.rank (x.rank formatting) s.stack x.order)))
 
     whole_live : EachOpen (λ e. after_labels.live e.node ≡ true)
@@ -345,118 +324,56 @@ module _ (choice : Choice) where
     unfolding move_last
     adopt_ordered =
         subst (λ (fosters : Bool). OrderedIn choice letters (adopt formatting tag f s).nodes
-        (adopt formatting tag f s).stack
-        fosters) (sym made_apart.no_fostering)
+        (adopt formatting tag f s).stack fosters) (sym made_apart.no_fostering)
         (subst (λ (at : _). OrderedIn choice letters
         (wrap_children formatting b (put made.last at (detach made.last made.state.nodes)))
         (f.inner ++ opened (length (put made.last at (detach made.last made.state.nodes))) (html (known tag))
-        ∷ f.block
-        ∷ (made.copies ++ made.state.stack)) false) (sym there)
+        ∷ f.block ∷ (made.copies ++ made.state.stack)) false) (sym there)
         (subst (λ (stack : List OpenValue). OrderedIn choice letters (wrap_children formatting b back)
         (f.inner ++ opened (length back) (html (known tag)) ∷ f.block ∷ (made.copies ++ stack)) false)
         (sym made_hung.same_stack) adopted))
 
   -- ---- the rounds
 
-  open_ordered : (letters : List ℕ) (formatting : ℕ) (tag : TagName) (s : StateValue)
-      → is_open_node formatting s.stack ≡ true → is_element (kind_at s.nodes formatting) ≡ true → Plain s
-      → (x : Hung s) (o : Ordered choice letters s) (f : Option Furthest)
-      → SomeRanks x.rank x.limit (suc (x.rank formatting)) f → SomeAt (ElementOpen s.nodes) f → SomePlain f
-      → SomeAt (λ e. o.labels.live e.node ≡ true) f
-      → Ordered choice letters (after_round (round_by formatting tag f (on_stack (around formatting) s)))
-  unfolding after_round
-  open_ordered letters formatting tag s l e h x o None ranks at names live =
-      ordered_fewer choice (around formatting s.stack) (around_fewer formatting s.stack) o
-  open_ordered letters formatting tag s l e h x o (Some f) ranks at names live =
-      adopt_ordered letters formatting tag f (on_stack (around formatting) s) names
-      (plain_stack (around formatting s.stack) ((around_fewer formatting s.stack).each is_plain_open h.names) h)
-      (record {
-        rank = x.rank;
-        limit = x.limit;
-        at_root = x.at_root;
-        order = around_below x.rank x.limit formatting s.stack l x.order;
-        ranks = ranks;
-        hangs = x.hangs;
-        opened_at = (around_fewer formatting s.stack).each (is_element_open s.nodes) x.opened_at;
-        furthest = at;
-        formatting_at = e;
-        head_at = x.head_at;
-        forest = x.forest;
-        filled = x.filled;
-        root = x.root;
-      })
-      (record {
-        labels = o.labels;
-        fits = o.fits;
-        root = o.root;
-        opens = (around_fewer formatting s.stack).each (λ e. o.labels.live e.node) o.opens;
-        no_fostering = o.no_fostering;
-      }) live.inner live.block
-
-  with_ordered : (letters : List ℕ) (tag : TagName) (formatting : ℕ) (s : StateValue)
-      → is_element (kind_at s.nodes formatting) ≡ true
-      → Plain s → Hung s → Ordered choice letters s
-      → Ordered choice letters (after_round (round_with tag formatting s))
-  unfolding after_round
-  with_ordered letters tag formatting s e h x o = either (is_open_node formatting s.stack) refl
-    where
-      later : is_open_node formatting s.stack ≡ true → (t : Bool)
-          → Ordered choice letters (after_round (if t then last_round s else round_open tag formatting s))
-      later l true = o
-      later l false =
-          open_ordered letters formatting tag s l e h x o (furthest_block (inside formatting s.stack))
-          (furthest_ranks x.rank x.limit (inside formatting s.stack) (suc (x.rank formatting))
-          (inside_within x.rank x.limit formatting s.stack l x.order))
-          (furthest_at (ElementOpen s.nodes) (inside formatting s.stack)
-          ((inside_fewer formatting s.stack).each (is_element_open s.nodes) x.opened_at))
-          (furthest_plain (inside formatting s.stack) ((inside_fewer formatting s.stack).each is_plain_open h.names))
-          (furthest_at (λ e. o.labels.live e.node ≡ true) (inside formatting s.stack)
-          ((inside_fewer formatting s.stack).each (λ e. o.labels.live e.node) o.opens))
-
-      either : (b : Bool) → is_open_node formatting s.stack ≡ b
-          → Ordered choice letters (after_round (if not b then last_round (on_formatting (without_entry formatting) s)
-          else if list_any bounds_any (inside formatting s.stack) then last_round s else round_open tag formatting s))
-      either true l = later l (list_any bounds_any (inside formatting s.stack))
-      either false l = o
-
-  of_ordered : (letters : List ℕ) (tag : TagName) (formatting : Option ℕ) (s : StateValue)
-      → formatting_element tag s ≡ formatting
-      → Plain s → Hung s → Ordered choice letters s
-      → Ordered choice letters (after_round (round_of tag formatting s))
-  unfolding after_round
-  of_ordered letters tag None s e h x o =
-      ordered_fewer choice (close_name (known tag) s.stack) (close_name_fewer (known tag) s.stack) o
-  of_ordered letters tag (Some formatting) s e h x o =
-      with_ordered letters tag formatting s
-      (element_at s.nodes formatting
-      (h.entries_at formatting (found_listed (node_is s.nodes tag) s.formatting formatting e))) h x o
-
-  go_on_ordered : (letters : List ℕ) (more : StateValue → StateValue) (r : Round)
-      → ((s : StateValue) → Plain s → Hung s → Ordered choice letters s → Ordered choice letters (more s))
-      → Plain (after_round r) → Hung (after_round r) → Ordered choice letters (after_round r)
-      → Ordered choice letters (go_on more r)
-  unfolding after_round
-  go_on_ordered letters more (last_round s) f h x o = o
-  go_on_ordered letters more (goes_on s) f h x o = f s h x o
-
-  rounds_ordered : (letters : List ℕ) (k : ℕ) (tag : TagName) (s : StateValue) → is_plain tag ≡ true → Plain s
-      → Hung s → Ordered choice letters s
-      → Ordered choice letters (rounds k tag s)
-  rounds_ordered letters zero tag s p h x o = o
-  rounds_ordered letters (suc k) tag s p h x o =
-      go_on_ordered letters (rounds k tag) (round tag s) (λ t g y z. rounds_ordered letters k tag t p g y z)
-      (of_plain tag (formatting_element tag s) s refl p h) (of_hung tag (formatting_element tag s) s refl h x)
-      (of_ordered letters tag (formatting_element tag s) s refl h x o)
-
-module _ (choice : Choice) where
-  rounds_order : (k : ℕ) (tag : TagName) → is_plain tag ≡ true → Stays (rounds k tag)
-      → Orders choice (rounds k tag)
-  rounds_order k tag p stays = record {
-    stays = stays;
-    orders = λ letters s h x o. rounds_ordered choice letters k tag s p h x o;
-  }
+  ordered_steps : (letters : List ℕ) (tag : TagName) → is_plain tag ≡ true
+      → AdoptionSteps tag (λ s. (Plain s × Hung s) × Ordered choice letters s)
+      (λ s t. (Plain t × Hung t) × Ordered choice letters t)
+  ordered_steps letters tag p =
+      let hung = hung_steps tag p in
+      record {
+        same = λ s h. h;
+        after = λ a b. b;
+        holds = λ h. h;
+        removed = λ formatting s h. (hung.removed formatting s h.0, h.1);
+        popped = λ s h e.
+            (hung.popped s h.0 e, ordered_fewer choice (pop s.stack) (pop_fewer s.stack) h.1);
+        closed = λ s h. (
+          hung.closed s h.0,
+          ordered_fewer choice (close_name (known tag) s.stack) (close_name_fewer (known tag) s.stack) h.1,
+        );
+        left_around = λ formatting s h o. (
+          hung.left_around formatting s h.0 o,
+          ordered_fewer choice (around formatting s.stack) (around_fewer formatting s.stack) h.1,
+        );
+        adopts = λ formatting s h o f e.
+            let labels = h.1.labels in
+            let live = furthest_at (λ x. labels.live x.node ≡ true) (inside formatting s.stack) f e
+            ((inside_fewer formatting s.stack).each (λ x. labels.live x.node) h.1.opens) in (
+              hung.adopts formatting s h.0 o f e,
+              adopt_ordered letters formatting tag f (on_stack (around formatting) s) (names_at formatting f s e h.0.0)
+                  (hung.left_around formatting s h.0 o).0 (round_hung formatting tag f s o e h.0.0 h.0.1)
+                  (record {
+                    labels = labels;
+                    fits = h.1.fits;
+                    root = h.1.root;
+                    opens = (around_fewer formatting s.stack).each (λ x. labels.live x.node) h.1.opens;
+                    no_fostering = h.1.no_fostering;
+                  }) live.inner live.block,
+            );
+      }
 
   pub adoption_agency_orders : (tag : TagName) → is_plain tag ≡ true → Orders choice (adoption_agency tag)
-  adoption_agency_orders tag p =
-      orders_by_test choice (closes_at_once tag) (on_stack_orders choice pop pop_fewer)
-      (rounds_order 8 tag p (rounds_stay 8 tag p))
+  adoption_agency_orders tag p = record {
+    stays = adoption_agency_stays tag p;
+    orders = λ letters s h x o. (agency_holds (ordered_steps letters tag p) s ((h, x), o)).1;
+  }

@@ -1,43 +1,34 @@
--- Before the body each token that is no text leaves the letters in order: the head may be opened once more after it.
-use Rattle.std.proofs.Common.{◌≡◌, ◌∙◌, ℕ, zero, suc, ◌≤◌, Bool, true, false, List, [], ◌∷◌, length}
+-- States before the body in which the letters stand in order: the head may be opened once more after it.
+use Rattle.std.proofs.Common.{◌≡◌, ◌∙◌, ℕ, zero, suc, ◌<◌, Bool, true, false, List, [], ◌∷◌, length, inl, inr, ◌⊎◌}
 use Rattle.std.proofs.Common.{Option, Some, None, refl, sym, ap, subst, cond}
-use Rattle.std.specs.Prelude.{if◌then◌else◌}
+use Rattle.std.specs.Prelude.{◌||◌}
 use Rattle.std.proofs.lemmas.Bool.{true≢false}
-use Rattle.htmd_grammar.specs.ValueTrees.{AttributePair}
-use Rattle.htmd_html5_state.specs.Names.{NameValue, known, html}
-use Rattle.htmd_html5_state.specs.Nodes.{doctype as doctype_kind, text}
-use Rattle.htmd_html5_state.specs.OpenElements.{OpenValue, is_open, first_open, pop}
+use Rattle.htmd_grammar.proofs.Cases.{test}
+use Rattle.htmd_html5_state.specs.Names.{ElementNameValue, known, html}
+use Rattle.htmd_html5_state.specs.Nodes.{NodeValue, KindValue, text, last_in, add}
+use Rattle.htmd_html5_state.specs.OpenElements.{OpenValue, pop}
 use Rattle.htmd_html5_state.specs.State.{StateValue}
-use Rattle.htmd_html5_state.specs.Insertion.{opened, current, insert_doctype}
-use Rattle.htmd_html5_state.specs.Insertion.{insert_comment_in, insert_comment}
+use Rattle.htmd_html5_state.specs.Foreign.{current_is_html, is_html_name}
+use Rattle.htmd_html5_state.specs.Formatting.{is_listed}
+use Rattle.htmd_html5_state.specs.Insertion.{opened, current}
 use Rattle.htmd_html5_state.specs.declared.modes.InsertionMode.TheVariants.{Initial, BeforeHtml, BeforeHead, InHead}
-use Rattle.htmd_html5_state.specs.declared.modes.InsertionMode.TheVariants.{InHeadNoscript, AfterHead, InBody, AfterBody}
-use Rattle.htmd_html5_state.specs.declared.modes.InsertionMode.TheVariants.{AfterAfterBody, InSelect}
+use Rattle.htmd_html5_state.specs.declared.modes.InsertionMode.TheVariants.{InHeadNoscript, AfterHead}
 use Rattle.htmd_html5_state.specs.declared.modes.InsertionMode.{InsertionMode}
-use Rattle.htmd_html5_state.specs.declared.sets.NameSet.TheVariants.{Only}
-use Rattle.htmd_html5.specs.Tokens.{StartTagValue, TokenValue, start_tag, end_tag, run, comment, doctype, end_of_file}
-use Rattle.htmd_html5.specs.Outcomes.{Outcome, outcome, done}
 use Rattle.htmd_html5.specs.Feeding.{is_text_mode}
-use Rattle.htmd_html5.specs.SharedRules.{add_missing_to, add_to_root}
-use Rattle.htmd_html5.specs.Initial.{leave_initial, initial}
-use Rattle.htmd_html5.specs.BeforeHtml.{with_root, imply_root, start_before_html, end_before_html, before_html}
-use Rattle.htmd_html5.specs.BeforeHead.{with_head, imply_head, start_before_head, end_before_head, before_head}
-use Rattle.htmd_html5_laws.proofs.OpenNodes.{EachOpen, Fewer}
-use Rattle.htmd_html5_laws.proofs.PlainNames.{is_plain_name, is_plain_open}
-use Rattle.htmd_html5_laws.proofs.PlainStates.{Plain, plain_stack, in_plain_mode, insert_root_stays}
-use Rattle.htmd_html5_laws.proofs.PlainStates.{insert_doctype_stays, insert_element_stays, missing_grows, plain_grown}
-use Rattle.htmd_html5_laws.proofs.HungStates.{HungIn, hung_fewer, hung_headed, hung_missing}
-use Rattle.htmd_html5_laws.proofs.HungStates.{hung_named}
-use Rattle.htmd_html5_laws.proofs.OrderedStates.{OrderedIn, Orders, ordered_fewer, element_in, loose_in}
-use Rattle.htmd_html5_laws.proofs.OrderedStates.{insert_comment_orders, insert_comment_root_orders}
-use Rattle.htmd_html5_laws.proofs.OrderedStates.{insert_element_orders, missing_ordered}
-use Rattle.htmd_html5_laws.proofs.RootedStacks.{is_late, is_outer, is_outer_name}
+use Rattle.htmd_html5_laws.proofs.NodeTexts.{kinds}
+use Rattle.htmd_html5_laws.proofs.OpenNodes.{EachOpen, Fewer, each_more, all_of, skip, keep, pop_fewer}
+use Rattle.htmd_html5_laws.proofs.PlainNames.{is_plain_element}
+use Rattle.htmd_html5_laws.proofs.PlainStates.{is_plain_mode, PlainIn}
+use Rattle.htmd_html5_laws.proofs.HungNodes.{is_solid}
+use Rattle.htmd_html5_laws.proofs.HungStates.{HungIn, hung_fewer, hung_last}
+use Rattle.htmd_html5_laws.proofs.OrderedNodes.{bears}
+use Rattle.htmd_html5_laws.proofs.OrderedStates.{OrderedIn, Orders, ordered_fewer, loose_in}
+use Rattle.htmd_html5_laws.proofs.RootedStacks.{is_late, is_outer}
 use Rattle.htmd_html5_laws.proofs.OrderedLate.{Late}
-use Rattle.htmd_html5_laws.proofs.OrderedRules.{IsOrderly, plain_or_column, by_column_name}
-use Rattle.htmd_html5_state.specs.declared.names.TagName.TheVariants as tags
 use Rattle.htmd_html5_laws.proofs.Counted.{Choice}
+use Rattle.htmd_html5_state.specs.declared.names.TagName.TheVariants as tags
 
--- ---- states before the body
+-- ---- names
 
 abbrev pub is_outer_open : OpenValue → Bool
 is_outer_open e = is_outer e.name
@@ -45,369 +36,200 @@ is_outer_open e = is_outer e.name
 abbrev pub OuterOpen : OpenValue → Type 0
 OuterOpen e = is_outer_open e ≡ true
 
--- no element may be opened again, and no form is noted
+pub outer_plain : (name : ElementNameValue) → is_outer name ≡ true → is_plain_element name ≡ true
+outer_plain (html (known tags.Html)) o = refl
+outer_plain _ o = cc
+
+outer_html : (name : ElementNameValue) → is_outer name ≡ true → is_html_name name ≡ true
+outer_html (html name) o = refl
+outer_html _ o = o
+
+pub current_html : (stack : List OpenValue) → EachOpen OuterOpen stack → current_is_html stack ≡ true
+current_html [] h = refl
+current_html (e ∷ es) h = outer_html e.name h.0
+
+-- ---- states before the body
+
+-- no element may be opened again, no form is noted, and no template is open
 abbrev pub Unused : StateValue → Type 0
-Unused s = (s.formatting ≡ []) × (s.form ≡ None)
+Unused s = (s.formatting ≡ []) × ((s.form ≡ None) × (s.template_modes ≡ []))
 
 module _ (choice : Choice) where
   -- only the root, the head and elements of only text are open
-  pub record EarlyIn (letters : List ℕ) (s : StateValue) (stack : List OpenValue) : Type 0 where
-    pub plain : Plain (record s { stack = stack })
-    pub hung : HungIn s.nodes stack s.head
-    pub ordered : OrderedIn choice letters s.nodes stack s.foster_parenting
+  pub record EarlyOf (letters : List ℕ) (nodes : List NodeValue) (stack : List OpenValue) (head : Option ℕ)
+      (fosters : Bool)
+      : Type 0 where
+    pub hung : HungIn nodes stack head
+    pub ordered : OrderedIn choice letters nodes stack fosters
     pub names : EachOpen OuterOpen stack
-    pub unused : Unused s
+
+  abbrev pub EarlyIn : List ℕ → StateValue → List OpenValue → Type 0
+  EarlyIn letters s stack = EarlyOf letters s.nodes stack s.head s.foster_parenting × Unused s
 
   abbrev pub Early : List ℕ → StateValue → Type 0
   Early letters s = EarlyIn letters s s.stack
 
+pub early_plain : {choice : Choice} {letters : List ℕ} (s : StateValue) (stack : List OpenValue)
+    (mode : InsertionMode) → is_plain_mode mode ≡ true → EarlyIn choice letters s stack
+    → PlainIn (kinds s.nodes) s.formatting stack mode s.template_modes
+early_plain s stack mode p h = record {
+  names = each_more stack (λ e o. outer_plain e.name o) h.0.names;
+  entries_at = λ n l. absurd (true≢false (sym l ∙ ap (is_listed n) h.1.0));
+  plain_mode = p;
+  no_modes = h.1.1.1;
+}
+
+-- a step in a plain mode
+pub early_step : {choice : Choice} {f : StateValue → StateValue} → Orders choice f → (letters : List ℕ)
+    (s : StateValue) → is_plain_mode s.mode ≡ true → EachOpen OuterOpen (f s).stack → Unused (f s)
+    → Early choice letters s → Early choice letters (f s)
+early_step g letters s p names unused h =
+    let plain = early_plain s s.stack s.mode p h in (
+      record {
+        hung = g.stays.hangs s plain h.0.hung;
+        ordered = g.orders letters s plain h.0.hung h.0.ordered;
+        names = names;
+      },
+      unused,
+    )
+
+module _ {choice : Choice} {letters : List ℕ} {nodes : List NodeValue} {stack : List OpenValue} {head : Option ℕ}
+    {fosters : Bool} where
+  pub early_fewer : (es : List OpenValue) → Fewer es stack → EarlyOf choice letters nodes stack head fosters
+      → EarlyOf choice letters nodes es head fosters
+  early_fewer es f h = record {
+    hung = hung_fewer es f h.hung;
+    ordered = ordered_fewer choice es f h.ordered;
+    names = f.each is_outer_open h.names;
+  }
+
+  -- a comment or a doctype at the end of a node
+  pub early_loose : (k : KindValue) (p : ℕ) → is_solid k ≡ false → bears choice k ≡ false
+      → ((t : List ℕ) → k ≡ text t → ⊥) → p < length nodes
+      → EarlyOf choice letters nodes stack head fosters
+      → EarlyOf choice letters (add k (last_in p) nodes) stack head fosters
+  early_loose k p loose e none within h = record {
+    hung = hung_last k p nodes loose h.hung;
+    ordered = loose_in choice k p h.hung h.ordered within e none;
+    names = h.names;
+  }
+
+-- ---- what is open
+
 abbrev pub head_open : ℕ → OpenValue
 head_open n = opened n (html (known tags.Head))
 
-module _ (choice : Choice) where
-  -- with the head open once more, if that may be, right under an element that is put into it
-  abbrev pub AfterHeadAt : Bool → Bool → Option ℕ → List OpenValue → List ℕ → StateValue → Type 0
-  AfterHeadAt false raw head stack letters s = EarlyIn choice letters s stack
-  AfterHeadAt true raw None stack letters s = EarlyIn choice letters s stack
-  AfterHeadAt true false (Some n) stack letters s = EarlyIn choice letters s (head_open n ∷ stack)
-  AfterHeadAt true true (Some n) [] letters s = ⊥
-  AfterHeadAt true true (Some n) (e ∷ es) letters s = EarlyIn choice letters s (e ∷ head_open n ∷ es)
+-- an element right under the innermost, if that is of only text
+abbrev pub under_raw : Bool → OpenValue → List OpenValue → List OpenValue
+under_raw false d stack = d ∷ stack
+under_raw true d [] = d ∷ []
+under_raw true d (e ∷ es) = e ∷ d ∷ es
 
-  abbrev pub AfterHeadIn : Bool → Option ℕ → List OpenValue → List ℕ → StateValue → Type 0
-  AfterHeadIn raw head stack letters s = AfterHeadAt choice.reopens raw head stack letters s
+-- after the head it counts as open once more, if that may be: an element may be put into it
+abbrev pub opens_in : InsertionMode → Bool → Bool → Option ℕ → List OpenValue → List OpenValue
+opens_in AfterHead true raw (Some n) stack = under_raw raw (head_open n) stack
+opens_in mode reopens raw head stack = stack
+
+pub opens_fewer : (mode : InsertionMode) (reopens raw : Bool) (head : Option ℕ) (stack : List OpenValue)
+    → Fewer stack (opens_in mode reopens raw head stack)
+opens_fewer AfterHead true false (Some n) stack = skip (head_open n) (all_of stack)
+opens_fewer AfterHead true true (Some n) [] = skip (head_open n) (all_of [])
+opens_fewer AfterHead true true (Some n) (e ∷ es) = keep e (skip (head_open n) (all_of es))
+opens_fewer mode reopens raw head stack = all_of stack
+
+-- where the element of only text is closed
+pub closed_fewer : (mode : InsertionMode) (reopens : Bool) (head : Option ℕ) (stack : List OpenValue)
+    → Fewer (opens_in mode reopens false head (pop stack)) (opens_in mode reopens true head stack)
+closed_fewer AfterHead true (Some n) [] = all_of (head_open n ∷ [])
+closed_fewer AfterHead true (Some n) (e ∷ es) = skip e (all_of (head_open n ∷ es))
+closed_fewer mode reopens head stack = pop_fewer stack
+
+-- ---- modes before the body
+
+abbrev pub is_early : InsertionMode → Bool
+is_early Initial = true
+is_early BeforeHtml = true
+is_early BeforeHead = true
+is_early InHead = true
+is_early InHeadNoscript = true
+is_early AfterHead = true
+is_early _ = false
+
+pub early_mode_plain : (mode : InsertionMode) → is_early mode ≡ true → is_plain_mode mode ≡ true
+early_mode_plain Initial e = refl
+early_mode_plain _ e = cc
 
 abbrev pub popped : ℕ → List OpenValue → List OpenValue
 popped zero stack = stack
 popped (suc k) stack = popped k (pop stack)
 
 -- the head is the current node once so many have been popped
-abbrev pub HeadAt : ℕ → StateValue → Type 0
-HeadAt k s = (n : ℕ) → s.head ≡ Some n → (current (popped k s.stack)).node ≡ n
+abbrev pub HeadAt : ℕ → Option ℕ → List OpenValue → Type 0
+HeadAt k head stack = (n : ℕ) → head ≡ Some n → (current (popped k stack)).node ≡ n
+
+-- what a mode needs of what is open
+abbrev pub Placed : InsertionMode → Bool → Option ℕ → List OpenValue → Type 0
+Placed Initial raw head stack = stack ≡ []
+Placed BeforeHtml raw head stack = stack ≡ []
+Placed InHead raw head stack = HeadAt (cond raw 1 0) head stack
+Placed InHeadNoscript raw head stack = HeadAt (cond raw 2 1) head stack
+Placed AfterHead raw head stack = raw ≡ true → stack ≡ [] → ⊥
+Placed _ raw head stack = Unit {0}
+
+-- what counts as the current node in an element of only text
+pub opens_current : (mode : InsertionMode) (reopens : Bool) (head : Option ℕ) (stack : List OpenValue)
+    → Placed mode true head stack → (current (opens_in mode reopens true head stack)).node ≡ (current stack).node
+opens_current AfterHead true (Some n) [] h = absurd (h refl refl)
+opens_current AfterHead true (Some n) (e ∷ es) h = refl
+opens_current mode reopens head stack h = refl
+
+pub closed_placed : (mode : InsertionMode) (head : Option ℕ) (stack : List OpenValue) → Placed mode true head stack
+    → Placed mode false head (pop stack)
+closed_placed Initial head stack h = ap pop h
+closed_placed BeforeHtml head stack h = ap pop h
+closed_placed AfterHead head stack h = λ z. absurd (true≢false (sym z))
+closed_placed InHead head stack h = h
+closed_placed InHeadNoscript head stack h = h
+closed_placed _ head stack h = tt
 
 module _ (choice : Choice) where
-  -- what holds in a mode, in an element of only text or outside
+  -- in such a mode, in an element of only text or outside
+  pub record BeforeBody (raw : Bool) (mode : InsertionMode) (letters : List ℕ) (s : StateValue) : Type 0 where
+    pub early_mode : is_early mode ≡ true
+    pub early : EarlyIn choice letters s (opens_in mode choice.reopens raw s.head s.stack)
+    pub placed : Placed mode raw s.head s.stack
+
+  -- what holds in a mode
   abbrev pub Stage : Bool → InsertionMode → List ℕ → StateValue → Type 0
-  Stage raw Initial letters s = Early choice letters s × (s.stack ≡ [])
-  Stage raw BeforeHtml letters s = Early choice letters s × (s.stack ≡ [])
-  Stage raw BeforeHead letters s = Early choice letters s
-  Stage raw InHead letters s = Early choice letters s × HeadAt (cond raw 1 0) s
-  Stage raw InHeadNoscript letters s = Early choice letters s × HeadAt (cond raw 2 1) s
-  Stage raw AfterHead letters s = AfterHeadIn choice raw s.head s.stack letters s
-  Stage raw InBody letters s = Late choice letters s
-  Stage raw InSelect letters s = Late choice letters s
-  Stage raw AfterBody letters s = Late choice letters s
-  Stage raw AfterAfterBody letters s = Late choice letters s
-  Stage raw _ letters s = ⊥
+  Stage raw mode letters s = Late choice letters s ⊎ BeforeBody raw mode letters s
 
   abbrev pub Staged : List ℕ → StateValue → Type 0
   Staged letters s = Stage (is_text_mode s.content) s.mode letters s
 
-  pub staged : (raw : Bool) (mode : InsertionMode) (letters : List ℕ) (s : StateValue) → is_text_mode s.content
-      ≡ raw
-      → s.mode ≡ mode → Stage raw mode letters s → Staged letters s
+  pub staged : (raw : Bool) (mode : InsertionMode) (letters : List ℕ) (s : StateValue)
+      → is_text_mode s.content ≡ raw → s.mode ≡ mode → BeforeBody raw mode letters s → Staged letters s
   staged raw mode letters s e f h =
-      subst (λ (b : Bool). Stage b s.mode letters s) (sym e)
-      (subst (λ (m : InsertionMode). Stage raw m letters s) (sym f) h)
+      inr (subst (λ (b : Bool). BeforeBody b s.mode letters s) (sym e)
+      (subst (λ (m : InsertionMode). BeforeBody raw m letters s) (sym f) h))
 
-  pub late_stage : (raw : Bool) (mode : InsertionMode) (letters : List ℕ) (s : StateValue) → is_late mode ≡ true
-      → Late choice letters s → Stage raw mode letters s
-  late_stage raw InBody letters s e h = h
-  late_stage raw InSelect letters s e h = h
-  late_stage raw AfterBody letters s e h = h
-  late_stage raw AfterAfterBody letters s e h = h
-  late_stage raw _ letters s e h = absurd (true≢false (sym e))
+  -- by whether the body is open
+  pub by_stage : {P : Type 0} (raw : Bool) (letters : List ℕ) (s : StateValue) → is_text_mode s.content ≡ raw
+      → Staged letters s → (Late choice letters s → P) → (BeforeBody raw s.mode letters s → P) → P
+  by_stage raw letters s e (inl h) late early = late h
+  by_stage raw letters s e (inr h) late early = early (subst (λ (b : Bool). BeforeBody b s.mode letters s) e h)
 
-  pub stage_late : (raw : Bool) (mode : InsertionMode) (letters : List ℕ) (s : StateValue) → is_late mode ≡ true
-      → Stage raw mode letters s → Late choice letters s
-  stage_late raw InBody letters s e h = h
-  stage_late raw InSelect letters s e h = h
-  stage_late raw AfterBody letters s e h = h
-  stage_late raw AfterAfterBody letters s e h = h
-  stage_late raw _ letters s e h = absurd (true≢false (sym e))
-
-  pub staged_late : (letters : List ℕ) (s : StateValue) → Late choice letters s → Staged letters s
-  staged_late letters s h = late_stage (is_text_mode s.content) s.mode letters s h.rooted.late h
+  -- what is open indeed
+  pub real : (raw : Bool) (mode : InsertionMode) (letters : List ℕ) (s : StateValue)
+      → BeforeBody raw mode letters s → Early choice letters s
+  real raw mode letters s h =
+      (early_fewer s.stack (opens_fewer mode choice.reopens raw s.head s.stack) h.early.0, h.early.1)
 
 -- it isn't in an element of only text
 abbrev pub Calm : StateValue → Type 0
 Calm s = is_text_mode s.content ≡ false
 
-module _ (choice : Choice) where
-  -- outcomes in a mode
-  pub record StageAnswer (letters : List ℕ) (a : Outcome) : Type 0 where
-    pub stage : Staged choice letters a.state
-    pub calm : a.again ≡ true → Calm a.state
-
-  pub calm_answer : (mode : InsertionMode) (more : Bool) (letters : List ℕ) (s : StateValue)
-      → is_text_mode s.content ≡ false → s.mode ≡ mode → Stage choice false mode letters s
-      → StageAnswer letters (outcome s more)
-  calm_answer mode more letters s e f h =
-      record { stage = staged choice false mode letters s e f h; calm = λ z. e }
-
-  pub raw_answer : (mode : InsertionMode) (letters : List ℕ) (s : StateValue) → is_text_mode s.content ≡ true
-      → s.mode ≡ mode → Stage choice true mode letters s → StageAnswer letters (done s)
-  raw_answer mode letters s e f h =
-      record { stage = staged choice true mode letters s e f h; calm = λ z. absurd (true≢false (sym z)) }
-
-  pub late_answers : (more : Bool) (letters : List ℕ) (s : StateValue) → Late choice letters s
-      → is_text_mode s.content ≡ false → StageAnswer letters (outcome s more)
-  late_answers more letters s h e = record { stage = staged_late choice letters s h; calm = λ z. e }
-
-  -- ---- steps
-
-  pub early_step : {f : StateValue → StateValue} → Orders choice f → (letters : List ℕ) (s : StateValue)
-      → EachOpen OuterOpen (f s).stack → Unused (f s) → Early choice letters s → Early choice letters (f s)
-  early_step {f} g letters s names unused h = record {
-    plain = g.stays.stays s h.plain;
-    hung = g.stays.hangs s h.plain h.hung;
-    ordered = g.orders letters s h.plain h.hung h.ordered;
-    names = names;
-    unused = unused;
-  }
-
-module _ (choice : Choice) where
-  pub early_fewer : (letters : List ℕ) (s : StateValue) (stack es : List OpenValue) → Fewer es stack
-      → EarlyIn choice letters s stack → EarlyIn choice letters s es
-  early_fewer letters s stack es f h = record {
-    plain = plain_stack es (f.each is_plain_open h.plain.names) h.plain;
-    hung = hung_fewer es f h.hung;
-    ordered = ordered_fewer choice es f h.ordered;
-    names = f.each is_outer_open h.names;
-    unused = h.unused;
-  }
-
-  -- attributes of the outermost element
-  root_missing : (letters : List ℕ) (tag : StartTagValue) (s : StateValue) (stack : List OpenValue) (n : Option ℕ)
-      → EarlyIn choice letters s stack → EarlyIn choice letters (add_missing_to n tag.attributes s) stack
-  root_missing letters tag s stack None h = h
-  root_missing letters tag s stack (Some n) h = record {
-    plain = plain_grown (missing_grows n tag.attributes s.nodes) h.plain;
-    hung = hung_missing n tag.attributes s.nodes h.hung;
-    ordered = missing_ordered choice letters n tag.attributes s.nodes stack s.foster_parenting h.ordered;
-    names = h.names;
-    unused = h.unused;
-  }
-
--- what stays when the root is given attributes
-pub record SameBut (s t : StateValue) : Type 0 where
-  pub stack : t.stack ≡ s.stack
-  pub head : t.head ≡ s.head
-  pub mode : t.mode ≡ s.mode
-  pub content : t.content ≡ s.content
-
-pub root_same : (tag : StartTagValue) (s : StateValue) → SameBut s (add_to_root tag s)
-root_same tag s = either (is_open (Only tags.Template) s.stack) (first_open s.stack)
-  where
-    either : (b : Bool) (n : Option ℕ) → SameBut s (if b then s else add_missing_to n tag.attributes s)
-    either true n = record { stack = refl; head = refl; mode = refl; content = refl }
-    either false None = record { stack = refl; head = refl; mode = refl; content = refl }
-    either false (Some n) = record { stack = refl; head = refl; mode = refl; content = refl }
-
-module _ (choice : Choice) where
-  pub root_early : (letters : List ℕ) (tag : StartTagValue) (s : StateValue) (stack : List OpenValue)
-      → EarlyIn choice letters s stack → EarlyIn choice letters (add_to_root tag s) stack
-  root_early letters tag s stack h = either (is_open (Only tags.Template) s.stack)
-    where
-      either : (b : Bool) → EarlyIn choice letters (if b then s else add_missing_to (first_open s.stack)
-          tag.attributes s) stack
-      either true = h
-      either false = root_missing choice letters tag s stack (first_open s.stack) h
-
-  pub root_stage : (letters : List ℕ) (tag : StartTagValue) (s : StateValue) (mode : InsertionMode)
-      → is_text_mode s.content ≡ false → s.mode ≡ mode
-      → ((t : StateValue) → SameBut s t → ((stack : List OpenValue) → EarlyIn choice letters s stack
-      → EarlyIn choice
-      letters t stack)
-      → Stage choice false mode letters t)
-      → StageAnswer choice letters (done (add_to_root tag s))
-  root_stage letters tag s mode e f go =
-      let same = root_same tag s in
-      calm_answer choice mode false letters (add_to_root tag s) (ap is_text_mode same.content ∙ e) (same.mode ∙ f)
-      (go (add_to_root tag s) same (λ stack h. root_early letters tag s stack h))
-
--- ---- before the root
-
-no_doctype : (t : List ℕ) → doctype_kind ≡ text t → ⊥
-no_doctype t e = cc
-
-module _ (choice : Choice) where
-  pub comment_early : (letters : List ℕ) (c : List ℕ) (s : StateValue) → Early choice letters s
-      → Early choice letters
-      (insert_comment c s)
-  comment_early letters c s h = early_step choice (insert_comment_orders choice c) letters s h.names h.unused h
-
-  root_comment_early : (letters : List ℕ) (c : List ℕ) (s : StateValue) → Early choice letters s
-      → Early choice letters (insert_comment_in 0 c s)
-  root_comment_early letters c s h =
-      early_step choice (insert_comment_root_orders choice c) letters s h.names h.unused h
-
-  pub initial_left : (letters : List ℕ) (s : StateValue) → is_text_mode s.content ≡ false
-      → Stage choice false Initial
-      letters s
-      → StageAnswer choice letters (leave_initial s)
-  initial_left letters s e h =
-      calm_answer choice BeforeHtml true letters (record s { mode = BeforeHtml; quirks = true }) e refl (
-        record {
-          plain = in_plain_mode BeforeHtml refl h.0.plain;
-          hung = h.0.hung;
-          ordered = h.0.ordered;
-          names = h.0.names;
-          unused = h.0.unused;
-        },
-        h.1,
-      )
-
-  pub initial_stage : (t : TokenValue) → IsOrderly t → (letters : List ℕ) (s : StateValue) → s.mode ≡ Initial
-      → is_text_mode s.content ≡ false → Stage choice false Initial letters s
-      → StageAnswer choice letters (initial t s)
-  initial_stage (run kind c) p letters s m e h = absurd (true≢false p)
-  initial_stage (start_tag tag) p letters s m e h = initial_left letters s e h
-  initial_stage (end_tag name) p letters s m e h = initial_left letters s e h
-  initial_stage (comment c) p letters s m e h =
-      calm_answer choice Initial false letters (insert_comment_in 0 c s) e m (root_comment_early letters c s h.0, h.1)
-  initial_stage (doctype quirks) p letters s m e h =
-      calm_answer choice BeforeHtml false letters (record (insert_doctype s) { mode = BeforeHtml; quirks = quirks }) e
-      refl (
-        record {
-          plain = in_plain_mode BeforeHtml refl (insert_doctype_stays.stays s h.0.plain);
-          hung = insert_doctype_stays.hangs s h.0.plain h.0.hung;
-          ordered = loose_in choice letters doctype_kind 0 s.nodes s.stack s.head s.foster_parenting h.0.hung
-              h.0.ordered
-              h.0.hung.filled refl no_doctype;
-          names = h.0.names;
-          unused = h.0.unused;
-        },
-        h.1,
-      )
-  initial_stage end_of_file p letters s m e h = initial_left letters s e h
-
-  root_put : (letters : List ℕ) (name : NameValue) (attributes : List AttributePair) (s : StateValue)
-      → is_plain_name name ≡ true → is_outer_name name ≡ true → Stage choice false BeforeHtml letters s
-      → Early choice letters (with_root name attributes s)
-  root_put letters name attributes s p o h = record {
-    plain = in_plain_mode BeforeHead refl ((insert_root_stays name attributes p).stays s h.0.plain);
-    hung = (insert_root_stays name attributes p).hangs s h.0.plain h.0.hung;
-    ordered = element_in choice letters (html name) attributes 0 s.nodes s.stack s.head s.foster_parenting h.0.hung
-        h.0.ordered
-        h.0.hung.filled h.0.ordered.root (none s.stack h.1);
-    names = (o, h.0.names);
-    unused = h.0.unused;
-  }
-    where
-      none : (stack : List OpenValue) → stack ≡ []
-          → EachOpen (λ e. h.0.hung.rank e.node ≤ h.0.hung.rank 0) stack
-      none [] e = tt
-      none (d ∷ ds) e = absurd (nonempty e)
-        where
-          nonempty : d ∷ ds ≡ [] → ⊥
-          nonempty f = cc
-
-  pub root_implied : (letters : List ℕ) (s : StateValue) → is_text_mode s.content ≡ false → Stage choice false
-      BeforeHtml letters s
-      → StageAnswer choice letters (imply_root s)
-  root_implied letters s e h =
-      calm_answer choice BeforeHead true letters (with_root (known tags.Html) [] s) e refl
-      (root_put letters (known tags.Html) [] s refl refl h)
-
-  start_before_html_stage : (tag : StartTagValue) → is_plain_name tag.name ≡ true → (name : NameValue)
-      → tag.name ≡ name → (letters : List ℕ) (s : StateValue) → is_text_mode s.content ≡ false
-      → Stage choice false BeforeHtml letters s → StageAnswer choice letters (start_before_html name tag s)
-  start_before_html_stage tag p (known tags.Html) n letters s e h =
-      calm_answer choice BeforeHead false letters (with_root tag.name tag.attributes s) e refl
-      (root_put letters tag.name tag.attributes s p (ap is_outer_name n) h)
-  start_before_html_stage tag p _ n letters s e h = root_implied letters s e h
-
-  before_html_still : (letters : List ℕ) (s : StateValue) → s.mode ≡ BeforeHtml → is_text_mode s.content
-      ≡ false
-      → Stage choice false BeforeHtml letters s → StageAnswer choice letters (done s)
-  before_html_still letters s m e h = calm_answer choice BeforeHtml false letters s e m h
-
-  end_before_html_stage : (name : NameValue) (letters : List ℕ) (s : StateValue) → s.mode ≡ BeforeHtml
-      → is_text_mode s.content ≡ false → Stage choice false BeforeHtml letters s
-      → StageAnswer choice letters (end_before_html name s)
-  end_before_html_stage (known tags.Head) letters s m e h = root_implied letters s e h
-  end_before_html_stage (known tags.Body) letters s m e h = root_implied letters s e h
-  end_before_html_stage (known tags.Html) letters s m e h = root_implied letters s e h
-  end_before_html_stage (known tags.Br) letters s m e h = root_implied letters s e h
-  end_before_html_stage _ letters s m e h = before_html_still letters s m e h
-
-  pub before_html_stage : (t : TokenValue) → IsOrderly t → (letters : List ℕ) (s : StateValue) → s.mode
-      ≡ BeforeHtml
-      → is_text_mode s.content ≡ false → Stage choice false BeforeHtml letters s → StageAnswer choice letters
-      (before_html t s)
-  before_html_stage (run kind c) p letters s m e h = absurd (true≢false p)
-  before_html_stage (start_tag tag) p letters s m e h =
-      plain_or_column (StageAnswer choice letters (start_before_html tag.name tag s)) tag.name p
-      (λ q. start_before_html_stage tag q tag.name refl letters s e h)
-      (by_column_name (λ name. StageAnswer choice letters (start_before_html name tag s)) (root_implied letters s e h)
-      (root_implied letters s e h) tag.name)
-  before_html_stage (end_tag name) p letters s m e h = end_before_html_stage name letters s m e h
-  before_html_stage (comment c) p letters s m e h =
-      calm_answer choice BeforeHtml false letters (insert_comment_in 0 c s) e m
-      (root_comment_early letters c s h.0, h.1)
-  before_html_stage (doctype quirks) p letters s m e h = before_html_still letters s m e h
-  before_html_stage end_of_file p letters s m e h = root_implied letters s e h
-
-  -- ---- before the head
-
-  head_put : (letters : List ℕ) (name : NameValue) (attributes : List AttributePair) (s : StateValue)
-      → is_plain_name name ≡ true → is_outer_name name ≡ true → Early choice letters s
-      → Stage choice false InHead letters (with_head name attributes s)
-  head_put letters name attributes s p o h =
-      let y = hung_named (html name) attributes s h.hung in (
-        record {
-          plain = in_plain_mode InHead refl ((insert_element_stays name attributes p).stays s h.plain);
-          hung = hung_headed (length s.nodes) y.opened_at.0 y;
-          ordered = (insert_element_orders choice name attributes p).orders letters s h.plain h.hung h.ordered;
-          names = (o, h.names);
-          unused = h.unused;
-        },
-        λ n e. same e,
-      )
-    where
-      same : {n m : ℕ} → Some n ≡ Some m → n ≡ m
-      same e = cc
-
-  pub head_implied : (letters : List ℕ) (s : StateValue) → is_text_mode s.content ≡ false
-      → Early choice letters s
-      → StageAnswer choice letters (imply_head s)
-  head_implied letters s e h =
-      calm_answer choice InHead true letters (with_head (known tags.Head) [] s) e refl
-      (head_put letters (known tags.Head) [] s refl refl h)
-
-  start_before_head_stage : (tag : StartTagValue) → is_plain_name tag.name ≡ true → (name : NameValue)
-      → tag.name ≡ name → (letters : List ℕ) (s : StateValue) → s.mode ≡ BeforeHead
-      → is_text_mode s.content ≡ false → Early choice letters s
-      → StageAnswer choice letters (start_before_head name tag s)
-  start_before_head_stage tag p (known tags.Html) n letters s m e h =
-      root_stage choice letters tag s BeforeHead e m
-      (λ t same go. subst (λ (stack : List OpenValue). EarlyIn choice letters t stack) (sym same.stack)
-      (go s.stack h))
-  start_before_head_stage tag p (known tags.Head) n letters s m e h =
-      calm_answer choice InHead false letters (with_head tag.name tag.attributes s) e refl
-      (head_put letters tag.name tag.attributes s p (ap is_outer_name n) h)
-  start_before_head_stage tag p _ n letters s m e h = head_implied letters s e h
-
-  end_before_head_stage : (name : NameValue) (letters : List ℕ) (s : StateValue) → s.mode ≡ BeforeHead
-      → is_text_mode s.content ≡ false → Early choice letters s
-      → StageAnswer choice letters (end_before_head name s)
-  end_before_head_stage (known tags.Head) letters s m e h = head_implied letters s e h
-  end_before_head_stage (known tags.Body) letters s m e h = head_implied letters s e h
-  end_before_head_stage (known tags.Html) letters s m e h = head_implied letters s e h
-  end_before_head_stage (known tags.Br) letters s m e h = head_implied letters s e h
-  end_before_head_stage _ letters s m e h = calm_answer choice BeforeHead false letters s e m h
-
-  pub before_head_stage : (t : TokenValue) → IsOrderly t → (letters : List ℕ) (s : StateValue) → s.mode
-      ≡ BeforeHead
-      → is_text_mode s.content ≡ false → Early choice letters s → StageAnswer choice letters (before_head t s)
-  before_head_stage (run kind c) p letters s m e h = absurd (true≢false p)
-  before_head_stage (start_tag tag) p letters s m e h =
-      plain_or_column (StageAnswer choice letters (start_before_head tag.name tag s)) tag.name p
-      (λ q. start_before_head_stage tag q tag.name refl letters s m e h)
-      (by_column_name (λ name. StageAnswer choice letters (start_before_head name tag s)) (head_implied letters s e h)
-      (head_implied letters s e h) tag.name)
-  before_head_stage (end_tag name) p letters s m e h = end_before_head_stage name letters s m e h
-  before_head_stage (comment c) p letters s m e h =
-      calm_answer choice BeforeHead false letters (insert_comment c s) e m (comment_early letters c s h)
-  before_head_stage (doctype quirks) p letters s m e h = calm_answer choice BeforeHead false letters s e m h
-  before_head_stage end_of_file p letters s m e h = head_implied letters s e h
+-- such a mode, or one in the body or after it
+pub stage_mode : {choice : Choice} (raw : Bool) (letters : List ℕ) (s : StateValue)
+    → Stage choice raw s.mode letters s → (is_late s.mode || is_early s.mode) ≡ true
+stage_mode raw letters s (inl h) = rw h.rooted.late refl
+stage_mode raw letters s (inr h) = test (is_late s.mode) (λ t. rw t refl) (λ t. rw (t, h.early_mode) refl)

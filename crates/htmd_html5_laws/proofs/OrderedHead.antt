@@ -1,127 +1,271 @@
--- In the head and after it each token that is no text leaves the letters in order.
-use Rattle.std.proofs.Common.{◌≡◌, ◌∙◌, ℕ, suc, ◌<◌, Bool, true, false, List, [], ◌∷◌, length}
-use Rattle.std.proofs.Common.{Option, Some, None, refl, sym, ap, subst, arith, cond, inl}
-use Rattle.std.specs.Prelude.{if◌then◌else◌, ◌||◌, not}
-use Rattle.std.proofs.lemmas.Bool.{true≢false, eq-eqb, ne_eqb}
+-- Before the body each token that is no text leaves the letters in order, by the rules of the mode.
+use Rattle.std.proofs.Common.{◌≡◌, ◌∙◌, ℕ, ◌<◌, ◌≤◌, Bool, true, false, List, [], ◌∷◌, length, Option, Some, None, refl}
+use Rattle.std.proofs.Common.{sym, ap, subst, arith, inl}
+use Rattle.std.specs.Prelude.{if◌then◌else◌, ◌&&◌, ◌||◌, not}
+use Rattle.std.proofs.lemmas.Bool.{true≢false, and_from, and_parts, cond_both, eq-eqb, ne_eqb, or_right}
+use Rattle.std.proofs.lemmas.List.{length-map}
 use Rattle.htmd_grammar.specs.ValueTrees.{AttributePair}
 use Rattle.htmd_grammar.specs.declared.content_model.RawElement.{RawElement}
-use Rattle.htmd_html5_state.specs.Names.{NameValue, ElementNameValue, known, html, svg, math}
-use Rattle.htmd_html5_state.specs.Nodes.{comment as comment_kind}
-use Rattle.htmd_html5_state.specs.Nodes.{NodeValue, kind_at, last_in}
-use Rattle.htmd_html5_state.specs.OpenElements.{OpenValue, pop, without}
+use Rattle.htmd_grammar.specs.declared.content_model.ContentModel.TheVariants.{Raw}
+use Rattle.htmd_html5_state.specs.Names.{NameValue, known, html}
+use Rattle.htmd_html5_state.specs.Nodes.{NodeValue, comment as comment_kind, doctype as doctype_kind, last_in, kind_at}
+use Rattle.htmd_html5_state.specs.Nodes.{add, add_missing}
+use Rattle.htmd_html5_state.specs.OpenElements.{OpenValue, first_open, pop, without}
 use Rattle.htmd_html5_state.specs.State.{StateValue, on_stack}
-use Rattle.htmd_html5_state.specs.Foreign.{current_is_html, is_html_name}
+use Rattle.htmd_html5_state.specs.Foreign.{current_is_html, is_math_text_point, is_annotation, is_html_point}
 use Rattle.htmd_html5_state.specs.Formatting.{is_listed}
-use Rattle.htmd_html5_state.specs.Insertion.{opened, current, insert_element, insert_void, insert_raw, open_again}
-use Rattle.htmd_html5_state.specs.Insertion.{insert_comment}
+use Rattle.htmd_html5_state.specs.Insertion.{opened, current, insert_element, insert_comment_in, open_again}
 use Rattle.htmd_html5_state.specs.declared.modes.InsertionMode.TheVariants.{Initial, BeforeHtml, BeforeHead, InHead}
-use Rattle.htmd_html5_state.specs.declared.modes.InsertionMode.TheVariants.{InHeadNoscript, AfterHead, InBody, AfterBody}
-use Rattle.htmd_html5_state.specs.declared.modes.InsertionMode.TheVariants.{AfterAfterBody, InSelect}
+use Rattle.htmd_html5_state.specs.declared.modes.InsertionMode.TheVariants.{InHeadNoscript, AfterHead, InBody}
 use Rattle.htmd_html5_state.specs.declared.modes.InsertionMode.{InsertionMode}
-use Rattle.htmd_html5.specs.Tokens.{StartTagValue, TokenValue, start_tag, end_tag, run, comment, doctype, end_of_file}
-use Rattle.htmd_html5.specs.Outcomes.{outcome, done, again}
+use Rattle.htmd_html5.specs.Tokens.{StartTagValue, TokenValue, start_tag, end_tag, run, end_of_file}
+use Rattle.htmd_html5.specs.Outcomes.{Outcome, outcome, done}
 use Rattle.htmd_html5.specs.Feeding.{is_text_mode}
-use Rattle.htmd_html5.specs.SharedRules.{add_to_root, insert_head_element, insert_raw_tag, insert_void_tag}
-use Rattle.htmd_html5.specs.SharedRules.{end_template, insert_tag}
-use Rattle.htmd_html5.specs.BeforeHtml.{start_before_html}
-use Rattle.htmd_html5.specs.BeforeHead.{start_before_head}
-use Rattle.htmd_html5.specs.InHead.{close_head, noscript_in_head, start_in_head, end_in_head, in_head}
-use Rattle.htmd_html5.specs.InHeadNoscript.{close_noscript, start_in_noscript, end_in_noscript, in_head_noscript}
-use Rattle.htmd_html5.specs.AfterHead.{with_body, imply_body, insert_in_head, insert_late, start_after_head, end_after_head}
-use Rattle.htmd_html5.specs.AfterHead.{after_head}
+use Rattle.htmd_html5.specs.SharedRules.{insert_head_element, insert_raw_tag, insert_void_tag, add_missing_to}
+use Rattle.htmd_html5.specs.BodyStarts.{is_in_template}
+use Rattle.htmd_html5.specs.BeforeHtml.{with_root}
+use Rattle.htmd_html5.specs.BeforeHead.{with_head}
+use Rattle.htmd_html5.specs.InHead.{close_head, start_in_head}
+use Rattle.htmd_html5.specs.AfterHead.{with_body, insert_in_head, insert_late}
 use Rattle.htmd_html5.specs.Modes.{in_mode, by_mode_rules}
 use Rattle.htmd_html5.specs.Processing.{by_rules}
-use Rattle.htmd_html5.specs.ForeignContent.{is_foreign, in_foreign_content}
-use Rattle.htmd_html5_laws.specs.TextKept.{is_head_name}
-use Rattle.htmd_html5_laws.proofs.NodeTexts.{is_element, kinds_add}
-use Rattle.htmd_html5_laws.proofs.OpenNodes.{EachOpen, Below, each_more, all_of, skip, pop_fewer}
+use Rattle.htmd_html5.specs.ForeignContent.{is_foreign, is_for_math_text, is_for_annotation, is_for_html_point}
+use Rattle.htmd_html5_laws.specs.TextKept.{is_head_name, is_after_head}
+use Rattle.htmd_html5_laws.proofs.NodeTexts.{is_element}
+use Rattle.htmd_html5_laws.proofs.OpenNodes.{EachOpen, Below, each_more, pop_fewer}
 use Rattle.htmd_html5_laws.proofs.PlainNames.{is_plain_name, no_template_open}
-use Rattle.htmd_html5_laws.proofs.PlainStates.{is_plain_mode, Plain, plain_stack, in_plain_mode, plain_new}
-use Rattle.htmd_html5_laws.proofs.HungStates.{ElementOpen, hung_last, element_number}
+use Rattle.htmd_html5_laws.proofs.PlainStates.{is_plain_mode}
+use Rattle.htmd_html5_laws.proofs.HungStates.{ElementOpen, element_number, hung_under_root, hung_headed, hung_missing}
 use Rattle.htmd_html5_laws.proofs.HungAdoption.{each_both}
 use Rattle.htmd_html5_laws.proofs.HungNodes.{is_solid, element_solid}
-use Rattle.std.proofs.lemmas.List.{length-map}
-use Rattle.htmd_html5_laws.proofs.RootedStacks.{is_late, is_outer, is_outer_name, Before}
-use Rattle.htmd_html5_laws.proofs.RootedRules.{no_frameset_roots}
-use Rattle.htmd_html5_laws.proofs.OrderedStates.{loose_in}
-use Rattle.htmd_html5_laws.proofs.OrderedStates.{no_text, current_within}
+use Rattle.htmd_html5_laws.proofs.RootedStacks.{is_late, is_outer_tag, is_outer_name}
+use Rattle.htmd_html5_laws.proofs.OrderedStates.{element_in, missing_ordered, no_text, current_within}
 use Rattle.htmd_html5_laws.proofs.OrderedStates.{insert_void_orders, insert_raw_orders, insert_element_orders}
-use Rattle.htmd_html5_laws.proofs.OrderedLate.{Late, late_step, by_rules_late}
-use Rattle.htmd_html5_laws.proofs.OrderedRules.{IsOrderly, plain_or_column, by_column_name, no_frameset_orders}
+use Rattle.htmd_html5_laws.proofs.OrderedRules.{is_orderly_name, IsOrderly}
+use Rattle.htmd_html5_laws.proofs.Rules.{Given, own, implied, renamed, given_name, given_attributes, Act, act_on}
+use Rattle.htmd_html5_laws.proofs.Rules.{body_put, raw_text, of_head, late_of_head, noscript_put, started}
+use Rattle.htmd_html5_laws.proofs.Rules.{comment_in_document, template_closed, head_left, noscript_left}
+use Rattle.htmd_html5_laws.proofs.Rules.{root_attributes, frames_refused, to_quirks, reply_fits}
+use Rattle.htmd_html5_laws.proofs.RuleBook.{start_in, end_in, rule_in}
+use Rattle.htmd_html5_laws.proofs.RuleWalk.{IsMarkup, tag_name, Invariant, in_mode_holds}
+use Rattle.htmd_html5_laws.proofs.OrderedLate.{Late, by_rules_late}
+use Rattle.htmd_html5_laws.proofs.OrderedEarly.{OuterOpen, EarlyOf, EarlyIn, Early, early_plain, early_step}
+use Rattle.htmd_html5_laws.proofs.OrderedEarly.{early_fewer, early_loose, head_open, opens_in, HeadAt, Placed, is_early}
+use Rattle.htmd_html5_laws.proofs.OrderedEarly.{BeforeBody, Staged, staged, by_stage, real, Calm, current_html}
+use Rattle.htmd_html5_laws.proofs.OrderedEarly.{outer_plain, early_mode_plain}
+use Rattle.htmd_html5_laws.proofs.Counted.{Choice}
+use Rattle.htmd_html5_laws.proofs.OrderedNodes.{some_same}
+use Rattle.htmd_html5_laws.proofs.PlainRules.{by_head_element}
 use Rattle.htmd_html5_state.specs.declared.names.TagName.TheVariants as tags
 use Rattle.htmd_grammar.specs.declared.content_model.RawElement.TheVariants as raw
-use Rattle.htmd_html5.specs.ForeignContent.{is_for_math_text, is_for_annotation, is_for_html_point}
-use Rattle.htmd_html5_state.specs.Foreign.{is_math_text_point, is_annotation, is_html_point}
-use Rattle.std.specs.Prelude.{◌&&◌}
-use Rattle.htmd_html5_laws.proofs.OrderedEarly.{OuterOpen, EarlyIn, Early, head_open, AfterHeadAt, AfterHeadIn, popped, HeadAt, Stage, Staged}
-use Rattle.htmd_html5_laws.proofs.OrderedEarly.{stage_late, staged_late, Calm, StageAnswer, calm_answer}
-use Rattle.htmd_html5_laws.proofs.OrderedEarly.{raw_answer, late_answers, early_step, early_fewer}
-use Rattle.htmd_html5_laws.proofs.OrderedEarly.{root_stage, comment_early, initial_stage}
-use Rattle.htmd_html5_laws.proofs.OrderedEarly.{before_html_stage, before_head_stage}
-use Rattle.htmd_html5_laws.proofs.Counted.{Choice}
+use Rattle.htmd_html5_laws.proofs.Rules as rules
+
+-- ---- steps in a mode
+
+-- modes that the one after the head may follow
+abbrev leads_on : InsertionMode → Bool
+leads_on InHead = true
+leads_on AfterHead = true
+leads_on _ = false
+
+-- no other mode leads to it
+abbrev Leaves : InsertionMode → InsertionMode → Type 0
+Leaves mode next = (is_after_head next && not (leads_on mode)) ≡ false
+
+stays_there : (mode : InsertionMode) → Leaves mode mode
+stays_there AfterHead = refl
+stays_there _ = refl
+
+-- a start tag of what belongs into the head
+abbrev pub opens_head : TokenValue → Bool
+opens_head (start_tag tag) = is_head_name tag.name
+opens_head _ = false
 
 module _ (choice : Choice) where
-  -- ---- elements in the head
+  -- ---- what a step leads to
 
-  void_early : (letters : List ℕ) (name : NameValue) (attributes : List AttributePair) (s : StateValue)
-      → is_plain_name name ≡ true → Early choice letters s
-      → Early choice letters (insert_void name attributes s)
-  void_early letters name attributes s p h =
-      early_step choice (insert_void_orders choice name attributes p) letters s h.names h.unused h
+  -- a state in this mode, in no element of only text
+  record Held (mode : InsertionMode) (letters : List ℕ) (s : StateValue) : Type 0 where
+    at_mode : s.mode ≡ mode
+    calm : Calm s
+    before : BeforeBody choice false mode letters s
 
-  raw_early : (letters : List ℕ) (name : NameValue) (element : RawElement) (attributes : List AttributePair)
-      (s : StateValue) → is_plain_name name ≡ true → is_outer_name name ≡ true → Early choice letters s
-      → Early choice letters (insert_raw name element attributes s)
-  raw_early letters name element attributes s p o h =
-      early_step choice (insert_raw_orders choice name element attributes p) letters s (o, h.names) h.unused h
+  -- one in a mode in which the token is processed again
+  record Onto (mode : InsertionMode) (letters : List ℕ) (s : StateValue) : Type 0 where
+    stage : Staged choice letters s
+    calm : Calm s
+    leaves : Leaves mode s.mode
 
-  module _ (tag : StartTagValue) (p : is_plain_name tag.name ≡ true) (letters : List ℕ) (mode : InsertionMode)
-      (k : ℕ)
-      (go : (raw : Bool) (s : StateValue) → Early choice letters s × HeadAt (cond raw (suc k) k) s
-      → Stage choice raw
-      mode letters s)
-      (s : StateValue) (m : s.mode ≡ mode) (e : is_text_mode s.content ≡ false) (h : Early choice letters s)
-      (at : HeadAt k s) where
-    raw_in_head : (element : RawElement) → is_text_mode (insert_raw_tag element tag s).content ≡ true
-        → is_outer_name tag.name ≡ true → StageAnswer choice letters (done (insert_raw_tag element tag s))
-    raw_in_head element f o =
-        raw_answer choice mode letters (insert_raw_tag element tag s) f m
-        (go true (insert_raw_tag element tag s) (raw_early letters tag.name element tag.attributes s p o h, at))
+  -- what the mode answers
+  record ModeAnswer (mode : InsertionMode) (letters : List ℕ) (a : Outcome) : Type 0 where
+    stage : Staged choice letters a.state
+    calm : a.again ≡ true → Calm a.state
+    leaves : a.again ≡ true → Leaves mode a.state.mode
 
-    void_in_head : StageAnswer choice letters (done (insert_void_tag tag s))
-    void_in_head =
-        calm_answer choice mode false letters (insert_void_tag tag s) e m
-        (go false (insert_void_tag tag s) (void_early letters tag.name tag.attributes s p h, at))
+  record Leads {X : Type 0} (mode : InsertionMode) (R : List ℕ → X → Type 0) (f : StateValue → X) : Type 0 where
+    leads : (letters : List ℕ) (s : StateValue) → Held mode letters s → R letters (f s)
 
-    put_in_head : (name : NameValue) → tag.name ≡ name → is_plain_name name ≡ true
-        → StageAnswer choice letters (done (insert_head_element name tag s))
-    put_in_head (known tags.Title) n q = raw_in_head raw.Title refl (ap is_outer_name n)
-    put_in_head (known tags.NoFrames) n q = raw_in_head raw.Noframes refl (ap is_outer_name n)
-    put_in_head (known tags.Style) n q = raw_in_head raw.Style refl (ap is_outer_name n)
-    put_in_head (known tags.Script) n q = raw_in_head raw.Script refl (ap is_outer_name n)
-    put_in_head (known tags.Template) n q = absurd (true≢false (sym q))
-    put_in_head _ n q = void_in_head
+  module _ {X : Type 0} {mode : InsertionMode} {R : List ℕ → X → Type 0} where
+    lead : {f : StateValue → X} → ((letters : List ℕ) (s : StateValue) → Held mode letters s
+        → R letters (f s)) → Leads mode R f
+    lead h = record { leads = h }
 
-    root_in_head : StageAnswer choice letters (done (add_to_root tag s))
-    root_in_head =
-        root_stage choice letters tag s mode e m
-        (λ t same f. go false t (
-          subst (λ (stack : List OpenValue). EarlyIn choice letters t stack) (sym same.stack) (f s.stack h),
-          λ n g. ap (λ (stack : List OpenValue). (current (popped k stack)).node) same.stack
-              ∙ at n (sym same.head ∙ g),
-        ))
+    leads_then : {f : StateValue → X} {g : StateValue → StateValue} → Leads mode R f → Leads mode (Held mode) g
+        → Leads mode R (λ s. f (g s))
+    leads_then {f} {g} first second = lead (λ letters s h. first.leads letters (g s) (second.leads letters s h))
 
-  -- ---- the head is closed
+    leads_by_test : {f g : StateValue → X} (b : StateValue → Bool) → Leads mode R f → Leads mode R g
+        → Leads mode R (λ s. if b s then f s else g s)
+    leads_by_test {f} {g} b first second =
+        lead (λ letters s h. cond_both (b s) _ _ (λ x. R letters x) (λ e. first.leads letters s h)
+        (λ e. second.leads letters s h))
 
-  renamed : (letters : List ℕ) (s : StateValue) (n : ℕ) (stack : List OpenValue) → is_element (kind_at s.nodes n)
-      ≡ true
-      → (current stack).node ≡ n → EarlyIn choice letters s stack
-      → EarlyIn choice letters s (head_open n ∷ pop stack)
-  renamed letters s n [] e f h =
-      absurd (true≢false (sym (element_solid (kind_at s.nodes n) e)
-      ∙ (ap (λ (x : ℕ). is_solid (kind_at s.nodes x)) (sym f) ∙ h.hung.root)))
-  renamed letters s n (d ∷ ds) e f h = record {
-    plain = plain_stack (head_open n ∷ ds) (refl, h.plain.names.1) h.plain;
+  module _ (mode next : InsertionMode) {letters : List ℕ} (s : StateValue) where
+    onto : is_early next ≡ true → Leaves mode next → s.mode ≡ next → Calm s
+        → EarlyIn choice letters s (opens_in next choice.reopens false s.head s.stack)
+        → Placed next false s.head s.stack → Onto mode letters s
+    onto e l m c h placed = record {
+      stage = staged choice false next letters s c m (record { early_mode = e; early = h; placed = placed });
+      calm = c;
+      leaves = subst (λ (x : InsertionMode). Leaves mode x) (sym m) l;
+    }
+
+  held_onto : (mode : InsertionMode) (letters : List ℕ) (s : StateValue) → Held mode letters s
+      → Onto mode letters s
+  held_onto mode letters s h =
+      onto mode mode s h.before.early_mode (stays_there mode) h.at_mode h.calm h.before.early h.before.placed
+
+  says_onto : (mode : InsertionMode) (letters : List ℕ) (s : StateValue) (more : Bool) → Onto mode letters s
+      → ModeAnswer mode letters (outcome s more)
+  says_onto mode letters s more h = record { stage = h.stage; calm = λ z. h.calm; leaves = λ z. h.leaves }
+
+  says_done : (mode : InsertionMode) (letters : List ℕ) (s : StateValue) → Staged choice letters s
+      → ModeAnswer mode letters (done s)
+  says_done mode letters s h =
+      record { stage = h; calm = λ z. absurd (true≢false (sym z)); leaves = λ z. absurd (true≢false (sym z)) }
+
+  -- ---- acts that leave the mode as it is
+
+  module _ {mode : InsertionMode} {letters : List ℕ} {s : StateValue} (h : Held mode letters s) where
+    real_early : Early choice letters s
+    real_early = real choice false mode letters s h.before
+
+    no_template : is_in_template s ≡ false
+    no_template =
+        no_template_open s.stack
+        (early_plain s s.stack mode (early_mode_plain mode h.before.early_mode) real_early).names
+
+    held_plain : is_plain_mode s.mode ≡ true
+    held_plain = ap is_plain_mode h.at_mode ∙ early_mode_plain mode h.before.early_mode
+
+    with_nodes : (nodes : List NodeValue)
+        → ((stack : List OpenValue) → EarlyOf choice letters s.nodes stack s.head s.foster_parenting
+        → EarlyOf choice letters nodes stack s.head s.foster_parenting)
+        → Held mode letters (record s { nodes = nodes })
+    with_nodes nodes f = record {
+      at_mode = h.at_mode;
+      calm = h.calm;
+      before = record {
+        early_mode = h.before.early_mode;
+        early = (f (opens_in mode choice.reopens false s.head s.stack) h.before.early.0, h.before.early.1);
+        placed = h.before.placed;
+      };
+    }
+
+    missing_held : (n : Option ℕ) (more : List AttributePair) → Held mode letters (add_missing_to n more s)
+    missing_held None more = h
+    missing_held (Some n) more =
+        with_nodes (add_missing n more s.nodes) (λ stack x. record {
+          hung = hung_missing n more s.nodes x.hung;
+          ordered = missing_ordered choice n more x.ordered;
+          names = x.names;
+        })
+
+    comment_held : (n : ℕ) (c : List ℕ) → n < length s.nodes → Held mode letters (insert_comment_in n c s)
+    comment_held n c within =
+        with_nodes (add (comment_kind c) (last_in n) s.nodes)
+        (λ stack x. early_loose (comment_kind c) n refl refl (no_text c) within x)
+
+  abbrev early_act : Act → Bool
+  early_act root_attributes = true
+  early_act (rules.comment c) = true
+  early_act (comment_in_document c) = true
+  early_act template_closed = true
+  early_act frames_refused = true
+  early_act a = false
+
+  act_leads : (mode : InsertionMode) (tag : StartTagValue) (a : Act) → early_act a ≡ true
+      → Leads mode (Held mode) (act_on a tag)
+  act_leads mode tag root_attributes e =
+      leads_by_test is_in_template (lead (λ letters s h. h))
+      (lead (λ letters s h. missing_held h (first_open s.stack) tag.attributes))
+  act_leads mode tag (rules.comment c) e =
+      lead (λ letters s h. comment_held h (current s.stack).node c (current_within s.stack (real_early h).0.hung))
+  act_leads mode tag (comment_in_document c) e = lead (λ letters s h. comment_held h 0 c h.before.early.0.hung.filled)
+  act_leads mode tag template_closed e = lead (λ letters s h. rw (no_template h) h)
+  act_leads mode tag frames_refused e = lead (λ letters s h. record {
+    at_mode = h.at_mode;
+    calm = h.calm;
+    before = record { early_mode = h.before.early_mode; early = h.before.early; placed = h.before.placed };
+  })
+  act_leads mode tag a e = absurd (true≢false (sym e))
+
+  -- ---- acts that lead to another mode
+
+  -- names of what is open before the body
+  abbrev outer_given : NameValue → Given → Bool
+  outer_given name own = is_outer_name name
+  outer_given name (implied tag) = is_outer_tag tag
+  outer_given name (renamed tag) = is_outer_tag tag
+
+  given_outer : (given : Given) (tag : StartTagValue) → outer_given tag.name given ≡ true
+      → is_outer_name (given_name given tag) ≡ true
+  given_outer own tag e = e
+  given_outer _ tag e = e
+
+  root_put : (letters : List ℕ) (name : NameValue) (attributes : List AttributePair) (s : StateValue)
+      → is_outer_name name ≡ true → Early choice letters s → s.stack ≡ []
+      → Early choice letters (with_root name attributes s)
+  root_put letters name attributes s o h none = (
+    record {
+      hung = hung_under_root (html name) attributes s.nodes h.0.hung;
+      ordered = element_in choice (html name) attributes 0 h.0.hung h.0.ordered h.0.hung.filled h.0.ordered.root
+          (subst (λ (stack : List OpenValue). EachOpen (λ e. h.0.hung.rank e.node ≤ h.0.hung.rank 0) stack)
+          (sym none) tt);
+      names = (o, h.0.names);
+    },
+    h.1,
+  )
+
+  -- an element inside what is open
+  element_put : (letters : List ℕ) (name : NameValue) (attributes : List AttributePair) (s : StateValue)
+      → is_plain_mode s.mode ≡ true → is_outer_name name ≡ true → Early choice letters s
+      → Early choice letters (insert_element name attributes s)
+  element_put letters name attributes s m o h =
+      early_step (insert_element_orders choice name attributes (outer_plain (html name) o)) letters s m
+      (o, h.0.names) h.1 h
+
+  head_put : (letters : List ℕ) (name : NameValue) (attributes : List AttributePair) (s : StateValue)
+      → is_plain_mode s.mode ≡ true → is_outer_name name ≡ true → Early choice letters s
+      → Early choice letters (with_head name attributes s)
+  head_put letters name attributes s m o h =
+      let x = element_put letters name attributes s m o h in (
+        record {
+          hung = hung_headed (length s.nodes) x.0.hung.opened_at.0 x.0.hung;
+          ordered = x.0.ordered;
+          names = x.0.names;
+        },
+        x.1,
+      )
+
+  head_renamed : (letters : List ℕ) (nodes : List NodeValue) (head : Option ℕ) (fosters : Bool) (n : ℕ)
+      (stack : List OpenValue) → is_element (kind_at nodes n) ≡ true → (current stack).node ≡ n
+      → EarlyOf choice letters nodes stack head fosters
+      → EarlyOf choice letters nodes (head_open n ∷ pop stack) head fosters
+  head_renamed letters nodes head fosters n [] e f h =
+      absurd (true≢false (sym (element_solid (kind_at nodes n) e)
+      ∙ (ap (λ (x : ℕ). is_solid (kind_at nodes x)) (sym f) ∙ h.hung.root)))
+  head_renamed letters nodes head fosters n (d ∷ ds) e f h = record {
     hung = record {
       rank = h.hung.rank;
       limit = h.hung.limit;
@@ -142,630 +286,365 @@ module _ (choice : Choice) where
       no_fostering = h.ordered.no_fostering;
     };
     names = (refl, h.names.1);
-    unused = h.unused;
   }
 
-  -- the same nodes and stack in another mode
-  to_mode : (letters : List ℕ) (s : StateValue) (stack es : List OpenValue) (mode : InsertionMode)
-      → is_plain_mode mode ≡ true → EarlyIn choice letters s stack
-      → EarlyIn choice letters (record s { stack = es; mode = mode }) stack
-  to_mode letters s stack es mode p h =
-      record {
-        plain = in_plain_mode mode p h.plain;
-        hung = h.hung;
-        ordered = h.ordered;
-        names = h.names;
-        unused = h.unused;
-      }
+  head_closed : (letters : List ℕ) (s : StateValue) → Early choice letters s → HeadAt 0 s.head s.stack
+      → EarlyIn choice letters (close_head s) (opens_in AfterHead choice.reopens false s.head (pop s.stack))
+  head_closed letters s h at = (by_head choice.reopens s.head refl, h.1)
+    where
+      by_head : (reopens : Bool) (head : Option ℕ) → s.head ≡ head
+          → EarlyOf choice letters s.nodes (opens_in AfterHead reopens false head (pop s.stack)) s.head
+          s.foster_parenting
+      by_head true (Some n) e =
+          head_renamed letters s.nodes s.head s.foster_parenting n s.stack (h.0.hung.head_at n e) (at n e) h.0
+      by_head reopens head e = early_fewer (pop s.stack) (pop_fewer s.stack) h.0
 
-  head_closed_in : (reopens : Bool) (letters : List ℕ) (s : StateValue) (head : Option ℕ) → s.head ≡ head
-      → Early choice letters s → HeadAt 0 s
-      → AfterHeadAt choice reopens false head (pop s.stack) letters (close_head s)
-  head_closed_in false letters s head e h at =
-      to_mode letters s (pop s.stack) (pop s.stack) AfterHead refl
-      (early_fewer choice letters s s.stack (pop s.stack) (pop_fewer s.stack) h)
-  head_closed_in true letters s None e h at =
-      to_mode letters s (pop s.stack) (pop s.stack) AfterHead refl
-      (early_fewer choice letters s s.stack (pop s.stack) (pop_fewer s.stack) h)
-  head_closed_in true letters s (Some n) e h at =
-      to_mode letters s (head_open n ∷ pop s.stack) (pop s.stack) AfterHead refl
-      (renamed letters s n s.stack (h.hung.head_at n e) (at n e) h)
+  body_leads : (letters : List ℕ) (name : NameValue) (attributes : List AttributePair) (s : StateValue)
+      → name ≡ known tags.Body → Held AfterHead letters s → Onto AfterHead letters (with_body name attributes s)
+  body_leads letters name attributes s n held = record { stage = inl late; calm = held.calm; leaves = refl }
+    where
+      h : Early choice letters s
+      h = real_early held
 
-  pub head_closed : (more : Bool) (letters : List ℕ) (s : StateValue) → is_text_mode s.content ≡ false
-      → Early choice
-      letters s
-      → HeadAt 0 s → StageAnswer choice letters (outcome (close_head s) more)
-  head_closed more letters s e h at =
-      calm_answer choice AfterHead more letters (close_head s) e refl
-      (head_closed_in choice.reopens letters s s.head refl h at)
+      x : Early choice letters (insert_element name attributes s)
+      x = element_put letters name attributes s (held_plain held) (ap is_outer_name n) h
 
-  pub noscript_closed : (more : Bool) (letters : List ℕ) (s : StateValue) → is_text_mode s.content ≡ false
-      → Early choice letters s → HeadAt 1 s → StageAnswer choice letters (outcome (close_noscript s) more)
-  noscript_closed more letters s e h at =
-      calm_answer choice InHead more letters (close_noscript s) e refl (
-        to_mode letters s (pop s.stack) (pop s.stack) InHead refl
-            (early_fewer choice letters s s.stack (pop s.stack) (pop_fewer s.stack) h),
-        at,
-      )
-
-no_template_end : (s : StateValue) → Plain s → end_template s ≡ s
-no_template_end s h = rw (no_template_open s.stack h.names) refl
-
--- a start tag of what belongs into the head
-abbrev pub opens_head : TokenValue → Bool
-opens_head (start_tag tag) = is_head_name tag.name
-opens_head _ = false
-
-module _ (choice : Choice) where
-  -- ---- in the head
-
-  module _ (letters : List ℕ) (s : StateValue) (m : s.mode ≡ InHead) (e : is_text_mode s.content ≡ false)
-      (h : Early choice letters s) (at : HeadAt 0 s) where
-    noscript_stage : (tag : StartTagValue) → is_plain_name tag.name ≡ true → is_outer_name tag.name ≡ true
-        → StageAnswer choice letters (done (noscript_in_head tag s))
-    noscript_stage tag p o = either s.scripting
-      where
-        either : (b : Bool) → StageAnswer choice letters (done (if b then insert_raw_tag raw.Noscript tag s
-            else record (insert_tag tag s) { mode = InHeadNoscript }))
-        either true = raw_in_head choice tag p letters InHead 0 (λ raw t g. g) s m e h at raw.Noscript refl o
-        either false =
-            calm_answer choice InHeadNoscript false letters (record (insert_tag tag s) { mode = InHeadNoscript }) e
-            refl (
-              to_mode choice letters (insert_tag tag s) (insert_tag tag s).stack (insert_tag tag s).stack
-                  InHeadNoscript refl
-                  (early_step choice (insert_element_orders choice tag.name tag.attributes p) letters s
-                  (o, h.names) h.unused h),
-              at,
-            )
-
-    start_in_head_stage : (tag : StartTagValue) → is_plain_name tag.name ≡ true
-        → StageAnswer choice letters (start_in_head tag.name tag s)
-    start_in_head_stage tag p = by_name tag.name refl
-      where
-        element_put : StageAnswer choice letters (done (insert_head_element tag.name tag s))
-        element_put = put_in_head choice tag p letters InHead 0 (λ raw t g. g) s m e h at tag.name refl p
-
-        by_name : (name : NameValue) → tag.name ≡ name → StageAnswer choice letters (start_in_head name tag s)
-        by_name (known tags.Html) n = root_in_head choice tag p letters InHead 0 (λ raw t g. g) s m e h at
-        by_name (known tags.Base) n = element_put
-        by_name (known tags.BaseFont) n = element_put
-        by_name (known tags.BgSound) n = element_put
-        by_name (known tags.Link) n = element_put
-        by_name (known tags.Meta) n = element_put
-        by_name (known tags.Title) n = element_put
-        by_name (known tags.NoFrames) n = element_put
-        by_name (known tags.Style) n = element_put
-        by_name (known tags.Script) n = element_put
-        by_name (known tags.Template) n = element_put
-        by_name (known tags.NoScript) n = noscript_stage tag p (ap is_outer_name n)
-        by_name (known tags.Head) n = calm_answer choice InHead false letters s e m (h, at)
-        by_name _ n = head_closed choice true letters s e h at
-
-    end_in_head_stage : (name : NameValue) → StageAnswer choice letters (end_in_head name s)
-    end_in_head_stage (known tags.Head) = head_closed choice false letters s e h at
-    end_in_head_stage (known tags.Template) =
-        subst (λ (t : StateValue). StageAnswer choice letters (done t)) (sym (no_template_end s h.plain))
-        (calm_answer choice InHead false letters s e m (h, at))
-    end_in_head_stage (known tags.Body) = head_closed choice true letters s e h at
-    end_in_head_stage (known tags.Html) = head_closed choice true letters s e h at
-    end_in_head_stage (known tags.Br) = head_closed choice true letters s e h at
-    end_in_head_stage _ = calm_answer choice InHead false letters s e m (h, at)
-
-    in_head_stage : (t : TokenValue) → IsOrderly t → StageAnswer choice letters (in_head t s)
-    in_head_stage (run kind c) p = absurd (true≢false p)
-    in_head_stage (start_tag tag) p =
-        plain_or_column (StageAnswer choice letters (start_in_head tag.name tag s)) tag.name p
-        (λ q. start_in_head_stage tag q)
-        (by_column_name (λ name. StageAnswer choice letters (start_in_head name tag s))
-        (head_closed choice true letters s e h at)
-        (head_closed choice true letters s e h at) tag.name)
-    in_head_stage (end_tag name) p = end_in_head_stage name
-    in_head_stage (comment c) p =
-        calm_answer choice InHead false letters (insert_comment c s) e m (comment_early choice letters c s h, at)
-    in_head_stage (doctype quirks) p = calm_answer choice InHead false letters s e m (h, at)
-    in_head_stage end_of_file p = head_closed choice true letters s e h at
-
-  module _ (letters : List ℕ) (s : StateValue) (m : s.mode ≡ InHeadNoscript) (e : is_text_mode s.content ≡ false)
-      (h : Early choice letters s) (at : HeadAt 1 s) where
-    start_in_noscript_stage : (tag : StartTagValue) → is_plain_name tag.name ≡ true → (name : NameValue)
-        → StageAnswer choice letters (start_in_noscript name tag s)
-    start_in_noscript_stage tag p name = by_name name
-      where
-        element_put : StageAnswer choice letters (done (insert_head_element tag.name tag s))
-        element_put = put_in_head choice tag p letters InHeadNoscript 1 (λ raw t g. g) s m e h at tag.name refl p
-
-        by_name : (name : NameValue) → StageAnswer choice letters (start_in_noscript name tag s)
-        by_name (known tags.Html) = root_in_head choice tag p letters InHeadNoscript 1 (λ raw t g. g) s m e h at
-        by_name (known tags.BaseFont) = element_put
-        by_name (known tags.BgSound) = element_put
-        by_name (known tags.Link) = element_put
-        by_name (known tags.Meta) = element_put
-        by_name (known tags.NoFrames) = element_put
-        by_name (known tags.Style) = element_put
-        by_name (known tags.Head) = calm_answer choice InHeadNoscript false letters s e m (h, at)
-        by_name (known tags.NoScript) = calm_answer choice InHeadNoscript false letters s e m (h, at)
-        by_name _ = noscript_closed choice true letters s e h at
-
-    end_in_noscript_stage : (name : NameValue) → StageAnswer choice letters (end_in_noscript name s)
-    end_in_noscript_stage (known tags.NoScript) = noscript_closed choice false letters s e h at
-    end_in_noscript_stage (known tags.Br) = noscript_closed choice true letters s e h at
-    end_in_noscript_stage _ = calm_answer choice InHeadNoscript false letters s e m (h, at)
-
-    in_noscript_stage : (t : TokenValue) → IsOrderly t → StageAnswer choice letters (in_head_noscript t s)
-    in_noscript_stage (run kind c) p = absurd (true≢false p)
-    in_noscript_stage (start_tag tag) p =
-        plain_or_column (StageAnswer choice letters (start_in_noscript tag.name tag s)) tag.name p
-        (λ q. start_in_noscript_stage tag q tag.name)
-        (by_column_name (λ name. StageAnswer choice letters (start_in_noscript name tag s))
-        (noscript_closed choice true letters s e h at) (noscript_closed choice true letters s e h at) tag.name)
-    in_noscript_stage (end_tag name) p = end_in_noscript_stage name
-    in_noscript_stage (comment c) p =
-        calm_answer choice InHeadNoscript false letters (insert_comment c s) e m
-        (comment_early choice letters c s h, at)
-    in_noscript_stage (doctype quirks) p = calm_answer choice InHeadNoscript false letters s e m (h, at)
-    in_noscript_stage end_of_file p = noscript_closed choice true letters s e h at
-
-  -- between the head and the body none comes, if the head isn't to be opened once more
-  abbrev pub MayCome : TokenValue → StateValue → Type 0
-  MayCome t s = choice.reopens ≡ false → s.mode ≡ AfterHead → opens_head t ≡ false
-
-  -- ---- after the head
-
-  pub real_of : (reopens : Bool) (letters : List ℕ) (s : StateValue) (head : Option ℕ) (stack : List OpenValue)
-      → AfterHeadAt choice reopens false head stack letters s → EarlyIn choice letters s stack
-  real_of false letters s head stack h = h
-  real_of true letters s None stack h = h
-  real_of true letters s (Some n) stack h =
-      early_fewer choice letters s (head_open n ∷ stack) stack (skip (head_open n) (all_of stack)) h
-
-  body_put : (letters : List ℕ) (name : NameValue) (attributes : List AttributePair) (s : StateValue)
-      → is_plain_name name ≡ true → name ≡ known tags.Body → is_text_mode s.content ≡ false
-      → Early choice letters s → Late choice letters (with_body name attributes s)
-  body_put letters name attributes s p n e h =
-      let y = (insert_element_orders choice name attributes p).stays.hangs s h.plain h.hung in
-      record {
-        plain = in_plain_mode InBody refl ((insert_element_orders choice name attributes p).stays.stays s h.plain);
-        hung = y;
-        ordered = (insert_element_orders choice name attributes p).orders letters s h.plain h.hung h.ordered;
+      late : Late choice letters (with_body name attributes s)
+      late = record {
+        plain = early_plain (insert_element name attributes s) (insert_element name attributes s).stack InBody refl x;
+        hung = x.0.hung;
+        ordered = x.0.ordered;
         body = length s.nodes;
         rooted = record {
           within = subst (λ (m : ℕ). length s.nodes < m)
               (sym (length-map (insert_element name attributes s).nodes _))
-              (element_number (length s.nodes) (insert_element name attributes s).nodes y.opened_at.0);
-          rooted = inl ((ap html n, refl), open_before s.nodes s.stack h.hung.opened_at h.names);
-          entries_at = λ m l. absurd (true≢false (sym l ∙ ap (is_listed m) h.unused.0));
-          form_at = λ m f. absurd (no_number m (sym h.unused.1 ∙ f));
+              (element_number (length s.nodes) (insert_element name attributes s).nodes x.0.hung.opened_at.0);
+          rooted = inl (
+            (ap html n, refl),
+            each_more s.stack (λ d y. (y.1, element_number d.node s.nodes y.0))
+                (each_both (ElementOpen s.nodes) OuterOpen s.stack h.0.hung.opened_at h.0.names),
+          );
+          entries_at = λ m l. absurd (true≢false (sym l ∙ ap (is_listed m) h.1.0));
+          form_at = λ m f. absurd (let z : None ≡ Some m = sym h.1.1.0 ∙ f in cc);
           late = refl;
         };
-        raw = λ r. absurd (true≢false (sym r ∙ e));
+        raw = λ r. absurd (true≢false (sym r ∙ held.calm));
       }
+
+  abbrev is_body_name : NameValue → Bool
+  is_body_name (known tags.Body) = true
+  is_body_name _ = false
+
+  body_named : (name : NameValue) → is_body_name name ≡ true → name ≡ known tags.Body
+  body_named (known tags.Body) e = refl
+  body_named _ e = absurd (true≢false (sym e))
+
+  abbrev early_turn : InsertionMode → NameValue → Act → Bool
+  early_turn Initial name to_quirks = true
+  early_turn Initial name (started quirks) = true
+  early_turn BeforeHtml name (rules.root given) = outer_given name given
+  early_turn BeforeHead name (rules.head given) = outer_given name given
+  early_turn InHead name head_left = true
+  early_turn InHead name noscript_put = is_outer_name name
+  early_turn InHeadNoscript name noscript_left = true
+  early_turn AfterHead name (body_put own) = is_body_name name
+  early_turn AfterHead name (body_put (implied tags.Body)) = true
+  early_turn mode name a = early_act a
+
+  turn_leads : (mode : InsertionMode) (tag : StartTagValue) (a : Act) → early_turn mode tag.name a ≡ true
+      → Leads mode (Onto mode) (act_on a tag)
+  turn_leads Initial tag to_quirks e =
+      lead (λ letters s h. onto Initial BeforeHtml (act_on to_quirks tag s) refl refl refl h.calm h.before.early
+      h.before.placed)
+  turn_leads Initial tag (started quirks) e =
+      lead (λ letters s h. let x = h.before.early in
+      onto Initial BeforeHtml (act_on (started quirks) tag s) refl refl refl h.calm
+      (early_loose doctype_kind 0 refl refl (λ t e. cc) x.0.hung.filled x.0, x.1) h.before.placed)
+  turn_leads BeforeHtml tag (rules.root given) e =
+      lead (λ letters s h. onto BeforeHtml BeforeHead (act_on (rules.root given) tag s) refl refl refl h.calm
+      (root_put letters (given_name given tag) (given_attributes given tag) s (given_outer given tag e) h.before.early
+      h.before.placed) tt)
+  turn_leads BeforeHead tag (rules.head given) e =
+      lead (λ letters s h. onto BeforeHead InHead (act_on (rules.head given) tag s) refl refl refl h.calm
+      (head_put letters (given_name given tag) (given_attributes given tag) s (held_plain h) (given_outer given tag e)
+      h.before.early) (λ n e. some_same e))
+  turn_leads InHead tag head_left e =
+      lead (λ letters s h. onto InHead AfterHead (close_head s) refl refl refl h.calm
+      (head_closed letters s h.before.early h.before.placed) (λ z. absurd (true≢false (sym z))))
+  turn_leads InHead tag noscript_put e =
+      lead (λ letters s h. onto InHead InHeadNoscript (act_on noscript_put tag s) refl refl refl h.calm
+      (element_put letters tag.name tag.attributes s (held_plain h) e h.before.early) h.before.placed)
+  turn_leads InHeadNoscript tag noscript_left e =
+      lead (λ letters s h. onto InHeadNoscript InHead (act_on noscript_left tag s) refl refl refl h.calm
+      (early_fewer (pop s.stack) (pop_fewer s.stack) h.before.early.0, h.before.early.1) h.before.placed)
+  turn_leads AfterHead tag (body_put own) e =
+      lead (λ letters s h. body_leads letters tag.name tag.attributes s (body_named tag.name e) h)
+  turn_leads AfterHead tag (body_put (implied tags.Body)) e =
+      lead (λ letters s h. body_leads letters (known tags.Body) [] s refl h)
+  turn_leads mode tag a e =
+      lead (λ letters s h. held_onto mode letters (act_on a tag s) ((act_leads mode tag a e).leads letters s h))
+
+  -- ---- acts that put an element into the head
+
+  module _ (tag : StartTagValue) (p : is_plain_name tag.name ≡ true) (letters : List ℕ) (s : StateValue)
+      (m : is_plain_mode s.mode ≡ true) (h : Early choice letters s) where
+    void_put : Early choice letters (insert_void_tag tag s)
+    void_put = early_step (insert_void_orders choice tag.name tag.attributes p) letters s m h.0.names h.1 h
+
+    raw_put : (element : RawElement) → is_outer_name tag.name ≡ true
+        → Early choice letters (insert_raw_tag element tag s)
+    raw_put element o =
+        early_step (insert_raw_orders choice tag.name element tag.attributes p) letters s m (o, h.0.names) h.1 h
+
+  -- where the head is open
+  module _ (mode : InsertionMode)
+      (inside : (raw : Bool) (letters : List ℕ) (s : StateValue) → Early choice letters s
+      → Placed mode raw s.head s.stack → BeforeBody choice raw mode letters s)
+      (placed : (e : OpenValue) (head : Option ℕ) (stack : List OpenValue) → Placed mode false head stack
+      → Placed mode true head (e ∷ stack)) where
+    raw_leads : (tag : StartTagValue) (element : RawElement) → is_text_mode (Raw element) ≡ true
+        → is_outer_name tag.name ≡ true → Leads mode (Staged choice) (insert_raw_tag element tag)
+    raw_leads tag element r o =
+        lead (λ letters s h. staged choice true mode letters (insert_raw_tag element tag s) r h.at_mode
+        (inside true letters (insert_raw_tag element tag s)
+        (raw_put tag (outer_plain (html tag.name) o) letters s (held_plain h) (real_early h) element o)
+        (placed (opened (length s.nodes) (html tag.name)) s.head s.stack h.before.placed)))
+
+    of_head_leads : (tag : StartTagValue) → is_plain_name tag.name ≡ true
+        → Leads mode (Staged choice) (insert_head_element tag.name tag)
+    of_head_leads tag p =
+        by_head_element (Leads mode (Staged choice)) tag p (raw_leads tag)
+        (lead (λ letters s h. staged choice false mode letters (insert_void_tag tag s) h.calm h.at_mode
+        (inside false letters (insert_void_tag tag s) (void_put tag p letters s (held_plain h) (real_early h))
+        h.before.placed)))
+
+  -- after the head, where it may be opened once more
+  after : (raw : Bool) (letters : List ℕ) (s : StateValue) → choice.reopens ≡ true
+      → is_text_mode s.content ≡ raw → s.mode ≡ AfterHead → (head : Option ℕ) (stack : List OpenValue)
+      → s.head ≡ head → s.stack ≡ stack → Placed AfterHead raw head stack
+      → EarlyIn choice letters s (opens_in AfterHead true raw head stack) → Staged choice letters s
+  after raw letters s again e m head stack f g placed h =
+      staged choice raw AfterHead letters s e m (record {
+        early_mode = refl;
+        early = subst (λ (x : List OpenValue). EarlyIn choice letters s x) (sym (
+            ap (λ (b : Bool). opens_in AfterHead b raw s.head s.stack) again
+            ∙ (ap (λ (x : Option ℕ). opens_in AfterHead true raw x s.stack) f
+            ∙ ap (λ (x : List OpenValue). opens_in AfterHead true raw head x) g))) h;
+        placed = λ r z. placed r (sym g ∙ z);
+      })
+
+  late_leads : (tag : StartTagValue) → is_plain_name tag.name ≡ true → choice.reopens ≡ true
+      → Leads AfterHead (Staged choice) (insert_late tag)
+  late_leads tag p again =
+      lead (λ letters s h. by_head letters s h s.head refl
+      (subst (λ (b : Bool). EarlyIn choice letters s (opens_in AfterHead b false s.head s.stack)) again
+      h.before.early))
     where
-      no_number : (m : ℕ) → None ≡ Some m → ⊥
-      no_number m f = cc
+      by_head : (letters : List ℕ) (s : StateValue) → Held AfterHead letters s → (head : Option ℕ) → s.head
+          ≡ head → EarlyIn choice letters s (opens_in AfterHead true false head s.stack)
+          → Staged choice letters (insert_in_head head tag s)
+      by_head letters s h None f x =
+          by_head_element (λ put. Staged choice letters (put s)) tag p
+          (λ element r o. after true letters (insert_raw_tag element tag s) again r h.at_mode None
+          (opened (length s.nodes) (html tag.name) ∷ s.stack) f refl (λ z w. cc)
+          (raw_put tag p letters s (held_plain h) x element o))
+          (after false letters (insert_void_tag tag s) again h.calm h.at_mode None s.stack f refl
+          (λ z. absurd (true≢false (sym z))) (void_put tag p letters s (held_plain h) x))
+      by_head letters s h (Some n) f x =
+          by_head_element (λ put. Staged choice letters
+          (on_stack (without n) (put (open_again n (known tags.Head) s)))) tag p (λ element r o. after true letters
+          (on_stack (without n) (insert_raw_tag element tag (open_again n (known tags.Head) s))) again r h.at_mode
+          (Some n) (opened (length s.nodes) (html tag.name) ∷ s.stack) f
+          (rw (ne_eqb (length s.nodes) n (λ z. let w = within in omega arith), eq-eqb n n refl) refl)
+          (λ z w. cc) (raw_put tag p letters (open_again n (known tags.Head) s) (held_plain h) x element o))
+          (after false letters (on_stack (without n) (insert_void_tag tag (open_again n (known tags.Head) s))) again
+          h.calm h.at_mode (Some n) s.stack f (rw (eq-eqb n n refl) refl) (λ z. absurd (true≢false (sym z)))
+          (void_put tag p letters (open_again n (known tags.Head) s) (held_plain h) x))
+        where
+          within : n < length s.nodes
+          within = element_number n s.nodes x.0.hung.opened_at.0
 
-      open_before : (nodes : List NodeValue) (stack : List OpenValue) → EachOpen (ElementOpen nodes) stack
-          → EachOpen OuterOpen stack → EachOpen (Before (length nodes)) stack
-      open_before nodes stack at names =
-          each_more stack (λ d x. (x.1, element_number d.node nodes x.0))
-          (each_both (ElementOpen nodes) OuterOpen stack at names)
+  abbrev early_last : InsertionMode → NameValue → Act → Bool
+  early_last InHead name (raw_text raw.Noscript) = is_outer_name name
+  early_last InHead name of_head = is_plain_name name
+  early_last InHeadNoscript name of_head = is_plain_name name
+  early_last AfterHead name late_of_head = is_plain_name name && choice.reopens
+  early_last mode name a = early_turn mode name a
 
-  -- a comment, with the head open as before
-  comment_after : (letters : List ℕ) (c : List ℕ) (s : StateValue) (stack : List OpenValue)
-      → Early choice letters s
-      → EarlyIn choice letters s stack → EarlyIn choice letters (insert_comment c s) stack
-  comment_after letters c s stack real h = record {
-    plain = plain_new (comment_kind c) (kinds_add (comment_kind c) (last_in (current s.stack).node) s.nodes) h.plain;
-    hung = hung_last (comment_kind c) (current s.stack).node s.nodes refl h.hung;
-    ordered = loose_in choice letters (comment_kind c) (current s.stack).node s.nodes stack s.head s.foster_parenting
-        h.hung
-        h.ordered (current_within s.stack real.hung) refl (no_text c);
-    names = h.names;
-    unused = h.unused;
+  in_head : (raw : Bool) (letters : List ℕ) (s : StateValue) → Early choice letters s
+      → Placed InHead raw s.head s.stack → BeforeBody choice raw InHead letters s
+  in_head raw letters s h at = record { early_mode = refl; early = h; placed = at }
+
+  in_noscript : (raw : Bool) (letters : List ℕ) (s : StateValue) → Early choice letters s
+      → Placed InHeadNoscript raw s.head s.stack → BeforeBody choice raw InHeadNoscript letters s
+  in_noscript raw letters s h at = record { early_mode = refl; early = h; placed = at }
+
+  last_leads : (mode : InsertionMode) (tag : StartTagValue) (a : Act) → early_last mode tag.name a ≡ true
+      → Leads mode (Staged choice) (act_on a tag)
+  last_leads InHead tag (raw_text raw.Noscript) e =
+      raw_leads InHead in_head (λ e head stack h. h) tag raw.Noscript refl e
+  last_leads InHead tag of_head e = of_head_leads InHead in_head (λ e head stack h. h) tag e
+  last_leads InHeadNoscript tag of_head e = of_head_leads InHeadNoscript in_noscript (λ e head stack h. h) tag e
+  last_leads AfterHead tag late_of_head e =
+      let parts = and_parts _ _ e in late_leads tag parts.0 parts.1
+  last_leads mode tag a e = lead (λ letters s h. ((turn_leads mode tag a e).leads letters s h).stage)
+
+  -- ---- the rules of each mode
+
+  -- names of start tags that may come in a mode
+  abbrev comes : InsertionMode → NameValue → Bool
+  comes mode name = is_orderly_name name && (not (is_head_name name && is_after_head mode) || choice.reopens)
+
+  starts_fit : (name : NameValue) (mode : InsertionMode) → is_early mode ≡ true → comes mode name ≡ true
+      → reply_fits early_act (early_turn mode name) (early_last mode name) (start_in mode name) ≡ true
+  starts_fit (known tags.FrameSet) mode e q = absurd (true≢false (sym q))
+  starts_fit (known tags.Template) mode e q = absurd (true≢false (sym q))
+  starts_fit (known tags.Table) mode e q = absurd (true≢false (sym q))
+  starts_fit name Initial e q = refl
+  starts_fit name BeforeHtml e q = refl
+  starts_fit name BeforeHead e q = refl
+  starts_fit name InHead e q = refl
+  starts_fit name InHeadNoscript e q = refl
+  starts_fit name AfterHead e q = q
+  starts_fit name mode e q = absurd (true≢false (sym e))
+
+  ends_fit : (name : NameValue) (mode : InsertionMode) → is_early mode ≡ true
+      → reply_fits early_act (early_turn mode (known tags.P)) (early_last mode (known tags.P)) (end_in mode name)
+      ≡ true
+  ends_fit (known tags.A) Initial e = refl
+  ends_fit name Initial e = refl
+  ends_fit name BeforeHtml e = refl
+  ends_fit name BeforeHead e = refl
+  ends_fit name InHead e = refl
+  ends_fit name InHeadNoscript e = refl
+  ends_fit name AfterHead e = refl
+  ends_fit name mode e = absurd (true≢false (sym e))
+
+  all_fit : (mode : InsertionMode) → is_early mode ≡ true → (t : TokenValue) → IsMarkup (comes mode) t
+      → reply_fits early_act (early_turn mode (tag_name t)) (early_last mode (tag_name t)) (rule_in mode t) ≡ true
+  all_fit mode e (start_tag tag) p = starts_fit tag.name mode e p
+  all_fit mode e (end_tag name) p = ends_fit name mode e
+  all_fit Initial e t p = refl
+  all_fit mode e t p = cc
+
+  early : (mode : InsertionMode) → is_early mode ≡ true
+      → Invariant (comes mode) (λ other. other ≡ mode) (λ name. early_act) (early_turn mode) (early_last mode)
+      (Leads mode (Held mode)) (Leads mode (Onto mode)) (Leads mode (Staged choice)) (Leads mode (ModeAnswer mode))
+  early mode e = record {
+    acts = λ tag p a f. act_leads mode tag a f;
+    turn_acts = λ tag p a f. turn_leads mode tag a f;
+    last_acts = λ tag p a f. last_leads mode tag a f;
+    fit = λ other q t p. subst (λ (m : InsertionMode). reply_fits early_act (early_turn mode (tag_name t))
+        (early_last mode (tag_name t)) (rule_in m t) ≡ true) (sym q) (all_fit mode e t p);
+    still = lead (λ letters s h. h);
+    after = leads_then;
+    by_test = leads_by_test;
+    fosters = λ name f h. absurd (true≢false (sym f));
+    onward = λ h. lead (λ letters s x. held_onto mode letters _ (h.leads letters s x));
+    turn_after = leads_then;
+    turn_by_test = leads_by_test;
+    calm = λ h. lead (λ letters s x. (held_onto mode letters _ (h.leads letters s x)).stage);
+    last_after = leads_then;
+    last_by_test = leads_by_test;
+    last_fosters = λ name f h. absurd (true≢false (sym f));
+    says_done = λ h. lead (λ letters s x. says_done mode letters _ (h.leads letters s x));
+    says = λ h. lead (λ letters s x. says_onto mode letters _ _ (h.leads letters s x));
+    by_answer = leads_by_test;
+    ends_template =
+        lead (λ letters s h. rw (no_template h) (says_onto mode letters s false (held_onto mode letters s h)));
   }
 
-  pub by_head : (reopens : Bool) (letters : List ℕ) (s t : StateValue) (head : Option ℕ) (stack : List OpenValue)
-      → ((es : List OpenValue) → EarlyIn choice letters s es → EarlyIn choice letters t es)
-      → AfterHeadAt choice reopens false head stack letters s
-      → AfterHeadAt choice reopens false head stack letters t
-  by_head false letters s t head stack f h = f stack h
-  by_head true letters s t None stack f h = f stack h
-  by_head true letters s t (Some n) stack f h = f (head_open n ∷ stack) h
+  in_early_mode : (t : TokenValue) (letters : List ℕ) (s : StateValue) → IsMarkup (comes s.mode) t → Calm s
+      → BeforeBody choice false s.mode letters s → ModeAnswer s.mode letters (in_mode s.mode t s)
+  in_early_mode t letters s p c h =
+      (in_mode_holds (early s.mode h.early_mode) refl t p s.mode refl).leads letters s
+      (record { at_mode = refl; calm = c; before = h })
 
-  none_at : (reopens raw : Bool) (letters : List ℕ) (t : StateValue) → Early choice letters t
-      → AfterHeadAt choice reopens raw None t.stack letters t
-  none_at false raw letters t h = h
-  none_at true raw letters t h = h
+  -- what rules answer
+  pub record StageAnswer (letters : List ℕ) (a : Outcome) : Type 0 where
+    pub stage : Staged choice letters a.state
+    pub calm : a.again ≡ true → Calm a.state
 
-  module _ (letters : List ℕ) (s : StateValue) (m : s.mode ≡ AfterHead) (e : is_text_mode s.content ≡ false)
-      (h : AfterHeadIn choice false s.head s.stack letters s) where
-    abbrev real : Early choice letters s
-    real = real_of choice.reopens letters s s.head s.stack h
+  -- as at the end of the file the mode is left, and the token is processed again
+  pub left_early : (letters : List ℕ) (s : StateValue) → Calm s → BeforeBody choice false s.mode letters s
+      → StageAnswer letters (in_mode s.mode end_of_file s)
+  left_early letters s c h = let x = in_early_mode end_of_file letters s tt c h in
+      record { stage = x.stage; calm = x.calm }
 
-    pub body_implied : StageAnswer choice letters (imply_body s)
-    body_implied =
-        late_answers choice true letters (with_body (known tags.Body) [] s)
-        (body_put letters (known tags.Body) [] s refl refl e (real_of choice.reopens letters s s.head s.stack h)) e
+  -- between the head and the body none comes, if the head isn't to be opened once more
+  abbrev pub MayCome : TokenValue → StateValue → Type 0
+  MayCome t s = choice.reopens ≡ false → is_after_head s.mode ≡ true → opens_head t ≡ false
 
-    still_after : StageAnswer choice letters (done s)
-    still_after = calm_answer choice AfterHead false letters s e m h
+  coming : (t : TokenValue) (s : StateValue) → IsOrderly t → MayCome t s → IsMarkup (comes s.mode) t
+  coming (run kind c) s p may = p
+  coming (start_tag tag) s p may =
+      and_from _ _ p (unless_both (is_head_name tag.name) (is_after_head s.mode) choice.reopens may)
+    where
+      unless_both : (a b c : Bool) → (c ≡ false → b ≡ true → a ≡ false) → (not (a && b) || c) ≡ true
+      unless_both true true true f = refl
+      unless_both true true false f = absurd (true≢false (f refl refl))
+      unless_both true false c f = refl
+      unless_both false b c f = refl
+  coming t s p may = tt
 
-    root_after : (tag : StartTagValue) → StageAnswer choice letters (done (add_to_root tag s))
-    root_after tag =
-        root_stage choice letters tag s AfterHead e m
-        (λ t same f.
-        subst (λ (stack : List OpenValue). AfterHeadIn choice false t.head stack letters t) (sym same.stack)
-        (subst (λ (head : Option ℕ). AfterHeadIn choice false head s.stack letters t) (sym same.head)
-        (by_head choice.reopens letters s t s.head s.stack f h)))
+  -- a tag that opens the head is never left to the mode after the head
+  head_goes_on : (t : TokenValue) (s : StateValue) → (in_mode InHead t s).again ≡ true → opens_head t ≡ false
+  head_goes_on (start_tag tag) s e = by_name tag.name e
+    where
+      by_name : (name : NameValue) → (start_in_head name tag s).again ≡ true → is_head_name name ≡ false
+      by_name (known tags.A) e = refl
+      by_name _ e = cc
+  head_goes_on t s e = refl
 
-    module _ (tag : StartTagValue) (p : is_plain_name tag.name ≡ true) where
-      -- without a head it is put where it stands
-      late_by_none : s.head ≡ None → Early choice letters s
-          → StageAnswer choice letters (done (insert_head_element tag.name tag s))
-      late_by_none f x = by_name tag.name refl p
-        where
-          in_stage : (raw : Bool) (t : StateValue) → t.head ≡ None → Early choice letters t → Stage choice raw
-              AfterHead letters t
-          in_stage raw t g y =
-              subst (λ (head : Option ℕ). AfterHeadIn choice raw head t.stack letters t) (sym g)
-              (none_at choice.reopens raw letters t y)
+  may_go_on : (t : TokenValue) (s : StateValue) (mode next : InsertionMode) → s.mode ≡ mode → MayCome t s
+      → (in_mode mode t s).again ≡ true → Leaves mode next → choice.reopens ≡ false → is_after_head next
+      ≡ true → opens_head t ≡ false
+  may_go_on t s InHead next e may again l z m = head_goes_on t s again
+  may_go_on t s AfterHead next e may again l z m = may z (ap is_after_head e)
+  may_go_on t s _ next e may again l z m = absurd (true≢false (sym (ap (λ (b : Bool). b && true) m) ∙ l))
 
-          raw_put : (element : RawElement) → is_text_mode (insert_raw_tag element tag s).content ≡ true
-              → is_outer_name tag.name ≡ true → StageAnswer choice letters (done (insert_raw_tag element tag s))
-          raw_put element g o =
-              raw_answer choice AfterHead letters (insert_raw_tag element tag s) g m
-              (in_stage true (insert_raw_tag element tag s) f
-              (raw_early choice letters tag.name element tag.attributes s p o x))
-
-          by_name : (name : NameValue) → tag.name ≡ name → is_plain_name name ≡ true
-              → StageAnswer choice letters (done (insert_head_element name tag s))
-          by_name (known tags.Title) n q = raw_put raw.Title refl (ap is_outer_name n)
-          by_name (known tags.NoFrames) n q = raw_put raw.Noframes refl (ap is_outer_name n)
-          by_name (known tags.Style) n q = raw_put raw.Style refl (ap is_outer_name n)
-          by_name (known tags.Script) n q = raw_put raw.Script refl (ap is_outer_name n)
-          by_name (known tags.Template) n q = absurd (true≢false (sym q))
-          by_name _ n q =
-              calm_answer choice AfterHead false letters (insert_void_tag tag s) e m
-              (in_stage false (insert_void_tag tag s) f (void_early choice letters tag.name tag.attributes s p x))
-
-      -- into the head, which is open for that
-      late_by_head : choice.reopens ≡ true → (n : ℕ) → s.head ≡ Some n
-          → EarlyIn choice letters s (head_open n ∷ s.stack)
-          → StageAnswer choice letters
-          (done (on_stack (without n) (insert_head_element tag.name tag (open_again n (known tags.Head) s))))
-      late_by_head again n f x = by_name tag.name refl p
-        where
-          v : StateValue
-          v = open_again n (known tags.Head) s
-
-          early_v : Early choice letters (open_again n (known tags.Head) s)
-          early_v = record {
-            plain = x.plain;
-            hung = x.hung;
-            ordered = x.ordered;
-            names = x.names;
-            unused = x.unused;
-          }
-
-          n_within : n < length s.nodes
-          n_within = element_number n s.nodes x.hung.opened_at.0
-
-          raw_put : (element : RawElement) → is_text_mode (insert_raw_tag element tag s).content ≡ true
-              → is_outer_name tag.name ≡ true → StageAnswer choice letters
-              (done (on_stack (without n) (insert_raw_tag element tag (open_again n (known tags.Head) s))))
-          raw_put element g o =
-              raw_answer choice AfterHead letters
-              (on_stack (without n) (insert_raw_tag element tag (open_again n (known tags.Head) s))) g m
-              (subst (λ (head : Option ℕ). AfterHeadIn choice true head
-              (without n (opened (length s.nodes) (html tag.name) ∷ head_open n ∷ s.stack)) letters
-              (on_stack (without n) (insert_raw_tag element tag (open_again n (known tags.Head) s)))) (sym f)
-              (subst (λ (stack : List OpenValue). AfterHeadIn choice true (Some n) stack letters
-              (on_stack (without n) (insert_raw_tag element tag (open_again n (known tags.Head) s))))
-              (sym gone) (in_it (raw_early choice letters tag.name element tag.attributes
-              (open_again n (known tags.Head) s) p o early_v))))
-            where
-              gone : without n (opened (length s.nodes) (html tag.name) ∷ head_open n ∷ s.stack)
-                  ≡ opened (length s.nodes) (html tag.name) ∷ s.stack
-              gone = rw (ne_eqb (length s.nodes) n (λ z. let w = n_within in omega arith), eq-eqb n n refl) refl
-
-              in_it : Early choice letters (insert_raw_tag element tag (open_again n (known tags.Head) s))
-                  → AfterHeadIn choice true (Some n) (opened (length s.nodes) (html tag.name) ∷ s.stack) letters
-                  (on_stack (without n) (insert_raw_tag element tag (open_again n (known tags.Head) s)))
-              in_it y =
-                  subst (λ (b : Bool). AfterHeadAt choice b true (Some n)
-                  (opened (length s.nodes) (html tag.name) ∷ s.stack) letters
-                  (on_stack (without n) (insert_raw_tag element tag (open_again n (known tags.Head) s)))) (sym again)
-                  (record {
-                    plain = y.plain;
-                    hung = y.hung;
-                    ordered = y.ordered;
-                    names = y.names;
-                    unused = y.unused;
-                  })
-
-          void_put : StageAnswer choice letters
-              (done (on_stack (without n) (insert_void_tag tag (open_again n (known tags.Head) s))))
-          void_put =
-              calm_answer choice AfterHead false letters
-              (on_stack (without n) (insert_void_tag tag (open_again n (known tags.Head) s))) e m
-              (subst (λ (head : Option ℕ). AfterHeadIn choice false head
-              (without n (head_open n ∷ s.stack)) letters
-              (on_stack (without n) (insert_void_tag tag (open_again n (known tags.Head) s)))) (sym f)
-              (subst (λ (stack : List OpenValue). AfterHeadIn choice false (Some n) stack letters
-              (on_stack (without n) (insert_void_tag tag (open_again n (known tags.Head) s))))
-              (sym gone) (in_it (void_early choice letters tag.name tag.attributes (open_again n (known tags.Head) s)
-              p early_v))))
-            where
-              gone : without n (head_open n ∷ s.stack) ≡ s.stack
-              gone = rw (eq-eqb n n refl) refl
-
-              in_it : Early choice letters (insert_void_tag tag (open_again n (known tags.Head) s))
-                  → AfterHeadIn choice false (Some n) s.stack letters
-                  (on_stack (without n) (insert_void_tag tag (open_again n (known tags.Head) s)))
-              in_it y =
-                  subst (λ (b : Bool). AfterHeadAt choice b false (Some n) s.stack letters
-                  (on_stack (without n) (insert_void_tag tag (open_again n (known tags.Head) s)))) (sym again)
-                  (record {
-                    plain = y.plain;
-                    hung = y.hung;
-                    ordered = y.ordered;
-                    names = y.names;
-                    unused = y.unused;
-                  })
-
-          by_name : (name : NameValue) → tag.name ≡ name → is_plain_name name ≡ true
-              → StageAnswer choice letters
-              (done (on_stack (without n) (insert_head_element name tag (open_again n (known tags.Head) s))))
-          by_name (known tags.Title) o q = raw_put raw.Title refl (ap is_outer_name o)
-          by_name (known tags.NoFrames) o q = raw_put raw.Noframes refl (ap is_outer_name o)
-          by_name (known tags.Style) o q = raw_put raw.Style refl (ap is_outer_name o)
-          by_name (known tags.Script) o q = raw_put raw.Script refl (ap is_outer_name o)
-          by_name (known tags.Template) o q = absurd (true≢false (sym q))
-          by_name _ o q = void_put
-
-      late_put : choice.reopens ≡ true → (head : Option ℕ) → s.head ≡ head
-          → AfterHeadAt choice true false head s.stack letters s
-          → StageAnswer choice letters (done (insert_in_head head tag s))
-      late_put again None f x = late_by_none f x
-      late_put again (Some n) f x = late_by_head again n f x
-
-      inserted_late : choice.reopens ≡ true → StageAnswer choice letters (done (insert_late tag s))
-      inserted_late again =
-          late_put again s.head refl
-          (subst (λ (b : Bool). AfterHeadAt choice b false s.head s.stack letters s) again h)
-
-      -- a tag of the head comes only where the head may be opened once more
-      late_tag : (choice.reopens ≡ false → true ≡ false) → StageAnswer choice letters (done (insert_late tag s))
-      late_tag may = inserted_late (either choice.reopens refl)
-        where
-          either : (b : Bool) → choice.reopens ≡ b → choice.reopens ≡ true
-          either true e = e
-          either false e = absurd (true≢false (may e))
-
-      start_after_head_stage : (name : NameValue) → tag.name ≡ name → is_plain_name name ≡ true
-          → (choice.reopens ≡ false → is_head_name name ≡ false)
-          → StageAnswer choice letters (start_after_head name tag s)
-      start_after_head_stage (known tags.Html) n q r = root_after tag
-      start_after_head_stage (known tags.Body) n q r =
-          late_answers choice false letters _ (late_step choice (no_frameset_orders choice) no_frameset_roots letters
-          (with_body tag.name tag.attributes s) e
-          (body_put letters tag.name tag.attributes s p n e (real_of choice.reopens letters s s.head s.stack h))) e
-      start_after_head_stage (known tags.FrameSet) n q r = absurd (true≢false (sym q))
-      start_after_head_stage (known tags.Base) n q r = late_tag r
-      start_after_head_stage (known tags.BaseFont) n q r = late_tag r
-      start_after_head_stage (known tags.BgSound) n q r = late_tag r
-      start_after_head_stage (known tags.Link) n q r = late_tag r
-      start_after_head_stage (known tags.Meta) n q r = late_tag r
-      start_after_head_stage (known tags.NoFrames) n q r = late_tag r
-      start_after_head_stage (known tags.Script) n q r = late_tag r
-      start_after_head_stage (known tags.Style) n q r = late_tag r
-      start_after_head_stage (known tags.Template) n q r = late_tag r
-      start_after_head_stage (known tags.Title) n q r = late_tag r
-      start_after_head_stage (known tags.Head) n q r = still_after
-      start_after_head_stage _ n q r = body_implied
-
-    end_after_head_stage : (name : NameValue) → StageAnswer choice letters (end_after_head name s)
-    end_after_head_stage (known tags.Template) =
-        subst (λ (t : StateValue). StageAnswer choice letters (done t))
-        (sym (no_template_end s (real_of choice.reopens letters s s.head s.stack h).plain)) still_after
-    end_after_head_stage (known tags.Body) = body_implied
-    end_after_head_stage (known tags.Html) = body_implied
-    end_after_head_stage (known tags.Br) = body_implied
-    end_after_head_stage _ = still_after
-
-    after_head_stage : (t : TokenValue) → IsOrderly t → (choice.reopens ≡ false → opens_head t ≡ false)
-        → StageAnswer choice letters (after_head t s)
-    after_head_stage (run kind c) p r = absurd (true≢false p)
-    after_head_stage (start_tag tag) p r =
-        plain_or_column (StageAnswer choice letters (start_after_head tag.name tag s)) tag.name p
-        (λ q. start_after_head_stage tag q tag.name refl q r)
-        (by_column_name (λ name. StageAnswer choice letters (start_after_head name tag s)) body_implied body_implied
-        tag.name)
-    after_head_stage (end_tag name) p r = end_after_head_stage name
-    after_head_stage (comment c) p r =
-        calm_answer choice AfterHead false letters (insert_comment c s) e m
-        (by_head choice.reopens letters s (insert_comment c s) s.head s.stack
-        (λ es x. comment_after letters c s es (real_of choice.reopens letters s s.head s.stack h) x) h)
-    after_head_stage (doctype quirks) p r = still_after
-    after_head_stage end_of_file p r = body_implied
-
--- ---- all modes
-
-outer_html : (name : ElementNameValue) → is_outer name ≡ true → is_html_name name ≡ true
-outer_html (html name) o = refl
-outer_html (svg s) o = o
-outer_html (math s) o = o
-
-pub current_html : (stack : List OpenValue) → EachOpen OuterOpen stack → current_is_html stack ≡ true
-current_html [] h = refl
-current_html (e ∷ es) h = outer_html e.name h.0
-
-not_foreign : (a b c d : Bool) → d ≡ true → not (a || b || c || d) ≡ false
-not_foreign true b c d e = refl
-not_foreign false true c d e = refl
-not_foreign false false true d e = refl
-not_foreign false false false d e = ap not e
-
-by_tests : (t : TokenValue) (s : StateValue) → current_is_html s.stack ≡ true
-    → not ((is_for_math_text t && is_math_text_point (current s.stack))
-    || (is_for_annotation t && is_annotation (current s.stack))
-    || (is_for_html_point t && is_html_point s.nodes (current s.stack))
-    || current_is_html s.stack) ≡ false
-by_tests t s h =
-    not_foreign (is_for_math_text t && is_math_text_point (current s.stack))
-    (is_for_annotation t && is_annotation (current s.stack))
-    (is_for_html_point t && is_html_point s.nodes (current s.stack)) (current_is_html s.stack) h
+-- ---- nothing foreign is open
 
 pub stays_html : (t : TokenValue) (s : StateValue) → current_is_html s.stack ≡ true → is_foreign t s ≡ false
 stays_html end_of_file s h = refl
-stays_html (run kind c) s h = by_tests (run kind c) s h
-stays_html (start_tag tag) s h = by_tests (start_tag tag) s h
-stays_html (end_tag name) s h = by_tests (end_tag name) s h
-stays_html (comment c) s h = by_tests (comment c) s h
-stays_html (doctype quirks) s h = by_tests (doctype quirks) s h
+stays_html t s h =
+    ap not (or_right (is_for_math_text t && is_math_text_point (current s.stack)
+    || is_for_annotation t && is_annotation (current s.stack)
+    || is_for_html_point t && is_html_point s.nodes (current s.stack)) (current_is_html s.stack) h)
 
 module _ (choice : Choice) where
-  pub unstaged : (raw : Bool) (mode : InsertionMode) (letters : List ℕ) (s : StateValue) → is_text_mode s.content
-      ≡ raw
-      → s.mode ≡ mode → Staged choice letters s → Stage choice raw mode letters s
-  unstaged raw mode letters s e f h =
-      subst (λ (m : InsertionMode). Stage choice raw m letters s) f
-      (subst (λ (b : Bool). Stage choice b s.mode letters s) e h)
+  late_apart : (mode : InsertionMode) → is_late mode ≡ true → is_after_head mode ≡ true → ⊥
+  late_apart AfterHead l e = true≢false (sym l)
+  late_apart _ l e = true≢false (sym e)
 
-  -- the names of what is open before the body
-  pub stage_names : (mode : InsertionMode) (letters : List ℕ) (s : StateValue) → is_late mode ≡ false
-      → Stage choice false mode letters s → EachOpen OuterOpen s.stack
-  stage_names Initial letters s e h = h.0.names
-  stage_names BeforeHtml letters s e h = h.0.names
-  stage_names BeforeHead letters s e h = h.names
-  stage_names InHead letters s e h = h.0.names
-  stage_names InHeadNoscript letters s e h = h.0.names
-  stage_names AfterHead letters s e h = (real_of choice choice.reopens letters s s.head s.stack h).names
-  stage_names InBody letters s e h = absurd (true≢false e)
-  stage_names InSelect letters s e h = absurd (true≢false e)
-  stage_names AfterBody letters s e h = absurd (true≢false e)
-  stage_names AfterAfterBody letters s e h = absurd (true≢false e)
-  stage_names _ letters s e h = absurd h
+  pub never_foreign : (t : TokenValue) (mode : InsertionMode) (letters : List ℕ) (s : StateValue)
+      → BeforeBody choice false mode letters s → is_foreign t s ≡ false
+  never_foreign t mode letters s h = stays_html t s (current_html s.stack (real choice false mode letters s h).0.names)
 
-  early_modes : (mode : InsertionMode) (t : TokenValue) → IsOrderly t → (letters : List ℕ) (s : StateValue)
-      → s.mode ≡ mode → is_late mode ≡ false → is_text_mode s.content ≡ false
-      → Stage choice false mode letters s
-      → (choice.reopens ≡ false → mode ≡ AfterHead → opens_head t ≡ false)
-      → StageAnswer choice letters (in_mode mode t s)
-  early_modes Initial t p letters s m l e h r = initial_stage choice t p letters s m e h
-  early_modes BeforeHtml t p letters s m l e h r = before_html_stage choice t p letters s m e h
-  early_modes BeforeHead t p letters s m l e h r = before_head_stage choice t p letters s m e h
-  early_modes InHead t p letters s m l e h r = in_head_stage choice letters s m e h.0 h.1 t p
-  early_modes InHeadNoscript t p letters s m l e h r = in_noscript_stage choice letters s m e h.0 h.1 t p
-  early_modes AfterHead t p letters s m l e h r = after_head_stage choice letters s m e h t p (λ z. r z refl)
-  early_modes InBody t p letters s m l e h r = absurd (true≢false l)
-  early_modes InSelect t p letters s m l e h r = absurd (true≢false l)
-  early_modes AfterBody t p letters s m l e h r = absurd (true≢false l)
-  early_modes AfterAfterBody t p letters s m l e h r = absurd (true≢false l)
-  early_modes _ t p letters s m l e h r = absurd h
+  -- so the rules of the mode apply
+  pub html_rules : (P : Outcome → Type 0) (t : TokenValue) (letters : List ℕ) (s : StateValue)
+      → BeforeBody choice false s.mode letters s → P (by_mode_rules t s) → P (by_rules t s)
+  html_rules P t letters s h x =
+      cond_both (is_foreign t s) _ _ P (λ e. absurd (true≢false (sym e ∙ never_foreign t s.mode letters s h)))
+      (λ e. x)
 
   pub by_rules_stage : (t : TokenValue) → IsOrderly t → (letters : List ℕ) (s : StateValue) → Calm s
-      → Staged choice
-      letters s
-      → MayCome choice t s
-      → StageAnswer choice letters (by_rules t s)
-  by_rules_stage t p letters s calm h may = either (is_late s.mode) refl
+      → Staged choice letters s → MayCome choice t s → StageAnswer choice letters (by_rules t s)
+      × ((by_rules t s).again ≡ true → MayCome choice t (by_rules t s).state)
+  by_rules_stage t p letters s calm h may = by_stage choice false letters s calm h late early_mode
     where
-      rules : (b : Bool) → b ≡ false → StageAnswer choice letters (by_mode_rules t s)
-          → StageAnswer choice letters (if b then in_foreign_content t s else by_mode_rules t s)
-      rules true e x = absurd (true≢false e)
-      rules false e x = x
+      Goes : Outcome → Type 0
+      Goes a = StageAnswer choice letters a × (a.again ≡ true → MayCome choice t a.state)
 
-      either : (b : Bool) → is_late s.mode ≡ b → StageAnswer choice letters (by_rules t s)
-      either true l =
-          let x = by_rules_late choice t p letters s calm
-          (stage_late choice (is_text_mode s.content) s.mode letters s l h) in
-          record { stage = staged_late choice letters (by_rules t s).state x.late; calm = x.calm }
-      either false l =
-          let x = unstaged false s.mode letters s calm refl h in
-          rules (is_foreign t s) (stays_html t s (current_html s.stack (stage_names s.mode letters s l x)))
-          (early_modes s.mode t p letters s refl l calm x may)
+      late : Late choice letters s → Goes (by_rules t s)
+      late h = let x = by_rules_late choice t p letters s calm h in (
+        record { stage = inl x.late; calm = x.calm },
+        λ k z m. absurd (late_apart (by_rules t s).state.mode x.late.rooted.late m),
+      )
 
-  -- a start tag that opens the head is left to another mode, but never to the mode after the head
-
-  module _ (tag : StartTagValue) (s : StateValue) where
-    from_html : (name : NameValue) → is_head_name name ≡ true
-        → (start_before_html name tag s).state.mode ≡ AfterHead → ⊥
-    from_html (known tags.Html) p m = absurd (true≢false (sym p))
-    from_html _ p m = cc
-
-    before_head_away : (name : NameValue) → is_head_name name ≡ true
-        → (start_before_head name tag s).state.mode ≡ AfterHead → ⊥
-    before_head_away (known tags.Html) p m = absurd (true≢false (sym p))
-    before_head_away (known tags.Head) p m = absurd (true≢false (sym p))
-    before_head_away _ p m = cc
-
-    head_ends : (name : NameValue) → is_head_name name ≡ true → (start_in_head name tag s).again ≡ true → ⊥
-    head_ends (known tags.Base) p e = absurd (true≢false (sym e))
-    head_ends (known tags.BaseFont) p e = absurd (true≢false (sym e))
-    head_ends (known tags.BgSound) p e = absurd (true≢false (sym e))
-    head_ends (known tags.Link) p e = absurd (true≢false (sym e))
-    head_ends (known tags.Meta) p e = absurd (true≢false (sym e))
-    head_ends (known tags.NoFrames) p e = absurd (true≢false (sym e))
-    head_ends (known tags.Script) p e = absurd (true≢false (sym e))
-    head_ends (known tags.Style) p e = absurd (true≢false (sym e))
-    head_ends (known tags.Template) p e = absurd (true≢false (sym e))
-    head_ends (known tags.Title) p e = absurd (true≢false (sym e))
-    head_ends _ p e = absurd (true≢false (sym p))
-
-    noscript_away : (name : NameValue) → (start_in_noscript name tag s).again ≡ true
-        → (start_in_noscript name tag s).state.mode ≡ AfterHead → ⊥
-    noscript_away (known tags.Html) e m = absurd (true≢false (sym e))
-    noscript_away (known tags.BaseFont) e m = absurd (true≢false (sym e))
-    noscript_away (known tags.BgSound) e m = absurd (true≢false (sym e))
-    noscript_away (known tags.Link) e m = absurd (true≢false (sym e))
-    noscript_away (known tags.Meta) e m = absurd (true≢false (sym e))
-    noscript_away (known tags.NoFrames) e m = absurd (true≢false (sym e))
-    noscript_away (known tags.Style) e m = absurd (true≢false (sym e))
-    noscript_away (known tags.Head) e m = absurd (true≢false (sym e))
-    noscript_away (known tags.NoScript) e m = absurd (true≢false (sym e))
-    noscript_away _ e m = cc
-
-    early_away : (mode : InsertionMode) (letters : List ℕ) → is_head_name tag.name ≡ true
-        → (mode ≡ AfterHead → ⊥) → is_late mode ≡ false → Stage choice false mode letters s
-        → (in_mode mode (start_tag tag) s).again ≡ true
-        → (in_mode mode (start_tag tag) s).state.mode ≡ AfterHead → ⊥
-    early_away Initial letters p f l h e m = cc
-    early_away BeforeHtml letters p f l h e m = from_html tag.name p m
-    early_away BeforeHead letters p f l h e m = before_head_away tag.name p m
-    early_away InHead letters p f l h e m = head_ends tag.name p e
-    early_away InHeadNoscript letters p f l h e m = noscript_away tag.name e m
-    early_away AfterHead letters p f l h e m = f refl
-    early_away InBody letters p f l h e m = absurd (true≢false l)
-    early_away InSelect letters p f l h e m = absurd (true≢false l)
-    early_away AfterBody letters p f l h e m = absurd (true≢false l)
-    early_away AfterAfterBody letters p f l h e m = absurd (true≢false l)
-    early_away _ letters p f l h e m = absurd h
-
-  pub never_after_head : (t : TokenValue) → IsOrderly t → (letters : List ℕ) (s : StateValue) → Calm s
-      → Staged choice letters s → opens_head t ≡ true → (s.mode ≡ AfterHead → ⊥) → (by_rules t s).again
-      ≡ true
-      → (by_rules t s).state.mode ≡ AfterHead → ⊥
-  never_after_head (start_tag tag) p letters s calm h opens f e m = either (is_late s.mode) refl
-    where
-      by_mode : (b : Bool) → b ≡ false → Stage choice false s.mode letters s → is_late s.mode ≡ false
-          → (if b then in_foreign_content (start_tag tag) s else by_mode_rules (start_tag tag) s).again ≡ true
-          → (if b then in_foreign_content (start_tag tag) s else by_mode_rules (start_tag tag) s).state.mode
-          ≡ AfterHead
-          → ⊥
-      by_mode true g x l e m = absurd (true≢false g)
-      by_mode false g x l e m = early_away tag s s.mode letters opens f l x e m
-
-      either : (b : Bool) → is_late s.mode ≡ b → ⊥
-      either true l =
-          let x = by_rules_late choice (start_tag tag) p letters s calm
-          (stage_late choice (is_text_mode s.content) s.mode letters s l h) in
-          true≢false (sym x.late.rooted.late ∙ ap is_late m)
-      either false l =
-          let x = unstaged false s.mode letters s calm refl h in
-          by_mode (is_foreign (start_tag tag) s)
-          (stays_html (start_tag tag) s (current_html s.stack (stage_names s.mode letters s l x))) x l e m
-  never_after_head (run kind c) p letters s calm h opens f e m = true≢false (sym opens)
-  never_after_head (end_tag name) p letters s calm h opens f e m = true≢false (sym opens)
-  never_after_head (comment c) p letters s calm h opens f e m = true≢false (sym opens)
-  never_after_head (doctype quirks) p letters s calm h opens f e m = true≢false (sym opens)
-  never_after_head end_of_file p letters s calm h opens f e m = true≢false (sym opens)
+      early_mode : BeforeBody choice false s.mode letters s → Goes (by_rules t s)
+      early_mode h = let x = in_early_mode choice t letters s (coming choice t s p may) calm h in
+          html_rules Goes t letters s h (
+            record { stage = x.stage; calm = x.calm },
+            λ k. may_go_on choice t s s.mode (by_mode_rules t s).state.mode refl may k (x.leaves k),
+          )

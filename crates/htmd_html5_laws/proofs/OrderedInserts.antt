@@ -1,22 +1,20 @@
 -- A new node at the end of an open one, or more at the end of its last text: the letters stand in order still.
 use Rattle.std.proofs.Common.{◌≡◌, ◌∙◌, ℕ, zero, suc, ◌+◌, ◌<◌, ◌≤◌, Bool, true, false, List, [], ◌∷◌, ◌++◌, length}
-use Rattle.std.proofs.Common.{drop, refl, sym, ap, subst, arith, cond, Option, Some}
-use Rattle.std.proofs.Common.{length-append}
+use Rattle.std.proofs.Common.{drop, refl, sym, ap, subst, arith, cond, Option, Some, length-append}
 use Rattle.std.specs.Prelude.{◌==◌, insert, IsUtf8}
-use Rattle.std.proofs.lemmas.Bool.{eqb-true, eqb-false, eq-eqb, ne_eqb}
+use Rattle.std.proofs.lemmas.Bool.{eqb-true, eqb-false, eq-eqb, ne_eqb, true≢false}
 use Rattle.std.proofs.Math.Seq.{take-length, drop-length}
 use Rattle.htmd_grammar.proofs.Cases.{test}
-use Rattle.htmd_html5_state.specs.Nodes.{NodeValue, KindValue, text, new_node}
-use Rattle.htmd_html5_state.specs.Nodes.{kind_at, parent_at, children_at, with_children, last_in}
-use Rattle.htmd_html5_state.specs.Nodes.{add}
-use Rattle.htmd_html5_laws.proofs.NodeParts.{times, children_other, children_of_parent}
-use Rattle.htmd_html5_laws.proofs.NodeParts.{children_with_new, parent_beyond}
+use Rattle.htmd_html5_state.specs.Nodes.{NodeValue, KindValue, text, new_node, kind_at, children_at}
+use Rattle.htmd_html5_state.specs.Nodes.{with_children, last_in, add}
+use Rattle.htmd_html5_laws.proofs.NodeParts.{times, children_other, children_of_parent, children_with_new}
+use Rattle.htmd_html5_laws.proofs.NodeParts.{parent_beyond}
 use Rattle.htmd_html5_laws.proofs.Forests.{IsForest, length_new, once_under}
 use Rattle.htmd_html5_laws.proofs.HungNodes.{put_kind, children_in, kind_with_new, kind_new_at}
-use Rattle.htmd_html5_laws.proofs.Sublists.{Sub, window_grown, window_new, sub_all}
-use Rattle.htmd_html5_laws.proofs.ChildRows.{Row}
-use Rattle.htmd_html5_laws.proofs.ChildRows.{row_marks}
-use Rattle.htmd_html5_laws.proofs.OrderedNodes.{bears, Labels, until, marks, TextIn, FitsBy, none_out}
+use Rattle.htmd_html5_laws.proofs.Sublists.{Sub, window_new, sub_all}
+use Rattle.htmd_html5_laws.proofs.ChildRows.{Row, row_marks, row_as, row_append, row_ends, by_two, row_end}
+use Rattle.htmd_html5_laws.proofs.OrderedNodes.{bears, Labels, until, marks, TextIn, FitsBy, none_out, lo_until, RowAt}
+use Rattle.htmd_html5_laws.proofs.OrderedNodes.{ended_until, fits_grown}
 use Rattle.htmd_html5_laws.proofs.Counted.{Choice, counted_of}
 
 module _ (choice : Choice) where
@@ -27,6 +25,26 @@ module _ (choice : Choice) where
     lo = λ m. cond (m == n) lo (l.lo m);
     hi = λ m. cond (m == n) hi (l.hi m);
     live = λ m. cond (m == n) live (l.live m);
+  }
+
+  -- the nodes but one are labelled as before
+  pub fits_marked : {out kept : ℕ → Bool} {letters : List ℕ} {nodes : List NodeValue} {l : Labels} (n lo hi : ℕ)
+      (live : Bool) (new : List NodeValue) → FitsBy choice out letters nodes l → lo ≤ hi → hi ≤ length letters
+      → ((m : ℕ) → (m ≡ n → ⊥) → kind_at new m ≡ kind_at nodes m)
+      → ((t : List ℕ) → kind_at new n ≡ text t → TextIn choice letters (mark n lo hi live l) n t)
+      → ((limit : ℕ) → length letters < limit → (q : ℕ)
+      → RowAt choice kept new limit (mark n lo hi live l) q) → FitsBy choice kept letters new (mark n lo hi live l)
+  fits_marked {out} {kept} {letters} {nodes} {l} n lo hi live new h low high kinds own rows = record {
+    span = λ m. test (m == n) (λ t. rw t low) (λ t. rw t (h.span m));
+    high = λ m. test (m == n) (λ t. rw t high) (λ t. rw t (h.high m));
+    rows = rows;
+    texts = λ m t e.
+        test (m == n) (λ u. let same = sym (eqb-true m n u) in
+        subst (λ (x : ℕ). TextIn choice letters (mark n lo hi live l) x t) same
+        (own t (ap (λ (x : ℕ). kind_at new x) same ∙ e)))
+        (λ u. let f = eqb-false m n u in
+        let x = h.texts m t (sym (kinds m f) ∙ e) in
+        record { closed = rw (ne_eqb m n f) x.closed; utf8 = x.utf8; within = rw (ne_eqb m n f) x.within });
   }
 
   -- ---- children
@@ -45,8 +63,7 @@ module _ (choice : Choice) where
       children_of_parent (length nodes) p (Some p) (with_children p
       (insert (children_at more p) (length (children_at more p)) (length nodes)) more)
       ∙ children_in p (insert (children_at more p) (length (children_at more p)) (length nodes)) more
-      (let e = length_new k nodes in omega arith)
-      ∙ inserted_last choice (length nodes) (children_at more p)
+      (let e = length_new k nodes in omega arith) ∙ inserted_last choice (length nodes) (children_at more p)
       ∙ ap (λ (x : List ℕ). x ++ length nodes ∷ []) (children_with_new p k nodes)
     where
       more : List NodeValue
@@ -80,8 +97,7 @@ pub no_child : (nodes : List NodeValue) (q m : ℕ) → IsForest nodes → lengt
     → times m (children_at nodes q) ≡ 0
 no_child nodes q m forest l =
     let a = forest.once m q in
-    let b : once_under (parent_at nodes m) q ≡ 0 =
-    ap (λ (o : Option ℕ). once_under o q) (parent_beyond m nodes l) in
+    let b = ap (λ (o : Option ℕ). once_under o q) (parent_beyond m nodes l) in
     omega arith
 
 pub children_beyond : (m : ℕ) (nodes : List NodeValue) → length nodes ≤ m → children_at nodes m ≡ []
@@ -90,13 +106,6 @@ children_beyond zero (x ∷ nodes) l = absurd (omega arith)
 children_beyond (suc m) (x ∷ nodes) l = children_beyond m nodes (omega arith)
 
 module _ (choice : Choice) where
-  -- ---- what follows a step: labels of the nodes then, with what was live still live
-
-  pub record Goes (letters : List ℕ) (size : ℕ) (old : Labels) (nodes : List NodeValue) : Type 0 where
-    pub labels : Labels
-    pub fits : FitsBy choice none_out letters nodes labels
-    pub still : (m : ℕ) → m < size → old.live m ≡ true → labels.live m ≡ true
-
   module _ (letters : List ℕ) (nodes : List NodeValue) (l : Labels) (h : FitsBy choice none_out letters nodes l)
       (forest : IsForest nodes) where
     -- ---- a new node
@@ -135,29 +144,51 @@ module _ (choice : Choice) where
 
       -- a row in which the new node doesn't stand
       pub row_kept : (limit at : ℕ) (cs : List ℕ) (to : ℕ) → length letters + length more < limit → times n cs
-          ≡ 0
-          → Row (marks choice none_out nodes limit l) at cs to
+          ≡ 0 → Row (marks choice none_out nodes limit l) at cs to
           → Row (marks choice none_out new limit marked) at cs to
       row_kept limit at cs to big none r =
-          row_marks (marks choice none_out nodes limit l) (marks choice none_out new limit marked) at cs to
-          (λ c k b.
+          row_marks (marks choice none_out nodes limit l) (marks choice none_out new limit marked) at cs to (λ c k b.
           let other : c ≡ n → ⊥ = λ e. let z : times c cs ≡ times n cs = ap (λ (x : ℕ). times x cs) e in
           omega arith in
           let same = kind_grown _ p nodes c other in
           let u = other_until limit c other in
           let v = other_lo c other in
-          let w = spans c (l.live c) in
+          let w = lo_until h limit (omega arith) c in
           (sym (ap (bears choice) same) ∙ b, omega arith, omega arith, omega arith)) r
-        where
-          spans : (c : ℕ) (b : Bool) → l.lo c ≤ cond b limit (l.hi c)
-          spans c true = let a = h.span c in let b = h.high c in omega arith
-          spans c false = h.span c
 
       -- where it may stand in its parent
       abbrev pub RowOk : Type 0
       RowOk =
           (limit : ℕ) → length letters + length more < limit
           → Row (marks choice none_out new limit marked) (l.lo p) (children_at nodes p ++ n ∷ []) (until limit l p)
+
+      -- what bears nothing may stand anywhere
+      pub loose_row : bears choice k ≡ false → RowOk
+      loose_row e limit big =
+          row_append (marks choice none_out new limit marked) (l.lo p) (children_at nodes p) (until limit l p)
+          (n ∷ []) (until limit l p) (row_kept limit (l.lo p) (children_at nodes p) (until limit l p) big
+          (no_child nodes p n forest (omega arith)) (h.rows limit (omega arith) p)) (
+            λ b. absurd (true≢false (sym b ∙ none)),
+            subst (λ (b : Bool). cond b (until limit marked n) (until limit l p) ≤ until limit l p) (sym none)
+                (omega arith),
+          )
+        where
+          none : bears choice (kind_at new n) ≡ false
+          none = ap (bears choice) (kind_grown_new k p nodes) ∙ e
+
+      -- and anything at the end of what is live, where the children before have ended
+      pub live_row : l.live p ≡ true
+          → ((c : ℕ) → 1 ≤ times c (children_at nodes p) → bears choice (kind_at nodes c) ≡ true
+          → l.live c ≡ false) → RowOk
+      live_row e ends limit big =
+          let x = own_lo in let y = own_until limit big in let z = y.0 in let w = y.1 in
+          let all : until limit l p ≡ limit = ap (λ (b : Bool). cond b limit (l.hi p)) e in
+          row_end (marks choice none_out new limit marked) (l.lo p) (children_at nodes p) (length letters) n
+          (until limit l p) (omega arith) (omega arith) (omega arith) (omega arith)
+          (row_kept limit (l.lo p) (children_at nodes p) (length letters) big (no_child nodes p n forest (omega arith))
+          (row_ends (marks choice none_out nodes limit l) (l.lo p) (children_at nodes p) (until limit l p)
+          (length letters) (let a = h.span p in let b = h.high p in omega arith)
+          (λ c m b. ended_until h limit c (ends c m b)) (h.rows limit (omega arith) p)))
 
       -- a text's letters are the new ones
       abbrev pub TextOk : Type 0
@@ -167,81 +198,41 @@ module _ (choice : Choice) where
       longer = length-append letters more
 
       pub fits_added : RowOk → TextOk → FitsBy choice none_out (letters ++ more) new marked
-      fits_added ok is = record {
-        span = λ m. test (m == n) (λ t. rw t (omega arith)) (λ t. rw t (h.span m));
-        high = λ m. let a = longer in
-            test (m == n) (λ t. rw t (omega arith)) (λ t. let b = h.high m in rw t (omega arith));
-        rows = λ limit big q.
-            test (q == n) (λ t. at_new limit (let a = longer in omega arith) q (eqb-true q n t))
-            (λ t. test (p == q)
-            (λ u. at_parent limit (let a = longer in omega arith) q (eqb-true p q u))
-            (λ u. elsewhere_row limit (let a = longer in omega arith) q (eqb-false q n t) (eqb-false p q u)));
-        texts = λ m t e.
-            test (m == n) (λ u. new_text m t (eqb-true m n u) e)
-            (λ u. old_text m t (eqb-false m n u) e);
-      }
+      fits_added ok is =
+          fits_marked choice n (length letters) (length letters + length more) live new (fits_grown more h)
+          (omega arith) (let a = longer in omega arith) (kind_grown k p nodes) new_text
+          (λ limit big q. let a = longer in
+          by_two (λ (x : ℕ). RowAt choice none_out new limit marked x) n p q (new_row limit (omega arith))
+          (parent_row limit (omega arith)) (other_row limit (omega arith) q))
         where
-          at_new : (limit : ℕ) → length letters + length more < limit → (q : ℕ) → q ≡ n
-              → Row (marks choice none_out new limit marked) (marked.lo q) (children_at new q) (until limit marked q)
-          at_new limit big q e =
-              subst (λ (x : ℕ). Row (marks choice none_out new limit marked) (marked.lo x) (children_at new x)
-              (until limit marked x)) (sym e)
-              (subst (λ (cs : List ℕ). Row (marks choice none_out new limit marked) (marked.lo n) cs
-              (until limit marked n))
-              (sym (children_elsewhere k p n nodes (λ f. omega arith) ∙ children_beyond n nodes (omega arith)))
-              (let a = own_lo in let b = (own_until limit big).0 in omega arith))
+          new_row : (limit : ℕ) → length letters + length more < limit → RowAt choice none_out new limit marked n
+          new_row limit big =
+              row_as (marks choice none_out new limit marked) own_lo
+              (children_elsewhere k p n nodes (λ f. omega arith) ∙ children_beyond n nodes (omega arith)) refl
+              (own_until limit big).0
 
-          at_parent : (limit : ℕ) → length letters + length more < limit → (q : ℕ) → p ≡ q
-              → Row (marks choice none_out new limit marked) (marked.lo q) (children_at new q) (until limit marked q)
-          at_parent limit big q e =
-              subst (λ (x : ℕ). Row (marks choice none_out new limit marked) (marked.lo x) (children_at new x)
-              (until limit marked x)) e
-              (subst (λ (x : ℕ). Row (marks choice none_out new limit marked) (marked.lo p) (children_at new p) x)
-              (sym (other_until limit p (λ f. omega arith)))
-              (subst (λ (x : ℕ). Row (marks choice none_out new limit marked) x (children_at new p)
-              (until limit l p))
-              (sym (other_lo p (λ f. omega arith)))
-              (subst (λ (cs : List ℕ). Row (marks choice none_out new limit marked) (l.lo p) cs (until limit l p))
-              (sym (children_grown choice k p nodes within)) (ok limit big))))
+          parent_row : (limit : ℕ) → length letters + length more < limit
+              → RowAt choice none_out new limit marked p
+          parent_row limit big =
+              row_as (marks choice none_out new limit marked) (other_lo p (λ f. omega arith))
+              (children_grown choice k p nodes within) (other_until limit p (λ f. omega arith)) (ok limit big)
 
-          elsewhere_row : (limit : ℕ) → length letters + length more < limit → (q : ℕ) → (q ≡ n → ⊥)
-              → (p ≡ q → ⊥)
-              → Row (marks choice none_out new limit marked) (marked.lo q) (children_at new q) (until limit marked q)
-          elsewhere_row limit big q f g =
-              subst (λ (x : ℕ). Row (marks choice none_out new limit marked) (marked.lo q) (children_at new q) x)
-              (sym (other_until limit q f))
-              (subst (λ (x : ℕ). Row (marks choice none_out new limit marked) x (children_at new q)
-              (until limit l q))
-              (sym (other_lo q f))
-              (subst (λ (cs : List ℕ). Row (marks choice none_out new limit marked) (l.lo q) cs (until limit l q))
-              (sym (children_elsewhere k p q nodes g))
+          other_row : (limit : ℕ) → length letters + length more < limit → (q : ℕ) → (n ≡ q → ⊥)
+              → (p ≡ q → ⊥) → RowAt choice none_out new limit marked q
+          other_row limit big q f g =
+              row_as (marks choice none_out new limit marked) (other_lo q (λ e. f (sym e)))
+              (children_elsewhere k p q nodes g) (other_until limit q (λ e. f (sym e)))
               (row_kept limit (l.lo q) (children_at nodes q) (until limit l q) big
-              (no_child nodes q n forest (omega arith)) (h.rows limit (omega arith) q))))
+              (no_child nodes q n forest (omega arith)) (h.rows limit (omega arith) q))
 
-          new_text : (m : ℕ) (t : List ℕ) → m ≡ n → kind_at new m ≡ text t
-              → TextIn choice (letters ++ more) marked m t
-          new_text m t e f =
-              let x = is t (sym (kind_grown_new k p nodes) ∙ (ap (λ (y : ℕ). kind_at new y) (sym e) ∙ f)) in
-              subst (λ (y : ℕ). TextIn choice (letters ++ more) marked y t) (sym e)
-              (record {
+          new_text : (t : List ℕ) → kind_at new n ≡ text t → TextIn choice (letters ++ more) marked n t
+          new_text t e =
+              let x = is t (sym (kind_grown_new k p nodes) ∙ e) in
+              record {
                 closed = rw (eq-eqb n n refl) x.0;
                 utf8 = x.1;
                 within =
-                    rw (eq-eqb n n refl)
-                    (subst (λ (y : List ℕ). Sub (counted_of choice t) y)
+                    rw (eq-eqb n n refl) (subst (λ (y : List ℕ). Sub (counted_of choice t) y)
                     (sym (window_new letters more (length letters) (length letters + length more) refl refl))
                     (subst (λ (y : List ℕ). Sub (counted_of choice t) y) x.2 (sub_all (counted_of choice t))));
-              })
-
-          old_text : (m : ℕ) (t : List ℕ) → (m ≡ n → ⊥) → kind_at new m ≡ text t
-              → TextIn choice (letters ++ more) marked m t
-          old_text m t f e =
-              let x = h.texts m t (sym (kind_grown k p nodes m f) ∙ e) in
-              record {
-                closed = rw (ne_eqb m n f) x.closed;
-                utf8 = x.utf8;
-                within =
-                    rw (ne_eqb m n f)
-                    (subst (λ (y : List ℕ). Sub (counted_of choice t) y)
-                    (sym (window_grown (l.lo m) (l.hi m) letters more (h.high m))) x.within);
               }

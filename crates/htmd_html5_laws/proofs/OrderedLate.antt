@@ -2,7 +2,7 @@
 -- foreign content.
 use Rattle.std.proofs.Common.{◌≡◌, ◌∙◌, ℕ, Bool, true, false, List, refl, sym, ap, inl, inr, ◌⊎◌}
 use Rattle.std.specs.Prelude.{if◌then◌else◌}
-use Rattle.std.proofs.lemmas.Bool.{true≢false}
+use Rattle.std.proofs.lemmas.Bool.{cond_both, true≢false}
 use Rattle.htmd_html5_state.specs.Names.{NameValue, known, text_of_name}
 use Rattle.htmd_html5_state.specs.OpenElements.{OpenValue, pop}
 use Rattle.htmd_html5_state.specs.State.{StateValue, on_stack}
@@ -107,12 +107,10 @@ module _ (choice : Choice) where
 
   either_order : {f g : StateValue → Outcome} (b : StateValue → Bool) → LateOrders f → LateOrders g
       → LateOrders (λ s. if b s then f s else g s)
-  either_order {f} {g} b first second = record { orders = λ letters s l h. either (b s) letters s l h }
-    where
-      either : (t : Bool) (letters : List ℕ) (s : StateValue) → is_late s.mode ≡ true → InOrder letters s
-          → InOrder letters (if t then f s else g s).state
-      either true letters s l h = first.orders letters s l h
-      either false letters s l h = second.orders letters s l h
+  either_order b first second = record {
+    orders = λ letters s l h. cond_both (b s) _ _ (λ (x : Outcome). InOrder letters x.state)
+        (λ e. first.orders letters s l h) (λ e. second.orders letters s l h);
+  }
 
   said : {f : StateValue → StateValue} {more : StateValue → Bool} → Orders choice f
       → LateOrders (λ s. outcome (f s) (more s))

@@ -1,24 +1,24 @@
 -- Nodes are moved as the adoption agency moves them: the letters stand in order still.
-use Rattle.std.proofs.Common.{◌≡◌, ◌∙◌, ℕ, suc, ◌<◌, ◌≤◌, Bool, true, false, List, [], ◌∷◌, ◌++◌, length}
-use Rattle.std.proofs.Common.{refl, sym, ap, subst, arith, cond, Option, Some, None, inl, inr, ◌⊎◌}
-use Rattle.std.specs.Prelude.{◌==◌, ◌&&◌, not, insert}
-use Rattle.std.proofs.lemmas.Bool.{true≢false, and_parts, eqb-true, eqb-false, eq-eqb, ne_eqb}
+use Rattle.std.proofs.Common.{◌≡◌, ◌∙◌, ℕ, suc, ◌<◌, ◌≤◌, Bool, true, List, [], ◌∷◌, ◌++◌, length, refl, sym, ap, subst}
+use Rattle.std.proofs.Common.{arith, cond, Option, Some, None, inl, inr, ◌⊎◌}
+use Rattle.std.specs.Prelude.{◌==◌, not, insert}
+use Rattle.std.proofs.lemmas.Bool.{true≢false, and_parts, eqb-true, eqb-false, eq-eqb, ne_eqb, and_from}
 use Rattle.std.proofs.lemmas.List.{length-set}
 use Rattle.htmd_grammar.proofs.Cases.{test}
-use Rattle.htmd_html5_state.specs.Nodes.{NodeValue, KindValue, new_node, kind_at, parent_at, children_at}
-use Rattle.htmd_html5_state.specs.Nodes.{with_children, with_parents, index_of, without_child, remove_child}
-use Rattle.htmd_html5_state.specs.Nodes.{detach_from, detach, move_children}
+use Rattle.htmd_html5_state.specs.Nodes.{NodeValue, KindValue, new_node, kind_at, parent_at, children_at, with_children}
+use Rattle.htmd_html5_state.specs.Nodes.{with_parents, index_of, without_child, remove_child, detach_from, detach}
+use Rattle.htmd_html5_state.specs.Nodes.{move_children}
 use Rattle.htmd_html5_state.specs.Adoption.{wrap_children}
 use Rattle.htmd_html5_laws.proofs.NodeTexts.{is_element, kinds_move_children}
 use Rattle.htmd_html5_laws.proofs.NodeParts.{times, times_append, children_same, children_other, children_of_parent}
 use Rattle.htmd_html5_laws.proofs.NodeParts.{children_with_new, parent_same}
-use Rattle.htmd_html5_laws.proofs.Forests.{IsForest, length_new, once_under, once_at_most, elsewhere, children_with_parents}
-use Rattle.htmd_html5_laws.proofs.Forests.{length_with_parents, length_moved}
+use Rattle.htmd_html5_laws.proofs.Forests.{IsForest, length_new, once_under, once_at_most, elsewhere}
+use Rattle.htmd_html5_laws.proofs.Forests.{children_with_parents, length_with_parents, length_moved}
 use Rattle.htmd_html5_laws.proofs.HungNodes.{put_at, put_kind, children_in, kind_with_new, kind_new_at, kind_by_kinds}
 use Rattle.htmd_html5_laws.proofs.HungChains.{detach_size, detach_kind}
-use Rattle.htmd_html5_laws.proofs.ChildRows.{Marks, Row, row_low, row_append, row_without, row_marks}
-use Rattle.htmd_html5_laws.proofs.OrderedNodes.{bears, Labels, until, counted, marks, FitsBy, none_out}
-use Rattle.htmd_html5_laws.proofs.OrderedInserts.{mark, inserted_last, children_beyond, no_child}
+use Rattle.htmd_html5_laws.proofs.ChildRows.{Marks, Row, row_low, row_without, row_marks, row_as, by_two, row_end}
+use Rattle.htmd_html5_laws.proofs.OrderedNodes.{bears, Labels, until, marks, FitsBy, none_out, lo_until, RowAt}
+use Rattle.htmd_html5_laws.proofs.OrderedInserts.{mark, inserted_last, children_beyond, no_child, fits_marked}
 use Rattle.htmd_html5_laws.proofs.Counted.{Choice}
 
 module _ (choice : Choice) where
@@ -30,8 +30,7 @@ module _ (choice : Choice) where
     where
       by_same : (p : ℕ) → p ≡ q
           → (children_at (remove_child p n nodes) p ≡ without_child n (children_at nodes p))
-          ⊎ (children_at (remove_child p n nodes) p ≡ [])
-          → Row m at (children_at (remove_child p n nodes) q) to
+          ⊎ (children_at (remove_child p n nodes) p ≡ []) → Row m at (children_at (remove_child p n nodes) q) to
       by_same p e (inl f) =
           subst (λ (x : ℕ). Row m at (children_at (remove_child p n nodes) x) to) e
           (subst (λ (cs : List ℕ). Row m at cs to) (sym f)
@@ -70,21 +69,17 @@ module _ (choice : Choice) where
 
   put_parent : (n p : ℕ) (nodes : List NodeValue) → n < length nodes → parent_at (put_last n p nodes) n ≡ Some p
   put_parent n p nodes l =
-      parent_same n (Some p)
-      (with_children p (insert (children_at nodes p) (length (children_at nodes p)) n) nodes)
+      parent_same n (Some p) (with_children p (insert (children_at nodes p) (length (children_at nodes p)) n) nodes)
       (let e : length (with_children p (insert (children_at nodes p) (length (children_at nodes p)) n) nodes)
       ≡ length nodes = length-set nodes p _ in omega arith)
 
   -- it stands nowhere else
   put_nowhere_else : (n p q : ℕ) (nodes : List NodeValue) → n < length nodes → IsForest (put_last n p nodes)
-      → (p ≡ q → ⊥)
-      → times n (children_at nodes q) ≡ 0
+      → (p ≡ q → ⊥) → times n (children_at nodes q) ≡ 0
   put_nowhere_else n p q nodes l forest f =
       let a = forest.once n q in
-      let b : once_under (parent_at (put_last n p nodes) n) q ≡ 0 =
-      ap (λ (o : Option ℕ). once_under o q) (put_parent n p nodes l) ∙ elsewhere p q f in
-      let d : times n (children_at (put_last n p nodes) q) ≡ times n (children_at nodes q) =
-      ap (times n) (children_put_other n p q nodes f) in
+      let b = ap (λ (o : Option ℕ). once_under o q) (put_parent n p nodes l) ∙ elsewhere p q f in
+      let d = ap (times n) (children_put_other n p q nodes f) in
       omega arith
 
   put_once : (n p : ℕ) (nodes : List NodeValue) → p < length nodes → IsForest (put_last n p nodes)
@@ -92,17 +87,13 @@ module _ (choice : Choice) where
   put_once n p nodes l forest =
       let a = forest.once n p in
       let b = once_at_most (parent_at (put_last n p nodes) n) p in
-      let d : times n (children_at (put_last n p nodes) p) ≡ times n (children_at nodes p ++ n ∷ []) =
-      ap (times n) (children_put n p nodes l) in
+      let d = ap (times n) (children_put n p nodes l) in
       let e = times_append n (children_at nodes p) (n ∷ []) in
       let o : ◌≡◌ {A = ℕ} (cond (n == n) 1 0) 1 = rw (eq-eqb n n refl) refl in
       omega arith
 
 not_other : (a b : ℕ) → (a ≡ b → ⊥) → not (a == b) ≡ true
 not_other a b f = rw (ne_eqb a b f) refl
-
-both_true : (x y : Bool) → x ≡ true → y ≡ true → (x && y) ≡ true
-both_true x y e f = rw (e, f) refl
 
 module _ (choice : Choice) where
   member_other : (c n : ℕ) (cs : List ℕ) → times n cs ≡ 0 → 1 ≤ times c cs → c ≡ n → ⊥
@@ -119,12 +110,6 @@ module _ (choice : Choice) where
         → Row (marks choice (only last) nodes limit l) (l.lo p) (children_at nodes p) (l.lo last)
     pub live_last : l.live last ≡ true
     pub live_at : l.live p ≡ true
-
-  spans : (out : ℕ → Bool) (letters : List ℕ) (nodes : List NodeValue) (l : Labels)
-      → FitsBy choice out letters nodes l
-      → (limit : ℕ) → length letters < limit → (c : ℕ) (x : Bool) → l.lo c ≤ cond x limit (l.hi c)
-  spans out letters nodes l h limit big c true = let a = h.span c in let b = h.high c in omega arith
-  spans out letters nodes l h limit big c false = h.span c
 
   module _ (letters : List ℕ) (nodes : List NodeValue) (l : Labels) (p last : ℕ) (h : Apart letters nodes p last l)
       (p_in : p < length nodes) (last_in_nodes : last < length nodes) (p_other : p ≡ last → ⊥) where
@@ -158,116 +143,68 @@ module _ (choice : Choice) where
       kind_own =
           put_kind last n (length (children_at out n)) out n ∙ (detach_kind last more n ∙ kind_new_at k nodes)
 
-      until_same : (limit m : ℕ) → (m ≡ n → ⊥) → until limit copied_labels m ≡ until limit l m
-      until_same limit m f = rw (ne_eqb m n f) refl
+      copy_others : (limit m : ℕ) → (m ≡ n → ⊥)
+          → (copied_labels.lo m ≡ l.lo m) × (until limit copied_labels m ≡ until limit l m)
+      copy_others limit m f = (rw (ne_eqb m n f) refl, rw (ne_eqb m n f) refl)
 
-      lo_same : (m : ℕ) → (m ≡ n → ⊥) → copied_labels.lo m ≡ l.lo m
-      lo_same m f = rw (ne_eqb m n f) refl
-
-      lo_own : copied_labels.lo n ≡ l.lo last
-      lo_own = rw (eq-eqb n n refl) refl
-
-      until_own : (limit : ℕ) → until limit copied_labels n ≡ limit
-      until_own limit = rw (eq-eqb n n refl) refl
+      copy_own : (limit : ℕ) → (copied_labels.lo n ≡ l.lo last) × (until limit copied_labels n ≡ limit)
+      copy_own limit = (rw (eq-eqb n n refl) refl, rw (eq-eqb n n refl) refl)
 
       until_last : (limit : ℕ) → until limit copied_labels last ≡ limit
       until_last limit =
-          until_same limit last (λ e. omega arith) ∙ ap (λ (b : Bool). cond b limit (l.hi last)) h.live_last
+          (copy_others limit last (λ e. omega arith)).1 ∙ ap (λ (b : Bool). cond b limit (l.hi last)) h.live_last
 
       kept_row : (limit q to : ℕ) → length letters < limit → (n ≡ q → ⊥)
           → Row (marks choice (only last) nodes limit l) (l.lo q) (children_at nodes q) to
           → Row (marks choice (only n) copied limit copied_labels) (l.lo q) (children_at copied q) to
       kept_row limit q to big f r =
-          subst (λ (cs : List ℕ). Row (marks choice (only n) copied limit copied_labels) (l.lo q) cs to)
-          (sym (children_put_other choice last n q out f))
+          row_as (marks choice (only n) copied limit copied_labels) refl (children_put_other choice last n q out f) refl
           (row_marks (marks choice (only last) nodes limit l) (marks choice (only n) copied limit copied_labels)
-          (l.lo q)
-          (children_at out q) to
-          (λ c m e.
+          (l.lo q) (children_at out q) to (λ c m e.
           let two = and_parts (not (c == n)) (bears choice (kind_at copied c)) e in
           let other : c ≡ n → ⊥ = λ g. true≢false (sym two.0 ∙ ap not (eq-eqb c n g)) in
           let same = kind_same c other in
-          let a = until_same limit c other in
-          let b = lo_same c other in
-          let w = spans (only last) letters nodes l h.fits limit big c (l.live c) in
+          let a = (copy_others limit c other).1 in
+          let b = (copy_others limit c other).0 in
+          let w = lo_until h.fits limit big c in
           let apart = member_other c last (children_at out q)
           (put_nowhere_else choice last n q out (let z = out_size in omega arith) forest f) m in (
-            both_true (not (c == last)) (bears choice (kind_at nodes c)) (not_other c last apart)
-                (sym (ap (bears choice) same) ∙ two.1),
+            and_from _ _ (not_other c last apart) (sym (ap (bears choice) same) ∙ two.1),
             omega arith,
             omega arith,
             omega arith,
-          ))
-          (row_detached choice (marks choice (only last) nodes limit l) last q (l.lo q) to more
-          (subst (λ (cs : List ℕ). Row (marks choice (only last) nodes limit l) (l.lo q) cs to)
-          (sym (children_with_new q k nodes)) r)))
+          )) (row_detached choice (marks choice (only last) nodes limit l) last q (l.lo q) to more
+          (row_as (marks choice (only last) nodes limit l) refl (children_with_new q k nodes) refl r)))
 
-      own_row : (limit : ℕ) → length letters < limit
-          → Row (marks choice (only n) copied limit copied_labels) (copied_labels.lo n) (children_at copied n)
-          (until limit copied_labels n)
+      own_row : (limit : ℕ) → length letters < limit → RowAt choice (only n) copied limit copied_labels n
       own_row limit big =
-          subst (λ (cs : List ℕ). Row (marks choice (only n) copied limit copied_labels) (copied_labels.lo n) cs
-          (until limit copied_labels n)) (sym (children_put choice last n out (let z = out_size in omega arith)))
-          (row_append (marks choice (only n) copied limit copied_labels) (copied_labels.lo n) (children_at out n)
-          (l.lo last)
-          (last ∷ []) (until limit copied_labels n)
+          let a = (copy_others limit last (λ g. omega arith)).0 in let b = until_last limit in let d =
+          (copy_own limit).1 in
+          let x = h.fits.span last in let y = h.fits.high last in
+          row_as (marks choice (only n) copied limit copied_labels) refl
+          (children_put choice last n out (let z = out_size in omega arith)) refl
+          (row_end (marks choice (only n) copied limit copied_labels) (copied_labels.lo n) (children_at out n)
+          (l.lo last) last (until limit copied_labels n) (omega arith) (omega arith) (omega arith) (omega arith)
           (row_detached choice (marks choice (only n) copied limit copied_labels) last n (copied_labels.lo n)
-          (l.lo last) more
-          (subst (λ (cs : List ℕ). Row (marks choice (only n) copied limit copied_labels) (copied_labels.lo n) cs
-          (l.lo last))
-          (sym (children_with_new n k nodes ∙ children_beyond n nodes (omega arith)))
-          (let a = lo_own in omega arith))) (
-            λ e. let a = lo_same last (λ g. omega arith) in let b = until_last limit in
-                let x = h.fits.span last in let y = h.fits.high last in (omega arith, omega arith),
-            let b = until_last limit in
-                let d = until_own limit in
-                let x = h.fits.span last in let y = h.fits.high last in
-                low (counted choice (only n) copied last) (until limit copied_labels last) (l.lo last)
-                (until limit copied_labels n) (omega arith) (omega arith),
-          ))
-        where
-          low : (b : Bool) (x y z : ℕ) → x ≤ z → y ≤ z → cond b x y ≤ z
-          low true x y z f g = f
-          low false x y z f g = g
+          (l.lo last) more (row_as (marks choice (only n) copied limit copied_labels) (copy_own limit).0
+          (children_with_new n k nodes ∙ children_beyond n nodes (omega arith)) refl (omega arith))))
 
       pub apart_copied : Apart letters copied p n copied_labels
       apart_copied = record {
-        fits = record {
-          span = λ m. test (m == n) (λ t. rw t (h.fits.span last)) (λ t. rw t (h.fits.span m));
-          high = λ m. test (m == n) (λ t. rw t (h.fits.high last)) (λ t. rw t (h.fits.high m));
-          rows = λ limit big q.
-              test (n == q)
-              (λ t. subst (λ (x : ℕ). Row (marks choice (only n) copied limit copied_labels) (copied_labels.lo x)
-              (children_at copied x) (until limit copied_labels x)) (eqb-true n q t) (own_row limit big))
-              (λ t. let f = eqb-false n q t in
-              subst (λ (x : ℕ). Row (marks choice (only n) copied limit copied_labels) x (children_at copied q)
-              (until limit copied_labels q)) (sym (lo_same q (λ e. f (sym e))))
-              (subst (λ (x : ℕ). Row (marks choice (only n) copied limit copied_labels) (l.lo q)
-              (children_at copied q) x)
-              (sym (until_same limit q (λ e. f (sym e))))
-              (kept_row limit q (until limit l q) big f (h.fits.rows limit big q))));
-          texts = λ m t e.
-              test (m == n)
-              (λ u. absurd (no_text (ap is_element (sym (own_at m (eqb-true m n u)) ∙ e))))
-              (λ u. let f = eqb-false m n u in
-              let x = h.fits.texts m t (sym (kind_same m f) ∙ e) in
-              record { closed = rw (ne_eqb m n f) x.closed; utf8 = x.utf8; within = rw (ne_eqb m n f) x.within });
-        };
+        fits = fits_marked choice n (l.lo last) (l.hi last) true copied h.fits (h.fits.span last) (h.fits.high last)
+            kind_same (λ t e. absurd (true≢false (sym is ∙ ap is_element (sym kind_own ∙ e)))) (λ limit big q.
+            test (n == q) (λ t. subst (λ (x : ℕ). RowAt choice (only n) copied limit copied_labels x)
+            (eqb-true n q t) (own_row limit big))
+            (λ t. let f = eqb-false n q t in
+            row_as (marks choice (only n) copied limit copied_labels) (copy_others limit q (λ e. f (sym e))).0 refl
+            (copy_others limit q (λ e. f (sym e))).1
+            (kept_row limit q (until limit l q) big f (h.fits.rows limit big q))));
         front = λ limit big.
-            subst (λ (x : ℕ). Row (marks choice (only n) copied limit copied_labels) x (children_at copied p)
-            (copied_labels.lo n)) (sym (lo_same p (λ e. omega arith)))
-            (subst (λ (x : ℕ). Row (marks choice (only n) copied limit copied_labels) (l.lo p)
-            (children_at copied p) x)
-            (sym lo_own) (kept_row limit p (l.lo last) big (λ e. omega arith) (h.front limit big)));
+            row_as (marks choice (only n) copied limit copied_labels) (copy_others limit p (λ e. omega arith)).0 refl
+            (copy_own limit).0 (kept_row limit p (l.lo last) big (λ e. omega arith) (h.front limit big));
         live_last = rw (eq-eqb n n refl) refl;
         live_at = rw (ne_eqb p n (λ e. omega arith)) h.live_at;
       }
-        where
-          own_at : (m : ℕ) → m ≡ n → kind_at copied m ≡ k
-          own_at m e = ap (λ (x : ℕ). kind_at copied x) e ∙ kind_own
-
-          no_text : is_element k ≡ false → ⊥
-          no_text e = true≢false (sym is ∙ e)
 
     -- ---- it is put last in the other
 
@@ -290,43 +227,28 @@ module _ (choice : Choice) where
           → Row (marks choice none_out placed limit l) at (children_at taken q) to
       row_apart limit q at to big none r =
           row_marks (marks choice (only last) nodes limit l) (marks choice none_out placed limit l) at
-          (children_at taken q) to
-          (λ c m e.
-          let w = spans (only last) letters nodes l h.fits limit big c (l.live c) in (
-            both_true (not (c == last)) (bears choice (kind_at nodes c))
-                (not_other c last (member_other c last (children_at taken q) none m))
+          (children_at taken q) to (λ c m e.
+          let w = lo_until h.fits limit big c in (
+            and_from _ _ (not_other c last (member_other c last (children_at taken q) none m))
                 (sym (ap (bears choice) (placed_kind c)) ∙ e),
             omega arith,
             omega arith,
             omega arith,
-          ))
-          (row_detached choice (marks choice (only last) nodes limit l) last q at to nodes r)
+          )) (row_detached choice (marks choice (only last) nodes limit l) last q at to nodes r)
 
-      placed_row : (limit : ℕ) → length letters < limit
-          → Row (marks choice none_out placed limit l) (l.lo p) (children_at placed p) (until limit l p)
+      placed_row : (limit : ℕ) → length letters < limit → RowAt choice none_out placed limit l p
       placed_row limit big =
-          subst (λ (cs : List ℕ). Row (marks choice none_out placed limit l) (l.lo p) cs (until limit l p))
-          (sym (children_put choice last p taken (let z = taken_size in omega arith)))
-          (row_append (marks choice none_out placed limit l) (l.lo p) (children_at taken p) (l.lo last) (last ∷ [])
-          (until limit l p)
+          let b = ends last h.live_last in let d = ends p h.live_at in
+          let x = h.fits.span last in let y = h.fits.high last in
+          row_as (marks choice none_out placed limit l) refl
+          (children_put choice last p taken (let z = taken_size in omega arith)) refl
+          (row_end (marks choice none_out placed limit l) (l.lo p) (children_at taken p) (l.lo last) last
+          (until limit l p) (omega arith) (omega arith) (omega arith) (omega arith)
           (row_apart limit p (l.lo p) (l.lo last) big
-          (put_once choice last p taken (let z = taken_size in omega arith) forest) (h.front limit big)) (
-            λ e. let b = ends last h.live_last in let x = h.fits.span last in let y = h.fits.high last in
-                (omega arith, omega arith),
-            let b = ends last h.live_last in
-                let d = ends p h.live_at in
-                let x = h.fits.span last in let y = h.fits.high last in
-                low (bears choice (kind_at placed last)) (until limit l last) (l.lo last) (until limit l p)
-                (omega arith)
-                (omega arith),
-          ))
+          (put_once choice last p taken (let z = taken_size in omega arith) forest) (h.front limit big)))
         where
           ends : (x : ℕ) → l.live x ≡ true → until limit l x ≡ limit
           ends x e = rw e refl
-
-          low : (b : Bool) (x y z : ℕ) → x ≤ z → y ≤ z → cond b x y ≤ z
-          low true x y z f g = f
-          low false x y z f g = g
 
       pub fits_placed : FitsBy choice none_out letters placed l
       fits_placed = record {
@@ -334,12 +256,9 @@ module _ (choice : Choice) where
         high = h.fits.high;
         rows = λ limit big q.
             test (p == q)
-            (λ t. subst (λ (x : ℕ). Row (marks choice none_out placed limit l) (l.lo x) (children_at placed x)
-            (until limit l x))
-            (eqb-true p q t) (placed_row limit big))
+            (λ t. subst (λ (x : ℕ). RowAt choice none_out placed limit l x) (eqb-true p q t) (placed_row limit big))
             (λ t. let f = eqb-false p q t in
-            subst (λ (cs : List ℕ). Row (marks choice none_out placed limit l) (l.lo q) cs (until limit l q))
-            (sym (children_put_other choice last p q taken f))
+            row_as (marks choice none_out placed limit l) refl (children_put_other choice last p q taken f) refl
             (row_apart limit q (l.lo q) (until limit l q) big
             (put_nowhere_else choice last p q taken (let z = taken_size in omega arith) forest f)
             (h.fits.rows limit big q)));
@@ -395,8 +314,7 @@ module _ (choice : Choice) where
     gone_other : (q : ℕ) → (wn ≡ q → ⊥) → (block ≡ q → ⊥) → children_at gone q
         ≡ children_at nodes q
     gone_other q f g =
-        children_other wn q (children_at named wn ++ cs) named f
-        ∙ (children_with_parents wn q cs emptied
+        children_other wn q (children_at named wn ++ cs) named f ∙ (children_with_parents wn q cs emptied
         ∙ (children_other block q [] wmore g ∙ children_with_new q wk nodes))
 
     gone_block : children_at gone block ≡ []
@@ -421,17 +339,12 @@ module _ (choice : Choice) where
     wrapped_other : (m : ℕ) → (m ≡ wn → ⊥) → kind_at wrapped m ≡ kind_at nodes m
     wrapped_other m f = wrapped_kind m ∙ kind_with_new m wk nodes f
 
-    w_until_same : (limit m : ℕ) → (m ≡ wn → ⊥) → until limit wrapped_labels m ≡ until limit l m
-    w_until_same limit m f = rw (ne_eqb m wn f) refl
+    wrap_others : (limit m : ℕ) → (m ≡ wn → ⊥)
+        → (wrapped_labels.lo m ≡ l.lo m) × (until limit wrapped_labels m ≡ until limit l m)
+    wrap_others limit m f = (rw (ne_eqb m wn f) refl, rw (ne_eqb m wn f) refl)
 
-    w_lo_same : (m : ℕ) → (m ≡ wn → ⊥) → wrapped_labels.lo m ≡ l.lo m
-    w_lo_same m f = rw (ne_eqb m wn f) refl
-
-    w_lo_own : wrapped_labels.lo wn ≡ l.lo block
-    w_lo_own = rw (eq-eqb wn wn refl) refl
-
-    w_until_own : (limit : ℕ) → until limit wrapped_labels wn ≡ limit
-    w_until_own limit = rw (eq-eqb wn wn refl) refl
+    wrap_own : (limit : ℕ) → (wrapped_labels.lo wn ≡ l.lo block) × (until limit wrapped_labels wn ≡ limit)
+    wrap_own limit = (rw (eq-eqb wn wn refl) refl, rw (eq-eqb wn wn refl) refl)
 
     until_block : (limit : ℕ) → until limit l block ≡ limit
     until_block limit = ap (λ (b : Bool). cond b limit (l.hi block)) live
@@ -441,92 +354,43 @@ module _ (choice : Choice) where
         → Row (marks choice none_out wrapped limit wrapped_labels) (l.lo q) (children_at nodes q) to
     w_row limit q to big r =
         row_marks (marks choice none_out nodes limit l) (marks choice none_out wrapped limit wrapped_labels) (l.lo q)
-        (children_at nodes q) to
-        (λ c m e.
+        (children_at nodes q) to (λ c m e.
         let other = member_other c wn (children_at nodes q) (no_child nodes q wn forest (omega arith)) m in
-        let a = w_until_same limit c other in
-        let b = w_lo_same c other in
-        let w = spans none_out letters nodes l h limit big c (l.live c) in
+        let a = (wrap_others limit c other).1 in
+        let b = (wrap_others limit c other).0 in
+        let w = lo_until h limit big c in
         (sym (ap (bears choice) (wrapped_other c other)) ∙ e, omega arith, omega arith, omega arith)) r
 
-    at_new : (limit : ℕ) → length letters < limit → (q : ℕ) → wn ≡ q
-        → Row (marks choice none_out wrapped limit wrapped_labels) (wrapped_labels.lo q) (children_at wrapped q)
-        (until limit wrapped_labels q)
-    at_new limit big q e =
-        subst (λ (x : ℕ). Row (marks choice none_out wrapped limit wrapped_labels) (wrapped_labels.lo x)
-        (children_at wrapped x)
-        (until limit wrapped_labels x)) e
-        (subst (λ (x : ℕ). Row (marks choice none_out wrapped limit wrapped_labels) x (children_at wrapped wn)
-        (until limit wrapped_labels wn)) (sym w_lo_own)
-        (subst (λ (x : ℕ). Row (marks choice none_out wrapped limit wrapped_labels) (l.lo block)
-        (children_at wrapped wn) x)
-        (sym (w_until_own limit ∙ sym (until_block limit)))
-        (subst (λ (x : List ℕ). Row (marks choice none_out wrapped limit wrapped_labels) (l.lo block) x
-        (until limit l block))
-        (sym (children_put_other choice wn block wn gone apart_new ∙ gone_new))
-        (w_row limit block (until limit l block) big (h.rows limit big block)))))
+    new_row : (limit : ℕ) → length letters < limit → RowAt choice none_out wrapped limit wrapped_labels wn
+    new_row limit big =
+        row_as (marks choice none_out wrapped limit wrapped_labels) (wrap_own limit).0
+        (children_put_other choice wn block wn gone apart_new ∙ gone_new)
+        ((wrap_own limit).1 ∙ sym (until_block limit))
+        (w_row limit block (until limit l block) big (h.rows limit big block))
 
-    at_block : (limit : ℕ) → length letters < limit → (q : ℕ) → block ≡ q
-        → Row (marks choice none_out wrapped limit wrapped_labels) (wrapped_labels.lo q) (children_at wrapped q)
-        (until limit wrapped_labels q)
-    at_block limit big q e =
-        subst (λ (x : ℕ). Row (marks choice none_out wrapped limit wrapped_labels) (wrapped_labels.lo x)
-        (children_at wrapped x)
-        (until limit wrapped_labels x)) e
-        (subst (λ (x : List ℕ). Row (marks choice none_out wrapped limit wrapped_labels) (wrapped_labels.lo block) x
-        (until limit wrapped_labels block))
-        (sym (children_put choice wn block gone (let z = gone_size in omega arith)
-        ∙ ap (λ (x : List ℕ). x ++ wn ∷ []) gone_block)) (
-          λ b. let a = w_lo_same block apart_new in let d = w_lo_own in let f = w_until_own limit in
-              let x = h.span block in let y = h.high block in (omega arith, omega arith),
-          let a = w_lo_same block apart_new in
-              let d = w_until_same limit block apart_new in
-              let f = until_block limit in
-              let g = w_until_own limit in
-              let x = h.span block in let y = h.high block in
-              low (bears choice (kind_at wrapped wn)) (until limit wrapped_labels wn) (wrapped_labels.lo block)
-              (until limit wrapped_labels block) (omega arith) (omega arith),
-        ))
-      where
-        low : (b : Bool) (x y z : ℕ) → x ≤ z → y ≤ z → cond b x y ≤ z
-        low true x y z f g = f
-        low false x y z f g = g
+    block_row : (limit : ℕ) → length letters < limit → RowAt choice none_out wrapped limit wrapped_labels block
+    block_row limit big =
+        let a = (wrap_others limit block apart_new).0 in let b = (wrap_own limit).0 in let c = (wrap_own limit).1 in
+        let d = (wrap_others limit block apart_new).1 in let f = until_block limit in
+        let x = h.span block in let y = h.high block in
+        row_as (marks choice none_out wrapped limit wrapped_labels) refl
+        (children_put choice wn block gone (let z = gone_size in omega arith)) refl
+        (row_end (marks choice none_out wrapped limit wrapped_labels) (wrapped_labels.lo block) (children_at gone block)
+        (wrapped_labels.lo block) wn (until limit wrapped_labels block) (omega arith) (omega arith) (omega arith)
+        (omega arith) (row_as (marks choice none_out wrapped limit wrapped_labels) refl gone_block refl (omega arith)))
 
-    at_other : (limit : ℕ) → length letters < limit → (q : ℕ) → (wn ≡ q → ⊥) → (block ≡ q → ⊥)
-        → Row (marks choice none_out wrapped limit wrapped_labels) (wrapped_labels.lo q) (children_at wrapped q)
-        (until limit wrapped_labels q)
-    at_other limit big q f g =
-        subst (λ (x : ℕ). Row (marks choice none_out wrapped limit wrapped_labels) x (children_at wrapped q)
-        (until limit wrapped_labels q)) (sym (w_lo_same q (λ e. f (sym e))))
-        (subst (λ (x : ℕ). Row (marks choice none_out wrapped limit wrapped_labels) (l.lo q)
-        (children_at wrapped q) x)
-        (sym (w_until_same limit q (λ e. f (sym e))))
-        (subst (λ (x : List ℕ). Row (marks choice none_out wrapped limit wrapped_labels) (l.lo q) x
-        (until limit l q))
-        (sym (children_put_other choice wn block q gone g ∙ gone_other q f g))
-        (w_row limit q (until limit l q) big (h.rows limit big q))))
+    other_row : (limit : ℕ) → length letters < limit → (q : ℕ) → (wn ≡ q → ⊥) → (block ≡ q → ⊥)
+        → RowAt choice none_out wrapped limit wrapped_labels q
+    other_row limit big q f g =
+        row_as (marks choice none_out wrapped limit wrapped_labels) (wrap_others limit q (λ e. f (sym e))).0
+        (children_put_other choice wn block q gone g ∙ gone_other q f g) (wrap_others limit q (λ e. f (sym e))).1
+        (w_row limit q (until limit l q) big (h.rows limit big q))
 
     pub fits_wrapped : FitsBy choice none_out letters (wrap_children formatting block nodes) wrapped_labels
     unfolding wrap_children
-    fits_wrapped = record {
-      span = λ m. test (m == wn) (λ t. rw t (h.span block)) (λ t. rw t (h.span m));
-      high = λ m. test (m == wn) (λ t. rw t (h.high block)) (λ t. rw t (h.high m));
-      rows = λ limit big q.
-          test (wn == q)
-          (λ t. at_new limit big q (eqb-true wn q t))
-          (λ t. test (block == q)
-          (λ u. at_block limit big q (eqb-true block q u))
-          (λ u. at_other limit big q (eqb-false wn q t) (eqb-false block q u)));
-      texts = λ m t e.
-          test (m == wn)
-          (λ u. absurd (no_text (ap is_element (sym (own_at m (eqb-true m wn u)) ∙ e))))
-          (λ u. let f = eqb-false m wn u in
-          let x = h.texts m t (sym (wrapped_other m f) ∙ e) in
-          record { closed = rw (ne_eqb m wn f) x.closed; utf8 = x.utf8; within = rw (ne_eqb m wn f) x.within });
-    }
-      where
-        own_at : (m : ℕ) → m ≡ wn → kind_at wrapped m ≡ wk
-        own_at m e = ap (λ (x : ℕ). kind_at wrapped x) e ∙ (wrapped_kind wn ∙ kind_new_at wk nodes)
-
-        no_text : is_element wk ≡ false → ⊥
-        no_text e = true≢false (sym is ∙ e)
+    fits_wrapped =
+        fits_marked choice wn (l.lo block) (l.hi block) true wrapped h (h.span block) (h.high block) wrapped_other
+        (λ t e. absurd (true≢false (sym is
+        ∙ ap is_element (sym (wrapped_kind wn ∙ kind_new_at wk nodes) ∙ e)))) (λ limit big q.
+        by_two (λ (x : ℕ). RowAt choice none_out wrapped limit wrapped_labels x) wn block q (new_row limit big)
+        (block_row limit big) (other_row limit big q))

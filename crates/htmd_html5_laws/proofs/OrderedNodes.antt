@@ -1,18 +1,17 @@
 -- Nodes whose texts stand in the order of the page's letters: what a node holds lies between two places among them.
-use Rattle.std.proofs.Common.{◌≡◌, ◌∙◌, ℕ, ◌<◌, ◌≤◌, Bool, true, false, List, length}
-use Rattle.std.proofs.Common.{refl, sym, ap, subst, arith, cond, Some, inl, inr}
+use Rattle.std.proofs.Common.{◌≡◌, ◌∙◌, ℕ, ◌<◌, ◌≤◌, Bool, true, false, List, [], length, length-append, refl, sym, ap}
+use Rattle.std.proofs.Common.{subst, arith, cond, Some, inl, inr, ◌∷◌, ◌⊎◌, ◌++◌}
 use Rattle.std.specs.Prelude.{◌&&◌, not, nat_lt, IsUtf8}
 use Rattle.std.proofs.lemmas.Bool.{true≢false}
 use Rattle.htmd_grammar.specs.CharacterClasses.{is_empty}
-use Rattle.htmd_html5_state.specs.Nodes.{NodeValue, KindValue, document, doctype, text, comment, element}
-use Rattle.htmd_html5_state.specs.Nodes.{kind_at, parent_at, children_at}
+use Rattle.htmd_html5_state.specs.Nodes.{NodeValue, KindValue, text, element, kind_at, parent_at, children_at}
 use Rattle.htmd_html5_laws.proofs.NodeParts.{times}
 use Rattle.htmd_html5_laws.proofs.Forests.{IsForest, under_itself}
 use Rattle.htmd_html5_laws.proofs.HungNodes.{is_solid, Hangs, AllHang}
-use Rattle.htmd_html5_laws.proofs.Sublists.{Sub, window}
-use Rattle.htmd_html5_laws.proofs.ChildRows.{Marks, Row, row_ends}
-use Rattle.htmd_html5_laws.proofs.ChildRows.{row_marks}
+use Rattle.htmd_html5_laws.proofs.Sublists.{Sub, window, window_grown}
+use Rattle.htmd_html5_laws.proofs.ChildRows.{Marks, Row, row_ends, row_marks, cond_low}
 use Rattle.htmd_html5_laws.proofs.Counted.{Choice, counted_of}
+use Rattle.htmd_html5_laws.proofs.NodeTexts.{is_element}
 
 module _ (choice : Choice) where
   -- ---- labels
@@ -40,6 +39,10 @@ module _ (choice : Choice) where
   abbrev pub marks : (ℕ → Bool) → List NodeValue → ℕ → Labels → Marks
   marks out nodes limit l = record { counts = counted out nodes; begin = l.lo; end = until limit l }
 
+  -- the children of a node stand between its places
+  abbrev pub RowAt : (ℕ → Bool) → List NodeValue → ℕ → Labels → ℕ → Type 0
+  RowAt out nodes limit l q = Row (marks out nodes limit l) (l.lo q) (children_at nodes q) (until limit l q)
+
   -- what a text is like whose letters stand between two places
   pub record TextIn (letters : List ℕ) (l : Labels) (n : ℕ) (t : List ℕ) : Type 0 where
     pub closed : l.live n ≡ false
@@ -50,21 +53,52 @@ module _ (choice : Choice) where
   pub record FitsBy (out : ℕ → Bool) (letters : List ℕ) (nodes : List NodeValue) (l : Labels) : Type 0 where
     pub span : (n : ℕ) → l.lo n ≤ l.hi n
     pub high : (n : ℕ) → l.hi n ≤ length letters
-    pub rows : (limit : ℕ) → length letters < limit → (q : ℕ)
-        → Row (marks out nodes limit l) (l.lo q) (children_at nodes q) (until limit l q)
+    pub rows : (limit : ℕ) → length letters < limit → (q : ℕ) → RowAt out nodes limit l q
     pub texts : (n : ℕ) (t : List ℕ) → kind_at nodes n ≡ text t → TextIn letters l n t
 
 abbrev pub none_out : ℕ → Bool
 none_out n = false
 
+pub lo_until : {choice : Choice} {out : ℕ → Bool} {letters : List ℕ} {nodes : List NodeValue} {l : Labels}
+    → FitsBy choice out letters nodes l → (limit : ℕ) → length letters < limit → (c : ℕ)
+    → l.lo c ≤ until limit l c
+lo_until {choice} {out} {letters} {nodes} {l} h limit big c = either (l.live c)
+  where
+    either : (b : Bool) → l.lo c ≤ cond b limit (l.hi c)
+    either true = let a = h.span c in let b = h.high c in omega arith
+    either false = h.span c
+
+-- with more letters after them
+pub fits_grown : {choice : Choice} {out : ℕ → Bool} {letters : List ℕ} {nodes : List NodeValue} {l : Labels}
+    (more : List ℕ) → FitsBy choice out letters nodes l → FitsBy choice out (letters ++ more) nodes l
+fits_grown {choice} {out} {letters} {nodes} {l} more h = record {
+  span = h.span;
+  high = λ n. let a = h.high n in let b = length-append letters more in omega arith;
+  rows = λ limit big q. h.rows limit (let b = length-append letters more in omega arith) q;
+  texts = λ n t e. let x = h.texts n t e in record {
+    closed = x.closed;
+    utf8 = x.utf8;
+    within = subst (λ (y : List ℕ). Sub (counted_of choice t) y)
+        (sym (window_grown (l.lo n) (l.hi n) letters more (h.high n))) x.within;
+  };
+}
+
+pub ended_until : {choice : Choice} {out : ℕ → Bool} {letters : List ℕ} {nodes : List NodeValue} {l : Labels}
+    → FitsBy choice out letters nodes l → (limit c : ℕ) → l.live c ≡ false
+    → until limit l c ≤ length letters
+ended_until h limit c e = rw e (h.high c)
+
+pub some_same : {a b : ℕ} → Some a ≡ Some b → a ≡ b
+some_same e = cc
+
+pub text_same : {s t : List ℕ} → text s ≡ text t → s ≡ t
+text_same e = cc
+
 -- ---- some that were live end
 
 abbrev pub ended : (ℕ → Bool) → ℕ → Labels → Labels
-ended ends at l = record {
-  lo = l.lo;
-  hi = λ n. cond (l.live n && ends n) at (l.hi n);
-  live = λ n. l.live n && not (ends n);
-}
+ended ends at l =
+    record { lo = l.lo; hi = λ n. cond (l.live n && ends n) at (l.hi n); live = λ n. l.live n && not (ends n) }
 
 module _ (choice : Choice) where
   -- where what they hold ends at this place
@@ -79,14 +113,13 @@ module _ (choice : Choice) where
       → FitsBy choice out letters nodes (ended ends at l)
   fits_ended out ends at letters nodes l within may h = record {
     span = λ n. spans n (l.live n) refl (ends n) refl;
-    high = λ n. highs n (l.live n) (ends n);
+    high = λ n. cond_low (l.live n && ends n) at (l.hi n) (length letters) within (h.high n);
     rows = λ limit big q. row limit big q (l.live q) refl (ends q) refl;
     texts = λ n t e. let x = h.texts n t e in record {
       closed = rw x.closed refl;
       utf8 = x.utf8;
       within = subst (λ (b : Bool). Sub (counted_of choice t)
-          (window (l.lo n) (cond (b && ends n) at (l.hi n)) letters))
-          (sym x.closed) x.within;
+          (window (l.lo n) (cond (b && ends n) at (l.hi n)) letters)) (sym x.closed) x.within;
     };
   }
     where
@@ -96,14 +129,8 @@ module _ (choice : Choice) where
       spans n true e false f = h.span n
       spans n false e d f = h.span n
 
-      highs : (n : ℕ) (b d : Bool) → cond (b && d) at (l.hi n) ≤ length letters
-      highs n true true = within
-      highs n true false = h.high n
-      highs n false d = h.high n
-
       ends_by : (limit : ℕ) → length letters < limit → (n : ℕ) (b : Bool) → l.live n ≡ b → (d : Bool)
-          → ends n ≡ d
-          → (l.lo n ≤ cond (b && not d) limit (cond (b && d) at (l.hi n)))
+          → ends n ≡ d → (l.lo n ≤ cond (b && not d) limit (cond (b && d) at (l.hi n)))
           × (cond (b && not d) limit (cond (b && d) at (l.hi n)) ≤ cond b limit (l.hi n))
       ends_by limit big n true e true f = (may.begins n e f, omega arith)
       ends_by limit big n true e false f = (let x = h.span n in let y = h.high n in omega arith, omega arith)
@@ -125,24 +152,20 @@ module _ (choice : Choice) where
       inner_end limit c false e d f x = x.1 e
 
       row : (limit : ℕ) → length letters < limit → (q : ℕ) (b : Bool) → l.live q ≡ b → (d : Bool)
-          → ends q ≡ d
-          → Row (marks choice out nodes limit (ended ends at l)) (l.lo q) (children_at nodes q)
+          → ends q ≡ d → Row (marks choice out nodes limit (ended ends at l)) (l.lo q) (children_at nodes q)
           (cond (b && not d) limit (cond (b && d) at (l.hi q)))
       row limit big q true e true f =
           row_ends (marks choice out nodes limit (ended ends at l)) (l.lo q) (children_at nodes q) (until limit l q) at
-          (may.begins q e f)
-          (λ c k b. inner_end limit c (l.live c) refl (ends c) refl (may.inner q c e f k b))
+          (may.begins q e f) (λ c k b. inner_end limit c (l.live c) refl (ends c) refl (may.inner q c e f k b))
           (lowered limit big q (until limit l q) (h.rows limit big q))
       row limit big q true e false f =
           lowered limit big q limit
           (subst (λ (b : Bool). Row (marks choice out nodes limit l) (l.lo q) (children_at nodes q)
-          (cond b limit (l.hi q))) e
-          (h.rows limit big q))
+          (cond b limit (l.hi q))) e (h.rows limit big q))
       row limit big q false e d f =
           lowered limit big q (l.hi q)
           (subst (λ (b : Bool). Row (marks choice out nodes limit l) (l.lo q) (children_at nodes q)
-          (cond b limit (l.hi q))) e
-          (h.rows limit big q))
+          (cond b limit (l.hi q))) e (h.rows limit big q))
 
 -- ---- what a node holds ends with the letters that there are
 
@@ -153,35 +176,44 @@ pub record Ranked (rank : ℕ → ℕ) (nodes : List NodeValue) : Type 0 where
   pub root : is_solid (kind_at nodes 0) ≡ false
 
 module _ (choice : Choice) where
+  -- what bears none
+  pub no_letters : (s : List ℕ) (k : KindValue) → k ≡ text s → bears choice k ≡ false → counted_of choice s
+      ≡ []
+  no_letters s k is e = nothing (counted_of choice s) (sym (ap (bears choice) is) ∙ e)
+    where
+      nothing : (x : List ℕ) → not (is_empty x) ≡ false → x ≡ []
+      nothing [] f = refl
+      nothing (y ∷ x) f = absurd (true≢false f)
+
   pub bears_solid : (k : KindValue) → bears choice k ≡ true → is_solid k ≡ true
   bears_solid (text t) e = refl
   bears_solid (element name attributes) e = refl
-  bears_solid document e = e
-  bears_solid doctype e = e
-  bears_solid (comment t) e = e
+  bears_solid _ e = e
 
 pub child_parent : (nodes : List NodeValue) (q c : ℕ) → IsForest nodes → 1 ≤ times c (children_at nodes q)
     → parent_at nodes c ≡ Some q
-child_parent nodes q c forest l =
-    under_itself (parent_at nodes c) q (let a = forest.once c q in omega arith)
+child_parent nodes q c forest l = under_itself (parent_at nodes c) q (let a = forest.once c q in omega arith)
 
 module _ (choice : Choice) where
-  pub child_above : (rank : ℕ → ℕ) (nodes : List NodeValue) (q c : ℕ) → Ranked rank nodes
-      → 1 ≤ times c (children_at nodes q) → bears choice (kind_at nodes c) ≡ true → rank q < rank c
-  child_above rank nodes q c h l b = by_hangs (h.hangs c (bears_solid choice (kind_at nodes c) b))
+  -- it is above its parent, the Document or an element
+  pub child_held : (rank : ℕ → ℕ) (nodes : List NodeValue) (q c : ℕ) → Ranked rank nodes
+      → 1 ≤ times c (children_at nodes q) → bears choice (kind_at nodes c) ≡ true
+      → (rank q < rank c) × ((q ≡ 0) ⊎ (is_element (kind_at nodes q) ≡ true))
+  child_held rank nodes q c h l b = by_hangs (h.hangs c (bears_solid choice (kind_at nodes c) b))
     where
-      by_hangs : Hangs rank nodes c → rank q < rank c
+      by_hangs : Hangs rank nodes c → (rank q < rank c) × ((q ≡ 0) ⊎ (is_element (kind_at nodes q) ≡ true))
       by_hangs (inl z) =
           absurd (true≢false (sym (bears_solid choice (kind_at nodes c) b)
           ∙ (ap (λ (x : ℕ). is_solid (kind_at nodes x)) z ∙ h.root)))
       by_hangs (inr g) =
-          let same : g.by ≡ q = some_same (sym g.parent ∙ child_parent nodes q c h.forest l) in
-          let less = g.less in
-          let e : rank g.by ≡ rank q = ap rank same in
-          omega arith
-        where
-          some_same : {a b : ℕ} → Some a ≡ Some b → a ≡ b
-          some_same r = cc
+          let same : g.by ≡ q = some_same (sym g.parent ∙ child_parent nodes q c h.forest l) in (
+            let less = g.less in let e : rank g.by ≡ rank q = ap rank same in omega arith,
+            subst (λ (x : ℕ). (x ≡ 0) ⊎ (is_element (kind_at nodes x) ≡ true)) same g.holder.either,
+          )
+
+  pub child_above : (rank : ℕ → ℕ) (nodes : List NodeValue) (q c : ℕ) → Ranked rank nodes
+      → 1 ≤ times c (children_at nodes q) → bears choice (kind_at nodes c) ≡ true → rank q < rank c
+  child_above rank nodes q c h l b = (child_held rank nodes q c h l b).0
 
 abbrev pub above : (ℕ → ℕ) → ℕ → ℕ → Bool
 above rank p n = nat_lt (rank p) (rank n)
@@ -206,8 +238,7 @@ module _ (choice : Choice) where
         → labels.live c ≡ false
 
   pub ended_above : (rank : ℕ → ℕ) (p : ℕ) (letters : List ℕ) (nodes : List NodeValue) (l : Labels)
-      → Ranked rank nodes
-      → FitsBy choice none_out letters nodes l → EndedAbove rank p letters nodes l
+      → Ranked rank nodes → FitsBy choice none_out letters nodes l → EndedAbove rank p letters nodes l
   ended_above rank p letters nodes l ranked h = record {
     labels = ended (above rank p) (length letters) l;
     fits = fits_ended choice none_out (above rank p) (length letters) letters nodes l (omega arith) (record {

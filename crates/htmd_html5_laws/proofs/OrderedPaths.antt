@@ -1,26 +1,23 @@
 -- What is live is one path: between two live nodes stands a live child of the outer one.
-use Rattle.std.proofs.Common.{◌≡◌, ◌∙◌, ℕ, zero, suc, ◌<◌, ◌≤◌, Bool, true, false, List, length}
-use Rattle.std.proofs.Common.{refl, sym, ap, subst, arith, cond, inl, inr, ◌⊎◌}
+use Rattle.std.proofs.Common.{◌≡◌, ◌∙◌, ℕ, zero, suc, ◌<◌, ◌≤◌, Bool, true, false, List, length, refl, sym, ap, subst}
+use Rattle.std.proofs.Common.{arith, cond, inl, inr, ⊎_elim, ◌⊎◌}
 use Rattle.std.specs.Prelude.{◌==◌, ◌&&◌, not, nat_lt}
-use Rattle.std.proofs.lemmas.Bool.{true≢false, and_parts, eqb-true, eqb-false, cases_lt}
+use Rattle.std.proofs.lemmas.Bool.{true≢false, and_parts, eqb-true, eqb-false, cases_lt, and_from, not-true}
 use Rattle.htmd_grammar.proofs.Cases.{test}
-use Rattle.htmd_html5_state.specs.Nodes.{NodeValue, KindValue, document, doctype, text, comment, element, kind_at}
-use Rattle.htmd_html5_state.specs.Nodes.{children_at}
+use Rattle.htmd_html5_state.specs.Nodes.{NodeValue, KindValue, text, element, kind_at, children_at}
 use Rattle.htmd_html5_laws.proofs.NodeTexts.{is_element}
 use Rattle.htmd_html5_laws.proofs.NodeParts.{times}
 use Rattle.htmd_html5_laws.proofs.HungNodes.{is_solid, Hangs, element_solid}
 use Rattle.htmd_html5_laws.proofs.ChildRows.{Row, row_member, row_last, row_marks, row_ends}
 use Rattle.htmd_html5_laws.proofs.OrderedNodes.{bears, Labels, until, counted, marks, FitsBy, none_out, Ranked, above}
-use Rattle.htmd_html5_laws.proofs.OrderedNodes.{ended, fits_ended, lt_true, lt_less, child_above}
+use Rattle.htmd_html5_laws.proofs.OrderedNodes.{ended, fits_ended, lt_true, lt_less, child_above, lo_until}
 use Rattle.htmd_html5_laws.proofs.Counted.{Choice}
 
 module _ (choice : Choice) where
   pub element_bears : (k : KindValue) → is_element k ≡ true → bears choice k ≡ true
   element_bears (element name attributes) e = refl
   element_bears (text t) e = absurd (true≢false (sym e))
-  element_bears document e = e
-  element_bears doctype e = e
-  element_bears (comment t) e = e
+  element_bears _ e = e
 
   module _ (rank : ℕ → ℕ) (letters : List ℕ) (nodes : List NodeValue) (l : Labels)
       (h : FitsBy choice none_out letters nodes l)
@@ -80,25 +77,19 @@ module _ (choice : Choice) where
 
     -- a counted child beside a live one has ended before it
     pub beside : (q c d : ℕ) → 1 ≤ times c (children_at nodes q) → l.live c ≡ true
-        → is_element (kind_at nodes c) ≡ true
-        → 1 ≤ times d (children_at nodes q) → bears choice (kind_at nodes d) ≡ true
-        → (d ≡ c) ⊎ (until limit l d ≤ l.lo c)
+        → is_element (kind_at nodes c) ≡ true → 1 ≤ times d (children_at nodes q)
+        → bears choice (kind_at nodes d) ≡ true → (d ≡ c) ⊎ (until limit l d ≤ l.lo c)
     beside q c d k live e m b =
         row_last (marks choice none_out nodes limit l) c d (l.lo q) (children_at nodes q) (until limit l q)
-        (length letters) k
-        (element_bears (kind_at nodes c) e) m b (let x = live_until c live in omega arith)
+        (length letters) k (element_bears (kind_at nodes c) e) m b (let x = live_until c live in omega arith)
         (λ x. let y = h.span x in let z = h.high x in omega arith) (h.rows limit (omega arith) q)
 
     pub one_live : (q c d : ℕ) → 1 ≤ times c (children_at nodes q) → l.live c ≡ true
-        → is_element (kind_at nodes c) ≡ true
-        → 1 ≤ times d (children_at nodes q) → l.live d ≡ true → bears choice (kind_at nodes d) ≡ true → d
-        ≡ c
-    one_live q c d k live e m live_d b = either (beside q c d k live e m b)
-      where
-        either : (d ≡ c) ⊎ (until limit l d ≤ l.lo c) → d ≡ c
-        either (inl x) = x
-        either (inr x) =
-            absurd (let y = live_until d live_d in let z = h.span c in let w = h.high c in omega arith)
+        → is_element (kind_at nodes c) ≡ true → 1 ≤ times d (children_at nodes q) → l.live d ≡ true
+        → bears choice (kind_at nodes d) ≡ true → d ≡ c
+    one_live q c d k live e m live_d b =
+        ⊎_elim (λ x. x) (λ x. absurd (let y = live_until d live_d in let z = h.span c in let w = h.high c in
+        omega arith)) (beside q c d k live e m b)
 
     -- below a bound on ranks
     pub record Paths (k : ℕ) : Type 0 where
@@ -111,11 +102,13 @@ module _ (choice : Choice) where
 
     down_step : (k : ℕ) → Paths k → (q u : ℕ) → Alive q → Alive u → rank u < suc k → rank q < rank u
         → Down q u
-    down_step k p q u a b big less = by_either b.either
+    down_step k p q u a b big less =
+        ⊎_elim (λ z. absurd (let e : rank u ≡ rank 0 = ap rank z in let r = at_root in omega arith))
+        (λ e. let x = up u b.live e in by_ranks x e (cases_lt (rank q) (rank x.by)) (cases_lt (rank x.by) (rank q)))
+        b.either
       where
         by_ranks : (x : Up u) → is_element (kind_at nodes u) ≡ true
-            → (rank q < rank x.by) ⊎ (rank x.by ≤ rank q)
-            → (rank x.by < rank q) ⊎ (rank q ≤ rank x.by)
+            → (rank q < rank x.by) ⊎ (rank x.by ≤ rank q) → (rank x.by < rank q) ⊎ (rank q ≤ rank x.by)
             → Down q u
         by_ranks x e (inl g) m =
             let r = x.less in
@@ -150,37 +143,28 @@ module _ (choice : Choice) where
               rank_at = omega arith;
             }
 
-        by_either : (u ≡ 0) ⊎ (is_element (kind_at nodes u) ≡ true) → Down q u
-        by_either (inl z) = absurd (let e : rank u ≡ rank 0 = ap rank z in let r = at_root in omega arith)
-        by_either (inr e) =
-            let x = up u b.live e in
-            by_ranks x e (cases_lt (rank q) (rank x.by)) (cases_lt (rank x.by) (rank q))
+    -- nor are parents of live elements of one rank apart
+    lower : (k : ℕ) → Paths k → (q u : ℕ) (x : Up q) (y : Up u) → l.live q ≡ true
+        → is_element (kind_at nodes q) ≡ true
+        → rank q < suc k → rank q ≡ rank u → rank x.by < rank y.by → ⊥
+    lower k p q u x y live e big same g =
+        let r = x.less in
+        let s = y.less in
+        let d = p.down x.by y.by x.alive y.alive (omega arith) g in
+        let at = d.rank_at in
+        let one = one_live x.by q d.child x.holds live e d.holds d.live (element_bears _ d.is) in
+        let z : rank d.child ≡ rank q = ap rank one in
+        omega arith
 
     same_step : (k : ℕ) → Paths k → (q u : ℕ) → Alive q → Alive u → rank q < suc k → rank q ≡ rank u
         → q ≡ u
     same_step k p q u a b big same = by_either a.either b.either
       where
         by_ranks : (x : Up q) (y : Up u) → is_element (kind_at nodes q) ≡ true → is_element (kind_at nodes u)
-            ≡ true
-            → (rank x.by < rank y.by) ⊎ (rank y.by ≤ rank x.by)
-            → (rank y.by < rank x.by) ⊎ (rank x.by ≤ rank y.by)
-            → q ≡ u
-        by_ranks x y e f (inl g) m =
-            let r = x.less in
-            let s = y.less in
-            let d = p.down x.by y.by x.alive y.alive (omega arith) g in
-            let at = d.rank_at in
-            let one = one_live x.by q d.child x.holds a.live e d.holds d.live (element_bears _ d.is) in
-            let z : rank d.child ≡ rank q = ap rank one in
-            absurd (omega arith)
-        by_ranks x y e f (inr g) (inl m) =
-            let r = x.less in
-            let s = y.less in
-            let d = p.down y.by x.by y.alive x.alive (omega arith) m in
-            let at = d.rank_at in
-            let one = one_live y.by u d.child y.holds b.live f d.holds d.live (element_bears _ d.is) in
-            let z : rank d.child ≡ rank u = ap rank one in
-            absurd (omega arith)
+            ≡ true → (rank x.by < rank y.by) ⊎ (rank y.by ≤ rank x.by)
+            → (rank y.by < rank x.by) ⊎ (rank x.by ≤ rank y.by) → q ≡ u
+        by_ranks x y e f (inl g) m = absurd (lower k p q u x y a.live e big same g)
+        by_ranks x y e f (inr g) (inl m) = absurd (lower k p u q y x b.live f (omega arith) (sym same) m)
         by_ranks x y e f (inr g) (inr m) =
             let r = x.less in
             let s = y.less in
@@ -201,10 +185,8 @@ module _ (choice : Choice) where
             by_ranks x y e f (cases_lt (rank x.by) (rank y.by)) (cases_lt (rank y.by) (rank x.by))
 
     paths : (k : ℕ) → Paths k
-    paths zero = record {
-      same = λ q u a b big e. absurd (omega arith);
-      down = λ q u a b big less. absurd (omega arith);
-    }
+    paths zero =
+        record { same = λ q u a b big e. absurd (omega arith); down = λ q u a b big less. absurd (omega arith) }
     paths (suc k) =
         let p = paths k in
         record { same = same_step k p; down = down_step k p }
@@ -233,8 +215,7 @@ module _ (choice : Choice) where
 
       -- what isn't the inner one, and not on the way to it, has ended before it
       ended_before : (q c : ℕ) → Alive q → rank p ≤ rank q → rank q < rank b → 1
-          ≤ times c (children_at nodes q)
-          → counted choice apart nodes c ≡ true
+          ≤ times c (children_at nodes q) → counted choice apart nodes c ≡ true
           → (l.live c ≡ true → between c ≡ true) × (l.live c ≡ false → l.hi c ≤ l.lo b)
       ended_before q c a from to k counts =
           let d = down_to q b a alive_b to in
@@ -242,19 +223,8 @@ module _ (choice : Choice) where
           let by = beside q d.child c d.holds d.live d.is k two.1 in
           (λ e. on_way d e two.0 by, λ e. ended_at d e by)
         where
-          not_true : (x : Bool) → not x ≡ true → x ≡ false
-          not_true true e = absurd (true≢false (sym e))
-          not_true false e = refl
-
-          all_true : (x y z : Bool) → x ≡ true → y ≡ true → z ≡ true → (x && (y && z)) ≡ true
-          all_true x y z e f g = rw (e, f, g) refl
-
           above_q : (d : Down q b) → rank q < rank d.child
-          above_q d = child_rank d.child d.holds d.is
-            where
-              child_rank : (x : ℕ) → 1 ≤ times x (children_at nodes q) → is_element (kind_at nodes x) ≡ true
-                  → rank q < rank x
-              child_rank x m e = child_above choice rank nodes q x ranked m (element_bears (kind_at nodes x) e)
+          above_q d = child_above choice rank nodes q d.child ranked d.holds (element_bears _ d.is)
 
           on_way : (d : Down q b) → l.live c ≡ true → not (c == b) ≡ true
               → (c ≡ d.child) ⊎ (until limit l c ≤ l.lo d.child) → between c ≡ true
@@ -266,13 +236,13 @@ module _ (choice : Choice) where
               let r : rank c ≡ rank d.child = ap rank x in
               let at = d.rank_at in
               let up_q = above_q d in
-              let apart_b = eqb-false c b (not_true (c == b) other) in
+              let apart_b = eqb-false c b (not-true (c == b) other) in
               test (rank c == rank b)
               (λ t. absurd (apart_b (same_node c b (record { live = e; either = inr is }) alive_b
               (eqb-true (rank c) (rank b) t))))
               (λ t. let ne = eqb-false (rank c) (rank b) t in
-              all_true (is_element (kind_at nodes c)) (above rank p c) (nat_lt (rank c) (rank b)) is
-              (lt_true (rank p) (rank c) (omega arith)) (lt_true (rank c) (rank b) (omega arith)))
+              and_from _ _ is (and_from _ _ (lt_true (rank p) (rank c) (omega arith))
+              (lt_true (rank c) (rank b) (omega arith))))
 
           ended_at : (d : Down q b) → l.live c ≡ false
               → (c ≡ d.child) ⊎ (until limit l c ≤ l.lo d.child) → l.hi c ≤ l.lo b
@@ -295,20 +265,15 @@ module _ (choice : Choice) where
         high = h.high;
         rows = λ bound big q.
             row_marks (marks choice none_out nodes bound l) (marks choice apart nodes bound l) (l.lo q)
-            (children_at nodes q)
-            (until bound l q)
+            (children_at nodes q) (until bound l q)
             (λ c k e. (
               (and_parts (not (c == b)) (bears choice (kind_at nodes c)) e).1,
               omega arith,
-              spans bound big c (l.live c),
+              lo_until h bound big c,
               omega arith,
             )) (h.rows bound big q);
         texts = h.texts;
       }
-        where
-          spans : (bound : ℕ) → length letters < bound → (c : ℕ) (x : Bool) → l.lo c ≤ cond x bound (l.hi c)
-          spans bound big c true = let a = h.span c in let b = h.high c in omega arith
-          spans bound big c false = h.span c
 
       pub parted_fits : FitsBy choice apart letters nodes parted
       parted_fits =
@@ -333,8 +298,7 @@ module _ (choice : Choice) where
           → Row (marks choice apart nodes bound parted) (l.lo p) (children_at nodes p) (l.lo b)
       front_ends bound big =
           row_ends (marks choice apart nodes bound parted) (l.lo p) (children_at nodes p) (until bound parted p)
-          (l.lo b)
-          begins_low
+          (l.lo b) begins_low
           (λ c k counts. low c (l.live c) refl (between c) refl (ended_before p c alive_p (omega arith) less k counts))
           (parted_fits.rows bound big p)
         where

@@ -6,8 +6,7 @@ use Rattle.std.proofs.lemmas.Bool.{true≢false}
 use Rattle.htmd_grammar.specs.ValueTrees.{AttributePair}
 use Rattle.htmd_html5_state.specs.Names.{NameValue, known, other, text_of_name}
 use Rattle.htmd_html5_state.specs.Nodes.{NodeValue, comment as comment_kind}
-use Rattle.htmd_html5_state.specs.OpenElements.{OpenValue, first_open, pop_until, pop_while, without}
-use Rattle.htmd_html5_state.specs.OpenElements.{is_node_in_scope}
+use Rattle.htmd_html5_state.specs.OpenElements.{OpenValue, first_open, pop_until, pop_while, without, is_node_in_scope}
 use Rattle.htmd_html5_state.specs.State.{StateValue}
 use Rattle.htmd_html5_state.specs.Insertion.{current}
 use Rattle.htmd_html5_state.specs.Adoption.{formatting_element}
@@ -17,7 +16,7 @@ use Rattle.htmd_html5_state.specs.declared.names.Namespace.{Namespace}
 use Rattle.htmd_html5_state.specs.declared.names.TagName.{TagName}
 use Rattle.htmd_html5_state.specs.declared.sets.NameSet.TheVariants.{Only, ImpliedEnd}
 use Rattle.htmd_html5.specs.Tokens.{StartTagValue, TokenValue}
-use Rattle.htmd_html5.specs.SharedRules.{with_mode, no_frameset, add_missing_to, leave_template, insert_head_element}
+use Rattle.htmd_html5.specs.SharedRules.{with_mode, no_frameset, add_missing_to, leave_template}
 use Rattle.htmd_html5.specs.BodyStarts.{is_in_template, open_body, add_to_this_body, with_form, forget}
 use Rattle.htmd_html5.specs.BodyEnds.{close_form}
 use Rattle.htmd_html5.specs.InSelect.{has_select, close_select}
@@ -30,8 +29,7 @@ use Rattle.htmd_html5_laws.proofs.PlainStates.{is_plain_mode, stays_by_state}
 use Rattle.htmd_html5_laws.proofs.PlainRules.{with_mode_stays, no_frameset_stays, end_template_stays}
 use Rattle.htmd_html5_laws.proofs.PlainRules.{leave_template_stays, skip_line_feed_stays, with_form_stays}
 use Rattle.htmd_html5_laws.proofs.PlainRules.{start_select_stays, close_select_stays, close_noted_form_stays}
-use Rattle.htmd_html5_laws.proofs.PlainRules.{comment_in_stays, plain_given, given_plain}
-use Rattle.htmd_html5_laws.proofs.ColumnTags.{IsColumn}
+use Rattle.htmd_html5_laws.proofs.PlainRules.{comment_in_stays, plain_given, given_plain, by_head_element}
 use Rattle.htmd_html5_laws.proofs.Counted.{Choice}
 use Rattle.htmd_html5_laws.proofs.OrderedStates.{Ordered, Orders, then_orders, unmoved, orders_by_test, orders_by_state}
 use Rattle.htmd_html5_laws.proofs.OrderedStates.{on_stack_orders, ordered_fewer, insert_element_orders}
@@ -43,12 +41,11 @@ use Rattle.htmd_html5_laws.proofs.OrderedAdoption.{adoption_agency_orders}
 use Rattle.htmd_html5_laws.proofs.Rules.{given_name, given_attributes, left_open, Act, act_on, element, void, raw_text}
 use Rattle.htmd_html5_laws.proofs.Rules.{of_head, foreign, foreign_alike, formatting, select, comment, comment_in_root}
 use Rattle.htmd_html5_laws.proofs.Rules.{comment_in_document, cut, agency, forget_anchor, noted_form, select_closed}
-use Rattle.htmd_html5_laws.proofs.Rules.{template_closed, root_attributes, body_attributes, marked}
-use Rattle.htmd_html5_laws.proofs.Rules.{to_marker, reconstructed, to_mode, frames_refused, line_feed_skipped}
-use Rattle.htmd_html5_laws.proofs.Rules.{noted_element}
+use Rattle.htmd_html5_laws.proofs.Rules.{template_closed, root_attributes, body_attributes, marked, to_marker}
+use Rattle.htmd_html5_laws.proofs.Rules.{reconstructed, to_mode, frames_refused, line_feed_skipped, noted_element}
 use Rattle.htmd_html5_laws.proofs.RuleWalk.{IsMarkup, left_fewer}
+use Rattle.htmd_html5_laws.proofs.OrderedNodes.{some_same}
 use Rattle.htmd_html5_state.specs.declared.names.TagName.TheVariants as tags
-use Rattle.htmd_grammar.specs.declared.content_model.RawElement.TheVariants as raw
 
 -- ---- names
 
@@ -62,25 +59,6 @@ is_orderly_tag tag = is_plain tag
 abbrev pub is_orderly_name : NameValue → Bool
 is_orderly_name (known tag) = is_orderly_tag tag
 is_orderly_name (other s) = true
-
--- a name that moves no text is plain, or that of columns, which count for nothing outside a table
-pub plain_or_column : (P : Type 0) (name : NameValue) → is_orderly_name name ≡ true
-    → (is_plain_name name ≡ true → P)
-    → (IsColumn name → P)
-    → P
-plain_or_column P (known tags.Table) e f g = absurd (true≢false (sym e))
-plain_or_column P (known tags.Col) e f g = g tt
-plain_or_column P (known tags.ColGroup) e f g = g tt
-plain_or_column P (known tag) e f g = f e
-plain_or_column P (other s) e f g = f refl
-
-pub by_column_name : (P : NameValue → Type 0) → P (known tags.Col) → P (known tags.ColGroup)
-    → (name : NameValue)
-    → IsColumn name
-    → P name
-by_column_name P a b (known tags.Col) c = a
-by_column_name P a b (known tags.ColGroup) c = b
-by_column_name P a b _ c = absurd (true≢false c)
 
 -- a token that is no text, and whose name moves none if it is a start tag
 abbrev pub IsOrderly : TokenValue → Type 0
@@ -120,15 +98,9 @@ orderly_act name a = false
 
 pub first_within : (nodes : List NodeValue) (stack : List OpenValue) (n : ℕ) → first_open stack ≡ Some n
     → EachOpen (ElementOpen nodes) stack → n < length nodes
-first_within nodes [] n e h = absurd (none_some e)
-  where
-    none_some : None ≡ Some n → ⊥
-    none_some f = cc
+first_within nodes [] n e h = absurd (cc)
 first_within nodes (d ∷ []) n e h =
-    subst (λ (x : ℕ). x < length nodes) (same e) (element_number d.node nodes h.0)
-  where
-    same : Some d.node ≡ Some n → d.node ≡ n
-    same f = cc
+    subst (λ (x : ℕ). x < length nodes) (some_same e) (element_number d.node nodes h.0)
 first_within nodes (d ∷ f ∷ es) n e h = first_within nodes (f ∷ es) n e h.1
 
 module _ (choice : Choice) where
@@ -168,8 +140,7 @@ module _ (choice : Choice) where
           → Ordered choice letters s → Ordered choice letters (comment_in n c s)
       by_first letters s None e x o = o
       by_first letters s (Some n) e x o =
-          loose_in choice letters (comment_kind c) n s.nodes s.stack s.head s.foster_parenting x o
-          (first_within s.nodes s.stack n e x.opened_at) refl (no_text c)
+          loose_in choice (comment_kind c) n x o (first_within s.nodes s.stack n e x.opened_at) refl (no_text c)
 
   forget_orders : (n : Option ℕ) → Orders choice (forget n)
   forget_orders None = unmoved choice
@@ -200,26 +171,19 @@ module _ (choice : Choice) where
   }
 
   module _ (tag : StartTagValue) where
-    of_head_orders : is_plain_name tag.name ≡ true → (name : NameValue) → is_plain_name name ≡ true
-        → Orders choice (insert_head_element name tag)
-    of_head_orders p (known tags.Title) q = insert_raw_orders choice tag.name raw.Title tag.attributes p
-    of_head_orders p (known tags.NoFrames) q = insert_raw_orders choice tag.name raw.Noframes tag.attributes p
-    of_head_orders p (known tags.Style) q = insert_raw_orders choice tag.name raw.Style tag.attributes p
-    of_head_orders p (known tags.Script) q = insert_raw_orders choice tag.name raw.Script tag.attributes p
-    of_head_orders p (known tags.Template) q = absurd (true≢false (sym q))
-    of_head_orders p _ q = insert_void_orders choice tag.name tag.attributes p
-
     pub act_orders : (a : Act) → orderly_act tag.name a ≡ true → Orders choice (act_on a tag)
     act_orders (element given) e =
         insert_element_orders choice (given_name given tag) (given_attributes given tag) (given_plain given tag e)
     act_orders (void given) e =
         insert_void_orders choice (given_name given tag) (given_attributes given tag) (given_plain given tag e)
     act_orders (raw_text raw) e = insert_raw_orders choice tag.name raw tag.attributes e
-    act_orders of_head e = of_head_orders e tag.name e
+    act_orders of_head e =
+        by_head_element (Orders choice) tag e
+        (λ element r o. insert_raw_orders choice tag.name element tag.attributes e)
+        (insert_void_orders choice tag.name tag.attributes e)
     act_orders (foreign space) e =
         insert_foreign_orders choice space (text_of_name tag.name) tag.attributes tag.self_closing
-    act_orders foreign_alike e =
-        orders_by_state choice (λ s. namespace_of (current s.stack).name) (alike_orders tag)
+    act_orders foreign_alike e = orders_by_state choice (λ s. namespace_of (current s.stack).name) (alike_orders tag)
     act_orders formatting e = insert_formatting_orders choice tag.name tag.attributes e
     act_orders select e = record {
       stays = start_select_stays tag e;
@@ -238,10 +202,8 @@ module _ (choice : Choice) where
     }
     act_orders select_closed e = orders_by_test choice has_select close_select_orders (unmoved choice)
     -- no template is open
-    act_orders template_closed e = record {
-      stays = end_template_stays;
-      orders = λ letters s h x o. rw (no_template_open s.stack h.names) o;
-    }
+    act_orders template_closed e =
+        record { stays = end_template_stays; orders = λ letters s h x o. rw (no_template_open s.stack h.names) o }
     act_orders root_attributes e =
         orders_by_test choice is_in_template (unmoved choice)
         (orders_by_state choice (λ s. first_open s.stack) (add_missing_to_orders tag.attributes))

@@ -1,35 +1,33 @@
 -- States in which the letters stand in order, and steps that leave them so.
-use Rattle.std.proofs.Common.{◌≡◌, ℕ, ◌<◌, ◌≤◌, Bool, true, false, List, [], ◌∷◌, ◌++◌, length}
-use Rattle.std.proofs.Common.{refl, sym, subst, arith, Option}
+use Rattle.std.proofs.Common.{◌≡◌, ℕ, ◌<◌, ◌≤◌, Bool, true, false, List, [], ◌∷◌, ◌++◌, length, refl, sym, subst, arith}
+use Rattle.std.proofs.Common.{Option, ◌∙◌}
+use Rattle.std.proofs.lemmas.Bool.{cond_both}
 use Rattle.std.specs.Prelude.{if◌then◌else◌, IsUtf8}
 use Rattle.htmd_grammar.specs.ValueTrees.{AttributePair}
 use Rattle.htmd_grammar.specs.declared.content_model.RawElement.{RawElement}
 use Rattle.htmd_html5_state.specs.Names.{NameValue, ElementNameValue, html}
-use Rattle.htmd_html5_state.specs.Nodes.{KindValue, NodeValue, document, doctype, text, comment, element, kind_at}
-use Rattle.htmd_html5_state.specs.Nodes.{last_in, add, add_text, add_missing, kind_with_missing}
+use Rattle.htmd_html5_state.specs.Nodes.{KindValue, NodeValue, text, comment, element, kind_at, last_in, add, add_text}
+use Rattle.htmd_html5_state.specs.Nodes.{add_missing, kind_with_missing}
 use Rattle.htmd_html5_state.specs.OpenElements.{OpenValue, pop}
 use Rattle.htmd_html5_state.specs.State.{StateValue, on_nodes, on_stack, on_formatting}
 use Rattle.htmd_html5_state.specs.Foreign.{foreign_name, foreign_attributes, pop_if, insert_foreign}
-use Rattle.htmd_html5_state.specs.Insertion.{opened, current, place, insert_named, insert_element, insert_void, insert_raw}
-use Rattle.htmd_html5_state.specs.Insertion.{insert_text, insert_comment_in, insert_comment}
+use Rattle.htmd_html5_state.specs.Insertion.{opened, current, place, insert_named, insert_element, insert_void}
+use Rattle.htmd_html5_state.specs.Insertion.{insert_raw, insert_text, insert_comment_in, insert_comment}
 use Rattle.htmd_html5_state.specs.Formatting.{push_marker, clear_to_marker, without_entry, insert_formatting}
-use Rattle.htmd_html5_state.specs.Formatting.{closed_elements, after_closed, insert_like, reopen_all, reconstruct}
+use Rattle.htmd_html5_state.specs.Formatting.{insert_like, reconstruct}
 use Rattle.htmd_html5_state.specs.declared.names.Namespace.{Namespace}
-use Rattle.htmd_html5_laws.proofs.NodeTexts.{kinds}
 use Rattle.htmd_html5_laws.proofs.OpenNodes.{EachOpen, Below, each_more, Fewer, pop_fewer, pop_if_fewer}
-use Rattle.htmd_html5_laws.proofs.HungStates.{ElementOpen, HungIn, Hung, element_number}
+use Rattle.htmd_html5_laws.proofs.HungStates.{ElementOpen, HungIn, Hung, element_number, hung_named}
 use Rattle.htmd_html5_laws.proofs.HungAdoption.{below_each, each_both}
 use Rattle.htmd_html5_laws.proofs.PlainNames.{is_plain_name, is_plain_element, foreign_is_plain}
 use Rattle.htmd_html5_laws.proofs.PlainStates.{Plain, Stays, then_stays, still, stays_by_test, stays_by_state}
 use Rattle.htmd_html5_laws.proofs.PlainStates.{on_stack_stays, insert_named_stays, insert_raw_stays}
-use Rattle.htmd_html5_laws.proofs.PlainStates.{insert_comment_in_stays, add_missing_stays}
-use Rattle.htmd_html5_laws.proofs.PlainStates.{without_entry_stays, push_marker_stays, clear_to_marker_stays}
-use Rattle.htmd_html5_laws.proofs.PlainStates.{insert_formatting_stays, reconstruct_stays, EachPlain, reopen_all_grown}
-use Rattle.htmd_html5_laws.proofs.PlainStates.{closed_plain, plain_entries}
-use Rattle.htmd_html5_laws.proofs.KeepingInsertion.{listed_closed}
+use Rattle.htmd_html5_laws.proofs.PlainStates.{insert_comment_in_stays, add_missing_stays, without_entry_stays}
+use Rattle.htmd_html5_laws.proofs.PlainStates.{push_marker_stays, clear_to_marker_stays, insert_formatting_stays}
+use Rattle.htmd_html5_laws.proofs.PlainStates.{reconstruct_stays}
+use Rattle.htmd_html5_laws.proofs.KeepingInsertion.{reconstructed}
 use Rattle.htmd_html5_laws.proofs.OrderedNodes.{bears, Labels, FitsBy, none_out, Ranked}
-use Rattle.htmd_html5_laws.proofs.OrderedTexts.{loose_added, element_added, text_put}
-use Rattle.htmd_html5_laws.proofs.OrderedTexts.{fits_like}
+use Rattle.htmd_html5_laws.proofs.OrderedTexts.{loose_added, element_added, text_put, fits_like}
 use Rattle.htmd_html5_laws.proofs.Counted.{Choice, counted_of}
 
 module _ (choice : Choice) where
@@ -52,8 +50,7 @@ module _ (choice : Choice) where
   pub record Orders (f : StateValue → StateValue) : Type 0 where
     pub stays : Stays f
     pub orders : (letters : List ℕ) (s : StateValue) → Plain s → Hung s → Ordered choice letters s
-        → Ordered choice
-        letters (f s)
+        → Ordered choice letters (f s)
 
   -- ---- steps put together
 
@@ -71,17 +68,12 @@ module _ (choice : Choice) where
       → Orders (λ s. if b s then f s else g s)
   orders_by_test {f} {g} b first second = record {
     stays = stays_by_test b first.stays second.stays;
-    orders = λ letters s h x o. either (b s) letters s h x o;
+    orders = λ letters s h x o. cond_both (b s) _ _ (λ x. Ordered choice letters x)
+        (λ e. first.orders letters s h x o) (λ e. second.orders letters s h x o);
   }
-    where
-      either : (t : Bool) (letters : List ℕ) (s : StateValue) → Plain s → Hung s → Ordered choice letters s
-          → Ordered choice letters (if t then f s else g s)
-      either true letters s h x o = first.orders letters s h x o
-      either false letters s h x o = second.orders letters s h x o
 
   pub orders_by_state : {A : Type 0} {f : A → StateValue → StateValue} (a : StateValue → A)
-      → ((x : A) → Orders (f x))
-      → Orders (λ s. f (a s) s)
+      → ((x : A) → Orders (f x)) → Orders (λ s. f (a s) s)
   orders_by_state a h = record {
     stays = stays_by_state a (λ x. (h x).stays);
     orders = λ letters s plain x o. (h (a s)).orders letters s plain x o;
@@ -138,60 +130,69 @@ pub opens_still : (old new : ℕ → Bool) (rank : ℕ → ℕ) (p : ℕ) (nodes
     (stack : List OpenValue)
     → ((m : ℕ) → m < length nodes → old m ≡ true → rank m ≤ rank p → new m ≡ true)
     → EachOpen (ElementOpen nodes) stack → EachOpen (λ e. rank e.node ≤ rank p) stack
-    → EachOpen (λ e. old e.node ≡ true) stack
-    → EachOpen (λ e. new e.node ≡ true) stack
+    → EachOpen (λ e. old e.node ≡ true) stack → EachOpen (λ e. new e.node ≡ true) stack
 opens_still old new rank p nodes stack still at low opens =
     each_more stack (λ e x. still e.node (element_number e.node nodes x.0) x.1.0 x.1.1)
     (each_both (ElementOpen nodes) (λ e. (old e.node ≡ true) × (rank e.node ≤ rank p)) stack at
     (each_both (λ e. old e.node ≡ true) (λ e. rank e.node ≤ rank p) stack opens low))
 
 pub stack_still : (old new : ℕ → Bool) (nodes : List NodeValue) (stack : List OpenValue)
-    → ((m : ℕ) → m < length nodes → old m ≡ true → new m ≡ true)
-    → EachOpen (ElementOpen nodes) stack
-    → EachOpen (λ e. old e.node ≡ true) stack
-    → EachOpen (λ e. new e.node ≡ true) stack
+    → ((m : ℕ) → m < length nodes → old m ≡ true → new m ≡ true) → EachOpen (ElementOpen nodes) stack
+    → EachOpen (λ e. old e.node ≡ true) stack → EachOpen (λ e. new e.node ≡ true) stack
 stack_still old new nodes stack still at opens =
     each_more stack (λ e x. still e.node (element_number e.node nodes x.0) x.1)
     (each_both (ElementOpen nodes) (λ e. old e.node ≡ true) stack at opens)
 
-module _ (choice : Choice) where
+module _ (choice : Choice) {letters : List ℕ} {nodes : List NodeValue} {stack : List OpenValue} {head : Option ℕ}
+    {fosters : Bool} where
   -- ---- what is inserted
 
   -- an element at the end of a live node, with what is open around it
-  pub element_in : (letters : List ℕ) (name : ElementNameValue) (attributes : List AttributePair) (p : ℕ)
-      (nodes : List NodeValue) (stack : List OpenValue) (head : Option ℕ) (fosters : Bool)
-      (h : HungIn nodes stack head) (o : OrderedIn choice letters nodes stack fosters) → p < length nodes
-      → o.labels.live p ≡ true → EachOpen (λ e. h.rank e.node ≤ h.rank p) stack
-      → OrderedIn choice letters (add (element name attributes) (last_in p) nodes)
-      (opened (length nodes) name ∷ stack) fosters
-  element_in letters name attributes p nodes stack head fosters h o within live low =
+  pub element_in : (name : ElementNameValue) (attributes : List AttributePair) (p : ℕ) (h : HungIn nodes stack head)
+      (o : OrderedIn choice letters nodes stack fosters) → p < length nodes → o.labels.live p ≡ true
+      → EachOpen (λ e. h.rank e.node ≤ h.rank p) stack
+      → OrderedIn choice letters (add (element name attributes) (last_in p) nodes) (opened (length nodes) name
+      ∷ stack) fosters
+  element_in name attributes p h o within live low =
       let g = element_added choice h.rank letters nodes o.labels o.fits (ranked_of h) p within live
-      (element name attributes)
-      refl in
+      (element name attributes) refl in
       record {
         labels = g.labels;
         fits = g.fits;
         root = g.still 0 h.filled o.root (let z = h.at_root in omega arith);
         opens = (
           g.opened_new,
-          opens_still o.labels.live g.labels.live h.rank p nodes stack g.still h.opened_at low
-              o.opens,
+          opens_still o.labels.live g.labels.live h.rank p nodes stack g.still h.opened_at low o.opens,
         );
         no_fostering = o.no_fostering;
       }
 
+  -- what bears no letter may be put at the end of any node
+  pub loose_in : (k : KindValue) (p : ℕ) → HungIn nodes stack head → OrderedIn choice letters nodes stack fosters
+      → p < length nodes → bears choice k ≡ false → ((t : List ℕ) → k ≡ text t → ⊥)
+      → OrderedIn choice letters (add k (last_in p) nodes) stack fosters
+  loose_in k p h o within e none =
+      let g = loose_added choice h.rank letters nodes o.labels o.fits (ranked_of h) p within k e
+      (λ t f. absurd (none t f)) in
+      record {
+        labels = g.labels;
+        fits = g.fits;
+        root = g.still 0 h.filled o.root;
+        opens = stack_still o.labels.live g.labels.live nodes stack g.still h.opened_at o.opens;
+        no_fostering = o.no_fostering;
+      }
+
+module _ (choice : Choice) where
   named_ordered : (letters : List ℕ) (name : ElementNameValue) (attributes : List AttributePair) (s : StateValue)
       → Hung s → Ordered choice letters s → Ordered choice letters (insert_named name attributes s)
   named_ordered letters name attributes s h o =
       subst (λ (at : _). OrderedIn choice letters (add (element name attributes) at s.nodes)
       (opened (length s.nodes) name ∷ s.stack) s.foster_parenting) (sym (place_last s o.no_fostering))
-      (element_in letters name attributes (current s.stack).node s.nodes s.stack s.head s.foster_parenting h o
-      (current_within s.stack h) (current_live o.labels.live s.stack o.root o.opens)
-      (low_ranks h.rank h.limit s.stack h.order))
+      (element_in choice name attributes (current s.stack).node h o (current_within s.stack h)
+      (current_live o.labels.live s.stack o.root o.opens) (low_ranks h.rank h.limit s.stack h.order))
 
   pub insert_named_orders : (name : ElementNameValue) (attributes : List AttributePair) → is_plain_element name
-      ≡ true
-      → Orders choice (insert_named name attributes)
+      ≡ true → Orders choice (insert_named name attributes)
   insert_named_orders name attributes p = record {
     stays = insert_named_stays name attributes p;
     orders = λ letters s h x o. named_ordered letters name attributes s x o;
@@ -220,22 +221,6 @@ module _ (choice : Choice) where
       (insert_named_orders (foreign_name space name) (foreign_attributes space attributes)
       (foreign_is_plain space name))
 
-  -- what bears no letter may be put at the end of any node
-  pub loose_in : (letters : List ℕ) (k : KindValue) (p : ℕ) (nodes : List NodeValue) (stack : List OpenValue)
-      (head : Option ℕ) (fosters : Bool) → HungIn nodes stack head → OrderedIn choice letters nodes stack fosters
-      → p < length nodes → bears choice k ≡ false → ((t : List ℕ) → k ≡ text t → ⊥)
-      → OrderedIn choice letters (add k (last_in p) nodes) stack fosters
-  loose_in letters k p nodes stack head fosters h o within e none =
-      let g = loose_added choice h.rank letters nodes o.labels o.fits (ranked_of h) p within k e
-      (λ t f. absurd (none t f)) in
-      record {
-        labels = g.labels;
-        fits = g.fits;
-        root = g.still 0 h.filled o.root;
-        opens = stack_still o.labels.live g.labels.live nodes stack g.still h.opened_at o.opens;
-        no_fostering = o.no_fostering;
-      }
-
 pub no_text : (c t : List ℕ) → comment c ≡ text t → ⊥
 no_text c t e = cc
 
@@ -243,15 +228,14 @@ module _ (choice : Choice) where
   pub insert_comment_orders : (c : List ℕ) → Orders choice (insert_comment c)
   insert_comment_orders c = record {
     stays = stays_by_state (λ s. (current s.stack).node) (λ n. insert_comment_in_stays n c);
-    orders = λ letters s h x o. loose_in choice letters (comment c) (current s.stack).node s.nodes s.stack s.head
-        s.foster_parenting x o (current_within s.stack x) refl (no_text c);
+    orders = λ letters s h x o. loose_in choice (comment c) (current s.stack).node x o (current_within s.stack x) refl
+        (no_text c);
   }
 
   pub insert_comment_root_orders : (c : List ℕ) → Orders choice (insert_comment_in 0 c)
   insert_comment_root_orders c = record {
     stays = insert_comment_in_stays 0 c;
-    orders = λ letters s h x o. loose_in choice letters (comment c) 0 s.nodes s.stack s.head
-        s.foster_parenting x o x.filled refl (no_text c);
+    orders = λ letters s h x o. loose_in choice (comment c) 0 x o x.filled refl (no_text c);
   }
 
   -- ---- attributes that an element lacks
@@ -259,38 +243,30 @@ module _ (choice : Choice) where
   missing_bears : (more : List AttributePair) (k : KindValue) → bears choice (kind_with_missing more k)
       ≡ bears choice k
   missing_bears more (element name attributes) = refl
-  missing_bears more (text s) = refl
-  missing_bears more document = refl
-  missing_bears more doctype = refl
-  missing_bears more (comment s) = refl
+  missing_bears more _ = refl
 
 missing_text : (more : List AttributePair) (k : KindValue) (t : List ℕ) → kind_with_missing more k ≡ text t
     → k ≡ text t
 missing_text more (element name attributes) t e = absurd (cc)
-missing_text more (text s) t e = e
-missing_text more document t e = e
-missing_text more doctype t e = e
-missing_text more (comment s) t e = e
+missing_text more _ t e = e
 
 module _ (choice : Choice) where
-  pub missing_ordered : (letters : List ℕ) (n : ℕ) (more : List AttributePair) (nodes : List NodeValue)
-      (stack : List OpenValue) (fosters : Bool) → OrderedIn choice letters nodes stack fosters
+  pub missing_ordered : {letters : List ℕ} {nodes : List NodeValue} {stack : List OpenValue} {fosters : Bool}
+      (n : ℕ) (more : List AttributePair) → OrderedIn choice letters nodes stack fosters
       → OrderedIn choice letters (add_missing n more nodes) stack fosters
-  missing_ordered letters n more nodes stack fosters o = record {
+  missing_ordered {letters} {nodes} n more o = record {
     labels = o.labels;
     fits = fits_like choice n (kind_with_missing more (kind_at nodes n)) letters nodes o.labels
-        (missing_bears choice more (kind_at nodes n))
-        (λ t e. o.fits.texts n t (missing_text more (kind_at nodes n) t e)) o.fits;
+        (λ b. sym (missing_bears choice more (kind_at nodes n)) ∙ b) o.fits
+        (λ t e. o.fits.texts n t (missing_text more (kind_at nodes n) t e));
     root = o.root;
     opens = o.opens;
     no_fostering = o.no_fostering;
   }
 
   pub add_missing_orders : (n : ℕ) (more : List AttributePair) → Orders choice (on_nodes (add_missing n more))
-  add_missing_orders n more = record {
-    stays = add_missing_stays n more;
-    orders = λ letters s h x o. missing_ordered letters n more s.nodes s.stack s.foster_parenting o;
-  }
+  add_missing_orders n more =
+      record { stays = add_missing_stays n more; orders = λ letters s h x o. missing_ordered n more o }
 
   -- ---- the list of active formatting elements
 
@@ -313,46 +289,27 @@ module _ (choice : Choice) where
 
   -- ---- elements are reconstructed
 
-  like_ordered : (letters : List ℕ) (s : StateValue) (k : KindValue) → Hung s → Ordered choice letters s
-      → Ordered choice letters (insert_like k s)
-  like_ordered letters s (element name attributes) h o = named_ordered choice letters name attributes s h o
-  like_ordered letters s (text t) h o = o
-  like_ordered letters s document h o = o
-  like_ordered letters s doctype h o = o
-  like_ordered letters s (comment t) h o = o
-
-  reopen_all_ordered : (letters : List ℕ) (ns : List ℕ) (s : StateValue) → EachPlain (kinds s.nodes) ns
-      → Plain s
-      → Hung s → Ordered choice letters s → Ordered choice letters (reopen_all ns s)
-  reopen_all_ordered letters [] s all h x o = o
-  reopen_all_ordered letters (n ∷ ns) s all h x o =
-      let before = reopen_all_grown ns s all.1 h in
-      like_ordered letters (reopen_all ns s) (kind_at (reopen_all ns s).nodes n) (before.hung x)
-      (reopen_all_ordered letters ns s all.1 h x o)
+  like_ordered : (letters : List ℕ) (s : StateValue) (k : KindValue) → Hung s × Ordered choice letters s
+      → Hung (insert_like k s) × Ordered choice letters (insert_like k s)
+  like_ordered letters s (element name attributes) h =
+      (hung_named name attributes s h.0, named_ordered choice letters name attributes s h.0 h.1)
+  like_ordered letters s _ h = h
 
   pub reconstruct_orders : Orders choice reconstruct
   reconstruct_orders = record {
     stays = reconstruct_stays;
-    orders = λ letters s h x o.
-        reopen_all_ordered letters (closed_elements s.stack s.formatting) (on_formatting (after_closed s.stack) s)
-        (closed_plain (kinds s.nodes) s.stack s.formatting h.entries_at)
-        (plain_entries (λ n l. h.entries_at n (listed_closed n s.stack s.formatting l)) h) x o;
+    orders = λ letters s h x o. (reconstructed (λ n. Unit {0}) (λ t. Hung t × Ordered choice letters t) s
+        (λ n l. tt) (x, o) (λ n t q g. like_ordered letters t (kind_at t.nodes n) g)).1;
   }
 
   -- ---- text
 
   -- its letters stand after all others then
-  pub record Writes (t : List ℕ) (f : StateValue → StateValue) : Type 0 where
-    pub stays : Stays f
-    pub orders : (letters : List ℕ) (s : StateValue) → Plain s → Hung s → Ordered choice letters s
-        → Ordered choice (letters ++ counted_of choice t) (f s)
-
   pub text_ordered : (letters t : List ℕ) (s : StateValue) → IsUtf8 t → Hung s → Ordered choice letters s
       → Ordered choice (letters ++ counted_of choice t) (insert_text t s)
   text_ordered letters t s u h o =
       subst (λ (at : _). OrderedIn choice (letters ++ counted_of choice t) (add_text t at s.nodes) s.stack
-      s.foster_parenting)
-      (sym (place_last s o.no_fostering))
+      s.foster_parenting) (sym (place_last s o.no_fostering))
       (let p = (current s.stack).node in
       let g = text_put choice h.rank letters s.nodes o.labels o.fits (ranked_of h) p (current_within s.stack h)
       (current_live o.labels.live s.stack o.root o.opens) t u in

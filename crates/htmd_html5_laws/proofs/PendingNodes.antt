@@ -1,11 +1,11 @@
 -- The nodes that are still to be laid out: those that come next, and the children of elements.
-use Rattle.std.proofs.Common.{◌≡◌, ◌∙◌, ℕ, zero, suc, ◌+◌, ◌<◌, ◌≤◌, Bool, true, List, [], ◌∷◌, ◌++◌, length}
-use Rattle.std.proofs.Common.{refl, sym, ap, arith, cond, map, Option, None, inl, inr, ◌⊎◌, length-append}
+use Rattle.std.proofs.Common.{◌≡◌, ◌∙◌, ℕ, zero, suc, ◌+◌, ◌<◌, ◌≤◌, Bool, true, List, [], ◌∷◌, ◌++◌, length, refl, sym}
+use Rattle.std.proofs.Common.{ap, arith, cond, map, Option, None, inl, inr, ◌⊎◌, length-append}
 use Rattle.std.specs.Prelude.{◌==◌, is_some}
 use Rattle.std.proofs.lemmas.Bool.{true≢false, eqb-true, eqb-false, eq-eqb, cases_lt}
 use Rattle.htmd_grammar.proofs.Cases.{test}
-use Rattle.htmd_html5_state.specs.Nodes.{KindValue, NodeValue, document, doctype, text, comment, element, kind_at, node_at}
-use Rattle.htmd_html5_state.specs.Nodes.{children_at, with_kind, text_of}
+use Rattle.htmd_html5_state.specs.Nodes.{KindValue, NodeValue, document, element, kind_at, node_at, children_at}
+use Rattle.htmd_html5_state.specs.Nodes.{with_kind, text_of}
 use Rattle.htmd_html5.specs.Layout.{Coming, coming, text_under, after_next_texts}
 use Rattle.htmd_html5_laws.proofs.NodeTexts.{kinds, is_element}
 use Rattle.htmd_html5_laws.proofs.NodeParts.{times, times_append, parent_beyond}
@@ -58,10 +58,7 @@ length_marked (suc n) (x ∷ nodes) =
 
 text_kind : (k : KindValue) → is_element k ≡ true → text_of k ≡ None
 text_kind (element name attributes) e = refl
-text_kind (text s) e = absurd (true≢false (sym e))
-text_kind document e = absurd (true≢false (sym e))
-text_kind doctype e = absurd (true≢false (sym e))
-text_kind (comment s) e = absurd (true≢false (sym e))
+text_kind _ e = absurd (true≢false (sym e))
 
 pub after_fewer : (m u : ℕ) (nodes : List NodeValue) (work : List Coming)
     → times m (numbers (after_next_texts nodes u work)) ≤ times m (numbers work)
@@ -81,14 +78,11 @@ pub elements_stay : (n u : ℕ) (nodes : List NodeValue) (work : List Coming) �
     → 1 ≤ times n (numbers work) → 1 ≤ times n (numbers (after_next_texts nodes u work))
 elements_stay n u nodes [] e l = l
 elements_stay n u nodes (x ∷ work) e l =
-    test (is_some (text_under nodes u x))
-    (λ t. rw t (elements_stay n u nodes work e (other t)))
-    (λ t. rw t l)
+    test (is_some (text_under nodes u x)) (λ t. rw t (elements_stay n u nodes work e (other t))) (λ t. rw t l)
   where
     none : x.node ≡ n → is_some (text_under nodes u x) ≡ true → ⊥
     none f t =
-        let k : text_of (kind_at nodes x.node) ≡ None =
-        ap (λ (i : ℕ). text_of (kind_at nodes i)) f ∙ text_kind (kind_at nodes n) e in
+        let k = ap (λ (i : ℕ). text_of (kind_at nodes i)) f ∙ text_kind (kind_at nodes n) e in
         test (x.under == u)
         (λ g. let h = rw (g, k) at t in true≢false (sym h)) (λ g. let h = rw g at t in true≢false (sym h))
 
@@ -128,8 +122,7 @@ length_below k (n ∷ ns) h =
     omega arith
 
 pub few_numbers : (k : ℕ) (ns : List ℕ) → ((m : ℕ) → times m ns ≤ 1)
-    → ((m : ℕ) → 1 ≤ times m ns → m < k)
-    → length ns ≤ k
+    → ((m : ℕ) → 1 ≤ times m ns → m < k) → length ns ≤ k
 few_numbers k ns once within =
     let a = length_below k ns within in let b = below_at_most k ns once in omega arith
 

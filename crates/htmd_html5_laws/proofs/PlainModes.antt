@@ -8,10 +8,9 @@ use Rattle.htmd_html5_state.specs.Foreign.{ForeignEnd, by_mode, closed_to, forei
 use Rattle.htmd_html5_state.specs.declared.modes.InsertionMode.{InsertionMode}
 use Rattle.htmd_html5_state.specs.declared.modes.InsertionMode.TheVariants.{Initial, InColumnGroup}
 use Rattle.htmd_html5_state.specs.declared.modes.InsertionMode.TheVariants.{InTemplate, InFrameset, AfterFrameset}
-use Rattle.htmd_html5_state.specs.declared.modes.InsertionMode.TheVariants.{AfterAfterFrameset, AfterBody}
+use Rattle.htmd_html5_state.specs.declared.modes.InsertionMode.TheVariants.{AfterAfterFrameset}
 use Rattle.htmd_html5.specs.Tokens.{TokenValue, start_tag, end_tag, end_of_file}
 use Rattle.htmd_html5.specs.BodyStarts.{is_in_template}
-use Rattle.htmd_html5.specs.AfterBody.{back_to_body}
 use Rattle.htmd_html5.specs.ForeignContent.{end_foreign}
 use Rattle.htmd_html5.specs.Modes.{in_mode, by_mode_rules}
 use Rattle.htmd_html5.specs.Processing.{by_rules}
@@ -23,9 +22,11 @@ use Rattle.htmd_html5_laws.proofs.PlainStates.{is_plain_mode, Plain, Stays, then
 use Rattle.htmd_html5_laws.proofs.PlainStates.{plain_stack}
 use Rattle.htmd_html5_laws.proofs.PlainRules.{StaysAnswer, says_plain, answers_either, plain_act, fostered_stays}
 use Rattle.htmd_html5_laws.proofs.PlainRules.{leave_template_stays, act_stays}
-use Rattle.htmd_html5_laws.proofs.Rules.{reply_fits}
+use Rattle.htmd_html5_laws.proofs.Rules.{reply_fits, reply_of}
 use Rattle.htmd_html5_laws.proofs.RuleBook.{start_in, end_in, rule_in}
-use Rattle.htmd_html5_laws.proofs.RuleWalk.{IsMarkup, tag_name, Invariant, Everywhere, in_mode_holds, by_rules_hold}
+use Rattle.htmd_html5_laws.proofs.RuleWalk.{IsMarkup, tag_of, tag_name, Invariant, Everywhere, replies, in_mode_holds}
+use Rattle.htmd_html5_laws.proofs.RuleWalk.{by_rules_hold}
+use Rattle.htmd_html5_laws.proofs.RunRules.{leave_in}
 use Rattle.htmd_html5_state.specs.declared.names.TagName.TheVariants as tags
 use Rattle.htmd_html5_state.specs.Foreign as foreign
 
@@ -74,19 +75,13 @@ pub foreign_left : (s : StateValue) → Plain s → Plain (on_stack (leave_forei
 foreign_left s h =
     plain_stack (leave_foreign s.nodes s.stack) ((leave_foreign_fewer s.nodes s.stack).each is_plain_open h.names) h
 
-end_foreign_plain : (name : NameValue) → StaysAnswer (by_mode_rules (end_tag name)) → (ending : ForeignEnd)
+end_foreign_stays : (name : NameValue) → StaysAnswer (by_mode_rules (end_tag name)) → (ending : ForeignEnd)
     (s : StateValue) → EndsIn ending s.stack → Plain s
-    → Plain (end_foreign name ending s).state
-end_foreign_plain name by_rules by_mode s e h = by_rules.stays s h
-end_foreign_plain name by_rules (closed_to es) s e h = plain_stack es (e.each is_plain_open h.names) h
-end_foreign_plain name by_rules foreign.nothing s e h = h
-
-end_foreign_hung : (name : NameValue) → StaysAnswer (by_mode_rules (end_tag name)) → (ending : ForeignEnd)
-    (s : StateValue) → EndsIn ending s.stack → Plain s → Hung s
-    → Hung (end_foreign name ending s).state
-end_foreign_hung name by_rules by_mode s e h x = by_rules.hangs s h x
-end_foreign_hung name by_rules (closed_to es) s e h x = hung_fewer es e x
-end_foreign_hung name by_rules foreign.nothing s e h x = x
+    → Plain (end_foreign name ending s).state × (Hung s → Hung (end_foreign name ending s).state)
+end_foreign_stays name by_rules by_mode s e h = (by_rules.stays s h, λ x. by_rules.hangs s h x)
+end_foreign_stays name by_rules (closed_to es) s e h =
+    (plain_stack es (e.each is_plain_open h.names) h, λ x. hung_fewer es e x)
+end_foreign_stays name by_rules foreign.nothing s e h = (h, λ x. x)
 
 -- ---- the rules
 
@@ -114,7 +109,7 @@ plainness = record {
   ends_template = answers_either is_in_template (says_plain leave_template_stays) (says_plain still);
 }
 
-plain_everywhere : Everywhere is_plain_name (λ mode. is_plain_mode mode ≡ true) plain_act StaysAnswer
+pub plain_everywhere : Everywhere is_plain_name (λ mode. is_plain_mode mode ≡ true) plain_act StaysAnswer
 plain_everywhere = record {
   by_mode = λ t h. record {
     stays = λ s plain. (h s.mode plain.plain_mode).stays s plain;
@@ -128,10 +123,10 @@ plain_everywhere = record {
         (hung_fewer (leave_foreign s.nodes s.stack) (leave_foreign_fewer s.nodes s.stack) x);
   };
   ends_foreign = λ name h. record {
-    stays = λ s plain. end_foreign_plain name h (foreign_end (text_of_name name) s.stack) s
-        (foreign_end_in (text_of_name name) s.stack) plain;
-    hangs = λ s plain x. end_foreign_hung name h (foreign_end (text_of_name name) s.stack) s
-        (foreign_end_in (text_of_name name) s.stack) plain x;
+    stays = λ s plain. (end_foreign_stays name h (foreign_end (text_of_name name) s.stack) s
+        (foreign_end_in (text_of_name name) s.stack) plain).0;
+    hangs = λ s plain x. (end_foreign_stays name h (foreign_end (text_of_name name) s.stack) s
+        (foreign_end_in (text_of_name name) s.stack) plain).1 x;
   };
 }
 
@@ -139,12 +134,16 @@ pub in_mode_stays : (t : TokenValue) → IsPlain t → (mode : InsertionMode) �
     → StaysAnswer (in_mode mode t)
 in_mode_stays t p mode q = in_mode_holds plainness refl t p mode q
 
--- what ends a mode and is processed again
-pub left_stays : (mode : InsertionMode) → is_plain_mode mode ≡ true → StaysAnswer (in_mode mode end_of_file)
-left_stays mode q = in_mode_stays end_of_file tt mode q
+leave_fits : (mode : InsertionMode) → is_plain_mode mode ≡ true
+    → reply_fits (plain_act (known tags.P)) (plain_act (known tags.P)) (plain_act (known tags.P)) (leave_in mode) ≡
+    true
+leave_fits InColumnGroup p = absurd (true≢false (sym p))
+leave_fits mode p = refl
 
-pub back_to_body_stays : StaysAnswer back_to_body
-back_to_body_stays = in_mode_stays (end_tag (known tags.P)) tt AfterBody refl
+-- what ends a mode and is processed again
+pub leave_stays : (mode : InsertionMode) → is_plain_mode mode ≡ true
+    → StaysAnswer (reply_of (leave_in mode) (tag_of end_of_file))
+leave_stays mode p = replies plainness refl (tag_of end_of_file) refl (leave_in mode) (leave_fits mode p)
 
 pub by_rules_stays : (t : TokenValue) → IsPlain t → StaysAnswer (by_rules t)
 by_rules_stays t p = by_rules_hold plainness plain_everywhere refl t p

@@ -53,10 +53,7 @@ PlainStack stack = EachOpen PlainOpen stack
 no_template_name : (name : ElementNameValue) → is_plain_element name ≡ true → is_of (Only tags.Template) name
     ≡ false
 no_template_name (html (known tags.Template)) p = absurd (true≢false (sym p))
-no_template_name (html (known _)) p = refl
-no_template_name (html (other s)) p = refl
-no_template_name (svg s) p = refl
-no_template_name (math s) p = refl
+no_template_name _ p = refl
 
 pub no_template_open : (stack : List OpenValue) → PlainStack stack → is_open (Only tags.Template) stack ≡ false
 no_template_open [] h = refl

@@ -1,10 +1,10 @@
 -- The rules of the modes leave a plain state plain, where the tag's name is plain: what each act does.
-use Rattle.std.proofs.Common.{◌≡◌, ℕ, Bool, true, false, List, ◌∷◌, length, Option, Some, None, refl, sym, ap}
+use Rattle.std.proofs.Common.{◌≡◌, ℕ, Bool, true, false, List, ◌∷◌, length, Option, Some, None, refl, sym}
+use Rattle.std.proofs.Common.{ap}
 use Rattle.std.specs.Prelude.{if◌then◌else◌}
-use Rattle.std.proofs.lemmas.Bool.{true≢false}
+use Rattle.std.proofs.lemmas.Bool.{true≢false, cond_both}
 use Rattle.htmd_grammar.specs.ValueTrees.{AttributePair}
 use Rattle.htmd_html5_state.specs.Names.{NameValue, html, known, text_of_name}
-use Rattle.htmd_html5_state.specs.Nodes.{kind_at}
 use Rattle.htmd_html5_state.specs.OpenElements.{first_open, pop, pop_until, clear_to, pop_while, without}
 use Rattle.htmd_html5_state.specs.OpenElements.{is_in_scope, is_node_in_scope}
 use Rattle.htmd_html5_state.specs.State.{StateValue, on_stack}
@@ -14,8 +14,8 @@ use Rattle.htmd_html5_state.specs.Adoption.{formatting_element}
 use Rattle.htmd_html5_state.specs.Resetting.{pop_modes, pop_template_mode}
 use Rattle.htmd_html5_state.specs.Foreign.{namespace_of}
 use Rattle.htmd_html5_state.specs.declared.modes.InsertionMode.{InsertionMode}
-use Rattle.htmd_html5_state.specs.declared.modes.InsertionMode.TheVariants.{BeforeHtml, InHead, InTable, InCaption}
-use Rattle.htmd_html5_state.specs.declared.modes.InsertionMode.TheVariants.{InTableBody, InRow, InCell}
+use Rattle.htmd_html5_state.specs.declared.modes.InsertionMode.TheVariants.{BeforeHtml, InHead, InTable, InTableBody}
+use Rattle.htmd_html5_state.specs.declared.modes.InsertionMode.TheVariants.{InRow, InCell, InHeadNoscript, AfterHead}
 use Rattle.htmd_html5_state.specs.declared.names.Namespace.{Namespace}
 use Rattle.htmd_html5_state.specs.declared.sets.NameSet.{NameSet}
 use Rattle.htmd_html5_state.specs.declared.sets.NameSet.TheVariants.{Only, ImpliedEnd, TableBodyContext}
@@ -24,7 +24,7 @@ use Rattle.htmd_html5_state.specs.declared.sets.Scope.TheVariants.{Table as Tabl
 use Rattle.htmd_html5.specs.Tokens.{StartTagValue}
 use Rattle.htmd_html5.specs.Outcomes.{Outcome, outcome}
 use Rattle.htmd_html5.specs.SharedRules.{with_mode, no_frameset, add_missing_to, leave_template, end_template}
-use Rattle.htmd_html5.specs.SharedRules.{insert_head_element}
+use Rattle.htmd_html5.specs.SharedRules.{insert_head_element, insert_tag, insert_raw_tag, insert_void_tag}
 use Rattle.htmd_html5.specs.BodyStarts.{is_in_template, open_body, add_to_this_body, skip_line_feed, with_form, forget}
 use Rattle.htmd_html5.specs.BodyStarts.{mode_of_select, start_ordinary, start_select}
 use Rattle.htmd_html5.specs.BodyEnds.{close_form}
@@ -37,7 +37,6 @@ use Rattle.htmd_html5.specs.InRow.{has_row}
 use Rattle.htmd_html5.specs.InSelect.{has_select, close_select}
 use Rattle.htmd_html5.specs.AfterBody.{comment_in}
 use Rattle.htmd_html5.specs.ForeignContent.{insert_alike, start_foreign_element}
-use Rattle.htmd_html5_laws.proofs.NodeTexts.{is_element}
 use Rattle.htmd_html5_laws.proofs.OpenNodes.{fewer_then, pop_fewer, pop_until_fewer, clear_to_fewer}
 use Rattle.htmd_html5_laws.proofs.OpenNodes.{without_fewer, pop_while_fewer}
 use Rattle.htmd_html5_laws.proofs.PlainNames.{is_plain, is_plain_name, is_plain_open, no_template_open}
@@ -50,19 +49,22 @@ use Rattle.htmd_html5_laws.proofs.PlainStates.{insert_comment_stays, insert_doct
 use Rattle.htmd_html5_laws.proofs.PlainStates.{without_entry_stays, push_marker_stays, clear_to_marker_stays}
 use Rattle.htmd_html5_laws.proofs.PlainStates.{insert_formatting_stays, reconstruct_stays, reset_insertion_mode_stays}
 use Rattle.htmd_html5_laws.proofs.PlainAdoption.{adoption_agency_stays}
-use Rattle.htmd_html5_laws.proofs.Rules.{Given, own, implied, renamed, given_name, given_attributes, left_open, Act}
-use Rattle.htmd_html5_laws.proofs.Rules.{act_on, element, void, root, head, raw_text, of_head, late_of_head, foreign}
+use Rattle.htmd_html5_laws.proofs.Rules.{name_given, Given, given_name, given_attributes, left_open, Act, act_on}
+use Rattle.htmd_html5_laws.proofs.Rules.{element, void, root, head, raw_text, of_head, late_of_head, foreign}
 use Rattle.htmd_html5_laws.proofs.Rules.{foreign_alike, formatting, select, comment, comment_in_root}
 use Rattle.htmd_html5_laws.proofs.Rules.{comment_in_document, started, cut, agency, forget_anchor, noted_form}
 use Rattle.htmd_html5_laws.proofs.Rules.{table_closed, caption_closed, columns_closed, section_closed, row_closed}
 use Rattle.htmd_html5_laws.proofs.Rules.{cell_closed, cell_left, select_closed, select_left, frameset_closed}
-use Rattle.htmd_html5_laws.proofs.Rules.{template_closed, root_attributes, body_attributes}
-use Rattle.htmd_html5_laws.proofs.Rules.{body_replaced, marked, to_marker, reconstructed, to_mode, to_quirks, to_content}
-use Rattle.htmd_html5_laws.proofs.Rules.{frames_refused, line_feed_skipped, noted_element, fostering}
-use Rattle.htmd_html5_laws.proofs.Rules.{empty_form, noscript_put, cell_put, head_left, noscript_left}
+use Rattle.htmd_html5_laws.proofs.Rules.{template_closed, root_attributes, body_attributes, body_replaced, marked}
+use Rattle.htmd_html5_laws.proofs.Rules.{to_marker, reconstructed, to_mode, to_quirks, to_content, frames_refused}
+use Rattle.htmd_html5_laws.proofs.Rules.{line_feed_skipped, noted_element, fostering, empty_form, noscript_put}
+use Rattle.htmd_html5_laws.proofs.Rules.{cell_put, head_left, noscript_left, body_put}
 use Rattle.htmd_html5_laws.proofs.RuleWalk.{left_fewer}
-use Rattle.htmd_html5_state.specs.declared.modes.InsertionMode.TheVariants.{InHeadNoscript, AfterHead}
-use Rattle.htmd_html5.specs.SharedRules.{insert_tag}
+use Rattle.htmd_html5_state.specs.declared.modes.InsertionMode.TheVariants.{BeforeHead, InBody}
+use Rattle.htmd_grammar.specs.declared.content_model.RawElement.{RawElement}
+use Rattle.htmd_grammar.specs.declared.content_model.ContentModel.TheVariants.{Raw}
+use Rattle.htmd_html5.specs.Feeding.{is_text_mode}
+use Rattle.htmd_html5_laws.proofs.RootedStacks.{is_outer_name}
 use Rattle.htmd_html5_state.specs.declared.names.TagName.TheVariants as tags
 use Rattle.htmd_grammar.specs.declared.content_model.RawElement.TheVariants as raw
 
@@ -79,16 +81,12 @@ says_plain h = record { stays = λ s plain. h.stays s plain; hangs = λ s plain 
 
 pub answers_either : {f g : StateValue → Outcome} (b : StateValue → Bool) → StaysAnswer f → StaysAnswer g
     → StaysAnswer (λ s. if b s then f s else g s)
-answers_either {f} {g} b first second =
-    record { stays = λ s h. either (b s) s h; hangs = λ s h x. each (b s) s h x }
-  where
-    either : (t : Bool) (s : StateValue) → Plain s → Plain (if t then f s else g s).state
-    either true s h = first.stays s h
-    either false s h = second.stays s h
-
-    each : (t : Bool) (s : StateValue) → Plain s → Hung s → Hung (if t then f s else g s).state
-    each true s h x = first.hangs s h x
-    each false s h x = second.hangs s h x
+answers_either b first second = record {
+  stays = λ s h. cond_both (b s) _ _ (λ (a : Outcome). Plain a.state) (λ t. first.stays s h)
+      (λ t. second.stays s h);
+  hangs = λ s h x. cond_both (b s) _ _ (λ (a : Outcome). Hung a.state) (λ t. first.hangs s h x)
+      (λ t. second.hangs s h x);
+}
 
 pub fostered_stays : {step : StateValue → StateValue} → Stays step → Stays (fostered step)
 fostered_stays h = record {
@@ -100,15 +98,11 @@ fostered_stays h = record {
 
 -- an element gets a plain name
 abbrev pub plain_given : NameValue → Given → Bool
-plain_given name own = is_plain_name name
-plain_given name (implied other) = is_plain other
-plain_given name (renamed other) = is_plain other
+plain_given name given = is_plain_name (name_given given name)
 
 pub given_plain : (given : Given) (tag : StartTagValue) → plain_given tag.name given ≡ true
     → is_plain_name (given_name given tag) ≡ true
-given_plain own tag e = e
-given_plain (implied name) tag e = e
-given_plain (renamed name) tag e = e
+given_plain given tag e = e
 
 -- acts for a tag of that name, but those that lead to frames, columns and templates
 abbrev pub plain_act : NameValue → Act → Bool
@@ -116,6 +110,7 @@ plain_act name (element given) = plain_given name given
 plain_act name (void given) = plain_given name given
 plain_act name (root given) = plain_given name given
 plain_act name (head given) = plain_given name given
+plain_act name (body_put given) = plain_given name given
 plain_act name (raw_text raw) = is_plain_name name
 plain_act name of_head = is_plain_name name
 plain_act name late_of_head = is_plain_name name
@@ -184,10 +179,6 @@ forget_stays (Some n) =
 
 select_mode_is_plain : (mode : InsertionMode) → is_plain_mode (mode_of_select mode) ≡ true
 select_mode_is_plain InTable = refl
-select_mode_is_plain InCaption = refl
-select_mode_is_plain InTableBody = refl
-select_mode_is_plain InRow = refl
-select_mode_is_plain InCell = refl
 select_mode_is_plain _ = refl
 
 close_form_stays : (form : Option ℕ) → Stays (close_form form)
@@ -224,8 +215,7 @@ context_stays set mode p =
 
 pub part_stays : (set : NameSet) (mode : InsertionMode) → is_plain_mode mode ≡ true
     → Stays (λ s. with_mode mode (clear_to_marker (on_stack (pop_until set) s)))
-part_stays set mode p =
-    then_stays (with_mode_stays mode p) (then_stays clear_to_marker_stays (popped_stays set))
+part_stays set mode p = then_stays (with_mode_stays mode p) (then_stays clear_to_marker_stays (popped_stays set))
 
 pub close_select_stays : Stays close_select
 close_select_stays = then_stays reset_insertion_mode_stays (popped_stays (Only tags.Select))
@@ -237,14 +227,26 @@ alike_stays tag (Some space) = insert_foreign_stays space (text_of_name tag.name
 pub start_foreign_stays : (tag : StartTagValue) → Stays (start_foreign_element tag)
 start_foreign_stays tag = stays_by_state (λ s. namespace_of (current s.stack).name) (alike_stays tag)
 
+-- an element of the head is one of only text or void
+pub by_head_element : (P : (StateValue → StateValue) → Type 0) (tag : StartTagValue) → is_plain_name tag.name
+    ≡ true → ((element : RawElement) → is_text_mode (Raw element) ≡ true → is_outer_name tag.name ≡ true
+    → P (insert_raw_tag element tag)) → P (insert_void_tag tag) → P (insert_head_element tag.name tag)
+by_head_element P tag p only_text empty = by_name tag.name refl p
+  where
+    by_name : (name : NameValue) → tag.name ≡ name → is_plain_name name ≡ true
+        → P (insert_head_element name tag)
+    by_name (known tags.Title) n q = only_text raw.Title refl (ap is_outer_name n)
+    by_name (known tags.NoFrames) n q = only_text raw.Noframes refl (ap is_outer_name n)
+    by_name (known tags.Style) n q = only_text raw.Style refl (ap is_outer_name n)
+    by_name (known tags.Script) n q = only_text raw.Script refl (ap is_outer_name n)
+    by_name (known tags.Template) n q = absurd (true≢false (sym q))
+    by_name _ n q = empty
+
 module _ (tag : StartTagValue) (p : is_plain_name tag.name ≡ true) where
-  of_head_stays : (name : NameValue) → is_plain_name name ≡ true → Stays (insert_head_element name tag)
-  of_head_stays (known tags.Title) q = insert_raw_stays tag.name raw.Title tag.attributes p
-  of_head_stays (known tags.NoFrames) q = insert_raw_stays tag.name raw.Noframes tag.attributes p
-  of_head_stays (known tags.Style) q = insert_raw_stays tag.name raw.Style tag.attributes p
-  of_head_stays (known tags.Script) q = insert_raw_stays tag.name raw.Script tag.attributes p
-  of_head_stays (known tags.Template) q = absurd (true≢false (sym q))
-  of_head_stays _ q = insert_void_stays tag.name tag.attributes p
+  of_head_stays : Stays (insert_head_element tag.name tag)
+  of_head_stays =
+      by_head_element Stays tag p (λ element r o. insert_raw_stays tag.name element tag.attributes p)
+      (insert_void_stays tag.name tag.attributes p)
 
   start_ordinary_stays : Stays (start_ordinary tag)
   start_ordinary_stays = then_stays (insert_element_stays tag.name tag.attributes p) reconstruct_stays
@@ -257,39 +259,25 @@ module _ (tag : StartTagValue) (p : is_plain_name tag.name ≡ true) where
   }
 
   late_plain : (head : Option ℕ) (s : StateValue) → Plain s → Plain (insert_in_head head tag s)
-  late_plain None s h = (of_head_stays tag.name p).stays s h
+  late_plain None s h = of_head_stays.stays s h
   late_plain (Some n) s h =
+      let x = of_head_stays.stays (open_again n (known tags.Head) s)
+      (plain_stack (opened n (html (known tags.Head)) ∷ s.stack) (refl, h.names) h) in
       plain_stack (without n (insert_head_element tag.name tag (open_again n (known tags.Head) s)).stack)
       ((without_fewer n (insert_head_element tag.name tag (open_again n (known tags.Head) s)).stack).each is_plain_open
-      (opened_late n s h).names) (opened_late n s h)
-    where
-      opened_late : (n : ℕ) (s : StateValue) → Plain s
-          → Plain (insert_head_element tag.name tag (open_again n (known tags.Head) s))
-      opened_late n s h =
-          (of_head_stays tag.name p).stays (open_again n (known tags.Head) s)
-          (plain_stack (opened n (html (known tags.Head)) ∷ s.stack) (refl, h.names) h)
+      x.names) x
 
   -- the head is open only while an element is put into it
-  late_by_name : (name : NameValue) (n : ℕ) (s : StateValue) → is_plain_name name ≡ true
-      → is_element (kind_at s.nodes n) ≡ true → Hung s
-      → Hung (on_stack (without n) (insert_head_element name tag (open_again n (known tags.Head) s)))
-  late_by_name (known tags.Title) n s q e x = hung_late_open (html tag.name) tag.attributes n s e x
-  late_by_name (known tags.NoFrames) n s q e x = hung_late_open (html tag.name) tag.attributes n s e x
-  late_by_name (known tags.Style) n s q e x = hung_late_open (html tag.name) tag.attributes n s e x
-  late_by_name (known tags.Script) n s q e x = hung_late_open (html tag.name) tag.attributes n s e x
-  late_by_name (known tags.Template) n s q e x = absurd (true≢false (sym q))
-  late_by_name _ n s q e x = hung_late_void (html tag.name) tag.attributes n s e x
-
   late_hung : (head : Option ℕ) (s : StateValue) → s.head ≡ head → Plain s → Hung s
       → Hung (insert_in_head head tag s)
-  late_hung None s e h x = (of_head_stays tag.name p).hangs s h x
-  late_hung (Some n) s e h x = late_by_name tag.name n s p (x.head_at n e) x
+  late_hung None s e h x = of_head_stays.hangs s h x
+  late_hung (Some n) s e h x =
+      by_head_element (λ put. Hung (on_stack (without n) (put (open_again n (known tags.Head) s)))) tag p
+      (λ element r o. hung_late_open (html tag.name) tag.attributes n s (x.head_at n e) x)
+      (hung_late_void (html tag.name) tag.attributes n s (x.head_at n e) x)
 
   late_stays : Stays (insert_late tag)
-  late_stays = record {
-    stays = λ s h. late_plain s.head s h;
-    hangs = λ s h x. late_hung s.head s refl h x;
-  }
+  late_stays = record { stays = λ s h. late_plain s.head s h; hangs = λ s h x. late_hung s.head s refl h x }
 
 noted_stays : (tag : StartTagValue) → is_plain_name tag.name ≡ true → Stays (λ s. with_form (insert_tag tag s))
 noted_stays tag p = then_stays with_form_stays (insert_element_stays tag.name tag.attributes p)
@@ -308,14 +296,17 @@ module _ (tag : StartTagValue) where
   act_stays (void given) e =
       insert_void_stays (given_name given tag) (given_attributes given tag) (given_plain given tag e)
   act_stays (root given) e =
-      insert_root_stays (given_name given tag) (given_attributes given tag) (given_plain given tag e)
+      then_stays (with_mode_stays BeforeHead refl)
+      (insert_root_stays (given_name given tag) (given_attributes given tag) (given_plain given tag e))
   act_stays (head given) e =
       with_head_stays (given_name given tag) (given_attributes given tag) (given_plain given tag e)
+  act_stays (body_put given) e =
+      then_stays (with_mode_stays InBody refl)
+      (insert_element_stays (given_name given tag) (given_attributes given tag) (given_plain given tag e))
   act_stays (raw_text raw) e = insert_raw_stays tag.name raw tag.attributes e
-  act_stays of_head e = of_head_stays tag e tag.name e
+  act_stays of_head e = of_head_stays tag e
   act_stays late_of_head e = late_stays tag e
-  act_stays (foreign space) e =
-      insert_foreign_stays space (text_of_name tag.name) tag.attributes tag.self_closing
+  act_stays (foreign space) e = insert_foreign_stays space (text_of_name tag.name) tag.attributes tag.self_closing
   act_stays foreign_alike e = start_foreign_stays tag
   act_stays formatting e = insert_formatting_stays tag.name tag.attributes e
   act_stays select e = start_select_stays tag e
@@ -332,15 +323,13 @@ module _ (tag : StartTagValue) where
   act_stays noted_form e = close_noted_form_stays
   act_stays table_closed e =
       stays_by_test (λ s. has_table s) (then_stays reset_insertion_mode_stays (popped_stays (Only tags.Table))) still
-  act_stays caption_closed e =
-      stays_by_test (λ s. has_caption s) (part_stays (Only tags.Caption) InTable refl) still
+  act_stays caption_closed e = stays_by_test (λ s. has_caption s) (part_stays (Only tags.Caption) InTable refl) still
   act_stays columns_closed e =
       stays_by_test (λ s. has_columns s) (then_stays (with_mode_stays InTable refl) (on_stack_stays pop pop_fewer))
       still
   act_stays (section_closed set) e =
       stays_by_test (λ s. is_in_scope set TableScope s.stack) (context_stays TableBodyContext InTable refl) still
-  act_stays row_closed e =
-      stays_by_test (λ s. has_row s) (context_stays TableRowContext InTableBody refl) still
+  act_stays row_closed e = stays_by_test (λ s. has_row s) (context_stays TableRowContext InTableBody refl) still
   act_stays (cell_closed name) e =
       stays_by_test (λ s. is_in_scope (Only name) TableScope s.stack) (part_stays (Only name) InRow refl) still
   act_stays (cell_left set) e = part_stays set InRow refl

@@ -1,21 +1,22 @@
 -- States in which no text is dropped, and steps that stay among them.
-use Rattle.std.proofs.Common.{◌≡◌, ◌∙◌, ℕ, Bool, true, false, List, [], ◌∷◌, ◌++◌, length, get_or}
-use Rattle.std.proofs.Common.{Option, Some, None, refl, sym, ap, subst, inl, inr, ◌⊎◌}
+use Rattle.std.proofs.Common.{◌≡◌, ◌∙◌, ℕ, Bool, true, false, List, [], ◌∷◌, ◌++◌, length, get_or, Option, Some, None}
+use Rattle.std.proofs.Common.{refl, sym, ap, subst, ◌⊎◌}
 use Rattle.std.specs.Prelude.{if◌then◌else◌, is_some, unwrap_or}
-use Rattle.std.proofs.lemmas.Bool.{true≢false, eq-eqb}
+use Rattle.std.proofs.lemmas.Bool.{true≢false, cond_both}
 use Rattle.htmd_grammar.proofs.Cases.{test}
 use Rattle.htmd_grammar.specs.ValueTrees.{AttributePair}
 use Rattle.htmd_grammar.specs.declared.content_model.RawElement.{RawElement}
-use Rattle.htmd_html5_state.specs.Names.{NameValue, ElementNameValue, known, other, html, svg, math}
-use Rattle.htmd_html5_state.specs.Nodes.{KindValue, NodeValue, document, doctype, text, comment, element, kind_at}
+use Rattle.htmd_html5_state.specs.Names.{NameValue, ElementNameValue, known, html}
+use Rattle.htmd_html5_state.specs.Nodes.{KindValue, NodeValue, document, doctype, comment, element, kind_at}
 use Rattle.htmd_html5_state.specs.Nodes.{last_in, add, add_missing}
-use Rattle.htmd_html5_state.specs.OpenElements.{OpenValue, is_open_node, pop, is_in_scope}
+use Rattle.htmd_html5_state.specs.OpenElements.{OpenValue, pop, is_in_scope}
 use Rattle.htmd_html5_state.specs.State.{StateValue, on_nodes, on_stack, on_formatting}
 use Rattle.htmd_html5_state.specs.Foreign.{foreign_name, foreign_attributes, pop_if, insert_foreign}
-use Rattle.htmd_html5_state.specs.Insertion.{opened, current, place, insert_at, insert_named, insert_element, insert_root}
-use Rattle.htmd_html5_state.specs.Insertion.{insert_void, insert_raw, insert_comment_in, insert_comment, insert_doctype}
+use Rattle.htmd_html5_state.specs.Insertion.{opened, current, place, insert_at, insert_named, insert_element}
+use Rattle.htmd_html5_state.specs.Insertion.{insert_root, insert_void, insert_raw, insert_comment_in, insert_comment}
+use Rattle.htmd_html5_state.specs.Insertion.{insert_doctype}
 use Rattle.htmd_html5_state.specs.Formatting.{is_listed, push_marker, clear_to_marker, without_entry, insert_formatting}
-use Rattle.htmd_html5_state.specs.Formatting.{closed_elements, after_closed, insert_like, reopen_all, reconstruct}
+use Rattle.htmd_html5_state.specs.Formatting.{after_closed, insert_like, reconstruct}
 use Rattle.htmd_html5_state.specs.Resetting.{select_mode, unless_outermost, html_mode, mode_for, mode_for_name, mode_of}
 use Rattle.htmd_html5_state.specs.Resetting.{reset_insertion_mode}
 use Rattle.htmd_html5_state.specs.declared.modes.InsertionMode.{InsertionMode}
@@ -27,11 +28,11 @@ use Rattle.htmd_html5_state.specs.declared.sets.NameSet.TheVariants.{Only}
 use Rattle.htmd_html5_state.specs.declared.sets.Scope.TheVariants.{Template as TemplateScope}
 use Rattle.htmd_html5_laws.proofs.NodeTexts.{kinds, kinds_add, kind_read}
 use Rattle.htmd_html5_laws.proofs.NamedKinds.{grows_new, grows_added, named_added, grows_missing}
-use Rattle.htmd_html5_laws.proofs.KeepingInsertion.{listed_more, listed_without, listed_after_marker, listed_closed, listed_first}
-use Rattle.htmd_html5_laws.proofs.KeepingInsertion.{listed_pushed}
-use Rattle.htmd_html5_laws.proofs.PlainNames.{is_plain, is_plain_name, is_plain_element, is_plain_kind, foreign_is_plain}
+use Rattle.htmd_html5_laws.proofs.KeepingInsertion.{listed_without, listed_after_marker, listed_closed, listed_first}
+use Rattle.htmd_html5_laws.proofs.KeepingInsertion.{listed_pushed, one_or_listed, reconstructed}
+use Rattle.htmd_html5_laws.proofs.PlainNames.{is_plain, is_plain_name, is_plain_element, is_plain_kind}
+use Rattle.htmd_html5_laws.proofs.PlainNames.{foreign_is_plain, is_plain_open, PlainStack}
 use Rattle.htmd_html5_laws.proofs.OpenNodes.{Fewer, pop_fewer, pop_if_fewer}
-use Rattle.htmd_html5_laws.proofs.PlainNames.{is_plain_open, PlainStack}
 use Rattle.htmd_html5_laws.proofs.HungStates.{Hung, hung_fewer, hung_named, hung_under_root, hung_last, hung_missing}
 use Rattle.htmd_html5_state.specs.declared.names.TagName.TheVariants as tags
 
@@ -80,24 +81,15 @@ still = record { stays = λ s h. h; hangs = λ s h x. x }
 
 pub stays_by_test : {f g : StateValue → StateValue} (b : StateValue → Bool) → Stays f → Stays g
     → Stays (λ s. if b s then f s else g s)
-stays_by_test {f} {g} b first second =
-    record { stays = λ s h. either (b s) s h; hangs = λ s h x. each (b s) s h x }
-  where
-    either : (t : Bool) (s : StateValue) → Plain s → Plain (if t then f s else g s)
-    either true s h = first.stays s h
-    either false s h = second.stays s h
-
-    each : (t : Bool) (s : StateValue) → Plain s → Hung s → Hung (if t then f s else g s)
-    each true s h x = first.hangs s h x
-    each false s h x = second.hangs s h x
+stays_by_test b first second = record {
+  stays = λ s h. cond_both (b s) _ _ Plain (λ t. first.stays s h) (λ t. second.stays s h);
+  hangs = λ s h x. cond_both (b s) _ _ Hung (λ t. first.hangs s h x) (λ t. second.hangs s h x);
+}
 
 pub stays_by_state : {A : Type 0} {f : A → StateValue → StateValue} (a : StateValue → A)
-    → ((x : A) → Stays (f x))
-    → Stays (λ s. f (a s) s)
-stays_by_state a h = record {
-  stays = λ s plain. (h (a s)).stays s plain;
-  hangs = λ s plain x. (h (a s)).hangs s plain x;
-}
+    → ((x : A) → Stays (f x)) → Stays (λ s. f (a s) s)
+stays_by_state a h =
+    record { stays = λ s plain. (h (a s)).stays s plain; hangs = λ s plain x. (h (a s)).hangs s plain x }
 
 -- ---- parts of a state changed
 
@@ -118,30 +110,16 @@ module _ {ks : List KindValue} {entries : List (Option ℕ)} {stack : List OpenV
 
   pub plain_stack : (es : List OpenValue) → PlainStack es → PlainIn ks entries stack mode modes
       → PlainIn ks entries es mode modes
-  plain_stack es names h = record {
-    names = names;
-    entries_at = h.entries_at;
-    plain_mode = h.plain_mode;
-    no_modes = h.no_modes;
-  }
+  plain_stack es names h =
+      record { names = names; entries_at = h.entries_at; plain_mode = h.plain_mode; no_modes = h.no_modes }
 
   pub plain_entries : {later : List (Option ℕ)} → ((n : ℕ) → is_listed n later ≡ true → PlainAt ks n)
       → PlainIn ks entries stack mode modes → PlainIn ks later stack mode modes
-  plain_entries f h = record {
-    names = h.names;
-    entries_at = f;
-    plain_mode = h.plain_mode;
-    no_modes = h.no_modes;
-  }
+  plain_entries f h = record { names = h.names; entries_at = f; plain_mode = h.plain_mode; no_modes = h.no_modes }
 
   pub in_plain_mode : (new : InsertionMode) → is_plain_mode new ≡ true → PlainIn ks entries stack mode modes
       → PlainIn ks entries stack new modes
-  in_plain_mode new p h = record {
-    names = h.names;
-    entries_at = h.entries_at;
-    plain_mode = p;
-    no_modes = h.no_modes;
-  }
+  in_plain_mode new p h = record { names = h.names; entries_at = h.entries_at; plain_mode = p; no_modes = h.no_modes }
 
 pub on_stack_stays : (f : List OpenValue → List OpenValue) → ((stack : List OpenValue) → Fewer (f stack) stack)
     → Stays (on_stack f)
@@ -257,17 +235,12 @@ pub plain_listed : {ks : List KindValue} {entries later : List (Option ℕ)} {st
     {mode : InsertionMode} {modes : List InsertionMode} (m : ℕ) → PlainAt ks m
     → ((n : ℕ) → is_listed n later ≡ true → (n ≡ m) ⊎ (is_listed n entries ≡ true))
     → PlainIn ks entries stack mode modes → PlainIn ks later stack mode modes
-plain_listed {ks} {entries} m p f h = plain_entries (λ n l. either n (f n l)) h
-  where
-    either : (n : ℕ) → (n ≡ m) ⊎ (is_listed n entries ≡ true) → PlainAt ks n
-    either n (inl e) = subst (λ (x : ℕ). PlainAt ks x) (sym e) p
-    either n (inr l) = h.entries_at n l
+plain_listed {ks} m p f h = plain_entries (λ n l. one_or_listed (PlainAt ks) m n p (h.entries_at n) (f n l)) h
 
 pub insert_formatting_stays : (name : NameValue) (attributes : List AttributePair) → is_plain_name name ≡ true
     → Stays (insert_formatting name attributes)
 insert_formatting_stays name attributes p = record {
-  stays = λ s h. plain_listed (length s.nodes)
-      (plain_added s.nodes (element (html name) attributes)
+  stays = λ s h. plain_listed (length s.nodes) (plain_added s.nodes (element (html name) attributes)
       (kinds_add (element (html name) attributes) (place s) s.nodes) p)
       (λ n l. listed_pushed n (length s.nodes) (insert_element name attributes s).nodes s.formatting l)
       ((insert_element_stays name attributes p).stays s h);
@@ -289,11 +262,7 @@ pub record GrownHung (s new : StateValue) : Type 0 where
 pub grown_then : {s t new : StateValue} → Grown s t → Grown t new → Grown s new
 grown_then a b = record { plain = b.plain; grows = λ n p. b.grows n (a.grows n p) }
 
-abbrev pub EachPlain : List KindValue → List ℕ → Type 0
-EachPlain ks [] = Unit {0}
-EachPlain ks (n ∷ ns) = PlainAt ks n × EachPlain ks ns
-
-pub like_grown : (s : StateValue) (k : KindValue) → is_plain_kind k ≡ true → Plain s
+like_grown : (s : StateValue) (k : KindValue) → is_plain_kind k ≡ true → Plain s
     → GrownHung s (on_formatting (λ entries. Some (length s.nodes) ∷ entries) (insert_like k s))
 like_grown s (element name attributes) p h = record {
   grown = record {
@@ -304,99 +273,68 @@ like_grown s (element name attributes) p h = record {
   };
   hung = λ x. hung_named name attributes s x;
 }
-like_grown s (text t) p h = absurd (true≢false (sym p))
-like_grown s document p h = absurd (true≢false (sym p))
-like_grown s doctype p h = absurd (true≢false (sym p))
-like_grown s (comment t) p h = absurd (true≢false (sym p))
+like_grown s _ p h = absurd (true≢false (sym p))
 
-pub reopen_all_grown : (ns : List ℕ) (s : StateValue) → EachPlain (kinds s.nodes) ns → Plain s
-    → GrownHung s (reopen_all ns s)
-reopen_all_grown [] s all h = record { grown = record { plain = h; grows = λ n p. p }; hung = λ x. x }
-reopen_all_grown (n ∷ ns) s all h =
-    let before : GrownHung s (reopen_all ns s) = reopen_all_grown ns s all.1 h in
-    let last = like_grown (reopen_all ns s) (kind_at (reopen_all ns s).nodes n)
-    (ap is_plain_kind (kind_read (reopen_all ns s).nodes n) ∙ before.grown.grows n all.0) before.grown.plain in
-    record { grown = grown_then before.grown last.grown; hung = λ x. last.hung (before.hung x) }
-
-pub closed_plain : (ks : List KindValue) (stack : List OpenValue) (entries : List (Option ℕ))
-    → ((n : ℕ) → is_listed n entries ≡ true → PlainAt ks n) → EachPlain ks (closed_elements stack entries)
-closed_plain ks stack [] f = tt
-closed_plain ks stack (None ∷ entries) f = tt
-closed_plain ks stack (Some m ∷ entries) f =
-    test (is_open_node m stack) (λ t. rw t tt)
-    (λ t. rw t (
-      f m (rw (eq-eqb m m refl) refl),
-      closed_plain ks stack entries (λ n l. f n (listed_more n (Some m) entries l)),
-    ))
-
-reconstructed : (s : StateValue) → Plain s → GrownHung (on_formatting (after_closed s.stack) s) (reconstruct s)
-reconstructed s h =
-    reopen_all_grown (closed_elements s.stack s.formatting) (on_formatting (after_closed s.stack) s)
-    (closed_plain (kinds s.nodes) s.stack s.formatting h.entries_at)
-    (plain_entries (λ n l. h.entries_at n (listed_closed n s.stack s.formatting l)) h)
+all_reopened : (s : StateValue) → Plain s → GrownHung (on_formatting (after_closed s.stack) s) (reconstruct s)
+all_reopened s h =
+    reconstructed (PlainAt (kinds s.nodes)) (GrownHung (on_formatting (after_closed s.stack) s)) s h.entries_at
+    (record {
+      grown = record {
+        plain = plain_entries (λ n l. h.entries_at n (listed_closed n s.stack s.formatting l)) h;
+        grows = λ n p. p;
+      };
+      hung = λ x. x;
+    })
+    (λ n t p before. let last = like_grown t (kind_at t.nodes n)
+    (ap is_plain_kind (kind_read t.nodes n) ∙ before.grown.grows n p) before.grown.plain in
+    record { grown = grown_then before.grown last.grown; hung = λ x. last.hung (before.hung x) })
 
 pub reconstruct_stays : Stays reconstruct
-reconstruct_stays = record {
-  stays = λ s h. (reconstructed s h).grown.plain;
-  hangs = λ s h x. (reconstructed s h).hung x;
-}
+reconstruct_stays =
+    record { stays = λ s h. (all_reopened s h).grown.plain; hangs = λ s h x. (all_reopened s h).hung x }
 
 -- ---- the mode is reset
 
 -- the mode is plain, if there is one
-abbrev PlainMode : Option InsertionMode → Type 0
-PlainMode None = Unit {0}
-PlainMode (Some mode) = is_plain_mode mode ≡ true
+abbrev is_plain_or_none : Option InsertionMode → Bool
+is_plain_or_none None = true
+is_plain_or_none (Some mode) = is_plain_mode mode
 
 select_plain : (outer : List OpenValue) → is_plain_mode (select_mode outer) ≡ true
 select_plain outer = test (is_in_scope (Only tags.Table) TemplateScope outer) (λ t. rw t refl) (λ t. rw t refl)
 
 unless_plain : (mode : InsertionMode) (outer : List OpenValue) → is_plain_mode mode ≡ true
-    → PlainMode (unless_outermost mode outer)
-unless_plain mode [] p = tt
+    → is_plain_or_none (unless_outermost mode outer) ≡ true
+unless_plain mode [] p = refl
 unless_plain mode (e ∷ es) p = p
 
 html_plain : (s : StateValue) → is_plain_mode (html_mode s) ≡ true
 html_plain s = test (is_some s.head) (λ t. rw t refl) (λ t. rw t refl)
 
 tag_plain : (tag : TagName) (outer : List OpenValue) (s : StateValue) → is_plain tag ≡ true
-    → PlainMode (mode_for tag outer s)
+    → is_plain_or_none (mode_for tag outer s) ≡ true
 tag_plain tags.Select outer s p = select_plain outer
 tag_plain tags.Td outer s p = unless_plain _ outer refl
 tag_plain tags.Th outer s p = unless_plain _ outer refl
-tag_plain tags.Tr outer s p = refl
-tag_plain tags.TBody outer s p = refl
-tag_plain tags.THead outer s p = refl
-tag_plain tags.TFoot outer s p = refl
-tag_plain tags.Caption outer s p = refl
-tag_plain tags.ColGroup outer s p = absurd (true≢false (sym p))
-tag_plain tags.Table outer s p = refl
-tag_plain tags.Template outer s p = absurd (true≢false (sym p))
 tag_plain tags.Head outer s p = unless_plain _ outer refl
-tag_plain tags.Body outer s p = refl
-tag_plain tags.FrameSet outer s p = absurd (true≢false (sym p))
 tag_plain tags.Html outer s p = html_plain s
-tag_plain _ outer s p = tt
+tag_plain _ outer s p = cc
 
 name_plain : (name : ElementNameValue) (outer : List OpenValue) (s : StateValue) → is_plain_element name ≡ true
-    → PlainMode (mode_for_name name outer s)
+    → is_plain_or_none (mode_for_name name outer s) ≡ true
 name_plain (html (known tag)) outer s p = tag_plain tag outer s p
-name_plain (html (other name)) outer s p = tt
-name_plain (svg name) outer s p = tt
-name_plain (math name) outer s p = tt
+name_plain _ outer s p = refl
 
 mode_plain : (stack : List OpenValue) (s : StateValue) → PlainStack stack → is_plain_mode (mode_of stack s) ≡ true
 mode_plain [] s h = refl
 mode_plain (e ∷ es) s h =
     or_else (mode_for_name e.name es s) (name_plain e.name es s h.0) (mode_plain es s h.1)
   where
-    or_else : (mode : Option InsertionMode) → PlainMode mode → is_plain_mode (mode_of es s) ≡ true
+    or_else : (mode : Option InsertionMode) → is_plain_or_none mode ≡ true → is_plain_mode (mode_of es s) ≡ true
         → is_plain_mode (unwrap_or mode (mode_of es s)) ≡ true
     or_else None p q = q
     or_else (Some mode) p q = p
 
 pub reset_insertion_mode_stays : Stays reset_insertion_mode
-reset_insertion_mode_stays = record {
-  stays = λ s h. in_plain_mode (mode_of s.stack s) (mode_plain s.stack s h.names) h;
-  hangs = λ s h x. x;
-}
+reset_insertion_mode_stays =
+    record { stays = λ s h. in_plain_mode (mode_of s.stack s) (mode_plain s.stack s h.names) h; hangs = λ s h x. x }

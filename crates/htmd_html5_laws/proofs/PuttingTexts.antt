@@ -1,9 +1,9 @@
 -- A text, run by run, where it is taken: its letters are put into the texts.
-use Rattle.std.proofs.Common.{◌≡◌, ◌∙◌, ℕ, zero, suc, ◌+◌, ◌<◌, ◌≤◌, Bool, true, false, List, [], ◌∷◌, length}
-use Rattle.std.proofs.Common.{refl, sym, ap, subst, arith}
-use Rattle.std.specs.Prelude.{IsUtf8, if◌then◌else◌}
+use Rattle.std.proofs.Common.{◌≡◌, ◌∙◌, ℕ, zero, suc, ◌+◌, ◌<◌, ◌≤◌, Bool, true, false, List, [], ◌∷◌, length, refl}
+use Rattle.std.proofs.Common.{sym, ap, subst, arith}
+use Rattle.std.specs.Prelude.{IsUtf8}
 use Rattle.std.specs.List.{list_all}
-use Rattle.std.proofs.lemmas.Bool.{true≢false, and_parts}
+use Rattle.std.proofs.lemmas.Bool.{true≢false, and_parts, cond_both}
 use Rattle.std.proofs.lemmas.Str.{IsUtf8-nil, IsUtf8-append}
 use Rattle.htmd_grammar.specs.WhiteSpace.{is_ascii_white_space}
 use Rattle.htmd_grammar.proofs.Cases.{test}
@@ -11,7 +11,7 @@ use Rattle.htmd_grammar.specs.CharacterClasses.{is_empty}
 use Rattle.htmd_grammar.proofs.TagReadingLemmas.{front_all}
 use Rattle.htmd_html5_state.specs.OpenElements.{OpenValue, current_is}
 use Rattle.htmd_html5_state.specs.State.{StateValue}
-use Rattle.htmd_html5_state.specs.declared.modes.InsertionMode.TheVariants.{InTable, InTableBody, InRow}
+use Rattle.htmd_html5_state.specs.declared.modes.InsertionMode.TheVariants.{InTable}
 use Rattle.htmd_html5_state.specs.declared.modes.InsertionMode.{InsertionMode}
 use Rattle.htmd_html5_state.specs.declared.sets.NameSet.TheVariants.{Fostering}
 use Rattle.htmd_html5.specs.Runs.{is_of_kind, first_kind, first_run, after_first_run}
@@ -19,10 +19,11 @@ use Rattle.htmd_html5.specs.Outcomes.{Outcome}
 use Rattle.htmd_html5.specs.InBody.{run_in_body}
 use Rattle.htmd_html5.specs.InTable.{without_nulls, kept_of, fostered, foster_runs, put_table_text, table_text}
 use Rattle.htmd_html5.specs.Processing.{by_rules, turns}
-use Rattle.htmd_html5.specs.Texts.{Taken, is_table_mode, takes_all, taken, after_run, first_token, take_within, take_part}
-use Rattle.htmd_html5.specs.Texts.{put_within, put_text}
+use Rattle.htmd_html5.specs.Texts.{Taken, is_table_mode, takes_all, after_run, first_token, take_within}
+use Rattle.htmd_html5.specs.Texts.{take_part, put_within, put_text}
 use Rattle.htmd_html5.proofs.TextsLemmas.{first_run_shortens, part_shorter}
 use Rattle.htmd_html5.proofs.InTableLemmas.{kept_run}
+use Rattle.htmd_html5_laws.specs.EndedTurns.{is_done_within}
 use Rattle.htmd_html5_laws.specs.PageLetters.{occurrences}
 use Rattle.htmd_html5_laws.specs.DocumentLetters.{drops_in, drops_text}
 use Rattle.htmd_html5_laws.proofs.LetterLemmas.{LetterTests}
@@ -30,8 +31,9 @@ use Rattle.htmd_html5_laws.proofs.Keeping.{Sound, kept_same}
 use Rattle.htmd_html5_laws.proofs.TextsPut.{occurs_append, occurs_nil}
 use Rattle.htmd_html5_laws.proofs.Taking.{Grew, kept_grew, grew_as, grew_then, fostered_puts, insert_text_puts}
 use Rattle.htmd_html5_laws.proofs.TakingTexts.{RunParts, run_parts}
-use Rattle.htmd_html5_laws.proofs.PuttingRuns.{rank, rank_positive, rank_at_most, body_mode, PutOutcome, finished, goes_on}
-use Rattle.htmd_html5_laws.proofs.PuttingRuns.{run_outcome, run_in_body_puts, SameLetters, kept_letters}
+use Rattle.htmd_html5_laws.proofs.EndedTurns.{run_done, done_again}
+use Rattle.htmd_html5_laws.proofs.PuttingRuns.{body_mode, PutOutcome, finished}
+use Rattle.htmd_html5_laws.proofs.PuttingRuns.{goes_on, run_outcome, run_in_body_puts, SameLetters, kept_letters}
 
 pub empty_none : (c : ℕ) (s : List ℕ) → is_empty s ≡ true → occurrences c s ≡ 0
 empty_none c [] e = occurs_nil c
@@ -42,41 +44,33 @@ filled [] e = absurd (true≢false e)
 filled (b ∷ s) e = omega arith
 
 -- the first run is all of its kind
-first_all : (s : List ℕ) → list_all (is_of_kind (first_kind s)) (first_run s) ≡ true
+pub first_all : (s : List ℕ) → list_all (is_of_kind (first_kind s)) (first_run s) ≡ true
 first_all s = front_all (is_of_kind (first_kind s)) s
 
 -- ---- the mode stays
 
 foster_mode : (k : ℕ) (text : List ℕ) (s : StateValue) → (foster_runs k text s).mode ≡ s.mode
 foster_mode zero text s = refl
-foster_mode (suc k) text s = either (is_empty text) (foster_mode k (after_first_run text) next ∙ once)
+foster_mode (suc k) text s =
+    cond_both (is_empty text) _ _ (λ (x : StateValue). x.mode ≡ s.mode) (λ e. refl)
+    (λ e. foster_mode k (after_first_run text) next ∙ body_mode text (first_run text)
+    (record s { foster_parenting = true }))
   where
     next : StateValue
     next = fostered (run_in_body (first_kind text) (first_run text)) s
 
-    once : next.mode ≡ s.mode
-    once = body_mode text (first_run text) (record s { foster_parenting = true })
-
-    either : (b : Bool) → (foster_runs k (after_first_run text) next).mode ≡ s.mode
-        → (if b then s else foster_runs k (after_first_run text) next).mode ≡ s.mode
-    either true e = refl
-    either false e = e
-
 table_mode : (text : List ℕ) (s : StateValue) → (put_table_text text s).mode ≡ s.mode
 table_mode text s =
-    test (is_empty text) (λ e. rw e refl)
-    (λ e. test (list_all is_ascii_white_space text) (λ f. rw (e, f) refl)
+    test (is_empty text) (λ e. rw e refl) (λ e. test (list_all is_ascii_white_space text) (λ f. rw (e, f) refl)
     (λ f. rw (e, f) (foster_mode (length text) text s)))
 
 -- in a table all text is taken
 table_takes : (mode : InsertionMode) (stack : List OpenValue) → is_table_mode mode ≡ true → drops_in mode stack
     ≡ false
 table_takes InTable stack e = refl
-table_takes InTableBody stack e = refl
-table_takes InRow stack e = refl
-table_takes _ stack e = absurd (true≢false (sym e))
+table_takes _ stack e = cc
 
-module _ (c : ℕ) (letter : LetterTests c) where
+module _ (exact : Bool) (c : ℕ) (letter : LetterTests c) where
   -- ---- text in a table
 
   nulls_gone : (k : ℕ) (s : List ℕ) → length s ≤ k → IsUtf8 s
@@ -86,29 +80,22 @@ module _ (c : ℕ) (letter : LetterTests c) where
   nulls_gone (suc k) (b ∷ s) l u =
       let parts = run_parts c (b ∷ s) u in
       let shorter = first_run_shortens (b ∷ s) (omega arith) in
-      put parts (kept_letters c letter.character (b ∷ s) (first_run (b ∷ s)) parts.front (first_all (b ∷ s)))
-      (nulls_gone k (after_first_run (b ∷ s)) (omega arith) parts.rest)
-    where
-      put : RunParts c (b ∷ s)
-          → SameLetters c letter.character (first_run (b ∷ s))
-          (kept_of (first_kind (b ∷ s)) (first_run (b ∷ s)))
-          → SameLetters c letter.character (after_first_run (b ∷ s)) (without_nulls (after_first_run (b ∷ s)))
-          → SameLetters c letter.character (b ∷ s) (without_nulls (b ∷ s))
-      put parts x y =
-          subst (SameLetters c letter.character (b ∷ s)) (sym (kept_run (first_kind (b ∷ s)) (b ∷ s)))
-          (record {
-            utf8 = IsUtf8-append _ _ x.utf8 y.utf8;
-            same =
-                let e = occurs_append c (kept_of (first_kind (b ∷ s)) (first_run (b ∷ s)))
-                (without_nulls (after_first_run (b ∷ s))) x.utf8 in
-                let f = parts.count in
-                let g = x.same in
-                let h = y.same in
-                omega arith;
-          })
+      let x = kept_letters c letter.character (b ∷ s) (first_run (b ∷ s)) parts.front (first_all (b ∷ s)) in
+      let y = nulls_gone k (after_first_run (b ∷ s)) (omega arith) parts.rest in
+      subst (SameLetters c letter.character (b ∷ s)) (sym (kept_run (first_kind (b ∷ s)) (b ∷ s)))
+      (record {
+        utf8 = IsUtf8-append _ _ x.utf8 y.utf8;
+        same =
+            let e = occurs_append c (kept_of (first_kind (b ∷ s)) (first_run (b ∷ s)))
+            (without_nulls (after_first_run (b ∷ s))) x.utf8 in
+            let f = parts.count in
+            let g = x.same in
+            let h = y.same in
+            omega arith;
+      })
 
   foster_grew : (k : ℕ) (text : List ℕ) (s : StateValue) → length text ≤ k → IsUtf8 text → Sound s
-      → Grew c (occurrences c text) s (foster_runs k text s)
+      → Grew exact c (occurrences c text) s (foster_runs k text s)
   foster_grew zero [] s l u h = grew_as (occurrences c []) (sym (occurs_nil c)) (kept_grew (kept_same h))
   foster_grew zero (b ∷ text) s l u h = absurd (omega arith)
   foster_grew (suc k) text s l u h =
@@ -116,9 +103,10 @@ module _ (c : ℕ) (letter : LetterTests c) where
       (λ e. rw e (grew_as (occurrences c text) (sym (empty_none c text e)) (kept_grew (kept_same h))))
       (λ e. let parts = run_parts c text u in
       let shorter = first_run_shortens text (filled text e) in
-      let first : Grew c (occurrences c (first_run text)) s
+      let first : Grew exact c (occurrences c (first_run text)) s
       (fostered (run_in_body (first_kind text) (first_run text)) s) =
-      (fostered_puts (run_in_body_puts c letter.character text (first_run text) parts.front (first_all text))).puts s
+      (fostered_puts (run_in_body_puts exact c letter.character text (first_run text) parts.front
+      (first_all text))).puts s
       h in
       let count = parts.count in
       let later = foster_grew k (after_first_run text)
@@ -126,7 +114,7 @@ module _ (c : ℕ) (letter : LetterTests c) where
       rw e (grew_then (occurrences c text) (omega arith) first later))
 
   put_table_grew : (text : List ℕ) (s : StateValue) → IsUtf8 text → Sound s
-      → Grew c (occurrences c text) s (put_table_text text s)
+      → Grew exact c (occurrences c text) s (put_table_text text s)
   put_table_grew text s u h =
       let inserted = (insert_text_puts c text u).puts s h in
       let fostered = foster_grew (length text) text s (omega arith) u h in
@@ -135,7 +123,7 @@ module _ (c : ℕ) (letter : LetterTests c) where
       (λ e. test (list_all is_ascii_white_space text) (λ f. rw (e, f) inserted) (λ f. rw (e, f) fostered))
 
   table_grew : (text : List ℕ) (s : StateValue) → IsUtf8 text → Sound s
-      → Grew c (occurrences c text) s (table_text text s)
+      → Grew exact c (occurrences c text) s (table_text text s)
   table_grew text s u h =
       let gone = nulls_gone (length text) text (omega arith) u in
       grew_as (occurrences c text) gone.same (put_table_grew (without_nulls text) s gone.utf8 h)
@@ -145,15 +133,15 @@ module _ (c : ℕ) (letter : LetterTests c) where
   -- what is put in and what is left are the text
   record PutPart (text : List ℕ) (s : StateValue) (t : Taken) : Type 0 where
     count : ℕ
-    grew : Grew c count s t.state
+    grew : Grew exact c count s t.state
     fits : count + occurrences c t.rest ≡ occurrences c text
     utf8 : IsUtf8 t.rest
-    takes : drops_text t.state ≡ false
+    takes : exact ≡ true → drops_text t.state ≡ false
 
   run_part : (k : ℕ) (text : List ℕ) (s : StateValue) (a : Outcome) → RunParts c text
-      → PutOutcome c (occurrences c (first_run text)) (rank s.mode) s a
-      → ((t : StateValue) → rank t.mode < rank s.mode → drops_text t ≡ false → Sound t
-      → PutPart text t (take_within k text t))
+      → PutOutcome exact c (occurrences c (first_run text)) s a
+      → (a.again ≡ true → (exact ≡ true → drops_text a.state ≡ false) → Sound a.state
+      → PutPart text a.state (take_within k text a.state))
       → PutPart text s (after_run (take_within k text) (after_first_run text) a)
   run_part k text s a parts (finished h) more =
       rw h.again (record {
@@ -163,8 +151,8 @@ module _ (c : ℕ) (letter : LetterTests c) where
         utf8 = parts.rest;
         takes = h.takes;
       })
-  run_part k text s a parts (goes_on e g d l) more =
-      let p = more a.state l d g.sound in
+  run_part k text s a parts (goes_on e g d) more =
+      let p = more e d g.sound in
       rw e (record {
         count = p.count;
         grew = grew_then p.count (omega arith) g p.grew;
@@ -173,52 +161,42 @@ module _ (c : ℕ) (letter : LetterTests c) where
         takes = p.takes;
       })
 
-  within_part : (k : ℕ) (text : List ℕ) (s : StateValue) → rank s.mode ≤ k → IsUtf8 text → drops_text s
-      ≡ false
-      → Sound s → PutPart text s (take_within k text s)
-  within_part zero text s l u d h = absurd (let r = rank_positive s.mode in omega arith)
+  within_part : (k : ℕ) (text : List ℕ) (s : StateValue) → is_done_within k (first_token text) s ≡ true
+      → IsUtf8 text
+      → (exact ≡ true → drops_text s ≡ false) → Sound s → PutPart text s (take_within k text s)
+  within_part zero text s l u d h = absurd (true≢false (sym l))
   within_part (suc k) text s l u d h =
-      either (takes_all s) refl (λ (t : StateValue) (m : rank t.mode < rank s.mode) (e : drops_text t ≡ false)
-      (sound : Sound t). within_part k text t (omega arith) u e sound)
-    where
-      either : (b : Bool) → takes_all s ≡ b
-          → ((t : StateValue) → rank t.mode < rank s.mode → drops_text t ≡ false → Sound t
-          → PutPart text t (take_within k text t))
-          → PutPart text s (if b then taken (table_text text s) []
-          else after_run (take_within k text) (after_first_run text) (by_rules (first_token text) s))
-      either true e more =
-          let mode = (and_parts (is_table_mode s.mode) (current_is Fostering s.stack) e).0 in
-          record {
-            count = occurrences c text;
-            grew = table_grew text s u h;
-            fits = let f = occurs_nil c in omega arith;
-            utf8 = IsUtf8-nil;
-            takes =
-                ap (λ (m : InsertionMode). drops_in m (table_text text s).stack)
-                (table_mode (without_nulls text) s)
-                ∙ table_takes s.mode (table_text text s).stack mode;
-          }
-      either false e more =
-          let parts = run_parts c text u in
-          run_part k text s (by_rules (first_token text) s) parts
-          (run_outcome c letter text (first_run text) parts.front (first_all text) s d h) more
+      cond_both (takes_all s) _ _ (PutPart text s)
+      (λ e. record {
+        count = occurrences c text;
+        grew = table_grew text s u h;
+        fits = let f = occurs_nil c in omega arith;
+        utf8 = IsUtf8-nil;
+        takes = λ x.
+            ap (λ (m : InsertionMode). drops_in m (table_text text s).stack) (table_mode (without_nulls text) s)
+            ∙ table_takes s.mode _ (and_parts (is_table_mode s.mode) (current_is Fostering s.stack) e).0;
+      })
+      (λ e. let parts = run_parts c text u in
+      run_part k text s (by_rules (first_token text) s) parts
+      (run_outcome exact c letter text (first_run text) parts.front (first_all text) s d h)
+      (λ (again : (by_rules (first_token text) s).again ≡ true) f sound.
+      within_part k text (by_rules (first_token text) s).state (done_again k (first_token text) s l again) u f sound))
 
-  put_grew : (k : ℕ) (text : List ℕ) (s : StateValue) → length text ≤ k → IsUtf8 text → drops_text s
-      ≡ false → Sound s
-      → Grew c (occurrences c text) s (put_within k text s)
+  put_grew : (k : ℕ) (text : List ℕ) (s : StateValue) → length text ≤ k → IsUtf8 text
+      → (exact ≡ true → drops_text s ≡ false) → Sound s
+      → Grew exact c (occurrences c text) s (put_within k text s)
   put_grew zero [] s l u d h = grew_as (occurrences c []) (sym (occurs_nil c)) (kept_grew (kept_same h))
   put_grew zero (b ∷ text) s l u d h = absurd (omega arith)
   put_grew (suc k) text s l u d h =
       test (is_empty text)
       (λ e. rw e (grew_as (occurrences c text) (sym (empty_none c text e)) (kept_grew (kept_same h))))
-      (λ e. let r = rank_at_most s.mode in
-      let p = within_part (turns s) text s (omega arith) u d h in
+      (λ e. let p = within_part (turns s) text s (run_done text s) u d h in
       let shorter = part_shorter text s (filled text e) in
       let f = p.fits in
       let later = put_grew k (take_part text s).rest (take_part text s).state
       (omega arith) p.utf8 p.takes p.grew.sound in
       rw e (grew_then (occurrences c text) (omega arith) p.grew later))
 
-  pub put_text_grew : (text : List ℕ) (s : StateValue) → IsUtf8 text → drops_text s ≡ false → Sound s
-      → Grew c (occurrences c text) s (put_text text s)
+  pub put_text_grew : (text : List ℕ) (s : StateValue) → IsUtf8 text → (exact ≡ true → drops_text s ≡ false)
+      → Sound s → Grew exact c (occurrences c text) s (put_text text s)
   put_text_grew text s u d h = put_grew (length text) text s (omega arith) u d h

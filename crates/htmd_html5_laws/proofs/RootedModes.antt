@@ -14,7 +14,8 @@ use Rattle.htmd_html5.specs.Modes.{by_mode_rules}
 use Rattle.htmd_html5.specs.Processing.{by_rules}
 use Rattle.htmd_html5_laws.proofs.PlainStates.{Plain}
 use Rattle.htmd_html5_laws.proofs.PlainModes.{foreign_left}
-use Rattle.htmd_html5_laws.proofs.RootedStacks.{is_late, no_template, leave_foreign_rooted, RootedEnd, foreign_end_rooted}
+use Rattle.htmd_html5_laws.proofs.RootedStacks.{is_late, no_template, leave_foreign_rooted, RootedEnd}
+use Rattle.htmd_html5_laws.proofs.RootedStacks.{foreign_end_rooted}
 use Rattle.htmd_html5_laws.proofs.RootedStates.{RootedAt, Roots, then_roots, rooted_still, roots_by_test, rooted_stack}
 use Rattle.htmd_html5_laws.proofs.RootedRules.{TagRoots, steady, tags_by_test, tag_after, AnswerRooted, AnswerRoots}
 use Rattle.htmd_html5_laws.proofs.RootedRules.{says_rooted, tag_rooted, answers_rooted, rooted_act, last_rooted_act}
@@ -55,10 +56,7 @@ all_fit : (mode : InsertionMode) → is_late mode ≡ true → (t : TokenValue) 
 all_fit mode p (start_tag tag) q = starts_fit tag.name q mode p
 all_fit mode p (end_tag name) q = ends_fit name mode p
 all_fit InBody p t q = refl
-all_fit InSelect p t q = refl
-all_fit AfterBody p t q = refl
-all_fit AfterAfterBody p t q = refl
-all_fit mode p t q = absurd (true≢false (sym p))
+all_fit mode p t q = cc
 
 -- ---- templates, and foreign content
 

@@ -1,9 +1,9 @@
 -- The rules of the modes of the body leave the body open, and an element of only text is open right under what is left:
 -- what each act does.
-use Rattle.std.proofs.Common.{◌≡◌, ◌∙◌, ℕ, ◌<◌, Bool, true, false, List, length, Option, Some, None, refl, sym, ap}
-use Rattle.std.proofs.Common.{subst, inl, inr, ◌⊎◌}
+use Rattle.std.proofs.Common.{◌≡◌, ◌∙◌, ℕ, ◌<◌, Bool, true, false, List, length, Option, Some, None}
+use Rattle.std.proofs.Common.{refl, sym, ap, subst, inl, inr, ◌⊎◌}
 use Rattle.std.specs.Prelude.{if◌then◌else◌, not}
-use Rattle.std.proofs.lemmas.Bool.{true≢false}
+use Rattle.std.proofs.lemmas.Bool.{cond_both, true≢false, not-true}
 use Rattle.htmd_grammar.specs.ValueTrees.{AttributePair}
 use Rattle.htmd_grammar.specs.declared.content_model.RawElement.{RawElement}
 use Rattle.htmd_html5_state.specs.Names.{NameValue, known, text_of_name, same_name}
@@ -16,7 +16,7 @@ use Rattle.htmd_html5_state.specs.Adoption.{formatting_element, node_is, adoptio
 use Rattle.htmd_html5_state.specs.Resetting.{mode_of}
 use Rattle.htmd_html5_state.specs.Foreign.{namespace_of}
 use Rattle.htmd_html5_state.specs.declared.modes.InsertionMode.{InsertionMode}
-use Rattle.htmd_html5_state.specs.declared.modes.InsertionMode.TheVariants.{InBody, InSelect, AfterBody, AfterAfterBody}
+use Rattle.htmd_html5_state.specs.declared.modes.InsertionMode.TheVariants.{InBody}
 use Rattle.htmd_html5_state.specs.declared.names.Namespace.{Namespace}
 use Rattle.htmd_html5_state.specs.declared.sets.NameSet.{NameSet}
 use Rattle.htmd_html5_state.specs.declared.sets.NameSet.TheVariants.{Only, Headings, DescriptionParts, ImpliedEnd}
@@ -27,31 +27,30 @@ use Rattle.htmd_html5.specs.SharedRules.{with_mode, insert_raw_tag, no_frameset,
 use Rattle.htmd_html5.specs.SharedRules.{insert_head_element}
 use Rattle.htmd_html5.specs.BodyStarts.{is_in_template, open_body, add_to_this_body, mode_of_select, forget}
 use Rattle.htmd_html5.specs.BodyEnds.{close_form}
-use Rattle.htmd_html5.specs.InSelect.{close_option_in_group, close_select, has_select, end_select}
+use Rattle.htmd_html5.specs.InSelect.{close_select, has_select, end_select}
 use Rattle.htmd_html5.specs.AfterBody.{comment_in}
 use Rattle.htmd_html5.specs.ForeignContent.{insert_alike}
 use Rattle.htmd_html5_laws.proofs.PlainAdoption.{found_listed}
 use Rattle.htmd_html5_laws.proofs.PlainStates.{Plain}
 use Rattle.htmd_html5_laws.proofs.RootedStacks.{is_late, is_inner_tag, is_inner_name, is_outer_tag, Rooted, Spares}
 use Rattle.htmd_html5_laws.proofs.RootedStacks.{only_spares, no_template, close_rooted, close_name_rooted}
-use Rattle.htmd_html5_laws.proofs.RootedStacks.{pop_while_rooted, close_heading_rooted, close_option_rooted}
-use Rattle.htmd_html5_laws.proofs.RootedStacks.{close_group_rooted, option_in_group_rooted, without_rooted}
-use Rattle.htmd_html5_laws.proofs.RootedStacks.{reset_is_late, select_rooted}
-use Rattle.htmd_html5_laws.proofs.RootedStates.{RootedAt, Roots, then_roots, rooted_still, roots_by_test, roots_by_state}
-use Rattle.htmd_html5_laws.proofs.RootedStates.{rooted_stack, rooted_form, rooted_mode, on_stack_roots, number_after}
-use Rattle.htmd_html5_laws.proofs.RootedStates.{insert_element_roots, insert_void_roots, insert_raw_rooted}
-use Rattle.htmd_html5_laws.proofs.RootedStates.{insert_foreign_roots, insert_comment_roots, insert_comment_in_roots}
-use Rattle.htmd_html5_laws.proofs.RootedStates.{add_missing_roots, without_entry_roots, push_marker_roots}
-use Rattle.htmd_html5_laws.proofs.RootedStates.{clear_to_marker_roots, insert_formatting_roots, reconstruct_roots}
+use Rattle.htmd_html5_laws.proofs.RootedStacks.{pop_while_rooted, pop_where_rooted, option_in_group_rooted}
+use Rattle.htmd_html5_laws.proofs.RootedStacks.{without_rooted, reset_is_late, select_rooted}
+use Rattle.htmd_html5_laws.proofs.RootedStates.{RootedAt, Roots, then_roots, rooted_still, roots_by_test}
+use Rattle.htmd_html5_laws.proofs.RootedStates.{roots_by_state, rooted_stack, rooted_form, rooted_mode, on_stack_roots}
+use Rattle.htmd_html5_laws.proofs.RootedStates.{number_after, insert_element_roots, insert_void_roots}
+use Rattle.htmd_html5_laws.proofs.RootedStates.{insert_raw_rooted, insert_foreign_roots, insert_comment_roots}
+use Rattle.htmd_html5_laws.proofs.RootedStates.{insert_comment_in_roots, add_missing_roots, without_entry_roots}
+use Rattle.htmd_html5_laws.proofs.RootedStates.{push_marker_roots, clear_to_marker_roots, insert_formatting_roots}
+use Rattle.htmd_html5_laws.proofs.RootedStates.{reconstruct_roots}
 use Rattle.htmd_html5_laws.proofs.RootedAdoption.{adoption_agency_roots}
-use Rattle.htmd_html5_laws.proofs.Rules.{Given, own, implied, renamed, given_name, given_attributes, Cut, in_scope}
-use Rattle.htmd_html5_laws.proofs.Rules.{each_of, named, heading, option, option_and_group, group, left_open, Act, act_on}
-use Rattle.htmd_html5_laws.proofs.Rules.{element, void, raw_text, of_head, foreign, foreign_alike, formatting, select}
-use Rattle.htmd_html5_laws.proofs.Rules.{comment, comment_in_root, comment_in_document, cut, agency, forget_anchor}
-use Rattle.htmd_html5_laws.proofs.Rules.{noted_form, select_closed, template_closed, root_attributes, body_attributes}
-use Rattle.htmd_html5_laws.proofs.Rules.{marked, to_marker, reconstructed, to_mode, frames_refused, line_feed_skipped}
-use Rattle.htmd_html5_laws.proofs.Rules.{noted_element}
-use Rattle.htmd_html5_laws.proofs.RuleWalk.{is_off}
+use Rattle.htmd_html5_laws.proofs.Rules.{own, given_name, given_attributes, Cut, in_scope, each_of, named, heading}
+use Rattle.htmd_html5_laws.proofs.Rules.{option, option_and_group, group, left_open, Act, act_on, element, void}
+use Rattle.htmd_html5_laws.proofs.Rules.{raw_text, of_head, foreign, foreign_alike, formatting, select, comment}
+use Rattle.htmd_html5_laws.proofs.Rules.{comment_in_root, comment_in_document, cut, agency, forget_anchor, noted_form}
+use Rattle.htmd_html5_laws.proofs.Rules.{select_closed, template_closed, root_attributes, body_attributes, marked}
+use Rattle.htmd_html5_laws.proofs.Rules.{to_marker, reconstructed, to_mode, frames_refused, line_feed_skipped}
+use Rattle.htmd_html5_laws.proofs.Rules.{noted_element, name_given}
 use Rattle.htmd_html5_state.specs.declared.names.TagName.TheVariants as tags
 use Rattle.htmd_grammar.specs.declared.content_model.RawElement.TheVariants as raw
 
@@ -75,12 +74,10 @@ steady f = record {
 
 pub tags_by_test : {f g : StateValue → StateValue} (b : StateValue → Bool) → TagRoots f → TagRoots g
     → TagRoots (λ s. if b s then f s else g s)
-tags_by_test {f} {g} b first second = record { leaves = λ body s h. either (b s) body s h }
-  where
-    either : (t : Bool) (body : ℕ) (s : StateValue) → RootedAt body s
-        → TagRooted body s (if t then f s else g s)
-    either true body s h = first.leaves body s h
-    either false body s h = second.leaves body s h
+tags_by_test b first second = record {
+  leaves = λ body s h. cond_both (b s) _ _ (λ x. TagRooted body s x) (λ t. first.leaves body s h)
+      (λ t. second.leaves body s h);
+}
 
 -- a tag's step after others
 pub tag_after : {f g : StateValue → StateValue} → TagRoots f → Roots g → TagRoots (λ s. f (g s))
@@ -122,28 +119,20 @@ tag_rooted {f} g = record {
 
 pub answers_rooted : {f g : StateValue → Outcome} (b : StateValue → Bool) → AnswerRoots f → AnswerRoots g
     → AnswerRoots (λ s. if b s then f s else g s)
-answers_rooted {f} {g} b first second = record { leaves = λ body s plain h. either (b s) body s plain h }
-  where
-    either : (t : Bool) (body : ℕ) (s : StateValue) → Plain s → RootedAt body s
-        → AnswerRooted body s (if t then f s else g s)
-    either true body s plain h = first.leaves body s plain h
-    either false body s plain h = second.leaves body s plain h
+answers_rooted b first second = record {
+  leaves = λ body s plain h. cond_both (b s) _ _ (λ x. AnswerRooted body s x) (λ t. first.leaves body s plain h)
+      (λ t. second.leaves body s plain h);
+}
 
 -- ---- acts that leave the body open
 
 parts_spare : Spares DescriptionParts
 parts_spare tags.Dd p = absurd (true≢false (sym p))
-parts_spare tags.Dt p = absurd (true≢false (sym p))
-parts_spare _ p = refl
+parts_spare _ p = cc
 
 headings_spare : Spares Headings
 headings_spare tags.H1 p = absurd (true≢false (sym p))
-headings_spare tags.H2 p = absurd (true≢false (sym p))
-headings_spare tags.H3 p = absurd (true≢false (sym p))
-headings_spare tags.H4 p = absurd (true≢false (sym p))
-headings_spare tags.H5 p = absurd (true≢false (sym p))
-headings_spare tags.H6 p = absurd (true≢false (sym p))
-headings_spare _ p = refl
+headings_spare _ p = cc
 
 abbrev spares_set : NameSet → Bool
 spares_set (Only tag) = not (is_outer_tag tag)
@@ -152,7 +141,7 @@ spares_set DescriptionParts = true
 spares_set set = false
 
 set_spares : (set : NameSet) → spares_set set ≡ true → Spares set
-set_spares (Only tag) e = only_spares tag (is_off (is_outer_tag tag) e)
+set_spares (Only tag) e = only_spares tag (not-true (is_outer_tag tag) e)
 set_spares Headings e = headings_spare
 set_spares DescriptionParts e = parts_spare
 set_spares _ e = absurd (true≢false (sym e))
@@ -170,31 +159,20 @@ spares_body what = false
 left_rooted : (what : Cut) → spares_body what ≡ true → (body : ℕ) (stack : List OpenValue) → Rooted body stack
     → Rooted body (left_open what stack)
 left_rooted (in_scope set scope) e body stack r = close_rooted set scope (set_spares set e) body stack r
-left_rooted (each_of set) e body stack r = pop_while_rooted set (is_off (has set tags.Body) e) body stack r
+left_rooted (each_of set) e body stack r = pop_while_rooted set (not-true (has set tags.Body) e) body stack r
 left_rooted (named name) e body stack r =
-    close_name_rooted name (is_off (same_name (known tags.Body) name) e) body stack r
-left_rooted heading e body stack r = close_heading_rooted body stack r
-left_rooted option e body stack r = close_option_rooted body stack r
+    close_name_rooted name (not-true (same_name (known tags.Body) name) e) body stack r
+left_rooted heading e body stack r = pop_where_rooted Headings refl body stack r
+left_rooted option e body stack r = pop_where_rooted (Only tags.OptionTag) refl body stack r
 left_rooted option_and_group e body stack r =
-    close_group_rooted body (left_open option stack) (close_option_rooted body stack r)
+    pop_where_rooted (Only tags.OptGroup) refl body _ (pop_where_rooted (Only tags.OptionTag) refl body stack r)
 left_rooted group e body stack r =
-    close_group_rooted body (close_option_in_group stack) (option_in_group_rooted body stack r)
+    pop_where_rooted (Only tags.OptGroup) refl body _ (option_in_group_rooted body stack r)
 left_rooted what e body stack r = absurd (true≢false (sym e))
-
-abbrev inner_given : NameValue → Given → Bool
-inner_given name own = is_inner_name name
-inner_given name (implied other) = is_inner_tag other
-inner_given name (renamed other) = is_inner_tag other
-
-given_inner : (given : Given) (tag : StartTagValue) → inner_given tag.name given ≡ true
-    → is_inner_name (given_name given tag) ≡ true
-given_inner own tag e = e
-given_inner (implied name) tag e = e
-given_inner (renamed name) tag e = e
 
 -- acts for a tag of that name in the body and after it
 abbrev pub rooted_act : NameValue → Act → Bool
-rooted_act name (element given) = inner_given name given
+rooted_act name (element given) = is_inner_name (name_given given name)
 rooted_act name (void given) = true
 rooted_act name (foreign space) = true
 rooted_act name foreign_alike = true
@@ -287,41 +265,29 @@ forget_roots = record {
 close_form_rooted : (body : ℕ) (s : StateValue) (form : Option ℕ) → ((n : ℕ) → form ≡ Some n → body < n)
     → RootedAt body s → OneStep body s (close_form form s)
 close_form_rooted body s None f h = record { rooted = h; content = refl }
-close_form_rooted body s (Some n) f h = either (is_node_in_scope n s.stack)
-  where
-    either : (t : Bool)
-        → OneStep body s (if t then on_stack (λ stack. without n (pop_while ImpliedEnd stack)) s else s)
-    either true = record {
+close_form_rooted body s (Some n) f h =
+    cond_both (is_node_in_scope n s.stack) _ _ (λ x. OneStep body s x)
+    (λ t. record {
       rooted = rooted_stack (without n (pop_while ImpliedEnd s.stack))
           (without_rooted body n (f n refl) (pop_while ImpliedEnd s.stack)
           (pop_while_rooted ImpliedEnd refl body s.stack h.rooted)) h;
       content = refl;
-    }
-    either false = record { rooted = h; content = refl }
+    }) (λ t. record { rooted = h; content = refl })
 
 no_form : (body n : ℕ) → None ≡ Some n → body < n
-no_form body n e = absurd (none_some e)
-  where
-    none_some : None ≡ Some n → ⊥
-    none_some f = cc
+no_form body n e = absurd (cc)
 
 noted_form_roots : Roots (λ s. close_form s.form (record s { form = None }))
-noted_form_roots = record {
-  rooted = λ body s h. (closed body s h).rooted;
-  content = λ body s h. (closed body s h).content;
-}
+noted_form_roots =
+    record { rooted = λ body s h. (closed body s h).rooted; content = λ body s h. (closed body s h).content }
   where
     closed : (body : ℕ) (s : StateValue) → RootedAt body s
         → OneStep body (record s { form = None }) (close_form s.form (record s { form = None }))
-    closed body s h =
-        close_form_rooted body (record s { form = None }) s.form h.form_at (rooted_form (no_form body) h)
+    closed body s h = close_form_rooted body (record s { form = None }) s.form h.form_at (rooted_form (no_form body) h)
 
 select_late : (mode : InsertionMode) → is_late mode ≡ true → is_late (mode_of_select mode) ≡ true
 select_late InBody l = refl
-select_late InSelect l = refl
-select_late AfterBody l = refl
-select_late AfterAfterBody l = refl
-select_late _ l = absurd (true≢false (sym l))
+select_late _ l = cc
 
 closed_select : (body : ℕ) (s : StateValue) → RootedAt body s → has_select s ≡ true
     → RootedAt body (close_select s)
@@ -333,18 +299,10 @@ closed_select body s h t =
 
 end_select_roots : Roots end_select
 end_select_roots = record {
-  rooted = λ body s h. either body s h (has_select s) refl;
-  content = λ body s h. same s (has_select s);
+  rooted = λ body s h. cond_both (has_select s) _ _ (λ x. RootedAt body x) (λ t. closed_select body s h t) (λ t. h);
+  content = λ body s h. cond_both (has_select s) _ _ (λ (x : StateValue). x.content ≡ s.content) (λ t. refl)
+      (λ t. refl);
 }
-  where
-    either : (body : ℕ) (s : StateValue) → RootedAt body s → (t : Bool) → has_select s ≡ t
-        → RootedAt body (if t then close_select s else s)
-    either body s h true t = closed_select body s h t
-    either body s h false t = h
-
-    same : (s : StateValue) (t : Bool) → (if t then close_select s else s).content ≡ s.content
-    same s true = refl
-    same s false = refl
 
 module _ (tag : StartTagValue) where
   -- the form comes after the body
@@ -386,11 +344,9 @@ module _ (tag : StartTagValue) where
   of_head_roots p _ q = steady (insert_void_roots tag.name tag.attributes)
 
   pub act_roots : (a : Act) → rooted_act tag.name a ≡ true → Roots (act_on a tag)
-  act_roots (element given) e =
-      insert_element_roots (given_name given tag) (given_attributes given tag) (given_inner given tag e)
+  act_roots (element given) e = insert_element_roots (given_name given tag) (given_attributes given tag) e
   act_roots (void given) e = insert_void_roots (given_name given tag) (given_attributes given tag)
-  act_roots (foreign space) e =
-      insert_foreign_roots space (text_of_name tag.name) tag.attributes tag.self_closing
+  act_roots (foreign space) e = insert_foreign_roots space (text_of_name tag.name) tag.attributes tag.self_closing
   act_roots foreign_alike e = roots_by_state (λ s. namespace_of (current s.stack).name) (alike_roots tag)
   act_roots formatting e = insert_formatting_roots tag.name tag.attributes e
   act_roots select e = select_roots e

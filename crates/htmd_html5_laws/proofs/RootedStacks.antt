@@ -1,29 +1,30 @@
 -- What is open in the body: elements that have no mode of their own, then the body, then what was open before it.
-use Rattle.std.proofs.Common.{◌≡◌, ◌∙◌, ℕ, ◌<◌, Bool, true, false, List, [], ◌∷◌, ◌++◌, refl, sym, ap, arith, inl, inr, ◌⊎◌}
+use Rattle.std.proofs.Common.{◌≡◌, ◌∙◌, ℕ, ◌<◌, Bool, true, false, List, [], ◌∷◌, ◌++◌}
+use Rattle.std.proofs.Common.{refl, sym, ap, arith, inl, inr, ◌⊎◌}
 use Rattle.std.specs.Prelude.{unwrap_or, ◌==◌, ◌&&◌, not, if◌then◌else◌}
-use Rattle.std.proofs.lemmas.Bool.{true≢false, and_parts, ne_eqb}
+use Rattle.std.proofs.lemmas.Bool.{true≢false, and_parts, ne_eqb, and_right}
 use Rattle.htmd_grammar.proofs.Cases.{test}
-use Rattle.htmd_html5_state.specs.Names.{NameValue, ElementNameValue, known, other, html, svg, math, same_tag, same_name}
-use Rattle.htmd_html5_state.specs.Names.{same_element_name}
+use Rattle.htmd_html5_state.specs.Names.{NameValue, ElementNameValue, known, other, html, svg, math, same_tag}
+use Rattle.htmd_html5_state.specs.Names.{same_name, same_element_name}
 use Rattle.htmd_html5_state.specs.Sets.{is_of, has, bounds}
 use Rattle.htmd_html5_state.specs.Nodes.{NodeValue}
-use Rattle.htmd_html5_state.specs.OpenElements.{OpenValue, is_in, has_name, is_open, is_open_node, current_is, is_in_scope}
-use Rattle.htmd_html5_state.specs.OpenElements.{scope_has, is_closable, pop, pop_through, pop_until, pop_while, close}
-use Rattle.htmd_html5_state.specs.OpenElements.{close_name, without, inside, around}
-use Rattle.htmd_html5_state.specs.Foreign.{is_html, is_html_name, ends_foreign, leave_foreign, is_spelled_so, ForeignEnd}
-use Rattle.htmd_html5_state.specs.Foreign.{by_mode, closed_to, foreign_end}
+use Rattle.htmd_html5_state.specs.OpenElements.{OpenValue, is_in, has_name, is_open, is_open_node, current_is}
+use Rattle.htmd_html5_state.specs.OpenElements.{is_in_scope, scope_has, is_closable, pop, pop_through, pop_until}
+use Rattle.htmd_html5_state.specs.OpenElements.{pop_while, close, close_name, without, inside, around}
+use Rattle.htmd_html5_state.specs.Foreign.{is_html, is_html_name, ends_foreign, leave_foreign, is_spelled_so}
+use Rattle.htmd_html5_state.specs.Foreign.{ForeignEnd, by_mode, closed_to, foreign_end}
 use Rattle.htmd_html5_state.specs.State.{StateValue}
 use Rattle.htmd_html5_state.specs.Resetting.{mode_for_name, mode_of}
 use Rattle.htmd_html5_state.specs.declared.modes.InsertionMode.{InsertionMode}
 use Rattle.htmd_html5_state.specs.declared.modes.InsertionMode.TheVariants.{InBody, InSelect, AfterBody, AfterAfterBody}
 use Rattle.htmd_html5_state.specs.declared.names.TagName.{TagName}
 use Rattle.htmd_html5_state.specs.declared.sets.NameSet.{NameSet}
-use Rattle.htmd_html5_state.specs.declared.sets.NameSet.TheVariants.{Only, Headings}
+use Rattle.htmd_html5_state.specs.declared.sets.NameSet.TheVariants.{Only}
 use Rattle.htmd_html5_state.specs.declared.sets.Scope.{Scope}
-use Rattle.htmd_html5_state.specs.declared.sets.Scope.TheVariants.{Template as TemplateScope, Special, Select as SelectScope}
+use Rattle.htmd_html5_state.specs.declared.sets.Scope.TheVariants.{Template as TemplateScope, Special}
+use Rattle.htmd_html5_state.specs.declared.sets.Scope.TheVariants.{Select as SelectScope}
 use Rattle.htmd_html5_state.proofs.TagLemmas.{same_tag-true}
-use Rattle.htmd_html5.specs.BodyStarts.{close_heading, close_option}
-use Rattle.htmd_html5.specs.InSelect.{close_group, close_option_in_group}
+use Rattle.htmd_html5.specs.InSelect.{close_option_in_group}
 use Rattle.htmd_html5_laws.proofs.OpenNodes.{EachOpen}
 use Rattle.htmd_html5_state.specs.declared.names.TagName.TheVariants as tags
 use Rattle.htmd_html5_state.specs.Foreign as foreign
@@ -117,9 +118,7 @@ Spares set = (tag : TagName) → is_outer_tag tag ≡ true → has set tag ≡ f
 spared : (set : NameSet) → Spares set → (name : ElementNameValue) → is_outer name ≡ true
     → is_of set name ≡ false
 spared set f (html (known tag)) p = f tag p
-spared set f (html (other s)) p = absurd (true≢false (sym p))
-spared set f (svg s) p = absurd (true≢false (sym p))
-spared set f (math s) p = absurd (true≢false (sym p))
+spared set f _ p = absurd (true≢false (sym p))
 
 pub only_spares : (tag : TagName) → is_outer_tag tag ≡ false → Spares (Only tag)
 only_spares tag e u p =
@@ -137,22 +136,17 @@ not_body tag p = (
     other : (tag : TagName) → tag ≡ tags.Body → is_inner_tag tag ≡ true → ⊥
     other tag e q = true≢false (sym q ∙ ap is_inner_tag e)
 
-both_off : (a b : Bool) → b ≡ false → (a && b) ≡ false
-both_off true b e = e
-both_off false b e = refl
-
 none_before : (set : NameSet) (scope : Scope) → Spares set → (body : ℕ) (es : List OpenValue)
     → EachOpen (Before body) es → scope_has (is_in set) scope es ≡ false
 none_before set scope f body [] h = refl
 none_before set scope f body (e ∷ es) h =
     rw (spared set f e.name h.0.0)
-    (both_off (not (bounds scope e.name)) (scope_has (is_in set) scope es) (none_before set scope f body es h.1))
+    (and_right (not (bounds scope e.name)) (scope_has (is_in set) scope es) (none_before set scope f body es h.1))
 
 none_open_before : (set : NameSet) → Spares set → (body : ℕ) (es : List OpenValue) → EachOpen (Before body) es
     → is_open set es ≡ false
 none_open_before set f body [] h = refl
-none_open_before set f body (e ∷ es) h =
-    rw (spared set f e.name h.0.0) (none_open_before set f body es h.1)
+none_open_before set f body (e ∷ es) h = rw (spared set f e.name h.0.0) (none_open_before set f body es h.1)
 
 -- ---- no table is open, and no template
 
@@ -161,27 +155,20 @@ table_spares = only_spares tags.Table refl
 
 no_inner_table : (name : ElementNameValue) → is_inner name ≡ true → is_of (Only tags.Table) name ≡ false
 no_inner_table (html (known tags.Table)) p = absurd (true≢false (sym p))
-no_inner_table (html (known _)) p = refl
-no_inner_table (html (other s)) p = refl
-no_inner_table (svg s) p = refl
-no_inner_table (math s) p = refl
+no_inner_table _ p = refl
 
 no_table : (body : ℕ) (stack : List OpenValue) → Rooted body stack
     → is_in_scope (Only tags.Table) TemplateScope stack ≡ false
 no_table body [] h = refl
-no_table body (e ∷ es) (inl h) =
-    rw h.0.0 (none_before (Only tags.Table) TemplateScope table_spares body es h.1)
+no_table body (e ∷ es) (inl h) = rw h.0.0 (none_before (Only tags.Table) TemplateScope table_spares body es h.1)
 no_table body (e ∷ es) (inr h) =
     rw (no_inner_table e.name h.0)
-    (both_off (not (bounds TemplateScope e.name)) (is_in_scope (Only tags.Table) TemplateScope es)
+    (and_right (not (bounds TemplateScope e.name)) (is_in_scope (Only tags.Table) TemplateScope es)
     (no_table body es h.1))
 
 no_inner_template : (name : ElementNameValue) → is_inner name ≡ true → is_of (Only tags.Template) name ≡ false
 no_inner_template (html (known tags.Template)) p = absurd (true≢false (sym p))
-no_inner_template (html (known _)) p = refl
-no_inner_template (html (other s)) p = refl
-no_inner_template (svg s) p = refl
-no_inner_template (math s) p = refl
+no_inner_template _ p = refl
 
 pub no_template : (body : ℕ) (stack : List OpenValue) → Rooted body stack
     → is_open (Only tags.Template) stack ≡ false
@@ -196,24 +183,7 @@ inner_mode : (name : ElementNameValue) (outer : List OpenValue) (s : StateValue)
     → is_inner name ≡ true → is_in_scope (Only tags.Table) TemplateScope outer ≡ false → is_late mode ≡ true
     → is_late (unwrap_or (mode_for_name name outer s) mode) ≡ true
 inner_mode (html (known tags.Select)) outer s mode p e l = rw e refl
-inner_mode (html (known tags.Html)) outer s mode p e l = absurd (true≢false (sym p))
-inner_mode (html (known tags.Head)) outer s mode p e l = absurd (true≢false (sym p))
-inner_mode (html (known tags.Body)) outer s mode p e l = absurd (true≢false (sym p))
-inner_mode (html (known tags.FrameSet)) outer s mode p e l = absurd (true≢false (sym p))
-inner_mode (html (known tags.Template)) outer s mode p e l = absurd (true≢false (sym p))
-inner_mode (html (known tags.Table)) outer s mode p e l = absurd (true≢false (sym p))
-inner_mode (html (known tags.Caption)) outer s mode p e l = absurd (true≢false (sym p))
-inner_mode (html (known tags.ColGroup)) outer s mode p e l = absurd (true≢false (sym p))
-inner_mode (html (known tags.TBody)) outer s mode p e l = absurd (true≢false (sym p))
-inner_mode (html (known tags.THead)) outer s mode p e l = absurd (true≢false (sym p))
-inner_mode (html (known tags.TFoot)) outer s mode p e l = absurd (true≢false (sym p))
-inner_mode (html (known tags.Tr)) outer s mode p e l = absurd (true≢false (sym p))
-inner_mode (html (known tags.Td)) outer s mode p e l = absurd (true≢false (sym p))
-inner_mode (html (known tags.Th)) outer s mode p e l = absurd (true≢false (sym p))
-inner_mode (html (known _)) outer s mode p e l = l
-inner_mode (html (other t)) outer s mode p e l = l
-inner_mode (svg t) outer s mode p e l = l
-inner_mode (math t) outer s mode p e l = l
+inner_mode _ outer s mode p e l = cc
 
 -- it is one of the body's
 pub reset_is_late : (body : ℕ) (stack : List OpenValue) (s : StateValue) → Rooted body stack
@@ -238,8 +208,7 @@ through_rooted wanted scope body off out (e ∷ es) (inl h) l = absurd (true≢f
     none : scope_has wanted scope (e ∷ es) ≡ false
     none = rw (off e h.0.0) (rw h.0.0 (out es h.1))
 through_rooted wanted scope body off out (e ∷ es) (inr h) l =
-    test (wanted e) (λ t. rw t h.1)
-    (λ t. rw t (through_rooted wanted scope body off out es h.1
+    test (wanted e) (λ t. rw t h.1) (λ t. rw t (through_rooted wanted scope body off out es h.1
     (and_parts (not (bounds scope e.name)) (scope_has wanted scope es) (rw t at l)).1))
 
 pub close_rooted : (set : NameSet) (scope : Scope) → Spares set → (body : ℕ) (stack : List OpenValue)
@@ -247,15 +216,13 @@ pub close_rooted : (set : NameSet) (scope : Scope) → Spares set → (body : �
 close_rooted set scope f body stack h =
     test (is_in_scope set scope stack)
     (λ t. rw t (through_rooted (is_in set) scope body (λ e n. ap (is_of set) n ∙ f tags.Body refl)
-    (λ es o. both_off (not (bounds scope (html (known tags.Body)))) (scope_has (is_in set) scope es)
-    (none_before set scope f body es o)) stack h t))
-    (λ t. rw t h)
+    (λ es o. and_right (not (bounds scope (html (known tags.Body)))) (scope_has (is_in set) scope es)
+    (none_before set scope f body es o)) stack h t)) (λ t. rw t h)
 
 pub close_name_rooted : (name : NameValue) → same_name (known tags.Body) name ≡ false → (body : ℕ)
     (stack : List OpenValue) → Rooted body stack → Rooted body (close_name name stack)
 close_name_rooted name f body stack h =
-    test (is_closable name stack)
-    (λ t. rw t (through_rooted (has_name (html name)) Special body
+    test (is_closable name stack) (λ t. rw t (through_rooted (has_name (html name)) Special body
     (λ e n. ap (λ (x : ElementNameValue). same_element_name x (html name)) n ∙ f) (λ es o. refl) stack h t))
     (λ t. rw t h)
 
@@ -280,22 +247,10 @@ popped_rooted set f body [] h t = h
 popped_rooted set f body (e ∷ es) (inl h) t = absurd (true≢false (sym t ∙ (ap (is_of set) h.0.0 ∙ f)))
 popped_rooted set f body (e ∷ es) (inr h) t = h.1
 
-pop_where_rooted : (set : NameSet) → has set tags.Body ≡ false → (body : ℕ) (stack : List OpenValue)
+pub pop_where_rooted : (set : NameSet) → has set tags.Body ≡ false → (body : ℕ) (stack : List OpenValue)
     → Rooted body stack → Rooted body (if current_is set stack then pop stack else stack)
 pop_where_rooted set f body stack h =
     test (current_is set stack) (λ t. rw t (popped_rooted set f body stack h t)) (λ t. rw t h)
-
-pub close_heading_rooted : (body : ℕ) (stack : List OpenValue) → Rooted body stack
-    → Rooted body (close_heading stack)
-close_heading_rooted body stack h = pop_where_rooted Headings refl body stack h
-
-pub close_option_rooted : (body : ℕ) (stack : List OpenValue) → Rooted body stack
-    → Rooted body (close_option stack)
-close_option_rooted body stack h = pop_where_rooted (Only tags.OptionTag) refl body stack h
-
-pub close_group_rooted : (body : ℕ) (stack : List OpenValue) → Rooted body stack
-    → Rooted body (close_group stack)
-close_group_rooted body stack h = pop_where_rooted (Only tags.OptGroup) refl body stack h
 
 pub option_in_group_rooted : (body : ℕ) (stack : List OpenValue) → Rooted body stack
     → Rooted body (close_option_in_group stack)
@@ -310,8 +265,7 @@ option_in_group_rooted body stack h =
 without_each : (P : OpenValue → Type 0) (n : ℕ) (es : List OpenValue) → EachOpen P es
     → EachOpen P (without n es)
 without_each P n [] h = tt
-without_each P n (e ∷ es) h =
-    test (e.node == n) (λ t. rw t h.1) (λ t. rw t (h.0, without_each P n es h.1))
+without_each P n (e ∷ es) h = test (e.node == n) (λ t. rw t h.1) (λ t. rw t (h.0, without_each P n es h.1))
 
 other_node : (a body n : ℕ) → a ≡ body → body < n → (a == n) ≡ false
 other_node a body n e l = ne_eqb a n (λ f. omega arith)
@@ -332,8 +286,7 @@ not_open_before body n l (e ∷ es) h =
 
 not_open_in_body : (body n : ℕ) → body < n → (e : OpenValue) (es : List OpenValue)
     → BodyOpen body e × EachOpen (Before body) es → is_open_node n (e ∷ es) ≡ false
-not_open_in_body body n l e es h =
-    rw (other_node e.node body n h.0.1 l) (not_open_before body n l es h.1)
+not_open_in_body body n l e es h = rw (other_node e.node body n h.0.1 l) (not_open_before body n l es h.1)
 
 pub around_rooted : (body n : ℕ) → body < n → (stack : List OpenValue) → Rooted body stack
     → is_open_node n stack ≡ true → Rooted body (around n stack)
@@ -373,6 +326,5 @@ foreign_end_rooted name body [] h = tt
 foreign_end_rooted name body (e ∷ []) h = tt
 foreign_end_rooted name body (e ∷ f ∷ es) (inl h) = rw (ap is_html_name h.0.0) tt
 foreign_end_rooted name body (e ∷ f ∷ es) (inr h) =
-    test (is_html e) (λ t. rw t tt)
-    (λ t. test (is_spelled_so name e.name) (λ u. rw (t, u) h.1)
+    test (is_html e) (λ t. rw t tt) (λ t. test (is_spelled_so name e.name) (λ u. rw (t, u) h.1)
     (λ u. rw (t, u) (foreign_end_rooted name body (f ∷ es) h.1)))

@@ -1,30 +1,28 @@
 -- States in which the body is open in one of its modes, and steps that leave them so.
-use Rattle.std.proofs.Common.{◌≡◌, ◌∙◌, ℕ, ◌<◌, Bool, true, false, List, [], ◌∷◌, length}
-use Rattle.std.proofs.Common.{Option, Some, None, refl, sym, ap, subst, arith, inl, inr, ◌⊎◌}
+use Rattle.std.proofs.Common.{◌≡◌, ◌∙◌, ℕ, ◌<◌, Bool, true, false, List, ◌∷◌, length, Option, Some, refl, sym, ap}
+use Rattle.std.proofs.Common.{subst, arith, inr, ◌⊎◌}
 use Rattle.std.specs.Prelude.{if◌then◌else◌}
-use Rattle.std.proofs.lemmas.Bool.{true≢false, eq-eqb}
+use Rattle.std.proofs.lemmas.Bool.{true≢false, cond_both}
 use Rattle.std.proofs.lemmas.List.{length-map}
-use Rattle.htmd_grammar.proofs.Cases.{test}
 use Rattle.htmd_grammar.specs.ValueTrees.{AttributePair}
 use Rattle.htmd_grammar.specs.declared.content_model.RawElement.{RawElement}
 use Rattle.htmd_html5_state.specs.Names.{NameValue, ElementNameValue, html}
-use Rattle.htmd_html5_state.specs.Nodes.{KindValue, document, doctype, text, comment, element, kind_at}
-use Rattle.htmd_html5_state.specs.Nodes.{last_in, add_missing}
-use Rattle.htmd_html5_state.specs.OpenElements.{OpenValue, is_open_node}
+use Rattle.htmd_html5_state.specs.Nodes.{KindValue, comment, element, kind_at, last_in, add_missing}
+use Rattle.htmd_html5_state.specs.OpenElements.{OpenValue}
 use Rattle.htmd_html5_state.specs.State.{StateValue, on_nodes, on_stack, on_formatting}
 use Rattle.htmd_html5_state.specs.Foreign.{foreign_name, foreign_attributes, insert_foreign}
-use Rattle.htmd_html5_state.specs.Insertion.{opened, current, place, insert_named, insert_element, insert_void, insert_raw}
-use Rattle.htmd_html5_state.specs.Insertion.{insert_text, insert_comment_in, insert_comment}
+use Rattle.htmd_html5_state.specs.Insertion.{opened, current, place, insert_named, insert_element, insert_void}
+use Rattle.htmd_html5_state.specs.Insertion.{insert_raw, insert_text, insert_comment_in, insert_comment}
 use Rattle.htmd_html5_state.specs.Formatting.{is_listed, push_marker, clear_to_marker, without_entry, insert_formatting}
-use Rattle.htmd_html5_state.specs.Formatting.{closed_elements, after_closed, insert_like, reopen_all, reconstruct}
+use Rattle.htmd_html5_state.specs.Formatting.{after_closed, insert_like, reconstruct}
 use Rattle.htmd_html5_state.specs.declared.modes.InsertionMode.{InsertionMode}
 use Rattle.htmd_html5_state.specs.declared.names.Namespace.{Namespace}
 use Rattle.htmd_html5_state.specs.declared.names.Namespace.TheVariants.{Svg, MathMl}
 use Rattle.htmd_html5_laws.proofs.NodeTexts.{kinds, kinds_add, kind_read}
-use Rattle.htmd_html5_laws.proofs.NamedKinds.{is_named, NamedAt, Grows, grows_same, grows_then, grows_added, named_added}
-use Rattle.htmd_html5_laws.proofs.NamedKinds.{grows_missing, grows_text}
-use Rattle.htmd_html5_laws.proofs.KeepingInsertion.{listed_more, listed_without, listed_after_marker, listed_closed, listed_first}
-use Rattle.htmd_html5_laws.proofs.KeepingInsertion.{listed_pushed}
+use Rattle.htmd_html5_laws.proofs.NamedKinds.{is_named, NamedAt, Grows, grows_same, grows_then, grows_added}
+use Rattle.htmd_html5_laws.proofs.NamedKinds.{named_added, grows_missing, grows_text}
+use Rattle.htmd_html5_laws.proofs.KeepingInsertion.{listed_without, listed_after_marker, listed_closed, listed_first}
+use Rattle.htmd_html5_laws.proofs.KeepingInsertion.{listed_pushed, one_or_listed, reconstructed}
 use Rattle.htmd_html5_laws.proofs.RootedStacks.{is_late, is_inner, is_inner_name, Rooted}
 
 -- ---- states
@@ -64,25 +62,17 @@ rooted_still = record { rooted = λ body s h. h; content = λ body s h. refl }
 
 pub roots_by_test : {f g : StateValue → StateValue} (b : StateValue → Bool) → Roots f → Roots g
     → Roots (λ s. if b s then f s else g s)
-roots_by_test {f} {g} b first second =
-    record { rooted = λ body s h. either (b s) body s h; content = λ body s h. each (b s) body s h }
-  where
-    either : (t : Bool) (body : ℕ) (s : StateValue) → RootedAt body s → RootedAt body (if t then f s else g s)
-    either true body s h = first.rooted body s h
-    either false body s h = second.rooted body s h
-
-    each : (t : Bool) (body : ℕ) (s : StateValue) → RootedAt body s
-        → (if t then f s else g s).content ≡ s.content
-    each true body s h = first.content body s h
-    each false body s h = second.content body s h
+roots_by_test b first second = record {
+  rooted = λ body s h. cond_both (b s) _ _ (RootedAt body) (λ t. first.rooted body s h)
+      (λ t. second.rooted body s h);
+  content = λ body s h. cond_both (b s) _ _ (λ (x : StateValue). x.content ≡ s.content)
+      (λ t. first.content body s h) (λ t. second.content body s h);
+}
 
 pub roots_by_state : {A : Type 0} {f : A → StateValue → StateValue} (a : StateValue → A)
-    → ((x : A) → Roots (f x))
-    → Roots (λ s. f (a s) s)
-roots_by_state a h = record {
-  rooted = λ body s r. (h (a s)).rooted body s r;
-  content = λ body s r. (h (a s)).content body s r;
-}
+    → ((x : A) → Roots (f x)) → Roots (λ s. f (a s) s)
+roots_by_state a h =
+    record { rooted = λ body s r. (h (a s)).rooted body s r; content = λ body s r. (h (a s)).content body s r }
 
 -- ---- parts of a state changed
 
@@ -100,51 +90,29 @@ module _ {body : ℕ} {ks : List KindValue} {entries : List (Option ℕ)} {form 
 
   pub rooted_stack : (es : List OpenValue) → Rooted body es → RootedIn body ks entries form stack mode
       → RootedIn body ks entries form es mode
-  rooted_stack es r h = record {
-    within = h.within;
-    rooted = r;
-    entries_at = h.entries_at;
-    form_at = h.form_at;
-    late = h.late;
-  }
+  rooted_stack es r h =
+      record { within = h.within; rooted = r; entries_at = h.entries_at; form_at = h.form_at; late = h.late }
 
   rooted_entries : {later : List (Option ℕ)}
       → ((n : ℕ) → is_listed n later ≡ true → (body < n) × InnerAt ks n)
       → RootedIn body ks entries form stack mode → RootedIn body ks later form stack mode
-  rooted_entries f h = record {
-    within = h.within;
-    rooted = h.rooted;
-    entries_at = f;
-    form_at = h.form_at;
-    late = h.late;
-  }
+  rooted_entries f h =
+      record { within = h.within; rooted = h.rooted; entries_at = f; form_at = h.form_at; late = h.late }
 
   pub rooted_form : {new : Option ℕ} → ((n : ℕ) → new ≡ Some n → body < n)
       → RootedIn body ks entries form stack mode → RootedIn body ks entries new stack mode
-  rooted_form f h = record {
-    within = h.within;
-    rooted = h.rooted;
-    entries_at = h.entries_at;
-    form_at = f;
-    late = h.late;
-  }
+  rooted_form f h =
+      record { within = h.within; rooted = h.rooted; entries_at = h.entries_at; form_at = f; late = h.late }
 
   pub rooted_mode : (new : InsertionMode) → is_late new ≡ true → RootedIn body ks entries form stack mode
       → RootedIn body ks entries form stack new
-  rooted_mode new l h = record {
-    within = h.within;
-    rooted = h.rooted;
-    entries_at = h.entries_at;
-    form_at = h.form_at;
-    late = l;
-  }
+  rooted_mode new l h =
+      record { within = h.within; rooted = h.rooted; entries_at = h.entries_at; form_at = h.form_at; late = l }
 
 pub on_stack_roots : (f : List OpenValue → List OpenValue)
     → ((body : ℕ) (stack : List OpenValue) → Rooted body stack → Rooted body (f stack)) → Roots (on_stack f)
-on_stack_roots f g = record {
-  rooted = λ body s h. rooted_stack (f s.stack) (g body s.stack h.rooted) h;
-  content = λ body s h. refl;
-}
+on_stack_roots f g =
+    record { rooted = λ body s h. rooted_stack (f s.stack) (g body s.stack h.rooted) h; content = λ body s h. refl }
 
 -- ---- one more node
 
@@ -205,16 +173,12 @@ pub insert_comment_roots : (c : List ℕ) → Roots (insert_comment c)
 insert_comment_roots c = roots_by_state (λ s. (current s.stack).node) (λ n. insert_comment_in_roots n c)
 
 pub add_missing_roots : (n : ℕ) (more : List AttributePair) → Roots (on_nodes (add_missing n more))
-add_missing_roots n more = record {
-  rooted = λ body s h. rooted_grown (grows_missing n more s.nodes) h;
-  content = λ body s h. refl;
-}
+add_missing_roots n more =
+    record { rooted = λ body s h. rooted_grown (grows_missing n more s.nodes) h; content = λ body s h. refl }
 
 pub insert_text_roots : (t : List ℕ) → Roots (insert_text t)
-insert_text_roots t = record {
-  rooted = λ body s h. rooted_grown (grows_text t (place s) s.nodes) h;
-  content = λ body s h. refl;
-}
+insert_text_roots t =
+    record { rooted = λ body s h. rooted_grown (grows_text t (place s) s.nodes) h; content = λ body s h. refl }
 
 -- ---- the list of active formatting elements
 
@@ -239,11 +203,8 @@ pub rooted_listed : {body : ℕ} {ks : List KindValue} {entries later : List (Op
     {stack : List OpenValue} {mode : InsertionMode} (m : ℕ) → (body < m) × InnerAt ks m
     → ((n : ℕ) → is_listed n later ≡ true → (n ≡ m) ⊎ (is_listed n entries ≡ true))
     → RootedIn body ks entries form stack mode → RootedIn body ks later form stack mode
-rooted_listed {body} {ks} {entries} m p f h = rooted_entries (λ n l. either n (f n l)) h
-  where
-    either : (n : ℕ) → (n ≡ m) ⊎ (is_listed n entries ≡ true) → (body < n) × InnerAt ks n
-    either n (inl e) = subst (λ (x : ℕ). (body < x) × InnerAt ks x) (sym e) p
-    either n (inr l) = h.entries_at n l
+rooted_listed {body} {ks} m p f h =
+    rooted_entries (λ n l. one_or_listed (λ x. (body < x) × InnerAt ks x) m n p (h.entries_at n) (f n l)) h
 
 pub insert_formatting_roots : (name : NameValue) (attributes : List AttributePair) → is_inner_name name ≡ true
     → Roots (insert_formatting name attributes)
@@ -252,8 +213,7 @@ insert_formatting_roots name attributes p = record {
     number_after body s h,
     named_added is_inner s.nodes (element (html name) attributes)
         (kinds_add (element (html name) attributes) (place s) s.nodes) p,
-  )
-      (λ n l. listed_pushed n (length s.nodes) (insert_element name attributes s).nodes s.formatting l)
+  ) (λ n l. listed_pushed n (length s.nodes) (insert_element name attributes s).nodes s.formatting l)
       ((insert_element_roots name attributes p).rooted body s h);
   content = λ body s h. refl;
 }
@@ -265,69 +225,37 @@ record RootedGrown (body : ℕ) (s new : StateValue) : Type 0 where
   rooted : RootedAt body new
   grows : Grows (kinds s.nodes) (kinds new.nodes)
 
-abbrev EachInner : List KindValue → List ℕ → Type 0
-EachInner ks [] = Unit {0}
-EachInner ks (n ∷ ns) = InnerAt ks n × EachInner ks ns
-
 like_grown : (body : ℕ) (s : StateValue) (k : KindValue) → is_named is_inner k ≡ true → RootedAt body s
     → RootedGrown body s (on_formatting (λ entries. Some (length s.nodes) ∷ entries) (insert_like k s))
 like_grown body s (element name attributes) p h = record {
   rooted = rooted_listed (length s.nodes) (
     number_after body s h,
     named_added is_inner s.nodes (element name attributes) (kinds_add (element name attributes) (place s) s.nodes) p,
-  )
-      (λ n l. listed_first n (length s.nodes) s.formatting l) ((insert_named_roots name attributes p).rooted body s h);
+  ) (λ n l. listed_first n (length s.nodes) s.formatting l) ((insert_named_roots name attributes p).rooted body s h);
   grows = grows_added (element name attributes) (place s) s.nodes;
 }
-like_grown body s (text t) p h = absurd (true≢false (sym p))
-like_grown body s document p h = absurd (true≢false (sym p))
-like_grown body s doctype p h = absurd (true≢false (sym p))
-like_grown body s (comment t) p h = absurd (true≢false (sym p))
-
-reopen_all_grown : (body : ℕ) (ns : List ℕ) (s : StateValue) → EachInner (kinds s.nodes) ns → RootedAt body s
-    → RootedGrown body s (reopen_all ns s)
-reopen_all_grown body [] s all h = record { rooted = h; grows = grows_same refl }
-reopen_all_grown body (n ∷ ns) s all h =
-    let before : RootedGrown body s (reopen_all ns s) = reopen_all_grown body ns s all.1 h in
-    let last = like_grown body (reopen_all ns s) (kind_at (reopen_all ns s).nodes n)
-    (ap (is_named is_inner) (kind_read (reopen_all ns s).nodes n) ∙ before.grows.names is_inner n all.0)
-    before.rooted in
-    record { rooted = last.rooted; grows = grows_then before.grows last.grows }
-
-closed_inner : (ks : List KindValue) (stack : List OpenValue) (entries : List (Option ℕ))
-    → ((n : ℕ) → is_listed n entries ≡ true → InnerAt ks n) → EachInner ks (closed_elements stack entries)
-closed_inner ks stack [] f = tt
-closed_inner ks stack (None ∷ entries) f = tt
-closed_inner ks stack (Some m ∷ entries) f =
-    test (is_open_node m stack) (λ t. rw t tt)
-    (λ t. rw t (
-      f m (rw (eq-eqb m m refl) refl),
-      closed_inner ks stack entries (λ n l. f n (listed_more n (Some m) entries l)),
-    ))
+like_grown body s _ p h = absurd (true≢false (sym p))
 
 -- ---- how the tokenizer reads on
 
 like_content : (k : KindValue) (s : StateValue) → (insert_like k s).content ≡ s.content
 like_content (element name attributes) s = refl
-like_content (text t) s = refl
-like_content document s = refl
-like_content doctype s = refl
-like_content (comment t) s = refl
-
-reopen_content : (ns : List ℕ) (s : StateValue) → (reopen_all ns s).content ≡ s.content
-reopen_content [] s = refl
-reopen_content (n ∷ ns) s =
-    like_content (kind_at (reopen_all ns s).nodes n) (reopen_all ns s) ∙ reopen_content ns s
+like_content _ s = refl
 
 pub reconstruct_content : (s : StateValue) → (reconstruct s).content ≡ s.content
 reconstruct_content s =
-    reopen_content (closed_elements s.stack s.formatting) (on_formatting (after_closed s.stack) s)
+    reconstructed (λ n. Unit {0}) (λ t. t.content ≡ s.content) s (λ n l. tt) refl
+    (λ n t q e. like_content (kind_at t.nodes n) t ∙ e)
 
 pub reconstruct_roots : Roots reconstruct
 reconstruct_roots = record {
-  rooted = λ body s h. (reopen_all_grown body (closed_elements s.stack s.formatting)
-      (on_formatting (after_closed s.stack) s)
-      (closed_inner (kinds s.nodes) s.stack s.formatting (λ n l. (h.entries_at n l).1))
-      (rooted_entries (λ n l. h.entries_at n (listed_closed n s.stack s.formatting l)) h)).rooted;
+  rooted = λ body s h. (reconstructed (InnerAt (kinds s.nodes))
+      (RootedGrown body (on_formatting (after_closed s.stack) s)) s (λ n l. (h.entries_at n l).1) (record {
+        rooted = rooted_entries (λ n l. h.entries_at n (listed_closed n s.stack s.formatting l)) h;
+        grows = grows_same refl;
+      })
+      (λ n t q before. let last = like_grown body t (kind_at t.nodes n)
+      (ap (is_named is_inner) (kind_read t.nodes n) ∙ before.grows.names is_inner n q) before.rooted in
+      record { rooted = last.rooted; grows = grows_then before.grows last.grows })).rooted;
   content = λ body s h. reconstruct_content s;
 }

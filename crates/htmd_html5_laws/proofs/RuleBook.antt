@@ -1,6 +1,7 @@
 -- The rules of the modes for tags, comments, doctypes and the end of the file, as data.
-use Rattle.std.specs.Prelude.{ℕ, Bool, true, ◌||◌, if◌then◌else◌, List, is_some}
-use Rattle.htmd_html5_state.specs.Names.{NameValue, known}
+use Rattle.std.specs.Prelude.{ℕ, Bool, ◌||◌, if◌then◌else◌, List, [], ◌∷◌, is_some}
+use Rattle.std.specs.List.{list_any}
+use Rattle.htmd_html5_state.specs.Names.{NameValue, known, same_tag}
 use Rattle.htmd_html5_state.specs.OpenElements.{is_in_scope}
 use Rattle.htmd_html5_state.specs.Resetting.{has_modes}
 use Rattle.htmd_html5_state.specs.declared.modes.InsertionMode.{InsertionMode}
@@ -23,26 +24,23 @@ use Rattle.htmd_html5.specs.Tokens.{TokenValue, start_tag, end_tag, run, comment
 use Rattle.htmd_html5.specs.SharedRules.{is_head_tag}
 use Rattle.htmd_html5.specs.BodyStarts.{is_in_template, is_hidden}
 use Rattle.htmd_html5.specs.BodyEnds.{has_body}
-use Rattle.htmd_html5.specs.InTable.{has_table}
-use Rattle.htmd_html5.specs.InCaption.{has_caption}
-use Rattle.htmd_html5.specs.InColumnGroup.{has_columns}
-use Rattle.htmd_html5.specs.InRow.{has_row}
 use Rattle.htmd_html5.specs.InCell.{leaves_cell}
-use Rattle.htmd_html5.specs.InSelect.{has_select, is_table_part}
+use Rattle.htmd_html5.specs.InSelect.{is_table_part}
 use Rattle.htmd_html5.specs.InTemplate.{mode_of_content}
-use Rattle.htmd_html5_laws.proofs.Rules.{Given, own, implied, renamed, in_scope, each_of, back_to, one_of, named}
-use Rattle.htmd_html5_laws.proofs.Rules.{heading, option, option_and_group, group, element, void, root, head, raw_text}
+use Rattle.htmd_html5_laws.proofs.Rules.{Given, own, implied, renamed, in_scope, each_of, back_to, named, heading}
+use Rattle.htmd_html5_laws.proofs.Rules.{option, option_and_group, group, element, void, root, head, body_put, raw_text}
 use Rattle.htmd_html5_laws.proofs.Rules.{of_head, late_of_head, foreign, formatting, select, comment_in_root}
 use Rattle.htmd_html5_laws.proofs.Rules.{comment_in_document, started, cut, agency, forget_anchor, noted_form}
 use Rattle.htmd_html5_laws.proofs.Rules.{table_closed, caption_closed, columns_closed, section_closed, row_closed}
 use Rattle.htmd_html5_laws.proofs.Rules.{cell_closed, cell_left, select_closed, select_left, frameset_closed}
-use Rattle.htmd_html5_laws.proofs.Rules.{template_closed, root_attributes, body_attributes}
-use Rattle.htmd_html5_laws.proofs.Rules.{body_replaced, marked, to_marker, reconstructed, to_mode, to_quirks, to_content}
-use Rattle.htmd_html5_laws.proofs.Rules.{frames_refused, line_feed_skipped, noted_element, Rule, nothing, act, ◌⨾◌, when}
-use Rattle.htmd_html5_laws.proofs.Rules.{foster, Reply, ends, again_if, either, template_ended}
+use Rattle.htmd_html5_laws.proofs.Rules.{template_closed, root_attributes, body_attributes, body_replaced, marked}
+use Rattle.htmd_html5_laws.proofs.Rules.{to_marker, reconstructed, to_mode, to_quirks, to_content, frames_refused}
+use Rattle.htmd_html5_laws.proofs.Rules.{line_feed_skipped, noted_element, Rule, nothing, act, ◌⨾◌, when, foster, Reply}
+use Rattle.htmd_html5_laws.proofs.Rules.{ends, again, again_after, either, body_ended, template_ended, head_left}
+use Rattle.htmd_html5_laws.proofs.Rules.{noscript_put, noscript_left, cell_put, empty_form}
+use Rattle.htmd_html5_state.specs.Sets.{has}
 use Rattle.htmd_html5_state.specs.declared.names.TagName.TheVariants as tags
 use Rattle.htmd_grammar.specs.declared.content_model.RawElement.TheVariants as raw
-use Rattle.htmd_html5_laws.proofs.Rules.{head_left, noscript_put, noscript_left, cell_put, empty_form}
 use Rattle.htmd_html5_laws.proofs.Rules as rules
 use Rattle.htmd_html5.specs.InTable as table
 use Rattle.htmd_html5.specs.InCaption as caption
@@ -57,15 +55,29 @@ insert = act (element own)
 abbrev pub close_paragraph : Rule
 close_paragraph = act (cut (in_scope (Only tags.P) ButtonScope))
 
--- the token is processed again
-abbrev pub again : Rule → Reply
-again r = again_if (λ s. true) r
-
 abbrev pub ignore : Reply
 ignore = ends nothing
 
 abbrev pub put_in_head : Reply
 put_in_head = ends (act of_head)
+
+-- ---- names that one rule is for
+
+abbrev is_among : List TagName → TagName → Bool
+is_among names tag = list_any (λ name. same_tag name tag) names
+
+-- blocks and formatting elements, start tags and end tags
+abbrev blocks : List TagName
+blocks =
+    tags.Address ∷ tags.Article ∷ tags.Aside ∷ tags.BlockQuote ∷ tags.Center ∷ tags.Details ∷
+    tags.Dialog ∷ tags.Dir ∷ tags.Div ∷ tags.Dl ∷ tags.FieldSet ∷ tags.FigCaption ∷ tags.Figure ∷
+    tags.Footer ∷ tags.Header ∷ tags.HGroup ∷ tags.Main ∷ tags.Menu ∷ tags.Nav ∷ tags.Ol ∷ tags.Search ∷
+    tags.Section ∷ tags.Summary ∷ tags.Ul ∷ []
+
+abbrev formats : List TagName
+formats =
+    tags.B ∷ tags.Big ∷ tags.Code ∷ tags.Em ∷ tags.Font ∷ tags.I ∷ tags.S ∷ tags.Small ∷ tags.Strike ∷
+    tags.Strong ∷ tags.Tt ∷ tags.U ∷ []
 
 -- ---- start tags in the body
 
@@ -149,60 +161,11 @@ start_ruby closed =
 
 abbrev pub start_of : NameValue → Rule
 start_of (known tags.Html) = act root_attributes
-start_of (known tags.Base) = act of_head
-start_of (known tags.BaseFont) = act of_head
-start_of (known tags.BgSound) = act of_head
-start_of (known tags.Link) = act of_head
-start_of (known tags.Meta) = act of_head
-start_of (known tags.NoFrames) = act of_head
-start_of (known tags.Script) = act of_head
-start_of (known tags.Style) = act of_head
-start_of (known tags.Template) = act of_head
-start_of (known tags.Title) = act of_head
 start_of (known tags.Body) = act body_attributes
 start_of (known tags.FrameSet) = act body_replaced
-start_of (known tags.Caption) = nothing
-start_of (known tags.Col) = nothing
-start_of (known tags.ColGroup) = nothing
 start_of (known tags.Frame) = nothing
 start_of (known tags.Head) = nothing
-start_of (known tags.TBody) = nothing
-start_of (known tags.Td) = nothing
-start_of (known tags.TFoot) = nothing
-start_of (known tags.Th) = nothing
-start_of (known tags.THead) = nothing
-start_of (known tags.Tr) = nothing
-start_of (known tags.Address) = block
-start_of (known tags.Article) = block
-start_of (known tags.Aside) = block
-start_of (known tags.BlockQuote) = block
-start_of (known tags.Center) = block
-start_of (known tags.Details) = block
-start_of (known tags.Dialog) = block
-start_of (known tags.Dir) = block
-start_of (known tags.Div) = block
-start_of (known tags.Dl) = block
-start_of (known tags.FieldSet) = block
-start_of (known tags.FigCaption) = block
-start_of (known tags.Figure) = block
-start_of (known tags.Footer) = block
-start_of (known tags.Header) = block
-start_of (known tags.HGroup) = block
-start_of (known tags.Main) = block
-start_of (known tags.Menu) = block
-start_of (known tags.Nav) = block
-start_of (known tags.Ol) = block
 start_of (known tags.P) = block
-start_of (known tags.Search) = block
-start_of (known tags.Section) = block
-start_of (known tags.Summary) = block
-start_of (known tags.Ul) = block
-start_of (known tags.H1) = start_heading
-start_of (known tags.H2) = start_heading
-start_of (known tags.H3) = start_heading
-start_of (known tags.H4) = start_heading
-start_of (known tags.H5) = start_heading
-start_of (known tags.H6) = start_heading
 start_of (known tags.Pre) = start_preformatted
 start_of (known tags.Listing) = start_preformatted
 start_of (known tags.Form) = start_form
@@ -214,18 +177,6 @@ start_of (known tags.Table) = start_table
 start_of (known tags.Hr) = start_separator
 start_of (known tags.Button) = start_button
 start_of (known tags.A) = start_anchor
-start_of (known tags.B) = start_formatting
-start_of (known tags.Big) = start_formatting
-start_of (known tags.Code) = start_formatting
-start_of (known tags.Em) = start_formatting
-start_of (known tags.Font) = start_formatting
-start_of (known tags.I) = start_formatting
-start_of (known tags.S) = start_formatting
-start_of (known tags.Small) = start_formatting
-start_of (known tags.Strike) = start_formatting
-start_of (known tags.Strong) = start_formatting
-start_of (known tags.Tt) = start_formatting
-start_of (known tags.U) = start_formatting
 start_of (known tags.NoBr) = start_no_break
 start_of (known tags.Applet) = start_embedded
 start_of (known tags.Marquee) = start_embedded
@@ -255,7 +206,11 @@ start_of (known tags.Rp) = start_ruby ImpliedEndInRuby
 start_of (known tags.Rt) = start_ruby ImpliedEndInRuby
 start_of (known tags.Math) = act reconstructed ⨾ act (foreign MathMl)
 start_of (known tags.Svg) = act reconstructed ⨾ act (foreign Svg)
-start_of _ = insert_in_text
+start_of (known tag) =
+    if is_head_tag tag then act of_head else if leaves_cell tag then nothing
+    else if has Headings tag then start_heading else if is_among blocks tag then block
+    else if is_among formats tag then start_formatting else insert_in_text
+start_of name = insert_in_text
 
 -- ---- end tags in the body
 
@@ -266,16 +221,14 @@ abbrev pub end_block : TagName → Rule
 end_block name = act (cut (in_scope (Only name) Default))
 
 abbrev pub end_form : Rule
-end_form =
-    when (λ tag s. is_in_template s) (act (cut (in_scope (Only tags.Form) Default))) (act noted_form)
+end_form = when (λ tag s. is_in_template s) (act (cut (in_scope (Only tags.Form) Default))) (act noted_form)
 
 abbrev pub end_paragraph : Rule
 end_paragraph =
     when (λ tag s. is_in_scope (Only tags.P) ButtonScope s.stack) close_paragraph (act (void (implied tags.P)))
 
 abbrev pub end_embedded : TagName → Rule
-end_embedded name =
-    when (λ tag s. is_in_scope (Only name) Default s.stack) (end_block name ⨾ act to_marker) nothing
+end_embedded name = when (λ tag s. is_in_scope (Only name) Default s.stack) (end_block name ⨾ act to_marker) nothing
 
 abbrev pub line_break : Rule
 line_break = act reconstructed ⨾ act (void (implied tags.Br)) ⨾ act frames_refused
@@ -284,30 +237,6 @@ abbrev pub end_of : NameValue → Rule
 end_of (known tags.Body) = end_body
 end_of (known tags.Html) = end_body
 end_of (known tags.Template) = act template_closed
-end_of (known tags.Address) = end_block tags.Address
-end_of (known tags.Article) = end_block tags.Article
-end_of (known tags.Aside) = end_block tags.Aside
-end_of (known tags.BlockQuote) = end_block tags.BlockQuote
-end_of (known tags.Center) = end_block tags.Center
-end_of (known tags.Details) = end_block tags.Details
-end_of (known tags.Dialog) = end_block tags.Dialog
-end_of (known tags.Dir) = end_block tags.Dir
-end_of (known tags.Div) = end_block tags.Div
-end_of (known tags.Dl) = end_block tags.Dl
-end_of (known tags.FieldSet) = end_block tags.FieldSet
-end_of (known tags.FigCaption) = end_block tags.FigCaption
-end_of (known tags.Figure) = end_block tags.Figure
-end_of (known tags.Footer) = end_block tags.Footer
-end_of (known tags.Header) = end_block tags.Header
-end_of (known tags.HGroup) = end_block tags.HGroup
-end_of (known tags.Main) = end_block tags.Main
-end_of (known tags.Menu) = end_block tags.Menu
-end_of (known tags.Nav) = end_block tags.Nav
-end_of (known tags.Ol) = end_block tags.Ol
-end_of (known tags.Search) = end_block tags.Search
-end_of (known tags.Section) = end_block tags.Section
-end_of (known tags.Summary) = end_block tags.Summary
-end_of (known tags.Ul) = end_block tags.Ul
 end_of (known tags.Button) = end_block tags.Button
 end_of (known tags.Dd) = end_block tags.Dd
 end_of (known tags.Dt) = end_block tags.Dt
@@ -316,43 +245,28 @@ end_of (known tags.Pre) = end_block tags.Pre
 end_of (known tags.Form) = end_form
 end_of (known tags.P) = end_paragraph
 end_of (known tags.Li) = act (cut (in_scope (Only tags.Li) ListItem))
-end_of (known tags.H1) = act (cut (in_scope Headings Default))
-end_of (known tags.H2) = act (cut (in_scope Headings Default))
-end_of (known tags.H3) = act (cut (in_scope Headings Default))
-end_of (known tags.H4) = act (cut (in_scope Headings Default))
-end_of (known tags.H5) = act (cut (in_scope Headings Default))
-end_of (known tags.H6) = act (cut (in_scope Headings Default))
 end_of (known tags.A) = act (agency tags.A)
-end_of (known tags.B) = act (agency tags.B)
-end_of (known tags.Big) = act (agency tags.Big)
-end_of (known tags.Code) = act (agency tags.Code)
-end_of (known tags.Em) = act (agency tags.Em)
-end_of (known tags.Font) = act (agency tags.Font)
-end_of (known tags.I) = act (agency tags.I)
 end_of (known tags.NoBr) = act (agency tags.NoBr)
-end_of (known tags.S) = act (agency tags.S)
-end_of (known tags.Small) = act (agency tags.Small)
-end_of (known tags.Strike) = act (agency tags.Strike)
-end_of (known tags.Strong) = act (agency tags.Strong)
-end_of (known tags.Tt) = act (agency tags.Tt)
-end_of (known tags.U) = act (agency tags.U)
 end_of (known tags.Applet) = end_embedded tags.Applet
 end_of (known tags.Marquee) = end_embedded tags.Marquee
 end_of (known tags.Object) = end_embedded tags.Object
 end_of (known tags.Br) = line_break
+end_of (known tag) =
+    if has Headings tag then act (cut (in_scope Headings Default)) else if is_among blocks tag then end_block tag
+    else if is_among formats tag then act (agency tag) else act (cut (named (known tag)))
 end_of name = act (cut (named name))
 
 abbrev pub end_in_body : NameValue → Reply
-end_in_body (known tags.Html) = again_if has_body end_body
+end_in_body (known tags.Html) = body_ended
 end_in_body name = ends (end_of name)
 
 -- ---- before the body
 
 abbrev pub imply_root : Reply
-imply_root = again (act (root (implied tags.Html)) ⨾ act (to_mode BeforeHead))
+imply_root = again (act (root (implied tags.Html)))
 
 abbrev pub start_before_html : NameValue → Reply
-start_before_html (known tags.Html) = ends (act (root own) ⨾ act (to_mode BeforeHead))
+start_before_html (known tags.Html) = ends (act (root own))
 start_before_html _ = imply_root
 
 abbrev pub end_before_html : NameValue → Reply
@@ -417,14 +331,14 @@ end_in_noscript (known tags.Br) = again close_noscript
 end_in_noscript _ = ignore
 
 abbrev pub imply_body : Reply
-imply_body = again (act (element (implied tags.Body)) ⨾ act (to_mode InBody))
+imply_body = again (act (body_put (implied tags.Body)))
 
 abbrev pub put_late : Reply
 put_late = ends (act late_of_head)
 
 abbrev pub start_after_head : NameValue → Reply
 start_after_head (known tags.Html) = ends (act root_attributes)
-start_after_head (known tags.Body) = ends (insert ⨾ act frames_refused ⨾ act (to_mode InBody))
+start_after_head (known tags.Body) = ends (act frames_refused ⨾ act (body_put own))
 start_after_head (known tags.FrameSet) = ends (insert ⨾ act (to_mode InFrameset))
 start_after_head (known tags.Head) = ignore
 start_after_head (known tag) = if is_head_tag tag then put_late else imply_body
@@ -446,8 +360,7 @@ abbrev pub section : Given → Rule
 section given = act (cut (back_to TableContext)) ⨾ act (element given) ⨾ act (to_mode InTableBody)
 
 abbrev pub part : NameValue → Rule
-part (known tags.Caption) =
-    act (cut (back_to TableContext)) ⨾ act marked ⨾ insert ⨾ act (to_mode InCaption)
+part (known tags.Caption) = act (cut (back_to TableContext)) ⨾ act marked ⨾ insert ⨾ act (to_mode InCaption)
 part (known tags.ColGroup) = columns own
 part (known tags.TBody) = section own
 part (known tags.TFoot) = section own
@@ -456,8 +369,7 @@ part (known tags.Style) = act of_head
 part (known tags.Script) = act of_head
 part (known tags.Template) = act of_head
 part (known tags.Input) = when (λ tag s. is_hidden tag) (act (void own)) (foster (start_of (known tags.Input)))
-part (known tags.Form) =
-    when (λ tag s. is_some s.form || is_in_template s) nothing (act empty_form)
+part (known tags.Form) = when (λ tag s. is_some s.form || is_in_template s) nothing (act empty_form)
 part name = foster (start_of name)
 
 abbrev pub start_in_table : NameValue → Reply
@@ -465,7 +377,7 @@ start_in_table (known tags.Col) = again (columns (implied tags.ColGroup))
 start_in_table (known tags.Td) = again (section (implied tags.TBody))
 start_in_table (known tags.Th) = again (section (implied tags.TBody))
 start_in_table (known tags.Tr) = again (section (implied tags.TBody))
-start_in_table (known tags.Table) = again_if has_table (act table_closed)
+start_in_table (known tags.Table) = again_after table_closed
 start_in_table name = ends (part name)
 
 abbrev pub end_in_table : NameValue → Rule
@@ -475,7 +387,7 @@ end_in_table (known tag) = if table.ends_nothing tag then nothing else foster (e
 end_in_table name = foster (end_of name)
 
 abbrev pub leave_caption : Reply
-leave_caption = again_if has_caption (act caption_closed)
+leave_caption = again_after caption_closed
 
 abbrev pub start_in_caption : NameValue → Reply
 start_in_caption (known tag) = if leaves_cell tag then leave_caption else ends (start_of (known tag))
@@ -488,7 +400,7 @@ end_in_caption (known tag) = if caption.ends_nothing tag then ignore else end_in
 end_in_caption name = end_in_body name
 
 abbrev pub leave_columns : Reply
-leave_columns = again_if has_columns (act columns_closed)
+leave_columns = again_after columns_closed
 
 abbrev pub start_in_columns : NameValue → Reply
 start_in_columns (known tags.Html) = ends (act root_attributes)
@@ -506,18 +418,13 @@ abbrev pub row : Given → Rule
 row given = act (cut (back_to TableBodyContext)) ⨾ act (element given) ⨾ act (to_mode InRow)
 
 abbrev pub leave_section : Reply
-leave_section = again_if (λ s. is_in_scope TableSections TableScope s.stack) (act (section_closed TableSections))
+leave_section = again_after (section_closed TableSections)
 
 abbrev pub start_in_section : NameValue → Reply
 start_in_section (known tags.Tr) = ends (row own)
 start_in_section (known tags.Td) = again (row (implied tags.Tr))
 start_in_section (known tags.Th) = again (row (implied tags.Tr))
-start_in_section (known tags.Caption) = leave_section
-start_in_section (known tags.Col) = leave_section
-start_in_section (known tags.ColGroup) = leave_section
-start_in_section (known tags.TBody) = leave_section
-start_in_section (known tags.TFoot) = leave_section
-start_in_section (known tags.THead) = leave_section
+start_in_section (known tag) = if leaves_cell tag then leave_section else start_in_table (known tag)
 start_in_section name = start_in_table name
 
 abbrev pub end_in_section : NameValue → Reply
@@ -532,7 +439,7 @@ abbrev pub cell : Reply
 cell = ends (act (cut (back_to TableRowContext)) ⨾ act cell_put)
 
 abbrev pub leave_row : Reply
-leave_row = again_if has_row (act row_closed)
+leave_row = again_after row_closed
 
 abbrev pub leave_row_of : TagName → Reply
 leave_row_of tag = either (λ s. is_in_scope (Only tag) TableScope s.stack) leave_row ignore
@@ -540,13 +447,7 @@ leave_row_of tag = either (λ s. is_in_scope (Only tag) TableScope s.stack) leav
 abbrev pub start_in_row : NameValue → Reply
 start_in_row (known tags.Td) = cell
 start_in_row (known tags.Th) = cell
-start_in_row (known tags.Caption) = leave_row
-start_in_row (known tags.Col) = leave_row
-start_in_row (known tags.ColGroup) = leave_row
-start_in_row (known tags.TBody) = leave_row
-start_in_row (known tags.TFoot) = leave_row
-start_in_row (known tags.THead) = leave_row
-start_in_row (known tags.Tr) = leave_row
+start_in_row (known tag) = if leaves_cell tag then leave_row else start_in_table (known tag)
 start_in_row name = start_in_table name
 
 abbrev pub end_in_row : NameValue → Reply
@@ -573,17 +474,13 @@ end_in_cell (known tags.TBody) = leave_cell (Only tags.TBody)
 end_in_cell (known tags.TFoot) = leave_cell (Only tags.TFoot)
 end_in_cell (known tags.THead) = leave_cell (Only tags.THead)
 end_in_cell (known tags.Tr) = leave_cell (Only tags.Tr)
-end_in_cell (known tags.Body) = ignore
-end_in_cell (known tags.Caption) = ignore
-end_in_cell (known tags.Col) = ignore
-end_in_cell (known tags.ColGroup) = ignore
-end_in_cell (known tags.Html) = ignore
+end_in_cell (known tag) = if table.ends_nothing tag then ignore else end_in_body (known tag)
 end_in_cell name = end_in_body name
 
 -- ---- select
 
 abbrev pub leave_select : Reply
-leave_select = again_if has_select (act select_closed)
+leave_select = again_after select_closed
 
 abbrev pub start_in_select : NameValue → Reply
 start_in_select (known tags.Html) = ends (act root_attributes)
@@ -614,8 +511,7 @@ abbrev pub leave_select_in : TagName → Reply
 leave_select_in tag = either (λ s. is_in_scope (Only tag) TableScope s.stack) (again (act select_left)) ignore
 
 abbrev pub end_in_select_in_table : NameValue → Reply
-end_in_select_in_table (known tag) =
-    if is_table_part tag then leave_select_in tag else ends (end_in_select (known tag))
+end_in_select_in_table (known tag) = if is_table_part tag then leave_select_in tag else ends (end_in_select (known tag))
 end_in_select_in_table name = ends (end_in_select name)
 
 -- ---- templates, and what comes after the body

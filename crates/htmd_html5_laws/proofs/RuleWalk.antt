@@ -1,7 +1,7 @@
 -- One walk over the rules of the modes: what holds of each act, and of acts one after another, holds of each token that
 -- is no text.
-use Rattle.std.proofs.Common.{◌≡◌, ℕ, Bool, true, false, List, [], refl, sym}
-use Rattle.std.specs.Prelude.{if◌then◌else◌, not}
+use Rattle.std.proofs.Common.{◌≡◌, ℕ, Bool, true, false, List, [], refl}
+use Rattle.std.specs.Prelude.{if◌then◌else◌}
 use Rattle.std.proofs.lemmas.Bool.{true≢false, and_parts}
 use Rattle.htmd_grammar.specs.ValueTrees.{AttributePair}
 use Rattle.htmd_html5_state.specs.Names.{NameValue, known, text_of_name}
@@ -9,32 +9,28 @@ use Rattle.htmd_html5_state.specs.OpenElements.{OpenValue}
 use Rattle.htmd_html5_state.specs.State.{StateValue, on_stack}
 use Rattle.htmd_html5_state.specs.Foreign.{leave_foreign, foreign_end}
 use Rattle.htmd_html5_state.specs.declared.modes.InsertionMode.{InsertionMode}
-use Rattle.htmd_html5_state.specs.declared.modes.InsertionMode.TheVariants.{Initial, BeforeHtml}
+use Rattle.htmd_html5_state.specs.declared.modes.InsertionMode.TheVariants.{AfterBody, BeforeHtml, Initial}
 use Rattle.htmd_html5.specs.Tokens.{StartTagValue, TokenValue, start_tag, end_tag, run, comment, doctype, end_of_file}
 use Rattle.htmd_html5.specs.Outcomes.{Outcome, outcome, done}
 use Rattle.htmd_html5.specs.BodyStarts.{block_rule, formatting_rule, phrasing_rule}
-use Rattle.htmd_html5.specs.BodyEnds.{text_end_rule}
+use Rattle.htmd_html5.specs.BodyEnds.{has_body, text_end_rule}
 use Rattle.htmd_html5.specs.InBody.{end_of_file_in_template}
 use Rattle.htmd_html5.specs.InTable.{fostered}
-use Rattle.htmd_html5.specs.ForeignContent.{is_foreign, tag_breaks_out, end_breaks_out, start_in_foreign}
-use Rattle.htmd_html5.specs.ForeignContent.{end_foreign, end_in_foreign, in_foreign_content}
+use Rattle.htmd_html5.specs.ForeignContent.{is_foreign, tag_breaks_out, end_breaks_out, start_in_foreign, end_foreign}
+use Rattle.htmd_html5.specs.ForeignContent.{end_in_foreign, in_foreign_content}
 use Rattle.htmd_html5.specs.Modes.{in_mode, by_mode_rules}
 use Rattle.htmd_html5.specs.Processing.{by_rules}
-use Rattle.htmd_html5_laws.proofs.OpenNodes.{Fewer, close_fewer, pop_while_fewer, clear_to_fewer}
-use Rattle.htmd_html5_laws.proofs.OpenNodes.{pop_until_fewer, close_name_fewer, close_heading_fewer, close_option_fewer}
+use Rattle.htmd_html5_laws.proofs.OpenNodes.{Fewer, close_fewer, pop_while_fewer, clear_to_fewer, pop_until_fewer}
+use Rattle.htmd_html5_laws.proofs.OpenNodes.{close_name_fewer, close_heading_fewer, close_option_fewer}
 use Rattle.htmd_html5_laws.proofs.OpenNodes.{option_and_group_fewer, group_fewer}
 use Rattle.htmd_html5_laws.proofs.Rules.{Cut, in_scope, each_of, back_to, one_of, named, heading, option}
-use Rattle.htmd_html5_laws.proofs.Rules.{option_and_group, group, left_open}
-use Rattle.htmd_html5_laws.proofs.Rules.{Act, act_on, foreign_alike, Rule, nothing, act, ◌⨾◌, when}
-use Rattle.htmd_html5_laws.proofs.Rules.{Reply, ends, again_if, either, template_ended, reply_of, fits, turn_fits, last_fits, reply_fits}
-use Rattle.htmd_html5_laws.proofs.Rules.{foster, fostering}
-use Rattle.htmd_html5_laws.proofs.RuleBook.{start_in, end_in, comment_in, doctype_in, end_of_file_in, rule_in}
+use Rattle.htmd_html5_laws.proofs.Rules.{option_and_group, group, left_open, Act, act_on, foreign_alike, Rule, nothing}
+use Rattle.htmd_html5_laws.proofs.Rules.{act, ◌⨾◌, when, Reply, ends, again, again_after, either, body_ended}
+use Rattle.htmd_html5_laws.proofs.Rules.{template_ended, reply_of, fits, turn_fits, last_fits, reply_fits, foster}
+use Rattle.htmd_html5_laws.proofs.Rules.{fostering, to_mode}
+use Rattle.htmd_html5_laws.proofs.RuleBook.{start_in, end_in, rule_in}
 use Rattle.htmd_html5_state.specs.declared.names.TagName.TheVariants as tags
 use Rattle.htmd_html5_laws.proofs.Rules as rules
-
-pub is_off : (b : Bool) → not b ≡ true → b ≡ false
-is_off true e = absurd (true≢false (sym e))
-is_off false e = refl
 
 pub left_fewer : (what : Cut) (stack : List OpenValue) → Fewer (left_open what stack) stack
 left_fewer (in_scope set scope) stack = close_fewer set scope stack
@@ -53,10 +49,47 @@ IsMarkup names (run kind s) = true ≡ false
 IsMarkup names (start_tag tag) = names tag.name ≡ true
 IsMarkup names _ = Unit {0}
 
--- the name of the tag whose element a rule may insert
+-- the tag whose element a rule may insert, and its name
+abbrev pub tag_of : TokenValue → StartTagValue
+tag_of (start_tag tag) = tag
+tag_of _ = record { name = known tags.P; attributes = []; self_closing = false }
+
 abbrev pub tag_name : TokenValue → NameValue
-tag_name (start_tag tag) = tag.name
-tag_name _ = known tags.P
+tag_name t = (tag_of t).name
+
+-- ---- each mode does what its rules say
+
+abbrev pub is_run : TokenValue → Bool
+is_run (run kind text) = true
+is_run _ = false
+
+pub no_text : (names : NameValue → Bool) (t : TokenValue) → IsMarkup names t → is_run t ≡ false
+no_text names (run kind text) p = p
+no_text names _ p = refl
+
+module _ (A : (StateValue → Outcome) → Type 0) where
+  starts_as : (name : NameValue) (attributes : List AttributePair) (closing : Bool) (mode : InsertionMode)
+      → A (reply_of (start_in mode name) (record { name = name; attributes = attributes; self_closing = closing }))
+      → A (in_mode mode (start_tag (record { name = name; attributes = attributes; self_closing = closing })))
+  unfolding block_rule formatting_rule phrasing_rule
+  starts_as (known tags.A) attributes closing Initial h = h
+  starts_as name attributes closing BeforeHtml h = h
+  starts_as name attributes closing mode h = h
+
+  ends_as : (name : NameValue) (mode : InsertionMode)
+      → A (reply_of (end_in mode name) (tag_of (end_tag name))) → A (in_mode mode (end_tag name))
+  unfolding text_end_rule
+  ends_as (known tags.A) Initial h = h
+  ends_as name BeforeHtml h = h
+  ends_as name mode h = h
+
+  pub in_mode_as : (t : TokenValue) → is_run t ≡ false → (mode : InsertionMode)
+      → A (reply_of (rule_in mode t) (tag_of t)) → A (in_mode mode t)
+  in_mode_as (start_tag tag) e mode h = starts_as tag.name tag.attributes tag.self_closing mode h
+  in_mode_as (end_tag name) e mode h = ends_as name mode h
+  in_mode_as (run kind text) e mode h = absurd (true≢false e)
+  in_mode_as t e Initial h = h
+  in_mode_as t e mode h = h
 
 -- what holds of a step (P), of what is done for a token that is processed again (U) or not (T), and of an outcome (A),
 -- if each start tag has one of these names, the mode is one of these, and each act, and the last act, is allowed for a
@@ -110,10 +143,6 @@ pub record Everywhere (names : NameValue → Bool) (Modes : InsertionMode → Ty
   pub ends_foreign : (name : NameValue) → A (by_mode_rules (end_tag name))
       → A (λ s. end_foreign name (foreign_end (text_of_name name) s.stack) s)
 
--- a start tag for rules that read none
-abbrev no_tag : StartTagValue
-no_tag = record { name = known tags.P; attributes = []; self_closing = false }
-
 module _ {names : NameValue → Bool} {Modes : InsertionMode → Type 0} {may turn last : NameValue → Act → Bool}
     {P U T : (StateValue → StateValue) → Type 0} {A : (StateValue → Outcome) → Type 0}
     (i : Invariant names Modes may turn last P U T A) (plain : names (known tags.P) ≡ true) where
@@ -126,82 +155,40 @@ module _ {names : NameValue → Bool} {Modes : InsertionMode → Type 0} {may tu
         i.by_test (test tag) (holds first (and_parts _ _ e).0) (holds other (and_parts _ _ e).1)
     holds (foster r) e = i.fosters tag.name (and_parts _ _ e).0 (holds r (and_parts _ _ e).1)
 
-    turn_holds : (r : Rule) → turn_fits (may tag.name) (turn tag.name) r ≡ true → U (rules.run r tag)
+    pub turn_holds : (r : Rule) → turn_fits (may tag.name) (turn tag.name) r ≡ true → U (rules.run r tag)
     turn_holds nothing e = i.onward i.still
     turn_holds (act a) e = i.turn_acts tag p a e
-    turn_holds (first ⨾ more) e =
-        i.turn_after (turn_holds more (and_parts _ _ e).1) (holds first (and_parts _ _ e).0)
+    turn_holds (first ⨾ more) e = i.turn_after (turn_holds more (and_parts _ _ e).1) (holds first (and_parts _ _ e).0)
     turn_holds (when test first other) e =
         i.turn_by_test (test tag) (turn_holds first (and_parts _ _ e).0) (turn_holds other (and_parts _ _ e).1)
-    turn_holds (foster r) e =
-        i.onward (i.fosters tag.name (and_parts _ _ e).0 (holds r (and_parts _ _ e).1))
+    turn_holds (foster r) e = i.onward (i.fosters tag.name (and_parts _ _ e).0 (holds r (and_parts _ _ e).1))
 
     last_holds : (r : Rule) → last_fits (may tag.name) (last tag.name) r ≡ true → T (rules.run r tag)
     last_holds nothing e = i.calm i.still
     last_holds (act a) e = i.last_acts tag p a e
-    last_holds (first ⨾ more) e =
-        i.last_after (last_holds more (and_parts _ _ e).1) (holds first (and_parts _ _ e).0)
+    last_holds (first ⨾ more) e = i.last_after (last_holds more (and_parts _ _ e).1) (holds first (and_parts _ _ e).0)
     last_holds (when test first other) e =
         i.last_by_test (test tag) (last_holds first (and_parts _ _ e).0) (last_holds other (and_parts _ _ e).1)
     last_holds (foster r) e = i.last_fosters tag.name (and_parts _ _ e).0 (last_holds r (and_parts _ _ e).1)
 
-    replies : (r : Reply) → reply_fits (may tag.name) (turn tag.name) (last tag.name) r ≡ true
+    pub replies : (r : Reply) → reply_fits (may tag.name) (turn tag.name) (last tag.name) r ≡ true
         → A (reply_of r tag)
     replies (ends r) e = i.says_done (last_holds r e)
-    replies (again_if more r) e = i.says (turn_holds r e)
+    replies (again r) e = i.says (turn_holds r e)
+    replies (again_after a) e = i.says (i.turn_acts tag p a e)
     replies (either test first other) e =
         i.by_answer test (replies first (and_parts _ _ e).0) (replies other (and_parts _ _ e).1)
+    replies body_ended e = i.says (i.turn_by_test has_body (i.turn_acts tag p (to_mode AfterBody) e) (i.onward i.still))
     replies template_ended e = i.ends_template
 
-  -- ---- each mode does what its rules say
-
-  starts_hold : (name : NameValue) (attributes : List AttributePair) (closing : Bool) → names name ≡ true
-      → (mode : InsertionMode) → reply_fits (may name) (turn name) (last name) (start_in mode name) ≡ true
-      → A (in_mode mode (start_tag (record { name = name; attributes = attributes; self_closing = closing })))
-  unfolding block_rule formatting_rule phrasing_rule
-  starts_hold (known tags.A) attributes closing p Initial e =
-      replies (record { name = known tags.A; attributes = attributes; self_closing = closing }) p
-      (start_in Initial (known tags.A)) e
-  starts_hold name attributes closing p BeforeHtml e =
-      replies (record { name = name; attributes = attributes; self_closing = closing }) p (start_in BeforeHtml name) e
-  starts_hold name attributes closing p mode e =
-      replies (record { name = name; attributes = attributes; self_closing = closing }) p (start_in mode name) e
-
-  ends_hold : (name : NameValue) (mode : InsertionMode)
-      → reply_fits (may (known tags.P)) (turn (known tags.P)) (last (known tags.P)) (end_in mode name) ≡ true
-      → A (in_mode mode (end_tag name))
-  unfolding text_end_rule
-  ends_hold (known tags.A) Initial e = replies no_tag plain (end_in Initial (known tags.A)) e
-  ends_hold name BeforeHtml e = replies no_tag plain (end_in BeforeHtml name) e
-  ends_hold name mode e = replies no_tag plain (end_in mode name) e
-
-  comments_hold : (text : List ℕ) (mode : InsertionMode)
-      → reply_fits (may (known tags.P)) (turn (known tags.P)) (last (known tags.P)) (comment_in mode text) ≡ true
-      → A (in_mode mode (comment text))
-  comments_hold text Initial e = replies no_tag plain (comment_in Initial text) e
-  comments_hold text mode e = replies no_tag plain (comment_in mode text) e
-
-  doctypes_hold : (quirks : Bool) (mode : InsertionMode)
-      → reply_fits (may (known tags.P)) (turn (known tags.P)) (last (known tags.P)) (doctype_in mode quirks) ≡ true
-      → A (in_mode mode (doctype quirks))
-  doctypes_hold quirks Initial e = replies no_tag plain (doctype_in Initial quirks) e
-  doctypes_hold quirks mode e = replies no_tag plain (doctype_in mode quirks) e
-
-  file_ends_hold : (mode : InsertionMode)
-      → reply_fits (may (known tags.P)) (turn (known tags.P)) (last (known tags.P)) (end_of_file_in mode) ≡ true
-      → A (in_mode mode end_of_file)
-  file_ends_hold Initial e = replies no_tag plain (end_of_file_in Initial) e
-  file_ends_hold mode e = replies no_tag plain (end_of_file_in mode) e
+  named_so : (t : TokenValue) → IsMarkup names t → names (tag_of t).name ≡ true
+  named_so (start_tag tag) p = p
+  named_so t p = plain
 
   pub in_mode_holds : (t : TokenValue) → IsMarkup names t → (mode : InsertionMode) → Modes mode
       → A (in_mode mode t)
-  in_mode_holds (run kind s) p mode q = absurd (true≢false p)
-  in_mode_holds (start_tag tag) p mode q =
-      starts_hold tag.name tag.attributes tag.self_closing p mode (i.fit mode q (start_tag tag) p)
-  in_mode_holds (end_tag name) p mode q = ends_hold name mode (i.fit mode q (end_tag name) p)
-  in_mode_holds (comment text) p mode q = comments_hold text mode (i.fit mode q (comment text) p)
-  in_mode_holds (doctype quirks) p mode q = doctypes_hold quirks mode (i.fit mode q (doctype quirks) p)
-  in_mode_holds end_of_file p mode q = file_ends_hold mode (i.fit mode q end_of_file p)
+  in_mode_holds t p mode q =
+      in_mode_as A t (no_text names t p) mode (replies (tag_of t) (named_so t p) (rule_in mode t) (i.fit mode q t p))
 
 module _ {names : NameValue → Bool} {Modes : InsertionMode → Type 0} {may turn last : NameValue → Act → Bool}
     {P U T : (StateValue → StateValue) → Type 0} {A : (StateValue → Outcome) → Type 0}
@@ -227,7 +214,7 @@ module _ {names : NameValue → Bool} {Modes : InsertionMode → Type 0} {may tu
   in_foreign_content_holds (start_tag tag) p = start_in_foreign_holds tag p
   in_foreign_content_holds (end_tag name) p = end_in_foreign_holds name
   in_foreign_content_holds (comment text) p =
-      i.says_done (i.calm (i.acts no_tag plain (rules.comment text) (b.comment_allowed text)))
+      i.says_done (i.calm (i.acts (tag_of (comment text)) plain (rules.comment text) (b.comment_allowed text)))
   in_foreign_content_holds (doctype quirks) p = i.says_done (i.calm i.still)
   in_foreign_content_holds end_of_file p = i.says_done (i.calm i.still)
 

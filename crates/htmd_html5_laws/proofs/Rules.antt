@@ -1,41 +1,43 @@
 -- What the rules of the modes do to a state, as data: a rule is made of acts, one after another.
-use Rattle.std.proofs.Common.{refl}
-use Rattle.std.proofs.lemmas.Bool.{and_from}
-use Rattle.std.specs.Prelude.{ℕ, Bool, true, false, ◌≡◌, ◌&&◌, if◌then◌else◌, List, [], None}
+use Rattle.std.specs.Prelude.{ℕ, Bool, true, false, ◌&&◌, if◌then◌else◌, List, [], None}
 use Rattle.htmd_grammar.specs.ValueTrees.{AttributePair}
 use Rattle.htmd_grammar.specs.declared.content_model.RawElement.{RawElement}
 use Rattle.htmd_html5_state.specs.Names.{NameValue, known}
 use Rattle.htmd_html5_state.specs.OpenElements.{OpenValue, pop_while, pop_until, clear_to, close, close_name}
+use Rattle.htmd_html5_state.specs.OpenElements.{is_in_scope}
 use Rattle.htmd_html5_state.specs.State.{StateValue, on_stack}
-use Rattle.htmd_html5_state.specs.Insertion.{insert_element, insert_void, insert_root, insert_comment_in, insert_comment}
+use Rattle.htmd_html5_state.specs.Insertion.{insert_element, insert_void, insert_comment_in, insert_comment}
 use Rattle.htmd_html5_state.specs.Insertion.{insert_doctype}
 use Rattle.htmd_html5_state.specs.Formatting.{push_marker, clear_to_marker, insert_formatting, reconstruct}
 use Rattle.htmd_html5_state.specs.Adoption.{adoption_agency, formatting_element}
 use Rattle.htmd_html5_state.specs.declared.modes.InsertionMode.{InsertionMode}
-use Rattle.htmd_html5_state.specs.declared.modes.InsertionMode.TheVariants.{BeforeHtml, InHeadNoscript, InCell}
+use Rattle.htmd_html5_state.specs.declared.modes.InsertionMode.TheVariants.{AfterBody, BeforeHtml, InHeadNoscript}
+use Rattle.htmd_html5_state.specs.declared.modes.InsertionMode.TheVariants.{InCell}
 use Rattle.htmd_html5_state.specs.declared.names.Namespace.{Namespace}
 use Rattle.htmd_html5_state.specs.declared.names.TagName.{TagName}
 use Rattle.htmd_html5_state.specs.declared.sets.NameSet.{NameSet}
 use Rattle.htmd_html5_state.specs.declared.sets.Scope.{Scope}
+use Rattle.htmd_html5_state.specs.declared.sets.Scope.TheVariants.{Table as TableScope}
 use Rattle.htmd_html5.specs.Tokens.{StartTagValue}
 use Rattle.htmd_html5.specs.Outcomes.{Outcome, outcome}
-use Rattle.htmd_html5.specs.SharedRules.{with_mode, insert_tag, insert_raw_tag, insert_foreign_tag, no_frameset, add_to_root}
-use Rattle.htmd_html5.specs.SharedRules.{end_template, insert_head_element}
+use Rattle.htmd_html5.specs.SharedRules.{with_mode, insert_tag, insert_raw_tag, insert_foreign_tag, no_frameset}
+use Rattle.htmd_html5.specs.SharedRules.{add_to_root, end_template, insert_head_element}
 use Rattle.htmd_html5.specs.BodyStarts.{add_to_body, replace_body, close_heading, skip_line_feed, with_form, forget}
 use Rattle.htmd_html5.specs.BodyStarts.{start_select, close_option}
-use Rattle.htmd_html5.specs.BodyEnds.{close_form}
+use Rattle.htmd_html5.specs.BodyEnds.{close_form, end_body, has_body}
 use Rattle.htmd_html5.specs.InBody.{end_of_file_in_template}
+use Rattle.htmd_html5.specs.BeforeHtml.{with_root}
 use Rattle.htmd_html5.specs.BeforeHead.{with_head}
-use Rattle.htmd_html5.specs.AfterHead.{insert_late}
+use Rattle.htmd_html5.specs.AfterHead.{with_body, insert_late}
 use Rattle.htmd_html5.specs.InHead.{close_head}
 use Rattle.htmd_html5.specs.InHeadNoscript.{close_noscript}
-use Rattle.htmd_html5.specs.InTable.{fostered, with_empty_form, end_table}
-use Rattle.htmd_html5.specs.InCaption.{end_caption}
-use Rattle.htmd_html5.specs.InColumnGroup.{end_columns}
+use Rattle.htmd_html5.specs.InTable.{fostered, with_empty_form, end_table, has_table}
+use Rattle.htmd_html5.specs.InCaption.{end_caption, has_caption}
+use Rattle.htmd_html5.specs.InColumnGroup.{end_columns, has_columns}
 use Rattle.htmd_html5.specs.InTableBody.{end_section}
-use Rattle.htmd_html5.specs.InRow.{end_row}
+use Rattle.htmd_html5.specs.InRow.{end_row, has_row}
 use Rattle.htmd_html5.specs.InCell.{close_cell, end_cell}
-use Rattle.htmd_html5.specs.InSelect.{close_group, close_option_in_group, close_select, end_select}
+use Rattle.htmd_html5.specs.InSelect.{close_group, close_option_in_group, close_select, end_select, has_select}
 use Rattle.htmd_html5.specs.InTemplate.{with_template_mode}
 use Rattle.htmd_html5.specs.InFrameset.{end_frameset}
 use Rattle.htmd_html5.specs.ForeignContent.{start_foreign_element}
@@ -51,10 +53,13 @@ pub data Given : Type 0 where
   implied : TagName → Given
   renamed : TagName → Given
 
+abbrev pub name_given : Given → NameValue → NameValue
+name_given own name = name
+name_given (implied tag) name = known tag
+name_given (renamed tag) name = known tag
+
 abbrev pub given_name : Given → StartTagValue → NameValue
-given_name own tag = tag.name
-given_name (implied name) tag = known name
-given_name (renamed name) tag = known name
+given_name given tag = name_given given tag.name
 
 abbrev pub given_attributes : Given → StartTagValue → List AttributePair
 given_attributes own tag = tag.attributes
@@ -91,6 +96,7 @@ pub data Act : Type 0 where
   void : Given → Act
   root : Given → Act
   head : Given → Act
+  body_put : Given → Act
   raw_text : RawElement → Act
   of_head : Act
   late_of_head : Act
@@ -144,8 +150,9 @@ pub data Act : Type 0 where
 abbrev pub act_on : Act → StartTagValue → StateValue → StateValue
 act_on (element given) tag s = insert_element (given_name given tag) (given_attributes given tag) s
 act_on (void given) tag s = insert_void (given_name given tag) (given_attributes given tag) s
-act_on (root given) tag s = insert_root (given_name given tag) (given_attributes given tag) s
+act_on (root given) tag s = with_root (given_name given tag) (given_attributes given tag) s
 act_on (head given) tag s = with_head (given_name given tag) (given_attributes given tag) s
+act_on (body_put given) tag s = with_body (given_name given tag) (given_attributes given tag) s
 act_on (raw_text raw) tag s = insert_raw_tag raw tag s
 act_on of_head tag s = insert_head_element tag.name tag s
 act_on late_of_head tag s = insert_late tag s
@@ -208,18 +215,32 @@ run (first ⨾ more) tag s = run more tag (run first tag s)
 run (when test first other) tag s = if test tag s then run first tag s else run other tag s
 run (foster r) tag s = fostered (run r tag) s
 
--- outcomes in a mode: it is done; the token is processed again, if that holds of the state; one of two, by what holds
--- of the state; and what ends a template at the end of the file
+-- whether an act closes an element that must be there
+abbrev pub closes : Act → StateValue → Bool
+closes table_closed s = has_table s
+closes caption_closed s = has_caption s
+closes columns_closed s = has_columns s
+closes (section_closed set) s = is_in_scope set TableScope s.stack
+closes row_closed s = has_row s
+closes select_closed s = has_select s
+closes a s = true
+
+-- outcomes in a mode: it is done; the token is processed again, always or if the act closes something; one of two, by
+-- what holds of the state; and what ends the body and, at the end of the file, a template
 pub data Reply : Type 0 where
   ends : Rule → Reply
-  again_if : (StateValue → Bool) → Rule → Reply
+  again : Rule → Reply
+  again_after : Act → Reply
   either : (StateValue → Bool) → Reply → Reply → Reply
+  body_ended : Reply
   template_ended : Reply
 
 abbrev pub reply_of : Reply → StartTagValue → StateValue → Outcome
 reply_of (ends r) tag s = outcome (run r tag s) false
-reply_of (again_if more r) tag s = outcome (run r tag s) (more s)
+reply_of (again r) tag s = outcome (run r tag s) true
+reply_of (again_after a) tag s = outcome (act_on a tag s) (closes a s)
 reply_of (either test first other) tag s = if test s then reply_of first tag s else reply_of other tag s
+reply_of body_ended tag s = outcome (end_body s) (has_body s)
 reply_of template_ended tag s = end_of_file_in_template s
 
 -- ---- rules of which each act is allowed
@@ -249,36 +270,11 @@ turn_fits may turn (foster r) = may fostering && fits may r
 
 abbrev pub reply_fits : (Act → Bool) → (Act → Bool) → (Act → Bool) → Reply → Bool
 reply_fits may turn last (ends r) = last_fits may last r
-reply_fits may turn last (again_if more r) = turn_fits may turn r
+reply_fits may turn last (again r) = turn_fits may turn r
+reply_fits may turn last (again_after a) = turn a
 reply_fits may turn last (either test first other) = reply_fits may turn last first && reply_fits may turn last other
+reply_fits may turn last body_ended = turn (to_mode AfterBody)
 reply_fits may turn last template_ended = true
 
 abbrev pub any_act : Act → Bool
 any_act a = true
-
-any_fits : (r : Rule) → fits any_act r ≡ true
-any_fits nothing = refl
-any_fits (act a) = refl
-any_fits (first ⨾ more) = and_from _ _ (any_fits first) (any_fits more)
-any_fits (when test first other) = and_from _ _ (any_fits first) (any_fits other)
-any_fits (foster r) = any_fits r
-
-any_last : (r : Rule) → last_fits any_act any_act r ≡ true
-any_last nothing = refl
-any_last (act a) = refl
-any_last (first ⨾ more) = and_from _ _ (any_fits first) (any_last more)
-any_last (when test first other) = and_from _ _ (any_last first) (any_last other)
-any_last (foster r) = any_last r
-
-any_turn : (r : Rule) → turn_fits any_act any_act r ≡ true
-any_turn nothing = refl
-any_turn (act a) = refl
-any_turn (first ⨾ more) = and_from _ _ (any_fits first) (any_turn more)
-any_turn (when test first other) = and_from _ _ (any_turn first) (any_turn other)
-any_turn (foster r) = any_fits r
-
-pub any_reply : (r : Reply) → reply_fits any_act any_act any_act r ≡ true
-any_reply (ends r) = any_last r
-any_reply (again_if more r) = any_turn r
-any_reply (either test first other) = and_from _ _ (any_reply first) (any_reply other)
-any_reply template_ended = refl

@@ -1,7 +1,6 @@
 -- The tokens of plain trees build the nodes of these trees below the current node.
-use Rattle.std.proofs.Common.{◌≡◌, ℕ, ◌<◌, Bool, true, false, not, List, [], ◌∷◌, ◌++◌}
-use Rattle.std.proofs.Common.{length, Option, Some, None, refl, sym, ap, ◌∙◌, arith, inl, inr, subst}
-use Rattle.std.proofs.Common.{length-append, codes}
+use Rattle.std.proofs.Common.{◌≡◌, ℕ, ◌<◌, Bool, true, false, not, List, [], ◌∷◌, ◌++◌, length, Option, Some, None}
+use Rattle.std.proofs.Common.{refl, sym, ap, ◌∙◌, arith, inl, inr, subst, length-append, codes}
 use Rattle.std.specs.List.{list_all}
 use Rattle.std.proofs.lemmas.Bool.{and_parts}
 use Rattle.std.proofs.lemmas.List.{append-nil}
@@ -21,26 +20,24 @@ use Rattle.htmd_html5_state.specs.Insertion.{current, place}
 use Rattle.htmd_html5_state.specs.State.{StateValue}
 use Rattle.htmd_html5.specs.AtOnce.{is_without_null}
 use Rattle.htmd_html5.specs.Feeding.{feed}
-use Rattle.htmd_html5_laws.specs.StrictTokens.{content_after, tag_named, SpellsTree, SpellsForest}
-use Rattle.htmd_html5_laws.specs.StrictTokens.{after_feed, content_tokens}
-use Rattle.htmd_html5_laws.specs.StrictTrees.{is_plain_name, is_plain_element, is_plain_tree}
-use Rattle.htmd_html5_laws.specs.StrictTrees.{are_plain, text_names}
-use Rattle.htmd_html5_laws.proofs.StrictNodes.{node, tree_nodes, append_length, added, last_text}
-use Rattle.htmd_html5_laws.proofs.StrictNodes.{text_added, kind_after, kinds_kept}
-use Rattle.htmd_html5_laws.proofs.StrictNodes.{with_tree, with_forest, forest_joined, filled, tree_last, is_text, begins_text}
-use Rattle.htmd_html5_laws.proofs.StrictNodes.{no_text_next, with_tree_longer, append_none}
+use Rattle.htmd_html5_laws.specs.StrictTokens.{content_after, tag_named, SpellsTree, SpellsForest, after_feed}
+use Rattle.htmd_html5_laws.specs.StrictTokens.{content_tokens}
+use Rattle.htmd_html5_laws.specs.StrictTrees.{is_plain_name, is_plain_element, is_plain_tree, are_plain, text_names}
+use Rattle.htmd_html5_laws.proofs.StrictNodes.{node, tree_nodes, append_length, added, last_text, text_added}
+use Rattle.htmd_html5_laws.proofs.StrictNodes.{kind_after, kinds_kept, with_tree, with_forest, forest_joined, filled}
+use Rattle.htmd_html5_laws.proofs.StrictNodes.{tree_last, is_text, begins_text, no_text_next, with_tree_longer}
+use Rattle.htmd_html5_laws.proofs.StrictNodes.{append_none}
 use Rattle.htmd_html5_laws.proofs.StrictOpen.{Fewer, fewer_same, fewer_trans, entries, Stands, stands_longer}
 use Rattle.htmd_html5_laws.proofs.StrictOpen.{stands_below}
 use Rattle.htmd_html5_laws.proofs.StrictNames.{plain_case, is_formatting_case, void_case}
-use Rattle.htmd_html5_laws.proofs.StrictSets.{plain_content}
-use Rattle.htmd_html5_laws.proofs.StrictSets.{void_keeps, keeps_name, text_keeps}
-use Rattle.htmd_html5_laws.proofs.StrictOnlyText.{at, at_end, element_added, starts_empty, IsOneText, Put}
-use Rattle.htmd_html5_laws.proofs.StrictOnlyText.{none_put, text_put}
+use Rattle.htmd_html5_laws.proofs.StrictSets.{plain_content, void_keeps, keeps_name, text_keeps}
+use Rattle.htmd_html5_laws.proofs.StrictOnlyText.{at, at_end, element_added, starts_empty, IsOneText, Put, none_put}
+use Rattle.htmd_html5_laws.proofs.StrictOnlyText.{text_put}
 use Rattle.htmd_html5_laws.proofs.StrictThrough.{Through, nothing, followed, from_state, one_fed, skip_run}
 use Rattle.htmd_grammar.proofs.NestingLemmas.{one_name}
 use Rattle.htmd_html5_laws.proofs.StrictRawTexts.{normal_content, void_content}
-use Rattle.htmd_html5_laws.proofs.StrictRules.{IsInBody, Fits, within, comment_fed, text_fed, plain_start, formatting_start}
-use Rattle.htmd_html5_laws.proofs.StrictRules.{void_fed, opened_with, pre_start}
+use Rattle.htmd_html5_laws.proofs.StrictRules.{IsInBody, Fits, within, comment_fed, text_fed, plain_start}
+use Rattle.htmd_html5_laws.proofs.StrictRules.{formatting_start, void_fed, opened_with, pre_start}
 use Rattle.htmd_html5_laws.proofs.StrictEnds.{plain_end, formatting_end, pre_end}
 use Rattle.htmd_html5_tokens.specs.Tokens as tokens
 use Rattle.htmd_html5_state.specs.Nodes as documents
@@ -80,6 +77,14 @@ module _ (z : Bool) where
       → are_plain ts ≡ true → FitsForest (p ∷ c) ts → IsInBody (p ∷ c) s
       → (begins_text ts ≡ true → last_text s.nodes (at s) ≡ None)
       → (new : StateValue) × Built (p ∷ c) xs (with_forest (at s) ts s.nodes) s new
+
+  -- and what the tokens of an element with content build
+  abbrev ElementBuilt : List ℕ → List (List ℕ) → List ℕ → List AttributePair → Bool → List TokenValue
+      → ValueForest → StateValue → Type 0
+  ElementBuilt p c n attributes slash content children s =
+      (new : StateValue) × Built (p ∷ c)
+      (start_tag (tag_named n attributes slash) ∷ (content ++ (end_tag (tag_named n [] false) ∷ [])))
+      (with_tree (at s) (element n attributes children) s.nodes) s new
 
   -- ---- a tree that opens nothing
 
@@ -148,8 +153,7 @@ module _ (z : Bool) where
   -- the state in which the content comes
   entered : (p n : List ℕ) (c : List (List ℕ)) (attributes : List AttributePair) (s : StateValue)
       (list : List (Option ℕ)) (ok : Bool) (h : IsInBody (p ∷ c) s) → Fewer list
-      (Some (length s.nodes) ∷ s.formatting)
-      → IsInBody (n ∷ (p ∷ c)) (opened_with p c s h n attributes list ok)
+      (Some (length s.nodes) ∷ s.formatting) → IsInBody (n ∷ (p ∷ c)) (opened_with p c s h n attributes list ok)
   entered p n c attributes s list ok h f =
       let kind = documents.element (html (name_of_text n)) attributes in
       let front : List NodeValue = append_children (at s) (length s.nodes ∷ []) s.nodes in
@@ -170,8 +174,7 @@ module _ (z : Bool) where
           refl,
           (
             attributes,
-            ap (λ ns. kind_at ns (length s.nodes)) added_ ∙ kind_after front new [] (length s.nodes)
-                long,
+            ap (λ ns. kind_at ns (length s.nodes)) added_ ∙ kind_after front new [] (length s.nodes) long,
           ),
           subst (λ ns. length s.nodes < length ns) (sym added_) l,
           stands_below s.nodes (p ∷ c) s.stack h.stands,
@@ -182,26 +185,19 @@ module _ (z : Bool) where
   -- the element is closed, and what is listed is no more than before it
   closed : (p n : List ℕ) (c : List (List ℕ)) (attributes : List AttributePair) (children : ValueForest)
       (slash : Bool) (whole content : List TokenValue) (s held : StateValue) (list left : List (Option ℕ)) (ok : Bool)
-      (h : IsInBody (p ∷ c) s)
-      → (feed (start_tag (tag_named n attributes slash)) s).content
-      ≡ content_after z Normal (start_tag (tag_named n attributes slash))
-      → Built (n ∷ (p ∷ c)) content
+      (h : IsInBody (p ∷ c) s) → (feed (start_tag (tag_named n attributes slash)) s).content
+      ≡ content_after z Normal (start_tag (tag_named n attributes slash)) → Built (n ∷ (p ∷ c)) content
       (with_forest (length s.nodes) children (opened_with p c s h n attributes list ok).nodes)
-      (opened_with p c s h n attributes list ok) held
-      → Through z (feed (start_tag (tag_named n attributes slash)) s)
+      (opened_with p c s h n attributes list ok) held → Through z (feed (start_tag (tag_named n attributes slash)) s)
       (whole ++ (end_tag (tag_named n [] false) ∷ [])) (record held { stack = s.stack; formatting = left })
-      → Fewer left s.formatting
-      → (new : StateValue) × Built (p ∷ c)
-      (start_tag (tag_named n attributes slash) ∷ (whole ++ (end_tag (tag_named n [] false) ∷ [])))
-      (with_tree (at s) (element n attributes children) s.nodes) s new
+      → Fewer left s.formatting → ElementBuilt p c n attributes slash whole children s
   closed p n c attributes children slash whole content s held list left ok h k b run fewer =
       let new : StateValue = record held { stack = s.stack; formatting = left } in
       let st = subst (λ stack. Stands held.nodes (n ∷ (p ∷ c)) stack) b.stack b.in_body.stands in (
         new,
         record {
           through = one_fed z p c (start_tag (tag_named n attributes slash)) s _ _ new h k refl run;
-          nodes_are = b.nodes_are
-              ∙ ap (with_forest (length s.nodes) children) (element_added p c n attributes s h)
+          nodes_are = b.nodes_are ∙ ap (with_forest (length s.nodes) children) (element_added p c n attributes s h)
               ∙ filled (at s) n attributes children s.nodes;
           in_body = record {
             mode = b.in_body.mode;
@@ -230,16 +226,12 @@ module _ (z : Bool) where
       → (slash : Bool) (content : List TokenValue) (p : List ℕ) (c : List (List ℕ)) (s : StateValue)
       → is_plain_name n ≡ true → are_plain children ≡ true → SpellsForest children content
       → Fits (p ∷ c) n → FitsForest (n ∷ (p ∷ c)) children → IsInBody (p ∷ c) s
-      → (new : StateValue) × Built (p ∷ c)
-      (start_tag (tag_named n attributes slash) ∷ (content ++ (end_tag (tag_named n [] false) ∷ [])))
-      (with_tree (at s) (element n attributes children) s.nodes) s new
+      → ElementBuilt p c n attributes slash content children s
   full_built n attributes children ih slash content p c s e g k f ff h =
       test (is_formatting_case (plain_case n e)) formatted unformatted
     where
       formatted : is_formatting_case (plain_case n e) ≡ true
-          → (new : StateValue) × Built (p ∷ c)
-          (start_tag (tag_named n attributes slash) ∷ (content ++ (end_tag (tag_named n [] false) ∷ [])))
-          (with_tree (at s) (element n attributes children) s.nodes) s new
+          → ElementBuilt p c n attributes slash content children s
       formatted t =
           let started = formatting_start p c s h n (plain_case n e) f t attributes slash in
           let list : List (Option ℕ) = Some (length s.nodes) ∷ started.0 in
@@ -253,13 +245,10 @@ module _ (z : Bool) where
           let run = to_end p n c content _ _ r.0 _ r.1 ends.2 r.1.in_body.content in
           closed p n c attributes children slash content content s r.0 list ends.0 s.frameset_ok h
           (ap (λ (y : StateValue). y.content) started.2 ∙ h.content ∙ sym (plain_content z n e)) r.1
-          (from_state z started.2 run)
-          (fewer_trans ends.0 started.0 s.formatting ends.1 started.1)
+          (from_state z started.2 run) (fewer_trans ends.0 started.0 s.formatting ends.1 started.1)
 
       unformatted : is_formatting_case (plain_case n e) ≡ false
-          → (new : StateValue) × Built (p ∷ c)
-          (start_tag (tag_named n attributes slash) ∷ (content ++ (end_tag (tag_named n [] false) ∷ [])))
-          (with_tree (at s) (element n attributes children) s.nodes) s new
+          → ElementBuilt p c n attributes slash content children s
       unformatted t =
           let started = plain_start p c s h n (plain_case n e) f t attributes slash in
           let io = entered p n c attributes s s.formatting started.0 h (inl (fewer_same s.formatting)) in
@@ -275,10 +264,7 @@ module _ (z : Bool) where
       → (slash : Bool) (content : List TokenValue) (p : List ℕ) (c : List (List ℕ)) (s : StateValue)
       → are_plain children ≡ true → SpellsForest children (after_feed content)
       → Fits (p ∷ c) (codes "pre") → FitsForest (codes "pre" ∷ (p ∷ c)) children → IsInBody (p ∷ c) s
-      → (new : StateValue) × Built (p ∷ c)
-      (start_tag (tag_named (codes "pre") attributes slash)
-      ∷ (content ++ (end_tag (tag_named (codes "pre") [] false) ∷ [])))
-      (with_tree (at s) (element (codes "pre") attributes children) s.nodes) s new
+      → ElementBuilt p c (codes "pre") attributes slash content children s
   pre_built attributes children ih slash content p c s g k f ff h =
       let n : List ℕ = codes "pre" in
       let first : StateValue = opened_with p c s h n attributes s.formatting false in
@@ -313,9 +299,7 @@ module _ (z : Bool) where
       (content : List TokenValue) (p : List ℕ) (c : List (List ℕ)) (s : StateValue)
       → is_among text_names n ≡ true → SpellsForest children content → Fits (p ∷ c) n
       → FitsForest (n ∷ (p ∷ c)) children → IsOneText children → IsInBody (p ∷ c) s
-      → (new : StateValue) × Built (p ∷ c)
-      (start_tag (tag_named n attributes slash) ∷ (content ++ (end_tag (tag_named n [] false) ∷ [])))
-      (with_tree (at s) (element n attributes children) s.nodes) s new
+      → ElementBuilt p c n attributes slash content children s
   text_alone_built n attributes none slash content p c s e k f ff o h =
       rw k (put_whole p c n attributes none s _ h (none_put z p c s h n e f attributes slash))
   text_alone_built n attributes (more (text u) none) slash content p c s e k f ff o h =
@@ -323,11 +307,7 @@ module _ (z : Bool) where
       k.2 ∙ ap (λ (ys : List TokenValue). ys ++ k.1) k.3
       ∙ ap (λ (ys : List TokenValue). tokens.text u ∷ ys) k.4 in
       rw q (put_whole p c n attributes (more (text u) none) s _ h (text_put z p c s h n e f attributes slash u ff.1))
-  text_alone_built n attributes (more (text u) (more t ts)) slash content p c s e k f ff o h = absurd o
-  text_alone_built n attributes (more (document ks) ts) slash content p c s e k f ff o h = absurd o
-  text_alone_built n attributes (more doctype ts) slash content p c s e k f ff o h = absurd o
-  text_alone_built n attributes (more (comment u) ts) slash content p c s e k f ff o h = absurd o
-  text_alone_built n attributes (more (element m attributes_ ks) ts) slash content p c s e k f ff o h = absurd o
+  text_alone_built n attributes _ slash content p c s e k f ff o h = absurd o
 
   element_built : (n : List ℕ) (attributes : List AttributePair) (children : ValueForest) → ForestBuilt children
       → TreeBuilt (element n attributes children)
@@ -359,13 +339,9 @@ module _ (z : Bool) where
           → ForestBuilt children → (slash : Bool) (content : List TokenValue) (p : List ℕ) (c : List (List ℕ))
           (s : StateValue) → are_plain children ≡ true → SpellsForest children (content_tokens n content)
           → Fits (p ∷ c) n → FitsForest (n ∷ (p ∷ c)) children → IsInBody (p ∷ c) s
-          → (new : StateValue) × Built (p ∷ c)
-          (start_tag (tag_named n attributes slash) ∷ (content ++ (end_tag (tag_named n [] false) ∷ [])))
-          (with_tree (at s) (element n attributes children) s.nodes) s new
+          → ElementBuilt p c n attributes slash content children s
       pre_there n q attributes children ih slash content p c s g k f ff h =
-          subst (λ m. (new : StateValue) × Built (p ∷ c)
-          (start_tag (tag_named m attributes slash) ∷ (content ++ (end_tag (tag_named m [] false) ∷ [])))
-          (with_tree (at s) (element m attributes children) s.nodes) s new) (sym q)
+          subst (λ m. ElementBuilt p c m attributes slash content children s) (sym q)
           (pre_built attributes children ih slash content p c s g
           (subst (λ m. SpellsForest children (content_tokens m content)) q k) (subst (Fits (p ∷ c)) q f)
           (subst (λ m. FitsForest (m ∷ (p ∷ c)) children) q ff) h)
@@ -413,5 +389,4 @@ module _ (z : Bool) where
         fewer = fewer_same s.formatting;
       },
     )
-    forest_built (more t ts) p c xs s k e f h st =
-        next_built t ts (tree_built t) (forest_built ts) p c xs s k e f h st
+    forest_built (more t ts) p c xs s k e f h st = next_built t ts (tree_built t) (forest_built ts) p c xs s k e f h st

@@ -5,7 +5,7 @@ use Rattle.std.specs.Prelude.{◌==◌, if◌then◌else◌}
 use Rattle.std.specs.Char.{is_ascii_alphanumeric, is_ascii_alphabetic, to_ascii_lowercase}
 use Rattle.std.specs.List.{list_all}
 use Rattle.std.specs.Str.{bytes_eq}
-use Rattle.std.proofs.lemmas.Bool.{and_parts, or_parts, not-true, eqb-true, true≢false}
+use Rattle.std.proofs.lemmas.Bool.{and_parts, or_parts, not-true, eqb-true, true≢false, eq-eqb}
 use Rattle.std.proofs.lemmas.Bool.Decides.{nat_tests}
 use Rattle.htmd_grammar.proofs.Cases.{test}
 use Rattle.htmd_grammar.specs.CharacterClasses.{first_is, begins_with, begins_in_any_case, behind_run, lacks, up_to}
@@ -19,10 +19,11 @@ use Rattle.htmd_grammar.proofs.TagReadingLemmas.{halts}
 use Rattle.htmd_grammar.proofs.TextLemmas.{run_head, stops_not}
 use Rattle.htmd_html5_tokens.specs.NamedReferences.{NamedReference, first_in, old_names, longest_old}
 use Rattle.htmd_html5_tokens.specs.References.{goes_on}
-use Rattle.htmd_html5_laws.specs.StrictReferences.{Place, outside, in_tag, after_title, is_in_tag, begins_letter, place_after}
-use Rattle.htmd_html5_laws.specs.StrictReferences.{counts, is_bare_reference, has_bare_reference, IsUnambiguousAt, IsUnambiguous}
-use Rattle.htmd_html5_laws.proofs.StrictPlaces.{covers, covers_tag, covers_itself, place_covered, bare_covered}
-use Rattle.htmd_html5_laws.proofs.StrictPlaces.{covered, stays_outside}
+use Rattle.htmd_html5_laws.specs.StrictReferences.{Place, outside, in_tag, after_title, is_in_tag, begins_letter}
+use Rattle.htmd_html5_laws.specs.StrictReferences.{place_after, counts, is_bare_reference, has_bare_reference}
+use Rattle.htmd_html5_laws.specs.StrictReferences.{IsUnambiguousAt, IsUnambiguous}
+use Rattle.htmd_html5_laws.proofs.StrictPlaces.{covers, covers_tag, covers_itself, place_covered, bare_covered, covered}
+use Rattle.htmd_html5_laws.proofs.StrictPlaces.{stays_outside}
 use Rattle.htmd_html5_laws.proofs.StrictReferencesLemmas.{Ending, ending_for_both}
 
 pub lacks_cut : (c : ℕ) (s t : List ℕ) → lacks c (s ++ t) ≡ true → (lacks c s ≡ true) ×
@@ -42,8 +43,7 @@ begins_cut (c ∷ n) [] [] a h = refl
 begins_cut (c ∷ n) [] (b ∷ t) a h =
     test (b == c)
     (λ x. absurd (true≢false (sym (and_parts (is_ascii_alphanumeric c) (list_all is_ascii_alphanumeric n) a).0
-    ∙ ap is_ascii_alphanumeric (sym (eqb-true b c x)) ∙ not-true (is_ascii_alphanumeric b) h)))
-    (λ x. rw x refl)
+    ∙ ap is_ascii_alphanumeric (sym (eqb-true b c x)) ∙ not-true (is_ascii_alphanumeric b) h))) (λ x. rw x refl)
 begins_cut (c ∷ n) (b ∷ s) t a h =
     let k = and_parts (is_ascii_alphanumeric c) (list_all is_ascii_alphanumeric n) a in
     test (b == c) (λ x. rw x (begins_cut n s t k.1 h)) (λ x. rw x refl)
@@ -157,11 +157,8 @@ unambiguous_front s t h k e g = record {
 -- what counts at a place counts where less does
 pub unambiguous_less : (q p : Place) (s : List ℕ) → covers q p ≡ true → IsUnambiguousAt q s
     → IsUnambiguousAt p s
-unambiguous_less q p s c h = record {
-  line_feeds = h.line_feeds;
-  no_null = h.no_null;
-  references_end = covered q p s c h.references_end;
-}
+unambiguous_less q p s c h =
+    record { line_feeds = h.line_feeds; no_null = h.no_null; references_end = covered q p s c h.references_end }
 
 pub unambiguous_in_tag : {here : Place} (s : List ℕ) → IsUnambiguousAt here s → IsUnambiguousAt in_tag s
 unambiguous_in_tag s h = unambiguous_less _ in_tag s (covers_tag _) h
@@ -177,9 +174,9 @@ past_text (b ∷ s) t l h e =
     let w = rw stays at (or_parts (b == 38 && is_bare_reference false (s ++ t)) _ e).1 in
     past_text s t p.1 h w
 
-pub settled_past : (s t : List ℕ) → up_to begins_markup s ≡ s → Ending t → IsUnambiguous (s ++ t)
+pub unambiguous_past : (s t : List ℕ) → up_to begins_markup s ≡ s → Ending t → IsUnambiguous (s ++ t)
     → IsUnambiguous t
-settled_past s t l e h = record {
+unambiguous_past s t l e h = record {
   line_feeds = (lacks_cut 13 s t h.line_feeds).1;
   no_null = (lacks_cut 0 s t h.no_null).1;
   references_end = past_text s t l e h.references_end;
@@ -192,8 +189,7 @@ EndsInSign s = (h : List ℕ) × (s ≡ h ++ (62 ∷ []))
 
 sign_covers : (here : Place) (t : List ℕ) → covers (place_after here 62 t) outside ≡ true
 sign_covers outside t = refl
-sign_covers in_tag t = refl
-sign_covers after_title t = refl
+sign_covers _ t = refl
 
 past_sign : (here : Place) (s t : List ℕ) → has_bare_reference here (s ++ (62 ∷ t)) ≡ false
     → has_bare_reference outside t ≡ false
@@ -202,8 +198,8 @@ past_sign here (b ∷ s) t e =
     past_sign (place_after here b (s ++ (62 ∷ t))) s t
     (or_parts (b == 38 && is_bare_reference (is_in_tag here) (s ++ (62 ∷ t))) _ e).1
 
-pub settled_behind : (s t : List ℕ) → EndsInSign s → IsUnambiguous (s ++ t) → IsUnambiguous t
-settled_behind s t g h =
+pub unambiguous_after_sign : (s t : List ℕ) → EndsInSign s → IsUnambiguous (s ++ t) → IsUnambiguous t
+unambiguous_after_sign s t g h =
     let e : s ++ t ≡ g.0 ++ (62 ∷ t) = ap (λ (y : List ℕ). y ++ t) g.1 ∙ append_assoc g.0 (62 ∷ []) t in
     record {
       line_feeds = (lacks_cut 13 s t h.line_feeds).1;
@@ -212,24 +208,21 @@ settled_behind s t g h =
     }
 
 pub sign_before : (x s : List ℕ) → EndsInSign s → EndsInSign (x ++ s)
-sign_before x s g =
-    (x ++ g.0, ap (λ (y : List ℕ). x ++ y) g.1 ∙ sym (append_assoc x g.0 (62 ∷ [])))
+sign_before x s g = (x ++ g.0, ap (λ (y : List ℕ). x ++ y) g.1 ∙ sym (append_assoc x g.0 (62 ∷ [])))
 
 rest_sign : (attributes : List AttributePair) (present : Bool) (s : List ℕ) → IsTagRest attributes present s
     → EndsInSign s
 rest_sign [] present s h =
     (h.0 ++ optional_slash present, h.1 ∙ sym (append_assoc h.0 (optional_slash present) (62 ∷ [])))
 rest_sign (a ∷ attributes) present s h =
-    subst EndsInSign (sym h.4)
-    (sign_before h.0 (h.1 ++ (h.2 ++ h.3)) (sign_before h.1 (h.2 ++ h.3)
+    subst EndsInSign (sym h.4) (sign_before h.0 (h.1 ++ (h.2 ++ h.3)) (sign_before h.1 (h.2 ++ h.3)
     (sign_before h.2 h.3 (rest_sign attributes present h.3 h.10))))
 
 pub start_sign : (tag n : List ℕ) (attributes : List AttributePair) → IsStartTag named_characters tag n attributes
     → EndsInSign tag
 start_sign tag n attributes h =
     let f = h.2 in
-    subst EndsInSign (sym f.2)
-    (sign_before (60 ∷ []) (f.0 ++ f.1) (sign_before f.0 f.1 (rest_sign h.0 h.1 f.1 f.5)))
+    subst EndsInSign (sym f.2) (sign_before (60 ∷ []) (f.0 ++ f.1) (sign_before f.0 f.1 (rest_sign h.0 h.1 f.1 f.5)))
 
 pub end_sign : (tag n : List ℕ) → IsEndTag tag n → EndsInSign tag
 end_sign tag n h =
@@ -248,10 +241,7 @@ named_so (c ∷ p) [] x e = absurd (cc)
 named_so (c ∷ p) (b ∷ name) x e =
     let k : to_ascii_lowercase b ≡ c = cc in
     let l : map to_ascii_lowercase name ≡ p = cc in
-    rw (k, itself c, named_so p name x l) refl
-  where
-    itself : (c : ℕ) → (c == c) ≡ true
-    itself c = grind (arith, nat_tests)
+    rw (k, eq-eqb c c refl, named_so p name x l) refl
 
 name_letter : (name x : List ℕ) → is_tag_name name ≡ true → begins_letter (name ++ x) ≡ true
 name_letter [] x e = absurd (cc)
@@ -270,24 +260,21 @@ title_opened name rest x t n e =
     past_title rest x (past_title name (rest ++ x) w)
 
 -- what follows a start tag
-pub settled_inside : (tag n x : List ℕ) (attributes : List AttributePair)
+pub unambiguous_inside : (tag n x : List ℕ) (attributes : List AttributePair)
     → IsStartTag named_characters tag n attributes → IsUnambiguous (tag ++ x)
     → IsUnambiguousAt (content_place n) x
-settled_inside tag n x attributes h k =
+unambiguous_inside tag n x attributes h k =
     test (bytes_eq n (codes "title"))
     (λ t. let f = h.2 in
-    let e : tag ++ x ≡ 60 ∷ (f.0 ++ (f.1 ++ x)) =
-    ap (λ (y : List ℕ). y ++ x) f.2 ∙ ap (λ (y : List ℕ). 60 ∷ y) (append_assoc f.0 f.1 x) in
+    let e = ap (λ (y : List ℕ). y ++ x) f.2 ∙ ap (λ (y : List ℕ). 60 ∷ y) (append_assoc f.0 f.1 x) in
     rw t (record {
       line_feeds = (lacks_cut 13 tag x k.line_feeds).1;
       no_null = (lacks_cut 0 tag x k.no_null).1;
       references_end = title_opened f.0 f.1 x f.3 (f.4 ∙ same_bytes n (codes "title") t)
           (ap (has_bare_reference outside) (sym e) ∙ k.references_end);
-    }))
-    (λ t. rw t (settled_behind tag x (start_sign tag n attributes h) k))
+    })) (λ t. rw t (unambiguous_after_sign tag x (start_sign tag n attributes h) k))
 
 pub unambiguous_outside : (n x : List ℕ) → IsUnambiguousAt (content_place n) x → IsUnambiguous x
 unambiguous_outside n x k =
-    test (bytes_eq n (codes "title"))
-    (λ t. unambiguous_less after_title outside x refl (rw t at k))
+    test (bytes_eq n (codes "title")) (λ t. unambiguous_less after_title outside x refl (rw t at k))
     (λ t. (rw t at k))

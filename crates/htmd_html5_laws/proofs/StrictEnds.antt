@@ -1,8 +1,7 @@
 -- What the end tag of a plain element does, where that element is the current node.
-use Rattle.std.proofs.Common.{◌≡◌, ℕ, true, false, not, List, [], ◌∷◌}
-use Rattle.std.proofs.Common.{Option, Some, refl, sym, ap, ◌∙◌, arith, inl, inr, subst, codes}
-use Rattle.std.specs.Prelude.{◌==◌}
-use Rattle.std.proofs.lemmas.Bool.Decides.{nat_tests}
+use Rattle.std.proofs.Common.{◌≡◌, ℕ, true, false, not, List, [], ◌∷◌, Option, Some, refl, sym, ap, ◌∙◌, inl, inr}
+use Rattle.std.proofs.Common.{subst, codes}
+use Rattle.std.proofs.lemmas.Bool.{eq-eqb}
 use Rattle.htmd_grammar.proofs.Cases.{test}
 use Rattle.htmd_grammar.specs.ValueTrees.{AttributePair}
 use Rattle.htmd_grammar.proofs.NestingLemmas.{bytes_same}
@@ -12,8 +11,8 @@ use Rattle.htmd_html5_state.specs.Nodes.{kind_at, element}
 use Rattle.htmd_html5_state.specs.OpenElements.{OpenValue, is_in_scope, close, close_name, pop, pop_until}
 use Rattle.htmd_html5_state.specs.Insertion.{opened}
 use Rattle.htmd_html5_state.specs.Formatting.{is_listed}
-use Rattle.htmd_html5_state.specs.Adoption.{formatting_element, closes_at_once, round_of, round_with, last_round}
-use Rattle.htmd_html5_state.specs.Adoption.{go_on, rounds, adoption_agency}
+use Rattle.htmd_html5_state.specs.Adoption.{formatting_element, closes_at_once, round_of, round_with, last_round, go_on}
+use Rattle.htmd_html5_state.specs.Adoption.{rounds, adoption_agency}
 use Rattle.htmd_html5_state.specs.State.{StateValue, on_stack}
 use Rattle.htmd_html5_state.specs.declared.names.TagName.{TagName}
 use Rattle.htmd_html5_state.specs.declared.sets.NameSet.TheVariants.{Only, Headings}
@@ -23,17 +22,14 @@ use Rattle.htmd_html5.specs.BodyEnds.{text_end_rule, end_by, end_in_body, end_pa
 use Rattle.htmd_html5.specs.Feeding.{feed, feed_end_tag}
 use Rattle.htmd_html5_laws.specs.StrictTokens.{tag_named}
 use Rattle.htmd_html5_laws.proofs.StrictOpen.{Fewer, listed_in, entries, Below, new_unlisted}
-use Rattle.htmd_html5_laws.proofs.StrictNames.{same_itself, PlainCase, is_formatting_case}
-use Rattle.htmd_html5_laws.proofs.StrictNames.{unknown, ordinary, formatting, anchor, paragraph, block, heading}
-use Rattle.htmd_html5_laws.proofs.StrictNames.{list_item, part, no_break, button}
+use Rattle.htmd_html5_laws.proofs.StrictNames.{same_itself, PlainCase, is_formatting_case, unknown, ordinary}
+use Rattle.htmd_html5_laws.proofs.StrictNames.{formatting, anchor, paragraph, block, heading, list_item, part, no_break}
+use Rattle.htmd_html5_laws.proofs.StrictNames.{button}
 use Rattle.htmd_html5_laws.proofs.StrictRules.{IsInBody, unskipped, no_raw, goes, processed}
 use Rattle.htmd_html5_state.specs.declared.names.TagName.TheVariants as tags
 use Rattle.htmd_html5.specs.Tokens as construction
 
 -- ---- the adoption agency, where the formatting element is the current node
-
-itself : (n : ℕ) → (n == n) ≡ true
-itself n = grind (arith, nat_tests)
 
 module _ (tag : TagName) (b : ℕ) (es : List OpenValue) (list : List (Option ℕ)) (s : StateValue) where
   abbrev here : StateValue
@@ -43,14 +39,14 @@ module _ (tag : TagName) (b : ℕ) (es : List OpenValue) (list : List (Option �
   gone = record s { stack = es; formatting = list }
 
   not_at_once : closes_at_once tag here ≡ false
-  not_at_once = rw (bytes_same (spelling tag)) (rw (itself b) refl)
+  not_at_once = rw (bytes_same (spelling tag)) (rw (eq-eqb b b refl) refl)
 
   found : (attributes : List AttributePair) → kind_at s.nodes b ≡ element (html (known tag)) attributes
       → formatting_element tag here ≡ Some b
   found attributes k = rw k (rw (bytes_same (spelling tag)) refl)
 
   one_round : round_with tag b here ≡ last_round gone
-  one_round = rw (itself b) (rw (itself b) refl)
+  one_round = rw (eq-eqb b b refl) (rw (eq-eqb b b refl) refl)
 
   pub adopted : (attributes : List AttributePair) → kind_at s.nodes b ≡ element (html (known tag)) attributes
       → adoption_agency tag here ≡ gone
@@ -69,9 +65,7 @@ closed_at_once tag b es s k e =
 pub agency : (tag : TagName) (b : ℕ) (es : List OpenValue) (s : StateValue) (attributes : List AttributePair)
     (before : List (Option ℕ)) → s.stack ≡ opened b (html (known tag)) ∷ es
     → kind_at s.nodes b ≡ element (html (known tag)) attributes → Below b es → Fewer s.formatting
-    (Some b ∷ before)
-    → Fewer before (entries es)
-    → (list : List (Option ℕ)) × Fewer list before
+    (Some b ∷ before) → Fewer before (entries es) → (list : List (Option ℕ)) × Fewer list before
     × (adoption_agency tag s ≡ record s { stack = es; formatting = list })
 agency tag b es s attributes before k kind below fewer open_ =
     test (is_listed b s.formatting) (λ t. listed t fewer) (λ t. unlisted t fewer)
@@ -97,7 +91,7 @@ agency tag b es s attributes before k kind below fewer open_ =
     unlisted t (inl f) = (s.formatting, f, closed_at_once tag b es s k t)
     unlisted t (inr f) =
         absurd (let q : is_listed b (Some b ∷ f.0) ≡ false = subst (λ x. is_listed b x ≡ false) f.1 t in
-        let w = rw (itself b) at q in cc)
+        let w = rw (eq-eqb b b refl) at q in cc)
 
 -- ---- end tags
 
@@ -125,8 +119,7 @@ module _ (p : List ℕ) (c : List (List ℕ)) (s : StateValue) (h : IsInBody (p 
       ∙ rw (no_raw p c s h) (processed p c s h token new (ap not (goes p c s h token)) e)
 
   plain_ended : (n : List ℕ) (k : PlainCase n) → is_formatting_case k ≡ false → (node : ℕ)
-      (es : List OpenValue)
-      → s.stack ≡ opened node (html (name_of_text n)) ∷ es
+      (es : List OpenValue) → s.stack ≡ opened node (html (name_of_text n)) ∷ es
       → end_in_body (name_of_text n) s ≡ done (on_stack pop s)
   unfolding text_end_rule
   plain_ended n (unknown t q) e node es k =
@@ -134,9 +127,6 @@ module _ (p : List ℕ) (c : List (List ℕ)) (s : StateValue) (h : IsInBody (p 
   plain_ended n (ordinary x) e node es k =
       rw x.1 (ap (λ r. end_by r x.0 s) x.3
       ∙ ap (λ stack. done (record s { stack = stack })) (by_name (known x.0) node es (rw x.1 at k)))
-  plain_ended n (formatting x) e node es k = absurd (cc)
-  plain_ended n (anchor x) e node es k = absurd (cc)
-  plain_ended n (no_break x) e node es k = absurd (cc)
   plain_ended n (button x) e node es k =
       rw x (ap (λ stack. done (record s { stack = stack })) (by_block tags.Button node es (rw x at k)))
   plain_ended n (paragraph x) e node es k = rw x (ap done (by_paragraph node es (rw x at k)))
@@ -145,26 +135,24 @@ module _ (p : List ℕ) (c : List (List ℕ)) (s : StateValue) (h : IsInBody (p 
       ∙ ap (λ stack. done (record s { stack = stack })) (by_block (x.0).0 node es (rw (x.0).1 at k)))
   plain_ended n (heading x) e node es k =
       let closes : close Headings Default s.stack ≡ pop s.stack = rw k (rw x.3 refl) in
-      rw (x.0).1 (ap (λ r. end_by r (x.0).0 s) (x.0).3
-      ∙ ap (λ stack. done (record s { stack = stack })) closes)
+      rw (x.0).1 (ap (λ r. end_by r (x.0).0 s) (x.0).3 ∙ ap (λ stack. done (record s { stack = stack })) closes)
   plain_ended n (list_item x) e node es k =
       let closes : close (Only tags.Li) ListItem s.stack ≡ pop s.stack = rw (rw x at k) refl in
       rw x (ap (λ stack. done (record s { stack = stack })) closes)
   plain_ended n (part x) e node es k =
       rw (x.0).1 (ap (λ r. end_by r (x.0).0 s) (x.0).3
       ∙ ap (λ stack. done (record s { stack = stack })) (by_block (x.0).0 node es (rw (x.0).1 at k)))
+  plain_ended n _ e node es k = absurd (cc)
 
   pub plain_end : (n : List ℕ) (k : PlainCase n) → is_formatting_case k ≡ false → (node : ℕ)
-      (es : List OpenValue)
-      → s.stack ≡ opened node (html (name_of_text n)) ∷ es
+      (es : List OpenValue) → s.stack ≡ opened node (html (name_of_text n)) ∷ es
       → feed (end_tag (tag_named n [] false)) s ≡ record s { stack = es }
   plain_end n k e node es q =
       fed_end n (on_stack pop s) (plain_ended n k e node es q)
       ∙ ap (λ (stack : List OpenValue). record s { stack = pop stack }) q
 
   pub pre_end : (node : ℕ) (es : List OpenValue) → s.stack ≡ opened node (html (name_of_text (codes "pre"))) ∷
-      es
-      → feed (end_tag (tag_named (codes "pre") [] false)) s ≡ record s { stack = es }
+      es → feed (end_tag (tag_named (codes "pre") [] false)) s ≡ record s { stack = es }
   unfolding text_end_rule
   pre_end node es q =
       fed_end (codes "pre") (on_stack pop s)
@@ -172,8 +160,7 @@ module _ (p : List ℕ) (c : List (List ℕ)) (s : StateValue) (h : IsInBody (p 
       ∙ ap (λ (stack : List OpenValue). record s { stack = pop stack }) q
 
   pub formatting_end : (n : List ℕ) (k : PlainCase n) → is_formatting_case k ≡ true → (b : ℕ)
-      (es : List OpenValue)
-      (attributes : List AttributePair) (before : List (Option ℕ))
+      (es : List OpenValue) (attributes : List AttributePair) (before : List (Option ℕ))
       → s.stack ≡ opened b (html (name_of_text n)) ∷ es
       → kind_at s.nodes b ≡ element (html (name_of_text n)) attributes → Below b es
       → Fewer s.formatting (Some b ∷ before) → Fewer before (entries es)
@@ -192,11 +179,4 @@ module _ (p : List ℕ) (c : List (List ℕ)) (s : StateValue) (h : IsInBody (p 
   formatting_end n (no_break x) e b es attributes before k kind below fewer open_ =
       let a = agency tags.NoBr b es s attributes before (rw x at k) (rw x at kind) below fewer open_ in
       (a.0, a.1, fed_end n _ (rw x (ap done a.2)))
-  formatting_end n (button x) e b es attributes before k kind below fewer open_ = absurd (cc)
-  formatting_end n (unknown t q) e b es attributes before k kind below fewer open_ = absurd (cc)
-  formatting_end n (ordinary x) e b es attributes before k kind below fewer open_ = absurd (cc)
-  formatting_end n (paragraph x) e b es attributes before k kind below fewer open_ = absurd (cc)
-  formatting_end n (block x) e b es attributes before k kind below fewer open_ = absurd (cc)
-  formatting_end n (heading x) e b es attributes before k kind below fewer open_ = absurd (cc)
-  formatting_end n (list_item x) e b es attributes before k kind below fewer open_ = absurd (cc)
-  formatting_end n (part x) e b es attributes before k kind below fewer open_ = absurd (cc)
+  formatting_end n _ e b es attributes before k kind below fewer open_ = absurd (cc)

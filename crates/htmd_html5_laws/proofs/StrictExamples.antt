@@ -1,4 +1,4 @@
--- AppendsText texts, the tokens of texts of the strict grammar, and plain trees.
+-- Unambiguous texts, the tokens of texts of the strict grammar, and plain trees.
 use Rattle.std.proofs.Common.{◌≡◌, true, false, [], ◌∷◌, refl}
 use Rattle.std.specs.Prelude.{codes}
 use Rattle.htmd_grammar.specs.ValueTrees.{none, more}

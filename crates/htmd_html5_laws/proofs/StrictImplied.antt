@@ -1,16 +1,15 @@
 -- A page of the strict grammar without `<body>`: its first token implies `html`, `head` and `body`.
-use Rattle.std.proofs.Common.{◌≡◌, ℕ, suc, Bool, true, false, not, ◌&&◌, ◌||◌, List, [], ◌∷◌, ◌++◌}
-use Rattle.std.proofs.Common.{length, refl, sym, ap, ◌∙◌, arith, subst, inl, codes}
+use Rattle.std.proofs.Common.{◌≡◌, ℕ, suc, Bool, true, false, not, ◌&&◌, ◌||◌, List, [], ◌∷◌, ◌++◌, length, refl, sym}
+use Rattle.std.proofs.Common.{ap, ◌∙◌, arith, subst, inl, codes}
 use Rattle.std.specs.List.{list_all}
 use Rattle.std.proofs.lemmas.Bool.{and_parts, not-true, or_right}
 use Rattle.std.proofs.lemmas.List.{append-nil}
 use Rattle.htmd_grammar.proofs.Cases.{test}
 use Rattle.htmd_grammar.specs.WhiteSpace.{is_ascii_white_space}
-use Rattle.htmd_grammar.specs.ValueTrees.{ValueForest, none, more, document, doctype, text}
-use Rattle.htmd_grammar.specs.ValueTrees.{comment, element}
+use Rattle.htmd_grammar.specs.ValueTrees.{ValueForest, more, text, element}
 use Rattle.htmd_grammar.specs.CharacterClasses.{is_among}
 use Rattle.htmd_grammar.specs.Comments.{normalized}
-use Rattle.htmd_grammar.specs.HtmlDocuments.{skeleton}
+use Rattle.htmd_grammar.specs.HtmlDocuments.{skeleton, below_body}
 use Rattle.htmd_nodes.specs.Items.{greatest_depth}
 use Rattle.htmd_html5_tokens.specs.Tokens.{TagValue, TokenValue, start_tag}
 use Rattle.htmd_grammar.specs.declared.content_model.ContentModel.TheVariants.{Normal}
@@ -48,10 +47,9 @@ use Rattle.htmd_html5_laws.proofs.StrictLaid.{plain_is_content}
 use Rattle.htmd_html5_laws.proofs.StrictRules.{IsInBody}
 use Rattle.htmd_html5_laws.proofs.StrictThrough.{Through, Parts, parts}
 use Rattle.htmd_html5_laws.proofs.StrictBuilt.{FitsForest, forest_built}
-use Rattle.htmd_html5_laws.proofs.StrictPages.{fits_apart, forest_depth}
-use Rattle.htmd_grammar.specs.HtmlDocuments.{below_body}
+use Rattle.htmd_html5_laws.proofs.StrictPages.{fits_apart, forest_depth, plain_is_simple, forest_fits, in_step, root}
+use Rattle.htmd_html5_laws.proofs.StrictPages.{page_laid}
 use Rattle.htmd_grammar.specs.Rules.{project}
-use Rattle.htmd_html5_laws.proofs.StrictPages.{plain_is_simple, forest_fits, in_step, root, page_laid}
 use Rattle.htmd_html5_state.specs.declared.names.TagName.TheVariants as tags
 use Rattle.htmd_html5.specs.Tokens as construction
 use Rattle.htmd_html5_tokens.specs.Tokens as tokens
@@ -118,21 +116,7 @@ Passes (other t) = Unit {0}
 head_name : (tag : TagName) → passes tag ≡ false → is_among head_names (spelling tag) ≡ true
 unfolding passes
 head_name tags.Html e = refl
-head_name tags.Head e = refl
-head_name tags.Body e = refl
-head_name tags.FrameSet e = refl
-head_name tags.Base e = refl
-head_name tags.BaseFont e = refl
-head_name tags.BgSound e = refl
-head_name tags.Link e = refl
-head_name tags.Meta e = refl
-head_name tags.NoFrames e = refl
-head_name tags.NoScript e = refl
-head_name tags.Script e = refl
-head_name tags.Style e = refl
-head_name tags.Template e = refl
-head_name tags.Title e = refl
-head_name _ e = absurd (cc)
+head_name _ e = cc
 
 name_passes : (n : List ℕ) → is_among head_names n ≡ false → Passes (name_of_text n)
 name_passes n e = by_name (name_of_text n) (name_kept n)
@@ -146,56 +130,26 @@ name_passes n e = by_name (name_of_text n) (name_kept n)
 root_implied : (name : NameValue) (tag : StartTagValue) (s : StateValue) → Passes name
     → start_before_html name tag s ≡ imply_root s
 unfolding passes
-root_implied (other t) tag s e = refl
 root_implied (known tags.Html) tag s e = absurd (cc)
-root_implied (known _) tag s e = refl
+root_implied _ tag s e = refl
 
 head_implied : (name : NameValue) (tag : StartTagValue) (s : StateValue) → Passes name
     → start_before_head name tag s ≡ imply_head s
 unfolding passes
-head_implied (other t) tag s e = refl
 head_implied (known tags.Html) tag s e = absurd (cc)
-head_implied (known tags.Head) tag s e = absurd (cc)
-head_implied (known _) tag s e = refl
+head_implied _ tag s e = cc
 
 head_closed : (name : NameValue) (tag : StartTagValue) (s : StateValue) → Passes name
     → start_in_head name tag s ≡ again (close_head s)
 unfolding passes
-head_closed (other t) tag s e = refl
 head_closed (known tags.Html) tag s e = absurd (cc)
-head_closed (known tags.Base) tag s e = absurd (cc)
-head_closed (known tags.BaseFont) tag s e = absurd (cc)
-head_closed (known tags.BgSound) tag s e = absurd (cc)
-head_closed (known tags.Link) tag s e = absurd (cc)
-head_closed (known tags.Meta) tag s e = absurd (cc)
-head_closed (known tags.Title) tag s e = absurd (cc)
-head_closed (known tags.NoFrames) tag s e = absurd (cc)
-head_closed (known tags.Style) tag s e = absurd (cc)
-head_closed (known tags.Script) tag s e = absurd (cc)
-head_closed (known tags.Template) tag s e = absurd (cc)
-head_closed (known tags.NoScript) tag s e = absurd (cc)
-head_closed (known tags.Head) tag s e = absurd (cc)
-head_closed (known _) tag s e = refl
+head_closed _ tag s e = cc
 
 body_implied : (name : NameValue) (tag : StartTagValue) (s : StateValue) → Passes name
     → start_after_head name tag s ≡ imply_body s
 unfolding passes
-body_implied (other t) tag s e = refl
 body_implied (known tags.Html) tag s e = absurd (cc)
-body_implied (known tags.Body) tag s e = absurd (cc)
-body_implied (known tags.FrameSet) tag s e = absurd (cc)
-body_implied (known tags.Base) tag s e = absurd (cc)
-body_implied (known tags.BaseFont) tag s e = absurd (cc)
-body_implied (known tags.BgSound) tag s e = absurd (cc)
-body_implied (known tags.Link) tag s e = absurd (cc)
-body_implied (known tags.Meta) tag s e = absurd (cc)
-body_implied (known tags.NoFrames) tag s e = absurd (cc)
-body_implied (known tags.Script) tag s e = absurd (cc)
-body_implied (known tags.Style) tag s e = absurd (cc)
-body_implied (known tags.Template) tag s e = absurd (cc)
-body_implied (known tags.Title) tag s e = absurd (cc)
-body_implied (known tags.Head) tag s e = absurd (cc)
-body_implied (known _) tag s e = refl
+body_implied _ tag s e = cc
 
 goes_html : (token : construction.TokenValue) (s : StateValue) → current_is_html s.stack ≡ true
     → goes_to_html token s ≡ true
@@ -242,14 +196,8 @@ First z xs = (x : TokenValue) × (ys : List TokenValue) × (xs ≡ x ∷ ys)
     × (feed x (initial_state z) ≡ feed x (implied_state z))
 
 first_token : (z : Bool) (c : List (List ℕ)) (content : ValueForest) (xs : List TokenValue) → SpellsForest content
-    xs
-    → FitsForest c content → begins_body content ≡ true → First z xs
+    xs → FitsForest c content → begins_body content ≡ true → First z xs
 unfolding First
-first_token z c none xs k f e = absurd (cc)
-first_token z c (more (document children) ts) xs k f e = absurd (cc)
-first_token z c (more doctype ts) xs k f e = absurd (cc)
-first_token z c (more (comment u) ts) xs k f e = absurd (cc)
-first_token z c (more (text []) ts) xs k f e = absurd (cc)
 first_token z c (more (text (b ∷ u)) ts) xs k f e =
     let plain = and_parts (is_not_null b) (list_all is_not_null u) f.1 in (
       tokens.text (b ∷ u),
@@ -264,6 +212,7 @@ first_token z c (more (element n attributes children) ts) xs k f e =
       k.2 ∙ ap (λ (ys : List TokenValue). ys ++ k.1) q.3,
       start_implied z (tag_named n attributes q.0) (name_passes n (not-true (is_among head_names n) e)),
     )
+first_token z c _ xs k f e = absurd (cc)
 
 -- ---- the page
 
@@ -272,8 +221,7 @@ implied_nodes : (z : Bool) (content : ValueForest)
 implied_nodes z content =
     let held : List NodeValue = forest_nodes 3 4 content in
     ap (λ (ns : List NodeValue). root ∷ node (documents.element (html (name_of_text (codes "html"))) []) 0
-    (2 ∷ 3 ∷ [])
-    ∷ node (documents.element (html (name_of_text (codes "head"))) []) 1 []
+    (2 ∷ 3 ∷ []) ∷ node (documents.element (html (name_of_text (codes "head"))) []) 1 []
     ∷ node (documents.element (html (name_of_text (codes "body"))) []) 1 (numbers 4 content) ∷ ns)
     (sym (append-nil (held ++ []) ∙ append-nil held))
 

@@ -1,9 +1,8 @@
 -- The nodes of trees are laid out as the items of the trees.
-use Rattle.std.proofs.Common.{None, max, ◌≤◌}
-use Rattle.std.proofs.Common.{◌≡◌, ℕ, zero, suc, ◌+◌, ◌<◌, Bool, true, false, ◌&&◌, List, [], ◌∷◌, ◌++◌, map}
-use Rattle.std.proofs.Common.{length, refl, sym, ap, ◌∙◌, arith, append_assoc, length-append}
+use Rattle.std.proofs.Common.{None, max, ◌≤◌, ◌≡◌, ℕ, zero, suc, ◌+◌, ◌<◌, Bool, true, false, ◌&&◌, List, [], ◌∷◌, ◌++◌}
+use Rattle.std.proofs.Common.{map, length, refl, sym, ap, ◌∙◌, arith, append_assoc, length-append}
 use Rattle.std.specs.Prelude.{◌==◌}
-use Rattle.std.proofs.lemmas.Bool.{and_parts}
+use Rattle.std.proofs.lemmas.Bool.{and_parts, eq-eqb}
 use Rattle.std.proofs.lemmas.Bool.Decides.{nat_tests}
 use Rattle.std.proofs.lemmas.List.{append-nil}
 use Rattle.htmd_grammar.specs.ValueTrees.{AttributePair, ValueTree, ValueForest, none, more, document, doctype, text}
@@ -12,15 +11,13 @@ use Rattle.htmd_nodes.specs.Items.{Data, text_node, comment_node, element_node, 
 use Rattle.htmd_nodes.specs.Layout.{size, sizes, item_under, tree_items, forest_items}
 use Rattle.htmd_nodes.proofs.LayoutLemmas.{item_at-middle, length-tree_items}
 use Rattle.htmd_html5_state.specs.Names.{ElementNameValue, html, name_of_text, text_of_name, text_of_element_name}
-use Rattle.htmd_html5_state.specs.Nodes.{text_of, NodeValue, kind_at, children_at, with_kind}
-use Rattle.htmd_html5.specs.Layout.{next_text, next_texts, after_next_texts, parent_of_children}
-use Rattle.htmd_html5.specs.Layout.{Coming, coming, Layout, is_deepest, with_kind_of, without_node, put_node}
-use Rattle.htmd_html5.specs.Layout.{layout_within}
+use Rattle.htmd_html5_state.specs.Nodes.{text_of, NodeValue, kind_at, with_kind}
+use Rattle.htmd_html5.specs.Layout.{next_text, next_texts, after_next_texts, parent_of_children, Coming, coming, Layout}
+use Rattle.htmd_html5.specs.Layout.{is_deepest, with_kind_of, without_node, put_node, layout_within}
 use Rattle.htmd_html5_laws.specs.StrictTrees.{is_plain_element, is_plain_tree, are_plain}
-use Rattle.htmd_html5_laws.proofs.StrictNodes.{is_text}
-use Rattle.htmd_grammar.specs.Grammar.{Apart}
-use Rattle.htmd_html5_laws.proofs.StrictNodes.{numbers, node, tree_nodes, forest_nodes, tree_count, kind_after}
+use Rattle.htmd_html5_laws.proofs.StrictNodes.{is_text, numbers, node, tree_nodes, forest_nodes, tree_count, kind_after}
 use Rattle.htmd_html5_laws.proofs.StrictNodes.{children_after}
+use Rattle.htmd_grammar.specs.Grammar.{Apart}
 use Rattle.htmd_html5_laws.proofs.StrictOpen.{name_kept}
 use Rattle.htmd_html5_state.specs.Nodes as documents
 
@@ -59,8 +56,7 @@ node_laid : (limit : ℕ) (front : List NodeValue) (x : NodeValue) (back : List 
     (layout (front ++ (blank x ∷ back)) items work)
 node_laid limit front x back items work under b e =
     let deep : Bool = is_deepest limit items under in
-    ap (λ kind. with_kind_of deep kind (coming under b)
-    (without_node b (layout (front ++ (x ∷ back)) items work)))
+    ap (λ kind. with_kind_of deep kind (coming under b) (without_node b (layout (front ++ (x ∷ back)) items work)))
     (kind_after front x back b e)
     ∙ ap (λ nodes. with_kind_of deep x.kind (coming under b) (layout nodes items work)) (blank_at front x back b e)
 
@@ -78,11 +74,8 @@ depth_before (i ∷ items) others (suc n) l = depth_before items others n (omega
 abbrev mutual
   -- how many levels a tree has
   pub levels : ValueTree → ℕ
-  levels (document children) = 1
-  levels doctype = 1
-  levels (text u) = 1
-  levels (comment u) = 1
   levels (element n attributes children) = suc (most_levels children)
+  levels _ = 1
 
   pub most_levels : ValueForest → ℕ
   most_levels none = 0
@@ -103,12 +96,9 @@ abbrev mutual
 
 mutual
   plain_tree_is_content : (t : ValueTree) → is_plain_tree t ≡ true → is_content_tree t ≡ true
-  plain_tree_is_content (document children) e = absurd (cc)
-  plain_tree_is_content doctype e = absurd (cc)
-  plain_tree_is_content (text u) e = refl
-  plain_tree_is_content (comment u) e = refl
   plain_tree_is_content (element n attributes children) e =
       plain_is_content children (and_parts (is_plain_element n) _ e).1
+  plain_tree_is_content _ e = cc
 
   pub plain_is_content : (ts : ValueForest) → are_plain ts ≡ true → are_content ts ≡ true
   plain_is_content none e = refl
@@ -160,9 +150,7 @@ abbrev ForestLaid : ValueForest → Type 0
 ForestLaid ts =
     (limit k j under p b : ℕ) (front back : List NodeValue) (items : List Item) (work : List Coming)
     → are_content ts ≡ true → ApartForest ts → Elsewhere items under work → length front ≡ b → under <
-    length items
-    → depth_at items under + most_levels ts ≤ limit → j ≡ sizes ts + k
-    → layout_within limit j
+    length items → depth_at items under + most_levels ts ≤ limit → j ≡ sizes ts + k → layout_within limit j
     (layout (front ++ (forest_nodes p b ts ++ back)) items (map (coming under) (numbers b ts) ++ work))
     ≡ layout_within limit k (layout (front ++ (blanked (forest_nodes p b ts) ++ back))
     (items ++ forest_items (depth_at items under + 1) under (length items) ts) work)
@@ -173,16 +161,14 @@ leaf_laid : (limit k j under b : ℕ) (front back : List NodeValue) (items : Lis
     → with_kind_of (is_deepest limit items under) x.kind (coming under b)
     (layout (front ++ (blank x ∷ back)) items work)
     ≡ layout (front ++ (blank x ∷ back)) (items ++ new_item items under new ∷ []) work
-    → layout_within limit j (layout (front ++ (x ∷ back)) items (coming under b ∷ work))
-    ≡ layout_within limit k
+    → layout_within limit j (layout (front ++ (x ∷ back)) items (coming under b ∷ work)) ≡ layout_within limit k
     (layout (front ++ (blank x ∷ back)) (items ++ new_item items under new ∷ []) work)
 leaf_laid limit k zero under b front back items work x new e f g = absurd (omega arith)
 leaf_laid limit k (suc j) under b front back items work x new e f g =
     let same : j ≡ k = omega arith in
     ap (layout_within limit j) (node_laid limit front x back items work under b e ∙ g)
     ∙ ap (λ n. layout_within limit n (layout (front ++ (blank x ∷ back))
-    (items ++ new_item items under new ∷ []) work))
-    same
+    (items ++ new_item items under new ∷ []) work)) same
 
 no_next : (nodes : List NodeValue) (under : ℕ) (work : List Coming) → next_text nodes under work ≡ None
     → (next_texts nodes under work ≡ []) × (after_next_texts nodes under work ≡ work)
@@ -209,8 +195,7 @@ entered : (limit j : ℕ) (front : List NodeValue) (x : NodeValue) (rest : List 
     (map (coming (length items)) x.children ++ work))
 entered limit j front x rest items work under b name attributes kind e d =
     let new : Item = new_item items under (element_node (text_of_element_name name) attributes) in
-    ap (layout_within limit j)
-    (node_laid limit front x rest items work under b e
+    ap (layout_within limit j) (node_laid limit front x rest items work under b e
     ∙ ap (λ deep. with_kind_of deep x.kind (coming under b) (layout (front ++ (blank x ∷ rest)) items work))
     (shallow limit (depth_at items under + 1) d)
     ∙ ap (λ k. with_kind_of false k (coming under b) (layout (front ++ (blank x ∷ rest)) items work)) kind
@@ -227,15 +212,13 @@ element_items : (items : List Item) (under : ℕ) (n : List ℕ) (attributes : L
     ≡ items ++ tree_items (depth_at items under + 1) under (length items) (element n attributes children)
 element_items items under n attributes children new f =
     let d : ℕ = depth_at items under + 1 in
-    let there : depth_at (items ++ new ∷ []) (length items) ≡ d =
-    ap (λ (i : Item). i.depth) (item_at-middle items [] new) ∙ ap (λ (i : Item). i.depth) f in
+    let there = ap (λ (i : Item). i.depth) (item_at-middle items [] new) ∙ ap (λ (i : Item). i.depth) f in
     let deep : depth_at (items ++ new ∷ []) (length items) + 1 ≡ suc d = omega (arith, there) in
     let long : length (items ++ new ∷ []) ≡ suc (length items) = omega (arith, length-append items (new ∷ [])) in
     let held : List Item = forest_items (suc d) (length items) (suc (length items)) children in
     ap (λ m. (items ++ new ∷ []) ++ forest_items m (length items) (length (items ++ new ∷ [])) children) deep
     ∙ ap (λ m. (items ++ new ∷ []) ++ forest_items (suc d) (length items) m children) long
-    ∙ append_assoc items (new ∷ []) held
-    ∙ ap (λ (i : Item). items ++ (i ∷ held)) f
+    ∙ append_assoc items (new ∷ []) held ∙ ap (λ (i : Item). items ++ (i ∷ held)) f
     ∙ ap (λ (m : List ℕ). items ++ (item_under d under (element_node m attributes) ∷ held)) (name_kept n)
 
 -- an element without content, at the deepest level too
@@ -249,8 +232,7 @@ empty_kind deep n attributes p under b front back items work e =
     let x : NodeValue = blank (node (documents.element (html (name_of_text n)) attributes) p []) in
     let all : List NodeValue = front ++ (x ∷ back) in
     ap (λ cs. layout all (items ++ new_item items under (element_node (text_of_name (name_of_text n)) attributes) ∷
-    [])
-    (map (coming (parent_of_children deep under (layout all items work))) cs ++ work))
+    []) (map (coming (parent_of_children deep under (layout all items work))) cs ++ work))
     (children_after front x back b e)
     ∙ ap (λ (m : List ℕ). layout all (items ++ new_item items under (element_node m attributes) ∷ []) work)
     (name_kept n)
@@ -266,12 +248,10 @@ element_laid n attributes children ih some limit k (suc j) under p b front back 
     let new : Item = new_item items under (element_node (text_of_name (name_of_text n)) attributes) in
     let whole : List Item = items ++ new ∷ [] in
     let long : length whole ≡ suc (length items) = omega (arith, length-append items (new ∷ [])) in
-    let there : depth_at whole (length items) ≡ depth_at items under + 1 =
-    ap (λ (i : Item). i.depth) (item_at-middle items [] new) in
+    let there = ap (λ (i : Item). i.depth) (item_at-middle items [] new) in
     let first : length (front ++ blank x ∷ []) ≡ suc b = omega (arith, f, length-append front (blank x ∷ [])) in
     entered limit j front x (held ++ back) items work under b (html (name_of_text n)) attributes refl f
-    (omega (arith, d, some))
-    ∙ ih limit k j (length items) b (suc b) (front ++ blank x ∷ []) back whole work e a
+    (omega (arith, d, some)) ∙ ih limit k j (length items) b (suc b) (front ++ blank x ∷ []) back whole work e a
     (outer_elsewhere items whole work (omega (arith, long)) o) first
     (omega (arith, long)) (omega (arith, there, d)) (omega (arith, g))
     ∙ ap (λ nodes. layout_within limit k (layout nodes
@@ -294,16 +274,9 @@ later_none : (t : ValueTree) (ts : ValueForest) (under p b : ℕ) (front here ba
     ≡ None
 later_none t none under p b front here back items [] a i o c = refl
 later_none t none under p b front here back items (w ∷ work) a i o c = rw o.1 refl
-later_none (document children) (more v ts) under p b front here back items work a i o c = absurd (cc)
-later_none doctype (more v ts) under p b front here back items work a i o c = absurd (cc)
-later_none (comment u) (more v ts) under p b front here back items work a i o c = absurd (cc)
-later_none (element n attributes children) (more v ts) under p b front here back items work a i o c = absurd (cc)
 later_none (text u) (more v ts) under p b front here back items work a i o c =
-    rw (itself under) (by_kind v ts a)
+    rw (eq-eqb under under refl) (by_kind v ts a)
   where
-    itself : (n : ℕ) → (n == n) ≡ true
-    itself n = grind (arith, nat_tests)
-
     kind_there : (x : NodeValue) (rest : List NodeValue) → kind_at (front ++ (here ++ (x ∷ rest))) b ≡ x.kind
     kind_there x rest =
         ap (λ (nodes : List NodeValue). kind_at nodes b) (sym (append_assoc front here (x ∷ rest)))
@@ -311,11 +284,9 @@ later_none (text u) (more v ts) under p b front here back items work a i o c =
 
     by_kind : (v : ValueTree) (ts : ValueForest) → Apart (text u) (more v ts)
         → text_of (kind_at (front ++ (here ++ (forest_nodes p b (more v ts) ++ back))) b) ≡ None
-    by_kind (document children) ts a = ap text_of (kind_there _ _)
-    by_kind doctype ts a = ap text_of (kind_there _ _)
     by_kind (text w) ts a = absurd a
-    by_kind (comment w) ts a = ap text_of (kind_there _ _)
-    by_kind (element n attributes children) ts a = ap text_of (kind_there _ _)
+    by_kind _ ts a = ap text_of (kind_there _ _)
+later_none _ (more v ts) under p b front here back items work a i o c = absurd (cc)
 
 next_laid : (t : ValueTree) (ts : ValueForest) → TreeLaid t → ForestLaid ts → ForestLaid (more t ts)
 next_laid t ts one all limit k j under p b front back items work e a o f u d g =
@@ -344,8 +315,7 @@ next_laid t ts one all limit k j under p b front back items work e a o f u d g =
     (omega (arith, long, u)) (omega (arith, there, d)) refl
     ∙ ap (λ nodes. layout_within limit k (layout nodes ((items ++ new)
     ++ forest_items (depth_at (items ++ new) under + 1) under (length (items ++ new)) ts) work))
-    (append_assoc front (blanked here) (blanked later ++ back)
-    ∙ ap (λ (nodes : List NodeValue). front ++ nodes)
+    (append_assoc front (blanked here) (blanked later ++ back) ∙ ap (λ (nodes : List NodeValue). front ++ nodes)
     (sym (append_assoc (blanked here) (blanked later) back)
     ∙ ap (λ (nodes : List NodeValue). nodes ++ back) (sym (blanked_append here later))))
     ∙ ap (λ all_items. layout_within limit k (layout (front ++ (blanked (here ++ later) ++ back)) all_items work))
@@ -355,10 +325,7 @@ next_laid t ts one all limit k j under p b front back items work e a o f u d g =
 
 levels_some : (t : ValueTree) → 0 < levels t
 levels_some (document children) = omega arith
-levels_some doctype = omega arith
-levels_some (text u) = omega arith
-levels_some (comment u) = omega arith
-levels_some (element n attributes children) = omega arith
+levels_some _ = omega arith
 
 mutual
   tree_laid : (t : ValueTree) → TreeLaid t

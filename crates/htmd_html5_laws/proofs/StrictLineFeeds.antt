@@ -63,8 +63,7 @@ number_is p base from m s v e =
     (λ t. let w = rw t at e in (
       number base 0 (leading_run p s),
       numbered_is (suc (from + length (leading_run p s))) (number base 0 (leading_run p s)) m v w,
-    ))
-    (λ t. absurd (let w = rw t at e in cc))
+    )) (λ t. absurd (let w = rw t at e in cc))
 
 sign_is : (s v : List ℕ) (m : ℕ) → behind_number_sign s ≡ stands m v → (c : ℕ) × (v ≡ encode_utf8 c)
 sign_is [] v m e = absurd (cc)
@@ -74,8 +73,7 @@ sign_is (b ∷ s) v m e =
     (λ t. let w = rw t at e in number_is is_ascii_digit 10 1 m (b ∷ s) v w)
 
 name_is : (n m : ℕ) (w v : List ℕ) (o : Option ℕ) → character_named named_characters w ≡ o → named n
-    o ≡ stands m v
-    → (d : ℕ) × (t : List ℕ) × (v ≡ d ∷ t) × (d ≡ 10 → ⊥)
+    o ≡ stands m v → (d : ℕ) × (t : List ℕ) × (v ≡ d ∷ t) × (d ≡ 10 → ⊥)
 name_is n m w v None q e = absurd (cc)
 name_is n m w v (Some c) q e =
     let h = encode_head c in
@@ -83,8 +81,7 @@ name_is n m w v (Some c) q e =
       h.0,
       h.1,
       same,
-      λ ten. no_ten h.0 h.1 ten
-          (ap (first_is 10) (sym h.2) ∙ named_no_feed named_characters w c no_feed_named q),
+      λ ten. no_ten h.0 h.1 ten (ap (first_is 10) (sym h.2) ∙ named_no_feed named_characters w c no_feed_named q),
     )
   where
     no_ten : (d : ℕ) (t : List ℕ) → d ≡ 10 → first_is 10 (d ∷ t) ≡ false → ⊥
@@ -173,8 +170,7 @@ feed_case b s = go (piece_at [] b s) refl
     go (stands m v) e =
         test (bytes_eq v (10 ∷ []))
         (λ t. let same : v ≡ 10 ∷ [] = same_bytes v (10 ∷ []) t in
-        inr (m, e ∙ ap (stands m) same, rw e (rw t refl)))
-        (λ t. inl (rw e (rw t refl)))
+        inr (m, e ∙ ap (stands m) same, rw e (rw t refl))) (λ t. inl (rw e (rw t refl)))
 
 same_front : (w r x y : List ℕ) → w ++ r ≡ x ++ y → length w ≡ length x → w ≡ x
 same_front [] r [] y e l = refl
@@ -212,8 +208,7 @@ dropped_feed b m s cr e =
     not_less : (b m : ℕ) (s : List ℕ) → (b == 13) ≡ false → IsLineFeedPiece b s m → (b == 60) ≡ false
     not_less b m s cr e =
         test (b == 60) (λ t. absurd (let k = eqb-true b 60 t in let w : stands 0 (60 ∷ []) ≡ stands m
-        (10 ∷ []) = rw k at e in cc))
-        (λ t. t)
+        (10 ∷ []) = rw k at e in cc)) (λ t. t)
 
 skipped : (w x : List ℕ) → decode named_characters (length w) (w ++ x) ≡ decode named_characters 0 x
 skipped [] x = refl
@@ -228,8 +223,7 @@ feed_text b w r this z u f e d l =
     (rw (f.piece this z e) (rw (skipped w this ∙ d) refl), no_markup b w this f.no_less_first f.no_less l)
   where
     no_markup : (b : ℕ) (w this : List ℕ) → (b == 60) ≡ false → lacks 60 w ≡ true → up_to begins_markup
-        this ≡ this
-        → up_to begins_markup (b ∷ (w ++ this)) ≡ b ∷ (w ++ this)
+        this ≡ this → up_to begins_markup (b ∷ (w ++ this)) ≡ b ∷ (w ++ this)
     no_markup b [] [] e l k = refl
     no_markup b [] (c ∷ this) e l k = rw e (ap (λ (x : List ℕ). b ∷ x) k)
     no_markup b (c ∷ w) this e l k =

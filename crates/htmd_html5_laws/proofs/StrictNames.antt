@@ -1,13 +1,14 @@
 -- Which rules plain names have.
 use Rattle.std.proofs.Common.{◌≡◌, ℕ, Bool, true, false, not, List, [], ◌∷◌, refl, sym, subst, codes}
 use Rattle.std.specs.Str.{bytes_eq}
-use Rattle.std.proofs.lemmas.Bool.{not-true}
+use Rattle.std.proofs.lemmas.Bool.{not-true, true≢false}
+use Rattle.std.specs.List.{list_all}
 use Rattle.htmd_grammar.proofs.Cases.{test}
 use Rattle.htmd_grammar.specs.CharacterClasses.{is_among}
 use Rattle.htmd_grammar.specs.Nesting.{closes_paragraph, is_outside}
-use Rattle.htmd_grammar.proofs.NestingLemmas.{same_bytes, bytes_same}
+use Rattle.htmd_grammar.proofs.NestingLemmas.{same_bytes, bytes_same, among_passes}
 use Rattle.htmd_grammar.specs.Serialisation.{is_void, void_elements}
-use Rattle.htmd_html5_state.specs.Names.{NameValue, known, other, html, name_of_text, spelling, same_name}
+use Rattle.htmd_html5_state.specs.Names.{NameValue, known, other, html, name_of_text, spelling, same_name, text_of_name}
 use Rattle.htmd_html5_state.specs.Sets.{is_of}
 use Rattle.htmd_html5_state.specs.declared.names.TagName.{TagName}
 use Rattle.htmd_html5_state.specs.declared.sets.NameSet.TheVariants.{Headings}
@@ -16,8 +17,9 @@ use Rattle.htmd_html5.specs.SharedRules.{insert_head_element, insert_void_tag}
 use Rattle.htmd_html5.specs.Tokens.{StartTagValue}
 use Rattle.htmd_html5_state.specs.State.{StateValue}
 use Rattle.htmd_html5.specs.BodyEnds.{end_rule, text_end_rule}
-use Rattle.htmd_html5_laws.specs.StrictTrees.{is_unknown_name, ordinary_names, formatting_names, block_names, heading_names}
-use Rattle.htmd_html5_laws.specs.StrictTrees.{other_names, is_plain_name}
+use Rattle.htmd_html5_laws.specs.StrictTrees.{is_unknown_name, ordinary_names, formatting_names, block_names}
+use Rattle.htmd_html5_laws.specs.StrictTrees.{heading_names, other_names, is_plain_name}
+use Rattle.htmd_html5_laws.proofs.StrictOpen.{name_kept}
 use Rattle.htmd_grammar.specs.Nesting as nesting
 use Rattle.htmd_html5_state.specs.declared.names.TagName.TheVariants as tags
 
@@ -33,8 +35,7 @@ Each Q [] = Unit {0}
 Each Q (n ∷ names) = Q n × Each Q names
 
 pub among_each : (Q : List ℕ → Type 0) (names : List (List ℕ)) (n : List ℕ) → is_among names n ≡ true →
-    Each Q names
-    → Q n
+    Each Q names → Q n
 among_each Q [] n e h = absurd (cc)
 among_each Q (m ∷ names) n e h =
     test (bytes_eq n m) (λ t. subst Q (sym (same_bytes n m t)) h.0)
@@ -57,172 +58,103 @@ LikeHeading n = Like tags.H1 n × (closes_paragraph n ≡ true) × (nesting.is_h
 abbrev pub LikePart : List ℕ → Type 0
 LikePart n = Like tags.Dd n × (closes_paragraph n ≡ true) × (is_among (codes "dd" ∷ codes "dt" ∷ []) n ≡ true)
 
-like_span : Each (Like tags.Span) ordinary_names
-unfolding block_rule formatting_rule phrasing_rule text_end_rule
-like_span = (
-  (tags.Ruby, refl, refl, refl),
-  (
-    (tags.Span, refl, refl, refl),
-    (
-      (tags.Sub, refl, refl, refl),
-      (
-        (tags.Sup, refl, refl, refl),
-        (
-          (tags.Var, refl, refl, refl),
-          tt,
-        ),
-      ),
-    ),
-  ),
-)
+-- one of these names, all of which are known
+known_among : (names : List (List ℕ)) (n : List ℕ) → is_among names n ≡ true
+    → list_all (λ m. not (is_unknown_name (name_of_text m))) names ≡ true
+    → (tag : TagName) × (name_of_text n ≡ known tag) × (spelling tag ≡ n)
+known_among names n e all =
+    by_name (name_of_text n) (name_kept n) (among_passes (λ m. not (is_unknown_name (name_of_text m))) names n e all)
+  where
+    by_name : (name : NameValue) → text_of_name name ≡ n → not (is_unknown_name name) ≡ true
+        → (tag : TagName) × (name ≡ known tag) × (spelling tag ≡ n)
+    by_name (other t) k f = absurd (cc)
+    by_name (known tag) k f = (tag, refl, k)
 
-like_b : Each (Like tags.B) formatting_names
-unfolding block_rule formatting_rule phrasing_rule text_end_rule
-like_b = (
-  (tags.B, refl, refl, refl),
-  (
-    (tags.Big, refl, refl, refl),
-    (
-      (tags.Code, refl, refl, refl),
-      (
-        (tags.Em, refl, refl, refl),
-        (
-          (tags.Font, refl, refl, refl),
-          (
-            (tags.I, refl, refl, refl),
-            (
-              (tags.S, refl, refl, refl),
-              (
-                (tags.Small, refl, refl, refl),
-                (
-                  (tags.Strike, refl, refl, refl),
-                  (
-                    (tags.Strong, refl, refl, refl),
-                    (
-                      (tags.Tt, refl, refl, refl),
-                      (
-                        (tags.U, refl, refl, refl),
-                        tt,
-                      ),
-                    ),
-                  ),
-                ),
-              ),
-            ),
-          ),
-        ),
-      ),
-    ),
-  ),
-)
+-- the tags of these names have the rules of this one
+abbrev Alike : List (List ℕ) → TagName → Type 0
+Alike names model =
+    (tag : TagName) → is_among names (spelling tag) ≡ true
+    → (start_rule tag ≡ start_rule model) × (end_rule tag ≡ end_rule model)
 
-like_div : Each LikeBlock block_names
-unfolding block_rule formatting_rule phrasing_rule text_end_rule
-like_div = (
-  ((tags.Address, refl, refl, refl), refl),
-  (
-    ((tags.Article, refl, refl, refl), refl),
-    (
-      ((tags.Aside, refl, refl, refl), refl),
-      (
-        ((tags.BlockQuote, refl, refl, refl), refl),
-        (
-          ((tags.Center, refl, refl, refl), refl),
-          (
-            ((tags.Details, refl, refl, refl), refl),
-            (
-              ((tags.Dialog, refl, refl, refl), refl),
-              (
-                ((tags.Dir, refl, refl, refl), refl),
-                (
-                  ((tags.Div, refl, refl, refl), refl),
-                  (
-                    ((tags.Dl, refl, refl, refl), refl),
-                    (
-                      ((tags.FieldSet, refl, refl, refl), refl),
-                      (
-                        ((tags.FigCaption, refl, refl, refl), refl),
-                        (
-                          ((tags.Figure, refl, refl, refl), refl),
-                          (
-                            ((tags.Footer, refl, refl, refl), refl),
-                            (
-                              ((tags.Header, refl, refl, refl), refl),
-                              (
-                                ((tags.HGroup, refl, refl, refl), refl),
-                                (
-                                  ((tags.Main, refl, refl, refl), refl),
-                                  (
-                                    ((tags.Menu, refl, refl, refl), refl),
-                                    (
-                                      ((tags.Nav, refl, refl, refl), refl),
-                                      (
-                                        ((tags.Ol, refl, refl, refl), refl),
-                                        (
-                                          ((tags.Search, refl, refl, refl), refl),
-                                          (
-                                            ((tags.Section, refl, refl, refl), refl),
-                                            (
-                                              ((tags.Summary, refl, refl, refl), refl),
-                                              (
-                                                ((tags.Ul, refl, refl, refl), refl),
-                                                tt,
-                                              ),
-                                            ),
-                                          ),
-                                        ),
-                                      ),
-                                    ),
-                                  ),
-                                ),
-                              ),
-                            ),
-                          ),
-                        ),
-                      ),
-                    ),
-                  ),
-                ),
-              ),
-            ),
-          ),
-        ),
-      ),
-    ),
-  ),
-)
+like : (names : List (List ℕ)) (model : TagName) → Alike names model
+    → list_all (λ m. not (is_unknown_name (name_of_text m))) names ≡ true → (n : List ℕ)
+    → is_among names n ≡ true → Like model n
+like names model alike all n e =
+    let k = known_among names n e all in
+    let rules = alike k.0 (subst (λ m. is_among names m ≡ true) (sym k.2) e) in
+    (k.0, k.1, rules.0, rules.1)
 
-like_h1 : Each LikeHeading heading_names
+like_span : Alike ordinary_names tags.Span
 unfolding block_rule formatting_rule phrasing_rule text_end_rule
-like_h1 = (
-  ((tags.H1, refl, refl, refl), refl, refl, refl),
-  (
-    ((tags.H2, refl, refl, refl), refl, refl, refl),
-    (
-      ((tags.H3, refl, refl, refl), refl, refl, refl),
-      (
-        ((tags.H4, refl, refl, refl), refl, refl, refl),
-        (
-          ((tags.H5, refl, refl, refl), refl, refl, refl),
-          (
-            ((tags.H6, refl, refl, refl), refl, refl, refl),
-            tt,
-          ),
-        ),
-      ),
-    ),
-  ),
-)
+like_span tags.Ruby e = (refl, refl)
+like_span tags.Span e = (refl, refl)
+like_span tags.Sub e = (refl, refl)
+like_span tags.Sup e = (refl, refl)
+like_span tags.Var e = (refl, refl)
+like_span _ e = absurd (true≢false (sym e))
 
-like_dd : Each LikePart (codes "dd" ∷ codes "dt" ∷ [])
+like_b : Alike formatting_names tags.B
 unfolding block_rule formatting_rule phrasing_rule text_end_rule
-like_dd = (
-  ((tags.Dd, refl, refl, refl), refl, refl),
-  (
-    ((tags.Dt, refl, refl, refl), refl, refl),
-    tt,
-  ),
-)
+like_b tags.B e = (refl, refl)
+like_b tags.Big e = (refl, refl)
+like_b tags.Code e = (refl, refl)
+like_b tags.Em e = (refl, refl)
+like_b tags.Font e = (refl, refl)
+like_b tags.I e = (refl, refl)
+like_b tags.S e = (refl, refl)
+like_b tags.Small e = (refl, refl)
+like_b tags.Strike e = (refl, refl)
+like_b tags.Strong e = (refl, refl)
+like_b tags.Tt e = (refl, refl)
+like_b tags.U e = (refl, refl)
+like_b _ e = absurd (true≢false (sym e))
+
+like_div : Alike block_names tags.Div
+unfolding block_rule formatting_rule phrasing_rule text_end_rule
+like_div tags.Address e = (refl, refl)
+like_div tags.Article e = (refl, refl)
+like_div tags.Aside e = (refl, refl)
+like_div tags.BlockQuote e = (refl, refl)
+like_div tags.Center e = (refl, refl)
+like_div tags.Details e = (refl, refl)
+like_div tags.Dialog e = (refl, refl)
+like_div tags.Dir e = (refl, refl)
+like_div tags.Div e = (refl, refl)
+like_div tags.Dl e = (refl, refl)
+like_div tags.FieldSet e = (refl, refl)
+like_div tags.FigCaption e = (refl, refl)
+like_div tags.Figure e = (refl, refl)
+like_div tags.Footer e = (refl, refl)
+like_div tags.Header e = (refl, refl)
+like_div tags.HGroup e = (refl, refl)
+like_div tags.Main e = (refl, refl)
+like_div tags.Menu e = (refl, refl)
+like_div tags.Nav e = (refl, refl)
+like_div tags.Ol e = (refl, refl)
+like_div tags.Search e = (refl, refl)
+like_div tags.Section e = (refl, refl)
+like_div tags.Summary e = (refl, refl)
+like_div tags.Ul e = (refl, refl)
+like_div _ e = absurd (true≢false (sym e))
+
+like_h1 : Alike heading_names tags.H1
+unfolding block_rule formatting_rule phrasing_rule text_end_rule
+like_h1 tags.H1 e = (refl, refl)
+like_h1 tags.H2 e = (refl, refl)
+like_h1 tags.H3 e = (refl, refl)
+like_h1 tags.H4 e = (refl, refl)
+like_h1 tags.H5 e = (refl, refl)
+like_h1 tags.H6 e = (refl, refl)
+like_h1 _ e = absurd (true≢false (sym e))
+
+abbrev part_names : List (List ℕ)
+part_names = codes "dd" ∷ codes "dt" ∷ []
+
+like_dd : Alike part_names tags.Dd
+unfolding block_rule formatting_rule phrasing_rule text_end_rule
+like_dd tags.Dd e = (refl, refl)
+like_dd tags.Dt e = (refl, refl)
+like_dd _ e = absurd (true≢false (sym e))
 
 -- ---- void elements
 
@@ -243,72 +175,38 @@ pub data VoidCase (n : List ℕ) : Type 0 where
   separator : n ≡ codes "hr" → VoidCase n
   in_head : InHead n → VoidCase n
 
-abbrev VoidThere : List ℕ → Type 0
-VoidThere n = is_among (codes "col" ∷ []) n ≡ false → is_outside n ≡ false → VoidCase n
-
-void_cases : Each VoidThere void_elements
+void_tag : (n : List ℕ) (tag : TagName) → name_of_text n ≡ known tag → spelling tag ≡ n
+    → is_among void_elements (spelling tag) ≡ true → is_among (codes "col" ∷ []) (spelling tag) ≡ false
+    → is_outside (spelling tag) ≡ false → VoidCase n
 unfolding block_rule formatting_rule phrasing_rule
-void_cases = (
-  λ e o. in_text (tags.Area, refl, refl),
-  (
-    λ e o. in_head (tags.Base, refl, refl, λ x s. refl),
-    (
-      λ e o. in_head (tags.BaseFont, refl, refl, λ x s. refl),
-      (
-        λ e o. in_head (tags.BgSound, refl, refl, λ x s. refl),
-        (
-          λ e o. in_text (tags.Br, refl, refl),
-          (
-            λ e o. absurd (cc),
-            (
-              λ e o. in_text (tags.Embed, refl, refl),
-              (
-                λ e o. absurd (cc),
-                (
-                  λ e o. separator refl,
-                  (
-                    λ e o. in_text (tags.Img, refl, refl),
-                    (
-                      λ e o. input refl,
-                      (
-                        λ e o. in_text (tags.KeyGen, refl, refl),
-                        (
-                          λ e o. in_head (tags.Link, refl, refl, λ x s. refl),
-                          (
-                            λ e o. in_head (tags.Meta, refl, refl, λ x s. refl),
-                            (
-                              λ e o. of_another (tags.Param, refl, refl),
-                              (
-                                λ e o. of_another (tags.Source, refl, refl),
-                                (
-                                  λ e o. of_another (tags.Track, refl, refl),
-                                  (
-                                    λ e o. in_text (tags.Wbr, refl, refl),
-                                    tt,
-                                  ),
-                                ),
-                              ),
-                            ),
-                          ),
-                        ),
-                      ),
-                    ),
-                  ),
-                ),
-              ),
-            ),
-          ),
-        ),
-      ),
-    ),
-  ),
-)
+void_tag n tags.Input k s v e o = input (sym s)
+void_tag n tags.Hr k s v e o = separator (sym s)
+void_tag n tags.Base k s v e o = in_head (tags.Base, k, refl, λ x y. refl)
+void_tag n tags.BaseFont k s v e o = in_head (tags.BaseFont, k, refl, λ x y. refl)
+void_tag n tags.BgSound k s v e o = in_head (tags.BgSound, k, refl, λ x y. refl)
+void_tag n tags.Link k s v e o = in_head (tags.Link, k, refl, λ x y. refl)
+void_tag n tags.Meta k s v e o = in_head (tags.Meta, k, refl, λ x y. refl)
+void_tag n tags.Param k s v e o = of_another (tags.Param, k, refl)
+void_tag n tags.Source k s v e o = of_another (tags.Source, k, refl)
+void_tag n tags.Track k s v e o = of_another (tags.Track, k, refl)
+void_tag n tags.Area k s v e o = in_text (tags.Area, k, refl)
+void_tag n tags.Br k s v e o = in_text (tags.Br, k, refl)
+void_tag n tags.Embed k s v e o = in_text (tags.Embed, k, refl)
+void_tag n tags.Img k s v e o = in_text (tags.Img, k, refl)
+void_tag n tags.KeyGen k s v e o = in_text (tags.KeyGen, k, refl)
+void_tag n tags.Wbr k s v e o = in_text (tags.Wbr, k, refl)
+void_tag n tags.Col k s v e o = absurd (true≢false e)
+void_tag n tags.Frame k s v e o = absurd (true≢false o)
+void_tag n _ k s v e o = absurd (true≢false (sym v))
 
-pub void_case : (n : List ℕ) → is_void n ≡ true → not (is_among (codes "col" ∷ []) n) ≡ true → is_outside
-    n ≡ false
-    → VoidCase n
+pub void_case : (n : List ℕ) → is_void n ≡ true → not (is_among (codes "col" ∷ []) n) ≡ true
+    → is_outside n ≡ false → VoidCase n
 unfolding is_void
-void_case n v e o = among_each VoidThere void_elements n v void_cases (not-true (is_among (codes "col" ∷ []) n) e) o
+void_case n v e o =
+    let k = known_among void_elements n v refl in
+    void_tag n k.0 k.1 k.2 (subst (λ m. is_among void_elements m ≡ true) (sym k.2) v)
+    (subst (λ m. is_among (codes "col" ∷ []) m ≡ false) (sym k.2) (not-true (is_among (codes "col" ∷ []) n) e))
+    (subst (λ m. is_outside m ≡ false) (sym k.2) o)
 
 -- which rules a plain name has
 pub data PlainCase (n : List ℕ) : Type 0 where
@@ -331,12 +229,26 @@ unknown_name (other t) e = (t, refl)
 pub plain_case : (n : List ℕ) → is_plain_name n ≡ true → PlainCase n
 plain_case n e =
     test (is_unknown_name (name_of_text n)) (λ t. let u = unknown_name (name_of_text n) t in unknown u.0 u.1)
-    (λ a. test (is_among ordinary_names n) (λ t. ordinary (among_each (Like tags.Span) ordinary_names n t like_span))
-    (λ b. test (is_among formatting_names n) (λ t. formatting (among_each (Like tags.B) formatting_names n t like_b))
-    (λ c. test (is_among block_names n) (λ t. block (among_each LikeBlock block_names n t like_div))
-    (λ d. test (is_among heading_names n) (λ t. heading (among_each LikeHeading heading_names n t like_h1))
+    (λ a. test (is_among ordinary_names n) (λ t. ordinary (like ordinary_names tags.Span like_span refl n t))
+    (λ b. test (is_among formatting_names n) (λ t. formatting (like formatting_names tags.B like_b refl n t))
+    (λ c. test (is_among block_names n) (λ t. block (like_block n t))
+    (λ d. test (is_among heading_names n) (λ t. heading (like_heading n t))
     (λ f. others n (rw (a, b, c, d, f) at e))))))
   where
+    like_block : (n : List ℕ) → is_among block_names n ≡ true → LikeBlock n
+    like_block n t = (like block_names tags.Div like_div refl n t, among_passes closes_paragraph block_names n t refl)
+
+    like_heading : (n : List ℕ) → is_among heading_names n ≡ true → LikeHeading n
+    like_heading n t = (
+      like heading_names tags.H1 like_h1 refl n t,
+      among_passes closes_paragraph heading_names n t refl,
+      among_passes nesting.is_heading heading_names n t refl,
+      among_passes (λ m. is_of Headings (html (name_of_text m))) heading_names n t refl,
+    )
+
+    like_part : (n : List ℕ) → is_among part_names n ≡ true → LikePart n
+    like_part n t = (like part_names tags.Dd like_dd refl n t, among_passes closes_paragraph part_names n t refl, t)
+
     others : (n : List ℕ) → is_among other_names n ≡ true → PlainCase n
     others n e =
         test (bytes_eq n (codes "a")) (λ t. anchor (same_bytes n (codes "a") t))
@@ -344,7 +256,7 @@ plain_case n e =
         (λ b. test (bytes_eq n (codes "p")) (λ t. paragraph (same_bytes n (codes "p") t))
         (λ c. test (bytes_eq n (codes "li")) (λ t. list_item (same_bytes n (codes "li") t))
         (λ d. test (bytes_eq n (codes "button")) (λ t. button (same_bytes n (codes "button") t))
-        (λ f. part (among_each LikePart (codes "dd" ∷ codes "dt" ∷ []) n (rw (a, b, c, d, f) at e) like_dd))))))
+        (λ f. part (like_part n (rw (a, b, c, d, f) at e)))))))
 
 -- whether its end tag runs the adoption agency
 abbrev pub is_formatting_case : {n : List ℕ} → PlainCase n → Bool

@@ -1,16 +1,16 @@
 -- The nodes that plain trees put, in document order.
-use Rattle.std.proofs.Common.{◌≡◌, ℕ, zero, suc, ◌+◌, ◌<◌, ◌≤◌, Bool, true, false, List, [], ◌∷◌, ◌++◌}
-use Rattle.std.proofs.Common.{length, Option, Some, None, refl, ap, ◌∙◌, arith, append_assoc, length-append}
-use Rattle.std.specs.Prelude.{insert}
+use Rattle.std.proofs.Common.{◌≡◌, ℕ, zero, suc, ◌+◌, ◌<◌, ◌≤◌, Bool, true, false, List, [], ◌∷◌, ◌++◌, length, Option}
+use Rattle.std.proofs.Common.{Some, None, refl, ap, ◌∙◌, arith, append_assoc, length-append}
 use Rattle.std.proofs.lemmas.List.{append-nil}
 use Rattle.htmd_grammar.specs.ValueTrees.{AttributePair, ValueTree, ValueForest, none, more, document, doctype, text}
 use Rattle.htmd_grammar.specs.ValueTrees.{comment, element}
 use Rattle.htmd_grammar.specs.Grammar.{Apart}
 use Rattle.htmd_nodes.specs.Layout.{size, sizes}
 use Rattle.htmd_html5_state.specs.Names.{html, name_of_text}
-use Rattle.htmd_html5_state.specs.Nodes.{KindValue, NodeValue, node_at, kind_at, children_at, text_of, new_node}
-use Rattle.htmd_html5_state.specs.Nodes.{with_children, append_children, add, add_text, last_in, preceding, child_before}
-use Rattle.htmd_html5_state.specs.Nodes.{joined_to, put_child, with_parent}
+use Rattle.htmd_html5_state.specs.Nodes.{KindValue, NodeValue, kind_at, children_at, text_of, new_node, append_children}
+use Rattle.htmd_html5_state.specs.Nodes.{add, add_text, last_in, preceding, child_before, joined_to, put_child}
+use Rattle.htmd_html5_state.specs.Nodes.{with_parent}
+use Rattle.htmd_html5_state.proofs.DocumentLemmas.{insert_last}
 use Rattle.htmd_html5_state.specs.Nodes as documents
 
 -- ---- the nodes of trees
@@ -42,10 +42,8 @@ abbrev mutual
 mutual
   pub tree_count : (p b : ℕ) (t : ValueTree) → length (tree_nodes p b t) ≡ size t
   tree_count p b (document children) = ap suc (forest_count b (suc b) children)
-  tree_count p b doctype = refl
-  tree_count p b (text u) = refl
-  tree_count p b (comment u) = refl
   tree_count p b (element n attributes children) = ap suc (forest_count b (suc b) children)
+  tree_count p b _ = refl
 
   pub forest_count : (p b : ℕ) (ts : ValueForest) → length (forest_nodes p b ts) ≡ sizes ts
   forest_count p b none = refl
@@ -67,8 +65,7 @@ append_front (suc p) ns (x ∷ nodes) others l =
 
 -- to the node right after these
 pub append_at : (ns : List ℕ) (nodes : List NodeValue) (x : NodeValue) (others : List NodeValue) (n : ℕ)
-    → length nodes ≡ n
-    → append_children n ns (nodes ++ (x ∷ others)) ≡ nodes ++
+    → length nodes ≡ n → append_children n ns (nodes ++ (x ∷ others)) ≡ nodes ++
     (record x { children = x.children ++ ns } ∷ others)
 append_at ns [] x others zero e = refl
 append_at ns [] x others (suc n) e = absurd (omega arith)
@@ -120,26 +117,20 @@ children_after (y ∷ nodes) x others (suc n) e = children_after nodes x others 
 
 -- ---- a node that is added
 
-insert_last : (cs : List ℕ) (n : ℕ) → insert cs (length cs) n ≡ cs ++ n ∷ []
-insert_last [] n = refl
-insert_last (c ∷ cs) n = ap (λ (y : List ℕ). c ∷ y) (insert_last cs n)
-
 -- with its number, it is the last child, and the last node
 with_child : (p n : ℕ) (nodes : List NodeValue) (x : NodeValue) → p < length nodes
     → put_child n (last_in p) (nodes ++ x ∷ []) ≡ append_children p (n ∷ []) nodes ++ x ∷ []
 with_child p n [] x l = absurd (omega arith)
 with_child zero n (y ∷ nodes) x l =
     ap (λ (cs : List ℕ). record y { children = cs } ∷ (nodes ++ x ∷ [])) (insert_last y.children n)
-with_child (suc p) n (y ∷ nodes) x l =
-    ap (λ (z : List NodeValue). y ∷ z) (with_child p n nodes x (omega arith))
+with_child (suc p) n (y ∷ nodes) x l = ap (λ (z : List NodeValue). y ∷ z) (with_child p n nodes x (omega arith))
 
 parent_last : (p : ℕ) (nodes : List NodeValue) (x : NodeValue) (n : ℕ) → length nodes ≡ n
     → with_parent n (Some p) (nodes ++ x ∷ []) ≡ nodes ++ record x { parent = Some p } ∷ []
 parent_last p [] x zero e = refl
 parent_last p [] x (suc n) e = absurd (omega arith)
 parent_last p (y ∷ nodes) x zero e = absurd (omega arith)
-parent_last p (y ∷ nodes) x (suc n) e =
-    ap (λ (z : List NodeValue). y ∷ z) (parent_last p nodes x n (omega arith))
+parent_last p (y ∷ nodes) x (suc n) e = ap (λ (z : List NodeValue). y ∷ z) (parent_last p nodes x n (omega arith))
 
 pub added : (kind : KindValue) (p : ℕ) (nodes : List NodeValue) → p < length nodes
     → add kind (last_in p) nodes ≡ append_children p (length nodes ∷ []) nodes ++ node kind p [] ∷ []
@@ -208,23 +199,12 @@ ends_in_text _ = None
 pub no_text_next : (t : ValueTree) (ts : ValueForest) → Apart t ts → begins_text ts ≡ true → ends_in_text
     t ≡ None
 no_text_next (text u) (more (text v) ts) a e = absurd a
-no_text_next (text u) none a e = absurd (cc)
-no_text_next (text u) (more (document children) ts) a e = absurd (cc)
-no_text_next (text u) (more doctype ts) a e = absurd (cc)
-no_text_next (text u) (more (comment v) ts) a e = absurd (cc)
-no_text_next (text u) (more (element n attributes children) ts) a e = absurd (cc)
-no_text_next (document children) ts a e = refl
-no_text_next doctype ts a e = refl
-no_text_next (comment u) ts a e = refl
-no_text_next (element n attributes children) ts a e = refl
+no_text_next _ _ a e = cc
 
 pub tree_last : (t : ValueTree) (p : ℕ) (nodes : List NodeValue) → p < length nodes
     → last_text (append_children p (length nodes ∷ []) nodes ++ tree_nodes p (length nodes) t) p ≡ ends_in_text t
 tree_last (document children) p nodes l = last_text_added p nodes _ _ l
-tree_last doctype p nodes l = last_text_added p nodes _ _ l
-tree_last (text u) p nodes l = last_text_added p nodes _ _ l
-tree_last (comment u) p nodes l = last_text_added p nodes _ _ l
-tree_last (element n attributes children) p nodes l = last_text_added p nodes _ _ l
+tree_last _ p nodes l = last_text_added p nodes _ _ l
 
 -- the nodes of trees behind these, whose node p holds them
 abbrev pub with_forest : ℕ → ValueForest → List NodeValue → List NodeValue
@@ -256,8 +236,7 @@ kinds_kept (suc p) (suc n) ns (x ∷ nodes) others l = kinds_kept p n ns nodes o
 
 -- an element with what it holds
 pub filled : (p : ℕ) (n : List ℕ) (attributes : List AttributePair) (children : ValueForest)
-    (nodes : List NodeValue)
-    → with_forest (length nodes) children (append_children p (length nodes ∷ []) nodes
+    (nodes : List NodeValue) → with_forest (length nodes) children (append_children p (length nodes ∷ []) nodes
     ++ node (documents.element (html (name_of_text n)) attributes) p [] ∷ [])
     ≡ with_tree p (element n attributes children) nodes
 filled p n attributes children nodes =

@@ -78,12 +78,7 @@ module _ (z : Bool) where
   module _ (p : List ℕ) (c : List (List ℕ)) (s : StateValue) (h : IsInBody (p ∷ c) s) where
     -- the element is open, and the tokenizer told
     abbrev held : OpenValue → List NodeValue → Bool → RawElement → StateValue
-    held e nodes ok kind = record s {
-      nodes = nodes;
-      stack = e ∷ s.stack;
-      frameset_ok = ok;
-      content = Raw kind;
-    }
+    held e nodes ok kind = record s { nodes = nodes; stack = e ∷ s.stack; frameset_ok = ok; content = Raw kind }
 
     abbrev one : List ℕ → OpenValue
     one n = opened (length s.nodes) (html (name_of_text n))
@@ -160,15 +155,13 @@ module _ (z : Bool) where
     -- ---- the end tag
 
     end_held : (e : OpenValue) (nodes : List NodeValue) (ok : Bool) (kind : RawElement) (n : List ℕ)
-        → is_text_mode (Raw kind) ≡ true
-        → feed (end_tag (tag_named n [] false)) (held e nodes ok kind)
+        → is_text_mode (Raw kind) ≡ true → feed (end_tag (tag_named n [] false)) (held e nodes ok kind)
         ≡ record s { nodes = nodes; frameset_ok = ok }
     end_held e nodes ok kind n m =
         let closed : feed (end_tag (tag_named n [] false)) (held e nodes ok kind)
         ≡ record s { nodes = nodes; frameset_ok = ok; skips_line_feed = false; content = Normal } =
         rw m refl in
-        closed
-        ∙ ap (λ now. record s { nodes = nodes; frameset_ok = ok; skips_line_feed = false; content = now })
+        closed ∙ ap (λ now. record s { nodes = nodes; frameset_ok = ok; skips_line_feed = false; content = now })
         (sym h.content)
         ∙ ap (λ (b : Bool). record s { nodes = nodes; frameset_ok = ok; skips_line_feed = b }) (sym h.no_skip)
 

@@ -1,9 +1,9 @@
 -- What is open while a text of the strict grammar is read: the elements of the grammar's context.
-use Rattle.std.proofs.Common.{◌≡◌, ◌⊎◌, ℕ, ◌<◌, ◌≤◌, true, false, not, ◌&&◌, List, [], ◌∷◌, ◌++◌}
-use Rattle.std.proofs.Common.{length, Option, Some, None, refl, sym, ap, ◌∙◌, arith, inl, inr, subst, codes}
+use Rattle.std.proofs.Common.{◌≡◌, ◌⊎◌, ℕ, ◌<◌, ◌≤◌, true, false, not, ◌&&◌, List, [], ◌∷◌, ◌++◌, length, Option, Some}
+use Rattle.std.proofs.Common.{None, refl, sym, ap, ◌∙◌, arith, inl, inr, subst, codes}
 use Rattle.std.specs.Prelude.{◌==◌, find}
 use Rattle.std.specs.Str.{bytes_eq}
-use Rattle.std.proofs.lemmas.Bool.{or_parts, or_right}
+use Rattle.std.proofs.lemmas.Bool.{or_parts, or_right, eq-eqb}
 use Rattle.std.proofs.lemmas.Bool.Decides.{nat_tests}
 use Rattle.htmd_grammar.proofs.Cases.{test}
 use Rattle.htmd_grammar.specs.ValueTrees.{AttributePair}
@@ -11,15 +11,15 @@ use Rattle.htmd_grammar.specs.CharacterClasses.{is_among}
 use Rattle.htmd_grammar.specs.Nesting.{Context, is_open, is_met_before}
 use Rattle.htmd_grammar.proofs.BooleanLemmas.{and_false}
 use Rattle.htmd_grammar.proofs.NestingLemmas.{same_bytes, bytes_same}
-use Rattle.htmd_html5_state.specs.Names.{NameValue, html, known, other, name_of_text, text_of_name}
-use Rattle.htmd_html5_state.specs.Names.{known_or, is_spelled, spelling, names_with, same_tag, is_tag}
+use Rattle.htmd_html5_state.specs.Names.{NameValue, html, known, other, name_of_text, text_of_name, known_or}
+use Rattle.htmd_html5_state.specs.Names.{is_spelled, spelling, names_with, same_tag, is_tag}
 use Rattle.htmd_html5_state.specs.Nodes.{KindValue, NodeValue, kind_at, element}
 use Rattle.htmd_html5_state.specs.OpenElements.{OpenValue, is_in, is_open_node, scope_has}
 use Rattle.htmd_html5_state.specs.Foreign.{current_is_html}
 use Rattle.htmd_html5_state.specs.Insertion.{current}
 use Rattle.htmd_html5_state.specs.Sets.{is_of, bounds}
-use Rattle.htmd_html5_state.specs.Formatting.{is_listed, without_entry, without_some, with_room_for, with_room, since_marker}
-use Rattle.htmd_html5_state.specs.Formatting.{closed_elements}
+use Rattle.htmd_html5_state.specs.Formatting.{is_listed, without_entry, without_some, with_room_for, with_room}
+use Rattle.htmd_html5_state.specs.Formatting.{since_marker, closed_elements}
 use Rattle.htmd_html5_state.specs.Adoption.{node_is}
 use Rattle.htmd_html5_state.specs.declared.names.TagName.{TagName}
 use Rattle.htmd_html5_state.specs.declared.sets.NameSet.{NameSet}
@@ -91,8 +91,7 @@ pub listed_in : (n : ℕ) (fs gs : List (Option ℕ)) → Fewer fs gs → is_lis
     gs ≡ true
 listed_in n fs [] h e = subst (λ x. is_listed n x ≡ true) h e
 listed_in n fs (None ∷ gs) (inl h) e = listed_in n fs gs h e
-listed_in n fs (Some m ∷ gs) (inl h) e =
-    test (m == n) (λ t. rw t refl) (λ t. rw t (listed_in n fs gs h e))
+listed_in n fs (Some m ∷ gs) (inl h) e = test (m == n) (λ t. rw t refl) (λ t. rw t (listed_in n fs gs h e))
 listed_in n fs (None ∷ gs) (inr h) e =
     let f : is_listed n (None ∷ h.0) ≡ true = subst (λ x. is_listed n x ≡ true) h.1 e in
     listed_in n h.0 gs h.2 f
@@ -123,14 +122,11 @@ first_open : (n : ℕ) (fs : List (Option ℕ)) (es : List OpenValue) → Fewer 
 first_open n fs [] h = absurd (cc)
 first_open n fs (e ∷ es) (inl h) = or_right (e.node == n) (is_open_node n es) (first_open n fs es h)
 first_open n fs (e ∷ es) (inr h) =
-    let q : e.node ≡ n = same h.1 in rw q (rw (itself n) refl)
+    let q : e.node ≡ n = same h.1 in rw q (rw (eq-eqb n n refl) refl)
   where
     same : {a b : ℕ} {gs hs : List (Option ℕ)} → ◌≡◌ {A = List (Option ℕ)} (Some a ∷ gs)
         (Some b ∷ hs) → b ≡ a
     same e = cc
-
-    itself : (n : ℕ) → (n == n) ≡ true
-    itself n = grind (arith, nat_tests)
 
 pub none_closed : (fs : List (Option ℕ)) (es : List OpenValue) → Fewer fs (entries es) → closed_elements es
     fs ≡ []
@@ -191,8 +187,7 @@ scope_none set scope names ends h b nodes [] (x ∷ es) s e = absurd s
 scope_none set scope names ends h b nodes (n ∷ c) [] s e = absurd s
 scope_none set scope names ends h b nodes (n ∷ c) (x ∷ es) s e =
     let k = or_parts (is_among names n) (not (is_among ends n) && is_met_before names ends (c ++ the_document)) e in
-    rw (s.0, h n k.0)
-    (test (is_among ends n) (λ t. rw (b n t) refl)
+    rw (s.0, h n k.0) (test (is_among ends n) (λ t. rw (b n t) refl)
     (λ t. let f = rw t at k.1 in rw (scope_none set scope names ends h b nodes c es s.4 f) (and_false _)))
 
 -- an element that isn't met anywhere

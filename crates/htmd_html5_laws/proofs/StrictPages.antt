@@ -1,6 +1,6 @@
 -- A page of the strict grammar with plain trees: the lenient reader gives the same tree.
-use Rattle.std.proofs.Common.{◌≡◌, ℕ, zero, suc, ◌+◌, ◌≤◌, Bool, true, false, not, ◌&&◌, List, [], ◌∷◌, ◌++◌}
-use Rattle.std.proofs.Common.{length, map, None, refl, sym, ap, ◌∙◌, arith, inl, inr, codes, subst}
+use Rattle.std.proofs.Common.{◌≡◌, ℕ, zero, suc, ◌+◌, ◌≤◌, Bool, true, false, not, ◌&&◌, List, [], ◌∷◌, ◌++◌, length}
+use Rattle.std.proofs.Common.{map, None, refl, sym, ap, ◌∙◌, arith, inl, inr, codes, subst}
 use Rattle.std.proofs.lemmas.Bool.{and_parts, not-true}
 use Rattle.std.proofs.lemmas.List.{append-nil}
 use Rattle.htmd_grammar.proofs.Cases.{test}
@@ -10,10 +10,9 @@ use Rattle.htmd_grammar.specs.CharacterClasses.{is_among, lacks}
 use Rattle.htmd_grammar.specs.Serialisation.{is_void}
 use Rattle.htmd_grammar.specs.Rules.{Rules, project}
 use Rattle.htmd_grammar.specs.Grammar.{ReadsTree, ReadsForest}
-use Rattle.htmd_grammar.specs.Nesting.{Context}
-use Rattle.htmd_grammar.specs.Nesting.{parent_name, is_allowed, is_outside, fits_table, fits_select, fits_open_elements}
-use Rattle.htmd_grammar.specs.Nesting.{fits_lists, closes_paragraph, excludes_itself, is_optgroup, is_heading, is_open}
-use Rattle.htmd_grammar.specs.Nesting.{is_met_before}
+use Rattle.htmd_grammar.specs.Nesting.{Context, parent_name, is_allowed, is_outside, fits_table, fits_select}
+use Rattle.htmd_grammar.specs.Nesting.{fits_open_elements, fits_lists, closes_paragraph, excludes_itself, is_optgroup}
+use Rattle.htmd_grammar.specs.Nesting.{is_heading, is_open, is_met_before}
 use Rattle.htmd_grammar.specs.RawContent.{holds_text_alone, content_of}
 use Rattle.htmd_grammar.specs.HtmlDocuments.{below_body, skeleton}
 use Rattle.htmd_grammar.proofs.NestingLemmas.{allowed_parts}
@@ -33,8 +32,7 @@ use Rattle.htmd_html5.specs.Html5Documents.{next_read, after_token, read_within,
 use Rattle.htmd_html5.specs.Layout.{coming, Layout, document_of, layout_within}
 use Rattle.htmd_html5_laws.specs.StrictReferences.{IsUnambiguous}
 use Rattle.htmd_html5_laws.specs.StrictTokens.{content_after, tag_named, is_simple_tree, is_simple}
-use Rattle.htmd_html5_laws.specs.StrictTrees.{is_plain_element, is_plain_tree, are_plain, text_names}
-use Rattle.htmd_html5_laws.specs.StrictTrees.{PlainPagesAgree}
+use Rattle.htmd_html5_laws.specs.StrictTrees.{is_plain_element, is_plain_tree, are_plain, text_names, PlainPagesAgree}
 use Rattle.htmd_html5_laws.proofs.StrictCuts.{lacks_cut}
 use Rattle.htmd_html5_laws.proofs.StrictPlainTexts.{plain_text, content_lacks}
 use Rattle.htmd_html5_laws.proofs.StrictTokenCuts.{read, lines_same}
@@ -43,8 +41,8 @@ use Rattle.htmd_html5_laws.proofs.StrictSteps.{Run, here, onward, no_tbody}
 use Rattle.htmd_html5_laws.proofs.StrictRuns.{content_read}
 use Rattle.htmd_html5_laws.proofs.StrictNodes.{numbers, node, forest_nodes, forest_count, with_forest}
 use Rattle.htmd_html5_laws.proofs.StrictOpen.{the_document, open_met}
-use Rattle.htmd_html5_laws.proofs.StrictLaid.{ApartTree, ApartForest, levels, most_levels}
-use Rattle.htmd_html5_laws.proofs.StrictLaid.{layout, are_content, plain_is_content, forest_laid}
+use Rattle.htmd_html5_laws.proofs.StrictLaid.{ApartTree, ApartForest, levels, most_levels, layout, are_content}
+use Rattle.htmd_html5_laws.proofs.StrictLaid.{plain_is_content, forest_laid}
 use Rattle.htmd_html5_laws.proofs.StrictSets.{aside_element, text_aside, text_alone}
 use Rattle.htmd_html5_laws.proofs.StrictRules.{IsInBody, Fits, end_of_file_fed}
 use Rattle.htmd_html5_laws.proofs.StrictOnlyText.{IsOneText}
@@ -56,13 +54,10 @@ use Rattle.htmd_html5_state.specs.Nodes as documents
 
 mutual
   plain_tree_is_simple : (t : ValueTree) → is_plain_tree t ≡ true → is_simple_tree t ≡ true
-  plain_tree_is_simple (document children) e = refl
-  plain_tree_is_simple doctype e = refl
-  plain_tree_is_simple (text u) e = refl
-  plain_tree_is_simple (comment u) e = refl
   plain_tree_is_simple (element n attributes children) e =
       let g = and_parts (is_plain_element n) (are_plain children) e in
       rw (aside_element n g.0, plain_is_simple children g.1) refl
+  plain_tree_is_simple _ e = refl
 
   pub plain_is_simple : (ts : ValueForest) → are_plain ts ≡ true → is_simple ts ≡ true
   plain_is_simple none e = refl
@@ -135,24 +130,19 @@ module _ (z : Bool) where
       (λ v. let m = rw v at w.5 in rw m.2 tt)
       (λ v. let m = rw v at w.5 in
       let k = raw_children z n (c ++ the_document) true children (content_of n w.1) m.0 (text_alone z n e) in
-      elim k [
-        | inl a ↦ rw a.0 tt
-        | inr a ↦ rw a.1 tt
-      ])
+      elim k [ inl a ↦ rw a.0 tt | inr a ↦ rw a.1 tt ])
   text_fits n attributes children c last s e (inr w) = absurd (no_tbody z n (text_aside n e) w.3)
 
   mutual
     tree_fits : (t : ValueTree) (c : List (List ℕ)) (last : Bool) (s : List ℕ) → lacks 0 s ≡ true
         → ReadsTree (project z) (c ++ the_document) last t s → FitsTree c t
-    tree_fits (document children) c last s l h = tt
-    tree_fits doctype c last s l h = tt
     tree_fits (text u) c last s l h = plain_text z (parent_name (c ++ the_document)) s u l h.2 h.0
-    tree_fits (comment u) c last s l h = tt
     tree_fits (element n attributes children) c last s l h = (
       element_fits z c n h.0,
       content_fits n children (λ d i r m k. forest_fits children d i r m k) attributes c last s l h.2,
       λ e. text_fits n attributes children c last s e h.2,
     )
+    tree_fits _ c last s l h = tt
 
     pub forest_fits : (ts : ValueForest) (c : List (List ℕ)) (last : Bool) (s : List ℕ) → lacks 0 s ≡ true
         → ReadsForest (project z) (c ++ the_document) last ts s → FitsForest c ts
@@ -173,8 +163,7 @@ nothing_left (suc k) p c s h =
 pub in_step : (z : Bool) (k : ℕ) (now after : ContentModel) (page left : List ℕ) (xs : List TokenValue)
     (s new : StateValue)
     (p : List ℕ) (c : List (List ℕ)) → Run z now page xs after left → s.content ≡ now → left ≡ []
-    → Parts z s xs new → IsInBody (p ∷ c) new
-    → length page ≤ k → read_within k page s ≡ new
+    → Parts z s xs new → IsInBody (p ∷ c) new → length page ≤ k → read_within k page s ≡ new
 in_step z k now after page left xs s new p c here n e r h l = rw (e, r) (nothing_left k p c new h)
 in_step z zero now after page left xs s new p c (onward token rest f g m q) n e r h l = absurd (omega arith)
 in_step z (suc k) now after page left xs s new p c (onward token rest f g m q) n e r h l =
@@ -229,8 +218,7 @@ page_nodes : (z : Bool) (content : ValueForest)
 page_nodes z content =
     let held : List NodeValue = forest_nodes 3 4 content in
     ap (λ (ns : List NodeValue). root ∷ node (documents.element (html (name_of_text (codes "html"))) []) 0
-    (2 ∷ 3 ∷ [])
-    ∷ node (documents.element (html (name_of_text (codes "head"))) []) 1 []
+    (2 ∷ 3 ∷ []) ∷ node (documents.element (html (name_of_text (codes "head"))) []) 1 []
     ∷ node (documents.element (html (name_of_text (codes "body"))) []) 1 (numbers 4 content) ∷ ns)
     (sym (append-nil (held ++ []) ∙ append-nil held))
 
@@ -253,11 +241,9 @@ page_laid content c a l =
 
 levels_within : (rules : Rules) (n : List ℕ) (attributes : List AttributePair) (children : ValueForest)
     → ((c : Context) (last : Bool) (s : List ℕ) → ReadsForest rules c last children s → length c ≤ suc
-    rules.depth
-    → length c + most_levels children ≤ suc rules.depth)
+    rules.depth → length c + most_levels children ≤ suc rules.depth)
     → (c : Context) (last : Bool) (s : List ℕ) → Inside rules c last n attributes children s → length c ≤
-    rules.depth
-    → suc (length c) + most_levels children ≤ suc rules.depth
+    rules.depth → suc (length c) + most_levels children ≤ suc rules.depth
 levels_within rules n attributes children ih c last s (inl w) l =
     test (is_void n)
     (λ v. let m = rw v at w.5 in rw m.2 (omega (arith, l)))
@@ -273,8 +259,7 @@ mutual
   tree_depth rules (comment u) c last s h = let l = h.2 in omega (arith, l)
   tree_depth rules (element n attributes children) c last s h =
       let k = levels_within rules n attributes children (λ d i r m. forest_depth rules children d i r m) c last s h.2
-      h.1
-      in
+      h.1 in
       omega (arith, k)
 
   pub forest_depth : (rules : Rules) (ts : ValueForest) (c : Context) (last : Bool) (s : List ℕ)
@@ -288,11 +273,8 @@ mutual
 
 mutual
   tree_apart : (c : List (List ℕ)) (t : ValueTree) → FitsTree c t → ApartTree t
-  tree_apart c (document children) f = tt
-  tree_apart c doctype f = tt
-  tree_apart c (text u) f = tt
-  tree_apart c (comment u) f = tt
   tree_apart c (element n attributes children) f = fits_apart (n ∷ c) children f.1
+  tree_apart c _ f = tt
 
   pub fits_apart : (c : List (List ℕ)) (ts : ValueForest) → FitsForest c ts → ApartForest ts
   fits_apart c none f = tt
@@ -306,8 +288,7 @@ pages_agree z s content k e h =
     let b = forest_built z content (codes "body") (codes "html" ∷ []) r.0 (body_state z) r.1 e f (body_state_is z)
     (λ t. refl) in
     let whole : state_after z (codes "<body>" ++ s) ≡ b.0 =
-    page_read z s k
-    ∙ in_step z (length (codes "body>" ++ s)) Normal Normal s [] r.0 (body_state z) b.0 (codes "body")
+    page_read z s k ∙ in_step z (length (codes "body>" ++ s)) Normal Normal s [] r.0 (body_state z) b.0 (codes "body")
     (codes "html" ∷ [])
     r.2 refl refl (parts z b.1.through) b.1.in_body (omega arith) in
     ap (λ st. document_of greatest_depth st.nodes) whole

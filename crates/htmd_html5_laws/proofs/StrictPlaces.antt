@@ -1,6 +1,6 @@
 -- Which references count at a place of a text, and where what follows stands.
-use Rattle.std.proofs.Common.{◌≡◌, ℕ, Bool, true, false, ◌&&◌, List, [], ◌∷◌, Option, Some, None}
-use Rattle.std.proofs.Common.{refl, sym, ◌∙◌, codes, arith}
+use Rattle.std.proofs.Common.{◌≡◌, ℕ, Bool, true, false, ◌&&◌, List, [], ◌∷◌, Option, Some, None, refl, sym, ◌∙◌, codes}
+use Rattle.std.proofs.Common.{arith}
 use Rattle.std.specs.Prelude.{◌==◌, ◌||◌, if◌then◌else◌}
 use Rattle.std.specs.Char.{is_ascii_alphabetic}
 use Rattle.std.proofs.lemmas.Bool.{or_parts, true≢false}
@@ -11,8 +11,9 @@ use Rattle.htmd_grammar.specs.CharacterClasses.{begins_in_any_case, up_to}
 use Rattle.htmd_grammar.specs.RawContent.{begins_markup}
 use Rattle.htmd_grammar.proofs.TextLemmas.{run_head}
 use Rattle.htmd_html5_tokens.specs.NamedReferences.{NamedReference, longest_old}
-use Rattle.htmd_html5_laws.specs.StrictReferences.{Place, outside, in_tag, after_title, is_in_tag, begins_letter, place_of_tag}
-use Rattle.htmd_html5_laws.specs.StrictReferences.{place_moved, place_after, counts, is_bare_reference, has_bare_reference}
+use Rattle.htmd_html5_laws.specs.StrictReferences.{Place, outside, in_tag, after_title, is_in_tag, begins_letter}
+use Rattle.htmd_html5_laws.specs.StrictReferences.{place_of_tag, place_moved, place_after, counts, is_bare_reference}
+use Rattle.htmd_html5_laws.specs.StrictReferences.{has_bare_reference}
 
 -- what counts at the second place counts at the first
 abbrev pub covers : Place → Place → Bool
@@ -26,13 +27,11 @@ covers in_tag after_title = false
 
 pub covers_tag : (here : Place) → covers here in_tag ≡ true
 covers_tag outside = refl
-covers_tag in_tag = refl
-covers_tag after_title = refl
+covers_tag _ = refl
 
 pub covers_itself : (here : Place) → covers here here ≡ true
 covers_itself outside = refl
-covers_itself in_tag = refl
-covers_itself after_title = refl
+covers_itself _ = refl
 
 -- ---- what comes next
 
@@ -49,8 +48,7 @@ moved_covered : (q p : Place) (b : ℕ) (s t : List ℕ) → covers q p ≡ true
     → (begins_title t ≡ true → begins_title s ≡ true)
     → covers (place_moved q b s) (place_moved p b t) ≡ true
 moved_covered q p b s t c l f =
-    test (b == 60)
-    (λ x. test (begins_letter t) (λ y. rw (x, l, y) (tag_covered s t f)) (λ y. rw (x, l, y) past))
+    test (b == 60) (λ x. test (begins_letter t) (λ y. rw (x, l, y) (tag_covered s t f)) (λ y. rw (x, l, y) past))
     (λ x. rw x past)
   where
     past : covers (if b == 62 then outside else q) (if b == 62 then outside else p) ≡ true
@@ -125,9 +123,7 @@ in_any_value here (b ∷ s) e =
 no_tag : (b : ℕ) (s : List ℕ) → begins_markup (b ∷ s) ≡ false → (b == 60 && begins_letter s) ≡ false
 no_tag b [] e = and-false (b == 60)
 no_tag b (c ∷ s) e =
-    test (b == 60)
-    (λ t. rw t (letter c (rw t at e)))
-    (λ t. rw t refl)
+    test (b == 60) (λ t. rw t (letter c (rw t at e))) (λ t. rw t refl)
   where
     letter : (c : ℕ) → (is_ascii_alphabetic c || (c == 47) || (c == 33) || (c == 63)) ≡ false
         → is_ascii_alphabetic c ≡ false

@@ -8,8 +8,7 @@ use Rattle.std.specs.Str.{bytes_eq}
 use Rattle.std.proofs.lemmas.Bool.{and_parts, not-true}
 use Rattle.std.proofs.lemmas.Bool.Decides.{nat_tests}
 use Rattle.htmd_grammar.proofs.Cases.{test}
-use Rattle.htmd_grammar.specs.CharacterClasses.{is_among, is_empty, first_is, begins_in_any_case, leading_run}
-use Rattle.htmd_grammar.specs.CharacterClasses.{behind_run, lacks}
+use Rattle.htmd_grammar.specs.CharacterClasses.{is_among, first_is, begins_in_any_case, leading_run, behind_run, lacks}
 use Rattle.htmd_grammar.specs.Comments.{normalized}
 use Rattle.htmd_grammar.specs.References.{Piece, stands, wrong, number, number_at, numbered, may_be_numbered, named}
 use Rattle.htmd_grammar.specs.References.{behind_number_sign, behind_ampersand, piece_at, decode, after_line_feed}
@@ -17,6 +16,7 @@ use Rattle.htmd_grammar.specs.References.{less_line_feed}
 use Rattle.htmd_grammar.specs.RawContent.{holds_raw_text, has_script_escape, text_of, content_of, drops_line_feed}
 use Rattle.htmd_grammar.specs.Rules.{NamedCharacter, character_named, named_characters, project}
 use Rattle.htmd_grammar.proofs.ReferencesLemmas.{stands_same, put_parts}
+use Rattle.htmd_grammar.proofs.TagReadingLemmas.{filled}
 use Rattle.htmd_html5.specs.AtOnce.{is_not_null, is_without_null}
 
 abbrev AreNotNull : List ℕ → Type 0
@@ -36,8 +36,7 @@ not_null_sum k x l = grind (arith, nat_tests)
 encode_not_null : (c : ℕ) → (c == 0) ≡ false → AreNotNull (encode_utf8 c)
 unfolding encode_utf8
 encode_not_null c e =
-    test (nat_lt c 128) (λ t. rw t (rw e refl))
-    (λ t. test (nat_lt c 2048)
+    test (nat_lt c 128) (λ t. rw t (rw e refl)) (λ t. test (nat_lt c 2048)
     (λ q. rw (t, q) (rw (not_null_sum 192 _ (omega arith), not_null_sum 128 _ (omega arith)) refl))
     (λ q. test (nat_lt c 65536)
     (λ r. rw (t, q, r) (rw (
@@ -114,8 +113,7 @@ piece_not_null : (b m : ℕ) (s v : List ℕ) → (b == 0) ≡ false → piece_a
     → AreNotNull v
 piece_not_null b m s v z e =
     test (b == 38) (λ t. let w = rw t at e in reference_not_null s v m w)
-    (λ t. test (b == 13)
-    (λ r. test (first_is 10 s)
+    (λ t. test (b == 13) (λ r. test (first_is 10 s)
     (λ q. let w = rw (t, r, q) at e in subst AreNotNull (stands_same 1 m (10 ∷ []) v w).1 refl)
     (λ q. let w = rw (t, r, q) at e in subst AreNotNull (stands_same 0 m (10 ∷ []) v w).1 refl))
     (λ r. let w = rw (t, r) at e in subst AreNotNull (stands_same 0 m (b ∷ []) v w).1 (rw z refl)))
@@ -128,34 +126,25 @@ decoded_not_null n [] u l e = let w : [] ≡ u = cc in subst AreNotNull w refl
 decoded_not_null zero (b ∷ s) u l e =
     let k = and_parts (not (b == 0)) (lacks 0 s) l in
     let p = put_parts (piece_at named_characters b s) (λ n. decode named_characters n s) u e in
-    subst AreNotNull (sym p.5)
-    (not_null_both p.1 p.2 (piece_not_null b p.0 s p.1 (not-true (b == 0) k.0) p.3)
+    subst AreNotNull (sym p.5) (not_null_both p.1 p.2 (piece_not_null b p.0 s p.1 (not-true (b == 0) k.0) p.3)
     (decoded_not_null p.0 s p.2 k.1 p.4))
-decoded_not_null (suc n) (b ∷ s) u l e =
-    decoded_not_null n s u (and_parts (not (b == 0)) (lacks 0 s) l).1 e
+decoded_not_null (suc n) (b ∷ s) u l e = decoded_not_null n s u (and_parts (not (b == 0)) (lacks 0 s) l).1 e
 
 lines_not_null : (s : List ℕ) → lacks 0 s ≡ true → AreNotNull (normalized s)
 lines_not_null [] l = refl
 lines_not_null (b ∷ s) l =
     let k = and_parts (not (b == 0)) (lacks 0 s) l in
     let i = lines_not_null s k.1 in
-    test (b == 13)
-    (λ t. test (first_is 10 s) (λ q. rw (t, q) i) (λ q. rw (t, q) i))
+    test (b == 13) (λ t. test (first_is 10 s) (λ q. rw (t, q) i) (λ q. rw (t, q) i))
     (λ t. rw t (rw (not-true (b == 0) k.0, i) refl))
 
 pub plain_text : (z : Bool) (p s u : List ℕ) → lacks 0 s ≡ true → text_of (project z) p s ≡ Some u → u ≢
-    []
-    → is_without_null u ≡ true
+    [] → is_without_null u ≡ true
 plain_text z p s u l e f = rw (filled u f, text_not_null) refl
   where
-    filled : (u : List ℕ) → u ≢ [] → is_empty u ≡ false
-    filled [] f = absurd (f refl)
-    filled (b ∷ u) f = refl
-
     text_not_null : AreNotNull u
     text_not_null =
-        test (holds_raw_text z p)
-        (λ t. test (is_among (codes "script" ∷ []) p && has_script_escape s)
+        test (holds_raw_text z p) (λ t. test (is_among (codes "script" ∷ []) p && has_script_escape s)
         (λ q. absurd (let w = rw (t, q) at e in cc))
         (λ q. let w : Some (normalized s) ≡ Some u = rw (t, q) at e in
         let same : normalized s ≡ u = cc in

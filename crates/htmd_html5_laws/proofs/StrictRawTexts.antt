@@ -3,9 +3,10 @@ use Rattle.std.proofs.Common.{◌≡◌, ◌≢◌, ◌⊎◌, ℕ, Bool, true, 
 use Rattle.std.proofs.Common.{Some, refl, sym, ap, ◌∙◌, inl, inr, codes, subst}
 use Rattle.std.specs.Str.{bytes_eq}
 use Rattle.std.proofs.lemmas.List.{append-nil}
+use Rattle.std.proofs.lemmas.Bool.{not-true}
 use Rattle.htmd_grammar.proofs.Cases.{test}
 use Rattle.htmd_grammar.specs.ValueTrees.{ValueForest, none, more, document, doctype, text, comment, element}
-use Rattle.htmd_grammar.specs.CharacterClasses.{is_among, is_empty, up_to}
+use Rattle.htmd_grammar.specs.CharacterClasses.{is_among, up_to}
 use Rattle.htmd_grammar.specs.Comments.{normalized}
 use Rattle.htmd_grammar.specs.Grammar.{ReadsForest}
 use Rattle.htmd_grammar.specs.Nesting.{Context, is_outside}
@@ -23,6 +24,7 @@ use Rattle.htmd_html5_tokens.specs.Tokens.{end_tag}
 use Rattle.htmd_html5_tokens.specs.NextToken.{next_token}
 use Rattle.htmd_grammar.specs.declared.content_model.ContentModel.TheVariants.{Normal, Raw}
 use Rattle.htmd_grammar.specs.declared.content_model.RawElement.{RawElement}
+use Rattle.htmd_grammar.proofs.TagReadingLemmas.{filled}
 use Rattle.htmd_html5_laws.specs.StrictReferences.{outside, after_title, IsUnambiguousAt}
 use Rattle.htmd_html5_laws.specs.StrictTokens.{content_in, is_set_aside}
 use Rattle.htmd_html5_laws.proofs.StrictReferencesLemmas.{title_same}
@@ -49,8 +51,7 @@ normal_content z n e o =
     (λ f. is_name n (codes "iframe") (λ t. absurd (let w = rw t at e in cc))
     (λ g. is_name n (codes "noembed") (λ t. absurd (let w = rw t at e in cc))
     (λ h. is_name n (codes "noframes") (λ t. absurd (let w = rw t at e in cc))
-    (λ i. is_name n (codes "plaintext") (λ t. absurd (let w = rw t at o in cc))
-    (λ j. is_name n (codes "noscript")
+    (λ i. is_name n (codes "plaintext") (λ t. absurd (let w = rw t at o in cc)) (λ j. is_name n (codes "noscript")
     (λ t. test z (λ y. absurd (let w = rw (t, y) at e in cc)) (λ y. rw (t, y) refl))
     (λ k. rw (a, b, c, d, f, g, h, i, j, k) refl))))))))))
 
@@ -60,11 +61,7 @@ void_holds_none true n e = among_passes (λ m. not (holds_text_alone true m)) vo
 void_holds_none false n e = among_passes (λ m. not (holds_text_alone false m)) void_elements n e refl
 
 pub void_content : (z : Bool) (n : List ℕ) → is_void n ≡ true → holds_text_alone z n ≡ false
-void_content z n e = no (holds_text_alone z n) (void_holds_none z n e)
-  where
-    no : (x : Bool) → not x ≡ true → x ≡ false
-    no true e = cc
-    no false e = refl
+void_content z n e = not-true (holds_text_alone z n) (void_holds_none z n e)
 
 -- what an element that holds only text is to the tokenizer
 pub record IsRaw (z : Bool) (n : List ℕ) (kind : RawElement) : Type 0 where
@@ -86,34 +83,26 @@ plain : (kind : RawElement) (s u : List ℕ) → IsUnambiguousAt outside s → S
 plain kind s u k e f =
     let q : normalized s ≡ u = cc in
     ap (λ r. decoded r 0 s) f ∙ raw_itself (reading_of raw.Style) refl refl s k.no_null ∙ sym
-    (lines_same s k.line_feeds)
-    ∙ q
+    (lines_same s k.line_feeds) ∙ q
 
 pub raw_content : (z : Bool) (n : List ℕ) → holds_text_alone z n ≡ true → is_set_aside n ≡ false
     → (kind : RawElement) × IsRaw z n kind
 raw_content z n e o =
-    is_name n (codes "title")
-    (λ t. subst Found (sym t)
+    is_name n (codes "title") (λ t. subst Found (sym t)
     (raw.Title, record { content = refl; size = λ s. refl; text = λ s u k w. is_title z s u k w }))
     (λ a. is_name n (codes "textarea") (λ t. absurd (let w = rw t at o in cc))
-    (λ b. is_name n (codes "script") (λ t. absurd (let w = rw t at o in cc))
-    (λ c. is_name n (codes "style")
+    (λ b. is_name n (codes "script") (λ t. absurd (let w = rw t at o in cc)) (λ c. is_name n (codes "style")
     (λ t. subst Found (sym t)
     (raw.Style, record { content = refl; size = λ s. refl; text = λ s u k w. plain raw.Style s u k w refl }))
-    (λ d. is_name n (codes "iframe")
-    (λ t. subst Found (sym t)
+    (λ d. is_name n (codes "iframe") (λ t. subst Found (sym t)
     (raw.Iframe, record { content = refl; size = λ s. refl; text = λ s u k w. plain raw.Iframe s u k w refl }))
-    (λ f. is_name n (codes "noembed")
-    (λ t. subst Found (sym t)
+    (λ f. is_name n (codes "noembed") (λ t. subst Found (sym t)
     (raw.Noembed, record { content = refl; size = λ s. refl; text = λ s u k w. plain raw.Noembed s u k w refl }))
-    (λ g. is_name n (codes "noframes")
-    (λ t. subst Found (sym t)
+    (λ g. is_name n (codes "noframes") (λ t. subst Found (sym t)
     (raw.Noframes, record { content = refl; size = λ s. refl; text = λ s u k w. plain raw.Noframes s u k w refl }))
-    (λ h. is_name n (codes "xmp")
-    (λ t. subst Found (sym t)
+    (λ h. is_name n (codes "xmp") (λ t. subst Found (sym t)
     (raw.Xmp, record { content = refl; size = λ s. refl; text = λ s u k w. plain raw.Xmp s u k w refl }))
-    (λ i. is_name n (codes "noscript")
-    (λ t. subst Found (sym t) (no_script z (rw t at e)))
+    (λ i. is_name n (codes "noscript") (λ t. subst Found (sym t) (no_script z (rw t at e)))
     (λ j. absurd (none_left z (rw (a, b, c, d, f, g, h, i, j) at e)))))))))))
   where
     Found : List ℕ → Type 0
@@ -152,8 +141,7 @@ raw_keeps z n e a =
 -- no text denotes nothing
 pub text_nothing : (z : Bool) (n u : List ℕ) → text_of (project z) n [] ≡ Some u → u ≡ []
 text_nothing z n u e =
-    test (holds_raw_text z n)
-    (λ t. test (is_among (codes "script" ∷ []) n)
+    test (holds_raw_text z n) (λ t. test (is_among (codes "script" ∷ []) n)
     (λ q. let w = rw (t, q) at e in cc)
     (λ q. let w = rw (t, q) at e in cc))
     (λ t. let w = rw t at e in cc)
@@ -166,8 +154,7 @@ pub raw_children : (z : Bool) (n : List ℕ) (c : Context) (last : Bool) (childr
 raw_children z n c last none s h e = inl (refl, h)
 raw_children z n c last (more (document ks) ts) s h e = absurd (h.4)
 raw_children z n c last (more doctype ts) s h e = absurd (h.4)
-raw_children z n c last (more (comment u) ts) s h e =
-    absurd (let f = (h.4).1 in cc)
+raw_children z n c last (more (comment u) ts) s h e = absurd (let f = (h.4).1 in cc)
 raw_children z n c last (more (element m attributes ks) ts) s h e =
     absurd (let f = node_no_title (project z) n (element m attributes ks) c _ h.0 refl h.4 in cc)
 raw_children z n c last (more (text u) none) s h e =
@@ -207,10 +194,6 @@ raw_text_next z n kind s u x r e f l k t m =
     let size : raw_text_len kind (s ++ x) ≡ length s = r.size (s ++ x) ∙ own_run z n s x e l k in
     let front = front_taken s x in
     rw (size, front.0, front.1, filled s f, r.text s u m t) refl
-  where
-    filled : (s : List ℕ) → s ≢ [] → is_empty s ≡ false
-    filled [] n = absurd (n refl)
-    filled (b ∷ s) n = refl
 
 pub raw_end_next : (z : Bool) (n : List ℕ) (kind : RawElement) (x s : List ℕ) → IsRaw z n kind
     → holds_text_alone z n ≡ true → ends_text z n x ≡ true → x ≡ 60 ∷ 47 ∷ s

@@ -26,8 +26,8 @@ use Rattle.htmd_html5_tokens.specs.Tokens.{Read, text}
 use Rattle.htmd_html5_tokens.specs.RawTexts.{reading_of}
 use Rattle.htmd_html5_tokens.specs.NextToken.{goes_on, read_text}
 use Rattle.htmd_grammar.specs.declared.content_model.RawElement.TheVariants.{Title}
-use Rattle.htmd_html5_laws.specs.StrictReferences.{in_tag, after_title, counts, is_bare_reference, IsUnambiguousAt, IsUnambiguous}
-use Rattle.htmd_html5_laws.specs.StrictReferences.{value_spelled, ReferencesAgree}
+use Rattle.htmd_html5_laws.specs.StrictReferences.{in_tag, after_title, counts, is_bare_reference, IsUnambiguousAt}
+use Rattle.htmd_html5_laws.specs.StrictReferences.{IsUnambiguous, value_spelled, ReferencesAgree}
 use Rattle.htmd_html5_laws.proofs.StrictPlaces.{has_bare_in, in_title, in_any_value, in_text}
 use Rattle.htmd_html5_tokens.specs.NextToken as next
 use Rattle.htmd_html5_tokens.specs.NamedReferences as table
@@ -149,8 +149,7 @@ none_at_semicolon (b ∷ s) e =
     is_that b e = grind (arith, nat_tests)
 
 not_bare : (z : Bool) (s : List ℕ) → is_bare_reference z s ≡ false → first_is 59
-    (behind_run is_ascii_alphanumeric s) ≡ false
-    → counts z (longest_old s) s ≡ false
+    (behind_run is_ascii_alphanumeric s) ≡ false → counts z (longest_old s) s ≡ false
 not_bare z s e f = only (counts z (longest_old s) s) (rw f at e)
   where
     only : (x : Bool) → (x && true) ≡ false → x ≡ false
@@ -162,11 +161,9 @@ no_reference : (z : Bool) (o : Option NamedReference) (s : List ℕ) → counts 
     → lenient.old_reference z o s ≡ lenient.ampersand_itself
 no_reference z None s e = refl
 no_reference z (Some r) s e =
-    test (z && lenient.goes_on (drop (length r.name) s))
-    (λ t. rw t refl) (λ t. absurd (let w = rw t at e in cc))
+    test (z && lenient.goes_on (drop (length r.name) s)) (λ t. rw t refl) (λ t. absurd (let w = rw t at e in cc))
 
-run_empty : (p : ℕ → Bool) (s : List ℕ) → first_is 59 s ≡ true → p 59 ≡ false
-    → leading_run p s ≡ []
+run_empty : (p : ℕ → Bool) (s : List ℕ) → first_is 59 s ≡ true → p 59 ≡ false → leading_run p s ≡ []
 run_empty p [] e f = refl
 run_empty p (b ∷ s) e f = let k : b ≡ 59 = is_that b e in rw (k, f) refl
   where
@@ -179,8 +176,7 @@ ampersand_same z s v m e b =
     test (first_is 35 s)
     (λ t. let w = rw t at e in rw t (number_sign_same (drop 1 s) v m w))
     (λ t. let w = rw t at e in
-    test (first_is 59 (behind_run is_ascii_alphanumeric s))
-    (λ q. test (first_is 59 s)
+    test (first_is 59 (behind_run is_ascii_alphanumeric s)) (λ q. test (first_is 59 s)
     (λ x. let y = rw (q, x) at w in
     let parts = stands_same 0 m (38 ∷ []) v y in
     rw (t, q, run_empty is_ascii_alphanumeric s x refl, none_at_semicolon s x, ← parts.0, ← parts.1) refl)
@@ -206,11 +202,9 @@ piece_same r b s v m refs e cr null bare less =
     rw (t, refs) (ampersand_same (contents.is_value r) s v m w z))
     (λ t. let w = rw (t, cr) at e in
     let parts = stands_same 0 m (b ∷ []) v w in
-    test (b == 60)
-    (λ y. test (is_text r)
+    test (b == 60) (λ y. test (is_text r)
     (λ x. let z = rw y at less x in rw (t, y, x, z, null, ← parts.0, ← parts.1) refl)
-    (λ x. rw (t, y, x, null, ← parts.0, ← parts.1) refl))
-    (λ y. rw (t, y, null, ← parts.0, ← parts.1) refl))
+    (λ x. rw (t, y, x, null, ← parts.0, ← parts.1) refl)) (λ y. rw (t, y, null, ← parts.0, ← parts.1) refl))
 
 -- ---- runs
 
@@ -219,10 +213,7 @@ no_slash : (b : ℕ) (s : List ℕ) → begins_markup (b ∷ s) ≡ false →
     (b == 60 && begins_with (codes "/>") s) ≡ false
 no_slash b [] e = test (b == 60) (λ t. rw t refl) (λ t. rw t refl)
 no_slash b (c ∷ s) e =
-    test (b == 60)
-    (λ t. test (c == 47)
-    (λ q. absurd (letter c q (rw t at e)))
-    (λ q. rw (t, q) refl))
+    test (b == 60) (λ t. test (c == 47) (λ q. absurd (letter c q (rw t at e))) (λ q. rw (t, q) refl))
     (λ t. rw t refl)
   where
     letter : (c : ℕ) → (c == 47) ≡ true → (is_ascii_alphabetic c || (c == 47) || (c == 33) ||
@@ -295,8 +286,7 @@ text_same r s u rest f z h e l =
     rw (decoded_same r f 0 s u h.line_feeds h.no_null bare (λ t. l) e) refl
 
 pub text_read : (s u rest : List ℕ) → IsUnambiguous s → decode named_characters 0 s ≡ Some u
-    → up_to begins_markup s ≡ s → Ending rest
-    → read_text (s ++ rest) ≡ record { token = text u; rest = rest }
+    → up_to begins_markup s ≡ s → Ending rest → read_text (s ++ rest) ≡ record { token = text u; rest = rest }
 text_read s u rest h e l k =
     let r = text_run s rest l k in
     rw (r.0, r.1) (search (text_same, h, e, l))

@@ -1,6 +1,6 @@
 -- What a tag of a plain element does in the mode "in body", where the strict grammar allows it.
-use Rattle.std.proofs.Common.{◌≡◌, ℕ, ◌<◌, Bool, true, false, not, ◌&&◌, ◌||◌, List, [], ◌∷◌, ◌++◌}
-use Rattle.std.proofs.Common.{length, Option, Some, None, refl, sym, ap, ◌∙◌, arith, subst, codes}
+use Rattle.std.proofs.Common.{◌≡◌, ℕ, ◌<◌, Bool, true, false, not, ◌&&◌, ◌||◌, List, [], ◌∷◌, ◌++◌, length, Option}
+use Rattle.std.proofs.Common.{Some, None, refl, sym, ap, ◌∙◌, arith, subst, codes}
 use Rattle.std.specs.Prelude.{nat_lt}
 use Rattle.std.proofs.lemmas.Bool.{or_right}
 use Rattle.std.proofs.lemmas.Bool.Decides.{nat_tests}
@@ -27,11 +27,12 @@ use Rattle.htmd_html5_state.proofs.AppendedTextsLemmas.{AppendsText, appends-rec
 use Rattle.htmd_html5.specs.AtOnce.{is_without_null, takes_at_once, put_at_once}
 use Rattle.htmd_html5.specs.Outcomes.{done}
 use Rattle.htmd_html5.specs.SharedRules.{no_frameset}
-use Rattle.htmd_html5.specs.BodyStarts.{block_rule, formatting_rule, phrasing_rule, start_by}
-use Rattle.htmd_html5.specs.BodyStarts.{start_in_body, close_heading, forget, close_no_break, is_hidden}
+use Rattle.htmd_html5.specs.BodyStarts.{block_rule, formatting_rule, phrasing_rule, start_by, start_in_body}
+use Rattle.htmd_html5.specs.BodyStarts.{close_heading, forget, close_no_break, is_hidden}
 use Rattle.htmd_html5.specs.InBody.{in_body}
 use Rattle.htmd_html5.specs.Modes.{in_mode}
-use Rattle.htmd_html5.specs.ForeignContent.{goes_to_html, is_foreign, is_for_math_text, is_for_annotation, is_for_html_point}
+use Rattle.htmd_html5.specs.ForeignContent.{goes_to_html, is_foreign, is_for_math_text, is_for_annotation}
+use Rattle.htmd_html5.specs.ForeignContent.{is_for_html_point}
 use Rattle.htmd_html5.specs.Processing.{process}
 use Rattle.htmd_html5.specs.Feeding.{is_text_mode, with_nothing_skipped, out_of_text_mode, named, feed, feed_text}
 use Rattle.htmd_html5.specs.Feeding.{without_line_feed}
@@ -39,14 +40,12 @@ use Rattle.htmd_html5.proofs.ProcessingLemmas.{by_html, process_once}
 use Rattle.htmd_html5.proofs.AtOnceLemmas.{put_as_parts}
 use Rattle.htmd_html5_laws.specs.StrictTokens.{tag_named}
 use Rattle.htmd_html5_laws.specs.StrictTrees.{heading_names}
-use Rattle.htmd_html5_laws.proofs.StrictOpen.{HasNames, Fewer, fewer_with_room, entries, none_closed, Stands, stands_html}
+use Rattle.htmd_html5_laws.proofs.StrictOpen.{HasNames, Fewer, fewer_with_room, entries, none_closed, Stands}
+use Rattle.htmd_html5_laws.proofs.StrictOpen.{stands_html, stands_within, the_document, scope_none, none_listed}
 use Rattle.htmd_html5_laws.proofs.StrictNames.{among_each, PlainCase, is_formatting_case, VoidCase, in_text, of_another}
-use Rattle.htmd_html5_laws.proofs.StrictNames.{input, separator, in_head, no_break, button}
-use Rattle.htmd_html5_laws.proofs.StrictSets.{button_names, nobr_names}
-use Rattle.htmd_html5_laws.proofs.StrictNames.{unknown, ordinary, formatting, anchor, paragraph, block, heading}
-use Rattle.htmd_html5_laws.proofs.StrictNames.{list_item, part}
-use Rattle.htmd_html5_laws.proofs.StrictSets.{p_names, a_names, li_names, part_names, heading_has}
-use Rattle.htmd_html5_laws.proofs.StrictOpen.{stands_within, the_document, scope_none, none_listed}
+use Rattle.htmd_html5_laws.proofs.StrictNames.{input, separator, in_head, no_break, button, unknown, ordinary}
+use Rattle.htmd_html5_laws.proofs.StrictNames.{formatting, anchor, paragraph, block, heading, list_item, part}
+use Rattle.htmd_html5_laws.proofs.StrictSets.{one_spelled, part_names, heading_has}
 use Rattle.htmd_grammar.specs.Nesting as nesting
 use Rattle.htmd_html5_state.specs.declared.names.TagName.TheVariants as tags
 use Rattle.htmd_html5.specs.Tokens as construction
@@ -100,11 +99,8 @@ module _ (p : List ℕ) (c : List (List ℕ)) (s : StateValue) (h : IsInBody (p 
   within = stands_within s.nodes p c s.stack h.stands
 
   at_end : AppendsText s
-  at_end = record {
-    fosters = h.no_foster;
-    listed = rw (none_closed s.formatting s.stack h.listed) refl;
-    within = within;
-  }
+  at_end =
+      record { fosters = h.no_foster; listed = rw (none_closed s.formatting s.stack h.listed) refl; within = within }
 
   pub nothing_again : reconstruct s ≡ s
   nothing_again = appends-reconstruct s at_end
@@ -154,21 +150,18 @@ module _ (p : List ℕ) (c : List (List ℕ)) (s : StateValue) (h : IsInBody (p 
 
   -- ---- start tags
 
-  abbrev with_stack : List OpenValue → StateValue
-  with_stack stack = record s { stack = stack }
-
   pub no_p_closed : met (codes "p" ∷ []) [] (p ∷ c) ≡ false → close (Only tags.P) Button s.stack ≡ s.stack
   no_p_closed e =
       let none_ : is_in_scope (Only tags.P) Button s.stack ≡ false =
-      scope_none (Only tags.P) Button (codes "p" ∷ []) [] p_names (λ n f. absurd (cc)) s.nodes (p ∷ c) s.stack
-      h.stands
+      scope_none (Only tags.P) Button (codes "p" ∷ []) [] (one_spelled tags.P) (λ n f. absurd (cc)) s.nodes (p
+      ∷ c) s.stack h.stands
       e in
       rw none_ refl
 
   no_li_closed : met (codes "li" ∷ []) lists (p ∷ c) ≡ false → close (Only tags.Li) Items s.stack ≡ s.stack
   no_li_closed e =
       let none_ : is_in_scope (Only tags.Li) Items s.stack ≡ false =
-      scope_none (Only tags.Li) Items (codes "li" ∷ []) lists li_names
+      scope_none (Only tags.Li) Items (codes "li" ∷ []) lists (one_spelled tags.Li)
       (λ n f. among_each (λ m. bounds Items (html (name_of_text m)) ≡ true) lists n f
       (refl, (refl, (refl, (refl, tt)))))
       s.nodes (p ∷ c) s.stack h.stands e in
@@ -193,11 +186,11 @@ module _ (p : List ℕ) (c : List (List ℕ)) (s : StateValue) (h : IsInBody (p 
       by_stack (x ∷ stack) k = rw k.0 (heading_has p e)
 
   no_anchor : met (codes "a" ∷ []) [] (p ∷ c) ≡ false → formatting_element tags.A s ≡ None
-  no_anchor e = none_listed tags.A (codes "a" ∷ []) a_names s.nodes (p ∷ c) s.stack s.formatting h.stands h.listed e
+  no_anchor e = none_listed tags.A (codes "a" ∷ []) (one_spelled tags.A) s.nodes (p
+      ∷ c) s.stack s.formatting h.stands h.listed e
 
   none_there : (tag : TagName) (n : List ℕ) → HasNames (Only tag) (n ∷ []) → met (n ∷ []) []
-      (p ∷ c) ≡ false
-      → is_in_scope (Only tag) Default s.stack ≡ false
+      (p ∷ c) ≡ false → is_in_scope (Only tag) Default s.stack ≡ false
   none_there tag n k e =
       scope_none (Only tag) Default (n ∷ []) [] k (λ m f. absurd (cc)) s.nodes (p ∷ c) s.stack h.stands e
 
@@ -224,10 +217,9 @@ module _ (p : List ℕ) (c : List (List ℕ)) (s : StateValue) (h : IsInBody (p 
   put_item tag attributes stack =
       insert_element (known tag) attributes (record s { stack = stack; frameset_ok = false })
 
-  pub plain_start : (n : List ℕ) (k : PlainCase n) → Fits (p ∷ c) n → is_formatting_case k ≡ false
-      → (attributes : List AttributePair) (slash : Bool)
-      → (ok : Bool) × (feed (start_tag (tag_named n attributes slash)) s ≡ opened_with n attributes s.formatting
-      ok)
+  pub plain_start : (n : List ℕ) (k : PlainCase n) → Fits (p ∷ c) n → is_formatting_case k ≡ false →
+      (attributes : List AttributePair) (slash : Bool) →
+      (ok : Bool) × (feed (start_tag (tag_named n attributes slash)) s ≡ opened_with n attributes s.formatting ok)
   unfolding block_rule formatting_rule phrasing_rule
   plain_start n (unknown t q) f e attributes slash = (
     s.frameset_ok,
@@ -261,8 +253,8 @@ module _ (p : List ℕ) (c : List (List ℕ)) (s : StateValue) (h : IsInBody (p 
   )
   plain_start n (no_break x) f e attributes slash = absurd (cc)
   plain_start n (button x) f e attributes slash =
-      let none_ = none_there tags.Button (codes "button") button_names (itself_met n (codes "button") x f (rw x refl))
-      in
+      let none_ = none_there tags.Button (codes "button") (one_spelled tags.Button)
+      (itself_met n (codes "button") x f (rw x refl)) in
       let closed : close (Only tags.Button) Default s.stack ≡ s.stack = rw none_ refl in (
         false,
         fed_start (tag_named n attributes slash)
@@ -293,8 +285,7 @@ module _ (p : List ℕ) (c : List (List ℕ)) (s : StateValue) (h : IsInBody (p 
       with_room (with_room_for nodes (kind_at nodes (length s.nodes)) s.formatting)
 
   pub formatting_start : (n : List ℕ) (k : PlainCase n) → Fits (p ∷ c) n → is_formatting_case k ≡ true
-      → (attributes : List AttributePair) (slash : Bool)
-      → (room : List (Option ℕ)) × Fewer room s.formatting
+      → (attributes : List AttributePair) (slash : Bool) → (room : List (Option ℕ)) × Fewer room s.formatting
       × (feed (start_tag (tag_named n attributes slash)) s
       ≡ opened_with n attributes (Some (length s.nodes) ∷ room) s.frameset_ok)
   unfolding block_rule formatting_rule phrasing_rule listed_room
@@ -316,37 +307,29 @@ module _ (p : List ℕ) (c : List (List ℕ)) (s : StateValue) (h : IsInBody (p 
             ∙ ap (insert_formatting (known tags.A) attributes) nothing_again),
       )
   formatting_start n (no_break x) f e attributes slash =
-      let none_ = none_there tags.NoBr (codes "nobr") nobr_names (itself_met n (codes "nobr") x f (rw x refl)) in
+      let none_ = none_there tags.NoBr (codes "nobr") (one_spelled tags.NoBr)
+      (itself_met n (codes "nobr") x f (rw x refl)) in
       let closed : close_no_break s ≡ s = rw none_ refl in (
         listed_room n attributes,
         fewer_with_room _ _ s.formatting,
         fed_start (tag_named n attributes slash)
             ∙ rw x (ap (λ (y : StateValue). insert_formatting (known tags.NoBr) attributes
-            (reconstruct (close_no_break y)))
-            nothing_again
+            (reconstruct (close_no_break y))) nothing_again
             ∙ ap (λ (y : StateValue). insert_formatting (known tags.NoBr) attributes (reconstruct y)) closed
             ∙ ap (insert_formatting (known tags.NoBr) attributes) nothing_again),
       )
-  formatting_start n (button x) f e attributes slash = absurd (cc)
-  formatting_start n (paragraph x) f e attributes slash = absurd (cc)
-  formatting_start n (block x) f e attributes slash = absurd (cc)
-  formatting_start n (heading x) f e attributes slash = absurd (cc)
-  formatting_start n (list_item x) f e attributes slash = absurd (cc)
-  formatting_start n (part x) f e attributes slash = absurd (cc)
+  formatting_start n _ f e attributes slash = absurd (cc)
 
   -- a void element
   abbrev pub put_with : List ℕ → List AttributePair → Bool → StateValue
-  put_with n attributes ok = record s {
-    nodes = add (element (html (name_of_text n)) attributes) (place s) s.nodes;
-    frameset_ok = ok;
-  }
+  put_with n attributes ok =
+      record s { nodes = add (element (html (name_of_text n)) attributes) (place s) s.nodes; frameset_ok = ok }
 
   abbrev put_void : TagName → List AttributePair → StateValue → StateValue
   put_void tag attributes y = no_frameset (insert_void (known tag) attributes y)
 
   pub void_fed : (n : List ℕ) (k : VoidCase n) → Fits (p ∷ c) n → (attributes : List AttributePair)
-      (slash : Bool)
-      → (ok : Bool) × (feed (start_tag (tag_named n attributes slash)) s ≡ put_with n attributes ok)
+      (slash : Bool) → (ok : Bool) × (feed (start_tag (tag_named n attributes slash)) s ≡ put_with n attributes ok)
   unfolding block_rule formatting_rule phrasing_rule
   void_fed n (in_text x) f attributes slash = (
     false,

@@ -1,6 +1,6 @@
 -- The tokens of a text of the strict grammar are those of its trees.
-use Rattle.std.proofs.Common.{◌≡◌, ◌≢◌, ◌⊎◌, ℕ, Bool, true, false, not, List, [], ◌∷◌, ◌++◌}
-use Rattle.std.proofs.Common.{length, drop, Some, refl, sym, ap, ◌∙◌, arith, inl, inr, codes, subst, append_assoc}
+use Rattle.std.proofs.Common.{◌≡◌, ◌≢◌, ◌⊎◌, ℕ, Bool, true, false, not, List, [], ◌∷◌, ◌++◌, length, drop, Some, refl}
+use Rattle.std.proofs.Common.{sym, ap, ◌∙◌, arith, inl, inr, codes, subst, append_assoc}
 use Rattle.std.specs.Prelude.{◌==◌}
 use Rattle.std.proofs.lemmas.Bool.{and_parts, not-true, eqb-true}
 use Rattle.std.proofs.lemmas.List.{append-nil}
@@ -10,7 +10,7 @@ use Rattle.htmd_grammar.specs.ValueTrees.{comment, element}
 use Rattle.htmd_grammar.specs.CharacterClasses.{first_is, lacks, up_to}
 use Rattle.htmd_grammar.specs.Grammar.{ReadsForest, reads}
 use Rattle.htmd_grammar.specs.Nesting.{Context, is_outside}
-use Rattle.htmd_grammar.specs.RawContent.{holds_text_alone, ends_text, begins_markup, content_of, drops_line_feed, text_of}
+use Rattle.htmd_grammar.specs.RawContent.{holds_text_alone, ends_text, begins_markup, drops_line_feed, text_of}
 use Rattle.htmd_grammar.specs.Rules.{named_characters, project}
 use Rattle.htmd_grammar.specs.References.{decode, after_line_feed}
 use Rattle.htmd_grammar.specs.Serialisation.{is_void}
@@ -23,22 +23,25 @@ use Rattle.htmd_html5_tokens.specs.Tokens.{TokenValue, start_tag, end_tag}
 use Rattle.htmd_html5_tokens.specs.NextToken.{next_token}
 use Rattle.htmd_grammar.specs.declared.content_model.ContentModel.TheVariants.{Normal, Raw}
 use Rattle.htmd_grammar.specs.declared.content_model.RawElement.{RawElement}
+use Rattle.htmd_grammar.proofs.FrontsLemmas.{content_plain}
 use Rattle.htmd_html5_laws.specs.StrictReferences.{outside, in_tag, IsUnambiguousAt, IsUnambiguous}
-use Rattle.htmd_html5_laws.specs.StrictTokens.{content_in, tag_named, SpellsTree, SpellsForest}
-use Rattle.htmd_html5_laws.specs.StrictTokens.{with_text_token, after_feed, content_tokens}
-use Rattle.htmd_html5_laws.specs.StrictTokens.{is_set_aside, is_simple_tree, is_simple, TokensAgree}
-use Rattle.htmd_html5_laws.proofs.StrictCuts.{unambiguous_back, unambiguous_in_tag, settled_past, settled_inside, unambiguous_outside, content_place}
+use Rattle.htmd_html5_laws.specs.StrictTokens.{content_in, tag_named, SpellsTree, SpellsForest, with_text_token}
+use Rattle.htmd_html5_laws.specs.StrictTokens.{after_feed, content_tokens, is_set_aside, is_simple_tree, is_simple}
+use Rattle.htmd_html5_laws.specs.StrictTokens.{TokensAgree}
+use Rattle.htmd_html5_laws.proofs.StrictCuts.{unambiguous_back, unambiguous_in_tag, unambiguous_past}
+use Rattle.htmd_html5_laws.proofs.StrictCuts.{unambiguous_inside, unambiguous_outside, content_place}
 use Rattle.htmd_html5_laws.proofs.StrictReferencesLemmas.{Ending}
 use Rattle.htmd_html5_laws.proofs.StrictTokenCuts.{read, start_read, end_read, raw_end_read, text_token_read}
 use Rattle.htmd_html5_laws.proofs.StrictTokenCuts.{unambiguous_before}
-use Rattle.htmd_html5_laws.proofs.StrictRawTexts.{normal_content, void_content, IsRaw, raw_content, pre_plain, raw_keeps}
+use Rattle.htmd_html5_laws.proofs.StrictRawTexts.{normal_content, void_content, IsRaw, raw_content, pre_plain}
+use Rattle.htmd_html5_laws.proofs.StrictRawTexts.{raw_keeps, raw_children, stop_same, raw_text_next, raw_end_next}
 use Rattle.htmd_html5_laws.proofs.StrictLineFeeds.{kept_begins, feed_case, dropped_feed, Feed, feed_text}
-use Rattle.htmd_html5_laws.proofs.StrictRawTexts.{raw_children, stop_same, raw_text_next, raw_end_next}
+use Rattle.htmd_html5_laws.proofs.StrictSteps.{Run, here, onward, joined, from_content, from_text, all_read, Made}
+use Rattle.htmd_html5_laws.proofs.StrictSteps.{shorter, one_token, TreeRun, ForestRun, tag_filled, end_filled}
+use Rattle.htmd_html5_laws.proofs.StrictSteps.{plain_text, text_run, comment_run, no_tbody, text_ending}
+use Rattle.htmd_html5_laws.proofs.StrictSteps.{unambiguous_after}
 use Rattle.htmd_html5_tokens.specs.Tokens as tokens
 use Rattle.htmd_html5_tokens.specs.NextToken as next
-use Rattle.htmd_html5_laws.proofs.StrictSteps.{Run, here, onward, joined, from_content, from_text, all_read, Made, shorter}
-use Rattle.htmd_html5_laws.proofs.StrictSteps.{one_token, TreeRun, ForestRun, tag_filled, end_filled, plain_text, text_run}
-use Rattle.htmd_html5_laws.proofs.StrictSteps.{comment_run, no_tbody, text_ending, settled_after}
 
 module _ (z : Bool) where
   -- ---- elements
@@ -95,10 +98,8 @@ module _ (z : Bool) where
           (raw_end_next z n found.0 (end ++ rest) r.0 found.1 e stops r.1 ∙ r.2) refl
           (shorter z end rest (end_filled z end n g)) here
 
-      go : ((ks ≡ none) × (inner ≡ []))
-          ⊎ ((u : List ℕ) × (ks ≡ more (text u) none) × (inner ≢ []) ×
-          (up_to (ends_text z n) inner ≡ inner)
-          × (text_of (project z) n inner ≡ Some u))
+      go : ((ks ≡ none) × (inner ≡ [])) ⊎ ((u : List ℕ) × (ks ≡ more (text u) none) × (inner ≢ []) ×
+          (up_to (ends_text z n) inner ≡ inner) × (text_of (project z) n inner ≡ Some u))
           → Closed n ks (inner ++ (end ++ rest)) rest
       go (inl w) = rw (w.0, w.1) ([], nothing_content n, from_content z (found.1).content last)
       go (inr w) =
@@ -107,8 +108,7 @@ module _ (z : Bool) where
           rw w.1 (
             tokens.text w.0 ∷ [],
             rw (raw_keeps z n e a) (tokens.text w.0 ∷ [], [], refl, refl, refl),
-            from_content z (found.1).content
-                (onward (tokens.text w.0) (end ++ rest)
+            from_content z (found.1).content (onward (tokens.text w.0) (end ++ rest)
                 (raw_text_next z n found.0 inner w.0 (end ++ rest) found.1 e w.2 w.3 stops w.4 m) refl
                 (shorter z inner (end ++ rest) w.2) last),
           )
@@ -149,14 +149,8 @@ module _ (z : Bool) where
   begins_no_feed : (ts : ValueForest) (p : List ℕ) (c : Context) (last : Bool) (s rest : List ℕ)
       → ReadsForest (project z) (p ∷ c) last ts s → holds_text_alone z p ≡ false → is_simple ts ≡ true
       → IsUnambiguous (s ++ rest) → Ending rest → after_line_feed [] s ≡ s → begins_feed ts ≡ false
-  begins_no_feed none p c last s rest h e o k st a = refl
-  begins_no_feed (more (document ks) ts) p c last s rest h e o k st a = refl
-  begins_no_feed (more doctype ts) p c last s rest h e o k st a = refl
-  begins_no_feed (more (comment u) ts) p c last s rest h e o k st a = refl
-  begins_no_feed (more (element n attributes ks) ts) p c last s rest h e o k st a = refl
   begins_no_feed (more (text u) ts) p c last s rest h e o k st a =
-      let q : s ++ rest ≡ h.0 ++ (h.1 ++ rest) =
-      ap (λ (y : List ℕ). y ++ rest) h.2 ∙ append_assoc h.0 h.1 rest in
+      let q = ap (λ (y : List ℕ). y ++ rest) h.2 ∙ append_assoc h.0 h.1 rest in
       let i = subst IsUnambiguous q k in
       let follows = text_ending z (text u) ts p c last h.1 rest refl h.3 h.5 o (unambiguous_back h.0 (h.1 ++ rest) i) st
       in
@@ -164,6 +158,7 @@ module _ (z : Bool) where
       let d : decode named_characters 0 h.0 ≡ Some u = rw (plain_text z p e) at (h.4).2 in
       kept_begins h.0 u h.1 this.line_feeds d (no_feed_there h.1 rest follows)
       (ap (after_line_feed []) (sym h.2) ∙ a ∙ h.2)
+  begins_no_feed _ p c last s rest h e o k st a = refl
 
   -- what comes after such a start tag, with the end tag
   abbrev Fed : List ℕ → ValueForest → List ℕ → List ℕ → List ℕ → Type 0
@@ -189,30 +184,20 @@ module _ (z : Bool) where
       let i = subst IsUnambiguous q k in
       let t = feed_text b w r [] r [] f refl refl refl in
       let token = text_token_read front (10 ∷ []) (r ++ x) (λ y. (let z = y in cc)) t.0 t.1 begins i in
-      let inside = ih n c true r x h e o (settled_past front (r ++ x) t.1 begins i) st in (
+      let inside = ih n c true r x h e o (unambiguous_past front (r ++ x) t.1 begins i) st in (
         tokens.text (10 ∷ []) ∷ inside.0,
         inside.1,
         from_text z q (onward (tokens.text (10 ∷ [])) (r ++ x) token refl
-            (shorter z front (r ++ x) (λ y. (let z = y in cc)))
-            inside.2),
+            (shorter z front (r ++ x) (λ y. (let z = y in cc))) inside.2),
       )
 
   line_dropped : (n : List ℕ) (ks : ValueForest) → ForestRun z ks → Tail ks → (c : Context) (b : ℕ)
-      (w r x rest : List ℕ)
-      → Feed b w r → ReadsForest (project z) (n ∷ c) true ks r → holds_text_alone z n ≡ false
-      → is_simple ks ≡ true → IsUnambiguous ((b ∷ (w ++ r)) ++ x) → Ending x
-      → Fed n ks (b ∷ (w ++ r)) x rest
-  line_dropped n none ih tail c b w r x rest f h e o k st =
-      line_alone n none ih c b w r x rest f h e o k (rw h st) st
+      (w r x rest : List ℕ) → Feed b w r → ReadsForest (project z) (n ∷ c) true ks r
+      → holds_text_alone z n ≡ false → is_simple ks ≡ true → IsUnambiguous ((b ∷ (w ++ r)) ++ x)
+      → Ending x → Fed n ks (b ∷ (w ++ r)) x rest
+  line_dropped n none ih tail c b w r x rest f h e o k st = line_alone n none ih c b w r x rest f h e o k (rw h st) st
   line_dropped n (more (document ks) ts) ih tail c b w r x rest f h e o k st = absurd (h.4)
   line_dropped n (more doctype ts) ih tail c b w r x rest f h e o k st = absurd (h.4)
-  line_dropped n (more (comment u) ts) ih tail c b w r x rest f h e o k st =
-      line_alone n (more (comment u) ts) ih c b w r x rest f h e o k
-      (text_ending z (text []) (more (comment u) ts) n c true r x refl tt h o (after_piece b w r x k) st) st
-  line_dropped n (more (element m attributes ks) ts) ih tail c b w r x rest f h e o k st =
-      line_alone n (more (element m attributes ks) ts) ih c b w r x rest f h e o k
-      (text_ending z (text []) (more (element m attributes ks) ts) n c true r x refl tt h o (after_piece b w r x k)
-      st) st
   line_dropped n (more (text u) ts) ih tail c b w r x rest f h e o k st =
       let front : List ℕ = b ∷ (w ++ h.0) in
       let q : (b ∷ (w ++ r)) ++ x ≡ front ++ (h.1 ++ x) =
@@ -225,7 +210,7 @@ module _ (z : Bool) where
       let l : up_to begins_markup h.0 ≡ h.0 = stop_same begins_markup (ends_text z n) same h.0 ∙ (h.4).1 in
       let t = feed_text b w r h.0 h.1 u f h.2 d l in
       let token = text_token_read front (10 ∷ u) (h.1 ++ x) (λ y. (let z = y in cc)) t.0 t.1 follows i in
-      let others = tail n c true h.1 x h.5 e o (settled_past front (h.1 ++ x) t.1 follows i) st in (
+      let others = tail n c true h.1 x h.5 e o (unambiguous_past front (h.1 ++ x) t.1 follows i) st in (
         tokens.text (10 ∷ u) ∷ others.0,
         with_first u ts others.0 (h.4).0 others.1,
         from_text z q (onward (tokens.text (10 ∷ u)) (h.1 ++ x) token refl
@@ -236,13 +221,14 @@ module _ (z : Bool) where
           → SpellsForest (more (text u) ts) (with_text_token u xs)
       with_first [] ts xs f h = absurd (f refl)
       with_first (b ∷ u) ts xs f h = (tokens.text (b ∷ u) ∷ [], xs, refl, refl, h)
+  line_dropped n (more t ts) ih tail c b w r x rest f h e o k st =
+      line_alone n (more t ts) ih c b w r x rest f h e o k
+      (text_ending z (text []) (more t ts) n c true r x refl tt h o (after_piece b w r x k) st) st
 
   feed_closed : (n : List ℕ) (ks : ValueForest) → ForestRun z ks → Tail ks → (c : Context)
-      (inner end rest : List ℕ)
-      → ReadsForest (project z) (n ∷ c) true ks (after_line_feed [] inner) → IsEndTag end n
-      → drops_line_feed n ≡ true → holds_text_alone z n ≡ false → is_outside n ≡ false → is_simple
-      ks ≡ true
-      → IsUnambiguous (inner ++ (end ++ rest)) → Closed n ks (inner ++ (end ++ rest)) rest
+      (inner end rest : List ℕ) → ReadsForest (project z) (n ∷ c) true ks (after_line_feed [] inner)
+      → IsEndTag end n → drops_line_feed n ≡ true → holds_text_alone z n ≡ false → is_outside n ≡ false
+      → is_simple ks ≡ true → IsUnambiguous (inner ++ (end ++ rest)) → Closed n ks (inner ++ (end ++ rest)) rest
   feed_closed n ks ih tail c inner end rest h g d e o i k = whole (fed inner h k)
     where
       r : (next_token Normal false (end ++ rest) ≡ read (end_tag (tag_named n [] false)) rest)
@@ -285,13 +271,9 @@ module _ (z : Bool) where
       append_assoc tag (inner ++ end) rest ∙ ap (λ (y : List ℕ). tag ++ y) (append_assoc inner end rest) in (
         start_tag (tag_named n attributes r.0) ∷ (w.0 ++ (end_tag (tag_named n [] false) ∷ [])),
         (r.0, w.0, end_tag (tag_named n [] false) ∷ [], refl, w.1, rw v (no_slash, refl)),
-        from_text z q
-            (onward (start_tag (tag_named n attributes r.0)) (inner ++ (end ++ rest)) r.1 refl
+        from_text z q (onward (start_tag (tag_named n attributes r.0)) (inner ++ (end ++ rest)) r.1 refl
             (shorter z tag (inner ++ (end ++ rest)) (tag_filled z tag n attributes h)) w.2),
       )
-
-  kept_content : (n s : List ℕ) → drops_line_feed n ≡ false → content_of n s ≡ s
-  kept_content n s d = rw d refl
 
   element_run : (n : List ℕ) (attributes : List AttributePair) (ks : ValueForest) → ForestRun z ks → Tail ks
       → TreeRun z (element n attributes ks)
@@ -320,13 +302,12 @@ module _ (z : Bool) where
           ap (λ (y : List ℕ). y ++ rest) w.3 ∙ append_assoc w.0 (w.1 ++ w.2) rest
           ∙ ap (λ (y : List ℕ). w.0 ++ y) (append_assoc w.1 w.2 rest) in
           let i : IsUnambiguous (w.0 ++ (w.1 ++ (w.2 ++ rest))) = subst IsUnambiguous q k in
-          let content = settled_inside w.0 n (w.1 ++ (w.2 ++ rest)) attributes w.4 i in
+          let content = unambiguous_inside w.0 n (w.1 ++ (w.2 ++ rest)) attributes w.4 i in
           let j = unambiguous_outside n (w.1 ++ (w.2 ++ rest)) content in
-          rw w.3 (closed_run n w.0 w.1 w.2 rest attributes ks w.4 v i
-          (test (drops_line_feed n)
+          rw w.3 (closed_run n w.0 w.1 w.2 rest attributes ks w.4 v i (test (drops_line_feed n)
           (λ d. feed_closed n ks ih tail (p ∷ c) w.1 w.2 rest (rw d at m.0) m.1 d (pre_plain z n d aside) outside
           parts.1 j)
-          (λ d. let inside = subst (ReadsForest (project z) (n ∷ (p ∷ c)) true ks) (kept_content n w.1 d) m.0 in
+          (λ d. let inside = subst (ReadsForest (project z) (n ∷ (p ∷ c)) true ks) (content_plain n w.1 d) m.0 in
           test (holds_text_alone z n) (λ t. raw_closed n ks (p ∷ c) w.1 w.2 rest inside m.1 t aside content)
           (λ t. normal_closed n ks ih (p ∷ c) w.1 w.2 rest inside m.1 d t outside parts.1 j)))))
       go (inr w) = absurd (no_tbody z n aside w.3)
@@ -336,12 +317,11 @@ module _ (z : Bool) where
   next_run : (t : ValueTree) (ts : ValueForest) → TreeRun z t → ForestRun z ts → ForestRun z (more t ts)
   next_run t ts one all p c last s rest h e o k st =
       let b = and_parts (is_simple_tree t) (is_simple ts) o in
-      let q : s ++ rest ≡ h.0 ++ (h.1 ++ rest) =
-      ap (λ (y : List ℕ). y ++ rest) h.2 ∙ append_assoc h.0 h.1 rest in
+      let q = ap (λ (y : List ℕ). y ++ rest) h.2 ∙ append_assoc h.0 h.1 rest in
       let i = subst IsUnambiguous q k in
       let follows : IsTextTree t ≡ true → Ending (h.1 ++ rest) =
       λ f. text_ending z t ts p c last h.1 rest f h.3 h.5 b.1 (unambiguous_back h.0 (h.1 ++ rest) i) st in
-      let j = settled_after z t p c _ h.0 (h.1 ++ rest) h.4 e b.0 follows i in
+      let j = unambiguous_after z t p c _ h.0 (h.1 ++ rest) h.4 e b.0 follows i in
       let first = one p c _ h.0 (h.1 ++ rest) h.4 e b.0 i follows in
       let others = all p c last h.1 rest h.5 e b.1 j st in (
         first.0 ++ others.0,

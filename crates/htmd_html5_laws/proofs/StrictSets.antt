@@ -3,7 +3,7 @@ use Rattle.std.proofs.Common.{◌≡◌, ℕ, Bool, true, false, not, List, [], 
 use Rattle.std.proofs.lemmas.Bool.{not-true}
 use Rattle.htmd_grammar.proofs.Cases.{test}
 use Rattle.htmd_grammar.specs.CharacterClasses.{is_among}
-use Rattle.htmd_grammar.proofs.NestingLemmas.{same_bytes, one_name, among_passes}
+use Rattle.htmd_grammar.proofs.NestingLemmas.{same_bytes, one_name, among_passes, bytes_same}
 use Rattle.htmd_grammar.specs.RawContent.{drops_line_feed, holds_text_alone}
 use Rattle.htmd_grammar.specs.Serialisation.{is_void, void_elements}
 use Rattle.htmd_grammar.specs.declared.content_model.ContentModel.TheVariants.{Normal}
@@ -11,8 +11,7 @@ use Rattle.htmd_html5_state.specs.Names.{known, html, spelling}
 use Rattle.htmd_html5_state.specs.Sets.{is_of}
 use Rattle.htmd_html5_state.specs.declared.names.TagName.{TagName}
 use Rattle.htmd_html5_state.specs.declared.sets.NameSet.TheVariants.{Only, Headings, DescriptionParts}
-use Rattle.htmd_html5_laws.specs.StrictTrees.{heading_names}
-use Rattle.htmd_html5_laws.specs.StrictTrees.{is_plain_name, is_plain_element, text_names}
+use Rattle.htmd_html5_laws.specs.StrictTrees.{heading_names, is_plain_name, is_plain_element, text_names}
 use Rattle.htmd_html5_laws.specs.StrictTokens.{content_in, is_set_aside}
 use Rattle.htmd_html5_laws.proofs.StrictRawTexts.{is_name}
 use Rattle.htmd_html5_laws.proofs.StrictOpen.{HasNames, has_names}
@@ -20,28 +19,11 @@ use Rattle.htmd_html5_state.specs.declared.names.TagName.TheVariants as tags
 
 -- ---- names of sets
 
-pub p_names : HasNames (Only tags.P) (codes "p" ∷ [])
-p_names =
-    has_names (Only tags.P) (codes "p" ∷ []) (λ tag e. rw (sym (same_bytes (spelling tags.P) (spelling tag) e)) refl)
-
-pub a_names : HasNames (Only tags.A) (codes "a" ∷ [])
-a_names =
-    has_names (Only tags.A) (codes "a" ∷ []) (λ tag e. rw (sym (same_bytes (spelling tags.A) (spelling tag) e)) refl)
-
-pub button_names : HasNames (Only tags.Button) (codes "button" ∷ [])
-button_names =
-    has_names (Only tags.Button) (codes "button" ∷ [])
-    (λ tag e. rw (sym (same_bytes (spelling tags.Button) (spelling tag) e)) refl)
-
-pub nobr_names : HasNames (Only tags.NoBr) (codes "nobr" ∷ [])
-nobr_names =
-    has_names (Only tags.NoBr) (codes "nobr" ∷ [])
-    (λ tag e. rw (sym (same_bytes (spelling tags.NoBr) (spelling tag) e)) refl)
-
-pub li_names : HasNames (Only tags.Li) (codes "li" ∷ [])
-li_names =
-    has_names (Only tags.Li) (codes "li" ∷ [])
-    (λ tag e. rw (sym (same_bytes (spelling tags.Li) (spelling tag) e)) refl)
+-- that with one name has its spelling
+pub one_spelled : (one : TagName) → HasNames (Only one) (spelling one ∷ [])
+one_spelled one =
+    has_names (Only one) (spelling one ∷ [])
+    (λ tag e. rw (sym (same_bytes (spelling one) (spelling tag) e), bytes_same (spelling one)) refl)
 
 pub part_names : HasNames DescriptionParts (codes "dd" ∷ codes "dt" ∷ [])
 part_names = has_names DescriptionParts (codes "dd" ∷ codes "dt" ∷ []) by_tag
@@ -49,8 +31,7 @@ part_names = has_names DescriptionParts (codes "dd" ∷ codes "dt" ∷ []) by_ta
     by_tag : (tag : TagName) → is_of DescriptionParts (html (known tag)) ≡ true
         → is_among (codes "dd" ∷ codes "dt" ∷ []) (spelling tag) ≡ true
     by_tag tags.Dd e = refl
-    by_tag tags.Dt e = refl
-    by_tag _ e = absurd (cc)
+    by_tag _ e = cc
 
 pub heading_has : HasNames Headings heading_names
 heading_has = has_names Headings heading_names by_tag
@@ -58,18 +39,12 @@ heading_has = has_names Headings heading_names by_tag
     by_tag : (tag : TagName) → is_of Headings (html (known tag)) ≡ true → is_among heading_names
         (spelling tag) ≡ true
     by_tag tags.H1 e = refl
-    by_tag tags.H2 e = refl
-    by_tag tags.H3 e = refl
-    by_tag tags.H4 e = refl
-    by_tag tags.H5 e = refl
-    by_tag tags.H6 e = refl
-    by_tag _ e = absurd (cc)
+    by_tag _ e = cc
 
 -- ---- no plain name is that of an element that holds only text
 
-raw_name : (z : Bool) (n : List ℕ)
-    → is_plain_name n ≡ true → content_in z n ≡ Normal
-raw_name z n e =
+pub plain_content : (z : Bool) (n : List ℕ) → is_plain_name n ≡ true → content_in z n ≡ Normal
+plain_content z n e =
     is_name n (codes "title") (λ t. absurd (let w = rw t at e in cc))
     (λ a. is_name n (codes "textarea") (λ t. absurd (let w = rw t at e in cc))
     (λ b. is_name n (codes "style") (λ t. absurd (let w = rw t at e in cc))
@@ -82,15 +57,11 @@ raw_name z n e =
     (λ j. is_name n (codes "noscript") (λ t. absurd (let w = rw t at e in cc))
     (λ k. rw (a, b, c, d, f, g, h, i, j, k) refl))))))))))
 
-aside_name : (n : List ℕ) → is_plain_name n ≡ true
-    → is_set_aside n ≡ false
+aside_name : (n : List ℕ) → is_plain_name n ≡ true → is_set_aside n ≡ false
 aside_name n e =
     is_name n (codes "textarea") (λ t. absurd (let w = rw t at e in cc))
     (λ a. is_name n (codes "script") (λ t. absurd (let w = rw t at e in cc))
     (λ b. is_name n (codes "tbody") (λ t. absurd (let w = rw t at e in cc)) (λ c. rw (a, b, c) refl)))
-
-pub plain_content : (z : Bool) (n : List ℕ) → is_plain_name n ≡ true → content_in z n ≡ Normal
-plain_content = raw_name
 
 void_aside : (n : List ℕ) → is_void n ≡ true → not (is_set_aside n) ≡ true
 unfolding is_void

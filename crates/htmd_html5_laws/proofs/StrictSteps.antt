@@ -1,6 +1,6 @@
 -- Tokens that are read one after another; a text and a comment of the strict grammar, and what follows a text.
-use Rattle.std.proofs.Common.{◌≡◌, ◌≢◌, ℕ, zero, suc, ◌<◌, ◌≤◌, Bool, true, false, not, List, [], ◌∷◌, ◌++◌}
-use Rattle.std.proofs.Common.{length, Some, refl, sym, ap, ◌∙◌, arith, inl, inr, codes, subst, append_assoc, length-append}
+use Rattle.std.proofs.Common.{◌≡◌, ◌≢◌, ℕ, zero, suc, ◌<◌, ◌≤◌, Bool, true, false, not, List, [], ◌∷◌, ◌++◌, length}
+use Rattle.std.proofs.Common.{Some, refl, sym, ap, ◌∙◌, arith, inl, inr, codes, subst, append_assoc, length-append}
 use Rattle.std.proofs.lemmas.Bool.{and_parts, or_parts, not-true}
 use Rattle.std.proofs.lemmas.List.{append-nil}
 use Rattle.htmd_grammar.specs.ValueTrees.{AttributePair, ValueTree, ValueForest, none, more, document, doctype, text}
@@ -16,17 +16,17 @@ use Rattle.htmd_grammar.specs.Serialisation.{is_void}
 use Rattle.htmd_grammar.proofs.Cases.{test}
 use Rattle.htmd_grammar.proofs.NestingLemmas.{one_name}
 use Rattle.htmd_grammar.proofs.TreeTexts.{Inside, IsTextTree}
-use Rattle.htmd_html5_tokens.specs.Tokens.{TokenValue, start_tag, end_tag}
+use Rattle.htmd_html5_tokens.specs.Tokens.{TokenValue}
 use Rattle.htmd_html5_tokens.specs.NextToken.{next_token}
 use Rattle.htmd_grammar.specs.declared.content_model.ContentModel.{ContentModel}
 use Rattle.htmd_grammar.specs.declared.content_model.ContentModel.TheVariants.{Normal}
 use Rattle.htmd_html5.specs.Html5Documents.{is_end}
 use Rattle.htmd_html5_laws.specs.StrictReferences.{in_tag, IsUnambiguousAt, IsUnambiguous}
-use Rattle.htmd_html5_laws.specs.StrictTokens.{content_after, tokens_within, SpellsTree, SpellsForest}
-use Rattle.htmd_html5_laws.specs.StrictTokens.{is_set_aside, is_simple_tree, is_simple}
+use Rattle.htmd_html5_laws.specs.StrictTokens.{content_after, tokens_within, SpellsTree, SpellsForest, is_set_aside}
+use Rattle.htmd_html5_laws.specs.StrictTokens.{is_simple_tree, is_simple}
 use Rattle.htmd_html5_laws.proofs.StrictReferencesLemmas.{Ending}
-use Rattle.htmd_html5_laws.proofs.StrictCuts.{unambiguous_in_tag, settled_past, settled_behind, EndsInSign, sign_before}
-use Rattle.htmd_html5_laws.proofs.StrictCuts.{start_sign, end_sign}
+use Rattle.htmd_html5_laws.proofs.StrictCuts.{unambiguous_in_tag, unambiguous_past, unambiguous_after_sign, EndsInSign}
+use Rattle.htmd_html5_laws.proofs.StrictCuts.{sign_before, start_sign, end_sign}
 use Rattle.htmd_html5_laws.proofs.StrictTokenCuts.{read, start_read, comment_read, comment_sign, text_token_read}
 use Rattle.htmd_html5_laws.proofs.StrictRawTexts.{text_nothing, stop_same}
 use Rattle.htmd_html5_tokens.specs.Tokens as tokens
@@ -53,9 +53,7 @@ module _ (z : Bool) where
   from_content e r = rw e r
 
   pub from_text : {now after : ContentModel} {s t left : List ℕ} {xs : List TokenValue} → t ≡ s
-      → Run now s xs after
-      left
-      → Run now t xs after left
+      → Run now s xs after left → Run now t xs after left
   from_text e r = rw e r
 
   pub nothing_left : (k : ℕ) → tokens_within z k Normal [] ≡ []
@@ -78,19 +76,16 @@ module _ (z : Bool) where
   shorter [] x n = absurd (n refl)
   shorter (b ∷ s) x n = let l = length-append s x in omega arith
 
-  pub one_token : (token : TokenValue) (s rest : List ℕ) → s ≢ [] → next_token Normal false
-      (s ++ rest) ≡ read token rest
-      → is_end token ≡ false → content_after z Normal token ≡ Normal → Run Normal (s ++ rest) (token ∷ [])
-      Normal rest
-  one_token token s rest n e f c =
-      onward token rest e f (shorter s rest n) (from_content c here)
+  pub one_token : (token : TokenValue) (s rest : List ℕ) → s ≢ []
+      → next_token Normal false (s ++ rest) ≡ read token rest → is_end token ≡ false
+      → content_after z Normal token ≡ Normal → Run Normal (s ++ rest) (token ∷ []) Normal rest
+  one_token token s rest n e f c = onward token rest e f (shorter s rest n) (from_content c here)
 
   -- ---- trees
 
   abbrev pub TreeRun : ValueTree → Type 0
   TreeRun t = (p : List ℕ) (c : Context) (last : Bool) (s rest : List ℕ) → ReadsTree (project z) (p ∷ c) last t
-      s
-      → holds_text_alone z p ≡ false → is_simple_tree t ≡ true → IsUnambiguous (s ++ rest)
+      s → holds_text_alone z p ≡ false → is_simple_tree t ≡ true → IsUnambiguous (s ++ rest)
       → (IsTextTree t ≡ true → Ending rest) → Made (SpellsTree t) s rest
 
   abbrev pub ForestRun : ValueForest → Type 0
@@ -139,16 +134,12 @@ module _ (z : Bool) where
       → IsTextTree t ≡ true → Apart t ts → ReadsForest (project z) (p ∷ c) last ts s → is_simple ts ≡ true
       → IsUnambiguousAt in_tag (s ++ rest) → Ending rest → Ending (s ++ rest)
   text_ending t none p c last s rest i a h o k st = rw h st
-  text_ending (document ks) (more (text v) ts) p c last s rest i a h o k st = absurd (cc)
-  text_ending doctype (more (text v) ts) p c last s rest i a h o k st = absurd (cc)
   text_ending t (more (document ks) ts) p c last s rest i a h o k st = absurd (h.4)
   text_ending t (more doctype ts) p c last s rest i a h o k st = absurd (h.4)
   text_ending (text u) (more (text v) ts) p c last s rest i a h o k st = absurd a
-  text_ending (comment u) (more (text v) ts) p c last s rest i a h o k st = absurd (cc)
-  text_ending (element n attributes ks) (more (text v) ts) p c last s rest i a h o k st = absurd (cc)
+  text_ending _ (more (text v) ts) p c last s rest i a h o k st = absurd (cc)
   text_ending t (more (comment v) ts) p c last s rest i a h o k st =
-      let q : s ++ rest ≡ h.0 ++ (h.1 ++ rest) =
-      ap (λ (y : List ℕ). y ++ rest) h.2 ∙ append_assoc h.0 h.1 rest in
+      let q = ap (λ (y : List ℕ). y ++ rest) h.2 ∙ append_assoc h.0 h.1 rest in
       inr (ap next.begins_markup q ∙ (comment_read h.0 v (h.1
       ++ rest) (h.4).0 (subst (IsUnambiguousAt in_tag) q k)).1)
   text_ending t (more (element n attributes ks) ts) p c last s rest i a h o k st = go (h.4).2
@@ -168,17 +159,17 @@ module _ (z : Bool) where
       go (inr w) = absurd (no_tbody n aside w.3)
 
   -- what follows a tree is unambiguous
-  pub settled_after : (t : ValueTree) (p : List ℕ) (c : Context) (last : Bool) (s x : List ℕ)
+  pub unambiguous_after : (t : ValueTree) (p : List ℕ) (c : Context) (last : Bool) (s x : List ℕ)
       → ReadsTree (project z) (p ∷ c) last t s → holds_text_alone z p ≡ false → is_simple_tree t ≡ true
       → (IsTextTree t ≡ true → Ending x) → IsUnambiguous (s ++ x) → IsUnambiguous x
-  settled_after (document ks) p c last s x h e o st k = absurd h
-  settled_after doctype p c last s x h e o st k = absurd h
-  settled_after (text u) p c last s x h e o st k =
+  unambiguous_after (document ks) p c last s x h e o st k = absurd h
+  unambiguous_after doctype p c last s x h e o st k = absurd h
+  unambiguous_after (text u) p c last s x h e o st k =
       let same : (t : List ℕ) → begins_markup t ≡ ends_text z p t = λ t. rw e refl in
       let l : up_to begins_markup s ≡ s = stop_same begins_markup (ends_text z p) same s ∙ h.1 in
-      settled_past s x l (st refl) k
-  settled_after (comment u) p c last s x h e o st k = settled_behind s x (comment_sign s u h.0) k
-  settled_after (element n attributes ks) p c last s x h e o st k = go h.2
+      unambiguous_past s x l (st refl) k
+  unambiguous_after (comment u) p c last s x h e o st k = unambiguous_after_sign s x (comment_sign s u h.0) k
+  unambiguous_after (element n attributes ks) p c last s x h e o st k = go h.2
     where
       aside : is_set_aside n ≡ false
       aside = not-true (is_set_aside n) (and_parts (not (is_set_aside n)) (is_simple ks) o).0
@@ -190,8 +181,8 @@ module _ (z : Bool) where
           let q : s ≡ w.0 =
           w.3 ∙ ap (λ (y : List ℕ). w.0 ++ (y ++ w.2)) m.0 ∙ ap (λ (y : List ℕ). w.0 ++ y) m.1
           ∙ append-nil w.0 in
-          settled_behind s x (subst EndsInSign (sym q) (start_sign w.0 n attributes w.4)) k)
+          unambiguous_after_sign s x (subst EndsInSign (sym q) (start_sign w.0 n attributes w.4)) k)
           (λ v. let m = rw v at w.5 in
-          settled_behind s x (subst EndsInSign (sym w.3)
+          unambiguous_after_sign s x (subst EndsInSign (sym w.3)
           (sign_before w.0 (w.1 ++ w.2) (sign_before w.1 w.2 (end_sign w.2 n m.1)))) k)
       go (inr w) = absurd (no_tbody n aside w.3)

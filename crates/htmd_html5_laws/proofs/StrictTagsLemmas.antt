@@ -1,40 +1,38 @@
 -- A start tag and an end tag, as the strict grammar spells them, are one token.
 use Rattle.std.proofs.Common.{◌≡◌, ◌≢◌, ◌⊎◌, ℕ, zero, suc, ◌<◌, Bool, true, false, not, ◌&&◌, List, [], ◌∷◌, ◌++◌}
-use Rattle.std.proofs.Common.{length, map, Option, Some, refl, sym, ap, ◌∙◌, arith, inl, inr}
-use Rattle.std.proofs.Common.{append_assoc, length-append, subst}
+use Rattle.std.proofs.Common.{length, map, Option, Some, refl, sym, ap, ◌∙◌, arith, inl, inr, append_assoc}
+use Rattle.std.proofs.Common.{length-append, subst}
 use Rattle.std.specs.Prelude.{◌==◌, ◌||◌}
-use Rattle.std.specs.Char.{is_ascii_alphanumeric, is_ascii_alphabetic, to_ascii_lowercase}
+use Rattle.std.specs.Char.{is_ascii_alphanumeric, to_ascii_lowercase}
 use Rattle.std.specs.List.{list_all}
 use Rattle.std.proofs.lemmas.Bool.{and_parts, not-true}
 use Rattle.std.proofs.lemmas.Bool.Decides.{nat_tests}
 use Rattle.std.proofs.Math.Bool.{and-false}
 use Rattle.htmd_grammar.specs.WhiteSpace.{is_ascii_white_space}
 use Rattle.htmd_grammar.specs.ValueTrees.{AttributePair}
-use Rattle.htmd_grammar.specs.CharacterClasses.{is_empty, first_is, begins_with, leading_run, behind_run, lacks}
-use Rattle.htmd_grammar.specs.CharacterClasses.{is_tag_name, is_tag_name_byte, is_attribute_name, are_distinct}
+use Rattle.htmd_grammar.specs.CharacterClasses.{is_empty, first_is, behind_run, lacks, is_tag_name, is_tag_name_byte}
+use Rattle.htmd_grammar.specs.CharacterClasses.{is_attribute_name, are_distinct}
 use Rattle.htmd_grammar.specs.Rules.{named_characters}
 use Rattle.htmd_grammar.specs.References.{decode}
-use Rattle.htmd_grammar.specs.Tags.{IsValue, IsTagRest, decode_values}
-use Rattle.htmd_grammar.specs.Tags.{optional_slash, attribute_names}
+use Rattle.htmd_grammar.specs.Tags.{IsValue, IsTagRest, decode_values, optional_slash, attribute_names}
 use Rattle.htmd_grammar.specs.TagReading.{tag_end, attribute, is_other, quoted_value}
 use Rattle.htmd_grammar.proofs.BooleanLemmas.{all_pass}
-use Rattle.htmd_grammar.proofs.TagReadingLemmas.{halts, front_cut, front_whole, rest_halts, rest_length}
-use Rattle.htmd_grammar.proofs.TagReadingLemmas.{white_back}
+use Rattle.htmd_grammar.proofs.TagReadingLemmas.{halts, front_cut, front_whole, rest_halts, rest_length, white_back}
 use Rattle.htmd_grammar.proofs.TagsLemmas.{values_parts, decoded_names}
 use Rattle.htmd_html5_tokens.proofs.FirstsLemmas.{distinct_firsts}
 use Rattle.htmd_html5_tokens.specs.References.{goes_on}
 use Rattle.htmd_html5_tokens.specs.Contents.{has_references, is_text, decoded, name_of}
 use Rattle.htmd_html5_tokens.specs.Tags.{is_name_byte, is_gap_byte, ends_in_slash, value_part, after_attribute_name}
-use Rattle.htmd_html5_tokens.specs.Tags.{next_part, ended, form_within, tag_form, attribute_of, firsts, attributes_of}
-use Rattle.htmd_html5_tokens.specs.Tags.{tag_value, tag_token, tag_from_name}
+use Rattle.htmd_html5_tokens.specs.Tags.{next_part, ended, form_within, attribute_of, firsts, attributes_of}
+use Rattle.htmd_html5_tokens.specs.Tags.{tag_from_name}
 use Rattle.htmd_html5_tokens.specs.Tokens.{TagValue, TokenValue, Read}
 use Rattle.htmd_html5_tokens.specs.RawTexts.{reading_of}
 use Rattle.htmd_grammar.specs.declared.content_model.RawElement.TheVariants.{Style}
+use Rattle.htmd_grammar.proofs.TextLemmas.{name_bytes}
 use Rattle.htmd_html5_laws.specs.StrictReferences.{in_tag, IsUnambiguousAt, value_spelled}
 use Rattle.htmd_html5_laws.specs.StrictTokens.{tag_named}
-use Rattle.htmd_html5_laws.proofs.StrictBytes.{key_byte, key_head, key_no_null, white_gap, white_ends}
-use Rattle.htmd_html5_laws.proofs.StrictBytes.{white_no_slash, ends_key, ends_reference, bare_byte, bare_head}
-use Rattle.htmd_html5_laws.proofs.StrictBytes.{ends_bare, name_byte}
+use Rattle.htmd_html5_laws.proofs.StrictBytes.{key_byte, key_head, key_no_null, white_gap, white_ends, white_no_slash}
+use Rattle.htmd_html5_laws.proofs.StrictBytes.{ends_key, ends_reference, bare_byte, bare_head, ends_bare, name_byte}
 use Rattle.htmd_html5_laws.proofs.StrictReferencesLemmas.{value_same}
 use Rattle.htmd_html5_laws.proofs.StrictCuts.{unambiguous_back, unambiguous_front}
 use Rattle.htmd_grammar.specs.CharacterClasses as strict
@@ -58,8 +56,7 @@ rest_begins [] present s h = go h.0 present h.2 h.1
 rest_begins (a ∷ attributes) present s h = go h.0 h.5 h.6 h.4
   where
     go : (gap : List ℕ) → gap ≢ [] → list_all is_ascii_white_space gap ≡ true → s ≡ gap ++
-        (h.1 ++ (h.2 ++ h.3))
-        → (b : ℕ) × (t : List ℕ) × (s ≡ b ∷ t) × (is_name_byte b ≡ false)
+        (h.1 ++ (h.2 ++ h.3)) → (b : ℕ) × (t : List ℕ) × (s ≡ b ∷ t) × (is_name_byte b ≡ false)
     go [] n w e = absurd (n refl)
     go (b ∷ gap) n w e =
         let k = and_parts (is_ascii_white_space b) (list_all is_ascii_white_space gap) w in
@@ -90,16 +87,14 @@ rest_ends attributes present s x h =
 
 -- ---- an attribute
 
-key_bytes : (key : List ℕ) → is_attribute_name key ≡ true
-    → list_all strict.is_attribute_name_byte key ≡ true
+key_bytes : (key : List ℕ) → is_attribute_name key ≡ true → list_all strict.is_attribute_name_byte key ≡ true
 key_bytes key e =
     let p = and_parts (not (is_empty key) && list_all strict.is_attribute_name_byte key) _ e in
     (and_parts (not (is_empty key)) (list_all strict.is_attribute_name_byte key) p.0).1
 
 -- its name, after a gap
 key_read : (gap key y : List ℕ) → list_all is_ascii_white_space gap ≡ true → is_attribute_name key ≡ true
-    → halts lenient.is_attribute_name_byte y ≡ true
-    → next_part (gap ++ (key ++ y)) ≡ after_attribute_name key y
+    → halts lenient.is_attribute_name_byte y ≡ true → next_part (gap ++ (key ++ y)) ≡ after_attribute_name key y
 key_read gap [] y w e h = absurd (cc)
 key_read gap (b ∷ key) y w e h =
     let all = key_bytes (b ∷ key) e in
@@ -202,18 +197,15 @@ value_halts value r x v (inr (inr h)) k =
     rw (h.1, (h.2).2, e) (equals_halts (h.2).0 ((h.2).1 ++ (v ++ (r ++ x))) (h.2).3)
 
 attribute_read : (a : AttributePair) (attributes : List AttributePair) (present : Bool) (s x : List ℕ)
-    (h : IsTagRest (a ∷ attributes) present s)
-    → next_part (s ++ x) ≡ attribute h.1 a.value (h.3 ++ x)
+    (h : IsTagRest (a ∷ attributes) present s) → next_part (s ++ x) ≡ attribute h.1 a.value (h.3 ++ x)
 attribute_read a attributes present s x h =
     let y : List ℕ = (h.2 ++ h.3) ++ x in
     let n = rest_ends attributes present h.3 x h.10 in
     let r = rest_halts attributes present h.3 x h.10 in
     let v = value_read h.1 h.2 h.3 x a.value h.9 n r.1 in
     let e : s ++ x ≡ h.0 ++ (h.1 ++ y) =
-    ap (λ (z : List ℕ). z ++ x) h.4
-    ∙ (append_assoc h.0 (h.1 ++ (h.2 ++ h.3)) x
-    ∙ ap (λ (z : List ℕ). h.0 ++ z) (append_assoc h.1 (h.2 ++ h.3) x))
-    in
+    ap (λ (z : List ℕ). z ++ x) h.4 ∙ (append_assoc h.0 (h.1 ++ (h.2 ++ h.3)) x
+    ∙ ap (λ (z : List ℕ). h.0 ++ z) (append_assoc h.1 (h.2 ++ h.3) x)) in
     ap next_part e ∙ (key_read h.0 h.1 y h.6 h.7 (value_halts h.2 h.3 x a.value h.9 n) ∙ v)
 
 -- ---- the end of a tag
@@ -255,8 +247,7 @@ abbrev valued : AttributePair → AttributePair
 valued a = record { name = a.name; value = value_spelled a.value }
 
 pub raw_itself : (r : _) → has_references r ≡ false → is_text r ≡ false → (s : List ℕ) → lacks 0
-    s ≡ true
-    → decoded r 0 s ≡ s
+    s ≡ true → decoded r 0 s ≡ s
 raw_itself r f t [] e = refl
 raw_itself r f t (b ∷ s) e =
     let k = and_parts (not (b == 0)) (lacks 0 s) e in
@@ -264,17 +255,14 @@ raw_itself r f t (b ∷ s) e =
     rw (f, t, and-false (b == 38), and-false (b == 60), z, raw_itself r f t s k.1) refl
 
 key_same : (a : AttributePair) (key : List ℕ) → is_attribute_name key ≡ true → map to_ascii_lowercase
-    key ≡ a.name
-    → attribute_of (record { name = key; value = a.value }) ≡ valued a
+    key ≡ a.name → attribute_of (record { name = key; value = a.value }) ≡ valued a
 key_same a key e f =
     let clean = all_pass strict.is_attribute_name_byte (λ b. not (b == 0)) key key_no_null (key_bytes key e) in
-    let n : name_of key ≡ a.name =
-    ap (map to_ascii_lowercase) (raw_itself (reading_of Style) refl refl key clean) ∙ f in
+    let n = ap (map to_ascii_lowercase) (raw_itself (reading_of Style) refl refl key clean) ∙ f in
     rw n refl
 
 form_read : (spelled : List AttributePair) (present : Bool) (k : ℕ) (s x : List ℕ) → IsTagRest spelled present s
-    → length spelled < k
-    → (raw : List AttributePair) × (form_within k (s ++ x) ≡ ended raw present x)
+    → length spelled < k → (raw : List AttributePair) × (form_within k (s ++ x) ≡ ended raw present x)
     × (map attribute_of raw ≡ map valued spelled)
 form_read spelled present zero s x h l = absurd (omega arith)
 form_read [] present (suc k) s x h l = ([], rw (tag_ends present s x h) refl, refl)
@@ -287,10 +275,8 @@ form_read (a ∷ spelled) present (suc k) s x h l =
     )
 
 value_unambiguous : (value r x v : List ℕ) → IsValue value r v → Ends r x
-    → IsUnambiguousAt in_tag (value ++ (r ++ x))
-    → IsUnambiguousAt in_tag v
-value_unambiguous value r x v (inl h) n k =
-    rw h.1 (record { line_feeds = refl; no_null = refl; references_end = refl })
+    → IsUnambiguousAt in_tag (value ++ (r ++ x)) → IsUnambiguousAt in_tag v
+value_unambiguous value r x v (inl h) n k = rw h.1 (record { line_feeds = refl; no_null = refl; references_end = refl })
 value_unambiguous value r x v (inr (inl h)) n k =
     let e : value ++ (r ++ x) ≡ h.0 ++ (h.1 ∷ (v ++ (h.1 ∷ (r ++ x)))) =
     ap (λ (y : List ℕ). y ++ (r ++ x)) h.2 ∙ append_assoc h.0 (h.1 ∷ (v ++ h.1 ∷ [])) (r ++ x)
@@ -300,22 +286,18 @@ value_unambiguous value r x v (inr (inl h)) n k =
     (unambiguous_back h.0 (h.1 ∷ (v ++ (h.1 ∷ (r ++ x)))) (subst (IsUnambiguousAt in_tag) e k)) in
     unambiguous_front v (h.1 ∷ (r ++ x)) m (ap not q.0) q.1 q.2
   where
-    quote : {q : ℕ} → (q ≡ 34) ⊎ (q ≡ 39)
-        → (is_ascii_alphanumeric q ≡ false) × ((q == 59) ≡ false)
+    quote : {q : ℕ} → (q ≡ 34) ⊎ (q ≡ 39) → (is_ascii_alphanumeric q ≡ false) × ((q == 59) ≡ false)
         × (((q == 61) || is_ascii_alphanumeric q) ≡ false)
     quote (inl e) = rw e (refl, refl, refl)
     quote (inr e) = rw e (refl, refl, refl)
 value_unambiguous value r x v (inr (inr h)) n k =
-    let e : value ++ (r ++ x) ≡ h.0 ++ (v ++ (r ++ x)) =
-    ap (λ (y : List ℕ). y ++ (r ++ x)) h.1 ∙ append_assoc h.0 v (r ++ x) in
+    let e = ap (λ (y : List ℕ). y ++ (r ++ x)) h.1 ∙ append_assoc h.0 v (r ++ x) in
     unambiguous_front v (r ++ x) (unambiguous_back h.0 (v ++ (r ++ x)) (subst (IsUnambiguousAt in_tag) e k)) n.letter
     n.semicolon n.further
 
 values_same : (spelled : List AttributePair) (present : Bool) (s x : List ℕ) (attributes : List AttributePair)
     → IsTagRest spelled present s → IsUnambiguousAt in_tag (s ++ x) → decode_values named_characters spelled
-    ≡ Some
-    attributes
-    → map valued spelled ≡ attributes
+    ≡ Some attributes → map valued spelled ≡ attributes
 values_same [] present s x attributes h k e = nothing e
   where
     nothing : ◌≡◌ {A = Option (List AttributePair)} (Some []) (Some attributes) → [] ≡ attributes
@@ -345,36 +327,24 @@ name_lower name e =
     no_null : (b : ℕ) → is_tag_name_byte b ≡ true → not (b == 0) ≡ true
     no_null b e = grind (arith, nat_tests)
 
-tag_name_bytes : (name : List ℕ) → is_tag_name name ≡ true → list_all is_tag_name_byte name ≡ true
-tag_name_bytes [] e = absurd (cc)
-tag_name_bytes (b ∷ s) e =
-    let k = and_parts (is_ascii_alphabetic b) (list_all is_tag_name_byte s) e in
-    rw (letter b k.0, k.1) refl
-  where
-    letter : (b : ℕ) → is_ascii_alphabetic b ≡ true → is_tag_name_byte b ≡ true
-    letter b e = grind (arith, nat_tests)
-
 abbrev read : TokenValue → List ℕ → Read
 read token rest = record { token = token; rest = rest }
 
 -- a tag from its name on
 pub tag_read : (kind : TagValue → TokenValue) (name n : List ℕ) (spelled attributes : List AttributePair)
-    (present : Bool) (s x : List ℕ)
-    → is_tag_name name ≡ true → map to_ascii_lowercase name ≡ n → IsTagRest spelled present s
-    → IsUnambiguousAt in_tag (s ++ x)
+    (present : Bool) (s x : List ℕ) → is_tag_name name ≡ true → map to_ascii_lowercase name ≡ n
+    → IsTagRest spelled present s → IsUnambiguousAt in_tag (s ++ x)
     → decode_values named_characters spelled ≡ Some attributes → are_distinct (attribute_names spelled) ≡ true
     → tag_from_name kind (name ++ (s ++ x)) ≡ read (kind (tag_named n attributes present)) x
 tag_read kind name n spelled attributes present s x t l h k d distinct =
-    let bytes = tag_name_bytes name t in
+    let bytes = name_bytes name t in
     let ends = rest_ends spelled present s x h in
     let c = front_cut is_name_byte name (s ++ x) (all_pass is_tag_name_byte is_name_byte name name_byte bytes)
     ends.name in
     let long : length spelled < suc (length (s ++ x)) =
     omega (arith, rest_length spelled present s h, length-append s x) in
     let f = form_read spelled present (suc (length (s ++ x))) s x h long in
-    let keys : are_distinct (attribute_names attributes) ≡ true =
-    ap are_distinct (sym (decoded_names named_characters spelled attributes d)) ∙ distinct in
+    let keys = ap are_distinct (sym (decoded_names named_characters spelled attributes d)) ∙ distinct in
     let all : attributes_of f.0 ≡ attributes =
     ap (firsts []) (f.2 ∙ values_same spelled present s x attributes h k d) ∙ sym (distinct_firsts attributes keys)
-    in
-    rw (c.0, c.1, f.1) (rw (name_lower name bytes, l, all) refl)
+    in rw (c.0, c.1, f.1) (rw (name_lower name bytes, l, all) refl)

@@ -2,7 +2,7 @@
 use Rattle.std.proofs.Common.{◌≡◌, ℕ, Bool, true, false, List, [], ◌∷◌, ◌++◌, refl, sym, ap, ◌∙◌, subst}
 use Rattle.std.specs.Prelude.{◌==◌}
 use Rattle.htmd_grammar.proofs.Cases.{test}
-use Rattle.htmd_html5_tokens.specs.Tokens.{TagValue, TokenValue, start_tag, end_tag, text, comment, doctype, end_of_file}
+use Rattle.htmd_html5_tokens.specs.Tokens.{TagValue, TokenValue, end_tag, text}
 use Rattle.htmd_grammar.specs.declared.content_model.ContentModel.TheVariants.{Normal}
 use Rattle.htmd_html5_state.specs.Foreign.{current_is_html}
 use Rattle.htmd_html5_state.specs.State.{StateValue}
@@ -107,8 +107,4 @@ module _ (z : Bool) where
         → Through s (after_feed xs ++ (end_tag tag ∷ [])) new → Through (skips s) (xs ++ (end_tag tag ∷ [])) new
     skip_run [] tag new r = as_before (end_tag tag) [] new refl r
     skip_run (text u ∷ ys) tag new r = after_text u ys (end_tag tag) new r
-    skip_run (start_tag x ∷ ys) tag new r = as_before (start_tag x) (ys ++ (end_tag tag ∷ [])) new refl r
-    skip_run (end_tag x ∷ ys) tag new r = as_before (end_tag x) (ys ++ (end_tag tag ∷ [])) new refl r
-    skip_run (comment u ∷ ys) tag new r = as_before (comment u) (ys ++ (end_tag tag ∷ [])) new refl r
-    skip_run (doctype q ∷ ys) tag new r = as_before (doctype q) (ys ++ (end_tag tag ∷ [])) new refl r
-    skip_run (end_of_file ∷ ys) tag new r = as_before end_of_file (ys ++ (end_tag tag ∷ [])) new refl r
+    skip_run (x ∷ ys) tag new r = as_before x (ys ++ (end_tag tag ∷ [])) new refl r

@@ -1,7 +1,6 @@
 -- Each piece of a text of the strict grammar is one token: a start tag, an end tag, a comment, a text.
-use Rattle.std.proofs.Common.{◌≡◌, ◌≢◌, ℕ, Bool, true, false, not, ◌&&◌, ◌||◌, List, [], ◌∷◌, ◌++◌}
-use Rattle.std.proofs.Common.{drop, Some, refl, sym, ap, ◌∙◌, arith, inl, inr, codes}
-use Rattle.std.proofs.Common.{append_assoc, subst}
+use Rattle.std.proofs.Common.{◌≡◌, ◌≢◌, ℕ, Bool, true, false, not, ◌&&◌, ◌||◌, List, [], ◌∷◌, ◌++◌, drop, Some, refl}
+use Rattle.std.proofs.Common.{sym, ap, ◌∙◌, arith, inl, inr, codes, append_assoc, subst}
 use Rattle.std.specs.Prelude.{◌==◌, option_map}
 use Rattle.std.specs.Char.{is_ascii_alphabetic}
 use Rattle.std.proofs.lemmas.Bool.{and_parts, or_parts, or_from, not-true, eqb-true}
@@ -75,8 +74,7 @@ pub start_read : (tag n x : List ℕ) (attributes : List AttributePair) → IsSt
     × (slash ≡ true → is_void n ≡ true) × (next.begins_markup (tag ++ x) ≡ true)
 start_read tag n x attributes h k =
     let f = h.2 in
-    let e : tag ++ x ≡ 60 ∷ (f.0 ++ (f.1 ++ x)) =
-    ap (λ (y : List ℕ). y ++ x) f.2 ∙ ap (λ (y : List ℕ). 60 ∷ y) (append_assoc f.0 f.1 x) in
+    let e = ap (λ (y : List ℕ). y ++ x) f.2 ∙ ap (λ (y : List ℕ). 60 ∷ y) (append_assoc f.0 f.1 x) in
     let m = unambiguous_back f.0 (f.1 ++ x) (unambiguous_back (60 ∷ []) (f.0 ++ (f.1 ++ x))
     (subst (IsUnambiguousAt in_tag) e k)) in
     let w = name_next f.0 (f.1 ++ x) f.3 in (
@@ -90,12 +88,10 @@ start_read tag n x attributes h k =
 -- and so is an end tag
 pub end_read : (tag n x : List ℕ) → IsEndTag tag n → IsUnambiguousAt in_tag (tag ++ x)
     → (next_token Normal false (tag ++ x) ≡ read (end_tag (tag_named n [] false)) x)
-    × (next.begins_markup (tag ++ x) ≡ true)
-    × ((t : List ℕ) × (tag ++ x ≡ 60 ∷ t))
+    × (next.begins_markup (tag ++ x) ≡ true) × ((t : List ℕ) × (tag ++ x ≡ 60 ∷ t))
 end_read tag n x h k =
     let gap : List ℕ = h.1 ++ 62 ∷ [] in
-    let e : tag ++ x ≡ 60 ∷ 47 ∷ (h.0 ++ (gap ++ x)) =
-    ap (λ (y : List ℕ). y ++ x) h.2 ∙ ap (λ (y : List ℕ). 60 ∷ 47 ∷ y) (append_assoc h.0 gap x) in
+    let e = ap (λ (y : List ℕ). y ++ x) h.2 ∙ ap (λ (y : List ℕ). 60 ∷ 47 ∷ y) (append_assoc h.0 gap x) in
     let m = unambiguous_back h.0 (gap ++ x) (unambiguous_back (60 ∷ 47 ∷ []) (h.0 ++ (gap ++ x))
     (subst (IsUnambiguousAt in_tag) e k)) in
     let w = name_next h.0 (gap ++ x) h.3 in (
@@ -111,8 +107,7 @@ pub raw_end_read : (tag n x : List ℕ) → IsEndTag tag n → IsUnambiguousAt i
     (tag_from_name end_tag s ≡ read (end_tag (tag_named n [] false)) x)
 raw_end_read tag n x h k =
     let gap : List ℕ = h.1 ++ 62 ∷ [] in
-    let e : tag ++ x ≡ 60 ∷ 47 ∷ (h.0 ++ (gap ++ x)) =
-    ap (λ (y : List ℕ). y ++ x) h.2 ∙ ap (λ (y : List ℕ). 60 ∷ 47 ∷ y) (append_assoc h.0 gap x) in
+    let e = ap (λ (y : List ℕ). y ++ x) h.2 ∙ ap (λ (y : List ℕ). 60 ∷ 47 ∷ y) (append_assoc h.0 gap x) in
     let m = unambiguous_back h.0 (gap ++ x) (unambiguous_back (60 ∷ 47 ∷ []) (h.0 ++ (gap ++ x))
     (subst (IsUnambiguousAt in_tag) e k)) in (
       h.0 ++ (gap ++ x),
@@ -164,18 +159,14 @@ not_ended : (b c d f : ℕ) (s : List ℕ) → begins_with (codes "-->") (b ∷ 
     (b ∷ c ∷ d ∷ f ∷ s) ≡ false
 not_ended b c d f s e g =
     or_from (begins_with (codes "-->") (b ∷ c ∷ d ∷ f ∷ s) || begins_with (codes "--!>")
-    (b ∷ c ∷ d ∷ f ∷ s)) _
-    (or_from (begins_with (codes "-->") (b ∷ c ∷ d ∷ f ∷ s))
-    (begins_with (codes "--!>") (b ∷ c ∷ d ∷ f ∷ s)) e g)
-    (too_long b c d f s)
+    (b ∷ c ∷ d ∷ f ∷ s)) _ (or_from (begins_with (codes "-->") (b ∷ c ∷ d ∷ f ∷ s))
+    (begins_with (codes "--!>") (b ∷ c ∷ d ∷ f ∷ s)) e g) (too_long b c d f s)
   where
     too_long : (b c d f : ℕ) (s : List ℕ)
         → is_among (codes "-" ∷ codes "--" ∷ codes "--!" ∷ []) (b ∷ c ∷ d ∷ f ∷ s) ≡ false
     too_long b c d f s =
-        test (b == 45)
-        (λ t. test (c == 45) (λ q. test (d == 33) (λ x. rw (t, q, x) refl) (λ x. rw (t, q, x) refl))
-        (λ q. rw (t, q) refl))
-        (λ t. rw t refl)
+        test (b == 45) (λ t. test (c == 45) (λ q. test (d == 33) (λ x. rw (t, q, x) refl) (λ x. rw (t, q, x) refl))
+        (λ q. rw (t, q) refl)) (λ t. rw t refl)
 
 goes_on : (b : ℕ) (u rest : List ℕ) → begins_with (codes "-->") (b ∷ (u ++ codes "-->")) ≡ false
     → begins_with (codes "--!>") (b ∷ u) ≡ false → ends_comment (b ∷ (u ++ (codes "-->" ++ rest))) ≡ false
@@ -186,16 +177,13 @@ goes_on b (c ∷ []) rest e g =
     not_ended b c 45 45 (62 ∷ rest) e
     (test (b == 45) (λ t. test (c == 45) (λ q. rw (t, q) refl) (λ q. rw (t, q) refl)) (λ t. rw t refl))
 goes_on b (c ∷ d ∷ []) rest e g =
-    not_ended b c d 45 (45 ∷ 62 ∷ rest) e
-    (test (b == 45)
+    not_ended b c d 45 (45 ∷ 62 ∷ rest) e (test (b == 45)
     (λ t. test (c == 45) (λ q. test (d == 33) (λ x. rw (t, q, x) refl) (λ x. rw (t, q, x) refl))
-    (λ q. rw (t, q) refl))
-    (λ t. rw t refl))
+    (λ q. rw (t, q) refl)) (λ t. rw t refl))
 goes_on b (c ∷ d ∷ f ∷ u) rest e g = not_ended b c d f (u ++ (codes "-->" ++ rest)) e g
 
 comment_run : (u rest : List ℕ) → before_comment_end (u ++ codes "-->") ≡ cut u [] → holds (codes "--!>")
-    u ≡ false
-    → (up_to ends_comment (u ++ (codes "-->" ++ rest)) ≡ u)
+    u ≡ false → (up_to ends_comment (u ++ (codes "-->" ++ rest)) ≡ u)
     × (onward ends_comment (u ++ (codes "-->" ++ rest)) ≡ codes "-->" ++ rest)
 comment_run [] rest e g = (refl, refl)
 comment_run (b ∷ u) rest e g =
@@ -262,8 +250,7 @@ no_piece : (b : ℕ) (s : List ℕ) → strict.begins_markup (b ∷ s) ≡ false
     (b ∷ s) ≡ false
 no_piece b [] e = test (b == 60) (λ t. rw t refl) (λ t. rw t refl)
 no_piece b (c ∷ s) e =
-    test (b == 60)
-    (λ t. test (c == 47) (λ q. absurd (slash c q (rw t at e))) (λ q. rw (t, q) refl))
+    test (b == 60) (λ t. test (c == 47) (λ q. absurd (slash c q (rw t at e))) (λ q. rw (t, q) refl))
     (λ t. rw t refl)
   where
     slash : (c : ℕ) → (c == 47) ≡ true → (is_ascii_alphabetic c || (c == 47) || (c == 33) ||

@@ -1,8 +1,9 @@
 -- Lists whose elements stand in another, in the same order.
-use Rattle.std.proofs.Common.{◌≡◌, ◌∙◌, ℕ, zero, suc, ◌+◌, ◌≤◌, List, [], ◌∷◌, ◌++◌}
-use Rattle.std.proofs.Common.{length, refl, sym, ap, subst, arith, cond, inl, inr, ◌⊎◌}
+use Rattle.std.proofs.Common.{◌≡◌, ◌∙◌, ℕ, zero, suc, ◌+◌, ◌≤◌, List, [], ◌∷◌, ◌++◌, length, refl, sym, ap, subst}
+use Rattle.std.proofs.Common.{arith, cond, inl, inr, ◌⊎◌}
 use Rattle.std.specs.Prelude.{◌==◌}
 use Rattle.std.proofs.lemmas.Bool.{eq-eqb}
+use Rattle.std.proofs.lemmas.List.{append-nil}
 
 -- ---- sublists
 
@@ -30,13 +31,8 @@ sub_both (x ∷ xs) ys [] vs h g = absurd h
 sub_both (x ∷ xs) ys (u ∷ us) vs (inl h) g = inl (h.0, sub_both xs ys us vs h.1 g)
 sub_both (x ∷ xs) ys (u ∷ us) vs (inr h) g = inr (sub_both (x ∷ xs) ys us vs h g)
 
-pub append_nil : (xs : List ℕ) → xs ++ [] ≡ xs
-append_nil [] = refl
-append_nil (x ∷ xs) = ap (λ (l : List ℕ). x ∷ l) (append_nil xs)
-
 pub sub_after : (xs ys zs : List ℕ) → Sub xs ys → Sub xs (ys ++ zs)
-sub_after xs ys zs h =
-    subst (λ (l : List ℕ). Sub l (ys ++ zs)) (append_nil xs) (sub_both xs [] ys zs h tt)
+sub_after xs ys zs h = subst (λ (l : List ℕ). Sub l (ys ++ zs)) (append-nil xs) (sub_both xs [] ys zs h tt)
 
 -- ---- with as many of each
 
@@ -100,8 +96,7 @@ window_split (suc a) (suc b) (suc c) (x ∷ l) h g = window_split a b c l (omega
 pub sub_wider : (xs l : List ℕ) (a b a' b' : ℕ) → a' ≤ a → a ≤ b → b ≤ b' → Sub xs (window a b l)
     → Sub xs (window a' b' l)
 sub_wider xs l a b a' b' h g k s =
-    subst (Sub xs) (sym (window_split a' a b' l h (omega arith)))
-    (sub_front xs (window a' a l) (window a b' l)
+    subst (Sub xs) (sym (window_split a' a b' l h (omega arith))) (sub_front xs (window a' a l) (window a b' l)
     (subst (Sub xs) (sym (window_split a b b' l g k)) (sub_after xs (window a b l) (window b b' l) s)))
 
 -- one after another
@@ -117,8 +112,7 @@ window_grown zero zero l more h = refl
 window_grown (suc a) zero l more h = refl
 window_grown zero (suc b) [] more h = absurd (omega arith)
 window_grown (suc a) (suc b) [] more h = absurd (omega arith)
-window_grown zero (suc b) (x ∷ l) more h =
-    ap (λ (z : List ℕ). x ∷ z) (window_grown zero b l more (omega arith))
+window_grown zero (suc b) (x ∷ l) more h = ap (λ (z : List ℕ). x ∷ z) (window_grown zero b l more (omega arith))
 window_grown (suc a) (suc b) (x ∷ l) more h = window_grown a b l more (omega arith)
 
 window_whole : (l : List ℕ) → window zero (length l) l ≡ l

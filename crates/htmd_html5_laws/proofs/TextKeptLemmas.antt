@@ -5,7 +5,8 @@ use Rattle.std.specs.Prelude.{filter}
 use Rattle.std.specs.Str.{chars}
 use Rattle.htmd_html5.specs.Html5Documents.{html5_document}
 use Rattle.htmd_html5_laws.specs.PageLetters.{texts_of}
-use Rattle.htmd_html5_laws.specs.TextKept.{is_kept, kept_texts, characters_of, characters_in, TextIsKept, all_characters, WholeTextIsKept}
+use Rattle.htmd_html5_laws.specs.TextKept.{is_kept, kept_texts, characters_of, characters_in, TextIsKept}
+use Rattle.htmd_html5_laws.specs.TextKept.{all_characters, WholeTextIsKept}
 use Rattle.htmd_html5_laws.proofs.Counted.{Choice, counted_of, counted_in}
 use Rattle.htmd_html5_laws.proofs.CountedOrder.{counted_in_order}
 
@@ -29,8 +30,7 @@ pub text_kept : TextIsKept
 text_kept scripting page u e early =
     sym (same_characters (texts_of (html5_document scripting page)))
     ∙ (counted_in_order kept_choice scripting page u e (λ z. early) (λ z. absurd (true≢false z))
-    ∙ same_characters
-    (kept_texts scripting page))
+    ∙ same_characters (kept_texts scripting page))
 
 -- ---- without U+0000
 

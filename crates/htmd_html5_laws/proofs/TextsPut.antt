@@ -1,12 +1,12 @@
 -- What texts hold when more is put into them.
-use Rattle.std.proofs.Common.{◌≡◌, ◌∙◌, ℕ, zero, suc, ◌+◌, List, [], ◌∷◌, ◌++◌, get_or, set}
-use Rattle.std.proofs.Common.{refl, sym, ap, subst, arith, All, cond}
+use Rattle.std.proofs.Common.{◌≡◌, ◌∙◌, ℕ, zero, suc, ◌+◌, List, [], ◌∷◌, ◌++◌, get_or, set, refl, sym, ap, subst}
+use Rattle.std.proofs.Common.{arith, All, cond}
 use Rattle.std.specs.Prelude.{IsUtf8, count_by}
 use Rattle.std.specs.Str.{chars}
 use Rattle.std.proofs.lemmas.List.Sums.{sum_by-cons, sum_by-append, sum_by_push}
 use Rattle.std.proofs.lemmas.List.Elements.{All-nil, All-cons, All-head, All-tail, All-append}
 use Rattle.std.proofs.lemmas.Str.{chars-append, chars-nil, IsUtf8-append}
-use Rattle.htmd_html5_state.specs.Nodes.{KindValue, document, doctype, text, comment, element}
+use Rattle.htmd_html5_state.specs.Nodes.{KindValue, document, text}
 use Rattle.htmd_html5_laws.specs.PageLetters.{occurrences, occurrences_in, is_character}
 use Rattle.htmd_html5_laws.proofs.NodeTexts.{texts, with_text}
 
@@ -30,10 +30,7 @@ occurs_cons c t ts = sum_by-cons (occurrences c) t ts
 with_push : (k : KindValue) (ts : List (List ℕ)) (t : List ℕ) → with_text k (ts ++ t ∷ []) ≡ with_text k ts
     ++ t ∷ []
 with_push (text s) ts t = refl
-with_push document ts t = refl
-with_push doctype ts t = refl
-with_push (comment s) ts t = refl
-with_push (element name attributes) ts t = refl
+with_push _ ts t = refl
 
 texts_push : (ks : List KindValue) (t : List ℕ) → texts (ks ++ text t ∷ []) ≡ texts ks ++ t ∷ []
 texts_push [] t = refl
@@ -72,20 +69,14 @@ grown_in_text c (text s) before t ks e u all = record {
     front : IsUtf8 before
     front = subst IsUtf8 same (All-head IsUtf8 s (texts ks) all)
 grown_in_text c document before t ks e u all = absurd (cc)
-grown_in_text c doctype before t ks e u all = absurd (cc)
-grown_in_text c (comment s) before t ks e u all = absurd (cc)
-grown_in_text c (element name attributes) before t ks e u all = absurd (cc)
+grown_in_text c _ before t ks e u all = absurd (cc)
 
 pub all_under : (k : KindValue) (ts : List (List ℕ)) → All IsUtf8 (with_text k ts) → All IsUtf8 ts
 all_under (text s) ts all = All-tail IsUtf8 s ts all
-all_under document ts all = all
-all_under doctype ts all = all
-all_under (comment s) ts all = all
-all_under (element name attributes) ts all = all
+all_under _ ts all = all
 
 grown_under : (c n : ℕ) (k : KindValue) (ks new : List KindValue) → All IsUtf8 (texts (k ∷ ks))
-    → Grown c n ks new
-    → Grown c n (k ∷ ks) (k ∷ new)
+    → Grown c n ks new → Grown c n (k ∷ ks) (k ∷ new)
 grown_under c n (text s) ks new all g = record {
   grows =
       let a = occurs_cons c s (texts ks) in
@@ -95,13 +86,10 @@ grown_under c n (text s) ks new all g = record {
   utf8 = All-cons IsUtf8 s (texts new) (All-head IsUtf8 s (texts ks) all) g.utf8;
 }
 grown_under c n document ks new all g = record { grows = g.grows; utf8 = g.utf8 }
-grown_under c n doctype ks new all g = record { grows = g.grows; utf8 = g.utf8 }
-grown_under c n (comment s) ks new all g = record { grows = g.grows; utf8 = g.utf8 }
-grown_under c n (element name attributes) ks new all g = record { grows = g.grows; utf8 = g.utf8 }
+grown_under c n _ ks new all g = record { grows = g.grows; utf8 = g.utf8 }
 
 pub grown_at : (c : ℕ) (ks : List KindValue) (n : ℕ) (before t : List ℕ) → get_or ks n document ≡ text before
-    → IsUtf8 t
-    → All IsUtf8 (texts ks) → Grown c (occurrences c t) ks (set ks n (text (before ++ t)))
+    → IsUtf8 t → All IsUtf8 (texts ks) → Grown c (occurrences c t) ks (set ks n (text (before ++ t)))
 grown_at c [] n before t e u all = absurd (cc)
 grown_at c (k ∷ ks) zero before t e u all = grown_in_text c k before t ks e u all
 grown_at c (k ∷ ks) (suc n) before t e u all =

@@ -4,31 +4,30 @@ use Rattle.std.proofs.Common.{refl, sym, ap, arith, inl, inr, ◌⊎◌}
 use Rattle.std.specs.Prelude.{if◌then◌else◌, ◌&&◌, not, codes}
 use Rattle.std.specs.List.{list_all}
 use Rattle.std.specs.Str.{bytes_eq}
-use Rattle.std.proofs.lemmas.Bool.{true≢false, and_parts, or_left, or_right}
+use Rattle.std.proofs.lemmas.Bool.{true≢false, and_parts, cond_both, or_left, or_right, not-true}
 use Rattle.htmd_grammar.specs.WhiteSpace.{is_ascii_white_space}
 use Rattle.htmd_grammar.specs.CharacterClasses.{is_empty}
 use Rattle.htmd_html5_tokens.specs.Preprocessing.{preprocessed}
 use Rattle.htmd_html5_tokens.specs.Tokens.{Read}
-use Rattle.htmd_html5_state.specs.Names.{NameValue, known, other, spelling, names_with, is_spelled, known_or, known_name}
-use Rattle.htmd_html5_state.specs.Names.{name_of_text}
+use Rattle.htmd_html5_state.specs.Names.{NameValue, known, spelling, names_with, is_spelled, known_or}
+use Rattle.htmd_html5_state.specs.Names.{known_name, name_of_text}
 use Rattle.htmd_html5_state.specs.OpenElements.{OpenValue, pop}
 use Rattle.htmd_html5_state.specs.State.{StateValue, initial_state}
 use Rattle.htmd_html5_state.specs.Insertion.{insert_text}
 use Rattle.htmd_html5_state.specs.declared.modes.InsertionMode.{InsertionMode}
-use Rattle.htmd_html5_state.specs.declared.modes.InsertionMode.TheVariants.{InColumnGroup, InTemplate, InFrameset}
-use Rattle.htmd_html5_state.specs.declared.modes.InsertionMode.TheVariants.{AfterFrameset, AfterAfterFrameset}
+use Rattle.htmd_html5_state.specs.declared.modes.InsertionMode.TheVariants.{InColumnGroup}
 use Rattle.htmd_html5_state.specs.declared.names.TagName.{TagName}
 use Rattle.htmd_html5.specs.Tokens.{StartTagValue, TokenValue, start_tag, end_tag, run, comment, doctype, end_of_file}
 use Rattle.htmd_html5.specs.Outcomes.{Outcome}
 use Rattle.htmd_html5.specs.Processing.{by_rules, turns, after_outcome, process_within, process}
 use Rattle.htmd_html5.specs.Runs.{first_run, after_first_run}
-use Rattle.htmd_html5.specs.InTable.{without_nulls, foster_runs, put_table_text, table_text}
-use Rattle.htmd_html5.specs.Texts.{Taken, is_table_mode, takes_all, taken, after_run, first_token, take_within, take_part}
-use Rattle.htmd_html5.specs.Texts.{put_within, put_text}
-use Rattle.htmd_html5.specs.Feeding.{is_text_mode, put_raw_text, feed_text, without_line_feed, with_nothing_skipped}
+use Rattle.htmd_html5.specs.InTable.{without_nulls, foster_runs, put_table_text}
+use Rattle.htmd_html5.specs.Texts.{Taken, is_table_mode, takes_all, first_token, take_within, take_part, put_within}
+use Rattle.htmd_html5.specs.Feeding.{is_text_mode, feed_text, without_line_feed, with_nothing_skipped}
 use Rattle.htmd_html5.specs.Feeding.{close_raw, out_of_text_mode, feed_end_tag, named, feed_at, feed}
 use Rattle.htmd_html5.specs.Html5Documents.{next_read, is_end, after_token, read_within, state_after}
 use Rattle.htmd_html5_laws.specs.DocumentLetters.{drops_in, drops_text, is_taken, taken_after, taken_within}
+use Rattle.htmd_html5_laws.specs.DocumentLetters.{all_texts_are_taken}
 use Rattle.htmd_html5_laws.specs.DroppedTexts.{drops_text_in, drops_no_text, tokens_after, tokens_within}
 use Rattle.htmd_html5_laws.specs.DroppedTexts.{no_tag_drops_text, HarmlessTextsAreTaken}
 use Rattle.htmd_html5_laws.proofs.FedTokens.{initial_sound}
@@ -38,7 +37,8 @@ use Rattle.htmd_html5_state.specs.Nodes.{document, new_node, kind_at}
 use Rattle.htmd_html5_laws.proofs.OpenNodes.{pop_fewer}
 use Rattle.htmd_html5_laws.proofs.PlainNames.{is_plain_name, is_plain_open}
 use Rattle.htmd_html5_laws.proofs.HungStates.{Hung, hung_fewer, hung_text}
-use Rattle.htmd_html5_laws.proofs.PlainStates.{is_plain_mode, Plain, Stays, then_stays, still, stays_by_test, plain_stack}
+use Rattle.htmd_html5_laws.proofs.PlainStates.{is_plain_mode, Plain, Stays, then_stays, still, stays_by_test}
+use Rattle.htmd_html5_laws.proofs.PlainStates.{plain_stack}
 use Rattle.htmd_html5_laws.proofs.PlainRules.{fostered_stays}
 use Rattle.htmd_html5_laws.proofs.PlainModes.{IsPlain, by_rules_stays}
 use Rattle.htmd_html5_laws.proofs.PlainRuns.{insert_text_stays, run_in_body_stays, run_stays}
@@ -79,24 +79,16 @@ safe_name s d = by_found (known_name s) refl
 
 after_stands : (go : StateValue → StateValue) (a : Outcome) → ((s : StateValue) → Stands s → Stands (go s))
     → Stands a.state → Stands (after_outcome go a)
-after_stands go a more h = either a.again
-  where
-    either : (b : Bool) → Stands (if b then go a.state else a.state)
-    either true = more a.state h
-    either false = h
+after_stands go a more h = cond_both a.again _ _ Stands (λ t. more a.state h) (λ t. h)
 
 free_name : (name : NameValue) → is_plain_name name ≡ true → IsFreeName name
 free_name (known tags.Template) p = absurd (true≢false (sym p))
-free_name (known _) p = tt
-free_name (other s) p = tt
+free_name _ p = tt
 
 is_free : (t : TokenValue) → IsPlain t → IsFree t
 is_free (run kind s) p = p
 is_free (start_tag tag) p = free_name tag.name p
-is_free (end_tag name) p = tt
-is_free (comment s) p = tt
-is_free (doctype quirks) p = tt
-is_free end_of_file p = tt
+is_free _ p = tt
 
 plain_token_stands : (t : TokenValue) (s : StateValue) → IsPlain t → Stands s → Stands (by_rules t s).state
 plain_token_stands t s p (is_plain_state h x) =
@@ -110,35 +102,27 @@ plain_within (suc k) t s p h =
 
 column_free : (name : NameValue) → IsColumn name → IsFreeName name
 column_free (known tags.Template) c = c
-column_free (known _) c = tt
-column_free (other s) c = tt
+column_free _ c = tt
 
 column_answered : (tag : StartTagValue) (s : StateValue) → IsColumn tag.name → is_text_mode s.content ≡ false
     → Stands s → Answered (by_rules (start_tag tag) s)
 column_answered tag s c no_raw (is_plain_state h x) = column_tag_answered tag s h x no_raw c
-column_answered tag s c no_raw (is_in_columns h x) =
-    columns_answered (start_tag tag) s (column_free tag.name c) h x
+column_answered tag s c no_raw (is_in_columns h x) = columns_answered (start_tag tag) s (column_free tag.name c) h x
 
 after_answered : (go : StateValue → StateValue) (a : Outcome)
     → ((s : StateValue) → is_text_mode s.content ≡ false → Stands s → Stands (go s)) → Answered a
     → Stands (after_outcome go a)
-after_answered go a more h = either a.again refl
-  where
-    either : (b : Bool) → a.again ≡ b → Stands (if b then go a.state else a.state)
-    either true e = more a.state (h.no_raw e) h.stands
-    either false e = h.stands
+after_answered go a more h = cond_both a.again _ _ Stands (λ t. more a.state (h.no_raw t) h.stands) (λ t. h.stands)
 
-column_within : (k : ℕ) (tag : StartTagValue) (s : StateValue) → IsColumn tag.name → is_text_mode s.content
-    ≡ false
-    → Stands s → Stands (process_within k (start_tag tag) s)
+column_within : (k : ℕ) (tag : StartTagValue) (s : StateValue) → IsColumn tag.name
+    → is_text_mode s.content ≡ false → Stands s → Stands (process_within k (start_tag tag) s)
 column_within zero tag s c no_raw h = h
 column_within (suc k) tag s c no_raw h =
     after_answered (process_within k (start_tag tag)) (by_rules (start_tag tag) s)
     (λ x raw g. column_within k tag x c raw g) (column_answered tag s c no_raw h)
 
 start_stands : (tag : StartTagValue) (s : StateValue) → Safe tag.name → is_text_mode s.content ≡ false
-    → Stands s
-    → Stands (process (start_tag tag) s)
+    → Stands s → Stands (process (start_tag tag) s)
 start_stands tag s (inl p) no_raw h = plain_within (turns s) (start_tag tag) s p h
 start_stands tag s (inr c) no_raw h = column_within (turns s) tag s c no_raw h
 
@@ -175,44 +159,22 @@ run_stands text s (is_in_columns h x) = (columns_run_answered text (first_run te
 
 take_stands : (k : ℕ) (text : List ℕ) (s : StateValue) → Stands s → Stands (take_within k text s).state
 take_stands zero text s h = h
-take_stands (suc k) text s h = either (takes_all s) refl (λ x g. take_stands k text x g)
-  where
-    after : (go : StateValue → Taken) (a : Outcome) → ((x : StateValue) → Stands x → Stands (go x).state)
-        → Stands a.state → Stands (after_run go (after_first_run text) a).state
-    after go a more g = again a.again
-      where
-        again : (b : Bool) → Stands (if b then go a.state else taken a.state (after_first_run text)).state
-        again true = more a.state g
-        again false = g
-
-    either : (b : Bool) → takes_all s ≡ b
-        → ((x : StateValue) → Stands x → Stands (take_within k text x).state)
-        → Stands (if b then taken (table_text text s) []
-        else after_run (take_within k text) (after_first_run text) (by_rules (first_token text) s)).state
-    either true e more = in_table_itself (without_nulls text) s e h
-    either false e more = after (take_within k text) (by_rules (first_token text) s) more (run_stands text s h)
+take_stands (suc k) text s h =
+    cond_both (takes_all s) _ _ (λ (x : Taken). Stands x.state) (λ t. in_table_itself (without_nulls text) s t h)
+    (λ t. cond_both (by_rules (first_token text) s).again _ _ (λ (x : Taken). Stands x.state)
+    (λ u. take_stands k text (by_rules (first_token text) s).state (run_stands text s h)) (λ u. run_stands text s h))
 
 put_stands : (k : ℕ) (text : List ℕ) (s : StateValue) → Stands s → Stands (put_within k text s)
 put_stands zero text s h = h
 put_stands (suc k) text s h =
-    either (is_empty text)
-    (put_stands k (take_part text s).rest (take_part text s).state (take_stands (turns s) text s h))
-  where
-    either : (b : Bool) → Stands (put_within k (take_part text s).rest (take_part text s).state)
-        → Stands (if b then s else put_within k (take_part text s).rest (take_part text s).state)
-    either true more = h
-    either false more = more
+    cond_both (is_empty text) _ _ Stands (λ t. h)
+    (λ t. put_stands k (take_part text s).rest (take_part text s).state (take_stands (turns s) text s h))
 
 feed_text_stands : (text : List ℕ) (s : StateValue) → Stands s → Stands (feed_text text s)
-feed_text_stands text s h = either (is_text_mode s.content)
-  where
-    raw : (b : Bool) → Stands (if b then s else insert_text text s)
-    raw true = h
-    raw false = text_stands text s h
-
-    either : (b : Bool) → Stands (if b then put_raw_text text s else put_text text s)
-    either true = raw (is_empty text)
-    either false = put_stands (length text) text s h
+feed_text_stands text s h =
+    cond_both (is_text_mode s.content) _ _ Stands
+    (λ t. cond_both (is_empty text) _ _ Stands (λ u. h) (λ u. text_stands text s h))
+    (λ t. put_stands (length text) text s h)
 
 -- ---- tokens of the tokenizer
 
@@ -228,42 +190,26 @@ record Ready (s : StateValue) : Type 0 where
   no_raw : is_text_mode s.content ≡ false
 
 out_of_text : (s : StateValue) → Stands s → Ready (out_of_text_mode s)
-out_of_text s h = either (is_text_mode s.content) refl
-  where
-    either : (b : Bool) → is_text_mode s.content ≡ b → Ready (if b then close_raw s else s)
-    either true e = record { stands = raw_closed s e h; no_raw = refl }
-    either false e = record { stands = h; no_raw = e }
+out_of_text s h =
+    cond_both (is_text_mode s.content) _ _ Ready (λ t. record { stands = raw_closed s t h; no_raw = refl })
+    (λ t. record { stands = h; no_raw = t })
 
 end_stands : (name : NameValue) (s : StateValue) → Stands s → Stands (feed_end_tag name s)
-end_stands name s h = either (is_text_mode s.content) refl
-  where
-    either : (b : Bool) → is_text_mode s.content ≡ b
-        → Stands (if b then close_raw s else process (end_tag name) s)
-    either true e = raw_closed s e h
-    either false e = plain_within (turns s) (end_tag name) s tt h
-
-dropping_none : (s : List ℕ) → not (drops_text_in s) ≡ true → drops_text_in s ≡ false
-dropping_none s e = either (drops_text_in s) e
-  where
-    either : (b : Bool) → not b ≡ true → b ≡ false
-    either true f = absurd (true≢false (sym f))
-    either false f = refl
+end_stands name s h =
+    cond_both (is_text_mode s.content) _ _ Stands (λ t. raw_closed s t h)
+    (λ t. plain_within (turns s) (end_tag name) s tt h)
 
 feed_at_stands : (token : tokens.TokenValue) (skips : Bool) (s : StateValue) → drops_no_text token ≡ true
-    → Stands s
-    → Stands (feed_at token skips s)
+    → Stands s → Stands (feed_at token skips s)
 feed_at_stands (tokens.text text) skips s e h = feed_text_stands (without_line_feed skips text) s h
 feed_at_stands (tokens.start_tag tag) skips s e h =
     let ready = out_of_text s h in
-    start_stands (named tag) (out_of_text_mode s) (safe_name tag.name (dropping_none tag.name e)) ready.no_raw
-    ready.stands
+    start_stands (named tag) (out_of_text_mode s) (safe_name tag.name (not-true (drops_text_in tag.name) e))
+    ready.no_raw ready.stands
 feed_at_stands (tokens.end_tag tag) skips s e h = end_stands (name_of_text tag.name) s h
-feed_at_stands (tokens.comment text) skips s e h =
-    plain_within (turns (out_of_text_mode s)) (comment text) (out_of_text_mode s) tt (out_of_text s h).stands
-feed_at_stands (tokens.doctype quirks) skips s e h =
-    plain_within (turns (out_of_text_mode s)) (doctype quirks) (out_of_text_mode s) tt (out_of_text s h).stands
-feed_at_stands tokens.end_of_file skips s e h =
-    plain_within (turns (out_of_text_mode s)) end_of_file (out_of_text_mode s) tt (out_of_text s h).stands
+feed_at_stands (tokens.comment text) skips s e h = plain_within _ (comment text) _ tt (out_of_text s h).stands
+feed_at_stands (tokens.doctype quirks) skips s e h = plain_within _ (doctype quirks) _ tt (out_of_text s h).stands
+feed_at_stands tokens.end_of_file skips s e h = plain_within _ end_of_file _ tt (out_of_text s h).stands
 
 feed_stands : (token : tokens.TokenValue) (s : StateValue) → drops_no_text token ≡ true → Stands s
     → Stands (feed token s)
@@ -278,11 +224,7 @@ feed_stands token s e h = feed_at_stands token s.skips_line_feed (with_nothing_s
 mode_drops_none : (mode : InsertionMode) (stack : List OpenValue) → is_plain_mode mode ≡ true
     → drops_in mode stack ≡ false
 mode_drops_none InColumnGroup stack p = absurd (true≢false (sym p))
-mode_drops_none InTemplate stack p = refl
-mode_drops_none InFrameset stack p = absurd (true≢false (sym p))
-mode_drops_none AfterFrameset stack p = absurd (true≢false (sym p))
-mode_drops_none AfterAfterFrameset stack p = absurd (true≢false (sym p))
-mode_drops_none _ stack p = refl
+mode_drops_none _ stack p = cc
 
 drops_none : (s : StateValue) → Stands s → drops_text s ≡ false
 drops_none s (is_plain_state h x) = mode_drops_none s.mode s.stack h.plain_mode
@@ -291,48 +233,40 @@ drops_none s (is_in_columns h x) =
 
 token_taken : (token : tokens.TokenValue) (s : StateValue) → Stands s → is_taken token s ≡ true
 token_taken (tokens.text text) s h = or_right (is_text_mode s.content) _ (ap not (drops_none s h))
-token_taken (tokens.start_tag tag) s h = refl
-token_taken (tokens.end_tag tag) s h = refl
-token_taken (tokens.comment text) s h = refl
-token_taken (tokens.doctype quirks) s h = refl
-token_taken tokens.end_of_file s h = refl
+token_taken _ s h = refl
 
-both : (a b : Bool) → a ≡ true → b ≡ true → (a && b) ≡ true
-both a b e f = rw (e, f) refl
-
+-- the texts are taken, and the state stands at the end
 after_taken : (k : ℕ) (read : Read) (s : StateValue)
-    → list_all drops_no_text (tokens_after (tokens_within k) read s) ≡ true
-    → Stands s
+    → list_all drops_no_text (tokens_after (tokens_within k) read s) ≡ true → Stands s
     → ((t : StateValue) → list_all drops_no_text (tokens_within k read.rest t) ≡ true → Stands t
-    → taken_within k read.rest t ≡ true)
-    → taken_after (taken_within k) read s ≡ true
-after_taken k read s e h more = either (is_end read.token) e
+    → (taken_within k read.rest t ≡ true) × Stands (read_within k read.rest t))
+    → (taken_after (taken_within k) read s ≡ true) × Stands (after_token (read_within k) read s)
+after_taken k read s e h more = either (is_end read.token) refl e
   where
-    either : (b : Bool)
-        → list_all drops_no_text
+    ends : (token : tokens.TokenValue) → is_end token ≡ true → drops_no_text token ≡ true
+    ends (tokens.start_tag tag) f = absurd (true≢false (sym f))
+    ends _ f = refl
+
+    either : (b : Bool) → is_end read.token ≡ b → list_all drops_no_text
         (if b then [] else read.token ∷ tokens_within k read.rest (feed read.token s)) ≡ true
-        → (if b then true else is_taken read.token s && taken_within k read.rest (feed read.token s)) ≡ true
-    either true f = refl
-    either false f =
+        → ((if b then true else is_taken read.token s && taken_within k read.rest (feed read.token s)) ≡ true)
+        × Stands (if b then feed read.token s else read_within k read.rest (feed read.token s))
+    either true g f = (refl, feed_stands read.token s (ends read.token g) h)
+    either false g f =
         let parts = and_parts (drops_no_text read.token)
         (list_all drops_no_text (tokens_within k read.rest (feed read.token s))) f in
-        both (is_taken read.token s) (taken_within k read.rest (feed read.token s)) (token_taken read.token s h)
-        (more (feed read.token s) parts.1 (feed_stands read.token s parts.0 h))
+        let later = more (feed read.token s) parts.1 (feed_stands read.token s parts.0 h) in
+        (rw (token_taken read.token s h, later.0) refl, later.1)
 
 all_taken : (k : ℕ) (page : List ℕ) (s : StateValue) → list_all drops_no_text (tokens_within k page s) ≡ true
-    → Stands s
-    → taken_within k page s ≡ true
-all_taken zero page s e h = refl
+    → Stands s → (taken_within k page s ≡ true) × Stands (read_within k page s)
+all_taken zero page s e h = (refl, feed_stands tokens.end_of_file s refl h)
 all_taken (suc k) page s e h =
     after_taken k (next_read page s) s e h (λ t f g. all_taken k (next_read page s).rest t f g)
 
 pub begins_plain : (scripting : Bool) → Plain (initial_state scripting)
-begins_plain scripting = record {
-  names = tt;
-  entries_at = λ n l. absurd (true≢false (sym l));
-  plain_mode = refl;
-  no_modes = refl;
-}
+begins_plain scripting =
+    record { names = tt; entries_at = λ n l. absurd (true≢false (sym l)); plain_mode = refl; no_modes = refl }
 
 pub begins_hung : (scripting : Bool) → Hung (initial_state scripting)
 begins_hung scripting = record {
@@ -355,50 +289,20 @@ begins_hung scripting = record {
     no_head : (n : ℕ) → None ≡ Some n → ⊥
     no_head n e = cc
 
-pub harmless_taken : HarmlessTextsAreTaken
-harmless_taken scripting page e =
+all_harmless : (scripting : Bool) (page : List ℕ) → no_tag_drops_text scripting page ≡ true
+    → (all_texts_are_taken scripting page ≡ true) × Stands (state_after scripting page)
+all_harmless scripting page e =
     all_taken (length (preprocessed page)) (preprocessed page) (initial_state scripting) e
     (is_plain_state (begins_plain scripting) (begins_hung scripting))
 
+pub harmless_taken : HarmlessTextsAreTaken
+harmless_taken scripting page e = (all_harmless scripting page e).0
+
 -- ---- each hangs at the end
-
-after_stand : (k : ℕ) (read : Read) (s : StateValue)
-    → list_all drops_no_text (tokens_after (tokens_within k) read s) ≡ true
-    → Stands s
-    → ((t : StateValue) → list_all drops_no_text (tokens_within k read.rest t) ≡ true → Stands t
-    → Stands (read_within k read.rest t))
-    → Stands (after_token (read_within k) read s)
-after_stand k read s e h more = either (is_end read.token) refl e
-  where
-    ends : (token : tokens.TokenValue) → is_end token ≡ true → drops_no_text token ≡ true
-    ends (tokens.text text) f = refl
-    ends (tokens.start_tag tag) f = absurd (true≢false (sym f))
-    ends (tokens.end_tag tag) f = refl
-    ends (tokens.comment text) f = refl
-    ends (tokens.doctype quirks) f = refl
-    ends tokens.end_of_file f = refl
-
-    either : (b : Bool) → is_end read.token ≡ b
-        → list_all drops_no_text
-        (if b then [] else read.token ∷ tokens_within k read.rest (feed read.token s)) ≡ true
-        → Stands (if b then feed read.token s else read_within k read.rest (feed read.token s))
-    either true g f = feed_stands read.token s (ends read.token g) h
-    either false g f =
-        let parts = and_parts (drops_no_text read.token)
-        (list_all drops_no_text (tokens_within k read.rest (feed read.token s))) f in
-        more (feed read.token s) parts.1 (feed_stands read.token s parts.0 h)
-
-read_stands : (k : ℕ) (page : List ℕ) (s : StateValue) → list_all drops_no_text (tokens_within k page s) ≡ true
-    → Stands s → Stands (read_within k page s)
-read_stands zero page s e h = feed_stands tokens.end_of_file s refl h
-read_stands (suc k) page s e h =
-    after_stand k (next_read page s) s e h (λ t f g. read_stands k (next_read page s).rest t f g)
 
 pub harmless_hung : (scripting : Bool) (page : List ℕ) → no_tag_drops_text scripting page ≡ true
     → Hung (state_after scripting page)
-harmless_hung scripting page e =
-    hung (read_stands (length (preprocessed page)) (preprocessed page) (initial_state scripting) e
-    (is_plain_state (begins_plain scripting) (begins_hung scripting)))
+harmless_hung scripting page e = hung (all_harmless scripting page e).1
   where
     hung : {s : StateValue} → Stands s → Hung s
     hung (is_plain_state h x) = x

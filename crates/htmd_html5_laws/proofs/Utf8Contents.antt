@@ -2,22 +2,24 @@
 use Rattle.std.proofs.Common.{◌≡◌, ◌∙◌, ℕ, zero, suc, ◌+◌, ◌<◌, ◌≤◌, Bool, true, false, List, [], ◌∷◌, length, drop}
 use Rattle.std.proofs.Common.{refl, sym, ap, subst, arith, codes, Option, Some, None, length-drop}
 use Rattle.std.specs.Prelude.{◌==◌, ◌&&◌, not, nat_lt, ◌-◌}
-use Rattle.std.specs.Char.{encode_utf8, IsScalar, is_ascii_alphanumeric, is_ascii_digit, is_ascii_hexdigit, is_ascii_uppercase}
+use Rattle.std.specs.Char.{encode_utf8, IsScalar, is_ascii_alphanumeric, is_ascii_digit, is_ascii_hexdigit}
+use Rattle.std.specs.Char.{is_ascii_uppercase}
 use Rattle.std.specs.List.{list_all, slice_index}
 use Rattle.std.specs.Str.{IsUtf8, is_utf8, chars, bytes_eq}
 use Rattle.std.proofs.Math.Utf8.{scalar}
-use Rattle.std.proofs.lemmas.Bool.{and_parts, eqb-true, eqb-false}
+use Rattle.std.proofs.lemmas.Bool.{and_parts, eqb-true, eqb-false, not-true}
 use Rattle.std.proofs.lemmas.Bool.Decides.{nat_tests}
 use Rattle.std.proofs.lemmas.List.{drop-drop}
-use Rattle.std.proofs.lemmas.Str.{IsUtf8-take, IsUtf8-drop, IsUtf8-nil, IsUtf8-append, IsUtf8-encode, IsUtf8-from_is_utf8}
+use Rattle.std.proofs.lemmas.Str.{IsUtf8-take, IsUtf8-drop, IsUtf8-nil, IsUtf8-append, IsUtf8-encode}
+use Rattle.std.proofs.lemmas.Str.{IsUtf8-from_is_utf8}
 use Rattle.htmd_grammar.proofs.Cases.{test}
-use Rattle.htmd_grammar.specs.CharacterClasses.{is_empty, first_is, begins_with, begins_in_any_case, leading_run, behind_run}
+use Rattle.htmd_grammar.specs.CharacterClasses.{is_empty, first_is, begins_with, begins_in_any_case, leading_run}
+use Rattle.htmd_grammar.specs.CharacterClasses.{behind_run}
 use Rattle.htmd_grammar.specs.References.{number, is_between}
 use Rattle.htmd_grammar.proofs.TagReadingLemmas.{halts, front_all, back_halts}
-use Rattle.htmd_grammar.proofs.RunsLemmas.{take_run, drop_run, behind_last}
-use Rattle.htmd_grammar.proofs.RunsLemmas.{behind_within}
-use Rattle.htmd_html5_tokens.specs.NamedReferences.{NamedReference, capital_names, small_names, old_names, named_in, named}
-use Rattle.htmd_html5_tokens.specs.NamedReferences.{first_in, longest_old}
+use Rattle.htmd_grammar.proofs.RunsLemmas.{take_run, drop_run, behind_last, behind_within}
+use Rattle.htmd_html5_tokens.specs.NamedReferences.{NamedReference, capital_names, small_names, old_names, named_in}
+use Rattle.htmd_html5_tokens.specs.NamedReferences.{named, first_in, longest_old}
 use Rattle.htmd_html5_tokens.specs.References.{Piece, ampersand_itself, replacement_character, windows_characters}
 use Rattle.htmd_html5_tokens.specs.References.{is_no_character, character_numbered, semicolon_len, numbered, goes_on}
 use Rattle.htmd_html5_tokens.specs.References.{after_number_sign, old_reference, reference_or, reference_by_name}
@@ -25,7 +27,8 @@ use Rattle.htmd_html5_tokens.specs.References.{after_ampersand}
 use Rattle.htmd_html5_tokens.specs.Contents.{has_references, is_text, is_value, piece_at, decoded}
 use Rattle.htmd_html5_tokens.specs.AppendedCharacters.{is_literal}
 use Rattle.htmd_html5_tokens.proofs.ReferencesLemmas.{cut_after_first, old_front}
-use Rattle.htmd_html5_tokens.proofs.ContentsLemmas.{decoded_skip, plain_pushed, plain_cut, cut_after_slash, cut_after_special}
+use Rattle.htmd_html5_tokens.proofs.ContentsLemmas.{decoded_skip, plain_pushed, plain_cut, cut_after_slash}
+use Rattle.htmd_html5_tokens.proofs.ContentsLemmas.{cut_after_special}
 use Rattle.htmd_html5_laws.proofs.Utf8Parts.{after_first_utf8, after_any_case_utf8}
 
 -- ---- the characters of references by number
@@ -79,8 +82,7 @@ digits_rest p from s low v = subst IsUtf8 same (end_utf8 after after_utf8)
         (IsUtf8-drop (drop from s) len v (behind_last p (drop from s) len v low refl))
 
     end_utf8 : (t : List ℕ) → IsUtf8 t → IsUtf8 (drop (semicolon_len t) t)
-    end_utf8 t w =
-        test (first_is 59 t) (λ e. rw e (after_first_utf8 59 t (omega arith) e w)) (λ e. rw e w)
+    end_utf8 t w = test (first_is 59 t) (λ e. rw e (after_first_utf8 59 t (omega arith) e w)) (λ e. rw e w)
 
     same : drop (semicolon_len after) after ≡ drop (from + len + semicolon_len after) s
     same =
@@ -88,8 +90,7 @@ digits_rest p from s low v = subst IsUtf8 same (end_utf8 after after_utf8)
         ∙ drop-drop (semicolon_len after) (from + len) s
 
 number_utf8 : (p : ℕ → Bool) (base from : ℕ) (s : List ℕ) → ((b : ℕ) → p b ≡ true → b < 128)
-    → IsUtf8 s
-    → IsUtf8 (drop from s) → PieceUtf8 s (numbered p base from (drop from s))
+    → IsUtf8 s → IsUtf8 (drop from s) → PieceUtf8 s (numbered p base from (drop from s))
 number_utf8 p base from s low u v =
     test (is_empty (leading_run p (drop from s))) (λ e. rw e (itself_utf8 s u))
     (λ e. rw e (record {
@@ -169,8 +170,7 @@ named_utf8 : (n characters : List ℕ) → list_all is_ascii_alphanumeric n ≡ 
 named_utf8 [] characters a e = absurd (cc)
 named_utf8 (b ∷ n) characters a e =
     let rows = rows_at b (and_parts (is_ascii_alphanumeric b) (list_all is_ascii_alphanumeric n) a).0 in
-    test (is_ascii_uppercase b)
-    (λ t. named_in_utf8 (capital_names b) (b ∷ n) characters rows.0 (rw t at e))
+    test (is_ascii_uppercase b) (λ t. named_in_utf8 (capital_names b) (b ∷ n) characters rows.0 (rw t at e))
     (λ t. named_in_utf8 (small_names b) (b ∷ n) characters rows.1 (rw t at e))
 
 first_in_utf8 : (rows : List NamedReference) (s : List ℕ) (r : NamedReference) → Utf8Rows rows
@@ -201,14 +201,12 @@ after_name : (s : List ℕ) → IsUtf8 s → first_is 59 (behind_run is_ascii_al
 after_name s u e =
     let len : ℕ = length (leading_run is_ascii_alphanumeric s) in
     let one : len + 1 ≡ suc len = omega arith in
-    subst (λ n. IsUtf8 (drop n s)) one
-    (IsUtf8-drop s (len + 1) u
+    subst (λ n. IsUtf8 (drop n s)) one (IsUtf8-drop s (len + 1) u
     (cut_after_first s len 59 u (omega arith) (ap (first_is 59) (drop_run is_ascii_alphanumeric s) ∙ e)))
 
 known_utf8 : (s : List ℕ) (o : Option (List ℕ)) (other : Piece) → IsUtf8 s
     → first_is 59 (behind_run is_ascii_alphanumeric s) ≡ true → o ≡ named (leading_run is_ascii_alphanumeric s)
-    → PieceUtf8 s other
-    → PieceUtf8 s (reference_or (suc (length (leading_run is_ascii_alphanumeric s))) o other)
+    → PieceUtf8 s other → PieceUtf8 s (reference_or (suc (length (leading_run is_ascii_alphanumeric s))) o other)
 known_utf8 s None other u e f h = h
 known_utf8 s (Some characters) other u e f h = record {
   characters = named_utf8 (leading_run is_ascii_alphanumeric s) characters (front_all is_ascii_alphanumeric s) (sym f);
@@ -228,7 +226,7 @@ reference_utf8 in_value s u =
 
 -- ---- what begins with a byte that is no plain one
 
-replacement_utf8 : IsUtf8 (encode_utf8 replacement_character)
+pub replacement_utf8 : IsUtf8 (encode_utf8 replacement_character)
 unfolding encode_utf8
 replacement_utf8 = (replacement_character ∷ [], (refl, refl))
 
@@ -237,8 +235,7 @@ piece_utf8 r b s one u =
     test (b == 38 && has_references r) (λ e. rw e (reference_utf8 (is_value r) s u))
     (λ e. test (b == 60 && (is_text r && begins_with (codes "/>") s))
     (λ f. rw (e, f) (record { characters = IsUtf8-nil; rest = IsUtf8-drop s 2 u (cut_after_slash s u (ends f)) }))
-    (λ f. test (b == 0 && not (is_text r))
-    (λ g. rw (e, f, g) (record { characters = replacement_utf8; rest = u }))
+    (λ f. test (b == 0 && not (is_text r)) (λ g. rw (e, f, g) (record { characters = replacement_utf8; rest = u }))
     (λ g. rw (e, f, g) (record { characters = one; rest = u }))))
   where
     ends : (b == 60 && (is_text r && begins_with (codes "/>") s)) ≡ true → begins_with (codes "/>") s ≡ true
@@ -252,24 +249,19 @@ decoded_rest : (r : _) (k : ℕ) (s : List ℕ) → halts (is_literal r) s ≡ t
     → ((t : List ℕ) → length t ≤ k → IsUtf8 t → IsUtf8 (decoded r 0 t)) → IsUtf8 (decoded r 0 s)
 decoded_rest r k [] h l u go = IsUtf8-nil
 decoded_rest r k (b ∷ s) h l u go =
-    let off : is_literal r b ≡ false = not_true (is_literal r b) h in
+    let off : is_literal r b ≡ false = not-true (is_literal r b) h in
     let cut = cut_after_special r (b ∷ s) u (omega arith) off in
     let piece = piece_utf8 r b s (IsUtf8-take (b ∷ s) 1 u cut) (IsUtf8-drop (b ∷ s) 1 u cut) in
     let n : ℕ = (piece_at r b s).following in
     IsUtf8-append (piece_at r b s).characters (decoded r n s) piece.characters
     (subst IsUtf8 (sym (decoded_skip r n s)) (go (drop n s) (omega (arith, length-drop n s)) piece.rest))
-  where
-    not_true : (x : Bool) → not x ≡ true → x ≡ false
-    not_true true e = cc
-    not_true false e = refl
 
 decoded_within : (r : _) (k : ℕ) (s : List ℕ) → length s ≤ k → IsUtf8 s → IsUtf8 (decoded r 0 s)
 decoded_within r zero [] l u = IsUtf8-nil
 decoded_within r zero (b ∷ s) l u = absurd (omega arith)
 decoded_within r (suc k) s l u =
     subst IsUtf8 (plain_pushed r [] s front front rest (length front) refl (sym (take_run (is_literal r) s))
-    (sym (drop_run (is_literal r) s)) refl)
-    (IsUtf8-append front (decoded r 0 rest) front_utf8
+    (sym (drop_run (is_literal r) s)) refl) (IsUtf8-append front (decoded r 0 rest) front_utf8
     (decoded_rest r k rest (back_halts (is_literal r) s) (omega (arith, behind_within (is_literal r) s)) rest_utf8
     (λ t m v. decoded_within r k t m v)))
   where

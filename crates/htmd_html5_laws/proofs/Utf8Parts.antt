@@ -48,8 +48,7 @@ pub after_first_utf8 : (b : ℕ) (s : List ℕ) → b < 128 → first_is b s ≡
 after_first_utf8 b s l e u = IsUtf8-drop s 1 u (cut_after_first s 0 b u l e)
 
 pub after_beginning_utf8 : (p s : List ℕ) → list_all (λ b. nat_lt b 128) p ≡ true → begins_with p s ≡ true
-    → IsUtf8 s
-    → IsUtf8 (drop (length p) s)
+    → IsUtf8 s → IsUtf8 (drop (length p) s)
 after_beginning_utf8 p s a e u = IsUtf8-drop s (length p) u (cut_after_beginning p s u e a)
 
 pub after_any_case_utf8 : (p s : List ℕ) → list_all (λ b. nat_lt b 128) p ≡ true → 0 < length p
@@ -71,8 +70,7 @@ after_other_utf8 q s a u =
 -- ---- up to what ends a part
 
 pub up_to_utf8 : (stop : List ℕ → Bool) (s : List ℕ) → ((t : List ℕ) → stop t ≡ true → BeginsAscii t)
-    → IsUtf8 s
-    → IsUtf8 (up_to stop s) × IsUtf8 (onward stop s)
+    → IsUtf8 s → IsUtf8 (up_to stop s) × IsUtf8 (onward stop s)
 up_to_utf8 stop s h u =
     let cut = cut_up_to stop s (length (up_to stop s)) refl h in
     (subst IsUtf8 (take_up_to stop s) (IsUtf8-take s _ u cut), subst IsUtf8 (drop_up_to stop s) (IsUtf8-drop s _ u cut))

@@ -11,24 +11,23 @@ use Rattle.std.proofs.lemmas.Str.{IsUtf8-take, IsUtf8-drop, IsUtf8-nil, IsUtf8-a
 use Rattle.htmd_grammar.proofs.Cases.{test}
 use Rattle.htmd_grammar.proofs.CharacterClassesLemmas.{white_is_ascii}
 use Rattle.htmd_grammar.specs.WhiteSpace.{is_ascii_white_space}
-use Rattle.htmd_grammar.specs.CharacterClasses.{is_empty, first_is, begins_with, begins_in_any_case, leading_run, behind_run}
-use Rattle.htmd_grammar.specs.CharacterClasses.{up_to, onward}
+use Rattle.htmd_grammar.specs.CharacterClasses.{is_empty, first_is, begins_with, begins_in_any_case, leading_run}
+use Rattle.htmd_grammar.specs.CharacterClasses.{behind_run, up_to, onward}
 use Rattle.htmd_grammar.specs.Comments.{normalized}
 use Rattle.htmd_grammar.specs.HtmlDocuments.{behind_mark}
 use Rattle.htmd_grammar.specs.TagReading.{TagPart, malformed, tag_end, attribute, is_other, quoted_value}
-use Rattle.htmd_grammar.proofs.RunsLemmas.{drop_run}
-use Rattle.htmd_grammar.proofs.RunsLemmas.{behind_within}
+use Rattle.htmd_grammar.proofs.RunsLemmas.{drop_run, behind_within}
 use Rattle.htmd_html5_tokens.specs.Preprocessing.{preprocessed}
-use Rattle.htmd_html5_tokens.specs.Tokens.{Read, TokenValue, text, start_tag, end_tag, comment, doctype, end_of_file}
-use Rattle.htmd_html5_tokens.specs.Comments.{ends_comment, after_comment_end, read_comment}
-use Rattle.htmd_html5_tokens.specs.Comments.{read_bogus_comment}
-use Rattle.htmd_html5_tokens.specs.Tags.{is_attribute_name_byte, is_name_byte, is_gap_byte, is_unquoted_byte, ends_in_slash}
-use Rattle.htmd_html5_tokens.specs.Tags.{value_part, after_attribute_name, after_gap, next_part, TagForm, unended, ended}
-use Rattle.htmd_html5_tokens.specs.Tags.{with_attribute, form_after, form_within, tag_form, tag_token, read_tag}
+use Rattle.htmd_html5_tokens.specs.Tokens.{Read, TagValue, TokenValue, text, start_tag, end_tag}
+use Rattle.htmd_html5_tokens.specs.Comments.{ends_comment, after_comment_end, read_comment, read_bogus_comment}
+use Rattle.htmd_html5_tokens.specs.Tags.{is_attribute_name_byte, is_name_byte, is_gap_byte, is_unquoted_byte}
+use Rattle.htmd_html5_tokens.specs.Tags.{ends_in_slash, value_part, after_attribute_name, after_gap, next_part, TagForm}
+use Rattle.htmd_html5_tokens.specs.Tags.{unended, ended, with_attribute, form_after, form_within, tag_form, tag_token}
+use Rattle.htmd_html5_tokens.specs.Tags.{tag_from_name, read_tag}
 use Rattle.htmd_html5_tokens.specs.NextToken.{ends_section, after_section_end, read_section, after_empty_section}
-use Rattle.htmd_html5_tokens.specs.NextToken.{begins_section, after_empty_piece, or_else, after_pieces, read_declaration}
-use Rattle.htmd_html5_tokens.specs.NextToken.{begins_letter, read_markup, begins_markup, read_text, read_piece}
-use Rattle.htmd_html5_tokens.specs.NextToken.{read_held, read_raw, next_token}
+use Rattle.htmd_html5_tokens.specs.NextToken.{begins_section, after_empty_piece, or_else, after_pieces}
+use Rattle.htmd_html5_tokens.specs.NextToken.{read_declaration, begins_letter, read_markup, begins_markup, read_text}
+use Rattle.htmd_html5_tokens.specs.NextToken.{read_piece, read_held, read_raw, next_token}
 use Rattle.htmd_html5_tokens.specs.RawTexts.{reading_of, raw_text_len}
 use Rattle.htmd_grammar.specs.declared.content_model.ContentModel.{ContentModel}
 use Rattle.htmd_grammar.specs.declared.content_model.ContentModel.TheVariants.{Normal, Raw}
@@ -41,8 +40,9 @@ use Rattle.htmd_html5_state.specs.Foreign.{current_is_html}
 use Rattle.htmd_html5.specs.Feeding.{feed}
 use Rattle.htmd_html5.specs.Html5Documents.{next_read, is_end}
 use Rattle.htmd_html5_laws.specs.PageLetters.{with_text_of, texts_after, texts_within, TokensAreUtf8}
-use Rattle.htmd_html5_laws.proofs.Utf8Parts.{open_run_utf8, after_ascii_utf8, other_run_utf8, after_first_utf8, after_beginning_utf8, after_any_case_utf8}
-use Rattle.htmd_html5_laws.proofs.Utf8Parts.{after_other_utf8, up_to_utf8, unmarked_utf8}
+use Rattle.htmd_html5_laws.proofs.Utf8Parts.{open_run_utf8, after_ascii_utf8, other_run_utf8, after_first_utf8}
+use Rattle.htmd_html5_laws.proofs.Utf8Parts.{after_beginning_utf8, after_any_case_utf8, after_other_utf8, up_to_utf8}
+use Rattle.htmd_html5_laws.proofs.Utf8Parts.{unmarked_utf8}
 use Rattle.htmd_html5_laws.proofs.Utf8Contents.{decoded_utf8}
 
 -- ---- line ends
@@ -112,8 +112,7 @@ after_name_utf8 : (name s : List ℕ) → IsUtf8 s → PartUtf8 (after_attribute
 after_name_utf8 name s u =
     let sign : List ℕ = behind_run is_ascii_white_space s in
     let v : IsUtf8 sign = after_ascii_utf8 is_ascii_white_space s white_is_ascii u in
-    test (first_is 61 sign)
-    (λ e. rw e (value_utf8 name (behind_run is_ascii_white_space (drop 1 sign))
+    test (first_is 61 sign) (λ e. rw e (value_utf8 name (behind_run is_ascii_white_space (drop 1 sign))
     (after_ascii_utf8 is_ascii_white_space (drop 1 sign) white_is_ascii (after_first_utf8 61 sign (omega arith) e v))))
     (λ e. rw e u)
 
@@ -162,36 +161,29 @@ form_utf8 (suc k) s u = form_after_utf8 (next_part s) (form_within k) (next_part
 -- a token's text is UTF-8
 abbrev pub TokenUtf8 : TokenValue → Type 0
 TokenUtf8 (text s) = IsUtf8 s
-TokenUtf8 (start_tag tag) = Unit {0}
-TokenUtf8 (end_tag tag) = Unit {0}
-TokenUtf8 (comment s) = Unit {0}
-TokenUtf8 (doctype quirks) = Unit {0}
-TokenUtf8 end_of_file = Unit {0}
+TokenUtf8 _ = Unit {0}
 
 pub record ReadUtf8 (r : Read) : Type 0 where
   pub token : TokenUtf8 r.token
   pub rest : IsUtf8 r.rest
 
-start_tag_utf8 : (name : List ℕ) (form : TagForm) → FormUtf8 form → ReadUtf8 (tag_token start_tag name form)
-start_tag_utf8 name unended u = record { token = tt; rest = IsUtf8-nil }
-start_tag_utf8 name (ended spelled self_closing rest) u = record { token = tt; rest = u }
+token_of_tag_utf8 : (kind : TagValue → TokenValue) → ((tag : TagValue) → TokenUtf8 (kind tag))
+    → (name : List ℕ) (form : TagForm) → FormUtf8 form → ReadUtf8 (tag_token kind name form)
+token_of_tag_utf8 kind t name unended u = record { token = tt; rest = IsUtf8-nil }
+token_of_tag_utf8 kind t name (ended spelled self_closing rest) u = record { token = t _; rest = u }
 
-end_tag_utf8 : (name : List ℕ) (form : TagForm) → FormUtf8 form → ReadUtf8 (tag_token end_tag name form)
-end_tag_utf8 name unended u = record { token = tt; rest = IsUtf8-nil }
-end_tag_utf8 name (ended spelled self_closing rest) u = record { token = tt; rest = u }
-
-name_rest_utf8 : (s : List ℕ) → IsUtf8 s → FormUtf8 (tag_form (behind_run is_name_byte s))
-name_rest_utf8 s u =
-    form_utf8 (suc (length (behind_run is_name_byte s))) (behind_run is_name_byte s)
-    (open_run_utf8 is_name_byte s outside_name u).1
+from_name_utf8 : (kind : TagValue → TokenValue) → ((tag : TagValue) → TokenUtf8 (kind tag)) → (s : List ℕ)
+    → IsUtf8 s → ReadUtf8 (tag_from_name kind s)
+from_name_utf8 kind t s u =
+    token_of_tag_utf8 kind t (leading_run is_name_byte s) (tag_form (behind_run is_name_byte s))
+    (form_utf8 (suc (length (behind_run is_name_byte s))) (behind_run is_name_byte s)
+    (open_run_utf8 is_name_byte s outside_name u).1)
 
 tag_utf8 : (s : List ℕ) → IsUtf8 s → ReadUtf8 (read_tag s)
 tag_utf8 s u =
     test (first_is 47 s)
-    (λ e. rw e (end_tag_utf8 (leading_run is_name_byte (drop 1 s)) (tag_form (behind_run is_name_byte (drop 1 s)))
-    (name_rest_utf8 (drop 1 s) (after_first_utf8 47 s (omega arith) e u))))
-    (λ e. rw e (start_tag_utf8 (leading_run is_name_byte s) (tag_form (behind_run is_name_byte s))
-    (name_rest_utf8 s u)))
+    (λ e. rw e (from_name_utf8 end_tag (λ tag. tt) (drop 1 s) (after_first_utf8 47 s (omega arith) e u)))
+    (λ e. rw e (from_name_utf8 start_tag (λ tag. tt) s u))
 
 bogus_comment_utf8 : (s : List ℕ) → IsUtf8 s → ReadUtf8 (read_bogus_comment s)
 bogus_comment_utf8 s u = record { token = tt; rest = after_other_utf8 62 s refl u }
@@ -221,15 +213,13 @@ declaration_utf8 s u =
     (λ f. rw (e, f) (record {
       token = tt;
       rest = after_other_utf8 62 (drop 7 s) refl (after_any_case_utf8 (codes "doctype") s refl (omega arith) f u);
-    }))
-    (λ f. rw (e, f) (bogus_comment_utf8 s u)))
+    })) (λ f. rw (e, f) (bogus_comment_utf8 s u)))
 
 markup_utf8 : (s : List ℕ) → IsUtf8 s → ReadUtf8 (read_markup s)
 markup_utf8 s u =
     test (first_is 33 s) (λ e. rw e (declaration_utf8 (drop 1 s) (after_first_utf8 33 s (omega arith) e u)))
     (λ e. test (first_is 63 s) (λ f. rw (e, f) (bogus_comment_utf8 s u))
-    (λ f. test (first_is 47 s && not (begins_letter (drop 1 s)))
-    (λ g. rw (e, f, g) (bogus_comment_utf8 (drop 1 s)
+    (λ f. test (first_is 47 s && not (begins_letter (drop 1 s))) (λ g. rw (e, f, g) (bogus_comment_utf8 (drop 1 s)
     (after_first_utf8 47 s (omega arith) (and_parts (first_is 47 s) (not (begins_letter (drop 1 s))) g).0 u)))
     (λ g. rw (e, f, g) (tag_utf8 s u))))
 
@@ -262,10 +252,8 @@ first_less_than (b ∷ s) e = (and_parts (b == 60) _ e).0
 
 piece_utf8 : (foreign : Bool) (s : List ℕ) → IsUtf8 s → ReadUtf8 (read_piece foreign s)
 piece_utf8 foreign s u =
-    test (is_empty s) (λ e. rw e (record { token = tt; rest = IsUtf8-nil }))
-    (λ e. test (begins_section foreign s)
-    (λ f. rw (e, f) (section_utf8 (drop 9 s) (after_section_begins foreign s f u)))
-    (λ f. test (begins_markup s)
+    test (is_empty s) (λ e. rw e (record { token = tt; rest = IsUtf8-nil })) (λ e. test (begins_section foreign s)
+    (λ f. rw (e, f) (section_utf8 (drop 9 s) (after_section_begins foreign s f u))) (λ f. test (begins_markup s)
     (λ g. rw (e, f, g) (markup_utf8 (drop 1 s) (after_first_utf8 60 s (omega arith) (first_less_than s g) u)))
     (λ g. rw (e, f, g) (text_utf8 s u))))
 
@@ -285,8 +273,7 @@ empty_piece_utf8 : (foreign : Bool) (s : List ℕ) → IsUtf8 s → IfUtf8 (afte
 empty_piece_utf8 foreign s u =
     test (begins_with (codes "</>") s) (λ e. rw e (after_beginning_utf8 (codes "</>") s refl e u))
     (λ e. test (begins_section foreign s)
-    (λ f. rw (e, f) (empty_section_utf8 (drop 9 s) (after_section_begins foreign s f u)))
-    (λ f. rw (e, f) tt))
+    (λ f. rw (e, f) (empty_section_utf8 (drop 9 s) (after_section_begins foreign s f u))) (λ f. rw (e, f) tt))
 
 or_else_utf8 : (s : List ℕ) (o : Option (List ℕ)) (go : List ℕ → List ℕ) → IsUtf8 s → IfUtf8 o
     → ((t : List ℕ) → IsUtf8 t → IsUtf8 (go t)) → IsUtf8 (or_else s o go)
@@ -323,11 +310,7 @@ next_token_utf8 (Raw element) foreign s u = raw_utf8 element s u
 with_text_utf8 : (token : TokenValue) (more : List (List ℕ)) → TokenUtf8 token → All IsUtf8 more
     → All IsUtf8 (with_text_of token more)
 with_text_utf8 (text s) more u all = All-cons IsUtf8 s more u all
-with_text_utf8 (start_tag tag) more u all = all
-with_text_utf8 (end_tag tag) more u all = all
-with_text_utf8 (comment s) more u all = all
-with_text_utf8 (doctype quirks) more u all = all
-with_text_utf8 end_of_file more u all = all
+with_text_utf8 _ more u all = all
 
 texts_after_utf8 : (k : ℕ) (read : Read) (s : StateValue) → ReadUtf8 read
     → ((t : StateValue) → All IsUtf8 (texts_within k read.rest t))

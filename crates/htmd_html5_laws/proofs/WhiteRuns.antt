@@ -1,18 +1,17 @@
 -- The white space that a text begins with.
-use Rattle.std.proofs.Common.{◌≡◌, ℕ, Bool, true, false, List, [], ◌∷◌, drop, refl, sym, ap, inl, inr, ◌⊎◌}
-use Rattle.std.specs.Prelude.{if◌then◌else◌, ◌&&◌, not}
+use Rattle.std.proofs.Common.{◌≡◌, ℕ, Bool, true, false, List, [], ◌∷◌, drop, refl, sym, ap}
+use Rattle.std.specs.Prelude.{◌&&◌}
 use Rattle.std.specs.List.{list_all}
-use Rattle.std.proofs.lemmas.Bool.{true≢false, and_parts}
+use Rattle.std.proofs.lemmas.Bool.{true≢false, and_parts, cond_both, not-true}
 use Rattle.htmd_grammar.specs.WhiteSpace.{is_ascii_white_space}
 use Rattle.htmd_grammar.proofs.Cases.{test}
 use Rattle.htmd_grammar.specs.Characters.{line_feed}
 use Rattle.htmd_grammar.specs.CharacterClasses.{behind_run, first_is}
 use Rattle.htmd_html5.specs.Feeding.{without_line_feed}
 use Rattle.htmd_html5_state.specs.declared.modes.InsertionMode.{InsertionMode}
-use Rattle.htmd_html5_state.specs.declared.modes.InsertionMode.TheVariants.{Initial, BeforeHtml, BeforeHead}
+use Rattle.htmd_html5_state.specs.declared.modes.InsertionMode.TheVariants.{Initial}
 use Rattle.htmd_html5.specs.Runs.{kind_of_byte, is_of_kind, first_kind, after_first_run, is_null}
 use Rattle.htmd_html5_laws.specs.TextKept.{is_before_head, without_white, is_no_null}
-use Rattle.htmd_html5_laws.proofs.TakingRuns.{by_first_kind}
 use Rattle.htmd_html5_laws.proofs.RootedStacks.{is_late}
 
 pub behind_twice : (p : ℕ → Bool) (s : List ℕ) → behind_run p (behind_run p s) ≡ behind_run p s
@@ -31,32 +30,15 @@ pub dark_whole : (s : List ℕ) → Dark s → (drops : Bool) → without_white 
 dark_whole s d true = d
 dark_whole s d false = refl
 
+dark_unless : (s : List ℕ) → (first_kind s ≡ kind_of_byte 32 → ⊥) → Dark s
+dark_unless [] n = refl
+dark_unless (b ∷ s) n = test (is_ascii_white_space b) (λ t. absurd (n (rw t refl))) (λ t. rw t refl)
+
 pub dark_nulls : (s : List ℕ) → first_kind s ≡ kind_of_byte 0 → Dark s
-dark_nulls [] e = refl
-dark_nulls (b ∷ s) e = either (is_ascii_white_space b) (is_null b) e
-  where
-    either : (x y : Bool) → (if x then kind_of_byte 32 else if y then kind_of_byte 0 else kind_of_byte 97)
-        ≡ kind_of_byte 0
-        → (if x then behind_run is_ascii_white_space s else b ∷ s) ≡ b ∷ s
-    either true y f = absurd (cc)
-    either false y f = refl
+dark_nulls s e = dark_unless s (λ f. cc)
 
 pub dark_characters : (s : List ℕ) → first_kind s ≡ kind_of_byte 97 → Dark s
-dark_characters [] e = refl
-dark_characters (b ∷ s) e = either (is_ascii_white_space b) (is_null b) e
-  where
-    either : (x y : Bool) → (if x then kind_of_byte 32 else if y then kind_of_byte 0 else kind_of_byte 97)
-        ≡ kind_of_byte 97
-        → (if x then behind_run is_ascii_white_space s else b ∷ s) ≡ b ∷ s
-    either true y f = absurd (cc)
-    either false y f = refl
-
--- a text begins with a run of white space, or with none
-pub white_or_dark : (s : List ℕ) → (after_first_run s ≡ behind_run is_ascii_white_space s) ⊎ Dark s
-white_or_dark s =
-    by_first_kind
-    (λ kind. first_kind s ≡ kind → (after_first_run s ≡ behind_run is_ascii_white_space s) ⊎ Dark s)
-    (λ e. inl (behind_white s e)) (λ e. inr (dark_nulls s e)) (λ e. inr (dark_characters s e)) s refl
+dark_characters s e = dark_unless s (λ f. cc)
 
 -- ---- texts without U+0000
 
@@ -77,23 +59,15 @@ all_dropped [] e = refl
 all_dropped (b ∷ s) e = (and_parts (is_no_null b) (list_all is_no_null s) e).1
 
 pub clean_shortened : (nulls skips : Bool) (s : List ℕ) → Clean nulls s → Clean nulls (without_line_feed skips s)
-clean_shortened nulls skips s clean z = either (skips && first_is line_feed s)
-  where
-    either : (b : Bool) → list_all is_no_null (if b then drop 1 s else s) ≡ true
-    either true = all_dropped s (clean z)
-    either false = clean z
+clean_shortened nulls skips s clean z =
+    cond_both (skips && first_is line_feed s) _ _ (λ (x : List ℕ). list_all is_no_null x ≡ true)
+    (λ e. all_dropped s (clean z)) (λ e. clean z)
 
 no_null_first : (s : List ℕ) → first_kind s ≡ kind_of_byte 0 → list_all is_no_null s ≡ true → ⊥
 no_null_first [] e f = cc
 no_null_first (b ∷ s) e f =
-    either (is_ascii_white_space b) (is_null b) e (and_parts (is_no_null b) (list_all is_no_null s) f).0
-  where
-    either : (x y : Bool) → (if x then kind_of_byte 32 else if y then kind_of_byte 0 else kind_of_byte 97)
-        ≡ kind_of_byte 0
-        → not y ≡ true → ⊥
-    either true y f g = cc
-    either false true f g = true≢false (sym g)
-    either false false f g = cc
+    let none = not-true (is_null b) (and_parts (is_no_null b) (list_all is_no_null s) f).0 in
+    test (is_ascii_white_space b) (λ t. let g = rw t at e in cc) (λ t. let g = rw (t, none) at e in cc)
 
 -- a text that begins with one
 pub nulls_come : (nulls : Bool) (s : List ℕ) → Clean nulls s → first_kind s ≡ kind_of_byte 0 → nulls ≡ true
@@ -104,12 +78,8 @@ nulls_come false s clean e = absurd (no_null_first s e (clean refl))
 
 pub before_is_early : (mode : InsertionMode) → is_before_head mode ≡ true → is_late mode ≡ false
 before_is_early Initial e = refl
-before_is_early BeforeHtml e = refl
-before_is_early BeforeHead e = refl
-before_is_early _ e = absurd (true≢false (sym e))
+before_is_early _ e = cc
 
 pub late_is_after : (mode : InsertionMode) → is_late mode ≡ true → is_before_head mode ≡ false
 late_is_after Initial e = absurd (true≢false (sym e))
-late_is_after BeforeHtml e = absurd (true≢false (sym e))
-late_is_after BeforeHead e = absurd (true≢false (sym e))
-late_is_after _ e = refl
+late_is_after _ e = cc

@@ -1,15 +1,14 @@
 -- Where a document is in one piece, the texts of the tree hold what those of its nodes hold.
-use Rattle.std.proofs.Common.{◌≡◌, ◌∙◌, ℕ, zero, suc, ◌+◌, ◌≤◌, Bool, true, false, List, [], ◌∷◌, ◌++◌, length}
-use Rattle.std.proofs.Common.{refl, sym, ap, subst, arith, cond, map, Option, Some, None, inl, inr, ◌⊎◌, length-append}
+use Rattle.std.proofs.Common.{◌≡◌, ◌∙◌, ℕ, zero, suc, ◌+◌, ◌≤◌, Bool, true, false, List, [], ◌∷◌, ◌++◌, length, refl}
+use Rattle.std.proofs.Common.{sym, ap, subst, arith, cond, map, Option, Some, None, inl, inr, ◌⊎◌, length-append}
 use Rattle.std.specs.Prelude.{◌==◌, ◌||◌, not, is_some, if◌then◌else◌}
 use Rattle.std.specs.List.{list_any}
 use Rattle.std.proofs.lemmas.Bool.{true≢false, and_parts, eqb-true}
 use Rattle.htmd_grammar.proofs.Cases.{test}
 use Rattle.htmd_html5_state.specs.Names.{text_of_element_name}
-use Rattle.htmd_html5_state.specs.Nodes.{KindValue, NodeValue, document, doctype, text, comment, element, kind_at, node_at}
-use Rattle.htmd_html5_state.specs.Nodes.{children_at, parent_at, with_kind, text_of, is_number}
-use Rattle.htmd_html5.specs.Layout.{Coming, coming, Layout, next_texts, with_text}
-use Rattle.htmd_html5.specs.Layout.{with_kind_of, without_node}
+use Rattle.htmd_html5_state.specs.Nodes.{KindValue, NodeValue, document, doctype, text, comment, element, kind_at}
+use Rattle.htmd_html5_state.specs.Nodes.{node_at, children_at, parent_at, with_kind, text_of, is_number}
+use Rattle.htmd_html5.specs.Layout.{Coming, coming, Layout, next_texts, with_text, with_kind_of, without_node}
 use Rattle.htmd_nodes.specs.Items.{Item, Data, doctype_node, text_node, comment_node, element_node, new_item}
 use Rattle.htmd_html5_laws.specs.PageLetters.{occurrences}
 use Rattle.htmd_html5_laws.specs.KeptLetters.{is_element_kind, holds_node, hangs_by, hangs, texts_hang}
@@ -30,10 +29,7 @@ kind_same (suc n) (x ∷ nodes) = kind_same n nodes
 
 element_same : (k : KindValue) → is_element_kind k ≡ is_element k
 element_same (element name attributes) = refl
-element_same (text s) = refl
-element_same document = refl
-element_same doctype = refl
-element_same (comment s) = refl
+element_same _ = refl
 
 -- ---- a node that another holds
 
@@ -59,9 +55,8 @@ pub record Hanging (go : ℕ → Bool) (nodes : List NodeValue) (n : ℕ) : Type
   pub holder : Holder nodes by n
   pub hung : go by ≡ true
 
-pub hanging : (go : ℕ → Bool) (nodes : List NodeValue) (n : ℕ) → hangs_by go nodes n (parent_at nodes n)
-    ≡ true
-    → Hanging go nodes n
+pub hanging : (go : ℕ → Bool) (nodes : List NodeValue) (n : ℕ)
+    → hangs_by go nodes n (parent_at nodes n) ≡ true → Hanging go nodes n
 hanging go nodes n e = by_parent (parent_at nodes n) refl e
   where
     by_parent : (o : Option ℕ) → parent_at nodes n ≡ o → hangs_by go nodes n o ≡ true → Hanging go nodes n
@@ -71,9 +66,8 @@ hanging go nodes n e = by_parent (parent_at nodes n) refl e
         record { by = p; parent = f; holder = holder_of nodes p n both.0; hung = both.1 }
 
 -- a text of a document in one piece
-pub text_hangs : (nodes xs : List NodeValue) (k i n : ℕ) (s : List ℕ) → i ≡ k + n → texts_hang nodes k xs
-    ≡ true
-    → kind_at xs n ≡ text s → hangs nodes i ≡ true
+pub text_hangs : (nodes xs : List NodeValue) (k i n : ℕ) (s : List ℕ) → i ≡ k + n
+    → texts_hang nodes k xs ≡ true → kind_at xs n ≡ text s → hangs nodes i ≡ true
 text_hangs nodes [] k i n s e w f = absurd (cc)
 text_hangs nodes (x ∷ xs) k i zero s e w f =
     let both = and_parts (not (is_some (text_of x.kind)) || hangs nodes k) (texts_hang nodes (suc k) xs) w in
@@ -84,9 +78,8 @@ text_hangs nodes (x ∷ xs) k i (suc n) s e w f =
     let both = and_parts (not (is_some (text_of x.kind)) || hangs nodes k) (texts_hang nodes (suc k) xs) w in
     text_hangs nodes xs (suc k) i n s (omega arith) both.1 f
 
-pub stands_in : (m p : ℕ) (nodes : List NodeValue) → is_element (kind_at nodes p) ≡ true → 1
-    ≤ times m (children_at nodes p)
-    → 1 ≤ times m (element_children nodes)
+pub stands_in : (m p : ℕ) (nodes : List NodeValue) → is_element (kind_at nodes p) ≡ true
+    → 1 ≤ times m (children_at nodes p) → 1 ≤ times m (element_children nodes)
 stands_in m p [] e l = absurd (true≢false (sym e))
 stands_in m zero (x ∷ nodes) e l =
     let a = times_append m (own_children x) (element_children nodes) in
@@ -165,9 +158,8 @@ module _ (c : ℕ) where
     pub nodes : new.nodes ≡ with_kind x.node document l.nodes
     pub elements : (n : ℕ) → is_element (kind_at (with_kind x.node document l.nodes) n) ≡ true
         → 1 ≤ times n (numbers l.work) → 1 ≤ times n (numbers new.work)
-    pub children : is_element (kind_at l.nodes x.node) ≡ true → (n : ℕ) → 1
-        ≤ times n (children_at l.nodes x.node)
-        → 1 ≤ times n (numbers new.work)
+    pub children : is_element (kind_at l.nodes x.node) ≡ true → (n : ℕ)
+        → 1 ≤ times n (children_at l.nodes x.node) → 1 ≤ times n (numbers new.work)
 
   same_work : (x : Coming) (l : Layout) (items : List Item) → Free x.node l
       → in_items c l.items + in_kind c (kind_at l.nodes x.node) ≤ in_items c items
@@ -178,8 +170,7 @@ module _ (c : ℕ) where
         let a = work_kept x.node l.nodes l.work (omega arith) in
         let m = times_marked x.node x.node l.nodes in
         let b = under_left x.node l.nodes (omega arith) in
-        let d : under c l.nodes (node_at l.nodes x.node) ≡ 0 =
-        ap (λ (t : Bool). cond t (weigh c l.nodes (children_at l.nodes x.node)) 0) plain in
+        let d = ap (λ (t : Bool). cond t (weigh c l.nodes (children_at l.nodes x.node)) 0) plain in
         omega arith;
     once = λ m. let a = times_marked m x.node l.nodes in omega arith;
     shorter = let a = length_marked x.node l.nodes in omega arith;
@@ -189,8 +180,7 @@ module _ (c : ℕ) where
   }
 
   item_step : (x : Coming) (l : Layout) (d : Data) → Free x.node l → in_kind c (kind_at l.nodes x.node)
-      ≡ in_data c d
-      → is_element (kind_at l.nodes x.node) ≡ false
+      ≡ in_data c d → is_element (kind_at l.nodes x.node) ≡ false
       → Stepped x l (record l {
         nodes = with_kind x.node document l.nodes;
         items = l.items ++ new_item l.items x.under d ∷ [];
@@ -214,8 +204,7 @@ module _ (c : ℕ) where
         let a = work_kept x.node l.nodes l.work (omega arith) in
         let m = times_marked x.node x.node l.nodes in
         let b = under_left x.node l.nodes (omega arith) in
-        let d : under c l.nodes (node_at l.nodes x.node) ≡ 0 =
-        ap (λ (k : KindValue). cond (is_element k) (weigh c l.nodes (children_at l.nodes x.node)) 0) e in
+        let d = ap (λ (k : KindValue). cond (is_element k) (weigh c l.nodes (children_at l.nodes x.node)) 0) e in
         omega arith;
     once = λ m.
         let a = times_marked m x.node l.nodes in
@@ -244,21 +233,17 @@ module _ (c : ℕ) where
         let o = own_times x.node in
         let a = work_kept x.node l.nodes l.work (omega arith) in
         let b = under_left x.node l.nodes (omega arith) in
-        let e : under c l.nodes (node_at l.nodes x.node) ≡ weigh c l.nodes (children_at l.nodes x.node) =
-        ap (λ (t : Bool). cond t (weigh c l.nodes (children_at l.nodes x.node)) 0) is in
+        let e = ap (λ (t : Bool). cond t (weigh c l.nodes (children_at l.nodes x.node)) 0) is in
         let f = weigh_coming c (with_kind x.node document l.nodes) u
         (children_at (with_kind x.node document l.nodes) x.node) l.work in
-        let g : weigh c (with_kind x.node document l.nodes) (children_at (with_kind x.node document l.nodes) x.node)
-        ≡ weigh c (with_kind x.node document l.nodes) (children_at l.nodes x.node) =
-        ap (weigh c (with_kind x.node document l.nodes)) same in
+        let g = ap (weigh c (with_kind x.node document l.nodes)) same in
         let i = weigh_unmarked c x.node (children_at l.nodes x.node) l.nodes (omega arith) in
         omega arith;
     once = λ m.
         let a = times_marked m x.node l.nodes in let o = own_times m in let b = new_times m in omega arith;
     shorter =
         let a = length_marked x.node l.nodes in
-        let o : length (own_children (node_at l.nodes x.node)) ≡ length (children_at l.nodes x.node) =
-        ap (λ (t : Bool). length (cond t (children_at l.nodes x.node) [])) is in
+        let o = ap (λ (t : Bool). length (cond t (children_at l.nodes x.node) [])) is in
         let b : length (numbers (map (coming u) (children_at (with_kind x.node document l.nodes) x.node) ++ l.work))
         ≡ length (children_at l.nodes x.node ++ numbers l.work) = ap length new_numbers in
         let d = length-append (children_at l.nodes x.node) (numbers l.work) in
@@ -293,8 +278,7 @@ module _ (c : ℕ) where
       same_work x l l.items free (omega arith) (ap is_element e)
   kind_step doctype x l deepest e h free = item_step x l doctype_node free (ap (in_kind c) e) (ap is_element e)
   kind_step (text s) x l deepest e h free = text_step x l s deepest e h free
-  kind_step (comment s) x l deepest e h free =
-      item_step x l (comment_node s) free (ap (in_kind c) e) (ap is_element e)
+  kind_step (comment s) x l deepest e h free = item_step x l (comment_node s) free (ap (in_kind c) e) (ap is_element e)
   kind_step (element name attributes) x l deepest e h free =
       element_step x l (element_node (text_of_element_name name) attributes)
       (if deepest then x.under else length l.items) refl (ap (in_kind c) e) (ap is_element e) free

@@ -4,8 +4,8 @@ use Rattle.std.proofs.Common.{refl, sym, ap, subst, arith, cond, Some, inl, inr,
 use Rattle.std.specs.Prelude.{◌==◌}
 use Rattle.std.proofs.lemmas.Bool.{true≢false, eqb-true, eqb-false, eq-eqb}
 use Rattle.htmd_grammar.proofs.Cases.{test}
-use Rattle.htmd_html5_state.specs.Nodes.{KindValue, NodeValue, document, doctype, text, comment, element, kind_at, node_at}
-use Rattle.htmd_html5_state.specs.Nodes.{children_at, parent_at, with_kind}
+use Rattle.htmd_html5_state.specs.Nodes.{KindValue, NodeValue, document, text, kind_at, node_at, children_at}
+use Rattle.htmd_html5_state.specs.Nodes.{parent_at, with_kind}
 use Rattle.htmd_html5.specs.Layout.{Coming, Layout, put_next, layout_within, first_layout, document_of, is_deepest}
 use Rattle.htmd_html5_laws.specs.PageLetters.{occurrences_in, texts_of}
 use Rattle.htmd_html5_laws.specs.KeptLetters.{hangs_within, is_whole}
@@ -19,7 +19,7 @@ use Rattle.htmd_html5_laws.proofs.NodeWeights.{weigh_append, weigh_coming, weigh
 use Rattle.htmd_html5_laws.proofs.LaidTexts.{in_layout}
 use Rattle.htmd_html5_laws.proofs.PendingNodes.{numbers, numbers_coming, element_children, first_once, first_short}
 use Rattle.htmd_html5_laws.proofs.HungNodes.{is_solid, element_solid, Hangs, AllHang}
-use Rattle.htmd_html5_laws.proofs.WholeTexts.{kind_same, Holder, Hanging, hanging, text_hangs, stands_in, no_work}
+use Rattle.htmd_html5_laws.proofs.WholeTexts.{kind_same, Holder, hanging, text_hangs, stands_in, no_work}
 use Rattle.htmd_html5_laws.proofs.WholeTexts.{under_weigh, Stepped, kind_step}
 
 -- ---- while a document is laid out
@@ -53,8 +53,7 @@ first_running nodes root forest utf8 = record {
         → (1 ≤ times n (numbers (first_layout nodes).work)) ⊎ (is_element (kind_at nodes p) ≡ true)
     by_holder n p h (inl z) =
         let a = work n in
-        let b : times n (children_at nodes p) ≡ times n (children_at nodes 0) =
-        ap (λ (x : ℕ). times n (children_at nodes x)) z in
+        let b = ap (λ (x : ℕ). times n (children_at nodes x)) z in
         let d = h.stands in
         inl (omega arith)
     by_holder n p h (inr e) = inr e
@@ -71,26 +70,25 @@ root_plain (x ∷ first) l r root = either (r.same 0)
     either (inl e) = ap is_element e ∙ root
     either (inr e) = ap is_element e
 
+-- a node is pending where its parent isn't taken
+unreached : (n p : ℕ) (l : Layout) → l.work ≡ [] → is_element (kind_at l.nodes p) ≡ false
+    → (1 ≤ times n (numbers l.work)) ⊎ (is_element (kind_at l.nodes p) ≡ true) → ⊥
+unreached n p l e above (inl m) =
+    let z : times n (numbers l.work) ≡ 0 = ap (λ (w : List Coming). times n (numbers w)) e in omega arith
+unreached n p l e above (inr f) = true≢false (sym f ∙ above)
+
 -- an element that hangs under the Document was taken
 taken : (k n : ℕ) (first : List NodeValue) (l : Layout) → Running first l → l.work ≡ []
-    → IsRooted (kinds first)
-    → hangs_within k first n ≡ true → is_element (kind_at l.nodes n) ≡ false
+    → IsRooted (kinds first) → hangs_within k first n ≡ true → is_element (kind_at l.nodes n) ≡ false
 taken zero n first l r e root h =
     subst (λ (i : ℕ). is_element (kind_at l.nodes i) ≡ false) (sym (eqb-true n 0 h)) (root_plain first l r root)
 taken (suc k) n first l r e root h =
-    test (n == 0)
-    (λ t. subst (λ (i : ℕ). is_element (kind_at l.nodes i) ≡ false) (sym (eqb-true n 0 t))
+    test (n == 0) (λ t. subst (λ (i : ℕ). is_element (kind_at l.nodes i) ≡ false) (sym (eqb-true n 0 t))
     (root_plain first l r root))
     (λ t. let hang = hanging (hangs_within k first) first n (rw t at h) in
     let above = taken k hang.by first l r e root hang.hung in
-    test (is_element (kind_at l.nodes n)) (λ f. absurd (none hang above (r.reach n hang.by f hang.holder)))
-    (λ f. f))
-  where
-    none : (hang : Hanging (hangs_within k first) first n) → is_element (kind_at l.nodes hang.by) ≡ false
-        → (1 ≤ times n (numbers l.work)) ⊎ (is_element (kind_at l.nodes hang.by) ≡ true) → ⊥
-    none hang above (inl m) =
-        let z : times n (numbers l.work) ≡ 0 = ap (λ (w : List Coming). times n (numbers w)) e in omega arith
-    none hang above (inr f) = true≢false (sym f ∙ above)
+    test (is_element (kind_at l.nodes n))
+    (λ f. absurd (unreached n hang.by l e above (r.reach n hang.by f hang.holder))) (λ f. f))
 
 -- and so was one that hangs in an order
 ranked : (k n : ℕ) (rank : ℕ → ℕ) (first : List NodeValue) (l : Layout) → Running first l → l.work ≡ []
@@ -106,18 +104,11 @@ ranked (suc k) n rank first l r e root all less =
     solid f (inl g) = element_solid (kind_at first n) (sym (ap is_element g) ∙ f)
     solid f (inr g) = absurd (true≢false (sym f ∙ ap is_element g))
 
-    reached : (p : ℕ) → is_element (kind_at l.nodes p) ≡ false
-        → (1 ≤ times n (numbers l.work)) ⊎ (is_element (kind_at l.nodes p) ≡ true) → ⊥
-    reached p above (inl m) =
-        let z : times n (numbers l.work) ≡ 0 = ap (λ (w : List Coming). times n (numbers w)) e in omega arith
-    reached p above (inr g) = true≢false (sym g ∙ above)
-
     by_hangs : ((m : ℕ) → rank m < k → is_element (kind_at l.nodes m) ≡ false)
         → is_element (kind_at l.nodes n) ≡ true → Hangs rank first n → ⊥
     by_hangs go f (inl z) =
         true≢false (sym f ∙ (ap (λ (x : ℕ). is_element (kind_at l.nodes x)) z ∙ root_plain first l r root))
-    by_hangs go f (inr h) =
-        reached h.by (go h.by (let a = h.less in omega arith)) (r.reach n h.by f h.holder)
+    by_hangs go f (inr h) = unreached n h.by l e (go h.by (let a = h.less in omega arith)) (r.reach n h.by f h.holder)
 
 -- ---- the texts of a document hang
 
@@ -174,8 +165,7 @@ module _ (c : ℕ) where
       kind : (n : ℕ) → kind_at new.nodes n ≡ kind_at (with_kind x.node document l.nodes) n
       kind n = ap (λ (nodes : List NodeValue). kind_at nodes n) s.nodes
 
-      same : (n : ℕ)
-          → (kind_at (with_kind x.node document l.nodes) n ≡ kind_at l.nodes n)
+      same : (n : ℕ) → (kind_at (with_kind x.node document l.nodes) n ≡ kind_at l.nodes n)
           ⊎ (kind_at (with_kind x.node document l.nodes) n ≡ document)
           → (kind_at new.nodes n ≡ kind_at first n) ⊎ (kind_at new.nodes n ≡ document)
       same n (inr f) = inr (kind n ∙ f)
@@ -208,17 +198,14 @@ module _ (c : ℕ) where
       held n p f h (inr g) =
           test (x.node == p)
           (λ t. let q = eqb-true x.node p t in
-          let a : times n (children_at l.nodes x.node) ≡ times n (children_at first p) =
-          ap (λ (i : ℕ). times n (children_at l.nodes i)) q ∙ ap (times n) (r.children p) in
+          let a = ap (λ (i : ℕ). times n (children_at l.nodes i)) q ∙ ap (times n) (r.children p) in
           let b = h.stands in
           inl (s.children (ap (λ (i : ℕ). is_element (kind_at l.nodes i)) q ∙ g) n (omega arith)))
           (λ t. inr (ap is_element (kind p ∙ kind_other x.node p l.nodes (eqb-false x.node p t)) ∙ g))
 
       reach : (n p : ℕ) → is_element (kind_at (with_kind x.node document l.nodes) n) ≡ true → Holder first p n
           → (1 ≤ times n (numbers new.work)) ⊎ (is_element (kind_at new.nodes p) ≡ true)
-      reach n p f h =
-          held n p f h
-          (r.reach n p (sym (ap is_element (kind_other x.node n l.nodes (other n f))) ∙ f) h)
+      reach n p f h = held n p f h (r.reach n p (sym (ap is_element (kind_other x.node n l.nodes (other n f))) ∙ f) h)
 
   -- ---- to the end
 
@@ -236,28 +223,22 @@ module _ (c : ℕ) where
       → length (numbers l.work) + length (element_children l.nodes) ≤ k → Ended first l (layout_within limit k l)
   run limit zero first l r b = record { running = r; empty = no_work l.work (omega arith); more = omega arith }
   run limit (suc k) first l r b =
-      by_work l.work refl
-      (λ (new : Layout) (q : Running first new)
+      by_work l.work refl (λ (new : Layout) (q : Running first new)
       (s : length (numbers new.work) + length (element_children new.nodes) ≤ k). run limit k first new q s)
     where
-      by_work : (work : List Coming) → l.work ≡ work
-          → ((new : Layout) → Running first new
+      by_work : (work : List Coming) → l.work ≡ work → ((new : Layout) → Running first new
           → length (numbers new.work) + length (element_children new.nodes) ≤ k
-          → Ended first new (layout_within limit k new))
-          → Ended first l (layout_within limit (suc k) l)
+          → Ended first new (layout_within limit k new)) → Ended first l (layout_within limit (suc k) l)
       by_work [] e go =
           subst (Ended first l) (sym (stays limit (suc k) l e)) (record { running = r; empty = e; more = omega arith })
       by_work (x ∷ rest) e go =
           let own : ◌≡◌ {A = ℕ} (cond (x.node == x.node) 1 0) 1 = rw (eq-eqb x.node x.node refl) refl in
-          let times_here : times x.node (numbers l.work)
-          ≡ cond (x.node == x.node) 1 0 + times x.node (numbers rest) =
-          ap (λ (w : List Coming). times x.node (numbers w)) e in
+          let times_here = ap (λ (w : List Coming). times x.node (numbers w)) e in
           let once = r.once x.node in
           let s : Stepped c x (record l { work = rest }) (put_next limit (x ∷ rest) l) =
           kind_step c (kind_at l.nodes x.node) x (record l { work = rest }) (is_deepest limit l.items x.under) refl
           r.utf8 (omega arith) in
-          let size : length (numbers l.work) ≡ suc (length (numbers rest)) =
-          ap (λ (w : List Coming). length (numbers w)) e in
+          let size = ap (λ (w : List Coming). length (numbers w)) e in
           let held : weigh_work c l.nodes l.work
           ≡ in_kind c (kind_at l.nodes x.node) + weigh_work c l.nodes rest = ap (weigh_work c l.nodes) e in
           let shorter = s.shorter in
@@ -269,8 +250,7 @@ module _ (c : ℕ) where
           (record { running = d.running; empty = d.empty; more = omega arith })
 
   weigh_zero : (nodes : List NodeValue) (ns : List ℕ)
-      → ((n : ℕ) → 1 ≤ times n ns → in_kind c (kind_at nodes n) ≡ 0)
-      → weigh c nodes ns ≡ 0
+      → ((n : ℕ) → 1 ≤ times n ns → in_kind c (kind_at nodes n) ≡ 0) → weigh c nodes ns ≡ 0
   weigh_zero nodes [] h = omega arith
   weigh_zero nodes (n ∷ ns) h =
       let a = h n (rw (eq-eqb n n refl) (omega arith)) in
@@ -289,15 +269,14 @@ module _ (c : ℕ) where
       (texts_hung : TextsHang first) where
     -- a text that an element holds hangs by it
     text_none : (l : Layout) → Running first l → l.work ≡ [] → (n p : ℕ) → is_element (kind_at l.nodes p)
-        ≡ true
-        → 1 ≤ times n (children_at l.nodes p) → in_kind c (kind_at l.nodes n) ≡ 0
+        ≡ true → 1 ≤ times n (children_at l.nodes p) → in_kind c (kind_at l.nodes n) ≡ 0
     unfolding in_kind
     text_none l r e n p f m = either (r.same n)
       where
         hung : (s : List ℕ) → kind_at first n ≡ text s → ⊥
         hung s g =
             let hang = texts_hung n s g in
-            let a : times n (children_at l.nodes p) ≡ times n (children_at first p) = ap (times n) (r.children p) in
+            let a = ap (times n) (r.children p) in
             let b = forest.once n p in
             let parent = under_itself (parent_at first n) p (omega arith) in
             let same : hang.by ≡ p = some_same (sym hang.parent ∙ parent) in
@@ -309,10 +288,7 @@ module _ (c : ℕ) where
 
         by_kind : (k : KindValue) → kind_at first n ≡ k → in_kind c k ≡ 0
         by_kind (text s) g = absurd (hung s g)
-        by_kind document g = refl
-        by_kind doctype g = refl
-        by_kind (comment s) g = refl
-        by_kind (element name attributes) g = refl
+        by_kind _ g = refl
 
         either : (kind_at l.nodes n ≡ kind_at first n) ⊎ (kind_at l.nodes n ≡ document)
             → in_kind c (kind_at l.nodes n) ≡ 0
@@ -321,8 +297,7 @@ module _ (c : ℕ) where
 
     nothing_left : (l : Layout) → Running first l → l.work ≡ [] → under_all c l.nodes l.nodes ≡ 0
     nothing_left l r e =
-        under_zero l.nodes l.nodes
-        (λ p. test (is_element (kind_at l.nodes p))
+        under_zero l.nodes l.nodes (λ p. test (is_element (kind_at l.nodes p))
         (λ f. ap (λ (t : Bool). cond t (weigh c l.nodes (children_at l.nodes p)) 0) f
         ∙ weigh_zero l.nodes (children_at l.nodes p) (λ n m. text_none l r e n p f m))
         (λ f. ap (λ (t : Bool). cond t (weigh c l.nodes (children_at l.nodes p)) 0) f))
@@ -362,8 +337,7 @@ module _ (c : ℕ) where
         rest m (inr e) g = inl (ap (in_kind c) e)
         rest m (inl e) (inl z) = inl (ap (in_kind c) e ∙ z)
         rest m (inl e) (inr l) =
-            test (n == m)
-            (λ t. inl (ap (in_kind c)
+            test (n == m) (λ t. inl (ap (in_kind c)
             (ap (λ (i : ℕ). kind_at (with_kind n document nodes) i) (sym (eqb-true n m t)) ∙ kind_same n nodes)))
             (λ t. let k = rw t at l in inr (omega arith))
 
@@ -379,13 +353,11 @@ module _ (c : ℕ) where
             let a = times_append n (children_at first 0) (element_children first) in
             stands hang hang.holder.either
           where
-            stands : (hang : TextHangs first n)
-                → (hang.by ≡ 0) ⊎ (is_element (kind_at first hang.by) ≡ true)
+            stands : (hang : TextHangs first n) → (hang.by ≡ 0) ⊎ (is_element (kind_at first hang.by) ≡ true)
                 → 1 ≤ times n (children_at first 0 ++ element_children first)
             stands hang (inl z) =
                 let a = times_append n (children_at first 0) (element_children first) in
-                let b : times n (children_at first hang.by) ≡ times n (children_at first 0) =
-                ap (λ (i : ℕ). times n (children_at first i)) z in
+                let b = ap (λ (i : ℕ). times n (children_at first i)) z in
                 let d = hang.holder.stands in
                 omega arith
             stands hang (inr f) =
@@ -396,10 +368,7 @@ module _ (c : ℕ) where
         by_kind : (k : KindValue) → kind_at first n ≡ k
             → (in_kind c k ≡ 0) ⊎ (1 ≤ times n (children_at first 0 ++ element_children first))
         by_kind (text s) g = inr (held s g)
-        by_kind document g = inl refl
-        by_kind doctype g = inl refl
-        by_kind (comment s) g = inl refl
-        by_kind (element name attributes) g = inl refl
+        by_kind _ g = inl refl
 
     all_first : in_nodes c first ≤ in_layout c (first_layout first)
     all_first =
@@ -422,7 +391,5 @@ module _ (c : ℕ) where
         let a = all_first in
         let more = d.more in
         let left = nothing_left (layout_within limit (length first) (first_layout first)) d.running d.empty in
-        let none : weigh_work c (layout_within limit (length first) (first_layout first)).nodes
-        (layout_within limit (length first) (first_layout first)).work ≡ 0 =
-        ap (weigh_work c (layout_within limit (length first) (first_layout first)).nodes) d.empty in
+        let none = ap (weigh_work c (layout_within limit (length first) (first_layout first)).nodes) d.empty in
         omega arith
