@@ -18,7 +18,7 @@ use Rattle.htmd_html5_laws.proofs.EndedRuns.{take_left}
 use Rattle.htmd_html5_laws.proofs.EndedStacks.{Has, at_root, is_any}
 use Rattle.htmd_html5_laws.proofs.EndedStates.{Ends, Manner, Whole, insert_comment_in_ends, insert_doctype_ends}
 use Rattle.htmd_html5_laws.proofs.EndedStates.{insert_root_ends, insert_text_ends, stack_kept, whole_fewer}
-use Rattle.htmd_html5_laws.proofs.EndedSteps.{Answered, FreeModes, HasSome, Ready, Turned, anchor_of, any_step}
+use Rattle.htmd_html5_laws.proofs.EndedSteps.{Answered, FreeModes, HasSome, Ready, anchor_of, any_step}
 use Rattle.htmd_html5_laws.proofs.EndedTokens.{by_rules_ends}
 use Rattle.htmd_html5_laws.proofs.OpenNodes.{pop_fewer}
 use Rattle.htmd_html5_laws.proofs.OrderedHead.{stays_html}
@@ -208,9 +208,6 @@ within_stands (suc k) token s e (inr h) = inr (within_open (suc k) token s e h.0
 
 -- ---- texts
 
-turned_calm : {was : Bool} {s new : StateValue} → is_text_mode s.content ≡ false → Turned s new → Calm was new
-turned_calm c h = inr (h.ready, ap is_text_mode h.content ∙ c)
-
 no_table_mode : (mode : InsertionMode) → is_early mode ≡ true → is_table_mode mode ≡ false
 no_table_mode Initial e = refl
 no_table_mode BeforeHtml e = refl
@@ -225,7 +222,8 @@ run_calm {was} go rest a more g =
 take_calm : {was : Bool} (k : ℕ) (text : List ℕ) (s : StateValue) → Calm was s
     → Calm was (take_within k text s).state
 take_calm zero text s h = h
-take_calm (suc k) text s (inr h) = turned_calm h.1 (take_left (suc k) text s h.0)
+take_calm (suc k) text s (inr h) =
+    let x = take_left (suc k) text s h.0 in inr (x.ready, ap is_text_mode x.content ∙ h.1)
 take_calm (suc k) text s (inl h) =
     rw (ap (λ (b : Bool). b && current_is Fostering s.stack) (no_table_mode s.mode h.early))
     (run_calm (take_within k text) (after_first_run text) (by_rules (first_token text) s)

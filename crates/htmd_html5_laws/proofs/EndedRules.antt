@@ -17,7 +17,7 @@ use Rattle.htmd_html5.specs.InBody.{end_of_file_in_template}
 use Rattle.htmd_html5.specs.InCaption.{end_caption, has_caption}
 use Rattle.htmd_html5.specs.InCell.{end_cell}
 use Rattle.htmd_html5.specs.InColumnGroup.{end_columns, has_columns}
-use Rattle.htmd_html5.specs.InFrameset.{end_frameset, with_frameset_closed}
+use Rattle.htmd_html5.specs.InFrameset.{end_frameset}
 use Rattle.htmd_html5.specs.InHead.{close_head}
 use Rattle.htmd_html5.specs.InHeadNoscript.{close_noscript}
 use Rattle.htmd_html5.specs.InRow.{end_row, has_row}
@@ -55,7 +55,6 @@ use Rattle.htmd_html5_state.specs.Adoption.{adoption_agency, formatting_element,
 use Rattle.htmd_html5_state.specs.Formatting.{clear_to_marker}
 use Rattle.htmd_html5_state.specs.Insertion.{insert_doctype, insert_element, open_again, opened}
 use Rattle.htmd_html5_state.specs.Names.{ElementNameValue, NameValue, html, known, text_of_name}
-use Rattle.htmd_html5_state.specs.Nodes.{KindValue}
 use Rattle.htmd_html5_state.specs.OpenElements.{OpenValue, clear_to, current_is, first_open, has_second, is_in_scope}
 use Rattle.htmd_html5_state.specs.OpenElements.{is_node_in_scope, is_open, outermost, pop, pop_until, pop_while}
 use Rattle.htmd_html5_state.specs.OpenElements.{without}
@@ -235,6 +234,8 @@ close_form_left : (s : StateValue) (form : Option ℕ)
     → ((n : ℕ) → form ≡ Some n → CommonAt (kinds s.nodes) n) → Whole s → AgencyLeft s (close_form form s)
 close_form_left s None f h = record { whole = h; keeps = λ a k l. l; same = refl; grows = grows_same refl }
 close_form_left s (Some n) f h =
+    let left = pop_while ImpliedEnd s.stack in
+    let popped = whole_fewer left (pop_while_fewer ImpliedEnd s.stack) h in
     cond_both (is_node_in_scope n s.stack) _ _ (λ x. AgencyLeft s x)
     (λ t. record {
       whole = whole_fewer (without n left) (without_fewer n left) popped;
@@ -243,19 +244,10 @@ close_form_left s (Some n) f h =
       same = refl;
       grows = grows_same refl;
     }) (λ t. record { whole = h; keeps = λ a k l. l; same = refl; grows = grows_same refl })
-  where
-    left : List OpenValue
-    left = pop_while ImpliedEnd s.stack
-
-    popped : Whole (on_stack (pop_while ImpliedEnd) s)
-    popped = whole_fewer (pop_while ImpliedEnd s.stack) (pop_while_fewer ImpliedEnd s.stack) h
-
-no_form : (ks : List KindValue) (n : ℕ) → None ≡ Some n → CommonAt ks n
-no_form ks n e = absurd (cc)
 
 form_left : (s : StateValue) → Whole s
     → AgencyLeft (record s { form = None }) (close_form s.form (record s { form = None }))
-form_left s h = close_form_left (record s { form = None }) s.form h.form_at (whole_form (no_form (kinds s.nodes)) h)
+form_left s h = close_form_left (record s { form = None }) s.form h.form_at (whole_form (λ n e. absurd (cc)) h)
 
 pub noted_form_ends : Ends is_firm (λ s. close_form s.form (record s { form = None }))
 noted_form_ends = record {
@@ -394,7 +386,8 @@ comment_in_ends text (Some n) = insert_comment_in_ends n text
 pub second_turns : {mode : InsertionMode} → anchor_of mode ≡ None → Onward mode end_frameset
 second_turns {mode} free = record {
   turns = λ s e h. cond_both (has_second s.stack) _ _ (λ x. Turned s x)
-      (λ t. let x = closed (on_stack pop s) e (record {
+      (λ t. let x = (onward_either (λ x. current_is (Only tags.FrameSet) x.stack) (any_turn ends_still)
+      (to_free {p = is_any} AfterFrameset refl refl ends_still)).turns (on_stack pop s) e (record {
         whole = whole_fewer (pop s.stack) (pop_fewer s.stack) h.whole;
         modes = h.modes;
         root = second_popped s.stack t h.root;
@@ -402,11 +395,6 @@ second_turns {mode} free = record {
       }) in
       record { ready = x.ready; content = x.content }) (λ t. record { ready = h; content = refl });
 }
-  where
-    closed : (s : StateValue) → s.mode ≡ mode → Ready s → Turned s (with_frameset_closed s)
-    closed s e h =
-        (onward_either (λ x. current_is (Only tags.FrameSet) x.stack) (any_turn ends_still)
-        (to_free {p = is_any} AfterFrameset refl refl ends_still)).turns s e h
 
 pub template_mode_turns : {mode : InsertionMode} (next : InsertionMode) → anchor_of next ≡ None
     → Onward mode (with_template_mode next)
@@ -472,24 +460,20 @@ is_section (Only tag) = has TableBodyContext tag && spares (Only tag) at_root
 is_section TableSections = true
 is_section set = false
 
+section_named : (set : NameSet) → is_section set ≡ true → (spares set at_root ≡ true)
+    × ((name : ElementNameValue) → is_of set name ≡ true → is_of TableBodyContext name ≡ true)
+section_named (Only tag) e = let x = and_parts _ _ e in (x.1, one_of_names tag TableBodyContext x.0)
+section_named TableSections e = (refl, section_of)
+section_named set e = absurd (true≢false (sym e))
+
 pub end_section_turns : {mode : InsertionMode} (set : NameSet) → is_section set ≡ true
     → Onward mode (end_section set)
 end_section_turns set e =
     onward_where (λ s. is_in_scope set TableScope s.stack)
     (λ s t h. pop_closed InTable refl s h (pop (clear_to TableBodyContext s.stack))
     (fewer_then (pop_fewer (clear_to TableBodyContext s.stack)) (clear_to_fewer TableBodyContext s.stack))
-    (cleared_popped set TableBodyContext TableScope (outside set e) refl (within set e) s.stack h.root t))
-  where
-    outside : (set : NameSet) → is_section set ≡ true → spares set at_root ≡ true
-    outside (Only tag) e = (and_parts _ _ e).1
-    outside TableSections e = refl
-    outside set e = absurd (true≢false (sym e))
-
-    within : (set : NameSet) → is_section set ≡ true → (name : ElementNameValue) → is_of set name ≡ true
-        → is_of TableBodyContext name ≡ true
-    within (Only tag) e = one_of_names tag TableBodyContext (and_parts _ _ e).0
-    within TableSections e = section_of
-    within set e = absurd (true≢false (sym e))
+    (cleared_popped set TableBodyContext TableScope (section_named set e).0 refl (section_named set e).1 s.stack h.root
+    t))
 
 pub end_row_turns : {mode : InsertionMode} → Onward mode end_row
 end_row_turns =

@@ -10,7 +10,7 @@ use Rattle.htmd_html5_state.specs.Adoption.{bounds_any}
 use Rattle.htmd_html5_state.specs.Foreign.{ForeignEnd, by_mode, closed_to, ends_foreign, foreign_end, is_html}
 use Rattle.htmd_html5_state.specs.Foreign.{is_html_name, is_spelled_so, leave_foreign}
 use Rattle.htmd_html5_state.specs.Names.{ElementNameValue, NameValue, html, known, math, other, same_element_name}
-use Rattle.htmd_html5_state.specs.Names.{same_name, svg}
+use Rattle.htmd_html5_state.specs.Names.{svg}
 use Rattle.htmd_html5_state.specs.Nodes.{NodeValue}
 use Rattle.htmd_html5_state.specs.OpenElements.{OpenValue, around, clear_to, close, close_name, current_is, has_name}
 use Rattle.htmd_html5_state.specs.OpenElements.{has_second, inside, is_closable, is_in, is_in_scope, is_open, outermost}
@@ -70,38 +70,41 @@ is_any a = true
 
 -- ---- names
 
+-- what is said of a name is so of each of its names
+abbrev pub each_name : (ElementNameValue → Bool) → Anchor → Bool
+each_name f at_root = f (html (known tags.Html))
+each_name f at_cell = f (html (known tags.Td)) && f (html (known tags.Th))
+each_name f at_head = f (html (known tags.Head))
+each_name f at_noscript = f (html (known tags.NoScript))
+each_name f at_select = f (html (known tags.Select))
+
+named_so : (f : ElementNameValue → Bool) (a : Anchor) → each_name f a ≡ true → (name : ElementNameValue)
+    → is_of (names_of a) name ≡ true → f name ≡ true
+named_so f at_root e (html (known tags.Html)) p = e
+named_so f at_cell e (html (known tags.Td)) p = (and_parts _ _ e).0
+named_so f at_cell e (html (known tags.Th)) p = (and_parts _ _ e).1
+named_so f at_head e (html (known tags.Head)) p = e
+named_so f at_noscript e (html (known tags.NoScript)) p = e
+named_so f at_select e (html (known tags.Select)) p = e
+named_so f a e name p = absurd (true≢false (sym p))
+
 -- no name of the set is one of its names
 abbrev pub spares : NameSet → Anchor → Bool
-spares set at_root = not (has set tags.Html)
-spares set at_cell = not (has set tags.Td) && not (has set tags.Th)
-spares set at_head = not (has set tags.Head)
-spares set at_noscript = not (has set tags.NoScript)
-spares set at_select = not (has set tags.Select)
+spares set a = each_name (λ name. not (is_of set name)) a
 
 pub spared : (set : NameSet) (a : Anchor) → spares set a ≡ true → (name : ElementNameValue)
     → is_of (names_of a) name ≡ true → is_of set name ≡ false
-spared set at_root f (html (known tags.Html)) p = not-true (has set tags.Html) f
-spared set at_cell f (html (known tags.Td)) p = not-true (has set tags.Td) (and_parts _ _ f).0
-spared set at_cell f (html (known tags.Th)) p = not-true (has set tags.Th) (and_parts _ _ f).1
-spared set at_head f (html (known tags.Head)) p = not-true (has set tags.Head) f
-spared set at_noscript f (html (known tags.NoScript)) p = not-true (has set tags.NoScript) f
-spared set at_select f (html (known tags.Select)) p = not-true (has set tags.Select) f
-spared set a f name p = absurd (true≢false (sym p))
+spared set a f name p = not-true (is_of set name) (named_so (λ n. not (is_of set n)) a f name p)
 
 -- nor is this name
 abbrev pub spares_name : NameValue → Anchor → Bool
-spares_name name at_root = not (same_name (known tags.Html) name)
-spares_name name at_cell = not (same_name (known tags.Td) name) && not (same_name (known tags.Th) name)
-spares_name name a = false
+spares_name name a = is_firm a && each_name (λ found. not (same_element_name found (html name))) a
 
 name_spared : (name : NameValue) (a : Anchor) → spares_name name a ≡ true → (found : ElementNameValue)
     → is_of (names_of a) found ≡ true → same_element_name found (html name) ≡ false
-name_spared name at_root f (html (known tags.Html)) p = not-true (same_name (known tags.Html) name) f
-name_spared name at_cell f (html (known tags.Td)) p = not-true (same_name (known tags.Td) name) (and_parts _ _ f).0
-name_spared name at_cell f (html (known tags.Th)) p = not-true (same_name (known tags.Th) name) (and_parts _ _ f).1
-name_spared name at_root f found p = absurd (true≢false (sym p))
-name_spared name at_cell f found p = absurd (true≢false (sym p))
-name_spared name a f found p = absurd (true≢false (sym f))
+name_spared name a f found p =
+    not-true (same_element_name found (html name))
+    (named_so (λ n. not (same_element_name n (html name))) a (and_parts _ _ f).1 found p)
 
 -- neither the root's name nor a cell's
 abbrev pub is_common_tag : TagName → Bool
@@ -119,21 +122,18 @@ is_common (html name) = is_common_name name
 is_common (svg s) = true
 is_common (math s) = true
 
-pub firm_name : (a : Anchor) → is_firm a ≡ true → (name : ElementNameValue) → is_of (names_of a) name ≡ true
-    → is_common name ≡ false
-firm_name at_root p (html (known tags.Html)) h = refl
-firm_name at_cell p (html (known tags.Td)) h = refl
-firm_name at_cell p (html (known tags.Th)) h = refl
-firm_name at_root p name h = absurd (true≢false (sym h))
-firm_name at_cell p name h = absurd (true≢false (sym h))
-firm_name a p name h = absurd (true≢false (sym p))
-
 -- what holds of both the root and cells
 pub both_firm : (f : Anchor → Bool) → (f at_root && f at_cell) ≡ true → (a : Anchor) → is_firm a ≡ true
     → f a ≡ true
 both_firm f e at_root p = (and_parts _ _ e).0
 both_firm f e at_cell p = (and_parts _ _ e).1
 both_firm f e a p = absurd (true≢false (sym p))
+
+pub firm_name : (a : Anchor) → is_firm a ≡ true → (name : ElementNameValue) → is_of (names_of a) name ≡ true
+    → is_common name ≡ false
+firm_name a p name h =
+    not-true (is_common name)
+    (named_so (λ n. not (is_common n)) a (both_firm (each_name (λ n. not (is_common n))) refl a p) name h)
 
 pub tag_spares : (tag : TagName) → is_common_tag tag ≡ true
     → ((spares (Only tag) at_root && spares (Only tag) at_cell) ≡ true)
@@ -147,18 +147,11 @@ tag_spares tag e = (refl, refl)
 
 -- its names bound the scope
 abbrev pub is_bound : Scope → Anchor → Bool
-is_bound scope at_root = bounds_known scope tags.Html
-is_bound scope at_cell = bounds_known scope tags.Td && bounds_known scope tags.Th
-is_bound scope a = false
+is_bound scope a = is_firm a && each_name (bounds scope) a
 
 bounded : (scope : Scope) (a : Anchor) → is_bound scope a ≡ true → (name : ElementNameValue)
     → is_of (names_of a) name ≡ true → bounds scope name ≡ true
-bounded scope at_root w (html (known tags.Html)) p = w
-bounded scope at_cell w (html (known tags.Td)) p = (and_parts _ _ w).0
-bounded scope at_cell w (html (known tags.Th)) p = (and_parts _ _ w).1
-bounded scope at_root w name p = absurd (true≢false (sym p))
-bounded scope at_cell w name p = absurd (true≢false (sym p))
-bounded scope a w name p = absurd (true≢false (sym w))
+bounded scope a w name p = named_so (bounds scope) a (and_parts (is_firm a) _ w).1 name p
 
 -- ---- elements are popped
 
@@ -204,19 +197,7 @@ open_root set f [] h l = h
 open_root set f (e ∷ es) (inl h) l = absurd (true≢false (sym (rw (spared set at_root f e.name h.0, h.1) at l)))
 open_root set f (e ∷ es) (inr h) l = test (is_in set e) (λ t. rw t h) (λ t. rw t (open_root set f es h (rw t at l)))
 
-root_in : (set : NameSet) → has set tags.Html ≡ true → (name : ElementNameValue)
-    → is_of (Only tags.Html) name ≡ true → is_of set name ≡ true
-root_in set f (html (known tags.Html)) p = f
-root_in set f name p = absurd (true≢false (sym p))
-
--- back to one of these, if the root is one
-clear_to_root : (set : NameSet) → has set tags.Html ≡ true → (stack : List OpenValue) → Has at_root stack
-    → Has at_root (clear_to set stack)
-clear_to_root set f [] h = h
-clear_to_root set f (e ∷ es) (inl h) = rw (root_in set f e.name h.0) (inl h)
-clear_to_root set f (e ∷ es) (inr h) = test (is_in set e) (λ t. rw t (inr h)) (λ t. rw t (clear_to_root set f es h))
-
--- and the one that it was cleared to is popped, where it isn't the root
+-- back to an element of the context, one that is in scope, which is popped: the root stays
 pub cleared_popped : (wanted context : NameSet) (scope : Scope) → spares wanted at_root ≡ true
     → bounds_known scope tags.Html ≡ true
     → ((name : ElementNameValue) → is_of wanted name ≡ true → is_of context name ≡ true)
@@ -244,9 +225,13 @@ pub only_root : (stack new : List OpenValue) → (Has at_root stack → Has at_r
 only_root stack new f at_root k h = f h
 only_root stack new f a k h = absurd (true≢false (sym k))
 
+-- back to one of these, if the root is one
 pub cleared_has : (set : NameSet) (a : Anchor) → (is_root a && has set tags.Html) ≡ true
     → (stack : List OpenValue) → Has a stack → Has a (clear_to set stack)
-cleared_has set at_root f stack h = clear_to_root set f stack h
+cleared_has set at_root f [] h = h
+cleared_has set at_root f (e ∷ es) (inl h) = rw (named_so (is_of set) at_root f e.name h.0) (inl h)
+cleared_has set at_root f (e ∷ es) (inr h) =
+    test (is_in set e) (λ t. rw t (inr h)) (λ t. rw t (cleared_has set at_root f es h))
 cleared_has set a f stack h = absurd (true≢false (sym f))
 
 -- ---- as long as the current node is one of these

@@ -15,7 +15,7 @@ use Rattle.htmd_html5_laws.proofs.NodeTexts.{kind_read, kinds, kinds_add, kinds_
 use Rattle.htmd_html5_laws.proofs.OpenNodes.{EachOpen, Fewer, each_more}
 use Rattle.htmd_html5_state.specs.Foreign.{foreign_attributes, foreign_name, insert_foreign}
 use Rattle.htmd_html5_state.specs.Formatting.{after_closed, clear_to_marker, insert_formatting, insert_like, is_listed}
-use Rattle.htmd_html5_state.specs.Formatting.{push_marker, reconstruct, reopen, without_entry}
+use Rattle.htmd_html5_state.specs.Formatting.{push_marker, reconstruct, without_entry}
 use Rattle.htmd_html5_state.specs.Insertion.{current, insert_at, insert_comment, insert_comment_in, insert_doctype}
 use Rattle.htmd_html5_state.specs.Insertion.{insert_element, insert_named, insert_root, insert_text, insert_void}
 use Rattle.htmd_html5_state.specs.Insertion.{opened, place}
@@ -314,18 +314,6 @@ like_reopened s (element name attributes) p h = record {
 }
 like_reopened s k p h = absurd (true≢false (sym p))
 
-reopened : (s : StateValue) (n : ℕ) (t : StateValue) → CommonAt (kinds s.nodes) n → Reopened s t
-    → Reopened s (reopen n t)
-reopened s n t c before =
-    let last = like_reopened t (kind_at t.nodes n)
-    (ap (is_named is_common) (kind_read t.nodes n) ∙ before.grows.names is_common n c) before.whole in
-    record {
-      whole = last.whole;
-      grows = grows_then before.grows last.grows;
-      keeps = λ a l. last.keeps a (before.keeps a l);
-      same = last.same ∙ before.same;
-    }
-
 all_reopened : (s : StateValue) → Whole s → Reopened (on_formatting (after_closed s.stack) s) (reconstruct s)
 all_reopened s h =
     reconstructed (CommonAt (kinds s.nodes)) (Reopened (on_formatting (after_closed s.stack) s)) s h.entries_at
@@ -334,7 +322,15 @@ all_reopened s h =
       grows = grows_same refl;
       keeps = λ a l. l;
       same = refl;
-    }) (reopened (on_formatting (after_closed s.stack) s))
+    })
+    (λ n t c before. let last = like_reopened t (kind_at t.nodes n)
+    (ap (is_named is_common) (kind_read t.nodes n) ∙ before.grows.names is_common n c) before.whole in
+    record {
+      whole = last.whole;
+      grows = grows_then before.grows last.grows;
+      keeps = λ a l. last.keeps a (before.keeps a l);
+      same = last.same ∙ before.same;
+    })
 
 pub reconstruct_ends : {p : Anchor → Bool} → Ends p reconstruct
 reconstruct_ends = record {

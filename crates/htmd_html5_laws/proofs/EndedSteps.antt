@@ -14,7 +14,7 @@ use Rattle.htmd_html5_laws.proofs.EndedStacks.{Anchor, Has, at_cell, at_head, at
 use Rattle.htmd_html5_laws.proofs.EndedStates.{Ends, Manner, Whole, insert_element_ends, whole_fewer}
 use Rattle.htmd_html5_laws.proofs.OpenNodes.{pop_until_fewer}
 use Rattle.htmd_html5_state.specs.Insertion.{opened}
-use Rattle.htmd_html5_state.specs.Names.{ElementNameValue, html, known, math, other, svg}
+use Rattle.htmd_html5_state.specs.Names.{ElementNameValue, html, known}
 use Rattle.htmd_html5_state.specs.OpenElements.{OpenValue, is_in_scope, pop, pop_until}
 use Rattle.htmd_html5_state.specs.Resetting.{mode_for_name, mode_of, reset_insertion_mode, template_mode}
 use Rattle.htmd_html5_state.specs.State.{StateValue, on_stack}
@@ -301,10 +301,7 @@ named_fact (html (known tags.Template)) n outer s mode f h =
     free [] g = refl
     free (m ∷ ms) g = g.0
 named_fact (html (known tags.Html)) n outer s mode f h = test (is_some s.head) (λ t. rw t tt) (λ t. rw t tt)
-named_fact (html (known _)) n outer s mode f h = some_more (anchor_of mode) _ outer h
-named_fact (html (other t)) n outer s mode f h = some_more (anchor_of mode) _ outer h
-named_fact (svg t) n outer s mode f h = some_more (anchor_of mode) _ outer h
-named_fact (math t) n outer s mode f h = some_more (anchor_of mode) _ outer h
+named_fact _ n outer s mode f h = some_more (anchor_of mode) _ outer h
 
 reset_fact : (stack : List OpenValue) (s : StateValue) → FreeModes s.template_modes
     → HasSome (anchor_of (mode_of stack s)) stack

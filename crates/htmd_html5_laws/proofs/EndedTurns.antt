@@ -10,7 +10,7 @@ use Rattle.htmd_html5.specs.Outcomes.{Outcome, done}
 use Rattle.htmd_html5.specs.Processing.{by_rules, turns}
 use Rattle.htmd_html5.specs.Runs.{first_run}
 use Rattle.htmd_html5.specs.Texts.{first_token}
-use Rattle.htmd_html5.specs.Tokens.{StartTagValue, TokenValue, comment, doctype, end_of_file, end_tag, run, start_tag}
+use Rattle.htmd_html5.specs.Tokens.{StartTagValue, TokenValue, end_of_file, end_tag, run, start_tag}
 use Rattle.htmd_html5_laws.proofs.OpenNodes.{clear_to_fewer, fewer_then, leave_foreign_fewer, pop_fewer}
 use Rattle.htmd_html5_laws.proofs.OpenNodes.{pop_through_fewer}
 use Rattle.htmd_html5_laws.proofs.RuleBook.{end_in, rule_in, start_in}
@@ -110,10 +110,7 @@ through_shorter : (wanted : OpenValue → Bool) (e : OpenValue) (es : List OpenV
     → length (pop_through wanted (e ∷ es)) < suc (length es)
 through_shorter wanted e es =
     test (wanted e) (λ t. rw t (omega arith))
-    (λ t. rw t (more (length (pop_through wanted es)) (length es) (pop_through_fewer wanted es).shorter))
-  where
-    more : (a b : ℕ) → a ≤ b → a < suc b
-    more a b h = omega arith
+    (λ t. rw t (let a = (pop_through_fewer wanted es).shorter in omega arith))
 
 -- where something is in scope, one is popped at least
 until_shorter : (set : NameSet) (scope : Scope) (sought : NameSet) (stack : List OpenValue)
@@ -300,10 +297,7 @@ foreign_falls (start_tag tag) s p =
 foreign_falls (end_tag name) s p =
     falls_either (end_breaks_out name) (breaks_falls (end_tag name) s p)
     (falls_either (goes_by_mode (foreign_end (text_of_name name) s.stack)) (mode_falls (end_tag name) s p) stops)
-foreign_falls (run kind text) s p = stops
-foreign_falls (comment text) s p = stops
-foreign_falls (doctype quirks) s p = stops
-foreign_falls end_of_file s p = stops
+foreign_falls _ s p = stops
 
 rules_fall : (token : TokenValue) (s : StateValue) → is_markup token ≡ true
     → Falls (rank_of token) (rank_of token s.mode) s (by_rules token s)

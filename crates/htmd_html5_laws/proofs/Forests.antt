@@ -1,7 +1,7 @@
 -- Where nodes stand: each among the children of its parent at most once, and nowhere else.
 use Rattle.std.proofs.Common.{◌≡◌, ◌∙◌, ℕ, suc, ◌<◌, ◌≤◌, Bool, true, false, List, []}
-use Rattle.std.proofs.Common.{◌∷◌, ◌++◌, length, refl, sym, ap, subst, arith, cond, Option, Some, None, inl}
-use Rattle.std.proofs.Common.{inr, ◌⊎◌}
+use Rattle.std.proofs.Common.{◌∷◌, ◌++◌, length, refl, ap, subst, arith, cond, Option, Some, None}
+use Rattle.std.proofs.Common.{⊎_elim}
 use Rattle.std.specs.Prelude.{◌==◌, insert}
 use Rattle.std.proofs.lemmas.Bool.{eqb-true, eqb-false, eq-eqb, ne_eqb}
 use Rattle.std.proofs.lemmas.List.{length-set, length-append}
@@ -24,9 +24,16 @@ once_under (Some q) p = cond (q == p) 1 0
 pub record IsForest (nodes : List NodeValue) : Type 0 where
   pub once : (n p : ℕ) → times n (children_at nodes p) ≤ once_under (parent_at nodes n) p
 
+abbrev Stands : List NodeValue → ℕ → ℕ → Type 0
+Stands nodes n p = times n (children_at nodes p) ≤ once_under (parent_at nodes n) p
+
 -- of one node, and of all others
-by_node : (P : ℕ → Type 0) (n m : ℕ) → P n → ((n ≡ m → ⊥) → P m) → P m
-by_node P n m own others = test (n == m) (λ t. subst P (eqb-true n m t) own) (λ t. others (eqb-false n m t))
+forest_by : (n : ℕ) {nodes : List NodeValue} → ((p : ℕ) → Stands nodes n p)
+    → ((m p : ℕ) → (n ≡ m → ⊥) → Stands nodes m p) → IsForest nodes
+forest_by n {nodes} own others = record {
+  once = λ m p. test (n == m) (λ t. subst (λ (x : ℕ). Stands nodes x p) (eqb-true n m t) (own p))
+      (λ t. others m p (eqb-false n m t));
+}
 
 one_at_most : (b : Bool) → cond b 1 0 ≤ 1
 one_at_most true = omega arith
@@ -42,23 +49,32 @@ here p q e = rw (eq-eqb p q e) refl
 pub elsewhere : (p q : ℕ) → (p ≡ q → ⊥) → once_under (Some p) q ≡ 0
 elsewhere p q h = rw (ne_eqb p q h) refl
 
+-- a node stands under its parent alone
+pub nowhere_else : (n p q : ℕ) (nodes : List NodeValue) → IsForest nodes → parent_at nodes n ≡ Some p
+    → (p ≡ q → ⊥) → times n (children_at nodes q) ≡ 0
+nowhere_else n p q nodes h e f =
+    let a = h.once n q in
+    let b = ap (λ (o : Option ℕ). once_under o q) e ∙ elsewhere p q f in
+    omega arith
+
+nowhere : (n q : ℕ) (nodes : List NodeValue) → IsForest nodes → parent_at nodes n ≡ None
+    → times n (children_at nodes q) ≡ 0
+nowhere n q nodes h e =
+    let a = h.once n q in let b = ap (λ (o : Option ℕ). once_under o q) e in omega arith
+
 -- the children of a node were changed
 by_place : (m p q k : ℕ) (cs : List ℕ) (nodes : List NodeValue) → (p ≡ q → times m cs ≤ k)
     → ((p ≡ q → ⊥) → times m (children_at nodes q) ≤ k)
     → times m (children_at (with_children p cs nodes) q) ≤ k
 by_place m p q k cs nodes same other =
     test (p == q) (λ e. subst (λ (x : ℕ). times m (children_at (with_children p cs nodes) x) ≤ k) (eqb-true p q e)
-    (at_same (same (eqb-true p q e)) (children_same p cs nodes)))
+    (⊎_elim (λ g. let f = ap (times m) g in let l = same (eqb-true p q e) in omega arith)
+    (λ g. let f : times m (children_at (with_children p cs nodes) p) ≡ 0 = ap (times m) g in omega arith)
+    (children_same p cs nodes)))
     (λ e. let g = eqb-false p q e in
     let f = ap (times m) (children_other p q cs nodes g) in
     let l = other g in
     omega arith)
-  where
-    at_same : times m cs ≤ k
-        → (children_at (with_children p cs nodes) p ≡ cs) ⊎ (children_at (with_children p cs nodes) p ≡ [])
-        → times m (children_at (with_children p cs nodes) p) ≤ k
-    at_same l (inl g) = subst (λ (x : List ℕ). times m x ≤ k) (sym g) l
-    at_same l (inr g) = subst (λ (x : List ℕ). times m x ≤ k) (sym g) (omega arith)
 
 -- ---- a node is taken out
 
@@ -71,7 +87,7 @@ detached_from : (o : Option ℕ) (n : ℕ) (nodes : List NodeValue) → parent_a
     → Detached n nodes (detach_from o n nodes)
 detached_from None n nodes e h = record { forest = h; free = e; size = refl }
 detached_from (Some p) n nodes e h = record {
-  forest = record { once = λ m q. bound m q };
+  forest = forest_by n own others;
   free = parent_same n None left within;
   size = length-set left n _ ∙ size;
 }
@@ -85,22 +101,17 @@ detached_from (Some p) n nodes e h = record {
     within : n < length left
     within = let l = has_parent n p nodes e in let f = size in omega arith
 
-    own : (q : ℕ) → times n (children_at (with_parent n None left) q)
-        ≤ once_under (parent_at (with_parent n None left) n) q
+    own : (q : ℕ) → Stands (with_parent n None left) n q
     own q =
         let none : times n (children_at left q) ≤ 0 =
         by_place n p q 0 (without_child n (children_at nodes p)) nodes
         (λ f. let g = removed_once n (children_at nodes p)
         (let a = h.once n p in let b = once_at_most (parent_at nodes n) p in omega arith) in omega arith)
-        (λ g. let a = h.once n q in
-        let b : once_under (parent_at nodes n) q ≡ 0 = ap (λ (o : Option ℕ). once_under o q) e
-        ∙ elsewhere p q g in
-        omega arith) in
+        (λ g. let a = nowhere_else n p q nodes h e g in omega arith) in
         let same = ap (times n) (children_of_parent n q None left) in
         omega arith
 
-    others : (m q : ℕ) → (n ≡ m → ⊥) → times m (children_at (with_parent n None left) q)
-        ≤ once_under (parent_at (with_parent n None left) m) q
+    others : (m q : ℕ) → (n ≡ m → ⊥) → Stands (with_parent n None left) m q
     others m q g =
         let a = ap (times m) (children_of_parent n q None left) in
         let b : times m (children_at left q) ≤ times m (children_at nodes q) =
@@ -115,12 +126,6 @@ detached_from (Some p) n nodes e h = record {
         (parent_other n m None left g ∙ parent_of_children p m (without_child n (children_at nodes p)) nodes) in
         omega arith
 
-    bound : (m q : ℕ) → times m (children_at (with_parent n None left) q)
-        ≤ once_under (parent_at (with_parent n None left) m) q
-    bound m q =
-        by_node (λ x. times x (children_at (with_parent n None left) q)
-        ≤ once_under (parent_at (with_parent n None left) x) q) n m (own q) (others m q)
-
 detached : (n : ℕ) (nodes : List NodeValue) → IsForest nodes → Detached n nodes (detach n nodes)
 detached n nodes h = detached_from (parent_at nodes n) n nodes refl h
 
@@ -131,7 +136,7 @@ forest_detach n nodes h = (detached n nodes h).forest
 
 pub forest_put : (n : ℕ) (place : _) (nodes : List NodeValue) → n < length nodes → parent_at nodes n ≡ None
     → IsForest nodes → IsForest (put n place nodes)
-forest_put n place nodes l e h = record { once = λ m q. bound m q }
+forest_put n place nodes l e h = forest_by n own others
   where
     p : ℕ
     p = place.parent
@@ -148,24 +153,21 @@ forest_put n place nodes l e h = record { once = λ m q. bound m q }
     within : n < length held
     within = let f : length held ≡ length nodes = length-set nodes p _ in omega arith
 
-    own : (q : ℕ) → times n (children_at new q) ≤ once_under (parent_at new n) q
+    own : (q : ℕ) → Stands new n q
     own q =
         let a : times n (children_at held q) ≤ once_under (Some p) q =
         by_place n p q (once_under (Some p) q) more nodes
         (λ f. let i = times_insert n n (place_index place.next (children_at nodes p)) (children_at nodes p) in
         let o = one_at_most (n == n) in
-        let b = h.once n p in
-        let d : once_under (parent_at nodes n) p ≡ 0 = ap (λ (o : Option ℕ). once_under o p) e in
+        let b = nowhere n p nodes h e in
         let k = here p q f in
         omega arith)
-        (λ g. let b = h.once n q in
-        let d : once_under (parent_at nodes n) q ≡ 0 = ap (λ (o : Option ℕ). once_under o q) e in
-        omega arith) in
+        (λ g. let b = nowhere n q nodes h e in omega arith) in
         let b = ap (times n) (children_of_parent n q (Some p) held) in
         let d = ap (λ (o : Option ℕ). once_under o q) (parent_same n (Some p) held within) in
         omega arith
 
-    others : (m q : ℕ) → (n ≡ m → ⊥) → times m (children_at new q) ≤ once_under (parent_at new m) q
+    others : (m q : ℕ) → (n ≡ m → ⊥) → Stands new m q
     others m q g =
         let a : times m (children_at held q) ≤ times m (children_at nodes q) =
         by_place m p q (times m (children_at nodes q)) more nodes
@@ -180,9 +182,6 @@ forest_put n place nodes l e h = record { once = λ m q. bound m q }
         ap (λ (o : Option ℕ). once_under o q)
         (parent_other n m (Some p) held g ∙ parent_of_children p m more nodes) in
         omega arith
-
-    bound : (m q : ℕ) → times m (children_at new q) ≤ once_under (parent_at new m) q
-    bound m q = by_node (λ x. times x (children_at new q) ≤ once_under (parent_at new x) q) n m (own q) (others m q)
 
 pub forest_detached_put : (n : ℕ) (place : _) (nodes : List NodeValue) → n < length nodes → IsForest nodes
     → IsForest (put n place (detach n nodes))
@@ -266,7 +265,10 @@ under_itself (Some q) p l =
     test (q == p) (λ t. ap Some (eqb-true q p t)) (λ t. absurd (let f = rw t at l in omega arith))
 
 pub forest_move : (from to : ℕ) (nodes : List NodeValue) → IsForest nodes → IsForest (move_children from to nodes)
-forest_move from to nodes h = record { once = λ m q. bound m q }
+forest_move from to nodes h = record {
+  once = λ m q. test (times m moved == 0) (λ z. others m q (eqb-true (times m moved) 0 z))
+      (λ z. let some = eqb-false (times m moved) 0 z in those m q (omega arith));
+}
   where
     moved : List ℕ
     moved = children_at nodes from
@@ -293,7 +295,7 @@ forest_move from to nodes h = record { once = λ m q. bound m q }
     fewer : (m q : ℕ) → times m (children_at emptied q) ≤ times m (children_at nodes q)
     fewer m q = by_place m from q (times m (children_at nodes q)) [] nodes (λ f. omega arith) (λ f. omega arith)
 
-    others : (m q : ℕ) → times m moved ≡ 0 → times m (children_at new q) ≤ once_under (parent_at new m) q
+    others : (m q : ℕ) → times m moved ≡ 0 → Stands new m q
     others m q e =
         let a : times m (children_at new q) ≤ times m (children_at nodes q) =
         by_place m to q (times m (children_at nodes q)) (children_at named to ++ moved) named
@@ -313,12 +315,9 @@ forest_move from to nodes h = record { once = λ m q. bound m q }
     none_left : (m q : ℕ) → parent_at nodes m ≡ Some from → times m (children_at emptied q) ≤ 0
     none_left m q e =
         by_place m from q 0 [] nodes (λ f. omega arith)
-        (λ g. let a = h.once m q in
-        let b : once_under (parent_at nodes m) q ≡ 0 = ap (λ (o : Option ℕ). once_under o q) e
-        ∙ elsewhere from q g in
-        omega arith)
+        (λ g. let a = nowhere_else m from q nodes h e g in omega arith)
 
-    those : (m q : ℕ) → 1 ≤ times m moved → times m (children_at new q) ≤ once_under (parent_at new m) q
+    those : (m q : ℕ) → 1 ≤ times m moved → Stands new m q
     those m q l =
         let once = h.once m from in
         let most = once_at_most (parent_at nodes m) from in
@@ -338,11 +337,6 @@ forest_move from to nodes h = record { once = λ m q. bound m q }
         (λ f. let j = named_children m q in let k = none_left m q parent in omega arith) in
         omega arith
 
-    bound : (m q : ℕ) → times m (children_at new q) ≤ once_under (parent_at new m) q
-    bound m q =
-        test (times m moved == 0) (λ z. others m q (eqb-true (times m moved) 0 z))
-        (λ z. let some = eqb-false (times m moved) 0 z in those m q (omega arith))
-
 pub length_with_parents : (p : ℕ) (cs : List ℕ) (nodes : List NodeValue) → length (with_parents p cs nodes)
     ≡ length nodes
 length_with_parents p [] nodes = refl
@@ -358,10 +352,8 @@ length_moved from to nodes =
 pub free_moved : (from to m : ℕ) (nodes : List NodeValue) → IsForest nodes → parent_at nodes m ≡ None
     → parent_at (move_children from to nodes) m ≡ None
 free_moved from to m nodes h e =
-    let a = h.once m from in
-    let b : once_under (parent_at nodes m) from ≡ 0 = ap (λ (o : Option ℕ). once_under o from) e in
     parent_of_children to m
     (children_at (with_parents to (children_at nodes from) (with_children from [] nodes)) to ++ children_at nodes from)
     (with_parents to (children_at nodes from) (with_children from [] nodes))
-    ∙ parent_not_among to m (children_at nodes from) (with_children from [] nodes) (omega arith)
-    ∙ parent_of_children from m [] nodes ∙ e
+    ∙ parent_not_among to m (children_at nodes from) (with_children from [] nodes)
+    (nowhere m from nodes h e) ∙ parent_of_children from m [] nodes ∙ e

@@ -1,6 +1,6 @@
 -- After a round of the adoption agency each text and each element hangs under the Document still.
 use Rattle.std.proofs.Common.{◌≡◌, ◌∙◌, ℕ, suc, ◌+◌, ◌-◌, ◌*◌, ◌<◌, ◌≤◌, true, false, List, [], ◌∷◌, ◌++◌, length, sym}
-use Rattle.std.proofs.Common.{ap, subst, arith, Option, Some, None, inl, inr, ◌⊎◌}
+use Rattle.std.proofs.Common.{ap, subst, arith, Option, Some, inl, inr, ◌⊎◌, ⊎_elim}
 use Rattle.std.specs.Prelude.{◌==◌}
 use Rattle.std.proofs.lemmas.Bool.{eqb-true, eqb-false}
 use Rattle.htmd_grammar.proofs.Cases.{test}
@@ -17,8 +17,8 @@ use Rattle.htmd_html5_laws.proofs.Forests.{IsForest, length_new, new_is_free, fo
 use Rattle.htmd_html5_laws.proofs.Forests.{length_moved}
 use Rattle.htmd_html5_laws.proofs.KeepingAdoption.{wrap_kinds, wrap_forest}
 use Rattle.htmd_html5_laws.proofs.OpenNodes.{EachOpen, Below, below_more, each_more, each_append}
-use Rattle.htmd_html5_laws.proofs.HungNodes.{is_solid, element_solid, Hangs, Torn, AllHang, put_at, put_kind, put_size}
-use Rattle.htmd_html5_laws.proofs.HungNodes.{put_torn, appended_torn, detached_torn, moved_torn, kind_by_kinds}
+use Rattle.htmd_html5_laws.proofs.HungNodes.{is_solid, element_solid, Torn, AllHang, put_at, put_kind, put_size}
+use Rattle.htmd_html5_laws.proofs.HungNodes.{torn_less, put_torn, appended_torn, detached_torn, moved_torn, kind_by_kinds}
 use Rattle.htmd_html5_laws.proofs.HungNodes.{kind_with_new, kind_new_at}
 use Rattle.htmd_html5_laws.proofs.HungStates.{ElementOpen, HungIn, Hung, element_number, below_mapped, raised}
 use Rattle.htmd_html5_laws.proofs.HungStates.{raised_own, raised_other, raised_order, none_out, HangsOpen, PlaceOk}
@@ -79,13 +79,10 @@ wrapped_hang formatting block r rank nodes all forest at block_at own spaced =
     block_rank : new block ≡ 8 * r
     block_rank = raised_other n (8 * r + 1) rank block (λ e. let w = within in omega arith) ∙ own
 
-    none_some : {a : ℕ} → None ≡ Some a → ⊥
-    none_some e = cc
-
     above : (m : ℕ) → parent_at more m ≡ Some block → new block < new m → new n < new m
     above m e less =
         test (m == n) (λ t. absurd
-        (none_some (sym (ap (λ (x : ℕ). parent_at more x) (eqb-true m n t) ∙ new_is_free k nodes) ∙ e)))
+        (let f = sym (ap (λ (x : ℕ). parent_at more x) (eqb-true m n t) ∙ new_is_free k nodes) ∙ e in cc))
         (λ t. let a = raised_other n (8 * r + 1) rank m (eqb-false m n t) in
         let b = raised_own n (8 * r + 1) rank in
         let d = block_rank in
@@ -151,31 +148,21 @@ module _ (formatting : ℕ) (tag : TagName) (f : Furthest) (s : StateValue) (h :
       (scaled s.stack h.opened_at) h.order)
 
   torn_out : Torn (λ m. (m ≡ c.last) ⊎ ⊥) ch.rank out
-  torn_out m solid = group (detached_torn (λ m. m ≡ c.last) ch.rank c.last c.state.nodes ch.torn m solid)
-    where
-      group : ((m ≡ c.last) ⊎ (m ≡ c.last)) ⊎ Hangs ch.rank out m
-          → ((m ≡ c.last) ⊎ ⊥) ⊎ Hangs ch.rank out m
-      group (inl (inl a)) = inl (inl a)
-      group (inl (inr a)) = inl (inl a)
-      group (inr a) = inr a
+  torn_out =
+      torn_less (λ m. ⊎_elim (λ a. inl a) (λ a. inl a))
+      (detached_torn (λ m. m ≡ c.last) ch.rank c.last c.state.nodes ch.torn)
 
   opens_out : EachOpen (HangsOpen ch.rank out) s.stack
   opens_out =
-      each_more s.stack (λ e o. at e o.0 o.1)
+      each_more s.stack (λ e o. let element = ap is_element (kept e.node (element_number e.node s.nodes o.0))
+      ∙ o.0 in (
+        element,
+        ⊎_elim (⊎_elim (λ a. absurd (let b : ch.rank e.node ≡ ch.rank c.last = ap ch.rank a in
+            let d = ch.low in let l = o.1 in omega arith)) (λ o. absurd o)) (λ a. a)
+            (torn_out e.node (element_solid (kind_at out e.node) element)),
+      ))
       (each_both (ElementOpen s.nodes) (λ e. ch.rank e.node < 8 * r - 7) s.stack h.opened_at
       (below_each ch.rank (8 * r - 7) s.stack around_low))
-    where
-      hangs : (e : OpenValue) → ch.rank e.node < 8 * r - 7
-          → ((e.node ≡ c.last) ⊎ ⊥) ⊎ Hangs ch.rank out e.node → Hangs ch.rank out e.node
-      hangs e l (inr a) = a
-      hangs e l (inl (inr a)) = absurd a
-      hangs e l (inl (inl a)) =
-          absurd (let b : ch.rank e.node ≡ ch.rank c.last = ap ch.rank a in let d = ch.low in omega arith)
-
-      at : (e : OpenValue) → ElementOpen s.nodes e → ch.rank e.node < 8 * r - 7 → HangsOpen ch.rank out e
-      at e o l =
-          let element : ElementOpen out e = ap is_element (kept e.node (element_number e.node s.nodes o)) ∙ o in
-          (element, hangs e l (torn_out e.node (element_solid (kind_at out e.node) element)))
 
   out_size : length out ≡ length c.state.nodes
   out_size = detach_size c.last c.state.nodes
@@ -341,14 +328,11 @@ module _ (formatting : ℕ) (tag : TagName) (f : Furthest) (s : StateValue) (h :
     opened_at = whole_opened;
     head_at = λ m e. from_old m (h.head_at m e);
     forest = wrap_forest formatting f.block.node put_back back_forest;
-    filled = wrapped_filled;
+    filled = let w = element_number n wrapped new_at in omega arith;
     root = ap is_solid (wrapped_kind 0
         ∙ (kind_with_new 0 k put_back (λ g. let a = back_size in let b = ch.size in let d = h.filled in omega arith)
         ∙ back_kept 0 h.filled)) ∙ h.root;
   }
-    where
-      wrapped_filled : 0 < length wrapped
-      wrapped_filled = let w = element_number n wrapped new_at in omega arith
 
 pub finish_hung : (formatting : ℕ) (tag : TagName) (f : Furthest) (s : StateValue) (h : RoundHung formatting f s)
     (left : ℕ) (c : Chain) → ChainHung s h.rank (h.rank f.block.node) left c

@@ -2,7 +2,7 @@
 -- block. All ranks are multiplied by 8, which leaves room for those of the copies.
 use Rattle.std.proofs.Common.{◌≡◌, ◌∙◌, ℕ, suc, ◌+◌, ◌-◌, ◌*◌, ◌<◌, ◌≤◌, true}
 use Rattle.std.proofs.Common.{List, [], ◌∷◌, ◌++◌, length, refl}
-use Rattle.std.proofs.Common.{sym, ap, subst, arith, Option, Some, None, inl, inr, ◌⊎◌}
+use Rattle.std.proofs.Common.{sym, ap, subst, arith, Option, Some, None, inl, inr, ◌⊎◌, ⊎_elim}
 use Rattle.std.specs.Prelude.{◌==◌}
 use Rattle.std.proofs.lemmas.Bool.{true≢false, eqb-true, eqb-false}
 use Rattle.std.proofs.lemmas.List.{length-set}
@@ -18,8 +18,8 @@ use Rattle.htmd_html5_state.specs.Adoption.{begin_chain, with_copy}
 use Rattle.htmd_html5_laws.proofs.NodeTexts.{is_element, kinds_detach}
 use Rattle.htmd_html5_laws.proofs.Forests.{IsForest, length_new, forest_new, forest_attach}
 use Rattle.htmd_html5_laws.proofs.OpenNodes.{EachOpen, Below, below_more, each_more, each_append}
-use Rattle.htmd_html5_laws.proofs.HungNodes.{Hangs, Torn, AllHang, put_at, put_kind, put_size, put_torn, appended_torn}
-use Rattle.htmd_html5_laws.proofs.HungNodes.{detached_torn, kind_by_kinds, kind_with_new, kind_new_at}
+use Rattle.htmd_html5_laws.proofs.HungNodes.{HangsBy, Torn, torn_less, AllHang, put_at, put_kind, put_size}
+use Rattle.htmd_html5_laws.proofs.HungNodes.{put_torn, appended_torn, detached_torn, kind_by_kinds, kind_with_new, kind_new_at}
 use Rattle.htmd_html5_laws.proofs.HungStates.{ElementOpen, element_number, raised, raised_own, raised_other}
 use Rattle.htmd_html5_laws.proofs.HungStates.{raised_order}
 
@@ -216,17 +216,11 @@ module _ (s : StateValue) (old : ℕ → ℕ) (r : ℕ) where
           ∙ (detach_kind c.last more m ∙ kind_with_new m k c.state.nodes (λ f. omega arith))
 
       regrouped : Torn (λ m. (m ≡ c.last) ⊎ (m ≡ n)) rank out
-      regrouped m solid =
-          group (detached_torn (λ m. (m ≡ n) ⊎ (m ≡ c.last)) rank c.last more
+      regrouped =
+          torn_less (λ m. ⊎_elim (λ a. inl a) (⊎_elim (λ a. inr a) (λ a. inl a)))
+          (detached_torn (λ m. (m ≡ n) ⊎ (m ≡ c.last)) rank c.last more
           (appended_torn (λ m. m ≡ c.last) h.rank rank k c.state.nodes
-          (raised_order n (8 * r + left - 4) h.rank) h.torn) m solid)
-        where
-          group : ((m ≡ c.last) ⊎ ((m ≡ n) ⊎ (m ≡ c.last))) ⊎ Hangs rank out m
-              → ((m ≡ c.last) ⊎ (m ≡ n)) ⊎ Hangs rank out m
-          group (inl (inl a)) = inl (inl a)
-          group (inl (inr (inl a))) = inl (inr a)
-          group (inl (inr (inr a))) = inl (inl a)
-          group (inr a) = inr a
+          (raised_order n (8 * r + left - 4) h.rank) h.torn))
 
   -- what isn't copied only goes from the list
   pub passed : (left : ℕ) (e : OpenValue) (c : Chain) → ChainHung s old r left c
@@ -255,7 +249,12 @@ pub begun : (s : StateValue) (b : OpenValue) (rank : ℕ → ℕ) → AllHang ra
 begun s b rank all at forest some = record {
   some = some;
   rank = λ m. 8 * rank m;
-  torn = λ m solid. inr (scaled m (all m solid));
+  torn = λ m solid. inr (⊎_elim (λ z. inl z) (λ (h : HangsBy rank s.nodes m). inr (record {
+    by = h.by;
+    parent = h.parent;
+    holder = h.holder;
+    less = let l = h.less in omega arith;
+  })) (all m solid));
   last_at = at;
   low = omega arith;
   high = omega arith;
@@ -269,12 +268,3 @@ begun s b rank all at forest some = record {
   same_stack = refl;
   same_head = refl;
 }
-  where
-    scaled : (m : ℕ) → Hangs rank s.nodes m → Hangs (λ m. 8 * rank m) s.nodes m
-    scaled m (inl z) = inl z
-    scaled m (inr h) = inr (record {
-      by = h.by;
-      parent = h.parent;
-      holder = h.holder;
-      less = let l = h.less in omega arith;
-    })

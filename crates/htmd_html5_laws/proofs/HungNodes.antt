@@ -1,6 +1,6 @@
 -- Where texts and elements hang: each but the Document by its parent, which holds it, in an order.
 use Rattle.std.proofs.Common.{◌≡◌, ◌∙◌, ℕ, zero, suc, ◌+◌, ◌<◌, ◌≤◌, Bool, true, false, List, [], ◌∷◌, ◌++◌, length}
-use Rattle.std.proofs.Common.{get_or, refl, sym, ap, subst, arith, cond, Option, Some, None, inl, inr, ◌⊎◌}
+use Rattle.std.proofs.Common.{get_or, refl, sym, ap, subst, arith, cond, Option, Some, None, inl, inr, ◌⊎◌, ⊎_elim}
 use Rattle.std.specs.Prelude.{◌==◌, insert, remove}
 use Rattle.std.specs.List.{list_any}
 use Rattle.std.proofs.lemmas.Bool.{true≢false, eqb-true, eqb-false, eq-eqb, ne_eqb}
@@ -43,6 +43,18 @@ Hangs rank nodes n = (n ≡ 0) ⊎ HangsBy rank nodes n
 -- each text and each element hangs, but for those that are out
 abbrev pub Torn : (ℕ → Type 0) → (ℕ → ℕ) → List NodeValue → Type 0
 Torn Out rank nodes = (n : ℕ) → is_solid (kind_at nodes n) ≡ true → Out n ⊎ Hangs rank nodes n
+
+-- where a node is out or hangs, something else does
+torn_as : {Out New : Type 0} {rank order : ℕ → ℕ} {nodes new : List NodeValue} {n : ℕ}
+    → (Out → New ⊎ Hangs order new n) → (HangsBy rank nodes n → New ⊎ Hangs order new n)
+    → Out ⊎ Hangs rank nodes n → New ⊎ Hangs order new n
+torn_as f g (inl o) = f o
+torn_as f g (inr (inl z)) = inr (inl z)
+torn_as f g (inr (inr h)) = g h
+
+pub torn_less : {Out New : ℕ → Type 0} {rank : ℕ → ℕ} {nodes : List NodeValue}
+    → ((n : ℕ) → Out n → New n) → Torn Out rank nodes → Torn New rank nodes
+torn_less f torn n s = ⊎_elim (λ o. inl (f n o)) (λ h. inr h) (torn n s)
 
 -- each hangs
 abbrev pub AllHang : (ℕ → ℕ) → List NodeValue → Type 0
@@ -119,7 +131,7 @@ pub put_size : (n p i : ℕ) (nodes : List NodeValue) → length (put_at n p i n
 put_size n p i nodes =
     length-set (with_children p (insert (children_at nodes p) i n) nodes) n _ ∙ length-set nodes p _
 
-either_by : (nodes new : List NodeValue) (p : ℕ) → is_element (kind_at new p) ≡ is_element (kind_at nodes p)
+pub either_by : (nodes new : List NodeValue) (p : ℕ) → is_element (kind_at new p) ≡ is_element (kind_at nodes p)
     → (p ≡ 0) ⊎ (is_element (kind_at nodes p) ≡ true) → (p ≡ 0) ⊎ (is_element (kind_at new p) ≡ true)
 either_by nodes new p e (inl z) = inl z
 either_by nodes new p e (inr f) = inr (e ∙ f)
@@ -188,33 +200,23 @@ put_own rank n p i nodes l fits less = record {
 pub put_torn : (Out : ℕ → Type 0) (rank : ℕ → ℕ) (n p i : ℕ) (nodes : List NodeValue)
     → Torn (λ m. (m ≡ n) ⊎ Out m) rank nodes → n < length nodes → Fits nodes p → rank p < rank n
     → Torn Out rank (put_at n p i nodes)
-put_torn Out rank n p i nodes torn l fits less m s = by_torn (torn m (sym (ap is_solid (put_kind n p i nodes m)) ∙ s))
+put_torn Out rank n p i nodes torn l fits less m s =
+    torn_as (⊎_elim (λ e. inr (inr (own (sym e)))) (λ o. inl o))
+    (λ h. test (n == m) (λ t. inr (inr (own (eqb-true n m t))))
+    (λ t. inr (inr (put_other rank n p i nodes m (eqb-false n m t) h))))
+    (torn m (sym (ap is_solid (put_kind n p i nodes m)) ∙ s))
   where
     own : n ≡ m → HangsBy rank (put_at n p i nodes) m
     own e = subst (λ (x : ℕ). HangsBy rank (put_at n p i nodes) x) e (put_own rank n p i nodes l fits less)
 
-    by_torn : ((m ≡ n) ⊎ Out m) ⊎ Hangs rank nodes m → Out m ⊎ Hangs rank (put_at n p i nodes) m
-    by_torn (inl (inl e)) = inr (inr (own (sym e)))
-    by_torn (inl (inr o)) = inl o
-    by_torn (inr (inl z)) = inr (inl z)
-    by_torn (inr (inr h)) =
-        test (n == m) (λ t. inr (inr (own (eqb-true n m t))))
-        (λ t. inr (inr (put_other rank n p i nodes m (eqb-false n m t) h)))
-
 -- what is neither text nor element may be put anywhere
 pub put_loose : (rank : ℕ → ℕ) (n p i : ℕ) (nodes : List NodeValue) → is_solid (kind_at nodes n) ≡ false
     → AllHang rank nodes → AllHang rank (put_at n p i nodes)
-put_loose rank n p i nodes loose all m s = by_hangs (all m solid)
-  where
-    solid : is_solid (kind_at nodes m) ≡ true
-    solid = sym (ap is_solid (put_kind n p i nodes m)) ∙ s
-
-    other : n ≡ m → ⊥
-    other e = true≢false (sym solid ∙ (ap (λ (x : ℕ). is_solid (kind_at nodes x)) (sym e) ∙ loose))
-
-    by_hangs : Hangs rank nodes m → Hangs rank (put_at n p i nodes) m
-    by_hangs (inl z) = inl z
-    by_hangs (inr h) = inr (put_other rank n p i nodes m other h)
+put_loose rank n p i nodes loose all m s =
+    let solid : is_solid (kind_at nodes m) ≡ true = sym (ap is_solid (put_kind n p i nodes m)) ∙ s in
+    ⊎_elim (λ z. inl z) (λ h. inr (put_other rank n p i nodes m
+    (λ e. true≢false (sym solid ∙ (ap (λ (x : ℕ). is_solid (kind_at nodes x)) (sym e) ∙ loose))) h))
+    (all m solid)
 
 -- ---- a new node, which hangs by nothing
 
@@ -234,13 +236,8 @@ appended_torn Out rank new k nodes order torn m s =
     test (m == length nodes) (λ t. inl (inl (eqb-true m (length nodes) t)))
     (λ t. let solid : is_solid (kind_at nodes m) ≡ true =
     sym (ap is_solid (kind_with_new m k nodes (eqb-false m (length nodes) t))) ∙ s in
-    by_torn (solid_within m nodes solid) (torn m solid))
-  where
-    by_torn : m < length nodes → Out m ⊎ Hangs rank nodes m
-        → ((m ≡ length nodes) ⊎ Out m) ⊎ Hangs new (nodes ++ new_node k ∷ []) m
-    by_torn l (inl o) = inl (inr o)
-    by_torn l (inr (inl z)) = inr (inl z)
-    by_torn l (inr (inr h)) = inr (inr (appended_hangs rank new k nodes m order l h))
+    torn_as (λ o. inl (inr o))
+    (λ h. inr (inr (appended_hangs rank new k nodes m order (solid_within m nodes solid) h))) (torn m solid))
 
 -- ---- a node is taken out
 
@@ -268,14 +265,9 @@ detach_from_other rank (Some p) n nodes m f h =
 pub detached_torn : (Out : ℕ → Type 0) (rank : ℕ → ℕ) (n : ℕ) (nodes : List NodeValue)
     → Torn Out rank nodes → Torn (λ m. (m ≡ n) ⊎ Out m) rank (detach n nodes)
 detached_torn Out rank n nodes torn m s =
-    by_torn (torn m (sym (ap is_solid (kind_by_kinds nodes (detach n nodes) m (kinds_detach n nodes))) ∙ s))
-  where
-    by_torn : Out m ⊎ Hangs rank nodes m → ((m ≡ n) ⊎ Out m) ⊎ Hangs rank (detach n nodes) m
-    by_torn (inl o) = inl (inr o)
-    by_torn (inr (inl z)) = inr (inl z)
-    by_torn (inr (inr h)) =
-        test (m == n) (λ t. inl (inl (eqb-true m n t)))
-        (λ t. inr (inr (detach_from_other rank (parent_at nodes n) n nodes m (λ e. eqb-false m n t (sym e)) h)))
+    torn_as (λ o. inl (inr o)) (λ h. test (m == n) (λ t. inl (inl (eqb-true m n t)))
+    (λ t. inr (inr (detach_from_other rank (parent_at nodes n) n nodes m (λ e. eqb-false m n t (sym e)) h))))
+    (torn m (sym (ap is_solid (kind_by_kinds nodes (detach n nodes) m (kinds_detach n nodes))) ∙ s))
 
 -- ---- what a node is changes, but not what it is like
 
@@ -284,13 +276,10 @@ pub same_hang : (rank : ℕ → ℕ) (nodes new : List NodeValue)
     → ((m : ℕ) → is_element (kind_at new m) ≡ is_element (kind_at nodes m))
     → ((m : ℕ) → parent_at new m ≡ parent_at nodes m)
     → ((m : ℕ) → children_at new m ≡ children_at nodes m) → AllHang rank nodes → AllHang rank new
-same_hang rank nodes new solid same parent children all m s = by_hangs (all m (sym (solid m) ∙ s))
-  where
-    by_hangs : Hangs rank nodes m → Hangs rank new m
-    by_hangs (inl z) = inl z
-    by_hangs (inr h) =
-        let a = ap (times m) (children h.by) in
-        inr (hangs_still rank rank nodes new m h (parent m) (same h.by) (omega arith) h.less)
+same_hang rank nodes new solid same parent children all m s =
+    ⊎_elim (λ z. inl z) (λ (h : HangsBy rank nodes m). let a = ap (times m) (children h.by) in
+    inr (hangs_still rank rank nodes new m h (parent m) (same h.by) (omega arith) h.less))
+    (all m (sym (solid m) ∙ s))
 
 -- ---- all children of one node to another
 
@@ -299,7 +288,8 @@ pub moved_torn : (Out : ℕ → Type 0) (rank : ℕ → ℕ) (from to : ℕ) (no
     → ((m : ℕ) → parent_at nodes m ≡ Some from → rank from < rank m → rank to < rank m)
     → Torn Out rank nodes → Torn Out rank (move_children from to nodes)
 moved_torn Out rank from to nodes forest apart fits above torn m s =
-    by_torn (torn m (sym (ap is_solid (kind m)) ∙ s))
+    torn_as (λ o. inl o) (λ h. inr (inr (by_parent h (solid_within m nodes (sym (ap is_solid (kind m)) ∙ s)))))
+    (torn m (sym (ap is_solid (kind m)) ∙ s))
   where
     moved : List ℕ
     moved = children_at nodes from
@@ -375,8 +365,3 @@ moved_torn Out rank from to nodes forest apart fits above torn m s =
         let i : rank h.by ≡ rank from = ap rank e in
         let less = h.less in
         child h (omega arith) (h.parent ∙ ap Some e) (omega arith) within) (λ t. other h (eqb-false h.by from t))
-
-    by_torn : Out m ⊎ Hangs rank nodes m → Out m ⊎ Hangs rank new m
-    by_torn (inl o) = inl o
-    by_torn (inr (inl z)) = inr (inl z)
-    by_torn (inr (inr h)) = inr (inr (by_parent h (solid_within m nodes (sym (ap is_solid (kind m)) ∙ s))))

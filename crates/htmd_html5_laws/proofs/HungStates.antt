@@ -1,6 +1,6 @@
 -- States in which each text and each element hangs under the Document, and steps that leave it so.
 use Rattle.std.proofs.Common.{◌≡◌, ◌∙◌, ℕ, zero, suc, ◌+◌, ◌<◌, Bool, true, false, List, [], ◌∷◌, ◌++◌, length, refl}
-use Rattle.std.proofs.Common.{sym, ap, subst, arith, cond, Option, Some, None, inl, inr, ◌⊎◌}
+use Rattle.std.proofs.Common.{sym, ap, subst, arith, cond, Option, Some, None, inl, inr, ◌⊎◌, ⊎_elim}
 use Rattle.std.specs.Prelude.{◌==◌, ◌&&◌, if◌then◌else◌}
 use Rattle.std.proofs.lemmas.Bool.{true≢false, eq-eqb, ne_eqb}
 use Rattle.std.proofs.lemmas.List.{length-set}
@@ -19,9 +19,9 @@ use Rattle.htmd_html5_laws.proofs.NodeTexts.{is_element, with_missing_element}
 use Rattle.htmd_html5_laws.proofs.NamedKinds.{by_text}
 use Rattle.htmd_html5_laws.proofs.NodeParts.{children_of_kind, parent_of_kind}
 use Rattle.htmd_html5_laws.proofs.Forests.{IsForest, length_new, forest_add, forest_with_kind}
-use Rattle.htmd_html5_laws.proofs.HungNodes.{is_solid, element_solid, Hangs, Torn, AllHang, Fits, solid_within}
+use Rattle.htmd_html5_laws.proofs.HungNodes.{is_solid, element_solid, HangsBy, Hangs, Torn, AllHang, Fits, solid_within}
 use Rattle.htmd_html5_laws.proofs.HungNodes.{kind_with_new, kind_new_at, holder_within, put_at, put_kind, put_size}
-use Rattle.htmd_html5_laws.proofs.HungNodes.{put_torn, put_loose, appended_torn, same_hang}
+use Rattle.htmd_html5_laws.proofs.HungNodes.{put_torn, put_loose, appended_torn, same_hang, either_by}
 use Rattle.htmd_html5_laws.proofs.OpenNodes.{EachOpen, Below, below_more, below_tail, each_more, Fewer}
 
 -- an open element is an element among the nodes
@@ -113,11 +113,7 @@ below_raised nodes v rank limit es opens h =
 -- ---- a new node
 
 pub none_out : (rank : ℕ → ℕ) (nodes : List NodeValue) → Torn (λ m. ⊥) rank nodes → AllHang rank nodes
-none_out rank nodes torn n s = by_torn (torn n s)
-  where
-    by_torn : ⊥ ⊎ Hangs rank nodes n → Hangs rank nodes n
-    by_torn (inl o) = absurd o
-    by_torn (inr h) = h
+none_out rank nodes torn n s = ⊎_elim (λ o. absurd o) (λ h. h) (torn n s)
 
 abbrev pub added_at : KindValue → ℕ → ℕ → List NodeValue → List NodeValue
 added_at k p i nodes = put_at (length nodes) p i (nodes ++ new_node k ∷ [])
@@ -156,7 +152,11 @@ hung_added k p i nodes {stack} {head} fits forest h = record {
         (put_torn (λ m. ⊥) rank (length nodes) p i (nodes ++ new_node k ∷ [])
         (appended_torn (λ m. ⊥) h.rank rank k nodes (raised_order (length nodes) _ h.rank)
         (λ m s. inr (h.hangs m s))) (let e = length_new k nodes in omega arith)
-        (let e = length_new k nodes in let l = fits.0 in (omega arith, either fits.1))
+        (let e = length_new k nodes in let l = fits.0 in (
+          omega arith,
+          either_by nodes (nodes ++ new_node k ∷ []) p
+              (ap is_element (kind_with_new p k nodes (λ e. omega arith))) fits.1,
+        ))
         (let l = fits.0 in
         let a = raised_other (length nodes) (suc (h.rank p + h.limit)) h.rank p (λ e. omega arith) in
         let b = raised_own (length nodes) (suc (h.rank p + h.limit)) h.rank in
@@ -173,12 +173,6 @@ hung_added k p i nodes {stack} {head} fits forest h = record {
   where
     rank : ℕ → ℕ
     rank = raised (length nodes) (suc (h.rank p + h.limit)) h.rank
-
-    either : (p ≡ 0) ⊎ (is_element (kind_at nodes p) ≡ true)
-        → (p ≡ 0) ⊎ (is_element (kind_at (nodes ++ new_node k ∷ []) p) ≡ true)
-    either (inl z) = inl z
-    either (inr e) = inr (ap is_element (kind_with_new p k nodes
-        (λ f. let w = element_number p nodes e in omega arith)) ∙ e)
 
 -- and so it may be open
 pub hung_opened : (name : ElementNameValue) (attributes : List AttributePair) (nodes : List NodeValue)
@@ -198,8 +192,10 @@ hung_last k p nodes {stack} {head} loose h = record {
   at_root = h.at_root;
   order = h.order;
   hangs = put_loose h.rank (length nodes) p i (nodes ++ new_node k ∷ []) (ap is_solid (kind_new_at k nodes) ∙ loose)
-      (λ m s. by_torn m s (appended_torn (λ m. ⊥) h.rank h.rank k nodes (λ a b i j l. l)
-      (λ m s. inr (h.hangs m s)) m s));
+      (λ m s. ⊎_elim (⊎_elim (λ e. absurd (true≢false (sym s ∙ (ap (λ (x : ℕ). is_solid
+      (kind_at (nodes ++ new_node k ∷ []) x)) e ∙ (ap is_solid (kind_new_at k nodes) ∙ loose)))))
+      (λ o. absurd o))
+      (λ g. g) (appended_torn (λ m. ⊥) h.rank h.rank k nodes (λ a b i j l. l) (λ m s. inr (h.hangs m s)) m s));
   opened_at = each_more stack (λ e o. elements_stay k p i nodes e.node o) h.opened_at;
   head_at = λ n e. elements_stay k p i nodes n (h.head_at n e);
   forest = forest_add k (last_in p) nodes h.forest;
@@ -209,15 +205,6 @@ hung_last k p nodes {stack} {head} loose h = record {
   where
     i : ℕ
     i = length (children_at (nodes ++ new_node k ∷ []) p)
-
-    by_torn : (m : ℕ) → is_solid (kind_at (nodes ++ new_node k ∷ []) m) ≡ true
-        → ((m ≡ length nodes) ⊎ ⊥) ⊎ Hangs h.rank (nodes ++ new_node k ∷ []) m
-        → Hangs h.rank (nodes ++ new_node k ∷ []) m
-    by_torn m s (inr g) = g
-    by_torn m s (inl (inr o)) = absurd o
-    by_torn m s (inl (inl e)) =
-        absurd (true≢false (sym s ∙ (ap (λ (x : ℕ). is_solid (kind_at (nodes ++ new_node k ∷ []) x)) e
-        ∙ (ap is_solid (kind_new_at k nodes) ∙ loose))))
 
 -- ---- what a node is changes, but not what it is like
 
@@ -285,21 +272,16 @@ module _ (rank : ℕ → ℕ) (nodes : List NodeValue) (at_root : rank 0 ≡ 0) 
     fits = (element_number f.node nodes o, inr o);
     low = λ bound b l. let x = b.0 in let y = b.1.0 in omega arith;
   }
-  by_table e f es (Some p) q h o = by_hangs h.1
-    where
-      by_hangs : Hangs rank nodes e.node → PlaceOk rank nodes (e ∷ f ∷ es) p
-      by_hangs (inl z) =
-          absurd (true≢false (sym (element_solid (kind_at nodes e.node) h.0)
-          ∙ (ap (λ (x : ℕ). is_solid (kind_at nodes x)) z ∙ root)))
-      by_hangs (inr g) =
-          let same : g.by ≡ p = some_same (sym g.parent ∙ q) in
-          let within = holder_within rank nodes e.node g in
-          let less = g.less in
-          subst (λ (x : ℕ). PlaceOk rank nodes (e ∷ f ∷ es) x) same
-          (record { fits = (within, g.holder.either); low = λ bound b l. let x = b.0 in omega arith })
-        where
-          some_same : {a b : ℕ} → Some a ≡ Some b → a ≡ b
-          some_same r = cc
+  by_table e f es (Some p) q h o =
+      ⊎_elim (λ z. absurd (true≢false (sym (element_solid (kind_at nodes e.node) h.0)
+      ∙ (ap (λ (x : ℕ). is_solid (kind_at nodes x)) z ∙ root))))
+      (λ (g : HangsBy rank nodes e.node). let both = sym g.parent ∙ q in
+      let same : g.by ≡ p = cc in
+      let less = g.less in
+      subst (λ (x : ℕ). PlaceOk rank nodes (e ∷ f ∷ es) x) same (record {
+        fits = (holder_within rank nodes e.node g, g.holder.either);
+        low = λ bound b l. let x = b.0 in omega arith;
+      })) h.1
 
   pub foster_ok : (stack : List OpenValue) → EachOpen (HangsOpen rank nodes) stack
       → PlaceOk rank nodes stack (foster_place nodes stack).parent
@@ -359,7 +341,7 @@ pub hung_joined : (t : List ℕ) (at : _) (nodes : List NodeValue) {stack : List
     → HungIn (add (text t) at nodes) stack head → HungIn nodes stack head
     → HungIn (add_text t at nodes) stack head
 hung_joined t at nodes {stack} {head} added h = by_text (λ new. HungIn new stack head) t at nodes added
-    (λ n before e. hung_like n (text (before ++ t)) nodes (sym (ap is_solid e)) (sym (ap is_element e)) h)
+    (λ n before p e. hung_like n (text (before ++ t)) nodes (sym (ap is_solid e)) (sym (ap is_element e)) h)
 
 pub hung_text : (t : List ℕ) (s : StateValue) → Hung s → Hung (insert_text t s)
 hung_text t s h =

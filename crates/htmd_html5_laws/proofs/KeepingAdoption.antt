@@ -1,6 +1,6 @@
 -- The adoption agency leaves the texts as they are.
 use Rattle.std.proofs.Common.{◌≡◌, ◌∙◌, ℕ, Bool, true, List, [], ◌∷◌, ◌++◌, length, Option}
-use Rattle.std.proofs.Common.{Some, None, refl, sym, ap, subst, arith, inl, inr, ◌⊎◌}
+use Rattle.std.proofs.Common.{Some, None, refl, sym, ap, subst, arith, inl, inr, ◌⊎◌, ⊎_elim}
 use Rattle.std.specs.Prelude.{◌==◌, find}
 use Rattle.std.proofs.lemmas.Bool.{true≢false, eqb-true, eq-eqb}
 use Rattle.htmd_grammar.proofs.Cases.{test}
@@ -166,15 +166,13 @@ finish_kept formatting tag f c s e at copies h =
           ),
         )
 
-    entry : (n : ℕ) → (n ≡ length s.nodes) ⊎ (is_listed n s.formatting ≡ true) → Element n
-    entry n (inl p) = inl (p, element_kind s.nodes formatting e)
-    entry n (inr l) = inr (h.held n (as_entry l))
-
     here : (n : ℕ)
         → Held n s.head (with_bookmark formatting (length s.nodes) c.bookmark s.formatting) (f.inner ++ whole)
         → Element n
     here n (as_head l) = inr (h.held n (as_head l))
-    here n (as_entry l) = entry n (listed_marked n formatting (length s.nodes) c.bookmark s.formatting l)
+    here n (as_entry l) =
+        ⊎_elim (λ p. inl (p, element_kind s.nodes formatting e)) (λ k. inr (h.held n (as_entry k)))
+        (listed_marked n formatting (length s.nodes) c.bookmark s.formatting l)
     here n (as_open l) = open_each Element (f.inner ++ whole) all n l
 
 adopt_kept : (formatting : ℕ) (tag : TagName) (f : Furthest) (s : StateValue) → ElementAt (kinds s.nodes) formatting
@@ -205,11 +203,9 @@ adopt_kept formatting tag f s e at h =
 
 pub found : {A : Type 0} (p : A → Bool) (xs : List A) (x : A) → find p xs ≡ Some x → p x ≡ true
 found p [] x e = absurd (cc)
-found {A} p (y ∷ xs) x e =
-    test (p y) (λ t. let same : y ≡ x = first y x (rw t at e) in rw (sym same) t) (λ t. found p xs x (rw t at e))
-  where
-    first : (y x : A) → Some y ≡ Some x → y ≡ x
-    first y x e = cc
+found p (y ∷ xs) x e =
+    test (p y) (λ t. let f : Some y ≡ Some x = rw t at e in let same : y ≡ x = cc in rw (sym same) t)
+    (λ t. found p xs x (rw t at e))
 
 is_kind : (tag : TagName) (k : KindValue) → kind_is tag k ≡ true → is_element k ≡ true
 is_kind tag (element name attributes) e = refl

@@ -1,6 +1,6 @@
 -- What is inserted that isn't text, and what the list of active formatting elements becomes.
 use Rattle.std.proofs.Common.{◌≡◌, ◌∙◌, ℕ, zero, suc, Bool, true, List, [], ◌∷◌, length, get_or, set, Option, Some}
-use Rattle.std.proofs.Common.{None, refl, sym, ap, subst, All, inl, inr, ◌⊎◌}
+use Rattle.std.proofs.Common.{None, refl, sym, ap, subst, All, inl, inr, ◌⊎◌, ⊎_elim}
 use Rattle.std.specs.Prelude.{IsUtf8, ◌==◌}
 use Rattle.std.proofs.lemmas.Bool.{true≢false, eqb-true, eq-eqb}
 use Rattle.htmd_grammar.proofs.Cases.{test}
@@ -220,28 +220,17 @@ clear_to_marker_keeps = untouched (λ s. refl)
 pub held_more : {n m : ℕ} {head : Option ℕ} {entries later : List (Option ℕ)} {stack : List OpenValue}
     → (is_listed n later ≡ true → (n ≡ m) ⊎ (is_listed n entries ≡ true))
     → (n ≡ m) ⊎ Held n head later stack → (n ≡ m) ⊎ Held n head entries stack
-held_more {n} {m} {head} {entries} {later} {stack} f h = of_held h
-  where
-    of_entry : (n ≡ m) ⊎ (is_listed n entries ≡ true) → (n ≡ m) ⊎ Held n head entries stack
-    of_entry (inl p) = inl p
-    of_entry (inr l) = inr (as_entry l)
-
-    of_held : (n ≡ m) ⊎ Held n head later stack → (n ≡ m) ⊎ Held n head entries stack
-    of_held (inl p) = inl p
-    of_held (inr (as_head e)) = inr (as_head e)
-    of_held (inr (as_entry e)) = of_entry (f e)
-    of_held (inr (as_open e)) = inr (as_open e)
+held_more f (inl p) = inl p
+held_more f (inr (as_head e)) = inr (as_head e)
+held_more f (inr (as_entry e)) = ⊎_elim (λ p. inl p) (λ l. inr (as_entry l)) (f e)
+held_more f (inr (as_open e)) = inr (as_open e)
 
 pub listed_pushed : (n m : ℕ) (nodes : List NodeValue) (entries : List (Option ℕ))
     → is_listed n (push_entry nodes m entries) ≡ true → (n ≡ m) ⊎ (is_listed n entries ≡ true)
 listed_pushed n m nodes entries l =
-    further (listed_first n m (with_room (with_room_for nodes (kind_at nodes m) entries)) l)
-  where
-    further : (n ≡ m) ⊎ (is_listed n (with_room (with_room_for nodes (kind_at nodes m) entries)) ≡ true)
-        → (n ≡ m) ⊎ (is_listed n entries ≡ true)
-    further (inl p) = inl p
-    further (inr p) = inr (listed_without_some n _ entries
-        (listed_without_some n _ (with_room_for nodes (kind_at nodes m) entries) p))
+    ⊎_elim (λ p. inl p) (λ p. inr (listed_without_some n _ entries
+    (listed_without_some n _ (with_room_for nodes (kind_at nodes m) entries) p)))
+    (listed_first n m (with_room (with_room_for nodes (kind_at nodes m) entries)) l)
 
 pub insert_formatting_keeps : (name : NameValue) (attributes : List AttributePair)
     → Keeps (insert_formatting name attributes)
@@ -281,24 +270,22 @@ reconstructed Q R s q first next = all (closed_elements s.stack s.formatting) (c
     all [] each = first
     all (n ∷ ns) each = next n _ each.0 (all ns each.1)
 
-like_kept : (s : StateValue) (n : ℕ) (k : KindValue) → is_element k ≡ true → Sound s
+like_kept : (s : StateValue) (k : KindValue) → is_element k ≡ true → Sound s
     → Kept s (on_formatting (λ entries. Some (length s.nodes) ∷ entries) (insert_like k s))
-like_kept s n (element name attributes) e h =
+like_kept s (element name attributes) e h =
     kept_new (element name attributes) (kinds_add (element name attributes) (place s) s.nodes) refl
     (forest_add (element name attributes) (place s) s.nodes h.forest) h
     (λ m l. opened_new (element name attributes) m refl h
     (held_more (listed_first m (length s.nodes) s.formatting) (held_opened (length s.nodes) name s.stack l)))
-like_kept s n _ e h = absurd (true≢false (sym e))
-
-reopen_kept : (n : ℕ) (s : StateValue) → ElementAt (kinds s.nodes) n → Sound s → Kept s (reopen n s)
-reopen_kept n s e h = like_kept s n (kind_at s.nodes n) (ap is_element (kind_read s.nodes n) ∙ e) h
+like_kept s _ e h = absurd (true≢false (sym e))
 
 pub reconstruct_keeps : Keeps reconstruct
 reconstruct_keeps = record {
   keeps = λ s h. reconstructed (ElementAt (kinds s.nodes)) (Kept (on_formatting (after_closed s.stack) s)) s
       (λ n l. h.held n (as_entry l)) (kept_same
       (sound_held (λ n l. h.held n (held_in s.formatting s.stack (listed_closed n s.stack s.formatting) (λ e. e) l))
-      h)) (λ n t e k. kept_then k (reopen_kept n t (k.stays n e) k.sound));
+      h)) (λ n t e k. kept_then k
+      (like_kept t (kind_at t.nodes n) (ap is_element (kind_read t.nodes n) ∙ k.stays n e) k.sound));
 }
 
 -- ---- what isn't a node
@@ -306,11 +293,8 @@ reconstruct_keeps = record {
 pub open_again_kept : (n : ℕ) (name : NameValue) (s : StateValue) → ElementAt (kinds s.nodes) n → Sound s
     → Kept s (open_again n name s)
 open_again_kept n name s e h =
-    kept_same (sound_held (λ m l. here m (held_opened n (html name) s.stack l)) h)
-  where
-    here : (m : ℕ) → (m ≡ n) ⊎ Held m s.head s.formatting s.stack → ElementAt (kinds s.nodes) m
-    here m (inl p) = subst (λ (x : ℕ). ElementAt (kinds s.nodes) x) (sym p) e
-    here m (inr l) = h.held m l
+    kept_same (sound_held (λ m l. one_or_listed (ElementAt (kinds s.nodes)) n m e (h.held m)
+    (held_opened n (html name) s.stack l)) h)
 
 pub push_template_mode_keeps : (mode : InsertionMode) → Keeps (push_template_mode mode)
 push_template_mode_keeps mode = untouched (λ s. refl) (λ s n l. l)

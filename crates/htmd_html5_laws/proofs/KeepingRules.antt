@@ -1,5 +1,5 @@
 -- The rules of the modes leave the texts as they are, where a token is no text: what each act does.
-use Rattle.std.proofs.Common.{◌≡◌, ℕ, Bool, true, List, length, Option, Some, None, refl, sym, inl, inr, ◌⊎◌}
+use Rattle.std.proofs.Common.{◌≡◌, ◌∙◌, ℕ, Bool, List, length, Option, Some, None, refl, sym, ap, inl, inr, ◌⊎◌}
 use Rattle.std.specs.Prelude.{if◌then◌else◌}
 use Rattle.std.proofs.lemmas.Bool.{eqb-true, eq-eqb, cond_both}
 use Rattle.htmd_grammar.specs.ValueTrees.{AttributePair}
@@ -23,10 +23,10 @@ use Rattle.htmd_html5_state.specs.declared.sets.Scope.TheVariants.{Table as Tabl
 use Rattle.htmd_html5_state.specs.declared.names.Namespace.{Namespace}
 use Rattle.htmd_html5.specs.Tokens.{StartTagValue}
 use Rattle.htmd_html5.specs.Outcomes.{Outcome, outcome}
-use Rattle.htmd_html5.specs.SharedRules.{with_mode, no_frameset, add_missing_to, open_template, leave_template}
+use Rattle.htmd_html5.specs.SharedRules.{with_mode, no_frameset, add_missing_to, leave_template}
 use Rattle.htmd_html5.specs.SharedRules.{insert_head_element, insert_tag}
 use Rattle.htmd_html5.specs.BodyStarts.{is_in_template, open_body, add_to_this_body, replace_this_body, with_form}
-use Rattle.htmd_html5.specs.BodyStarts.{forget, start_select}
+use Rattle.htmd_html5.specs.BodyStarts.{forget}
 use Rattle.htmd_html5.specs.BodyEnds.{close_form}
 use Rattle.htmd_html5.specs.BeforeHead.{with_head}
 use Rattle.htmd_html5.specs.AfterHead.{insert_in_head, insert_late}
@@ -110,16 +110,13 @@ with_head_keeps name attributes = record {
       (head_or_held s.head (held_opened (length s.nodes) (html name) s.stack l)));
 }
 
-open_template_keeps : (tag : StartTagValue) → Keeps (open_template tag)
-open_template_keeps tag =
-    record { keeps = λ s h. (after push_marker_keeps (insert_element_keeps tag.name tag.attributes)).keeps s h }
-
 of_head_keeps : (name : NameValue) (tag : StartTagValue) → Keeps (insert_head_element name tag)
 of_head_keeps (known tags.Title) tag = insert_raw_keeps tag.name raw.Title tag.attributes
 of_head_keeps (known tags.NoFrames) tag = insert_raw_keeps tag.name raw.Noframes tag.attributes
 of_head_keeps (known tags.Style) tag = insert_raw_keeps tag.name raw.Style tag.attributes
 of_head_keeps (known tags.Script) tag = insert_raw_keeps tag.name raw.Script tag.attributes
-of_head_keeps (known tags.Template) tag = open_template_keeps tag
+of_head_keeps (known tags.Template) tag =
+    record { keeps = λ s h. (after push_marker_keeps (insert_element_keeps tag.name tag.attributes)).keeps s h }
 of_head_keeps _ tag = insert_void_keeps tag.name tag.attributes
 
 insert_in_head_kept : (head : Option ℕ) (tag : StartTagValue) (s : StateValue)
@@ -134,21 +131,13 @@ insert_in_head_kept (Some n) tag s at h =
 
 late_keeps : (tag : StartTagValue) → Keeps (insert_late tag)
 late_keeps tag = record {
-  keeps = λ s h. insert_in_head_kept s.head tag s (λ n e. h.held n (as_head (is_head n s.head e))) h;
+  keeps = λ s h. insert_in_head_kept s.head tag s
+      (λ n e. h.held n (as_head (ap (is_entry n) e ∙ eq-eqb n n refl))) h;
 }
-  where
-    is_head : (n : ℕ) (head : Option ℕ) → head ≡ Some n → is_entry n head ≡ true
-    is_head n None e = absurd (cc)
-    is_head n (Some m) e = let same : m ≡ n = cc in eq-eqb m n same
 
 alike_keeps : (space : Option Namespace) (tag : StartTagValue) → Keeps (insert_alike space tag)
 alike_keeps None tag = nothing
 alike_keeps (Some space) tag = insert_foreign_keeps space (text_of_name tag.name) tag.attributes tag.self_closing
-
-select_keeps : (tag : StartTagValue) → Keeps (start_select tag)
-select_keeps tag = record {
-  keeps = λ s h. (after (insert_element_keeps tag.name tag.attributes) reconstruct_keeps).keeps s h;
-}
 
 comment_in_keeps : (text : List ℕ) (n : Option ℕ) → Keeps (comment_in n text)
 comment_in_keeps text None = nothing
@@ -234,7 +223,8 @@ act_keeps tag late_of_head = late_keeps tag
 act_keeps tag (foreign space) = insert_foreign_keeps space (text_of_name tag.name) tag.attributes tag.self_closing
 act_keeps tag foreign_alike = by_state (λ s. namespace_of (current s.stack).name) (λ space. alike_keeps space tag)
 act_keeps tag formatting = insert_formatting_keeps tag.name tag.attributes
-act_keeps tag select = select_keeps tag
+act_keeps tag select =
+    record { keeps = λ s h. (after (insert_element_keeps tag.name tag.attributes) reconstruct_keeps).keeps s h }
 act_keeps tag (comment text) = insert_comment_keeps text
 act_keeps tag (comment_in_root text) = by_state (λ s. first_open s.stack) (comment_in_keeps text)
 act_keeps tag (comment_in_document text) = insert_comment_in_keeps 0 text

@@ -117,12 +117,9 @@ module _ (c : ℕ) (nulls : Bool) (tests : nulls ≡ true → CharacterTests c) 
       → PutOutcome true c (occurrences c (first_run text)) s a
       → Onward text letters go a → KeptPart text s (after_run go (after_first_run text) a)
   other_part text letters s a go clean dark parts r (finished h) more =
+      let off : is_before_head s.mode ≡ false = test (is_before_head s.mode)
+      (λ e. sym (ap is_before_head h.mode) ∙ (r.after h.again ∙ ap (λ (b : Bool). b && false) e)) (λ e. e) in
       ended_part text s a go clean h (rw off (sym parts.count))
-    where
-      off : is_before_head s.mode ≡ false
-      off =
-          test (is_before_head s.mode)
-          (λ e. sym (ap is_before_head h.mode) ∙ (r.after h.again ∙ ap (λ (b : Bool). b && false) e)) (λ e. e)
   other_part text letters s a go clean dark parts r (goes_on e g d) more =
       let p = more e g.sound r.calm (r.keeps e) in
       rw e (record {

@@ -128,9 +128,6 @@ module _ (c : ℕ) where
       let f = ap (λ (t : Bool). cond t (weigh c (x ∷ nodes) x.children) 0) root in
       omega arith
 
-  pub items_held : (l : Layout) → in_items c l.items ≤ in_layout l
-  items_held l = omega arith
-
   pub laid_texts : (limit : ℕ) (nodes : List NodeValue) {head : Option ℕ} {entries : List (Option ℕ)}
       {stack : List OpenValue} → SoundIn nodes head entries stack
       → occurrences_in c (texts_of (document_of limit nodes)) ≤ occurrences_in c (texts (kinds nodes))
@@ -138,5 +135,4 @@ module _ (c : ℕ) where
   laid_texts limit nodes h =
       let a = first_held nodes h.root h.forest in
       let b = put_all limit (length nodes) (first_layout nodes) (nodes_utf8 nodes h.utf8) in
-      let d = items_held (layout_within limit (length nodes) (first_layout nodes)) in
       omega arith

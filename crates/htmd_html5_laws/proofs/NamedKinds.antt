@@ -87,21 +87,23 @@ grows_missing n more nodes =
 -- it is a new node, or is joined to the text before it
 pub by_text : (P : List NodeValue → Type 0) (t : List ℕ) (at : _) (nodes : List NodeValue)
     → P (add (text t) at nodes)
-    → ((n : ℕ) (c : List ℕ) → kind_at nodes n ≡ text c → P (with_kind n (text (c ++ t)) nodes))
+    → ((n : ℕ) (c : List ℕ) → preceding at nodes ≡ Some n → kind_at nodes n ≡ text c
+    → P (with_kind n (text (c ++ t)) nodes))
     → P (add_text t at nodes)
-by_text P t at nodes added joined = by_before (preceding at nodes)
+by_text P t at nodes added joined = by_before (preceding at nodes) refl
   where
-    by_kind : (n : ℕ) (k : KindValue) → kind_at nodes n ≡ k
+    by_kind : (n : ℕ) (k : KindValue) → preceding at nodes ≡ Some n → kind_at nodes n ≡ k
         → P (or_add t at nodes (joined_with t n (text_of k) nodes))
-    by_kind n (text before) e = joined n before e
-    by_kind n _ e = added
+    by_kind n (text before) p e = joined n before p e
+    by_kind n _ p e = added
 
-    by_before : (before : Option ℕ) → P (or_add t at nodes (joined_to t before nodes))
-    by_before None = added
-    by_before (Some n) = by_kind n (kind_at nodes n) refl
+    by_before : (before : Option ℕ) → preceding at nodes ≡ before
+        → P (or_add t at nodes (joined_to t before nodes))
+    by_before None p = added
+    by_before (Some n) p = by_kind n (kind_at nodes n) p refl
 
 pub grows_text : (t : List ℕ) (at : _) (nodes : List NodeValue) → Grows (kinds nodes) (kinds (add_text t at nodes))
 grows_text t at nodes =
     by_text (λ new. Grows (kinds nodes) (kinds new)) t at nodes (grows_added (text t) at nodes)
-    (λ n c e. grows_set n (text (c ++ t)) (kinds_with_kind n (text (c ++ t)) nodes)
-    (λ p. sym (sym (ap (is_named p) (kind_read nodes n)) ∙ ap (is_named p) e)))
+    (λ n c p e. grows_set n (text (c ++ t)) (kinds_with_kind n (text (c ++ t)) nodes)
+    (λ q. sym (sym (ap (is_named q) (kind_read nodes n)) ∙ ap (is_named q) e)))

@@ -1,12 +1,12 @@
 -- Lists of children, and what a node has after a step on another part of it or on another node.
 use Rattle.std.proofs.Common.{◌≡◌, ℕ, zero, suc, ◌+◌, ◌<◌, ◌≤◌, true, false, List, [], ◌∷◌, ◌++◌, length, take, drop}
-use Rattle.std.proofs.Common.{refl, ap, arith, cond, Option, Some, None, inl, inr, ◌⊎◌}
+use Rattle.std.proofs.Common.{refl, sym, ap, arith, cond, Option, Some, None, inl, inr, ◌⊎◌}
 use Rattle.std.specs.Prelude.{◌==◌, insert, remove, slice_set}
 use Rattle.std.specs.List.{list_any}
-use Rattle.std.proofs.lemmas.List.{take-append-drop}
+use Rattle.std.proofs.lemmas.List.{take-append-drop, get_or-set_same, get_or-set_other}
 use Rattle.htmd_grammar.proofs.Cases.{test}
 use Rattle.htmd_html5_state.specs.Nodes.{NodeValue, KindValue, new_node, parent_at, children_at, with_kind, with_parent}
-use Rattle.htmd_html5_state.specs.Nodes.{with_children, is_number, index_of, node_at}
+use Rattle.htmd_html5_state.specs.Nodes.{with_children, is_number, index_of, node_at, kind_at, document}
 
 -- ---- how often a number stands in a list
 
@@ -69,13 +69,14 @@ children_same n cs [] = inr refl
 children_same zero cs (x ∷ nodes) = inl refl
 children_same (suc n) cs (x ∷ nodes) = children_same n cs nodes
 
+-- the other nodes stay as they are
+node_other : (n m : ℕ) (x : NodeValue) (nodes : List NodeValue) → (n ≡ m → ⊥)
+    → node_at (slice_set nodes n x) m ≡ node_at nodes m
+node_other n m x nodes h = get_or-set_other nodes n m x (new_node document) (λ e. h (sym e))
+
 pub children_other : (n p : ℕ) (cs : List ℕ) (nodes : List NodeValue) → (n ≡ p → ⊥)
     → children_at (with_children n cs nodes) p ≡ children_at nodes p
-children_other n p cs [] h = refl
-children_other zero zero cs (x ∷ nodes) h = absurd (h refl)
-children_other zero (suc p) cs (x ∷ nodes) h = refl
-children_other (suc n) zero cs (x ∷ nodes) h = refl
-children_other (suc n) (suc p) cs (x ∷ nodes) h = children_other n p cs nodes (λ e. h (ap suc e))
+children_other n p cs nodes h = ap (λ (x : NodeValue). x.children) (node_other n p _ nodes h)
 
 -- a part that a node keeps is everywhere as it was
 part_kept : {A : Type 0} (part : NodeValue → A) (n m : ℕ) (x : NodeValue) (nodes : List NodeValue)
@@ -96,17 +97,15 @@ children_of_parent n p q nodes = part_kept (λ x. x.children) n p _ nodes refl
 
 pub parent_same : (n : ℕ) (q : Option ℕ) (nodes : List NodeValue) → n < length nodes
     → parent_at (with_parent n q nodes) n ≡ q
-parent_same n q [] l = absurd (omega arith)
-parent_same zero q (x ∷ nodes) l = refl
-parent_same (suc n) q (x ∷ nodes) l = parent_same n q nodes (omega arith)
+parent_same n q nodes l = ap (λ (x : NodeValue). x.parent) (get_or-set_same nodes n _ (new_node document) l)
 
 pub parent_other : (n m : ℕ) (q : Option ℕ) (nodes : List NodeValue) → (n ≡ m → ⊥)
     → parent_at (with_parent n q nodes) m ≡ parent_at nodes m
-parent_other n m q [] h = refl
-parent_other zero zero q (x ∷ nodes) h = absurd (h refl)
-parent_other zero (suc m) q (x ∷ nodes) h = refl
-parent_other (suc n) zero q (x ∷ nodes) h = refl
-parent_other (suc n) (suc m) q (x ∷ nodes) h = parent_other n m q nodes (λ e. h (ap suc e))
+parent_other n m q nodes h = ap (λ (x : NodeValue). x.parent) (node_other n m _ nodes h)
+
+pub kind_other : (n m : ℕ) (k : KindValue) (nodes : List NodeValue) → (n ≡ m → ⊥)
+    → kind_at (with_kind n k nodes) m ≡ kind_at nodes m
+kind_other n m k nodes h = ap (λ (x : NodeValue). x.kind) (node_other n m _ nodes h)
 
 pub has_parent : (n p : ℕ) (nodes : List NodeValue) → parent_at nodes n ≡ Some p → n < length nodes
 has_parent n p [] e = absurd (cc)

@@ -1,18 +1,18 @@
 -- What nodes, lists of nodes and items hold of a character.
 use Rattle.std.proofs.Common.{◌≡◌, ◌∙◌, ℕ, zero, suc, ◌+◌, ◌≤◌, true, List, [], ◌∷◌, ◌++◌, get_or, set, refl, sym, ap}
-use Rattle.std.proofs.Common.{subst, arith, cond, All, map, Option, Some, None, inl, inr, ◌⊎◌}
+use Rattle.std.proofs.Common.{subst, arith, cond, All, map, Option, Some, None, inl, inr, ◌⊎◌, ⊎_elim}
 use Rattle.std.specs.Prelude.{◌==◌, is_some, if◌then◌else◌, IsUtf8}
 use Rattle.std.proofs.lemmas.Bool.{eqb-true, eqb-false, eq-eqb}
 use Rattle.std.proofs.lemmas.List.Elements.{All-head}
 use Rattle.htmd_grammar.proofs.Cases.{test}
 use Rattle.htmd_html5_state.specs.Nodes.{KindValue, NodeValue, document, text, kind_at}
 use Rattle.htmd_html5_state.specs.Nodes.{node_at, children_at, parent_at, with_kind, text_of}
-use Rattle.htmd_html5.specs.Layout.{Coming, coming, Layout, or_text, next_texts, after_next_texts, without_node}
+use Rattle.htmd_html5.specs.Layout.{Coming, coming, or_text, next_texts, after_next_texts}
 use Rattle.htmd_nodes.specs.Items.{Item, Data, text_node}
 use Rattle.htmd_html5_laws.specs.PageLetters.{occurrences, occurrences_in, with_text_in, texts_of}
 use Rattle.htmd_html5_laws.proofs.NodeTexts.{kinds, texts, with_text as with_node_text, kinds_with_kind, kind_read}
 use Rattle.htmd_html5_laws.proofs.NodeTexts.{is_element}
-use Rattle.htmd_html5_laws.proofs.NodeParts.{times, times_append}
+use Rattle.htmd_html5_laws.proofs.NodeParts.{times, times_append, kind_other}
 use Rattle.htmd_html5_laws.proofs.Forests.{once_under, IsForest, here, elsewhere, once_at_most}
 use Rattle.htmd_html5_laws.proofs.TextsPut.{occurs_cons, occurs_append, occurs_nil, all_under}
 
@@ -75,25 +75,14 @@ kind_marked zero (suc m) (x ∷ nodes) = inl refl
 kind_marked (suc n) zero (x ∷ nodes) = inl refl
 kind_marked (suc n) (suc m) (x ∷ nodes) = kind_marked n m nodes
 
-pub kind_other : (n m : ℕ) (nodes : List NodeValue) → (n ≡ m → ⊥) → kind_at (with_kind n document nodes) m
-    ≡ kind_at nodes m
-kind_other n m [] h = refl
-kind_other zero zero (x ∷ nodes) h = absurd (h refl)
-kind_other zero (suc m) (x ∷ nodes) h = refl
-kind_other (suc n) zero (x ∷ nodes) h = refl
-kind_other (suc n) (suc m) (x ∷ nodes) h = kind_other n m nodes (λ e. h (ap suc e))
-
 -- each text is UTF-8
 abbrev pub TextsUtf8 : List NodeValue → Type 0
 TextsUtf8 nodes = (n : ℕ) (s : List ℕ) → kind_at nodes n ≡ text s → IsUtf8 s
 
 pub marked_utf8 : (n : ℕ) (nodes : List NodeValue) → TextsUtf8 nodes → TextsUtf8 (with_kind n document nodes)
-marked_utf8 n nodes h m s e = either (kind_marked n m nodes)
-  where
-    either : (kind_at (with_kind n document nodes) m ≡ kind_at nodes m)
-        ⊎ (kind_at (with_kind n document nodes) m ≡ document) → IsUtf8 s
-    either (inl f) = h m s (sym f ∙ e)
-    either (inr f) = absurd (let g : document ≡ text s = sym f ∙ e in cc)
+marked_utf8 n nodes h m s e =
+    ⊎_elim (λ f. h m s (sym f ∙ e)) (λ f. absurd (let g : document ≡ text s = sym f ∙ e in cc))
+    (kind_marked n m nodes)
 
 text_is_utf8 : (k : KindValue) (s : List ℕ) (ts : List (List ℕ)) → k ≡ text s
     → All IsUtf8 (with_node_text k ts) → IsUtf8 s
@@ -155,18 +144,14 @@ module _ (c : ℕ) where
       omega arith
 
   -- a node is taken
-  pub node_taken : (nodes : List NodeValue) (n : ℕ) (l : Layout) → l.nodes ≡ nodes
-      → in_nodes (without_node n l).nodes + in_kind (kind_at nodes n) ≡ in_nodes nodes
+  pub node_taken : (nodes : List NodeValue) (n : ℕ)
+      → in_nodes (with_kind n document nodes) + in_kind (kind_at nodes n) ≡ in_nodes nodes
   unfolding in_nodes
-  node_taken nodes n l e =
-      ap (λ (x : List NodeValue). occurrences_in c (texts (kinds (without_node n (record l {
-        nodes =
-            x;
-      })).nodes)) + in_kind (kind_at nodes n)) e
-      ∙ (ap (λ (x : List KindValue). occurrences_in c (texts x) + in_kind (kind_at nodes n))
-      (kinds_with_kind n document nodes)
-      ∙ (ap (λ (k : KindValue). occurrences_in c (texts (set (kinds nodes) n document)) + in_kind k)
-      (kind_read nodes n) ∙ kind_taken (kinds nodes) n))
+  node_taken nodes n =
+      let a = ap (λ (x : List KindValue). occurrences_in c (texts x)) (kinds_with_kind n document nodes) in
+      let b = ap in_kind (kind_read nodes n) in
+      let d = kind_taken (kinds nodes) n in
+      omega arith
 
   -- ---- what nodes and elements hold
 
@@ -201,13 +186,10 @@ module _ (c : ℕ) where
   pub marked_fewer : (n m : ℕ) (nodes : List NodeValue)
       → in_kind (kind_at (with_kind n document nodes) m) ≤ in_kind (kind_at nodes m)
   unfolding in_kind
-  marked_fewer n m nodes = either (kind_marked n m nodes)
-    where
-      either : (kind_at (with_kind n document nodes) m ≡ kind_at nodes m)
-          ⊎ (kind_at (with_kind n document nodes) m ≡ document)
-          → in_kind (kind_at (with_kind n document nodes) m) ≤ in_kind (kind_at nodes m)
-      either (inl e) = let f = ap in_kind e in omega arith
-      either (inr e) = let f : in_kind (kind_at (with_kind n document nodes) m) ≡ 0 = ap in_kind e in omega arith
+  marked_fewer n m nodes =
+      ⊎_elim (λ e. let f = ap in_kind e in omega arith)
+      (λ e. let f : in_kind (kind_at (with_kind n document nodes) m) ≡ 0 = ap in_kind e in omega arith)
+      (kind_marked n m nodes)
 
   pub weigh_fewer : (n : ℕ) (nodes : List NodeValue) (ns : List ℕ) → weigh (with_kind n document nodes) ns
       ≤ weigh nodes ns
@@ -255,7 +237,7 @@ module _ (c : ℕ) where
       let other = eqb-false m n t in
       let a = weigh_unmarked n ns nodes (omega arith) in
       let b : in_kind (kind_at (with_kind n document nodes) m) ≡ in_kind (kind_at nodes m) =
-      ap in_kind (kind_other n m nodes (λ g. other (sym g))) in
+      ap in_kind (kind_other n m document nodes (λ g. other (sym g))) in
       omega arith)
 
   pub weigh_once : (ns : List ℕ) (nodes : List NodeValue) → ((n : ℕ) → times n ns ≤ 1) → weigh nodes ns
@@ -268,7 +250,7 @@ module _ (c : ℕ) where
       let a = weigh_unmarked n ns nodes (omega arith) in
       let b = weigh_once ns (with_kind n document nodes)
       (λ m. let l : cond (n == m) 1 0 + times m ns ≤ 1 = h m in omega arith) in
-      let d = node_taken nodes n (record { nodes = nodes; items = []; work = [] }) refl in
+      let d = node_taken nodes n in
       omega arith
 
   pub under_children : (nodes xs : List NodeValue) → under_all nodes xs ≤ weigh nodes (all_children xs)
@@ -294,12 +276,6 @@ module _ (c : ℕ) where
   joined_same nodes u [] h = let e = occurs_nil c in omega arith
   joined_same nodes u (x ∷ work) h = by_kind (kind_at nodes x.node) refl (joined_same nodes u work h)
     where
-      other : (k : KindValue) → text_of k ≡ None → kind_at nodes x.node ≡ k → JoinedSame nodes u x work k
-      other k none e =
-          let z = occurs_nil c in
-          let f = ap in_kind e in
-          test (x.under == u) (λ t. rw (t, none) (omega arith)) (λ t. rw t (omega arith))
-
       by_kind : (k : KindValue) → kind_at nodes x.node ≡ k
           → occurrences c (next_texts nodes u work) + weigh_work nodes (after_next_texts nodes u work)
           ≡ weigh_work nodes work → JoinedSame nodes u x work k
@@ -308,4 +284,7 @@ module _ (c : ℕ) where
           let a = occurs_append c s (next_texts nodes u work) (h x.node s e) in
           let f : in_kind (kind_at nodes x.node) ≡ occurrences c s = ap in_kind e in
           test (x.under == u) (λ t. rw t (omega arith)) (λ t. rw t (omega arith))
-      by_kind k e l = other k refl e
+      by_kind k e l =
+          let z = occurs_nil c in
+          let f = ap in_kind e in
+          test (x.under == u) (λ t. rw t (omega arith)) (λ t. rw t (omega arith))

@@ -1,7 +1,8 @@
 -- The adoption agency leaves the letters in order.
 use Rattle.std.proofs.Common.{◌≡◌, ◌∙◌, ℕ, suc, ◌<◌, ◌≤◌, Bool, true, false, List, [], ◌∷◌, ◌++◌, length, refl, sym, ap}
-use Rattle.std.proofs.Common.{subst, arith, inl, inr, ◌⊎◌}
-use Rattle.std.specs.Prelude.{◌&&◌, not, nat_lt}
+use Rattle.std.proofs.Math.Bool.{and-false}
+use Rattle.std.proofs.Common.{subst, arith, inl, inr, ◌⊎◌, ⊎_elim}
+use Rattle.std.specs.Prelude.{◌&&◌, nat_lt}
 use Rattle.std.proofs.lemmas.Bool.{eq-eqb, ne_eqb}
 use Rattle.htmd_html5_state.specs.Names.{known, html}
 use Rattle.htmd_html5_state.specs.Nodes.{NodeValue, kind_at, children_at, new_node, last_in, detach, put}
@@ -27,7 +28,7 @@ use Rattle.htmd_html5_laws.proofs.OrderedNodes.{Labels, FitsBy, none_out, Ranked
 use Rattle.htmd_html5_laws.proofs.OrderedPaths.{Alive, parted, parted_fits, front_ends}
 use Rattle.htmd_html5_laws.proofs.OrderedMoves.{Apart, apart_copied, copied_labels, fits_placed, fits_wrapped}
 use Rattle.htmd_html5_laws.proofs.OrderedMoves.{wrapped_labels}
-use Rattle.htmd_html5_laws.proofs.OrderedStates.{OrderedIn, Ordered, Orders, ordered_fewer, low_ranks, place_last}
+use Rattle.htmd_html5_laws.proofs.OrderedStates.{current_live, stack_still, opens_still, OrderedIn, Ordered, Orders, ordered_fewer, low_ranks, place_last}
 use Rattle.htmd_html5_laws.proofs.Counted.{Choice}
 use Rattle.htmd_html5_laws.proofs.AdoptionWalk.{FurthestAt, furthest_at, ChainSteps, chain_holds, AdoptionSteps}
 use Rattle.htmd_html5_laws.proofs.AdoptionWalk.{agency_holds}
@@ -61,10 +62,8 @@ module _ (choice : Choice) where
           copies = each_append
               (λ x. (copied_labels choice letters c.state.nodes a.labels p c.last a.apart a.within last_in_nodes
               a.other k is forest).live x.node ≡ true) c.copies (opened (length c.state.nodes) e.name ∷ [])
-              (each_more c.copies (λ x o. rw (ne_eqb x.node (length c.state.nodes)
-              (λ f. let w = element_number x.node c.state.nodes o.0 in omega arith)) o.1)
-              (each_both (ElementOpen c.state.nodes)
-              (λ x. a.labels.live x.node ≡ true) c.copies h.copies_at a.copies))
+              (stack_still a.labels.live _ c.state.nodes c.copies
+              (λ m l e. rw (ne_eqb m (length c.state.nodes) (λ f. omega arith)) e) h.copies_at a.copies)
               (rw (eq-eqb (length c.state.nodes) (length c.state.nodes) refl) refl, tt);
           still = λ m l e.
               let size = h.size in rw (ne_eqb m (length c.state.nodes) (λ f. omega arith)) (a.still m l e);
@@ -128,45 +127,37 @@ module _ (choice : Choice) where
         by_stack (e ∷ es) order = let z = order.0 in let y = x.ranks.block in omega arith
 
     alive : Alive choice x.rank letters s.nodes o.labels o.fits ranked x.at_root p
-    alive = record { live = live s.stack o.opens; either = either s.stack x.opened_at }
+    alive = record {
+      live = current_live o.labels.live s.stack o.root o.opens;
+      either = either s.stack x.opened_at;
+    }
       where
-        live : (stack : List OpenValue) → EachOpen (λ e. o.labels.live e.node ≡ true) stack
-            → o.labels.live (current stack).node ≡ true
-        live [] opens = o.root
-        live (e ∷ es) opens = opens.0
-
         either : (stack : List OpenValue) → EachOpen (ElementOpen s.nodes) stack
             → ((current stack).node ≡ 0) ⊎ (is_element (kind_at s.nodes (current stack).node) ≡ true)
         either [] opens = inl refl
         either (e ∷ es) opens = inr opens.0
 
     p_within : p < length s.nodes
-    p_within = by_stack s.stack x.opened_at
-      where
-        by_stack : (stack : List OpenValue) → EachOpen (ElementOpen s.nodes) stack
-            → (current stack).node < length s.nodes
-        by_stack [] opens = x.filled
-        by_stack (e ∷ es) opens = element_number e.node s.nodes opens.0
+    p_within =
+        ⊎_elim (λ z. subst (λ (n : ℕ). n < length s.nodes) (sym z) x.filled) (λ e. element_number p s.nodes e)
+        alive.either
 
     abbrev base : Labels
     base = parted choice x.rank letters s.nodes o.labels o.fits ranked x.at_root p b alive block x.furthest.block less
 
     -- at most as deep as the common ancestor, or as deep as the block
     live_low : (m : ℕ) → o.labels.live m ≡ true → x.rank m ≤ x.rank p → base.live m ≡ true
-    live_low m e l = rw (e, lt_false (x.rank p) (x.rank m) l) (ends (is_element (kind_at s.nodes m)))
-      where
-        ends : (t : Bool) → not (t && false) ≡ true
-        ends true = refl
-        ends false = refl
+    live_low m e l =
+        rw (e, lt_false (x.rank p) (x.rank m) l, and-false (is_element (kind_at s.nodes m))) refl
 
     live_high : (m : ℕ) → o.labels.live m ≡ true → x.rank b ≤ x.rank m → base.live m ≡ true
     live_high m e l =
-        rw (e, lt_false (x.rank m) (x.rank b) l) (ends (is_element (kind_at s.nodes m)) (nat_lt (x.rank p) (x.rank m)))
-      where
-        ends : (t u : Bool) → not (t && (u && false)) ≡ true
-        ends true true = refl
-        ends true false = refl
-        ends false u = refl
+        rw (
+          e,
+          lt_false (x.rank m) (x.rank b) l,
+          and-false (nat_lt (x.rank p) (x.rank m)),
+          and-false (is_element (kind_at s.nodes m)),
+        ) refl
 
     begun_apart : ChainApart letters s p base (begin_chain b s)
     begun_apart = record {
@@ -265,7 +256,7 @@ module _ (choice : Choice) where
         (each_both (ElementOpen s.nodes) (λ e. (o.labels.live e.node ≡ true) × (x.rank b ≤ x.rank e.node)) f.inner
         x.furthest.inner
         (each_both (λ e. o.labels.live e.node ≡ true) (λ e. x.rank b ≤ x.rank e.node) f.inner inner
-        (inner_high x.limit f.inner x.ranks.inner)))
+        (each_more f.inner (λ e l. omega arith) (within_above x.rank x.limit (suc (x.rank b)) f.inner x.ranks.inner))))
       where
         within_above : (rank : ℕ → ℕ) (high low : ℕ) (es : List OpenValue) → Within rank high es low
             → EachOpen (λ e. low ≤ rank e.node) es
@@ -273,24 +264,18 @@ module _ (choice : Choice) where
         within_above rank high low (e ∷ es) h =
             (within_low rank (rank e.node) es low h.1, within_above rank (rank e.node) low es h.1)
 
-        inner_high : (high : ℕ) (es : List OpenValue) → Within x.rank high es (suc (x.rank b))
-            → EachOpen (λ e. x.rank b ≤ x.rank e.node) es
-        inner_high high es h = each_more es (λ e l. omega arith) (within_above x.rank high (suc (x.rank b)) es h)
-
     copies_live : EachOpen (λ e. after_labels.live e.node ≡ true) made.copies
     copies_live =
-        each_more made.copies
-        (λ e y. let c = back_size in
-        rw (ne_eqb e.node (length back) (λ g. let w = element_number e.node made.state.nodes y.0 in omega arith)) y.1)
-        (each_both (ElementOpen made.state.nodes) (λ e. made_apart.labels.live e.node ≡ true) made.copies
-        made_hung.copies_at made_apart.copies)
+        stack_still made_apart.labels.live after_labels.live made.state.nodes made.copies
+        (λ m l e. let c = back_size in rw (ne_eqb m (length back) (λ g. omega arith)) e) made_hung.copies_at
+        made_apart.copies
 
     around_live : EachOpen (λ e. after_labels.live e.node ≡ true) s.stack
     around_live =
-        each_more s.stack (λ e y. old_live e.node (element_number e.node s.nodes y.0) (live_low e.node y.1.0 y.1.1))
-        (each_both (ElementOpen s.nodes) (λ e. (o.labels.live e.node ≡ true) × (x.rank e.node ≤ x.rank p)) s.stack
-        x.opened_at (each_both (λ e. o.labels.live e.node ≡ true) (λ e. x.rank e.node ≤ x.rank p) s.stack o.opens
-        (low_ranks x.rank (x.rank formatting) s.stack x.order)))
+        opens_still o.labels.live after_labels.live x.rank p s.nodes s.stack
+        (λ m l e low. old_live m l (live_low m e low)) x.opened_at
+        (low_ranks x.rank (x.rank formatting) s.stack x.order)
+        o.opens
 
     whole_live : EachOpen (λ e. after_labels.live e.node ≡ true)
         (f.inner ++ opened (length back) (html (known tag)) ∷ f.block ∷ (made.copies ++ s.stack))

@@ -397,26 +397,30 @@ module _ (choice : Choice) where
         early_step (insert_raw_orders choice tag.name element tag.attributes p) letters s m (o, h.0.names) h.1 h
 
   -- where the head is open
-  module _ (mode : InsertionMode)
-      (inside : (raw : Bool) (letters : List ℕ) (s : StateValue) → Early choice letters s
-      → Placed mode raw s.head s.stack → BeforeBody choice raw mode letters s)
+  module _ (mode : InsertionMode) (early_mode : is_early mode ≡ true)
+      (inner : (raw : Bool) (letters : List ℕ) (s : StateValue) → Early choice letters s
+      → EarlyIn choice letters s (opens_in mode choice.reopens raw s.head s.stack))
       (placed : (e : OpenValue) (head : Option ℕ) (stack : List OpenValue) → Placed mode false head stack
       → Placed mode true head (e ∷ stack)) where
+    inside : (raw : Bool) (letters : List ℕ) (s : StateValue) → is_text_mode s.content ≡ raw → s.mode ≡ mode
+        → Early choice letters s → Placed mode raw s.head s.stack → Staged choice letters s
+    inside raw letters s r m h at =
+        staged choice raw mode letters s r m
+        (record { early_mode = early_mode; early = inner raw letters s h; placed = at })
+
     raw_leads : (tag : StartTagValue) (element : RawElement) → is_text_mode (Raw element) ≡ true
         → is_outer_name tag.name ≡ true → Leads mode (Staged choice) (insert_raw_tag element tag)
     raw_leads tag element r o =
-        lead (λ letters s h. staged choice true mode letters (insert_raw_tag element tag s) r h.at_mode
-        (inside true letters (insert_raw_tag element tag s)
+        lead (λ letters s h. inside true letters (insert_raw_tag element tag s) r h.at_mode
         (raw_put tag (outer_plain (html tag.name) o) letters s (held_plain h) (real_early h) element o)
-        (placed (opened (length s.nodes) (html tag.name)) s.head s.stack h.before.placed)))
+        (placed (opened (length s.nodes) (html tag.name)) s.head s.stack h.before.placed))
 
     of_head_leads : (tag : StartTagValue) → is_plain_name tag.name ≡ true
         → Leads mode (Staged choice) (insert_head_element tag.name tag)
     of_head_leads tag p =
         by_head_element (Leads mode (Staged choice)) tag p (raw_leads tag)
-        (lead (λ letters s h. staged choice false mode letters (insert_void_tag tag s) h.calm h.at_mode
-        (inside false letters (insert_void_tag tag s) (void_put tag p letters s (held_plain h) (real_early h))
-        h.before.placed)))
+        (lead (λ letters s h. inside false letters (insert_void_tag tag s) h.calm h.at_mode
+        (void_put tag p letters s (held_plain h) (real_early h)) h.before.placed))
 
   -- after the head, where it may be opened once more
   after : (raw : Bool) (letters : List ℕ) (s : StateValue) → choice.reopens ≡ true
@@ -471,20 +475,14 @@ module _ (choice : Choice) where
   early_last AfterHead name late_of_head = is_plain_name name && choice.reopens
   early_last mode name a = early_turn mode name a
 
-  in_head : (raw : Bool) (letters : List ℕ) (s : StateValue) → Early choice letters s
-      → Placed InHead raw s.head s.stack → BeforeBody choice raw InHead letters s
-  in_head raw letters s h at = record { early_mode = refl; early = h; placed = at }
-
-  in_noscript : (raw : Bool) (letters : List ℕ) (s : StateValue) → Early choice letters s
-      → Placed InHeadNoscript raw s.head s.stack → BeforeBody choice raw InHeadNoscript letters s
-  in_noscript raw letters s h at = record { early_mode = refl; early = h; placed = at }
-
   last_leads : (mode : InsertionMode) (tag : StartTagValue) (a : Act) → early_last mode tag.name a ≡ true
       → Leads mode (Staged choice) (act_on a tag)
   last_leads InHead tag (raw_text raw.Noscript) e =
-      raw_leads InHead in_head (λ e head stack h. h) tag raw.Noscript refl e
-  last_leads InHead tag of_head e = of_head_leads InHead in_head (λ e head stack h. h) tag e
-  last_leads InHeadNoscript tag of_head e = of_head_leads InHeadNoscript in_noscript (λ e head stack h. h) tag e
+      raw_leads InHead refl (λ raw letters s h. h) (λ e head stack h. h) tag raw.Noscript refl e
+  last_leads InHead tag of_head e =
+      of_head_leads InHead refl (λ raw letters s h. h) (λ e head stack h. h) tag e
+  last_leads InHeadNoscript tag of_head e =
+      of_head_leads InHeadNoscript refl (λ raw letters s h. h) (λ e head stack h. h) tag e
   last_leads AfterHead tag late_of_head e =
       let parts = and_parts _ _ e in late_leads tag parts.0 parts.1
   last_leads mode tag a e = lead (λ letters s h. ((turn_leads mode tag a e).leads letters s h).stage)
@@ -500,25 +498,16 @@ module _ (choice : Choice) where
   starts_fit (known tags.FrameSet) mode e q = absurd (true≢false (sym q))
   starts_fit (known tags.Template) mode e q = absurd (true≢false (sym q))
   starts_fit (known tags.Table) mode e q = absurd (true≢false (sym q))
-  starts_fit name Initial e q = refl
-  starts_fit name BeforeHtml e q = refl
-  starts_fit name BeforeHead e q = refl
-  starts_fit name InHead e q = refl
-  starts_fit name InHeadNoscript e q = refl
   starts_fit name AfterHead e q = q
-  starts_fit name mode e q = absurd (true≢false (sym e))
+  starts_fit name mode e q = cc
 
   ends_fit : (name : NameValue) (mode : InsertionMode) → is_early mode ≡ true
       → reply_fits early_act (early_turn mode (known tags.P)) (early_last mode (known tags.P)) (end_in mode name)
       ≡ true
   ends_fit (known tags.A) Initial e = refl
-  ends_fit name Initial e = refl
-  ends_fit name BeforeHtml e = refl
-  ends_fit name BeforeHead e = refl
   ends_fit name InHead e = refl
-  ends_fit name InHeadNoscript e = refl
   ends_fit name AfterHead e = refl
-  ends_fit name mode e = absurd (true≢false (sym e))
+  ends_fit name mode e = cc
 
   all_fit : (mode : InsertionMode) → is_early mode ≡ true → (t : TokenValue) → IsMarkup (comes mode) t
       → reply_fits early_act (early_turn mode (tag_name t)) (early_last mode (tag_name t)) (rule_in mode t) ≡ true
@@ -581,10 +570,8 @@ module _ (choice : Choice) where
       and_from _ _ p (unless_both (is_head_name tag.name) (is_after_head s.mode) choice.reopens may)
     where
       unless_both : (a b c : Bool) → (c ≡ false → b ≡ true → a ≡ false) → (not (a && b) || c) ≡ true
-      unless_both true true true f = refl
       unless_both true true false f = absurd (true≢false (f refl refl))
-      unless_both true false c f = refl
-      unless_both false b c f = refl
+      unless_both a b c f = refl
   coming t s p may = tt
 
   -- a tag that opens the head is never left to the mode after the head
@@ -631,20 +618,14 @@ module _ (choice : Choice) where
   pub by_rules_stage : (t : TokenValue) → IsOrderly t → (letters : List ℕ) (s : StateValue) → Calm s
       → Staged choice letters s → MayCome choice t s → StageAnswer choice letters (by_rules t s)
       × ((by_rules t s).again ≡ true → MayCome choice t (by_rules t s).state)
-  by_rules_stage t p letters s calm h may = by_stage choice false letters s calm h late early_mode
-    where
-      Goes : Outcome → Type 0
-      Goes a = StageAnswer choice letters a × (a.again ≡ true → MayCome choice t a.state)
-
-      late : Late choice letters s → Goes (by_rules t s)
-      late h = let x = by_rules_late choice t p letters s calm h in (
+  by_rules_stage t p letters s calm h may =
+      by_stage choice false letters s calm h
+      (λ late. let x = by_rules_late choice t p letters s calm late in (
         record { stage = inl x.late; calm = x.calm },
         λ k z m. absurd (late_apart (by_rules t s).state.mode x.late.rooted.late m),
-      )
-
-      early_mode : BeforeBody choice false s.mode letters s → Goes (by_rules t s)
-      early_mode h = let x = in_early_mode choice t letters s (coming choice t s p may) calm h in
-          html_rules Goes t letters s h (
-            record { stage = x.stage; calm = x.calm },
-            λ k. may_go_on choice t s s.mode (by_mode_rules t s).state.mode refl may k (x.leaves k),
-          )
+      )) (λ before. let x = in_early_mode choice t letters s (coming choice t s p may) calm before in
+      html_rules
+      (λ a. StageAnswer choice letters a × (a.again ≡ true → MayCome choice t a.state)) t letters s before (
+        record { stage = x.stage; calm = x.calm },
+        λ k. may_go_on choice t s s.mode (by_mode_rules t s).state.mode refl may k (x.leaves k),
+      ))

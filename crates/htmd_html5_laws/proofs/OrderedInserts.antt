@@ -2,7 +2,7 @@
 use Rattle.std.proofs.Common.{◌≡◌, ◌∙◌, ℕ, zero, suc, ◌+◌, ◌<◌, ◌≤◌, Bool, true, false, List, [], ◌∷◌, ◌++◌, length}
 use Rattle.std.proofs.Common.{drop, refl, sym, ap, subst, arith, cond, Option, Some, length-append}
 use Rattle.std.specs.Prelude.{◌==◌, insert, IsUtf8}
-use Rattle.std.proofs.lemmas.Bool.{eqb-true, eqb-false, eq-eqb, ne_eqb, true≢false}
+use Rattle.std.proofs.lemmas.Bool.{eqb-true, eqb-false, eq-eqb, ne_eqb, true≢false, cond_both}
 use Rattle.std.proofs.Math.Seq.{take-length, drop-length}
 use Rattle.htmd_grammar.proofs.Cases.{test}
 use Rattle.htmd_html5_state.specs.Nodes.{NodeValue, KindValue, text, new_node, kind_at, children_at}
@@ -10,7 +10,7 @@ use Rattle.htmd_html5_state.specs.Nodes.{with_children, last_in, add}
 use Rattle.htmd_html5_laws.proofs.NodeParts.{times, children_other, children_of_parent, children_with_new}
 use Rattle.htmd_html5_laws.proofs.NodeParts.{parent_beyond}
 use Rattle.htmd_html5_laws.proofs.Forests.{IsForest, length_new, once_under}
-use Rattle.htmd_html5_laws.proofs.HungNodes.{put_kind, children_in, kind_with_new, kind_new_at}
+use Rattle.htmd_html5_laws.proofs.HungNodes.{put_at, put_kind, children_in, kind_with_new, kind_new_at}
 use Rattle.htmd_html5_laws.proofs.Sublists.{Sub, window_new, sub_all}
 use Rattle.htmd_html5_laws.proofs.ChildRows.{Row, row_marks, row_as, row_append, row_ends, by_two, row_end}
 use Rattle.htmd_html5_laws.proofs.OrderedNodes.{bears, Labels, until, marks, TextIn, FitsBy, none_out, lo_until, RowAt}
@@ -47,38 +47,60 @@ module _ (choice : Choice) where
         record { closed = rw (ne_eqb m n f) x.closed; utf8 = x.utf8; within = rw (ne_eqb m n f) x.within });
   }
 
-  -- ---- children
+  -- a row in which the node doesn't stand
+  pub row_unmarked : {letters : List ℕ} {nodes : List NodeValue} {l : Labels} (n lo hi : ℕ) (live : Bool)
+      (new : List NodeValue) → FitsBy choice none_out letters nodes l
+      → ((m : ℕ) → (m ≡ n → ⊥) → kind_at new m ≡ kind_at nodes m) → (limit at : ℕ) (cs : List ℕ)
+      (to : ℕ)
+      → length letters < limit → times n cs ≡ 0 → Row (marks choice none_out nodes limit l) at cs to
+      → Row (marks choice none_out new limit (mark n lo hi live l)) at cs to
+  row_unmarked {letters} {nodes} {l} n lo hi live new h kinds limit at cs to big none r =
+      row_marks (marks choice none_out nodes limit l) (marks choice none_out new limit (mark n lo hi live l)) at cs to
+      (λ c k b.
+      let other : c ≡ n → ⊥ = λ e. let z : times c cs ≡ times n cs = ap
+      (λ (x : ℕ). times x cs) e in omega arith in
+      let low : (mark n lo hi live l).lo c ≡ l.lo c = rw (ne_eqb c n other) refl in
+      let end : until limit (mark n lo hi live l) c ≡ until limit l c = rw (ne_eqb c n other) refl in
+      let w = lo_until h limit big c in
+      (sym (ap (bears choice) (kinds c other)) ∙ b, omega arith, omega arith, omega arith)) r
 
-  pub inserted_last : (n : ℕ) (cs : List ℕ) → insert cs (length cs) n ≡ cs ++ n ∷ []
-  inserted_last n cs = ap (λ (x : List ℕ). x ++ n ∷ drop (length cs) cs) (take-length cs)
-      ∙ ap (λ (x : List ℕ). cs ++ n ∷ x) (drop-length cs)
+-- ---- children
+
+inserted_last : (n : ℕ) (cs : List ℕ) → insert cs (length cs) n ≡ cs ++ n ∷ []
+inserted_last n cs = ap (λ (x : List ℕ). x ++ n ∷ drop (length cs) cs) (take-length cs)
+    ∙ ap (λ (x : List ℕ). cs ++ n ∷ x) (drop-length cs)
+
+abbrev pub put_last : ℕ → ℕ → List NodeValue → List NodeValue
+put_last n p nodes = put_at n p (length (children_at nodes p)) nodes
+
+pub children_put : (n p : ℕ) (nodes : List NodeValue) → p < length nodes
+    → children_at (put_last n p nodes) p ≡ children_at nodes p ++ n ∷ []
+children_put n p nodes l =
+    children_of_parent n p (Some p) (with_children p
+    (insert (children_at nodes p) (length (children_at nodes p)) n) nodes)
+    ∙ children_in p (insert (children_at nodes p) (length (children_at nodes p)) n) nodes l
+    ∙ inserted_last n (children_at nodes p)
+
+pub children_put_other : (n p q : ℕ) (nodes : List NodeValue) → (p ≡ q → ⊥)
+    → children_at (put_last n p nodes) q ≡ children_at nodes q
+children_put_other n p q nodes f =
+    children_of_parent n q (Some p) (with_children p
+    (insert (children_at nodes p) (length (children_at nodes p)) n) nodes)
+    ∙ children_other p q (insert (children_at nodes p) (length (children_at nodes p)) n) nodes f
 
 abbrev pub grown : KindValue → ℕ → List NodeValue → List NodeValue
 grown k p nodes = add k (last_in p) nodes
 
-module _ (choice : Choice) where
-  pub children_grown : (k : KindValue) (p : ℕ) (nodes : List NodeValue) → p < length nodes
-      → children_at (grown k p nodes) p ≡ children_at nodes p ++ length nodes ∷ []
-  children_grown k p nodes l =
-      children_of_parent (length nodes) p (Some p) (with_children p
-      (insert (children_at more p) (length (children_at more p)) (length nodes)) more)
-      ∙ children_in p (insert (children_at more p) (length (children_at more p)) (length nodes)) more
-      (let e = length_new k nodes in omega arith) ∙ inserted_last choice (length nodes) (children_at more p)
-      ∙ ap (λ (x : List ℕ). x ++ length nodes ∷ []) (children_with_new p k nodes)
-    where
-      more : List NodeValue
-      more = nodes ++ new_node k ∷ []
+pub children_grown : (k : KindValue) (p : ℕ) (nodes : List NodeValue) → p < length nodes
+    → children_at (grown k p nodes) p ≡ children_at nodes p ++ length nodes ∷ []
+children_grown k p nodes l =
+    children_put (length nodes) p (nodes ++ new_node k ∷ []) (let e = length_new k nodes in omega arith)
+    ∙ ap (λ (x : List ℕ). x ++ length nodes ∷ []) (children_with_new p k nodes)
 
 pub children_elsewhere : (k : KindValue) (p q : ℕ) (nodes : List NodeValue) → (p ≡ q → ⊥)
     → children_at (grown k p nodes) q ≡ children_at nodes q
 children_elsewhere k p q nodes f =
-    children_of_parent (length nodes) q (Some p) (with_children p
-    (insert (children_at more p) (length (children_at more p)) (length nodes)) more)
-    ∙ children_other p q (insert (children_at more p) (length (children_at more p)) (length nodes)) more f
-    ∙ children_with_new q k nodes
-  where
-    more : List NodeValue
-    more = nodes ++ new_node k ∷ []
+    children_put_other (length nodes) p q (nodes ++ new_node k ∷ []) f ∙ children_with_new q k nodes
 
 pub kind_grown : (k : KindValue) (p : ℕ) (nodes : List NodeValue) (m : ℕ) → (m ≡ length nodes → ⊥)
     → kind_at (grown k p nodes) m ≡ kind_at nodes m
@@ -132,29 +154,17 @@ module _ (choice : Choice) where
       pub own_until : (limit : ℕ) → length letters + length more < limit
           → (length letters ≤ until limit marked n) × (until limit marked n ≤ limit)
       own_until limit big =
-          subst (λ (b : Bool). (length letters ≤ cond (cond b live (l.live n)) limit
-          (cond b (length letters + length more) (l.hi n)))
-          × (cond (cond b live (l.live n)) limit (cond b (length letters + length more) (l.hi n)) ≤ limit))
-          (sym (eq-eqb n n refl)) (either live)
-        where
-          either : (b : Bool) → (length letters ≤ cond b limit (length letters + length more))
-              × (cond b limit (length letters + length more) ≤ limit)
-          either true = (omega arith, omega arith)
-          either false = (omega arith, omega arith)
+          rw (eq-eqb n n refl) (cond_both live _ _ (λ x. (length letters ≤ x) × (x ≤ limit))
+          (λ e. (omega arith, omega arith)) (λ e. (omega arith, omega arith)))
 
       -- a row in which the new node doesn't stand
       pub row_kept : (limit at : ℕ) (cs : List ℕ) (to : ℕ) → length letters + length more < limit → times n cs
           ≡ 0 → Row (marks choice none_out nodes limit l) at cs to
           → Row (marks choice none_out new limit marked) at cs to
       row_kept limit at cs to big none r =
-          row_marks (marks choice none_out nodes limit l) (marks choice none_out new limit marked) at cs to (λ c k b.
-          let other : c ≡ n → ⊥ = λ e. let z : times c cs ≡ times n cs = ap (λ (x : ℕ). times x cs) e in
-          omega arith in
-          let same = kind_grown _ p nodes c other in
-          let u = other_until limit c other in
-          let v = other_lo c other in
-          let w = lo_until h limit (omega arith) c in
-          (sym (ap (bears choice) same) ∙ b, omega arith, omega arith, omega arith)) r
+          row_unmarked choice n (length letters) (length letters + length more) live new h
+          (kind_grown k p nodes) limit at cs to
+          (omega arith) none r
 
       -- where it may stand in its parent
       abbrev pub RowOk : Type 0
@@ -215,7 +225,7 @@ module _ (choice : Choice) where
               → RowAt choice none_out new limit marked p
           parent_row limit big =
               row_as (marks choice none_out new limit marked) (other_lo p (λ f. omega arith))
-              (children_grown choice k p nodes within) (other_until limit p (λ f. omega arith)) (ok limit big)
+              (children_grown k p nodes within) (other_until limit p (λ f. omega arith)) (ok limit big)
 
           other_row : (limit : ℕ) → length letters + length more < limit → (q : ℕ) → (n ≡ q → ⊥)
               → (p ≡ q → ⊥) → RowAt choice none_out new limit marked q

@@ -61,11 +61,6 @@ module _ (choice : Choice) where
         row_like choice n document letters nodes l (λ b. absurd (true≢false (sym b))) h limit (omega arith) at ns
         limit r
 
-    fits_marked : (n : ℕ) (nodes : List NodeValue) → FitsBy choice none_out letters nodes l
-        → FitsBy choice none_out letters (with_kind n document nodes) l
-    fits_marked n nodes h =
-        fits_like choice n document letters nodes l (λ b. absurd (true≢false (sym b))) h (λ t e. absurd (cc))
-
     -- ---- texts that come next
 
     -- their letters, and the place where they end
@@ -76,6 +71,17 @@ module _ (choice : Choice) where
       within : Sub (counted_of choice s) (window at to letters)
       utf8 : IsUtf8 s
       row : Rest nodes to rest
+
+    none_next : (nodes : List NodeValue) (at : ℕ) (s rest : List ℕ) → counted_of choice s ≡ [] → IsUtf8 s
+        → at ≤ length letters → Rest nodes at rest → NextTexts nodes at s rest
+    none_next nodes at s rest none u low r = record {
+      to = at;
+      from = omega arith;
+      high = low;
+      within = subst (λ (x : List ℕ). Sub x (window at at letters)) (sym none) tt;
+      utf8 = u;
+      row = r;
+    }
 
     next_text : (nodes : List NodeValue) (at n : ℕ) (s : List ℕ) (rest : List ℕ)
         → FitsBy choice none_out letters nodes l → at ≤ length letters → kind_at nodes n ≡ text s
@@ -102,15 +108,7 @@ module _ (choice : Choice) where
               utf8 = old.utf8;
               row = subst (λ (y : ℕ). Rest nodes y rest) ended g;
             }
-        either false e g = record {
-          to = at;
-          from = omega arith;
-          high = low;
-          within = subst (λ (x : List ℕ). Sub x (window at at letters))
-              (sym (no_letters choice s (kind_at nodes n) is e)) tt;
-          utf8 = old.utf8;
-          row = g;
-        }
+        either false e g = none_next nodes at s rest (no_letters choice s (kind_at nodes n) is e) old.utf8 low g
 
     next_then : {old nodes : List NodeValue} {at : ℕ} {s t rest ns : List ℕ} (first : NextTexts old at s rest)
         → NextTexts nodes first.to t ns → NextTexts nodes at (s ++ t) ns
@@ -126,22 +124,11 @@ module _ (choice : Choice) where
       row = later.row;
     }
 
-    none_next : (nodes : List NodeValue) (at : ℕ) (rest : List ℕ) → counted_of choice [] ≡ []
-        → at ≤ length letters → Rest nodes at rest → NextTexts nodes at [] rest
-    none_next nodes at rest nil low r = record {
-      to = at;
-      from = omega arith;
-      high = low;
-      within = subst (λ (x : List ℕ). Sub x (window at at letters)) (sym nil) tt;
-      utf8 = IsUtf8-nil;
-      row = r;
-    }
-
     -- all texts that come next under an item
     texts_next : (nodes : List NodeValue) (under at : ℕ) (work : List Coming) → counted_of choice [] ≡ []
         → FitsBy choice none_out letters nodes l → at ≤ length letters → Rest nodes at (numbers work)
         → NextTexts nodes at (next_texts nodes under work) (numbers (after_next_texts nodes under work))
-    texts_next nodes under at [] nil h low r = none_next nodes at [] nil low r
+    texts_next nodes under at [] nil h low r = none_next nodes at [] [] nil IsUtf8-nil low r
     texts_next nodes under at (c ∷ work) nil h low r =
         by_text (text_under nodes under c) refl
         (λ (to : ℕ) (high : to ≤ length letters) (row : Rest nodes to (numbers work)).
@@ -159,7 +146,7 @@ module _ (choice : Choice) where
             → NextTexts nodes to (next_texts nodes under work) (numbers (after_next_texts nodes under work)))
             → NextTexts nodes at (or_text o (next_texts nodes under work))
             (numbers (if is_some o then after_next_texts nodes under work else c ∷ work))
-        by_text None e more = none_next nodes at (c.node ∷ numbers work) nil low r
+        by_text None e more = none_next nodes at [] (c.node ∷ numbers work) nil IsUtf8-nil low r
         by_text (Some s) e more =
             let is = under_text s (c.under == under) e (kind_at nodes c.node) refl refl in
             let first = next_text nodes at c.node s (numbers work) h low is r in
@@ -183,7 +170,9 @@ module _ (choice : Choice) where
       taken = with_kind c.node document x.nodes
 
       taken_fits : FitsBy choice none_out letters taken l
-      taken_fits = fits_marked c.node x.nodes h.fits
+      taken_fits =
+          fits_like choice c.node document letters x.nodes l (λ b. absurd (true≢false (sym b))) h.fits
+          (λ t e. absurd (cc))
 
       uncounted : bears choice (kind_at x.nodes c.node) ≡ false → Rest taken h.at (numbers work)
       uncounted e =

@@ -1,6 +1,6 @@
 -- Nodes are moved as the adoption agency moves them: the letters stand in order still.
-use Rattle.std.proofs.Common.{◌≡◌, ◌∙◌, ℕ, suc, ◌<◌, ◌≤◌, Bool, true, List, [], ◌∷◌, ◌++◌, length, refl, sym, ap, subst}
-use Rattle.std.proofs.Common.{arith, cond, Option, Some, None, inl, inr, ◌⊎◌}
+use Rattle.std.proofs.Common.{⊎_elim, ◌≡◌, ◌∙◌, ℕ, suc, ◌<◌, ◌≤◌, Bool, true, List, [], ◌∷◌, ◌++◌, length, refl, sym, ap, subst}
+use Rattle.std.proofs.Common.{arith, cond, Option, Some, None, ◌⊎◌}
 use Rattle.std.specs.Prelude.{◌==◌, not, insert}
 use Rattle.std.proofs.lemmas.Bool.{true≢false, and_parts, eqb-true, eqb-false, eq-eqb, ne_eqb, and_from}
 use Rattle.std.proofs.lemmas.List.{length-set}
@@ -14,11 +14,11 @@ use Rattle.htmd_html5_laws.proofs.NodeParts.{times, times_append, children_same,
 use Rattle.htmd_html5_laws.proofs.NodeParts.{children_with_new, parent_same}
 use Rattle.htmd_html5_laws.proofs.Forests.{IsForest, length_new, once_under, once_at_most, elsewhere}
 use Rattle.htmd_html5_laws.proofs.Forests.{children_with_parents, length_with_parents, length_moved}
-use Rattle.htmd_html5_laws.proofs.HungNodes.{put_at, put_kind, children_in, kind_with_new, kind_new_at, kind_by_kinds}
+use Rattle.htmd_html5_laws.proofs.HungNodes.{put_kind, children_in, kind_with_new, kind_new_at, kind_by_kinds}
 use Rattle.htmd_html5_laws.proofs.HungChains.{detach_size, detach_kind}
 use Rattle.htmd_html5_laws.proofs.ChildRows.{Marks, Row, row_low, row_without, row_marks, row_as, by_two, row_end}
 use Rattle.htmd_html5_laws.proofs.OrderedNodes.{bears, Labels, until, marks, FitsBy, none_out, lo_until, RowAt}
-use Rattle.htmd_html5_laws.proofs.OrderedInserts.{mark, inserted_last, children_beyond, no_child, fits_marked}
+use Rattle.htmd_html5_laws.proofs.OrderedInserts.{put_last, children_put, children_put_other, row_unmarked, mark, children_beyond, no_child, fits_marked}
 use Rattle.htmd_html5_laws.proofs.Counted.{Choice}
 
 module _ (choice : Choice) where
@@ -31,14 +31,12 @@ module _ (choice : Choice) where
       by_same : (p : ℕ) → p ≡ q
           → (children_at (remove_child p n nodes) p ≡ without_child n (children_at nodes p))
           ⊎ (children_at (remove_child p n nodes) p ≡ []) → Row m at (children_at (remove_child p n nodes) q) to
-      by_same p e (inl f) =
+      by_same p e same =
           subst (λ (x : ℕ). Row m at (children_at (remove_child p n nodes) x) to) e
-          (subst (λ (cs : List ℕ). Row m at cs to) (sym f)
+          (⊎_elim (λ f. subst (λ (cs : List ℕ). Row m at cs to) (sym f)
           (row_without m at (children_at nodes p) to (index_of n (children_at nodes p))
           (subst (λ (x : ℕ). Row m at (children_at nodes x) to) (sym e) r)))
-      by_same p e (inr f) =
-          subst (λ (x : ℕ). Row m at (children_at (remove_child p n nodes) x) to) e
-          (subst (λ (cs : List ℕ). Row m at cs to) (sym f) (row_low m at (children_at nodes q) to r))
+          (λ f. subst (λ (cs : List ℕ). Row m at cs to) (sym f) (row_low m at (children_at nodes q) to r)) same)
 
       by_parent : (o : Option ℕ) → Row m at (children_at (detach_from o n nodes) q) to
       by_parent None = r
@@ -48,24 +46,6 @@ module _ (choice : Choice) where
           (λ t. by_same p (eqb-true p q t) (children_same p (without_child n (children_at nodes p)) nodes))
           (λ t. subst (λ (cs : List ℕ). Row m at cs to)
           (sym (children_other p q (without_child n (children_at nodes p)) nodes (eqb-false p q t))) r))
-
-  abbrev pub put_last : ℕ → ℕ → List NodeValue → List NodeValue
-  put_last n p nodes = put_at n p (length (children_at nodes p)) nodes
-
-  pub children_put : (n p : ℕ) (nodes : List NodeValue) → p < length nodes
-      → children_at (put_last n p nodes) p ≡ children_at nodes p ++ n ∷ []
-  children_put n p nodes l =
-      children_of_parent n p (Some p) (with_children p
-      (insert (children_at nodes p) (length (children_at nodes p)) n) nodes)
-      ∙ children_in p (insert (children_at nodes p) (length (children_at nodes p)) n) nodes l
-      ∙ inserted_last choice n (children_at nodes p)
-
-  pub children_put_other : (n p q : ℕ) (nodes : List NodeValue) → (p ≡ q → ⊥)
-      → children_at (put_last n p nodes) q ≡ children_at nodes q
-  children_put_other n p q nodes f =
-      children_of_parent n q (Some p) (with_children p
-      (insert (children_at nodes p) (length (children_at nodes p)) n) nodes)
-      ∙ children_other p q (insert (children_at nodes p) (length (children_at nodes p)) n) nodes f
 
   put_parent : (n p : ℕ) (nodes : List NodeValue) → n < length nodes → parent_at (put_last n p nodes) n ≡ Some p
   put_parent n p nodes l =
@@ -116,7 +96,7 @@ module _ (choice : Choice) where
     -- ---- it is put into a copy of an element, which is apart then
 
     module _ (k : KindValue) (is : is_element k ≡ true)
-        (forest : IsForest (put_last choice last (length nodes) (detach last (nodes ++ new_node k ∷ [])))) where
+        (forest : IsForest (put_last last (length nodes) (detach last (nodes ++ new_node k ∷ [])))) where
       abbrev n : ℕ
       n = length nodes
 
@@ -127,7 +107,7 @@ module _ (choice : Choice) where
       out = detach last more
 
       abbrev pub copied : List NodeValue
-      copied = put_last choice last n out
+      copied = put_last last n out
 
       abbrev pub copied_labels : Labels
       copied_labels = mark choice n (l.lo last) (l.hi last) true l
@@ -158,7 +138,7 @@ module _ (choice : Choice) where
           → Row (marks choice (only last) nodes limit l) (l.lo q) (children_at nodes q) to
           → Row (marks choice (only n) copied limit copied_labels) (l.lo q) (children_at copied q) to
       kept_row limit q to big f r =
-          row_as (marks choice (only n) copied limit copied_labels) refl (children_put_other choice last n q out f) refl
+          row_as (marks choice (only n) copied limit copied_labels) refl (children_put_other last n q out f) refl
           (row_marks (marks choice (only last) nodes limit l) (marks choice (only n) copied limit copied_labels)
           (l.lo q) (children_at out q) to (λ c m e.
           let two = and_parts (not (c == n)) (bears choice (kind_at copied c)) e in
@@ -182,7 +162,7 @@ module _ (choice : Choice) where
           (copy_own limit).1 in
           let x = h.fits.span last in let y = h.fits.high last in
           row_as (marks choice (only n) copied limit copied_labels) refl
-          (children_put choice last n out (let z = out_size in omega arith)) refl
+          (children_put last n out (let z = out_size in omega arith)) refl
           (row_end (marks choice (only n) copied limit copied_labels) (copied_labels.lo n) (children_at out n)
           (l.lo last) last (until limit copied_labels n) (omega arith) (omega arith) (omega arith) (omega arith)
           (row_detached choice (marks choice (only n) copied limit copied_labels) last n (copied_labels.lo n)
@@ -208,12 +188,12 @@ module _ (choice : Choice) where
 
     -- ---- it is put last in the other
 
-    module _ (forest : IsForest (put_last choice last p (detach last nodes))) where
+    module _ (forest : IsForest (put_last last p (detach last nodes))) where
       abbrev taken : List NodeValue
       taken = detach last nodes
 
       abbrev pub placed : List NodeValue
-      placed = put_last choice last p taken
+      placed = put_last last p taken
 
       taken_size : length taken ≡ length nodes
       taken_size = detach_size last nodes
@@ -238,17 +218,15 @@ module _ (choice : Choice) where
 
       placed_row : (limit : ℕ) → length letters < limit → RowAt choice none_out placed limit l p
       placed_row limit big =
-          let b = ends last h.live_last in let d = ends p h.live_at in
+          let b : until limit l last ≡ limit = rw h.live_last refl in
+          let d : until limit l p ≡ limit = rw h.live_at refl in
           let x = h.fits.span last in let y = h.fits.high last in
           row_as (marks choice none_out placed limit l) refl
-          (children_put choice last p taken (let z = taken_size in omega arith)) refl
+          (children_put last p taken (let z = taken_size in omega arith)) refl
           (row_end (marks choice none_out placed limit l) (l.lo p) (children_at taken p) (l.lo last) last
           (until limit l p) (omega arith) (omega arith) (omega arith) (omega arith)
           (row_apart limit p (l.lo p) (l.lo last) big
           (put_once choice last p taken (let z = taken_size in omega arith) forest) (h.front limit big)))
-        where
-          ends : (x : ℕ) → l.live x ≡ true → until limit l x ≡ limit
-          ends x e = rw e refl
 
       pub fits_placed : FitsBy choice none_out letters placed l
       fits_placed = record {
@@ -258,7 +236,7 @@ module _ (choice : Choice) where
             test (p == q)
             (λ t. subst (λ (x : ℕ). RowAt choice none_out placed limit l x) (eqb-true p q t) (placed_row limit big))
             (λ t. let f = eqb-false p q t in
-            row_as (marks choice none_out placed limit l) refl (children_put_other choice last p q taken f) refl
+            row_as (marks choice none_out placed limit l) refl (children_put_other last p q taken f) refl
             (row_apart limit q (l.lo q) (until limit l q) big
             (put_nowhere_else choice last p q taken (let z = taken_size in omega arith) forest f)
             (h.fits.rows limit big q)));
@@ -292,7 +270,7 @@ module _ (choice : Choice) where
     gone = move_children block wn wmore
 
     abbrev wrapped : List NodeValue
-    wrapped = put_last choice wn block gone
+    wrapped = put_last wn block gone
 
     abbrev pub wrapped_labels : Labels
     wrapped_labels = mark choice wn (l.lo block) (l.hi block) true l
@@ -353,18 +331,14 @@ module _ (choice : Choice) where
         → Row (marks choice none_out nodes limit l) (l.lo q) (children_at nodes q) to
         → Row (marks choice none_out wrapped limit wrapped_labels) (l.lo q) (children_at nodes q) to
     w_row limit q to big r =
-        row_marks (marks choice none_out nodes limit l) (marks choice none_out wrapped limit wrapped_labels) (l.lo q)
-        (children_at nodes q) to (λ c m e.
-        let other = member_other c wn (children_at nodes q) (no_child nodes q wn forest (omega arith)) m in
-        let a = (wrap_others limit c other).1 in
-        let b = (wrap_others limit c other).0 in
-        let w = lo_until h limit big c in
-        (sym (ap (bears choice) (wrapped_other c other)) ∙ e, omega arith, omega arith, omega arith)) r
+        row_unmarked choice wn (l.lo block) (l.hi block) true wrapped h wrapped_other limit (l.lo q)
+        (children_at nodes q) to big
+        (no_child nodes q wn forest (omega arith)) r
 
     new_row : (limit : ℕ) → length letters < limit → RowAt choice none_out wrapped limit wrapped_labels wn
     new_row limit big =
         row_as (marks choice none_out wrapped limit wrapped_labels) (wrap_own limit).0
-        (children_put_other choice wn block wn gone apart_new ∙ gone_new)
+        (children_put_other wn block wn gone apart_new ∙ gone_new)
         ((wrap_own limit).1 ∙ sym (until_block limit))
         (w_row limit block (until limit l block) big (h.rows limit big block))
 
@@ -374,7 +348,7 @@ module _ (choice : Choice) where
         let d = (wrap_others limit block apart_new).1 in let f = until_block limit in
         let x = h.span block in let y = h.high block in
         row_as (marks choice none_out wrapped limit wrapped_labels) refl
-        (children_put choice wn block gone (let z = gone_size in omega arith)) refl
+        (children_put wn block gone (let z = gone_size in omega arith)) refl
         (row_end (marks choice none_out wrapped limit wrapped_labels) (wrapped_labels.lo block) (children_at gone block)
         (wrapped_labels.lo block) wn (until limit wrapped_labels block) (omega arith) (omega arith) (omega arith)
         (omega arith) (row_as (marks choice none_out wrapped limit wrapped_labels) refl gone_block refl (omega arith)))
@@ -383,7 +357,7 @@ module _ (choice : Choice) where
         → RowAt choice none_out wrapped limit wrapped_labels q
     other_row limit big q f g =
         row_as (marks choice none_out wrapped limit wrapped_labels) (wrap_others limit q (λ e. f (sym e))).0
-        (children_put_other choice wn block q gone g ∙ gone_other q f g) (wrap_others limit q (λ e. f (sym e))).1
+        (children_put_other wn block q gone g ∙ gone_other q f g) (wrap_others limit q (λ e. f (sym e))).1
         (w_row limit q (until limit l q) big (h.rows limit big q))
 
     pub fits_wrapped : FitsBy choice none_out letters (wrap_children formatting block nodes) wrapped_labels

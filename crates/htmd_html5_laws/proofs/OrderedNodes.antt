@@ -1,13 +1,14 @@
 -- Nodes whose texts stand in the order of the page's letters: what a node holds lies between two places among them.
 use Rattle.std.proofs.Common.{◌≡◌, ◌∙◌, ℕ, ◌<◌, ◌≤◌, Bool, true, false, List, [], length, length-append, refl, sym, ap}
-use Rattle.std.proofs.Common.{subst, arith, cond, Some, inl, inr, ◌∷◌, ◌⊎◌, ◌++◌}
+use Rattle.std.proofs.Common.{subst, arith, cond, Some, ⊎_elim, ◌∷◌, ◌⊎◌, ◌++◌}
 use Rattle.std.specs.Prelude.{◌&&◌, not, nat_lt, IsUtf8}
-use Rattle.std.proofs.lemmas.Bool.{true≢false}
+use Rattle.std.proofs.Math.Bool.{and-false}
+use Rattle.std.proofs.lemmas.Bool.{true≢false, and_parts, cond_both}
 use Rattle.htmd_grammar.specs.CharacterClasses.{is_empty}
 use Rattle.htmd_html5_state.specs.Nodes.{NodeValue, KindValue, text, element, kind_at, parent_at, children_at}
 use Rattle.htmd_html5_laws.proofs.NodeParts.{times}
 use Rattle.htmd_html5_laws.proofs.Forests.{IsForest, under_itself}
-use Rattle.htmd_html5_laws.proofs.HungNodes.{is_solid, Hangs, AllHang}
+use Rattle.htmd_html5_laws.proofs.HungNodes.{is_solid, AllHang}
 use Rattle.htmd_html5_laws.proofs.Sublists.{Sub, window, window_grown}
 use Rattle.htmd_html5_laws.proofs.ChildRows.{Marks, Row, row_ends, row_marks, cond_low}
 use Rattle.htmd_html5_laws.proofs.Counted.{Choice, counted_of}
@@ -62,11 +63,9 @@ none_out n = false
 pub lo_until : {choice : Choice} {out : ℕ → Bool} {letters : List ℕ} {nodes : List NodeValue} {l : Labels}
     → FitsBy choice out letters nodes l → (limit : ℕ) → length letters < limit → (c : ℕ)
     → l.lo c ≤ until limit l c
-lo_until {choice} {out} {letters} {nodes} {l} h limit big c = either (l.live c)
-  where
-    either : (b : Bool) → l.lo c ≤ cond b limit (l.hi c)
-    either true = let a = h.span c in let b = h.high c in omega arith
-    either false = h.span c
+lo_until {choice} {out} {letters} {nodes} {l} h limit big c =
+    cond_both (l.live c) _ _ (λ x. l.lo c ≤ x) (λ e. let a = h.span c in let b = h.high c in omega arith)
+    (λ e. h.span c)
 
 -- with more letters after them
 pub fits_grown : {choice : Choice} {out : ℕ → Bool} {letters : List ℕ} {nodes : List NodeValue} {l : Labels}
@@ -100,6 +99,15 @@ abbrev pub ended : (ℕ → Bool) → ℕ → Labels → Labels
 ended ends at l =
     record { lo = l.lo; hi = λ n. cond (l.live n && ends n) at (l.hi n); live = λ n. l.live n && not (ends n) }
 
+-- what has ended so ends at this place at the latest
+pub inner_end : (ends : ℕ → Bool) (at : ℕ) (l : Labels) (limit c : ℕ) (b : Bool) → l.live c ≡ b
+    → (d : Bool) → ends c ≡ d
+    → (l.live c ≡ true → ends c ≡ true) × (l.live c ≡ false → l.hi c ≤ at)
+    → cond (b && not d) limit (cond (b && d) at (l.hi c)) ≤ at
+inner_end ends at l limit c true e true f x = omega arith
+inner_end ends at l limit c true e false f x = absurd (true≢false (sym (x.0 e) ∙ f))
+inner_end ends at l limit c false e d f x = x.1 e
+
 module _ (choice : Choice) where
   -- where what they hold ends at this place
   pub record MayEnd (out ends : ℕ → Bool) (at : ℕ) (nodes : List NodeValue) (l : Labels) : Type 0 where
@@ -112,7 +120,8 @@ module _ (choice : Choice) where
       → at ≤ length letters → MayEnd out ends at nodes l → FitsBy choice out letters nodes l
       → FitsBy choice out letters nodes (ended ends at l)
   fits_ended out ends at letters nodes l within may h = record {
-    span = λ n. spans n (l.live n) refl (ends n) refl;
+    span = λ n. cond_both (l.live n && ends n) _ _ (λ x. l.lo n ≤ x)
+        (λ e. let both = and_parts _ _ e in may.begins n both.0 both.1) (λ e. h.span n);
     high = λ n. cond_low (l.live n && ends n) at (l.hi n) (length letters) within (h.high n);
     rows = λ limit big q. row limit big q (l.live q) refl (ends q) refl;
     texts = λ n t e. let x = h.texts n t e in record {
@@ -123,12 +132,6 @@ module _ (choice : Choice) where
     };
   }
     where
-      spans : (n : ℕ) (b : Bool) → l.live n ≡ b → (d : Bool) → ends n ≡ d → l.lo n
-          ≤ cond (b && d) at (l.hi n)
-      spans n true e true f = may.begins n e f
-      spans n true e false f = h.span n
-      spans n false e d f = h.span n
-
       ends_by : (limit : ℕ) → length letters < limit → (n : ℕ) (b : Bool) → l.live n ≡ b → (d : Bool)
           → ends n ≡ d → (l.lo n ≤ cond (b && not d) limit (cond (b && d) at (l.hi n)))
           × (cond (b && not d) limit (cond (b && d) at (l.hi n)) ≤ cond b limit (l.hi n))
@@ -144,19 +147,13 @@ module _ (choice : Choice) where
           (children_at nodes q) to
           (λ c k b. let x = ends_by limit big c (l.live c) refl (ends c) refl in (b, omega arith, x.0, x.1)) r
 
-      inner_end : (limit : ℕ) (c : ℕ) (b : Bool) → l.live c ≡ b → (d : Bool) → ends c ≡ d
-          → (l.live c ≡ true → ends c ≡ true) × (l.live c ≡ false → l.hi c ≤ at)
-          → cond (b && not d) limit (cond (b && d) at (l.hi c)) ≤ at
-      inner_end limit c true e true f x = omega arith
-      inner_end limit c true e false f x = absurd (true≢false (sym (x.0 e) ∙ f))
-      inner_end limit c false e d f x = x.1 e
-
       row : (limit : ℕ) → length letters < limit → (q : ℕ) (b : Bool) → l.live q ≡ b → (d : Bool)
           → ends q ≡ d → Row (marks choice out nodes limit (ended ends at l)) (l.lo q) (children_at nodes q)
           (cond (b && not d) limit (cond (b && d) at (l.hi q)))
       row limit big q true e true f =
           row_ends (marks choice out nodes limit (ended ends at l)) (l.lo q) (children_at nodes q) (until limit l q) at
-          (may.begins q e f) (λ c k b. inner_end limit c (l.live c) refl (ends c) refl (may.inner q c e f k b))
+          (may.begins q e f)
+          (λ c k b. inner_end ends at l limit c (l.live c) refl (ends c) refl (may.inner q c e f k b))
           (lowered limit big q (until limit l q) (h.rows limit big q))
       row limit big q true e false f =
           lowered limit big q limit
@@ -199,17 +196,14 @@ module _ (choice : Choice) where
   pub child_held : (rank : ℕ → ℕ) (nodes : List NodeValue) (q c : ℕ) → Ranked rank nodes
       → 1 ≤ times c (children_at nodes q) → bears choice (kind_at nodes c) ≡ true
       → (rank q < rank c) × ((q ≡ 0) ⊎ (is_element (kind_at nodes q) ≡ true))
-  child_held rank nodes q c h l b = by_hangs (h.hangs c (bears_solid choice (kind_at nodes c) b))
-    where
-      by_hangs : Hangs rank nodes c → (rank q < rank c) × ((q ≡ 0) ⊎ (is_element (kind_at nodes q) ≡ true))
-      by_hangs (inl z) =
-          absurd (true≢false (sym (bears_solid choice (kind_at nodes c) b)
-          ∙ (ap (λ (x : ℕ). is_solid (kind_at nodes x)) z ∙ h.root)))
-      by_hangs (inr g) =
-          let same : g.by ≡ q = some_same (sym g.parent ∙ child_parent nodes q c h.forest l) in (
-            let less = g.less in let e : rank g.by ≡ rank q = ap rank same in omega arith,
-            subst (λ (x : ℕ). (x ≡ 0) ⊎ (is_element (kind_at nodes x) ≡ true)) same g.holder.either,
-          )
+  child_held rank nodes q c h l b =
+      let solid = bears_solid choice (kind_at nodes c) b in
+      ⊎_elim
+      (λ z. absurd (true≢false (sym solid ∙ (ap (λ (x : ℕ). is_solid (kind_at nodes x)) z ∙ h.root))))
+      (λ g. let same : g.by ≡ q = some_same (sym g.parent ∙ child_parent nodes q c h.forest l) in (
+        let less = g.less in let e : rank g.by ≡ rank q = ap rank same in omega arith,
+        subst (λ (x : ℕ). (x ≡ 0) ⊎ (is_element (kind_at nodes x) ≡ true)) same g.holder.either,
+      )) (h.hangs c solid)
 
   pub child_above : (rank : ℕ → ℕ) (nodes : List NodeValue) (q c : ℕ) → Ranked rank nodes
       → 1 ≤ times c (children_at nodes q) → bears choice (kind_at nodes c) ≡ true → rank q < rank c
@@ -251,10 +245,6 @@ module _ (choice : Choice) where
       );
     }) h;
     still = λ n e m. rw (e, lt_false (rank p) (rank n) m) refl;
-    children = λ c k b. stops (l.live c) (above rank p c)
-        (lt_true (rank p) (rank c) (child_above choice rank nodes p c ranked k b));
+    children = λ c k b.
+        rw (lt_true (rank p) (rank c) (child_above choice rank nodes p c ranked k b), and-false (l.live c)) refl;
   }
-    where
-      stops : (b d : Bool) → d ≡ true → (b && not d) ≡ false
-      stops true d e = rw e refl
-      stops false d e = refl

@@ -4,20 +4,19 @@ use Rattle.std.proofs.Common.{arith, cond, inl, inr, ⊎_elim, ◌⊎◌}
 use Rattle.std.specs.Prelude.{◌==◌, ◌&&◌, not, nat_lt}
 use Rattle.std.proofs.lemmas.Bool.{true≢false, and_parts, eqb-true, eqb-false, cases_lt, and_from, not-true}
 use Rattle.htmd_grammar.proofs.Cases.{test}
-use Rattle.htmd_html5_state.specs.Nodes.{NodeValue, KindValue, text, element, kind_at, children_at}
+use Rattle.htmd_html5_state.specs.Nodes.{NodeValue, KindValue, element, kind_at, children_at}
 use Rattle.htmd_html5_laws.proofs.NodeTexts.{is_element}
 use Rattle.htmd_html5_laws.proofs.NodeParts.{times}
-use Rattle.htmd_html5_laws.proofs.HungNodes.{is_solid, Hangs, element_solid}
+use Rattle.htmd_html5_laws.proofs.HungNodes.{is_solid, element_solid}
 use Rattle.htmd_html5_laws.proofs.ChildRows.{Row, row_member, row_last, row_marks, row_ends}
-use Rattle.htmd_html5_laws.proofs.OrderedNodes.{bears, Labels, until, counted, marks, FitsBy, none_out, Ranked, above}
+use Rattle.htmd_html5_laws.proofs.OrderedNodes.{inner_end, bears, Labels, until, counted, marks, FitsBy, none_out, Ranked, above}
 use Rattle.htmd_html5_laws.proofs.OrderedNodes.{ended, fits_ended, lt_true, lt_less, child_above, lo_until}
 use Rattle.htmd_html5_laws.proofs.Counted.{Choice}
 
 module _ (choice : Choice) where
   pub element_bears : (k : KindValue) → is_element k ≡ true → bears choice k ≡ true
   element_bears (element name attributes) e = refl
-  element_bears (text t) e = absurd (true≢false (sym e))
-  element_bears _ e = e
+  element_bears _ e = cc
 
   module _ (rank : ℕ → ℕ) (letters : List ℕ) (nodes : List NodeValue) (l : Labels)
       (h : FitsBy choice none_out letters nodes l)
@@ -42,29 +41,24 @@ module _ (choice : Choice) where
       low : l.lo by ≤ l.lo u
 
     up : (u : ℕ) → l.live u ≡ true → is_element (kind_at nodes u) ≡ true → Up u
-    up u live e = by_hangs (ranked.hangs u (element_solid (kind_at nodes u) e))
+    up u live e =
+        ⊎_elim (λ z. absurd (true≢false (sym (element_solid (kind_at nodes u) e)
+        ∙ (ap (λ (x : ℕ). is_solid (kind_at nodes x)) z ∙ ranked.root))))
+        (λ g. let r = row_member (marks choice none_out nodes limit l) u (l.lo g.by) (children_at nodes g.by)
+        (until limit l g.by) g.holder.stands (element_bears (kind_at nodes u) e) (h.rows limit (omega arith) g.by) in
+        let m = live_until u live in
+        let y = r.2 in
+        record {
+          by = g.by;
+          holds = g.holder.stands;
+          less = g.less;
+          alive = record { live = alive_by (l.live g.by) g.by refl (omega arith); either = g.holder.either };
+          low = r.0;
+        }) (ranked.hangs u (element_solid (kind_at nodes u) e))
       where
         alive_by : (b : Bool) (by : ℕ) → l.live by ≡ b → limit ≤ cond b limit (l.hi by) → l.live by ≡ true
         alive_by true by f g = f
         alive_by false by f g = absurd (let x = h.high by in omega arith)
-
-        by_hangs : Hangs rank nodes u → Up u
-        by_hangs (inl z) =
-            absurd (true≢false (sym (element_solid (kind_at nodes u) e)
-            ∙ (ap (λ (x : ℕ). is_solid (kind_at nodes x)) z ∙ ranked.root)))
-        by_hangs (inr g) =
-            let r = row_member (marks choice none_out nodes limit l) u (l.lo g.by) (children_at nodes g.by)
-            (until limit l g.by)
-            g.holder.stands (element_bears (kind_at nodes u) e) (h.rows limit (omega arith) g.by) in
-            let m = live_until u live in
-            let y = r.2 in
-            record {
-              by = g.by;
-              holds = g.holder.stands;
-              less = g.less;
-              alive = record { live = alive_by (l.live g.by) g.by refl (omega arith); either = g.holder.either };
-              low = r.0;
-            }
 
     -- a live child, up to a node further in
     pub record Down (q u : ℕ) : Type 0 where
@@ -213,6 +207,15 @@ module _ (choice : Choice) where
       alive_b : Alive b
       alive_b = record { live = live_b; either = inr is_b }
 
+      begins_before : (n : ℕ) → Alive n → rank n < rank b → l.lo n ≤ l.lo b
+      begins_before n alive under =
+          let d = down_to n b alive alive_b under in
+          let r = row_member (marks choice none_out nodes limit l) d.child (l.lo n) (children_at nodes n)
+          (until limit l n) d.holds (element_bears (kind_at nodes d.child) d.is) (h.rows limit (omega arith) n) in
+          let y = r.0 in
+          let z = d.low in
+          omega arith
+
       -- what isn't the inner one, and not on the way to it, has ended before it
       ended_before : (q c : ℕ) → Alive q → rank p ≤ rank q → rank q < rank b → 1
           ≤ times c (children_at nodes q) → counted choice apart nodes c ≡ true
@@ -280,13 +283,7 @@ module _ (choice : Choice) where
           fits_ended choice apart between (l.lo b) letters nodes l (let x = h.span b in let y = h.high b in omega arith)
           (record {
             begins = λ n live e.
-                let x = parts n e in
-                let d = down_to n b (record { live = live; either = inr x.0 }) alive_b x.1.1 in
-                let r = row_member (marks choice none_out nodes limit l) d.child (l.lo n) (children_at nodes n)
-                (until limit l n) d.holds (element_bears (kind_at nodes d.child) d.is) (h.rows limit (omega arith) n) in
-                let y = r.0 in
-                let z = d.low in
-                omega arith;
+                let x = parts n e in begins_before n (record { live = live; either = inr x.0 }) x.1.1;
             inner = λ q c live e k counts.
                 let x = parts q e in
                 let y = x.1.0 in
@@ -298,22 +295,6 @@ module _ (choice : Choice) where
           → Row (marks choice apart nodes bound parted) (l.lo p) (children_at nodes p) (l.lo b)
       front_ends bound big =
           row_ends (marks choice apart nodes bound parted) (l.lo p) (children_at nodes p) (until bound parted p)
-          (l.lo b) begins_low
-          (λ c k counts. low c (l.live c) refl (between c) refl (ended_before p c alive_p (omega arith) less k counts))
-          (parted_fits.rows bound big p)
-        where
-          begins_low : l.lo p ≤ l.lo b
-          begins_low =
-              let d = down_to p b alive_p alive_b less in
-              let r = row_member (marks choice none_out nodes limit l) d.child (l.lo p) (children_at nodes p)
-              (until limit l p) d.holds (element_bears (kind_at nodes d.child) d.is) (h.rows limit (omega arith) p) in
-              let y = r.0 in
-              let z = d.low in
-              omega arith
-
-          low : (c : ℕ) (x : Bool) → l.live c ≡ x → (y : Bool) → between c ≡ y
-              → (l.live c ≡ true → between c ≡ true) × (l.live c ≡ false → l.hi c ≤ l.lo b)
-              → cond (x && not y) bound (cond (x && y) (l.lo b) (l.hi c)) ≤ l.lo b
-          low c true e true f g = omega arith
-          low c true e false f g = absurd (true≢false (sym (g.0 e) ∙ f))
-          low c false e y f g = g.1 e
+          (l.lo b) (begins_before p alive_p less)
+          (λ c k counts. inner_end between (l.lo b) l bound c (l.live c) refl (between c) refl
+          (ended_before p c alive_p (omega arith) less k counts)) (parted_fits.rows bound big p)

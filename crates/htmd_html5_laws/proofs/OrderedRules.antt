@@ -29,7 +29,7 @@ use Rattle.htmd_html5_laws.proofs.PlainStates.{is_plain_mode, stays_by_state}
 use Rattle.htmd_html5_laws.proofs.PlainRules.{with_mode_stays, no_frameset_stays, end_template_stays}
 use Rattle.htmd_html5_laws.proofs.PlainRules.{leave_template_stays, skip_line_feed_stays, with_form_stays}
 use Rattle.htmd_html5_laws.proofs.PlainRules.{start_select_stays, close_select_stays, close_noted_form_stays}
-use Rattle.htmd_html5_laws.proofs.PlainRules.{comment_in_stays, plain_given, given_plain, by_head_element}
+use Rattle.htmd_html5_laws.proofs.PlainRules.{comment_in_stays, plain_given, by_head_element}
 use Rattle.htmd_html5_laws.proofs.Counted.{Choice}
 use Rattle.htmd_html5_laws.proofs.OrderedStates.{Ordered, Orders, then_orders, unmoved, orders_by_test, orders_by_state}
 use Rattle.htmd_html5_laws.proofs.OrderedStates.{on_stack_orders, ordered_fewer, insert_element_orders}
@@ -173,9 +173,8 @@ module _ (choice : Choice) where
   module _ (tag : StartTagValue) where
     pub act_orders : (a : Act) → orderly_act tag.name a ≡ true → Orders choice (act_on a tag)
     act_orders (element given) e =
-        insert_element_orders choice (given_name given tag) (given_attributes given tag) (given_plain given tag e)
-    act_orders (void given) e =
-        insert_void_orders choice (given_name given tag) (given_attributes given tag) (given_plain given tag e)
+        insert_element_orders choice (given_name given tag) (given_attributes given tag) e
+    act_orders (void given) e = insert_void_orders choice (given_name given tag) (given_attributes given tag) e
     act_orders (raw_text raw) e = insert_raw_orders choice tag.name raw tag.attributes e
     act_orders of_head e =
         by_head_element (Orders choice) tag e

@@ -74,17 +74,15 @@ module _ (choice : Choice) where
   class_letters p t low f e =
       ap (filter choice.counts) (chars-IsAscii t (all_ascii p t low e)) ∙ none_pass choice.counts p t f e
 
-  null_counts_not : choice.nulls ≡ true → (b : ℕ) → is_of_kind (kind_of_byte 0) b ≡ true → choice.counts b
-      ≡ false
-  null_counts_not n b e = ap choice.counts (eqb-true b null e) ∙ choice.no_null n
-
   pub white_letters : (t : List ℕ) → choice.reopens ≡ true → list_all (is_of_kind (kind_of_byte 32)) t ≡ true
       → counted_of choice t ≡ []
   white_letters t r e = class_letters (is_of_kind (kind_of_byte 32)) t white_is_ascii (choice.no_white r) e
 
   null_letters : (t : List ℕ) → choice.nulls ≡ true → list_all (is_of_kind (kind_of_byte 0)) t ≡ true
       → counted_of choice t ≡ []
-  null_letters t n e = class_letters (is_of_kind (kind_of_byte 0)) t never_null (null_counts_not n) e
+  null_letters t n e =
+      class_letters (is_of_kind (kind_of_byte 0)) t never_null
+      (λ b z. ap choice.counts (eqb-true b null z) ∙ choice.no_null n) e
 
   one_letters : choice.nulls ≡ true → counted_of choice (encode_utf8 replacement_character) ≡ []
   unfolding counted_of encode_utf8
@@ -259,22 +257,6 @@ module _ (choice : Choice) where
           (white_early letters t s (head_open n ∷ s.stack) u (none refl) whole x)
       by_mode other reopens head none x = early_text letters t s s.stack plain refl u x
 
-  module _ (letters t : List ℕ) (s : StateValue) (e : is_text_mode s.content ≡ false) where
-    -- before the head it goes
-    white_gone : is_before_head s.mode ≡ true → BeforeBody choice false s.mode letters s
-        → RunStage choice letters t true true (done s)
-    white_gone before h =
-        run_done choice letters t true true s (subst (λ (x : List ℕ). Staged choice x s)
-        (sym (no_more letters (counted_of choice []) (nil_letters choice)))
-        (staged choice false s.mode letters s e refl h)) before e
-
-    white_put_in : is_before_head s.mode ≡ false
-        → BeforeBody choice false s.mode (letters ++ counted_of choice t) (insert_text t s)
-        → RunStage choice letters t false true (done (insert_text t s))
-    white_put_in after h =
-        run_done choice letters t false true (insert_text t s)
-        (staged choice false s.mode (letters ++ counted_of choice t) (insert_text t s) e refl h) after e
-
   -- the outcome of a run of white space, of U+0000 and of other characters in a mode
   abbrev RunsStage : InsertionMode → List ℕ → List ℕ → StateValue → Type 0
   RunsStage mode letters t s =
@@ -284,15 +266,20 @@ module _ (choice : Choice) where
       → RunStage choice letters t (is_before_head mode) false (in_mode mode (run (kind_of_byte 0) t) s))
       × RunStage choice letters t (is_before_head mode) false (in_mode mode (run (kind_of_byte 97) t) s)
 
+  -- white space goes before the head
   early_runs : (letters t : List ℕ) (s : StateValue) → IsUtf8 t → is_text_mode s.content ≡ false
       → BeforeBody choice false s.mode letters s → RunsStage s.mode letters t s
   early_runs letters t s u e h =
-      by_mode s.mode h.early_mode (λ before. white_gone letters t s e before h)
-      (λ z after. white_put_in letters t s e after (record {
+      by_mode s.mode h.early_mode
+      (λ before. run_done choice letters t true true s (subst (λ (x : List ℕ). Staged choice x s)
+      (sym (no_more letters (counted_of choice []) (nil_letters choice)))
+      (staged choice false s.mode letters s e refl h)) before e)
+      (λ z after. run_done choice letters t false true (insert_text t s)
+      (staged choice false s.mode (letters ++ counted_of choice t) (insert_text t s) e refl (record {
         early_mode = h.early_mode;
         early = white_before letters t s s.mode refl u z h;
         placed = h.placed;
-      })) (left_early choice letters s e h)
+      })) after e) (left_early choice letters s e h)
     where
       away : (before : Bool) {a : Outcome} → a.again ≡ true → StageAnswer choice letters a
           → RunStage choice letters t before false a

@@ -1,6 +1,6 @@
 -- Text is put at the end of an open node, in a new text or at the end of its last one.
 use Rattle.std.proofs.Common.{◌≡◌, ◌∙◌, ℕ, zero, suc, ◌+◌, ◌<◌, ◌≤◌, Bool, true, false, List, [], ◌∷◌, ◌++◌, length}
-use Rattle.std.proofs.Common.{refl, sym, ap, subst, arith, cond, Option, Some, None, inl, inr, ⊎_elim, ◌⊎◌, length-append}
+use Rattle.std.proofs.Common.{refl, sym, ap, subst, arith, cond, Some, inl, inr, ⊎_elim, ◌⊎◌, length-append}
 use Rattle.std.specs.Prelude.{◌==◌, not, IsUtf8, filter}
 use Rattle.std.proofs.lemmas.Bool.{true≢false, cond_both, eqb-true, eqb-false, eq-eqb, ne_eqb}
 use Rattle.std.proofs.lemmas.List.Elements.{filter-append}
@@ -9,11 +9,11 @@ use Rattle.std.specs.Str.{chars}
 use Rattle.htmd_grammar.proofs.Cases.{test}
 use Rattle.htmd_grammar.specs.CharacterClasses.{is_empty}
 use Rattle.htmd_html5_state.specs.Nodes.{NodeValue, KindValue, text, kind_at, parent_at, children_at, with_kind}
-use Rattle.htmd_html5_state.specs.Nodes.{last_in, text_of, child_before, preceding, add_text, or_add, joined_with}
-use Rattle.htmd_html5_state.specs.Nodes.{joined_to}
-use Rattle.htmd_html5_laws.proofs.NodeParts.{times, times_append, children_of_kind}
-use Rattle.htmd_html5_laws.proofs.Forests.{once_under, once_at_most, elsewhere}
-use Rattle.htmd_html5_laws.proofs.HungNodes.{is_solid}
+use Rattle.htmd_html5_state.specs.Nodes.{last_in, child_before, preceding, add_text, document, new_node}
+use Rattle.htmd_html5_laws.proofs.NamedKinds.{by_text}
+use Rattle.htmd_html5_laws.proofs.NodeParts.{times, times_append, children_of_kind, kind_other}
+use Rattle.htmd_html5_laws.proofs.Forests.{once_at_most, nowhere_else}
+use Rattle.htmd_html5_laws.proofs.HungNodes.{is_solid, solid_within}
 use Rattle.htmd_html5_laws.proofs.NodeTexts.{is_element}
 use Rattle.htmd_html5_laws.proofs.Sublists.{Sub, window, window_grown, window_new, sub_all, sub_joined}
 use Rattle.htmd_html5_laws.proofs.ChildRows.{Marks, Row, after, row_ends, row_marks, row_as, cond_low, times_own}
@@ -21,9 +21,9 @@ use Rattle.htmd_html5_laws.proofs.ChildRows.{by_two, row_end}
 use Rattle.htmd_html5_laws.proofs.OrderedNodes.{bears, Labels, until, marks, TextIn, FitsBy, none_out, Ranked}
 use Rattle.htmd_html5_laws.proofs.OrderedNodes.{ended_above, child_parent, lo_until, ended_until, some_same, RowAt}
 use Rattle.htmd_html5_laws.proofs.OrderedNodes.{no_letters, text_same, child_held, fits_grown}
-use Rattle.htmd_html5_laws.proofs.OrderedInserts.{mark, grown, fits_added, marked, loose_row, live_row, fits_marked}
+use Rattle.htmd_html5_laws.proofs.OrderedInserts.{row_unmarked, mark, grown, fits_added, marked, loose_row, live_row, fits_marked}
 use Rattle.htmd_html5_laws.proofs.Counted.{Choice, counted_of}
-use Rattle.std.proofs.lemmas.List.{append-nil}
+use Rattle.std.proofs.lemmas.List.{append-nil, get_or-set_same}
 
 module _ (choice : Choice) where
   -- ---- letters of texts
@@ -41,20 +41,11 @@ module _ (choice : Choice) where
 
 -- ---- what a node is changes, but not what its text's letters are
 
-pub kind_set_other : (n m : ℕ) (k : KindValue) (nodes : List NodeValue) → (n ≡ m → ⊥)
-    → kind_at (with_kind n k nodes) m ≡ kind_at nodes m
-kind_set_other n m k [] f = refl
-kind_set_other zero zero k (x ∷ nodes) f = absurd (f refl)
-kind_set_other zero (suc m) k (x ∷ nodes) f = refl
-kind_set_other (suc n) zero k (x ∷ nodes) f = refl
-kind_set_other (suc n) (suc m) k (x ∷ nodes) f = kind_set_other n m k nodes (λ e. f (ap suc e))
-
 -- a text or an element is a node
 kind_set_solid : (n : ℕ) (k : KindValue) (nodes : List NodeValue) → is_solid (kind_at nodes n) ≡ true
     → kind_at (with_kind n k nodes) n ≡ k
-kind_set_solid n k [] e = absurd (true≢false (sym e))
-kind_set_solid zero k (x ∷ nodes) e = refl
-kind_set_solid (suc n) k (x ∷ nodes) e = kind_set_solid n k nodes e
+kind_set_solid n k nodes e =
+    ap (λ (x : NodeValue). x.kind) (get_or-set_same nodes n _ (new_node document) (solid_within n nodes e))
 
 kind_set_own : (n : ℕ) (k : KindValue) (nodes : List NodeValue)
     → (kind_at (with_kind n k nodes) n ≡ k) ⊎ (kind_at (with_kind n k nodes) n ≡ kind_at nodes n)
@@ -75,7 +66,7 @@ module _ (choice : Choice) where
         (λ u. subst (λ (x : ℕ). bears choice (kind_at changed x) ≡ true → bears choice (kind_at nodes x)
         ≡ true) (eqb-true n c u) (⊎_elim (λ e b. bears_less (sym (ap (bears choice) e) ∙ b))
         (λ e b. sym (ap (bears choice) e) ∙ b) (kind_set_own n k nodes)))
-        (λ u b. sym (ap (bears choice) (kind_set_other n c k nodes (eqb-false n c u))) ∙ b)
+        (λ u b. sym (ap (bears choice) (kind_other n c k nodes (eqb-false n c u))) ∙ b)
 
     pub row_like : (limit : ℕ) → length letters < limit → (at : ℕ) (cs : List ℕ) (to : ℕ)
         → Row (marks choice none_out nodes limit l) at cs to → Row (marks choice none_out changed limit l) at cs to
@@ -95,18 +86,15 @@ module _ (choice : Choice) where
           ap (λ (x : ℕ). kind_at changed x) (eqb-true n m u) ∙ e in
           subst (λ (x : ℕ). TextIn choice letters l x t) (eqb-true n m u)
           (⊎_elim (λ g. is t (sym g ∙ own)) (λ g. h.texts n t (sym g ∙ own)) (kind_set_own n k nodes)))
-          (λ u. h.texts m t (sym (kind_set_other n m k nodes (eqb-false n m u)) ∙ e));
+          (λ u. h.texts m t (sym (kind_other n m k nodes (eqb-false n m u)) ∙ e));
     }
 
   -- ---- more at the end of a text
 
   row_split : (m : Marks) (at : ℕ) (cs : List ℕ) (n to : ℕ) → Row m at (cs ++ n ∷ []) to
       → Row m at cs (cond (m.counts n) (m.begin n) to)
-  row_split m at [] n to h = either (m.counts n) refl h.1
-    where
-      either : (b : Bool) → m.counts n ≡ b → cond b (m.end n) at ≤ to → at ≤ cond b (m.begin n) to
-      either true e g = let s = h.0 e in s.0
-      either false e g = g
+  row_split m at [] n to h =
+      cond_both (m.counts n) _ _ (λ x. at ≤ x) (λ e. let s = h.0 e in s.0) (λ e. let g = h.1 in rw e at g)
   row_split m at (c ∷ cs) n to h = (h.0, row_split m (after m at c) cs n to h.1)
 
 last_child : (n : ℕ) (cs : List ℕ) → child_before (length cs) cs ≡ Some n → (ds : List ℕ)
@@ -175,15 +163,9 @@ module _ (choice : Choice) where
           → Row (marks choice none_out nodes limit l) at cs to
           → Row (marks choice none_out joined limit with_more) at cs to
       more_row_kept limit at cs to big none r =
-          row_marks (marks choice none_out nodes limit l) (marks choice none_out joined limit with_more) at cs to
-          (λ c k b.
-          let other : c ≡ n → ⊥ = λ e. let z : times c cs ≡ times n cs = ap (λ (x : ℕ). times x cs) e in
-          omega arith in
-          let same = kind_set_other n c (text (s ++ t)) nodes (λ e. other (sym e)) in
-          let a = (more_others limit c other).1 in
-          let d = (more_others limit c other).0 in
-          let w = lo_until h limit (omega arith) c in
-          (sym (ap (bears choice) same) ∙ b, omega arith, omega arith, omega arith)) r
+          row_unmarked choice n start stop false joined h
+          (λ m f. kind_other n m (text (s ++ t)) nodes (λ e. f (sym e))) limit
+          at cs to (omega arith) none r
 
       n_in : 1 ≤ times n (children_at nodes p)
       n_in =
@@ -204,35 +186,25 @@ module _ (choice : Choice) where
       n_parent : parent_at nodes n ≡ Some p
       n_parent = child_parent nodes p n ranked.forest n_in
 
-      n_elsewhere : (q : ℕ) → (p ≡ q → ⊥) → times n (children_at nodes q) ≡ 0
-      n_elsewhere q f =
-          let a = ranked.forest.once n q in
-          let b = ap (λ (o : Option ℕ). once_under o q) n_parent ∙ elsewhere p q f in
-          omega arith
-
       longer_by : length (letters ++ counted_of choice t) ≡ stop
       longer_by = length-append letters (counted_of choice t)
 
       front : (limit : ℕ) → stop < limit → Row (marks choice none_out nodes limit l) (l.lo p) ds start
-      front limit big = either (bears choice (kind_at nodes n)) refl
-          (row_split choice (marks choice none_out nodes limit l) (l.lo p) ds n (until limit l p)
+      front limit big =
+          let split = row_split choice (marks choice none_out nodes limit l) (l.lo p) ds n (until limit l p)
           (subst (λ (cs : List ℕ). Row (marks choice none_out nodes limit l) (l.lo p) cs (until limit l p)) stand
-          (h.rows limit (omega arith) p)))
+          (h.rows limit (omega arith) p)) in
+          cond_both (bears choice (kind_at nodes n)) _ _ (Row (marks choice none_out nodes limit l) (l.lo p) ds)
+          (λ e. rw e at split)
+          (λ e. row_ends (marks choice none_out nodes limit l) (l.lo p) ds (until limit l p) (length letters)
+          (let a = h.span p in let b = h.high p in omega arith)
+          (λ c k b. ended_until h limit c (ends c (member c k) b)) (rw e at split))
         where
           member : (c : ℕ) → 1 ≤ times c ds → 1 ≤ times c (children_at nodes p)
           member c k =
               let a = times_append c ds (n ∷ []) in
               let b : times c (children_at nodes p) ≡ times c (ds ++ n ∷ []) = ap (times c) stand in
               omega arith
-
-          either : (b : Bool) → bears choice (kind_at nodes n) ≡ b
-              → Row (marks choice none_out nodes limit l) (l.lo p) ds (cond b (l.lo n) (until limit l p))
-              → Row (marks choice none_out nodes limit l) (l.lo p) ds (cond b (l.lo n) (length letters))
-          either true e r = r
-          either false e r =
-              row_ends (marks choice none_out nodes limit l) (l.lo p) ds (until limit l p) (length letters)
-              (let a = h.span p in let b = h.high p in omega arith)
-              (λ c k b. ended_until h limit c (ends c (member c k) b)) r
 
       p_other : p ≡ n → ⊥
       p_other e = true≢false (sym (ap l.live (sym e) ∙ live) ∙ old_text.closed)
@@ -260,15 +232,15 @@ module _ (choice : Choice) where
               (let f : times c (children_at nodes n) ≡ times n (children_at nodes n) =
               ap (λ (x : ℕ). times x (children_at nodes n)) (sym (eqb-true n c v)) in omega arith))))
               (λ v. bare choice rank nodes n c s ranked is k
-              (sym (ap (bears choice) (kind_set_other n c (text (s ++ t)) nodes (eqb-false n c v))) ∙ b))
+              (sym (ap (bears choice) (kind_other n c (text (s ++ t)) nodes (eqb-false n c v))) ∙ b))
 
       other_row : (limit : ℕ) → stop < limit → (q : ℕ) → (p ≡ q → ⊥) → (n ≡ q → ⊥)
           → RowAt choice none_out joined limit with_more q
       other_row limit big q f g =
           row_as (marks choice none_out joined limit with_more) (more_others limit q (λ e. g (sym e))).0
           (children_of_kind n q (text (s ++ t)) nodes) (more_others limit q (λ e. g (sym e))).1
-          (more_row_kept limit (l.lo q) (children_at nodes q) (until limit l q) big (n_elsewhere q f)
-          (h.rows limit (omega arith) q))
+          (more_row_kept limit (l.lo q) (children_at nodes q) (until limit l q) big
+          (nowhere_else n p q nodes ranked.forest n_parent f) (h.rows limit (omega arith) q))
 
       whole_text : Sub (counted_of choice (s ++ t)) (window start stop (letters ++ counted_of choice t))
       whole_text =
@@ -295,7 +267,7 @@ module _ (choice : Choice) where
       fits_joined =
           fits_marked choice n start stop false joined (fits_grown (counted_of choice t) h)
           (let z = start_low in omega arith) (let a = longer_by in omega arith)
-          (λ m f. kind_set_other n m (text (s ++ t)) nodes (λ e. f (sym e))) own_text
+          (λ m f. kind_other n m (text (s ++ t)) nodes (λ e. f (sym e))) own_text
           (λ limit big q. let a = longer_by in
           by_two (λ (x : ℕ). RowAt choice none_out joined limit with_more x) p n q (parent_row limit (omega arith))
           (own_row limit (omega arith)) (other_row limit (omega arith) q))
@@ -405,24 +377,15 @@ module _ (choice : Choice) where
 
       pub text_put : (t : List ℕ) → IsUtf8 t
           → Goes rank p (letters ++ counted_of choice t) (length nodes) l (add_text t (last_in p) nodes)
-      text_put t u = by_before (preceding (last_in p) nodes) refl
-        where
-          by_kind : (n : ℕ) (k : KindValue) → kind_at nodes n ≡ k → preceding (last_in p) nodes ≡ Some n
-              → Goes rank p (letters ++ counted_of choice t) (length nodes) l
-              (or_add t (last_in p) nodes (joined_with t n (text_of k) nodes))
-          by_kind n (text s) is e = text_joined n s t is u e
-          by_kind n _ is e = text_added t u
-
-          by_before : (before : Option ℕ) → preceding (last_in p) nodes ≡ before
-              → Goes rank p (letters ++ counted_of choice t) (length nodes) l
-              (or_add t (last_in p) nodes (joined_to t before nodes))
-          by_before None e = text_added t u
-          by_before (Some n) e = by_kind n (kind_at nodes n) refl e
+      text_put t u =
+          by_text (Goes rank p (letters ++ counted_of choice t) (length nodes) l) t (last_in p) nodes (text_added t u)
+          (λ n s e is. text_joined n s t is u e)
 
     -- text without a letter
     pub white_put : (t : List ℕ) → IsUtf8 t → counted_of choice t ≡ []
         → GoesOn letters (length nodes) l (add_text t (last_in p) nodes)
-    white_put t u none = by_before (preceding (last_in p) nodes)
+    white_put t u none =
+        by_text (GoesOn letters (length nodes) l) t (last_in p) nodes added (λ n s e is. joined_same n s is)
       where
         loose : bears choice (text t) ≡ false
         loose = ap (λ (x : List ℕ). not (is_empty x)) none
@@ -450,13 +413,3 @@ module _ (choice : Choice) where
                   }));
               still = λ m k e. e;
             }
-
-        by_kind : (n : ℕ) (k : KindValue) → kind_at nodes n ≡ k
-            → GoesOn letters (length nodes) l (or_add t (last_in p) nodes (joined_with t n (text_of k) nodes))
-        by_kind n (text s) is = joined_same n s is
-        by_kind n _ is = added
-
-        by_before : (before : Option ℕ)
-            → GoesOn letters (length nodes) l (or_add t (last_in p) nodes (joined_to t before nodes))
-        by_before None = added
-        by_before (Some n) = by_kind n (kind_at nodes n) refl

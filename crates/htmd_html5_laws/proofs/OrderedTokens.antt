@@ -53,7 +53,7 @@ use Rattle.htmd_html5_laws.proofs.OrderedRuns.{no_more, staged_grown, RunOf, run
 use Rattle.htmd_html5_laws.proofs.OrderedRuns.{early_text}
 use Rattle.htmd_html5_laws.proofs.WhiteRuns.{Dark, dark_whole, behind_twice, Clean, clean_rest, clean_shortened}
 use Rattle.htmd_html5_laws.specs.TextKept.{is_before_head, drops_white, without_white, kept_text, with_kept_text}
-use Rattle.htmd_html5_laws.specs.TextKept.{kept_after, kept_within, kept_texts, is_head_name, is_after_head, comes_late}
+use Rattle.htmd_html5_laws.specs.TextKept.{kept_after, kept_within, kept_texts, is_after_head, comes_late}
 use Rattle.htmd_html5_laws.specs.TextKept.{early_after, early_within, no_tag_comes_late, has_no_null, no_null_comes}
 use Rattle.htmd_grammar.specs.WhiteSpace.{is_ascii_white_space}
 use Rattle.htmd_html5_laws.proofs.Counted.{Choice, counted_in, counted_of}
@@ -191,13 +191,10 @@ module _ (choice : Choice) where
       → Late choice letters (close_raw s)
   late_closed letters s e h =
       let f = on_stack_orders choice pop pop_fewer in
-      let plain = f.stays.stays s h.plain in
-      let hung = f.stays.hangs s h.plain h.hung in
-      let ordered = f.orders letters s h.plain h.hung h.ordered in
       record {
-        plain = plain;
-        hung = hung;
-        ordered = ordered;
+        plain = f.stays.stays s h.plain;
+        hung = f.stays.hangs s h.plain h.hung;
+        ordered = f.orders letters s h.plain h.hung h.ordered;
         body = h.body;
         rooted = rooted_stack (pop s.stack) (h.raw e) h.rooted;
         raw = λ r. absurd (true≢false (sym r));
@@ -253,11 +250,9 @@ orderly_name s d = by_found (known_name s) refl
 
     by_tag : (tag : TagName) → bytes_eq s (spelling tag) ≡ true → is_orderly_name (known tag) ≡ true
     by_tag tags.FrameSet e =
-        absurd (true≢false (sym e ∙ (or_parts (bytes_eq s (codes "frameset")) (bytes_eq s (codes "template"))
-        parts.0).0))
+        absurd (true≢false (sym e ∙ (or_parts _ _ parts.0).0))
     by_tag tags.Template e =
-        absurd (true≢false (sym e ∙ (or_parts (bytes_eq s (codes "frameset")) (bytes_eq s (codes "template"))
-        parts.0).1))
+        absurd (true≢false (sym e ∙ (or_parts _ _ parts.0).1))
     by_tag tags.Table e = absurd (true≢false (sym e ∙ parts.1))
     by_tag _ e = refl
 
@@ -268,10 +263,6 @@ orderly_name s d = by_found (known_name s) refl
 out_of_text_stays : (s : StateValue) → (out_of_text_mode s).mode ≡ s.mode
 out_of_text_stays s =
     cond_both (is_text_mode s.content) _ _ (λ (x : StateValue). x.mode ≡ s.mode) (λ e. refl) (λ e. refl)
-
-and_false : (a b : Bool) → a ≡ true → (a && b) ≡ false → b ≡ false
-and_false true b e f = f
-and_false false b e f = absurd (true≢false (sym e))
 
 module _ (choice : Choice) where
   -- ---- tokens of the tokenizer
@@ -293,14 +284,16 @@ module _ (choice : Choice) where
   letters_with (tokens.text t) s more = refl
   letters_with _ s more = refl
 
-  late_skipped : (letters : List ℕ) (s : StateValue) → Late choice letters s → Late choice letters
-      (with_nothing_skipped s)
-  late_skipped letters s h =
-      record { plain = h.plain; hung = h.hung; ordered = h.ordered; body = h.body; rooted = h.rooted; raw = h.raw }
-
   pub stage_skipped : (letters : List ℕ) (s : StateValue) → Staged choice letters s
       → Staged choice letters (with_nothing_skipped s)
-  stage_skipped letters s (inl h) = inl (late_skipped letters s h)
+  stage_skipped letters s (inl h) = inl (record {
+    plain = h.plain;
+    hung = h.hung;
+    ordered = h.ordered;
+    body = h.body;
+    rooted = h.rooted;
+    raw = h.raw;
+  })
   stage_skipped letters s (inr h) = inr (record { early_mode = h.early_mode; early = h.early; placed = h.placed })
 
   module _ (letters : List ℕ) where
@@ -323,8 +316,7 @@ module _ (choice : Choice) where
     feed_stage (tokens.start_tag tag) s u e late clean h =
         others_stage (start_tag (named tag)) (orderly_name tag.name (not-true (moves_text_in tag.name) e))
         (with_nothing_skipped s) (stage_skipped letters s h)
-        (λ z m. and_false (is_after_head s.mode) (is_head_name (name_of_text tag.name))
-        (sym (ap is_after_head (out_of_text_stays (with_nothing_skipped s))) ∙ m) (late z))
+        (λ z m. rw (sym (ap is_after_head (out_of_text_stays (with_nothing_skipped s))) ∙ m) at (late z))
     feed_stage (tokens.end_tag tag) s u e late clean h =
         none_put (feed_end_tag (name_of_text tag.name) (with_nothing_skipped s))
         (end_tag_stage choice (name_of_text tag.name) letters (with_nothing_skipped s) (stage_skipped letters s h))
@@ -369,12 +361,9 @@ module _ (choice : Choice) where
       subst (λ (x : List ℕ). Staged choice (letters ++ x) (feed read.token s)) x.none
       (feed_stage letters read.token s u.token x.moving_none (λ z. x.early) (λ z. x.clean) h)))
       (λ g. rw g (
-      let parts = and_parts (moves_no_text read.token)
-      (list_all moves_no_text (tokens_within k read.rest (feed read.token s))) (rw g at e) in
-      let apart = λ (z : choice.reopens ≡ false). and_parts (not (comes_late read.token s))
-      (early_within k read.rest (feed read.token s)) (rw g at (l z)) in
-      let none = λ (z : choice.nulls ≡ false). and_parts (has_no_null read.token)
-      (list_all has_no_null (tokens_within k read.rest (feed read.token s))) (rw g at (n z)) in
+      let parts = and_parts _ _ (rw g at e) in
+      let apart = λ (z : choice.reopens ≡ false). and_parts _ _ (rw g at (l z)) in
+      let none = λ (z : choice.nulls ≡ false). and_parts _ _ (rw g at (n z)) in
       subst (λ (x : List ℕ). Staged choice x (read_within k read.rest (feed read.token s)))
       (append_assoc letters (kept_letters read.token s)
       (counted_in choice (kept_within k read.rest (feed read.token s))) ∙ ap (λ (x : List ℕ). letters ++ x)

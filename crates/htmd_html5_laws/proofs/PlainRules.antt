@@ -39,7 +39,7 @@ use Rattle.htmd_html5.specs.AfterBody.{comment_in}
 use Rattle.htmd_html5.specs.ForeignContent.{insert_alike, start_foreign_element}
 use Rattle.htmd_html5_laws.proofs.OpenNodes.{fewer_then, pop_fewer, pop_until_fewer, clear_to_fewer}
 use Rattle.htmd_html5_laws.proofs.OpenNodes.{without_fewer, pop_while_fewer}
-use Rattle.htmd_html5_laws.proofs.PlainNames.{is_plain, is_plain_name, is_plain_open, no_template_open}
+use Rattle.htmd_html5_laws.proofs.PlainNames.{is_plain, is_plain_name, no_template_open}
 use Rattle.htmd_html5_laws.proofs.HungStates.{Hung, hung_named, hung_headed, hung_late_open, hung_late_void}
 use Rattle.htmd_html5_laws.proofs.PlainStates.{is_plain_mode, Plain, Stays, then_stays, still, stays_by_test}
 use Rattle.htmd_html5_laws.proofs.PlainStates.{stays_by_state, plain_stack, in_plain_mode, on_stack_stays}
@@ -99,10 +99,6 @@ fostered_stays h = record {
 -- an element gets a plain name
 abbrev pub plain_given : NameValue → Given → Bool
 plain_given name given = is_plain_name (name_given given name)
-
-pub given_plain : (given : Given) (tag : StartTagValue) → plain_given tag.name given ≡ true
-    → is_plain_name (given_name given tag) ≡ true
-given_plain given tag e = e
 
 -- acts for a tag of that name, but those that lead to frames, columns and templates
 abbrev pub plain_act : NameValue → Act → Bool
@@ -261,11 +257,9 @@ module _ (tag : StartTagValue) (p : is_plain_name tag.name ≡ true) where
   late_plain : (head : Option ℕ) (s : StateValue) → Plain s → Plain (insert_in_head head tag s)
   late_plain None s h = of_head_stays.stays s h
   late_plain (Some n) s h =
-      let x = of_head_stays.stays (open_again n (known tags.Head) s)
-      (plain_stack (opened n (html (known tags.Head)) ∷ s.stack) (refl, h.names) h) in
-      plain_stack (without n (insert_head_element tag.name tag (open_again n (known tags.Head) s)).stack)
-      ((without_fewer n (insert_head_element tag.name tag (open_again n (known tags.Head) s)).stack).each is_plain_open
-      x.names) x
+      (then_stays (on_stack_stays (without n) (without_fewer n)) of_head_stays).stays
+      (open_again n (known tags.Head) s)
+      (plain_stack (opened n (html (known tags.Head)) ∷ s.stack) (refl, h.names) h)
 
   -- the head is open only while an element is put into it
   late_hung : (head : Option ℕ) (s : StateValue) → s.head ≡ head → Plain s → Hung s
@@ -291,18 +285,15 @@ module _ (tag : StartTagValue) where
       stays_by_test is_in_template still (then_stays no_frameset_stays (add_missing_stays body tag.attributes))
 
   pub act_stays : (a : Act) → plain_act tag.name a ≡ true → Stays (act_on a tag)
-  act_stays (element given) e =
-      insert_element_stays (given_name given tag) (given_attributes given tag) (given_plain given tag e)
-  act_stays (void given) e =
-      insert_void_stays (given_name given tag) (given_attributes given tag) (given_plain given tag e)
+  act_stays (element given) e = insert_element_stays (given_name given tag) (given_attributes given tag) e
+  act_stays (void given) e = insert_void_stays (given_name given tag) (given_attributes given tag) e
   act_stays (root given) e =
       then_stays (with_mode_stays BeforeHead refl)
-      (insert_root_stays (given_name given tag) (given_attributes given tag) (given_plain given tag e))
-  act_stays (head given) e =
-      with_head_stays (given_name given tag) (given_attributes given tag) (given_plain given tag e)
+      (insert_root_stays (given_name given tag) (given_attributes given tag) e)
+  act_stays (head given) e = with_head_stays (given_name given tag) (given_attributes given tag) e
   act_stays (body_put given) e =
       then_stays (with_mode_stays InBody refl)
-      (insert_element_stays (given_name given tag) (given_attributes given tag) (given_plain given tag e))
+      (insert_element_stays (given_name given tag) (given_attributes given tag) e)
   act_stays (raw_text raw) e = insert_raw_stays tag.name raw tag.attributes e
   act_stays of_head e = of_head_stays tag e
   act_stays late_of_head e = late_stays tag e
@@ -335,19 +326,16 @@ module _ (tag : StartTagValue) where
   act_stays (cell_left set) e = part_stays set InRow refl
   act_stays select_closed e = stays_by_test (λ s. has_select s) close_select_stays still
   act_stays select_left e = close_select_stays
-  act_stays frameset_closed e = absurd (true≢false (sym e))
   act_stays template_closed e = end_template_stays
   act_stays root_attributes e =
       stays_by_test is_in_template still
       (stays_by_state (λ s. first_open s.stack) (add_missing_to_stays tag.attributes))
   act_stays body_attributes e = stays_by_state open_body add_to_body_stays
-  act_stays body_replaced e = absurd (true≢false (sym e))
   act_stays marked e = push_marker_stays
   act_stays to_marker e = clear_to_marker_stays
   act_stays reconstructed e = reconstruct_stays
   act_stays (to_mode mode) e = with_mode_stays mode e
   act_stays to_quirks e = record { stays = λ s h. in_plain_mode BeforeHtml refl h; hangs = λ s h x. x }
-  act_stays (to_content mode) e = absurd (true≢false (sym e))
   act_stays frames_refused e = no_frameset_stays
   act_stays line_feed_skipped e = skip_line_feed_stays
   act_stays noted_element e = noted_stays tag e
@@ -360,3 +348,4 @@ module _ (tag : StartTagValue) where
   act_stays head_left e = then_stays (with_mode_stays AfterHead refl) (on_stack_stays pop pop_fewer)
   act_stays noscript_left e = then_stays (with_mode_stays InHead refl) (on_stack_stays pop pop_fewer)
   act_stays fostering e = record { stays = λ s h. h; hangs = λ s h x. x }
+  act_stays a e = absurd (true≢false (sym e))

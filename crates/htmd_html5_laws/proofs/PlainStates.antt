@@ -17,7 +17,7 @@ use Rattle.htmd_html5_state.specs.Insertion.{insert_root, insert_void, insert_ra
 use Rattle.htmd_html5_state.specs.Insertion.{insert_doctype}
 use Rattle.htmd_html5_state.specs.Formatting.{is_listed, push_marker, clear_to_marker, without_entry, insert_formatting}
 use Rattle.htmd_html5_state.specs.Formatting.{after_closed, insert_like, reconstruct}
-use Rattle.htmd_html5_state.specs.Resetting.{select_mode, unless_outermost, html_mode, mode_for, mode_for_name, mode_of}
+use Rattle.htmd_html5_state.specs.Resetting.{unless_outermost, mode_for, mode_for_name, mode_of}
 use Rattle.htmd_html5_state.specs.Resetting.{reset_insertion_mode}
 use Rattle.htmd_html5_state.specs.declared.modes.InsertionMode.{InsertionMode}
 use Rattle.htmd_html5_state.specs.declared.modes.InsertionMode.TheVariants.{InColumnGroup, InTemplate, InFrameset}
@@ -300,24 +300,19 @@ abbrev is_plain_or_none : Option InsertionMode → Bool
 is_plain_or_none None = true
 is_plain_or_none (Some mode) = is_plain_mode mode
 
-select_plain : (outer : List OpenValue) → is_plain_mode (select_mode outer) ≡ true
-select_plain outer = test (is_in_scope (Only tags.Table) TemplateScope outer) (λ t. rw t refl) (λ t. rw t refl)
-
 unless_plain : (mode : InsertionMode) (outer : List OpenValue) → is_plain_mode mode ≡ true
     → is_plain_or_none (unless_outermost mode outer) ≡ true
 unless_plain mode [] p = refl
 unless_plain mode (e ∷ es) p = p
 
-html_plain : (s : StateValue) → is_plain_mode (html_mode s) ≡ true
-html_plain s = test (is_some s.head) (λ t. rw t refl) (λ t. rw t refl)
-
 tag_plain : (tag : TagName) (outer : List OpenValue) (s : StateValue) → is_plain tag ≡ true
     → is_plain_or_none (mode_for tag outer s) ≡ true
-tag_plain tags.Select outer s p = select_plain outer
+tag_plain tags.Select outer s p =
+    test (is_in_scope (Only tags.Table) TemplateScope outer) (λ t. rw t refl) (λ t. rw t refl)
 tag_plain tags.Td outer s p = unless_plain _ outer refl
 tag_plain tags.Th outer s p = unless_plain _ outer refl
 tag_plain tags.Head outer s p = unless_plain _ outer refl
-tag_plain tags.Html outer s p = html_plain s
+tag_plain tags.Html outer s p = test (is_some s.head) (λ t. rw t refl) (λ t. rw t refl)
 tag_plain _ outer s p = cc
 
 name_plain : (name : ElementNameValue) (outer : List OpenValue) (s : StateValue) → is_plain_element name ≡ true

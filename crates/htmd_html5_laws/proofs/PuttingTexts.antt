@@ -53,11 +53,8 @@ foster_mode : (k : ℕ) (text : List ℕ) (s : StateValue) → (foster_runs k te
 foster_mode zero text s = refl
 foster_mode (suc k) text s =
     cond_both (is_empty text) _ _ (λ (x : StateValue). x.mode ≡ s.mode) (λ e. refl)
-    (λ e. foster_mode k (after_first_run text) next ∙ body_mode text (first_run text)
-    (record s { foster_parenting = true }))
-  where
-    next : StateValue
-    next = fostered (run_in_body (first_kind text) (first_run text)) s
+    (λ e. foster_mode k (after_first_run text) (fostered (run_in_body (first_kind text) (first_run text)) s)
+    ∙ body_mode text (first_run text) (record s { foster_parenting = true }))
 
 table_mode : (text : List ℕ) (s : StateValue) → (put_table_text text s).mode ≡ s.mode
 table_mode text s =

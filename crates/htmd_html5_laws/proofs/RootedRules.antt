@@ -1,7 +1,7 @@
 -- The rules of the modes of the body leave the body open, and an element of only text is open right under what is left:
 -- what each act does.
 use Rattle.std.proofs.Common.{◌≡◌, ◌∙◌, ℕ, ◌<◌, Bool, true, false, List, length, Option, Some, None}
-use Rattle.std.proofs.Common.{refl, sym, ap, subst, inl, inr, ◌⊎◌}
+use Rattle.std.proofs.Common.{refl, sym, ap, subst, inl, inr, ◌⊎◌, ⊎_elim}
 use Rattle.std.specs.Prelude.{if◌then◌else◌, not}
 use Rattle.std.proofs.lemmas.Bool.{cond_both, true≢false, not-true}
 use Rattle.htmd_grammar.specs.ValueTrees.{AttributePair}
@@ -107,15 +107,10 @@ says_rooted f = record {
 }
 
 pub tag_rooted : {f : StateValue → StateValue} → TagRoots f → AnswerRoots (λ s. done (f s))
-tag_rooted {f} g = record {
+tag_rooted g = record {
   leaves = λ body s plain h. let x = g.leaves body s h in
-      record { rooted = x.rooted; rest = λ e. either body s (x.rest e) };
+      record { rooted = x.rooted; rest = λ e. ⊎_elim (λ q. inl q) (λ r. inr (refl, r)) (x.rest e) };
 }
-  where
-    either : (body : ℕ) (s : StateValue) → (is_text_mode (f s).content ≡ false) ⊎ Rooted body (pop (f s).stack)
-        → (is_text_mode (f s).content ≡ false) ⊎ ((false ≡ false) × Rooted body (pop (f s).stack))
-    either body s (inl e) = inl e
-    either body s (inr r) = inr (refl, r)
 
 pub answers_rooted : {f g : StateValue → Outcome} (b : StateValue → Bool) → AnswerRoots f → AnswerRoots g
     → AnswerRoots (λ s. if b s then f s else g s)
@@ -126,14 +121,6 @@ answers_rooted b first second = record {
 
 -- ---- acts that leave the body open
 
-parts_spare : Spares DescriptionParts
-parts_spare tags.Dd p = absurd (true≢false (sym p))
-parts_spare _ p = cc
-
-headings_spare : Spares Headings
-headings_spare tags.H1 p = absurd (true≢false (sym p))
-headings_spare _ p = cc
-
 abbrev spares_set : NameSet → Bool
 spares_set (Only tag) = not (is_outer_tag tag)
 spares_set Headings = true
@@ -141,10 +128,12 @@ spares_set DescriptionParts = true
 spares_set set = false
 
 set_spares : (set : NameSet) → spares_set set ≡ true → Spares set
-set_spares (Only tag) e = only_spares tag (not-true (is_outer_tag tag) e)
-set_spares Headings e = headings_spare
-set_spares DescriptionParts e = parts_spare
-set_spares _ e = absurd (true≢false (sym e))
+set_spares (Only tag) e u p = only_spares tag (not-true (is_outer_tag tag) e) u p
+set_spares Headings e tags.H1 p = absurd (true≢false (sym p))
+set_spares Headings e _ p = cc
+set_spares DescriptionParts e tags.Dd p = absurd (true≢false (sym p))
+set_spares DescriptionParts e _ p = cc
+set_spares _ e u p = absurd (true≢false (sym e))
 
 abbrev spares_body : Cut → Bool
 spares_body (in_scope set scope) = spares_set set
@@ -237,20 +226,21 @@ comment_in_roots c None = rooted_still
 comment_in_roots c (Some n) = insert_comment_in_roots n c
 
 -- a step of one state
-record OneStep (body : ℕ) (s new : StateValue) : Type 0 where
+record OneStep (body : ℕ) (content : _) (new : StateValue) : Type 0 where
   rooted : RootedAt body new
-  content : new.content ≡ s.content
+  content_same : new.content ≡ content
+
+one_step : {f : StateValue → StateValue}
+    → ((body : ℕ) (s : StateValue) → RootedAt body s → OneStep body s.content (f s)) → Roots f
+one_step g = record { rooted = λ body s h. (g body s h).rooted; content = λ body s h. (g body s h).content_same }
 
 -- a formatting element was opened after the body
 forget_roots : Roots (λ s. forget (formatting_element tags.A s) s)
-forget_roots = record {
-  rooted = λ body s h. (by_found body s h (formatting_element tags.A s) refl).rooted;
-  content = λ body s h. (by_found body s h (formatting_element tags.A s) refl).content;
-}
+forget_roots = one_step (λ body s h. by_found body s h (formatting_element tags.A s) refl)
   where
     by_found : (body : ℕ) (s : StateValue) → RootedAt body s → (n : Option ℕ)
-        → formatting_element tags.A s ≡ n → OneStep body s (forget n s)
-    by_found body s h None e = record { rooted = h; content = refl }
+        → formatting_element tags.A s ≡ n → OneStep body s.content (forget n s)
+    by_found body s h None e = record { rooted = h; content_same = refl }
     by_found body s h (Some n) e =
         let agency = adoption_agency_roots tags.A refl in
         let x = agency.rooted body s h in
@@ -259,31 +249,25 @@ forget_roots = record {
           rooted = rooted_stack (without n (adoption_agency tags.A s).stack)
               (without_rooted body n l (adoption_agency tags.A s).stack x.rooted)
               ((without_entry_roots n).rooted body (adoption_agency tags.A s) x);
-          content = agency.content body s h;
+          content_same = agency.content body s h;
         }
 
 close_form_rooted : (body : ℕ) (s : StateValue) (form : Option ℕ) → ((n : ℕ) → form ≡ Some n → body < n)
-    → RootedAt body s → OneStep body s (close_form form s)
-close_form_rooted body s None f h = record { rooted = h; content = refl }
+    → RootedAt body s → OneStep body s.content (close_form form s)
+close_form_rooted body s None f h = record { rooted = h; content_same = refl }
 close_form_rooted body s (Some n) f h =
-    cond_both (is_node_in_scope n s.stack) _ _ (λ x. OneStep body s x)
+    cond_both (is_node_in_scope n s.stack) _ _ (OneStep body s.content)
     (λ t. record {
       rooted = rooted_stack (without n (pop_while ImpliedEnd s.stack))
           (without_rooted body n (f n refl) (pop_while ImpliedEnd s.stack)
           (pop_while_rooted ImpliedEnd refl body s.stack h.rooted)) h;
-      content = refl;
-    }) (λ t. record { rooted = h; content = refl })
-
-no_form : (body n : ℕ) → None ≡ Some n → body < n
-no_form body n e = absurd (cc)
+      content_same = refl;
+    }) (λ t. record { rooted = h; content_same = refl })
 
 noted_form_roots : Roots (λ s. close_form s.form (record s { form = None }))
 noted_form_roots =
-    record { rooted = λ body s h. (closed body s h).rooted; content = λ body s h. (closed body s h).content }
-  where
-    closed : (body : ℕ) (s : StateValue) → RootedAt body s
-        → OneStep body (record s { form = None }) (close_form s.form (record s { form = None }))
-    closed body s h = close_form_rooted body (record s { form = None }) s.form h.form_at (rooted_form (no_form body) h)
+    one_step (λ body s h. close_form_rooted body (record s { form = None }) s.form h.form_at
+    (rooted_form (λ n e. absurd (cc)) h))
 
 select_late : (mode : InsertionMode) → is_late mode ≡ true → is_late (mode_of_select mode) ≡ true
 select_late InBody l = refl
@@ -298,24 +282,20 @@ closed_select body s h t =
     (rooted_stack (pop_until (Only tags.Select) s.stack) (select_rooted body s.stack h.rooted t) h)
 
 end_select_roots : Roots end_select
-end_select_roots = record {
-  rooted = λ body s h. cond_both (has_select s) _ _ (λ x. RootedAt body x) (λ t. closed_select body s h t) (λ t. h);
-  content = λ body s h. cond_both (has_select s) _ _ (λ (x : StateValue). x.content ≡ s.content) (λ t. refl)
-      (λ t. refl);
-}
+end_select_roots =
+    one_step (λ body s h. cond_both (has_select s) _ _ (OneStep body s.content)
+    (λ t. record { rooted = closed_select body s h t; content_same = refl })
+    (λ t. record { rooted = h; content_same = refl }))
 
 module _ (tag : StartTagValue) where
   -- the form comes after the body
   noted_element_roots : is_inner_name tag.name ≡ true → Roots (act_on noted_element tag)
   noted_element_roots p = record {
     rooted = λ body s h. rooted_form
-        (λ n e. subst (λ (m : ℕ). body < m) (same (length s.nodes) n e) (number_after body s h))
+        (λ n e. let same : length s.nodes ≡ n = cc in subst (λ (m : ℕ). body < m) same (number_after body s h))
         ((insert_element_roots tag.name tag.attributes p).rooted body s h);
     content = λ body s h. refl;
   }
-    where
-      same : (m n : ℕ) → Some m ≡ Some n → m ≡ n
-      same m n e = cc
 
   select_roots : is_inner_name tag.name ≡ true → Roots (act_on select tag)
   select_roots p = record {

@@ -120,21 +120,21 @@ spared : (set : NameSet) → Spares set → (name : ElementNameValue) → is_out
 spared set f (html (known tag)) p = f tag p
 spared set f _ p = absurd (true≢false (sym p))
 
+-- a tag that differs in what is so of it
+other_tag : (f : TagName → Bool) (tag u : TagName) → f tag ≡ false → f u ≡ true → same_tag tag u ≡ false
+other_tag f tag u e p =
+    test (same_tag tag u) (λ t. absurd (true≢false (sym p ∙ (sym (ap f (same_tag-true tag u t)) ∙ e)))) (λ t. t)
+
 pub only_spares : (tag : TagName) → is_outer_tag tag ≡ false → Spares (Only tag)
-only_spares tag e u p =
-    test (same_tag tag u)
-    (λ t. absurd (true≢false (sym p ∙ (sym (ap is_outer_tag (same_tag-true tag u t)) ∙ e)))) (λ t. t)
+only_spares tag e u p = other_tag is_outer_tag tag u e p
 
 -- a name that has no mode of its own isn't the body's
 pub not_body : (tag : TagName) → is_inner_tag tag ≡ true
     → (same_tag tags.Body tag ≡ false) × (same_tag tag tags.Body ≡ false)
 not_body tag p = (
-  test (same_tag tags.Body tag) (λ t. absurd (other tag (sym (same_tag-true tags.Body tag t)) p)) (λ t. t),
-  test (same_tag tag tags.Body) (λ t. absurd (other tag (same_tag-true tag tags.Body t) p)) (λ t. t),
+  other_tag is_inner_tag tags.Body tag refl p,
+  other_tag (λ t. not (is_inner_tag t)) tag tags.Body (ap not p) refl,
 )
-  where
-    other : (tag : TagName) → tag ≡ tags.Body → is_inner_tag tag ≡ true → ⊥
-    other tag e q = true≢false (sym q ∙ ap is_inner_tag e)
 
 none_before : (set : NameSet) (scope : Scope) → Spares set → (body : ℕ) (es : List OpenValue)
     → EachOpen (Before body) es → scope_has (is_in set) scope es ≡ false
@@ -150,32 +150,27 @@ none_open_before set f body (e ∷ es) h = rw (spared set f e.name h.0.0) (none_
 
 -- ---- no table is open, and no template
 
-table_spares : Spares (Only tags.Table)
-table_spares = only_spares tags.Table refl
-
-no_inner_table : (name : ElementNameValue) → is_inner name ≡ true → is_of (Only tags.Table) name ≡ false
-no_inner_table (html (known tags.Table)) p = absurd (true≢false (sym p))
-no_inner_table _ p = refl
+no_inner : (tag : TagName) → is_inner_tag tag ≡ false → (name : ElementNameValue) → is_inner name ≡ true
+    → is_of (Only tag) name ≡ false
+no_inner tag e (html (known u)) p = other_tag is_inner_tag tag u e p
+no_inner tag e _ p = refl
 
 no_table : (body : ℕ) (stack : List OpenValue) → Rooted body stack
     → is_in_scope (Only tags.Table) TemplateScope stack ≡ false
 no_table body [] h = refl
-no_table body (e ∷ es) (inl h) = rw h.0.0 (none_before (Only tags.Table) TemplateScope table_spares body es h.1)
+no_table body (e ∷ es) (inl h) =
+    rw h.0.0 (none_before (Only tags.Table) TemplateScope (only_spares tags.Table refl) body es h.1)
 no_table body (e ∷ es) (inr h) =
-    rw (no_inner_table e.name h.0)
+    rw (no_inner tags.Table refl e.name h.0)
     (and_right (not (bounds TemplateScope e.name)) (is_in_scope (Only tags.Table) TemplateScope es)
     (no_table body es h.1))
-
-no_inner_template : (name : ElementNameValue) → is_inner name ≡ true → is_of (Only tags.Template) name ≡ false
-no_inner_template (html (known tags.Template)) p = absurd (true≢false (sym p))
-no_inner_template _ p = refl
 
 pub no_template : (body : ℕ) (stack : List OpenValue) → Rooted body stack
     → is_open (Only tags.Template) stack ≡ false
 no_template body [] h = refl
 no_template body (e ∷ es) (inl h) =
     rw h.0.0 (none_open_before (Only tags.Template) (only_spares tags.Template refl) body es h.1)
-no_template body (e ∷ es) (inr h) = rw (no_inner_template e.name h.0) (no_template body es h.1)
+no_template body (e ∷ es) (inr h) = rw (no_inner tags.Template refl e.name h.0) (no_template body es h.1)
 
 -- ---- the mode is reset
 

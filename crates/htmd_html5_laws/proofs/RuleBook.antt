@@ -66,18 +66,19 @@ put_in_head = ends (act of_head)
 abbrev is_among : List TagName → TagName → Bool
 is_among names tag = list_any (λ name. same_tag name tag) names
 
--- blocks and formatting elements, start tags and end tags
+-- blocks and formatting elements, where no row of its own says more of one's start tag or end tag
 abbrev blocks : List TagName
 blocks =
-    tags.Address ∷ tags.Article ∷ tags.Aside ∷ tags.BlockQuote ∷ tags.Center ∷ tags.Details ∷
-    tags.Dialog ∷ tags.Dir ∷ tags.Div ∷ tags.Dl ∷ tags.FieldSet ∷ tags.FigCaption ∷ tags.Figure ∷
-    tags.Footer ∷ tags.Header ∷ tags.HGroup ∷ tags.Main ∷ tags.Menu ∷ tags.Nav ∷ tags.Ol ∷ tags.Search ∷
-    tags.Section ∷ tags.Summary ∷ tags.Ul ∷ []
+    tags.Address ∷ tags.Article ∷ tags.Aside ∷ tags.BlockQuote ∷ tags.Button ∷ tags.Center ∷ tags.Dd ∷
+    tags.Details ∷ tags.Dialog ∷ tags.Dir ∷ tags.Div ∷ tags.Dl ∷ tags.Dt ∷ tags.FieldSet ∷
+    tags.FigCaption ∷ tags.Figure ∷ tags.Footer ∷ tags.Header ∷ tags.HGroup ∷ tags.Listing ∷ tags.Main ∷
+    tags.Menu ∷ tags.Nav ∷ tags.Ol ∷ tags.P ∷ tags.Pre ∷ tags.Search ∷ tags.Section ∷ tags.Summary ∷
+    tags.Ul ∷ []
 
 abbrev formats : List TagName
 formats =
-    tags.B ∷ tags.Big ∷ tags.Code ∷ tags.Em ∷ tags.Font ∷ tags.I ∷ tags.S ∷ tags.Small ∷ tags.Strike ∷
-    tags.Strong ∷ tags.Tt ∷ tags.U ∷ []
+    tags.A ∷ tags.B ∷ tags.Big ∷ tags.Code ∷ tags.Em ∷ tags.Font ∷ tags.I ∷ tags.NoBr ∷ tags.S ∷
+    tags.Small ∷ tags.Strike ∷ tags.Strong ∷ tags.Tt ∷ tags.U ∷ []
 
 -- ---- start tags in the body
 
@@ -90,67 +91,20 @@ insert_in_text = act reconstructed ⨾ insert
 abbrev pub insert_void_in_text : Rule
 insert_void_in_text = act reconstructed ⨾ act (void own)
 
-abbrev pub start_heading : Rule
-start_heading = close_paragraph ⨾ act (cut heading) ⨾ insert
-
 abbrev pub start_preformatted : Rule
 start_preformatted = block ⨾ act line_feed_skipped ⨾ act frames_refused
-
-abbrev pub start_form : Rule
-start_form =
-    when (λ tag s. is_in_template s) block
-    (when (λ tag s. is_some s.form) nothing (close_paragraph ⨾ act noted_element))
 
 abbrev pub start_item : NameSet → Rule
 start_item alike = act frames_refused ⨾ act (cut (in_scope alike Items)) ⨾ block
 
-abbrev pub start_plain_text : Rule
-start_plain_text = close_paragraph ⨾ act (raw_text raw.Plaintext)
-
-abbrev pub start_table : Rule
-start_table =
-    when (λ tag s. s.quirks) nothing close_paragraph ⨾ insert ⨾ act frames_refused ⨾ act (to_mode InTable)
-
-abbrev pub start_separator : Rule
-start_separator = close_paragraph ⨾ act (void own) ⨾ act frames_refused
-
-abbrev pub start_button : Rule
-start_button = act (cut (in_scope (Only tags.Button) Default)) ⨾ insert_in_text ⨾ act frames_refused
-
 abbrev pub start_formatting : Rule
 start_formatting = act reconstructed ⨾ act formatting
-
-abbrev pub start_anchor : Rule
-start_anchor = act forget_anchor ⨾ start_formatting
-
-abbrev pub start_no_break : Rule
-start_no_break =
-    act reconstructed ⨾ when (λ tag s. is_in_scope (Only tags.NoBr) Default s.stack) (act (agency tags.NoBr)) nothing
-    ⨾ start_formatting
 
 abbrev pub start_embedded : Rule
 start_embedded = insert_in_text ⨾ act marked ⨾ act frames_refused
 
 abbrev pub start_void : Rule
 start_void = insert_void_in_text ⨾ act frames_refused
-
-abbrev pub start_input : Rule
-start_input = when (λ tag s. is_hidden tag) insert_void_in_text start_void
-
-abbrev pub start_image : Rule
-start_image = act reconstructed ⨾ act (void (renamed tags.Img)) ⨾ act frames_refused
-
-abbrev pub start_text_area : Rule
-start_text_area = act line_feed_skipped ⨾ act frames_refused ⨾ act (raw_text raw.Textarea)
-
-abbrev pub start_example : Rule
-start_example = close_paragraph ⨾ act reconstructed ⨾ act frames_refused ⨾ act (raw_text raw.Xmp)
-
-abbrev pub start_inline_frame : Rule
-start_inline_frame = act frames_refused ⨾ act (raw_text raw.Iframe)
-
-abbrev pub start_no_script : Rule
-start_no_script = when (λ tag s. s.scripting) (act (raw_text raw.Noscript)) insert_in_text
 
 abbrev pub start_option : Rule
 start_option = act (cut option) ⨾ insert_in_text
@@ -165,19 +119,24 @@ start_of (known tags.Body) = act body_attributes
 start_of (known tags.FrameSet) = act body_replaced
 start_of (known tags.Frame) = nothing
 start_of (known tags.Head) = nothing
-start_of (known tags.P) = block
 start_of (known tags.Pre) = start_preformatted
 start_of (known tags.Listing) = start_preformatted
-start_of (known tags.Form) = start_form
+start_of (known tags.Form) =
+    when (λ tag s. is_in_template s) block
+    (when (λ tag s. is_some s.form) nothing (close_paragraph ⨾ act noted_element))
 start_of (known tags.Li) = start_item (Only tags.Li)
 start_of (known tags.Dd) = start_item DescriptionParts
 start_of (known tags.Dt) = start_item DescriptionParts
-start_of (known tags.PlainText) = start_plain_text
-start_of (known tags.Table) = start_table
-start_of (known tags.Hr) = start_separator
-start_of (known tags.Button) = start_button
-start_of (known tags.A) = start_anchor
-start_of (known tags.NoBr) = start_no_break
+start_of (known tags.PlainText) = close_paragraph ⨾ act (raw_text raw.Plaintext)
+start_of (known tags.Table) =
+    when (λ tag s. s.quirks) nothing close_paragraph ⨾ insert ⨾ act frames_refused ⨾ act (to_mode InTable)
+start_of (known tags.Hr) = close_paragraph ⨾ act (void own) ⨾ act frames_refused
+start_of (known tags.Button) =
+    act (cut (in_scope (Only tags.Button) Default)) ⨾ insert_in_text ⨾ act frames_refused
+start_of (known tags.A) = act forget_anchor ⨾ start_formatting
+start_of (known tags.NoBr) =
+    act reconstructed ⨾ when (λ tag s. is_in_scope (Only tags.NoBr) Default s.stack) (act (agency tags.NoBr)) nothing
+    ⨾ start_formatting
 start_of (known tags.Applet) = start_embedded
 start_of (known tags.Marquee) = start_embedded
 start_of (known tags.Object) = start_embedded
@@ -187,16 +146,16 @@ start_of (known tags.Embed) = start_void
 start_of (known tags.Img) = start_void
 start_of (known tags.KeyGen) = start_void
 start_of (known tags.Wbr) = start_void
-start_of (known tags.Input) = start_input
+start_of (known tags.Input) = when (λ tag s. is_hidden tag) insert_void_in_text start_void
 start_of (known tags.Param) = act (void own)
 start_of (known tags.Source) = act (void own)
 start_of (known tags.Track) = act (void own)
-start_of (known tags.Image) = start_image
-start_of (known tags.TextArea) = start_text_area
-start_of (known tags.Xmp) = start_example
-start_of (known tags.Iframe) = start_inline_frame
+start_of (known tags.Image) = act reconstructed ⨾ act (void (renamed tags.Img)) ⨾ act frames_refused
+start_of (known tags.TextArea) = act line_feed_skipped ⨾ act frames_refused ⨾ act (raw_text raw.Textarea)
+start_of (known tags.Xmp) = close_paragraph ⨾ act reconstructed ⨾ act frames_refused ⨾ act (raw_text raw.Xmp)
+start_of (known tags.Iframe) = act frames_refused ⨾ act (raw_text raw.Iframe)
 start_of (known tags.NoEmbed) = act (raw_text raw.Noembed)
-start_of (known tags.NoScript) = start_no_script
+start_of (known tags.NoScript) = when (λ tag s. s.scripting) (act (raw_text raw.Noscript)) insert_in_text
 start_of (known tags.Select) = act select
 start_of (known tags.OptGroup) = start_option
 start_of (known tags.OptionTag) = start_option
@@ -208,7 +167,8 @@ start_of (known tags.Math) = act reconstructed ⨾ act (foreign MathMl)
 start_of (known tags.Svg) = act reconstructed ⨾ act (foreign Svg)
 start_of (known tag) =
     if is_head_tag tag then act of_head else if leaves_cell tag then nothing
-    else if has Headings tag then start_heading else if is_among blocks tag then block
+    else if has Headings tag then close_paragraph ⨾ act (cut heading) ⨾ insert
+    else if is_among blocks tag then block
     else if is_among formats tag then start_formatting else insert_in_text
 start_of name = insert_in_text
 
@@ -220,37 +180,22 @@ end_body = when (λ tag s. has_body s) (act (to_mode AfterBody)) nothing
 abbrev pub end_block : TagName → Rule
 end_block name = act (cut (in_scope (Only name) Default))
 
-abbrev pub end_form : Rule
-end_form = when (λ tag s. is_in_template s) (act (cut (in_scope (Only tags.Form) Default))) (act noted_form)
-
-abbrev pub end_paragraph : Rule
-end_paragraph =
-    when (λ tag s. is_in_scope (Only tags.P) ButtonScope s.stack) close_paragraph (act (void (implied tags.P)))
-
 abbrev pub end_embedded : TagName → Rule
 end_embedded name = when (λ tag s. is_in_scope (Only name) Default s.stack) (end_block name ⨾ act to_marker) nothing
-
-abbrev pub line_break : Rule
-line_break = act reconstructed ⨾ act (void (implied tags.Br)) ⨾ act frames_refused
 
 abbrev pub end_of : NameValue → Rule
 end_of (known tags.Body) = end_body
 end_of (known tags.Html) = end_body
 end_of (known tags.Template) = act template_closed
-end_of (known tags.Button) = end_block tags.Button
-end_of (known tags.Dd) = end_block tags.Dd
-end_of (known tags.Dt) = end_block tags.Dt
-end_of (known tags.Listing) = end_block tags.Listing
-end_of (known tags.Pre) = end_block tags.Pre
-end_of (known tags.Form) = end_form
-end_of (known tags.P) = end_paragraph
+end_of (known tags.Form) =
+    when (λ tag s. is_in_template s) (act (cut (in_scope (Only tags.Form) Default))) (act noted_form)
+end_of (known tags.P) =
+    when (λ tag s. is_in_scope (Only tags.P) ButtonScope s.stack) close_paragraph (act (void (implied tags.P)))
 end_of (known tags.Li) = act (cut (in_scope (Only tags.Li) ListItem))
-end_of (known tags.A) = act (agency tags.A)
-end_of (known tags.NoBr) = act (agency tags.NoBr)
 end_of (known tags.Applet) = end_embedded tags.Applet
 end_of (known tags.Marquee) = end_embedded tags.Marquee
 end_of (known tags.Object) = end_embedded tags.Object
-end_of (known tags.Br) = line_break
+end_of (known tags.Br) = act reconstructed ⨾ act (void (implied tags.Br)) ⨾ act frames_refused
 end_of (known tag) =
     if has Headings tag then act (cut (in_scope Headings Default)) else if is_among blocks tag then end_block tag
     else if is_among formats tag then act (agency tag) else act (cut (named (known tag)))
@@ -269,12 +214,16 @@ abbrev pub start_before_html : NameValue → Reply
 start_before_html (known tags.Html) = ends (act (root own))
 start_before_html _ = imply_root
 
+-- end tags that are processed again before the body
+abbrev late_ends : Reply → NameValue → Reply
+late_ends reply (known tags.Body) = reply
+late_ends reply (known tags.Html) = reply
+late_ends reply (known tags.Br) = reply
+late_ends reply _ = ignore
+
 abbrev pub end_before_html : NameValue → Reply
 end_before_html (known tags.Head) = imply_root
-end_before_html (known tags.Body) = imply_root
-end_before_html (known tags.Html) = imply_root
-end_before_html (known tags.Br) = imply_root
-end_before_html _ = ignore
+end_before_html name = late_ends imply_root name
 
 abbrev pub imply_head : Reply
 imply_head = again (act (head (implied tags.Head)))
@@ -286,10 +235,7 @@ start_before_head _ = imply_head
 
 abbrev pub end_before_head : NameValue → Reply
 end_before_head (known tags.Head) = imply_head
-end_before_head (known tags.Body) = imply_head
-end_before_head (known tags.Html) = imply_head
-end_before_head (known tags.Br) = imply_head
-end_before_head _ = ignore
+end_before_head name = late_ends imply_head name
 
 abbrev pub close_head : Rule
 close_head = act head_left
@@ -305,10 +251,7 @@ start_in_head _ = again close_head
 abbrev pub end_in_head : NameValue → Reply
 end_in_head (known tags.Head) = ends close_head
 end_in_head (known tags.Template) = ends (act template_closed)
-end_in_head (known tags.Body) = again close_head
-end_in_head (known tags.Html) = again close_head
-end_in_head (known tags.Br) = again close_head
-end_in_head _ = ignore
+end_in_head name = late_ends (again close_head) name
 
 abbrev pub close_noscript : Rule
 close_noscript = act noscript_left
@@ -333,23 +276,17 @@ end_in_noscript _ = ignore
 abbrev pub imply_body : Reply
 imply_body = again (act (body_put (implied tags.Body)))
 
-abbrev pub put_late : Reply
-put_late = ends (act late_of_head)
-
 abbrev pub start_after_head : NameValue → Reply
 start_after_head (known tags.Html) = ends (act root_attributes)
 start_after_head (known tags.Body) = ends (act frames_refused ⨾ act (body_put own))
 start_after_head (known tags.FrameSet) = ends (insert ⨾ act (to_mode InFrameset))
 start_after_head (known tags.Head) = ignore
-start_after_head (known tag) = if is_head_tag tag then put_late else imply_body
+start_after_head (known tag) = if is_head_tag tag then ends (act late_of_head) else imply_body
 start_after_head _ = imply_body
 
 abbrev pub end_after_head : NameValue → Reply
 end_after_head (known tags.Template) = ends (act template_closed)
-end_after_head (known tags.Body) = imply_body
-end_after_head (known tags.Html) = imply_body
-end_after_head (known tags.Br) = imply_body
-end_after_head _ = ignore
+end_after_head name = late_ends imply_body name
 
 -- ---- tables
 
@@ -386,16 +323,13 @@ end_in_table (known tags.Template) = act template_closed
 end_in_table (known tag) = if table.ends_nothing tag then nothing else foster (end_of (known tag))
 end_in_table name = foster (end_of name)
 
-abbrev pub leave_caption : Reply
-leave_caption = again_after caption_closed
-
 abbrev pub start_in_caption : NameValue → Reply
-start_in_caption (known tag) = if leaves_cell tag then leave_caption else ends (start_of (known tag))
+start_in_caption (known tag) = if leaves_cell tag then again_after caption_closed else ends (start_of (known tag))
 start_in_caption name = ends (start_of name)
 
 abbrev pub end_in_caption : NameValue → Reply
 end_in_caption (known tags.Caption) = ends (act caption_closed)
-end_in_caption (known tags.Table) = leave_caption
+end_in_caption (known tags.Table) = again_after caption_closed
 end_in_caption (known tag) = if caption.ends_nothing tag then ignore else end_in_body (known tag)
 end_in_caption name = end_in_body name
 
@@ -428,11 +362,10 @@ start_in_section (known tag) = if leaves_cell tag then leave_section else start_
 start_in_section name = start_in_table name
 
 abbrev pub end_in_section : NameValue → Reply
-end_in_section (known tags.TBody) = ends (act (section_closed (Only tags.TBody)))
-end_in_section (known tags.TFoot) = ends (act (section_closed (Only tags.TFoot)))
-end_in_section (known tags.THead) = ends (act (section_closed (Only tags.THead)))
 end_in_section (known tags.Table) = leave_section
-end_in_section (known tag) = if table_body.ends_nothing tag then ignore else ends (end_in_table (known tag))
+end_in_section (known tag) =
+    if has TableSections tag then ends (act (section_closed (Only tag)))
+    else if table_body.ends_nothing tag then ignore else ends (end_in_table (known tag))
 end_in_section name = ends (end_in_table name)
 
 abbrev pub cell : Reply
@@ -440,9 +373,6 @@ cell = ends (act (cut (back_to TableRowContext)) ⨾ act cell_put)
 
 abbrev pub leave_row : Reply
 leave_row = again_after row_closed
-
-abbrev pub leave_row_of : TagName → Reply
-leave_row_of tag = either (λ s. is_in_scope (Only tag) TableScope s.stack) leave_row ignore
 
 abbrev pub start_in_row : NameValue → Reply
 start_in_row (known tags.Td) = cell
@@ -453,10 +383,9 @@ start_in_row name = start_in_table name
 abbrev pub end_in_row : NameValue → Reply
 end_in_row (known tags.Tr) = ends (act row_closed)
 end_in_row (known tags.Table) = leave_row
-end_in_row (known tags.TBody) = leave_row_of tags.TBody
-end_in_row (known tags.TFoot) = leave_row_of tags.TFoot
-end_in_row (known tags.THead) = leave_row_of tags.THead
-end_in_row (known tag) = if table_row.ends_nothing tag then ignore else ends (end_in_table (known tag))
+end_in_row (known tag) =
+    if has TableSections tag then either (λ s. is_in_scope (Only tag) TableScope s.stack) leave_row ignore
+    else if table_row.ends_nothing tag then ignore else ends (end_in_table (known tag))
 end_in_row name = ends (end_in_table name)
 
 abbrev pub leave_cell : NameSet → Reply
@@ -470,11 +399,10 @@ abbrev pub end_in_cell : NameValue → Reply
 end_in_cell (known tags.Td) = ends (act (cell_closed tags.Td))
 end_in_cell (known tags.Th) = ends (act (cell_closed tags.Th))
 end_in_cell (known tags.Table) = leave_cell (Only tags.Table)
-end_in_cell (known tags.TBody) = leave_cell (Only tags.TBody)
-end_in_cell (known tags.TFoot) = leave_cell (Only tags.TFoot)
-end_in_cell (known tags.THead) = leave_cell (Only tags.THead)
 end_in_cell (known tags.Tr) = leave_cell (Only tags.Tr)
-end_in_cell (known tag) = if table.ends_nothing tag then ignore else end_in_body (known tag)
+end_in_cell (known tag) =
+    if has TableSections tag then leave_cell (Only tag)
+    else if table.ends_nothing tag then ignore else end_in_body (known tag)
 end_in_cell name = end_in_body name
 
 -- ---- select
@@ -507,11 +435,10 @@ start_in_select_in_table (known tag) =
     if is_table_part tag then again (act select_left) else start_in_select (known tag)
 start_in_select_in_table name = start_in_select name
 
-abbrev pub leave_select_in : TagName → Reply
-leave_select_in tag = either (λ s. is_in_scope (Only tag) TableScope s.stack) (again (act select_left)) ignore
-
 abbrev pub end_in_select_in_table : NameValue → Reply
-end_in_select_in_table (known tag) = if is_table_part tag then leave_select_in tag else ends (end_in_select (known tag))
+end_in_select_in_table (known tag) =
+    if is_table_part tag then either (λ s. is_in_scope (Only tag) TableScope s.stack) (again (act select_left)) ignore
+    else ends (end_in_select (known tag))
 end_in_select_in_table name = ends (end_in_select name)
 
 -- ---- templates, and what comes after the body
@@ -521,10 +448,6 @@ start_in_template (known tag) =
     if is_head_tag tag then put_in_head else again (act (to_content (mode_of_content (known tag))))
 start_in_template name = again (act (to_content (mode_of_content name)))
 
-abbrev pub end_in_template : NameValue → Rule
-end_in_template (known tags.Template) = act template_closed
-end_in_template _ = nothing
-
 abbrev pub back_to_body : Reply
 back_to_body = again (act (to_mode InBody))
 
@@ -532,31 +455,17 @@ abbrev pub start_after_body : NameValue → Reply
 start_after_body (known tags.Html) = ends (act root_attributes)
 start_after_body _ = back_to_body
 
-abbrev pub end_after_body : NameValue → Reply
-end_after_body (known tags.Html) = ends (act (to_mode AfterAfterBody))
-end_after_body _ = back_to_body
-
 -- ---- frames
-
-abbrev pub start_in_frameset : NameValue → Rule
-start_in_frameset (known tags.Html) = act root_attributes
-start_in_frameset (known tags.FrameSet) = insert
-start_in_frameset (known tags.Frame) = act (void own)
-start_in_frameset (known tags.NoFrames) = act of_head
-start_in_frameset _ = nothing
-
-abbrev pub end_in_frameset : NameValue → Rule
-end_in_frameset (known tags.FrameSet) = act frameset_closed
-end_in_frameset _ = nothing
 
 abbrev pub start_after_frameset : NameValue → Rule
 start_after_frameset (known tags.Html) = act root_attributes
 start_after_frameset (known tags.NoFrames) = act of_head
 start_after_frameset _ = nothing
 
-abbrev pub end_after_frameset : NameValue → Rule
-end_after_frameset (known tags.Html) = act (to_mode AfterAfterFrameset)
-end_after_frameset _ = nothing
+abbrev pub start_in_frameset : NameValue → Rule
+start_in_frameset (known tags.FrameSet) = insert
+start_in_frameset (known tags.Frame) = act (void own)
+start_in_frameset name = start_after_frameset name
 
 -- ---- the modes
 
@@ -601,10 +510,14 @@ end_in InRow name = end_in_row name
 end_in InCell name = end_in_cell name
 end_in InSelect name = ends (end_in_select name)
 end_in InSelectInTable name = end_in_select_in_table name
-end_in InTemplate name = ends (end_in_template name)
-end_in AfterBody name = end_after_body name
-end_in InFrameset name = ends (end_in_frameset name)
-end_in AfterFrameset name = ends (end_after_frameset name)
+end_in InTemplate (known tags.Template) = ends (act template_closed)
+end_in InTemplate name = ignore
+end_in AfterBody (known tags.Html) = ends (act (to_mode AfterAfterBody))
+end_in AfterBody name = back_to_body
+end_in InFrameset (known tags.FrameSet) = ends (act frameset_closed)
+end_in InFrameset name = ignore
+end_in AfterFrameset (known tags.Html) = ends (act (to_mode AfterAfterFrameset))
+end_in AfterFrameset name = ignore
 end_in AfterAfterBody name = back_to_body
 end_in AfterAfterFrameset name = ignore
 
@@ -622,9 +535,6 @@ doctype_in Initial quirks = ends (act (started quirks))
 doctype_in _ quirks = ignore
 
 -- the end of the file, which closes the templates that are open
-abbrev pub end_of_body : Reply
-end_of_body = either (λ s. has_modes s.template_modes) template_ended ignore
-
 abbrev pub end_of_file_in : InsertionMode → Reply
 end_of_file_in Initial = again (act to_quirks)
 end_of_file_in BeforeHtml = imply_root
@@ -638,7 +548,7 @@ end_of_file_in InFrameset = ignore
 end_of_file_in AfterFrameset = ignore
 end_of_file_in AfterAfterBody = ignore
 end_of_file_in AfterAfterFrameset = ignore
-end_of_file_in _ = end_of_body
+end_of_file_in _ = either (λ s. has_modes s.template_modes) template_ended ignore
 
 -- a text has rules of its own
 abbrev pub rule_in : InsertionMode → TokenValue → Reply

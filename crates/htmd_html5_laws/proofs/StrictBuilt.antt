@@ -6,7 +6,7 @@ use Rattle.std.proofs.lemmas.Bool.{and_parts}
 use Rattle.std.proofs.lemmas.List.{append-nil}
 use Rattle.htmd_grammar.specs.WhiteSpace.{is_ascii_white_space}
 use Rattle.htmd_grammar.proofs.Cases.{test}
-use Rattle.htmd_grammar.specs.ValueTrees.{AttributePair, ValueTree, ValueForest, none, more, document, doctype, text}
+use Rattle.htmd_grammar.specs.ValueTrees.{AttributePair, ValueTree, ValueForest, none, more, text}
 use Rattle.htmd_grammar.specs.ValueTrees.{comment, element}
 use Rattle.htmd_grammar.specs.CharacterClasses.{is_among}
 use Rattle.htmd_grammar.specs.Grammar.{Apart}
@@ -105,20 +105,31 @@ module _ (z : Bool) where
         h.stands);
   }
 
-  leaf_built : (p : List ℕ) (c : List (List ℕ)) (t : ValueTree) (x : TokenValue) (s : StateValue)
-      (nodes : List NodeValue) (ok : Bool) → IsInBody (p ∷ c) s → content_after z Normal x ≡ Normal
-      → feed x s ≡ record s { nodes = nodes; frameset_ok = ok } → nodes ≡ with_tree (at s) t s.nodes
-      → (new : StateValue) × Built (p ∷ c) (x ∷ []) (with_tree (at s) t s.nodes) s new
-  leaf_built p c t x s nodes ok h k f e = (
-    record s { nodes = nodes; frameset_ok = ok },
+  put_built : (p : List ℕ) (c : List (List ℕ)) (t : ValueTree) (s : StateValue) (xs : List TokenValue)
+      → IsInBody (p ∷ c) s → Put z s t xs
+      → (new : StateValue) × Built (p ∷ c) xs (with_tree (at s) t s.nodes) s new
+  put_built p c t s xs h r = (
+    record s { nodes = r.nodes; frameset_ok = r.ok },
     record {
-      through = one_fed z p c x s _ [] _ h (h.content ∙ sym k) f nothing;
-      nodes_are = e;
-      in_body = grown p c t s nodes ok h e;
+      through = r.through;
+      nodes_are = r.nodes_are;
+      in_body = grown p c t s r.nodes r.ok h r.nodes_are;
       stack = refl;
       fewer = fewer_same s.formatting;
     },
   )
+
+  leaf_built : (p : List ℕ) (c : List (List ℕ)) (t : ValueTree) (x : TokenValue) (s : StateValue)
+      (nodes : List NodeValue) (ok : Bool) → IsInBody (p ∷ c) s → content_after z Normal x ≡ Normal
+      → feed x s ≡ record s { nodes = nodes; frameset_ok = ok } → nodes ≡ with_tree (at s) t s.nodes
+      → (new : StateValue) × Built (p ∷ c) (x ∷ []) (with_tree (at s) t s.nodes) s new
+  leaf_built p c t x s nodes ok h k f e =
+      put_built p c t s (x ∷ []) h (record {
+        nodes = nodes;
+        ok = ok;
+        nodes_are = e;
+        through = one_fed z p c x s _ [] _ h (h.content ∙ sym k) f nothing;
+      })
 
   text_built : (u : List ℕ) → TreeBuilt (text u)
   text_built u p c xs s k e f h st =
@@ -127,10 +138,8 @@ module _ (z : Bool) where
       (st refl) in
       let fed = text_fed p c s h u f in
       rw k (test (list_all is_ascii_white_space u)
-      (λ t. leaf_built p c (text u) (tokens.text u) s (add_text u (place s) s.nodes) s.frameset_ok h refl
-      (fed ∙ rw t refl) nodes)
-      (λ t. leaf_built p c (text u) (tokens.text u) s (add_text u (place s) s.nodes) false h refl (fed ∙ rw t refl)
-      nodes))
+      (λ t. leaf_built p c (text u) (tokens.text u) s _ s.frameset_ok h refl (fed ∙ rw t refl) nodes)
+      (λ t. leaf_built p c (text u) (tokens.text u) s _ false h refl (fed ∙ rw t refl) nodes))
 
   comment_built : (u : List ℕ) → TreeBuilt (comment u)
   comment_built u p c xs s k e f h st =
@@ -182,21 +191,36 @@ module _ (z : Bool) where
         );
       }
 
-  -- the element is closed, and what is listed is no more than before it
-  closed : (p n : List ℕ) (c : List (List ℕ)) (attributes : List AttributePair) (children : ValueForest)
-      (slash : Bool) (whole content : List TokenValue) (s held : StateValue) (list left : List (Option ℕ)) (ok : Bool)
-      (h : IsInBody (p ∷ c) s) → (feed (start_tag (tag_named n attributes slash)) s).content
-      ≡ content_after z Normal (start_tag (tag_named n attributes slash)) → Built (n ∷ (p ∷ c)) content
-      (with_forest (length s.nodes) children (opened_with p c s h n attributes list ok).nodes)
-      (opened_with p c s h n attributes list ok) held → Through z (feed (start_tag (tag_named n attributes slash)) s)
-      (whole ++ (end_tag (tag_named n [] false) ∷ [])) (record held { stack = s.stack; formatting = left })
-      → Fewer left s.formatting → ElementBuilt p c n attributes slash whole children s
-  closed p n c attributes children slash whole content s held list left ok h k b run fewer =
-      let new : StateValue = record held { stack = s.stack; formatting = left } in
-      let st = subst (λ stack. Stands held.nodes (n ∷ (p ∷ c)) stack) b.stack b.in_body.stands in (
+  -- the content between a start tag and an end tag that do this, after which no more is listed than before
+  held_built : (p n : List ℕ) (c : List (List ℕ)) (attributes : List AttributePair) (children : ValueForest)
+      → ForestBuilt children → (slash : Bool) (whole content : List TokenValue) (s : StateValue)
+      (list : List (Option ℕ)) (ok : Bool) (h : IsInBody (p ∷ c) s) → SpellsForest children content
+      → are_plain children ≡ true → FitsForest (n ∷ (p ∷ c)) children → Fewer list
+      (Some (length s.nodes) ∷ s.formatting) → (feed (start_tag (tag_named n attributes slash)) s).content
+      ≡ content_after z Normal (start_tag (tag_named n attributes slash))
+      → ((held : StateValue) → held.stack ≡ (opened_with p c s h n attributes list ok).stack
+      → IsInBody (n ∷ (p ∷ c)) held → Fewer held.formatting list
+      → (left : List (Option ℕ)) × Fewer left s.formatting
+      × (feed (end_tag (tag_named n [] false)) held ≡ record held { stack = s.stack; formatting = left }))
+      → ((new : StateValue) → Through z (opened_with p c s h n attributes list ok)
+      (content ++ (end_tag (tag_named n [] false) ∷ [])) new
+      → Through z (feed (start_tag (tag_named n attributes slash)) s)
+      (whole ++ (end_tag (tag_named n [] false) ∷ [])) new)
+      → ElementBuilt p c n attributes slash whole children s
+  held_built p n c attributes children ih slash whole content s list ok h k g ff f e ends run =
+      let first : StateValue = opened_with p c s h n attributes list ok in
+      let r = ih n (p ∷ c) content first k g ff (entered p n c attributes s list ok h f)
+      (λ _. starts_empty p n c attributes s h) in
+      let b = r.1 in
+      let last = ends r.0 b.stack b.in_body b.fewer in
+      let new : StateValue = record (r.0) { stack = s.stack; formatting = last.0 } in
+      let st = subst (λ stack. Stands (r.0).nodes (n ∷ (p ∷ c)) stack) b.stack b.in_body.stands in
+      let through : Through z first (content ++ (end_tag (tag_named n [] false) ∷ [])) new =
+      followed z b.through (one_fed z n (p ∷ c) (end_tag (tag_named n [] false)) r.0 new [] new b.in_body
+      b.in_body.content last.2 nothing) in (
         new,
         record {
-          through = one_fed z p c (start_tag (tag_named n attributes slash)) s _ _ new h k refl run;
+          through = one_fed z p c (start_tag (tag_named n attributes slash)) s _ _ new h e refl (run new through);
           nodes_are = b.nodes_are ∙ ap (with_forest (length s.nodes) children) (element_added p c n attributes s h)
               ∙ filled (at s) n attributes children s.nodes;
           in_body = record {
@@ -205,22 +229,13 @@ module _ (z : Bool) where
             no_skip = b.in_body.no_skip;
             no_foster = b.in_body.no_foster;
             no_template = b.in_body.no_template;
-            listed = fewer_trans left s.formatting (entries s.stack) fewer h.listed;
+            listed = fewer_trans last.0 s.formatting (entries s.stack) last.1 h.listed;
             stands = st.4;
           };
           stack = refl;
-          fewer = fewer;
+          fewer = last.1;
         },
       )
-
-  -- the content and the end tag
-  to_end : (p n : List ℕ) (c : List (List ℕ)) (content : List TokenValue) (nodes : List NodeValue)
-      (first held new : StateValue) → Built (n ∷ (p ∷ c)) content nodes first held
-      → feed (end_tag (tag_named n [] false)) held ≡ new → new.content ≡ Normal
-      → Through z first (content ++ (end_tag (tag_named n [] false) ∷ [])) new
-  to_end p n c content nodes first held new b ends k =
-      followed z b.through
-      (one_fed z n (p ∷ c) (end_tag (tag_named n [] false)) held new [] new b.in_body k ends nothing)
 
   full_built : (n : List ℕ) (attributes : List AttributePair) (children : ValueForest) → ForestBuilt children
       → (slash : Bool) (content : List TokenValue) (p : List ℕ) (c : List (List ℕ)) (s : StateValue)
@@ -234,31 +249,27 @@ module _ (z : Bool) where
           → ElementBuilt p c n attributes slash content children s
       formatted t =
           let started = formatting_start p c s h n (plain_case n e) f t attributes slash in
-          let list : List (Option ℕ) = Some (length s.nodes) ∷ started.0 in
-          let io = entered p n c attributes s list s.frameset_ok h (inr (started.0, refl, started.1)) in
-          let r = ih n (p ∷ c) content (opened_with p c s h n attributes list s.frameset_ok) k g ff io
-          (λ _. starts_empty p n c attributes s h) in
-          let st = subst (λ stack. Stands (r.0).nodes (n ∷ (p ∷ c)) stack) r.1.stack r.1.in_body.stands in
-          let ends = formatting_end n (p ∷ c) r.0 r.1.in_body n (plain_case n e) t (length s.nodes) s.stack (st.1).0
-          started.0 r.1.stack (st.1).1 st.3 r.1.fewer
+          held_built p n c attributes children ih slash content content s (Some (length s.nodes) ∷ started.0)
+          s.frameset_ok h k g ff (inr (started.0, refl, started.1))
+          (ap (λ (y : StateValue). y.content) started.2 ∙ h.content ∙ sym (plain_content z n e))
+          (λ held stack there fewer. let st = subst (Stands held.nodes (n ∷ (p ∷ c))) stack there.stands in
+          let ends = formatting_end n (p ∷ c) held there n (plain_case n e) t (length s.nodes) s.stack (st.1).0
+          started.0 stack (st.1).1 st.3 fewer
           (fewer_trans started.0 s.formatting (entries s.stack) started.1 h.listed) in
-          let run = to_end p n c content _ _ r.0 _ r.1 ends.2 r.1.in_body.content in
-          closed p n c attributes children slash content content s r.0 list ends.0 s.frameset_ok h
-          (ap (λ (y : StateValue). y.content) started.2 ∙ h.content ∙ sym (plain_content z n e)) r.1
-          (from_state z started.2 run) (fewer_trans ends.0 started.0 s.formatting ends.1 started.1)
+          (ends.0, fewer_trans ends.0 started.0 s.formatting ends.1 started.1, ends.2))
+          (λ new run. from_state z started.2 run)
 
       unformatted : is_formatting_case (plain_case n e) ≡ false
           → ElementBuilt p c n attributes slash content children s
       unformatted t =
           let started = plain_start p c s h n (plain_case n e) f t attributes slash in
-          let io = entered p n c attributes s s.formatting started.0 h (inl (fewer_same s.formatting)) in
-          let r = ih n (p ∷ c) content (opened_with p c s h n attributes s.formatting started.0) k g ff io
-          (λ _. starts_empty p n c attributes s h) in
-          let ends = plain_end n (p ∷ c) r.0 r.1.in_body n (plain_case n e) t (length s.nodes) s.stack r.1.stack in
-          let run = to_end p n c content _ _ r.0 _ r.1 ends r.1.in_body.content in
-          closed p n c attributes children slash content content s r.0 s.formatting (r.0).formatting started.0 h
-          (ap (λ (y : StateValue). y.content) started.1 ∙ h.content ∙ sym (plain_content z n e)) r.1
-          (from_state z started.1 run) r.1.fewer
+          held_built p n c attributes children ih slash content content s s.formatting started.0 h k g ff
+          (inl (fewer_same s.formatting))
+          (ap (λ (y : StateValue). y.content) started.1 ∙ h.content ∙ sym (plain_content z n e))
+          (λ held stack there fewer.
+          let ends = plain_end n (p ∷ c) held there n (plain_case n e) t (length s.nodes) s.stack stack in
+          (held.formatting, fewer, ends))
+          (λ new run. from_state z started.1 run)
 
   pre_built : (attributes : List AttributePair) (children : ValueForest) → ForestBuilt children
       → (slash : Bool) (content : List TokenValue) (p : List ℕ) (c : List (List ℕ)) (s : StateValue)
@@ -267,32 +278,14 @@ module _ (z : Bool) where
       → ElementBuilt p c (codes "pre") attributes slash content children s
   pre_built attributes children ih slash content p c s g k f ff h =
       let n : List ℕ = codes "pre" in
-      let first : StateValue = opened_with p c s h n attributes s.formatting false in
       let started = pre_start p c s h f attributes slash in
-      let io = entered p n c attributes s s.formatting false h (inl (fewer_same s.formatting)) in
-      let r = ih n (p ∷ c) (after_feed content) first k g ff io (λ _. starts_empty p n c attributes s h) in
-      let ends = pre_end n (p ∷ c) r.0 r.1.in_body (length s.nodes) s.stack r.1.stack in
-      let new : StateValue = record (r.0) { stack = s.stack } in
-      let run : Through z first (after_feed content ++ (end_tag (tag_named n [] false) ∷ [])) new =
-      to_end p n c (after_feed content) _ first r.0 new r.1 ends r.1.in_body.content in
-      let skipped = skip_run z n (p ∷ c) first io content (tag_named n [] false) new run in
-      closed p n c attributes children slash content (after_feed content) s r.0 s.formatting (r.0).formatting false h
-      (ap (λ (y : StateValue). y.content) started ∙ h.content) r.1 (from_state z started skipped) r.1.fewer
-
-  put_whole : (p : List ℕ) (c : List (List ℕ)) (n : List ℕ) (attributes : List AttributePair)
-      (children : ValueForest) (s : StateValue) (xs : List TokenValue) → IsInBody (p ∷ c) s
-      → Put z s (element n attributes children) xs
-      → (new : StateValue) × Built (p ∷ c) xs (with_tree (at s) (element n attributes children) s.nodes) s new
-  put_whole p c n attributes children s xs h r = (
-    record s { nodes = r.nodes; frameset_ok = r.ok },
-    record {
-      through = r.through;
-      nodes_are = r.nodes_are;
-      in_body = grown p c (element n attributes children) s r.nodes r.ok h r.nodes_are;
-      stack = refl;
-      fewer = fewer_same s.formatting;
-    },
-  )
+      let few : Fewer s.formatting (Some (length s.nodes) ∷ s.formatting) = inl (fewer_same s.formatting) in
+      held_built p n c attributes children ih slash content (after_feed content) s s.formatting false h k g ff few
+      (ap (λ (y : StateValue). y.content) started ∙ h.content)
+      (λ held stack there fewer. let ends = pre_end n (p ∷ c) held there (length s.nodes) s.stack stack in
+      (held.formatting, fewer, ends))
+      (λ new run. from_state z started (skip_run z n (p ∷ c) (opened_with p c s h n attributes s.formatting false)
+      (entered p n c attributes s s.formatting false h few) content (tag_named n [] false) new run))
 
   -- an element that holds only text
   text_alone_built : (n : List ℕ) (attributes : List AttributePair) (children : ValueForest) (slash : Bool)
@@ -301,12 +294,13 @@ module _ (z : Bool) where
       → FitsForest (n ∷ (p ∷ c)) children → IsOneText children → IsInBody (p ∷ c) s
       → ElementBuilt p c n attributes slash content children s
   text_alone_built n attributes none slash content p c s e k f ff o h =
-      rw k (put_whole p c n attributes none s _ h (none_put z p c s h n e f attributes slash))
+      rw k (put_built p c (element n attributes none) s _ h (none_put z p c s h n e f attributes slash))
   text_alone_built n attributes (more (text u) none) slash content p c s e k f ff o h =
       let q : content ≡ tokens.text u ∷ [] =
       k.2 ∙ ap (λ (ys : List TokenValue). ys ++ k.1) k.3
       ∙ ap (λ (ys : List TokenValue). tokens.text u ∷ ys) k.4 in
-      rw q (put_whole p c n attributes (more (text u) none) s _ h (text_put z p c s h n e f attributes slash u ff.1))
+      rw q (put_built p c (element n attributes (more (text u) none)) s _ h
+      (text_put z p c s h n e f attributes slash u ff.1))
   text_alone_built n attributes _ slash content p c s e k f ff o h = absurd o
 
   element_built : (n : List ℕ) (attributes : List AttributePair) (children : ValueForest) → ForestBuilt children
@@ -330,21 +324,13 @@ module _ (z : Bool) where
       (λ t. full_built n attributes children ih k.0 k.1 p c s t g.1 (rw (keeps_name n t) at k.4) f.0 f.1 h)
       (λ t. let x = rw t at w in
       test (is_among (codes "pre" ∷ []) n)
-      (λ y. pre_there n (one_name (codes "pre") n y) attributes children ih k.0 k.1 p c s g.1 k.4 f.0 f.1 h)
+      (λ y. subst (λ m. SpellsForest children (content_tokens m k.1) → Fits (p ∷ c) m
+      → FitsForest (m ∷ (p ∷ c)) children → ElementBuilt p c m attributes k.0 k.1 children s)
+      (sym (one_name (codes "pre") n y))
+      (λ spelled there below. pre_built attributes children ih k.0 k.1 p c s g.1 spelled there below h) k.4 f.0 f.1)
       (λ y. let there : is_among text_names n ≡ true = rw y at x in
       let held : SpellsForest children k.1 = rw (text_keeps n there) at k.4 in
       text_alone_built n attributes children k.0 k.1 p c s there held f.0 f.1 (f.2 there) h))))
-    where
-      pre_there : (n : List ℕ) → n ≡ codes "pre" → (attributes : List AttributePair) (children : ValueForest)
-          → ForestBuilt children → (slash : Bool) (content : List TokenValue) (p : List ℕ) (c : List (List ℕ))
-          (s : StateValue) → are_plain children ≡ true → SpellsForest children (content_tokens n content)
-          → Fits (p ∷ c) n → FitsForest (n ∷ (p ∷ c)) children → IsInBody (p ∷ c) s
-          → ElementBuilt p c n attributes slash content children s
-      pre_there n q attributes children ih slash content p c s g k f ff h =
-          subst (λ m. ElementBuilt p c m attributes slash content children s) (sym q)
-          (pre_built attributes children ih slash content p c s g
-          (subst (λ m. SpellsForest children (content_tokens m content)) q k) (subst (Fits (p ∷ c)) q f)
-          (subst (λ m. FitsForest (m ∷ (p ∷ c)) children) q ff) h)
 
   -- ---- one tree after another
 
@@ -370,12 +356,11 @@ module _ (z : Bool) where
 
   mutual
     tree_built : (t : ValueTree) → TreeBuilt t
-    tree_built (document children) p c xs s k e f h st = absurd k
-    tree_built doctype p c xs s k e f h st = absurd k
     tree_built (text u) p c xs s k e f h st = text_built u p c xs s k e f h st
     tree_built (comment u) p c xs s k e f h st = comment_built u p c xs s k e f h st
     tree_built (element n attributes children) p c xs s k e f h st =
         element_built n attributes children (forest_built children) p c xs s k e f h st
+    tree_built _ p c xs s k e f h st = absurd k
 
     pub forest_built : (ts : ValueForest) → ForestBuilt ts
     forest_built none p c xs s k e f h st = (

@@ -101,10 +101,9 @@ reference_cut z s t h e g =
 letter_cut : (s t : List ℕ) → halts is_ascii_alphanumeric t ≡ true → begins_letter (s ++ t) ≡ begins_letter s
 letter_cut [] [] h = refl
 letter_cut [] (b ∷ t) h =
-    no_letter b (not-true (is_ascii_alphanumeric b) h)
-  where
-    no_letter : (b : ℕ) → is_ascii_alphanumeric b ≡ false → is_ascii_alphabetic b ≡ false
-    no_letter b e = grind (arith, nat_tests)
+    let k = not-true (is_ascii_alphanumeric b) h in
+    let no_letter : is_ascii_alphabetic b ≡ false = grind (arith, nat_tests, k) in
+    no_letter
 letter_cut (b ∷ s) t h = refl
 
 title_longer : (p s t : List ℕ) → begins_in_any_case p s ≡ true → begins_in_any_case p (s ++ t) ≡ true
@@ -136,13 +135,18 @@ references_after here (b ∷ s) t e =
 
 -- ---- parts
 
--- the end of an unambiguous text, which may begin in a tag
-pub unambiguous_back : {here : Place} (s t : List ℕ) → IsUnambiguousAt here (s ++ t) → IsUnambiguousAt in_tag t
-unambiguous_back s t h = record {
+-- the end of an unambiguous text, where its references end
+unambiguous_end : {here there : Place} (s t : List ℕ) → IsUnambiguousAt here (s ++ t)
+    → has_bare_reference there t ≡ false → IsUnambiguousAt there t
+unambiguous_end s t h e = record {
   line_feeds = (lacks_cut 13 s t h.line_feeds).1;
   no_null = (lacks_cut 0 s t h.no_null).1;
-  references_end = references_after _ s t h.references_end;
+  references_end = e;
 }
+
+-- which may begin in a tag
+pub unambiguous_back : {here : Place} (s t : List ℕ) → IsUnambiguousAt here (s ++ t) → IsUnambiguousAt in_tag t
+unambiguous_back s t h = unambiguous_end s t h (references_after _ s t h.references_end)
 
 -- its beginning, before what is no letter, digit, `;` or `=`
 pub unambiguous_front : {here : Place} (s t : List ℕ) → IsUnambiguousAt here (s ++ t)
@@ -176,11 +180,7 @@ past_text (b ∷ s) t l h e =
 
 pub unambiguous_past : (s t : List ℕ) → up_to begins_markup s ≡ s → Ending t → IsUnambiguous (s ++ t)
     → IsUnambiguous t
-unambiguous_past s t l e h = record {
-  line_feeds = (lacks_cut 13 s t h.line_feeds).1;
-  no_null = (lacks_cut 0 s t h.no_null).1;
-  references_end = past_text s t l e h.references_end;
-}
+unambiguous_past s t l e h = unambiguous_end s t h (past_text s t l e h.references_end)
 
 -- ---- what follows `>`
 
@@ -201,11 +201,7 @@ past_sign here (b ∷ s) t e =
 pub unambiguous_after_sign : (s t : List ℕ) → EndsInSign s → IsUnambiguous (s ++ t) → IsUnambiguous t
 unambiguous_after_sign s t g h =
     let e : s ++ t ≡ g.0 ++ (62 ∷ t) = ap (λ (y : List ℕ). y ++ t) g.1 ∙ append_assoc g.0 (62 ∷ []) t in
-    record {
-      line_feeds = (lacks_cut 13 s t h.line_feeds).1;
-      no_null = (lacks_cut 0 s t h.no_null).1;
-      references_end = past_sign outside g.0 t (ap (has_bare_reference outside) (sym e) ∙ h.references_end);
-    }
+    unambiguous_end s t h (past_sign outside g.0 t (ap (has_bare_reference outside) (sym e) ∙ h.references_end))
 
 pub sign_before : (x s : List ℕ) → EndsInSign s → EndsInSign (x ++ s)
 sign_before x s g = (x ++ g.0, ap (λ (y : List ℕ). x ++ y) g.1 ∙ sym (append_assoc x g.0 (62 ∷ [])))
@@ -267,12 +263,9 @@ unambiguous_inside tag n x attributes h k =
     test (bytes_eq n (codes "title"))
     (λ t. let f = h.2 in
     let e = ap (λ (y : List ℕ). y ++ x) f.2 ∙ ap (λ (y : List ℕ). 60 ∷ y) (append_assoc f.0 f.1 x) in
-    rw t (record {
-      line_feeds = (lacks_cut 13 tag x k.line_feeds).1;
-      no_null = (lacks_cut 0 tag x k.no_null).1;
-      references_end = title_opened f.0 f.1 x f.3 (f.4 ∙ same_bytes n (codes "title") t)
-          (ap (has_bare_reference outside) (sym e) ∙ k.references_end);
-    })) (λ t. rw t (unambiguous_after_sign tag x (start_sign tag n attributes h) k))
+    rw t (unambiguous_end tag x k (title_opened f.0 f.1 x f.3 (f.4 ∙ same_bytes n (codes "title") t)
+    (ap (has_bare_reference outside) (sym e) ∙ k.references_end))))
+    (λ t. rw t (unambiguous_after_sign tag x (start_sign tag n attributes h) k))
 
 pub unambiguous_outside : (n x : List ℕ) → IsUnambiguousAt (content_place n) x → IsUnambiguous x
 unambiguous_outside n x k =

@@ -4,7 +4,6 @@ use Rattle.std.proofs.Common.{ap, ◌∙◌, arith, subst, inl, codes}
 use Rattle.std.specs.List.{list_all}
 use Rattle.std.proofs.lemmas.Bool.{and_parts, not-true, or_right}
 use Rattle.std.proofs.lemmas.List.{append-nil}
-use Rattle.htmd_grammar.proofs.Cases.{test}
 use Rattle.htmd_grammar.specs.WhiteSpace.{is_ascii_white_space}
 use Rattle.htmd_grammar.specs.ValueTrees.{ValueForest, more, text, element}
 use Rattle.htmd_grammar.specs.CharacterClasses.{is_among}
@@ -13,12 +12,11 @@ use Rattle.htmd_grammar.specs.HtmlDocuments.{skeleton, below_body}
 use Rattle.htmd_nodes.specs.Items.{greatest_depth}
 use Rattle.htmd_html5_tokens.specs.Tokens.{TagValue, TokenValue, start_tag}
 use Rattle.htmd_grammar.specs.declared.content_model.ContentModel.TheVariants.{Normal}
-use Rattle.htmd_html5_state.specs.Names.{NameValue, known, other, html, name_of_text, text_of_name, spelling}
+use Rattle.htmd_html5_state.specs.Names.{NameValue, known, html, name_of_text, text_of_name}
 use Rattle.htmd_html5_state.specs.Nodes.{NodeValue}
 use Rattle.htmd_html5_state.specs.Foreign.{current_is_html, is_math_text_point, is_annotation, is_html_point}
 use Rattle.htmd_html5_state.specs.Insertion.{current}
 use Rattle.htmd_html5_state.specs.State.{StateValue, initial_state}
-use Rattle.htmd_html5_state.specs.declared.names.TagName.{TagName}
 use Rattle.htmd_html5_state.specs.declared.modes.InsertionMode.TheVariants.{BeforeHtml}
 use Rattle.htmd_html5.specs.Outcomes.{Outcome, again, done}
 use Rattle.htmd_html5.specs.BeforeHtml.{with_root, start_before_html, imply_root}
@@ -36,7 +34,6 @@ use Rattle.htmd_html5.specs.Feeding.{named, feed}
 use Rattle.htmd_html5.specs.Html5Documents.{read_within, state_after, html5_document}
 use Rattle.htmd_html5.specs.Layout.{document_of}
 use Rattle.htmd_html5.proofs.ProcessingLemmas.{by_html}
-use Rattle.htmd_html5_laws.specs.StrictReferences.{IsUnambiguous}
 use Rattle.htmd_html5_laws.specs.StrictTokens.{tag_named, SpellsForest}
 use Rattle.htmd_html5_laws.specs.StrictTrees.{head_names, begins_body, PlainTextsAgree}
 use Rattle.htmd_html5_laws.proofs.StrictTokenCuts.{lines_same}
@@ -91,63 +88,29 @@ implied_state_is z = record {
 
 -- ---- a start tag that is none of the head
 
-passes : TagName → Bool
-passes tags.Html = false
-passes tags.Head = false
-passes tags.Body = false
-passes tags.FrameSet = false
-passes tags.Base = false
-passes tags.BaseFont = false
-passes tags.BgSound = false
-passes tags.Link = false
-passes tags.Meta = false
-passes tags.NoFrames = false
-passes tags.NoScript = false
-passes tags.Script = false
-passes tags.Style = false
-passes tags.Template = false
-passes tags.Title = false
-passes _ = true
-
 abbrev Passes : NameValue → Type 0
-Passes (known tag) = passes tag ≡ true
-Passes (other t) = Unit {0}
-
-head_name : (tag : TagName) → passes tag ≡ false → is_among head_names (spelling tag) ≡ true
-unfolding passes
-head_name tags.Html e = refl
-head_name _ e = cc
+Passes name = is_among head_names (text_of_name name) ≡ false
 
 name_passes : (n : List ℕ) → is_among head_names n ≡ false → Passes (name_of_text n)
-name_passes n e = by_name (name_of_text n) (name_kept n)
-  where
-    by_name : (name : NameValue) → text_of_name name ≡ n → Passes name
-    by_name (other t) k = tt
-    by_name (known tag) k =
-        test (passes tag) (λ t. t)
-        (λ t. absurd (let q : true ≡ false = sym (head_name tag t) ∙ ap (is_among head_names) k ∙ e in cc))
+name_passes n e = ap (is_among head_names) (name_kept n) ∙ e
 
 root_implied : (name : NameValue) (tag : StartTagValue) (s : StateValue) → Passes name
     → start_before_html name tag s ≡ imply_root s
-unfolding passes
 root_implied (known tags.Html) tag s e = absurd (cc)
 root_implied _ tag s e = refl
 
 head_implied : (name : NameValue) (tag : StartTagValue) (s : StateValue) → Passes name
     → start_before_head name tag s ≡ imply_head s
-unfolding passes
 head_implied (known tags.Html) tag s e = absurd (cc)
 head_implied _ tag s e = cc
 
 head_closed : (name : NameValue) (tag : StartTagValue) (s : StateValue) → Passes name
     → start_in_head name tag s ≡ again (close_head s)
-unfolding passes
 head_closed (known tags.Html) tag s e = absurd (cc)
 head_closed _ tag s e = cc
 
 body_implied : (name : NameValue) (tag : StartTagValue) (s : StateValue) → Passes name
     → start_after_head name tag s ≡ imply_body s
-unfolding passes
 body_implied (known tags.Html) tag s e = absurd (cc)
 body_implied _ tag s e = cc
 
@@ -191,13 +154,12 @@ text_implied z b s e f = ap (λ (t : Taken). put_within (length s) t.rest t.stat
 
 -- ---- the first token
 
-First : Bool → List TokenValue → Type 0
+abbrev First : Bool → List TokenValue → Type 0
 First z xs = (x : TokenValue) × (ys : List TokenValue) × (xs ≡ x ∷ ys)
     × (feed x (initial_state z) ≡ feed x (implied_state z))
 
 first_token : (z : Bool) (c : List (List ℕ)) (content : ValueForest) (xs : List TokenValue) → SpellsForest content
     xs → FitsForest c content → begins_body content ≡ true → First z xs
-unfolding First
 first_token z c (more (text (b ∷ u)) ts) xs k f e =
     let plain = and_parts (is_not_null b) (list_all is_not_null u) f.1 in (
       tokens.text (b ∷ u),
@@ -225,13 +187,8 @@ implied_nodes z content =
     ∷ node (documents.element (html (name_of_text (codes "body"))) []) 1 (numbers 4 content) ∷ ns)
     (sym (append-nil (held ++ []) ∙ append-nil held))
 
-whole_read : (z : Bool) (s : List ℕ) (new : StateValue) → IsUnambiguous s
-    → read_within (length s) s (initial_state z) ≡ new → (m : List ℕ) → m ≡ s
-    → read_within (length m) m (initial_state z) ≡ new
-whole_read z s new k e m q = ap (λ (t : List ℕ). read_within (length t) t (initial_state z)) q ∙ e
-
 pub texts_agree : PlainTextsAgree
-unfolding html5_document First
+unfolding html5_document
 texts_agree z s content k mark e begins h =
     let r = content_read z s content k (plain_is_simple content e) h in
     let f = forest_fits z content (codes "body" ∷ codes "html" ∷ []) true s k.no_null h in
@@ -250,7 +207,8 @@ texts_agree z s content k mark e begins h =
     in_step z (length s) Normal Normal s [] r.0 (initial_state z) b.0 (codes "body") (codes "html" ∷ []) r.2 refl refl
     (subst (λ xs. Parts z (initial_state z) xs b.0) (sym first.2) from_start) b.1.in_body (omega arith) in
     let whole : state_after z s ≡ b.0 =
-    whole_read z s b.0 k read _ (ap normalized mark ∙ lines_same s k.line_feeds) in
+    ap (λ (t : List ℕ). read_within (length t) t (initial_state z))
+    (ap normalized mark ∙ lines_same s k.line_feeds) ∙ read in
     ap (λ st. document_of greatest_depth st.nodes) whole
     ∙ ap (document_of greatest_depth) (b.1.nodes_are ∙ implied_nodes z content)
     ∙ page_laid content (plain_is_content content e) (fits_apart (codes "body" ∷ codes "html" ∷ []) content f)

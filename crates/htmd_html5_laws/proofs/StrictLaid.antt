@@ -4,10 +4,10 @@ use Rattle.std.proofs.Common.{map, length, refl, sym, ap, ◌∙◌, arith, appe
 use Rattle.std.specs.Prelude.{◌==◌}
 use Rattle.std.proofs.lemmas.Bool.{and_parts, eq-eqb}
 use Rattle.std.proofs.lemmas.Bool.Decides.{nat_tests}
-use Rattle.std.proofs.lemmas.List.{append-nil}
+use Rattle.std.proofs.lemmas.List.{append-nil, get_or_append_left, get_or_at, length-map, map-append, set_at}
 use Rattle.htmd_grammar.specs.ValueTrees.{AttributePair, ValueTree, ValueForest, none, more, document, doctype, text}
 use Rattle.htmd_grammar.specs.ValueTrees.{comment, element}
-use Rattle.htmd_nodes.specs.Items.{Data, text_node, comment_node, element_node, Item, depth_at, new_item}
+use Rattle.htmd_nodes.specs.Items.{Data, text_node, comment_node, element_node, Item, document_item, depth_at, new_item}
 use Rattle.htmd_nodes.specs.Layout.{size, sizes, item_under, tree_items, forest_items}
 use Rattle.htmd_nodes.proofs.LayoutLemmas.{item_at-middle, length-tree_items}
 use Rattle.htmd_html5_state.specs.Names.{ElementNameValue, html, name_of_text, text_of_name, text_of_element_name}
@@ -27,23 +27,12 @@ abbrev pub blank : NodeValue → NodeValue
 blank x = record x { kind = documents.document }
 
 abbrev pub blanked : List NodeValue → List NodeValue
-blanked [] = []
-blanked (x ∷ xs) = blank x ∷ blanked xs
-
-blanked_length : (xs : List NodeValue) → length (blanked xs) ≡ length xs
-blanked_length [] = refl
-blanked_length (x ∷ xs) = ap suc (blanked_length xs)
-
-blanked_append : (xs ys : List NodeValue) → blanked (xs ++ ys) ≡ blanked xs ++ blanked ys
-blanked_append [] ys = refl
-blanked_append (x ∷ xs) ys = ap (λ (zs : List NodeValue). blank x ∷ zs) (blanked_append xs ys)
+blanked xs = map blank xs
 
 blank_at : (front : List NodeValue) (x : NodeValue) (back : List NodeValue) (n : ℕ) → length front ≡ n
     → with_kind n documents.document (front ++ (x ∷ back)) ≡ front ++ (blank x ∷ back)
-blank_at [] x back zero e = refl
-blank_at [] x back (suc n) e = absurd (omega arith)
-blank_at (y ∷ front) x back zero e = absurd (omega arith)
-blank_at (y ∷ front) x back (suc n) e = ap (λ (z : List NodeValue). y ∷ z) (blank_at front x back n (omega arith))
+blank_at front x back n e =
+    rw (get_or_at front x back (documents.new_node documents.document) n e) (set_at front x back _ n e)
 
 abbrev pub layout : List NodeValue → List Item → List Coming → Layout
 layout nodes items work = record { nodes = nodes; items = items; work = work }
@@ -65,9 +54,8 @@ shallow limit n l = grind (arith, nat_tests)
 
 depth_before : (items others : List Item) (n : ℕ) → n < length items → depth_at (items ++ others) n ≡ depth_at
     items n
-depth_before [] others n l = absurd (omega arith)
-depth_before (i ∷ items) others zero l = refl
-depth_before (i ∷ items) others (suc n) l = depth_before items others n (omega arith)
+depth_before items others n l =
+    ap (λ (i : Item). i.depth) (get_or_append_left items others document_item n l)
 
 -- ---- trees
 
@@ -86,9 +74,8 @@ abbrev mutual
   is_content_tree : ValueTree → Bool
   is_content_tree (document children) = false
   is_content_tree doctype = false
-  is_content_tree (text u) = true
-  is_content_tree (comment u) = true
   is_content_tree (element n attributes children) = are_content children
+  is_content_tree _ = true
 
   pub are_content : ValueForest → Bool
   are_content none = true
@@ -297,7 +284,7 @@ next_laid t ts one all limit k j under p b front back items work e a o f u d g =
     let new : List Item = tree_items depth under (length items) t in
     let parts = and_parts (is_content_tree t) (are_content ts) e in
     let count : length (front ++ blanked here) ≡ b + size t =
-    omega (arith, f, length-append front (blanked here), blanked_length here, tree_count p b t) in
+    omega (arith, f, length-append front (blanked here), length-map here blank, tree_count p b t) in
     let long : length (items ++ new) ≡ length items + size t =
     omega (arith, length-append items new, length-tree_items t depth under (length items)) in
     let there = depth_before items new under u in
@@ -317,7 +304,7 @@ next_laid t ts one all limit k j under p b front back items work e a o f u d g =
     ++ forest_items (depth_at (items ++ new) under + 1) under (length (items ++ new)) ts) work))
     (append_assoc front (blanked here) (blanked later ++ back) ∙ ap (λ (nodes : List NodeValue). front ++ nodes)
     (sym (append_assoc (blanked here) (blanked later) back)
-    ∙ ap (λ (nodes : List NodeValue). nodes ++ back) (sym (blanked_append here later))))
+    ∙ ap (λ (nodes : List NodeValue). nodes ++ back) (sym (map-append blank here later))))
     ∙ ap (λ all_items. layout_within limit k (layout (front ++ (blanked (here ++ later) ++ back)) all_items work))
     (ap (λ m. (items ++ new) ++ forest_items m under (length (items ++ new)) ts) deep
     ∙ ap (λ m. (items ++ new) ++ forest_items depth under m ts) long
@@ -329,8 +316,6 @@ levels_some _ = omega arith
 
 mutual
   tree_laid : (t : ValueTree) → TreeLaid t
-  tree_laid (document children) limit k j under p b front back items work e a o st f u d g = absurd (cc)
-  tree_laid doctype limit k j under p b front back items work e a o st f u d g = absurd (cc)
   tree_laid (text v) limit k j under p b front back items work e a o st f u d g =
       let x : NodeValue = node (documents.text v) p [] in
       leaf_laid limit k j under b front back items work x (text_node v) f g
@@ -345,6 +330,7 @@ mutual
       let l = levels_some t in
       element_laid n attributes (more t ts) (forest_laid (more t ts)) (omega (arith, l)) limit k j under p b front back
       items work e a o st f u d g
+  tree_laid _ limit k j under p b front back items work e a o st f u d g = absurd (cc)
 
   pub forest_laid : (ts : ValueForest) → ForestLaid ts
   forest_laid none limit k j under p b front back items work e a o f u d g =

@@ -27,23 +27,24 @@ encode_head c =
     (λ q. test (nat_lt c 65536) (λ r. rw (t, q, r) (_, _, refl, λ e. absurd (omega arith)))
     (λ r. rw (t, q, r) (_, _, refl, λ e. absurd (omega arith)))))
 
-abbrev is_no_feed : NamedCharacter → Bool
-is_no_feed entry = not (first_is 10 (encode_utf8 entry.character))
-
-no_feed_named : list_all is_no_feed named_characters ≡ true
-unfolding encode_utf8
-no_feed_named = refl
-
-named_no_feed : (entries : List NamedCharacter) (w : List ℕ) (c : ℕ) → list_all is_no_feed entries ≡ true
-    → character_named entries w ≡ Some c → first_is 10 (encode_utf8 c) ≡ false
-named_no_feed [] w c a e = absurd (cc)
-named_no_feed (entry ∷ entries) w c a e =
-    let h = and_parts (is_no_feed entry) (list_all is_no_feed entries) a in
+-- what is so of each named character
+pub named_so : (p : ℕ → Bool) (entries : List NamedCharacter) (w : List ℕ) (c : ℕ)
+    → list_all (λ (entry : NamedCharacter). p entry.character) entries ≡ true
+    → character_named entries w ≡ Some c → p c ≡ true
+named_so p [] w c a e = absurd (cc)
+named_so p (entry ∷ entries) w c a e =
+    let h = and_parts (p entry.character) (list_all (λ (x : NamedCharacter). p x.character) entries) a in
     test (bytes_eq w entry.name)
     (λ t. let f : Some entry.character ≡ Some c = rw t at e in
     let k : entry.character ≡ c = cc in
-    subst (λ n. first_is 10 (encode_utf8 n) ≡ false) k (not-true (first_is 10 (encode_utf8 entry.character)) h.0))
-    (λ t. let f = rw t at e in named_no_feed entries w c h.1 f)
+    subst (λ n. p n ≡ true) k h.0) (λ t. let f = rw t at e in named_so p entries w c h.1 f)
+
+abbrev is_no_feed : ℕ → Bool
+is_no_feed c = not (first_is 10 (encode_utf8 c))
+
+no_feed_named : list_all (λ (entry : NamedCharacter). is_no_feed entry.character) named_characters ≡ true
+unfolding encode_utf8
+no_feed_named = refl
 
 -- ---- what a piece stands for
 
@@ -51,21 +52,25 @@ named_no_feed (entry ∷ entries) w c a e =
 abbrev Begins : ℕ → List ℕ → List ℕ → ℕ → Type 0
 Begins b s v m = (d : ℕ) × (t : List ℕ) × (v ≡ d ∷ t) × (d ≡ 10 → IsLineFeedPiece b s m)
 
-numbered_is : (n c m : ℕ) (v : List ℕ) → numbered n c ≡ stands m v → v ≡ encode_utf8 c
+numbered_is : (n c m : ℕ) (v : List ℕ) → numbered n c ≡ stands m v
+    → (v ≡ encode_utf8 c) × (may_be_numbered c ≡ true)
 numbered_is n c m v e =
-    test (may_be_numbered c) (λ t. let w = rw t at e in sym (stands_same n m (encode_utf8 c) v w).1)
+    test (may_be_numbered c) (λ t. let w = rw t at e in (sym (stands_same n m (encode_utf8 c) v w).1, t))
     (λ t. absurd (let w = rw t at e in cc))
 
+-- the character of a number
+abbrev pub Numbered : List ℕ → Type 0
+Numbered v = (c : ℕ) × (v ≡ encode_utf8 c) × (may_be_numbered c ≡ true)
+
 number_is : (p : ℕ → Bool) (base from m : ℕ) (s v : List ℕ) → number_at p base from s ≡ stands m v
-    → (c : ℕ) × (v ≡ encode_utf8 c)
+    → Numbered v
 number_is p base from m s v e =
     test (first_is 59 (behind_run p s) && not (first_is 59 s))
-    (λ t. let w = rw t at e in (
-      number base 0 (leading_run p s),
-      numbered_is (suc (from + length (leading_run p s))) (number base 0 (leading_run p s)) m v w,
-    )) (λ t. absurd (let w = rw t at e in cc))
+    (λ t. let w = rw t at e in
+    let n = numbered_is (suc (from + length (leading_run p s))) (number base 0 (leading_run p s)) m v w in
+    (number base 0 (leading_run p s), n.0, n.1)) (λ t. absurd (let w = rw t at e in cc))
 
-sign_is : (s v : List ℕ) (m : ℕ) → behind_number_sign s ≡ stands m v → (c : ℕ) × (v ≡ encode_utf8 c)
+pub sign_is : (s v : List ℕ) (m : ℕ) → behind_number_sign s ≡ stands m v → Numbered v
 sign_is [] v m e = absurd (cc)
 sign_is (b ∷ s) v m e =
     test (begins_in_any_case (codes "x") (b ∷ s))
@@ -81,7 +86,8 @@ name_is n m w v (Some c) q e =
       h.0,
       h.1,
       same,
-      λ ten. no_ten h.0 h.1 ten (ap (first_is 10) (sym h.2) ∙ named_no_feed named_characters w c no_feed_named q),
+      λ ten. no_ten h.0 h.1 ten (ap (first_is 10) (sym h.2)
+          ∙ not-true (first_is 10 (encode_utf8 c)) (named_so is_no_feed named_characters w c no_feed_named q)),
     )
   where
     no_ten : (d : ℕ) (t : List ℕ) → d ≡ 10 → first_is 10 (d ∷ t) ≡ false → ⊥

@@ -1,5 +1,5 @@
 -- Which rules plain names have.
-use Rattle.std.proofs.Common.{◌≡◌, ℕ, Bool, true, false, not, List, [], ◌∷◌, refl, sym, subst, codes}
+use Rattle.std.proofs.Common.{◌≡◌, ℕ, Bool, true, false, not, List, [], ◌∷◌, map, refl, sym, subst, codes}
 use Rattle.std.specs.Str.{bytes_eq}
 use Rattle.std.proofs.lemmas.Bool.{not-true, true≢false}
 use Rattle.std.specs.List.{list_all}
@@ -70,91 +70,19 @@ known_among names n e all =
     by_name (other t) k f = absurd (cc)
     by_name (known tag) k f = (tag, refl, k)
 
--- the tags of these names have the rules of this one
-abbrev Alike : List (List ℕ) → TagName → Type 0
-Alike names model =
-    (tag : TagName) → is_among names (spelling tag) ≡ true
-    → (start_rule tag ≡ start_rule model) × (end_rule tag ≡ end_rule model)
-
-like : (names : List (List ℕ)) (model : TagName) → Alike names model
-    → list_all (λ m. not (is_unknown_name (name_of_text m))) names ≡ true → (n : List ℕ)
-    → is_among names n ≡ true → Like model n
-like names model alike all n e =
-    let k = known_among names n e all in
-    let rules = alike k.0 (subst (λ m. is_among names m ≡ true) (sym k.2) e) in
-    (k.0, k.1, rules.0, rules.1)
-
-like_span : Alike ordinary_names tags.Span
-unfolding block_rule formatting_rule phrasing_rule text_end_rule
-like_span tags.Ruby e = (refl, refl)
-like_span tags.Span e = (refl, refl)
-like_span tags.Sub e = (refl, refl)
-like_span tags.Sup e = (refl, refl)
-like_span tags.Var e = (refl, refl)
-like_span _ e = absurd (true≢false (sym e))
-
-like_b : Alike formatting_names tags.B
-unfolding block_rule formatting_rule phrasing_rule text_end_rule
-like_b tags.B e = (refl, refl)
-like_b tags.Big e = (refl, refl)
-like_b tags.Code e = (refl, refl)
-like_b tags.Em e = (refl, refl)
-like_b tags.Font e = (refl, refl)
-like_b tags.I e = (refl, refl)
-like_b tags.S e = (refl, refl)
-like_b tags.Small e = (refl, refl)
-like_b tags.Strike e = (refl, refl)
-like_b tags.Strong e = (refl, refl)
-like_b tags.Tt e = (refl, refl)
-like_b tags.U e = (refl, refl)
-like_b _ e = absurd (true≢false (sym e))
-
-like_div : Alike block_names tags.Div
-unfolding block_rule formatting_rule phrasing_rule text_end_rule
-like_div tags.Address e = (refl, refl)
-like_div tags.Article e = (refl, refl)
-like_div tags.Aside e = (refl, refl)
-like_div tags.BlockQuote e = (refl, refl)
-like_div tags.Center e = (refl, refl)
-like_div tags.Details e = (refl, refl)
-like_div tags.Dialog e = (refl, refl)
-like_div tags.Dir e = (refl, refl)
-like_div tags.Div e = (refl, refl)
-like_div tags.Dl e = (refl, refl)
-like_div tags.FieldSet e = (refl, refl)
-like_div tags.FigCaption e = (refl, refl)
-like_div tags.Figure e = (refl, refl)
-like_div tags.Footer e = (refl, refl)
-like_div tags.Header e = (refl, refl)
-like_div tags.HGroup e = (refl, refl)
-like_div tags.Main e = (refl, refl)
-like_div tags.Menu e = (refl, refl)
-like_div tags.Nav e = (refl, refl)
-like_div tags.Ol e = (refl, refl)
-like_div tags.Search e = (refl, refl)
-like_div tags.Section e = (refl, refl)
-like_div tags.Summary e = (refl, refl)
-like_div tags.Ul e = (refl, refl)
-like_div _ e = absurd (true≢false (sym e))
-
-like_h1 : Alike heading_names tags.H1
-unfolding block_rule formatting_rule phrasing_rule text_end_rule
-like_h1 tags.H1 e = (refl, refl)
-like_h1 tags.H2 e = (refl, refl)
-like_h1 tags.H3 e = (refl, refl)
-like_h1 tags.H4 e = (refl, refl)
-like_h1 tags.H5 e = (refl, refl)
-like_h1 tags.H6 e = (refl, refl)
-like_h1 _ e = absurd (true≢false (sym e))
+-- the tags of these names have the rules of one
+like : (names : List (List ℕ)) (all : List TagName) (model : TagName) → map name_of_text names ≡ map known all
+    → map start_rule all ≡ map (λ tag. start_rule model) all
+    → map end_rule all ≡ map (λ tag. end_rule model) all → (n : List ℕ) → is_among names n ≡ true
+    → Like model n
+like [] all model k s e n h = absurd (cc)
+like (m ∷ names) [] model k s e n h = absurd (cc)
+like (m ∷ names) (tag ∷ all) model k s e n h =
+    test (bytes_eq n m) (λ t. subst (Like model) (sym (same_bytes n m t)) (tag, (cc), (cc), (cc)))
+    (λ t. let f = rw t at h in like names all model (cc) (cc) (cc) n f)
 
 abbrev part_names : List (List ℕ)
 part_names = codes "dd" ∷ codes "dt" ∷ []
-
-like_dd : Alike part_names tags.Dd
-unfolding block_rule formatting_rule phrasing_rule text_end_rule
-like_dd tags.Dd e = (refl, refl)
-like_dd tags.Dt e = (refl, refl)
-like_dd _ e = absurd (true≢false (sym e))
 
 -- ---- void elements
 
@@ -227,27 +155,46 @@ unknown_name (known tag) e = absurd (cc)
 unknown_name (other t) e = (t, refl)
 
 pub plain_case : (n : List ℕ) → is_plain_name n ≡ true → PlainCase n
+unfolding block_rule formatting_rule phrasing_rule text_end_rule
 plain_case n e =
     test (is_unknown_name (name_of_text n)) (λ t. let u = unknown_name (name_of_text n) t in unknown u.0 u.1)
-    (λ a. test (is_among ordinary_names n) (λ t. ordinary (like ordinary_names tags.Span like_span refl n t))
-    (λ b. test (is_among formatting_names n) (λ t. formatting (like formatting_names tags.B like_b refl n t))
+    (λ a. test (is_among ordinary_names n)
+    (λ t. ordinary (like ordinary_names (tags.Ruby ∷ tags.Span ∷ tags.Sub ∷ tags.Sup ∷ tags.Var ∷ [])
+    tags.Span refl refl refl n t))
+    (λ b. test (is_among formatting_names n) (λ t. formatting (like_b n t))
     (λ c. test (is_among block_names n) (λ t. block (like_block n t))
     (λ d. test (is_among heading_names n) (λ t. heading (like_heading n t))
     (λ f. others n (rw (a, b, c, d, f) at e))))))
   where
+    like_b : (n : List ℕ) → is_among formatting_names n ≡ true → Like tags.B n
+    like_b n t =
+        like formatting_names (tags.B ∷ tags.Big ∷ tags.Code ∷ tags.Em ∷ tags.Font ∷ tags.I ∷ tags.S
+        ∷ tags.Small ∷ tags.Strike ∷ tags.Strong ∷ tags.Tt ∷ tags.U ∷ []) tags.B refl refl refl n t
+
     like_block : (n : List ℕ) → is_among block_names n ≡ true → LikeBlock n
-    like_block n t = (like block_names tags.Div like_div refl n t, among_passes closes_paragraph block_names n t refl)
+    like_block n t = (
+      like block_names (tags.Address ∷ tags.Article ∷ tags.Aside ∷ tags.BlockQuote ∷ tags.Center
+          ∷ tags.Details ∷ tags.Dialog ∷ tags.Dir ∷ tags.Div ∷ tags.Dl ∷ tags.FieldSet ∷ tags.FigCaption
+          ∷ tags.Figure ∷ tags.Footer ∷ tags.Header ∷ tags.HGroup ∷ tags.Main ∷ tags.Menu ∷ tags.Nav
+          ∷ tags.Ol ∷ tags.Search ∷ tags.Section ∷ tags.Summary ∷ tags.Ul ∷ []) tags.Div refl refl refl n t,
+      among_passes closes_paragraph block_names n t refl,
+    )
 
     like_heading : (n : List ℕ) → is_among heading_names n ≡ true → LikeHeading n
     like_heading n t = (
-      like heading_names tags.H1 like_h1 refl n t,
+      like heading_names (tags.H1 ∷ tags.H2 ∷ tags.H3 ∷ tags.H4 ∷ tags.H5 ∷ tags.H6 ∷ []) tags.H1
+          refl refl refl n t,
       among_passes closes_paragraph heading_names n t refl,
       among_passes nesting.is_heading heading_names n t refl,
       among_passes (λ m. is_of Headings (html (name_of_text m))) heading_names n t refl,
     )
 
     like_part : (n : List ℕ) → is_among part_names n ≡ true → LikePart n
-    like_part n t = (like part_names tags.Dd like_dd refl n t, among_passes closes_paragraph part_names n t refl, t)
+    like_part n t = (
+      like part_names (tags.Dd ∷ tags.Dt ∷ []) tags.Dd refl refl refl n t,
+      among_passes closes_paragraph part_names n t refl,
+      t,
+    )
 
     others : (n : List ℕ) → is_among other_names n ≡ true → PlainCase n
     others n e =

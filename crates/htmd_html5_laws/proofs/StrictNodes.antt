@@ -1,7 +1,8 @@
 -- The nodes that plain trees put, in document order.
 use Rattle.std.proofs.Common.{◌≡◌, ℕ, zero, suc, ◌+◌, ◌<◌, ◌≤◌, Bool, true, false, List, [], ◌∷◌, ◌++◌, length, Option}
 use Rattle.std.proofs.Common.{Some, None, refl, ap, ◌∙◌, arith, append_assoc, length-append}
-use Rattle.std.proofs.lemmas.List.{append-nil}
+use Rattle.std.specs.Prelude.{slice_set}
+use Rattle.std.proofs.lemmas.List.{append-nil, get_or_append_left, get_or_at, length-set, set-append_left, set-get_or, set_at}
 use Rattle.htmd_grammar.specs.ValueTrees.{AttributePair, ValueTree, ValueForest, none, more, document, doctype, text}
 use Rattle.htmd_grammar.specs.ValueTrees.{comment, element}
 use Rattle.htmd_grammar.specs.Grammar.{Apart}
@@ -9,7 +10,7 @@ use Rattle.htmd_nodes.specs.Layout.{size, sizes}
 use Rattle.htmd_html5_state.specs.Names.{html, name_of_text}
 use Rattle.htmd_html5_state.specs.Nodes.{KindValue, NodeValue, kind_at, children_at, text_of, new_node, append_children}
 use Rattle.htmd_html5_state.specs.Nodes.{add, add_text, last_in, preceding, child_before, joined_to, put_child}
-use Rattle.htmd_html5_state.specs.Nodes.{with_parent}
+use Rattle.htmd_html5_state.specs.Nodes.{with_parent, with_children}
 use Rattle.htmd_html5_state.proofs.DocumentLemmas.{insert_last}
 use Rattle.htmd_html5_state.specs.Nodes as documents
 
@@ -58,20 +59,17 @@ mutual
 -- to one of the first nodes
 pub append_front : (p : ℕ) (ns : List ℕ) (nodes others : List NodeValue) → p < length nodes
     → append_children p ns (nodes ++ others) ≡ append_children p ns nodes ++ others
-append_front p ns [] others l = absurd (omega arith)
-append_front zero ns (x ∷ nodes) others l = refl
-append_front (suc p) ns (x ∷ nodes) others l =
-    ap (λ (y : List NodeValue). x ∷ y) (append_front p ns nodes others (omega arith))
+append_front p ns nodes others l =
+    ap (λ (y : NodeValue). slice_set (nodes ++ others) p (record y { children = y.children ++ ns }))
+    (get_or_append_left nodes others (new_node documents.document) p l) ∙ set-append_left nodes others p _ l
 
 -- to the node right after these
 pub append_at : (ns : List ℕ) (nodes : List NodeValue) (x : NodeValue) (others : List NodeValue) (n : ℕ)
     → length nodes ≡ n → append_children n ns (nodes ++ (x ∷ others)) ≡ nodes ++
     (record x { children = x.children ++ ns } ∷ others)
-append_at ns [] x others zero e = refl
-append_at ns [] x others (suc n) e = absurd (omega arith)
-append_at ns (y ∷ nodes) x others zero e = absurd (omega arith)
-append_at ns (y ∷ nodes) x others (suc n) e =
-    ap (λ (z : List NodeValue). y ∷ z) (append_at ns nodes x others n (omega arith))
+append_at ns nodes x others n e =
+    ap (λ (y : NodeValue). slice_set (nodes ++ (x ∷ others)) n (record y { children = y.children ++ ns }))
+    (get_or_at nodes x others (new_node documents.document) n e) ∙ set_at nodes x others _ n e
 
 -- twice
 pub append_twice : (p : ℕ) (ms ns : List ℕ) (nodes : List NodeValue) → p < length nodes
@@ -84,15 +82,12 @@ append_twice (suc p) ms ns (x ∷ nodes) l =
 
 -- none
 pub append_none : (p : ℕ) (nodes : List NodeValue) → p < length nodes → append_children p [] nodes ≡ nodes
-append_none p [] l = absurd (omega arith)
-append_none zero (x ∷ nodes) l = ap (λ (cs : List ℕ). record x { children = cs } ∷ nodes) (append-nil x.children)
-append_none (suc p) (x ∷ nodes) l = ap (λ (y : List NodeValue). x ∷ y) (append_none p nodes (omega arith))
+append_none p nodes l =
+    rw (append-nil (children_at nodes p)) (set-get_or nodes p (new_node documents.document))
 
 pub append_length : (p : ℕ) (ns : List ℕ) (nodes : List NodeValue) → length
     (append_children p ns nodes) ≡ length nodes
-append_length p ns [] = refl
-append_length zero ns (x ∷ nodes) = refl
-append_length (suc p) ns (x ∷ nodes) = ap suc (append_length p ns nodes)
+append_length p ns nodes = length-set nodes p _
 
 pub appended_children : (p : ℕ) (ns : List ℕ) (nodes others : List NodeValue) → p < length nodes
     → children_at (append_children p ns nodes ++ others) p ≡ children_at nodes p ++ ns
@@ -103,34 +98,27 @@ appended_children (suc p) ns (x ∷ nodes) others l = appended_children p ns nod
 -- the node right after these
 pub kind_after : (nodes : List NodeValue) (x : NodeValue) (others : List NodeValue) (n : ℕ) → length nodes ≡ n
     → kind_at (nodes ++ (x ∷ others)) n ≡ x.kind
-kind_after [] x others zero e = refl
-kind_after [] x others (suc n) e = absurd (omega arith)
-kind_after (y ∷ nodes) x others zero e = absurd (omega arith)
-kind_after (y ∷ nodes) x others (suc n) e = kind_after nodes x others n (omega arith)
+kind_after nodes x others n e =
+    ap (λ (y : NodeValue). y.kind) (get_or_at nodes x others (new_node documents.document) n e)
 
 pub children_after : (nodes : List NodeValue) (x : NodeValue) (others : List NodeValue) (n : ℕ) → length nodes ≡ n
     → children_at (nodes ++ (x ∷ others)) n ≡ x.children
-children_after [] x others zero e = refl
-children_after [] x others (suc n) e = absurd (omega arith)
-children_after (y ∷ nodes) x others zero e = absurd (omega arith)
-children_after (y ∷ nodes) x others (suc n) e = children_after nodes x others n (omega arith)
+children_after nodes x others n e =
+    ap (λ (y : NodeValue). y.children) (get_or_at nodes x others (new_node documents.document) n e)
 
 -- ---- a node that is added
 
 -- with its number, it is the last child, and the last node
 with_child : (p n : ℕ) (nodes : List NodeValue) (x : NodeValue) → p < length nodes
     → put_child n (last_in p) (nodes ++ x ∷ []) ≡ append_children p (n ∷ []) nodes ++ x ∷ []
-with_child p n [] x l = absurd (omega arith)
-with_child zero n (y ∷ nodes) x l =
-    ap (λ (cs : List ℕ). record y { children = cs } ∷ (nodes ++ x ∷ [])) (insert_last y.children n)
-with_child (suc p) n (y ∷ nodes) x l = ap (λ (z : List NodeValue). y ∷ z) (with_child p n nodes x (omega arith))
+with_child p n nodes x l =
+    ap (λ cs. with_children p cs (nodes ++ x ∷ [])) (insert_last (children_at (nodes ++ x ∷ []) p) n)
+    ∙ append_front p (n ∷ []) nodes (x ∷ []) l
 
 parent_last : (p : ℕ) (nodes : List NodeValue) (x : NodeValue) (n : ℕ) → length nodes ≡ n
     → with_parent n (Some p) (nodes ++ x ∷ []) ≡ nodes ++ record x { parent = Some p } ∷ []
-parent_last p [] x zero e = refl
-parent_last p [] x (suc n) e = absurd (omega arith)
-parent_last p (y ∷ nodes) x zero e = absurd (omega arith)
-parent_last p (y ∷ nodes) x (suc n) e = ap (λ (z : List NodeValue). y ∷ z) (parent_last p nodes x n (omega arith))
+parent_last p nodes x n e =
+    rw (get_or_at nodes x [] (new_node documents.document) n e) (set_at nodes x [] _ n e)
 
 pub added : (kind : KindValue) (p : ℕ) (nodes : List NodeValue) → p < length nodes
     → add kind (last_in p) nodes ≡ append_children p (length nodes ∷ []) nodes ++ node kind p [] ∷ []
@@ -224,13 +212,8 @@ pub kinds_kept : (p n : ℕ) (ns : List ℕ) (nodes others : List NodeValue) →
     → kind_at (append_children p ns nodes ++ others) n ≡ kind_at nodes n
 kinds_kept p n ns [] others l = absurd (omega arith)
 kinds_kept zero zero ns (x ∷ nodes) others l = refl
-kinds_kept zero (suc n) ns (x ∷ nodes) others l = kind_before n nodes others (omega arith)
-  where
-    kind_before : (n : ℕ) (nodes others : List NodeValue) → n < length nodes
-        → kind_at (nodes ++ others) n ≡ kind_at nodes n
-    kind_before n [] others l = absurd (omega arith)
-    kind_before zero (x ∷ nodes) others l = refl
-    kind_before (suc n) (x ∷ nodes) others l = kind_before n nodes others (omega arith)
+kinds_kept zero (suc n) ns (x ∷ nodes) others l =
+    ap (λ (y : NodeValue). y.kind) (get_or_append_left nodes others (new_node documents.document) n (omega arith))
 kinds_kept (suc p) zero ns (x ∷ nodes) others l = refl
 kinds_kept (suc p) (suc n) ns (x ∷ nodes) others l = kinds_kept p n ns nodes others (omega arith)
 

@@ -148,8 +148,6 @@ pub stands_longer : (nodes longer : List NodeValue) (c : List (List ℕ)) (es : 
     → length nodes ≤ length longer → ((n : ℕ) → n < length nodes → kind_at longer n ≡ kind_at nodes n)
     → Stands nodes c es → Stands longer c es
 stands_longer nodes longer [] [] l k h = tt
-stands_longer nodes longer [] (e ∷ es) l k h = absurd h
-stands_longer nodes longer (n ∷ c) [] l k h = absurd h
 stands_longer nodes longer (n ∷ c) (e ∷ es) l k h = (
   h.0,
   ((h.1).0, k e.node h.2 ∙ (h.1).1),
@@ -157,20 +155,19 @@ stands_longer nodes longer (n ∷ c) (e ∷ es) l k h = (
   h.3,
   stands_longer nodes longer c es l k h.4,
 )
+stands_longer nodes longer _ _ l k h = absurd h
 
 pub stands_below : (nodes : List NodeValue) (c : List (List ℕ)) (es : List OpenValue) → Stands nodes c es
     → Below (length nodes) es
 stands_below nodes [] [] h = tt
-stands_below nodes [] (e ∷ es) h = absurd h
-stands_below nodes (n ∷ c) [] h = absurd h
 stands_below nodes (n ∷ c) (e ∷ es) h = (h.2, stands_below nodes c es h.4)
+stands_below nodes _ _ h = absurd h
 
 pub stands_html : (nodes : List NodeValue) (c : List (List ℕ)) (es : List OpenValue) → Stands nodes c es
     → current_is_html es ≡ true
 stands_html nodes [] [] h = refl
-stands_html nodes [] (e ∷ es) h = absurd h
-stands_html nodes (n ∷ c) [] h = absurd h
 stands_html nodes (n ∷ c) (e ∷ es) h = rw h.0 refl
+stands_html nodes _ _ h = absurd h
 
 -- ---- scopes
 
@@ -183,12 +180,11 @@ pub scope_none : (set : NameSet) (scope : Scope) (names ends : List (List ℕ)) 
     → (nodes : List NodeValue) (c : List (List ℕ)) (es : List OpenValue) → Stands nodes c es
     → is_met_before names ends (c ++ the_document) ≡ false → scope_has (is_in set) scope es ≡ false
 scope_none set scope names ends h b nodes [] [] s e = refl
-scope_none set scope names ends h b nodes [] (x ∷ es) s e = absurd s
-scope_none set scope names ends h b nodes (n ∷ c) [] s e = absurd s
 scope_none set scope names ends h b nodes (n ∷ c) (x ∷ es) s e =
     let k = or_parts (is_among names n) (not (is_among ends n) && is_met_before names ends (c ++ the_document)) e in
     rw (s.0, h n k.0) (test (is_among ends n) (λ t. rw (b n t) refl)
     (λ t. let f = rw t at k.1 in rw (scope_none set scope names ends h b nodes c es s.4 f) (and_false _)))
+scope_none set scope names ends h b nodes _ _ s e = absurd s
 
 -- an element that isn't met anywhere
 pub open_met : (names : List (List ℕ)) (c : Context) → is_open names c ≡ false → is_met_before names []
@@ -214,8 +210,6 @@ pub none_listed : (tag : TagName) (names : List (List ℕ)) → HasNames (Only t
     (c : List (List ℕ)) (es : List OpenValue) (fs : List (Option ℕ)) → Stands nodes c es → Fewer fs (entries es)
     → is_met_before names [] (c ++ the_document) ≡ false → find (node_is nodes tag) (since_marker fs) ≡ None
 none_listed tag names h nodes [] [] fs s f e = rw f refl
-none_listed tag names h nodes [] (x ∷ es) fs s f e = absurd s
-none_listed tag names h nodes (n ∷ c) [] fs s f e = absurd s
 none_listed tag names h nodes (n ∷ c) (x ∷ es) fs s f e =
     let k = or_parts (is_among names n) (is_met_before names [] (c ++ the_document)) e in
     let other_tag : node_is nodes tag x.node ≡ false =
@@ -224,6 +218,7 @@ none_listed tag names h nodes (n ∷ c) (x ∷ es) fs s f e =
       | inl g ↦ none_listed tag names h nodes c es fs s.4 g k.1
       | inr g ↦ rw (g.1, other_tag) (none_listed tag names h nodes c es g.0 s.4 g.2 k.1)
     ]
+none_listed tag names h nodes _ _ fs s f e = absurd s
 
 pub stands_within : (nodes : List NodeValue) (n : List ℕ) (c : List (List ℕ)) (es : List OpenValue)
     → Stands nodes (n ∷ c) es → (current es).node < length nodes

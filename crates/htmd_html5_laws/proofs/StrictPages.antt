@@ -4,7 +4,7 @@ use Rattle.std.proofs.Common.{map, None, refl, sym, ap, ◌∙◌, arith, inl, i
 use Rattle.std.proofs.lemmas.Bool.{and_parts, not-true}
 use Rattle.std.proofs.lemmas.List.{append-nil}
 use Rattle.htmd_grammar.proofs.Cases.{test}
-use Rattle.htmd_grammar.specs.ValueTrees.{AttributePair, ValueTree, ValueForest, none, more, document, doctype, text}
+use Rattle.htmd_grammar.specs.ValueTrees.{AttributePair, ValueTree, ValueForest, none, more, document, text}
 use Rattle.htmd_grammar.specs.ValueTrees.{comment, element}
 use Rattle.htmd_grammar.specs.CharacterClasses.{is_among, lacks}
 use Rattle.htmd_grammar.specs.Serialisation.{is_void}
@@ -76,20 +76,16 @@ element_fits : (z : Bool) (c : List (List ℕ)) (n : List ℕ) → is_allowed z 
 unfolding is_allowed
 element_fits z c n a =
     let d : List (List ℕ) = c ++ the_document in
-    let lists_ = and_parts (not (is_outside n) && not (holds_text_alone z (parent_name d)) && fits_table
-    (parent_name d) n
-    && fits_select (parent_name d) n && fits_open_elements d n) (fits_lists d n) a in
-    let open_ = (and_parts (not (is_outside n) && not (holds_text_alone z (parent_name d)) && fits_table
-    (parent_name d) n
-    && fits_select (parent_name d) n) (fits_open_elements d n) lists_.0).1 in
-    let heads = and_parts (not (closes_paragraph n && is_open (codes "p" ∷ []) d)
-    && not (excludes_itself n && is_open (n ∷ []) d)
-    && not (is_optgroup n && is_open (codes "optgroup" ∷ codes "option" ∷ []) d))
-    (not (is_heading n && is_heading (parent_name d))) open_ in
-    let groups = and_parts (not (closes_paragraph n && is_open (codes "p" ∷ []) d)
-    && not (excludes_itself n && is_open (n ∷ []) d)) _ heads.0 in
-    let both = and_parts (not (closes_paragraph n && is_open (codes "p" ∷ []) d))
-    (not (excludes_itself n && is_open (n ∷ []) d)) groups.0 in
+    let places : Bool = not (is_outside n) && not (holds_text_alone z (parent_name d))
+    && fits_table (parent_name d) n && fits_select (parent_name d) n in
+    let lists_ = and_parts (places && fits_open_elements d n) (fits_lists d n) a in
+    let open_ = (and_parts places (fits_open_elements d n) lists_.0).1 in
+    let paragraph : Bool = not (closes_paragraph n && is_open (codes "p" ∷ []) d) in
+    let itself : Bool = not (excludes_itself n && is_open (n ∷ []) d) in
+    let groups : Bool = not (is_optgroup n && is_open (codes "optgroup" ∷ codes "option" ∷ []) d) in
+    let heads =
+    and_parts (paragraph && itself && groups) (not (is_heading n && is_heading (parent_name d))) open_ in
+    let both = and_parts paragraph itself (and_parts (paragraph && itself) groups heads.0).0 in
     let items = and_parts (not (is_among (codes "li" ∷ []) n
     && is_met_before (codes "li" ∷ []) (codes "ul" ∷ codes "ol" ∷ codes "menu" ∷ codes "dir" ∷ []) d))
     (not (is_among (codes "dd" ∷ codes "dt" ∷ []) n
@@ -253,14 +249,13 @@ levels_within rules n attributes children ih c last s (inr w) l = ih (n ∷ c) t
 mutual
   tree_depth : (rules : Rules) (t : ValueTree) (c : Context) (last : Bool) (s : List ℕ) → ReadsTree rules c last t s
       → length c + levels t ≤ suc rules.depth
-  tree_depth rules (document children) c last s h = absurd h
-  tree_depth rules doctype c last s h = absurd h
   tree_depth rules (text u) c last s h = let l = h.4 in omega (arith, l)
   tree_depth rules (comment u) c last s h = let l = h.2 in omega (arith, l)
   tree_depth rules (element n attributes children) c last s h =
       let k = levels_within rules n attributes children (λ d i r m. forest_depth rules children d i r m) c last s h.2
       h.1 in
       omega (arith, k)
+  tree_depth rules _ c last s h = absurd h
 
   pub forest_depth : (rules : Rules) (ts : ValueForest) (c : Context) (last : Bool) (s : List ℕ)
       → ReadsForest rules c last ts s → length c ≤ suc rules.depth → length c + most_levels ts ≤ suc

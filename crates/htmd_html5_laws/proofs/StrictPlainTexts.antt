@@ -1,23 +1,23 @@
 -- What a text of the strict grammar denotes is not empty and holds no U+0000.
 use Rattle.std.proofs.Common.{◌≡◌, ◌≢◌, ℕ, zero, suc, ◌+◌, ◌<◌, Bool, true, false, not, ◌&&◌, List, [], ◌∷◌, ◌++◌, drop}
-use Rattle.std.proofs.Common.{Option, Some, None, refl, sym, arith, subst, codes, length}
+use Rattle.std.proofs.Common.{Option, Some, None, refl, sym, arith, subst, codes}
 use Rattle.std.specs.Prelude.{◌==◌, nat_lt}
-use Rattle.std.specs.Char.{encode_utf8, is_ascii_alphanumeric, is_ascii_digit, is_ascii_hexdigit}
+use Rattle.std.specs.Char.{encode_utf8, is_ascii_alphanumeric}
 use Rattle.std.specs.List.{list_all}
 use Rattle.std.specs.Str.{bytes_eq}
 use Rattle.std.proofs.lemmas.Bool.{and_parts, not-true}
 use Rattle.std.proofs.lemmas.Bool.Decides.{nat_tests}
 use Rattle.htmd_grammar.proofs.Cases.{test}
-use Rattle.htmd_grammar.specs.CharacterClasses.{is_among, first_is, begins_in_any_case, leading_run, behind_run, lacks}
+use Rattle.htmd_grammar.specs.CharacterClasses.{is_among, first_is, leading_run, behind_run, lacks}
 use Rattle.htmd_grammar.specs.Comments.{normalized}
-use Rattle.htmd_grammar.specs.References.{Piece, stands, wrong, number, number_at, numbered, may_be_numbered, named}
-use Rattle.htmd_grammar.specs.References.{behind_number_sign, behind_ampersand, piece_at, decode, after_line_feed}
-use Rattle.htmd_grammar.specs.References.{less_line_feed}
+use Rattle.htmd_grammar.specs.References.{Piece, stands, wrong, may_be_numbered, named, behind_ampersand, piece_at}
+use Rattle.htmd_grammar.specs.References.{decode, after_line_feed, less_line_feed}
 use Rattle.htmd_grammar.specs.RawContent.{holds_raw_text, has_script_escape, text_of, content_of, drops_line_feed}
 use Rattle.htmd_grammar.specs.Rules.{NamedCharacter, character_named, named_characters, project}
 use Rattle.htmd_grammar.proofs.ReferencesLemmas.{stands_same, put_parts}
 use Rattle.htmd_grammar.proofs.TagReadingLemmas.{filled}
 use Rattle.htmd_html5.specs.AtOnce.{is_not_null, is_without_null}
+use Rattle.htmd_html5_laws.proofs.StrictLineFeeds.{named_so, sign_is, Numbered}
 
 abbrev AreNotNull : List ℕ → Type 0
 AreNotNull v = list_all is_not_null v ≡ true
@@ -51,59 +51,31 @@ encode_not_null c e =
       not_null_sum 128 _ (omega arith),
     ) refl))))
 
-abbrev is_other_name : NamedCharacter → Bool
-is_other_name entry = list_all is_not_null (encode_utf8 entry.character)
+abbrev is_other : ℕ → Bool
+is_other c = list_all is_not_null (encode_utf8 c)
 
-names_not_null : list_all is_other_name named_characters ≡ true
+names_not_null : list_all (λ (entry : NamedCharacter). is_other entry.character) named_characters ≡ true
 unfolding encode_utf8
 names_not_null = refl
 
-named_not_null : (entries : List NamedCharacter) (w : List ℕ) (c : ℕ) → list_all is_other_name entries ≡ true
-    → character_named entries w ≡ Some c → AreNotNull (encode_utf8 c)
-named_not_null [] w c a e = absurd (cc)
-named_not_null (entry ∷ entries) w c a e =
-    let h = and_parts (is_other_name entry) (list_all is_other_name entries) a in
-    test (bytes_eq w entry.name)
-    (λ t. let f : Some entry.character ≡ Some c = rw t at e in
-    let k : entry.character ≡ c = cc in
-    subst (λ n. AreNotNull (encode_utf8 n)) k h.0)
-    (λ t. let f = rw t at e in named_not_null entries w c h.1 f)
-
 -- ---- pieces
 
-numbered_not_null : (n c m : ℕ) (v : List ℕ) → numbered n c ≡ stands m v → AreNotNull v
+numbered_not_null : (v : List ℕ) → Numbered v → AreNotNull v
 unfolding may_be_numbered
-numbered_not_null n c m v e =
-    test (may_be_numbered c)
-    (λ t. let w = rw t at e in
-    let zero_ : (c == 0) ≡ false = grind (arith, nat_tests) in
-    subst AreNotNull (stands_same n m (encode_utf8 c) v w).1 (encode_not_null c zero_))
-    (λ t. absurd (let w = rw t at e in cc))
-
-number_not_null : (p : ℕ → Bool) (base from m : ℕ) (s v : List ℕ) → number_at p base from s ≡ stands m v
-    → AreNotNull v
-number_not_null p base from m s v e =
-    test (first_is 59 (behind_run p s) && not (first_is 59 s))
-    (λ t. let w = rw t at e in
-    numbered_not_null (suc (from + length (leading_run p s))) (number base 0 (leading_run p s)) m v w)
-    (λ t. absurd (let w = rw t at e in cc))
-
-sign_not_null : (s v : List ℕ) (m : ℕ) → behind_number_sign s ≡ stands m v → AreNotNull v
-sign_not_null [] v m e = absurd (cc)
-sign_not_null (b ∷ s) v m e =
-    test (begins_in_any_case (codes "x") (b ∷ s))
-    (λ t. let w = rw t at e in number_not_null is_ascii_hexdigit 16 2 m s v w)
-    (λ t. let w = rw t at e in number_not_null is_ascii_digit 10 1 m (b ∷ s) v w)
+numbered_not_null v n =
+    let t : may_be_numbered n.0 ≡ true = n.2 in
+    let zero_ : (n.0 == 0) ≡ false = grind (arith, nat_tests) in
+    subst AreNotNull (sym n.1) (encode_not_null n.0 zero_)
 
 name_not_null : (n m : ℕ) (w v : List ℕ) (o : Option ℕ) → character_named named_characters w ≡ o
     → named n o ≡ stands m v → AreNotNull v
 name_not_null n m w v None q e = absurd (cc)
 name_not_null n m w v (Some c) q e =
-    subst AreNotNull (stands_same n m (encode_utf8 c) v e).1 (named_not_null named_characters w c names_not_null q)
+    subst AreNotNull (stands_same n m (encode_utf8 c) v e).1 (named_so is_other named_characters w c names_not_null q)
 
 reference_not_null : (s v : List ℕ) (m : ℕ) → behind_ampersand named_characters s ≡ stands m v → AreNotNull v
 reference_not_null s v m e =
-    test (first_is 35 s) (λ t. let w = rw t at e in sign_not_null (drop 1 s) v m w)
+    test (first_is 35 s) (λ t. let w = rw t at e in numbered_not_null v (sign_is (drop 1 s) v m w))
     (λ t. let w = rw t at e in
     test (first_is 59 (behind_run is_ascii_alphanumeric s) && not (first_is 59 s))
     (λ q. let y = rw q at w in name_not_null _ m (leading_run is_ascii_alphanumeric s) v _ refl y)

@@ -5,7 +5,7 @@ use Rattle.std.specs.Str.{bytes_eq}
 use Rattle.std.proofs.lemmas.List.{append-nil}
 use Rattle.std.proofs.lemmas.Bool.{not-true}
 use Rattle.htmd_grammar.proofs.Cases.{test}
-use Rattle.htmd_grammar.specs.ValueTrees.{ValueForest, none, more, document, doctype, text, comment, element}
+use Rattle.htmd_grammar.specs.ValueTrees.{ValueForest, none, more, text, comment, element}
 use Rattle.htmd_grammar.specs.CharacterClasses.{is_among, up_to}
 use Rattle.htmd_grammar.specs.Comments.{normalized}
 use Rattle.htmd_grammar.specs.Grammar.{ReadsForest}
@@ -152,8 +152,6 @@ pub raw_children : (z : Bool) (n : List ℕ) (c : Context) (last : Bool) (childr
     ⊎ ((u : List ℕ) × (children ≡ more (text u) none) × (s ≢ []) × (up_to (ends_text z n) s ≡ s)
     × (text_of (project z) n s ≡ Some u))
 raw_children z n c last none s h e = inl (refl, h)
-raw_children z n c last (more (document ks) ts) s h e = absurd (h.4)
-raw_children z n c last (more doctype ts) s h e = absurd (h.4)
 raw_children z n c last (more (comment u) ts) s h e = absurd (let f = (h.4).1 in cc)
 raw_children z n c last (more (element m attributes ks) ts) s h e =
     absurd (let f = node_no_title (project z) n (element m attributes ks) c _ h.0 refl h.4 in cc)
@@ -163,11 +161,11 @@ raw_children z n c last (more (text u) none) s h e =
     let filled : h.0 ≢ [] = λ x. k.0 (text_nothing z n u (ap (text_of (project z) n) (sym x) ∙ k.2)) in
     rw q (inr (u, refl, filled, k.1, k.2))
 raw_children z n c last (more (text u) (more (text v) ts)) s h e = absurd (h.3)
-raw_children z n c last (more (text u) (more (document ks) ts)) s h e = absurd ((h.5).4)
-raw_children z n c last (more (text u) (more doctype ts)) s h e = absurd ((h.5).4)
 raw_children z n c last (more (text u) (more (comment v) ts)) s h e = absurd (let f = ((h.5).4).1 in cc)
 raw_children z n c last (more (text u) (more (element m attributes ks) ts)) s h e =
     absurd (let f = node_no_title (project z) n (element m attributes ks) c _ (h.5).0 refl (h.5).4 in cc)
+raw_children z n c last (more (text u) (more _ ts)) s h e = absurd ((h.5).4)
+raw_children z n c last (more _ ts) s h e = absurd (h.4)
 
 -- ---- its tokens
 

@@ -5,7 +5,7 @@ use Rattle.std.specs.Prelude.{◌==◌}
 use Rattle.std.specs.Char.{encode_utf8, is_ascii_alphanumeric, is_ascii_digit, is_ascii_hexdigit, is_ascii_alphabetic}
 use Rattle.std.specs.List.{list_all}
 use Rattle.std.specs.Str.{bytes_eq}
-use Rattle.std.proofs.lemmas.Bool.{and_parts, or_parts, not-true}
+use Rattle.std.proofs.lemmas.Bool.{and_parts, or_parts, not-true, eqb-true}
 use Rattle.std.proofs.lemmas.Bool.Decides.{nat_tests}
 use Rattle.std.proofs.lemmas.List.{append-nil}
 use Rattle.htmd_grammar.proofs.Cases.{test}
@@ -129,11 +129,8 @@ begins_none (r ∷ rows) s a =
     other [] e = absurd (cc)
     other (b ∷ n) e =
         let k = not-true (b == 59) (and_parts (not (b == 59)) true e).0 in
-        let q : (59 == b) ≡ false = swapped b k in
+        let q : (59 == b) ≡ false = grind (arith, nat_tests, k) in
         rw q refl
-      where
-        swapped : (b : ℕ) → (b == 59) ≡ false → (59 == b) ≡ false
-        swapped b e = grind (arith, nat_tests)
 
 old_begin_letters : list_all has_no_semicolon old_names ≡ true
 unfolding old_names
@@ -141,20 +138,11 @@ old_begin_letters = refl
 
 none_at_semicolon : (s : List ℕ) → first_is 59 s ≡ true → longest_old s ≡ None
 none_at_semicolon [] e = absurd (cc)
-none_at_semicolon (b ∷ s) e =
-    let k : b ≡ 59 = is_that b e in
-    rw k (begins_none old_names s old_begin_letters)
-  where
-    is_that : (b : ℕ) → (b == 59) ≡ true → b ≡ 59
-    is_that b e = grind (arith, nat_tests)
+none_at_semicolon (b ∷ s) e = rw (eqb-true b 59 e) (begins_none old_names s old_begin_letters)
 
 not_bare : (z : Bool) (s : List ℕ) → is_bare_reference z s ≡ false → first_is 59
     (behind_run is_ascii_alphanumeric s) ≡ false → counts z (longest_old s) s ≡ false
-not_bare z s e f = only (counts z (longest_old s) s) (rw f at e)
-  where
-    only : (x : Bool) → (x && true) ≡ false → x ≡ false
-    only true e = e
-    only false e = refl
+not_bare z s e f = test (counts z (longest_old s) s) (λ t. absurd (let w = rw (t, f) at e in cc)) (λ t. t)
 
 -- a name that doesn't count leaves `&` as it is
 no_reference : (z : Bool) (o : Option NamedReference) (s : List ℕ) → counts z o s ≡ false
@@ -165,10 +153,7 @@ no_reference z (Some r) s e =
 
 run_empty : (p : ℕ → Bool) (s : List ℕ) → first_is 59 s ≡ true → p 59 ≡ false → leading_run p s ≡ []
 run_empty p [] e f = refl
-run_empty p (b ∷ s) e f = let k : b ≡ 59 = is_that b e in rw (k, f) refl
-  where
-    is_that : (b : ℕ) → (b == 59) ≡ true → b ≡ 59
-    is_that b e = grind (arith, nat_tests)
+run_empty p (b ∷ s) e f = rw (eqb-true b 59 e, f) refl
 
 ampersand_same : (in_value : Bool) (s v : List ℕ) (m : ℕ) → behind_ampersand named_characters s ≡ stands m v
     → is_bare_reference in_value s ≡ false → after_ampersand in_value s ≡ piece m v
@@ -209,7 +194,7 @@ piece_same r b s v m refs e cr null bare less =
 -- ---- runs
 
 -- where no markup begins there is no `</`
-no_slash : (b : ℕ) (s : List ℕ) → begins_markup (b ∷ s) ≡ false →
+pub no_slash : (b : ℕ) (s : List ℕ) → begins_markup (b ∷ s) ≡ false →
     (b == 60 && begins_with (codes "/>") s) ≡ false
 no_slash b [] e = test (b == 60) (λ t. rw t refl) (λ t. rw t refl)
 no_slash b (c ∷ s) e =

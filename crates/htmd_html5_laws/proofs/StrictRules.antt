@@ -1,9 +1,8 @@
 -- What a tag of a plain element does in the mode "in body", where the strict grammar allows it.
 use Rattle.std.proofs.Common.{◌≡◌, ℕ, ◌<◌, Bool, true, false, not, ◌&&◌, ◌||◌, List, [], ◌∷◌, ◌++◌, length, Option}
-use Rattle.std.proofs.Common.{Some, None, refl, sym, ap, ◌∙◌, arith, subst, codes}
+use Rattle.std.proofs.Common.{Some, None, refl, sym, ap, ◌∙◌, subst, codes}
 use Rattle.std.specs.Prelude.{nat_lt}
-use Rattle.std.proofs.lemmas.Bool.{or_right}
-use Rattle.std.proofs.lemmas.Bool.Decides.{nat_tests}
+use Rattle.std.proofs.lemmas.Bool.{or_right, lt-ltb}
 use Rattle.htmd_grammar.proofs.Cases.{test}
 use Rattle.htmd_grammar.specs.ValueTrees.{AttributePair}
 use Rattle.htmd_grammar.specs.CharacterClasses.{is_among}
@@ -20,6 +19,8 @@ use Rattle.htmd_html5_state.specs.Formatting.{reconstruct, insert_formatting, wi
 use Rattle.htmd_html5_state.specs.Adoption.{formatting_element}
 use Rattle.htmd_html5_state.specs.State.{StateValue}
 use Rattle.htmd_html5_state.specs.declared.names.TagName.{TagName}
+use Rattle.htmd_html5_state.specs.declared.sets.NameSet.{NameSet}
+use Rattle.htmd_html5_state.specs.declared.sets.Scope.{Scope}
 use Rattle.htmd_html5_state.specs.declared.modes.InsertionMode.TheVariants.{InBody}
 use Rattle.htmd_html5_state.specs.declared.sets.NameSet.TheVariants.{Only, Headings, DescriptionParts}
 use Rattle.htmd_html5_state.specs.declared.sets.Scope.TheVariants.{Default, Button, Items}
@@ -27,7 +28,7 @@ use Rattle.htmd_html5_state.proofs.AppendedTextsLemmas.{AppendsText, appends-rec
 use Rattle.htmd_html5.specs.AtOnce.{is_without_null, takes_at_once, put_at_once}
 use Rattle.htmd_html5.specs.Outcomes.{done}
 use Rattle.htmd_html5.specs.SharedRules.{no_frameset}
-use Rattle.htmd_html5.specs.BodyStarts.{block_rule, formatting_rule, phrasing_rule, start_by, start_in_body}
+use Rattle.htmd_html5.specs.BodyStarts.{start_rule, block_rule, formatting_rule, phrasing_rule, start_by, start_in_body}
 use Rattle.htmd_html5.specs.BodyStarts.{close_heading, forget, close_no_break, is_hidden}
 use Rattle.htmd_html5.specs.InBody.{in_body}
 use Rattle.htmd_html5.specs.Modes.{in_mode}
@@ -42,7 +43,7 @@ use Rattle.htmd_html5_laws.specs.StrictTokens.{tag_named}
 use Rattle.htmd_html5_laws.specs.StrictTrees.{heading_names}
 use Rattle.htmd_html5_laws.proofs.StrictOpen.{HasNames, Fewer, fewer_with_room, entries, none_closed, Stands}
 use Rattle.htmd_html5_laws.proofs.StrictOpen.{stands_html, stands_within, the_document, scope_none, none_listed}
-use Rattle.htmd_html5_laws.proofs.StrictNames.{among_each, PlainCase, is_formatting_case, VoidCase, in_text, of_another}
+use Rattle.htmd_html5_laws.proofs.StrictNames.{Each, among_each, PlainCase, is_formatting_case, VoidCase, in_text, of_another}
 use Rattle.htmd_html5_laws.proofs.StrictNames.{input, separator, in_head, no_break, button, unknown, ordinary}
 use Rattle.htmd_html5_laws.proofs.StrictNames.{formatting, anchor, paragraph, block, heading, list_item, part}
 use Rattle.htmd_html5_laws.proofs.StrictSets.{one_spelled, part_names, heading_has}
@@ -89,9 +90,6 @@ module _ (p : List ℕ) (c : List (List ℕ)) (s : StateValue) (h : IsInBody (p 
   pub no_raw : is_text_mode s.content ≡ false
   no_raw = rw h.content refl
 
-  stays_out : out_of_text_mode s ≡ s
-  stays_out = rw no_raw refl
-
   is_html_there : current_is_html s.stack ≡ true
   is_html_there = stands_html s.nodes (p ∷ c) s.stack h.stands
 
@@ -116,31 +114,27 @@ module _ (p : List ℕ) (c : List (List ℕ)) (s : StateValue) (h : IsInBody (p 
   processed token new f e =
       sym (process_once token s new (sym (by_html token s f ∙ ap (λ m. in_mode m token s) h.mode ∙ e)))
 
+  -- a token that is no text, with what is done with it in the body
+  fed : (token : construction.TokenValue) (new : StateValue) → is_foreign token s ≡ false
+      → in_body token s ≡ done new → process token (out_of_text_mode (with_nothing_skipped s)) ≡ new
+  fed token new f e =
+      ap (λ (x : StateValue). process token (out_of_text_mode x)) unskipped ∙ rw no_raw (processed token new f e)
+
   pub fed_start : (tag : TagValue) → feed (start_tag tag) s ≡ start_in_body (named tag) s
   fed_start tag =
       let token : construction.TokenValue = construction.start_tag (named tag) in
-      ap (λ (x : StateValue). process token (out_of_text_mode x)) unskipped ∙ ap (process token) stays_out
-      ∙ processed token (start_in_body (named tag) s) (ap not (goes token)) refl
+      fed token (start_in_body (named tag) s) (ap not (goes token)) refl
 
   pub comment_fed : (u : List ℕ) → feed (comment u) s ≡ insert_comment u s
-  comment_fed u =
-      let token : construction.TokenValue = construction.comment u in
-      ap (λ (x : StateValue). process token (out_of_text_mode x)) unskipped ∙ ap (process token) stays_out
-      ∙ processed token (insert_comment u s) (ap not (goes token)) refl
+  comment_fed u = fed (construction.comment u) (insert_comment u s) (ap not (goes (construction.comment u))) refl
 
   pub end_of_file_fed : feed end_of_file s ≡ s
-  end_of_file_fed =
-      ap (λ (x : StateValue). process construction.end_of_file (out_of_text_mode x)) unskipped
-      ∙ ap (process construction.end_of_file) stays_out
-      ∙ processed construction.end_of_file s refl (rw h.no_template refl)
+  end_of_file_fed = fed construction.end_of_file s refl (rw h.no_template refl)
 
   takes : takes_at_once s ≡ true
   takes =
-      let l : nat_lt (current s.stack).node (length s.nodes) ≡ true = below within in
+      let l : nat_lt (current s.stack).node (length s.nodes) ≡ true = lt-ltb _ _ within in
       rw (h.mode, is_html_there, h.no_foster, none_closed s.formatting s.stack h.listed, l) refl
-    where
-      below : {x y : ℕ} → x < y → nat_lt x y ≡ true
-      below l = grind (arith, nat_tests)
 
   pub text_fed : (u : List ℕ) → is_without_null u ≡ true → feed (text u) s ≡ put_at_once u s
   text_fed u e =
@@ -150,31 +144,28 @@ module _ (p : List ℕ) (c : List (List ℕ)) (s : StateValue) (h : IsInBody (p 
 
   -- ---- start tags
 
-  pub no_p_closed : met (codes "p" ∷ []) [] (p ∷ c) ≡ false → close (Only tags.P) Button s.stack ≡ s.stack
-  no_p_closed e =
-      let none_ : is_in_scope (Only tags.P) Button s.stack ≡ false =
-      scope_none (Only tags.P) Button (codes "p" ∷ []) [] (one_spelled tags.P) (λ n f. absurd (cc)) s.nodes (p
-      ∷ c) s.stack h.stands
-      e in
+  -- what isn't met closes nothing
+  none_closed_of : (set : NameSet) (scope : Scope) (names ends : List (List ℕ)) → HasNames set names
+      → Each (λ m. bounds scope (html (name_of_text m)) ≡ true) ends → met names ends (p ∷ c) ≡ false
+      → close set scope s.stack ≡ s.stack
+  none_closed_of set scope names ends k b e =
+      let none_ : is_in_scope set scope s.stack ≡ false =
+      scope_none set scope names ends k (λ n f. among_each _ ends n f b) s.nodes (p ∷ c) s.stack h.stands e in
       rw none_ refl
+
+  pub no_p_closed : met (codes "p" ∷ []) [] (p ∷ c) ≡ false → close (Only tags.P) Button s.stack ≡ s.stack
+  no_p_closed e = none_closed_of (Only tags.P) Button (codes "p" ∷ []) [] (one_spelled tags.P) tt e
 
   no_li_closed : met (codes "li" ∷ []) lists (p ∷ c) ≡ false → close (Only tags.Li) Items s.stack ≡ s.stack
   no_li_closed e =
-      let none_ : is_in_scope (Only tags.Li) Items s.stack ≡ false =
-      scope_none (Only tags.Li) Items (codes "li" ∷ []) lists (one_spelled tags.Li)
-      (λ n f. among_each (λ m. bounds Items (html (name_of_text m)) ≡ true) lists n f
-      (refl, (refl, (refl, (refl, tt)))))
-      s.nodes (p ∷ c) s.stack h.stands e in
-      rw none_ refl
+      none_closed_of (Only tags.Li) Items (codes "li" ∷ []) lists (one_spelled tags.Li)
+      (refl, (refl, (refl, (refl, tt)))) e
 
   no_part_closed : met (codes "dd" ∷ codes "dt" ∷ []) (codes "dl" ∷ []) (p ∷ c) ≡ false
       → close DescriptionParts Items s.stack ≡ s.stack
   no_part_closed e =
-      let none_ : is_in_scope DescriptionParts Items s.stack ≡ false =
-      scope_none DescriptionParts Items (codes "dd" ∷ codes "dt" ∷ []) (codes "dl" ∷ []) part_names
-      (λ n f. among_each (λ m. bounds Items (html (name_of_text m)) ≡ true) (codes "dl" ∷ []) n f (refl, tt))
-      s.nodes (p ∷ c) s.stack h.stands e in
-      rw none_ refl
+      none_closed_of DescriptionParts Items (codes "dd" ∷ codes "dt" ∷ []) (codes "dl" ∷ []) part_names
+      (refl, tt) e
 
   no_heading_closed : is_among heading_names p ≡ false → close_heading s.stack ≡ s.stack
   no_heading_closed e =
@@ -188,11 +179,6 @@ module _ (p : List ℕ) (c : List (List ℕ)) (s : StateValue) (h : IsInBody (p 
   no_anchor : met (codes "a" ∷ []) [] (p ∷ c) ≡ false → formatting_element tags.A s ≡ None
   no_anchor e = none_listed tags.A (codes "a" ∷ []) (one_spelled tags.A) s.nodes (p
       ∷ c) s.stack s.formatting h.stands h.listed e
-
-  none_there : (tag : TagName) (n : List ℕ) → HasNames (Only tag) (n ∷ []) → met (n ∷ []) []
-      (p ∷ c) ≡ false → is_in_scope (Only tag) Default s.stack ≡ false
-  none_there tag n k e =
-      scope_none (Only tag) Default (n ∷ []) [] k (λ m f. absurd (cc)) s.nodes (p ∷ c) s.stack h.stands e
 
   itself_met : (n m : List ℕ) → n ≡ m → Fits (p ∷ c) n → excludes_itself n ≡ true → met (m ∷ []) []
       (p ∷ c) ≡ false
@@ -217,6 +203,14 @@ module _ (p : List ℕ) (c : List (List ℕ)) (s : StateValue) (h : IsInBody (p 
   put_item tag attributes stack =
       insert_element (known tag) attributes (record s { stack = stack; frameset_ok = false })
 
+  -- a tag with the rules of another one
+  by_rule : {rule : _} (n : List ℕ) (tag : TagName) → name_of_text n ≡ known tag → start_rule tag ≡ rule
+      → (attributes : List AttributePair) (slash : Bool)
+      → feed (start_tag (tag_named n attributes slash)) s ≡ start_by rule (value (known tag) attributes slash) s
+  by_rule n tag name rule attributes slash =
+      fed_start (tag_named n attributes slash)
+      ∙ rw name (ap (λ r. start_by r (value (known tag) attributes slash) s) rule)
+
   pub plain_start : (n : List ℕ) (k : PlainCase n) → Fits (p ∷ c) n → is_formatting_case k ≡ false →
       (attributes : List AttributePair) (slash : Bool) →
       (ok : Bool) × (feed (start_tag (tag_named n attributes slash)) s ≡ opened_with n attributes s.formatting ok)
@@ -227,9 +221,8 @@ module _ (p : List ℕ) (c : List (List ℕ)) (s : StateValue) (h : IsInBody (p 
   )
   plain_start n (ordinary x) f e attributes slash = (
     s.frameset_ok,
-    fed_start (tag_named n attributes slash)
-        ∙ rw x.1 (ap (λ r. start_by r (value (known x.0) attributes slash) s) x.2
-        ∙ ap (insert_element (known x.0) attributes) nothing_again),
+    by_rule n x.0 x.1 x.2 attributes slash
+        ∙ rw x.1 (ap (insert_element (known x.0) attributes) nothing_again),
   )
   plain_start n (formatting x) f e attributes slash = absurd (cc)
   plain_start n (anchor x) f e attributes slash = absurd (cc)
@@ -240,22 +233,19 @@ module _ (p : List ℕ) (c : List (List ℕ)) (s : StateValue) (h : IsInBody (p 
       )
   plain_start n (block x) f e attributes slash = (
     s.frameset_ok,
-    fed_start (tag_named n attributes slash)
-        ∙ rw (x.0).1 (ap (λ r. start_by r (value (known (x.0).0) attributes slash) s) (x.0).2
-        ∙ ap (put_in (x.0).0 attributes) (no_p_closed (f.paragraph x.1))),
+    by_rule n (x.0).0 (x.0).1 (x.0).2 attributes slash
+        ∙ rw (x.0).1 (ap (put_in (x.0).0 attributes) (no_p_closed (f.paragraph x.1))),
   )
   plain_start n (heading x) f e attributes slash = (
     s.frameset_ok,
-    fed_start (tag_named n attributes slash)
-        ∙ rw (x.0).1 (ap (λ r. start_by r (value (known (x.0).0) attributes slash) s) (x.0).2
-        ∙ ap (λ stack. put_in (x.0).0 attributes (close_heading stack)) (no_p_closed (f.paragraph x.1))
+    by_rule n (x.0).0 (x.0).1 (x.0).2 attributes slash
+        ∙ rw (x.0).1 (ap (λ stack. put_in (x.0).0 attributes (close_heading stack)) (no_p_closed (f.paragraph x.1))
         ∙ ap (put_in (x.0).0 attributes) (no_heading_closed (f.heading x.2))),
   )
   plain_start n (no_break x) f e attributes slash = absurd (cc)
   plain_start n (button x) f e attributes slash =
-      let none_ = none_there tags.Button (codes "button") (one_spelled tags.Button)
-      (itself_met n (codes "button") x f (rw x refl)) in
-      let closed : close (Only tags.Button) Default s.stack ≡ s.stack = rw none_ refl in (
+      let closed = none_closed_of (Only tags.Button) Default (codes "button" ∷ []) [] (one_spelled tags.Button) tt
+      (itself_met n (codes "button") x f (rw x refl)) in (
         false,
         fed_start (tag_named n attributes slash)
             ∙ rw x (ap (λ stack. no_frameset (insert_element (known tags.Button) attributes
@@ -272,9 +262,9 @@ module _ (p : List ℕ) (c : List (List ℕ)) (s : StateValue) (h : IsInBody (p 
       )
   plain_start n (part x) f e attributes slash = (
     false,
-    fed_start (tag_named n attributes slash)
-        ∙ rw (x.0).1 (ap (λ r. start_by r (value (known (x.0).0) attributes slash) s) (x.0).2
-        ∙ ap (λ stack. put_item (x.0).0 attributes (close (Only tags.P) Button stack)) (no_part_closed (f.part x.2))
+    by_rule n (x.0).0 (x.0).1 (x.0).2 attributes slash
+        ∙ rw (x.0).1 (ap (λ stack. put_item (x.0).0 attributes (close (Only tags.P) Button stack))
+        (no_part_closed (f.part x.2))
         ∙ ap (put_item (x.0).0 attributes) (no_p_closed (f.paragraph x.1))),
   )
 
@@ -294,9 +284,8 @@ module _ (p : List ℕ) (c : List (List ℕ)) (s : StateValue) (h : IsInBody (p 
   formatting_start n (formatting x) f e attributes slash = (
     listed_room n attributes,
     fewer_with_room _ _ s.formatting,
-    fed_start (tag_named n attributes slash)
-        ∙ rw x.1 (ap (λ r. start_by r (value (known x.0) attributes slash) s) x.2
-        ∙ ap (insert_formatting (known x.0) attributes) nothing_again),
+    by_rule n x.0 x.1 x.2 attributes slash
+        ∙ rw x.1 (ap (insert_formatting (known x.0) attributes) nothing_again),
   )
   formatting_start n (anchor x) f e attributes slash =
       let none_ = no_anchor (itself_met n (codes "a") x f (rw x refl)) in (
@@ -307,8 +296,9 @@ module _ (p : List ℕ) (c : List (List ℕ)) (s : StateValue) (h : IsInBody (p 
             ∙ ap (insert_formatting (known tags.A) attributes) nothing_again),
       )
   formatting_start n (no_break x) f e attributes slash =
-      let none_ = none_there tags.NoBr (codes "nobr") (one_spelled tags.NoBr)
-      (itself_met n (codes "nobr") x f (rw x refl)) in
+      let none_ : is_in_scope (Only tags.NoBr) Default s.stack ≡ false =
+      scope_none (Only tags.NoBr) Default (codes "nobr" ∷ []) [] (one_spelled tags.NoBr) (λ m f. absurd (cc)) s.nodes
+      (p ∷ c) s.stack h.stands (itself_met n (codes "nobr") x f (rw x refl)) in
       let closed : close_no_break s ≡ s = rw none_ refl in (
         listed_room n attributes,
         fewer_with_room _ _ s.formatting,
@@ -333,14 +323,11 @@ module _ (p : List ℕ) (c : List (List ℕ)) (s : StateValue) (h : IsInBody (p 
   unfolding block_rule formatting_rule phrasing_rule
   void_fed n (in_text x) f attributes slash = (
     false,
-    fed_start (tag_named n attributes slash)
-        ∙ rw x.1 (ap (λ r. start_by r (value (known x.0) attributes slash) s) x.2
-        ∙ ap (put_void x.0 attributes) nothing_again),
+    by_rule n x.0 x.1 x.2 attributes slash ∙ rw x.1 (ap (put_void x.0 attributes) nothing_again),
   )
   void_fed n (of_another x) f attributes slash = (
     s.frameset_ok,
-    fed_start (tag_named n attributes slash)
-        ∙ rw x.1 (ap (λ r. start_by r (value (known x.0) attributes slash) s) x.2),
+    by_rule n x.0 x.1 x.2 attributes slash ∙ rw x.1 refl,
   )
   void_fed n (input x) f attributes slash =
       test (is_hidden (value (known tags.Input) attributes slash))
@@ -361,9 +348,7 @@ module _ (p : List ℕ) (c : List (List ℕ)) (s : StateValue) (h : IsInBody (p 
       )
   void_fed n (in_head x) f attributes slash = (
     s.frameset_ok,
-    fed_start (tag_named n attributes slash)
-        ∙ rw x.1 (ap (λ r. start_by r (value (known x.0) attributes slash) s) x.2
-        ∙ x.3 (value (known x.0) attributes slash) s),
+    by_rule n x.0 x.1 x.2 attributes slash ∙ rw x.1 (x.3 (value (known x.0) attributes slash) s),
   )
 
   -- a `pre`, after which a line feed is dropped

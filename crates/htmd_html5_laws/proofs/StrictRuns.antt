@@ -10,7 +10,7 @@ use Rattle.htmd_grammar.specs.ValueTrees.{comment, element}
 use Rattle.htmd_grammar.specs.CharacterClasses.{first_is, lacks, up_to}
 use Rattle.htmd_grammar.specs.Grammar.{ReadsForest, reads}
 use Rattle.htmd_grammar.specs.Nesting.{Context, is_outside}
-use Rattle.htmd_grammar.specs.RawContent.{holds_text_alone, ends_text, begins_markup, drops_line_feed, text_of}
+use Rattle.htmd_grammar.specs.RawContent.{holds_text_alone, ends_text, begins_markup, drops_line_feed}
 use Rattle.htmd_grammar.specs.Rules.{named_characters, project}
 use Rattle.htmd_grammar.specs.References.{decode, after_line_feed}
 use Rattle.htmd_grammar.specs.Serialisation.{is_void}
@@ -18,7 +18,7 @@ use Rattle.htmd_grammar.specs.Tags.{IsStartTag, IsEndTag}
 use Rattle.htmd_grammar.specs.HtmlDocuments.{above_body, below_body}
 use Rattle.htmd_grammar.proofs.NestingLemmas.{allowed_parts}
 use Rattle.htmd_grammar.proofs.Completeness.{end_tag_stops}
-use Rattle.htmd_grammar.proofs.TreeTexts.{Inside, IsTextTree}
+use Rattle.htmd_grammar.proofs.TreeTexts.{IsTextTree}
 use Rattle.htmd_html5_tokens.specs.Tokens.{TokenValue, start_tag, end_tag}
 use Rattle.htmd_html5_tokens.specs.NextToken.{next_token}
 use Rattle.htmd_grammar.specs.declared.content_model.ContentModel.TheVariants.{Normal, Raw}
@@ -83,7 +83,20 @@ module _ (z : Bool) where
       → ReadsForest (project z) (n ∷ c) true ks inner → IsEndTag end n → holds_text_alone z n ≡ true
       → is_set_aside n ≡ false → IsUnambiguousAt (content_place n) (inner ++ (end ++ rest))
       → Closed n ks (inner ++ (end ++ rest)) rest
-  raw_closed n ks c inner end rest h g e a k = go (raw_children z n c true ks inner h e)
+  raw_closed n ks c inner end rest h g e a k =
+      elim (raw_children z n c true ks inner h e) [
+        | inl w ↦ rw (w.0, w.1) ([], nothing_content n, from_content z (found.1).content last)
+        | inr w ↦
+            let m = unambiguous_before (content_place n) inner (end ++ rest)
+            (inr (end_read end n rest g (unambiguous_back inner (end ++ rest) k)).1) k in
+            rw w.1 (
+              tokens.text w.0 ∷ [],
+              rw (raw_keeps z n e a) (tokens.text w.0 ∷ [], [], refl, refl, refl),
+              from_content z (found.1).content (onward (tokens.text w.0) (end ++ rest)
+                  (raw_text_next z n found.0 inner w.0 (end ++ rest) found.1 e w.2 w.3 stops w.4 m) refl
+                  (shorter z inner (end ++ rest) w.2) last),
+            )
+      ]
     where
       found : (element : RawElement) × IsRaw z n element
       found = raw_content z n e a
@@ -97,21 +110,6 @@ module _ (z : Bool) where
           onward (end_tag (tag_named n [] false)) rest
           (raw_end_next z n found.0 (end ++ rest) r.0 found.1 e stops r.1 ∙ r.2) refl
           (shorter z end rest (end_filled z end n g)) here
-
-      go : ((ks ≡ none) × (inner ≡ [])) ⊎ ((u : List ℕ) × (ks ≡ more (text u) none) × (inner ≢ []) ×
-          (up_to (ends_text z n) inner ≡ inner) × (text_of (project z) n inner ≡ Some u))
-          → Closed n ks (inner ++ (end ++ rest)) rest
-      go (inl w) = rw (w.0, w.1) ([], nothing_content n, from_content z (found.1).content last)
-      go (inr w) =
-          let m = unambiguous_before (content_place n) inner (end ++ rest)
-          (inr (end_read end n rest g (unambiguous_back inner (end ++ rest) k)).1) k in
-          rw w.1 (
-            tokens.text w.0 ∷ [],
-            rw (raw_keeps z n e a) (tokens.text w.0 ∷ [], [], refl, refl, refl),
-            from_content z (found.1).content (onward (tokens.text w.0) (end ++ rest)
-                (raw_text_next z n found.0 inner w.0 (end ++ rest) found.1 e w.2 w.3 stops w.4 m) refl
-                (shorter z inner (end ++ rest) w.2) last),
-          )
 
   -- ---- elements that drop a line feed
 
@@ -132,19 +130,17 @@ module _ (z : Bool) where
   feed_kept : (ts : ValueForest) (xs : List TokenValue) → SpellsForest ts xs → begins_feed ts ≡ false →
       after_feed xs ≡ xs
   feed_kept none xs h e = rw h refl
-  feed_kept (more (document ks) ts) xs h e = absurd (h.3)
-  feed_kept (more doctype ts) xs h e = absurd (h.3)
   feed_kept (more (text []) ts) xs h e = rw (h.2, h.3) refl
   feed_kept (more (text (b ∷ u)) ts) xs h e = rw (h.2, h.3) (rw e refl)
   feed_kept (more (comment u) ts) xs h e = rw (h.2, h.3) refl
   feed_kept (more (element n attributes ks) ts) xs h e = rw (h.2, (h.3).3) refl
+  feed_kept (more _ ts) xs h e = absurd (h.3)
 
   no_feed_there : (s rest : List ℕ) → Ending (s ++ rest) → first_is 10 s ≡ false
   no_feed_there [] rest e = refl
   no_feed_there (b ∷ s) rest (inl e) = absurd (cc)
   no_feed_there (b ∷ s) rest (inr e) =
-      let k : b ≡ 60 = eqb-true b 60 (and_parts (b == 60) (next.is_markup (s ++ rest)) e).0 in
-      rw k refl
+      rw (eqb-true b 60 (and_parts (b == 60) (next.is_markup (s ++ rest)) e).0) refl
 
   begins_no_feed : (ts : ValueForest) (p : List ℕ) (c : Context) (last : Bool) (s rest : List ℕ)
       → ReadsForest (project z) (p ∷ c) last ts s → holds_text_alone z p ≡ false → is_simple ts ≡ true
@@ -229,7 +225,13 @@ module _ (z : Bool) where
       (inner end rest : List ℕ) → ReadsForest (project z) (n ∷ c) true ks (after_line_feed [] inner)
       → IsEndTag end n → drops_line_feed n ≡ true → holds_text_alone z n ≡ false → is_outside n ≡ false
       → is_simple ks ≡ true → IsUnambiguous (inner ++ (end ++ rest)) → Closed n ks (inner ++ (end ++ rest)) rest
-  feed_closed n ks ih tail c inner end rest h g d e o i k = whole (fed inner h k)
+  feed_closed n ks ih tail c inner end rest h g d e o i k =
+      let f = fed inner h k in (
+        f.0,
+        rw d f.1,
+        from_content z (normal_content z n e o) (joined z f.2
+            (one_token z (end_tag (tag_named n [] false)) end rest (end_filled z end n g) r.0 refl refl)),
+      )
     where
       r : (next_token Normal false (end ++ rest) ≡ read (end_tag (tag_named n [] false)) rest)
           × (next.begins_markup (end ++ rest) ≡ true) × ((t : List ℕ) × (end ++ rest ≡ 60 ∷ t))
@@ -251,14 +253,6 @@ module _ (z : Bool) where
             (subst (λ y. IsUnambiguous (y ++ (end ++ rest))) whole_ k) (inr r.1))
       ]
 
-      whole : Fed n ks inner (end ++ rest) rest → Closed n ks (inner ++ (end ++ rest)) rest
-      whole f = (
-        f.0,
-        rw d f.1,
-        from_content z (normal_content z n e o) (joined z f.2
-            (one_token z (end_tag (tag_named n [] false)) end rest (end_filled z end n g) r.0 refl refl)),
-      )
-
   closed_run : (n tag inner end rest : List ℕ) (attributes : List AttributePair) (ks : ValueForest)
       → IsStartTag named_characters tag n attributes → is_void n ≡ false
       → IsUnambiguous (tag ++ (inner ++ (end ++ rest))) → Closed n ks (inner ++ (end ++ rest)) rest
@@ -277,40 +271,34 @@ module _ (z : Bool) where
 
   element_run : (n : List ℕ) (attributes : List AttributePair) (ks : ValueForest) → ForestRun z ks → Tail ks
       → TreeRun z (element n attributes ks)
-  element_run n attributes ks ih tail p c last s rest h e o k st = go h.2
-    where
-      parts : (not (is_set_aside n) ≡ true) × (is_simple ks ≡ true)
-      parts = and_parts (not (is_set_aside n)) (is_simple ks) o
-
-      aside : is_set_aside n ≡ false
-      aside = not-true (is_set_aside n) parts.0
-
-      outside : is_outside n ≡ false
-      outside = (allowed_parts z (p ∷ c) n h.0).0
-
-      go : Inside (project z) (p ∷ c) last n attributes ks s → Made z (SpellsTree (element n attributes ks)) s rest
-      go (inl w) =
-          test (is_void n)
-          (λ v. let m = rw v at w.5 in
-          let q : s ≡ w.0 =
-          w.3 ∙ ap (λ (y : List ℕ). w.0 ++ (y ++ w.2)) m.0 ∙ ap (λ (y : List ℕ). w.0 ++ y) m.1 ∙ append-nil
-          w.0 in
-          let i : IsUnambiguous (w.0 ++ rest) = subst (λ (y : List ℕ). IsUnambiguous (y ++ rest)) q k in
-          rw (q, m.2) (void_run n w.0 rest attributes w.4 v outside i))
-          (λ v. let m = rw v at w.5 in
-          let q : s ++ rest ≡ w.0 ++ (w.1 ++ (w.2 ++ rest)) =
-          ap (λ (y : List ℕ). y ++ rest) w.3 ∙ append_assoc w.0 (w.1 ++ w.2) rest
-          ∙ ap (λ (y : List ℕ). w.0 ++ y) (append_assoc w.1 w.2 rest) in
-          let i : IsUnambiguous (w.0 ++ (w.1 ++ (w.2 ++ rest))) = subst IsUnambiguous q k in
-          let content = unambiguous_inside w.0 n (w.1 ++ (w.2 ++ rest)) attributes w.4 i in
-          let j = unambiguous_outside n (w.1 ++ (w.2 ++ rest)) content in
-          rw w.3 (closed_run n w.0 w.1 w.2 rest attributes ks w.4 v i (test (drops_line_feed n)
-          (λ d. feed_closed n ks ih tail (p ∷ c) w.1 w.2 rest (rw d at m.0) m.1 d (pre_plain z n d aside) outside
-          parts.1 j)
-          (λ d. let inside = subst (ReadsForest (project z) (n ∷ (p ∷ c)) true ks) (content_plain n w.1 d) m.0 in
-          test (holds_text_alone z n) (λ t. raw_closed n ks (p ∷ c) w.1 w.2 rest inside m.1 t aside content)
-          (λ t. normal_closed n ks ih (p ∷ c) w.1 w.2 rest inside m.1 d t outside parts.1 j)))))
-      go (inr w) = absurd (no_tbody z n aside w.3)
+  element_run n attributes ks ih tail p c last s rest h e o k st =
+      let parts = and_parts (not (is_set_aside n)) (is_simple ks) o in
+      let aside = not-true (is_set_aside n) parts.0 in
+      let outside = (allowed_parts z (p ∷ c) n h.0).0 in
+      elim h.2 [
+        | inl w ↦
+            test (is_void n)
+            (λ v. let m = rw v at w.5 in
+            let q : s ≡ w.0 =
+            w.3 ∙ ap (λ (y : List ℕ). w.0 ++ (y ++ w.2)) m.0 ∙ ap (λ (y : List ℕ). w.0 ++ y) m.1
+            ∙ append-nil w.0 in
+            let i : IsUnambiguous (w.0 ++ rest) = subst (λ (y : List ℕ). IsUnambiguous (y ++ rest)) q k in
+            rw (q, m.2) (void_run n w.0 rest attributes w.4 v outside i))
+            (λ v. let m = rw v at w.5 in
+            let q : s ++ rest ≡ w.0 ++ (w.1 ++ (w.2 ++ rest)) =
+            ap (λ (y : List ℕ). y ++ rest) w.3 ∙ append_assoc w.0 (w.1 ++ w.2) rest
+            ∙ ap (λ (y : List ℕ). w.0 ++ y) (append_assoc w.1 w.2 rest) in
+            let i : IsUnambiguous (w.0 ++ (w.1 ++ (w.2 ++ rest))) = subst IsUnambiguous q k in
+            let content = unambiguous_inside w.0 n (w.1 ++ (w.2 ++ rest)) attributes w.4 i in
+            let j = unambiguous_outside n (w.1 ++ (w.2 ++ rest)) content in
+            rw w.3 (closed_run n w.0 w.1 w.2 rest attributes ks w.4 v i (test (drops_line_feed n)
+            (λ d. feed_closed n ks ih tail (p ∷ c) w.1 w.2 rest (rw d at m.0) m.1 d (pre_plain z n d aside) outside
+            parts.1 j)
+            (λ d. let inside = subst (ReadsForest (project z) (n ∷ (p ∷ c)) true ks) (content_plain n w.1 d) m.0 in
+            test (holds_text_alone z n) (λ t. raw_closed n ks (p ∷ c) w.1 w.2 rest inside m.1 t aside content)
+            (λ t. normal_closed n ks ih (p ∷ c) w.1 w.2 rest inside m.1 d t outside parts.1 j)))))
+        | inr w ↦ absurd (no_tbody z n aside w.3)
+      ]
 
   -- ---- one tree after another
 
@@ -331,12 +319,11 @@ module _ (z : Bool) where
 
   mutual
     tree_run : (t : ValueTree) → TreeRun z t
-    tree_run (document ks) p c last s rest h e o k st = absurd h
-    tree_run doctype p c last s rest h e o k st = absurd h
     tree_run (text u) p c last s rest h e o k st = text_run z u p c last s rest h e o k st
     tree_run (comment u) p c last s rest h e o k st = comment_run z u p c last s rest h e o k st
     tree_run (element n attributes ks) p c last s rest h e o k st =
         element_run n attributes ks (forest_run ks) (tail_run ks) p c last s rest h e o k st
+    tree_run _ p c last s rest h e o k st = absurd h
 
     tail_run : (ts : ValueForest) → Tail ts
     tail_run none = tt

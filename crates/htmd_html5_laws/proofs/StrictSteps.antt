@@ -3,7 +3,7 @@ use Rattle.std.proofs.Common.{◌≡◌, ◌≢◌, ℕ, zero, suc, ◌<◌, ◌
 use Rattle.std.proofs.Common.{Some, refl, sym, ap, ◌∙◌, arith, inl, inr, codes, subst, append_assoc, length-append}
 use Rattle.std.proofs.lemmas.Bool.{and_parts, or_parts, not-true}
 use Rattle.std.proofs.lemmas.List.{append-nil}
-use Rattle.htmd_grammar.specs.ValueTrees.{AttributePair, ValueTree, ValueForest, none, more, document, doctype, text}
+use Rattle.htmd_grammar.specs.ValueTrees.{AttributePair, ValueTree, ValueForest, none, more, text}
 use Rattle.htmd_grammar.specs.ValueTrees.{comment, element}
 use Rattle.htmd_grammar.specs.CharacterClasses.{is_among, up_to}
 use Rattle.htmd_grammar.specs.Grammar.{Apart, may_end_rows, ReadsTree, ReadsForest}
@@ -134,8 +134,6 @@ module _ (z : Bool) where
       → IsTextTree t ≡ true → Apart t ts → ReadsForest (project z) (p ∷ c) last ts s → is_simple ts ≡ true
       → IsUnambiguousAt in_tag (s ++ rest) → Ending rest → Ending (s ++ rest)
   text_ending t none p c last s rest i a h o k st = rw h st
-  text_ending t (more (document ks) ts) p c last s rest i a h o k st = absurd (h.4)
-  text_ending t (more doctype ts) p c last s rest i a h o k st = absurd (h.4)
   text_ending (text u) (more (text v) ts) p c last s rest i a h o k st = absurd a
   text_ending _ (more (text v) ts) p c last s rest i a h o k st = absurd (cc)
   text_ending t (more (comment v) ts) p c last s rest i a h o k st =
@@ -157,13 +155,12 @@ module _ (z : Bool) where
           inr (ap next.begins_markup q
           ∙ (start_read w.0 n ((w.1 ++ w.2) ++ (h.1 ++ rest)) attributes w.4 (subst (IsUnambiguousAt in_tag) q k)).3)
       go (inr w) = absurd (no_tbody n aside w.3)
+  text_ending t (more _ ts) p c last s rest i a h o k st = absurd (h.4)
 
   -- what follows a tree is unambiguous
   pub unambiguous_after : (t : ValueTree) (p : List ℕ) (c : Context) (last : Bool) (s x : List ℕ)
       → ReadsTree (project z) (p ∷ c) last t s → holds_text_alone z p ≡ false → is_simple_tree t ≡ true
       → (IsTextTree t ≡ true → Ending x) → IsUnambiguous (s ++ x) → IsUnambiguous x
-  unambiguous_after (document ks) p c last s x h e o st k = absurd h
-  unambiguous_after doctype p c last s x h e o st k = absurd h
   unambiguous_after (text u) p c last s x h e o st k =
       let same : (t : List ℕ) → begins_markup t ≡ ends_text z p t = λ t. rw e refl in
       let l : up_to begins_markup s ≡ s = stop_same begins_markup (ends_text z p) same s ∙ h.1 in
@@ -186,3 +183,4 @@ module _ (z : Bool) where
           unambiguous_after_sign s x (subst EndsInSign (sym w.3)
           (sign_before w.0 (w.1 ++ w.2) (sign_before w.1 w.2 (end_sign w.2 n m.1)))) k)
       go (inr w) = absurd (no_tbody n aside w.3)
+  unambiguous_after _ p c last s x h e o st k = absurd h

@@ -5,7 +5,7 @@ use Rattle.std.proofs.Common.{length-append, subst}
 use Rattle.std.specs.Prelude.{◌==◌, ◌||◌}
 use Rattle.std.specs.Char.{is_ascii_alphanumeric, to_ascii_lowercase}
 use Rattle.std.specs.List.{list_all}
-use Rattle.std.proofs.lemmas.Bool.{and_parts, not-true}
+use Rattle.std.proofs.lemmas.Bool.{and_parts, not-true, eq-eqb}
 use Rattle.std.proofs.lemmas.Bool.Decides.{nat_tests}
 use Rattle.std.proofs.Math.Bool.{and-false}
 use Rattle.htmd_grammar.specs.WhiteSpace.{is_ascii_white_space}
@@ -14,7 +14,7 @@ use Rattle.htmd_grammar.specs.CharacterClasses.{is_empty, first_is, behind_run, 
 use Rattle.htmd_grammar.specs.CharacterClasses.{is_attribute_name, are_distinct}
 use Rattle.htmd_grammar.specs.Rules.{named_characters}
 use Rattle.htmd_grammar.specs.References.{decode}
-use Rattle.htmd_grammar.specs.Tags.{IsValue, IsTagRest, decode_values, optional_slash, attribute_names}
+use Rattle.htmd_grammar.specs.Tags.{IsValue, IsTagRest, decode_values, attribute_names}
 use Rattle.htmd_grammar.specs.TagReading.{tag_end, attribute, is_other, quoted_value}
 use Rattle.htmd_grammar.proofs.BooleanLemmas.{all_pass}
 use Rattle.htmd_grammar.proofs.TagReadingLemmas.{halts, front_cut, front_whole, rest_halts, rest_length, white_back}
@@ -40,27 +40,23 @@ use Rattle.htmd_html5_tokens.specs.Tags as lenient
 
 -- ---- what follows a name or a value
 
--- the rest of a tag begins with what ends a name
+-- what begins with a byte that ends a name
+abbrev pub BeginsPast : List ℕ → Type 0
+BeginsPast s = (b : ℕ) × (t : List ℕ) × (s ≡ b ∷ t) × (is_name_byte b ≡ false)
+
+gap_begins : (gap s : List ℕ) → list_all is_ascii_white_space gap ≡ true → (gap ≡ [] → BeginsPast s)
+    → BeginsPast (gap ++ s)
+gap_begins [] s w f = f refl
+gap_begins (b ∷ gap) s w f =
+    (b, gap ++ s, refl, white_ends b (and_parts (is_ascii_white_space b) (list_all is_ascii_white_space gap) w).0)
+
+-- so does the rest of a tag
 pub rest_begins : (attributes : List AttributePair) (present : Bool) (s : List ℕ) → IsTagRest attributes present s
-    → (b : ℕ) × (t : List ℕ) × (s ≡ b ∷ t) × (is_name_byte b ≡ false)
-rest_begins [] present s h = go h.0 present h.2 h.1
-  where
-    go : (gap : List ℕ) (present : Bool) → list_all is_ascii_white_space gap ≡ true
-        → s ≡ gap ++ (optional_slash present ++ 62 ∷ [])
-        → (b : ℕ) × (t : List ℕ) × (s ≡ b ∷ t) × (is_name_byte b ≡ false)
-    go [] true w e = (47, 62 ∷ [], e, refl)
-    go [] false w e = (62, [], e, refl)
-    go (b ∷ gap) present w e =
-        let k = and_parts (is_ascii_white_space b) (list_all is_ascii_white_space gap) w in
-        (b, gap ++ (optional_slash present ++ 62 ∷ []), e, white_ends b k.0)
-rest_begins (a ∷ attributes) present s h = go h.0 h.5 h.6 h.4
-  where
-    go : (gap : List ℕ) → gap ≢ [] → list_all is_ascii_white_space gap ≡ true → s ≡ gap ++
-        (h.1 ++ (h.2 ++ h.3)) → (b : ℕ) × (t : List ℕ) × (s ≡ b ∷ t) × (is_name_byte b ≡ false)
-    go [] n w e = absurd (n refl)
-    go (b ∷ gap) n w e =
-        let k = and_parts (is_ascii_white_space b) (list_all is_ascii_white_space gap) w in
-        (b, gap ++ (h.1 ++ (h.2 ++ h.3)), e, white_ends b k.0)
+    → BeginsPast s
+rest_begins [] true s h = subst BeginsPast (sym h.1) (gap_begins h.0 _ h.2 (λ e. (47, 62 ∷ [], refl, refl)))
+rest_begins [] false s h = subst BeginsPast (sym h.1) (gap_begins h.0 _ h.2 (λ e. (62, [], refl, refl)))
+rest_begins (a ∷ attributes) present s h =
+    subst BeginsPast (sym h.4) (gap_begins h.0 _ h.6 (λ e. absurd (h.5 e)))
 
 -- the rest of a tag after which this comes
 record Ends (s x : List ℕ) : Type 0 where
@@ -123,10 +119,9 @@ spell_bare one two body r x =
 
 quoted_read : (q : ℕ) (key body r : List ℕ) → lacks q body ≡ true
     → quoted_value q key (body ++ (q ∷ r)) ≡ attribute key body r
-quoted_read q key body r l = let c = front_cut (is_other q) body (q ∷ r) l (itself q) in rw (c.0, c.1) refl
-  where
-    itself : (q : ℕ) → not (not (q == q)) ≡ true
-    itself q = grind (arith, nat_tests)
+quoted_read q key body r l =
+    let c = front_cut (is_other q) body (q ∷ r) l (ap (λ b. not (not b)) (eq-eqb q q refl)) in
+    rw (c.0, c.1) refl
 
 after_equals : (key one two r : List ℕ) → list_all is_ascii_white_space one ≡ true
     → list_all is_ascii_white_space two ≡ true → halts is_ascii_white_space r ≡ true
@@ -140,13 +135,11 @@ valued_quoted : (q : ℕ) (key body r : List ℕ) → (q ≡ 34) ⊎ (q ≡ 39) 
     → (halts is_ascii_white_space (q ∷ (body ++ (q ∷ r))) ≡ true)
     × (value_part key (q ∷ (body ++ (q ∷ r))) ≡ attribute key body r)
 valued_quoted q key body r (inl e) l =
-    let k = quoted_read q key body r l in
-    let m : quoted_value 34 key (body ++ (34 ∷ r)) ≡ attribute key body r = rw e at k in
-    rw e (refl, m)
+    let k = rw e at (quoted_read q key body r l) in
+    rw e (refl, k)
 valued_quoted q key body r (inr e) l =
-    let k = quoted_read q key body r l in
-    let m : quoted_value 39 key (body ++ (39 ∷ r)) ≡ attribute key body r = rw e at k in
-    rw e (refl, m)
+    let k = rw e at (quoted_read q key body r l) in
+    rw e (refl, k)
 
 valued_bare : (key body r : List ℕ) → body ≢ [] → list_all strict.is_unquoted_byte body ≡ true
     → halts lenient.is_unquoted_byte r ≡ true → (halts is_ascii_white_space (body ++ r) ≡ true)
@@ -298,10 +291,8 @@ value_unambiguous value r x v (inr (inr h)) n k =
 values_same : (spelled : List AttributePair) (present : Bool) (s x : List ℕ) (attributes : List AttributePair)
     → IsTagRest spelled present s → IsUnambiguousAt in_tag (s ++ x) → decode_values named_characters spelled
     ≡ Some attributes → map valued spelled ≡ attributes
-values_same [] present s x attributes h k e = nothing e
-  where
-    nothing : ◌≡◌ {A = Option (List AttributePair)} (Some []) (Some attributes) → [] ≡ attributes
-    nothing q = cc
+values_same [] present s x attributes h k e =
+    let q : ◌≡◌ {A = Option (List AttributePair)} (Some []) (Some attributes) = e in cc
 values_same (a ∷ spelled) present s x attributes h k e =
     let w = values_parts a.name (decode named_characters 0 a.value) (decode_values named_characters spelled)
     attributes e in
@@ -322,10 +313,7 @@ name_lower : (name : List ℕ) → list_all is_tag_name_byte name ≡ true → n
     name
 name_lower name e =
     ap (map to_ascii_lowercase) (raw_itself (reading_of Style) refl refl name
-    (all_pass is_tag_name_byte (λ b. not (b == 0)) name no_null e))
-  where
-    no_null : (b : ℕ) → is_tag_name_byte b ≡ true → not (b == 0) ≡ true
-    no_null b e = grind (arith, nat_tests)
+    (all_pass is_tag_name_byte (λ b. not (b == 0)) name (λ b f. grind (arith, nat_tests)) e))
 
 abbrev read : TokenValue → List ℕ → Read
 read token rest = record { token = token; rest = rest }

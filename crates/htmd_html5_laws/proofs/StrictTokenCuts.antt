@@ -1,9 +1,9 @@
 -- Each piece of a text of the strict grammar is one token: a start tag, an end tag, a comment, a text.
-use Rattle.std.proofs.Common.{◌≡◌, ◌≢◌, ℕ, Bool, true, false, not, ◌&&◌, ◌||◌, List, [], ◌∷◌, ◌++◌, drop, Some, refl}
-use Rattle.std.proofs.Common.{sym, ap, ◌∙◌, arith, inl, inr, codes, append_assoc, subst}
+use Rattle.std.proofs.Common.{◌≡◌, ◌≢◌, ℕ, Bool, true, false, not, ◌&&◌, ◌||◌, List, [], ◌∷◌, ◌++◌, length, drop, Some}
+use Rattle.std.proofs.Common.{refl, sym, ap, ◌∙◌, arith, inl, inr, codes, append_assoc, subst}
 use Rattle.std.specs.Prelude.{◌==◌, option_map}
 use Rattle.std.specs.Char.{is_ascii_alphabetic}
-use Rattle.std.proofs.lemmas.Bool.{and_parts, or_parts, or_from, not-true, eqb-true}
+use Rattle.std.proofs.lemmas.Bool.{and_parts, and_right, or_parts, or_from, not-true, eqb-true}
 use Rattle.std.proofs.lemmas.Bool.Decides.{nat_tests}
 use Rattle.std.proofs.lemmas.List.{append-nil}
 use Rattle.htmd_grammar.proofs.Cases.{test}
@@ -14,7 +14,7 @@ use Rattle.htmd_grammar.specs.References.{decode}
 use Rattle.htmd_grammar.specs.Rules.{named_characters}
 use Rattle.htmd_grammar.specs.Serialisation.{is_void}
 use Rattle.htmd_grammar.specs.Tags.{IsStartTag, IsEndTag}
-use Rattle.htmd_grammar.proofs.BooleanLemmas.{if_then}
+use Rattle.htmd_grammar.proofs.BooleanLemmas.{and_false, if_then}
 use Rattle.htmd_grammar.proofs.CommentsLemmas.{map_some, Cut, cut, cut_same}
 use Rattle.htmd_grammar.proofs.TextLemmas.{letter_not, run_head, stops_not}
 use Rattle.htmd_html5_tokens.specs.Tokens.{TokenValue, start_tag, end_tag, text, comment, Read}
@@ -26,7 +26,7 @@ use Rattle.htmd_grammar.specs.declared.content_model.ContentModel.TheVariants.{N
 use Rattle.htmd_grammar.specs.declared.content_model.RawElement.TheVariants.{Style}
 use Rattle.htmd_html5_laws.specs.StrictReferences.{Place, outside, in_tag, IsUnambiguousAt, IsUnambiguous}
 use Rattle.htmd_html5_laws.specs.StrictTokens.{tag_named}
-use Rattle.htmd_html5_laws.proofs.StrictReferencesLemmas.{Ending, ending_for_both, less_markup, text_read}
+use Rattle.htmd_html5_laws.proofs.StrictReferencesLemmas.{Ending, ending_for_both, less_markup, no_slash, text_read}
 use Rattle.htmd_html5_laws.proofs.StrictTagsLemmas.{tag_read, raw_itself}
 use Rattle.htmd_html5_laws.proofs.StrictCuts.{unambiguous_back, unambiguous_front, EndsInSign, sign_before}
 use Rattle.htmd_grammar.specs.RawContent as strict
@@ -46,17 +46,6 @@ piece_next : (s : List ℕ) → begins_with (codes "</>") s ≡ false → next_t
 piece_next [] e = refl
 piece_next (b ∷ s) e = rw e refl
 
-start_next : (b : ℕ) (s : List ℕ) → is_ascii_alphabetic b ≡ true
-    → next_token Normal false (60 ∷ b ∷ s) ≡ tag_from_name start_tag (b ∷ s)
-start_next b s e =
-    let n = letter_not b e in
-    let q = letter_is b e in
-    piece_next (60 ∷ b ∷ s) (rw n.0 refl) ∙ rw (e, n.1, q.0, n.0) refl
-
-end_next : (b : ℕ) (s : List ℕ) → is_ascii_alphabetic b ≡ true
-    → next_token Normal false (60 ∷ 47 ∷ b ∷ s) ≡ tag_from_name end_tag (b ∷ s)
-end_next b s e = let q = letter_is b e in piece_next (60 ∷ 47 ∷ b ∷ s) (rw q.1 refl) ∙ rw (q.1, e) refl
-
 name_next : (name s : List ℕ) → is_tag_name name ≡ true
     → (next_token Normal false (60 ∷ (name ++ s)) ≡ tag_from_name start_tag (name ++ s))
     × (next_token Normal false (60 ∷ 47 ∷ (name ++ s)) ≡ tag_from_name end_tag (name ++ s))
@@ -64,8 +53,13 @@ name_next : (name s : List ℕ) → is_tag_name name ≡ true
 name_next [] s e = absurd (cc)
 name_next (b ∷ name) s e =
     let k = and_parts (is_ascii_alphabetic b) _ e in
-    let q = letter_is b k.0 in
-    (start_next b (name ++ s) k.0, end_next b (name ++ s) k.0, rw k.0 refl, rw q.1 refl)
+    let n = letter_not b k.0 in
+    let q = letter_is b k.0 in (
+      piece_next (60 ∷ b ∷ (name ++ s)) (rw n.0 refl) ∙ rw (k.0, n.1, q.0, n.0) refl,
+      piece_next (60 ∷ 47 ∷ b ∷ (name ++ s)) (rw q.1 refl) ∙ rw (q.1, k.0) refl,
+      rw k.0 refl,
+      rw q.1 refl,
+    )
 
 -- a start tag is one token, and markup
 pub start_read : (tag n x : List ℕ) (attributes : List AttributePair) → IsStartTag named_characters tag n attributes
@@ -85,54 +79,36 @@ start_read tag n x attributes h k =
       ap next.begins_markup e ∙ w.2,
     )
 
--- and so is an end tag
-pub end_read : (tag n x : List ℕ) → IsEndTag tag n → IsUnambiguousAt in_tag (tag ++ x)
-    → (next_token Normal false (tag ++ x) ≡ read (end_tag (tag_named n [] false)) x)
-    × (next.begins_markup (tag ++ x) ≡ true) × ((t : List ℕ) × (tag ++ x ≡ 60 ∷ t))
-end_read tag n x h k =
-    let gap : List ℕ = h.1 ++ 62 ∷ [] in
-    let e = ap (λ (y : List ℕ). y ++ x) h.2 ∙ ap (λ (y : List ℕ). 60 ∷ 47 ∷ y) (append_assoc h.0 gap x) in
-    let m = unambiguous_back h.0 (gap ++ x) (unambiguous_back (60 ∷ 47 ∷ []) (h.0 ++ (gap ++ x))
-    (subst (IsUnambiguousAt in_tag) e k)) in
-    let w = name_next h.0 (gap ++ x) h.3 in (
-      ap (next_token Normal false) e ∙ w.1
-          ∙ tag_read end_tag h.0 n [] [] false gap x h.3 h.5 (h.1, refl, h.4) m refl refl,
-      ap next.begins_markup e ∙ w.3,
-      (47 ∷ (h.0 ++ (gap ++ x)), e),
-    )
-
--- the same from an end tag's name on, where it ends raw text
+-- and so is an end tag, from its name on too, where it ends raw text
 pub raw_end_read : (tag n x : List ℕ) → IsEndTag tag n → IsUnambiguousAt in_tag (tag ++ x)
-    → (s : List ℕ) × (tag ++ x ≡ 60 ∷ 47 ∷ s) ×
-    (tag_from_name end_tag s ≡ read (end_tag (tag_named n [] false)) x)
+    → (s : List ℕ) × (tag ++ x ≡ 60 ∷ 47 ∷ s)
+    × (tag_from_name end_tag s ≡ read (end_tag (tag_named n [] false)) x)
+    × (next_token Normal false (60 ∷ 47 ∷ s) ≡ tag_from_name end_tag s)
+    × (next.begins_markup (60 ∷ 47 ∷ s) ≡ true)
 raw_end_read tag n x h k =
     let gap : List ℕ = h.1 ++ 62 ∷ [] in
     let e = ap (λ (y : List ℕ). y ++ x) h.2 ∙ ap (λ (y : List ℕ). 60 ∷ 47 ∷ y) (append_assoc h.0 gap x) in
     let m = unambiguous_back h.0 (gap ++ x) (unambiguous_back (60 ∷ 47 ∷ []) (h.0 ++ (gap ++ x))
-    (subst (IsUnambiguousAt in_tag) e k)) in (
-      h.0 ++ (gap ++ x),
-      e,
-      tag_read end_tag h.0 n [] [] false gap x h.3 h.5 (h.1, refl, h.4) m refl refl,
-    )
+    (subst (IsUnambiguousAt in_tag) e k)) in
+    let w = name_next h.0 (gap ++ x) h.3 in
+    (h.0 ++ (gap ++ x), e, tag_read end_tag h.0 n [] [] false gap x h.3 h.5 (h.1, refl, h.4) m refl refl, w.1, w.3)
+
+-- the same of the whole tag
+pub end_read : (tag n x : List ℕ) → IsEndTag tag n → IsUnambiguousAt in_tag (tag ++ x)
+    → (next_token Normal false (tag ++ x) ≡ read (end_tag (tag_named n [] false)) x)
+    × (next.begins_markup (tag ++ x) ≡ true) × ((t : List ℕ) × (tag ++ x ≡ 60 ∷ t))
+end_read tag n x h k =
+    let r = raw_end_read tag n x h k in
+    (ap (next_token Normal false) r.1 ∙ r.3 ∙ r.2, ap next.begins_markup r.1 ∙ r.4, (47 ∷ r.0, r.1))
 
 -- ---- comments
 
-ended : (b : ℕ) (s : List ℕ) → begins_with (codes "-->") (b ∷ s) ≡ true → drop 2 s ≡ [] → b ∷
-    s ≡ codes "-->"
-ended b [] e f = absurd (let k = and_parts (b == 45) false e in cc)
-ended b (c ∷ []) e f =
-    absurd (let k = and_parts (b == 45) ((c == 45) && false) e in let l = and_parts (c == 45) false k.1 in cc)
-ended b (c ∷ d ∷ s) e f =
-    let k = and_parts (b == 45) ((c == 45) && ((d == 62) && true)) e in
-    let l = and_parts (c == 45) ((d == 62) && true) k.1 in
-    let m = and_parts (d == 62) true l.1 in
-    let p : b ≡ 45 = is_this b 45 k.0 in
-    let q : c ≡ 45 = is_this c 45 l.0 in
-    let r : d ≡ 62 = is_this d 62 m.0 in
-    rw (p, q, r, f) refl
-  where
-    is_this : (x y : ℕ) → (x == y) ≡ true → x ≡ y
-    is_this x y e = grind (arith, nat_tests)
+begins_split : (n s : List ℕ) → begins_with n s ≡ true → s ≡ n ++ drop (length n) s
+begins_split [] s e = refl
+begins_split (c ∷ n) [] e = absurd (cc)
+begins_split (c ∷ n) (b ∷ s) e =
+    let k = and_parts (b == c) (begins_with n s) e in
+    rw (eqb-true b c k.0) (ap (λ (y : List ℕ). c ∷ y) (begins_split n s k.1))
 
 abbrev cons_cut : ℕ → Cut → Cut
 cons_cut b q = (b ∷ q.0, q.1)
@@ -145,7 +121,8 @@ close_split (b ∷ s) u e =
     (option_map (cons_cut b) (before_comment_end s)) (cut u []) e) [
       | inl w ↦
           let q = cut_same [] (drop 2 s) u [] w.1 in
-          ended b s w.0 q.1 ∙ ap (λ (y : List ℕ). y ++ codes "-->") q.0
+          begins_split (codes "-->") (b ∷ s) w.0 ∙ ap (λ (y : List ℕ). codes "-->" ++ y) q.1
+          ∙ ap (λ (y : List ℕ). y ++ codes "-->") q.0
       | inr w ↦
           let m = map_some (cons_cut b) (before_comment_end s) (u, []) w.1 in
           let q = cut_same (b ∷ (m.0).0) (m.0).1 u [] (ap (λ (x : Cut). cut (x.0) (x.1)) m.2) in
@@ -170,16 +147,12 @@ not_ended b c d f s e g =
 
 goes_on : (b : ℕ) (u rest : List ℕ) → begins_with (codes "-->") (b ∷ (u ++ codes "-->")) ≡ false
     → begins_with (codes "--!>") (b ∷ u) ≡ false → ends_comment (b ∷ (u ++ (codes "-->" ++ rest))) ≡ false
-goes_on b [] rest e g =
-    not_ended b 45 45 62 rest (test (b == 45) (λ t. rw t refl) (λ t. rw t refl))
-    (test (b == 45) (λ t. rw t refl) (λ t. rw t refl))
+goes_on b [] rest e g = not_ended b 45 45 62 rest e (and_false (b == 45))
 goes_on b (c ∷ []) rest e g =
-    not_ended b c 45 45 (62 ∷ rest) e
-    (test (b == 45) (λ t. test (c == 45) (λ q. rw (t, q) refl) (λ q. rw (t, q) refl)) (λ t. rw t refl))
+    not_ended b c 45 45 (62 ∷ rest) e (and_right (b == 45) _ (and_false (c == 45)))
 goes_on b (c ∷ d ∷ []) rest e g =
-    not_ended b c d 45 (45 ∷ 62 ∷ rest) e (test (b == 45)
-    (λ t. test (c == 45) (λ q. test (d == 33) (λ x. rw (t, q, x) refl) (λ x. rw (t, q, x) refl))
-    (λ q. rw (t, q) refl)) (λ t. rw t refl))
+    not_ended b c d 45 (45 ∷ 62 ∷ rest) e
+    (and_right (b == 45) _ (and_right (c == 45) _ (and_false (d == 33))))
 goes_on b (c ∷ d ∷ f ∷ u) rest e g = not_ended b c d f (u ++ (codes "-->" ++ rest)) e g
 
 comment_run : (u rest : List ℕ) → before_comment_end (u ++ codes "-->") ≡ cut u [] → holds (codes "--!>")
@@ -207,7 +180,7 @@ not_at_once : (u rest : List ℕ) → begins_with (codes ">") u ≡ false → be
     → (begins_with (codes ">") (u ++ (codes "-->" ++ rest)) ≡ false)
     × (begins_with (codes "->") (u ++ (codes "-->" ++ rest)) ≡ false)
 not_at_once [] rest e g = (refl, refl)
-not_at_once (b ∷ []) rest e g = (e, test (b == 45) (λ t. rw t refl) (λ t. rw t refl))
+not_at_once (b ∷ []) rest e g = (e, and_false (b == 45))
 not_at_once (b ∷ c ∷ u) rest e g = (e, g)
 
 pub lines_same : (s : List ℕ) → lacks 13 s ≡ true → normalized s ≡ s
@@ -246,20 +219,9 @@ comment_sign s u h =
 
 -- ---- texts
 
-no_piece : (b : ℕ) (s : List ℕ) → strict.begins_markup (b ∷ s) ≡ false → begins_with (codes "</>")
-    (b ∷ s) ≡ false
-no_piece b [] e = test (b == 60) (λ t. rw t refl) (λ t. rw t refl)
-no_piece b (c ∷ s) e =
-    test (b == 60) (λ t. test (c == 47) (λ q. absurd (slash c q (rw t at e))) (λ q. rw (t, q) refl))
-    (λ t. rw t refl)
-  where
-    slash : (c : ℕ) → (c == 47) ≡ true → (is_ascii_alphabetic c || (c == 47) || (c == 33) ||
-        (c == 63)) ≡ false → ⊥
-    slash c q e = grind (arith, nat_tests)
-
 text_next : (b : ℕ) (s : List ℕ) → strict.begins_markup (b ∷ s) ≡ false
     → next_token Normal false (b ∷ s) ≡ read_text (b ∷ s)
-text_next b s e = piece_next (b ∷ s) (no_piece b s e) ∙ rw (less_markup (b ∷ s) e) refl
+text_next b s e = piece_next (b ∷ s) (no_slash b s e) ∙ rw (less_markup (b ∷ s) e) refl
 
 -- what comes before markup, or the end, is unambiguous
 pub unambiguous_before : (here : Place) (s x : List ℕ) → Ending x → IsUnambiguousAt here (s ++ x)

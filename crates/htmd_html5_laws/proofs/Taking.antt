@@ -1,10 +1,9 @@
 -- Steps on a state that put a text into it.
 use Rattle.std.proofs.Common.{◌≡◌, ◌∙◌, ℕ, zero, suc, ◌+◌, ◌≤◌, Bool, true, false, List, [], ◌∷◌, ◌++◌, get_or, set}
-use Rattle.std.proofs.Common.{Option, Some, None, refl, sym, ap, subst, arith, All}
+use Rattle.std.proofs.Common.{Option, refl, sym, ap, subst, arith, All}
 use Rattle.std.specs.Prelude.{IsUtf8}
 use Rattle.std.proofs.lemmas.Bool.{true≢false}
-use Rattle.htmd_html5_state.specs.Nodes.{KindValue, NodeValue, document, text, kind_at, text_of, add, or_add, joined_to}
-use Rattle.htmd_html5_state.specs.Nodes.{joined_with, preceding}
+use Rattle.htmd_html5_state.specs.Nodes.{KindValue, NodeValue, document, text, kind_at, add, with_kind}
 use Rattle.htmd_html5_state.specs.State.{StateValue}
 use Rattle.htmd_html5_state.specs.Insertion.{insert_text, place}
 use Rattle.htmd_html5_state.specs.OpenElements.{OpenValue}
@@ -14,6 +13,7 @@ use Rattle.htmd_html5_laws.proofs.NodeTexts.{kinds, texts, is_element, kinds_add
 use Rattle.htmd_html5_laws.proofs.NodeTexts.{element_before, element_set}
 use Rattle.htmd_html5_laws.proofs.Forests.{IsForest, forest_add, forest_with_kind}
 use Rattle.htmd_html5_laws.proofs.Keeping.{ElementAt, IsRooted, SoundIn, KeptIn, Sound, Keeps, rooted_new}
+use Rattle.htmd_html5_laws.proofs.NamedKinds.{by_text}
 use Rattle.htmd_html5_laws.proofs.TextsPut.{Grown, grown_by_text, grown_at}
 
 -- a character stands in the texts at most so many times more, and no fewer times if nothing may be lost; elements are
@@ -95,10 +95,6 @@ fostered_puts h = record { puts = λ s sound. h.puts (record s { foster_parentin
 
 -- ---- a text is inserted
 
-is_text_of : (k : KindValue) (before : List ℕ) → text_of k ≡ Some before → k ≡ text before
-is_text_of (text s) before e = cc
-is_text_of _ before e = absurd (cc)
-
 -- the kinds of the nodes are these
 grew_kinds : {exact : Bool} {c n : ℕ} {nodes new : List NodeValue} {head : Option ℕ} {entries : List (Option ℕ)}
     {stack : List OpenValue} (ks : List KindValue) → kinds new ≡ ks → Grown c n (kinds nodes) ks
@@ -137,13 +133,11 @@ rooted_set [] n k e r = absurd (true≢false r)
 rooted_set (x ∷ ks) zero k e r = e
 rooted_set (x ∷ ks) (suc n) k e r = r
 
--- the text that may be joined is given
-joined_grew : {exact : Bool} (c : ℕ) (t : List ℕ) (at : _) (nodes : List NodeValue) {head : Option ℕ}
-    {entries : List (Option ℕ)} {stack : List OpenValue} (n : ℕ) (before : Option (List ℕ))
-    → text_of (kind_at nodes n) ≡ before → IsUtf8 t → SoundIn nodes head entries stack
-    → GrewIn exact c (occurrences c t) nodes (or_add t at nodes (joined_with t n before nodes)) head entries stack
-joined_grew c t at nodes n None e u h = added_grew c t at nodes u h
-joined_grew c t at nodes n (Some before) e u h =
+joined_grew : {exact : Bool} (c : ℕ) (t : List ℕ) (nodes : List NodeValue) {head : Option ℕ}
+    {entries : List (Option ℕ)} {stack : List OpenValue} (n : ℕ) (before : List ℕ)
+    → kind_at nodes n ≡ text before → IsUtf8 t → SoundIn nodes head entries stack
+    → GrewIn exact c (occurrences c t) nodes (with_kind n (text (before ++ t)) nodes) head entries stack
+joined_grew c t nodes n before e u h =
     grew_kinds (set (kinds nodes) n (text (before ++ t))) (kinds_with_kind n (text (before ++ t)) nodes)
     (grown_at c (kinds nodes) n before t here u h.utf8) (λ m f. element_set (kinds nodes) n m (text (before ++ t))
     (λ g. absurd (true≢false (sym g ∙ ap is_element here))) f)
@@ -151,15 +145,11 @@ joined_grew c t at nodes n (Some before) e u h =
     (forest_with_kind n (text (before ++ t)) nodes h.forest) h
   where
     here : get_or (kinds nodes) n document ≡ text before
-    here = sym (kind_read nodes n) ∙ is_text_of (kind_at nodes n) before e
-
-preceded_grew : {exact : Bool} (c : ℕ) (t : List ℕ) (at : _)
-    (nodes : List NodeValue) {head : Option ℕ} {entries : List (Option ℕ)}
-    {stack : List OpenValue} (n : Option ℕ) → IsUtf8 t → SoundIn nodes head entries stack
-    → GrewIn exact c (occurrences c t) nodes (or_add t at nodes (joined_to t n nodes)) head entries stack
-preceded_grew c t at nodes None u h = added_grew c t at nodes u h
-preceded_grew c t at nodes (Some n) u h = joined_grew c t at nodes n (text_of (kind_at nodes n)) refl u h
+    here = sym (kind_read nodes n) ∙ e
 
 pub insert_text_puts : {exact : Bool} (c : ℕ) (t : List ℕ) → IsUtf8 t
     → Puts exact c (occurrences c t) (insert_text t)
-insert_text_puts c t u = record { puts = λ s h. preceded_grew c t (place s) s.nodes (preceding (place s) s.nodes) u h }
+insert_text_puts {exact} c t u = record {
+  puts = λ s h. by_text (λ new. GrewIn exact c (occurrences c t) s.nodes new s.head s.formatting s.stack) t (place s)
+      s.nodes (added_grew c t (place s) s.nodes u h) (λ n before p e. joined_grew c t s.nodes n before e u h);
+}

@@ -68,7 +68,6 @@ grown_in_text c (text s) before t ks e u all = record {
 
     front : IsUtf8 before
     front = subst IsUtf8 same (All-head IsUtf8 s (texts ks) all)
-grown_in_text c document before t ks e u all = absurd (cc)
 grown_in_text c _ before t ks e u all = absurd (cc)
 
 pub all_under : (k : KindValue) (ts : List (List ℕ)) → All IsUtf8 (with_text k ts) → All IsUtf8 ts
@@ -85,7 +84,6 @@ grown_under c n (text s) ks new all g = record {
       omega arith;
   utf8 = All-cons IsUtf8 s (texts new) (All-head IsUtf8 s (texts ks) all) g.utf8;
 }
-grown_under c n document ks new all g = record { grows = g.grows; utf8 = g.utf8 }
 grown_under c n _ ks new all g = record { grows = g.grows; utf8 = g.utf8 }
 
 pub grown_at : (c : ℕ) (ks : List KindValue) (n : ℕ) (before t : List ℕ) → get_or ks n document ≡ text before

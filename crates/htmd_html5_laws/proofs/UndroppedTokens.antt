@@ -32,8 +32,8 @@ use Rattle.htmd_html5_laws.specs.DroppedTexts.{drops_text_in, drops_no_text, tok
 use Rattle.htmd_html5_laws.specs.DroppedTexts.{no_tag_drops_text, HarmlessTextsAreTaken}
 use Rattle.htmd_html5_laws.proofs.FedTokens.{initial_sound}
 use Rattle.htmd_html5_laws.proofs.KeepingAdoption.{found}
-use Rattle.htmd_html5_laws.proofs.HungNodes.{is_solid}
-use Rattle.htmd_html5_state.specs.Nodes.{document, new_node, kind_at}
+use Rattle.htmd_html5_laws.proofs.HungNodes.{solid_within}
+use Rattle.htmd_html5_state.specs.Nodes.{document, new_node}
 use Rattle.htmd_html5_laws.proofs.OpenNodes.{pop_fewer}
 use Rattle.htmd_html5_laws.proofs.PlainNames.{is_plain_name, is_plain_open}
 use Rattle.htmd_html5_laws.proofs.HungStates.{Hung, hung_fewer, hung_text}
@@ -274,20 +274,13 @@ begins_hung scripting = record {
   limit = 0;
   at_root = refl;
   order = tt;
-  hangs = λ n solid. absurd (none n solid);
+  hangs = λ n solid. inl (let w = solid_within n (new_node document ∷ []) solid in omega arith);
   opened_at = tt;
-  head_at = λ n e. absurd (no_head n e);
+  head_at = λ n e. absurd (let f = e in cc);
   forest = (initial_sound scripting).forest;
   filled = omega arith;
   root = refl;
 }
-  where
-    none : (n : ℕ) → is_solid (kind_at (new_node document ∷ []) n) ≡ true → ⊥
-    none zero e = true≢false (sym e)
-    none (suc n) e = true≢false (sym e)
-
-    no_head : (n : ℕ) → None ≡ Some n → ⊥
-    no_head n e = cc
 
 all_harmless : (scripting : Bool) (page : List ℕ) → no_tag_drops_text scripting page ≡ true
     → (all_texts_are_taken scripting page ≡ true) × Stands (state_after scripting page)

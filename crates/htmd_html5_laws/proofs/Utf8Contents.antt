@@ -234,14 +234,13 @@ piece_utf8 : (r : _) (b : ℕ) (s : List ℕ) → IsUtf8 (b ∷ []) → IsUtf8 s
 piece_utf8 r b s one u =
     test (b == 38 && has_references r) (λ e. rw e (reference_utf8 (is_value r) s u))
     (λ e. test (b == 60 && (is_text r && begins_with (codes "/>") s))
-    (λ f. rw (e, f) (record { characters = IsUtf8-nil; rest = IsUtf8-drop s 2 u (cut_after_slash s u (ends f)) }))
+    (λ f. rw (e, f) (record {
+      characters = IsUtf8-nil;
+      rest = IsUtf8-drop s 2 u (cut_after_slash s u
+          (and_parts (is_text r) _ (and_parts (b == 60) _ f).1).1);
+    }))
     (λ f. test (b == 0 && not (is_text r)) (λ g. rw (e, f, g) (record { characters = replacement_utf8; rest = u }))
     (λ g. rw (e, f, g) (record { characters = one; rest = u }))))
-  where
-    ends : (b == 60 && (is_text r && begins_with (codes "/>") s)) ≡ true → begins_with (codes "/>") s ≡ true
-    ends f =
-        let p = and_parts (b == 60) (is_text r && begins_with (codes "/>") s) f in
-        (and_parts (is_text r) (begins_with (codes "/>") s) p.1).1
 
 -- ---- a whole text
 

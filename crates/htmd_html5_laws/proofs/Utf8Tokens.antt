@@ -121,17 +121,13 @@ after_gap_utf8 : (ends : Bool) (s : List ℕ) → IsUtf8 s → PartUtf8 (after_g
 after_gap_utf8 ends [] u = tt
 after_gap_utf8 ends (b ∷ s) u =
     test (b == 62) (λ e. rw e (after_first_utf8 62 (b ∷ s) (omega arith) e u))
-    (λ e. rw e (after_name_utf8 (b ∷ leading_run is_attribute_name_byte s)
-    (behind_run is_attribute_name_byte s) name_utf8))
-  where
-    name_utf8 : IsUtf8 (behind_run is_attribute_name_byte s)
-    name_utf8 =
-        let n : ℕ = length (leading_run is_attribute_name_byte s) in
-        let cut = IsCharBoundary-from_rest (b ∷ s) 1 n (omega arith)
-        (cut_before_ascii is_attribute_name_byte s outside_attribute_name) in
-        let one : 1 + n ≡ suc n = omega arith in
-        subst IsUtf8 (drop_run is_attribute_name_byte s)
-        (subst (λ m. IsUtf8 (drop m (b ∷ s))) one (IsUtf8-drop (b ∷ s) (1 + n) u cut))
+    (λ e. let n : ℕ = length (leading_run is_attribute_name_byte s) in
+    let cut = IsCharBoundary-from_rest (b ∷ s) 1 n (omega arith)
+    (cut_before_ascii is_attribute_name_byte s outside_attribute_name) in
+    let one : 1 + n ≡ suc n = omega arith in
+    rw e (after_name_utf8 (b ∷ leading_run is_attribute_name_byte s) (behind_run is_attribute_name_byte s)
+    (subst IsUtf8 (drop_run is_attribute_name_byte s)
+    (subst (λ m. IsUtf8 (drop m (b ∷ s))) one (IsUtf8-drop (b ∷ s) (1 + n) u cut)))))
 
 next_part_utf8 : (s : List ℕ) → IsUtf8 s → PartUtf8 (next_part s)
 next_part_utf8 s u =

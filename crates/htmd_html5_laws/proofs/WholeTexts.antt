@@ -1,9 +1,9 @@
 -- Where a document is in one piece, the texts of the tree hold what those of its nodes hold.
 use Rattle.std.proofs.Common.{◌≡◌, ◌∙◌, ℕ, zero, suc, ◌+◌, ◌≤◌, Bool, true, false, List, [], ◌∷◌, ◌++◌, length, refl}
-use Rattle.std.proofs.Common.{sym, ap, subst, arith, cond, map, Option, Some, None, inl, inr, ◌⊎◌, length-append}
+use Rattle.std.proofs.Common.{sym, ap, subst, arith, cond, map, Option, Some, None, inl, inr, ◌⊎◌, ⊎_elim, length-append}
 use Rattle.std.specs.Prelude.{◌==◌, ◌||◌, not, is_some, if◌then◌else◌}
 use Rattle.std.specs.List.{list_any}
-use Rattle.std.proofs.lemmas.Bool.{true≢false, and_parts, eqb-true}
+use Rattle.std.proofs.lemmas.Bool.{true≢false, and_parts, or_cases, eqb-true}
 use Rattle.htmd_grammar.proofs.Cases.{test}
 use Rattle.htmd_html5_state.specs.Names.{text_of_element_name}
 use Rattle.htmd_html5_state.specs.Nodes.{KindValue, NodeValue, document, doctype, text, comment, element, kind_at}
@@ -41,12 +41,11 @@ holder_of : (nodes : List NodeValue) (p n : ℕ) → holds_node nodes p n ≡ tr
 holder_of nodes p n e =
     let both = and_parts (p == 0 || is_element_kind (kind_at nodes p))
     (list_any (is_number n) (children_at nodes p)) e in
-    record { either = first both.0; stands = some_times n (children_at nodes p) both.1 }
-  where
-    first : (p == 0 || is_element_kind (kind_at nodes p)) ≡ true → (p ≡ 0)
-        ⊎ (is_element (kind_at nodes p) ≡ true)
-    first f =
-        test (p == 0) (λ t. inl (eqb-true p 0 t)) (λ t. inr (sym (element_same (kind_at nodes p)) ∙ rw t at f))
+    record {
+      either = ⊎_elim (λ t. inl (eqb-true p 0 t)) (λ t. inr (sym (element_same (kind_at nodes p)) ∙ t))
+          (or_cases (p == 0) (is_element_kind (kind_at nodes p)) both.0);
+      stands = some_times n (children_at nodes p) both.1;
+    }
 
 -- what a node that hangs by its parent has
 pub record Hanging (go : ℕ → Bool) (nodes : List NodeValue) (n : ℕ) : Type 0 where
@@ -139,12 +138,9 @@ module _ (c : ℕ) where
   under_weigh nodes (x ∷ xs) =
       let a = weigh_append c nodes (own_children x) (element_children xs) in
       let h = under_weigh nodes xs in
-      let own : weigh c nodes (own_children x) ≡ under c nodes x = own_weigh (is_element x.kind) in
+      let own : weigh c nodes (own_children x) ≡ under c nodes x =
+      test (is_element x.kind) (λ t. rw t refl) (λ t. rw t refl) in
       omega arith
-    where
-      own_weigh : (b : Bool) → weigh c nodes (cond b x.children []) ≡ cond b (weigh c nodes x.children) 0
-      own_weigh true = refl
-      own_weigh false = refl
 
   -- ---- a step
 

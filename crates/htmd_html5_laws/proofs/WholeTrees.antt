@@ -1,6 +1,6 @@
 -- A document in one piece is laid out as a tree that has all its texts.
 use Rattle.std.proofs.Common.{◌≡◌, ◌∙◌, ℕ, zero, suc, ◌+◌, ◌<◌, ◌≤◌, Bool, true, false, List, [], ◌∷◌, ◌++◌, length}
-use Rattle.std.proofs.Common.{refl, sym, ap, subst, arith, cond, Some, inl, inr, ◌⊎◌, length-append}
+use Rattle.std.proofs.Common.{refl, sym, ap, subst, arith, cond, Some, inl, inr, ◌⊎◌, ⊎_elim, length-append}
 use Rattle.std.specs.Prelude.{◌==◌}
 use Rattle.std.proofs.lemmas.Bool.{true≢false, eqb-true, eqb-false, eq-eqb}
 use Rattle.htmd_grammar.proofs.Cases.{test}
@@ -10,15 +10,15 @@ use Rattle.htmd_html5.specs.Layout.{Coming, Layout, put_next, layout_within, fir
 use Rattle.htmd_html5_laws.specs.PageLetters.{occurrences_in, texts_of}
 use Rattle.htmd_html5_laws.specs.KeptLetters.{hangs_within, is_whole}
 use Rattle.htmd_html5_laws.proofs.NodeTexts.{kinds, texts, is_element}
-use Rattle.htmd_html5_laws.proofs.NodeParts.{times, times_append, children_of_kind}
+use Rattle.htmd_html5_laws.proofs.NodeParts.{times, times_append, children_of_kind, kind_other}
 use Rattle.htmd_html5_laws.proofs.Forests.{IsForest, under_itself}
 use Rattle.htmd_html5_laws.proofs.Keeping.{IsRooted}
-use Rattle.htmd_html5_laws.proofs.NodeWeights.{kind_marked, kind_other, TextsUtf8, marked_utf8, in_kind, in_items}
+use Rattle.htmd_html5_laws.proofs.NodeWeights.{kind_marked, TextsUtf8, marked_utf8, in_kind, in_items}
 use Rattle.htmd_html5_laws.proofs.NodeWeights.{in_nodes, kind_more, node_taken, weigh, weigh_work, under, under_all}
 use Rattle.htmd_html5_laws.proofs.NodeWeights.{weigh_append, weigh_coming, weigh_fewer}
 use Rattle.htmd_html5_laws.proofs.LaidTexts.{in_layout}
 use Rattle.htmd_html5_laws.proofs.PendingNodes.{numbers, numbers_coming, element_children, first_once, first_short}
-use Rattle.htmd_html5_laws.proofs.HungNodes.{is_solid, element_solid, Hangs, AllHang}
+use Rattle.htmd_html5_laws.proofs.HungNodes.{is_solid, element_solid, HangsBy, AllHang}
 use Rattle.htmd_html5_laws.proofs.WholeTexts.{kind_same, Holder, hanging, text_hangs, stands_in, no_work}
 use Rattle.htmd_html5_laws.proofs.WholeTexts.{under_weigh, Stepped, kind_step}
 
@@ -40,7 +40,11 @@ first_running nodes root forest utf8 = record {
   same = λ n. inl refl;
   children = λ p. refl;
   once = λ m. let a = work m in let b = first_once m nodes root forest in omega arith;
-  reach = λ n p e h. by_holder n p h h.either;
+  reach = λ n p e h. ⊎_elim
+      (λ z. let a = work n in
+      let b = ap (λ (x : ℕ). times n (children_at nodes x)) z in
+      let d = h.stands in
+      inl (omega arith)) (λ f. inr f) h.either;
   utf8 = utf8;
 }
   where
@@ -49,26 +53,12 @@ first_running nodes root forest utf8 = record {
         ap (times m) (numbers_coming 0 (children_at nodes 0) [])
         ∙ (times_append m (children_at nodes 0) [] ∙ omega arith)
 
-    by_holder : (n p : ℕ) → Holder nodes p n → (p ≡ 0) ⊎ (is_element (kind_at nodes p) ≡ true)
-        → (1 ≤ times n (numbers (first_layout nodes).work)) ⊎ (is_element (kind_at nodes p) ≡ true)
-    by_holder n p h (inl z) =
-        let a = work n in
-        let b = ap (λ (x : ℕ). times n (children_at nodes x)) z in
-        let d = h.stands in
-        inl (omega arith)
-    by_holder n p h (inr e) = inr e
-
 -- ---- nothing is left
 
 root_plain : (first : List NodeValue) (l : Layout) → Running first l → IsRooted (kinds first)
     → is_element (kind_at l.nodes 0) ≡ false
 root_plain [] l r root = absurd (true≢false root)
-root_plain (x ∷ first) l r root = either (r.same 0)
-  where
-    either : (kind_at l.nodes 0 ≡ kind_at (x ∷ first) 0) ⊎ (kind_at l.nodes 0 ≡ document)
-        → is_element (kind_at l.nodes 0) ≡ false
-    either (inl e) = ap is_element e ∙ root
-    either (inr e) = ap is_element e
+root_plain (x ∷ first) l r root = ⊎_elim (λ e. ap is_element e ∙ root) (λ e. ap is_element e) (r.same 0)
 
 -- a node is pending where its parent isn't taken
 unreached : (n p : ℕ) (l : Layout) → l.work ≡ [] → is_element (kind_at l.nodes p) ≡ false
@@ -95,20 +85,12 @@ ranked : (k n : ℕ) (rank : ℕ → ℕ) (first : List NodeValue) (l : Layout) 
     → IsRooted (kinds first) → AllHang rank first → rank n < k → is_element (kind_at l.nodes n) ≡ false
 ranked zero n rank first l r e root all less = absurd (omega arith)
 ranked (suc k) n rank first l r e root all less =
-    test (is_element (kind_at l.nodes n))
-    (λ f. absurd (by_hangs (λ m g. ranked k m rank first l r e root all g) f (all n (solid f (r.same n))))) (λ f. f)
-  where
-    solid : is_element (kind_at l.nodes n) ≡ true
-        → (kind_at l.nodes n ≡ kind_at first n) ⊎ (kind_at l.nodes n ≡ document)
-        → is_solid (kind_at first n) ≡ true
-    solid f (inl g) = element_solid (kind_at first n) (sym (ap is_element g) ∙ f)
-    solid f (inr g) = absurd (true≢false (sym f ∙ ap is_element g))
-
-    by_hangs : ((m : ℕ) → rank m < k → is_element (kind_at l.nodes m) ≡ false)
-        → is_element (kind_at l.nodes n) ≡ true → Hangs rank first n → ⊥
-    by_hangs go f (inl z) =
-        true≢false (sym f ∙ (ap (λ (x : ℕ). is_element (kind_at l.nodes x)) z ∙ root_plain first l r root))
-    by_hangs go f (inr h) = unreached n h.by l e (go h.by (let a = h.less in omega arith)) (r.reach n h.by f h.holder)
+    test (is_element (kind_at l.nodes n)) (λ f. absurd (⊎_elim
+    (λ z. true≢false (sym f ∙ (ap (λ (x : ℕ). is_element (kind_at l.nodes x)) z ∙ root_plain first l r root)))
+    (λ (h : HangsBy rank first n). unreached n h.by l e
+    (ranked k h.by rank first l r e root all (let a = h.less in omega arith)) (r.reach n h.by f h.holder))
+    (all n (⊎_elim (λ g. element_solid (kind_at first n) (sym (ap is_element g) ∙ f))
+    (λ g. absurd (true≢false (sym f ∙ ap is_element g))) (r.same n))))) (λ f. f)
 
 -- ---- the texts of a document hang
 
@@ -137,23 +119,23 @@ whole_hang first root whole n s e =
 -- where each hangs in an order
 pub ranked_hang : (rank : ℕ → ℕ) (first : List NodeValue) → IsRooted (kinds first)
     → is_solid (kind_at first 0) ≡ false → AllHang rank first → TextsHang first
-ranked_hang rank first root plain all n s e = by_hangs (all n (ap is_solid e))
-  where
-    by_hangs : Hangs rank first n → TextHangs first n
-    by_hangs (inl z) =
-        absurd (true≢false (sym (ap is_solid e) ∙ (ap (λ (x : ℕ). is_solid (kind_at first x)) z ∙ plain)))
-    by_hangs (inr h) = record {
+ranked_hang rank first root plain all n s e =
+    ⊎_elim (λ z. absurd (true≢false (sym (ap is_solid e)
+    ∙ (ap (λ (x : ℕ). is_solid (kind_at first x)) z ∙ plain))))
+    (λ (h : HangsBy rank first n). record {
       by = h.by;
       parent = h.parent;
       holder = h.holder;
       above = λ l r f. ranked (suc (rank h.by)) h.by rank first l r f root all (omega arith);
-    }
+    }) (all n (ap is_solid e))
 
 module _ (c : ℕ) where
   step_running : (first : List NodeValue) (x : Coming) (rest : List Coming) (l new : Layout) → l.work ≡ x ∷ rest
       → Running first l → Stepped c x (record l { work = rest }) new → Running first new
   step_running first x rest l new e r s = record {
-    same = λ n. same n (kind_marked x.node n l.nodes);
+    same = λ n. ⊎_elim (λ f. ⊎_elim (λ g. inl (kind n ∙ (f ∙ g))) (λ g. inr (kind n ∙ (f ∙ g)))
+        (r.same n))
+        (λ f. inr (kind n ∙ f)) (kind_marked x.node n l.nodes);
     children = λ p.
         ap (λ (nodes : List NodeValue). children_at nodes p) s.nodes
         ∙ (children_of_kind x.node p document l.nodes ∙ r.children p);
@@ -164,17 +146,6 @@ module _ (c : ℕ) where
     where
       kind : (n : ℕ) → kind_at new.nodes n ≡ kind_at (with_kind x.node document l.nodes) n
       kind n = ap (λ (nodes : List NodeValue). kind_at nodes n) s.nodes
-
-      same : (n : ℕ) → (kind_at (with_kind x.node document l.nodes) n ≡ kind_at l.nodes n)
-          ⊎ (kind_at (with_kind x.node document l.nodes) n ≡ document)
-          → (kind_at new.nodes n ≡ kind_at first n) ⊎ (kind_at new.nodes n ≡ document)
-      same n (inr f) = inr (kind n ∙ f)
-      same n (inl f) = before (r.same n)
-        where
-          before : (kind_at l.nodes n ≡ kind_at first n) ⊎ (kind_at l.nodes n ≡ document)
-              → (kind_at new.nodes n ≡ kind_at first n) ⊎ (kind_at new.nodes n ≡ document)
-          before (inl g) = inl (kind n ∙ (f ∙ g))
-          before (inr g) = inr (kind n ∙ (f ∙ g))
 
       work : (m : ℕ) → times m (numbers l.work) ≡ cond (x.node == m) 1 0 + times m (numbers rest)
       work m = ap (λ (w : List Coming). times m (numbers w)) e
@@ -187,25 +158,20 @@ module _ (c : ℕ) where
           ∙ ap is_element (kind_same x.node l.nodes) in
           true≢false (sym f ∙ h)
 
-      held : (n p : ℕ) → is_element (kind_at (with_kind x.node document l.nodes) n) ≡ true → Holder first p n
-          → (1 ≤ times n (numbers l.work)) ⊎ (is_element (kind_at l.nodes p) ≡ true)
+      reach : (n p : ℕ) → is_element (kind_at (with_kind x.node document l.nodes) n) ≡ true → Holder first p n
           → (1 ≤ times n (numbers new.work)) ⊎ (is_element (kind_at new.nodes p) ≡ true)
-      held n p f h (inl k) =
-          test (x.node == n) (λ t. absurd (other n f (eqb-true x.node n t)))
+      reach n p f h =
+          ⊎_elim (λ k. test (x.node == n) (λ t. absurd (other n f (eqb-true x.node n t)))
           (λ t. let a : ◌≡◌ {A = ℕ} (cond (x.node == n) 1 0) 0 = rw t refl in
           let b = work n in
-          inl (s.elements n f (omega arith)))
-      held n p f h (inr g) =
-          test (x.node == p)
+          inl (s.elements n f (omega arith))))
+          (λ g. test (x.node == p)
           (λ t. let q = eqb-true x.node p t in
           let a = ap (λ (i : ℕ). times n (children_at l.nodes i)) q ∙ ap (times n) (r.children p) in
           let b = h.stands in
           inl (s.children (ap (λ (i : ℕ). is_element (kind_at l.nodes i)) q ∙ g) n (omega arith)))
-          (λ t. inr (ap is_element (kind p ∙ kind_other x.node p l.nodes (eqb-false x.node p t)) ∙ g))
-
-      reach : (n p : ℕ) → is_element (kind_at (with_kind x.node document l.nodes) n) ≡ true → Holder first p n
-          → (1 ≤ times n (numbers new.work)) ⊎ (is_element (kind_at new.nodes p) ≡ true)
-      reach n p f h = held n p f h (r.reach n p (sym (ap is_element (kind_other x.node n l.nodes (other n f))) ∙ f) h)
+          (λ t. inr (ap is_element (kind p ∙ kind_other x.node p document l.nodes (eqb-false x.node p t)) ∙ g)))
+          (r.reach n p (sym (ap is_element (kind_other x.node n document l.nodes (other n f))) ∙ f) h)
 
   -- ---- to the end
 
@@ -271,29 +237,20 @@ module _ (c : ℕ) where
     text_none : (l : Layout) → Running first l → l.work ≡ [] → (n p : ℕ) → is_element (kind_at l.nodes p)
         ≡ true → 1 ≤ times n (children_at l.nodes p) → in_kind c (kind_at l.nodes n) ≡ 0
     unfolding in_kind
-    text_none l r e n p f m = either (r.same n)
+    text_none l r e n p f m =
+        ⊎_elim (λ g. ap (in_kind c) g ∙ by_kind (kind_at first n) refl) (λ g. ap (in_kind c) g) (r.same n)
       where
-        hung : (s : List ℕ) → kind_at first n ≡ text s → ⊥
-        hung s g =
+        by_kind : (k : KindValue) → kind_at first n ≡ k → in_kind c k ≡ 0
+        by_kind (text s) g =
             let hang = texts_hung n s g in
             let a = ap (times n) (r.children p) in
             let b = forest.once n p in
             let parent = under_itself (parent_at first n) p (omega arith) in
-            let same : hang.by ≡ p = some_same (sym hang.parent ∙ parent) in
+            let both : Some hang.by ≡ Some p = sym hang.parent ∙ parent in
+            let same : hang.by ≡ p = cc in
             let d = hang.above l r e in
-            true≢false (sym f ∙ (ap (λ (i : ℕ). is_element (kind_at l.nodes i)) (sym same) ∙ d))
-          where
-            some_same : {a b : ℕ} → Some a ≡ Some b → a ≡ b
-            some_same q = cc
-
-        by_kind : (k : KindValue) → kind_at first n ≡ k → in_kind c k ≡ 0
-        by_kind (text s) g = absurd (hung s g)
+            absurd (true≢false (sym f ∙ (ap (λ (i : ℕ). is_element (kind_at l.nodes i)) (sym same) ∙ d)))
         by_kind _ g = refl
-
-        either : (kind_at l.nodes n ≡ kind_at first n) ⊎ (kind_at l.nodes n ≡ document)
-            → in_kind c (kind_at l.nodes n) ≡ 0
-        either (inl g) = ap (in_kind c) g ∙ by_kind (kind_at first n) refl
-        either (inr g) = ap (in_kind c) g
 
     nothing_left : (l : Layout) → Running first l → l.work ≡ [] → under_all c l.nodes l.nodes ≡ 0
     nothing_left l r e =
@@ -318,56 +275,32 @@ module _ (c : ℕ) where
         → ((n : ℕ) → (in_kind c (kind_at nodes n) ≡ 0) ⊎ (1 ≤ times n ns)) → in_nodes c nodes
         ≤ weigh c nodes ns
     unfolding in_kind
-    covered [] nodes h = let a = nodes_zero nodes (λ n. none n (h n)) in omega arith
-      where
-        none : (n : ℕ) → (in_kind c (kind_at nodes n) ≡ 0) ⊎ (1 ≤ times n []) → in_kind c (kind_at nodes n)
-            ≡ 0
-        none n (inl e) = e
-        none n (inr l) = absurd (omega arith)
+    covered [] nodes h =
+        let a = nodes_zero nodes (λ n. ⊎_elim (λ e. e) (λ l. absurd (omega arith)) (h n)) in omega arith
     covered (n ∷ ns) nodes h =
-        let a = node_taken c nodes n (record { nodes = nodes; items = []; work = [] }) refl in
+        let a = node_taken c nodes n in
         let b = weigh_fewer c n nodes ns in
-        let d = covered ns (with_kind n document nodes) (λ m. rest m (kind_marked n m nodes) (h m)) in
+        let d = covered ns (with_kind n document nodes) (λ m. ⊎_elim
+        (λ e. ⊎_elim (λ z. inl (ap (in_kind c) e ∙ z)) (λ (l : 1 ≤ times m (n ∷ ns)). test (n == m)
+        (λ t. inl (ap (in_kind c)
+        (ap (λ (i : ℕ). kind_at (with_kind n document nodes) i) (sym (eqb-true n m t)) ∙ kind_same n nodes)))
+        (λ t. let k = rw t at l in inr (omega arith))) (h m)) (λ e. inl (ap (in_kind c) e))
+        (kind_marked n m nodes)) in
         omega arith
-      where
-        rest : (m : ℕ) → (kind_at (with_kind n document nodes) m ≡ kind_at nodes m)
-            ⊎ (kind_at (with_kind n document nodes) m ≡ document)
-            → (in_kind c (kind_at nodes m) ≡ 0) ⊎ (1 ≤ times m (n ∷ ns))
-            → (in_kind c (kind_at (with_kind n document nodes) m) ≡ 0) ⊎ (1 ≤ times m ns)
-        rest m (inr e) g = inl (ap (in_kind c) e)
-        rest m (inl e) (inl z) = inl (ap (in_kind c) e ∙ z)
-        rest m (inl e) (inr l) =
-            test (n == m) (λ t. inl (ap (in_kind c)
-            (ap (λ (i : ℕ). kind_at (with_kind n document nodes) i) (sym (eqb-true n m t)) ∙ kind_same n nodes)))
-            (λ t. let k = rw t at l in inr (omega arith))
 
     all_covered : (n : ℕ)
         → (in_kind c (kind_at first n) ≡ 0) ⊎ (1 ≤ times n (children_at first 0 ++ element_children first))
     unfolding in_kind
     all_covered n = by_kind (kind_at first n) refl
       where
-        held : (s : List ℕ) → kind_at first n ≡ text s → 1
-            ≤ times n (children_at first 0 ++ element_children first)
-        held s g =
-            let hang = texts_hung n s g in
-            let a = times_append n (children_at first 0) (element_children first) in
-            stands hang hang.holder.either
-          where
-            stands : (hang : TextHangs first n) → (hang.by ≡ 0) ⊎ (is_element (kind_at first hang.by) ≡ true)
-                → 1 ≤ times n (children_at first 0 ++ element_children first)
-            stands hang (inl z) =
-                let a = times_append n (children_at first 0) (element_children first) in
-                let b = ap (λ (i : ℕ). times n (children_at first i)) z in
-                let d = hang.holder.stands in
-                omega arith
-            stands hang (inr f) =
-                let a = times_append n (children_at first 0) (element_children first) in
-                let d = stands_in n hang.by first f hang.holder.stands in
-                omega arith
-
         by_kind : (k : KindValue) → kind_at first n ≡ k
             → (in_kind c k ≡ 0) ⊎ (1 ≤ times n (children_at first 0 ++ element_children first))
-        by_kind (text s) g = inr (held s g)
+        by_kind (text s) g =
+            let hang = texts_hung n s g in
+            let a = times_append n (children_at first 0) (element_children first) in
+            let d = hang.holder.stands in
+            inr (⊎_elim (λ z. let b = ap (λ (i : ℕ). times n (children_at first i)) z in omega arith)
+            (λ f. let b = stands_in n hang.by first f d in omega arith) hang.holder.either)
         by_kind _ g = inl refl
 
     all_first : in_nodes c first ≤ in_layout c (first_layout first)
