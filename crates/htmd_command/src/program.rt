@@ -87,7 +87,8 @@ fn run_job<S: Store, R: Source, W: Sink, E: Sink>(
     requires request { request_in request.now ≡ request_by job.now.options.items }
     requires notice { (request_by job.now.options.items).shows ≡ false }
     ensures files { Makes (S.changes store.old) (S.changes store.new) []
-        ⊎ Runs (job_in job.now) (request_by job.now.options.items) (S.changes store.old) (S.changes store.new) result }
+        ⊎ Runs (job_in job.now) (request_by job.now.options.items)
+        (S.changes store.old) (S.changes store.new) result }
     ensures status { result ≤ 2 }
 {
     let (plan, missed) = match find_plan(alloc, store, job) {

@@ -13,7 +13,8 @@ pub fn text_of_document()
 
 /// So it is for every `Tree`, whether scripts run or not, and whatever names are skipped.
 pub fn text_of_this_document(tree: &Tree, scripting: bool, skip: &[&str])
-    ensures { KeepsText (record { scripting = scripting; skip = map (λ name. name.now) skip.now }) (tree_of tree.now 0) }
+    ensures { KeepsText (record { scripting = scripting; skip = map (λ name. name.now) skip.now })
+        (tree_of tree.now 0) }
 {
     let _root = tree.root();
 }

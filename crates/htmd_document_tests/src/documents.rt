@@ -10,8 +10,8 @@ use std::test::Fail;
 const MARKDOWN: &str =
     "## a\n\n**b** [c](/x)\n\n*   [x] d\n*   e\n\n| f   |\n| --- |\n| g   |\n\n> ```rust\n> h\n> ```";
 
-const JSON: &str =
-    "{\"children\":[{\"type\":\"thematicBreak\"},{\"children\":[{\"type\":\"text\",\"value\":\"a\"}],\"type\":\"paragraph\"}],\"type\":\"root\"}";
+const JSON: &str = "{\"children\":[{\"type\":\"thematicBreak\"},{\"children\":[\
+     {\"type\":\"text\",\"value\":\"a\"}],\"type\":\"paragraph\"}],\"type\":\"root\"}";
 
 const OPTIONS: DocumentOptions = DocumentOptions {
     heading_style: HeadingStyle::Atx,
