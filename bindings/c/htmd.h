@@ -28,8 +28,8 @@ extern "C" {
 /* The version of the struct below. */
 #define HTMD_OPTIONS_VERSION 1
 
-/* The most bytes of stack that a call needs. That is measured, and not proved: a tree has at most 1,024 levels, and
- * texts with all of them took up to 3.1 megabytes in Pure, and 2.7 in Faithful. */
+/* The bytes of stack that are enough for a call. That is measured, and not proved: README.md says how much the deepest
+ * texts took. */
 #define HTMD_STACK (4 * 1024 * 1024)
 
 /* Later versions may add readers and values, with numbers that are bad options today; no number changes its meaning. */
@@ -45,7 +45,7 @@ enum {
 enum {
     HTMD_PURE = 0,     /* the Markdown of the Rust crate htmd */
     HTMD_FAITHFUL = 1, /* the same, but what Markdown can't express stays HTML */
-    HTMD_GUARDED = 2   /* what a reader sees, so that its Markdown is read back as the same */
+    HTMD_GUARDED = 2   /* what a reader sees, without styles, so that its Markdown is read back as the same */
 };
 
 /* output: the form in which it is written */
@@ -121,12 +121,13 @@ void htmd_default_options(htmd_options *options);
  * then whether the bytes are UTF-8.
  *
  * needed: with HTMD_DONE and HTMD_TOO_SMALL the length of the whole output, else 0.
- * place: with HTMD_REFUSED the first place where the text is wrong, with HTMD_NOT_UTF8 the first bad byte, else 0.
+ * place: with HTMD_REFUSED the place of the first U+0000 of what is read, if it has one, and else the first place where
+ * the text is wrong; with HTMD_NOT_UTF8 the first bad byte; else 0.
  * kind: with HTMD_REFUSED the kind, else 0.
  *
  * Nothing is written to out unless the status is HTMD_DONE, and then only the first needed bytes. Each call converts
- * the text again, so a buffer that is large enough the first time saves a conversion; most Markdown is shorter than
- * its HTML.
+ * the text again, so a buffer that is large enough the first time saves a conversion. Most Markdown is shorter than its
+ * HTML, but that of a text made for it can be thousands of times as long, and takes memory accordingly (README.md).
  */
 uint32_t htmd_convert(const uint8_t *html, size_t html_len, const htmd_options *options, uint8_t *out, size_t out_len,
                       size_t *needed, size_t *place, uint8_t *kind);

@@ -40,7 +40,7 @@ _SPARE = 1024
 class Refused(ValueError):
     """The page is outside the strict grammar, and nothing of it was converted.
 
-    place: the byte of the page, in UTF-8 and from 0, where the first fault is
+    place: the byte of the page, in UTF-8 and from 0, of its first U+0000, or if it has none, of its first fault
     kind: what is wrong there, such as `UnknownReference`; docs/GRAMMAR.md of the repository has all kinds
     line, column: the same place in lines and characters, both from 1
     """
@@ -76,8 +76,9 @@ def convert(
 ) -> str:
     """Converts a page, a text or its bytes in UTF-8, to Markdown.
 
-    mode: "guarded" writes what a reader sees of the page, so that its Markdown is read back as the same; "pure" gives
-        the Markdown of the Rust crate htmd; "faithful" is like "pure", but keeps as HTML what Markdown can't express
+    mode: "guarded" writes what a reader sees of the page without its styles, so that its Markdown is read back as the
+        same; "pure" gives the Markdown of the Rust crate htmd; "faithful" is like "pure", but keeps as HTML what
+        Markdown can't express
     reader: "html5" reads any page as browsers do and refuses none; "page" reads what is between the tags of the body
         by a strict grammar, and "strict" the whole text
     scripting: whether scripts run: then "guarded" leaves `noscript` out, and for "pure" its content is one text
