@@ -18,7 +18,7 @@ METADATA = f"""\
 Metadata-Version: 2.1
 Name: {NAME}
 Version: {VERSION}
-Summary: HTML to Markdown, by a converter that is proved correct
+Summary: HTML to Markdown, by a converter that is proved to follow its rules
 License: Apache-2.0
 Requires-Python: >=3.8
 """

@@ -1,4 +1,4 @@
-"""HTML to Markdown, by a converter that is proved correct.
+"""HTML to Markdown, by a converter that is proved to follow its rules.
 
 >>> import htmd
 >>> htmd.convert("<h1>Tea</h1><p>Use <b>fresh</b> water.</p>")
