@@ -10,7 +10,8 @@
  * What is proved holds for callers that meet these conditions; nothing checks them.
  * - No pointer is null, not even where its length is 0, and each has as many bytes as its length says.
  * - What is written (out, needed, place, kind, options, line, column) overlaps nothing else that is passed.
- * - malloc, realloc and free are one allocator, which aligns a block to each power of two up to 16 that divides its size.
+ * - malloc, realloc and free are one allocator, which aligns a block to each power of two up to 16 that divides its
+ *   size.
  * - No call is made in a signal handler, nor in the forked child of a process with threads.
  * - The calling thread has HTMD_STACK bytes of stack left.
  * Calls from several threads at once are fine: the library keeps nothing between calls and has no lock.
