@@ -27,7 +27,7 @@ pub use converter::{
 pub use documents::document_options;
 pub use htmd_commonmark::{DocumentOptions, to_markdown};
 pub use htmd_document::{Alignment, Block, Document, Inline};
-pub use htmd_nodes::{Attribute, NewNode, NodeData, NodeId, Tree, TreeError};
+pub use htmd_nodes::{Attribute, Name, NodeData, NodeId, Tree, TreeError};
 pub use htmd_tree::{FaultKind, ReadError, body_of, line_and_column};
 pub use htmd_walk::element_handler::Element;
 pub use htmd_walk::{element_handler, options};

@@ -1,5 +1,5 @@
 -- Trees that have no base, and those that have one.
-use Rattle.std.proofs.Common.{◌≡◌, ◌<◌, ℕ, List, length, refl, sym, ap, ◌∙◌, Some, None}
+use Rattle.std.proofs.Common.{◌≡◌, ◌<◌, ℕ, List, length, refl, sym, ap, ◌∙◌, Some, None, Vec, Global}
 use Rattle.std.proofs.Common.{Bor, Option, is_some, true, false}
 use Rattle.std.specs.Option.{option_copied, option_or}
 use Rattle.std.proofs.lemmas.Bool.{false≢true}
@@ -24,7 +24,7 @@ value-node items node node_data t l e =
 
 -- only the Document and elements have a base
 pub base-other : (id : ℕ) (d : NodeData) (f : NumberedForest) → (d ≡ Document → ⊥)
-    → ((name : Bor (List ℕ)) (attributes : Bor (List Attribute)) → d ≡ Element name attributes → ⊥)
+    → ((name : List ℕ) (attributes : Vec Attribute Global) → d ≡ Element name attributes → ⊥)
     → base_in (value_tree (with_children id (data_of d) f)) ≡ None
 base-other id Document f g h = absurd (g refl)
 base-other id Doctype f g h = refl

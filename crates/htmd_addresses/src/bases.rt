@@ -38,7 +38,7 @@ fn base_in(tree: &Tree, node: NodeId) -> Option<&str>
     match tree.data(node) {
         NodeData::Document => first_base(tree, node),
         NodeData::Element { name, attrs } => {
-            let own = own_base(name, attrs);
+            let own = own_base(name.as_str(), attrs.as_slice());
             if own.is_some() {
                 return own;
             }

@@ -97,14 +97,16 @@ fn push_rewritten_child<R: Rewrite>(
             added(out.add_doctype(under))?;
         }
         NodeData::Text(text) => {
-            added(out.add_text(under, text))?;
+            added(out.add_text(under, text.as_str()))?;
         }
         NodeData::Comment(text) => {
-            added(out.add_comment(under, text))?;
+            added(out.add_comment(under, text.as_str()))?;
         }
         NodeData::Element { name, attrs } => {
-            let attrs = page.rewrite.attributes(page.alloc, name, attrs)?;
-            let id = added(out.add_element(under, name, attrs))?;
+            let attrs = page
+                .rewrite
+                .attributes(page.alloc, name.as_str(), attrs.as_slice())?;
+            let id = added(out.add_element(under, name.as_str(), attrs))?;
             push_rewritten(out, id, page, node)?;
         }
     }

@@ -37,11 +37,11 @@ fn push_node(rows: &mut String, tree: &Tree, node: NodeId) -> Result<(), AllocEr
     match tree.data(node) {
         NodeData::Document => Ok(()),
         NodeData::Doctype => push_row(rows, depth, &["<!DOCTYPE>"]),
-        NodeData::Text(text) => push_row(rows, depth, &["\"", text, "\""]),
-        NodeData::Comment(text) => push_row(rows, depth, &["<!-- ", text, " -->"]),
+        NodeData::Text(text) => push_row(rows, depth, &["\"", text.as_str(), "\""]),
+        NodeData::Comment(text) => push_row(rows, depth, &["<!-- ", text.as_str(), " -->"]),
         NodeData::Element { name, attrs } => {
-            push_row(rows, depth, &["<", name, ">"])?;
-            push_attributes(rows, depth.saturating_add(1), attrs)
+            push_row(rows, depth, &["<", name.as_str(), ">"])?;
+            push_attributes(rows, depth.saturating_add(1), attrs.as_slice())
         }
     }
 }

@@ -98,13 +98,13 @@ fn push_text_of(
         (string_bytes out.new ≡ string_bytes out.old ++ spec.all_text (shown_at sight.now node)) }
 {
     match sight.tree.data(node) {
-        NodeData::Text(text) => push_shown(alloc, out, text),
+        NodeData::Text(text) => push_shown(alloc, out, text.as_str()),
         NodeData::Element { name, attrs } => {
-            let role = role_of(name);
+            let role = role_of(name.as_str());
             if is_line_break(role) {
                 out.push('\n')
             } else if is_image(role) {
-                out.push_str(text_of(attrs, "alt"))
+                out.push_str(text_of(attrs.as_slice(), "alt"))
             } else if is_quotation(role) {
                 push_quoted(alloc, out, sight, node)
             } else {
@@ -203,8 +203,8 @@ fn language_of_code<'t>(sight: &Sight<'t>, node: NodeId) -> Option<&'t str>
         NodeData::Text(_) => None,
         NodeData::Comment(_) => None,
         NodeData::Element { name, attrs } => {
-            if name == "code" {
-                language_of(attrs)
+            if name.as_str() == "code" {
+                language_of(attrs.as_slice())
             } else {
                 None
             }

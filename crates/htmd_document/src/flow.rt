@@ -76,10 +76,10 @@ impl<'t> Flow<'t> {
         match self.sight.tree.data(node) {
             NodeData::Document => Ok(()),
             NodeData::Doctype => Ok(()),
-            NodeData::Text(text) => out.text(text, around, place.is_code),
+            NodeData::Text(text) => out.text(text.as_str(), around, place.is_code),
             NodeData::Comment(_) => Ok(()),
             NodeData::Element { attrs, .. } => match self.sight.role(node) {
-                Some(role) => self.element(node, role, attrs, place, around, out),
+                Some(role) => self.element(node, role, attrs.as_slice(), place, around, out),
                 None => Ok(()),
             },
         }

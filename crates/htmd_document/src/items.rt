@@ -28,7 +28,7 @@ impl<'t> Flow<'t> {
         match self.sight.tree.data(node) {
             NodeData::Document => true,
             NodeData::Doctype => true,
-            NodeData::Text(text) => are_spaces(text),
+            NodeData::Text(text) => are_spaces(text.as_str()),
             NodeData::Comment(_) => true,
             NodeData::Element { .. } => !self.sight.shows(node) || self.is_item(node),
         }

@@ -74,7 +74,7 @@ impl<'t> Sight<'t> {
             NodeData::Doctype => false,
             NodeData::Text(_) => true,
             NodeData::Comment(_) => false,
-            NodeData::Element { name, .. } => !self.is_hidden(name),
+            NodeData::Element { name, .. } => !self.is_hidden(name.as_str()),
         }
     }
 
@@ -89,10 +89,10 @@ impl<'t> Sight<'t> {
             NodeData::Text(_) => None,
             NodeData::Comment(_) => None,
             NodeData::Element { name, .. } => {
-                if self.is_hidden(name) {
+                if self.is_hidden(name.as_str()) {
                     None
                 } else {
-                    Some(role_of(name))
+                    Some(role_of(name.as_str()))
                 }
             }
         }
@@ -196,7 +196,7 @@ impl<'t> Sight<'t> {
             NodeData::Doctype => false,
             NodeData::Text(_) => false,
             NodeData::Comment(_) => false,
-            NodeData::Element { name, .. } => role::is_header_cell(role_of(name)),
+            NodeData::Element { name, .. } => role::is_header_cell(role_of(name.as_str())),
         }
     }
 
@@ -212,7 +212,7 @@ impl<'t> Sight<'t> {
             NodeData::Text(_) => &[],
             NodeData::Comment(_) => &[],
             NodeData::Element { name, .. } => {
-                if is_void(role_of(name)) {
+                if is_void(role_of(name.as_str())) {
                     &[]
                 } else {
                     self.tree.children(node)
@@ -231,7 +231,7 @@ impl<'t> Sight<'t> {
             NodeData::Doctype => &[],
             NodeData::Text(_) => &[],
             NodeData::Comment(_) => &[],
-            NodeData::Element { attrs, .. } => attrs,
+            NodeData::Element { attrs, .. } => attrs.as_slice(),
         }
     }
 }

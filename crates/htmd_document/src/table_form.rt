@@ -76,7 +76,7 @@ fn is_blank(sight: &Sight, node: NodeId) -> bool
     match sight.tree.data(node) {
         NodeData::Document => true,
         NodeData::Doctype => true,
-        NodeData::Text(text) => is_blank_in_page(text),
+        NodeData::Text(text) => is_blank_in_page(text.as_str()),
         NodeData::Comment(_) => true,
         NodeData::Element { .. } => match sight.role(node) {
             Some(role) => !is_never_blank(role) && are_blank(sight, node),

@@ -1,5 +1,5 @@
 -- What a page says of itself, node by node.
-use Rattle.std.proofs.Common.{◌≡◌, ◌<◌, ℕ, List, length, refl, sym, ap, ◌∙◌, Some, None}
+use Rattle.std.proofs.Common.{◌≡◌, ◌<◌, ℕ, List, length, refl, sym, ap, ◌∙◌, Some, None, String, Vec, Global}
 use Rattle.std.proofs.Common.{Bor, Option, is_some, true, false, ◌+◌, ◌++◌, get_or, drop, append_assoc}
 use Rattle.std.specs.Prelude.{flat_map}
 use Rattle.std.proofs.lemmas.List.{drop_more}
@@ -27,7 +27,7 @@ value-node items node node_data t l e =
 
 -- only the Document and elements say something
 pub value-other : (key : Key) (id : ℕ) (d : NodeData) (f : NumberedForest) → (d ≡ Document → ⊥)
-    → ((name : Bor (List ℕ)) (attributes : Bor (List Attribute)) → d ≡ Element name attributes → ⊥)
+    → ((name : List ℕ) (attributes : Vec Attribute Global) → d ≡ Element name attributes → ⊥)
     → value_in key (value_tree (with_children id (data_of d) f)) ≡ None
 value-other key id Document f g h = absurd (g refl)
 value-other key id Doctype f g h = refl
@@ -49,7 +49,7 @@ own-none None own below e h = ap (λ q. option_or q below) e
 own-none (Some x) own below e h = absurd (false≢true (sym h))
 
 -- only a text has one
-pub text-other : (id : ℕ) (d : NodeData) (f : NumberedForest) → ((s : Bor (List ℕ)) → d ≡ Text s → ⊥)
+pub text-other : (id : ℕ) (d : NodeData) (f : NumberedForest) → ((s : String Global) → d ≡ Text s → ⊥)
     → text_of (value_tree (with_children id (data_of d) f)) ≡ None
 text-other id Document f h = refl
 text-other id Doctype f h = refl

@@ -105,7 +105,7 @@ fn text_of(tree: &Tree, node: NodeId) -> Option<&str>
     ensures { option_copied result ≡ spec.text_of (value_at tree.now node) }
 {
     match tree.data(node) {
-        NodeData::Text(text) => Some(text),
+        NodeData::Text(text) => Some(text.as_str()),
         _ => None,
     }
 }
@@ -156,7 +156,7 @@ pub(crate) fn value_in(key: Key, tree: &Tree, node: NodeId) -> Option<&str>
     match tree.data(node) {
         NodeData::Document => first_value(key, tree, node),
         NodeData::Element { name, attrs } => {
-            let own = own_value(key, tree, node, name, attrs);
+            let own = own_value(key, tree, node, name.as_str(), attrs.as_slice());
             if own.is_some() {
                 return own;
             }

@@ -1,6 +1,6 @@
 -- A tree as its callers see it: its nodes in the order in which they were added, numbered from 0.
 use Rattle.std.specs.Prelude.{◌≡◌, ℕ, suc, ◌+◌, ◌<◌, ◌≤◌, Bool, true, false, ◌==◌, if◌then◌else◌, List, [], ◌∷◌, length}
-use Rattle.std.specs.Prelude.{Option, Some, None, IsSome, slice_index_or, Contains, All, codes, ⊤}
+use Rattle.std.specs.Prelude.{Option, Some, None, IsSome, slice_index_or, Contains, All, codes}
 use Rattle.std.specs.Str.{IsUtf8}
 use Rattle.htmd_grammar.specs.ValueTrees.{AttributePair}
 
@@ -56,14 +56,6 @@ holds_children doctype_node = false
 holds_children (text_node s) = false
 holds_children (comment_node s) = false
 holds_children (element_node name attributes) = true
-
--- what can be added to a tree: a tree has one Document, its first node
-abbrev pub CanBeAdded : Data → Type 0
-CanBeAdded document_node = ⊥
-CanBeAdded doctype_node = ⊤
-CanBeAdded (text_node s) = ⊤
-CanBeAdded (comment_node s) = ⊤
-CanBeAdded (element_node name attributes) = ⊤
 
 -- the tag of an element is its name, and that of the Document is html
 abbrev pub tag_of : Data → Option (List ℕ)

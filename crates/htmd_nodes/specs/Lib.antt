@@ -1,5 +1,5 @@
 -- What a tree is: its nodes in order of addition, the value tree of a node, its ancestors, what the texts and
--- attributes of the source stand for, how a document is laid out as a tree. The last two, how a tree lies in memory,
+-- attributes of the source stand for, how a document is laid out as a tree. The last three, how a tree lies in memory,
 -- serve private functions alone. The value trees and what they are written as are those of the grammar.
 pub use Rattle.htmd_grammar.specs.ValueTrees
 pub use Rattle.htmd_grammar.specs.Serialisation
@@ -11,5 +11,6 @@ pub mod Views
 pub mod Layout
 pub mod OpenItems
 pub mod NodeValues
-pub mod ChildLists
+pub mod ElementNames
+pub mod Levels
 pub mod Entries

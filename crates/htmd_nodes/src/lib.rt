@@ -3,11 +3,13 @@
 //! its value tree, and as a block of raw HTML, in which references stand for the line ends that would make blank lines.
 #![tactic(auto, using(std::proofs::lemmas::Grind::common_steps))]
 
-mod children;
 pub mod laws;
+mod levels;
+mod names;
 mod serialiser;
 mod tree;
 
 pub use htmd_grammar::Attribute;
+pub use names::Name;
 pub use serialiser::{is_void, push_end_tag, push_start_tag, raw_block, serialize};
-pub use tree::{MAX_DEPTH, NewNode, NodeData, NodeId, Tree, TreeError};
+pub use tree::{MAX_DEPTH, NodeData, NodeId, Tree, TreeError, number_of};

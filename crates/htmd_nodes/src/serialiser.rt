@@ -151,13 +151,14 @@ fn push_node(out: &mut String, tree: &Tree, node: NodeId, raw: bool) -> Result<(
         NodeData::Doctype => out.push_str("<!DOCTYPE html>"),
         NodeData::Text(text) => {
             if raw {
-                return out.push_str(text);
+                return out.push_str(text.as_str());
             }
-            push_text(out, text)
+            push_text(out, text.as_str())
         }
-        NodeData::Comment(text) => push_comment(out, text),
+        NodeData::Comment(text) => push_comment(out, text.as_str()),
         NodeData::Element { name, attrs } => {
-            push_start_tag(out, name, attrs)?;
+            let name = name.as_str();
+            push_start_tag(out, name, attrs.as_slice())?;
             if is_void(name) {
                 return Ok(());
             }

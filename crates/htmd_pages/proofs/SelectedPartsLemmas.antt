@@ -1,6 +1,6 @@
 -- Parts of a page that are laid out one after the other.
 use Rattle.std.proofs.Common.{◌≡◌, ℕ, suc, ◌+◌, ◌<◌, List, [], ◌∷◌, ◌++◌, length, get_or, drop, refl, sym, ap, ◌∙◌}
-use Rattle.std.proofs.Common.{arith, add-zero, append_assoc, Bor}
+use Rattle.std.proofs.Common.{arith, add-zero, append_assoc, Vec, Global}
 use Rattle.std.proofs.lemmas.List.{drop_more, append-nil, length-append, length_push, get_or_push, get_or_append_left}
 use Rattle.htmd_grammar.specs.declared.attribute.Attribute.{Attribute}
 use Rattle.htmd_grammar.specs.ValueTrees.{AttributePair, ValueTree, element, ValueForest, none, more}
@@ -99,7 +99,7 @@ part-node part items node node_data t l e =
 
 -- only an element is named, or has elements below it
 pub outermost-other : (steps : List Step) (states : List StepState) (id : ℕ) (d : NodeData) (f : NumberedForest)
-    → ((name : Bor (List ℕ)) (attributes : Bor (List Attribute)) → d ≡ Element name attributes → ⊥)
+    → ((name : List ℕ) (attributes : Vec Attribute Global) → d ≡ Element name attributes → ⊥)
     → outermost_tree steps states (value_tree (with_children id (data_of d) f)) ≡ none
 outermost-other steps states id Document f h = refl
 outermost-other steps states id Doctype f h = refl

@@ -104,12 +104,13 @@ fn push_kept_child(
             added(out.add_doctype(under))?;
         }
         NodeData::Text(text) => {
-            added(out.add_text(under, text))?;
+            added(out.add_text(under, text.as_str()))?;
         }
         NodeData::Comment(text) => {
-            added(out.add_comment(under, text))?;
+            added(out.add_comment(under, text.as_str()))?;
         }
         NodeData::Element { name, attrs } => {
+            let (name, attrs) = (name.as_str(), attrs.as_slice());
             let states = states_of(page.alloc, page.steps, states, name, attrs)?;
             if is_named(page.steps, states.as_slice()) {
                 return Ok(());
@@ -158,6 +159,7 @@ fn push_outermost_child(
     let NodeData::Element { name, attrs } = page.tree.data(node) else {
         return Ok(());
     };
+    let (name, attrs) = (name.as_str(), attrs.as_slice());
     let states = states_of(page.alloc, page.steps, states, name, attrs)?;
     if is_named(page.steps, states.as_slice()) {
         return push_whole(out, page, node);

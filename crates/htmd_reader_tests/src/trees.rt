@@ -151,7 +151,7 @@ fn expect_node(tree: &Tree, node: NodeId, want: &str) -> Result<(), Fail>
     requires inside { node < length tree.now }
 {
     match tree.data(node) {
-        NodeData::Text(text) => expect_text("node", text, want),
+        NodeData::Text(text) => expect_text("node", text.as_str(), want),
         _ => Err(Fail::from("it is a text")),
     }
 }

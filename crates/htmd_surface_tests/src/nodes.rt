@@ -1,5 +1,5 @@
 //! The trees of pages, node by node.
-use htmd::{HtmlToMarkdown, NodeData, NodeId, Tree};
+use htmd::{Attribute, HtmlToMarkdown, NodeData, NodeId, Tree};
 use htmd_expected::expect_text;
 use std::alloc::Global;
 use std::test::Fail;
@@ -31,7 +31,7 @@ fn first_of(alloc: Global, tree: &Tree, name: &str) -> Result<NodeId, Fail> {
             return Err(Fail::from("a node is in the tree"));
         }
         let is_found = match tree.data(node) {
-            NodeData::Element { name: tag, .. } => tag == name,
+            NodeData::Element { name: tag, .. } => tag.as_str() == name,
             NodeData::Text(_) => name == "#text",
             _ => false,
         };
@@ -43,13 +43,13 @@ fn first_of(alloc: Global, tree: &Tree, name: &str) -> Result<NodeId, Fail> {
 }
 
 // A mark of what a node is, and its text or name.
-fn parts_of(data: NodeData<'_>) -> (&str, &str) {
+fn parts_of(data: &NodeData) -> (&str, &str) {
     match data {
         NodeData::Document => ("", "document"),
         NodeData::Doctype => ("", "doctype"),
-        NodeData::Text(text) => ("\"", text),
-        NodeData::Comment(text) => ("!", text),
-        NodeData::Element { name, .. } => ("", name),
+        NodeData::Text(text) => ("\"", text.as_str()),
+        NodeData::Comment(text) => ("!", text.as_str()),
+        NodeData::Element { name, .. } => ("", name.as_str()),
     }
 }
 
@@ -90,6 +90,45 @@ fn reads_trees(rt: HostRuntime) -> Result<(), Fail> {
         expect_text(html, outline(rt.alloc(), &tree)?.as_str(), lines)?;
     }
     Ok(())
+}
+
+// The text of a text node, as its tree has it.
+fn owned_text(data: &NodeData) -> Option<&String> {
+    match data {
+        NodeData::Text(text) => Some(text),
+        _ => None,
+    }
+}
+
+// The attributes of an element, as its tree has them.
+fn owned_attributes(data: &NodeData) -> Option<&Vec<Attribute>> {
+    match data {
+        NodeData::Element { attrs, .. } => Some(attrs),
+        _ => None,
+    }
+}
+
+#[test]
+fn lends_what_it_has(rt: HostRuntime) -> Result<(), Fail> {
+    let converter = HtmlToMarkdown::new(rt.alloc())?;
+    let tree = converter.html_to_tree(rt.alloc(), "<a href=u>t</a>")?;
+    let link = first_of(rt.alloc(), &tree, "a")?;
+    let below = first_of(rt.alloc(), &tree, "#text")?;
+    if !tree.contains(link) || !tree.contains(below) {
+        return Err(Fail::from("both nodes are in the tree"));
+    }
+    let (Some(attributes), Some(text)) = (
+        owned_attributes(tree.data(link)),
+        owned_text(tree.data(below)),
+    ) else {
+        return Err(Fail::from("they are an element and a text"));
+    };
+    expect_text("text", text.as_str(), "t")?;
+    let [attribute] = attributes.as_slice() else {
+        return Err(Fail::from("there is one attribute"));
+    };
+    expect_text("name", attribute.name.as_str(), "href")?;
+    expect_text("value", attribute.value.as_str(), "u")
 }
 
 // Fails unless this is the Markdown of a page's tree from the first node with this name on.

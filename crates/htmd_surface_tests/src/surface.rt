@@ -35,7 +35,7 @@ fn has_types(rt: HostRuntime) -> Result<(), Fail> {
     let _: Option<htmd::TreeError> = None;
     let _: Option<htmd::ReadError> = None;
     let _: Option<htmd::FaultKind> = None;
-    let _: Option<htmd::NodeData<'_>> = None;
+    let _: Option<htmd::NodeData> = None;
     let _: Option<htmd::NodeId> = None;
     let _: Option<htmd::Attribute> = None;
     let markdown = htmd::convert(rt.alloc(), "<b>a</b>")?;

@@ -7,6 +7,7 @@ pub mod DecodedCharacters
 pub mod KnownNames
 pub mod Surroundings
 pub mod OpenNodes
+pub mod NewNodes
 pub mod Advances
 pub mod Classes
 pub mod TagParts

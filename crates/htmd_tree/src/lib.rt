@@ -9,7 +9,7 @@ mod reader;
 
 pub use htmd_grammar::FaultKind;
 pub use htmd_nodes::{
-    Attribute, MAX_DEPTH, NewNode, NodeData, NodeId, Tree, TreeError, is_void, push_end_tag,
+    Attribute, MAX_DEPTH, Name, NodeData, NodeId, Tree, TreeError, is_void, push_end_tag,
     push_start_tag, raw_block, serialize,
 };
 pub use lines::line_and_column;

@@ -1,6 +1,6 @@
 //! The reader of HTML: a tree from a text of the strict grammar, or the first fault of any other text.
 ghost use Rattle.std.specs.Prelude.{◌≡◌, ◌∷◌, ◌<◌, ℕ, Bool, true, false, List, [], length};
-ghost use Rattle.std.specs.Prelude.{◌==◌, OnOk, IfOk, IfErr, IsTrue, Ok, Err, if◌then◌else◌, codes};
+ghost use Rattle.std.specs.Prelude.{◌==◌, ◌++◌, ◌≤◌, ◌↔◌, OnOk, IfOk, IfErr, IsErrOf, IsTrue, Ok, Err, if◌then◌else◌, codes};
 ghost use Rattle.htmd_grammar.specs.HtmlDocuments.{above_body};
 ghost use Rattle.htmd_grammar.specs.Nesting.{is_table};
 ghost use Rattle.htmd_grammar.specs.ReaderSteps.{OpenElement, is_too_deep, add, fault, between};
@@ -15,9 +15,9 @@ ghost use Rattle.htmd_grammar.specs.Characters.{null};
 ghost use Rattle.htmd_nodes.specs.Layout.{document_items};
 ghost use Rattle.std.specs.List.{list_any, position};
 ghost use Rattle.htmd_grammar.specs.Attributes.{pairs_of};
-ghost use Rattle.htmd_nodes.specs.Views.{new_data_of};
-ghost use Rattle.htmd_nodes.specs.Items.{holds_children, data_at};
+ghost use Rattle.htmd_nodes.specs.Items.{holds_children, data_at, new_item, greatest_depth, depth_at};
 ghost use Rattle.htmd_tree.specs.OpenNodes.{Holds, IsReading, MayOpen, innermost_name, open_node, WhateverIsOpen};
+ghost use Rattle.htmd_tree.specs.NewNodes.{data_of_new};
 ghost use Rattle.htmd_tree.specs.Advances.{HasAdded, StopsDeep, IsLeaf, leaf, rules_of, Steps};
 ghost use Rattle.htmd_tree.specs.declared.reader.Stop.TheVariants.{Memory, Refused};
 
@@ -38,7 +38,7 @@ use crate::reader::surroundings::Surroundings;
 pub use body::body_of;
 use htmd_grammar::laws::{faults_are_right, steps_read_the_grammar};
 use htmd_grammar::{Attribute, FaultKind};
-use htmd_nodes::{MAX_DEPTH, NewNode, NodeData, NodeId, Tree, TreeError};
+use htmd_nodes::{MAX_DEPTH, NodeData, NodeId, Tree, TreeError};
 use std::alloc::{AllocError, AllocFailed, Global};
 use thiserror::Error;
 
@@ -84,6 +84,35 @@ impl<T: Drop> From<AllocFailed<T>> for Stop {
     }
 }
 
+/// What a node is that the reader adds.
+#[derive(Drop)]
+pub(crate) enum NewNode<'a> {
+    Text(&'a str),
+    OwnedText(String),
+    Comment(&'a str),
+    Element {
+        name: &'a str,
+        attrs: Vec<Attribute>,
+    },
+}
+
+/// A new last child of a node of the tree, a Document or an element.
+fn add_new(tree: &mut Tree, parent: NodeId, node: NewNode<'_>) -> Result<NodeId, TreeError>
+    requires within { parent < length tree.old }
+    requires holds { IsTrue (holds_children (data_at tree.old parent)) }
+    ensures id { IfOk result (λ id. id ≡ length tree.old) }
+    ensures ok { OnOk result (tree.new ≡ tree.old ++ new_item tree.old parent (data_of_new node.entry) ∷ []) }
+    ensures too_deep { IsErrOf result TreeError.TooDeep
+        ↔ (greatest_depth ≤ depth_at tree.old parent) }
+{
+    match node {
+        NewNode::Text(text) => tree.add_text(parent, text),
+        NewNode::OwnedText(text) => tree.add_owned_text(parent, text),
+        NewNode::Comment(text) => tree.add_comment(parent, text),
+        NewNode::Element { name, attrs } => tree.add_element(parent, name, attrs),
+    }
+}
+
 /// The tree so far, the open elements, outermost first, and the text that is left.
 #[derive(Drop)]
 pub(crate) struct Reader<'a> {
@@ -113,7 +142,7 @@ impl<'a> Reader<'a> {
         ensures { WhateverIsOpen self.now (λ has_doctype fs. result.now ≡ innermost_name fs) }
     {
         match self.tree.data(self.top().id) {
-            NodeData::Element { name, .. } => name,
+            NodeData::Element { name, .. } => name.as_str(),
             _ => "",
         }
     }
@@ -141,7 +170,7 @@ impl<'a> Reader<'a> {
     fn add_node(&mut self, node: NewNode<'_>) -> Result<NodeId, Stop>
         requires reading { IsReading self.old }
         ensures ok { IfOk result (λ id. WhateverIsOpen self.old (λ has_doctype fs.
-            HasAdded self.old self.new has_doctype fs (new_data_of node.entry) id)) }
+            HasAdded self.old self.new has_doctype fs (data_of_new node.entry) id)) }
         ensures err { IfErr result (λ stop. WhateverIsOpen self.old (λ has_doctype fs.
             StopsDeep self.old fs stop)) }
         ensures stack { self.new.stack.items ≡ self.old.stack.items }
@@ -149,7 +178,7 @@ impl<'a> Reader<'a> {
         ensures scripting { self.new.scripting ≡ self.old.scripting }
     {
         let parent = self.top().id;
-        match self.tree.add_node(parent, node) {
+        match add_new(&mut self.tree, parent, node) {
             Ok(id) => Ok(id),
             Err(TreeError::TooDeep) => Err(self.refused(FaultKind::TooDeep)),
             Err(TreeError::Memory) => Err(Stop::Memory),
@@ -159,9 +188,9 @@ impl<'a> Reader<'a> {
     /// A new node without children in the innermost open element; `rest` is what is left then.
     fn add_leaf(&mut self, node: NewNode<'_>, rest: &'a str) -> Result<(), Stop>
         requires reading { IsReading self.old }
-        requires leaf { IsLeaf (new_data_of node) }
+        requires leaf { IsLeaf (data_of_new node) }
         ensures follows { Steps self.old self.new result
-            (λ fs. add (rules_of self.old) above_body fs (leaf (new_data_of node.entry)) rest.now) }
+            (λ fs. add (rules_of self.old) above_body fs (leaf (data_of_new node.entry)) rest.now) }
         ensures reading { OnOk result (IsReading self.new) }
     {
         self.add_node(node)?;

@@ -3,7 +3,8 @@ use Rattle.std.proofs.Common.{◌≡◌, ℕ, suc, ◌<◌, List, [], ◌∷◌,
 use Rattle.std.proofs.Common.{Some, None, IsSome}
 use Rattle.std.proofs.Common.{refl, sym, ap, ◌∙◌, subst, Bool, true, false, cond, arith}
 use Rattle.std.proofs.lemmas.List.{append-nil}
-use Rattle.std.specs.Borrow.{Bor}
+use Rattle.std.specs.Prelude.{Vec}
+use Rattle.std.specs.Global.{Global}
 use Rattle.htmd_nodes.specs.ValueTrees.{AttributePair}
 use Rattle.htmd_grammar.specs.declared.attribute.Attribute.{Attribute}
 use Rattle.htmd_nodes.specs.declared.tree.NodeData.{NodeData}
@@ -202,7 +203,7 @@ group-has_text tree (i ∷ j ∷ is) child s l e h =
 -- ---- what counts of a node that may join
 
 pub joint-none : (id : ℕ) (n : NodeData) (children : NumberedForest)
-    → ((name : Bor (List ℕ)) (attributes : Bor (List Attribute)) → n ≡ Element name attributes → ⊥)
+    → ((name : List ℕ) (attributes : Vec Attribute Global) → n ≡ Element name attributes → ⊥)
     → joint_of (with_children id (data_of n) children) ≡ None
 joint-none id Document children h = refl
 joint-none id Doctype children h = refl
@@ -225,6 +226,6 @@ module _ (items : List Item) (t : IsTree items) (id : ℕ) (l : id < length item
       ap (joint_with name attributes) h ∙ joint-open (element_node name attributes) e
 
   pub joint-other : (n : NodeData) → data_of n ≡ data_at items id
-      → ((name : Bor (List ℕ)) (attributes : Bor (List Attribute)) → n ≡ Element name attributes → ⊥)
+      → ((name : List ℕ) (attributes : Vec Attribute Global) → n ≡ Element name attributes → ⊥)
       → None ≡ joint_of (tree_of items id)
   joint-other n e h = sym (joint-none id n (children_at items id) h) ∙ joint-open (data_of n) e

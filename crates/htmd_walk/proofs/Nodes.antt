@@ -15,7 +15,8 @@ use Rattle.htmd_nodes.specs.Views.{data_of}
 use Rattle.htmd_grammar.specs.declared.attribute.Attribute.{Attribute}
 use Rattle.htmd_nodes.specs.declared.tree.NodeData.{NodeData}
 use Rattle.htmd_nodes.specs.declared.tree.NodeData.TheVariants.{Document, Doctype, Text, Comment, Element}
-use Rattle.std.specs.Borrow.{Bor}
+use Rattle.std.specs.Prelude.{String, Vec}
+use Rattle.std.specs.Global.{Global}
 use Rattle.std.proofs.Math.Bool.{and-false, and-true, or-false}
 use Rattle.htmd_nodes.proofs.NumberedTreesLemmas.{tree-open}
 use Rattle.htmd_nodes.proofs.AncestorsLemmas.{ancestors-open}
@@ -171,7 +172,7 @@ tag_none (comment_node s) e = block-nil
 tag_none (element_node name attributes) e = cc
 
 -- a stored node that isn't an element, or isn't text
-pub not_block : (n : NodeData) → ((name : Bor (List ℕ)) (attributes : Bor (List Attribute))
+pub not_block : (n : NodeData) → ((name : List ℕ) (attributes : Vec Attribute Global)
     → n ≡ Element name attributes → ⊥) → is_block_content (data_of n) ≡ false
 not_block Document h = refl
 not_block Doctype h = refl
@@ -180,7 +181,7 @@ not_block (Comment s) h = refl
 not_block (Element name attributes) h = absurd (h name attributes refl)
 
 pub not_pre : (n : NodeData)
-    → ((name : Bor (List ℕ)) (attributes : Bor (List Attribute)) → n ≡ Element name attributes
+    → ((name : List ℕ) (attributes : Vec Attribute Global) → n ≡ Element name attributes
     → ⊥) → bytes_eq (ancestor_of (data_of n)).tag (codes "pre") ≡ false
 not_pre Document h = refl
 not_pre Doctype h = refl
@@ -188,7 +189,7 @@ not_pre (Text s) h = refl
 not_pre (Comment s) h = refl
 not_pre (Element name attributes) h = absurd (h name attributes refl)
 
-pub not_text : (n : NodeData) → ((s : Bor (List ℕ)) → n ≡ Text s → ⊥) → is_text (data_of n) ≡ false
+pub not_text : (n : NodeData) → ((s : String Global) → n ≡ Text s → ⊥) → is_text (data_of n) ≡ false
 not_text Document h = refl
 not_text Doctype h = refl
 not_text (Text s) h = absurd (h s refl)

@@ -43,7 +43,7 @@ use crate::node_util::{
 };
 use crate::spare_texts::SpareTexts;
 use crate::text_node::{Context, append_text};
-use htmd_nodes::{Attribute, NodeData, NodeId, Tree, raw_block};
+use htmd_nodes::{Attribute, NodeData, NodeId, Tree, number_of, raw_block};
 use htmd_text::{
     is_block_element, trim_end_document_white_space, trim_end_line_feeds, trim_newlines,
 };
@@ -167,7 +167,7 @@ impl<'a, R: Registry> Walk<'a, R> {
         }
         let Ok(at) = self
             .remembered
-            .binary_search_by_key(&node, |known| known.node)
+            .binary_search_by_key(&number_of(node), |known| number_of(known.node))
         else {
             return None;
         };
@@ -228,13 +228,14 @@ impl<'a, R: Registry> Walk<'a, R> {
         if !is_markdown_alone(self.registry.options()) {
             return false;
         }
-        if name != "span" {
-            return self.registry.find(name, 0).is_none();
+        let tag = name.as_str();
+        if tag != "span" {
+            return self.registry.find(tag, 0).is_none();
         }
         if !self.has_span_handler_alone() {
             return false;
         }
-        formula_mark(attrs).is_none()
+        formula_mark(attrs.as_slice()).is_none()
     }
 
     /// What the handlers of an element's tag make of it, from the one after this many newer ones on.
@@ -536,7 +537,7 @@ impl<'a, R: Registry> Walk<'a, R> {
             return self.walk_descendant(element, below, links);
         };
         let visit = self.alone(below);
-        let child = (&*self).element(&visit, name, attrs, true);
+        let child = (&*self).element(&visit, name.as_str(), attrs.as_slice(), true);
         let before = links.lines.len();
         let given = self.walk_element(&child, links)?;
         let adds_none = links.lines.len() == before;
@@ -607,15 +608,15 @@ impl<'a, R: Registry> Walk<'a, R> {
                 if is_markdown_alone(self.registry.options()) {
                     return Ok(());
                 }
-                push_comment(&mut out.content, text)
+                push_comment(&mut out.content, text.as_str())
             }
-            NodeData::Text(text) => self.write_text(visit, text, &mut out.content),
+            NodeData::Text(text) => self.write_text(visit, text.as_str(), &mut out.content),
             NodeData::Element { name, attrs } => {
                 if let Some(known) = self.recall(node, visit.joined) {
                     return append_copy(out, &known.result, context.preformatted, self.spare);
                 }
                 // In a cycle of calls the check asks that both are lent again.
-                let element = (&*self).element(&*visit, name, attrs, true);
+                let element = (&*self).element(&*visit, name.as_str(), attrs.as_slice(), true);
                 let given = self.walk_element(&element, links)?;
                 append_result(out, given, context.preformatted, self.spare)
             }
@@ -669,6 +670,11 @@ pub(crate) fn handle_element<R: Registry>(
     let spare = SpareTexts::new(alloc);
     let walk = Walk::new(registry, tree, &spare);
     let visit = walk.alone(call.node);
-    let element = walk.element(&visit, name, attrs, call.markdown_translated);
+    let element = walk.element(
+        &visit,
+        name.as_str(),
+        attrs.as_slice(),
+        call.markdown_translated,
+    );
     walk.handle(&element, call.skipped, links)
 }

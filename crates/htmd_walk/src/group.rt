@@ -51,7 +51,11 @@ fn find_joint(tree: &Tree, node: NodeId) -> Option<Joint<'_>>
         return None;
     };
     let text = only_text(tree, node)?;
-    Some(Joint { name, attrs, text })
+    Some(Joint {
+        name: name.as_str(),
+        attrs: attrs.as_slice(),
+        text,
+    })
 }
 
 /// Whether two lists of attributes are equal, in order.

@@ -21,7 +21,7 @@ pub(crate) fn is_pre_or_code(tree: &Tree, node: NodeId) -> bool
     ensures { result ≡ is_pre_or_code (ancestor_of (data_at tree.now node)) }
 {
     match tree.data(node) {
-        NodeData::Element { name, .. } => name == "pre" || name == "code",
+        NodeData::Element { name, .. } => name.as_str() == "pre" || name.as_str() == "code",
         _ => false,
     }
 }
@@ -89,7 +89,7 @@ pub(crate) fn is_parent_pre(tree: &Tree, node: NodeId) -> bool
         return false;
     };
     match tree.data(parent) {
-        NodeData::Element { name, .. } => name == "pre",
+        NodeData::Element { name, .. } => name.as_str() == "pre",
         _ => false,
     }
 }
@@ -100,7 +100,7 @@ pub(crate) fn is_block(tree: &Tree, node: NodeId) -> bool
     ensures { result ≡ is_block_tree (tree_of tree.now node) }
 {
     match tree.data(node) {
-        NodeData::Element { name, .. } => is_block_element(name),
+        NodeData::Element { name, .. } => is_block_element(name.as_str()),
         _ => false,
     }
 }
@@ -141,7 +141,7 @@ pub(crate) fn only_text(tree: &Tree, node: NodeId) -> Option<&str>
     }
     let child = children[0];
     match tree.data(child) {
-        NodeData::Text(text) => Some(text),
+        NodeData::Text(text) => Some(text.as_str()),
         _ => None,
     }
 }

@@ -8,9 +8,8 @@ ghost use Rattle.htmd_tree.specs.Advances.{rules_of, Steps};
 ghost use Rattle.htmd_grammar.specs.Comments as spec;
 
 use crate::reader::raw_text::normalized;
-use crate::reader::{Reader, Stop};
+use crate::reader::{NewNode, Reader, Stop};
 use htmd_grammar::FaultKind;
-use htmd_nodes::NewNode;
 
 /// Whether `-->` begins here.
 fn begins_end(bytes: &[u8]) -> bool

@@ -12,9 +12,8 @@ ghost use Rattle.htmd_tree.specs.Advances.{Follows, rules_of};
 ghost use Rattle.htmd_grammar.specs.RawContent as spec;
 ghost use Rattle.htmd_grammar.specs.Comments as comments;
 
-use crate::reader::{Reader, Stop};
+use crate::reader::{NewNode, Reader, Stop};
 use htmd_grammar::FaultKind;
-use htmd_nodes::NewNode;
 use htmd_scanning::{begins_in_any_case, first_is, raw_content_len};
 use std::alloc::{AllocError, Global};
 
@@ -88,6 +87,6 @@ impl<'a> Reader<'a> {
             return Err(self.refused(FaultKind::ScriptEscape));
         }
         let text = normalized(self.alloc, content)?;
-        self.add_leaf(NewNode::Text(text.as_str()), rest)
+        self.add_leaf(NewNode::OwnedText(text), rest)
     }
 }

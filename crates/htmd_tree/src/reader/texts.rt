@@ -12,9 +12,8 @@ ghost use Rattle.htmd_tree.specs.Advances.{Advances, IsAtText};
 
 use crate::reader::references::{Character, character_at};
 use crate::reader::scan::begins_markup;
-use crate::reader::{Reader, Stop};
+use crate::reader::{NewNode, Reader, Stop};
 use htmd_grammar::FaultKind;
-use htmd_nodes::NewNode;
 use htmd_scanning::begins_own_end;
 
 /// What is kept of the open elements for a text in them.

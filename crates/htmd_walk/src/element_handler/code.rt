@@ -54,8 +54,8 @@ pub(crate) fn language_inside(tree: &Tree, node: NodeId) -> Option<&str>
 {
     match tree.data(node) {
         NodeData::Element { name, attrs } => {
-            if name == "pre" {
-                language_of(attrs)
+            if name.as_str() == "pre" {
+                language_of(attrs.as_slice())
             } else {
                 None
             }

@@ -27,8 +27,8 @@ base_in-returns-in-Document t c =
 
 pub base_in-returns-then-is_some : goal.base_in-returns-then-is_some
 base_in-returns-then-is_some t c =
-    let name : List ℕ = c.in-Element.name.now in
-    let attributes : List AttributePair = pairs_of c.in-Element.attrs.now in
+    let name : List ℕ = c.in-Element.name in
+    let attributes : List AttributePair = pairs_of c.in-Element.attrs.items in
     let w = ap base_in (value-node c.args.tree.now c.args.node (element_node name attributes) c.data.ensures.tree
     c.requires (sym (ap data_of c.in-Element.is) ∙ c.data.ensures.value)) in
     own-some c.own_base-own.result (own_base name attributes)
@@ -38,8 +38,8 @@ base_in-returns-then-is_some t c =
 
 pub base_in-returns-else-is_some : goal.base_in-returns-else-is_some
 base_in-returns-else-is_some t c =
-    let name : List ℕ = c.in-Element.name.now in
-    let attributes : List AttributePair = pairs_of c.in-Element.attrs.now in
+    let name : List ℕ = c.in-Element.name in
+    let attributes : List AttributePair = pairs_of c.in-Element.attrs.items in
     let w = ap base_in (value-node c.args.tree.now c.args.node (element_node name attributes) c.data.ensures.tree
     c.requires (sym (ap data_of c.in-Element.is) ∙ c.data.ensures.value)) in
     c.first_base-in-Element.ensures
@@ -50,8 +50,8 @@ base_in-returns-else-is_some t c =
 
 pub base_in-returns-in_default : goal.base_in-returns-in_default
 base_in-returns-in_default t c =
-    let w = ap base_in (value-node c.args.tree.now c.args.node (data_of c.data.result) c.data.ensures.tree
+    let w = ap base_in (value-node c.args.tree.now c.args.node (data_of c.data.result.now) c.data.ensures.tree
     c.requires c.data.ensures.value) in
-    sym (w ∙ base-other c.args.node c.data.result
+    sym (w ∙ base-other c.args.node c.data.result.now
     (forest_of (tree_of c.args.tree.now) (children_of c.args.tree.now c.args.node))
     c.in_default.not-Document c.in_default.not-Element)

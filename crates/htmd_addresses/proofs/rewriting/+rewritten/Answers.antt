@@ -1,5 +1,5 @@
 -- What is left to prove of the functions of the cycle `rewritten`.
-use Rattle.std.proofs.Common.{rules, ◌≡◌, ◌+◌, ◌<◌, ◌++◌, length, sym, ap, ◌∙◌, arith, ℕ, List, refl}
+use Rattle.std.proofs.Common.{rules, ◌≡◌, ◌+◌, ◌<◌, ◌++◌, length, sym, ap, ◌∙◌, arith, ℕ, List, refl, string_bytes}
 use Rattle.std.proofs.lemmas.List.{append-nil}
 use Rattle.htmd_grammar.specs.Attributes.{pairs_of}
 use Rattle.htmd_grammar.specs.ValueTrees.{AttributePair, ValueForest}
@@ -81,14 +81,14 @@ push_rewritten_child-returns-in_ok-added-in-Doctype g t c =
 pub push_rewritten_child-returns-in_ok-added-in-Text : goal.push_rewritten_child-returns-in_ok-added-in-Text
 push_rewritten_child-returns-in_ok-added-in-Text g t c =
     let w = part-node (rewritten_tree (g.R.Rewrite.rule c.args.page.now.rewrite.now)) c.args.page.now.tree.now
-    c.args.node (text_node c.in-Text.text.now) c.data.ensures.tree c.requires.node
+    c.args.node (text_node (string_bytes c.in-Text.text)) c.data.ensures.tree c.requires.node
     (sym (ap data_of c.in-Text.is) ∙ c.data.ensures.value) in
     rw w (search rules)
 
 pub push_rewritten_child-returns-in_ok-added-in-Comment : goal.push_rewritten_child-returns-in_ok-added-in-Comment
 push_rewritten_child-returns-in_ok-added-in-Comment g t c =
     let w = part-node (rewritten_tree (g.R.Rewrite.rule c.args.page.now.rewrite.now)) c.args.page.now.tree.now
-    c.args.node (comment_node c.in-Comment.text.now) c.data.ensures.tree c.requires.node
+    c.args.node (comment_node (string_bytes c.in-Comment.text)) c.data.ensures.tree c.requires.node
     (sym (ap data_of c.in-Comment.is) ∙ c.data.ensures.value) in
     rw w (search rules)
 
@@ -96,8 +96,8 @@ pub push_rewritten_child-returns-in_ok-push_rewritten-in-Element :
     goal.push_rewritten_child-returns-in_ok-push_rewritten-in-Element
 push_rewritten_child-returns-in_ok-push_rewritten-in-Element g t c =
     let rule : Rule = g.R.Rewrite.rule c.args.page.now.rewrite.now in
-    let name : List ℕ = c.in-Element.name.now in
-    let attributes : List AttributePair = pairs_of c.in-Element.attrs.now in
+    let name : List ℕ = c.in-Element.name in
+    let attributes : List AttributePair = pairs_of c.in-Element.attrs.items in
     let children : ValueForest = value_forest
     (forest_of (tree_of c.args.page.now.tree.now) (children_of c.args.page.now.tree.now c.args.node)) in
     let w = part-node (rewritten_tree rule) c.args.page.now.tree.now

@@ -30,29 +30,31 @@ pub push_text_of-returns-in-Comment : goal.push_text_of-returns-in-Comment
 push_text_of-returns-in-Comment t c =
     comment_hidden (sight_of c.args.sight.now) c.args.sight.now.tree.now c.data.ensures.tree c.args.node
     c.requires.within
-    c.in-Comment.field-0.now (sym c.data.ensures.value ∙ ap data_of c.in-Comment.is) c.requires.shows
+    (string_bytes c.in-Comment.field-0) (sym c.data.ensures.value ∙ ap data_of c.in-Comment.is) c.requires.shows
 
 pub push_text_of-returns-in-Text : goal.push_text_of-returns-in-Text
 push_text_of-returns-in-Text t c =
     subst (λ (x : List ℕ). OnOk c.push_shown.result
     (string_bytes c.push_shown.new.out ≡ string_bytes c.args.out.now ++ x))
-    (sym (plain_text (sight_of c.args.sight.now) c.args.sight.now.tree.now c.data.ensures.tree c.args.node
+    (ap shown_text c.as_str.ensures.value
+    ∙ sym (plain_text (sight_of c.args.sight.now) c.args.sight.now.tree.now c.data.ensures.tree c.args.node
     c.requires.within
-    c.in-Text.text.now (sym c.data.ensures.value ∙ ap data_of c.in-Text.is)))
+    (string_bytes c.in-Text.text) (sym c.data.ensures.value ∙ ap data_of c.in-Text.is)))
     c.push_shown.ensures
 
 pub push_text_of-returns-then-is_line_break : goal.push_text_of-returns-then-is_line_break
 push_text_of-returns-then-is_line_break t c =
     let said = element_text (sight_of c.args.sight.now) c.args.sight.now.tree.now c.data.ensures.tree c.args.node
     c.requires.within
-    c.in-Element.name.now (pairs_of c.in-Element.attrs.now)
+    c.in-Element.name (pairs_of c.in-Element.attrs.items)
     (sym c.data.ensures.value ∙ ap data_of c.in-Element.is)
-    ∙ ap (λ (y : Bool). cond y (line_feed ∷ []) (cond (is_image (role_of c.in-Element.name.now))
-    (text_of (codes "alt") (pairs_of c.in-Element.attrs.now))
-    (cond (is_quotation (role_of c.in-Element.name.now))
+    ∙ ap (λ (y : Bool). cond y (line_feed ∷ []) (cond (is_image (role_of c.in-Element.name))
+    (text_of (codes "alt") (pairs_of c.in-Element.attrs.items))
+    (cond (is_quotation (role_of c.in-Element.name))
     (quoted (all_text_among (children_of (shown_at c.args.sight.now c.args.node))))
     (all_text_among (children_of (shown_at c.args.sight.now c.args.node))))))
-    (sym (c.is_line_break.ensures ∙ ap is_line_break c.role_of-role.ensures) ∙ c.if-is_line_break.true) in
+    (sym (c.is_line_break.ensures ∙ ap is_line_break
+    (c.role_of-role.ensures ∙ ap role_of c.as_str-in-Element.ensures)) ∙ c.if-is_line_break.true) in
     pushed c.push.result (string_bytes c.push.new.self) (string_bytes c.args.out.now ++ encode_utf8 10)
     (string_bytes c.args.out.now) c.push.ensures.bytes
     (ap (λ (l : List ℕ). string_bytes c.args.out.now ++ l) (c.push.ensures.ascii (lit< tt) ∙ sym said))
@@ -61,44 +63,49 @@ pub push_text_of-returns-then-is_image : goal.push_text_of-returns-then-is_image
 push_text_of-returns-then-is_image t c =
     let said = element_text (sight_of c.args.sight.now) c.args.sight.now.tree.now c.data.ensures.tree c.args.node
     c.requires.within
-    c.in-Element.name.now (pairs_of c.in-Element.attrs.now)
+    c.in-Element.name (pairs_of c.in-Element.attrs.items)
     (sym c.data.ensures.value ∙ ap data_of c.in-Element.is)
-    ∙ ap (λ (y : Bool). cond y (line_feed ∷ []) (cond (is_image (role_of c.in-Element.name.now))
-    (text_of (codes "alt") (pairs_of c.in-Element.attrs.now))
-    (cond (is_quotation (role_of c.in-Element.name.now))
+    ∙ ap (λ (y : Bool). cond y (line_feed ∷ []) (cond (is_image (role_of c.in-Element.name))
+    (text_of (codes "alt") (pairs_of c.in-Element.attrs.items))
+    (cond (is_quotation (role_of c.in-Element.name))
     (quoted (all_text_among (children_of (shown_at c.args.sight.now c.args.node))))
     (all_text_among (children_of (shown_at c.args.sight.now c.args.node))))))
-    (sym (c.is_line_break.ensures ∙ ap is_line_break c.role_of-role.ensures) ∙ c.if-is_line_break.false)
-    ∙ ap (λ (y : Bool). cond y (text_of (codes "alt") (pairs_of c.in-Element.attrs.now))
-    (cond (is_quotation (role_of c.in-Element.name.now))
+    (sym (c.is_line_break.ensures ∙ ap is_line_break
+    (c.role_of-role.ensures ∙ ap role_of c.as_str-in-Element.ensures)) ∙ c.if-is_line_break.false)
+    ∙ ap (λ (y : Bool). cond y (text_of (codes "alt") (pairs_of c.in-Element.attrs.items))
+    (cond (is_quotation (role_of c.in-Element.name))
     (quoted (all_text_among (children_of (shown_at c.args.sight.now c.args.node))))
     (all_text_among (children_of (shown_at c.args.sight.now c.args.node)))))
-    (sym (c.is_image.ensures ∙ ap is_image c.role_of-role.ensures) ∙ c.if-is_image.true) in
+    (sym (c.is_image.ensures ∙ ap is_image (c.role_of-role.ensures ∙ ap role_of
+    c.as_str-in-Element.ensures)) ∙ c.if-is_image.true) in
     pushed c.push_str.result (string_bytes c.push_str.new.self) (string_bytes c.args.out.now ++ c.text_of.result.now)
     (string_bytes c.args.out.now) c.push_str.ensures.bytes
     (ap (λ (l : List ℕ). string_bytes c.args.out.now ++ l)
-    (c.text_of.ensures ∙ sym said))
+    (c.text_of.ensures ∙ ap (λ xs. text_of (codes "alt") (pairs_of xs)) c.as_slice.ensures.value ∙ sym said))
 
 pub push_text_of-returns-then-is_quotation : goal.push_text_of-returns-then-is_quotation
 push_text_of-returns-then-is_quotation t c =
     let said = element_text (sight_of c.args.sight.now) c.args.sight.now.tree.now c.data.ensures.tree c.args.node
     c.requires.within
-    c.in-Element.name.now (pairs_of c.in-Element.attrs.now)
+    c.in-Element.name (pairs_of c.in-Element.attrs.items)
     (sym c.data.ensures.value ∙ ap data_of c.in-Element.is)
-    ∙ ap (λ (y : Bool). cond y (line_feed ∷ []) (cond (is_image (role_of c.in-Element.name.now))
-    (text_of (codes "alt") (pairs_of c.in-Element.attrs.now))
-    (cond (is_quotation (role_of c.in-Element.name.now))
+    ∙ ap (λ (y : Bool). cond y (line_feed ∷ []) (cond (is_image (role_of c.in-Element.name))
+    (text_of (codes "alt") (pairs_of c.in-Element.attrs.items))
+    (cond (is_quotation (role_of c.in-Element.name))
     (quoted (all_text_among (children_of (shown_at c.args.sight.now c.args.node))))
     (all_text_among (children_of (shown_at c.args.sight.now c.args.node))))))
-    (sym (c.is_line_break.ensures ∙ ap is_line_break c.role_of-role.ensures) ∙ c.if-is_line_break.false)
-    ∙ ap (λ (y : Bool). cond y (text_of (codes "alt") (pairs_of c.in-Element.attrs.now))
-    (cond (is_quotation (role_of c.in-Element.name.now))
+    (sym (c.is_line_break.ensures ∙ ap is_line_break
+    (c.role_of-role.ensures ∙ ap role_of c.as_str-in-Element.ensures)) ∙ c.if-is_line_break.false)
+    ∙ ap (λ (y : Bool). cond y (text_of (codes "alt") (pairs_of c.in-Element.attrs.items))
+    (cond (is_quotation (role_of c.in-Element.name))
     (quoted (all_text_among (children_of (shown_at c.args.sight.now c.args.node))))
     (all_text_among (children_of (shown_at c.args.sight.now c.args.node)))))
-    (sym (c.is_image.ensures ∙ ap is_image c.role_of-role.ensures) ∙ c.if-is_image.false)
+    (sym (c.is_image.ensures ∙ ap is_image (c.role_of-role.ensures ∙ ap role_of
+    c.as_str-in-Element.ensures)) ∙ c.if-is_image.false)
     ∙ ap (λ (y : Bool). cond y (quoted (all_text_among (children_of (shown_at c.args.sight.now c.args.node))))
     (all_text_among (children_of (shown_at c.args.sight.now c.args.node))))
-    (sym (c.is_quotation.ensures ∙ ap is_quotation c.role_of-role.ensures) ∙ c.if-is_quotation.true) in
+    (sym (c.is_quotation.ensures ∙ ap is_quotation (c.role_of-role.ensures ∙ ap role_of
+    c.as_str-in-Element.ensures)) ∙ c.if-is_quotation.true) in
     subst (λ (x : List ℕ). OnOk c.push_quoted.result
     (string_bytes c.push_quoted.new.out ≡ string_bytes c.args.out.now ++ x)) (sym said) c.push_quoted.ensures
 
@@ -106,21 +113,24 @@ pub push_text_of-returns-else-is_quotation : goal.push_text_of-returns-else-is_q
 push_text_of-returns-else-is_quotation t c =
     let said = element_text (sight_of c.args.sight.now) c.args.sight.now.tree.now c.data.ensures.tree c.args.node
     c.requires.within
-    c.in-Element.name.now (pairs_of c.in-Element.attrs.now)
+    c.in-Element.name (pairs_of c.in-Element.attrs.items)
     (sym c.data.ensures.value ∙ ap data_of c.in-Element.is)
-    ∙ ap (λ (y : Bool). cond y (line_feed ∷ []) (cond (is_image (role_of c.in-Element.name.now))
-    (text_of (codes "alt") (pairs_of c.in-Element.attrs.now))
-    (cond (is_quotation (role_of c.in-Element.name.now))
+    ∙ ap (λ (y : Bool). cond y (line_feed ∷ []) (cond (is_image (role_of c.in-Element.name))
+    (text_of (codes "alt") (pairs_of c.in-Element.attrs.items))
+    (cond (is_quotation (role_of c.in-Element.name))
     (quoted (all_text_among (children_of (shown_at c.args.sight.now c.args.node))))
     (all_text_among (children_of (shown_at c.args.sight.now c.args.node))))))
-    (sym (c.is_line_break.ensures ∙ ap is_line_break c.role_of-role.ensures) ∙ c.if-is_line_break.false)
-    ∙ ap (λ (y : Bool). cond y (text_of (codes "alt") (pairs_of c.in-Element.attrs.now))
-    (cond (is_quotation (role_of c.in-Element.name.now))
+    (sym (c.is_line_break.ensures ∙ ap is_line_break
+    (c.role_of-role.ensures ∙ ap role_of c.as_str-in-Element.ensures)) ∙ c.if-is_line_break.false)
+    ∙ ap (λ (y : Bool). cond y (text_of (codes "alt") (pairs_of c.in-Element.attrs.items))
+    (cond (is_quotation (role_of c.in-Element.name))
     (quoted (all_text_among (children_of (shown_at c.args.sight.now c.args.node))))
     (all_text_among (children_of (shown_at c.args.sight.now c.args.node)))))
-    (sym (c.is_image.ensures ∙ ap is_image c.role_of-role.ensures) ∙ c.if-is_image.false)
+    (sym (c.is_image.ensures ∙ ap is_image (c.role_of-role.ensures ∙ ap role_of
+    c.as_str-in-Element.ensures)) ∙ c.if-is_image.false)
     ∙ ap (λ (y : Bool). cond y (quoted (all_text_among (children_of (shown_at c.args.sight.now c.args.node))))
     (all_text_among (children_of (shown_at c.args.sight.now c.args.node))))
-    (sym (c.is_quotation.ensures ∙ ap is_quotation c.role_of-role.ensures) ∙ c.if-is_quotation.false) in
+    (sym (c.is_quotation.ensures ∙ ap is_quotation (c.role_of-role.ensures ∙ ap role_of
+    c.as_str-in-Element.ensures)) ∙ c.if-is_quotation.false) in
     subst (λ (x : List ℕ). OnOk c.push_text_below.result
     (string_bytes c.push_text_below.new.out ≡ string_bytes c.args.out.now ++ x)) (sym said) c.push_text_below.ensures

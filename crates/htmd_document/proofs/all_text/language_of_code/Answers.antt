@@ -25,30 +25,30 @@ returns-in-Doctype c = sym (by_data c.args.sight.now.tree.now c.data.ensures.tre
 pub returns-in-Text : goal.returns-in-Text
 returns-in-Text c = sym (by_data c.args.sight.now.tree.now c.data.ensures.tree c.args.node c.requires
     (λ (x : NumberedTree). spec.language_of_code (shown (sight_of c.args.sight.now) x))
-    (text_node c.in-Text.field-0.now)
+    (text_node (string_bytes c.in-Text.field-0))
     (sym c.data.ensures.value ∙ ap data_of c.in-Text.is))
 
 pub returns-in-Comment : goal.returns-in-Comment
 returns-in-Comment c = sym (by_data c.args.sight.now.tree.now c.data.ensures.tree c.args.node c.requires
     (λ (x : NumberedTree). spec.language_of_code (shown (sight_of c.args.sight.now) x))
-    (comment_node c.in-Comment.field-0.now)
+    (comment_node (string_bytes c.in-Comment.field-0))
     (sym c.data.ensures.value ∙ ap data_of c.in-Comment.is))
 
 pub returns-then-eq : goal.returns-then-eq
 returns-then-eq c =
-    c.language_of.ensures
+    c.language_of.ensures ∙ ap (λ xs. language_of (pairs_of xs)) c.as_slice.ensures.value
     ∙ sym (by_data c.args.sight.now.tree.now c.data.ensures.tree c.args.node c.requires
     (λ (x : NumberedTree). spec.language_of_code (shown (sight_of c.args.sight.now) x))
-    (element_node c.in-Element.name.now (pairs_of c.in-Element.attrs.now))
+    (element_node c.in-Element.name (pairs_of c.in-Element.attrs.items))
     (sym c.data.ensures.value ∙ ap data_of c.in-Element.is)
-    ∙ ap (λ x. cond x (language_of (pairs_of c.in-Element.attrs.now)) None)
-    (sym c.eq.ensures ∙ c.if-eq.true))
+    ∙ ap (λ x. cond x (language_of (pairs_of c.in-Element.attrs.items)) None)
+    (ap (λ s. bytes_eq s (codes "code")) (sym c.as_str.ensures) ∙ sym c.eq.ensures ∙ c.if-eq.true))
 
 pub returns-else-eq : goal.returns-else-eq
 returns-else-eq c =
     sym (by_data c.args.sight.now.tree.now c.data.ensures.tree c.args.node c.requires
     (λ (x : NumberedTree). spec.language_of_code (shown (sight_of c.args.sight.now) x))
-    (element_node c.in-Element.name.now (pairs_of c.in-Element.attrs.now))
+    (element_node c.in-Element.name (pairs_of c.in-Element.attrs.items))
     (sym c.data.ensures.value ∙ ap data_of c.in-Element.is)
-    ∙ ap (λ x. cond x (language_of (pairs_of c.in-Element.attrs.now)) None)
-    (sym c.eq.ensures ∙ c.if-eq.false))
+    ∙ ap (λ x. cond x (language_of (pairs_of c.in-Element.attrs.items)) None)
+    (ap (λ s. bytes_eq s (codes "code")) (sym c.as_str.ensures) ∙ sym c.eq.ensures ∙ c.if-eq.false))

@@ -68,21 +68,21 @@ is_blank-returns-in-Doctype t c = sym (by_data c.args.sight.now.tree.now c.data.
 pub is_blank-returns-in-Comment : goal.is_blank-returns-in-Comment
 is_blank-returns-in-Comment t c = sym (by_data c.args.sight.now.tree.now c.data.ensures.tree c.args.node c.requires
     (λ (x : NumberedTree). spec.if_shown (shows (sight_of c.args.sight.now) x)
-    (spec.is_blank (shown (sight_of c.args.sight.now) x))) (comment_node c.in-Comment.field-0.now)
+    (spec.is_blank (shown (sight_of c.args.sight.now) x))) (comment_node (string_bytes c.in-Comment.field-0))
     (sym c.data.ensures.value ∙ ap data_of c.in-Comment.is))
 
 pub is_blank-returns-in-Text : goal.is_blank-returns-in-Text
 is_blank-returns-in-Text t c =
-    c.is_blank_in_page.ensures
+    c.is_blank_in_page.ensures ∙ ap (λ s. is_blank_text (shown_text s)) c.as_str.ensures.value
     ∙ sym (by_data c.args.sight.now.tree.now c.data.ensures.tree c.args.node c.requires
     (λ (x : NumberedTree). spec.if_shown (shows (sight_of c.args.sight.now) x)
-    (spec.is_blank (shown (sight_of c.args.sight.now) x))) (text_node c.in-Text.text.now)
+    (spec.is_blank (shown (sight_of c.args.sight.now) x))) (text_node (string_bytes c.in-Text.text))
     (sym c.data.ensures.value ∙ ap data_of c.in-Text.is))
 
 pub is_blank-returns-in-None : goal.is_blank-returns-in-None
 is_blank-returns-in-None t c =
     sym (blank_hidden (sight_of c.args.sight.now) c.args.sight.now.tree.now c.data.ensures.tree c.args.node c.requires
-    c.in-Element.name.now (pairs_of c.in-Element.attrs.now)
+    c.in-Element.name (pairs_of c.in-Element.attrs.items)
     (sym c.data.ensures.value ∙ ap data_of c.in-Element.is) (sym c.role.ensures ∙ c.in-None.is))
 
 pub is_blank-returns-then-not-is_never_blank : goal.is_blank-returns-then-not-is_never_blank

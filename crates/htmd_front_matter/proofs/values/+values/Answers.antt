@@ -28,8 +28,8 @@ value_in-returns-in-Document t c =
 
 pub value_in-returns-then-is_some : goal.value_in-returns-then-is_some
 value_in-returns-then-is_some t c =
-    let name : List ℕ = c.in-Element.name.now in
-    let attributes : List AttributePair = pairs_of c.in-Element.attrs.now in
+    let name : List ℕ = c.in-Element.name in
+    let attributes : List AttributePair = pairs_of c.in-Element.attrs.items in
     let children : ValueForest =
     value_forest (forest_of (tree_of c.args.tree.now) (children_of c.args.tree.now c.args.node)) in
     let w =
@@ -42,8 +42,8 @@ value_in-returns-then-is_some t c =
 
 pub value_in-returns-else-is_some : goal.value_in-returns-else-is_some
 value_in-returns-else-is_some t c =
-    let name : List ℕ = c.in-Element.name.now in
-    let attributes : List AttributePair = pairs_of c.in-Element.attrs.now in
+    let name : List ℕ = c.in-Element.name in
+    let attributes : List AttributePair = pairs_of c.in-Element.attrs.items in
     let children : ValueForest =
     value_forest (forest_of (tree_of c.args.tree.now) (children_of c.args.tree.now c.args.node)) in
     let w =
@@ -58,8 +58,8 @@ value_in-returns-else-is_some t c =
 pub value_in-returns-in_default : goal.value_in-returns-in_default
 value_in-returns-in_default t c =
     let w =
-    ap (value_in c.args.key) (value-node c.args.tree.now c.args.node (data_of c.data.result) c.data.ensures.tree
+    ap (value_in c.args.key) (value-node c.args.tree.now c.args.node (data_of c.data.result.now) c.data.ensures.tree
     c.requires c.data.ensures.value) in
-    sym (w ∙ value-other c.args.key c.args.node c.data.result
+    sym (w ∙ value-other c.args.key c.args.node c.data.result.now
     (forest_of (tree_of c.args.tree.now) (children_of c.args.tree.now c.args.node))
     c.in_default.not-Document c.in_default.not-Element)

@@ -3,6 +3,7 @@ use Rattle.std.proofs.Common.{rules, ◌≡◌, ◌<◌, ◌++◌, length, strin
 use Rattle.htmd_nodes.specs.Items.{children_of, document_node, doctype_node, text_node, comment_node, element_node}
 use Rattle.htmd_nodes.specs.NumberedTrees.{tree_of, forest_of, value_forest}
 use Rattle.htmd_grammar.specs.Attributes.{pairs_of}
+use Rattle.htmd_grammar.specs.declared.attribute.Attribute.{Attribute}
 use Rattle.htmd_nodes.specs.Views.{data_of}
 use Rattle.htmd_grammar.specs.ValueTrees.{AttributePair, ValueForest}
 use Rattle.htmd_grammar.specs.Serialisation.{start_tag, end_tag, is_void, is_raw_text, all_markup_of}
@@ -34,37 +35,39 @@ push_node-returns-in-Doctype t c =
 
 pub push_node-returns-then-raw : goal.push_node-returns-then-raw
 push_node-returns-then-raw t c =
-    let w = markup_of-node c.args.tree.now c.args.node (text_node c.in-Text.text.now) c.args.raw
+    let w = markup_of-node c.args.tree.now c.args.node (text_node (string_bytes c.in-Text.text)) c.args.raw
     c.data.ensures.tree c.requires (sym (ap data_of c.in-Text.is) ∙ c.data.ensures.value) in
     rw w (search rules)
 
 pub push_node-returns-else-raw : goal.push_node-returns-else-raw
 push_node-returns-else-raw t c =
-    let w = markup_of-node c.args.tree.now c.args.node (text_node c.in-Text.text.now) c.args.raw
+    let w = markup_of-node c.args.tree.now c.args.node (text_node (string_bytes c.in-Text.text)) c.args.raw
     c.data.ensures.tree c.requires (sym (ap data_of c.in-Text.is) ∙ c.data.ensures.value) in
     rw w (search rules)
 
 pub push_node-returns-in-Comment : goal.push_node-returns-in-Comment
 push_node-returns-in-Comment t c =
-    let w = markup_of-node c.args.tree.now c.args.node (comment_node c.in-Comment.text.now) c.args.raw
+    let w = markup_of-node c.args.tree.now c.args.node (comment_node (string_bytes c.in-Comment.text)) c.args.raw
     c.data.ensures.tree c.requires (sym (ap data_of c.in-Comment.is) ∙ c.data.ensures.value) in
     rw w (search rules)
 
 pub push_node-returns-then-is_void : goal.push_node-returns-then-is_void
 push_node-returns-then-is_void t c =
     let w = markup_of-node c.args.tree.now c.args.node
-    (element_node c.in-Element.name.now (pairs_of c.in-Element.attrs.now)) c.args.raw
+    (element_node c.in-Element.name (pairs_of c.in-Element.attrs.items)) c.args.raw
     c.data.ensures.tree c.requires (sym (ap data_of c.in-Element.is) ∙ c.data.ensures.value) in
     rw w (search rules)
 
 pub push_node-returns-in_ok-push_children-in-Element : goal.push_node-returns-in_ok-push_children-in-Element
 push_node-returns-in_ok-push_children-in-Element t c =
-    let name : List ℕ = c.in-Element.name.now in
-    let attributes : List AttributePair = pairs_of c.in-Element.attrs.now in
+    let name : List ℕ = c.as_str-name.result.now in
+    let attributes : List AttributePair = pairs_of c.as_slice.result.now in
     let children : ValueForest =
     value_forest (forest_of (tree_of c.args.tree.now) (children_of c.args.tree.now c.args.node)) in
     let w = markup_of-node c.args.tree.now c.args.node (element_node name attributes) c.args.raw c.data.ensures.tree
-    c.requires (sym (ap data_of c.in-Element.is) ∙ c.data.ensures.value) in
+    c.requires (ap (λ n. element_node n attributes) c.as_str-name.ensures
+    ∙ (ap (λ (x : List Attribute). element_node c.in-Element.name (pairs_of x)) c.as_slice.ensures.value
+    ∙ (sym (ap data_of c.in-Element.is) ∙ c.data.ensures.value))) in
     let other : is_void name ≡ false = sym c.is_void.ensures ∙ c.if-is_void.false in
     let inner : string_bytes c.push_children-in-Element.new.out ≡ string_bytes c.push_start_tag.new.out
     ++ all_markup_of (is_raw_text name) children =

@@ -1,5 +1,5 @@
 -- What is left to prove of the functions of the cycle `kept`.
-use Rattle.std.proofs.Common.{rules, ◌≡◌, ◌+◌, ◌<◌, ◌++◌, length, sym, ap, ◌∙◌, arith, ℕ, List, false, true, refl}
+use Rattle.std.proofs.Common.{rules, ◌≡◌, ◌+◌, ◌<◌, ◌++◌, length, sym, ap, ◌∙◌, arith, ℕ, List, false, true, refl, string_bytes}
 use Rattle.std.proofs.lemmas.List.{append-nil}
 use Rattle.htmd_grammar.specs.Attributes.{pairs_of}
 use Rattle.htmd_grammar.specs.ValueTrees.{AttributePair, ValueForest}
@@ -79,22 +79,22 @@ push_kept_child-returns-in_ok-added-in-Doctype t c =
 pub push_kept_child-returns-in_ok-added-in-Text : goal.push_kept_child-returns-in_ok-added-in-Text
 push_kept_child-returns-in_ok-added-in-Text t c =
     let w = part-node (kept_tree (steps_of c.args.page.now.steps.now) c.args.states.now) c.args.page.now.tree.now
-    c.args.node (text_node c.in-Text.text.now) c.data.ensures.tree c.requires.node
+    c.args.node (text_node (string_bytes c.in-Text.text)) c.data.ensures.tree c.requires.node
     (sym (ap data_of c.in-Text.is) ∙ c.data.ensures.value) in
     rw w (search rules)
 
 pub push_kept_child-returns-in_ok-added-in-Comment : goal.push_kept_child-returns-in_ok-added-in-Comment
 push_kept_child-returns-in_ok-added-in-Comment t c =
     let w = part-node (kept_tree (steps_of c.args.page.now.steps.now) c.args.states.now) c.args.page.now.tree.now
-    c.args.node (comment_node c.in-Comment.text.now) c.data.ensures.tree c.requires.node
+    c.args.node (comment_node (string_bytes c.in-Comment.text)) c.data.ensures.tree c.requires.node
     (sym (ap data_of c.in-Comment.is) ∙ c.data.ensures.value) in
     rw w (search rules)
 
 pub push_kept_child-returns-then-is_named : goal.push_kept_child-returns-then-is_named
 push_kept_child-returns-then-is_named t c =
     let steps = steps_of c.args.page.now.steps.now in
-    let name : List ℕ = c.in-Element.name.now in
-    let attributes : List AttributePair = pairs_of c.in-Element.attrs.now in
+    let name : List ℕ = c.in-Element.name in
+    let attributes : List AttributePair = pairs_of c.in-Element.attrs.items in
     let e : Element = record { name = name; attributes = attributes } in
     let w = part-node (kept_tree steps c.args.states.now) c.args.page.now.tree.now
     c.args.node (element_node name attributes) c.data.ensures.tree c.requires.node
@@ -105,8 +105,8 @@ push_kept_child-returns-then-is_named t c =
 pub push_kept_child-returns-in_ok-push_kept-in-Element : goal.push_kept_child-returns-in_ok-push_kept-in-Element
 push_kept_child-returns-in_ok-push_kept-in-Element t c =
     let steps = steps_of c.args.page.now.steps.now in
-    let name : List ℕ = c.in-Element.name.now in
-    let attributes : List AttributePair = pairs_of c.in-Element.attrs.now in
+    let name : List ℕ = c.in-Element.name in
+    let attributes : List AttributePair = pairs_of c.in-Element.attrs.items in
     let e : Element = record { name = name; attributes = attributes } in
     let children : ValueForest = value_forest
     (forest_of (tree_of c.args.page.now.tree.now) (children_of c.args.page.now.tree.now c.args.node)) in

@@ -42,9 +42,9 @@ pub push_outermost_child-returns-in_default : goal.push_outermost_child-returns-
 push_outermost_child-returns-in_default t c =
     let tree = c.args.page.now.tree.now in
     let part = outermost_tree (steps_of c.args.page.now.steps.now) c.args.states.now in
-    let w = part-node part tree c.args.node (data_of c.data.result) c.data.ensures.tree c.requires.node
+    let w = part-node part tree c.args.node (data_of c.data.result.now) c.data.ensures.tree c.requires.node
     c.data.ensures.value in
-    let other = outermost-other (steps_of c.args.page.now.steps.now) c.args.states.now c.args.node c.data.result
+    let other = outermost-other (steps_of c.args.page.now.steps.now) c.args.states.now c.args.node c.data.result.now
     (forest_of (tree_of tree) (children_of tree c.args.node)) c.in_default.not-Element in
     let nothing : part (value_at tree c.args.node) ≡ none = w ∙ other in
     rw nothing (sym (append-nil c.args.out.now))
@@ -52,8 +52,8 @@ push_outermost_child-returns-in_default t c =
 pub push_outermost_child-returns-then-is_named : goal.push_outermost_child-returns-then-is_named
 push_outermost_child-returns-then-is_named t c =
     let steps = steps_of c.args.page.now.steps.now in
-    let name : List ℕ = c.in-Element.name.now in
-    let attributes : List AttributePair = pairs_of c.in-Element.attrs.now in
+    let name : List ℕ = c.in-Element.name in
+    let attributes : List AttributePair = pairs_of c.in-Element.attrs.items in
     let e : Element = record { name = name; attributes = attributes } in
     let w = part-node (outermost_tree steps c.args.states.now) c.args.page.now.tree.now
     c.args.node (element_node name attributes) c.data.ensures.tree c.requires.node
@@ -72,8 +72,8 @@ push_outermost_child-returns-then-is_named t c =
 pub push_outermost_child-returns : goal.push_outermost_child-returns
 push_outermost_child-returns t c =
     let steps = steps_of c.args.page.now.steps.now in
-    let name : List ℕ = c.in-Element.name.now in
-    let attributes : List AttributePair = pairs_of c.in-Element.attrs.now in
+    let name : List ℕ = c.in-Element.name in
+    let attributes : List AttributePair = pairs_of c.in-Element.attrs.items in
     let e : Element = record { name = name; attributes = attributes } in
     let w = part-node (outermost_tree steps c.args.states.now) c.args.page.now.tree.now
     c.args.node (element_node name attributes) c.data.ensures.tree c.requires.node

@@ -28,18 +28,19 @@ returns g c =
     let n = height (tree_of there id) in
     let answer : List ℕ → Occurrence → Answer =
     λ tag at. answer_after c.args.call.skipped tag at c.args.links.now in
-    let tag : c.in-Element.name.now ≡ (ancestor_of (data_at items id)).tag =
-    sym (ap (λ (d : Data). (ancestor_of d).tag) (sym c.data.ensures.value ∙ ap data_of c.in-Element.is)) in
+    let tag : c.as_str.result.now ≡ (ancestor_of (data_at items id)).tag =
+    c.as_str.ensures
+    ∙ sym (ap (λ (d : Data). (ancestor_of d).tag) (sym c.data.ensures.value ∙ ap data_of c.in-Element.is)) in
     let same : answer c.element-element.result.tag.now (occurrence_of n v c.element-element.result)
     ≡ handled config items id translated c.args.call.skipped c.args.links.now =
     ap (λ s. answer s (occurrence_of n v c.element-element.result)) shown.tag
-    ∙ ap (answer c.in-Element.name.now) (shown.occurrence n
+    ∙ ap (answer c.as_str.result.now) (shown.occurrence n
     ∙ ap (λ d. shown_occurrence n v d translated (group_children (option_copied c.alone-visit.result.joined)
     (children_at there d))) here.node
     ∙ ap (λ j. shown_occurrence n v id translated (group_children j (children_at there id))) here.joined)
-    ∙ ap (λ r. answer c.in-Element.name.now (occurrence_in_tree (conversion_of (g.R.Registry.config r) there) id
+    ∙ ap (λ r. answer c.as_str.result.now (occurrence_in_tree (conversion_of (g.R.Registry.config r) there) id
     translated)) c.new-walk.ensures.registry
-    ∙ ap (λ (x : List Item). answer c.in-Element.name.now
+    ∙ ap (λ (x : List Item). answer c.as_str.result.now
     (occurrence_in_tree (conversion_of config x) id translated))
     c.new-walk.ensures.tree
     ∙ ap (λ s. answer s (occurrence_in_tree (conversion_of config items) id translated)) tag in

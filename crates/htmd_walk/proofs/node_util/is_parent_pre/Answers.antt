@@ -15,7 +15,7 @@ data-requires c =
 
 pub returns-in-Element : goal.returns-in-Element
 returns-in-Element c =
-    c.eq.ensures
+    c.eq.ensures ∙ ap (λ s. bytes_eq s (codes "pre")) c.as_str.ensures
     ∙ sym (parent_pre-up c.args.tree.now c.data.ensures.tree c.args.node c.in-Some.parent _ c.requires
     (sym c.in-Some.ensures.value) (sym c.data.ensures.value ∙ ap data_of c.in-Element.is))
 
@@ -23,4 +23,4 @@ pub returns-in_default-data : goal.returns-in_default-data
 returns-in_default-data c =
     sym (parent_pre-up c.args.tree.now c.data.ensures.tree c.args.node c.in-Some.parent _ c.requires
     (sym c.in-Some.ensures.value) (sym c.data.ensures.value)
-    ∙ not_pre c.data.result c.in_default-data.not-Element)
+    ∙ not_pre c.data.result.now c.in_default-data.not-Element)

@@ -25,7 +25,8 @@ returns-in-Text-clause-value c =
     let ids = c.children-children.result.now in
     let child = child_read c.args.tree.now c.args.node ids 0 c.index-children-0.result c.children-children.ensures.tree
     c.requires c.children-children.ensures.value (omega arith) c.index-children-0.is in
-    sym (ap (λ x. only_text (forest_of (tree_of c.args.tree.now) x)) (sym c.children-children.ensures.value)
+    ap Some c.as_str.ensures.value
+    ∙ sym (ap (λ x. only_text (forest_of (tree_of c.args.tree.now) x)) (sym c.children-children.ensures.value)
     ∙ only_text-one c.args.tree.now c.children-children.ensures.tree ids c.index-children-0.result _
     c.if-children-ne1.false c.index-children-0.is child.1 (sym c.data.ensures.value ∙ ap data_of c.in-Text.is))
 
@@ -37,4 +38,4 @@ returns-in_default-clause-value c =
     sym (ap (λ x. only_text (forest_of (tree_of c.args.tree.now) x)) (sym c.children-children.ensures.value)
     ∙ only_text-other c.args.tree.now c.children-children.ensures.tree ids c.index-children-0.result
     c.if-children-ne1.false c.index-children-0.is child.1
-    (ap is_text (sym c.data.ensures.value) ∙ not_text c.data.result c.in_default.not-Text))
+    (ap is_text (sym c.data.ensures.value) ∙ not_text c.data.result.now c.in_default.not-Text))

@@ -1,7 +1,7 @@
 -- What each function of the flow gives.
 mod TableAnswers
 use Rattle.std.proofs.Common.{◌≡◌, ◌+◌, ◌-◌, ◌<◌, ◌≤◌, ◌∷◌, ◌++◌, true, false, length, drop, take, map, sym, subst, ap, ◌∙◌, arith, [], All, rules}
-use Rattle.std.specs.Prelude.{Some, None, codes, pos}
+use Rattle.std.specs.Prelude.{Some, None, codes, pos, string_bytes}
 use Rattle.std.specs.List.{prefix_len}
 use Rattle.htmd_document.specs.Attributes.{value_of, number_at}
 use Rattle.htmd_grammar.specs.Attributes.{pairs_of}
@@ -187,20 +187,22 @@ whole-returns-in-Doctype-clause-out t c =
 pub whole-returns-in-Comment-clause-out : goal.whole-returns-in-Comment-clause-out
 whole-returns-in-Comment-clause-out t c =
     ap (fed_all (writing_in c.args.out.now)) (sym (whole_comment c.args.self.now.sight c.args.node
-    c.data.ensures.tree c.requires (context_in c.args.place c.args.around.now.items) c.in-Comment.field-0.now
+    c.data.ensures.tree c.requires (context_in c.args.place c.args.around.now.items) (string_bytes c.in-Comment.field-0)
     (sym c.data.ensures.value ∙ ap data_of c.in-Comment.is)))
 
 pub whole-returns-in-None-clause-out : goal.whole-returns-in-None-clause-out
 whole-returns-in-None-clause-out t c =
     ap (fed_all (writing_in c.args.out.now)) (sym (whole_hidden c.args.self.now.sight c.args.node
-    c.data.ensures.tree c.requires (context_in c.args.place c.args.around.now.items) c.in-Element.name.now
-    (pairs_of c.in-Element.attrs.now)
+    c.data.ensures.tree c.requires (context_in c.args.place c.args.around.now.items) c.in-Element.name
+    (pairs_of c.in-Element.attrs.items)
     (sym c.data.ensures.value ∙ ap data_of c.in-Element.is) (sym c.role.ensures ∙ c.in-None.is)))
 
 pub whole-returns-in-Text-clause-out : goal.whole-returns-in-Text-clause-out
 whole-returns-in-Text-clause-out t c =
-    let bytes = c.in-Text.text.now in
+    let bytes = string_bytes c.in-Text.text in
     on_ok c.text.result c.text.ensures (λ e. e
+    ∙ ap (λ x. fed (writing_in c.args.out.now) (run (shown_text x) (map around_of c.deref.result.now)
+    c.args.place.is_code)) c.as_str.ensures.value
     ∙ ap (λ a. fed (writing_in c.args.out.now) (run (shown_text bytes) (map around_of a) c.args.place.is_code))
     c.deref.ensures.value
     ∙ ap (fed_all (writing_in c.args.out.now)) (sym (whole_text c.args.self.now.sight c.args.node c.data.ensures.tree
@@ -214,9 +216,10 @@ whole-element-requires t c = (
     c.requires,
     (
       sym c.in-Some.is ∙ c.role.ensures,
-      sym (by_data c.args.self.now.sight.tree.now c.data.ensures.tree c.args.node c.requires
+      ap pairs_of c.as_slice.ensures.value
+          ∙ sym (by_data c.args.self.now.sight.tree.now c.data.ensures.tree c.args.node c.requires
           (λ (x : NumberedTree). attributes_of (shown (sight_of c.args.self.now.sight) x))
-          (element_node c.in-Element.name.now (pairs_of c.in-Element.attrs.now))
+          (element_node c.in-Element.name (pairs_of c.in-Element.attrs.items))
           (sym c.data.ensures.value ∙ ap data_of c.in-Element.is)),
     ),
   ),

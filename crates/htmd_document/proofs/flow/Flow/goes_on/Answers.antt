@@ -17,19 +17,20 @@ returns-in-Doctype c = sym (goes_doctype c.args.self.now.sight c.args.node c.dat
 
 pub returns-in-Text : goal.returns-in-Text
 returns-in-Text c =
-    c.are_spaces.ensures ∙ spaces_shown c.in-Text.text.now
-    ∙ sym (goes_text c.args.self.now.sight c.args.node c.data.ensures.tree c.requires c.in-Text.text.now
+    c.are_spaces.ensures ∙ ap (λ s. list_all is_space_or_unseen (chars s)) c.as_str.ensures.value
+    ∙ spaces_shown (string_bytes c.in-Text.text)
+    ∙ sym (goes_text c.args.self.now.sight c.args.node c.data.ensures.tree c.requires (string_bytes c.in-Text.text)
     (sym c.data.ensures.value ∙ ap data_of c.in-Text.is))
 
 pub returns-in-Comment : goal.returns-in-Comment
 returns-in-Comment c = sym (goes_comment c.args.self.now.sight c.args.node c.data.ensures.tree c.requires
-    c.in-Comment.field-0.now (sym c.data.ensures.value ∙ ap data_of c.in-Comment.is))
+    (string_bytes c.in-Comment.field-0) (sym c.data.ensures.value ∙ ap data_of c.in-Comment.is))
 
 pub returns-else-not-shows : goal.returns-else-not-shows
 returns-else-not-shows c =
     let sight = c.args.self.now.sight in
     let shown = sym c.shows.ensures ∙ c.if-not-shows.false in
     c.is_item.ensures
-    ∙ sym (goes_element sight c.args.node c.data.ensures.tree c.requires c.in-Element.name.now
-    (pairs_of c.in-Element.attrs.now) (sym c.data.ensures.value ∙ ap data_of c.in-Element.is)
+    ∙ sym (goes_element sight c.args.node c.data.ensures.tree c.requires c.in-Element.name
+    (pairs_of c.in-Element.attrs.items) (sym c.data.ensures.value ∙ ap data_of c.in-Element.is)
     ∙ ap (λ b. not b || is_item_at sight c.args.node) shown)

@@ -21,13 +21,13 @@ returns-in-Doctype-clause-shown c = sym (by_data c.args.self.now.tree.now c.data
 pub returns-in-Text-clause-shown : goal.returns-in-Text-clause-shown
 returns-in-Text-clause-shown c = sym (by_data c.args.self.now.tree.now c.data.ensures.tree c.args.node c.requires
     (λ (t : NumberedTree). spec.children_of (shown (sight_of c.args.self.now) t))
-    (text_node c.in-Text.field-0.now)
+    (text_node (string_bytes c.in-Text.field-0))
     (sym c.data.ensures.value ∙ ap data_of c.in-Text.is))
 
 pub returns-in-Comment-clause-shown : goal.returns-in-Comment-clause-shown
 returns-in-Comment-clause-shown c = sym (by_data c.args.self.now.tree.now c.data.ensures.tree c.args.node c.requires
     (λ (t : NumberedTree). spec.children_of (shown (sight_of c.args.self.now) t))
-    (comment_node c.in-Comment.field-0.now)
+    (comment_node (string_bytes c.in-Comment.field-0))
     (sym c.data.ensures.value ∙ ap data_of c.in-Comment.is))
 
 pub returns-in-Document-clause-shown : goal.returns-in-Document-clause-shown
@@ -46,24 +46,24 @@ returns-in-Document-clause-lower c =
 
 pub returns-then-is_void-clause-shown : goal.returns-then-is_void-clause-shown
 returns-then-is_void-clause-shown c =
-    let void : is_void (role_of c.in-Element.name.now) ≡ true =
-    sym (c.is_void.ensures ∙ ap is_void c.role_of.ensures) ∙ c.if-is_void.true in
+    let void : is_void (role_of c.in-Element.name) ≡ true =
+    sym (c.is_void.ensures ∙ ap is_void (c.role_of.ensures ∙ ap role_of c.as_str.ensures)) ∙ c.if-is_void.true in
     sym ((by_data c.args.self.now.tree.now c.data.ensures.tree c.args.node c.requires
     (λ (t : NumberedTree). spec.children_of (shown (sight_of c.args.self.now) t))
-    (element_node c.in-Element.name.now (pairs_of c.in-Element.attrs.now))
+    (element_node c.in-Element.name (pairs_of c.in-Element.attrs.items))
     (sym c.data.ensures.value ∙ ap data_of c.in-Element.is))
     ∙ ap (λ b. cond b none (shown_all (sight_of c.args.self.now)
     (below c.args.self.now.tree.now c.data.ensures.tree c.args.node c.requires))) void)
 
 pub returns-else-is_void-clause-shown : goal.returns-else-is_void-clause-shown
 returns-else-is_void-clause-shown c =
-    let void : is_void (role_of c.in-Element.name.now) ≡ false =
-    sym (c.is_void.ensures ∙ ap is_void c.role_of.ensures) ∙ c.if-is_void.false in
+    let void : is_void (role_of c.in-Element.name) ≡ false =
+    sym (c.is_void.ensures ∙ ap is_void (c.role_of.ensures ∙ ap role_of c.as_str.ensures)) ∙ c.if-is_void.false in
     ap (λ (ids : List ℕ). shown_all (sight_of c.args.self.now) (forest_of (tree_of c.args.self.now.tree.now) ids))
     c.children-else-is_void.ensures.value
     ∙ sym ((by_data c.args.self.now.tree.now c.data.ensures.tree c.args.node c.requires
     (λ (t : NumberedTree). spec.children_of (shown (sight_of c.args.self.now) t))
-    (element_node c.in-Element.name.now (pairs_of c.in-Element.attrs.now))
+    (element_node c.in-Element.name (pairs_of c.in-Element.attrs.items))
     (sym c.data.ensures.value ∙ ap data_of c.in-Element.is))
     ∙ ap (λ b. cond b none (shown_all (sight_of c.args.self.now)
     (below c.args.self.now.tree.now c.data.ensures.tree c.args.node c.requires))) void)

@@ -27,20 +27,20 @@ pub returns-in-Text : goal.returns-in-Text
 returns-in-Text c =
     sym (by_data c.args.self.now.tree.now c.data.ensures.tree c.args.node c.requires
     (λ (x : NumberedTree). has roles.is_header_cell (shown (sight_of c.args.self.now) x))
-    (text_node c.in-Text.field-0.now)
+    (text_node (string_bytes c.in-Text.field-0))
     (sym c.data.ensures.value ∙ ap data_of c.in-Text.is))
 
 pub returns-in-Comment : goal.returns-in-Comment
 returns-in-Comment c =
     sym (by_data c.args.self.now.tree.now c.data.ensures.tree c.args.node c.requires
     (λ (x : NumberedTree). has roles.is_header_cell (shown (sight_of c.args.self.now) x))
-    (comment_node c.in-Comment.field-0.now)
+    (comment_node (string_bytes c.in-Comment.field-0))
     (sym c.data.ensures.value ∙ ap data_of c.in-Comment.is))
 
 pub returns-in-Element : goal.returns-in-Element
 returns-in-Element c =
-    c.is_header_cell.ensures ∙ ap roles.is_header_cell c.role_of.ensures ∙
+    c.is_header_cell.ensures ∙ ap roles.is_header_cell (c.role_of.ensures ∙ ap roles.role_of c.as_str.ensures) ∙
     sym (by_data c.args.self.now.tree.now c.data.ensures.tree c.args.node c.requires
     (λ (x : NumberedTree). has roles.is_header_cell (shown (sight_of c.args.self.now) x))
-    (element_node c.in-Element.name.now (pairs_of c.in-Element.attrs.now))
+    (element_node c.in-Element.name (pairs_of c.in-Element.attrs.items))
     (sym c.data.ensures.value ∙ ap data_of c.in-Element.is))

@@ -20,32 +20,34 @@ returns-in-Doctype c = sym (by_data c.args.self.now.tree.now c.data.ensures.tree
 
 pub returns-in-Text : goal.returns-in-Text
 returns-in-Text c = sym (by_data c.args.self.now.tree.now c.data.ensures.tree c.args.node c.requires
-    (shown_role (sight_of c.args.self.now)) (text_node c.in-Text.field-0.now)
+    (shown_role (sight_of c.args.self.now)) (text_node (string_bytes c.in-Text.field-0))
     (sym c.data.ensures.value ∙ ap data_of c.in-Text.is))
 
 pub returns-in-Comment : goal.returns-in-Comment
 returns-in-Comment c = sym (by_data c.args.self.now.tree.now c.data.ensures.tree c.args.node c.requires
-    (shown_role (sight_of c.args.self.now)) (comment_node c.in-Comment.field-0.now)
+    (shown_role (sight_of c.args.self.now)) (comment_node (string_bytes c.in-Comment.field-0))
     (sym c.data.ensures.value ∙ ap data_of c.in-Comment.is))
 
 pub returns-then-is_hidden : goal.returns-then-is_hidden
 returns-then-is_hidden c =
-    let hidden : is_hidden (sight_of c.args.self.now) c.in-Element.name.now ≡ true =
-    sym c.is_hidden.ensures ∙ c.if-is_hidden.true in
+    let hidden : is_hidden (sight_of c.args.self.now) c.in-Element.name ≡ true =
+    sym (c.is_hidden.ensures ∙ ap (is_hidden (sight_of c.args.self.now)) c.as_str.ensures) ∙ c.if-is_hidden.true
+    in
     refl
     ∙ sym ((by_data c.args.self.now.tree.now c.data.ensures.tree c.args.node c.requires
-    (shown_role (sight_of c.args.self.now)) (element_node c.in-Element.name.now
-    (pairs_of c.in-Element.attrs.now))
+    (shown_role (sight_of c.args.self.now)) (element_node c.in-Element.name
+    (pairs_of c.in-Element.attrs.items))
     (sym c.data.ensures.value ∙ ap data_of c.in-Element.is))
-    ∙ ap (λ b. cond b None (Some (role_of c.in-Element.name.now))) hidden)
+    ∙ ap (λ b. cond b None (Some (role_of c.in-Element.name))) hidden)
 
 pub returns-else-is_hidden : goal.returns-else-is_hidden
 returns-else-is_hidden c =
-    let hidden : is_hidden (sight_of c.args.self.now) c.in-Element.name.now ≡ false =
-    sym c.is_hidden.ensures ∙ c.if-is_hidden.false in
-    ap Some c.role_of.ensures
+    let hidden : is_hidden (sight_of c.args.self.now) c.in-Element.name ≡ false =
+    sym (c.is_hidden.ensures ∙ ap (is_hidden (sight_of c.args.self.now))
+    c.as_str.ensures) ∙ c.if-is_hidden.false in
+    ap Some (c.role_of.ensures ∙ ap role_of c.as_str-else-is_hidden.ensures)
     ∙ sym ((by_data c.args.self.now.tree.now c.data.ensures.tree c.args.node c.requires
-    (shown_role (sight_of c.args.self.now)) (element_node c.in-Element.name.now
-    (pairs_of c.in-Element.attrs.now))
+    (shown_role (sight_of c.args.self.now)) (element_node c.in-Element.name
+    (pairs_of c.in-Element.attrs.items))
     (sym c.data.ensures.value ∙ ap data_of c.in-Element.is))
-    ∙ ap (λ b. cond b None (Some (role_of c.in-Element.name.now))) hidden)
+    ∙ ap (λ b. cond b None (Some (role_of c.in-Element.name))) hidden)

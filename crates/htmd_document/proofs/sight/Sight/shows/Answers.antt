@@ -19,18 +19,18 @@ returns-in-Doctype c = sym (by_data c.args.self.now.tree.now c.data.ensures.tree
 
 pub returns-in-Text : goal.returns-in-Text
 returns-in-Text c = sym (by_data c.args.self.now.tree.now c.data.ensures.tree c.args.node c.requires
-    (shows (sight_of c.args.self.now)) (text_node c.in-Text.field-0.now)
+    (shows (sight_of c.args.self.now)) (text_node (string_bytes c.in-Text.field-0))
     (sym c.data.ensures.value ∙ ap data_of c.in-Text.is))
 
 pub returns-in-Comment : goal.returns-in-Comment
 returns-in-Comment c = sym (by_data c.args.self.now.tree.now c.data.ensures.tree c.args.node c.requires
-    (shows (sight_of c.args.self.now)) (comment_node c.in-Comment.field-0.now)
+    (shows (sight_of c.args.self.now)) (comment_node (string_bytes c.in-Comment.field-0))
     (sym c.data.ensures.value ∙ ap data_of c.in-Comment.is))
 
 pub returns-in-Element : goal.returns-in-Element
 returns-in-Element c =
-    ap not c.is_hidden.ensures
+    ap not (c.is_hidden.ensures ∙ ap (is_hidden (sight_of c.args.self.now)) c.as_str.ensures)
     ∙ sym (by_data c.args.self.now.tree.now c.data.ensures.tree c.args.node c.requires
-    (shows (sight_of c.args.self.now)) (element_node c.in-Element.name.now
-    (pairs_of c.in-Element.attrs.now))
+    (shows (sight_of c.args.self.now)) (element_node c.in-Element.name
+    (pairs_of c.in-Element.attrs.items))
     (sym c.data.ensures.value ∙ ap data_of c.in-Element.is))

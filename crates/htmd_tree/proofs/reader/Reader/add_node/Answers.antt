@@ -1,13 +1,13 @@
 -- What is left to prove of `add_node`.
 use Rattle.std.proofs.Common.{refl, sym, subst}
-use Rattle.htmd_nodes.specs.Views.{new_data_of}
+use Rattle.htmd_tree.specs.NewNodes.{data_of_new}
 use Rattle.htmd_tree.specs.Advances.{StopsDeep}
 use Rattle.htmd_tree.proofs.AdvancesLemmas.{added_at, too_deep_at}
 use Rattle.htmd_tree.proofs.reader.Reader.add_node.Goals as goal
 
 pub returns-in-Ok-clause-ok : goal.returns-in-Ok-clause-ok
 returns-in-Ok-clause-ok c = λ has_doctype fs h.
-    added_at c.args.self.now _ has_doctype fs c.top-parent.result (new_data_of c.args.node) c.in-Ok.id
+    added_at c.args.self.now _ has_doctype fs c.top-parent.result (data_of_new c.args.node) c.in-Ok.id
     c.top-parent.ensures.top h
     c.in-Ok.ensures.id c.in-Ok.ensures.ok (λ d. let w = c.in-Ok.ensures.too_deep.1 d in cc)
 

@@ -1,6 +1,6 @@
 -- What is left to prove of `read_raw_text`.
 use Rattle.std.proofs.Common.{◌≡◌, ◌∙◌, ◌∷◌, [], false, true, length, codes, ap, sym}
-use Rattle.std.specs.Prelude.{◌&&◌}
+use Rattle.std.specs.Prelude.{◌&&◌, string_bytes}
 use Rattle.std.specs.Str.{bytes_eq}
 use Rattle.htmd_grammar.specs.ValueTrees.{text}
 use Rattle.htmd_grammar.specs.CharacterClasses.{is_among, up_to}
@@ -59,9 +59,9 @@ returns-clause-follows c = λ has_doctype fs holds raw.
           (ap (λ n. bytes_eq n (codes "script")) (sym name) ∙ sym c.eq.ensures ∙ w.if-eq.false)
     ] in
     same_follows old c.add_leaf.new.self has_doctype c.add_leaf.result _
-    (add (rules_of old) above_body fs (text c.as_str.result.now) c.split_at.result.1.now)
+    (add (rules_of old) above_body fs (text (string_bytes c.in_ok-text.text)) c.split_at.result.1.now)
     (sym (raw_text_is old.scripting fs old.rest.now content c.split_at.result.1.now c.raw_content_len-len.result raw
     size c.split_at.ensures.front c.split_at.ensures.back right)
     ∙ ap (λ u. add (rules_of old) above_body fs (text u) c.split_at.result.1.now)
-    (sym (c.as_str.ensures.value ∙ c.in_ok-text.ensures)))
+    (sym c.in_ok-text.ensures))
     (c.add_leaf.ensures.follows has_doctype fs holds)

@@ -13,10 +13,11 @@ use Rattle.htmd_walk.proofs.dom_walker.Walk.goes_past.Goals as goal
 pub returns-then-ne : goal.returns-then-ne
 returns-then-ne g c = λ t.
     let config = g.R.Registry.config c.args.self.now.registry.now in
-    let tag = c.in-Element.name.now in
-    let attributes = pairs_of c.in-Element.attrs.now in
+    let tag = c.as_str-tag.result.now in
+    let attributes = pairs_of c.in-Element.attrs.items in
     let is : data_at c.args.tree.now c.args.node ≡ element_node tag attributes =
-    sym c.data.ensures.value ∙ ap data_of c.in-Element.is in
+    sym c.data.ensures.value ∙ ap data_of c.in-Element.is
+    ∙ ap (λ s. element_node s attributes) (sym c.as_str-tag.ensures) in
     let alone : is_markdown_alone config.options ≡ true =
     ap is_markdown_alone (sym c.options.ensures.value) ∙ sym c.is_markdown_alone.ensures
     ∙ c.if-not-is_markdown_alone.false in
@@ -27,10 +28,11 @@ returns-then-ne g c = λ t.
 pub returns : goal.returns
 returns g c = λ t.
     let config = g.R.Registry.config c.args.self.now.registry.now in
-    let tag = c.in-Element.name.now in
-    let attributes = pairs_of c.in-Element.attrs.now in
+    let tag = c.as_str-tag.result.now in
+    let attributes = pairs_of c.in-Element.attrs.items in
     let is : data_at c.args.tree.now c.args.node ≡ element_node tag attributes =
-    sym c.data.ensures.value ∙ ap data_of c.in-Element.is in
+    sym c.data.ensures.value ∙ ap data_of c.in-Element.is
+    ∙ ap (λ s. element_node s attributes) (sym c.as_str-tag.ensures) in
     let alone : is_markdown_alone config.options ≡ true =
     ap is_markdown_alone (sym c.options.ensures.value) ∙ sym c.is_markdown_alone.ensures
     ∙ c.if-not-is_markdown_alone.false in
@@ -38,6 +40,7 @@ returns g c = λ t.
     passed-plain config tag attributes (data_at c.args.tree.now c.args.node) true is alone span (
       ap (λ s. handlers_at config.handlers (indexes s config.registered)) (span_tag tag span)
           ∙ c.has_span_handler_alone.ensures c.if-not-has_span_handler_alone.false,
-      ap is_some (sym c.formula_mark.ensures)
+      ap (λ xs. is_some (formula_mark (pairs_of xs))) (sym c.as_slice.ensures.value)
+          ∙ ap is_some (sym c.formula_mark.ensures)
           ∙ no_value c.formula_mark.result (c.is_none-2.ensures ∙ ap not t),
     )

@@ -125,12 +125,13 @@ pub walk_kept-keep-requires-clause-right : goal.walk_kept-keep-requires-clause-r
 walk_kept-keep-requires-clause-right g t c as_many =
     let v = conversion_of (g.R.Registry.config c.args.self.now.registry.now) c.args.self.now.tree.now in
     let items = c.args.self.now.tree.now in
-    let name = c.in-Element.name.now in
-    let attributes = pairs_of c.in-Element.attrs.now in
+    let name = c.as_str.result.now in
+    let attributes = pairs_of c.in-Element.attrs.items in
     let old = c.args.links.now in
     let new = c.walk_element.new.links in
     let is : data_at items c.args.below ≡ element_node name attributes =
-    sym c.data.ensures.value ∙ ap data_of c.in-Element.is in
+    (sym c.data.ensures.value ∙ ap data_of c.in-Element.is)
+    ∙ ap (λ s. element_node s attributes) (sym c.as_str.ensures) in
     let here = c.alone-visit.ensures in
     let shown = c.element-child.ensures in
     let answered : ℕ → Answer = λ m. answer_after 0 name (occurrence_at (written_within m v) v c.args.below
@@ -160,12 +161,13 @@ pub walk_kept-returns-clause-ok : goal.walk_kept-returns-clause-ok
 walk_kept-returns-clause-ok g t c =
     let v = conversion_of (g.R.Registry.config c.args.self.now.registry.now) c.args.self.now.tree.now in
     let items = c.args.self.now.tree.now in
-    let name = c.in-Element.name.now in
-    let attributes = pairs_of c.in-Element.attrs.now in
+    let name = c.as_str.result.now in
+    let attributes = pairs_of c.in-Element.attrs.items in
     let old = c.args.links.now in
     let new = c.walk_element.new.links in
     let is : data_at items c.args.below ≡ element_node name attributes =
-    sym c.data.ensures.value ∙ ap data_of c.in-Element.is in
+    (sym c.data.ensures.value ∙ ap data_of c.in-Element.is)
+    ∙ ap (λ s. element_node s attributes) (sym c.as_str.ensures) in
     let here = c.alone-visit.ensures in
     let shown = c.element-child.ensures in
     let answered : ℕ → Answer = λ m. answer_after 0 name (occurrence_at (written_within m v) v c.args.below

@@ -11,6 +11,7 @@ use Rattle.htmd_nodes.specs.NumberedTrees.{tree_of, height}
 use Rattle.htmd_nodes.specs.Ancestors.{ancestors_of}
 use Rattle.htmd_grammar.specs.Attributes.{pairs_of}
 use Rattle.htmd_nodes.specs.Views.{data_of}
+use Rattle.htmd_walk.specs.OrdinaryText.{parent_is_pre, written_text}
 use Rattle.htmd_walk.specs.Groups.{group_children, children_at}
 use Rattle.htmd_walk.specs.Outputs.{Output, conversion_of, context_of, is_markdown_alone}
 use Rattle.htmd_walk.specs.Elements.{Answer, answer_after}
@@ -61,7 +62,7 @@ walk_node-returns-then-is_markdown_alone g t c =
     let v = conversion_of config items in
     λ n h. comment_written config items
     (option_copied visit.joined) c.data.ensures.tree visit.node c.requires.here.within n
-    c.in-Comment.text.now true
+    (string_bytes c.in-Comment.text) true
     (context_of (ancestors_of items visit.node) visit.context.preformatted visit.context.trim)
     (output_view c.args.out.now c.args.links.now) h (sym c.data.ensures.value ∙ ap data_of c.in-Comment.is)
     (sym c.if-is_markdown_alone.true ∙ c.is_markdown_alone.ensures ∙ ap is_markdown_alone c.options.ensures.value)
@@ -85,9 +86,10 @@ walk_node-returns-else-is_markdown_alone g t c =
       definitions =
           c.args.links.now;
     }) p
+    ∙ ap (λ s. put (comment_of s)) c.as_str.ensures.value
     ∙ comment_written config items
     (option_copied visit.joined) c.data.ensures.tree visit.node c.requires.here.within n
-    c.in-Comment.text.now false
+    (string_bytes c.in-Comment.text) false
     (context_of (ancestors_of items visit.node) visit.context.preformatted visit.context.trim)
     (output_view c.args.out.now c.args.links.now) h (sym c.data.ensures.value ∙ ap data_of c.in-Comment.is)
     (sym c.if-is_markdown_alone.false ∙ c.is_markdown_alone.ensures ∙ ap is_markdown_alone c.options.ensures.value))
@@ -98,6 +100,13 @@ walk_node-returns-in-Text g t c =
     let config = g.R.Registry.config c.args.self.now.registry.now in
     let items = c.args.self.now.tree.now in
     let visit = c.args.visit.now in
+    let out = string_bytes c.args.out.now.content in
+    let in_pre = parent_is_pre (ancestors_of items visit.node) in
+    let put : List ℕ → Output = λ s. record {
+      text = out ++ written_text visit.context.preformatted in_pre visit.context.trim out s;
+      markdown_translated = c.args.out.now.markdown_translated;
+      definitions = c.args.links.now;
+    } in
     on_ok_weaker c.write_text.result (λ p n h.
     ap (λ s. record {
       text = s;
@@ -105,8 +114,9 @@ walk_node-returns-in-Text g t c =
       definitions =
           c.args.links.now;
     }) p
+    ∙ ap put c.as_str-in-Text.ensures.value
     ∙ text_written config items
-    (option_copied visit.joined) c.data.ensures.tree visit.node c.requires.here.within n c.in-Text.text.now
+    (option_copied visit.joined) c.data.ensures.tree visit.node c.requires.here.within n (string_bytes c.in-Text.text)
     (context_of (ancestors_of items visit.node) visit.context.preformatted visit.context.trim)
     (output_view c.args.out.now c.args.links.now) h (sym c.data.ensures.value ∙ ap data_of c.in-Text.is))
     c.write_text.ensures
@@ -119,8 +129,8 @@ walk_node-returns-in-Some g t c =
     let visit = c.args.visit.now in
     let v = conversion_of config items in
     let joined = option_copied visit.joined in
-    let name = c.in-Element.name.now in
-    let attributes = pairs_of c.in-Element.attrs.now in
+    let name = c.in-Element.name in
+    let attributes = pairs_of c.in-Element.attrs.items in
     let old = c.args.links.now in
     let is : data_at items visit.node ≡ element_node name attributes =
     sym c.data.ensures.value ∙ ap data_of c.in-Element.is in
@@ -145,8 +155,8 @@ walk_node-returns-in_ok-given-in-Element g t c =
     let visit = c.args.visit.now in
     let v = conversion_of config items in
     let joined = option_copied visit.joined in
-    let name = c.in-Element.name.now in
-    let attributes = pairs_of c.in-Element.attrs.now in
+    let name = c.in-Element.name in
+    let attributes = pairs_of c.in-Element.attrs.items in
     let old = c.args.links.now in
     let is : data_at items visit.node ≡ element_node name attributes =
     sym c.data.ensures.value ∙ ap data_of c.in-Element.is in
@@ -160,7 +170,8 @@ walk_node-returns-in_ok-given-in-Element g t c =
     c.in_ok-given-in-Element.ensures m
     (subst (λ d. height (tree_of items d) ≤ suc m) (sym c.element-element.ensures.node) k)
     ∙ ap (λ tag. answer_after 0 tag (occurrence_of m v c.element-element.result) old) c.element-element.ensures.tag
-    ∙ ap (λ at. answer_after 0 name at old) (c.element-element.ensures.occurrence m) in
+    ∙ ap (λ at. answer_after 0 c.as_str-in-Element.result.now at old) (c.element-element.ensures.occurrence m)
+    ∙ ap (answered m) c.as_str-in-Element.ensures in
     on_ok_weaker c.append_result.result (λ p n h. p new
     ∙ result_put config items joined c.data.ensures.tree visit.node
     c.requires.here.within name attributes is (output_view c.args.out.now old) given new made n
