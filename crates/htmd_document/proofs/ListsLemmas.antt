@@ -1,6 +1,6 @@
 -- Lists of items, one after another.
 use Rattle.std.proofs.Common.{◌≡◌, ℕ, ◌+◌, ◌<◌, ◌≤◌, false, not, ◌||◌, ◌&&◌, List, [], ◌∷◌, length, get_or, drop, map}
-use Rattle.std.proofs.Common.{refl, sym, ap, ◌∙◌, arith}
+use Rattle.std.proofs.Common.{refl, sym, ap, ◌∙◌, arith, None}
 use Rattle.std.specs.Prelude.{◌==◌}
 use Rattle.std.specs.List.{list_all}
 use Rattle.std.proofs.lemmas.List.{drop_more, drop_all}
@@ -59,9 +59,9 @@ pub close_at : (items : List code.ListItem) (i : ℕ) (x : code.ListItem) → i 
 close_at items i x l e = ap (list_all is_close) (map_at item_of items i x l e)
 
 -- too many items
-pub start_past : (z : ℤ) (count : ℕ) → 1000000000 < count → start_of z count ≡ 1
+pub start_past : (z : ℤ) (count : ℕ) → 1000000000 < count → start_of z count ≡ None
 start_past (pos n) count l = grind (arith, nat_tests)
-start_past (negsuc n) count l = refl
+start_past (negsuc n) count l = grind (arith, nat_tests)
 
 pub map_twice : {A B C : Type 0} (f : B → C) (g : A → B) (xs : List A)
     → map f (map g xs) ≡ map (λ x. f (g x)) xs

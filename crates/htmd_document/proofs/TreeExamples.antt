@@ -1,11 +1,11 @@
 -- Worked rows of the document of a tree.
-use Rattle.std.proofs.Common.{◌≡◌, true, false, List, [], ◌∷◌, Some, None, refl}
+use Rattle.std.proofs.Common.{◌≡◌, true, false, List, [], ◌∷◌, ◌++◌, Some, None, refl}
 use Rattle.std.specs.Prelude.{codes, pos, negsuc}
 use Rattle.std.specs.Str.{chars}
 use lib.Utf8.{encode}
 use Rattle.htmd_grammar.specs.ValueTrees.{AttributePair}
 use Rattle.htmd_nodes.specs.NumberedTrees.{NumberedTree, NumberedForest, document, text, element, none, more}
-use Rattle.htmd_document.specs.Attributes.{words, number, address, language_of, alignment}
+use Rattle.htmd_document.specs.Attributes.{words, in_line, number, address, language_of_word, language_of, alignment}
 use Rattle.htmd_document.specs.declared.document.Alignment.TheVariants as align
 use Rattle.htmd_document.specs.Documents as value
 use Rattle.htmd_document.specs.Flows.{node_of}
@@ -32,11 +32,23 @@ pub address-trimmed : address (codes " a b ") ≡ codes "a b"
 unfolding chars encode
 address-trimmed = refl
 
+pub address-null : address (codes "a\0b") ≡ codes "ab"
+unfolding chars encode
+address-null = refl
+
+pub in_line-null : in_line (codes " a\0b \0 c") ≡ codes "ab c"
+unfolding chars encode
+in_line-null = refl
+
 abbrev class : AttributePair
 class = record { name = codes "class"; value = codes "x language-rust" }
 
 pub language_of-class : language_of (class ∷ []) ≡ Some (codes "rust")
 language_of-class = refl
+
+-- a word with a control names none
+pub language_of_word-control : language_of_word (codes "lang-c" ++ 0x0B ∷ []) ≡ None
+language_of_word-control = refl
 
 abbrev style : AttributePair
 style = record { name = codes "style"; value = codes "color: red; Text-Align : RIGHT" }
@@ -46,8 +58,11 @@ alignment-style = refl
 
 -- ---- lists and tables
 
-pub start_of-past_the_greatest : start_of (pos 999999999) 2 ≡ 1
+pub start_of-past_the_greatest : start_of (pos 999999999) 2 ≡ Some 1
 start_of-past_the_greatest = refl
+
+pub start_of-too_many : start_of (pos 1) 1000000000 ≡ None
+start_of-too_many = refl
 
 -- a cell of two columns and two rows, and one below it
 abbrev spanning : List Row

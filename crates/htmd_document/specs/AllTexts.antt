@@ -12,6 +12,7 @@ use Rattle.htmd_nodes.specs.NumberedTrees.{more}
 use Rattle.htmd_document.specs.declared.role.Role.{Role}
 use Rattle.htmd_document.specs.Attributes.{text_of, language_of}
 use Rattle.htmd_document.specs.Roles.{role_of, is_line_break, is_image, is_quotation}
+use Rattle.htmd_document.specs.ShownTexts.{shown_text}
 use Rattle.htmd_document.specs.Spaces.{is_white}
 
 abbrev pub quoted : List ℕ → List ℕ
@@ -21,7 +22,7 @@ quoted s = (quotation_mark ∷ s) ++ quotation_mark ∷ []
 abbrev pub text_by_role : Role → List AttributePair → List ℕ → List ℕ
 text_by_role r attributes inner =
     if is_line_break r then line_feed ∷ []
-    else (if is_image r then text_of (codes "alt") attributes
+    else (if is_image r then shown_text (text_of (codes "alt") attributes)
     else (if is_quotation r then quoted inner else inner))
 
 abbrev mutual

@@ -3,15 +3,16 @@ use Rattle.std.specs.Prelude.{ℕ, Bool, not, ◌||◌, ◌==◌, nat_le, nat_lt
 use Rattle.std.specs.Prelude.{map, filter, length, drop, take, fold, min, max, Option, Some, None, codes, ◌-◌, ◌+◌, ◌*◌}
 use Rattle.std.specs.Prelude.{ℤ, pos, negsuc, neg_ℤ, is_some, encode_utf8_all}
 use Rattle.std.specs.Char.{is_ascii_digit, to_ascii_lowercase}
-use Rattle.std.specs.List.{list_any, prefix_len, slice_split, starts_with, before_first, after_first}
+use Rattle.std.specs.List.{list_all, prefix_len, slice_split, starts_with, before_first, after_first}
 use Rattle.std.specs.Option.{option_or, option_map, unwrap_or}
 use Rattle.std.specs.Str.{bytes_eq, chars}
-use Rattle.htmd_grammar.specs.Characters.{tab, line_feed, carriage_return, space, grave_accent, tilde, ampersand}
+use Rattle.htmd_grammar.specs.Characters.{null, tab, line_feed, carriage_return, space, grave_accent, tilde, ampersand}
 use Rattle.htmd_grammar.specs.Characters.{backslash, plus_sign, hyphen, digit_zero, semicolon, colon}
 use Rattle.htmd_grammar.specs.ValueTrees.{AttributePair}
 use Rattle.htmd_grammar.specs.WhiteSpace.{is_ascii_white_space}
 use Rattle.htmd_text.specs.Joins.{joined_texts}
 use Rattle.htmd_text.specs.Trims.{trimmed_start, trimmed_text}
+use Rattle.htmd_document.specs.ShownTexts.{shown_text}
 use Rattle.htmd_document.specs.declared.document.Alignment.{Alignment}
 use Rattle.htmd_document.specs.declared.document.Alignment.TheVariants as align
 
@@ -36,9 +37,9 @@ is_filled s = nat_lt 0 (length s)
 abbrev pub words : List ℕ → List (List ℕ)
 words s = filter is_filled (slice_split is_ascii_white_space s)
 
--- the words in one line
+-- the words in one line, without what never shows
 abbrev pub in_line : List ℕ → List ℕ
-in_line s = joined_texts (space ∷ []) (words s)
+in_line s = joined_texts (space ∷ []) (words (shown_text s))
 
 -- a title is one line, and none where it is blank
 abbrev pub title_of_value : Option (List ℕ) → Option (List ℕ)
@@ -57,18 +58,26 @@ description_of attributes = in_line (text_of (codes "alt") attributes)
 abbrev pub is_space_or_control : ℕ → Bool
 is_space_or_control b = nat_le b space
 
-abbrev pub is_no_line_end : ℕ → Bool
-is_no_line_end c = not ((c == tab) || (c == line_feed) || (c == carriage_return))
+abbrev pub is_in_address : ℕ → Bool
+is_in_address c = not ((c == null) || (c == tab) || (c == line_feed) || (c == carriage_return))
 
--- As browsers take it: no white space or controls at the ends, no tabs and line ends in it (URL Standard, 4.4).
+-- As browsers take it: no white space or controls at the ends, no tabs and line ends in it (URL Standard, 4.4), and no
+-- U+0000, which no reader keeps.
 abbrev pub address : List ℕ → List ℕ
-address s = encode_utf8_all (filter is_no_line_end (chars (trimmed_text is_space_or_control s)))
+address s = encode_utf8_all (filter is_in_address (chars (trimmed_text is_space_or_control s)))
 
 -- ---- languages
 
 -- what a fence can't hold after it, or a reader takes for more than letters
 abbrev pub is_mark : ℕ → Bool
 is_mark b = (b == grave_accent) || (b == tilde) || (b == ampersand) || (b == backslash)
+
+abbrev pub delete : ℕ
+delete = 0x7F
+
+-- the name of a language has no mark, no space and no control
+abbrev pub is_in_name : ℕ → Bool
+is_in_name b = not (is_mark b || is_space_or_control b || (b == delete))
 
 -- what follows this beginning of a word
 abbrev pub after_beginning : List ℕ → List ℕ → Option (List ℕ)
@@ -84,7 +93,7 @@ named_language word = option_or (if_filled (after_beginning (codes "language-") 
     (if_filled (after_beginning (codes "lang-") word))
 
 abbrev pub language_of_word : List ℕ → Option (List ℕ)
-language_of_word word = if list_any is_mark word then None else named_language word
+language_of_word word = if list_all is_in_name word then named_language word else None
 
 -- the first of these words that names one
 abbrev pub first_language : List (List ℕ) → Option (List ℕ)

@@ -87,15 +87,18 @@ bullets items = list_of None items ∷ []
 abbrev pub greatest_start : ℕ
 greatest_start = 999999999
 
+-- with more items than 999,999,999 it has no numbers
+abbrev pub from_one : ℕ → Option ℕ
+from_one count = if nat_le count greatest_start then Some 1 else None
+
 -- the number that a list begins with: below 0 or with a number past 999,999,999 it begins at 1
-abbrev pub start_of : ℤ → ℕ → ℕ
-start_of (pos n) count = if nat_le (n + count) (greatest_start + 1) then n else 1
-start_of (negsuc n) count = 1
+abbrev pub start_of : ℤ → ℕ → Option ℕ
+start_of (pos n) count = if nat_le (n + count) (greatest_start + 1) then Some n else from_one count
+start_of (negsuc n) count = from_one count
 
 -- a group of items with numbers one after another; one without anything to see is none
 abbrev pub numbered : ℤ → List ListItem → List Part
-numbered start items =
-    if are_filled items then list_of (Some (start_of start (length items))) items ∷ [] else []
+numbered start items = if are_filled items then list_of (start_of start (length items)) items ∷ [] else []
 
 -- the number that an item begins anew with: it says one, and that isn't the next
 abbrev pub new_number : ℤ → Option ℤ → Option ℤ

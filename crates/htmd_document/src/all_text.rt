@@ -104,7 +104,7 @@ fn push_text_of(
             if is_line_break(role) {
                 out.push('\n')
             } else if is_image(role) {
-                out.push_str(text_of(attrs.as_slice(), "alt"))
+                push_shown(alloc, out, text_of(attrs.as_slice(), "alt"))
             } else if is_quotation(role) {
                 push_quoted(alloc, out, sight, node)
             } else {

@@ -2,16 +2,18 @@
 ghost use Rattle.std.specs.Prelude.{◌≡◌, ◌≤◌, ◌<◌, ◌==◌, [], ◌∷◌, ◌++◌, not, true, All, IfOk, IfSome, OnOk, MatchOption, length};
 ghost use Rattle.std.specs.Prelude.{flat_map, string_bytes, pos, codes};
 ghost use Rattle.std.specs.Char.{is_ascii_digit};
-ghost use Rattle.std.specs.List.{list_any, prefix_len, suffix_len, slice_split};
+ghost use Rattle.std.specs.List.{list_all, prefix_len, suffix_len, slice_split};
 ghost use Rattle.std.specs.Option.{option_copied, option_map};
 ghost use Rattle.htmd_grammar.specs.Attributes.{pairs_of};
 ghost use Rattle.htmd_grammar.specs.Characters.{space, semicolon};
 ghost use Rattle.htmd_grammar.specs.WhiteSpace.{is_ascii_white_space};
+ghost use Rattle.htmd_text.specs.Joins.{joined_texts};
 ghost use Rattle.htmd_text.specs.Trims.{trimmed_text};
 ghost use Rattle.htmd_document.specs.Attributes as spec;
 ghost use Rattle.htmd_document.specs.DocumentViews.{bytes_of_title};
 
 use crate::document::Alignment;
+use crate::shown_text::{is_all_shown, shown_text};
 use htmd_nodes::Attribute;
 use std::alloc::{AllocError, Global};
 
@@ -103,9 +105,9 @@ fn push_words(line: &mut String, text: &str) -> Result<(), AllocError>
     Ok(())
 }
 
-/// The words of the text in one line.
-fn in_line(alloc: Global, text: &str) -> Result<String, AllocError>
-    ensures { IfOk result (λ s. string_bytes s ≡ spec.in_line text.now) }
+/// The words of the text, with a space between two.
+fn joined_words(alloc: Global, text: &str) -> Result<String, AllocError>
+    ensures { IfOk result (λ s. string_bytes s ≡ joined_texts (space ∷ []) (spec.words text.now)) }
 {
     let Some(found) = first_word(text) else {
         return Ok(String::new(alloc));
@@ -114,6 +116,17 @@ fn in_line(alloc: Global, text: &str) -> Result<String, AllocError>
     line.push_str(found.word)?;
     push_words(&mut line, found.after)?;
     Ok(line)
+}
+
+/// The words of the text in one line, without U+0000 and U+FEFF.
+fn in_line(alloc: Global, text: &str) -> Result<String, AllocError>
+    ensures { IfOk result (λ s. string_bytes s ≡ spec.in_line text.now) }
+{
+    if is_all_shown(text) {
+        return joined_words(alloc, text);
+    }
+    let shown = shown_text(alloc, text)?;
+    joined_words(alloc, shown.as_str())
 }
 
 /// The title in one line; none where it is blank.
@@ -179,21 +192,21 @@ fn without_controls_around(text: &str) -> &str
     &text[..text.len() - last_controls_len(text.as_bytes())]
 }
 
-/// Whether a character stays in an address: all but tabs and line ends do.
-fn is_no_line_end(c: char) -> bool
-    ensures { result ≡ spec.is_no_line_end c }
+/// Whether a character stays in an address: all but U+0000, tabs and line ends do.
+fn is_in_address(c: char) -> bool
+    ensures { result ≡ spec.is_in_address c }
 {
-    !matches!(c, '\t' | '\n' | '\r')
+    !matches!(c, '\0' | '\t' | '\n' | '\r')
 }
 
-/// An address as browsers take it: no white space or controls at the ends, no tabs and line ends in it.
+/// An address as browsers take it: no white space or controls at the ends, no tabs and line ends in it, and no U+0000.
 pub(crate) fn address(alloc: Global, text: &str) -> Result<String, AllocError>
     ensures { IfOk result (λ s. string_bytes s ≡ spec.address text.now) }
 {
     let text = without_controls_around(text);
     let mut address = String::with_capacity(alloc, text.len())?;
     for c in text.chars() {
-        if is_no_line_end(c) {
+        if is_in_address(c) {
             address.push(c)?;
         }
     }
@@ -209,11 +222,18 @@ fn is_mark(b: u8) -> bool
     matches!(b, b'`' | b'~' | b'&' | b'\\')
 }
 
-/// Whether one of the bytes isn't allowed in the language of a fence.
-fn holds_mark(word: &[u8]) -> bool
-    ensures { result ≡ list_any spec.is_mark word.now }
+/// Whether a byte can stand in the name of a language: no mark, no space and no control.
+fn is_in_name(b: u8) -> bool
+    ensures { result ≡ spec.is_in_name b }
 {
-    word.iter().any(|b| is_mark(*b))
+    !(is_mark(b) || is_space_or_control(b) || b == 0x7F)
+}
+
+/// Whether all of these bytes can.
+fn are_in_name(word: &[u8]) -> bool
+    ensures { result ≡ list_all spec.is_in_name word.now }
+{
+    word.iter().all(|b| is_in_name(*b))
 }
 
 /// A language, unless it is empty.
@@ -240,7 +260,7 @@ fn after_lang(word: &str) -> Option<&str>
     word.strip_prefix("lang-")
 }
 
-/// The language that a word of letters names.
+/// The language that a word without marks and controls names.
 fn named_language(word: &str) -> Option<&str>
     ensures { option_copied result ≡ spec.named_language word.now }
 {
@@ -254,7 +274,7 @@ fn named_language(word: &str) -> Option<&str>
 fn language_of_word(word: &str) -> Option<&str>
     ensures { option_copied result ≡ spec.language_of_word word.now }
 {
-    if holds_mark(word.as_bytes()) {
+    if !are_in_name(word.as_bytes()) {
         return None;
     }
     named_language(word)

@@ -206,21 +206,31 @@ fn push_list(
     out.block(list_block(start, tight, items))
 }
 
+/// The number 1, unless there are more items than numbers.
+fn from_one(count: usize) -> Option<u32>
+    ensures { result ≡ spec.from_one count }
+{
+    if count > GREATEST_NUMBER {
+        return None;
+    }
+    Some(1)
+}
+
 /// The number that a list of so many items begins with.
 #[tactic(auto, using(crate::proofs::ListsLemmas::start_past))]
-fn start_of(start: i64, count: usize) -> u32
+fn start_of(start: i64, count: usize) -> Option<u32>
     ensures { result ≡ spec.start_of start count }
 {
     let Ok(number) = u32::try_from(start) else {
-        return 1;
+        return from_one(count);
     };
     if count > GREATEST_NUMBER + 1 {
-        return 1;
+        return None;
     }
     if number as usize + count > GREATEST_NUMBER + 1 {
-        return 1;
+        return from_one(count);
     }
-    number
+    Some(number)
 }
 
 /// Adds a list of items with numbers one after another, if something shows in one of them.
@@ -237,7 +247,7 @@ fn push_numbered(
         return Ok(());
     }
     let start = start_of(start, items.len());
-    push_list(alloc, out, Some(start), items)
+    push_list(alloc, out, start, items)
 }
 
 /// The number after this one.

@@ -49,7 +49,7 @@ push_text_of-returns-then-is_line_break t c =
     c.in-Element.name (pairs_of c.in-Element.attrs.items)
     (sym c.data.ensures.value ∙ ap data_of c.in-Element.is)
     ∙ ap (λ (y : Bool). cond y (line_feed ∷ []) (cond (is_image (role_of c.in-Element.name))
-    (text_of (codes "alt") (pairs_of c.in-Element.attrs.items))
+    (shown_text (text_of (codes "alt") (pairs_of c.in-Element.attrs.items)))
     (cond (is_quotation (role_of c.in-Element.name))
     (quoted (all_text_among (children_of (shown_at c.args.sight.now c.args.node))))
     (all_text_among (children_of (shown_at c.args.sight.now c.args.node))))))
@@ -66,22 +66,22 @@ push_text_of-returns-then-is_image t c =
     c.in-Element.name (pairs_of c.in-Element.attrs.items)
     (sym c.data.ensures.value ∙ ap data_of c.in-Element.is)
     ∙ ap (λ (y : Bool). cond y (line_feed ∷ []) (cond (is_image (role_of c.in-Element.name))
-    (text_of (codes "alt") (pairs_of c.in-Element.attrs.items))
+    (shown_text (text_of (codes "alt") (pairs_of c.in-Element.attrs.items)))
     (cond (is_quotation (role_of c.in-Element.name))
     (quoted (all_text_among (children_of (shown_at c.args.sight.now c.args.node))))
     (all_text_among (children_of (shown_at c.args.sight.now c.args.node))))))
     (sym (c.is_line_break.ensures ∙ ap is_line_break
     (c.role_of-role.ensures ∙ ap role_of c.as_str-in-Element.ensures)) ∙ c.if-is_line_break.false)
-    ∙ ap (λ (y : Bool). cond y (text_of (codes "alt") (pairs_of c.in-Element.attrs.items))
+    ∙ ap (λ (y : Bool). cond y (shown_text (text_of (codes "alt") (pairs_of c.in-Element.attrs.items)))
     (cond (is_quotation (role_of c.in-Element.name))
     (quoted (all_text_among (children_of (shown_at c.args.sight.now c.args.node))))
     (all_text_among (children_of (shown_at c.args.sight.now c.args.node)))))
     (sym (c.is_image.ensures ∙ ap is_image (c.role_of-role.ensures ∙ ap role_of
     c.as_str-in-Element.ensures)) ∙ c.if-is_image.true) in
-    pushed c.push_str.result (string_bytes c.push_str.new.self) (string_bytes c.args.out.now ++ c.text_of.result.now)
-    (string_bytes c.args.out.now) c.push_str.ensures.bytes
-    (ap (λ (l : List ℕ). string_bytes c.args.out.now ++ l)
-    (c.text_of.ensures ∙ ap (λ xs. text_of (codes "alt") (pairs_of xs)) c.as_slice.ensures.value ∙ sym said))
+    subst (λ (x : List ℕ). OnOk c.push_shown-then-is_image.result
+    (string_bytes c.push_shown-then-is_image.new.out ≡ string_bytes c.args.out.now ++ x))
+    (ap shown_text (c.text_of.ensures ∙ ap (λ xs. text_of (codes "alt") (pairs_of xs)) c.as_slice.ensures.value)
+    ∙ sym said) c.push_shown-then-is_image.ensures
 
 pub push_text_of-returns-then-is_quotation : goal.push_text_of-returns-then-is_quotation
 push_text_of-returns-then-is_quotation t c =
@@ -90,13 +90,13 @@ push_text_of-returns-then-is_quotation t c =
     c.in-Element.name (pairs_of c.in-Element.attrs.items)
     (sym c.data.ensures.value ∙ ap data_of c.in-Element.is)
     ∙ ap (λ (y : Bool). cond y (line_feed ∷ []) (cond (is_image (role_of c.in-Element.name))
-    (text_of (codes "alt") (pairs_of c.in-Element.attrs.items))
+    (shown_text (text_of (codes "alt") (pairs_of c.in-Element.attrs.items)))
     (cond (is_quotation (role_of c.in-Element.name))
     (quoted (all_text_among (children_of (shown_at c.args.sight.now c.args.node))))
     (all_text_among (children_of (shown_at c.args.sight.now c.args.node))))))
     (sym (c.is_line_break.ensures ∙ ap is_line_break
     (c.role_of-role.ensures ∙ ap role_of c.as_str-in-Element.ensures)) ∙ c.if-is_line_break.false)
-    ∙ ap (λ (y : Bool). cond y (text_of (codes "alt") (pairs_of c.in-Element.attrs.items))
+    ∙ ap (λ (y : Bool). cond y (shown_text (text_of (codes "alt") (pairs_of c.in-Element.attrs.items)))
     (cond (is_quotation (role_of c.in-Element.name))
     (quoted (all_text_among (children_of (shown_at c.args.sight.now c.args.node))))
     (all_text_among (children_of (shown_at c.args.sight.now c.args.node)))))
@@ -116,13 +116,13 @@ push_text_of-returns-else-is_quotation t c =
     c.in-Element.name (pairs_of c.in-Element.attrs.items)
     (sym c.data.ensures.value ∙ ap data_of c.in-Element.is)
     ∙ ap (λ (y : Bool). cond y (line_feed ∷ []) (cond (is_image (role_of c.in-Element.name))
-    (text_of (codes "alt") (pairs_of c.in-Element.attrs.items))
+    (shown_text (text_of (codes "alt") (pairs_of c.in-Element.attrs.items)))
     (cond (is_quotation (role_of c.in-Element.name))
     (quoted (all_text_among (children_of (shown_at c.args.sight.now c.args.node))))
     (all_text_among (children_of (shown_at c.args.sight.now c.args.node))))))
     (sym (c.is_line_break.ensures ∙ ap is_line_break
     (c.role_of-role.ensures ∙ ap role_of c.as_str-in-Element.ensures)) ∙ c.if-is_line_break.false)
-    ∙ ap (λ (y : Bool). cond y (text_of (codes "alt") (pairs_of c.in-Element.attrs.items))
+    ∙ ap (λ (y : Bool). cond y (shown_text (text_of (codes "alt") (pairs_of c.in-Element.attrs.items)))
     (cond (is_quotation (role_of c.in-Element.name))
     (quoted (all_text_among (children_of (shown_at c.args.sight.now c.args.node))))
     (all_text_among (children_of (shown_at c.args.sight.now c.args.node)))))
