@@ -3,7 +3,7 @@ use Rattle.std.proofs.Common.{◌≡◌, ℕ, refl, true, List, [], codes, None,
 use Rattle.std.specs.Str.{chars}
 use Rattle.htmd_document.specs.Documents as document
 use Rattle.htmd_document.specs.Documents.{emphasis, strong, superscript, subscript}
-use Rattle.htmd_commonmark_reading.specs.Markup.{Inlines, no_inlines, letters, formatted, code, image, line_break, raw}
+use Rattle.htmd_commonmark_reading.specs.Markup.{Inlines, no_inlines, letters, joined, formatted, code, link, image, line_break, raw}
 use Rattle.htmd_commonmark_reading.specs.Brackets.{inlines}
 use Rattle.htmd_commonmark_reading.specs.SeenMarkup.{seen_inlines}
 use Rattle.htmd_commonmark_reading.specs.Reading as reading
@@ -12,9 +12,9 @@ use Rattle.htmd_commonmark_reading.proofs.ExampleTexts.{plain}
 abbrev seen : List ℕ → Inlines
 seen s = seen_inlines (inlines [] s)
 
-pub formats : seen (codes "<em>a<sub>b</sub></em><br><code>c *d*</code>")
+pub formats : seen (codes "<em>a<sub>b</sub></em><br><code>c \\<</code>")
     ≡ formatted emphasis (letters (codes "a") (formatted subscript (plain (codes "b")) no_inlines))
-    (line_break (code (codes "c d") no_inlines))
+    (line_break (code (codes "c <") no_inlines))
 unfolding chars
 formats = refl
 
@@ -25,6 +25,47 @@ pub unmatched : seen (codes "<sup>a<em>b</sup>c</em> **<b>d</em>**")
     (formatted strong (raw (codes "<b>") (letters (codes "d") (raw (codes "</em>") no_inlines))) no_inlines))))
 unfolding chars
 unmatched = refl
+
+-- inlines that stand between tags of code which stay raw
+abbrev in_raw_code : Inlines → Inlines
+in_raw_code xs = raw (codes "<code>") (joined xs (raw (codes "</code>") no_inlines))
+
+-- a line's end is a space of the text
+pub code_of_text : seen (codes "<sup><code>a\nb</code></sup>")
+    ≡ formatted superscript (code (codes "a b") no_inlines) no_inlines
+unfolding chars
+code_of_text = refl
+
+pub code_with_a_tag : seen (codes "<code>a<b>c</code>")
+    ≡ in_raw_code (letters (codes "a") (raw (codes "<b>") (plain (codes "c"))))
+unfolding chars
+code_with_a_tag = refl
+
+pub code_with_a_link : seen (codes "<code>[a](b)</code>")
+    ≡ in_raw_code (link (codes "b") None (plain (codes "a")) no_inlines)
+unfolding chars
+code_with_a_link = refl
+
+pub code_with_formats : seen (codes "<code>a *b*</code><code><sup>c</sup></code>")
+    ≡ joined (in_raw_code (letters (codes "a ") (formatted emphasis (plain (codes "b")) no_inlines)))
+    (in_raw_code (formatted superscript (plain (codes "c")) no_inlines))
+unfolding chars
+code_with_formats = refl
+
+pub code_with_breaks : seen (codes "<code>a<br>b  \nc</code>")
+    ≡ in_raw_code (letters (codes "a") (line_break (letters (codes "b") (line_break (plain (codes "c"))))))
+unfolding chars
+code_with_breaks = refl
+
+pub code_in_code : seen (codes "<code>a<code>b</code></code><code>`c`</code>")
+    ≡ joined (in_raw_code (letters (codes "a") (code (codes "b") no_inlines)))
+    (in_raw_code (code (codes "c") no_inlines))
+unfolding chars
+code_in_code = refl
+
+pub code_of_nothing : seen (codes "<code></code>") ≡ in_raw_code no_inlines
+unfolding chars
+code_of_nothing = refl
 
 pub description : seen (codes "![a <em>b</em> *c*](d)") ≡ image (codes "d") None (plain (codes "a b c")) no_inlines
 unfolding chars
@@ -45,5 +86,14 @@ pub document_of_task : reading.document (codes "- [x] a\n") ≡ Some (document.b
     document.no_blocks)
 document_of_task = refl
 
+pub document_of_code : reading.document (codes "<code>a\\*b</code>\n") ≡ Some (document.block
+    (document.paragraph (document.inline (document.code (codes "a*b")) document.no_inlines)) document.no_blocks)
+unfolding chars
+document_of_code = refl
+
 pub no_document : reading.document (codes "a <b>\n") ≡ None
 no_document = refl
+
+pub no_document_of_code : reading.document (codes "<code>a<b>c</code>\n") ≡ None
+unfolding chars
+no_document_of_code = refl

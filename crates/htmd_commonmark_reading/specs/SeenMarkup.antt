@@ -1,6 +1,6 @@
--- A text as one sees it: where raw tags of inlines match within one list of inlines, they are formats, `<br>` is a line
--- break, and an image's description is plain text (CommonMark 0.31.2, 6.4 and 6.6). The document that it then is.
-use Rattle.std.specs.Prelude.{ℕ, if◌then◌else◌, List, [], ◌∷◌, ◌++◌, codes}
+-- A text as one sees it: where raw tags of inlines match within one list of inlines, they are formats or code, `<br>` is
+-- a line break, and an image's description is plain text (CommonMark 0.31.2, 6.4 and 6.6). The document that it then is.
+use Rattle.std.specs.Prelude.{ℕ, Bool, true, false, if◌then◌else◌, List, [], ◌∷◌, ◌++◌, codes}
 use Rattle.std.specs.Prelude.{Option, Some, None}
 use Rattle.std.specs.Str.{bytes_eq}
 use Rattle.htmd_document.specs.Documents.{Format, emphasis, strong, deleted, superscript, subscript}
@@ -95,9 +95,18 @@ abbrev pub all_seen : Tags → Inlines → Inlines
 all_seen (outside items) xs = joined items xs
 all_seen (inside t items below) xs = all_seen below (raw (open_tag t) (joined items xs))
 
-abbrev pub paired : Pair → Inlines → Inlines
-paired (format_pair f) content = formatted f content no_inlines
-paired code_pair content = code (plain_text content) no_inlines
+-- characters and nothing else, and at least one
+abbrev pub is_text_alone : Inlines → Bool
+is_text_alone (letter c no_inlines) = true
+is_text_alone (letter c xs) = is_text_alone xs
+is_text_alone xs = false
+
+-- Code has no formats, links, breaks or tags in it, so its tags take text alone. Around anything else they stay raw.
+abbrev pub paired : Tag → Pair → Inlines → Inlines
+paired t (format_pair f) content = formatted f content no_inlines
+paired t code_pair content =
+    if is_text_alone content then code (plain_text content) no_inlines
+    else raw (open_tag t) (joined content (raw (closing_tag t) no_inlines))
 
 -- A closing tag matches the last open one of its name; those between the two stay raw. The second value is what there
 -- is if nothing matches.
@@ -105,7 +114,7 @@ abbrev pub closed_tag : Tag → Tags → Tags → Inlines → Tags
 closed_tag t whole (outside items) content = with_seen whole (raw (closing_tag t) no_inlines)
 closed_tag t whole (inside u items below) content =
     if bytes_eq u.name t.name
-    then with_seen below (paired t.pair (joined items content))
+    then with_seen below (paired t t.pair (joined items content))
     else closed_tag t whole below (raw (open_tag u) (joined items content))
 
 abbrev pub with_raw : Tags → List ℕ → Role → Tags

@@ -108,7 +108,7 @@ code_shown around line refs before ks x s u p sp g =
       raw_inlines = joined (raw (codes "<code>") no_inlines)
           (joined (letters (x ∷ s) no_inlines) (raw (codes "</code>") no_inlines));
       reads = anywhere around refs line.in_link before _ ks _ (tagged_read line refs before ks (x ∷ s) u p);
-      shows = code_tags_seen (x ∷ s);
+      shows = code_tags_seen x s;
     }))
     (λ e. rw e (record {
       raw_inlines = code (x ∷ s) no_inlines;

@@ -1,6 +1,6 @@
 -- Inlines as they are seen: raw tags of the writer are formats, codes and breaks; and the document that they are.
 use Rattle.std.proofs.Common.{◌≡◌, ◌∙◌, refl, ap, sym, ℕ, Bool, true, false, List, [], ◌∷◌, Option, Some, codes}
-use Rattle.std.specs.Prelude.{not, ◌&&◌}
+use Rattle.std.specs.Prelude.{not, ◌&&◌, if◌then◌else◌}
 use Rattle.std.proofs.lemmas.Bool.{and_parts, not-true}
 use Rattle.htmd_grammar.specs.CharacterClasses.{is_empty}
 use Rattle.htmd_document.specs.Documents.{Format, emphasis, strong, deleted, superscript, subscript}
@@ -21,11 +21,15 @@ use Rattle.htmd_commonmark_reading.specs.Markup.{
   plain_text,
 }
 use Rattle.htmd_commonmark_reading.specs.SeenMarkup.{
+  Tag,
+  code_pair,
   Tags,
   outside,
   inside,
   with_seen,
   all_seen,
+  is_text_alone,
+  paired,
   seen,
   seen_inlines,
   document_inlines,
@@ -162,15 +166,25 @@ sub_seen xs ys h b =
     seen_joined xs stop b1 ∙ ap (λ c. seen c stop) (h b1)
     ∙ ap (λ x. with_seen b (formatted subscript x no_inlines)) (joined_none ys)
 
-pub code_tags_seen : (s : List ℕ)
-    → AreSeen (raw (codes "<code>") (joined (letters s no_inlines) (raw (codes "</code>") no_inlines)))
-    (code s no_inlines)
-code_tags_seen s b =
+abbrev code_tag : Tag
+code_tag = record { name = codes "code"; pair = code_pair }
+
+letters_alone : (c : ℕ) (s : List ℕ) → is_text_alone (letters (c ∷ s) no_inlines) ≡ true
+letters_alone c [] = refl
+letters_alone c (d ∷ s) = letters_alone d s
+
+pub code_tags_seen : (c : ℕ) (s : List ℕ)
+    → AreSeen (raw (codes "<code>") (joined (letters (c ∷ s) no_inlines) (raw (codes "</code>") no_inlines)))
+    (code (c ∷ s) no_inlines)
+code_tags_seen c s b =
+    let text = letters (c ∷ s) no_inlines in
     let stop = raw (codes "</code>") no_inlines in
     let b1 = seen b (raw (codes "<code>") no_inlines) in
-    seen_joined (letters s no_inlines) stop b1 ∙ ap (λ c. seen c stop) (letters_seen s b1)
-    ∙ ap (λ x. with_seen b (code (plain_text x) no_inlines)) (joined_none (letters s no_inlines))
-    ∙ ap (λ x. with_seen b (code x no_inlines)) (plain_letters s)
+    seen_joined text stop b1 ∙ ap (λ d. seen d stop) (letters_seen (c ∷ s) b1)
+    ∙ ap (λ x. with_seen b (paired code_tag code_pair x)) (joined_none text)
+    ∙ ap (λ x. with_seen b (if x then code (plain_text text) no_inlines else raw (codes "<code>") (joined text stop)))
+    (letters_alone c s)
+    ∙ ap (λ x. with_seen b (code x no_inlines)) (plain_letters (c ∷ s))
 
 -- ---- the document
 
