@@ -1,6 +1,6 @@
 -- The base of a page: what its first `base` with an address says (HTML, 2.4.3).
 use Rattle.std.specs.Prelude.{ℕ, Bool, not, ◌||◌, if◌then◌else◌, List, [], ◌∷◌, Option, Some, None, Ok, Err, codes}
-use Rattle.std.specs.Option.{option_or}
+use Rattle.std.specs.Option.{option_or, unwrap_or}
 use Rattle.std.specs.Str.{bytes_eq}
 use Rattle.htmd_grammar.specs.ValueTrees.{AttributePair, ValueTree, document, doctype, text, comment, element}
 use Rattle.htmd_grammar.specs.ValueTrees.{ValueForest, none, more}
@@ -34,16 +34,20 @@ abbrev mutual
 abbrev pub is_usable : Parts → Bool
 is_usable url = not (bytes_eq url.scheme (codes "data") || bytes_eq url.scheme (codes "javascript"))
 
--- the URL that was read, if it may be a base, or the other one
-abbrev pub url_or : Parts → Parsed Parts → Parts
-url_or other (Ok url) = if is_usable url then url else other
-url_or other (Err e) = other
+-- the URL that was read, if it may be a base
+abbrev pub usable : Parsed Parts → Option Parts
+usable (Ok url) = if is_usable url then Some url else None
+usable (Err e) = None
 
 -- an address of the page's own against its URL
-abbrev pub base_by : Parts → Option (List ℕ) → Parts
-base_by url None = url
-base_by url (Some address) = url_or url (parse_url (Some url) address)
+abbrev pub base_by : Parts → Option (List ℕ) → Option Parts
+base_by url None = None
+base_by url (Some address) = usable (parse_url (Some url) address)
 
--- the base of a page at a URL
+-- the base that a page at a URL names, if it names one that counts
+abbrev pub named_base : Parts → List Item → Option Parts
+named_base url items = base_by url (base_in (value_at items 0))
+
+-- the base of a page at a URL: the one that it names, or else the URL
 abbrev pub page_base : Parts → List Item → Parts
-page_base url items = base_by url (base_in (value_at items 0))
+page_base url items = unwrap_or (named_base url items) url

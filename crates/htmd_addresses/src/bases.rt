@@ -1,5 +1,5 @@
 //! The base of a page.
-ghost use Rattle.std.specs.Prelude.{◌≡◌, ◌<◌, length, option_copied, unwrap_or, IfOk};
+ghost use Rattle.std.specs.Prelude.{◌≡◌, ◌<◌, length, option_copied, IfOk};
 ghost use Rattle.htmd_grammar.specs.Attributes.{pairs_of};
 ghost use Rattle.htmd_nodes.specs.Items.{children_of};
 ghost use Rattle.htmd_nodes.specs.NumberedTrees.{tree_of, forest_of, value_forest};
@@ -74,7 +74,7 @@ fn is_usable(url: &Url) -> bool
 /// element, or its address can't be resolved or has the scheme `data` or `javascript`. `Err` means out of memory, or a
 /// URL of 4 GB.
 pub fn base_of(tree: &Tree, url: &Url) -> Result<Option<Url>, AllocError>
-    ensures ok { IfOk result (λ base. unwrap_or base url.now ≡ bases.page_base url.now tree.now) }
+    ensures ok { IfOk result (λ base. base ≡ bases.named_base url.now tree.now) }
 {
     let Some(address) = base_in(tree, tree.root()) else {
         return Ok(None);

@@ -11,7 +11,7 @@ use Rattle.htmd_encodings.specs.declared.encodings.ByteOrder.{ByteOrder}
 use Rattle.htmd_encodings.specs.declared.encodings.Encoding.TheVariants.{Utf8}
 use Rattle.htmd_encodings.specs.declared.encodings.Named.{Named}
 use Rattle.htmd_encodings.specs.declared.encodings.Named.TheVariants.{Supported}
-use Rattle.htmd_encodings.specs.Decoding.{believed, outweighs_utf8, said_or_default}
+use Rattle.htmd_encodings.specs.Decoding.{believed, outweighs_utf8, said_anywhere, said_or_default}
 use Rattle.htmd_grammar.proofs.Cases.{test}
 use Rattle.htmd_encodings.specs.Utf16.{code_unit, code_units_after}
 
@@ -38,11 +38,11 @@ pub believed_utf8 : (said : Option Named) (text bytes : List ℕ) → outweighs_
 believed_utf8 said text bytes o u e = (rw (is_utf8-from_IsUtf8 bytes u, o) refl, e, utf8_lossy-IsUtf8 bytes u)
 
 pub believed_other : (said : Option Named) (bytes : List ℕ) → ¬ (IsUtf8 bytes)
-    → believed said bytes ≡ said_or_default said
+    → believed said bytes ≡ said_or_default (said_anywhere said bytes)
 believed_other said bytes n =
     let no : is_utf8 bytes ≡ false = false_from_ne_true (is_utf8 bytes) (λ e. n (IsUtf8-from_is_utf8 bytes e)) in
     rw no refl
 
 pub believed_said : (said : Option Named) (bytes : List ℕ) → outweighs_utf8 said ≡ true
-    → believed said bytes ≡ said_or_default said
+    → believed said bytes ≡ said_or_default (said_anywhere said bytes)
 believed_said said bytes o = test (is_utf8 bytes) (λ e. rw (e, o) refl) (λ e. rw e refl)

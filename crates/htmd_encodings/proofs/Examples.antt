@@ -14,7 +14,7 @@ use Rattle.htmd_encodings.specs.Labels.{labels, named}
 use Rattle.htmd_encodings.specs.Indexes.{index}
 use Rattle.htmd_encodings.specs.Utf16.{utf16_text}
 use Rattle.htmd_encodings.specs.Prescan.{prescan}
-use Rattle.htmd_encodings.specs.Decoding.{character, decoded, encoding_of}
+use Rattle.htmd_encodings.specs.Decoding.{believed, character, decoded, encoding_of}
 
 -- a label in any case and with white space, one that means windows-1252, one that isn't supported, and none
 labels_named : (named (codes " KOI8-r\n") ≡ Some (Supported (SingleByte Koi8R)))
@@ -62,6 +62,15 @@ encodings_chosen :
     × (encoding_of None (0xC1 ∷ []) ≡ Supported (SingleByte Windows1252))
 unfolding labels encode_utf8 is_utf8 chars
 encodings_chosen = (refl, refl, refl, refl, refl, refl)
+
+-- after the first 1,024 bytes a `meta` counts only where they say nothing; bytes that are UTF-8 are so in spite of it
+late_metas :
+    (believed None (codes "<meta charset=koi8-r>" ++ 0xC1 ∷ []) ≡ Supported (SingleByte Koi8R))
+    × (believed (Some (Supported (SingleByte Koi8U))) (codes "<meta charset=koi8-r>" ++ 0xC1 ∷ [])
+    ≡ Supported (SingleByte Koi8U))
+    × (believed None (codes "<meta charset=iso-2022-jp>") ≡ Supported Utf8)
+unfolding labels encode_utf8 is_utf8 chars
+late_metas = (refl, refl, refl)
 
 -- characters by an index: a control of windows-1252, a letter of KOI8-U that Python has otherwise, and no character
 characters_read :

@@ -1,6 +1,7 @@
 -- The text of a page's bytes: the Encoding Standard, 6.1, "decode" and "BOM sniff", and the HTML Standard, 13.2.3.2.
 use Rattle.std.specs.Prelude.{ℕ, Bool, true, false, not, ◌&&◌, ◌||◌, nat_le, ◌-◌, if◌then◌else◌, List, [], ◌∷◌, drop, take, map}
 use Rattle.std.specs.Prelude.{slice_index, encode_utf8_all, Option, Some, None}
+use Rattle.std.specs.Option.{option_or}
 use Rattle.std.specs.Str.{is_utf8}
 use Rattle.std.specs.Str.Lossy.{utf8_lossy}
 use Rattle.htmd_grammar.specs.CharacterClasses.{begins_with}
@@ -12,7 +13,7 @@ use Rattle.htmd_encodings.specs.declared.encodings.Encoding.TheVariants.{Utf8, U
 use Rattle.htmd_encodings.specs.declared.encodings.Named.{Named}
 use Rattle.htmd_encodings.specs.declared.encodings.Named.TheVariants.{Supported, Unsupported}
 use Rattle.htmd_encodings.specs.Indexes.{index}
-use Rattle.htmd_encodings.specs.Prescan.{prescan}
+use Rattle.htmd_encodings.specs.Prescan.{prescan, search}
 use Rattle.htmd_encodings.specs.Utf16.{utf16_text}
 
 -- ---- the text in an encoding
@@ -58,14 +59,19 @@ abbrev pub said_or_default : Option Named → Named
 said_or_default None = Supported (SingleByte Windows1252)
 said_or_default (Some encoding) = encoding
 
--- the encoding when nothing is given and no mark is there, by what the page says
-abbrev pub believed : Option Named → List ℕ → Named
-believed said bytes =
-    if is_utf8 bytes && not (outweighs_utf8 said) then Supported Utf8 else said_or_default said
-
--- what a page says: the first 1,024 bytes are searched
+-- what a page says in its first 1,024 bytes
 abbrev pub said : List ℕ → Option Named
 said bytes = prescan (take 1024 bytes)
+
+-- what it says anywhere: where those bytes say nothing, the first `meta` after them that says an encoding counts
+-- (13.2.3.4)
+abbrev pub said_anywhere : Option Named → List ℕ → Option Named
+said_anywhere said bytes = option_or said (search bytes)
+
+-- the encoding when nothing is given and no mark is there, by what the page says in its first 1,024 bytes
+abbrev pub believed : Option Named → List ℕ → Named
+believed said bytes =
+    if is_utf8 bytes && not (outweighs_utf8 said) then Supported Utf8 else said_or_default (said_anywhere said bytes)
 
 -- the encoding when nothing is given and no mark is there
 abbrev pub guessed : List ℕ → Named

@@ -13,7 +13,7 @@ use crate::cuts::begins_with;
 use crate::encodings::Named::{Supported, Unsupported};
 use crate::encodings::{ByteOrder, Encoding, Named, SingleByte, UnsupportedEncoding};
 use crate::indexes::index_of;
-use crate::prescan::prescan;
+use crate::prescan::{prescan, search};
 use std::alloc::{AllocError, Global};
 use std::borrow::CowStr;
 
@@ -35,9 +35,10 @@ impl From<AllocError> for DecodeError {
 }
 
 /// The text of a page's bytes. A mark at their beginning says the encoding, and else the one that is given is taken. If
-/// none is given, bytes that are UTF-8 are the text itself, and for others the first 1,024 bytes are searched for what
-/// the page says; if it says nothing, they are windows-1252. A page that says ISO-2022-JP, or begins with an XML
-/// declaration in UTF-16, is taken at its word even if it could be UTF-8.
+/// none is given, bytes that are UTF-8 are the text itself, and others are searched for what the page says: the first
+/// 1,024, and only if they say nothing the rest, for a `meta`. If it says nothing at all, they are windows-1252. A page
+/// that says ISO-2022-JP in its first 1,024 bytes, or begins with an XML declaration in UTF-16, is taken at its word
+/// even if it could be UTF-8.
 pub fn page_text(
     alloc: Global,
     given: Option<Encoding>,
@@ -72,16 +73,26 @@ fn marked(bytes: &[u8]) -> Option<Encoding>
     }
 }
 
-/// How many bytes are searched.
+/// How many bytes are searched first.
 const SEARCHED: usize = 1024;
 
-// What the page says of its encoding.
+// What the page says of its encoding in its first bytes.
 fn said(bytes: &[u8]) -> Option<Named>
     ensures { result ≡ spec.said bytes.now }
 {
     match bytes.split_at_checked(SEARCHED) {
         Some((front, _)) => prescan(front),
         None => prescan(bytes),
+    }
+}
+
+// What the page says anywhere, if its first bytes say this.
+fn said_anywhere(said: Option<Named>, bytes: &[u8]) -> Option<Named>
+    ensures { result ≡ spec.said_anywhere said bytes.now }
+{
+    match said {
+        Some(named) => Some(named),
+        None => search(bytes),
     }
 }
 
@@ -105,10 +116,10 @@ fn said_or_default(said: Option<Named>) -> Named
     }
 }
 
-// The text of bytes that are UTF-8, unless what the page says outweighs that.
+// The text of bytes that are UTF-8, unless what the page says in its first bytes outweighs that.
 #[tactic(auto, using(crate::proofs::DecodingLemmas::believed_other, crate::proofs::DecodingLemmas::believed_said))]
 fn as_utf8(bytes: &[u8], said: Option<Named>) -> Option<&str>
-    ensures { MatchOption result (spec.believed said bytes.now ≡ spec.said_or_default said)
+    ensures { MatchOption result (spec.believed said bytes.now ≡ spec.said_or_default (spec.said_anywhere said bytes.now))
         (λ text. (spec.believed said bytes.now ≡ held_named.Supported held.Utf8) × (text.now ≡ bytes.now)
         × (utf8_lossy bytes.now ≡ bytes.now)) }
 {
@@ -133,7 +144,7 @@ fn guessed(alloc: Global, bytes: &[u8]) -> Result<CowStr<'_>, DecodeError>
     if let Some(text) = as_utf8(bytes, said) {
         return Ok(CowStr::Borrowed(text));
     }
-    text_in(alloc, said_or_default(said), bytes)
+    text_in(alloc, said_or_default(said_anywhere(said, bytes)), bytes)
 }
 
 // The text in what a label names.

@@ -96,8 +96,8 @@ fn found_after(bytes: &[u8]) -> Found<'_>
     }
 }
 
-/// The first encoding that is said.
-fn search(bytes: &[u8]) -> Option<Named>
+/// The first encoding that is said in tags.
+pub(crate) fn search(bytes: &[u8]) -> Option<Named>
     ensures { result ≡ spec.search bytes.now }
 {
     let mut rest = bytes;

@@ -4,6 +4,7 @@
 use crate::indexes::INDEXES;
 use htmd_encodings::{DecodeError, encoding_named, page_text};
 use htmd_expected::{expect_text, expect_that};
+use std::alloc::AllocError;
 use std::borrow::CowStr;
 use std::test::Fail;
 
@@ -134,19 +135,94 @@ fn searches_pages(rt: HostRuntime) -> Result<(), Fail> {
     Ok(())
 }
 
-// Only the first 1,024 bytes are searched.
+// A page that begins with these bytes, up to this many, and goes on with those.
+fn page_of(rt: HostRuntime, front: &[u8], len: usize, rest: &[u8]) -> Result<Vec<u8>, AllocError> {
+    let mut page = Vec::new(rt.alloc());
+    page.extend_from_slice(front)?;
+    for _ in front.len()..len {
+        page.push(b'x')?;
+    }
+    page.extend_from_slice(rest)?;
+    Ok(page)
+}
+
+// A `meta` counts after the first 1,024 bytes too, unless they say an encoding: here the last byte is C1. What is cut
+// at their end goes on.
 #[test]
-fn searches_the_front(rt: HostRuntime) -> Result<(), Fail> {
-    for (before, end) in [(1003, "\u{430}"), (1004, "\u{c1}")] {
-        let mut page = Vec::new(rt.alloc());
-        for _ in 0..before {
-            page.push(b'x')?;
-        }
-        page.extend_from_slice(b"<meta charset=koi8-r>\xC1")?;
+fn searches_the_rest(rt: HostRuntime) -> Result<(), Fail> {
+    const ROWS: &[(&[u8], usize, &[u8], &str)] = &[
+        (b"", 1003, b"<meta charset=koi8-r>\xC1", "\u{430}"),
+        (b"", 1004, b"<meta charset=koi8-r>\xC1", "\u{430}"),
+        (
+            b"",
+            5000,
+            b"<meta charset=x><meta charset=koi8-r>\xC1",
+            "\u{430}",
+        ),
+        (
+            b"<meta charset=koi8-r>",
+            2000,
+            b"<meta charset=latin1>\xC1",
+            "\u{430}",
+        ),
+        (
+            b"<meta charset=latin1>",
+            1024,
+            b"<meta charset=koi8-r>\xC1",
+            "\u{c1}",
+        ),
+        (
+            b"<?xml encoding='koi8-r'?>",
+            2000,
+            b"<meta charset=latin1>\xC1",
+            "\u{430}",
+        ),
+        (
+            b"<!--",
+            2000,
+            b"<meta charset=latin1>--><meta charset=koi8-r>\xC1",
+            "\u{430}",
+        ),
+        (
+            b"<p title='",
+            2000,
+            b"<meta charset=koi8-r>'>\xC1",
+            "\u{c1}",
+        ),
+        (b"", 2000, b"<?xml encoding='koi8-r'?>\xC1", "\u{c1}"),
+        (b"", 2000, b"<meta charset=utf-8>\xC1", "\u{fffd}"),
+    ];
+    for &(front, len, rest, end) in ROWS {
+        let page = page_of(rt, front, len, rest)?;
         let text = page_text(rt.alloc(), None, page.as_slice())?;
         expect_that(end, text.as_str().ends_with(end))?;
     }
     Ok(())
+}
+
+// So does one of an encoding that isn't supported, but bytes that are UTF-8 are so whatever is said there.
+#[test]
+fn refuses_late_encodings(rt: HostRuntime) -> Result<(), Fail> {
+    const ROWS: &[(&[u8], &str)] = &[
+        (b"<meta charset=x-sjis>\xC1", "shift_jis"),
+        (b"<meta charset=replacement>\xC1", "replacement"),
+        (b"<meta charset=iso-2022-jp>\xC1", "iso-2022-jp"),
+        (b"<meta charset=iso-2022-jp>", ""),
+    ];
+    for &(rest, name) in ROWS {
+        let page = page_of(rt, b"", 1024, rest)?;
+        expect_text(name, unsupported_name(rt, page.as_slice()), name)?;
+    }
+    Ok(())
+}
+
+// The name of an encoding that isn't supported, or nothing if the page has a text.
+fn unsupported_name(rt: HostRuntime, page: &[u8]) -> &'static str {
+    match page_text(rt.alloc(), None, page) {
+        Ok(_) => "",
+        Err(DecodeError::Unsupported(encoding)) => encoding.name(),
+        Err(DecodeError::Memory) => "memory",
+    }
 }
 
 // An encoding that isn't supported, unless the bytes are UTF-8; ISO-2022-JP even then.
@@ -156,16 +232,12 @@ fn names_unsupported_encodings(rt: HostRuntime) -> Result<(), Fail> {
         (b"<meta charset=x-sjis>\xC1", "shift_jis"),
         (b"<meta charset=gb2312>\xC1", "gbk"),
         (b"<meta charset=hz-gb-2312>\xC1", "replacement"),
+        (b"<meta charset=replacement>\xC1", "replacement"),
         (b"<meta charset=iso-2022-jp>", "iso-2022-jp"),
         (b"<meta charset=x-sjis>", ""),
     ];
     for &(page, name) in ROWS {
-        let found = match page_text(rt.alloc(), None, page) {
-            Ok(_) => "",
-            Err(DecodeError::Unsupported(encoding)) => encoding.name(),
-            Err(DecodeError::Memory) => "memory",
-        };
-        expect_text(name, found, name)?;
+        expect_text(name, unsupported_name(rt, page), name)?;
     }
     Ok(())
 }

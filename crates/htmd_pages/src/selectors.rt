@@ -1,5 +1,5 @@
 //! Selectors, as they are kept.
-ghost use Rattle.std.specs.Prelude.{◌≡◌, ◌++◌, ◌==◌, [], length, OnOk};
+ghost use Rattle.std.specs.Prelude.{◌≡◌, ◌++◌, ◌==◌, [], length, OnOk, OnErr};
 ghost use Rattle.htmd_pages.specs.declared.selectors.SelectorError.TheVariants.{Memory};
 
 use std::alloc::{AllocError, AllocFailed, Global};
@@ -65,9 +65,10 @@ impl Selectors {
         self.steps.is_empty()
     }
 
-    /// Adds others, as if a comma stood between them. `Err` means out of memory.
+    /// Adds others, as if a comma stood between them. `Err` means out of memory: these are then as they were.
     pub fn append(&mut self, others: Selectors) -> Result<(), AllocError>
-        ensures { OnOk result (steps_in self.new ≡ steps_in self.old ++ steps_in others) }
+        ensures ok { OnOk result (steps_in self.new ≡ steps_in self.old ++ steps_in others) }
+        ensures err { OnErr result (steps_in self.new ≡ steps_in self.old) }
     {
         let mut steps = others.steps;
         self.steps.append(&mut steps)
