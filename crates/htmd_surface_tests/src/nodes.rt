@@ -92,6 +92,14 @@ fn reads_trees(rt: HostRuntime) -> Result<(), Fail> {
     Ok(())
 }
 
+// What a node is.
+fn data_of(tree: &Tree, node: NodeId) -> Result<&NodeData, Fail> {
+    if !tree.contains(node) {
+        return Err(Fail::from("a node is in the tree"));
+    }
+    Ok(tree.data(node))
+}
+
 // The text of a text node, as its tree has it.
 fn owned_text(data: &NodeData) -> Option<&String> {
     match data {
@@ -114,14 +122,11 @@ fn lends_what_it_has(rt: HostRuntime) -> Result<(), Fail> {
     let tree = converter.html_to_tree(rt.alloc(), "<a href=u>t</a>")?;
     let link = first_of(rt.alloc(), &tree, "a")?;
     let below = first_of(rt.alloc(), &tree, "#text")?;
-    if !tree.contains(link) || !tree.contains(below) {
-        return Err(Fail::from("both nodes are in the tree"));
-    }
-    let (Some(attributes), Some(text)) = (
-        owned_attributes(tree.data(link)),
-        owned_text(tree.data(below)),
-    ) else {
-        return Err(Fail::from("they are an element and a text"));
+    let Some(attributes) = owned_attributes(data_of(&tree, link)?) else {
+        return Err(Fail::from("there is an element"));
+    };
+    let Some(text) = owned_text(data_of(&tree, below)?) else {
+        return Err(Fail::from("there is a text"));
     };
     expect_text("text", text.as_str(), "t")?;
     let [attribute] = attributes.as_slice() else {
