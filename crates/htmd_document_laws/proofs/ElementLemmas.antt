@@ -25,7 +25,7 @@ use Rattle.htmd_document.specs.Parts.{formatted, linked, Part, box, edge, whole}
 use Rattle.htmd_document.specs.Roles.{role_of, table_role, heading_or_block, inline_role}
 use Rattle.htmd_document.specs.Tables.{has_captions_around, holds_table_alone}
 use Rattle.htmd_document_laws.specs.DocumentTexts.{text_of_line, text_of_blocks, visible}
-use Rattle.htmd_document_laws.proofs.VisibleLemmas.{Shows, shows-nil, shows-itself, shows-append, text-same, seen-same}
+use Rattle.htmd_document_laws.proofs.VisibleLemmas.{Shows, shows-nil, shows-append, text-same, seen-same, shown-shows}
 use Rattle.htmd_document_laws.proofs.VisibleLemmas.{shows-character, shows-white}
 use Rattle.htmd_document_laws.proofs.PartsLemmas.{Say, say-nil, say-append, say-same, say-edge, say-edges}
 use Rattle.htmd_document_laws.proofs.PartsLemmas.{say-apart, say-run, say-whole, blocks-say, line-says}
@@ -205,7 +205,7 @@ text-shows name attributes children inner =
           wrapper-shows;
       apart = λ g h. h;
       line_break = λ g h. feed-shows;
-      image = λ g h. shows-itself (text_of (codes "alt") attributes) g.value;
+      image = λ g h. shown-shows (text_of (codes "alt") attributes) g.value;
       input = λ g h. h;
       plain = λ g h. h;
     })

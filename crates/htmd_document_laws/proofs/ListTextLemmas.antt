@@ -88,8 +88,8 @@ if-filled false items ps e u h =
 numbered-says : (start : ℤ) (items : List ListItem) → AreTextItems items → Say false (numbered start items)
     (items_seen items)
 numbered-says start items u =
-    if-filled (are_filled items) items (list_of (Some (start_of start (length items))) items ∷ []) refl u
-    (list-says (Some (start_of start (length items))) items u)
+    if-filled (are_filled items) items (list_of (start_of start (length items)) items ∷ []) refl u
+    (list-says (start_of start (length items)) items u)
 
 -- ---- groups
 

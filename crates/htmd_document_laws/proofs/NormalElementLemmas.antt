@@ -1,11 +1,11 @@
 -- What each kind of element gives in normal documents.
 use Rattle.std.proofs.Common.{◌≡◌, ℕ, suc, ◌≤◌, Bool, true, false, cond, List, [], ◌∷◌, ◌++◌, refl}
-use Rattle.std.proofs.Common.{◌∙◌, subst, Option, Some, None, length, arith}
+use Rattle.std.proofs.Common.{◌∙◌, subst, Option, Some, None, arith}
 use lib.Utf8.{encode}
 use Rattle.std.specs.Prelude.{codes, if◌then◌else◌}
 use Rattle.std.specs.List.{list_any}
 use Rattle.std.specs.Option.{option_or}
-use Rattle.std.specs.Str.{chars}
+use Rattle.std.specs.Str.{IsUtf8, chars}
 use Rattle.htmd_grammar.specs.Characters.{quotation_mark, space}
 use Rattle.htmd_grammar.specs.ValueTrees.{AttributePair}
 use Rattle.htmd_nodes.specs.NumberedTrees.{NumberedForest}
@@ -20,7 +20,6 @@ use Rattle.htmd_document.specs.Documents.{Blocks, no_blocks, block, emphasis, st
 use Rattle.htmd_document.specs.Flows.{Node, Line, blocks_of, line_of, flow_all, image_parts, box_parts, inside_anchor}
 use Rattle.htmd_document.specs.Flows.{between, heading_of, heading_parts, quote_of, quote_parts, code_parts}
 use Rattle.htmd_document.specs.Flows.{verbatim_parts, start_of, parts_of}
-use Rattle.htmd_document.specs.Lists.{greatest_start}
 use Rattle.htmd_document.specs.Nesting.{wrapper_of}
 use Rattle.htmd_document.specs.Nesting as nesting
 use Rattle.htmd_document.specs.Parts.{Around, formatted, linked, Part, box, edge, whole}
@@ -34,7 +33,7 @@ use Rattle.htmd_document_laws.proofs.NormalBlockLemmas.{FineBlocks}
 use Rattle.htmd_document_laws.proofs.NormalPartsLemmas.{FineParts, IsRun, fine-append, fine-apart, fine-either, blocks-of}
 use Rattle.htmd_document_laws.proofs.NormalPartsLemmas.{line-of}
 use Rattle.htmd_document_laws.proofs.NormalValueLemmas.{IsClean, clean-run, address-fine, in_line-line, in_line-clean}
-use Rattle.htmd_document_laws.proofs.NormalValueLemmas.{AreClean, text-clean, language-fine, title_of-fine}
+use Rattle.htmd_document_laws.proofs.NormalValueLemmas.{AreTexts, value-text, language-fine, title_of-fine}
 use Rattle.htmd_document_laws.proofs.NormalCodeLemmas.{feeds-code, feeds-clean, without-code, lines-fine}
 use Rattle.htmd_document_laws.proofs.NormalNodesLemmas.{bound, FitsIn, Gives, FineNodes, deeper-bound, list-parts-fine}
 use Rattle.htmd_document_laws.proofs.NormalNodesLemmas.{flow-fine}
@@ -113,7 +112,7 @@ format-bound f c = either (list_any (is_format f) c.around)
     either false = refl
 
 anchor-fits : (id : ℕ) (attributes : List AttributePair) (o : Option (List ℕ)) (c : Context) → FitsIn c
-    → AreClean attributes → ((s : List ℕ) → o ≡ Some s → IsClean s)
+    → AreTexts attributes → ((s : List ℕ) → o ≡ Some s → IsUtf8 s)
     → FitsIn (inside_anchor id attributes o c)
 anchor-fits id attributes None c h a o = h
 anchor-fits id attributes (Some s) c h a o = either (list_any is_link c.around) refl
@@ -149,13 +148,13 @@ between-fine s nodes h r c f =
     fine-append (bound c) (run_in c s ∷ flow_all nodes c) (run_in c s ∷ []) ((r, f), flow-fine nodes h c f)
     ((r, f), tt)
 
-image-fine : (attributes : List AttributePair) (o : Option (List ℕ)) → AreClean attributes
-    → ((s : List ℕ) → o ≡ Some s → IsClean s) → Gives (image_parts attributes o)
+image-fine : (attributes : List AttributePair) (o : Option (List ℕ)) → AreTexts attributes
+    → ((s : List ℕ) → o ≡ Some s → IsUtf8 s) → Gives (image_parts attributes o)
 image-fine attributes (Some s) a o c f = (
   (
     address-fine s (o s refl),
     title_of-fine attributes a,
-    in_line-line (text_of (codes "alt") attributes) (text-clean attributes (codes "alt") a),
+    in_line-line (text_of (codes "alt") attributes) (value-text attributes (codes "alt") a),
     f,
   ),
   tt,
@@ -165,7 +164,7 @@ image-fine attributes None a o c f =
     (λ e. (
       (
         clean-run (description_of attributes)
-            (in_line-clean (text_of (codes "alt") attributes) (text-clean attributes (codes "alt") a)),
+            (in_line-clean (text_of (codes "alt") attributes) (value-text attributes (codes "alt") a)),
         f,
       ),
       tt,
@@ -219,9 +218,9 @@ pub record IsFineContent (children : NumberedForest) : Type 0 where
   pub text : IsClean (all_text_among children)
   pub language : has_language (language_of_only (only_one (elements_among children))) ≡ true
 
-verbatim-fine : (attributes : List AttributePair) (children : NumberedForest) → AreClean attributes
-    → IsFineContent children → Gives (verbatim_parts attributes children)
-verbatim-fine attributes children a h c f =
+verbatim-fine : (attributes : List AttributePair) (children : NumberedForest) → IsFineContent children
+    → Gives (verbatim_parts attributes children)
+verbatim-fine attributes children h c f =
     let s : List ℕ = with_line_feeds (all_text_among children) in
     let t : List ℕ = without_last_line_feed s in
     let language : Option (List ℕ) = language_of_block attributes children in
@@ -229,7 +228,7 @@ verbatim-fine attributes children a h c f =
     let lines : List Part = edge ∷ code_parts (lines_of s) c.around in
     let code : is_normal_code language t ≡ true = and-true
     (either-language (language_of_only (only_one (elements_among children))) (language_of attributes) h.language
-    (language-fine attributes a)) (without-code s (feeds-code (all_text_among children) h.text)) in
+    (language-fine attributes)) (without-code s (feeds-code (all_text_among children) h.text)) in
     fine-either (bound c) (is_blank_text s) (edge ∷ []) (if c.is_flat then lines else body)
     (λ e. (tt, tt))
     (λ e. fine-either (bound c) c.is_flat lines body
@@ -240,8 +239,8 @@ verbatim-fine attributes children a h c f =
 
 module _ (id : ℕ) (attributes : List AttributePair) (children : NumberedForest) (nodes : List Node)
     (lines : List Line)
-    (clean : AreClean attributes) (fine : IsFineContent children) (all : FineNodes nodes) (table : FineLines lines)
-    (few : length nodes ≤ greatest_start) (c : Context) (f : FitsIn c) where
+    (texts : AreTexts attributes) (fine : IsFineContent children) (all : FineNodes nodes) (table : FineLines lines)
+    (c : Context) (f : FitsIn c) where
   blocks : FineParts (bound c) (apart (flow_all nodes c))
   blocks = fine-apart (bound c) (flow_all nodes c) (flow-fine nodes all c f)
 
@@ -255,7 +254,7 @@ module _ (id : ℕ) (attributes : List AttributePair) (children : NumberedForest
       subst (λ (n : ℕ). FineParts n (flow_all nodes (inside_anchor id attributes o c)))
       (anchor-bound id attributes o c)
       (flow-fine nodes all (inside_anchor id attributes o c)
-      (anchor-fits id attributes o c f clean (clean.values (codes "href"))))
+      (anchor-fits id attributes o c f texts (texts (codes "href"))))
 
   pub element-fine : (name : List ℕ) → FineParts (bound c)
       (parts_of (role_of name) id attributes children nodes lines c)
@@ -264,9 +263,9 @@ module _ (id : ℕ) (attributes : List AttributePair) (children : NumberedForest
       any-kind (λ (r : Kind). FineParts (bound c) (parts_of r id attributes children nodes lines c)) name (record {
         paragraph = blocks;
         item = blocks;
-        bullet_list = list-parts-fine None nodes all tt c f;
-        numbered_list = list-parts-fine (Some (start_of attributes)) nodes all few c f;
-        verbatim = verbatim-fine attributes children clean fine c f;
+        bullet_list = list-parts-fine None nodes all c f;
+        numbered_list = list-parts-fine (Some (start_of attributes)) nodes all c f;
+        verbatim = verbatim-fine attributes children fine c f;
         block_quote = quote-parts-fine nodes all c f;
         thematic_break = ((tt, omega arith), tt);
         table = table-parts-fine children nodes lines all table c f;
@@ -293,7 +292,7 @@ module _ (id : ℕ) (attributes : List AttributePair) (children : NumberedForest
         quotation = between-fine (quotation_mark ∷ []) nodes all wrapper-run c f;
         apart = between-fine (space ∷ []) nodes all space-run c f;
         line_break = (tt, tt);
-        image = image-fine attributes (value_of (codes "src") attributes) clean (clean.values (codes "src")) c f;
+        image = image-fine attributes (value_of (codes "src") attributes) texts (texts (codes "src")) c f;
         input = fine-append (bound c) (box_parts attributes) (flow_all nodes c) (box-fine (bound c) attributes)
             (flow-fine nodes all c f);
         plain = flow-fine nodes all c f;

@@ -1,5 +1,5 @@
 -- Worked rows of the law of the normal form.
-use Rattle.std.proofs.Common.{◌≡◌, ℕ, true, false, List, [], ◌∷◌, refl}
+use Rattle.std.proofs.Common.{◌≡◌, ℕ, true, false, List, [], ◌∷◌, ◌++◌, refl}
 use Rattle.std.specs.Prelude.{codes}
 use Rattle.std.specs.Str.{chars, is_utf8}
 use lib.Utf8.{encode}
@@ -9,7 +9,7 @@ use Rattle.htmd_document.specs.Flows.{node_of}
 use Rattle.htmd_document.specs.Roles.{role_of, table_role, heading_or_block, inline_role}
 use Rattle.htmd_document.specs.TreeDocuments.{document_of_tree}
 use Rattle.htmd_document_form.specs.NormalDocuments.{IsNormal}
-use Rattle.htmd_document_laws.specs.TreeForms.{is_clean, has_clean_values, child_count, has_few_children, is_clean_tree}
+use Rattle.htmd_document_laws.specs.TreeForms.{is_text_value, is_text_tree}
 
 abbrev leaf : List ℕ → NumberedForest → NumberedForest
 leaf s trees = more (text 9 s) trees
@@ -23,34 +23,15 @@ with_value name value = record { name = name; value = value }
 abbrev checkbox : AttributePair
 checkbox = with_value (codes "type") (codes "checkbox")
 
--- ---- clean trees
+-- ---- trees of texts
 
-pub clean-letters : is_clean (codes "a b") ≡ true
+pub letters-text : is_text_value (with_value (codes "title") (codes "a b")) ≡ true
 unfolding chars encode is_utf8
-clean-letters = refl
+letters-text = refl
 
-pub null-unclean : is_clean (97 ∷ 0 ∷ []) ≡ false
+pub broken-no_text : is_text_value (with_value (codes "title") (0xFF ∷ [])) ≡ false
 unfolding chars encode is_utf8
-null-unclean = refl
-
-pub broken-unclean : is_clean (0xFF ∷ []) ≡ false
-unfolding chars encode is_utf8
-broken-unclean = refl
-
--- U+000B counts in a class alone
-pub tabulated-class : has_clean_values (with_value (codes "class") (97 ∷ 0x0B ∷ []) ∷ []) ≡ false
-unfolding chars encode is_utf8
-tabulated-class = refl
-
-pub tabulated-title : has_clean_values (with_value (codes "title") (97 ∷ 0x0B ∷ []) ∷ []) ≡ true
-unfolding chars encode is_utf8
-tabulated-title = refl
-
-pub children-counted : child_count (leaf (codes "a") (tag (codes "b") [] (leaf (codes "c") none) none)) ≡ 2
-children-counted = refl
-
-pub few-children : has_few_children (leaf (codes "a") none) ≡ true
-few-children = refl
+broken-no_text = refl
 
 -- ---- a page
 
@@ -62,9 +43,9 @@ page s = document 0 (
     (leaf (codes " ") (tag (codes "b") [] (leaf (codes "d") none) none))))
     (tag (codes "ul") [] (tag (codes "li") [] (tag (codes "input") (checkbox ∷ []) none (leaf s none)) none) none)))
 
-pub page-clean : is_clean_tree (page (codes " e")) ≡ true
+pub page-text : is_text_tree (page (codes " e")) ≡ true
 unfolding chars encode is_utf8
-page-clean = refl
+page-text = refl
 
 pub page-normal : IsNormal (document_of_tree true [] (page (codes " e")))
 unfolding chars encode is_utf8 document_of_tree node_of role_of table_role heading_or_block inline_role
@@ -78,3 +59,15 @@ letter-spaced = refl
 pub wide-spaced : IsNormal (document_of_tree true [] (page (0xC2 ∷ 0xA0 ∷ codes "e")))
 unfolding chars encode is_utf8 document_of_tree node_of role_of table_role heading_or_block inline_role
 wide-spaced = refl
+
+-- values with U+0000 and U+000B: an address, a title and a language
+abbrev controls : NumberedTree
+controls = document 0 (
+    tag (codes "p") []
+    (tag (codes "a") (with_value (codes "href") (codes "/a\0b") ∷ with_value (codes "title") (codes "c\0") ∷ [])
+    (leaf (codes "d") none) none)
+    (tag (codes "pre") (with_value (codes "class") (codes "lang-e" ++ 0x0B ∷ []) ∷ []) (leaf (codes "f") none) none))
+
+pub controls-normal : IsNormal (document_of_tree true [] controls)
+unfolding chars encode is_utf8 document_of_tree node_of role_of table_role heading_or_block inline_role
+controls-normal = refl

@@ -8,8 +8,8 @@ use Rattle.std.proofs.lemmas.List.{length-append}
 use Rattle.htmd_grammar.proofs.Cases.{test}
 use Rattle.htmd_document.specs.Documents.{Items, items_of}
 use Rattle.htmd_document.specs.Lists.{ListItem, is_filled, are_filled, is_tight, is_tight_item, is_short, is_close, is_lone}
-use Rattle.htmd_document.specs.Lists.{list_of, bullets, numbered, new_number, Groups, groups_at, with_number, with_item}
-use Rattle.htmd_document.specs.Lists.{numbered_lists, lists_if_filled, start_of, greatest_start}
+use Rattle.htmd_document.specs.Lists.{list_of, numbered, new_number, Groups, groups_at, with_number, with_item}
+use Rattle.htmd_document.specs.Lists.{numbered_lists, lists_of, lists_if_filled, from_one, start_of, greatest_start}
 use Rattle.htmd_document.specs.Parts.{Part}
 use Rattle.htmd_document_form.specs.NormalDocuments.{item_count, are_short_numbers, has_filled_item, are_tight}
 use Rattle.htmd_document_form.specs.NormalDocuments.{is_spread, has_right_distance, depth_of_items}
@@ -88,19 +88,19 @@ distance items f = either-tight (is_lone items) (list_all is_close items) items 
 
 -- ---- numbers
 
--- no list has more items than there are numbers
-start-short : (z : ℤ) (count : ℕ) → count ≤ greatest_start
-    → nat_le (start_of z count + count) (greatest_start + 1) ≡ true
-start-short (pos n) count l = test (nat_le (n + count) (greatest_start + 1))
-    (λ e. ap (λ b. nat_le (cond b n 1 + count) (greatest_start + 1)) e ∙ e)
-    (λ e. ap (λ b. nat_le (cond b n 1 + count) (greatest_start + 1)) e ∙ one count l)
+from_one-short : (count : ℕ) → are_short_numbers (from_one count) count ≡ true
+from_one-short count = test (nat_le count greatest_start)
+    (λ e. ap (λ b. are_short_numbers (cond b (Some 1) None) count) e ∙ one count e)
+    (λ e. ap (λ b. are_short_numbers (cond b (Some 1) None) count) e)
   where
-    one : (count : ℕ) → count ≤ greatest_start → nat_le (1 + count) (greatest_start + 1) ≡ true
+    one : (count : ℕ) → nat_le count greatest_start ≡ true → nat_le (1 + count) (greatest_start + 1) ≡ true
     one count l = grind (arith, nat_tests)
-start-short (negsuc n) count l = one count l
-  where
-    one : (count : ℕ) → count ≤ greatest_start → nat_le (1 + count) (greatest_start + 1) ≡ true
-    one count l = grind (arith, nat_tests)
+
+start-short : (z : ℤ) (count : ℕ) → are_short_numbers (start_of z count) count ≡ true
+start-short (pos n) count = test (nat_le (n + count) (greatest_start + 1))
+    (λ e. ap (λ b. are_short_numbers (cond b (Some n) (from_one count)) count) e ∙ e)
+    (λ e. ap (λ b. are_short_numbers (cond b (Some n) (from_one count)) count) e ∙ from_one-short count)
+start-short (negsuc n) count = from_one-short count
 
 list-fine : (n : ℕ) (start : Option ℕ) (items : List ListItem) → FineItems n items → are_filled items ≡ true
     → are_short_numbers start (length items) ≡ true → FineParts (suc n) (list_of start items ∷ [])
@@ -118,93 +118,53 @@ list-fine n start items h f s =
     deeper d n l = omega arith
 
 numbered-fine : (n : ℕ) (start : ℤ) (items : List ListItem) → FineItems n items
-    → length items ≤ greatest_start
     → FineParts (suc n) (numbered start items)
-numbered-fine n start items h l = test (are_filled items)
+numbered-fine n start items h = test (are_filled items)
     (λ e. subst (λ (b : Bool). FineParts (suc n) (cond b made [])) (sym e)
-    (list-fine n (Some (start_of start (length items))) items h e (start-short start (length items) l)))
+    (list-fine n (start_of start (length items)) items h e (start-short start (length items))))
     (λ e. subst (λ (b : Bool). FineParts (suc n) (cond b made [])) (sym e) tt)
   where
     made : List Part
-    made = list_of (Some (start_of start (length items))) items ∷ []
+    made = list_of (start_of start (length items)) items ∷ []
 
 -- ---- groups
 
-record GroupsFine (n m : ℕ) (g : Groups) : Type 0 where
+record GroupsFine (n : ℕ) (g : Groups) : Type 0 where
   done : FineParts (suc n) g.done
   group : FineItems n g.group
-  count : length g.group ≤ m
 
-number-fine : (o : Option ℤ) (n m : ℕ) (g : Groups) (i : ListItem) → GroupsFine n m g
-    → FineBlocks n true i.blocks
-    → m ≤ greatest_start → GroupsFine n (suc m) (with_number g i o)
-number-fine None n m g i h f l = record {
+number-fine : (o : Option ℤ) (n : ℕ) (g : Groups) (i : ListItem) → GroupsFine n g → FineBlocks n true i.blocks
+    → GroupsFine n (with_number g i o)
+number-fine None n g i h f = record {
   done = h.done;
   group = items-append n g.group (i ∷ []) h.group (f, tt);
-  count = more (length (g.group ++ i ∷ [])) (length g.group) m (length-append g.group (i ∷ [])) h.count;
 }
-  where
-    more : (a b m : ℕ) → a ≡ b + 1 → b ≤ m → a ≤ suc m
-    more a b m e l = omega arith
-number-fine (Some v) n m g i h f l = record {
-  done = fine-append (suc n) g.done (numbered g.start g.group) h.done
-      (numbered-fine n g.start g.group h.group (within (length g.group) m h.count l));
+number-fine (Some v) n g i h f = record {
+  done = fine-append (suc n) g.done (numbered g.start g.group) h.done (numbered-fine n g.start g.group h.group);
   group = (f, tt);
-  count = omega arith;
 }
-  where
-    within : (a m : ℕ) → a ≤ m → m ≤ greatest_start → a ≤ greatest_start
-    within a m g h = omega arith
 
-groups-fine : (items : List ListItem) (n m : ℕ) (g : Groups) → GroupsFine n m g → FineItems n items
-    → m + length items ≤ greatest_start → GroupsFine n (m + length items) (fold with_item g items)
-groups-fine [] n m g h f l = subst (λ (k : ℕ). GroupsFine n k g) (plus m) h
-  where
-    plus : (m : ℕ) → m ≡ m + 0
-    plus m = omega arith
-groups-fine (i ∷ items) n m g h f l =
-    subst (λ (k : ℕ). GroupsFine n k (fold with_item (with_item g i) items)) (plus m (length items))
-    (groups-fine items n (suc m) (with_item g i)
-    (number-fine (new_number g.next i.value) n m g i h f.0 (less m (length items) l)) f.1 (same m (length items) l))
-  where
-    plus : (m k : ℕ) → suc m + k ≡ m + suc k
-    plus m k = omega arith
-
-    less : (m k : ℕ) → m + suc k ≤ greatest_start → m ≤ greatest_start
-    less m k l = omega arith
-
-    same : (m k : ℕ) → m + suc k ≤ greatest_start → suc m + k ≤ greatest_start
-    same m k l = omega arith
+groups-fine : (items : List ListItem) (n : ℕ) (g : Groups) → GroupsFine n g → FineItems n items
+    → GroupsFine n (fold with_item g items)
+groups-fine [] n g h f = h
+groups-fine (i ∷ items) n g h f =
+    groups-fine items n (with_item g i) (number-fine (new_number g.next i.value) n g i h f.0) f.1
 
 numbered_lists-fine : (n : ℕ) (start : ℤ) (items : List ListItem) → FineItems n items
-    → length items ≤ greatest_start
     → FineParts (suc n) (numbered_lists start items)
-numbered_lists-fine n start items h l =
+numbered_lists-fine n start items h =
     let g : Groups = fold with_item (groups_at start) items in
-    let all : GroupsFine n (0 + length items) g =
-    groups-fine items n 0 (groups_at start) (record { done = tt; group = tt; count = omega arith }) h
-    (from-none (length items) l) in
-    fine-append (suc n) g.done (numbered g.start g.group) all.done
-    (numbered-fine n g.start g.group all.group (within (length g.group) (length items) all.count l))
-  where
-    within : (a m : ℕ) → a ≤ 0 + m → m ≤ greatest_start → a ≤ greatest_start
-    within a m g h = omega arith
+    let all : GroupsFine n g = groups-fine items n (groups_at start) (record { done = tt; group = tt }) h in
+    fine-append (suc n) g.done (numbered g.start g.group) all.done (numbered-fine n g.start g.group all.group)
 
-    from-none : (m : ℕ) → m ≤ greatest_start → 0 + m ≤ greatest_start
-    from-none m l = omega arith
-
--- bullets have no numbers
-abbrev pub HasNumbers : Option ℤ → ℕ → Type 0
-HasNumbers None count = Unit {0}
-HasNumbers (Some start) count = count ≤ greatest_start
+lists_of-fine : (n : ℕ) (start : Option ℤ) (items : List ListItem) → FineItems n items
+    → are_filled items ≡ true → FineParts (suc n) (lists_of start items)
+lists_of-fine n None items h e = list-fine n None items h e refl
+lists_of-fine n (Some start) items h e = numbered_lists-fine n start items h
 
 pub lists-fine : (n : ℕ) (start : Option ℤ) (items : List ListItem) → FineItems n items
-    → HasNumbers start (length items) → FineParts (suc n) (lists_if_filled start items)
-lists-fine n None items h l = test (are_filled items)
-    (λ e. subst (λ (b : Bool). FineParts (suc n) (cond b (bullets items) [])) (sym e)
-    (list-fine n None items h e refl))
-    (λ e. subst (λ (b : Bool). FineParts (suc n) (cond b (bullets items) [])) (sym e) tt)
-lists-fine n (Some start) items h l = test (are_filled items)
-    (λ e. subst (λ (b : Bool). FineParts (suc n) (cond b (numbered_lists start items) [])) (sym e)
-    (numbered_lists-fine n start items h l))
-    (λ e. subst (λ (b : Bool). FineParts (suc n) (cond b (numbered_lists start items) [])) (sym e) tt)
+    → FineParts (suc n) (lists_if_filled start items)
+lists-fine n start items h = test (are_filled items)
+    (λ e. subst (λ (b : Bool). FineParts (suc n) (cond b (lists_of start items) [])) (sym e)
+    (lists_of-fine n start items h e))
+    (λ e. subst (λ (b : Bool). FineParts (suc n) (cond b (lists_of start items) [])) (sym e) tt)

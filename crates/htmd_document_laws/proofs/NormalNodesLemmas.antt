@@ -1,17 +1,17 @@
 -- Nodes of normal documents: what follows each other, and lists.
 use Rattle.std.proofs.Common.{◌≡◌, ℕ, suc, ◌-◌, ◌≤◌, Bool, true, false, cond, List, [], ◌∷◌, ◌++◌}
-use Rattle.std.proofs.Common.{subst, Option, Some, None, length, arith}
+use Rattle.std.proofs.Common.{subst, Option, None, arith}
 use Rattle.std.specs.Prelude.{ℤ, nat_le}
 use Rattle.std.proofs.lemmas.Bool.Decides.{nat_tests}
 use Rattle.htmd_document.specs.Contexts.{Context, is_lined, deeper, apart, most_nested}
 use Rattle.htmd_document.specs.Flows.{Node, is_item, before_items, behind_item, item_of, items_of, each_whole}
 use Rattle.htmd_document.specs.Flows.{list_parts, goes_on, items_in_a_row, flow_all, flow_after}
-use Rattle.htmd_document.specs.Lists.{ListItem, lists_if_filled, greatest_start}
+use Rattle.htmd_document.specs.Lists.{ListItem, lists_if_filled}
 use Rattle.htmd_document.specs.Parts.{Part, edge}
 use Rattle.htmd_document_laws.proofs.NormalTextLemmas.{neither}
 use Rattle.htmd_document_laws.proofs.NormalLineLemmas.{FitAll}
 use Rattle.htmd_document_laws.proofs.NormalPartsLemmas.{FineParts, fine-append, fine-apart, fine-either, blocks-of}
-use Rattle.htmd_document_laws.proofs.NormalListLemmas.{FineItems, HasNumbers, lists-fine}
+use Rattle.htmd_document_laws.proofs.NormalListLemmas.{FineItems, lists-fine}
 
 -- how many lists and quotes may stand in each other in it
 abbrev pub bound : Context → ℕ
@@ -55,44 +55,23 @@ behind-fine (n ∷ nodes) h c f =
     if-item (bound c) (is_item n) (edge ∷ n.whole c ++ behind_item nodes c)
     (tt, fine-append (bound c) (n.whole c) (behind_item nodes c) (h.0.whole c f) (behind-fine nodes h.1 c f))
 
-record ItemsAre (n count : ℕ) (items : List ListItem) : Type 0 where
-  fine : FineItems n items
-  few : length items ≤ count
-
-either-items : (n count : ℕ) (b : Bool) (xs ys : List ListItem) → ItemsAre n count xs → ItemsAre n count ys
-    → ItemsAre n count (cond b xs ys)
-either-items n count true xs ys g h = g
-either-items n count false xs ys g h = h
+either-items : (n : ℕ) (b : Bool) (xs ys : List ListItem) → FineItems n xs → FineItems n ys
+    → FineItems n (cond b xs ys)
+either-items n true xs ys g h = g
+either-items n false xs ys g h = h
 
 items-fine : (nodes : List Node) → FineNodes nodes → (c : Context) → FitsIn c
-    → ItemsAre (bound c) (length nodes) (items_of nodes c)
-items-fine [] h c f = record { fine = tt; few = omega arith }
+    → FineItems (bound c) (items_of nodes c)
+items-fine [] h c f = tt
 items-fine (n ∷ nodes) h c f =
-    let rest : ItemsAre (bound c) (length nodes) (items_of nodes c) = items-fine nodes h.1 c f in
+    let rest : FineItems (bound c) (items_of nodes c) = items-fine nodes h.1 c f in
     let parts : List Part = n.content c ++ behind_item nodes c in
-    either-items (bound c) (suc (length nodes)) (is_item n) (item_of n parts ∷ items_of nodes c) (items_of nodes c)
-    (record {
-      fine = (
-        blocks-of (bound c) true parts
-            (fine-append (bound c) (n.content c) (behind_item nodes c) (h.0.content c f) (behind-fine nodes h.1 c f)),
-        rest.fine,
-      );
-      few = more (length (items_of nodes c)) (length nodes) rest.few;
-    })
-    (record { fine = rest.fine; few = less (length (items_of nodes c)) (length nodes) rest.few })
-  where
-    more : (a b : ℕ) → a ≤ b → suc a ≤ suc b
-    more a b l = omega arith
-
-    less : (a b : ℕ) → a ≤ b → a ≤ suc b
-    less a b l = omega arith
-
-fewer-numbers : (start : Option ℤ) (a b : ℕ) → a ≤ b → HasNumbers start b → HasNumbers start a
-fewer-numbers None a b l h = tt
-fewer-numbers (Some start) a b l h = few a b l h
-  where
-    few : (a b : ℕ) → a ≤ b → b ≤ greatest_start → a ≤ greatest_start
-    few a b l h = omega arith
+    either-items (bound c) (is_item n) (item_of n parts ∷ items_of nodes c) (items_of nodes c) (
+      blocks-of (bound c) true parts
+          (fine-append (bound c) (n.content c) (behind_item nodes c) (h.0.content c f) (behind-fine nodes h.1 c f)),
+      rest,
+    )
+    rest
 
 -- one deeper
 pub deeper-bound : (c : Context) → is_lined c ≡ false → suc (bound (deeper c)) ≡ bound c
@@ -101,19 +80,16 @@ deeper-bound c e = room c.nested (neither c.is_flat (nat_le most_nested c.nested
     room : (n : ℕ) → nat_le most_nested n ≡ false → suc (most_nested - suc n) ≡ most_nested - n
     room n e = grind (arith, nat_tests)
 
-pub list-parts-fine : (start : Option ℤ) (nodes : List Node) → FineNodes nodes → HasNumbers start (length nodes)
-    → Gives (list_parts start nodes)
-list-parts-fine start nodes h numbers c f =
+pub list-parts-fine : (start : Option ℤ) (nodes : List Node) → FineNodes nodes → Gives (list_parts start nodes)
+list-parts-fine start nodes h c f =
     let items : List ListItem = items_of nodes (deeper c) in
     let lists : List Part = lists_if_filled start items in
     let front : List Part = edge ∷ before_items nodes c in
     fine-either (bound c) (is_lined c) (apart (each_whole nodes c)) (front ++ edge ∷ lists ++ edge ∷ [])
     (λ e. fine-apart (bound c) (each_whole nodes c) (each-fine nodes h c f))
     (λ e.
-    let all : ItemsAre (bound (deeper c)) (length nodes) items = items-fine nodes h (deeper c) f in
     let made : FineParts (bound c) lists = subst (λ (n : ℕ). FineParts n lists) (deeper-bound c e)
-    (lists-fine (bound (deeper c)) start items all.fine
-    (fewer-numbers start (length items) (length nodes) all.few numbers)) in
+    (lists-fine (bound (deeper c)) start items (items-fine nodes h (deeper c) f)) in
     fine-append (bound c) (front ++ edge ∷ lists) (edge ∷ [])
     (fine-append (bound c) front (edge ∷ lists) (tt, before-fine nodes h c f) (tt, made)) (tt, tt))
 
@@ -135,7 +111,7 @@ mutual
       let items : List Node = n ∷ items_in_a_row nodes in
       fine-either (bound c) (is_item n) (list_parts None items c ++ flow_after nodes c) (n.whole c ++ flow_all nodes c)
       (λ e. fine-append (bound c) (list_parts None items c) (flow_after nodes c)
-      (list-parts-fine None items (h.0, row-fine nodes h.1) tt c f) (after-fine nodes h.1 c f))
+      (list-parts-fine None items (h.0, row-fine nodes h.1) c f) (after-fine nodes h.1 c f))
       (λ e. fine-append (bound c) (n.whole c) (flow_all nodes c) (h.0.whole c f) (flow-fine nodes h.1 c f))
 
   after-fine : (nodes : List Node) → FineNodes nodes → Gives (flow_after nodes)

@@ -1,12 +1,10 @@
--- Trees of clean texts give what a normal document is made of.
-use Rattle.std.proofs.Common.{◌≡◌, ℕ, suc, ◌≤◌, Bool, true, false, cond, ◌&&◌, List, [], ◌∷◌, ◌++◌, refl, sym, ap}
-use Rattle.std.proofs.Common.{subst, Option, Some, None, length, filter, arith}
+-- Trees of texts give what a normal document is made of.
+use Rattle.std.proofs.Common.{◌≡◌, ℕ, Bool, true, false, cond, List, [], ◌∷◌, ◌++◌, refl, Option, Some, None}
 use lib.Utf8.{encode}
-use Rattle.std.specs.Prelude.{codes, nat_le}
+use Rattle.std.specs.Prelude.{codes}
 use Rattle.std.specs.List.{list_all}
 use Rattle.std.specs.Str.{IsUtf8, is_utf8, chars, bytes_eq}
-use Rattle.std.proofs.lemmas.Bool.Decides.{nat_tests}
-use Rattle.std.proofs.lemmas.Str.{IsUtf8-from_is_utf8, IsUtf8-append, scalars-chars}
+use Rattle.std.proofs.lemmas.Str.{IsUtf8-from_is_utf8, IsUtf8-append}
 use Rattle.htmd_grammar.specs.Characters.{line_feed, quotation_mark}
 use Rattle.htmd_nodes.specs.NumberedTrees.{NumberedTree, document, doctype, text, comment, element, NumberedForest, none}
 use Rattle.htmd_nodes.specs.NumberedTrees.{more}
@@ -15,26 +13,24 @@ use Rattle.htmd_document.specs.AllTexts.{language_of_code, language_of_only}
 use Rattle.htmd_document.specs.Attributes.{text_of, language_of}
 use Rattle.htmd_document.specs.Flows.{Node, Line, of_caption, is_cell, cells_among, row_line, lines_at, rows_at, flow_all}
 use Rattle.htmd_document.specs.Flows.{node_of, nodes_of, rows_of_part, lines_of_table}
-use Rattle.htmd_document.specs.Lists.{greatest_start}
 use Rattle.htmd_document.specs.Roles as roles
 use Rattle.htmd_document.specs.Roles.{role_of, is_void, is_line_break, is_image, is_quotation}
 use Rattle.htmd_document.specs.Shown.{Sight, shows, shown, shown_all}
-use Rattle.htmd_document.specs.ShownTexts.{is_shown, shown_text}
+use Rattle.htmd_document.specs.ShownTexts.{shown_text}
 use Rattle.htmd_document_form.specs.NormalDocuments.{has_language}
-use Rattle.htmd_document_laws.specs.TreeForms.{has_clean_values, child_count, has_few_children, is_clean_tree}
-use Rattle.htmd_document_laws.specs.TreeForms.{are_clean_trees}
+use Rattle.htmd_document_laws.specs.TreeForms.{is_text_value, is_text_tree, are_text_trees}
 use Rattle.htmd_document_laws.proofs.VisibleLemmas.{both-true}
 use Rattle.htmd_document_laws.proofs.NormalTextLemmas.{and-true, all-append}
 use Rattle.htmd_document_laws.proofs.NormalWritingLemmas.{is_text_character}
-use Rattle.htmd_document_laws.proofs.NormalValueLemmas.{IsClean, clean-nil, clean-run, encodes-pass, AreClean}
-use Rattle.htmd_document_laws.proofs.NormalValueLemmas.{attributes-clean, text-clean, language-fine, text-wide, scalars-filter}
+use Rattle.htmd_document_laws.proofs.NormalValueLemmas.{IsClean, clean-nil, clean-run, shown-clean, AreTexts}
+use Rattle.htmd_document_laws.proofs.NormalValueLemmas.{texts-of, value-text, language-fine}
 use Rattle.htmd_document_laws.proofs.NormalNodesLemmas.{Gives, FineNode, FineNodes, flow-fine}
 use Rattle.htmd_document_laws.proofs.NormalTableLemmas.{FineLines, lines-append}
 use Rattle.htmd_document_laws.proofs.NormalElementLemmas.{IsFineContent, element-fine}
 
 -- ---- what shows
 
--- texts, values and counts of a tree that shows
+-- texts and values of a tree that shows
 abbrev mutual
   pub IsFineTree : NumberedTree → Type 0
   IsFineTree (document id children) = AreFineTrees children
@@ -42,29 +38,11 @@ abbrev mutual
   IsFineTree (text id s) = IsClean s
   IsFineTree (comment id s) = Unit {0}
   IsFineTree (element id name attributes children) =
-      AreClean attributes × (child_count children ≤ greatest_start) × AreFineTrees children
+      AreTexts attributes × AreFineTrees children
 
   pub AreFineTrees : NumberedForest → Type 0
   AreFineTrees none = Unit {0}
   AreFineTrees (more tree trees) = IsFineTree tree × AreFineTrees trees
-
-seen-shown : (cs : List ℕ) → list_all is_text_character (filter is_shown cs) ≡ true
-seen-shown [] = refl
-seen-shown (c ∷ cs) = either (is_shown c) refl (seen-shown cs)
-  where
-    text : (c : ℕ) → is_shown c ≡ true → is_text_character c ≡ true
-    text c e = grind (arith, nat_tests)
-
-    either : (b : Bool) → is_shown c ≡ b → list_all is_text_character (filter is_shown cs) ≡ true
-        → list_all is_text_character (cond b (c ∷ filter is_shown cs) (filter is_shown cs)) ≡ true
-    either true e h = and-true (text c e) h
-    either false e h = h
-
-shown-clean : (s : List ℕ) → IsUtf8 s → IsClean (shown_text s)
-shown-clean s u = record {
-  utf8 = (filter is_shown (chars s), (scalars-filter is_shown (chars s) (scalars-chars s u), refl));
-  seen = encodes-pass is_text_character text-wide (filter is_shown (chars s)) (seen-shown (chars s));
-}
 
 fine-content : (v : Bool) (ts : NumberedForest) → AreFineTrees ts → AreFineTrees (cond v none ts)
 fine-content true ts h = tt
@@ -76,48 +54,22 @@ fine-more true t ts g h = (g, h)
 fine-more false t ts g h = h
 
 module _ (sight : Sight) where
-  fewer : (ts : NumberedForest) → child_count (shown_all sight ts) ≤ child_count ts
-  fewer none = omega arith
-  fewer (more t ts) = either (shows sight t) (fewer ts)
-    where
-      up : (a b : ℕ) → a ≤ b → suc a ≤ suc b
-      up a b l = omega arith
-
-      over : (a b : ℕ) → a ≤ b → a ≤ suc b
-      over a b l = omega arith
-
-      either : (b : Bool) → child_count (shown_all sight ts) ≤ child_count ts
-          → child_count (cond b (more (shown sight t) (shown_all sight ts)) (shown_all sight ts)) ≤ suc
-          (child_count ts)
-      either true l = up (child_count (shown_all sight ts)) (child_count ts) l
-      either false l = over (child_count (shown_all sight ts)) (child_count ts) l
-
-  few-shown : (v : Bool) (ts : NumberedForest) → has_few_children ts ≡ true
-      → child_count (cond v none (shown_all sight ts)) ≤ greatest_start
-  few-shown true ts e = omega arith
-  few-shown false ts e = less (child_count (shown_all sight ts)) (child_count ts) (fewer ts) e
-    where
-      less : (a b : ℕ) → a ≤ b → nat_le b greatest_start ≡ true → a ≤ greatest_start
-      less a b l e = grind (arith, nat_tests)
-
   mutual
-    pub tree-shown : (t : NumberedTree) → is_clean_tree t ≡ true → IsFineTree (shown sight t)
+    pub tree-shown : (t : NumberedTree) → is_text_tree t ≡ true → IsFineTree (shown sight t)
     tree-shown (document id children) e = trees-shown children e
     tree-shown (doctype id) e = tt
     tree-shown (text id s) e = shown-clean s (IsUtf8-from_is_utf8 s e)
     tree-shown (comment id s) e = tt
     tree-shown (element id name attributes children) e =
-        let parts = both-true (has_clean_values attributes && has_few_children children) (are_clean_trees children) e in
-        let first = both-true (has_clean_values attributes) (has_few_children children) parts.0 in (
-          attributes-clean attributes first.0,
-          few-shown (is_void (role_of name)) children first.1,
+        let parts = both-true (list_all is_text_value attributes) (are_text_trees children) e in (
+          texts-of attributes parts.0,
           fine-content (is_void (role_of name)) (shown_all sight children) (trees-shown children parts.1),
         )
 
-    pub trees-shown : (ts : NumberedForest) → are_clean_trees ts ≡ true → AreFineTrees (shown_all sight ts)
+    pub trees-shown : (ts : NumberedForest) → are_text_trees ts ≡ true → AreFineTrees (shown_all sight ts)
     trees-shown none e = tt
     trees-shown (more t ts) e =
-        let parts = both-true (is_clean_tree t) (are_clean_trees ts) e in
+        let parts = both-true (is_text_tree t) (are_text_trees ts) e in
         fine-more (shows sight t) (shown sight t) (shown_all sight ts) (tree-shown t parts.0) (trees-shown ts parts.1)
 
 -- ---- all text
@@ -154,8 +106,9 @@ mutual
   text-fine (comment id s) h = clean-nil
   text-fine (element id name attributes children) h =
       role-text (is_line_break (role_of name)) (is_image (role_of name)) (is_quotation (role_of name))
-      (text_of (codes "alt") attributes) (all_text_among children) (text-clean attributes (codes "alt") h.0)
-      (texts-fine children h.2)
+      (shown_text (text_of (codes "alt") attributes)) (all_text_among children)
+      (shown-clean (text_of (codes "alt") attributes) (value-text attributes (codes "alt") h.0))
+      (texts-fine children h.1)
 
   texts-fine : (ts : NumberedForest) → AreFineTrees ts → IsClean (all_text_among ts)
   texts-fine none h = clean-nil
@@ -174,7 +127,7 @@ elements-languages (more (doctype id) ts) h = elements-languages ts h.1
 elements-languages (more (text id s) ts) h = elements-languages ts h.1
 elements-languages (more (comment id s) ts) h = elements-languages ts h.1
 elements-languages (more (element id name attributes children) ts) h =
-    (either (bytes_eq name (codes "code")) (language-fine attributes h.0.0), elements-languages ts h.1)
+    (either (bytes_eq name (codes "code")) (language-fine attributes), elements-languages ts h.1)
   where
     either : (b : Bool) → has_language (language_of attributes) ≡ true
         → has_language (cond b (language_of attributes) None) ≡ true
@@ -193,11 +146,6 @@ content-fine ts h = record {
 }
 
 -- ---- nodes
-
-node-count : (ts : NumberedForest) → length (nodes_of ts) ≡ child_count ts
-unfolding node_of
-node-count none = refl
-node-count (more t ts) = ap suc (node-count ts)
 
 cells-fine : (nodes : List Node) → FineNodes nodes → FineNodes (cells_among nodes)
 cells-fine [] h = tt
@@ -224,9 +172,6 @@ lines-at-fine false true w nodes rows h g = g
 lines-at-fine false false true nodes rows h g = row-line-fine None false nodes h
 lines-at-fine false false false nodes rows h g = tt
 
-few-nodes : (ts : NumberedForest) → child_count ts ≤ greatest_start → length (nodes_of ts) ≤ greatest_start
-few-nodes ts h = subst (λ (n : ℕ). n ≤ greatest_start) (sym (node-count ts)) h
-
 mutual
   unfolding node_of
 
@@ -238,10 +183,10 @@ mutual
   node-fine (text id s) h = record { whole = λ c f. ((clean-run s h, f), tt); content = λ c f. tt }
   node-fine (comment id s) h = record { whole = λ c f. tt; content = λ c f. tt }
   node-fine (element id name attributes children) h =
-      let nodes : FineNodes (nodes_of children) = nodes-fine children h.2 in
+      let nodes : FineNodes (nodes_of children) = nodes-fine children h.1 in
       record {
         whole = λ c f. element-fine id attributes children (nodes_of children) (lines_of_table children) h.0
-            (content-fine children h.2) nodes (lines-fine children h.2) (few-nodes children h.1) c f name;
+            (content-fine children h.1) nodes (lines-fine children h.1) c f name;
         content = flow-fine (nodes_of children) nodes;
       }
 
@@ -258,7 +203,7 @@ mutual
   part-fine (more (comment id s) ts) h part in_head = part-fine ts h.1 part in_head
   part-fine (more (element id name attributes children) ts) h part in_head =
       lines-append (rows_at (role_of name) part in_head (nodes_of children)) (rows_of_part part in_head ts)
-      (rows-at-fine (roles.is_row (role_of name)) part in_head (nodes_of children) (nodes-fine children h.0.2))
+      (rows-at-fine (roles.is_row (role_of name)) part in_head (nodes_of children) (nodes-fine children h.0.1))
       (part-fine ts h.1 part in_head)
 
   lines-fine : (ts : NumberedForest) → AreFineTrees ts → FineLines (lines_of_table ts)
@@ -271,6 +216,6 @@ mutual
       let rows : List Line = rows_of_part (Some id) (roles.is_head (role_of name)) children in
       lines-append (lines_at (role_of name) (nodes_of children) rows) (lines_of_table ts)
       (lines-at-fine (roles.is_caption (role_of name)) (roles.is_part (role_of name)) (roles.is_row (role_of name))
-      (nodes_of children) rows (nodes-fine children h.0.2)
-      (part-fine children h.0.2 (Some id) (roles.is_head (role_of name))))
+      (nodes_of children) rows (nodes-fine children h.0.1)
+      (part-fine children h.0.1 (Some id) (roles.is_head (role_of name))))
       (lines-fine ts h.1)

@@ -10,8 +10,7 @@ use Rattle.std.proofs.Math.Utf8.{scalars, scalar}
 use Rattle.std.proofs.lemmas.Bool.Decides.{nat_tests}
 use Rattle.std.proofs.lemmas.Str.{IsUtf8-from_is_utf8, is_utf8-from_IsUtf8, IsUtf8-take, IsUtf8-drop, IsUtf8-nil}
 use Rattle.std.proofs.lemmas.Str.{scalars-chars, encodes-chars, encode_ascii}
-use Rattle.htmd_grammar.specs.Characters.{space, null}
-use Rattle.htmd_grammar.specs.CharacterClasses.{lacks}
+use Rattle.htmd_grammar.specs.Characters.{space}
 use Rattle.htmd_grammar.specs.ValueTrees.{AttributePair}
 use Rattle.htmd_grammar.specs.WhiteSpace.{is_ascii_white_space}
 use Rattle.htmd_grammar.proofs.Cases.{test}
@@ -19,15 +18,16 @@ use Rattle.htmd_text.specs.Joins.{joined_texts}
 use Rattle.htmd_text.specs.Trims.{trimmed_start, trimmed_text}
 use Rattle.htmd_text.proofs.TrimsLemmas.{OfAscii, start_boundary, end_boundary}
 use Rattle.htmd_document.specs.Attributes.{value_of, text_of, is_filled, words, in_line, title_of_value, title_of}
-use Rattle.htmd_document.specs.Attributes.{is_space_or_control, is_no_line_end, address, is_mark}
+use Rattle.htmd_document.specs.Attributes.{is_space_or_control, is_in_address, address, is_in_name}
 use Rattle.htmd_document.specs.Attributes.{after_beginning, if_filled, named_language, language_of_word, first_language}
 use Rattle.htmd_document.specs.Attributes.{language_of}
+use Rattle.htmd_document.specs.ShownTexts.{is_shown, shown_text}
 use Rattle.htmd_document_form.specs.NormalInlines.{is_line_byte, is_line, is_kept, is_attribute, is_title}
 use Rattle.htmd_document_form.specs.NormalDocuments.{is_language_byte, has_language}
-use Rattle.htmd_document_laws.specs.TreeForms.{line_tabulation, is_clean, has_clean_value, has_clean_values}
-use Rattle.htmd_document_laws.proofs.VisibleLemmas.{both-true}
+use Rattle.htmd_document_laws.specs.TreeForms.{is_text_value}
+use Rattle.htmd_document_laws.proofs.VisibleLemmas.{both-true, scalars-filter, shown-shows}
 use Rattle.htmd_document_laws.proofs.PiecesLemmas.{in_line-shows}
-use Rattle.htmd_document_laws.proofs.NormalTextLemmas.{and-true, neither, not-false, false-true}
+use Rattle.htmd_document_laws.proofs.NormalTextLemmas.{and-true, not-false, false-true}
 use Rattle.htmd_document_laws.proofs.NormalTextLemmas.{all-append, PassesWide, encode-passes}
 use Rattle.htmd_document_laws.proofs.NormalWritingLemmas.{is_text_character}
 use Rattle.htmd_document_laws.proofs.NormalPartsLemmas.{IsRun}
@@ -93,7 +93,7 @@ pub chars-pass : (p : ℕ → Bool) → PassesWide p → (s : List ℕ) → IsUt
     → list_all p (chars s) ≡ true
 chars-pass p wide s u h = decodes-pass p wide (chars s) (ap (list_all p) (encodes-chars s u) ∙ h)
 
--- ---- clean texts
+-- ---- texts without U+0000
 
 pub record IsClean (s : List ℕ) : Type 0 where
   pub utf8 : IsUtf8 s
@@ -101,11 +101,6 @@ pub record IsClean (s : List ℕ) : Type 0 where
 
 pub clean-nil : IsClean []
 clean-nil = record { utf8 = IsUtf8-nil; seen = refl }
-
-pub from-clean : (s : List ℕ) → is_clean s ≡ true → IsClean s
-from-clean s h =
-    let parts = both-true (is_utf8 s) (lacks null s) h in
-    record { utf8 = IsUtf8-from_is_utf8 s parts.0; seen = parts.1 }
 
 pub text-wide : PassesWide is_text_character
 text-wide b l = grind (arith, nat_tests)
@@ -116,45 +111,53 @@ clean-run s h = record {
   seen = chars-pass is_text_character text-wide s h.utf8 h.seen;
 }
 
+pub utf8-trimmed : (p : ℕ → Bool) → OfAscii p → (s : List ℕ) → IsUtf8 s → IsUtf8 (trimmed_text p s)
+utf8-trimmed p ascii s h =
+    let start : List ℕ = trimmed_start p s in
+    IsUtf8-take start (length start - suffix_len p start) (IsUtf8-drop s (prefix_len p s) h (start_boundary p s h ascii))
+    (end_boundary p start ascii)
+
 pub clean-trimmed : (p : ℕ → Bool) → OfAscii p → (s : List ℕ) → IsClean s → IsClean (trimmed_text p s)
 clean-trimmed p ascii s h =
     let start : List ℕ = trimmed_start p s in
-    let u : IsUtf8 start = IsUtf8-drop s (prefix_len p s) h.utf8 (start_boundary p s h.utf8 ascii) in
     record {
-      utf8 = IsUtf8-take start (length start - suffix_len p start) u (end_boundary p start ascii);
+      utf8 = utf8-trimmed p ascii s h.utf8;
       seen = all-take is_text_character (length start - suffix_len p start) start
           (all-drop is_text_character (prefix_len p s) s h.seen);
     }
 
+seen-shown : (cs : List ℕ) → list_all is_text_character (filter is_shown cs) ≡ true
+seen-shown [] = refl
+seen-shown (c ∷ cs) = either (is_shown c) refl (seen-shown cs)
+  where
+    text : (c : ℕ) → is_shown c ≡ true → is_text_character c ≡ true
+    text c e = grind (arith, nat_tests)
+
+    either : (b : Bool) → is_shown c ≡ b → list_all is_text_character (filter is_shown cs) ≡ true
+        → list_all is_text_character (cond b (c ∷ filter is_shown cs) (filter is_shown cs)) ≡ true
+    either true e h = and-true (text c e) h
+    either false e h = h
+
+-- what shows of a text
+pub shown-clean : (s : List ℕ) → IsUtf8 s → IsClean (shown_text s)
+shown-clean s u = record {
+  utf8 = (shown-shows s u).utf8;
+  seen = encodes-pass is_text_character text-wide (filter is_shown (chars s)) (seen-shown (chars s));
+}
+
 -- ---- addresses
 
-pub scalars-filter : (p : ℕ → Bool) (cs : List ℕ) → scalars cs ≡ true → scalars (filter p cs) ≡ true
-scalars-filter p [] e = e
-scalars-filter p (c ∷ cs) e =
-    let parts = both-true (scalar c) (scalars cs) e in
-    either (p c) c (filter p cs) parts.0 (scalars-filter p cs parts.1)
+kept-filter : (cs : List ℕ) → list_all is_kept (filter is_in_address cs) ≡ true
+kept-filter [] = refl
+kept-filter (c ∷ cs) = either (is_in_address c) refl (kept-filter cs)
   where
-    either : (b : Bool) (c : ℕ) (cs : List ℕ) → scalar c ≡ true → scalars cs ≡ true
-        → scalars (cond b (c ∷ cs) cs) ≡ true
-    either true c cs g h = and-true g h
-    either false c cs g h = h
+    kept : (c : ℕ) → is_in_address c ≡ true → is_kept c ≡ true
+    kept c e = grind (arith, nat_tests)
 
-kept-filter : (cs : List ℕ) → list_all is_text_character cs ≡ true
-    → list_all is_kept (filter is_no_line_end cs) ≡ true
-kept-filter [] h = refl
-kept-filter (c ∷ cs) h =
-    let parts = both-true (is_text_character c) (list_all is_text_character cs) h in
-    let rest : list_all is_kept (filter is_no_line_end cs) ≡ true = kept-filter cs parts.1 in
-    test (is_no_line_end c)
-    (λ e. subst (λ (b : Bool). list_all is_kept (cond b (c ∷ filter is_no_line_end cs) (filter is_no_line_end cs))
-    ≡ true)
-    (sym e) (and-true (kept c e parts.0) rest))
-    (λ e. subst (λ (b : Bool). list_all is_kept (cond b (c ∷ filter is_no_line_end cs) (filter is_no_line_end cs))
-    ≡ true)
-    (sym e) rest)
-  where
-    kept : (c : ℕ) → is_no_line_end c ≡ true → is_text_character c ≡ true → is_kept c ≡ true
-    kept c e t = grind (arith, nat_tests)
+    either : (b : Bool) → is_in_address c ≡ b → list_all is_kept (filter is_in_address cs) ≡ true
+        → list_all is_kept (cond b (c ∷ filter is_in_address cs) (filter is_in_address cs)) ≡ true
+    either true e h = and-true (kept c e) h
+    either false e h = h
 
 kept-wide : PassesWide is_kept
 kept-wide b l = grind (arith, nat_tests)
@@ -162,17 +165,20 @@ kept-wide b l = grind (arith, nat_tests)
 control-ascii : OfAscii is_space_or_control
 control-ascii b e = grind (arith, nat_tests)
 
-pub address-fine : (s : List ℕ) → IsClean s → is_attribute (address s) ≡ true
+pub address-fine : (s : List ℕ) → IsUtf8 s → is_attribute (address s) ≡ true
 address-fine s h =
     let t : List ℕ = trimmed_text is_space_or_control s in
-    let clean : IsClean t = clean-trimmed is_space_or_control control-ascii s h in
-    let cs : List ℕ = filter is_no_line_end (chars t) in
-    let seen : list_all is_text_character (chars t) ≡ true =
-    chars-pass is_text_character text-wide t clean.utf8 clean.seen in
+    let cs : List ℕ = filter is_in_address (chars t) in
     and-true
-    (is_utf8-from_IsUtf8 (encode_utf8_all cs)
-    (cs, (scalars-filter is_no_line_end (chars t) (scalars-chars t clean.utf8), refl)))
-    (encodes-pass is_kept kept-wide cs (kept-filter (chars t) seen))
+    (is_utf8-from_IsUtf8 (encode_utf8_all cs) (
+      cs,
+      (
+        scalars-filter is_in_address (chars t)
+            (scalars-chars t (utf8-trimmed is_space_or_control control-ascii s h)),
+        refl,
+      ),
+    ))
+    (encodes-pass is_kept kept-wide cs (kept-filter (chars t)))
 
 -- ---- pieces
 
@@ -242,10 +248,11 @@ joined-plain (w ∷ ws) h =
     all-append is_line_byte w (flat_map (λ next. (space ∷ []) ++ next) ws)
     (all-less (is_word_byte is_text_character) is_line_byte plain-word w h.0) (more-plain ws h.2)
 
-pub in_line-line : (s : List ℕ) → IsClean s → is_line (in_line s) ≡ true
-in_line-line s h =
-    and-true (is_utf8-from_IsUtf8 (in_line s) (in_line-shows s h.utf8).utf8)
-    (joined-plain (words s) (words-fine is_text_character s h.seen))
+pub in_line-line : (s : List ℕ) → IsUtf8 s → is_line (in_line s) ≡ true
+in_line-line s u =
+    let t : List ℕ = shown_text s in
+    and-true (is_utf8-from_IsUtf8 (in_line s) (in_line-shows s u).utf8)
+    (joined-plain (words t) (words-fine is_text_character t (shown-clean s u).seen))
 
 plain-text : (b : ℕ) → is_line_byte b ≡ true → is_text_character b ≡ true
 plain-text b e = grind (arith, nat_tests)
@@ -253,11 +260,11 @@ plain-text b e = grind (arith, nat_tests)
 plain-kept : (b : ℕ) → is_line_byte b ≡ true → is_kept b ≡ true
 plain-kept b e = grind (arith, nat_tests)
 
-pub in_line-clean : (s : List ℕ) → IsClean s → IsClean (in_line s)
-in_line-clean s h =
-    let parts = both-true (is_utf8 (in_line s)) (list_all is_line_byte (in_line s)) (in_line-line s h) in
+pub in_line-clean : (s : List ℕ) → IsUtf8 s → IsClean (in_line s)
+in_line-clean s u =
+    let parts = both-true (is_utf8 (in_line s)) (list_all is_line_byte (in_line s)) (in_line-line s u) in
     record {
-      utf8 = (in_line-shows s h.utf8).utf8;
+      utf8 = (in_line-shows s u).utf8;
       seen = all-less is_line_byte is_text_character plain-text (in_line s) parts.1;
     }
 
@@ -282,24 +289,22 @@ joined-seen ((b ∷ w) ∷ ws) h e =
           (word-no_space b first.0);
     }
 
-pub title-fine : (o : Option (List ℕ)) → ((s : List ℕ) → o ≡ Some s → IsClean s)
+pub title-fine : (o : Option (List ℕ)) → ((s : List ℕ) → o ≡ Some s → IsUtf8 s)
     → is_title (title_of_value o) ≡ true
 title-fine None h = refl
 title-fine (Some s) h =
-    let clean : IsClean s = h s refl in
-    let parts = both-true (is_utf8 (in_line s)) (list_all is_line_byte (in_line s)) (in_line-line s clean) in
+    let u : IsUtf8 s = h s refl in
+    let t : List ℕ = shown_text s in
+    let parts = both-true (is_utf8 (in_line s)) (list_all is_line_byte (in_line s)) (in_line-line s u) in
     test (is_filled (in_line s))
     (λ e.
-    let seen : IsSeen (in_line s) = joined-seen (words s) (words-fine is_text_character s clean.seen) e in
+    let seen : IsSeen (in_line s) = joined-seen (words t) (words-fine is_text_character t (shown-clean s u).seen) e in
     subst (λ (c : Bool). is_title (cond c (Some (in_line s)) None) ≡ true) (sym e)
     (and-true (and-true (and-true parts.0 (all-less is_line_byte is_kept plain-kept (in_line s) parts.1)) seen.plain)
     seen.black))
     (λ e. subst (λ (c : Bool). is_title (cond c (Some (in_line s)) None) ≡ true) (sym e) refl)
 
 -- ---- languages
-
-abbrev is_class_byte : ℕ → Bool
-is_class_byte b = is_text_character b && not (b == line_tabulation)
 
 either-language : (a b : Option (List ℕ)) → has_language a ≡ true → has_language b ≡ true
     → has_language (option_or a b) ≡ true
@@ -320,84 +325,59 @@ after-language beginning word h = either (starts_with (λ a b. a == b) word begi
     either true = filled-language (drop (length beginning) word) (all-drop is_language_byte (length beginning) word h)
     either false = refl
 
-language-byte : (b : ℕ) → is_word_byte is_class_byte b ≡ true → is_mark b ≡ false → is_language_byte b
-    ≡ true
-language-byte b e m = grind (arith, nat_tests)
+name-byte : (b : ℕ) → is_in_name b ≡ true → is_language_byte b ≡ true
+name-byte b e = grind (arith, nat_tests)
 
-language-bytes : (s : List ℕ) → list_all (is_word_byte is_class_byte) s ≡ true → list_any is_mark s ≡ false
-    → list_all is_language_byte s ≡ true
-language-bytes [] h m = refl
-language-bytes (b ∷ s) h m =
-    let parts = both-true (is_word_byte is_class_byte b) (list_all (is_word_byte is_class_byte) s) h in
-    let wrappers = neither (is_mark b) (list_any is_mark s) m in
-    and-true (language-byte b parts.0 wrappers.0) (language-bytes s parts.1 wrappers.1)
-
-word-language : (w : List ℕ) → list_all (is_word_byte is_class_byte) w ≡ true
-    → has_language (language_of_word w) ≡ true
-word-language w h = test (list_any is_mark w)
-    (λ e. subst (λ (c : Bool). has_language (cond c None (named_language w)) ≡ true) (sym e) refl)
+word-language : (w : List ℕ) → has_language (language_of_word w) ≡ true
+word-language w = test (list_all is_in_name w)
     (λ e.
-    let all : list_all is_language_byte w ≡ true = language-bytes w h e in
-    subst (λ (c : Bool). has_language (cond c None (named_language w)) ≡ true) (sym e)
+    let all : list_all is_language_byte w ≡ true = all-less is_in_name is_language_byte name-byte w e in
+    subst (λ (c : Bool). has_language (cond c (named_language w) None) ≡ true) (sym e)
     (either-language (if_filled (after_beginning (codes "language-") w)) (if_filled (after_beginning (codes "lang-") w))
     (after-language (codes "language-") w all) (after-language (codes "lang-") w all)))
+    (λ e. subst (λ (c : Bool). has_language (cond c (named_language w) None) ≡ true) (sym e) refl)
 
-words-language : (ws : List (List ℕ)) → AllWords (is_word_byte is_class_byte) ws
-    → has_language (first_language ws) ≡ true
-words-language [] h = refl
-words-language (w ∷ ws) h =
-    either-language (language_of_word w) (first_language ws) (word-language w h.0) (words-language ws h.2)
+words-language : (ws : List (List ℕ)) → has_language (first_language ws) ≡ true
+words-language [] = refl
+words-language (w ∷ ws) =
+    either-language (language_of_word w) (first_language ws) (word-language w) (words-language ws)
+
+pub language-fine : (attributes : List AttributePair) → has_language (language_of attributes) ≡ true
+language-fine attributes = words-language (words (text_of (codes "class") attributes))
 
 -- ---- the values of an element
 
-pub record AreClean (attributes : List AttributePair) : Type 0 where
-  pub values : (name s : List ℕ) → value_of name attributes ≡ Some s → IsClean s
-  pub class : list_all (λ b. not (b == line_tabulation)) (text_of (codes "class") attributes) ≡ true
+abbrev pub AreTexts : List AttributePair → Type 0
+AreTexts attributes = (name s : List ℕ) → value_of name attributes ≡ Some s → IsUtf8 s
 
-value-clean : (attributes : List AttributePair) → list_all has_clean_value attributes ≡ true → (name s : List ℕ)
-    → value_of name attributes ≡ Some s → IsClean s
-value-clean [] h name s e = absurd (clash e)
+pub texts-of : (attributes : List AttributePair) → list_all is_text_value attributes ≡ true → AreTexts attributes
+texts-of [] h name s e = absurd (clash e)
   where
     clash : None ≡ Some s → ⊥
     clash p = (cc)
-value-clean (a ∷ attributes) h name s e =
-    let parts = both-true (has_clean_value a) (list_all has_clean_value attributes) h in
-    either (bytes_eq a.name name) (from-clean a.value parts.0) (value-clean attributes parts.1 name s) e
+texts-of (a ∷ attributes) h name s e =
+    let parts = both-true (is_text_value a) (list_all is_text_value attributes) h in
+    either (bytes_eq a.name name) (IsUtf8-from_is_utf8 a.value parts.0) (texts-of attributes parts.1 name s) e
   where
-    here : Some a.value ≡ Some s → IsClean a.value → IsClean s
-    here p c = subst IsClean (same p) c
+    here : Some a.value ≡ Some s → IsUtf8 a.value → IsUtf8 s
+    here p c = subst IsUtf8 (same p) c
       where
         same : Some a.value ≡ Some s → a.value ≡ s
         same q = ap (λ o. unwrap_or o []) q
 
-    either : (b : Bool) → IsClean a.value → (value_of name attributes ≡ Some s → IsClean s)
-        → cond b (Some a.value) (value_of name attributes) ≡ Some s → IsClean s
+    either : (b : Bool) → IsUtf8 a.value → (value_of name attributes ≡ Some s → IsUtf8 s)
+        → cond b (Some a.value) (value_of name attributes) ≡ Some s → IsUtf8 s
     either true c f p = here p c
     either false c f p = f p
 
-pub attributes-clean : (attributes : List AttributePair) → has_clean_values attributes ≡ true
-    → AreClean attributes
-attributes-clean attributes h =
-    let parts = both-true (list_all has_clean_value attributes)
-    (lacks line_tabulation (text_of (codes "class") attributes)) h in
-    record { values = value-clean attributes parts.0; class = parts.1 }
-
-pub text-clean : (attributes : List AttributePair) (name : List ℕ) → AreClean attributes
-    → IsClean (text_of name attributes)
-text-clean attributes name h = at (value_of name attributes) refl
+pub value-text : (attributes : List AttributePair) (name : List ℕ) → AreTexts attributes
+    → IsUtf8 (text_of name attributes)
+value-text attributes name h = at (value_of name attributes) refl
   where
-    at : (o : Option (List ℕ)) → value_of name attributes ≡ o → IsClean (unwrap_or o [])
-    at None e = clean-nil
-    at (Some s) e = h.values name s e
+    at : (o : Option (List ℕ)) → value_of name attributes ≡ o → IsUtf8 (unwrap_or o [])
+    at None e = IsUtf8-nil
+    at (Some s) e = h name s e
 
-pub language-fine : (attributes : List AttributePair) → AreClean attributes
-    → has_language (language_of attributes) ≡ true
-language-fine attributes h =
-    let s : List ℕ = text_of (codes "class") attributes in
-    words-language (words s) (words-fine is_class_byte s
-    (all-both is_text_character (λ b. not (b == line_tabulation)) s (text-clean attributes (codes "class") h).seen
-    h.class))
-
-pub title_of-fine : (attributes : List AttributePair) → AreClean attributes → is_title (title_of attributes)
+pub title_of-fine : (attributes : List AttributePair) → AreTexts attributes → is_title (title_of attributes)
     ≡ true
-title_of-fine attributes h = title-fine (value_of (codes "title") attributes) (h.values (codes "title"))
+title_of-fine attributes h = title-fine (value_of (codes "title") attributes) (h (codes "title"))

@@ -19,10 +19,11 @@ use Rattle.htmd_text.specs.Trims.{trimmed_start, is_line_feed}
 use Rattle.htmd_document.specs.Attributes.{is_filled, words, in_line}
 use Rattle.htmd_document.specs.Flows.{code_parts}
 use Rattle.htmd_document.specs.Parts.{Around, run, edge}
+use Rattle.htmd_document.specs.ShownTexts.{shown_text}
 use Rattle.htmd_document.specs.Spaces.{is_white, is_wide_space}
 use Rattle.htmd_document_laws.specs.DocumentTexts.{is_visible, visible}
 use Rattle.htmd_document_laws.proofs.VisibleLemmas.{Shows, shows-itself, shows-nil, shows-append, text-same, seen-same}
-use Rattle.htmd_document_laws.proofs.VisibleLemmas.{visible-append, white-unseen}
+use Rattle.htmd_document_laws.proofs.VisibleLemmas.{visible-append, white-unseen, shown-shows}
 use Rattle.htmd_document_laws.proofs.PartsLemmas.{Say, say-nil, say-append, say-run, say-edge}
 
 -- bytes that are white space of ASCII
@@ -257,6 +258,10 @@ joined-shows (s ∷ pieces) u =
 
 pub in_line-shows : (s : List ℕ) → IsUtf8 s → Shows (in_line s) (visible s)
 in_line-shows s u =
-    let parts : PiecesShow (words s) (visible s) =
-    filled-shows (slice_split is_ascii_white_space s) (visible s) (pieces-show is_ascii_white_space ascii-white s u) in
-    seen-same (in_line s) (pieces_seen (words s)) (visible s) (sym parts.is) (joined-shows (words s) parts.texts)
+    let t : List ℕ = shown_text s in
+    let here : Shows t (visible s) = shown-shows s u in
+    let parts : PiecesShow (words t) (visible t) =
+    filled-shows (slice_split is_ascii_white_space t) (visible t)
+    (pieces-show is_ascii_white_space ascii-white t here.utf8) in
+    seen-same (in_line s) (pieces_seen (words t)) (visible s) (sym parts.is ∙ here.is)
+    (joined-shows (words t) parts.texts)

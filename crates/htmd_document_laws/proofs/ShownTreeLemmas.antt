@@ -1,56 +1,23 @@
 -- What shows of a tree is what is seen of it.
-use Rattle.std.proofs.Common.{◌≡◌, ℕ, Bool, true, false, cond, not, ◌&&◌, List, [], ◌∷◌, ◌++◌, refl, sym, ap, ◌∙◌}
-use Rattle.std.proofs.Common.{filter}
+use Rattle.std.proofs.Common.{◌≡◌, ℕ, Bool, true, false, cond, List, [], ◌∷◌, ◌++◌, sym, ap}
 use Rattle.std.specs.Prelude.{codes}
-use Rattle.std.specs.Str.{chars, IsUtf8}
-use Rattle.std.proofs.Math.Utf8.{scalars, scalar}
-use Rattle.std.proofs.lemmas.Str.{IsUtf8-from_is_utf8, scalars-chars}
+use Rattle.std.specs.Str.{IsUtf8}
+use Rattle.std.proofs.lemmas.Str.{IsUtf8-from_is_utf8}
 use Rattle.htmd_grammar.specs.Characters.{quotation_mark}
-use Rattle.htmd_grammar.proofs.Cases.{test}
 use Rattle.htmd_nodes.specs.NumberedTrees.{NumberedTree, document, doctype, text, comment, element, NumberedForest, none}
 use Rattle.htmd_nodes.specs.NumberedTrees.{more}
 use Rattle.htmd_document.specs.AllTexts.{quoted}
 use Rattle.htmd_document.specs.Attributes.{text_of}
 use Rattle.htmd_document.specs.Roles.{role_of, is_void, is_image, is_quotation}
 use Rattle.htmd_document.specs.Shown.{Sight, shows, shown, shown_all}
-use Rattle.htmd_document.specs.ShownTexts.{is_shown, shown_text}
-use Rattle.htmd_document.specs.Spaces.{is_white}
-use Rattle.htmd_document_laws.specs.DocumentTexts.{is_visible, visible}
+use Rattle.htmd_document.specs.ShownTexts.{shown_text}
+use Rattle.htmd_document_laws.specs.DocumentTexts.{visible}
 use Rattle.htmd_document_laws.specs.TreeTexts.{text_of_tree, text_of_trees, has_text_values, holds_texts}
 use Rattle.htmd_document_laws.specs.TreeTexts.{hold_texts}
-use Rattle.htmd_document_laws.proofs.VisibleLemmas.{Shows, shows-nil, shows-itself, shows-append, shows-encodes, seen-same}
-use Rattle.htmd_document_laws.proofs.VisibleLemmas.{both-true}
+use Rattle.htmd_document_laws.proofs.VisibleLemmas.{Shows, shows-nil, shows-itself, shows-append, seen-same}
+use Rattle.htmd_document_laws.proofs.VisibleLemmas.{both-true, shown-shows}
 use Rattle.htmd_document_laws.proofs.ElementLemmas.{wrapper-shows}
 use Rattle.htmd_document_laws.proofs.SeenLemmas.{seen, seen_all, IsGood, AreGood}
-
--- ---- texts
-
-scalars-filter : (p : ℕ → Bool) (cs : List ℕ) → scalars cs ≡ true → scalars (filter p cs) ≡ true
-scalars-filter p [] e = e
-scalars-filter p (c ∷ cs) e =
-    let parts = both-true (scalar c) (scalars cs) e in
-    either (p c) c (filter p cs) parts.0 (scalars-filter p cs parts.1)
-  where
-    either : (b : Bool) (c : ℕ) (cs : List ℕ) → scalar c ≡ true → scalars cs ≡ true → scalars
-        (cond b (c ∷ cs) cs) ≡ true
-    either true c cs g h = ap (λ b. b && scalars cs) g ∙ h
-    either false c cs g h = h
-
-visible-shown : (cs : List ℕ) → filter is_visible (filter is_shown cs) ≡ filter is_visible cs
-visible-shown [] = refl
-visible-shown (c ∷ cs) =
-    let rest : filter is_visible (filter is_shown cs) ≡ filter is_visible cs = visible-shown cs in
-    test (is_shown c)
-    (λ e. ap (λ b. filter is_visible (cond b (c ∷ filter is_shown cs) (filter is_shown cs))) e
-    ∙ ap (λ xs. cond (is_visible c) (c ∷ xs) xs) rest)
-    (λ e. ap (λ b. filter is_visible (cond b (c ∷ filter is_shown cs) (filter is_shown cs))) e
-    ∙ (rest ∙ sym (ap (λ b. cond (b && not (is_white c)) (c ∷ filter is_visible cs) (filter is_visible cs)) e)))
-
--- the text that shows says what the text says
-shown-shows : (s : List ℕ) → IsUtf8 s → Shows (shown_text s) (visible s)
-shown-shows s u =
-    seen-same (shown_text s) (filter is_visible (filter is_shown (chars s))) (visible s) (visible-shown (chars s))
-    (shows-encodes (filter is_shown (chars s)) (scalars-filter is_shown (chars s) (scalars-chars s u)))
 
 -- ---- what is said
 

@@ -6,8 +6,9 @@ use Rattle.std.specs.Str.{chars, IsUtf8}
 use Rattle.std.proofs.Math.Utf8.{scalars, scalar}
 use Rattle.std.proofs.lemmas.List.{append-nil}
 use Rattle.std.proofs.lemmas.List.Elements.{filter-append}
-use Rattle.std.proofs.lemmas.Str.{chars-nil, chars-append, chars-encodes, IsUtf8-append, IsUtf8-nil}
-use Rattle.htmd_document.specs.ShownTexts.{is_shown}
+use Rattle.std.proofs.lemmas.Str.{chars-nil, chars-append, chars-encodes, scalars-chars, IsUtf8-append, IsUtf8-nil}
+use Rattle.htmd_grammar.proofs.Cases.{test}
+use Rattle.htmd_document.specs.ShownTexts.{is_shown, shown_text}
 use Rattle.htmd_document.specs.Spaces.{is_white}
 use Rattle.htmd_document_laws.specs.DocumentTexts.{is_visible, visible}
 
@@ -55,6 +56,33 @@ shows-encodes cs h = record {
   utf8 = (cs, (h, refl));
   is = ap (filter is_visible) (chars-encodes cs h);
 }
+
+pub scalars-filter : (p : ℕ → Bool) (cs : List ℕ) → scalars cs ≡ true → scalars (filter p cs) ≡ true
+scalars-filter p [] e = e
+scalars-filter p (c ∷ cs) e =
+    let parts = both-true (scalar c) (scalars cs) e in
+    either (p c) c (filter p cs) parts.0 (scalars-filter p cs parts.1)
+  where
+    either : (b : Bool) (c : ℕ) (cs : List ℕ) → scalar c ≡ true → scalars cs ≡ true → scalars
+        (cond b (c ∷ cs) cs) ≡ true
+    either true c cs g h = ap (λ b. b && scalars cs) g ∙ h
+    either false c cs g h = h
+
+visible-shown : (cs : List ℕ) → filter is_visible (filter is_shown cs) ≡ filter is_visible cs
+visible-shown [] = refl
+visible-shown (c ∷ cs) =
+    let rest : filter is_visible (filter is_shown cs) ≡ filter is_visible cs = visible-shown cs in
+    test (is_shown c)
+    (λ e. ap (λ b. filter is_visible (cond b (c ∷ filter is_shown cs) (filter is_shown cs))) e
+    ∙ ap (λ xs. cond (is_visible c) (c ∷ xs) xs) rest)
+    (λ e. ap (λ b. filter is_visible (cond b (c ∷ filter is_shown cs) (filter is_shown cs))) e
+    ∙ (rest ∙ sym (ap (λ b. cond (b && not (is_white c)) (c ∷ filter is_visible cs) (filter is_visible cs)) e)))
+
+-- the text that shows says what the text says
+pub shown-shows : (s : List ℕ) → IsUtf8 s → Shows (shown_text s) (visible s)
+shown-shows s u =
+    seen-same (shown_text s) (filter is_visible (filter is_shown (chars s))) (visible s) (visible-shown (chars s))
+    (shows-encodes (filter is_shown (chars s)) (scalars-filter is_shown (chars s) (scalars-chars s u)))
 
 pub shows-character : (c : ℕ) → scalar c ≡ true → Shows (encode_utf8 c) (filter is_visible (c ∷ []))
 shows-character c h = text-same (encode_utf8 c) (encode_utf8_all (c ∷ [])) (filter is_visible (c ∷ []))

@@ -63,8 +63,8 @@ module _ (addr : ℕ → List ℕ) where
   numbered-keeps : (start : ℤ) (items : List ListItem)
       → Keep addr false (numbered start items) (items_wrapped items)
   numbered-keeps start items =
-      if-filled (are_filled items) items (list_of (Some (start_of start (length items))) items ∷ []) refl
-      (list-keeps (Some (start_of start (length items))) items)
+      if-filled (are_filled items) items (list_of (start_of start (length items)) items ∷ []) refl
+      (list-keeps (start_of start (length items)) items)
 
   record GroupsKeep (g : Groups) (cs : List Wrapped) : Type 0 where
     before : List Wrapped

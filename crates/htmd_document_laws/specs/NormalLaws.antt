@@ -4,9 +4,9 @@ use Rattle.htmd_nodes.specs.NumberedTrees.{NumberedTree}
 use Rattle.htmd_document.specs.Shown.{Sight}
 use Rattle.htmd_document.specs.TreeDocuments.{document_of_tree}
 use Rattle.htmd_document_form.specs.NormalDocuments.{IsNormal}
-use Rattle.htmd_document_laws.specs.TreeForms.{is_clean_tree}
+use Rattle.htmd_document_laws.specs.TreeForms.{is_text_tree}
 
--- the document of every tree of clean texts is normal
+-- the document of every tree of texts is normal
 abbrev pub DocumentsAreNormal : Type 0
-DocumentsAreNormal = (sight : Sight) (tree : NumberedTree) → is_clean_tree tree ≡ true
+DocumentsAreNormal = (sight : Sight) (tree : NumberedTree) → is_text_tree tree ≡ true
     → IsNormal (document_of_tree sight.scripting sight.skip tree)

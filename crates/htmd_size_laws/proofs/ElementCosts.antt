@@ -75,7 +75,7 @@ image_cost p r m attributes (Some s) c h e w =
       description_le attributes,
       around_le r c.around w,
       price_suc p (size_of_values attributes),
-      right_le (size_of_values attributes) 6 p (omega (arith, h.leaves)),
+      right_le (size_of_values attributes) 7 p (omega (arith, h.leaves)),
       h.leaves,
     )
 image_cost p r m attributes None c h e w = go (is_filled d)
@@ -83,17 +83,21 @@ image_cost p r m attributes None c h e w = go (is_filled d)
     d : List ℕ
     d = description_of attributes
 
+    v : ℕ
+    v = suc (size_of_values attributes)
+
     go : (t : Bool)
         → costs (if t then run_in c d ∷ [] else []) + 4 ≤ p * suc (size_of_values attributes)
     go true =
         omega (
           arith,
           run_le r d c w,
-          right_le (20 + 2 * r) (length d) (suc (size_of_values attributes))
-              (omega (arith, description_le attributes)),
-          left_le (suc (size_of_values attributes)) (20 + 2 * r + 4) p (omega (arith, h.leaves)),
-          mul-add (suc (size_of_values attributes)) (20 + 2 * r) 4,
-          mul_comm (suc (size_of_values attributes)) p,
+          right_le (20 + 2 * r) (length d) (2 * v) (omega (arith, description_le attributes)),
+          mul_assoc 2 v (20 + 2 * r),
+          left_le v (2 * (20 + 2 * r) + 4) p (omega (arith, h.leaves)),
+          mul-add v (2 * (20 + 2 * r)) 4,
+          mul_left_comm v 2 (20 + 2 * r),
+          mul_comm v p,
         )
     go false = omega (arith, price_suc p (size_of_values attributes), h.leaves)
 

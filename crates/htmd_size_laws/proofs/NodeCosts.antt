@@ -54,8 +54,8 @@ numbered_cost : (start : ℤ) (items : List ListItem) → costs (numbered start 
 numbered_cost start items = go (are_filled items) refl
   where
     go : (t : Bool) → are_filled items ≡ t
-        → costs (if t then list_of (Some (start_of start (length items))) items ∷ [] else []) ≤ items_size items
-    go true e = list_cost (Some (start_of start (length items))) items e
+        → costs (if t then list_of (start_of start (length items)) items ∷ [] else []) ≤ items_size items
+    go true e = list_cost (start_of start (length items)) items e
     go false e = omega arith
 
 abbrev groups_cost : Groups → ℕ

@@ -1,11 +1,13 @@
 -- How long the texts are that a document takes from attributes and from the texts below an element.
-use Rattle.std.proofs.Common.{◌≡◌, refl, ap, ℕ, suc, ◌+◌, ◌*◌, ◌-◌, ◌≤◌, Bool, true, false, List, [], ◌∷◌, ◌++◌, length, drop, arith}
+use Rattle.std.proofs.Common.{◌≡◌, refl, ap, ℕ, zero, suc, ◌+◌, ◌*◌, ◌-◌, ◌≤◌, Bool, true, false, List, [], ◌∷◌, ◌++◌, length, drop, arith}
 use Rattle.std.proofs.lemmas.List.{length-append, length-take, length-drop}
-use Rattle.std.specs.Prelude.{◌==◌, ◌&&◌, filter, fold, if◌then◌else◌, codes, Option, Some, None}
-use Rattle.std.specs.List.{slice_split, onto_first, flat_map, suffix_len, prefix_len, list_any, starts_with}
+use Rattle.std.specs.Prelude.{◌==◌, ◌&&◌, nat_lt, cond, filter, fold, if◌then◌else◌, codes, Option, Some, None}
+use Rattle.std.specs.List.{slice_split, onto_first, flat_map, suffix_len, prefix_len, list_all, starts_with}
 use Rattle.std.specs.Option.{option_or, unwrap_or}
 use Rattle.std.specs.Char.{encode_utf8}
-use Rattle.std.specs.Str.{bytes_eq, chars, encode_utf8_all}
+use Rattle.std.specs.Str.{bytes_eq, chars, chars_after, continuation_len, lead_bits, encode_utf8_all}
+use Rattle.std.proofs.lemmas.Bool.Decides.{nat_tests}
+use Rattle.std.proofs.lemmas.Str.{encode_ascii}
 use Rattle.htmd_grammar.specs.Characters.{space, line_feed, carriage_return}
 use Rattle.htmd_grammar.specs.ValueTrees.{AttributePair}
 use Rattle.htmd_grammar.specs.WhiteSpace.{is_ascii_white_space}
@@ -41,9 +43,9 @@ use Rattle.htmd_document.specs.Attributes.{
   title_of,
   description_of,
   is_space_or_control,
-  is_no_line_end,
+  is_in_address,
   address,
-  is_mark,
+  is_in_name,
   after_beginning,
   if_filled,
   named_language,
@@ -51,6 +53,7 @@ use Rattle.htmd_document.specs.Attributes.{
   first_language,
   language_of,
 }
+use Rattle.htmd_document.specs.ShownTexts.{is_shown, shown_text}
 use Rattle.htmd_document.specs.Roles.{is_line_break, is_image, is_quotation, role_of}
 use Rattle.htmd_size_laws.specs.DocumentSizes.{size_of_option}
 use Rattle.htmd_size_laws.specs.TreeSizes.{size_of_values, size_of_tree, size_of_forest}
@@ -79,6 +82,69 @@ option_le (Some s) = omega arith
 pub text_le : (name : List ℕ) (attributes : List AttributePair)
     → length (text_of name attributes) ≤ size_of_values attributes
 text_le name attributes = omega (arith, option_le (value_of name attributes), value_le name attributes)
+
+-- ---- characters of a text
+
+pub encodes_le : (cs : List ℕ) → length (encode_utf8_all cs) ≤ 4 * length cs
+encodes_le [] = omega arith
+encodes_le (c ∷ cs) = omega (arith, encodes_le cs, encoded_le c, length-append (encode_utf8 c) (encode_utf8_all cs))
+
+pub passing_le : (p : ℕ → Bool) (cs : List ℕ) → length (filter p cs) ≤ length cs
+passing_le p [] = omega arith
+passing_le p (c ∷ cs) = go (p c) (passing_le p cs)
+  where
+    go : (t : Bool) → length (filter p cs) ≤ length cs
+        → length (if t then c ∷ filter p cs else filter p cs) ≤ suc (length cs)
+    go true i = omega (arith, i)
+    go false i = omega (arith, i)
+
+-- what a character takes whose bytes are read, and at most what those take that began one
+abbrev begun : ℕ → ℕ → ℕ
+begun zero c = length (encode_utf8 c)
+begun (suc n) c = 2
+
+begins_le : (b : ℕ) → begun (continuation_len b) (lead_bits b) ≤ 2
+begins_le b = go (nat_lt b 128) refl (nat_lt b 224) (nat_lt b 240)
+  where
+    go : (x : Bool) → nat_lt b 128 ≡ x → (y z : Bool)
+        → begun (cond x 0 (cond y 1 (cond z 2 3))) (cond x b (cond y (b - 192) (cond z (b - 224) (b - 240)))) ≤ 2
+    go true e y z = omega (arith, ap length (encode_ascii b (grind (arith, nat_tests, e))))
+    go false e true z = omega arith
+    go false e false true = omega arith
+    go false e false false = omega arith
+
+first_kept : (p : ℕ → Bool) (c : ℕ) (cs : List ℕ)
+    → length (encode_utf8_all (filter p (c ∷ cs))) ≤ length (encode_utf8 c) + length (encode_utf8_all (filter p cs))
+first_kept p c cs = go (p c)
+  where
+    go : (t : Bool) → length (encode_utf8_all (if t then c ∷ filter p cs else filter p cs))
+        ≤ length (encode_utf8 c) + length (encode_utf8_all (filter p cs))
+    go true = omega (arith, length-append (encode_utf8 c) (encode_utf8_all (filter p cs)))
+    go false = omega arith
+
+kept_after : (p : ℕ → Bool) (n c : ℕ) (bs : List ℕ)
+    → length (encode_utf8_all (filter p (chars_after n c bs))) ≤ begun n c + 2 * length bs
+kept_after p zero c [] = omega (arith, first_kept p c [])
+kept_after p zero c (b ∷ bs) =
+    omega (
+      arith,
+      first_kept p c (chars_after (continuation_len b) (lead_bits b) bs),
+      kept_after p (continuation_len b) (lead_bits b) bs,
+      begins_le b,
+    )
+kept_after p (suc n) c [] = omega arith
+kept_after p (suc zero) c (b ∷ bs) =
+    omega (arith, kept_after p zero (c * 64 + (b - 128)) bs, encoded_le (c * 64 + (b - 128)))
+kept_after p (suc (suc n)) c (b ∷ bs) = omega (arith, kept_after p (suc n) (c * 64 + (b - 128)) bs)
+
+-- those of the characters of a text that are kept
+kept_le : (p : ℕ → Bool) (s : List ℕ) → length (encode_utf8_all (filter p (chars s))) ≤ 2 * length s
+unfolding chars
+kept_le p [] = omega arith
+kept_le p (b ∷ bs) = omega (arith, kept_after p (continuation_len b) (lead_bits b) bs, begins_le b)
+
+shown_le : (s : List ℕ) → length (shown_text s) ≤ 2 * length s
+shown_le s = kept_le is_shown s
 
 -- ---- pieces between bytes
 
@@ -130,24 +196,24 @@ joined_le [] = omega arith
 joined_le (l ∷ ls) =
     omega (arith, after_spaces ls, length-append l (flat_map (λ next. (space ∷ []) ++ next) ls))
 
-line_le : (s : List ℕ) → length (in_line s) ≤ suc (length s)
-line_le s = omega (arith, joined_le (words s), words_le s)
+line_le : (s : List ℕ) → length (in_line s) ≤ suc (2 * length s)
+line_le s = omega (arith, joined_le (words (shown_text s)), words_le (shown_text s), shown_le s)
 
-title_value_le : (o : Option (List ℕ)) → size_of_option (title_of_value o) ≤ suc (size_of_option o)
+title_value_le : (o : Option (List ℕ)) → size_of_option (title_of_value o) ≤ suc (2 * size_of_option o)
 title_value_le None = omega arith
 title_value_le (Some s) = go (is_filled (in_line s))
   where
-    go : (t : Bool) → size_of_option (if t then Some (in_line s) else None) ≤ suc (length s)
+    go : (t : Bool) → size_of_option (if t then Some (in_line s) else None) ≤ suc (2 * length s)
     go true = omega (arith, line_le s)
     go false = omega arith
 
 pub title_le : (attributes : List AttributePair)
-    → size_of_option (title_of attributes) ≤ suc (size_of_values attributes)
+    → size_of_option (title_of attributes) ≤ suc (2 * size_of_values attributes)
 title_le attributes =
     omega (arith, title_value_le (value_of (codes "title") attributes), value_le (codes "title") attributes)
 
 pub description_le : (attributes : List AttributePair)
-    → length (description_of attributes) ≤ suc (size_of_values attributes)
+    → length (description_of attributes) ≤ suc (2 * size_of_values attributes)
 description_le attributes = omega (arith, line_le (text_of (codes "alt") attributes), text_le (codes "alt") attributes)
 
 -- ---- addresses
@@ -157,29 +223,10 @@ trimmed_le p s =
     let t = trimmed_start p s in
     omega (arith, length-take (length t - suffix_len p t) t, length-drop (prefix_len p s) s)
 
-pub encodes_le : (cs : List ℕ) → length (encode_utf8_all cs) ≤ 4 * length cs
-encodes_le [] = omega arith
-encodes_le (c ∷ cs) = omega (arith, encodes_le cs, encoded_le c, length-append (encode_utf8 c) (encode_utf8_all cs))
-
-pub passing_le : (p : ℕ → Bool) (cs : List ℕ) → length (filter p cs) ≤ length cs
-passing_le p [] = omega arith
-passing_le p (c ∷ cs) = go (p c) (passing_le p cs)
-  where
-    go : (t : Bool) → length (filter p cs) ≤ length cs
-        → length (if t then c ∷ filter p cs else filter p cs) ≤ suc (length cs)
-    go true i = omega (arith, i)
-    go false i = omega (arith, i)
-
-address_le : (s : List ℕ) → length (address s) ≤ 4 * length s
+address_le : (s : List ℕ) → length (address s) ≤ 2 * length s
 address_le s =
     let t = trimmed_text is_space_or_control s in
-    omega (
-      arith,
-      encodes_le (filter is_no_line_end (chars t)),
-      passing_le is_no_line_end (chars t),
-      characters_le t,
-      trimmed_le is_space_or_control s,
-    )
+    omega (arith, kept_le is_in_address t, trimmed_le is_space_or_control s)
 
 -- the address that an attribute gives, with the title
 pub link_le : (name : List ℕ) (attributes : List AttributePair) (s : List ℕ) → value_of name attributes ≡ Some s
@@ -209,13 +256,13 @@ after_le beginning word = go (starts_with (λ a b. a == b) word beginning)
     go false = omega arith
 
 word_le : (word : List ℕ) → size_of_option (language_of_word word) ≤ length word
-word_le word = go (list_any is_mark word)
+word_le word = go (list_all is_in_name word)
   where
-    go : (t : Bool) → size_of_option (if t then None else named_language word) ≤ length word
-    go true = omega arith
-    go false =
+    go : (t : Bool) → size_of_option (if t then named_language word else None) ≤ length word
+    go true =
         or_le (if_filled (after_beginning (codes "language-") word)) (if_filled (after_beginning (codes "lang-") word))
         (length word) (after_le (codes "language-") word) (after_le (codes "lang-") word)
+    go false = omega arith
 
 first_le : (ws : List (List ℕ)) → size_of_option (first_language ws) ≤ total ws
 first_le [] = omega arith
@@ -275,10 +322,11 @@ by_role_le r attributes inner k h = go (is_line_break r) (is_image r) (is_quotat
     go : (x y z : Bool)
         → length
         (if x then line_feed ∷ []
-        else (if y then text_of (codes "alt") attributes else (if z then quoted inner else inner)))
+        else (if y then shown_text (text_of (codes "alt") attributes) else (if z then quoted inner else inner)))
         ≤ 2 * suc (size_of_values attributes + k)
     go true y z = omega arith
-    go false true z = omega (arith, text_le (codes "alt") attributes)
+    go false true z =
+        omega (arith, text_le (codes "alt") attributes, shown_le (text_of (codes "alt") attributes))
     go false false true = omega (arith, h, length-append inner (34 ∷ []))
     go false false false = omega (arith, h)
 

@@ -236,11 +236,11 @@ items_width start k (i ∷ items) = omega (arith, items_width start (suc k) item
 numbered_width : (start : ℤ) (items : List ListItem) → widest (numbered start items) ≤ 69 + items_margin items
 numbered_width start items = go (are_filled items)
   where
-    n : ℕ
+    n : Option ℕ
     n = lists.start_of start (length items)
 
-    go : (t : Bool) → widest (if t then list_of (Some n) items ∷ [] else []) ≤ 69 + items_margin items
-    go true = omega (arith, items_width (Some n) 0 items)
+    go : (t : Bool) → widest (if t then list_of n items ∷ [] else []) ≤ 69 + items_margin items
+    go true = omega (arith, items_width n 0 items)
     go false = omega arith
 
 abbrev groups_width : Groups → ℕ
