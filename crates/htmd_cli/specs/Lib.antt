@@ -8,6 +8,7 @@ pub mod Failures
 pub mod Settings
 pub mod Changes
 pub mod PageOutputs
+pub mod PageSights
 pub mod StreamConversions
 pub mod Options
 pub mod Rows

@@ -1,5 +1,5 @@
 //! What the bytes of an input become by settings.
-ghost use Rattle.std.specs.Prelude.{◌≡◌, [], ℕ, false, Err, IfErr, IfOk, string_bytes};
+ghost use Rattle.std.specs.Prelude.{◌≡◌, [], ℕ, true, false, Err, IfErr, IfOk, string_bytes};
 ghost use Rattle.std.specs.Cow.{cow_str_bytes};
 ghost use Rattle.htmd.specs.BuiltIn.{built_in};
 ghost use Rattle.htmd.specs.Converters.{handlers_built, skipped_built};
@@ -9,7 +9,9 @@ ghost use Rattle.htmd.specs.FaultKind.{FaultKind};
 ghost use Rattle.htmd_cli.specs.Changes.{AreLines};
 ghost use Rattle.htmd_cli.specs.PageOutputs.{GoesBy, IsFaultOf, IsOutputOf, IsReadable, IsRefusedBy, IsTreeBy, text_in};
 ghost use Rattle.htmd_cli.specs.PageOutputs as spec;
+ghost use Rattle.htmd_cli.specs.PageSights.{IsSeen, IsSeenAfter, sight_in};
 ghost use Rattle.htmd_cli.specs.Settings.{settings_in};
+ghost use Rattle.htmd_reading_laws.specs.ReadingLaws.{IsSeenIn};
 
 use crate::changes::{head_of, part_of};
 use crate::faults::RunError;
@@ -147,12 +149,17 @@ fn tree_markdown<H: Registry>(
     tree: &Tree,
 ) -> Result<String, AllocError>
     requires goes_by { GoesBy H.ready H.config converter.now (settings_in settings.now) }
-    ensures { IfOk result
+    ensures ok { IfOk result
         (λ markdown. string_bytes markdown ≡ spec.tree_markdown (settings_in settings.now) tree.now) }
+    ensures seen { settings.now.guarded ≡ true → IfOk result
+        (λ markdown. IsSeenIn (sight_in (settings_in settings.now)) tree.now (string_bytes markdown)) }
 {
     if settings.guarded {
         let document = converter.tree_to_document(alloc, tree)?;
-        return to_markdown(alloc, &document, &document_options(&settings.options));
+        let markdown = to_markdown(alloc, &document, &document_options(&settings.options))?;
+        // The tree's texts are UTF-8, and the Markdown fits a text: so it is seen.
+        let (_root, _size) = (tree.root(), markdown.len());
+        return Ok(markdown);
     }
     converter.tree_to_markdown(alloc, tree, tree.root())
 }
@@ -168,8 +175,10 @@ fn tree_output<H: Registry>(
 ) -> Result<String, AllocError>
     requires goes_by { GoesBy H.ready H.config converter.now (settings_in settings.now) }
     requires head { AreLines head.now }
-    ensures { IfOk result (λ output. string_bytes output
+    ensures ok { IfOk result (λ output. string_bytes output
         ≡ spec.tree_output (settings_in settings.now) head.now tree.now) }
+    ensures seen { IfOk result (λ output.
+        IsSeenAfter (settings_in settings.now) head.now tree.now (string_bytes output)) }
 {
     if settings.mdast {
         let document = converter.tree_to_document(alloc, tree)?;
@@ -179,7 +188,8 @@ fn tree_output<H: Registry>(
     after_head(alloc, head, markdown)
 }
 
-/// What the bytes of an input become, by a converter with these settings.
+/// What the bytes of an input become, by a converter with these settings. In Markdown of what a person sees, a reader
+/// of CommonMark sees the same.
 pub(crate) fn output_of<H: Registry>(
     alloc: Global,
     converter: &HtmlToMarkdown<H>,
@@ -188,6 +198,7 @@ pub(crate) fn output_of<H: Registry>(
 ) -> Result<String, RunError>
     requires goes_by { GoesBy H.ready H.config converter.now (settings_in settings.now) }
     ensures ok { IfOk result (λ output. IsOutputOf (settings_in settings.now) input.now (string_bytes output)) }
+    ensures seen { IfOk result (λ output. IsSeen (settings_in settings.now) input.now (string_bytes output)) }
     ensures fault { IfErr result (IsFaultOf (settings_in settings.now) input.now) }
 {
     let text = text_of(alloc, settings, input)?;

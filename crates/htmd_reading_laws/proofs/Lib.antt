@@ -2,5 +2,6 @@
 pub mod WholeDocuments
 pub mod ReadingMain
 pub mod LineEnds
+pub mod DefinitionLines
 pub mod PageLaws
 mod Examples

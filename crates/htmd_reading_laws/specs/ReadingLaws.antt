@@ -1,5 +1,5 @@
 -- What a reader of CommonMark sees of the Markdown of a document is the document.
-use Rattle.std.specs.Prelude.{◌≡◌, ℕ, true, false, List, [], ◌∷◌, ◌++◌, Option, Some, None}
+use Rattle.std.specs.Prelude.{◌≡◌, ◌≤◌, ◌<◌, ◌^◌, ℕ, true, false, List, [], ◌∷◌, ◌++◌, length, Option, Some, None}
 use Rattle.htmd_grammar.specs.Characters.{line_feed}
 use Rattle.htmd_nodes.specs.Items.{Item, HoldTexts}
 use Rattle.htmd_nodes.specs.NumberedTrees.{NumberedTree, tree_of}
@@ -12,7 +12,7 @@ use Rattle.htmd_document_laws.specs.DocumentTexts.{text_of_blocks, visible}
 use Rattle.htmd_document_laws.specs.TreeTexts.{text_of_tree}
 use Rattle.htmd_document_laws.specs.DocumentWrappers.{wrappers_of_blocks}
 use Rattle.htmd_document_laws.specs.TreeWrappers.{wrappers_of_tree}
-use Rattle.htmd_document_laws.specs.TreeForms.{is_clean_tree}
+use Rattle.htmd_document_laws.specs.TreeForms.{is_text_tree}
 use Rattle.htmd_commonmark.specs.declared.options.DocumentOptions.{DocumentOptions}
 use Rattle.htmd_commonmark.specs.DocumentMarkdown.{markdown_of}
 use Rattle.htmd_commonmark_reading.specs.Reading.{document}
@@ -37,14 +37,16 @@ abbrev pub FilesReadBack : Type 0
 FilesReadBack = (options : DocumentOptions) (d : Blocks) → IsNormal d → HasFewDefinitions options d
     → document (file_of options d) ≡ Some d
 
--- a page as it is read: its texts are clean, and definitions are few
-pub record IsClean (sight : Sight) (tree : NumberedTree) (options : DocumentOptions) : Type 0 where
-  pub texts : is_clean_tree tree ≡ true
-  pub definitions : HasFewDefinitions options (document_of_tree sight.scripting sight.skip tree)
+-- Each definition is a line of the Markdown. So there are few wherever the Markdown fits a text of the machine, as all
+-- that is answered does.
+abbrev pub DefinitionsAreLines : Type 0
+DefinitionsAreLines = (options : DocumentOptions) (d : Blocks)
+    → length (definition_lines options d) ≤ length (markdown_of options d)
 
 -- What is read of the Markdown of a page is the page's document.
 abbrev pub PagesReadBack : Type 0
-PagesReadBack = (sight : Sight) (tree : NumberedTree) (options : DocumentOptions) → IsClean sight tree options
+PagesReadBack = (sight : Sight) (tree : NumberedTree) (options : DocumentOptions) → is_text_tree tree ≡ true
+    → HasFewDefinitions options (document_of_tree sight.scripting sight.skip tree)
     → document (markdown_of options (document_of_tree sight.scripting sight.skip tree))
     ≡ Some (document_of_tree sight.scripting sight.skip tree)
 
@@ -56,10 +58,22 @@ Shows sight tree (Some d) =
     (visible (text_of_blocks d) ≡ visible (text_of_tree sight tree))
     × (wrappers_of_blocks d ≡ wrappers_of_tree (shown sight tree) bare false)
 
--- That is what a reader sees of the file that is written of a page. The trees are those of the source, in which no two
--- nodes have one number.
+-- In the file with this Markdown and a line feed a reader sees the document of this tree, and in it so each visible
+-- character of the tree.
+abbrev pub IsSeenIn : Sight → List Item → List ℕ → Type 0
+IsSeenIn sight items markdown =
+    (document (markdown ++ line_feed ∷ []) ≡ Some (document_of_tree sight.scripting sight.skip (tree_of items 0)))
+    × Shows sight (tree_of items 0) (document (markdown ++ line_feed ∷ []))
+
+-- So is every page seen in the file that is written of it. Its tree is one of the source: its texts are UTF-8, and no
+-- two nodes have one number.
 abbrev pub PagesAreSeen : Type 0
 PagesAreSeen = (sight : Sight) (items : List Item) (options : DocumentOptions) → HoldTexts items
-    → IsClean sight (tree_of items 0) options
-    → Shows sight (tree_of items 0)
-    (document (file_of options (document_of_tree sight.scripting sight.skip (tree_of items 0))))
+    → HasFewDefinitions options (document_of_tree sight.scripting sight.skip (tree_of items 0))
+    → IsSeenIn sight items (markdown_of options (document_of_tree sight.scripting sight.skip (tree_of items 0)))
+
+-- And so it is in all Markdown that is answered, which fits a text of the machine.
+abbrev pub AnswersAreSeen : Type 0
+AnswersAreSeen = (sight : Sight) (items : List Item) (options : DocumentOptions) → HoldTexts items
+    → length (markdown_of options (document_of_tree sight.scripting sight.skip (tree_of items 0))) < 2 ^ 64
+    → IsSeenIn sight items (markdown_of options (document_of_tree sight.scripting sight.skip (tree_of items 0)))

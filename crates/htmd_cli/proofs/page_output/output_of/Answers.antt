@@ -4,6 +4,7 @@ use Rattle.std.specs.Cow.{cow_str_bytes}
 use Rattle.htmd_cli.specs.PageOutputs.{tree_output}
 use Rattle.htmd_cli.specs.Settings.{settings_in}
 use Rattle.htmd_cli.proofs.PageOutputsLemmas.{of_readable, of_unselected}
+use Rattle.htmd_cli.proofs.PageSightsLemmas.{seen_of}
 use Rattle.htmd_cli.proofs.page_output.output_of.Goals as goal
 
 pub returns-clause-ok : goal.returns-clause-ok
@@ -16,9 +17,16 @@ returns-clause-ok g c =
       c.in_ok-page.ensures.ok,
       part,
       sym c.in_ok-part.ensures ∙ c.in-Some.is,
-      c.in_ok-tree_output.ensures ∙ ap (λ head. tree_output settings head part)
+      c.in_ok-tree_output.ensures.ok ∙ ap (λ head. tree_output settings head part)
           (c.deref-2.ensures ∙ c.in_ok-head.ensures.value),
     )
+
+pub returns-clause-seen : goal.returns-clause-seen
+returns-clause-seen g c =
+    seen_of (settings_in c.args.settings.now) c.args.input.now (cow_str_bytes c.in_ok-text.text) c.deref.result.now
+    c.in_ok-page.page c.in-Some.part c.deref-2.result.now (string_bytes c.in_ok-tree_output.field-0)
+    c.in_ok-text.ensures.ok.1 c.deref.ensures.value c.in_ok-page.ensures.ok (sym c.in_ok-part.ensures ∙ c.in-Some.is)
+    (c.deref-2.ensures ∙ c.in_ok-head.ensures.value) c.in_ok-tree_output.ensures.seen
 
 pub returns-in_default-clause-fault : goal.returns-in_default-clause-fault
 returns-in_default-clause-fault g c =
