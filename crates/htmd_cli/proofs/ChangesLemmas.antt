@@ -1,5 +1,5 @@
 -- What is done to a page, and lines of front matter.
-use Rattle.std.proofs.Common.{◌≡◌, ◌∙◌, ap, sym, refl, inl, inr, ℕ, ◌-◌, not, eqb, List, [], ◌∷◌, ◌++◌}
+use Rattle.std.proofs.Common.{◌≡◌, ◌∙◌, ap, sym, refl, inl, inr, ℕ, not, eqb, List, [], ◌∷◌, ◌++◌}
 use Rattle.std.proofs.Common.{length, take, Option, Some, None, append_assoc, append-nil, arith}
 use Rattle.std.proofs.Common.{codes, flat_map, length-append, Bor}
 use Rattle.std.specs.Option.{option_copied, option_or, unwrap_or}

@@ -4,6 +4,7 @@ pub mod PageOutputsLemmas
 pub mod PageSightsLemmas
 pub mod FailuresLemmas
 pub mod StreamConversionsLemmas
+pub mod ModeRunsLemmas
 pub mod OptionsLemmas
 pub mod RowsLemmas
 pub mod BatchesLemmas

@@ -16,6 +16,7 @@ use Rattle.htmd_encodings.specs.declared.decoding.DecodeError.{DecodeError}
 use Rattle.htmd_encodings.specs.declared.decoding.DecodeError.TheVariants as decoding
 use Rattle.htmd_encodings.specs.declared.encodings.Named.TheVariants as named
 use Rattle.htmd_encodings.specs.declared.encodings.UnsupportedEncoding.{UnsupportedEncoding}
+use Rattle.htmd_cli.specs.declared.faults.PageError.TheVariants.{Run}
 use Rattle.htmd_cli.specs.Failures.{decode_error, run_error}
 use Rattle.htmd_cli.specs.Settings.{Settings}
 use Rattle.htmd_cli.specs.PageOutputs.{skipping, IsFaultOf, IsOutputBy, IsOutputOf, IsReadable, IsRefusedBy, IsUnselected}
@@ -127,7 +128,7 @@ pub of_refused : (settings : Settings) (input text found : List ℕ) (e : Conver
     → ((place : ℕ) (kind : FaultKind) → e ≡ conversion.Refused place kind → settings.html5 ≡ false)
     → ((place : ℕ) (kind : FaultKind) → e ≡ conversion.Refused place kind
     → IsRefusedBy settings found place kind)
-    → IsFaultOf settings input (run_error e)
+    → IsFaultOf settings input (Run (run_error e))
 of_refused settings input text found (conversion.Refused place kind) (r, t) f x h g =
     let strict : reads_any settings ≡ false = rw (h place kind refl) refl in
     let whole : text_in settings input ≡ input = rw strict refl in (

@@ -4,7 +4,8 @@ use Rattle.std.proofs.Common.{Result, Ok, Err, OnOk, append_assoc, inl, inr}
 use Rattle.std.specs.Str.{bytes_eq}
 use Rattle.htmd.specs.Characters.{line_feed}
 use Rattle.htmd_cli.specs.Settings.{Settings}
-use Rattle.htmd_cli.specs.declared.faults.RunError.{RunError}
+use Rattle.htmd_cli.specs.declared.faults.PageError.{PageError}
+use Rattle.htmd_cli.specs.declared.faults.PageError.TheVariants.{Run}
 use Rattle.htmd_cli.specs.declared.faults.RunError.TheVariants.{Memory}
 use Rattle.htmd_cli.specs.PageOutputs.{IsFaultOf, IsOutputOf}
 use Rattle.htmd_streams.specs.Fields.{null, read_field, written_field}
@@ -18,8 +19,8 @@ pub page_answer : (settings : Settings) (page output : List ℕ) → IsOutputOf 
 page_answer settings page output m = inl (output, m, refl)
 
 -- a page that becomes nothing
-pub refused_answer : (settings : Settings) (page : List ℕ) (e : RunError) → IsFaultOf settings page e
-    → e ≢ Memory
+pub refused_answer : (settings : Settings) (page : List ℕ) (e : PageError) → IsFaultOf settings page e
+    → e ≢ Run Memory
     → IsPageAnswer settings page null
 refused_answer settings page e f m = inr ((e, f, m), refl)
 

@@ -1,4 +1,4 @@
--- What a refused conversion and bytes that aren't decoded are to a run, and what ends a batch.
+-- What a refused conversion and bytes that aren't decoded are to a run and to a page, and what ends a batch.
 use Rattle.std.specs.Prelude.{◌≡◌, ◌⊎◌, ⊤}
 use Rattle.htmd.specs.declared.convert_error.ConvertError.{ConvertError}
 use Rattle.htmd.specs.declared.convert_error.ConvertError.TheVariants as conversion
@@ -6,6 +6,8 @@ use Rattle.htmd_encodings.specs.declared.decoding.DecodeError.{DecodeError}
 use Rattle.htmd_encodings.specs.declared.decoding.DecodeError.TheVariants as decoding
 use Rattle.htmd_cli.specs.declared.faults.RunError.{RunError}
 use Rattle.htmd_cli.specs.declared.faults.RunError.TheVariants as run
+use Rattle.htmd_cli.specs.declared.faults.PageError.{PageError}
+use Rattle.htmd_cli.specs.declared.faults.PageError.TheVariants as page
 
 -- a refusal keeps its place and kind
 abbrev pub run_error : ConvertError → RunError
@@ -13,9 +15,9 @@ run_error (conversion.Refused place kind) = run.Refused place kind
 run_error conversion.Memory = run.Memory
 
 -- bytes that aren't decoded keep their encoding
-abbrev pub decode_error : DecodeError → RunError
-decode_error (decoding.Unsupported encoding) = run.Unsupported encoding
-decode_error decoding.Memory = run.Memory
+abbrev pub decode_error : DecodeError → PageError
+decode_error (decoding.Unsupported encoding) = page.Unsupported encoding
+decode_error decoding.Memory = page.Run run.Memory
 
 -- what a batch ends at: its source, its sink or the memory failed
 abbrev pub IsRowFault : RunError → Type 0

@@ -10,6 +10,7 @@ pub mod Changes
 pub mod PageOutputs
 pub mod PageSights
 pub mod StreamConversions
+pub mod ModeRuns
 pub mod Options
 pub mod Rows
 pub mod OptionRows

@@ -23,9 +23,9 @@ use Rattle.htmd_encodings.specs.declared.encodings.UnsupportedEncoding.{Unsuppor
 use Rattle.htmd_encodings.specs.declared.encodings.Named.TheVariants as named
 use Rattle.htmd_encodings.specs.Decoding.{encoding_of, page_text}
 use Rattle.htmd_html5.specs.Html5Documents.{html5_document}
-use Rattle.htmd_cli.specs.declared.faults.RunError.{RunError}
-use Rattle.htmd_cli.specs.declared.faults.RunError.TheVariants.{NotUtf8, Unsupported, Refused, Memory, Read, Write}
-use Rattle.htmd_cli.specs.declared.faults.RunError.TheVariants.{NothingSelected}
+use Rattle.htmd_cli.specs.declared.faults.RunError.TheVariants.{NotUtf8, Refused, Memory, Read, Write}
+use Rattle.htmd_cli.specs.declared.faults.PageError.{PageError}
+use Rattle.htmd_cli.specs.declared.faults.PageError.TheVariants.{Run, Unsupported, NothingSelected}
 use Rattle.htmd_cli.specs.Settings.{Settings}
 use Rattle.htmd_cli.specs.Changes.{head_of, part_of}
 
@@ -147,19 +147,19 @@ abbrev pub IsUnselected : Settings → List ℕ → Type 0
 IsUnselected settings bytes = IsReadable settings bytes × SelectsNothing settings (text_in settings bytes)
 
 -- Why the bytes of an input become nothing, case by case.
-abbrev pub IsFaultOf : Settings → List ℕ → RunError → Type 0
+abbrev pub IsFaultOf : Settings → List ℕ → PageError → Type 0
 -- they are not UTF-8, which any page may be
-IsFaultOf settings bytes NotUtf8 = (reads_any settings ≡ false) × (¬ IsUtf8 bytes)
+IsFaultOf settings bytes (Run NotUtf8) = (reads_any settings ≡ false) × (¬ IsUtf8 bytes)
 -- they are a page in an encoding that isn't supported
 IsFaultOf settings bytes (Unsupported encoding) = IsUnsupported settings bytes encoding
 -- they are UTF-8, were taken for HTML of the strict grammar, and are outside it
-IsFaultOf settings bytes (Refused place kind) =
+IsFaultOf settings bytes (Run (Refused place kind)) =
     (settings.text ≡ false) × (settings.html5 ≡ false) × IsUtf8 bytes × IsRefusedBy settings bytes place kind
 IsFaultOf settings bytes NothingSelected = IsUnselected settings bytes
 -- out of memory, which no input is the reason for
-IsFaultOf settings bytes Memory = ⊤
-IsFaultOf settings bytes Read = ⊥
-IsFaultOf settings bytes Write = ⊥
+IsFaultOf settings bytes (Run Memory) = ⊤
+IsFaultOf settings bytes (Run Read) = ⊥
+IsFaultOf settings bytes (Run Write) = ⊥
 
 -- the converter is ready, and goes by the settings
 abbrev pub GoesBy : {H : Type 0} → (H → Type 0) → (H → Config) → HtmlToMarkdown H → Settings → Type 0

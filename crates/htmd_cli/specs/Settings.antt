@@ -77,10 +77,6 @@ default_settings = record {
   front_matter = false;
 }
 
--- the default options, but Faithful if that is asked for
+-- the options of a mode: the default ones, but Faithful if that is asked for
 abbrev pub options_of : Bool → Options
 options_of faithful = record default_options { translation_mode = if faithful then Faithful else Pure }
-
--- the settings of a mode
-abbrev pub settings_of : Bool → Bool → Settings
-settings_of text faithful = record default_settings { text = text; options = options_of faithful }

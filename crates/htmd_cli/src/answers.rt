@@ -4,7 +4,7 @@ ghost use Rattle.htmd_cli.specs.PageOutputs.{GoesBy};
 ghost use Rattle.htmd_cli.specs.Rows.{IsFieldAnswer, IsPageAnswer, IsRowAnswer};
 ghost use Rattle.htmd_cli.specs.Settings.{settings_in};
 
-use crate::faults::RunError;
+use crate::faults::{PageError, RunError};
 use crate::page_output::output_of;
 use crate::settings::Settings;
 use htmd::HtmlToMarkdown;
@@ -21,7 +21,7 @@ pub(crate) fn answer_row<H: Registry>(
     row: &[u8],
     page: &mut Vec<u8>,
     answer: &mut Vec<u8>,
-) -> Result<Option<RunError>, AllocError>
+) -> Result<Option<PageError>, AllocError>
     requires goes_by { GoesBy H.ready H.config converter.now (settings_in settings.now) }
     requires page { page.old.items ≡ [] }
     requires answer { answer.old.items ≡ [] }
@@ -42,7 +42,7 @@ fn answer_field<H: Registry>(
     field: &[u8],
     page: &mut Vec<u8>,
     answer: &mut Vec<u8>,
-) -> Result<Option<RunError>, AllocError>
+) -> Result<Option<PageError>, AllocError>
     requires goes_by { GoesBy H.ready H.config converter.now (settings_in settings.now) }
     requires page { page.old.items ≡ [] }
     ensures { OnOk result ((written : List ℕ) × IsFieldAnswer (settings_in settings.now) field.now written
@@ -64,7 +64,7 @@ fn answer_page<H: Registry>(
     settings: &Settings<'_>,
     page: &[u8],
     answer: &mut Vec<u8>,
-) -> Result<Option<RunError>, AllocError>
+) -> Result<Option<PageError>, AllocError>
     requires goes_by { GoesBy H.ready H.config converter.now (settings_in settings.now) }
     ensures { OnOk result ((written : List ℕ) × IsPageAnswer (settings_in settings.now) page.now written
         × (answer.new.items ≡ answer.old.items ++ written)) }
@@ -74,7 +74,7 @@ fn answer_page<H: Registry>(
             write_field(output.as_bytes(), answer)?;
             Ok(None)
         }
-        Err(RunError::Memory) => Err(AllocError),
+        Err(PageError::Run(RunError::Memory)) => Err(AllocError),
         Err(error) => {
             answer.extend_from_slice(NULL)?;
             Ok(Some(error))

@@ -1,5 +1,6 @@
 //! What can go wrong in a run.
 ghost use Rattle.std.specs.Prelude.{◌≡◌};
+ghost use Rattle.htmd_cli.specs.declared.faults.PageError.TheVariants.{Run};
 ghost use Rattle.htmd_cli.specs.declared.faults.RunError.TheVariants.{Memory};
 ghost use Rattle.htmd_cli.specs.Failures.{decode_error, run_error};
 
@@ -8,7 +9,7 @@ use htmd_encodings::{DecodeError, UnsupportedEncoding};
 use std::alloc::AllocError;
 use thiserror::Error;
 
-/// Why a run did not succeed.
+/// Why a run by a mode did not succeed.
 #[derive(Debug, PartialEq, Eq, Drop, Error)]
 pub enum RunError {
     /// The input is HTML outside the grammar: the byte place of its first fault, and the fault's kind.
@@ -17,12 +18,6 @@ pub enum RunError {
     /// The input is not UTF-8.
     #[error("not UTF-8")]
     NotUtf8,
-    /// The input is a page in an encoding that isn't supported.
-    #[error("the page says {encoding}, which is not supported: convert it to UTF-8 first, or give --encoding")]
-    Unsupported { encoding: UnsupportedEncoding },
-    /// The input is a page of which no element is selected.
-    #[error("no element of the page is selected by --select")]
-    NothingSelected,
     /// Out of memory.
     #[error("out of memory")]
     Memory,
@@ -32,6 +27,20 @@ pub enum RunError {
     /// The sink failed.
     #[error("write failed")]
     Write,
+}
+
+/// Why a page was not converted by settings.
+#[derive(Debug, PartialEq, Eq, Drop, Error)]
+pub enum PageError {
+    /// For a reason that a run by a mode can have too.
+    #[error(transparent)]
+    Run(RunError),
+    /// The page is in an encoding that isn't supported.
+    #[error("the page says {encoding}, which is not supported: convert it to UTF-8 first, or give --encoding")]
+    Unsupported { encoding: UnsupportedEncoding },
+    /// No element of the page is selected.
+    #[error("no element of the page is selected by --select")]
+    NothingSelected,
 }
 
 /// Why a batch did not succeed, and the number of the row at which it ended, from 1.
@@ -61,13 +70,37 @@ impl From<ConvertError> for RunError {
     }
 }
 
-impl From<DecodeError> for RunError {
+impl From<RunError> for PageError {
+    ghost from_gives = { λ e error. error ≡ Run e };
+
+    fn from(e: RunError) -> PageError {
+        PageError::Run(e)
+    }
+}
+
+impl From<AllocError> for PageError {
+    ghost from_gives = { λ _ error. error ≡ Run Memory };
+
+    fn from(_error: AllocError) -> PageError {
+        PageError::Run(RunError::Memory)
+    }
+}
+
+impl From<ConvertError> for PageError {
+    ghost from_gives = { λ e error. error ≡ Run (run_error e) };
+
+    fn from(e: ConvertError) -> PageError {
+        PageError::Run(RunError::from(e))
+    }
+}
+
+impl From<DecodeError> for PageError {
     ghost from_gives = { λ e error. error ≡ decode_error e };
 
-    fn from(e: DecodeError) -> RunError {
+    fn from(e: DecodeError) -> PageError {
         match e {
-            DecodeError::Unsupported(encoding) => RunError::Unsupported { encoding },
-            DecodeError::Memory => RunError::Memory,
+            DecodeError::Unsupported(encoding) => PageError::Unsupported { encoding },
+            DecodeError::Memory => PageError::Run(RunError::Memory),
         }
     }
 }

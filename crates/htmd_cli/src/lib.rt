@@ -3,7 +3,7 @@
 //! what was read, and nothing is written of a page before its conversion has succeeded.
 //!
 //! `Source` and `Sink` are the two ends of a run, `Input` and `Output` make them from std's readers and
-//! writers, `run` converts by a mode and `run_with` by settings, and `command` is the whole program with its
+//! writers, `run` converts by a mode and `run_over` by settings, and `command` is the whole program with its
 //! options and exit statuses. `page_text` is the text of a page's bytes, whatever their encoding is.
 #![tactic(auto, using(std::proofs::lemmas::Grind::common_steps))]
 
@@ -14,6 +14,7 @@ mod explanations;
 mod faults;
 mod help;
 mod manual;
+mod markdown;
 mod option_faults;
 mod options;
 mod page_output;
@@ -26,14 +27,14 @@ mod rows;
 mod settings;
 mod values;
 
-pub use faults::{RowFault, RunError};
+pub use faults::{PageError, RowFault, RunError};
 pub use htmd_addresses::{Page, Pages, RunPage};
 pub use htmd_encodings::{
     ByteOrder, DecodeError, Encoding, SingleByte, UnsupportedEncoding, encoding_named, page_text,
 };
 pub use htmd_streams::{Failed, Input, Output, Sink, Source, read_field, write_field};
 pub use option_faults::{say_fault, say_warnings};
-pub use pipeline::{run, run_over, run_with};
+pub use pipeline::{run, run_over};
 pub use program::command;
 pub use reports::report_page;
 pub use requests::{OptionFault, Request, read_options};

@@ -61,29 +61,30 @@ fn write_values<W: Write>(out: &mut W, name: &str) -> fmt::Result {
     Ok(())
 }
 
-/// Writes what is wrong with an option that isn't known, or not with its value.
+/// Writes that an option isn't known, or not with its value, and in a second line what is wrong with it.
 fn write_unknown<W: Write>(out: &mut W, given: &str) -> fmt::Result {
+    out.write_str("htmd: unknown word\n")?;
     let name = name_part(given);
     let Some(row) = row_named(name) else {
-        return writeln!(out, "htmd: '{given}' is not an option: see --help");
+        return writeln!(out, "'{given}' is not an option: see --help");
     };
     match row.setting {
         Setting::Valued(_) if given == name => {
-            writeln!(out, "htmd: '{given}': write {}{}", row.name, row.value)
+            writeln!(out, "'{given}': write {}{}", row.name, row.value)
         }
         Setting::Valued(valued) => {
             let wanted = wanted(valued);
-            writeln!(out, "htmd: '{given}': the value of {name} is {wanted}")
+            writeln!(out, "'{given}': the value of {name} is {wanted}")
         }
-        _ if row.name == name => writeln!(out, "htmd: '{given}': {name} takes no value"),
+        _ if row.name == name => writeln!(out, "'{given}': {name} takes no value"),
         _ => {
-            write!(out, "htmd: '{given}': the values of {name} are ")?;
+            write!(out, "'{given}': the values of {name} are ")?;
             write_values(out, name)
         }
     }
 }
 
-/// Says why options aren't taken, in one line.
+/// Says why options aren't taken: of one that isn't known in two lines, else in one.
 pub fn say_fault<E: Sink>(errors: &mut E, fault: &OptionFault<'_>) {
     let mut lines = Lines { sink: errors };
     let _ = match fault {

@@ -14,7 +14,7 @@ ghost use Rattle.htmd_cli.specs.Settings.{settings_in};
 ghost use Rattle.htmd_reading_laws.specs.ReadingLaws.{IsSeenIn};
 
 use crate::changes::{head_of, part_of};
-use crate::faults::RunError;
+use crate::faults::{PageError, RunError};
 use crate::paragraph::paragraph;
 use crate::settings::Settings;
 use htmd::element_handler::{Registrar, Registry};
@@ -66,7 +66,7 @@ fn text_of<'a>(
     alloc: Global,
     settings: &Settings<'_>,
     input: &'a [u8],
-) -> Result<CowStr<'a>, RunError>
+) -> Result<CowStr<'a>, PageError>
     ensures ok { IfOk result (λ text. IsReadable (settings_in settings.now) input.now
         × (cow_str_bytes text ≡ text_in (settings_in settings.now) input.now)) }
     ensures fault { IfErr result (IsFaultOf (settings_in settings.now) input.now) }
@@ -76,7 +76,7 @@ fn text_of<'a>(
     }
     match str::from_utf8(input) {
         Ok(text) => Ok(CowStr::Borrowed(text)),
-        Err(_) => Err(RunError::NotUtf8),
+        Err(_) => Err(PageError::Run(RunError::NotUtf8)),
     }
 }
 
@@ -195,7 +195,7 @@ pub(crate) fn output_of<H: Registry>(
     converter: &HtmlToMarkdown<H>,
     settings: &Settings<'_>,
     input: &[u8],
-) -> Result<String, RunError>
+) -> Result<String, PageError>
     requires goes_by { GoesBy H.ready H.config converter.now (settings_in settings.now) }
     ensures ok { IfOk result (λ output. IsOutputOf (settings_in settings.now) input.now (string_bytes output)) }
     ensures seen { IfOk result (λ output. IsSeen (settings_in settings.now) input.now (string_bytes output)) }
@@ -205,7 +205,7 @@ pub(crate) fn output_of<H: Registry>(
     let page = tree_by(alloc, converter, settings, &text)?;
     let head = head_of(alloc, settings, &page)?;
     let Some(part) = part_of(alloc, settings, page)? else {
-        return Err(RunError::NothingSelected);
+        return Err(PageError::NothingSelected);
     };
     Ok(tree_output(alloc, converter, settings, &head, &part)?)
 }

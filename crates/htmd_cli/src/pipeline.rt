@@ -1,26 +1,29 @@
 //! One run: read all, convert, write.
-ghost use Rattle.std.specs.Prelude.{◌≡◌, ◌↔◌, ◌∷◌, ◌++◌, [], Some, false, IsTrue};
-ghost use Rattle.std.specs.Prelude.{OnOk, IfOk, IfErr, IsErrOf};
+ghost use Rattle.std.specs.Prelude.{◌≡◌, ◌≢◌, ◌↔◌, ◌∷◌, ◌++◌, [], ℕ, Some, Err, true, false, IsTrue, IsUtf8};
+ghost use Rattle.std.specs.Prelude.{OnOk, IfOk, IfErr, IfSome, IsErrAnd, IsErrOf};
 ghost use Rattle.std.specs.Io.KnownBytes.{Appends, Consumes, IsAtEnd};
 ghost use Rattle.htmd.specs.Characters.{line_feed};
+ghost use Rattle.htmd.specs.Conversions.{IsRefused};
+ghost use Rattle.htmd.specs.FaultKind.{FaultKind};
 ghost use Rattle.htmd_streams.specs.Ends.{FailsAtErr};
 ghost use Rattle.htmd_cli.specs.Failures.{IsReadFault};
+ghost use Rattle.htmd_cli.specs.ModeRuns.{HasMarkdown, IsBeforeConversion, WritesMarkdown};
 ghost use Rattle.htmd_cli.specs.StreamConversions.{Ends};
-ghost use Rattle.htmd_cli.specs.Settings.{settings_in, settings_of};
+ghost use Rattle.htmd_cli.specs.Settings.{settings_in};
 
-use crate::faults::RunError;
+use crate::faults::{PageError, RunError};
+use crate::markdown::markdown_by;
 use crate::page_output::{converter_by, output_of};
-use crate::settings::{Mode, Settings, settings_by};
+use crate::settings::{Mode, Settings};
 use htmd::HtmlToMarkdown;
 use htmd_streams::{Failed, Sink, Source, write_all};
 use std::alloc::Global;
 
-/// Reads the whole source, then converts it, then writes the Markdown and one line feed to the sink and flushes it. The
-/// source and the sink must not have failed before. The first fault is returned: `Read` or `Write` if the source or the
-/// sink failed, `NotUtf8` if all was read and isn't UTF-8, `Unsupported` if it is a page in an encoding that isn't
-/// supported, `Refused` if it is HTML outside the grammar, `NothingSelected` if it is a page of which no element is
-/// selected, `Memory` when out of memory. The sink is not touched before the conversion has succeeded; after `Write` it
-/// isn't known how much was written.
+/// Reads the whole source, asks whether it is UTF-8, converts it by the mode, writes the Markdown and one line feed to
+/// the sink, and flushes that. The source and the sink must not have failed before. The first fault in this order is
+/// returned: `Read` or `Write` if the source or the sink failed, `NotUtf8` if all was read and isn't UTF-8, `Refused`
+/// if it is HTML outside the grammar, `Memory` when out of memory. The sink is not touched before the conversion has
+/// succeeded; after `Write` it isn't known how much was written.
 pub fn run<R: Source, W: Sink>(
     alloc: Global,
     source: &mut R,
@@ -29,49 +32,53 @@ pub fn run<R: Source, W: Sink>(
 ) -> Result<(), RunError>
     requires source { R.has_failed source.old ≡ false }
     requires sink { W.has_failed sink.old ≡ false }
-    ensures ends { Ends (settings_of mode.text mode.faithful) (R.remaining source.old) (R.remaining source.new)
-        W.contents sink.old sink.new result }
+
+    // All was read and is UTF-8; its Markdown and a line feed were written.
+    ensures ok { OnOk result (IsAtEnd (R.remaining source.new) × IfSome (R.remaining source.old)
+        (WritesMarkdown mode.text mode.faithful (W.contents sink.old) (W.contents sink.new))) }
+    ensures not_utf8 { IsErrOf result RunError.NotUtf8 → IsAtEnd (R.remaining source.new)
+        × IfSome (R.remaining source.old) (λ input. ¬ IsUtf8 input) }
+    ensures refused_html { (place : ℕ) (kind : FaultKind) → result ≡ Err (RunError.Refused place kind)
+        → mode.text ≡ false }
+    ensures refused { (place : ℕ) (kind : FaultKind) → result ≡ Err (RunError.Refused place kind)
+        → IsAtEnd (R.remaining source.new)
+        × IfSome (R.remaining source.old) (λ input. IsUtf8 input × IsRefused true input place kind) }
+    ensures write { IsErrOf result RunError.Write → IsAtEnd (R.remaining source.new)
+        × IfSome (R.remaining source.old) (HasMarkdown mode.text mode.faithful) }
+
+    // What isn't UTF-8 is answered as that: no fault of a conversion or of the sink comes before.
+    ensures order { IfSome (R.remaining source.old)
+        (λ input. ¬ IsUtf8 input → IsErrAnd result IsBeforeConversion) }
+    ensures untouched { IfErr result (λ error. error ≢ RunError.Write → sink.new ≡ sink.old) }
     ensures read_failed { IsErrOf result RunError.Read ↔ IsTrue (R.has_failed source.new) }
     ensures write_failed { IsErrOf result RunError.Write ↔ IsTrue (W.has_failed sink.new) }
 {
-    run_with(alloc, source, sink, settings_by(alloc, mode))
+    let input = read_all(alloc, source)?;
+    write_markdown(alloc, input.as_slice(), sink, mode)
 }
 
-/// The same by settings; each `Err` means what it means for `run`. Where any page is read, neither `NotUtf8` nor
-/// `Refused` comes.
-pub fn run_with<R: Source, W: Sink>(
-    alloc: Global,
-    source: &mut R,
-    sink: &mut W,
-    settings: Settings<'_>,
-) -> Result<(), RunError>
-    requires source { R.has_failed source.old ≡ false }
-    requires sink { W.has_failed sink.old ≡ false }
-    ensures ends { Ends (settings_in settings.entry) (R.remaining source.old) (R.remaining source.new)
-        W.contents sink.old sink.new result }
-    ensures read_failed { IsErrOf result RunError.Read ↔ IsTrue (R.has_failed source.new) }
-    ensures write_failed { IsErrOf result RunError.Write ↔ IsTrue (W.has_failed sink.new) }
-{
-    run_over(alloc, source, sink, &settings).0
-}
-
-/// The same, and what was read; that is nothing if the source or the memory failed while it was read.
+/// Reads the whole source, and writes what it becomes by settings, and one line feed, to the sink; also returns what
+/// was read, which is nothing if the source or the memory failed while it was read. The source and the sink must not
+/// have failed before. Apart from the errors of `run`, with `Unsupported` it is a page in an encoding that isn't
+/// supported, with `NothingSelected` a page of which no element is selected. Where any page is read, neither `NotUtf8`
+/// nor `Refused` comes. The sink is not touched before the conversion has succeeded; after `Write` it isn't known how
+/// much was written.
 pub fn run_over<R: Source, W: Sink>(
     alloc: Global,
     source: &mut R,
     sink: &mut W,
     settings: &Settings<'_>,
-) -> (Result<(), RunError>, Vec<u8>)
+) -> (Result<(), PageError>, Vec<u8>)
     requires source { R.has_failed source.old ≡ false }
     requires sink { W.has_failed sink.old ≡ false }
     ensures ends { Ends (settings_in settings.now) (R.remaining source.old) (R.remaining source.new)
         W.contents sink.old sink.new result.0 }
-    ensures read_failed { IsErrOf result.0 RunError.Read ↔ IsTrue (R.has_failed source.new) }
-    ensures write_failed { IsErrOf result.0 RunError.Write ↔ IsTrue (W.has_failed sink.new) }
+    ensures read_failed { IsErrOf result.0 (PageError.Run RunError.Read) ↔ IsTrue (R.has_failed source.new) }
+    ensures write_failed { IsErrOf result.0 (PageError.Run RunError.Write) ↔ IsTrue (W.has_failed sink.new) }
 {
     match read_all(alloc, source) {
         Ok(input) => (write_output(alloc, input.as_slice(), sink, settings), input),
-        Err(error) => (Err(error), Vec::new(alloc)),
+        Err(error) => (Err(PageError::Run(error)), Vec::new(alloc)),
     }
 }
 
@@ -98,23 +105,53 @@ fn read_all<R: Source>(alloc: Global, source: &mut R) -> Result<Vec<u8>, RunErro
     }
 }
 
-// Writes what an input becomes to the sink.
+// Writes the Markdown of an input by a mode to the sink, if the input is UTF-8.
+fn write_markdown<W: Sink>(
+    alloc: Global,
+    input: &[u8],
+    sink: &mut W,
+    mode: Mode,
+) -> Result<(), RunError>
+    requires sink { W.has_failed sink.old ≡ false }
+    ensures ok { OnOk result
+        (WritesMarkdown mode.text mode.faithful (W.contents sink.old) (W.contents sink.new) input.now) }
+    ensures not_utf8 { IsErrOf result RunError.NotUtf8 ↔ ¬ IsUtf8 input.now }
+    ensures refused_html { (place : ℕ) (kind : FaultKind) → result ≡ Err (RunError.Refused place kind)
+        → mode.text ≡ false }
+    ensures refused { (place : ℕ) (kind : FaultKind) → result ≡ Err (RunError.Refused place kind)
+        → IsUtf8 input.now × IsRefused true input.now place kind }
+    ensures write { IsErrOf result RunError.Write → HasMarkdown mode.text mode.faithful input.now }
+    ensures untouched { IfErr result (λ error. error ≢ RunError.Write → sink.new ≡ sink.old) }
+    ensures read { ¬ IsErrOf result RunError.Read }
+    ensures write_failed { IsErrOf result RunError.Write ↔ IsTrue (W.has_failed sink.new) }
+{
+    let Ok(text) = str::from_utf8(input) else {
+        return Err(RunError::NotUtf8);
+    };
+    let markdown = markdown_by(alloc, mode, text)?;
+    match write_line(sink, markdown.as_str()) {
+        Ok(()) => Ok(()),
+        Err(_) => Err(RunError::Write),
+    }
+}
+
+// Writes what an input becomes by settings to the sink.
 fn write_output<W: Sink>(
     alloc: Global,
     input: &[u8],
     sink: &mut W,
     settings: &Settings<'_>,
-) -> Result<(), RunError>
+) -> Result<(), PageError>
     requires sink { W.has_failed sink.old ≡ false }
     ensures ends { Ends (settings_in settings.now) (Some input.now) (Some []) W.contents sink.old sink.new result }
-    ensures read { ¬ IsErrOf result RunError.Read }
-    ensures write_failed { IsErrOf result RunError.Write ↔ IsTrue (W.has_failed sink.new) }
+    ensures read { ¬ IsErrOf result (PageError.Run RunError.Read) }
+    ensures write_failed { IsErrOf result (PageError.Run RunError.Write) ↔ IsTrue (W.has_failed sink.new) }
 {
     let converter = converter_by(HtmlToMarkdown::builder(alloc)?, settings)?;
     let output = output_of(alloc, &converter, settings, input)?;
     match write_line(sink, output.as_str()) {
         Ok(()) => Ok(()),
-        Err(_) => Err(RunError::Write),
+        Err(_) => Err(PageError::Run(RunError::Write)),
     }
 }
 

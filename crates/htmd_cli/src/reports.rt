@@ -3,7 +3,7 @@ ghost use Rattle.std.specs.Prelude.{◌≡◌};
 ghost use Rattle.std.specs.Io.KnownBytes.{Appends};
 
 use crate::explanations::explain;
-use crate::faults::RunError;
+use crate::faults::{PageError, RunError};
 use htmd_streams::{Sink, write_all};
 use std::fmt;
 use std::fmt::Write;
@@ -30,7 +30,7 @@ impl<E: Sink> Write for Lines<'_, E> {
 pub(crate) fn report<E: Sink>(
     errors: &mut E,
     row: u64,
-    error: &RunError,
+    error: &PageError,
     page: &[u8],
     explains: bool,
 ) {
@@ -42,9 +42,9 @@ pub(crate) fn report<E: Sink>(
 }
 
 /// What helps if the strict reader refused a page.
-fn hint(error: &RunError) -> &'static str {
+fn hint(error: &PageError) -> &'static str {
     match error {
-        RunError::Refused { .. } => " (--web reads any page)",
+        PageError::Run(RunError::Refused { .. }) => " (--web reads any page)",
         _ => "",
     }
 }
@@ -54,7 +54,7 @@ fn hint(error: &RunError) -> &'static str {
 pub fn report_page<E: Sink>(
     errors: &mut E,
     path: &str,
-    error: &RunError,
+    error: &PageError,
     input: &[u8],
     explains: bool,
 ) {

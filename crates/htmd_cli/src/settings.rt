@@ -1,6 +1,6 @@
 //! What a run is asked to do.
 ghost use Rattle.std.specs.Prelude.{◌≡◌};
-ghost use Rattle.htmd_cli.specs.Settings.{default_settings, settings_in, settings_of};
+ghost use Rattle.htmd_cli.specs.Settings.{default_settings, options_of, settings_in};
 
 use htmd::options::{Options, TranslationMode};
 use htmd_addresses::RunPage;
@@ -16,6 +16,23 @@ pub struct Mode {
     pub text: bool,
     /// What has no Markdown is written as HTML. A text has nothing of that kind.
     pub faithful: bool,
+}
+
+impl Mode {
+    /// The options by which its Markdown is written: the default ones, but Faithful if that is asked for.
+    pub(crate) fn options(self) -> Options
+        ensures { result ≡ options_of self.faithful }
+    {
+        let translation_mode = if self.faithful {
+            TranslationMode::Faithful
+        } else {
+            TranslationMode::Pure
+        };
+        Options {
+            translation_mode,
+            ..Options::default()
+        }
+    }
 }
 
 /// How a run reads its input, and how it converts it.
@@ -75,24 +92,5 @@ impl<'a> Settings<'a> {
             run_page: None,
             front_matter: false,
         }
-    }
-}
-
-// The settings of a mode: the default ones except for what it names.
-pub(crate) fn settings_by(alloc: Global, mode: Mode) -> Settings<'static>
-    ensures { settings_in result ≡ settings_of mode.text mode.faithful }
-{
-    let translation_mode = if mode.faithful {
-        TranslationMode::Faithful
-    } else {
-        TranslationMode::Pure
-    };
-    Settings {
-        text: mode.text,
-        options: Options {
-            translation_mode,
-            ..Options::default()
-        },
-        ..Settings::new(alloc)
     }
 }

@@ -7,7 +7,7 @@ use Rattle.htmd_addresses.specs.Leads.{PageValue}
 use Rattle.htmd_addresses.specs.RunViews.{pages_in}
 use Rattle.htmd_addresses.specs.declared.pages.Pages.{Pages}
 use Rattle.htmd.specs.Characters.{line_feed}
-use Rattle.htmd_cli.specs.declared.faults.RunError.{RunError}
+use Rattle.htmd_cli.specs.declared.faults.PageError.{PageError}
 use Rattle.htmd_cli.specs.Options.{Request, is_at, is_one_of_run}
 use Rattle.htmd_cli.specs.Rows.{ConvertsRows, Succeeds, rows_of}
 use Rattle.htmd_cli.specs.StreamConversions.{Converts, Ends}
@@ -42,11 +42,11 @@ succeeds_becomes request input before after s =
 -- a run that succeeds converts the whole input
 pub ends_converts : {W T : Type 0} (settings : Settings) (input rest : Option (List ℕ)) (contents : W
     → Option (List ℕ))
-    (before after : W) (r : Result T RunError) (done : T)
+    (before after : W) (r : Result T PageError) (done : T)
     → Ends settings input rest contents before after r → r ≡ Ok done
     → Converts settings input (contents before) (contents after)
 ends_converts {W} {T} settings input rest contents before after r done ends e =
-    let P : Result T RunError → Type 0 = λ x. Ends settings input rest contents before after x in
+    let P : Result T PageError → Type 0 = λ x. Ends settings input rest contents before after x in
     (subst P e ends).1
 
 -- a whole input that was converted is answered, unless rows are asked for

@@ -9,7 +9,8 @@ ghost use Rattle.htmd_command.specs.PageResults.{IsResultOf, at, in_run, page_re
 
 use htmd_addresses::{Pages, RunPage};
 use htmd_cli::{
-    Request, RunError, Settings, Sink, Source, command, read_options, report_page, run_over,
+    PageError, Request, RunError, Settings, Sink, Source, command, read_options, report_page,
+    run_over,
 };
 use htmd_files::Page;
 use htmd_folders::{Conversion, Lines, ShownName};
@@ -32,7 +33,7 @@ pub(crate) struct Requested<'a, 'b, 'c, 'd> {
 #[derive(Drop)]
 pub(crate) enum Refusal {
     /// The page's error, and what was read of it.
-    Page { error: RunError, input: Vec<u8> },
+    Page { error: PageError, input: Vec<u8> },
     /// Rows stopped; where and why was said.
     Rows,
 }
@@ -103,7 +104,7 @@ impl Requested<'_, '_, '_, '_> {
         match self.page_request(page) {
             Ok(request) => convert_by(self.alloc, request.settings(), source, sink),
             Err(AllocError) => Err(Refusal::Page {
-                error: RunError::Memory,
+                error: PageError::Run(RunError::Memory),
                 input: Vec::new(self.alloc),
             }),
         }

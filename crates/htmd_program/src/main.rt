@@ -2,9 +2,10 @@
 #![tactic(auto)]
 
 use htmd_command::{HostStore, Input, Output, RunError, run_program};
-use std::alloc::{AllocError, Global};
+use std::alloc::AllocError;
 use std::env;
-use std::io::{ErrorKind, IsTerminal};
+use std::env::{Env, FillError};
+use std::io::IsTerminal;
 use std::process::ExitCode;
 
 fn main(rt: HostRuntime) -> ExitCode {
@@ -32,16 +33,36 @@ fn main(rt: HostRuntime) -> ExitCode {
     }
 }
 
-// The options after the program's name. If one can't be read as text, the empty text stands for all of them, which is
-// not a known option.
+// The words after the program's name.
 fn words(rt: &HostRuntime) -> Result<Vec<String>, AllocError> {
-    match env::args(rt) {
+    let readable = ReadableWords { runtime: rt };
+    match env::args(&(readable, rt.alloc())) {
         Ok(all) => all.skip(1).collect(rt.alloc()),
-        Err(error) if error.kind() == ErrorKind::OutOfMemory => Err(AllocError),
-        Err(_) => {
-            let mut all = Vec::new(rt.alloc());
-            all.push(String::new(rt.alloc()))?;
-            Ok(all)
+        // Each word is read: only memory can be missing.
+        Err(_) => Err(AllocError),
+    }
+}
+
+/// The words of the command line, of which one that can't be read as text is the empty text.
+#[derive(Drop)]
+struct ReadableWords<'a> {
+    runtime: &'a HostRuntime,
+}
+
+impl Env for ReadableWords<'_> {
+    fn arg(&self, index: usize, buffer: &mut [u8]) -> Result<usize, FillError> {
+        let len = self.runtime.arg(index, buffer)?;
+        match str::from_utf8(&buffer[..len]) {
+            Ok(_) => Ok(len),
+            Err(_) => Ok(0),
         }
+    }
+
+    fn var(&self, name: &str, buffer: &mut [u8]) -> Result<usize, FillError> {
+        self.runtime.var(name, buffer)
+    }
+
+    fn var_at(&self, index: usize, buffer: &mut [u8]) -> Result<usize, FillError> {
+        self.runtime.var_at(index, buffer)
     }
 }

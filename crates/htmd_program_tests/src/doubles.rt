@@ -28,6 +28,10 @@ impl<'a> Dripping<'a> {
     pub fn rest(&self) -> &'a [u8] {
         self.rest
     }
+
+    pub fn reads_left(&self) -> usize {
+        self.reads_left
+    }
 }
 
 impl Source for Dripping<'_> {

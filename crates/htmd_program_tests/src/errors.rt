@@ -1,6 +1,6 @@
-//! The texts of errors of runs, as they are displayed and for debugging.
+//! The texts of errors of runs and pages, as they are displayed and for debugging.
 use htmd::{ConvertError, FaultKind};
-use htmd_cli::{DecodeError, Failed, Mode, RunError, UnsupportedEncoding};
+use htmd_cli::{DecodeError, Failed, Mode, PageError, RunError, UnsupportedEncoding};
 use htmd_expected::expect_text;
 use std::test::Fail;
 
@@ -15,19 +15,38 @@ fn tells_errors_of_runs(rt: HostRuntime) -> Result<(), Fail> {
         ),
         (RunError::from(ConvertError::Memory), "out of memory Memory"),
         (RunError::NotUtf8, "not UTF-8 NotUtf8"),
-        (
-            RunError::from(DecodeError::Unsupported(UnsupportedEncoding::EucKr)),
-            "the page says euc-kr, which is not supported: convert it to UTF-8 first, or give --encoding Unsupported { \
-             encoding: EucKr }",
-        ),
-        (RunError::from(DecodeError::Memory), "out of memory Memory"),
-        (
-            RunError::NothingSelected,
-            "no element of the page is selected by --select NothingSelected",
-        ),
         (RunError::Memory, "out of memory Memory"),
         (RunError::Read, "read failed Read"),
         (RunError::Write, "write failed Write"),
+    ] {
+        let text = format!(in rt.alloc(); "{error} {error:?}")?;
+        expect_text(shown, text.as_str(), shown)?;
+    }
+    Ok(())
+}
+
+// A page is said to fail as a run is, but for what only pages fail with.
+#[test]
+fn tells_errors_of_pages(rt: HostRuntime) -> Result<(), Fail> {
+    for (error, shown) in [
+        (PageError::from(RunError::NotUtf8), "not UTF-8 Run(NotUtf8)"),
+        (
+            PageError::from(ConvertError::Memory),
+            "out of memory Run(Memory)",
+        ),
+        (
+            PageError::from(DecodeError::Unsupported(UnsupportedEncoding::EucKr)),
+            "the page says euc-kr, which is not supported: convert it to UTF-8 first, or give --encoding Unsupported { \
+             encoding: EucKr }",
+        ),
+        (
+            PageError::from(DecodeError::Memory),
+            "out of memory Run(Memory)",
+        ),
+        (
+            PageError::NothingSelected,
+            "no element of the page is selected by --select NothingSelected",
+        ),
     ] {
         let text = format!(in rt.alloc(); "{error} {error:?}")?;
         expect_text(shown, text.as_str(), shown)?;

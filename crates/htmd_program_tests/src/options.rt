@@ -4,13 +4,13 @@ use htmd_expected::{expect_number, expect_text, expect_that};
 use std::alloc::Global;
 use std::test::Fail;
 
-// Fails unless this is the option that is reported in one line, and nothing is read.
+// Fails unless this is the option that the second of two lines reports, and nothing is read.
 fn expect_unknown(alloc: Global, option: &str, options: &[&str]) -> Result<(), Fail> {
     let answer = called(alloc, options, b"<p>")?;
-    let said = format!(in alloc; "htmd: '{option}'")?;
+    let said = format!(in alloc; "htmd: unknown word\n'{option}'")?;
     expect_that(option, answer.status == 2)?;
     expect_that(option, answer.stderr.starts_with(said.as_str()))?;
-    expect_number(option, answer.stderr.lines().count(), 1)?;
+    expect_number(option, answer.stderr.lines().count(), 2)?;
     expect_text(option, answer.stdout.as_str(), "")?;
     expect_number(option, answer.unread, 3)
 }

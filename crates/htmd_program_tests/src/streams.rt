@@ -80,6 +80,26 @@ fn answers_each_failed_write(rt: HostRuntime) -> Result<(), Fail> {
     Ok(())
 }
 
+// What isn't UTF-8 is answered before anything is converted: memory can only run out before the fifth read, which finds
+// the end. `checks/refused_memory`, a part of the gate, lets each allocation fail in turn.
+#[test]
+fn asks_for_utf8_first(rt: HostRuntime) -> Result<(), Fail> {
+    for text in [false, true] {
+        let mode = Mode { text, ..PAGE };
+        let mut source = Dripping::new(b"<p>\xff", 9);
+        let mut sink = Narrow::new(rt.alloc(), 9);
+        let result = run(rt.alloc(), &mut source, &mut sink, mode);
+        let reads = 9 - source.reads_left();
+        expect_that(
+            "answer",
+            result == Err(RunError::NotUtf8) || result == Err(RunError::Memory),
+        )?;
+        expect_that("memory", (result == Err(RunError::Memory)) == (reads < 5))?;
+        expect_that("written", sink.bytes().is_empty())?;
+    }
+    Ok(())
+}
+
 // How many bytes of a page are not read.
 fn unread(alloc: Global, html: &[u8]) -> Result<usize, Fail> {
     let answer = called(alloc, &[], html)?;
