@@ -45,6 +45,8 @@ htmd \-\-web \-o out site/
 .RE
 .PP
 An output gets its name only once it is complete.
+Until then it is a new file beside it, with the ending .htmd\-partial, which only a run that is killed leaves behind.
+A link, a folder or an input where an output should go stays as it is, and that page fails.
 A page that fails leaves an earlier output as it was, and the other pages are converted.
 .PP
 If two options set the same thing, the last one wins.

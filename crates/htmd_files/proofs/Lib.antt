@@ -6,3 +6,4 @@ pub mod OrderLemmas
 pub mod FilePlansLemmas
 pub mod PromisesLemmas
 mod Examples
+pub mod NamedLemmas

@@ -14,7 +14,7 @@ use Rattle.htmd_files.specs.FilePlans.{writes_to, shared_fault, shared_after, ov
 use Rattle.htmd_files.specs.FilePlans.{output_fault, unless, if_apart, only_input, plan}
 use Rattle.htmd_files.specs.Promises.{pages_in, Differ, AreApart, KeepInputs, AreBelow}
 
-either : {P : Type 0} (b : Bool) → (b ≡ true → P) → (b ≡ false → P) → P
+pub either : {P : Type 0} (b : Bool) → (b ≡ true → P) → (b ≡ false → P) → P
 either true f g = f refl
 either false f g = g refl
 
@@ -68,7 +68,7 @@ inputs_kept all (page ∷ pages) e =
 
 -- ---- all are below the folder
 
-not_outside : (out : List ℕ) (pages now : List Page) (o : Option Page) → unless_outside out pages o ≡ Ok now
+pub not_outside : (out : List ℕ) (pages now : List Page) (o : Option Page) → unless_outside out pages o ≡ Ok now
     → (o ≡ None) × (pages ≡ now)
 not_outside out pages now None e = (refl, cc)
 not_outside out pages now (Some p) e = absurd (cc)
@@ -99,11 +99,11 @@ below_at out operands (Some path) now n e =
 
 -- ---- all together
 
-abbrev pages_or_none : Result FilePlan Fault → List Page
+abbrev pub pages_or_none : Result FilePlan Fault → List Page
 pages_or_none (Ok made) = pages_in made
 pages_or_none (Err f) = []
 
-no_pages : (operands : List Operand) → pages_or_none (only_input operands) ≡ []
+pub no_pages : (operands : List Operand) → pages_or_none (only_input operands) ≡ []
 no_pages [] = refl
 no_pages (standard_input ∷ []) = refl
 no_pages (file path ∷ []) = refl
@@ -114,7 +114,7 @@ no_fault : (a b : Option Fault) → or_fault a b ≡ None → (a ≡ None) × (b
 no_fault None b e = (refl, e)
 no_fault (Some f) b e = absurd (cc)
 
-not_refused : (o : Option Fault) (pages : List Page) (made : FilePlan) → unless o pages ≡ Ok made
+pub not_refused : (o : Option Fault) (pages : List Page) (made : FilePlan) → unless o pages ≡ Ok made
     → (o ≡ None) × (pages ≡ pages_in made)
 not_refused None pages made e = (refl, ap pages_or_none e)
 not_refused (Some f) pages made e = absurd (cc)

@@ -1,5 +1,6 @@
 -- What each plan keeps.
-use Rattle.std.specs.Prelude.{◌≡◌, ◌≢◌, ℕ, Bool, true, false, not, ◌&&◌, List, [], Option, Some, None, is_some, All, AllPairs, ⊤}
+use Rattle.std.specs.Prelude.{◌≡◌, ◌≢◌, ℕ, Bool, true, false, not, ◌&&◌, List, [], ◌++◌, Option, Some, None, is_some, All, AllPairs, ⊤}
+use Rattle.std.specs.Prelude.{◌<◌, codes, length}
 use Rattle.htmd_files.specs.Paths.{normal, place, is_below}
 use Rattle.htmd_files.specs.FilePlans.{Operand, Destination, Page, FilePlan, standard_output, files, single_input, names_folder}
 
@@ -29,3 +30,11 @@ abbrev pub AreBelow : Option Destination → List Operand → List Page → Type
 AreBelow None operands pages = ⊤
 AreBelow (Some out) operands pages =
     writes_one out operands ≡ false → All (λ page. is_below (place out.path) (place page.output) ≡ true) pages
+
+-- the output ends in `.md`
+abbrev pub HasMarkdownName : Page → Type 0
+HasMarkdownName page = (stem : List ℕ) × (page.output ≡ stem ++ codes ".md")
+
+-- if there are several pages, each output does
+abbrev pub AreNamed : List Page → Type 0
+AreNamed pages = 1 < length pages → All HasMarkdownName pages

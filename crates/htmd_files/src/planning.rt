@@ -6,7 +6,7 @@ ghost use Rattle.htmd_files.specs.Paths as paths;
 ghost use Rattle.htmd_files.specs.FilePlans as spec;
 ghost use Rattle.htmd_files.specs.PlaceViews.{texts};
 ghost use Rattle.htmd_files.specs.PlanViews.{operand_of, destination_of, page_of, pages_of, plan_in, IsRefusal, HoldsOutputs};
-ghost use Rattle.htmd_files.specs.Promises.{AreApart, KeepInputs, AreBelow, pages_in as pages_written};
+ghost use Rattle.htmd_files.specs.Promises.{AreApart, KeepInputs, AreBelow, AreNamed, pages_in as pages_written};
 ghost use Rattle.htmd_files.specs.WordViews.{texts_of};
 
 use crate::faults::PlanFault;
@@ -435,6 +435,7 @@ pub fn plan_of(
         spec.plan (map operand_of operands.now) (option_map destination_of out.entry) ≡ Ok (plan_in plan)) }
     ensures apart { IfOk result (λ plan. AreApart (pages_written (plan_in plan))) }
     ensures inputs { IfOk result (λ plan. KeepInputs (pages_written (plan_in plan))) }
+    ensures named { IfOk result (λ plan. AreNamed (pages_written (plan_in plan))) }
     ensures below { IfOk result (λ plan. AreBelow
         (option_map destination_of out.entry) (map operand_of operands.now) (pages_written (plan_in plan))) }
     ensures err { IfErr result (IsRefusal

@@ -1,5 +1,5 @@
 -- A run from page to page, and what follows from how its pages were taken.
-use Rattle.std.proofs.Common.{◌≡◌, ◌⊎◌, ℕ, suc, List, [], ◌∷◌, ◌++◌, Option, refl, sym, ◌∙◌, ap, subst, inl, inr}
+use Rattle.std.proofs.Common.{◌≡◌, ◌⊎◌, ℕ, suc, List, [], ◌∷◌, ◌++◌, Option, refl, ◌∙◌, ap, subst, inl, inr}
 use Rattle.htmd_files.specs.declared.planning.Page.{Page}
 use Rattle.htmd_folders.specs.Changes.{Change}
 use Rattle.htmd_folders.specs.Pages.{Conversion, Converts, Fails}

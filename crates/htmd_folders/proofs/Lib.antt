@@ -2,3 +2,4 @@
 pub mod FolderConversionsLemmas
 pub mod ChangesLemmas
 pub mod LawsLemmas
+pub mod ApartLemmas

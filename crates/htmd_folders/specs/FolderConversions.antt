@@ -1,9 +1,9 @@
 -- What a run of pages changes.
-use Rattle.std.specs.Prelude.{◌≡◌, ◌≢◌, ◌⊎◌, ℕ, suc, List, [], ◌∷◌, ◌++◌, Option, Some, IfSome, ⊤}
+use Rattle.std.specs.Prelude.{◌≡◌, ◌≢◌, ◌⊎◌, ℕ, suc, List, [], ◌∷◌, ◌++◌, codes, Option, Some, IfSome, ⊤}
 use Rattle.std.specs.List.{AllByRecursion}
 use Rattle.htmd_files.specs.declared.planning.Page.{Page}
-use Rattle.htmd_folders.specs.Changes.{Change, Holding, held, unfinished, whole}
-use Rattle.htmd_folders.specs.Pages.{Conversion, Converts, Fails, input_name, output_name, partial_name}
+use Rattle.htmd_folders.specs.Changes.{Change, held, nothing, unfinished, whole}
+use Rattle.htmd_folders.specs.Pages.{Conversion, Converts, Fails, input_name, output_name}
 
 -- the pages were taken in order, each was converted or failed, and this many failed
 abbrev pub Takes : Conversion → List Page → Option (List Change) → Option (List Change) → ℕ → Type 0
@@ -15,20 +15,30 @@ Takes becomes (page ∷ more) before after failed =
 
 -- ---- what follows from that
 
--- the page doesn't write under this name
-abbrev pub IsSpared : List ℕ → Page → Type 0
-IsSpared name page = (name ≢ output_name page) × (name ≢ partial_name (output_name page))
+-- such a name is one of unfinished outputs
+abbrev pub HasUnfinishedName : List ℕ → Type 0
+HasUnfinishedName name = (stem : List ℕ) × (name ≡ stem ++ codes ".htmd-partial")
 
--- none of the pages does
+-- none of the pages is written under this name
 abbrev pub AreSparing : List ℕ → List Page → Type 0
-AreSparing name pages = AllByRecursion (IsSpared name) pages
+AreSparing name pages = AllByRecursion (λ page. name ≢ output_name page) pages
 
--- no page writes what a later one reads or writes
+-- the page doesn't write what a later one reads or writes, and neither output has a name of unfinished ones
+abbrev pub IsApart : Page → Page → Type 0
+IsApart page later =
+    (input_name later ≢ output_name page) × (output_name later ≢ output_name page)
+    × (HasUnfinishedName (output_name page) → ⊥) × (HasUnfinishedName (output_name later) → ⊥)
+
+-- so are all pages of a run
 abbrev pub AreApart : List Page → Type 0
 AreApart [] = ⊤
-AreApart (page ∷ more) =
-    AllByRecursion (λ later. IsSpared (input_name later) page × IsSpared (output_name later) page) more
-    × AreSparing (output_name page) more × AreApart more
+AreApart (page ∷ more) = AllByRecursion (IsApart page) more × AreApart more
+
+-- the name holds what it held; or where nothing was, an unfinished output that couldn't be taken away
+abbrev pub IsSpared : List ℕ → List Change → List Change → Type 0
+IsSpared name past now =
+    (held name now ≡ held name past)
+    ⊎ (HasUnfinishedName name × (held name past ≡ nothing) × (held name now ≡ unfinished))
 
 -- the output holds in the end what the bytes become that the input held in the beginning
 abbrev pub IsConverted : Conversion → List Change → List Change → Page → Type 0
@@ -56,13 +66,10 @@ abbrev pub IsAsBeforeOrWhole : List ℕ → List Change → List Change → Type
 IsAsBeforeOrWhole name past now = (held name now ≡ held name past)
     ⊎ ((bytes : List ℕ) × (held name now ≡ whole bytes))
 
--- no page makes its file under this name before that is whole
-abbrev pub AreWholeUnder : List ℕ → List Page → Type 0
-AreWholeUnder name pages = AllByRecursion (λ page. name ≢ partial_name (output_name page)) pages
-
--- at each moment of a run each other name than those of the files beside the outputs holds what it held before the run
--- or all of something
-abbrev pub IsNeverHalf : List Page → Option (List Change) → Option (List Change) → Type 0
-IsNeverHalf pages before after =
+-- at each moment of a run each name holds what it held before the run or all of something, unless it is one of
+-- unfinished outputs and nothing was there
+abbrev pub IsNeverHalf : Option (List Change) → Option (List Change) → Type 0
+IsNeverHalf before after =
     IfSome before (λ past. (changes : List Change) × (after ≡ Some (changes ++ past))
-    × ((name : List ℕ) → AreWholeUnder name pages → AtEachMoment (IsAsBeforeOrWhole name past) changes past))
+    × ((name : List ℕ) → (HasUnfinishedName name → held name past ≢ nothing)
+    → AtEachMoment (IsAsBeforeOrWhole name past) changes past))

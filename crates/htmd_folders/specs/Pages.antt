@@ -1,8 +1,8 @@
 -- What the conversion of a page changes.
-use Rattle.std.specs.Prelude.{◌≡◌, ◌⊎◌, ℕ, List, [], ◌∷◌, ◌++◌, Option, Some, IfSome, codes, string_bytes}
+use Rattle.std.specs.Prelude.{◌≡◌, ◌⊎◌, ℕ, List, ◌∷◌, ◌++◌, Option, Some, IfSome, codes, string_bytes}
 use Rattle.std.specs.Io.KnownBytes.{Appends}
 use Rattle.htmd_files.specs.declared.planning.Page.{Page}
-use Rattle.htmd_folders.specs.Changes.{Change, created, moved, removed, held, whole}
+use Rattle.htmd_folders.specs.Changes.{Change, created, moved, held, nothing, whole, IsReplaceable, IsLeft}
 
 -- what the bytes of a source become was appended to a sink
 abbrev pub Becomes : (List ℕ → List ℕ → Type 0) → Option (List ℕ) → Option (List ℕ)
@@ -10,9 +10,9 @@ abbrev pub Becomes : (List ℕ → List ℕ → Type 0) → Option (List ℕ) �
 Becomes becomes input before after =
     IfSome input (λ bytes. (written : List ℕ) × becomes bytes written × Appends before after written)
 
--- the name of the file beside an output that is being written
-abbrev pub partial_name : List ℕ → List ℕ
-partial_name output = output ++ codes ".htmd-partial"
+-- an output's file has such a name until it is finished: that of the output and more, so it is beside it
+abbrev pub IsUnfinishedName : List ℕ → List ℕ → Type 0
+IsUnfinishedName output name = (mark : List ℕ) × (name ≡ output ++ mark ++ codes ".htmd-partial")
 
 -- the names of a page
 abbrev pub input_name : Page → List ℕ
@@ -25,13 +25,17 @@ output_name page = string_bytes page.output
 abbrev pub Conversion : Type 1
 Conversion = Page → List ℕ → List ℕ → Type 0
 
+-- a file that isn't finished was made for an output, under a name that held nothing
+abbrev pub IsMadeFor : List ℕ → List ℕ → List Change → Type 0
+IsMadeFor output partial past = IsUnfinishedName output partial × (held partial past ≡ nothing)
+
 -- what these bytes of the page become was brought to its output: a file beside it was made, and once it was whole came
--- under the output's name; nothing else was changed
+-- under the output's name, where nothing or a whole file was; nothing else was changed
 abbrev pub Writes : Conversion → Page → List ℕ → List Change → Option (List Change) → Type 0
 Writes becomes page bytes past after =
-    (written : List ℕ) × becomes page bytes written
-    × (after ≡ Some (moved (partial_name (output_name page)) (output_name page) written
-    ∷ created (partial_name (output_name page)) ∷ past))
+    (written : List ℕ) × (partial : List ℕ) × becomes page bytes written
+    × IsMadeFor (output_name page) partial past × IsReplaceable (held (output_name page) past)
+    × (after ≡ Some (moved partial (output_name page) written ∷ created partial ∷ past))
 
 -- the page was converted: that was done of the bytes that its input held
 abbrev pub Converts : Conversion → Page → Option (List Change) → Option (List Change) → Type 0
@@ -39,16 +43,10 @@ Converts becomes page before after =
     IfSome before (λ past. (bytes : List ℕ) × (held (input_name page) past ≡ whole bytes)
     × Writes becomes page bytes past after)
 
--- the page failed: nothing was changed but the file beside its output, which wasn't made, or was made and then taken
+-- the page failed: nothing was changed but a file beside its output, which wasn't made, or was made and then taken
 -- away, if that could be done
 abbrev pub Fails : Page → Option (List Change) → Option (List Change) → Type 0
 Fails page before after =
-    let partial = partial_name (output_name page) in
     IfSome before (λ past. (after ≡ Some past)
-    ⊎ ((after ≡ Some (created partial ∷ past))
-    ⊎ (after ≡ Some (removed partial ∷ created partial ∷ past))))
-
--- nothing was changed since a file was made, or it was taken away
-abbrev pub IsLeft : List ℕ → Option (List Change) → Option (List Change) → Type 0
-IsLeft partial before after = IfSome before (λ past. (after ≡ Some past)
-    ⊎ (after ≡ Some (removed partial ∷ past)))
+    ⊎ ((partial : List ℕ) × IsMadeFor (output_name page) partial past
+    × IsLeft partial (Some (created partial ∷ past)) after))

@@ -5,17 +5,39 @@ use std::io::ErrorKind;
 
 /// Why a call of a store did not succeed.
 #[derive(Debug, Clone, Copy, PartialEq, Eq, Drop)]
-pub struct StoreFault {
-    pub kind: ErrorKind,
+pub enum StoreFault {
+    /// Reading, writing, closing or renaming failed, or memory ran out.
+    Failed(ErrorKind),
+    /// Something is under the name of a file that should be new.
+    Taken,
+    /// A link is where a file should come.
+    Link,
+    /// What is there is neither a file nor a link.
+    NotAFile,
+    /// The file that is there is protected.
+    Protected,
+}
+
+impl From<AllocError> for StoreFault {
+    fn from(_error: AllocError) -> StoreFault {
+        StoreFault::Failed(ErrorKind::OutOfMemory)
+    }
 }
 
 impl fmt::Display for StoreFault {
     fn fmt<W: fmt::Write>(&self, f: &mut fmt::Formatter<W>) -> fmt::Result {
-        match self.kind {
-            ErrorKind::NotFound => f.write_str("no such file or folder"),
-            ErrorKind::InvalidFilename => f.write_str("a name that can't be used"),
-            ErrorKind::Unsupported => f.write_str("not a file"),
-            kind => write!(f, "{kind}"),
+        match self {
+            StoreFault::Failed(ErrorKind::NotFound) => f.write_str("no such file or folder"),
+            StoreFault::Failed(ErrorKind::InvalidFilename) => {
+                f.write_str("a name that can't be used")
+            }
+            StoreFault::Failed(kind) => write!(f, "{kind}"),
+            StoreFault::Taken => f.write_str("too many unfinished outputs are beside it"),
+            StoreFault::Link => f.write_str("it is a link"),
+            StoreFault::NotAFile => f.write_str("not a file"),
+            StoreFault::Protected => f.write_str(
+                "the run reads or writes this file under another name",
+            ),
         }
     }
 }
@@ -29,12 +51,4 @@ pub enum PageFault<F> {
     Output(StoreFault),
     /// The conversion did not succeed.
     Conversion(F),
-    /// Out of memory.
-    Memory,
-}
-
-impl<F> From<AllocError> for PageFault<F> {
-    fn from(_error: AllocError) -> PageFault<F> {
-        PageFault::Memory
-    }
 }

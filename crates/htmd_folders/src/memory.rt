@@ -1,7 +1,7 @@
 //! Files in memory.
-ghost use Rattle.std.specs.Prelude.{◌≡◌, [], ◌∷◌, map, Some, OnOk, OnErr};
-ghost use Rattle.htmd_folders.specs.Changes.{held, whole, moved, placed};
-ghost use Rattle.htmd_folders.specs.MemoryViews.{change_in, Touches};
+ghost use Rattle.std.specs.Prelude.{◌≡◌, [], ◌∷◌, map, true, Some, OnOk, OnErr};
+ghost use Rattle.htmd_folders.specs.Changes.{held, nothing, whole, moved, obstructed, placed, IsLeft, IsReplaceable};
+ghost use Rattle.htmd_folders.specs.MemoryViews.{change_in, held_in, Leaves};
 
 use crate::faults::StoreFault;
 use crate::listing::Listing;
@@ -29,6 +29,9 @@ pub(crate) enum MemoryChange {
     Removed {
         path: String,
     },
+    Obstructed {
+        path: String,
+    },
 }
 
 /// A store in memory: it keeps all changes that were made to it, so what is under a name is known. A folder is there if
@@ -39,10 +42,6 @@ pub struct MemoryStore {
     // The last one comes first.
     pub(crate) changes: Vec<MemoryChange>,
 }
-
-const OUT_OF_MEMORY: StoreFault = StoreFault {
-    kind: ErrorKind::OutOfMemory,
-};
 
 impl MemoryStore {
     /// A store without files.
@@ -66,19 +65,44 @@ impl MemoryStore {
         self.add(MemoryChange::Placed { path, bytes })
     }
 
+    /// Puts what is no file under a name, such as a folder, a link or a device.
+    pub fn obstruct(&mut self, path: &str) -> Result<(), AllocError>
+        ensures ok { OnOk result (map change_in self.new.changes.items
+            ≡ obstructed path.now ∷ map change_in self.old.changes.items) }
+        ensures err { OnErr result (self.new.changes.items ≡ self.old.changes.items) }
+    {
+        let path = String::from_str(self.alloc, path)?;
+        self.add(MemoryChange::Obstructed { path })
+    }
+
     /// The bytes of the whole file under a name, if there is one.
     pub fn bytes(&self, path: &str) -> Option<&[u8]>
         ensures { (bytes : _) → result ≡ Some bytes
             → held path.now (map change_in self.now.changes.items) ≡ whole bytes.now }
     {
+        match self.held(path) {
+            Held::Whole(bytes) => Some(bytes),
+            _ => None,
+        }
+    }
+
+    /// Whether nothing is under a name.
+    pub fn is_free(&self, path: &str) -> bool
+        ensures { result ≡ true → held path.now (map change_in self.now.changes.items) ≡ nothing }
+    {
+        matches!(self.held(path), Held::Nothing)
+    }
+
+    // What is under a name.
+    fn held(&self, path: &str) -> Held<'_>
+        ensures { held path.now (map change_in self.now.changes.items) ≡ held_in result }
+    {
         for change in &self.changes {
-            match change.touch(path) {
-                Touch::None => {}
-                Touch::Whole(bytes) => return Some(bytes),
-                Touch::NotWhole => return None,
+            if let Some(held) = change.leaves(path) {
+                return held;
             }
         }
-        None
+        Held::Nothing
     }
 
     /// How many changes were made.
@@ -97,27 +121,36 @@ impl MemoryStore {
     }
 }
 
-/// What a change makes of a name.
+/// What is under a name.
 #[derive(Clone, Copy)]
-pub(crate) enum Touch<'a> {
-    None,
+pub(crate) enum Held<'a> {
+    Nothing,
+    Unfinished,
     Whole(&'a [u8]),
-    NotWhole,
+    Obstacle,
 }
 
 impl MemoryChange {
-    fn touch(&self, path: &str) -> Touch<'_>
-        ensures { Touches (change_in self.now) path.now result }
+    // What a change leaves under a name, if it changes that.
+    fn leaves(&self, path: &str) -> Option<Held<'_>>
+        ensures { Leaves (change_in self.now) path.now result }
     {
         match self {
             MemoryChange::Placed { path: other, bytes } if other.as_str() == path => {
-                Touch::Whole(bytes)
+                Some(Held::Whole(bytes))
             }
-            MemoryChange::Created { path: other } if other.as_str() == path => Touch::NotWhole,
-            MemoryChange::Moved { to, bytes, .. } if to.as_str() == path => Touch::Whole(bytes),
-            MemoryChange::Moved { from, .. } if from.as_str() == path => Touch::NotWhole,
-            MemoryChange::Removed { path: other } if other.as_str() == path => Touch::NotWhole,
-            _ => Touch::None,
+            MemoryChange::Created { path: other } if other.as_str() == path => {
+                Some(Held::Unfinished)
+            }
+            MemoryChange::Moved { to, bytes, .. } if to.as_str() == path => {
+                Some(Held::Whole(bytes))
+            }
+            MemoryChange::Moved { from, .. } if from.as_str() == path => Some(Held::Nothing),
+            MemoryChange::Removed { path: other } if other.as_str() == path => Some(Held::Nothing),
+            MemoryChange::Obstructed { path: other } if other.as_str() == path => {
+                Some(Held::Obstacle)
+            }
+            _ => None,
         }
     }
 }
@@ -131,41 +164,33 @@ impl Store for MemoryStore {
 
     fn open(&mut self, path: &str) -> Result<Input<Cursor<Vec<u8>>>, StoreFault> {
         let Some(bytes) = self.bytes(path) else {
-            return Err(StoreFault {
-                kind: ErrorKind::NotFound,
-            });
+            return Err(StoreFault::Failed(ErrorKind::NotFound));
         };
-        match bytes.to_vec(self.alloc) {
-            Ok(bytes) => Ok(Input::new(Cursor::new(bytes))),
-            Err(AllocError) => Err(OUT_OF_MEMORY),
-        }
+        Ok(Input::new(Cursor::new(bytes.to_vec(self.alloc)?)))
     }
 
+    // No file has two names here.
+    fn protect(&mut self, _path: &str) {}
+
     fn create(&mut self, path: &str) -> Result<MemoryWriter, StoreFault> {
-        let Ok(path) = String::from_str(self.alloc, path) else {
-            return Err(OUT_OF_MEMORY);
+        let Held::Nothing = self.held(path) else {
+            return Err(StoreFault::Taken);
         };
-        match self.add(MemoryChange::Created { path }) {
-            Ok(()) => Ok(MemoryWriter::new(self.alloc)),
-            Err(AllocError) => Err(OUT_OF_MEMORY),
-        }
+        let path = String::from_str(self.alloc, path)?;
+        self.add(MemoryChange::Created { path })?;
+        Ok(MemoryWriter::new(self.alloc))
     }
 
     fn publish(&mut self, writer: MemoryWriter, from: &str, to: &str) -> Result<(), StoreFault> {
-        match self.move_file(writer.into_bytes(), from, to) {
-            Ok(()) => Ok(()),
-            Err(AllocError) => Err(OUT_OF_MEMORY),
+        let outcome = self.bring(writer.into_bytes(), from, to);
+        if outcome.is_err() {
+            self.take_away(from);
         }
+        outcome
     }
 
-    fn remove(&mut self, path: &str) -> Result<(), StoreFault> {
-        let Ok(path) = String::from_str(self.alloc, path) else {
-            return Err(OUT_OF_MEMORY);
-        };
-        match self.add(MemoryChange::Removed { path }) {
-            Ok(()) => Ok(()),
-            Err(AllocError) => Err(OUT_OF_MEMORY),
-        }
+    fn discard(&mut self, _writer: MemoryWriter, path: &str) {
+        self.take_away(path);
     }
 
     fn make_folder(&mut self, _path: &str) -> Result<(), StoreFault> {
@@ -180,25 +205,39 @@ impl Store for MemoryStore {
     }
 
     fn list(&mut self, alloc: Global, folder: &str) -> Result<Listing, StoreFault> {
-        match self.files_below(alloc, folder) {
-            Ok(files) => Ok(Listing {
-                files,
-                unread: Vec::new(alloc),
-            }),
-            Err(AllocError) => Err(OUT_OF_MEMORY),
-        }
+        Ok(Listing {
+            files: self.files_below(alloc, folder)?,
+            unread: Vec::new(alloc),
+        })
     }
 }
 
 impl MemoryStore {
-    fn move_file(&mut self, bytes: Vec<u8>, from: &str, to: &str) -> Result<(), AllocError>
+    // Brings a file with these bytes from the first name under the second.
+    fn bring(&mut self, bytes: Vec<u8>, from: &str, to: &str) -> Result<(), StoreFault>
+        ensures place { OnOk result (IsReplaceable (held to.now (map change_in self.old.changes.items))) }
         ensures ok { OnOk result (map change_in self.new.changes.items
             ≡ moved from.now to.now bytes.items ∷ map change_in self.old.changes.items) }
         ensures err { OnErr result (self.new.changes.items ≡ self.old.changes.items) }
     {
+        match self.held(to) {
+            Held::Nothing | Held::Whole(_) => {}
+            Held::Unfinished | Held::Obstacle => return Err(StoreFault::NotAFile),
+        }
         let from = String::from_str(self.alloc, from)?;
         let to = String::from_str(self.alloc, to)?;
-        self.add(MemoryChange::Moved { from, to, bytes })
+        self.add(MemoryChange::Moved { from, to, bytes })?;
+        Ok(())
+    }
+
+    // Takes the file under a name away, if there is memory for that.
+    fn take_away(&mut self, path: &str)
+        ensures { IsLeft path.now (Some (map change_in self.old.changes.items))
+            (Some (map change_in self.new.changes.items)) }
+    {
+        if let Ok(path) = String::from_str(self.alloc, path) {
+            let _ = self.add(MemoryChange::Removed { path });
+        }
     }
 
     // The whole files below a folder, by their paths from it on.
@@ -224,6 +263,7 @@ impl MemoryChange {
             MemoryChange::Created { path } => path,
             MemoryChange::Moved { to, .. } => to,
             MemoryChange::Removed { path } => path,
+            MemoryChange::Obstructed { path } => path,
         }
     }
 

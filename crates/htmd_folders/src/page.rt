@@ -1,7 +1,7 @@
 //! One page: from its input to its output.
 ghost use Rattle.std.specs.Prelude.{◌≡◌, ◌∷◌, [], false, IfOk, IfSome, OnOk, OnErr, string_bytes};
-ghost use Rattle.htmd_folders.specs.Changes.{IsNew, IsMoved, Makes, created};
-ghost use Rattle.htmd_folders.specs.Pages.{Converts, Fails, IsLeft, Writes, partial_name};
+ghost use Rattle.htmd_folders.specs.Changes.{IsNew, Makes, created};
+ghost use Rattle.htmd_folders.specs.Pages.{Converts, Fails, IsMadeFor, IsUnfinishedName, Writes};
 
 use crate::conversion::Conversion;
 use crate::faults::{PageFault, StoreFault};
@@ -10,8 +10,17 @@ use htmd_files::Page;
 use htmd_streams::{Sink, Source};
 use std::alloc::{AllocError, Global};
 
-/// What the name of a file that is being written has after that of its output.
-const PARTIAL: &str = ".htmd-partial";
+/// What the name of an unfinished output ends with.
+const UNFINISHED: &str = ".htmd-partial";
+
+/// How many names are tried for an unfinished output.
+const MOST_NAMES: u32 = 1000;
+
+/// The file beside an output that is being written.
+pub(crate) struct Unfinished<W> {
+    name: String,
+    writer: W,
+}
 
 /// Converts a page. What it becomes is written to a new file beside the output, which is brought under the output's
 /// name when it is whole. Folders that are missing above the output are made. If the page fails, the output stays as it
@@ -47,45 +56,33 @@ fn write_page<S: Store, C: Conversion, R: Source, E: Sink>(
         (λ bytes. Writes (C.becomes conversion.now) page.now bytes past (S.changes store.new)))) }
     ensures err { OnErr result (Fails page.now (S.changes store.old) (S.changes store.new)) }
 {
-    let partial = match partial_beside(alloc, &page.output) {
-        Ok(partial) => partial,
-        Err(AllocError) => return Err(PageFault::Memory),
-    };
-    let mut writer = match create_below(store, &page.output, &partial) {
-        Ok(writer) => writer,
+    let Unfinished { name, mut writer } = match create_below(alloc, store, &page.output) {
+        Ok(unfinished) => unfinished,
         Err(fault) => return Err(PageFault::Output(fault)),
     };
     match conversion.convert(page, source, &mut writer, errors) {
-        Ok(()) => match bring(store, writer, &partial, &page.output) {
+        Ok(()) => match store.publish(writer, &name, &page.output) {
             Ok(()) => Ok(()),
             Err(fault) => Err(PageFault::Output(fault)),
         },
         Err(fault) => {
-            drop(writer);
-            let _ = store.remove(&partial);
+            store.discard(writer, &name);
             Err(PageFault::Conversion(fault))
         }
     }
 }
 
-// The name of the file beside an output that is being written.
-fn partial_beside(alloc: Global, output: &str) -> Result<String, AllocError>
-    ensures { IfOk result (λ partial. string_bytes partial ≡ partial_name output.now) }
-{
-    let mut partial = String::from_str(alloc, output)?;
-    partial.push_str(PARTIAL)?;
-    Ok(partial)
-}
-
 // Makes the file beside an output, and the folders that are missing above it.
 fn create_below<S: Store>(
+    alloc: Global,
     store: &mut S,
     output: &str,
-    partial: &str,
-) -> Result<S::Writer, StoreFault>
-    ensures empty { IfOk result (λ writer. IsNew (S.changes store.old) (S.Writer.contents writer)) }
-    ensures unfailed { IfOk result (λ writer. S.Writer.has_failed writer ≡ false) }
-    ensures ok { OnOk result (Makes (S.changes store.old) (S.changes store.new) (created partial.now ∷ [])) }
+) -> Result<Unfinished<S::Writer>, StoreFault>
+    ensures empty { IfOk result (λ made. IsNew (S.changes store.old) (S.Writer.contents made.writer)) }
+    ensures unfailed { IfOk result (λ made. S.Writer.has_failed made.writer ≡ false) }
+    ensures free { IfOk result (λ made. IfSome (S.changes store.old) (IsMadeFor output.now (string_bytes made.name))) }
+    ensures ok { IfOk result (λ made. Makes (S.changes store.old) (S.changes store.new)
+        (created (string_bytes made.name) ∷ [])) }
     ensures err { OnErr result (Makes (S.changes store.old) (S.changes store.new) []) }
 {
     if let Some((folder, _)) = output.rsplit_once('/')
@@ -93,23 +90,41 @@ fn create_below<S: Store>(
     {
         store.make_folder(folder)?;
     }
-    store.create(partial)
+    create_beside(alloc, store, output)
 }
 
-// Brings a file that is whole under its output's name, or takes it away.
-fn bring<S: Store>(
+// Makes the file beside an output under the first of its names where nothing is.
+fn create_beside<S: Store>(
+    alloc: Global,
     store: &mut S,
-    writer: S::Writer,
-    partial: &str,
     output: &str,
-) -> Result<(), StoreFault>
-    ensures ok { OnOk result (IsMoved (S.changes store.old) (S.changes store.new) partial.now output.now
-        (S.Writer.contents writer)) }
-    ensures err { OnErr result (IsLeft partial.now (S.changes store.old) (S.changes store.new)) }
+) -> Result<Unfinished<S::Writer>, StoreFault>
+    ensures empty { IfOk result (λ made. IsNew (S.changes store.old) (S.Writer.contents made.writer)) }
+    ensures unfailed { IfOk result (λ made. S.Writer.has_failed made.writer ≡ false) }
+    ensures free { IfOk result (λ made. IfSome (S.changes store.old) (IsMadeFor output.now (string_bytes made.name))) }
+    ensures ok { IfOk result (λ made. Makes (S.changes store.old) (S.changes store.new)
+        (created (string_bytes made.name) ∷ [])) }
+    ensures err { OnErr result (Makes (S.changes store.old) (S.changes store.new) []) }
 {
-    let outcome = store.publish(writer, partial, output);
-    if outcome.is_err() {
-        let _ = store.remove(partial);
+    for number in 0..MOST_NAMES {
+        let name = unfinished_name(alloc, output, number)?;
+        match store.create(&name) {
+            Ok(writer) => return Ok(Unfinished { name, writer }),
+            Err(StoreFault::Taken) => {}
+            Err(fault) => return Err(fault),
+        }
     }
-    outcome
+    Err(StoreFault::Taken)
+}
+
+// A name for the file beside an output. `Err` means out of memory.
+#[tactic(auto, using(crate::proofs::ChangesLemmas::marked))]
+fn unfinished_name(alloc: Global, output: &str, number: u32) -> Result<String, AllocError>
+    ensures { IfOk result (λ name. IsUnfinishedName output.now (string_bytes name)) }
+{
+    let mark = format!(in alloc; ".{number}")?;
+    let mut name = String::from_str(alloc, output)?;
+    name.push_str(&mark)?;
+    name.push_str(UNFINISHED)?;
+    Ok(name)
 }

@@ -1,9 +1,9 @@
 //! All pages of a plan.
 ghost use Rattle.std.specs.Prelude.{◌≡◌, ◌⊎◌, ◌<◌, ◌+◌, ◌^◌, suc, length, ℕ, List};
 ghost use Rattle.std.specs.List.{AllByRecursion};
-ghost use Rattle.htmd_folders.specs.Changes.{held};
+ghost use Rattle.htmd_folders.specs.Changes.{held, IsReplaceable};
 ghost use Rattle.htmd_folders.specs.Pages.{Converts, Fails};
-ghost use Rattle.htmd_folders.specs.FolderConversions.{Takes, AreApart, AreSparing, IfKnown, IsConverted, IsConvertedOrKept, IsNeverHalf};
+ghost use Rattle.htmd_folders.specs.FolderConversions.{Takes, AreApart, AreSparing, IfKnown, IsConverted, IsConvertedOrKept, IsNeverHalf, IsSpared};
 
 use crate::conversion::Conversion;
 use crate::faults::PageFault;
@@ -42,8 +42,10 @@ pub fn run_pages<S: Store, C: Conversion, E: Sink>(
     ensures kept { AreApart pages.now → IfKnown (S.changes store.old) (S.changes store.new)
         (λ past now. AllByRecursion (IsConvertedOrKept (C.becomes conversion.now) past now) pages.now) }
     ensures others { IfKnown (S.changes store.old) (S.changes store.new)
-        (λ past now. (name : List ℕ) → AreSparing name pages.now → held name now ≡ held name past) }
-    ensures never_half { IsNeverHalf pages.now (S.changes store.old) (S.changes store.new) }
+        (λ past now. (name : List ℕ) → AreSparing name pages.now → IsSpared name past now) }
+    ensures obstacles { IfKnown (S.changes store.old) (S.changes store.new)
+        (λ past now. (name : List ℕ) → (IsReplaceable (held name past) → ⊥) → held name now ≡ held name past) }
+    ensures never_half { IsNeverHalf (S.changes store.old) (S.changes store.new) }
 {
     take_pages(alloc, store, conversion, pages, errors, progress)
 }
@@ -61,6 +63,7 @@ fn take_pages<S: Store, C: Conversion, E: Sink>(
     ensures taken { Takes (C.becomes conversion.now) pages.now (S.changes store.old) (S.changes store.new)
         result.failed }
 {
+    protect_inputs(store, pages);
     let count = pages.len() as u64;
     let progress = if count > 1 { progress } else { Progress::Quiet };
     let mut tally = Tally {
@@ -73,6 +76,15 @@ fn take_pages<S: Store, C: Conversion, E: Sink>(
     }
     clear_count(errors, progress);
     tally
+}
+
+// Protects what the pages are read from.
+fn protect_inputs<S: Store>(store: &mut S, pages: &[Page])
+    ensures same { S.changes store.new ≡ S.changes store.old }
+{
+    for page in pages {
+        store.protect(&page.input);
+    }
 }
 
 // Converts a page, counts it, and says why if it failed.
@@ -121,6 +133,5 @@ fn report<C: Conversion, E: Sink>(
             Lines { sink: errors },
             "htmd: {input}: {output} can't be written: {fault}"
         ),
-        PageFault::Memory => writeln!(Lines { sink: errors }, "htmd: {input}: out of memory"),
     };
 }

@@ -1,6 +1,6 @@
 //! The files that pages are read from and written to.
 ghost use Rattle.std.specs.Prelude.{◌≡◌, List, [], ◌∷◌, Option, None, false, IfOk, OnOk, OnErr};
-ghost use Rattle.htmd_folders.specs.Changes.{Change, created, removed, Makes, IsOpened, IsNew, IsMoved};
+ghost use Rattle.htmd_folders.specs.Changes.{Change, created, Makes, IsFree, IsLeft, IsOpenTo, IsOpened, IsNew, IsMoved};
 
 use crate::faults::StoreFault;
 use crate::listing::Listing;
@@ -13,8 +13,8 @@ pub trait Store {
     /// A file that is read.
     type Reader: Source + Drop;
 
-    /// A file that is written.
-    type Writer: Sink + Drop;
+    /// A file that is written. It can't be let go: `publish` or `discard` ends it.
+    type Writer: Sink;
 
     // The changes that were made to the files so far, the last one first, if they are known.
     ghost changes: { Self → Option (List Change) } = { λ _. None };
@@ -25,25 +25,32 @@ pub trait Store {
         ensures unfailed { IfOk result (λ reader. Self.Reader.has_failed reader ≡ false) }
         ensures same { Makes (changes self.old) (changes self.new) [] };
 
-    /// Makes an empty file under a name, also in place of one that is there, to be written.
+    /// From now on the file under a name keeps its place, whatever other name leads to it: `publish` fails there. Out of
+    /// memory, `publish` fails everywhere.
+    fn protect(&mut self, path: &str)
+        ensures same { changes self.new ≡ changes self.old };
+
+    /// Makes an empty file under a name where nothing is, to be written. `StoreFault::Taken` means that something is
+    /// there.
     fn create(&mut self, path: &str) -> Result<Self::Writer, StoreFault>
         ensures empty { IfOk result (λ writer. IsNew (changes self.old) (Self.Writer.contents writer)) }
         ensures unfailed { IfOk result (λ writer. Self.Writer.has_failed writer ≡ false) }
+        ensures free { OnOk result (IsFree (changes self.old) path.now) }
         ensures ok { OnOk result (Makes (changes self.old) (changes self.new) (created path.now ∷ [])) }
         ensures err { OnErr result (Makes (changes self.old) (changes self.new) []) };
 
-    /// Closes the file that was created under the first name, and brings it under the second name at once, also in
-    /// place
-    /// of a file that is there.
+    /// Closes the file that was created under the first name, and brings it under the second name at once, where nothing
+    /// is or another file, which it replaces. A link is no file, and isn't followed. If that fails, the file is taken
+    /// away, if that can be done.
     fn publish(&mut self, writer: Self::Writer, from: &str, to: &str) -> Result<(), StoreFault>
+        ensures place { OnOk result (IsOpenTo (changes self.old) to.now) }
         ensures ok { OnOk result (IsMoved (changes self.old) (changes self.new) from.now to.now
             (Self.Writer.contents writer)) }
-        ensures err { OnErr result (Makes (changes self.old) (changes self.new) []) };
+        ensures err { OnErr result (IsLeft from.now (changes self.old) (changes self.new)) };
 
-    /// Takes the file under a name away.
-    fn remove(&mut self, path: &str) -> Result<(), StoreFault>
-        ensures ok { OnOk result (Makes (changes self.old) (changes self.new) (removed path.now ∷ [])) }
-        ensures err { OnErr result (Makes (changes self.old) (changes self.new) []) };
+    /// Closes the file that was created under a name, and takes it away, if that can be done.
+    fn discard(&mut self, writer: Self::Writer, path: &str)
+        ensures { IsLeft path.now (changes self.old) (changes self.new) };
 
     /// Makes a folder and those above it, as far as they are missing.
     fn make_folder(&mut self, path: &str) -> Result<(), StoreFault>

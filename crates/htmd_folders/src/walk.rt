@@ -66,7 +66,7 @@ impl<R: Files> Walk<'_, '_, R> {
     fn push_unread(&mut self, path: &str, kind: ErrorKind) -> Result<(), AllocError> {
         self.listing.unread.push(Unread {
             path: String::from_str(self.alloc, path)?,
-            fault: StoreFault { kind },
+            fault: StoreFault::Failed(kind),
         })?;
         Ok(())
     }

@@ -35,9 +35,7 @@ pub struct FailingStore {
     pub keeps: bool,
 }
 
-const DENIED: StoreFault = StoreFault {
-    kind: ErrorKind::PermissionDenied,
-};
+const DENIED: StoreFault = StoreFault::Failed(ErrorKind::PermissionDenied);
 
 impl FailingStore {
     fn allows(&self, call: Call) -> Result<(), StoreFault> {
@@ -139,6 +137,10 @@ impl Store for FailingStore {
         })
     }
 
+    fn protect(&mut self, path: &str) {
+        self.inner.protect(path);
+    }
+
     fn create(&mut self, path: &str) -> Result<FailingWriter, StoreFault> {
         self.allows(Call::Create)?;
         Ok(FailingWriter {
@@ -151,15 +153,17 @@ impl Store for FailingStore {
     }
 
     fn publish(&mut self, writer: FailingWriter, from: &str, to: &str) -> Result<(), StoreFault> {
-        self.allows(Call::Publish)?;
+        if let Err(fault) = self.allows(Call::Publish) {
+            self.discard(writer, from);
+            return Err(fault);
+        }
         self.inner.publish(writer.inner, from, to)
     }
 
-    fn remove(&mut self, path: &str) -> Result<(), StoreFault> {
-        if self.keeps {
-            return Err(DENIED);
+    fn discard(&mut self, writer: FailingWriter, path: &str) {
+        if !self.keeps {
+            self.inner.discard(writer.inner, path);
         }
-        self.inner.remove(path)
     }
 
     fn make_folder(&mut self, path: &str) -> Result<(), StoreFault> {

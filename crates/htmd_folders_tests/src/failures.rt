@@ -84,12 +84,13 @@ fn expect_output(
     expect_held(store, &output, Some(&twice))
 }
 
-// A file beside an output stays only if it can't be removed, and never holds a complete file.
-fn expect_no_partial(alloc: Global, store: &MemoryStore) -> Result<(), Fail> {
+// An unfinished output stays only if it can't be taken away, and never holds a whole file.
+fn expect_no_unfinished(alloc: Global, store: &MemoryStore, keeps: bool) -> Result<(), Fail> {
     for (input, _, _) in PAGES {
         let output = output_of(alloc, input)?;
-        let partial = format!(in alloc; "{output}.htmd-partial")?;
-        expect_held(store, &partial, None)?;
+        let name = format!(in alloc; "{output}.0.htmd-partial")?;
+        expect_that(&name, keeps || store.is_free(&name))?;
+        expect_held(store, &name, None)?;
     }
     Ok(())
 }
@@ -124,7 +125,7 @@ fn expect_failure(alloc: Global, call: Call, failed: usize, keeps: bool) -> Resu
     for page in 0..PAGES.len() {
         expect_output(alloc, &store.inner, page, failed)?;
     }
-    expect_no_partial(alloc, &store.inner)
+    expect_no_unfinished(alloc, &store.inner, keeps)
 }
 
 #[test]

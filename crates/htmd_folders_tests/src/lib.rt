@@ -7,3 +7,5 @@ mod doubles;
 mod failures;
 #[cfg(test)]
 mod lines;
+#[cfg(test)]
+mod names;

@@ -17,7 +17,7 @@ fn main(rt: HostRuntime) -> ExitCode {
             let status = run_program(
                 rt.alloc(),
                 words.as_slice(),
-                &mut HostStore { runtime: &rt },
+                &mut HostStore::new(rt.alloc(), &rt),
                 &mut source,
                 &mut sink,
                 &mut errors,

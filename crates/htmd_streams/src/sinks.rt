@@ -51,6 +51,13 @@ impl<W: Write> Output<W> {
             has_failed: false,
         }
     }
+
+    /// The writer, with what was written.
+    pub fn into_inner(self) -> W
+        ensures { W.contents result ≡ ⟦<Output<W> as Sink>⟧.contents self }
+    {
+        self.writer
+    }
 }
 
 impl<W: Write> Sink for Output<W> {

@@ -6,6 +6,7 @@ use Rattle.htmd_files.specs.FilePlans as spec
 use Rattle.htmd_files.specs.PlanViews.{operand_of, destination_of, pages_of}
 use Rattle.htmd_files.specs.Promises.{AreBelow}
 use Rattle.htmd_files.proofs.PromisesLemmas.{plan_keeps}
+use Rattle.htmd_files.proofs.NamedLemmas.{plan_named}
 use Rattle.htmd_files.proofs.planning.plan_of.Goals as goal
 
 pub returns-in_ok-files-in-Some-clause-apart : goal.returns-in_ok-files-in-Some-clause-apart
@@ -24,3 +25,8 @@ returns-in_ok-files-in-Some-clause-below c =
     let pages : List spec.Page = pages_of c.in_ok-files-in-Some.field-0.items in
     subst (λ (o : Option Destination). AreBelow (option_map destination_of o) operands pages) (sym c.in-Some.is)
     (plan_keeps operands (Some (destination_of c.in-Some.out)) (spec.files pages) c.in_ok-files-in-Some.ensures.ok).1.1
+
+pub returns-in_ok-files-in-Some-clause-named : goal.returns-in_ok-files-in-Some-clause-named
+returns-in_ok-files-in-Some-clause-named c =
+    plan_named (map operand_of c.args.operands.now) (Some (destination_of c.in-Some.out))
+    (spec.files (pages_of c.in_ok-files-in-Some.field-0.items)) c.in_ok-files-in-Some.ensures.ok

@@ -1,5 +1,5 @@
 -- What follows from how the pages were taken.
-use Rattle.htmd_folders.proofs.LawsLemmas.{converted_law, kept_law, others_law, never_half_law}
+use Rattle.htmd_folders.proofs.LawsLemmas.{converted_law, kept_law, others_law, obstacles_law, never_half_law}
 use Rattle.htmd_folders.proofs.run.run_pages.Goals as goal
 
 pub returns-clause-converted : goal.returns-clause-converted
@@ -17,6 +17,12 @@ returns-clause-kept g c =
 pub returns-clause-others : goal.returns-clause-others
 returns-clause-others g c =
     others_law (g.C.Conversion.becomes c.args.conversion.now) c.args.pages.now
+    (g.S.Store.changes c.args.store.now) (g.S.Store.changes c.take_pages.new.store) c.take_pages.result.failed
+    c.take_pages.ensures.taken
+
+pub returns-clause-obstacles : goal.returns-clause-obstacles
+returns-clause-obstacles g c =
+    obstacles_law (g.C.Conversion.becomes c.args.conversion.now) c.args.pages.now
     (g.S.Store.changes c.args.store.now) (g.S.Store.changes c.take_pages.new.store) c.take_pages.result.failed
     c.take_pages.ensures.taken
 

@@ -1,5 +1,5 @@
 -- One more page was taken.
-use Rattle.std.proofs.Common.{◌≡◌, ◌++◌, List, [], ◌∷◌, ◌∙◌, ap, subst, sym, take, arith}
+use Rattle.std.proofs.Common.{◌++◌, List, [], ◌∷◌, ◌∙◌, ap, subst, sym, take, arith}
 use Rattle.std.proofs.lemmas.List.{take_more}
 use Rattle.htmd_files.specs.declared.planning.Page.{Page}
 use Rattle.htmd_folders.specs.FolderConversions.{Takes}
@@ -12,7 +12,7 @@ loop-page-preserved g c =
     let i = c.loop-page.page-index in
     let page = c.page-item.result in
     let becomes = g.C.Conversion.becomes c.args.conversion.now in
-    let before = g.S.Store.changes c.args.store.now in
+    let before = g.S.Store.changes c.protect_inputs.new.store in
     let after = g.S.Store.changes c.take_page.new.store in
     let P : List Page → Type 0 = λ ps. Takes becomes ps before after c.take_page.new.tally.failed in
     let more = take_more pages i page c.loop-page-test.true

@@ -2,7 +2,7 @@
 use Rattle.std.proofs.Common.{◌≡◌, drop, map}
 use Rattle.htmd_folders.specs.Changes.{held}
 use Rattle.htmd_folders.specs.MemoryViews.{change_in}
-use Rattle.htmd_folders.proofs.memory.MemoryStore.bytes.Given as goal
+use Rattle.htmd_folders.proofs.memory.MemoryStore.held.Given as goal
 
 abbrev pub invariant-loop-change : goal.invariant-loop-change
 invariant-loop-change l =
