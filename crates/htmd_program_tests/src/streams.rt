@@ -89,7 +89,7 @@ fn asks_for_utf8_first(rt: HostRuntime) -> Result<(), Fail> {
         let mut source = Dripping::new(b"<p>\xff", 9);
         let mut sink = Narrow::new(rt.alloc(), 9);
         let result = run(rt.alloc(), &mut source, &mut sink, mode);
-        let reads = 9 - source.reads_left();
+        let reads = 9usize.saturating_sub(source.reads_left());
         expect_that(
             "answer",
             result == Err(RunError::NotUtf8) || result == Err(RunError::Memory),
