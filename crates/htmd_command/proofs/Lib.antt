@@ -1,4 +1,3 @@
 -- Lemmas of the program.
 pub mod PageResultsLemmas
-pub mod OperandsLemmas
 pub mod ProgramsLemmas

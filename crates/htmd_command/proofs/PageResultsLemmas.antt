@@ -1,13 +1,15 @@
 -- What is done of an input is what is answered.
 use Rattle.std.proofs.Common.{◌≡◌, ◌∙◌, refl, ap, sym, subst, ℕ, Bool, true, false, List, [], ◌∷◌, ◌++◌}
-use Rattle.std.proofs.Common.{Option, Some, None, option_map, Result, Ok, MatchBool, Bor, string_bytes}
+use Rattle.std.proofs.Common.{Option, Some, None, option_map, Result, Ok, Err, IsErrOf, IsTrue, ◌↔◌, ◌≢◌, MatchBool, Bor, string_bytes}
 use Rattle.std.specs.Option.{option_copied}
-use Rattle.std.proofs.lemmas.Bool.{cond-true, cond-false}
+use Rattle.std.proofs.lemmas.Bool.{cond-true, cond-false, false≢true}
 use Rattle.htmd_addresses.specs.Leads.{PageValue}
 use Rattle.htmd_addresses.specs.RunViews.{pages_in}
 use Rattle.htmd_addresses.specs.declared.pages.Pages.{Pages}
 use Rattle.htmd.specs.Characters.{line_feed}
+use Rattle.htmd_cli.specs.declared.faults.RunError.TheVariants.{NotUtf8, Refused, Memory, Read, Write}
 use Rattle.htmd_cli.specs.declared.faults.PageError.{PageError}
+use Rattle.htmd_cli.specs.declared.faults.PageError.TheVariants.{Run, Unsupported, NothingSelected}
 use Rattle.htmd_cli.specs.Options.{Request, is_at, is_one_of_run}
 use Rattle.htmd_cli.specs.Rows.{ConvertsRows, Succeeds, rows_of}
 use Rattle.htmd_cli.specs.StreamConversions.{Converts, Ends}
@@ -48,6 +50,36 @@ pub ends_converts : {W T : Type 0} (settings : Settings) (input rest : Option (L
 ends_converts {W} {T} settings input rest contents before after r done ends e =
     let P : Result T PageError → Type 0 = λ x. Ends settings input rest contents before after x in
     (subst P e ends).1
+
+-- a run that doesn't succeed leaves the sink as it was, unless a write failed
+ends_by : {W : Type 0} (T : Type 0) (settings : Settings) (input rest : Option (List ℕ))
+    (contents : W → Option (List ℕ)) (before after : W) (error : PageError)
+    → Ends {W = W} {T = T} settings input rest contents before after (Err error) → error ≢ Run Write
+    → after ≡ before
+ends_by T settings input rest contents before after (Run NotUtf8) e n = e.3
+ends_by T settings input rest contents before after (Unsupported encoding) e n = e.2
+ends_by T settings input rest contents before after (Run (Refused place kind)) e n = e.4
+ends_by T settings input rest contents before after NothingSelected e n = e.2
+ends_by T settings input rest contents before after (Run Memory) e n = e
+ends_by T settings input rest contents before after (Run Read) e n = e
+ends_by T settings input rest contents before after (Run Write) e n = absurd (n refl)
+
+pub ends_untouched : {W T : Type 0} (settings : Settings) (input rest : Option (List ℕ))
+    (contents : W → Option (List ℕ)) (before after : W) (r : Result T PageError) (error : PageError) (failed : Bool)
+    → Ends settings input rest contents before after r → r ≡ Err error
+    → (IsErrOf r (Run Write) ↔ IsTrue failed) → failed ≡ false → after ≡ before
+ends_untouched {W} {T} settings input rest contents before after r error failed ends e w f =
+    let P : Result T PageError → Type 0 = λ x. Ends settings input rest contents before after x in
+    ends_by T settings input rest contents before after error (subst P e ends)
+    (λ z. false≢true (sym f ∙ w.0 (subst (λ (x : PageError). r ≡ Err x) z e)))
+
+-- a whole input that was converted is what is asked for, unless that is rows
+pub converts_succeeds : (request : Request) (input before after : Option (List ℕ)) → request.rows ≡ false
+    → Converts request.settings input before after → Succeeds request input before after
+converts_succeeds request input before after e converts =
+    let P : Bool → Type 0 = λ rows. MatchBool rows (ConvertsRows request.settings input before after)
+    (Converts request.settings input before after) in
+    subst P (sym e) converts
 
 -- a whole input that was converted is answered, unless rows are asked for
 pub converts_becomes : (request : Request) (input before after : Option (List ℕ)) → request.rows ≡ false

@@ -1,45 +1,150 @@
--- What the program changes.
-use Rattle.std.specs.Prelude.{◌≡◌, ◌⊎◌, ℕ, Bool, false, List, [], map, Option, Some, option_map, IfSome, Ok}
+-- What a run of the program changes, writes and answers, case by case.
+use Rattle.std.specs.Prelude.{◌≡◌, ◌≢◌, ◌≤◌, ◌↔◌, ◌⊎◌, ℕ, true, false, List, [], codes, Option, Some, IfSome, Ok, Err}
+use Rattle.std.specs.List.{AllByRecursion}
 use Rattle.std.specs.declared.alloc.Global.{Global}
 use Rattle.std.specs.declared.string.String.{String}
-use Rattle.htmd_cli.specs.Options.{Request, request_by}
+use Rattle.htmd_cli.specs.Options.{Request, are_known, request_by}
 use Rattle.htmd_cli.specs.Rows.{Succeeds}
 use Rattle.htmd_files.specs.declared.planning.Page.{Page}
-use Rattle.htmd_files.specs.FilePlans.{Operand, Destination, FilePlan, files, path_of, plan}
+use Rattle.htmd_files.specs.FilePlans.{Fault, files, standard_output}
 use Rattle.htmd_files.specs.PlanViews.{pages_of}
 use Rattle.htmd_files.specs.Words.{Job, job}
+use Rattle.htmd_files.specs.Words as words
 use Rattle.htmd_files.specs.WordViews.{texts_of}
-use Rattle.htmd_folders.specs.Changes.{Change, Makes}
-use Rattle.htmd_folders.specs.FolderConversions.{Takes}
+use Rattle.htmd_folders.specs.Changes.{Change, Makes, IsOpened}
+use Rattle.htmd_folders.specs.FolderConversions.{Takes, IfKnown, IsConverted, IsConvertedOrKept}
+use Rattle.htmd_folders.specs.Listings.{is_file}
+use Rattle.htmd_folders.specs.Pages.{Conversion}
 use Rattle.htmd_command.specs.PageResults.{IsResultOf, pages_led_to, request_for}
+use Rattle.htmd_folders.specs.Plans.{IsPlanOf}
+use Rattle.htmd_command.specs.Streams.{Stream, IsUntouched, SaysMemory, Shows}
 
--- a place that may be a folder which is there
-abbrev pub destination : Bool → List ℕ → Destination
-destination is_folder path = record { path = path; is_folder = is_folder }
+-- the words ask for a job with these options
+pub record Asks (given : List (List ℕ)) (asked : Job) (options : List (String Global)) : Type 0 where
+  pub is_job : job given ≡ Ok asked
+  pub are : texts_of options ≡ asked.options
 
--- this is the plan of a job: for operands of its names, each a file or a folder with some files below it, and with its
--- output, which is a folder that is there or not
-pub record IsPlanOf (asked : Job) (planned : FilePlan) : Type 0 where
-  pub operands : List Operand
-  pub is_folder : Bool
-  pub names : map path_of operands ≡ asked.operands
-  pub is : plan operands (option_map (destination is_folder) asked.output) ≡ Ok planned
+-- the job names files, its options are known, and they don't ask for the help or the like
+pub record IsOfFiles (asked : Job) (options : List (String Global)) : Type 0 where
+  pub named : asked.operands ≢ []
+  pub known : are_known options ≡ true
+  pub converts : (request_by options).shows ≡ false
 
--- the pages of the job's plan were taken, and if the status is 0 none failed
-pub record Runs (asked : Job) (request : Request) (before after : Option (List Change)) (status : ℕ) : Type 0 where
+-- ---- nothing is done
+
+-- no file is changed, and nothing is written to standard output
+abbrev pub DoesNothing : {W : Type 0} → Option (List Change) → Option (List Change) → Stream W → Type 0
+DoesNothing before after output = Makes before after [] × IsUntouched output
+
+-- the job can't be done: an option isn't known, or there is no plan for its files
+abbrev pub CannotDo : Job → List (String Global) → Option (List Change) → Type 0
+CannotDo asked options before =
+    ((asked.operands ≢ []) × (are_known options ≡ false))
+    ⊎ (IsOfFiles asked options × (missed : List (List ℕ)) × (fault : Fault)
+    × IsPlanOf before asked missed (Err fault))
+
+-- memory runs out before anything is done, and standard error says so: the status is 1
+abbrev pub RunsOut : {W E : Type 0} → Option (List Change) → Option (List Change) → Stream W → Stream E → ℕ
+    → Type 0
+RunsOut before after output errors status =
+    DoesNothing before after output × SaysMemory errors × (status ≡ 1)
+
+-- ---- standard output is written
+
+-- Standard input is converted to standard output, or the help or the like is shown: no file is named, the options ask
+-- for that, or the only input is `-`. The status is 2 only if an option isn't known, and then it isn't 0.
+pub record ConvertsInput {W : Type 0} (asked : Job) (options : List (String Global))
+    (before after : Option (List Change)) (input : Option (List ℕ)) (output : Stream W) (status : ℕ)
+    : Type 0 where
+  pub cause : (asked.operands ≡ []) ⊎ (((request_by options).shows ≡ true) ⊎ (IsOfFiles asked options
+      × (missed : List (List ℕ)) × IsPlanOf before asked missed (Ok (standard_output (codes "-")))))
+  pub same : Makes before after []
+  pub shown : Shows (request_by options) input output status
+  pub unknown : status ≡ 2 → are_known options ≡ false
+  pub known : status ≡ 0 → are_known options ≡ true
+
+-- a file is opened, and what it holds is converted to standard output; or it isn't there, and the status is 1
+abbrev pub ShowsNamed : {W : Type 0} → Request → Option (List Change) → List ℕ → Stream W → ℕ → Type 0
+ShowsNamed request before name output status =
+    ((bytes : Option (List ℕ)) × IsOpened before name bytes × Shows request bytes output status × (status ≤ 1))
+    ⊎ (IfSome before (λ past. is_file past name ≡ false) × IsUntouched output × (status ≡ 1))
+
+-- the input of a plan without outputs is shown: standard input for `-`, or a file; or memory runs out
+abbrev pub ShowsInput : {W E : Type 0} → List (String Global) → Option (List Change) → List ℕ
+    → Option (List ℕ) → Stream W → Stream E → ℕ → Type 0
+ShowsInput options before name input output errors status =
+    ((name ≡ codes "-") × Shows (request_by options) input output status × (status ≤ 1))
+    ⊎ (ShowsNamed (request_by options) before name output status
+    ⊎ (SaysMemory errors × IsUntouched output × (status ≡ 1)))
+
+-- that is done for the only file of the job, which names no output
+pub record ShowsFile {W : Type 0} (asked : Job) (options : List (String Global))
+    (before after : Option (List Change)) (output : Stream W) (status : ℕ) : Type 0 where
+  pub of_files : IsOfFiles asked options
+  pub name : List ℕ
+  pub missed : List (List ℕ)
+  pub planned : IsPlanOf before asked missed (Ok (standard_output name))
+  pub same : Makes before after []
+  pub shown : ShowsNamed (request_by options) before name output status
+
+-- ---- files are written
+
+-- what each page of a plan becomes by what is asked for of it
+abbrev pub becomes_in : Job → Request → List Page → Conversion
+becomes_in asked request pages page = IsResultOf (request_for (pages_led_to asked pages) page request)
+
+-- The pages are taken one after the other, and this many fail. In the end each output holds what its input became, or
+-- if some page failed, that or what it held before. The status is 0 if no page failed and no name is missed, and only
+-- then; else it is 1.
+pub record WritesPages (becomes : Conversion) (pages : List Page) (missed : List (List ℕ))
+    (before after : Option (List Change)) (failed status : ℕ) : Type 0 where
+  pub taken : Takes becomes pages before after failed
+  pub converted : failed ≡ 0
+      → IfKnown before after (λ past now. AllByRecursion (IsConverted becomes past now) pages)
+  pub kept : IfKnown before after (λ past now. AllByRecursion (IsConvertedOrKept becomes past now) pages)
+  pub success : (status ≡ 0) ↔ ((failed ≡ 0) × (missed ≡ []))
+  pub failure : status ≤ 1
+
+-- the pages of a job are written, each by its options; or memory runs out before
+abbrev pub WritesJob : {E : Type 0} → Job → List (String Global) → List Page → List (List ℕ)
+    → Option (List Change) → Option (List Change) → Stream E → ℕ → Type 0
+WritesJob asked options pages missed before after errors status =
+    ((failed : ℕ)
+    × WritesPages (becomes_in asked (request_by options) pages) pages missed before after failed status)
+    ⊎ (SaysMemory errors × Makes before after [] × (status ≡ 1))
+
+-- that is done for the pages of the plan, and nothing is written to standard output
+pub record ConvertsFiles {W : Type 0} (asked : Job) (options : List (String Global))
+    (before after : Option (List Change)) (output : Stream W) (status : ℕ) : Type 0 where
+  pub of_files : IsOfFiles asked options
   pub pages : List Page
+  pub missed : List (List ℕ)
   pub failed : ℕ
-  pub planned : IsPlanOf asked (files (pages_of pages))
-  pub taken : IfSome before (λ past. Takes
-      (λ page. IsResultOf (request_for (pages_led_to asked pages) page request)) pages (Some past) after failed)
-  pub success : status ≡ 0 → failed ≡ 0
+  pub planned : IsPlanOf before asked missed (Ok (files (pages_of pages)))
+  pub written : IfSome before (λ past.
+      WritesPages (becomes_in asked (request_by options) pages) pages missed (Some past) after failed status)
+  pub silent : IsUntouched output
 
--- no file was changed, or the pages of the plan of what the words ask for were taken
-abbrev pub RunsWords : List (List ℕ) → Option (List Change) → Option (List Change) → ℕ → Type 0
-RunsWords words before after status =
-    Makes before after []
-    ⊎ ((asked : Job) × (options : List (String Global)) × (job words ≡ Ok asked)
-    × (texts_of options ≡ asked.options) × Runs asked (request_by options) before after status)
+-- ---- all together
+
+-- a run of a job, from the files before it to those after it, with standard input, output and error
+abbrev pub RunsJob : {W E : Type 0} → Job → List (String Global) → Option (List Change)
+    → Option (List Change) → Option (List ℕ) → Stream W → Stream E → ℕ → Type 0
+RunsJob asked options before after input output errors status =
+    (CannotDo asked options before × DoesNothing before after output × (status ≡ 2))
+    ⊎ (RunsOut before after output errors status
+    ⊎ (ConvertsInput asked options before after input output status
+    ⊎ (ShowsFile asked options before after output status
+    ⊎ ConvertsFiles asked options before after output status)))
+
+-- a run by words: they are no job, memory runs out, or their job is run
+abbrev pub Runs : {W E : Type 0} → List (List ℕ) → Option (List Change) → Option (List Change)
+    → Option (List ℕ) → Stream W → Stream E → ℕ → Type 0
+Runs given before after input output errors status =
+    (((fault : words.Fault) × (job given ≡ Err fault)) × DoesNothing before after output × (status ≡ 2))
+    ⊎ (RunsOut before after output errors status
+    ⊎ ((asked : Job) × (options : List (String Global)) × Asks given asked options
+    × RunsJob asked options before after input output errors status))
 
 -- if the words name no file, and the status is 0, then what their options ask for was done of the whole input, unless
 -- they ask for the help or the version

@@ -2,7 +2,6 @@
 #![tactic(auto)]
 
 mod leads;
-mod operands;
 mod program;
 mod requested;
 

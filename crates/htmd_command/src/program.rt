@@ -1,23 +1,30 @@
 //! The program: its words, files and streams.
-ghost use Rattle.std.specs.Prelude.{◌≡◌, ◌≤◌, ◌⊎◌, [], ℕ, false, IfOk};
+ghost use Rattle.std.specs.Prelude.{◌≡◌, ◌≢◌, ◌≤◌, ◌↔◌, ◌⊎◌, [], ℕ, false};
 ghost use Rattle.htmd_cli.specs.Options.{request_by};
 ghost use Rattle.htmd_cli.specs.OptionRows.{request_in};
-ghost use Rattle.htmd_files.specs.PlanViews.{plan_in};
 ghost use Rattle.htmd_files.specs.WordViews.{job_in, texts_of};
 ghost use Rattle.htmd_folders.specs.Changes.{Makes};
-ghost use Rattle.htmd_folders.specs.FolderConversions.{Takes};
-ghost use Rattle.htmd_command.specs.Programs.{IsPlanOf, Runs, RunsInput, RunsWords};
+ghost use Rattle.htmd_folders.specs.FolderConversions.{AreApart};
+ghost use Rattle.htmd_folders.specs.PlanViews.{missed_in};
+ghost use Rattle.htmd_command.specs.Programs.{IsOfFiles, Runs, RunsInput, RunsJob, ShowsInput, ShowsNamed, WritesJob, WritesPages};
+ghost use Rattle.htmd_command.specs.Streams.{stream, SaysMemory, Shows};
 
 use crate::leads::led_pages;
-use crate::operands::{Found, Missed, find_operands};
 use crate::requested::Requested;
 use htmd_cli::{
-    OptionFault, Request, RunError, Sink, Source, command, read_options, say_fault, say_warnings,
+    OptionFault, Request, Sink, Source, command, read_options, say_fault, say_warnings,
 };
-use htmd_files::{Destination, FilePlan, Job, Page, PlanFault, WordFault, job_of, plan_of};
-use htmd_folders::{Conversion, Lines, Progress, ShownName, Store, Tally, run_pages, write_total};
+use htmd_files::{FilePlan, Job, Page, PlanFault, WordFault, job_of};
+use htmd_folders::{
+    Conversion, Lines, Missed, Progress, ShownName, Store, StoreFault, Tally, find_plan, run_pages,
+    write_total,
+};
+use htmd_streams::write_all;
 use std::alloc::Global;
 use std::fmt::{Display, Write};
+use std::io::ErrorKind;
+
+const OUT_OF_MEMORY: &[u8] = b"htmd: out of memory\n";
 
 /// The program: converts the files that its words name, or the standard input if they name none, and returns the exit
 /// status. 0 is success, 1 means that a page was not converted, and 2 that the words can't be done: an option that is
@@ -34,35 +41,54 @@ pub fn run_program<S: Store, R: Source, W: Sink, E: Sink>(
 ) -> u8
     requires source { R.has_failed source.old ≡ false }
     requires sink { W.has_failed sink.old ≡ false }
-    ensures files { RunsWords (texts_of words.now) (S.changes store.old) (S.changes store.new) result }
+    ensures run { Runs (texts_of words.now) (S.changes store.old) (S.changes store.new) (R.remaining source.old)
+        (stream W.contents W.has_failed sink.old sink.new) (stream E.contents E.has_failed errors.old errors.new)
+        result }
     ensures input { RunsInput (texts_of words.now)
         (R.remaining source.old) (W.contents sink.old) (W.contents sink.new) result }
     ensures status { result ≤ 2 }
 {
     let job = match job_of(alloc, words) {
         Ok(job) => job,
-        Err(WordFault::Memory) => return fail(errors, &RunError::Memory, 1),
-        Err(fault) => return fail(errors, &fault, 2),
+        Err(fault) => return fail_words(errors, &fault),
     };
     if job.operands.is_empty() {
-        return command(alloc, &job.options, source, sink, errors);
+        return command(alloc, job.options.as_slice(), source, sink, errors);
     }
-    let request = match read_options(alloc, &job.options) {
+    run_named(alloc, store, &job, source, sink, errors, is_terminal)
+}
+
+// Converts the files that the job names, and answers the status.
+fn run_named<S: Store, R: Source, W: Sink, E: Sink>(
+    alloc: Global,
+    store: &mut S,
+    job: &Job<'_>,
+    source: &mut R,
+    sink: &mut W,
+    errors: &mut E,
+    is_terminal: bool,
+) -> u8
+    requires source { R.has_failed source.old ≡ false }
+    requires sink { W.has_failed sink.old ≡ false }
+    requires named { job.now.operands.items ≢ [] }
+    ensures run { RunsJob (job_in job.now) job.now.options.items (S.changes store.old) (S.changes store.new)
+        (R.remaining source.old) (stream W.contents W.has_failed sink.old sink.new)
+        (stream E.contents E.has_failed errors.old errors.new) result }
+    ensures status { result ≤ 2 }
+{
+    let options = job.options.as_slice();
+    let request = match read_options(alloc, options) {
         Ok(request) => request,
-        Err(OptionFault::Memory) => return fail(errors, &RunError::Memory, 1),
-        Err(fault) => {
-            say_fault(errors, &fault);
-            return 2;
-        }
+        Err(fault) => return fail_options(errors, &fault),
     };
     if request.shows_notice() {
-        return command(alloc, &job.options, source, sink, errors);
+        return command(alloc, options, source, sink, errors);
     }
     say_warnings(errors, &request);
     run_job(
         alloc,
         store,
-        &job,
+        job,
         &request,
         source,
         sink,
@@ -71,7 +97,7 @@ pub fn run_program<S: Store, R: Source, W: Sink, E: Sink>(
     )
 }
 
-// Converts the files that are asked for, and answers the status.
+// The same by what its options ask for, which is a conversion.
 fn run_job<S: Store, R: Source, W: Sink, E: Sink>(
     alloc: Global,
     store: &mut S,
@@ -85,92 +111,93 @@ fn run_job<S: Store, R: Source, W: Sink, E: Sink>(
     requires source { R.has_failed source.old ≡ false }
     requires sink { W.has_failed sink.old ≡ false }
     requires request { request_in request.now ≡ request_by job.now.options.items }
-    requires notice { (request_by job.now.options.items).shows ≡ false }
-    ensures files { Makes (S.changes store.old) (S.changes store.new) []
-        ⊎ Runs (job_in job.now) (request_by job.now.options.items)
-        (S.changes store.old) (S.changes store.new) result }
+    requires asked { IsOfFiles (job_in job.now) job.now.options.items }
+    ensures run { RunsJob (job_in job.now) job.now.options.items (S.changes store.old) (S.changes store.new)
+        (R.remaining source.old) (stream W.contents W.has_failed sink.old sink.new)
+        (stream E.contents E.has_failed errors.old errors.new) result }
     ensures status { result ≤ 2 }
 {
     let (plan, missed) = match find_plan(alloc, store, job) {
         Ok(found) => found,
         Err(fault) => return fail_plan(errors, &fault),
     };
-    let options = job.options.as_slice();
     match plan {
         FilePlan::StandardOutput { input } => {
-            if input.as_str() == "-" {
-                return command(alloc, options, source, sink, errors);
-            }
-            let conversion = Requested {
-                alloc,
-                options,
-                request,
-                pages: None,
-            };
-            show_file(store, &conversion, &input, sink, errors)
+            let input = input.as_str();
+            show_input(alloc, store, job, request, input, source, sink, errors)
         }
         FilePlan::Files { pages } => {
             let pages = pages.as_slice();
-            let Ok(led) = led_pages(alloc, job, pages) else {
-                return fail(errors, &RunError::Memory, 1);
-            };
-            let conversion = Requested {
-                alloc,
-                options,
-                request,
-                pages: led.as_ref(),
-            };
+            let missed = missed.as_slice();
             let progress = progress_of(job, is_terminal);
-            convert_files(alloc, store, &conversion, pages, &missed, errors, progress)
+            write_pages(alloc, store, job, request, pages, missed, errors, progress)
         }
     }
 }
 
-// Says why there is no plan, and answers the status.
-fn fail_plan<E: Sink>(errors: &mut E, fault: &PlanFault) -> u8
-    ensures { result ≤ 2 }
-{
-    let status = if matches!(fault, PlanFault::Memory) {
-        1
-    } else {
-        2
-    };
-    fail(errors, fault, status)
-}
-
-// The plan for the operands, and of what nothing is converted.
-fn find_plan<S: Store>(
+// Converts the only input of a job into the sink, and answers the status.
+fn show_input<S: Store, R: Source, W: Sink, E: Sink>(
     alloc: Global,
     store: &mut S,
     job: &Job<'_>,
-) -> Result<(FilePlan, Vec<Missed>), PlanFault>
-    ensures ok { IfOk result (λ found. IsPlanOf (job_in job.now) (plan_in found.0)) }
+    request: &Request<'_>,
+    input: &str,
+    source: &mut R,
+    sink: &mut W,
+    errors: &mut E,
+) -> u8
+    requires source { R.has_failed source.old ≡ false }
+    requires sink { W.has_failed sink.old ≡ false }
+    requires request { request_in request.now ≡ request_by job.now.options.items }
+    requires asked { IsOfFiles (job_in job.now) job.now.options.items }
     ensures same { Makes (S.changes store.old) (S.changes store.new) [] }
+    ensures shown { ShowsInput job.now.options.items (S.changes store.old) input.now (R.remaining source.old)
+        (stream W.contents W.has_failed sink.old sink.new) (stream E.contents E.has_failed errors.old errors.new)
+        result }
+    ensures status { result ≤ 2 }
 {
-    let Found { operands, missed } = find_operands(
+    let options = job.options.as_slice();
+    if input == "-" {
+        return command(alloc, options, source, sink, errors);
+    }
+    let conversion = Requested {
         alloc,
-        store,
-        &job.operands,
-        job.output.is_some(),
-    )?;
-    let destination = match job.output {
-        Some(path) => Some(Destination {
-            path,
-            is_folder: store.is_folder(path) == Ok(true),
-        }),
-        None => None,
+        options,
+        request,
+        pages: None,
     };
-    Ok((plan_of(alloc, &operands, destination)?, missed))
+    show_file(store, &conversion, input, sink, errors)
 }
 
-fn progress_of(job: &Job<'_>, is_terminal: bool) -> Progress {
-    if job.is_quiet {
-        Progress::Quiet
-    } else if job.shows_progress || is_terminal {
-        Progress::Count
-    } else {
-        Progress::Total
-    }
+// Converts the pages of a job, and answers the status.
+fn write_pages<S: Store, E: Sink>(
+    alloc: Global,
+    store: &mut S,
+    job: &Job<'_>,
+    request: &Request<'_>,
+    pages: &[Page],
+    missed: &[Missed],
+    errors: &mut E,
+    progress: Progress,
+) -> u8
+    requires request { request_in request.now ≡ request_by job.now.options.items }
+    requires asked { IsOfFiles (job_in job.now) job.now.options.items }
+    requires apart { AreApart pages.now }
+    ensures written { WritesJob (job_in job.now) job.now.options.items pages.now (missed_in missed.now)
+        (S.changes store.old) (S.changes store.new) (stream E.contents E.has_failed errors.old errors.new) result }
+    ensures status { result ≤ 1 }
+{
+    let Ok(led) = led_pages(alloc, job, pages) else {
+        return fail_memory(errors);
+    };
+    let options = job.options.as_slice();
+    let conversion = Requested {
+        alloc,
+        options,
+        request,
+        pages: led.as_ref(),
+    };
+    convert_files(alloc, store, &conversion, pages, missed, errors, progress)
 }
 
 // Converts a file into the sink, and answers the status.
@@ -183,21 +210,48 @@ fn show_file<S: Store, W: Sink, E: Sink>(
 ) -> u8
     requires { W.has_failed sink.old ≡ false }
     ensures same { Makes (S.changes store.old) (S.changes store.new) [] }
+    ensures shown { ShowsNamed (request_by conversion.now.options.now) (S.changes store.old) input.now
+        (stream W.contents W.has_failed sink.old sink.new) result
+        ⊎ (SaysMemory (stream E.contents E.has_failed errors.old errors.new)
+        × (sink.new ≡ sink.old) × (result ≡ 1)) }
     ensures status { result ≤ 1 }
 {
     match store.open(input) {
-        Ok(mut reader) => match conversion.convert_alone(&mut reader, sink, errors) {
-            Ok(()) => 0,
-            Err(fault) => {
-                conversion.report(input, &fault, errors);
-                1
-            }
-        },
+        Ok(mut reader) => show_opened(&mut reader, conversion, input, sink, errors),
+        Err(fault) => fail_open(errors, input, &fault),
+    }
+}
+
+// Converts what a source gives into the sink, and answers the status.
+fn show_opened<R: Source, W: Sink, E: Sink>(
+    source: &mut R,
+    conversion: &Requested<'_, '_, '_, '_>,
+    input: &str,
+    sink: &mut W,
+    errors: &mut E,
+) -> u8
+    requires source { R.has_failed source.old ≡ false }
+    requires sink { W.has_failed sink.old ≡ false }
+    ensures shown { Shows (request_by conversion.now.options.now) (R.remaining source.old)
+        (stream W.contents W.has_failed sink.old sink.new) result }
+    ensures status { result ≤ 1 }
+{
+    match conversion.convert_alone(source, sink, errors) {
+        Ok(()) => 0,
         Err(fault) => {
-            let input = ShownName(input);
-            let _ = writeln!(Lines { sink: errors }, "htmd: {input}: {fault}");
+            conversion.report(input, &fault, errors);
             1
         }
+    }
+}
+
+fn progress_of(job: &Job<'_>, is_terminal: bool) -> Progress {
+    if job.is_quiet {
+        Progress::Quiet
+    } else if job.shows_progress || is_terminal {
+        Progress::Count
+    } else {
+        Progress::Total
     }
 }
 
@@ -211,8 +265,9 @@ fn convert_files<S: Store, C: Conversion, E: Sink>(
     errors: &mut E,
     progress: Progress,
 ) -> u8
-    ensures taken { (failed : ℕ) × Takes (C.becomes conversion.now) pages.now
-        (S.changes store.old) (S.changes store.new) failed × (result ≡ 0 → failed ≡ 0) }
+    requires { AreApart pages.now }
+    ensures taken { (failed : ℕ) × WritesPages (C.becomes conversion.now) pages.now (missed_in missed.now)
+        (S.changes store.old) (S.changes store.new) failed result }
     ensures status { result ≤ 1 }
 {
     for item in missed {
@@ -221,21 +276,20 @@ fn convert_files<S: Store, C: Conversion, E: Sink>(
         let _ = writeln!(Lines { sink: errors }, "htmd: {path}: {cause}");
     }
     let tally = run_pages(alloc, store, conversion, pages, errors, progress);
-    let missed = missed.len() as u64;
-    if tally
-        .converted
-        .saturating_add(tally.failed)
-        .saturating_add(missed)
-        > 1
-    {
-        let failed = tally.failed.saturating_add(missed);
+    let count = missed.len();
+    let failed = tally.failed.saturating_add(count as u64);
+    if tally.converted.saturating_add(failed) > 1 {
         write_total(errors, progress, Tally { failed, ..tally });
     }
-    if tally.failed == 0 && missed == 0 {
-        0
-    } else {
-        1
-    }
+    status_of(tally.failed, count)
+}
+
+// The status of a run of which so many pages failed, and so many names are missed.
+fn status_of(failed: u64, missed: usize) -> u8
+    ensures success { (result ≡ 0) ↔ ((failed ≡ 0) × (missed ≡ 0)) }
+    ensures status { result ≤ 1 }
+{
+    if failed == 0 && missed == 0 { 0 } else { 1 }
 }
 
 // Says what went wrong, and answers the status.
@@ -244,4 +298,71 @@ fn fail<E: Sink, T: Display>(errors: &mut E, fault: &T, status: u8) -> u8
 {
     let _ = writeln!(Lines { sink: errors }, "htmd: {fault}");
     status
+}
+
+// Says why the words are no job, and answers the status.
+fn fail_words<E: Sink>(errors: &mut E, fault: &WordFault<'_>) -> u8
+    ensures memory { fault.now ≡ WordFault.Memory
+        → SaysMemory (stream E.contents E.has_failed errors.old errors.new) × (result ≡ 1) }
+    ensures other { fault.now ≢ WordFault.Memory → result ≡ 2 }
+    ensures status { result ≤ 2 }
+{
+    match fault {
+        WordFault::Memory => fail_memory(errors),
+        _ => fail(errors, fault, 2),
+    }
+}
+
+// Says why options aren't taken, and answers the status.
+fn fail_options<E: Sink>(errors: &mut E, fault: &OptionFault<'_>) -> u8
+    ensures memory { fault.now ≡ OptionFault.Memory
+        → SaysMemory (stream E.contents E.has_failed errors.old errors.new) × (result ≡ 1) }
+    ensures other { fault.now ≢ OptionFault.Memory → result ≡ 2 }
+    ensures status { result ≤ 2 }
+{
+    match fault {
+        OptionFault::Memory => fail_memory(errors),
+        _ => {
+            say_fault(errors, fault);
+            2
+        }
+    }
+}
+
+// Says why there is no plan, and answers the status.
+fn fail_plan<E: Sink>(errors: &mut E, fault: &PlanFault) -> u8
+    ensures memory { fault.now ≡ PlanFault.Memory
+        → SaysMemory (stream E.contents E.has_failed errors.old errors.new) × (result ≡ 1) }
+    ensures other { fault.now ≢ PlanFault.Memory → result ≡ 2 }
+    ensures status { result ≤ 2 }
+{
+    match fault {
+        PlanFault::Memory => fail_memory(errors),
+        _ => fail(errors, fault, 2),
+    }
+}
+
+// Says why a file is not opened, and answers the status.
+fn fail_open<E: Sink>(errors: &mut E, input: &str, fault: &StoreFault) -> u8
+    ensures memory { fault.now ≡ StoreFault.Failed ErrorKind.OutOfMemory
+        → SaysMemory (stream E.contents E.has_failed errors.old errors.new) }
+    ensures status { result ≡ 1 }
+{
+    match fault {
+        StoreFault::Failed(ErrorKind::OutOfMemory) => fail_memory(errors),
+        _ => {
+            let input = ShownName(input);
+            let _ = writeln!(Lines { sink: errors }, "htmd: {input}: {fault}");
+            1
+        }
+    }
+}
+
+// Says that memory ran out, and answers the status.
+fn fail_memory<E: Sink>(errors: &mut E) -> u8
+    ensures said { SaysMemory (stream E.contents E.has_failed errors.old errors.new) }
+    ensures status { result ≡ 1 }
+{
+    let _ = write_all(errors, OUT_OF_MEMORY);
+    1
 }

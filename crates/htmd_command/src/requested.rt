@@ -1,7 +1,8 @@
 //! What the options ask for, as a conversion.
-ghost use Rattle.std.specs.Prelude.{◌≡◌, true, false, IfOk, OnOk};
+ghost use Rattle.std.specs.Prelude.{◌≡◌, true, false, IfOk, OnErr, OnOk};
 ghost use Rattle.htmd_cli.specs.OptionRows.{request_in};
 ghost use Rattle.htmd_cli.specs.Options.{request_by};
+ghost use Rattle.htmd_cli.specs.Rows.{AnswersSome, Succeeds};
 ghost use Rattle.htmd_cli.specs.StreamConversions.{Converts};
 ghost use Rattle.htmd_cli.specs.Settings.{settings_in};
 ghost use Rattle.htmd_folders.specs.Pages.{Becomes};
@@ -48,7 +49,12 @@ impl Requested<'_, '_, '_, '_> {
     ) -> Result<(), Refusal>
         requires source { R.has_failed source.old ≡ false }
         requires sink { W.has_failed sink.old ≡ false }
-        ensures { OnOk result (Becomes (IsResultOf (request_by self.now.options.now))
+        ensures done { OnOk result (Succeeds (request_by self.now.options.now)
+            (R.remaining source.old) (W.contents sink.old) (W.contents sink.new)) }
+        ensures nothing { OnErr result ((request_by self.now.options.now).rows ≡ false
+            → W.has_failed sink.new ≡ false → sink.new ≡ sink.old) }
+        ensures rows { OnErr result ((request_by self.now.options.now).rows ≡ true
+            → W.has_failed sink.new ≡ false → AnswersSome (request_by self.now.options.now)
             (R.remaining source.old) (W.contents sink.old) (W.contents sink.new)) }
     {
         if self.request.takes_rows() {
@@ -147,8 +153,9 @@ fn convert_by<R: Source, W: Sink>(
 ) -> Result<(), Refusal>
     requires source { R.has_failed source.old ≡ false }
     requires sink { W.has_failed sink.old ≡ false }
-    ensures { OnOk result (Converts (settings_in settings.now)
+    ensures done { OnOk result (Converts (settings_in settings.now)
         (R.remaining source.old) (W.contents sink.old) (W.contents sink.new)) }
+    ensures nothing { OnErr result (W.has_failed sink.new ≡ false → sink.new ≡ sink.old) }
 {
     match run_over(alloc, source, sink, settings) {
         (Ok(()), _) => Ok(()),

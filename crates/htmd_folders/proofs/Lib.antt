@@ -2,4 +2,7 @@
 pub mod FolderConversionsLemmas
 pub mod ChangesLemmas
 pub mod LawsLemmas
+pub mod ListingsLemmas
+pub mod OperandsLemmas
+pub mod PlansLemmas
 pub mod ApartLemmas

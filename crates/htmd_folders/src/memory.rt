@@ -1,7 +1,11 @@
 //! Files in memory.
-ghost use Rattle.std.specs.Prelude.{◌≡◌, [], ◌∷◌, map, true, Some, OnOk, OnErr};
-ghost use Rattle.htmd_folders.specs.Changes.{held, nothing, whole, moved, obstructed, placed, IsLeft, IsReplaceable};
-ghost use Rattle.htmd_folders.specs.MemoryViews.{change_in, held_in, Leaves};
+ghost use Rattle.std.specs.Prelude.{◌≡◌, ◌≢◌, ◌↔◌, ℕ, List, [], ◌∷◌, map, Some, false, true, IfOk, OnOk, OnErr};
+ghost use Rattle.std.specs.Prelude.{MatchOption};
+ghost use Rattle.htmd_files.specs.Paths.{below};
+ghost use Rattle.htmd_files.specs.WordViews.{texts_of};
+ghost use Rattle.htmd_folders.specs.Changes.{held, nothing, moved, obstructed, placed, IsLeft, IsReplaceable};
+ghost use Rattle.htmd_folders.specs.Listings.{times, IsFolder, IsListing};
+ghost use Rattle.htmd_folders.specs.MemoryViews.{change_in, changes_in, held_in, name_of, Holds, IsFileBelow, Leaves};
 
 use crate::faults::StoreFault;
 use crate::listing::Listing;
@@ -77,8 +81,7 @@ impl MemoryStore {
 
     /// The bytes of the whole file under a name, if there is one.
     pub fn bytes(&self, path: &str) -> Option<&[u8]>
-        ensures { (bytes : _) → result ≡ Some bytes
-            → held path.now (map change_in self.now.changes.items) ≡ whole bytes.now }
+        ensures { Holds (held path.now (map change_in self.now.changes.items)) result }
     {
         match self.held(path) {
             Held::Whole(bytes) => Some(bytes),
@@ -166,7 +169,10 @@ impl Store for MemoryStore {
         let Some(bytes) = self.bytes(path) else {
             return Err(StoreFault::Failed(ErrorKind::NotFound));
         };
-        Ok(Input::new(Cursor::new(bytes.to_vec(self.alloc)?)))
+        let Ok(bytes) = bytes.to_vec(self.alloc) else {
+            return Err(StoreFault::Failed(ErrorKind::OutOfMemory));
+        };
+        Ok(Input::new(Cursor::new(bytes)))
     }
 
     // No file has two names here.
@@ -198,17 +204,15 @@ impl Store for MemoryStore {
     }
 
     fn is_folder(&mut self, path: &str) -> Result<bool, StoreFault> {
-        match self.list(self.alloc, path) {
-            Ok(listing) => Ok(!listing.files.is_empty()),
-            Err(fault) => Err(fault),
-        }
+        Ok(self.has_below(path))
     }
 
     fn list(&mut self, alloc: Global, folder: &str) -> Result<Listing, StoreFault> {
-        Ok(Listing {
-            files: self.files_below(alloc, folder)?,
-            unread: Vec::new(alloc),
-        })
+        let Ok(files) = self.files_below(alloc, folder) else {
+            return Err(StoreFault::Failed(ErrorKind::OutOfMemory));
+        };
+        let unread = Vec::new(alloc);
+        Ok(Listing { files, unread })
     }
 }
 
@@ -240,24 +244,77 @@ impl MemoryStore {
         }
     }
 
+    // Whether a whole file is below a folder.
+    fn has_below(&self, folder: &str) -> bool
+        ensures { (result ≡ true) ↔ IsFolder (changes_in self.now) folder.now }
+    {
+        for change in &self.changes {
+            if self.file_below(change, folder).is_some() {
+                return true;
+            }
+        }
+        false
+    }
+
     // The whole files below a folder, by their paths from it on.
-    fn files_below(&self, alloc: Global, folder: &str) -> Result<Vec<String>, AllocError> {
+    fn files_below(&self, alloc: Global, folder: &str) -> Result<Vec<String>, AllocError>
+        ensures { IfOk result (λ files. IsListing (changes_in self.now) folder.now (texts_of files.items)) }
+    {
         let mut files = Vec::new(alloc);
         for change in &self.changes {
-            if let Some(path) = change.name_below(folder)
-                && self.bytes(change.name()).is_some()
-                && !files.iter().any(|file: &String| file.as_str() == path)
-            {
-                files.push(String::from_str(alloc, path)?)?;
+            let Some(path) = self.file_below(change, folder) else {
+                continue;
+            };
+            if is_among(&files, path) {
+                continue;
             }
+            files.push(String::from_str(alloc, path)?)?;
         }
         Ok(files)
     }
+
+    // The path from a folder on of the file that has the name of a change, if that is a whole one below the folder.
+    fn file_below<'a>(&self, change: &'a MemoryChange, folder: &str) -> Option<&'a str>
+        ensures { IsFileBelow (changes_in self.now) folder.now (name_of (change_in change.now)) result }
+    {
+        let name = change.name();
+        if self.bytes(name).is_none() {
+            return None;
+        }
+        path_below(name, folder)
+    }
+}
+
+// The path from a folder on of a name below it.
+fn path_below<'a>(name: &'a str, folder: &str) -> Option<&'a str>
+    ensures { MatchOption result ((path : List ℕ) → name.now ≢ below folder.now path)
+        (λ path. name.now ≡ below folder.now path.now) }
+{
+    let rest = name.strip_prefix(folder)?;
+    if folder.ends_with("/") {
+        Some(rest)
+    } else {
+        rest.strip_prefix("/")
+    }
+}
+
+fn is_among(files: &[String], path: &str) -> bool
+    ensures no { result ≡ false → times path.now (texts_of files.now) ≡ 0 }
+    ensures yes { result ≡ true → times path.now (texts_of files.now) ≢ 0 }
+{
+    for file in files {
+        if file.as_str() == path {
+            return true;
+        }
+    }
+    false
 }
 
 impl MemoryChange {
-    // The name under which a change leaves a file.
-    fn name(&self) -> &str {
+    // The name that a change leaves something or nothing under.
+    fn name(&self) -> &str
+        ensures { result.now ≡ name_of (change_in self.now) }
+    {
         match self {
             MemoryChange::Placed { path, .. } => path,
             MemoryChange::Created { path } => path,
@@ -265,10 +322,5 @@ impl MemoryChange {
             MemoryChange::Removed { path } => path,
             MemoryChange::Obstructed { path } => path,
         }
-    }
-
-    fn name_below(&self, folder: &str) -> Option<&str> {
-        let folder = folder.strip_suffix('/').unwrap_or(folder);
-        self.name().strip_prefix(folder)?.strip_prefix('/')
     }
 }

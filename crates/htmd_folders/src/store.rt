@@ -1,11 +1,14 @@
 //! The files that pages are read from and written to.
-ghost use Rattle.std.specs.Prelude.{◌≡◌, List, [], ◌∷◌, Option, None, false, IfOk, OnOk, OnErr};
+ghost use Rattle.std.specs.Prelude.{◌≡◌, ◌⊎◌, List, [], ◌∷◌, Option, None, false, IfOk, IfErr, IfSome, OnOk, OnErr};
+ghost use Rattle.htmd_files.specs.WordViews.{texts_of};
 ghost use Rattle.htmd_folders.specs.Changes.{Change, created, Makes, IsFree, IsLeft, IsOpenTo, IsOpened, IsNew, IsMoved};
+ghost use Rattle.htmd_folders.specs.Listings.{is_file, Lists, TellsFolder};
 
 use crate::faults::StoreFault;
 use crate::listing::Listing;
 use htmd_streams::{Sink, Source};
 use std::alloc::Global;
+use std::io::ErrorKind;
 
 /// Files under names, which are paths with `/` between their parts. A name is the bytes of its path: that two names may
 /// stand for one file is unknown to the clauses.
@@ -23,6 +26,8 @@ pub trait Store {
     fn open(&mut self, path: &str) -> Result<Self::Reader, StoreFault>
         ensures bytes { IfOk result (λ reader. IsOpened (changes self.old) path.now (Self.Reader.remaining reader)) }
         ensures unfailed { IfOk result (λ reader. Self.Reader.has_failed reader ≡ false) }
+        ensures missing { IfErr result (λ fault. IfSome (changes self.old) (λ past.
+            (is_file past path.now ≡ false) ⊎ (fault ≡ StoreFault.Failed ErrorKind.OutOfMemory))) }
         ensures same { Makes (changes self.old) (changes self.new) [] };
 
     /// From now on the file under a name keeps its place, whatever other name leads to it: `publish` fails there. Out of
@@ -58,9 +63,16 @@ pub trait Store {
 
     /// Whether there is a folder under a name. `Err` means that there is nothing, or that it can't be looked at.
     fn is_folder(&mut self, path: &str) -> Result<bool, StoreFault>
-        ensures { Makes (changes self.old) (changes self.new) [] };
+        ensures folder { TellsFolder (changes self.old) path.now result }
+        ensures same { Makes (changes self.old) (changes self.new) [] };
 
     /// All files below a folder. Links to folders are not followed.
     fn list(&mut self, alloc: Global, folder: &str) -> Result<Listing, StoreFault>
-        ensures { Makes (changes self.old) (changes self.new) [] };
+        ensures files { IfOk result (λ listing.
+            Lists (changes self.old) folder.now (texts_of listing.files.items)) }
+        ensures readable { IfOk result (λ listing.
+            IfSome (changes self.old) (λ _. listing.unread.items ≡ [])) }
+        ensures err { IfErr result (λ fault.
+            IfSome (changes self.old) (λ _. fault ≡ StoreFault.Failed ErrorKind.OutOfMemory)) }
+        ensures same { Makes (changes self.old) (changes self.new) [] };
 }

@@ -1,21 +1,15 @@
--- All rows were answered, or the page was converted.
+-- All rows were answered or some, or the page was converted or not.
 use Rattle.std.proofs.Common.{◌≡◌, ◌∙◌, ap, sym, subst, false}
 use Rattle.std.proofs.lemmas.Result.{on_ok_weaker}
 use Rattle.htmd_cli.specs.OptionRows.{request_in}
 use Rattle.htmd_cli.specs.Options.{Request, request_by}
 use Rattle.htmd_cli.specs.StreamConversions.{Converts}
 use Rattle.htmd_cli.specs.Settings.{Settings, settings_in}
-use Rattle.htmd_command.proofs.PageResultsLemmas.{converts_becomes, succeeds_becomes}
+use Rattle.htmd_command.proofs.PageResultsLemmas.{converts_succeeds}
 use Rattle.htmd_command.proofs.requested.Requested.convert_alone.Goals as goal
 
-pub returns-in-0 : goal.returns-in-0
-returns-in-0 g c =
-    succeeds_becomes (request_by c.args.self.now.options.now) (g.R.Source.remaining c.args.source.now)
-    (g.W.Sink.contents c.args.sink.now) (g.W.Sink.contents c.command.new.sink)
-    (c.command.ensures.success c.in-0.is c.args.self.now.converts)
-
-pub returns : goal.returns
-returns g c =
+pub returns-clause-done : goal.returns-clause-done
+returns-clause-done g c =
     let request : Request = request_by c.args.self.now.options.now in
     let is_read : request_in c.args.self.now.request.now ≡ request = c.args.self.now.is_read in
     let input = g.R.Source.remaining c.args.source.now in
@@ -26,5 +20,5 @@ returns g c =
     let rows : request.rows ≡ false =
     ap (λ (r : Request). r.rows) (sym is_read) ∙ sym c.takes_rows.ensures ∙ c.if-takes_rows.false in
     let P : Settings → Type 0 = λ s. Converts s input before after in
-    on_ok_weaker c.convert_by.result (λ converts. converts_becomes request input before after rows
-    (subst P settings converts)) c.convert_by.ensures
+    on_ok_weaker c.convert_by.result (λ converts. converts_succeeds request input before after rows
+    (subst P settings converts)) c.convert_by.ensures.done
