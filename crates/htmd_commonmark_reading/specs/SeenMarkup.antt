@@ -1,5 +1,6 @@
--- A text as one sees it: where raw tags of inlines match within one list of inlines, they are formats or code, `<br>` is
--- a line break, and an image's description is plain text (CommonMark 0.31.2, 6.4 and 6.6). The document that it then is.
+-- A text as one sees it: where raw tags of inlines match within one list of inlines, they are formats or code, `<br>`
+-- is a line break, and an image's description is plain text (CommonMark 0.31.2, 6.4 and 6.6). The document that it then
+-- is.
 use Rattle.std.specs.Prelude.{ℕ, Bool, true, false, if◌then◌else◌, List, [], ◌∷◌, ◌++◌, codes}
 use Rattle.std.specs.Prelude.{Option, Some, None}
 use Rattle.std.specs.Str.{bytes_eq}

@@ -182,8 +182,8 @@ code_tags_seen c s b =
     let b1 = seen b (raw (codes "<code>") no_inlines) in
     seen_joined text stop b1 ∙ ap (λ d. seen d stop) (letters_seen (c ∷ s) b1)
     ∙ ap (λ x. with_seen b (paired code_tag code_pair x)) (joined_none text)
-    ∙ ap (λ x. with_seen b (if x then code (plain_text text) no_inlines else raw (codes "<code>") (joined text stop)))
-    (letters_alone c s)
+    ∙ ap (λ x. with_seen b (if x then code (plain_text text) no_inlines
+    else raw (codes "<code>") (joined text stop))) (letters_alone c s)
     ∙ ap (λ x. with_seen b (code x no_inlines)) (plain_letters (c ∷ s))
 
 -- ---- the document

@@ -114,7 +114,8 @@ begins_le b = go (nat_lt b 128) refl (nat_lt b 224) (nat_lt b 240)
     go false e false false = omega arith
 
 first_kept : (p : ℕ → Bool) (c : ℕ) (cs : List ℕ)
-    → length (encode_utf8_all (filter p (c ∷ cs))) ≤ length (encode_utf8 c) + length (encode_utf8_all (filter p cs))
+    → length (encode_utf8_all (filter p (c ∷ cs)))
+    ≤ length (encode_utf8 c) + length (encode_utf8_all (filter p cs))
 first_kept p c cs = go (p c)
   where
     go : (t : Bool) → length (encode_utf8_all (if t then c ∷ filter p cs else filter p cs))
