@@ -29,15 +29,16 @@ named_folder out from [] = tt
 named_folder out from (path ∷ paths) =
     (named_below out path (page_below out from path) refl, named_folder out from paths)
 
-named_file : (out path : List ℕ) (name : Option (List ℕ)) (pages : List Page) → named_page out path name ≡ Ok pages
-    → Named pages
+named_file : (out path : List ℕ) (name : Option (List ℕ)) (pages : List Page)
+    → named_page out path name ≡ Ok pages → Named pages
 named_file out path None pages e = absurd (cc)
 named_file out path (Some name) pages e =
     let page : Page = record { input = path; output = below out (md_name name); path_in_folder = None } in
     let same : page ∷ [] ≡ pages = cc in
     subst Named same (named_below out name page refl, tt)
 
-named_of : (out : List ℕ) (operand : Operand) (pages : List Page) → pages_of out operand ≡ Ok pages → Named pages
+named_of : (out : List ℕ) (operand : Operand) (pages : List Page) → pages_of out operand ≡ Ok pages
+    → Named pages
 named_of out standard_input pages e = absurd (cc)
 named_of out (file path) pages e = named_file out path (file_name (place path)) pages e
 named_of out (folder from paths) pages e =
