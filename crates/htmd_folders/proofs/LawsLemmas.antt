@@ -203,8 +203,9 @@ whole_twice name past mid now (inr (bytes, a)) (inl b) = inr (bytes, b ∙ a)
 whole_twice name past mid now m (inr (bytes, b)) = inr (bytes, b)
 
 -- where something was, something is in between
-something_between : (name : List ℕ) (past mid : List Change) → (HasUnfinishedName name → held name past ≢ nothing)
-    → IsAsBeforeOrWhole name past mid → HasUnfinishedName name → held name mid ≢ nothing
+something_between : (name : List ℕ) (past mid : List Change)
+    → (HasUnfinishedName name → held name past ≢ nothing) → IsAsBeforeOrWhole name past mid
+    → HasUnfinishedName name → held name mid ≢ nothing
 something_between name past mid n (inl e) u = λ z. n u (sym e ∙ z)
 something_between name past mid n (inr (bytes, w)) u = λ z. let e : whole bytes ≡ nothing = sym w ∙ z in cc
 

@@ -207,7 +207,8 @@ strip_text p bs (Some x) (n, k, d, l) = k.1 ∙ ap (λ (t : List ℕ). p ++ t) (
 -- a name below a folder whose path doesn't end with a slash
 pub below_slash : (name folder rest : List ℕ) (ends : Bool) (r : Option (Bor (List ℕ))) → name ≡ folder ++ rest
     → ends ≡ ends_with_slash folder → ends ≡ false
-    → MatchOption r (FindsTextPrefix (codes "/") rest None) (λ x. StripsPrefix (FindsTextPrefix (codes "/")) rest x.now)
+    → MatchOption r (FindsTextPrefix (codes "/") rest None)
+    (λ x. StripsPrefix (FindsTextPrefix (codes "/")) rest x.now)
     → MatchOption r ((path : List ℕ) → name ≢ below folder path) (λ path. name ≡ below folder path.now)
 below_slash name folder rest ends r e s f h =
     let slash : slash_after folder ≡ codes "/" =
@@ -232,8 +233,8 @@ among_next path files i file l is =
     ap (λ (x : List (String Global)). times path (texts_of x))
     (drop_more files i file l ∙ ap (λ (x : String Global). x ∷ drop (i + 1) files) (sym is))
 
-pub among_found : (path file : List ℕ) (files others : List (List ℕ)) → times path files ≡ times path (file ∷ others)
-    → file ≡ path → times path files ≢ 0
+pub among_found : (path file : List ℕ) (files others : List (List ℕ))
+    → times path files ≡ times path (file ∷ others) → file ≡ path → times path files ≢ 0
 among_found path file files others e s z =
     let t : bytes_eq path file ≡ true = equal path file (sym s) in
     suc-ne-zero (times path others)
@@ -282,8 +283,9 @@ some_there past folder name None f t = absurd (false≢true t)
 some_there past folder name (Some path) f t = (path.now, f.1)
 
 -- a file below the folder that isn't among those that are listed
-pub listed_push : (past : List Change) (folder : List ℕ) (changes : List MemoryChange) (i : ℕ) (change : MemoryChange)
-    (path : List ℕ) (files now : List (String Global)) (text : String Global) → i < length changes
+pub listed_push : (past : List Change) (folder : List ℕ) (changes : List MemoryChange) (i : ℕ)
+    (change : MemoryChange) (path : List ℕ) (files now : List (String Global)) (text : String Global)
+    → i < length changes
     → change ≡ get_or changes i change → name_of (change_in change) ≡ below folder path
     → is_file past (below folder path) ≡ true → times path (texts_of files) ≡ 0 → string_bytes text ≡ path
     → now ≡ files ++ text ∷ [] → Listed past folder (changes_of (take i changes)) (texts_of files)
@@ -297,8 +299,8 @@ listed_push past folder changes i change path files now text l is n f z t e h =
     (listed_more past folder (changes_of (take i changes)) (texts_of files) (change_in change) path h n f z))
 
 -- no file below the folder, or one that is listed
-pub listed_skip : (past : List Change) (folder : List ℕ) (changes : List MemoryChange) (i : ℕ) (change : MemoryChange)
-    (r : Option (Bor (List ℕ))) (files : List (String Global)) → i < length changes
+pub listed_skip : (past : List Change) (folder : List ℕ) (changes : List MemoryChange) (i : ℕ)
+    (change : MemoryChange) (r : Option (Bor (List ℕ))) (files : List (String Global)) → i < length changes
     → change ≡ get_or changes i change → IsFileBelow past folder (name_of (change_in change)) r
     → IfSome r (λ path. times path.now (texts_of files) ≢ 0)
     → Listed past folder (changes_of (take i changes)) (texts_of files)

@@ -44,7 +44,8 @@ pub fn run_pages<S: Store, C: Conversion, E: Sink>(
     ensures others { IfKnown (S.changes store.old) (S.changes store.new)
         (λ past now. (name : List ℕ) → AreSparing name pages.now → IsSpared name past now) }
     ensures obstacles { IfKnown (S.changes store.old) (S.changes store.new)
-        (λ past now. (name : List ℕ) → (IsReplaceable (held name past) → ⊥) → held name now ≡ held name past) }
+        (λ past now. (name : List ℕ) → (IsReplaceable (held name past) → ⊥)
+        → held name now ≡ held name past) }
     ensures never_half { IsNeverHalf (S.changes store.old) (S.changes store.new) }
 {
     take_pages(alloc, store, conversion, pages, errors, progress)

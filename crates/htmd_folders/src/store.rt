@@ -30,8 +30,8 @@ pub trait Store {
             (is_file past path.now ≡ false) ⊎ (fault ≡ StoreFault.Failed ErrorKind.OutOfMemory))) }
         ensures same { Makes (changes self.old) (changes self.new) [] };
 
-    /// From now on the file under a name keeps its place, whatever other name leads to it: `publish` fails there. Out of
-    /// memory, `publish` fails everywhere.
+    /// From now on the file under a name keeps its place, whatever other name leads to it: `publish` fails there. Out
+    /// of memory, `publish` fails everywhere.
     fn protect(&mut self, path: &str)
         ensures same { changes self.new ≡ changes self.old };
 
@@ -44,9 +44,9 @@ pub trait Store {
         ensures ok { OnOk result (Makes (changes self.old) (changes self.new) (created path.now ∷ [])) }
         ensures err { OnErr result (Makes (changes self.old) (changes self.new) []) };
 
-    /// Closes the file that was created under the first name, and brings it under the second name at once, where nothing
-    /// is or another file, which it replaces. A link is no file, and isn't followed. If that fails, the file is taken
-    /// away, if that can be done.
+    /// Closes the file that was created under the first name, and brings it under the second name at once, where
+    /// nothing is or another file, which it replaces. A link is no file, and isn't followed. If that fails, the file is
+    /// taken away, if that can be done.
     fn publish(&mut self, writer: Self::Writer, from: &str, to: &str) -> Result<(), StoreFault>
         ensures place { OnOk result (IsOpenTo (changes self.old) to.now) }
         ensures ok { OnOk result (IsMoved (changes self.old) (changes self.new) from.now to.now
