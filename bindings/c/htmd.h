@@ -5,6 +5,15 @@
  *     htmd_default_options(&options);
  *     status = htmd_convert(html, html_len, &options, out, out_len, &needed, &place, &kind);
  *
+ * or for a page in any encoding, or for parts of it:
+ *
+ *     htmd_page_options options;
+ *     htmd_default_page_options(&options);
+ *     options.options.reader = HTMD_HTML5;
+ *     options.select.bytes = (const uint8_t *)"main";
+ *     options.select.len = 4;
+ *     status = htmd_convert_page(page, page_len, &options, out, out_len, &needed, &place, &kind);
+ *
  * Texts are bytes in UTF-8 with a length, without a 0 at the end; places are bytes from 0.
  *
  * What is proved holds for callers that meet these conditions; nothing checks them.
@@ -25,6 +34,9 @@
 #ifdef __cplusplus
 extern "C" {
 #endif
+
+/* The version of the library. */
+#define HTMD_VERSION "0.6.0"
 
 /* The version of the struct below. */
 #define HTMD_OPTIONS_VERSION 1
@@ -82,8 +94,25 @@ typedef struct htmd_options {
     uint8_t ol_number_spacing; /* any number; the spaces after the longest number of an ordered list; Guarded 1 to 4 */
     uint8_t preformatted_code; /* 1: the white space of a code span is kept; 0: it is not */
     uint8_t output;
-    uint8_t reserved[16];      /* 0 */
+    uint8_t front_matter;      /* 1: what the head of the page says about it is written first; 0: it is not */
+    uint8_t reserved[15];      /* 0 */
 } htmd_options;
+
+/* A text, and the number of its bytes. With none it says nothing; the pointer isn't null even then. */
+typedef struct htmd_text {
+    const uint8_t *bytes;
+    size_t len;
+} htmd_text;
+
+/* The options of a page. Fill the struct with htmd_default_page_options, and then change fields. */
+typedef struct htmd_page_options {
+    htmd_options options;
+    htmd_text select;   /* only the outermost elements that these selectors name are converted: main,.note */
+    htmd_text drop;     /* the elements that these selectors name are left out, before others are selected */
+    htmd_text skip;     /* elements with these names give nothing: nav,footer */
+    htmd_text base;     /* the URL of the page: addresses are made absolute */
+    htmd_text encoding; /* the label of the encoding of a page whose bytes have no mark: windows-1252 */
+} htmd_page_options;
 
 /* The status that a call returns. */
 enum {
@@ -92,7 +121,15 @@ enum {
     HTMD_REFUSED = 2,    /* the text is outside the grammar */
     HTMD_NOT_UTF8 = 3,   /* the bytes are not UTF-8 */
     HTMD_NO_MEMORY = 4,  /* out of memory */
-    HTMD_BAD_OPTIONS = 5 /* a field of the struct has a number that isn't valid for it */
+    HTMD_BAD_OPTIONS = 5, /* a field of the struct has a number that isn't valid for it */
+    /* only htmd_convert_page returns these */
+    HTMD_UNSUPPORTED = 6,      /* the page is in an encoding that isn't supported */
+    HTMD_NOTHING_SELECTED = 7, /* no element of the page is selected */
+    HTMD_BAD_SELECT = 8,       /* select isn't selectors with commas between them */
+    HTMD_BAD_DROP = 9,         /* drop isn't selectors with commas between them */
+    HTMD_BAD_SKIP = 10,        /* skip isn't names with commas between them */
+    HTMD_BAD_BASE = 11,        /* base isn't an absolute URL */
+    HTMD_BAD_ENCODING = 12     /* encoding isn't the label of an encoding that is supported */
 };
 
 /* The kinds of a refusal; docs/GRAMMAR.md says what each means, and what to do. */
@@ -117,6 +154,9 @@ enum {
 /* Writes the default options: strict, Pure, scripting on, spacings of 3 and 2, 0 in all other fields, so Markdown. */
 void htmd_default_options(htmd_options *options);
 
+/* Writes the default options of a page: those above, and no texts. */
+void htmd_default_page_options(htmd_page_options *options);
+
 /*
  * Writes the Markdown of a text, or its JSON, to the front of out, and returns the status. It checks the options first,
  * then whether the bytes are UTF-8.
@@ -132,6 +172,14 @@ void htmd_default_options(htmd_options *options);
  */
 uint32_t htmd_convert(const uint8_t *html, size_t html_len, const htmd_options *options, uint8_t *out, size_t out_len,
                       size_t *needed, size_t *place, uint8_t *kind);
+
+/*
+ * The same for a page. With HTMD_HTML5 its bytes may be in any encoding that is supported: a byte order mark at their
+ * beginning says it, and else options.encoding; without that, bytes in UTF-8 are taken as such, and else what the page
+ * says about itself counts.
+ */
+uint32_t htmd_convert_page(const uint8_t *page, size_t page_len, const htmd_page_options *options, uint8_t *out,
+                           size_t out_len, size_t *needed, size_t *place, uint8_t *kind);
 
 /*
  * The line and the column of a place in a text, both from 1. A line ends with a line feed, a carriage return and a line

@@ -80,7 +80,91 @@ static void test_struct(void) {
     CHECK(offsetof(htmd_options, version) == 0);
     CHECK(offsetof(htmd_options, ul_bullet_spacing) == 12);
     CHECK(offsetof(htmd_options, output) == 15);
-    CHECK(offsetof(htmd_options, reserved) == 16);
+    CHECK(offsetof(htmd_options, front_matter) == 16);
+    CHECK(offsetof(htmd_options, reserved) == 17);
+}
+
+/* A call for a page, into a buffer that is large enough. */
+static struct answer call_page(const char *page, size_t page_len, const htmd_page_options *options) {
+    struct answer answer;
+    uint8_t *text = malloc(page_len + 1);
+    if (text == NULL)
+        abort();
+    memcpy(text, page, page_len);
+    answer.needed = answer.place = SIZE_MAX;
+    answer.kind = UINT8_MAX;
+    memset(answer.out, UNTOUCHED, ROOM);
+    answer.status = htmd_convert_page(text, page_len, options, answer.out, ROOM, &answer.needed, &answer.place,
+                                      &answer.kind);
+    free(text);
+    return answer;
+}
+
+static htmd_text text_of(const char *text) {
+    htmd_text it = {(const uint8_t *)text, strlen(text)};
+    return it;
+}
+
+static uint32_t status_of_page(const char *page, const htmd_page_options *options) {
+    struct answer answer = call_page(page, strlen(page), options);
+    CHECK(answer.status == HTMD_DONE || answer.needed == 0);
+    CHECK(answer.status == HTMD_DONE || is_untouched(answer.out, 0, ROOM));
+    return answer.status;
+}
+
+static void test_pages(void) {
+    const char *page = "<title>T</title><nav>n</nav><main><p>a <a href=b>b</a><p class=note>c</main>";
+    htmd_page_options options;
+    memset(&options, UNTOUCHED, sizeof options);
+    htmd_default_page_options(&options);
+    CHECK(sizeof(htmd_page_options) == 32 + 10 * sizeof(size_t));
+    CHECK(options.select.len == 0 && options.drop.len == 0 && options.skip.len == 0);
+    CHECK(options.base.len == 0 && options.encoding.len == 0 && options.select.bytes != NULL);
+    options.options.reader = HTMD_HTML5;
+    options.select = text_of("main");
+    options.drop = text_of(".note");
+    struct answer answer = call_page(page, strlen(page), &options);
+    CHECK(says(&answer, "a [b](b)"));
+    options.base = text_of("https://example.org/docs/");
+    options.options.front_matter = 1;
+    answer = call_page(page, strlen(page), &options);
+    CHECK(says(&answer, "---\ntitle: \"T\"\n---\n\na [b](https://example.org/docs/b)"));
+    options.skip = text_of("a,aside");
+    answer = call_page(page, strlen(page), &options);
+    CHECK(says(&answer, "---\ntitle: \"T\"\n---\n\na"));
+    options.select = text_of("table");
+    CHECK(status_of_page(page, &options) == HTMD_NOTHING_SELECTED);
+    options.select = text_of("main >");
+    CHECK(status_of_page(page, &options) == HTMD_BAD_SELECT);
+    options.select = text_of("");
+    options.drop = text_of("..");
+    CHECK(status_of_page(page, &options) == HTMD_BAD_DROP);
+    options.drop = text_of("");
+    options.skip = text_of("a,,b");
+    CHECK(status_of_page(page, &options) == HTMD_BAD_SKIP);
+    options.skip = text_of("");
+    options.base = text_of("docs/");
+    CHECK(status_of_page(page, &options) == HTMD_BAD_BASE);
+    options.base = text_of("");
+    options.encoding = text_of("big5");
+    CHECK(status_of_page(page, &options) == HTMD_BAD_ENCODING);
+    options.options.version = 0;
+    CHECK(status_of_page(page, &options) == HTMD_BAD_OPTIONS);
+}
+
+static void test_encodings(void) {
+    const char *russian = "<p>\xf0\xd2\xc9\xd7\xc5\xd4";
+    htmd_page_options options;
+    htmd_default_page_options(&options);
+    options.options.reader = HTMD_HTML5;
+    options.encoding = text_of("koi8-r");
+    struct answer answer = call_page(russian, strlen(russian), &options);
+    CHECK(says(&answer, "\xd0\x9f\xd1\x80\xd0\xb8\xd0\xb2\xd0\xb5\xd1\x82"));
+    options.encoding = text_of("");
+    CHECK(status_of_page("<meta charset=big5><p>\xa7\x41", &options) == HTMD_UNSUPPORTED);
+    options.options.reader = HTMD_STRICT;
+    answer = call_page(russian, strlen(russian), &options);
+    CHECK(answer.status == HTMD_NOT_UTF8 && answer.place == 3);
 }
 
 static void test_sizes(void) {
@@ -169,12 +253,12 @@ static void test_modes(void) {
 
 /* Each number of each byte of the struct: all but the good ones answer the status for them, and write nothing. */
 static void test_numbers(void) {
-    const int counts[32] = {0, 3, 3, 2, 2, 3, 2, 3, 3, 2, 2, 2, 256, 256, 2, 2};
+    const int counts[32] = {0, 3, 3, 2, 2, 3, 2, 3, 3, 2, 2, 2, 256, 256, 2, 2, 2};
     for (int at = 0; at < 32; at++) {
         for (int number = 0; number < 256; number++) {
             htmd_options options = defaults();
             memcpy((uint8_t *)&options + at, &(uint8_t){(uint8_t)number}, 1);
-            int is_good = at == 0 ? number == HTMD_OPTIONS_VERSION : at > 15 ? number == 0 : number < counts[at];
+            int is_good = at == 0 ? number == HTMD_OPTIONS_VERSION : at > 16 ? number == 0 : number < counts[at];
             if (at == offsetof(htmd_options, output) && number == HTMD_MDAST)
                 continue; /* JSON, which test_modes asks for */
             struct answer answer = call("<p>a</p>", 8, &options, 8);
@@ -335,6 +419,8 @@ static void test_memory(void) {}
 int main(void) {
     test_struct();
     test_sizes();
+    test_pages();
+    test_encodings();
     test_readers();
     test_options();
     test_modes();

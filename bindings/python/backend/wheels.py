@@ -1,18 +1,30 @@
 """Makes a wheel of the package, with the library that bindings/c/build has put into it.
 
-It needs nothing but Python, so that `pip install` needs no network.
+It needs nothing but Python, so that `pip install` needs no network. The version is the one that bindings/c/build has put
+beside the library.
 """
 
 import base64
 import hashlib
 import os
+import re
 import sysconfig
 import zipfile
 
 NAME = "htmd"
-VERSION = "0.5.6"
 ROOT = os.path.dirname(os.path.dirname(os.path.abspath(__file__)))
-FILES = ["__init__.py", "_convert.py", "_library.py", "libhtmd.so", "py.typed"]
+FILES = ["__init__.py", "_convert.py", "_library.py", "_version.py", "libhtmd.so", "py.typed"]
+
+
+def _content(name):
+    path = os.path.join(ROOT, NAME, name)
+    if not os.path.exists(path):
+        raise RuntimeError(f"{path} isn't there; bindings/c/build makes it")
+    with open(path, "rb") as file:
+        return file.read()
+
+
+VERSION = re.search(r'^__version__ = "(.+)"$', _content("_version.py").decode(), re.MULTILINE).group(1)
 INFO = f"{NAME}-{VERSION}.dist-info"
 METADATA = f"""\
 Metadata-Version: 2.1
@@ -46,14 +58,6 @@ def build_wheel(wheel_directory, config_settings=None, metadata_directory=None):
 def build_sdist(sdist_directory, config_settings=None):
     """There is none: the library is built from the repository, by its toolchain."""
     raise RuntimeError("htmd has no source distribution: install it from its repository")
-
-
-def _content(name):
-    path = os.path.join(ROOT, NAME, name)
-    if not os.path.exists(path):
-        raise RuntimeError(f"{path} isn't there; bindings/c/build makes it")
-    with open(path, "rb") as file:
-        return file.read()
 
 
 def _record(parts):

@@ -8,5 +8,6 @@
 """
 
 from htmd._convert import Refused, convert, document
+from htmd._version import __version__
 
-__all__ = ["Refused", "convert", "document"]
+__all__ = ["Refused", "__version__", "convert", "document"]

@@ -3,7 +3,7 @@
 import ctypes
 import functools
 import json
-from typing import Any, Dict, Literal, Mapping, Tuple, Union
+from typing import Any, Dict, Literal, Mapping, Optional, Tuple, Union
 
 from htmd import _library
 
@@ -73,8 +73,14 @@ def convert(
     ul_bullet_spacing: int = 3,
     ol_number_spacing: int = 2,
     preformatted_code: bool = False,
+    select: str = "",
+    drop: str = "",
+    skip: str = "",
+    base: str = "",
+    front_matter: bool = False,
+    encoding: Optional[str] = None,
 ) -> str:
-    """Converts a page, a text or its bytes in UTF-8, to Markdown.
+    """Converts a page, a text or its bytes, to Markdown.
 
     mode: "guarded" writes what a reader sees of the page without its styles, so that its Markdown is read back as the
         same; "pure" gives the Markdown of the Rust crate htmd; "faithful" is like "pure", but keeps as HTML what
@@ -92,19 +98,28 @@ def convert(
     bullet_list_marker: "asterisk" or "dash"
     ul_bullet_spacing, ol_number_spacing: the spaces after a bullet and after a number, 0 to 255; in "guarded" 1 to 4
     preformatted_code: whether the white space of code spans is kept
+    select: selectors with commas between them, as "main,.note": only the outermost elements that they name are converted
+    drop: selectors of what is left out, before other elements are selected
+    skip: names of elements that give nothing, with commas between them
+    base: the URL of the page: addresses are made absolute
+    front_matter: whether what the head of the page says about it is written first
+    encoding: the label of the encoding of bytes without a byte order mark, if it is known; without it, "html5" takes
+        bytes that are UTF-8 as such, and others by what the page says about itself. A `str` needs none
 
     "guarded" ignores link_reference_style, code_block_style and preformatted_code: references are full, code blocks
     fenced, and the white space of code spans is squeezed.
 
     Raises `Refused` for a page outside the strict grammar (never with "html5"), `UnicodeError` for bytes that are not
-    UTF-8, `ValueError` and `TypeError` for an unknown option or value, and `MemoryError`. Calls from several threads
-    run in parallel.
+    UTF-8 (never with "html5"), `LookupError` for a page in an encoding that isn't supported, `ValueError` if no element
+    is selected, `ValueError` and `TypeError` for an unknown option or value, and `MemoryError`. Calls from several
+    threads run in parallel.
     """
     options = _options(
         scripting,
         ul_bullet_spacing,
         ol_number_spacing,
         preformatted_code,
+        front_matter,
         output="markdown",
         reader=reader,
         mode=mode,
@@ -117,38 +132,72 @@ def convert(
         code_block_fence=code_block_fence,
         bullet_list_marker=bullet_list_marker,
     )
-    return _written(html, options)
+    return _written(html, options, _texts(select, drop, skip, base, encoding))
 
 
-def document(html: Union[str, bytes], *, reader: Reader = "html5", scripting: bool = True) -> Dict[str, Any]:
-    """What a reader sees of a page, a text or its bytes in UTF-8, in the form of mdast 4: dicts and lists.
+def document(
+    html: Union[str, bytes],
+    *,
+    reader: Reader = "html5",
+    scripting: bool = True,
+    select: str = "",
+    drop: str = "",
+    skip: str = "",
+    base: str = "",
+    encoding: Optional[str] = None,
+) -> Dict[str, Any]:
+    """What a reader sees of a page, a text or its bytes, in the form of mdast 4: dicts and lists.
 
     Returns the `root`; each node is a dict with its `type` and, if the type has them, `children`, `value` and other
     members. `docs/DOCUMENT.md` of the repository says what each element becomes. From these values a program can take
-    headings, links or tables; `convert` writes them as Markdown. `reader` and `scripting` mean what they mean there.
+    headings, links or tables; `convert` writes them as Markdown. The options mean what they mean there.
 
     Raises what `convert` raises.
     """
-    options = _options(scripting, 3, 2, False, output="mdast", reader=reader, mode="guarded")
-    return json.loads(_written(html, options))
+    options = _options(scripting, 3, 2, False, False, output="mdast", reader=reader, mode="guarded")
+    return json.loads(_written(html, options, _texts(select, drop, skip, base, encoding)))
 
 
-def _written(html: Union[str, bytes], options: _library.Options) -> str:
-    """What a page becomes by the options."""
-    text = html.encode("utf-8") if isinstance(html, str) else html
+#: The names of the texts that a page's struct holds, in order.
+_TEXTS = ("select", "drop", "skip", "base", "encoding")
+
+
+def _texts(*texts: Optional[str]) -> Dict[str, bytes]:
+    """The texts of a page's struct, in UTF-8."""
+    for name, text in zip(_TEXTS, texts):
+        if text is not None and not isinstance(text, str):
+            raise TypeError(f"{name} is {text!r}, and not a str")
+    return {name: (text or "").encode("utf-8") for name, text in zip(_TEXTS, texts)}
+
+
+def _written(html: Union[str, bytes], options: _library.Options, texts: Dict[str, bytes]) -> str:
+    """What a page becomes by the options. A `str` is UTF-8, whatever the page says about itself."""
+    if isinstance(html, str):
+        text = html.encode("utf-8")
+        texts = {**texts, "encoding": b"utf-8"}
+    else:
+        text = html
     if not isinstance(text, bytes):
         raise TypeError(f"html is of type {type(html).__name__}, and not str or bytes")
-    status, out, needed, place, kind = _call(text, options, len(text) + _SPARE)
+    page = _library.PageOptions(
+        options=options, **{name: _library.Text(given, len(given)) for name, given in texts.items()}
+    )
+    status, out, needed, place, kind = _call(text, page, len(text) + _SPARE)
     if status == _library.TOO_SMALL:
-        status, out, needed, place, kind = _call(text, options, needed)
+        status, out, needed, place, kind = _call(text, page, needed)
     if status == _library.DONE:
         return str(memoryview(out)[:needed], "utf-8")
-    raise _error(status, text, place, kind)
+    raise _error(status, text, texts, place, kind)
 
 
 @functools.lru_cache(maxsize=64, typed=True)
 def _options(
-    scripting: bool, ul_bullet_spacing: int, ol_number_spacing: int, preformatted_code: bool, **values: str
+    scripting: bool,
+    ul_bullet_spacing: int,
+    ol_number_spacing: int,
+    preformatted_code: bool,
+    front_matter: bool,
+    **values: str,
 ) -> _library.Options:
     """The struct that says these options; it is never written again, so that threads may share it."""
     numbers = {name: _number(name, value) for name, value in values.items()}
@@ -158,6 +207,7 @@ def _options(
         ul_bullet_spacing=_spacing("ul_bullet_spacing", ul_bullet_spacing),
         ol_number_spacing=_spacing("ol_number_spacing", ol_number_spacing),
         preformatted_code=_flag("preformatted_code", preformatted_code),
+        front_matter=_flag("front_matter", front_matter),
         **numbers,
     )
 
@@ -183,25 +233,42 @@ def _spacing(name: str, value: int) -> int:
     return value
 
 
-def _call(text: bytes, options: _library.Options, size: int) -> Tuple[int, bytearray, int, int, int]:
+def _call(text: bytes, options: _library.PageOptions, size: int) -> Tuple[int, bytearray, int, int, int]:
     """One call with a buffer of this size: the status, the buffer, and what is needed, the place and the kind."""
     out = bytearray(size)
     needed = ctypes.c_size_t()
     place = ctypes.c_size_t()
     kind = ctypes.c_uint8()
-    status = _library.convert(
+    status = _library.convert_page(
         text, len(text), options, ctypes.c_uint8.from_buffer(out), size, needed, place, kind
     )
     return status, out, needed.value, place.value, kind.value
 
 
-def _error(status: int, text: bytes, place: int, kind: int) -> Exception:
+#: What each text has to be.
+_WANTED = {
+    _library.BAD_SELECT: ("select", "selectors with commas between them"),
+    _library.BAD_DROP: ("drop", "selectors with commas between them"),
+    _library.BAD_SKIP: ("skip", "names with commas between them"),
+    _library.BAD_BASE: ("base", "an absolute URL"),
+    _library.BAD_ENCODING: ("encoding", "the label of an encoding that is supported"),
+}
+
+
+def _error(status: int, text: bytes, texts: Dict[str, bytes], place: int, kind: int) -> Exception:
     if status == _library.REFUSED:
         return Refused(place, _library.KINDS[kind], *_line_and_column(text, place))
     if status == _library.NOT_UTF8:
         return UnicodeDecodeError("utf-8", text, place, place + 1, "not UTF-8")
     if status == _library.NO_MEMORY:
         return MemoryError()
+    if status == _library.UNSUPPORTED:
+        return LookupError("the page is in an encoding that is not supported: decode it first, or give its encoding")
+    if status == _library.NOTHING_SELECTED:
+        return ValueError("no element of the page is selected")
+    if status in _WANTED:
+        name, wanted = _WANTED[status]
+        return ValueError(f"{name} is {texts[name].decode('utf-8')!r}, and not {wanted}")
     return RuntimeError(f"the library answers {status}")
 
 

@@ -11,6 +11,13 @@ REFUSED = 2
 NOT_UTF8 = 3
 NO_MEMORY = 4
 BAD_OPTIONS = 5
+UNSUPPORTED = 6
+NOTHING_SELECTED = 7
+BAD_SELECT = 8
+BAD_DROP = 9
+BAD_SKIP = 10
+BAD_BASE = 11
+BAD_ENCODING = 12
 
 #: The kinds of a refusal, by number.
 KINDS = {
@@ -52,7 +59,27 @@ class Options(ctypes.Structure):
         ("ol_number_spacing", ctypes.c_uint8),
         ("preformatted_code", ctypes.c_uint8),
         ("output", ctypes.c_uint8),
-        ("reserved", ctypes.c_uint8 * 16),
+        ("front_matter", ctypes.c_uint8),
+        ("reserved", ctypes.c_uint8 * 15),
+    ]
+
+
+class Text(ctypes.Structure):
+    """A text, and the number of its bytes."""
+
+    _fields_ = [("bytes", ctypes.c_char_p), ("len", ctypes.c_size_t)]
+
+
+class PageOptions(ctypes.Structure):
+    """What the conversion of a page goes by."""
+
+    _fields_ = [
+        ("options", Options),
+        ("select", Text),
+        ("drop", Text),
+        ("skip", Text),
+        ("base", Text),
+        ("encoding", Text),
     ]
 
 
@@ -76,6 +103,19 @@ convert.argtypes = [
     ctypes.c_char_p,
     _size,
     ctypes.POINTER(Options),
+    ctypes.POINTER(ctypes.c_uint8),
+    _size,
+    _size_out,
+    _size_out,
+    ctypes.POINTER(ctypes.c_uint8),
+]
+
+convert_page = _loaded.htmd_convert_page
+convert_page.restype = ctypes.c_uint32
+convert_page.argtypes = [
+    ctypes.c_char_p,
+    _size,
+    ctypes.POINTER(PageOptions),
     ctypes.POINTER(ctypes.c_uint8),
     _size,
     _size_out,

@@ -118,11 +118,47 @@ class Documents(unittest.TestCase):
             htmd.document(PAGE, reader="strict")
         self.assertEqual((raised.exception.place, raised.exception.kind), (15, "TagOutside"))
         with self.assertRaises(UnicodeDecodeError):
-            htmd.document(b"<p>\xff</p>")
+            htmd.document(b"<p>\xff</p>", reader="strict")
 
     def test_longer_than_its_page(self):
         page = "<p>a<br>b</p>" * 1000
         self.assertEqual(len(htmd.document(page)["children"]), 1000)
+
+
+class Pages(unittest.TestCase):
+    PAGE = "<title>T</title><nav>n</nav><main><p>a <a href=b>b</a><p class=note>c</main>"
+
+    def test_parts(self):
+        self.assertEqual(htmd.convert(self.PAGE, select="main", drop=".note"), "a [b](b)")
+        self.assertEqual(htmd.convert(self.PAGE, drop="nav,.note", skip="a,aside"), "a")
+        self.assertEqual(len(htmd.document(self.PAGE, select="main")["children"]), 2)
+
+    def test_addresses_and_front_matter(self):
+        markdown = htmd.convert(self.PAGE, select="main > p", base="https://example.org/docs/", front_matter=True)
+        self.assertEqual(markdown, '---\ntitle: "T"\n---\n\na [b](https://example.org/docs/b)\n\nc')
+
+    def test_encodings(self):
+        page = "<p>\u041f\u0440\u0438\u0432\u0435\u0442".encode("koi8-r")
+        self.assertEqual(htmd.convert(page, encoding="koi8-r"), "\u041f\u0440\u0438\u0432\u0435\u0442")
+        self.assertEqual(htmd.convert(b"<p>\xff</p>"), "\u00ff")
+        self.assertEqual(htmd.convert("<meta charset=koi8-r><p>\u0410"), "\u0410")
+        with self.assertRaises(LookupError):
+            htmd.convert(b"<meta charset=big5><p>\xa7A")
+
+    def test_faults(self):
+        with self.assertRaisesRegex(ValueError, "no element"):
+            htmd.convert(self.PAGE, select="table")
+        for option, value in (
+            ("select", "main >"),
+            ("drop", ".."),
+            ("skip", "a,,b"),
+            ("base", "docs/"),
+            ("encoding", "big5"),
+        ):
+            with self.subTest(option=option), self.assertRaisesRegex(ValueError, option):
+                htmd.convert(b"<p>a", **{option: value})
+        with self.assertRaises(TypeError):
+            htmd.convert(self.PAGE, select=["main"])
 
 
 class Refusals(unittest.TestCase):
@@ -152,7 +188,7 @@ class Refusals(unittest.TestCase):
 
     def test_no_utf8(self):
         with self.assertRaises(UnicodeDecodeError) as raised:
-            htmd.convert(b"<p>\xff</p>")
+            htmd.convert(b"<p>\xff</p>", reader="strict")
         self.assertEqual(raised.exception.start, 3)
         with self.assertRaises(UnicodeEncodeError):
             htmd.convert("<p>\ud800</p>")
@@ -200,12 +236,14 @@ class Header(unittest.TestCase):
         self.numbers = {name: int(number) for name, number in re.findall(r"\bHTMD_(\w+) = (\d+)", self.text)}
 
     def test_statuses_and_kinds(self):
-        for name in ("DONE", "TOO_SMALL", "REFUSED", "NOT_UTF8", "NO_MEMORY", "BAD_OPTIONS"):
+        names = re.findall(r"\bHTMD_(\w+) = \d+", self.text[self.text.index("HTMD_DONE =") :].split("};")[0])
+        for name in names:
             self.assertEqual(self.numbers[name], getattr(_library, name))
         for number, kind in _library.KINDS.items():
             self.assertEqual(self.numbers[re.sub(r"(?<!^)([A-Z])", r"_\1", kind).upper()], number)
         version = re.search(r"#define HTMD_OPTIONS_VERSION (\d+)", self.text)
         self.assertEqual(int(version.group(1)), _library.OPTIONS_VERSION)
+        self.assertIn(f'#define HTMD_VERSION "{htmd.__version__}"', self.text)
 
     def test_values(self):
         prefixes = {
@@ -224,6 +262,11 @@ class Header(unittest.TestCase):
         for name, values in _convert.VALUES.items():
             for value, number in values.items():
                 self.assertEqual(self.numbers[prefixes[name] + value.upper().replace("-", "_")], number)
+
+    def test_page_struct(self):
+        struct = self.text[self.text.index("typedef struct htmd_page_options") :]
+        fields = re.findall(r"(?:htmd_options|htmd_text) (\w+);", struct[: struct.index("}")])
+        self.assertEqual(fields, [name for name, _ in _library.PageOptions._fields_])
 
     def test_struct(self):
         struct = self.text[self.text.index("typedef struct") :]

@@ -1,7 +1,7 @@
 -- What a refusal says of the text that was refused.
 use Rattle.std.proofs.Common.{◌≡◌, ◌∙◌, sym, ap, subst, ℕ, ◌+◌, ◌≤◌, Bool, List, ◌∷◌, ◌++◌, length, arith, inl, inr}
 use Rattle.std.proofs.Common.{Result, Err, IfOk, IsErrAnd, true, length-append}
-use Rattle.htmd_grammar.specs.Characters.{null}
+use Rattle.htmd_lexical.specs.Characters.{null}
 use Rattle.htmd_grammar.specs.Faults.{IsFault}
 use Rattle.htmd_grammar.specs.Rules.{project}
 use Rattle.htmd_grammar.specs.declared.fault.FaultKind.{FaultKind}

@@ -1,6 +1,6 @@
 -- What a text of HTML becomes.
 use Rattle.std.specs.Prelude.{◌≡◌, ℕ, ◌+◌, Bool, List}
-use Rattle.htmd_grammar.specs.ValueTrees.{ValueTree, ValueForest, document}
+use Rattle.htmd_values.specs.ValueTrees.{ValueTree, ValueForest, document}
 use Rattle.htmd_grammar.specs.HtmlDocuments.{ReadsDocument}
 use Rattle.htmd_grammar.specs.Rules.{project}
 use Rattle.htmd_grammar.specs.Faults.{IsFault}

@@ -2,14 +2,14 @@
 -- Markdown a tree becomes, the handlers and the options; and those of documents and of what is written of them.
 pub use Rattle.htmd_walk.specs.Characters
 pub use Rattle.htmd_walk.specs.Blocks
-pub use Rattle.htmd_walk.specs.ValueTrees
+pub use Rattle.htmd_values.specs.ValueTrees
 pub use Rattle.htmd_walk.specs.Items
 pub use Rattle.htmd_walk.specs.NumberedTrees
 pub use Rattle.htmd_walk.specs.Ancestors
 pub use Rattle.htmd_tree.specs.Bodies
 pub use Rattle.htmd_tree.specs.Lines
 pub use Rattle.htmd_walk.specs.CharacterClasses
-pub use Rattle.htmd_walk.specs.FaultKind
+pub use Rattle.htmd_grammar.specs.declared.fault.FaultKind
 pub use Rattle.htmd_walk.specs.HeadingStyle
 pub use Rattle.htmd_walk.specs.HrStyle
 pub use Rattle.htmd_walk.specs.BrStyle
@@ -71,9 +71,16 @@ pub use Rattle.htmd_walk.specs.declared.options.CodeBlockStyle
 pub use Rattle.htmd_walk.specs.declared.options.TranslationMode
 pub use Rattle.htmd_document.specs.Documents
 pub use Rattle.htmd_document.specs.DocumentViews
-pub use Rattle.htmd_document.specs.TreeDocuments
+pub use Rattle.htmd_document_of_tree.specs.TreeDocuments
 pub use Rattle.htmd_document.specs.Mdast
 pub use Rattle.htmd_commonmark.specs.DocumentMarkdown
 pub mod Converters
 pub mod Conversions
 pub mod PageDocuments
+pub mod PageSettings
+pub mod PageValues
+pub mod PageFailures
+pub mod PageChanges
+pub mod PageOutputs
+pub mod PageSights
+pub mod PageConverters

@@ -4,7 +4,7 @@ use Rattle.htmd_nodes.specs.Items.{Item}
 use Rattle.htmd_nodes.specs.NumberedTrees.{tree_of}
 use Rattle.htmd_html5.specs.Html5Documents.{html5_document}
 use Rattle.htmd_document.specs.Documents.{Blocks}
-use Rattle.htmd_document.specs.TreeDocuments.{document_of_tree}
+use Rattle.htmd_document_of_tree.specs.TreeDocuments.{document_of_tree}
 use Rattle.htmd_commonmark.specs.declared.options.DocumentOptions.{DocumentOptions}
 use Rattle.htmd_walk.specs.declared.options.Options.{Options}
 use Rattle.htmd.specs.Conversions.{IsTreeOf}

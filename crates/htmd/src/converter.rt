@@ -21,6 +21,7 @@ use crate::documents::document_options;
 use crate::skipped_tags::SkippedTags;
 use htmd_commonmark::DocumentOptions;
 use htmd_document::Document;
+use htmd_document_of_tree::OfTree;
 use htmd_html5::parse_html5;
 use htmd_nodes::{NodeId, Tree};
 use htmd_tree::{body_of, read_html};

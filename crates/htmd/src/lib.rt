@@ -13,6 +13,13 @@
 mod convert_error;
 mod converter;
 mod documents;
+mod page_changes;
+mod page_converter;
+mod page_error;
+mod page_output;
+mod page_settings;
+pub mod page_values;
+mod paragraph;
 mod skipped_tags;
 
 /// The writers of pieces that read back: what they promise of a piece holds for what a handler writes.
@@ -25,9 +32,17 @@ pub use converter::{
     AddFnRefused, AddRefused, HtmlToMarkdown, HtmlToMarkdownBuilder, SkipRefused, convert,
 };
 pub use documents::document_options;
+pub use htmd_addresses::{Page, Pages, RunPage};
 pub use htmd_commonmark::{DocumentOptions, to_markdown};
-pub use htmd_document::{Alignment, Block, Document, Inline};
+pub use htmd_document::{Alignment, Block, Document, Format, Inline};
+pub use htmd_document_of_tree::OfTree;
+pub use htmd_encodings::{Encoding, UnsupportedEncoding, encoding_named};
 pub use htmd_nodes::{Attribute, Name, NodeData, NodeId, Tree, TreeError};
+pub use htmd_selectors::{SelectorError, Selectors, parse_selectors};
 pub use htmd_tree::{FaultKind, ReadError, body_of, line_and_column};
 pub use htmd_walk::element_handler::Element;
 pub use htmd_walk::{element_handler, options};
+pub use page_converter::{PageConverter, convert_page};
+pub use page_error::PageError;
+pub use page_settings::{PageInRun, PageSettings};
+pub use paragraph::paragraph_of;

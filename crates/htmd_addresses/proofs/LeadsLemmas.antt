@@ -1,11 +1,12 @@
 -- Ways between folders, as addresses.
-use Rattle.std.proofs.Common.{◌≡◌, ℕ, ◌+◌, ◌<◌, List, [], ◌∷◌, ◌++◌, length, drop, map, sym, ap, ◌∙◌, Bor, Option, append_assoc}
+use Rattle.std.proofs.Common.{◌≡◌, ℕ, ◌+◌, ◌<◌, List, [], ◌∷◌, ◌++◌, length, drop, map, sym, ap, ◌∙◌, Bor, Option}
+use Rattle.std.proofs.Common.{append_assoc}
 use Rattle.std.specs.List.{common_prefix_len}
 use Rattle.std.specs.Str.{bytes_eq}
 use Rattle.std.proofs.lemmas.Grind.{flat_map-append}
 use Rattle.std.proofs.lemmas.List.{drop_more, drop-map}
 use Rattle.percent_encoding.specs.Percent.{percent_encode}
-use Rattle.htmd_grammar.specs.Characters.{slash}
+use Rattle.htmd_lexical.specs.Characters.{slash}
 use Rattle.htmd_addresses.specs.Leads.{PageValue, escaped, lead, lead_to, output_for, path_len, relative, trimmed}
 use Rattle.htmd_addresses.specs.PageViews.{names_of}
 use Rattle.htmd_addresses.specs.Paths.{Folder, folder_of, name_of, parent, way}

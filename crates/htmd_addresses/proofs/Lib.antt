@@ -1,6 +1,5 @@
 -- Lemmas on addresses.
 mod Examples
-pub mod RewritingLemmas
 pub mod BasesLemmas
 pub mod PathsLemmas
 pub mod PagesLemmas

@@ -1,10 +1,10 @@
 -- A page whose addresses are absolute.
 use Rattle.std.specs.Prelude.{ℕ, Bool, false, ◌||◌, ◌==◌, if◌then◌else◌, List, [], ◌∷◌, map, Some, Ok, Err, codes}
 use Rattle.std.specs.Str.{bytes_eq}
-use Rattle.htmd_grammar.specs.Characters.{number_sign}
-use Rattle.htmd_grammar.specs.ValueTrees.{AttributePair}
+use Rattle.htmd_lexical.specs.Characters.{number_sign}
+use Rattle.htmd_lexical.specs.AttributePairs.{AttributePair}
 use Rattle.htmd_nodes.specs.Items.{Item}
-use Rattle.htmd_addresses.specs.Rewriting.{rewritten_page}
+use Rattle.htmd_selectors.specs.Rewriting.{rewritten_page}
 use Rattle.url.specs.Parts.{Parts, serialize}
 use Rattle.url.specs.Parser.{Parsed, parse_url}
 

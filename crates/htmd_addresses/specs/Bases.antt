@@ -2,10 +2,11 @@
 use Rattle.std.specs.Prelude.{ℕ, Bool, not, ◌||◌, if◌then◌else◌, List, [], ◌∷◌, Option, Some, None, Ok, Err, codes}
 use Rattle.std.specs.Option.{option_or, unwrap_or}
 use Rattle.std.specs.Str.{bytes_eq}
-use Rattle.htmd_grammar.specs.ValueTrees.{AttributePair, ValueTree, document, doctype, text, comment, element}
-use Rattle.htmd_grammar.specs.ValueTrees.{ValueForest, none, more}
+use Rattle.htmd_lexical.specs.AttributePairs.{AttributePair}
+use Rattle.htmd_values.specs.ValueTrees.{ValueTree, document, doctype, text, comment, element}
+use Rattle.htmd_values.specs.ValueTrees.{ValueForest, none, more}
 use Rattle.htmd_nodes.specs.Items.{Item}
-use Rattle.htmd_nodes.specs.NodeValues.{value_at}
+use Rattle.htmd_nodes.specs.NumberedTrees.{value_at}
 use Rattle.url.specs.Parts.{Parts}
 use Rattle.url.specs.Parser.{Parsed, parse_url}
 

@@ -4,12 +4,13 @@ use Rattle.std.specs.Prelude.{map, length, take, drop, Option, Some, None, is_so
 use Rattle.std.specs.Char.{is_ascii_alphabetic, is_ascii_alphanumeric, is_ascii_whitespace}
 use Rattle.std.specs.List.{flat_map, prefix_len, suffix_len}
 use Rattle.std.specs.Str.{bytes_eq}
-use Rattle.htmd_grammar.specs.Characters.{backslash, colon, full_stop, hyphen, number_sign, plus_sign, question_mark, slash}
-use Rattle.htmd_grammar.specs.ValueTrees.{AttributePair}
+use Rattle.htmd_lexical.specs.Characters.{backslash, colon, full_stop, hyphen, number_sign, plus_sign, question_mark}
+use Rattle.htmd_lexical.specs.Characters.{slash}
+use Rattle.htmd_lexical.specs.AttributePairs.{AttributePair}
 use Rattle.htmd_nodes.specs.Items.{Item}
 use Rattle.htmd_addresses.specs.Addresses as addresses
 use Rattle.htmd_addresses.specs.Paths.{Folder, folder_of, name_of, page_in, plain_path, way}
-use Rattle.htmd_addresses.specs.Rewriting.{rewritten_page}
+use Rattle.htmd_selectors.specs.Rewriting.{rewritten_page}
 use Rattle.htmd_addresses.specs.declared.leads.TheConstants.{SEGMENT}
 use Rattle.url.specs.Parts.{Parts}
 use Rattle.percent_encoding.specs.Percent.{percent_decode, percent_encode}

@@ -1,7 +1,6 @@
 -- Pages with other attributes, addresses against a base, the base of a page, paths of files, addresses that lead to
 -- pages of a run, and the URL of a page of a folder. Those with `Views` serve private functions alone, but for what a
 -- page of a run is.
-pub mod Rewriting
 pub mod Addresses
 pub mod Bases
 pub mod Paths

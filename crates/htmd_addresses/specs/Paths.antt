@@ -3,7 +3,7 @@ use Rattle.std.specs.Prelude.{ℕ, ◌-◌, Bool, not, ◌||◌, ◌==◌, if◌
 use Rattle.std.specs.Prelude.{take, drop, slice_index, slice_get, Option, Some, None, codes}
 use Rattle.std.specs.List.{common_prefix_len, flat_map, slice_split, suffix_len}
 use Rattle.std.specs.Str.{bytes_eq}
-use Rattle.htmd_grammar.specs.Characters.{slash}
+use Rattle.htmd_lexical.specs.Characters.{slash}
 
 -- a folder is the list of names that lead to it; that of the root begins with an empty name
 abbrev pub Folder : Type 0

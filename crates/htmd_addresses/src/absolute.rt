@@ -3,8 +3,8 @@ ghost use Rattle.std.specs.Prelude.{◌≡◌, IfOk};
 ghost use Rattle.htmd_addresses.specs.Addresses as spec;
 
 use crate::resolving::attributes_of;
-use crate::rewriting::{Rewrite, rewritten};
 use htmd_nodes::{Attribute, Tree};
+use htmd_selectors::{Rewrite, rewritten};
 use std::alloc::{AllocError, Global};
 use url::Url;
 

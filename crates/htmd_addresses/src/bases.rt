@@ -1,9 +1,9 @@
 //! The base of a page.
 ghost use Rattle.std.specs.Prelude.{◌≡◌, ◌<◌, length, option_copied, IfOk};
-ghost use Rattle.htmd_grammar.specs.Attributes.{pairs_of};
+ghost use Rattle.htmd_lexical.specs.Attributes.{pairs_of};
 ghost use Rattle.htmd_nodes.specs.Items.{children_of};
 ghost use Rattle.htmd_nodes.specs.NumberedTrees.{tree_of, forest_of, value_forest};
-ghost use Rattle.htmd_nodes.specs.NodeValues.{value_at};
+ghost use Rattle.htmd_nodes.specs.NumberedTrees.{value_at};
 ghost use Rattle.htmd_addresses.specs.Bases as bases;
 
 use crate::resolving::url_of;

@@ -2,7 +2,7 @@
 ghost use Rattle.std.specs.Prelude.{◌≡◌, ◌++◌, map, is_some, IfOk, OnOk, string_bytes};
 ghost use Rattle.std.specs.Option.{option_copied};
 ghost use Rattle.std.specs.Str.{IsCharBoundary};
-ghost use Rattle.htmd_grammar.specs.Attributes.{pair_of, pairs_of};
+ghost use Rattle.htmd_lexical.specs.Attributes.{pair_of, pairs_of};
 ghost use Rattle.htmd_addresses.specs.Leads as spec;
 ghost use Rattle.htmd_addresses.specs.PageViews.{names_of};
 ghost use Rattle.htmd_addresses.specs.Paths as paths;
@@ -12,8 +12,8 @@ ghost use Rattle.percent_encoding.specs.Percent.{percent_encode};
 use crate::pages::Pages;
 use crate::paths::{folder_of, name_of, page_in, same_names};
 use crate::resolving::value_of as absolute_value;
-use crate::rewriting::{Rewrite, rewritten};
 use htmd_nodes::{Attribute, Tree};
+use htmd_selectors::{Rewrite, rewritten};
 use percent_encoding::{AsciiSet, CONTROLS, ascii_set, percent_decode, percent_encode};
 use std::alloc::{AllocError, Global};
 use url::Url;

@@ -9,7 +9,6 @@ mod page_urls;
 mod pages;
 mod paths;
 mod resolving;
-mod rewriting;
 
 pub use absolute::make_absolute;
 pub use bases::base_of;

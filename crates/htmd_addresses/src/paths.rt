@@ -2,7 +2,7 @@
 ghost use Rattle.std.specs.Prelude.{◌≡◌, ◌≤◌, ◌==◌, not, length, IfOk, OnOk};
 ghost use Rattle.std.specs.List.{common_prefix_len, suffix_len};
 ghost use Rattle.std.specs.Str.{bytes_eq};
-ghost use Rattle.htmd_grammar.specs.Characters.{slash};
+ghost use Rattle.htmd_lexical.specs.Characters.{slash};
 ghost use Rattle.htmd_addresses.specs.Paths as spec;
 ghost use Rattle.htmd_addresses.specs.PageViews.{names_of};
 

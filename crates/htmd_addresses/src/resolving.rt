@@ -1,7 +1,7 @@
 //! Addresses against a base, by the URL Standard.
 ghost use Rattle.std.specs.Prelude.{◌≡◌, ◌||◌, Ok, Err, IfOk, string_bytes};
 ghost use Rattle.url.specs.Parser.{parse_url};
-ghost use Rattle.htmd_grammar.specs.Attributes.{pair_of, pairs_of};
+ghost use Rattle.htmd_lexical.specs.Attributes.{pair_of, pairs_of};
 ghost use Rattle.htmd_addresses.specs.Addresses as spec;
 ghost use Rattle.htmd_addresses.specs.Views.{GivesUrl};
 

@@ -35,7 +35,7 @@ fn batch_time(rt: &HostRuntime, input: &str) -> Result<Duration, Fault> {
         &mut source,
         &mut sink,
         &mut errors,
-        settings,
+        &settings,
         false,
     )?;
     Ok(start.elapsed(rt)?)

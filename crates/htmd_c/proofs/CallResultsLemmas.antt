@@ -1,125 +1,105 @@
--- What a conversion gives, by equal handlers.
-use Rattle.std.proofs.Common.{◌≡◌, sym, subst, refl, ℕ, Bool, true, false, List, [], ◌∷◌, Result, IfOk, MatchBool}
-use Rattle.std.specs.Prelude.{◌==◌}
-use Rattle.htmd.specs.Bodies.{body_part}
-use Rattle.htmd.specs.Options.{Options}
-use Rattle.htmd.specs.BuiltIn.{Row, with_rows, empty_config, built_in, built_in_rows}
-use Rattle.htmd.specs.Choice.{Config, with_handler, with_options}
-use Rattle.htmd.specs.Conversions.{IsMarkdownOf, IsMarkdownOfPage, IsHtml5Markdown}
-use Rattle.htmd.specs.Defaults.{default_options}
-use Rattle.htmd.specs.Documents.{Blocks}
-use Rattle.htmd.specs.PageDocuments.{IsDocumentOf, html5_page_document}
+-- What a text of the struct says, and why bytes become nothing.
+use Rattle.std.proofs.Common.{◌≡◌, ◌∙◌, ◌⊎◌, ap, sym, subst, refl, inl, inr, ℕ, true, false, List, [], ◌∷◌, ◌++◌}
+use Rattle.std.proofs.Common.{Bor, length, eqb, map, arith}
+use Rattle.std.proofs.Common.{Option, Some, None, IsUtf8}
+use Rattle.std.specs.List.{list_all}
+use Rattle.std.proofs.lemmas.Bool.Decides.{nat_tests}
+use Rattle.htmd.specs.PageOutputs.{IsFaultOf}
+use Rattle.htmd.specs.PageValues.{AddsSelectors, is_filled, parts, selectors, url}
+use Rattle.htmd.specs.declared.page_error.PageError.{PageError}
+use Rattle.htmd.specs.declared.page_error.PageError.TheVariants.{NotUtf8, Refused, Unsupported, NothingSelected, Memory}
+use Rattle.htmd.specs.PageSettings.{Settings}
+use Rattle.htmd_encodings.specs.Labels.{encoding_named}
+use Rattle.htmd_encodings.specs.declared.encodings.Encoding.{Encoding}
+use Rattle.htmd_selectors.specs.SelectorSteps.{Step}
+use Rattle.url.specs.Parts.{Parts}
+use Rattle.htmd_encodings.specs.Decoding.{marked, marked_or_given}
+use Rattle.htmd_encodings.specs.declared.encodings.Encoding.TheVariants.{Utf8}
+use Rattle.htmd_encodings.specs.declared.encodings.Named.TheVariants as named
+use Rattle.htmd_encodings.specs.declared.encodings.UnsupportedEncoding.{UnsupportedEncoding}
 use Rattle.htmd_c.specs.declared.options.HtmdOptions.{HtmdOptions}
-use Rattle.htmd_c.specs.CallResults.{config_of, IsMarkdownBy, IsDocumentBy, IsOutputBy, written}
-use Rattle.htmd_c.specs.Options.{strict, page, is_scripting, writes_document}
+use Rattle.htmd_c.specs.Options.{settings_of}
+use Rattle.htmd_c.specs.CallResults.{IsPageFault, IsTextFault}
+use Rattle.htmd_c.specs.PageOptions.{AreNames, AreSelectors, IsBase, IsEncoding, IsSettingsOf}
+use Rattle.htmd_c.specs.declared.page_options.HtmdPageOptions.{HtmdPageOptions}
 
-with_options-with_rows : (rows : List Row) (config : Config) (options : Options)
-    → with_options (with_rows rows config) options ≡ with_rows rows (with_options config options)
-with_options-with_rows [] config options = refl
-with_options-with_rows (r ∷ rs) config options =
-    with_options-with_rows rs (with_handler config r.tags r.handler) options
+-- ---- a text without bytes
 
--- the built-in handlers with other options
-pub built_in_with : (options : Options) → with_options (built_in default_options) options ≡ built_in options
-built_in_with options = with_options-with_rows built_in_rows (empty_config default_options) options
+pub selectors_untold : (text : List ℕ) (steps : List Step) → eqb (length text) 0 ≡ true → steps ≡ []
+    → AreSelectors text steps
+selectors_untold [] steps e s = s
+selectors_untold (b ∷ t) steps e s = absurd (grind (arith, nat_tests))
 
--- the Markdown of a page by the reader that the struct says, which isn't the strict one
-abbrev IsOfPage : HtmdOptions → List ℕ → List ℕ → Type 0
-IsOfPage given html markdown =
-    MatchBool (given.reader == page) (IsMarkdownOfPage (config_of given) (is_scripting given) html markdown)
-    (IsHtml5Markdown (config_of given) (is_scripting given) html markdown)
+pub names_untold : (text : List ℕ) (names : List (List ℕ)) → eqb (length text) 0 ≡ true → names ≡ []
+    → AreNames text names
+names_untold [] names e s = s
+names_untold (b ∷ t) names e s = absurd (grind (arith, nat_tests))
 
--- a conversion as the strict reader gives it
-pub by_strict : {E T : Type 0} (given : HtmdOptions) (html : List ℕ) (written : T → List ℕ) (r : Result T E)
-    (config : Config) (scripting : Bool) → (given.reader == strict) ≡ true → config ≡ config_of given
-    → scripting ≡ is_scripting given → IfOk r (λ s. IsMarkdownOf config scripting html (written s))
-    → IfOk r (λ s. IsMarkdownBy given html (written s))
-by_strict given html written r config scripting e k on h =
-    subst (λ b. IfOk r (λ s. MatchBool b (IsMarkdownOf (config_of given) (is_scripting given) html (written s))
-    (IsOfPage given html (written s)))) (sym e)
-    (subst (λ c. IfOk r (λ s. IsMarkdownOf c (is_scripting given) html (written s))) k
-    (subst (λ b. IfOk r (λ s. IsMarkdownOf config b html (written s))) on h))
+pub base_untold : (text : List ℕ) (base : Option Parts) → eqb (length text) 0 ≡ true → base ≡ None
+    → IsBase text base
+base_untold [] base e s = s
+base_untold (b ∷ t) base e s = absurd (grind (arith, nat_tests))
 
--- as the reader of pages' bodies gives it
-pub by_page : {E T : Type 0} (given : HtmdOptions) (html : List ℕ) (written : T → List ℕ) (r : Result T E)
-    (config : Config) (scripting : Bool) → (given.reader == strict) ≡ false → (given.reader == page) ≡ true
-    → config ≡ config_of given → scripting ≡ is_scripting given
-    → IfOk r (λ s. IsMarkdownOfPage config scripting html (written s))
-    → IfOk r (λ s. IsMarkdownBy given html (written s))
-by_page given html written r config scripting e p k on h =
-    subst (λ b. IfOk r (λ s. MatchBool b (IsMarkdownOf (config_of given) (is_scripting given) html (written s))
-    (IsOfPage given html (written s)))) (sym e)
-    (subst (λ b. IfOk r (λ s. MatchBool b (IsMarkdownOfPage (config_of given) (is_scripting given) html (written s))
-    (IsHtml5Markdown (config_of given) (is_scripting given) html (written s)))) (sym p)
-    (subst (λ c. IfOk r (λ s. IsMarkdownOfPage c (is_scripting given) html (written s))) k
-    (subst (λ b. IfOk r (λ s. IsMarkdownOfPage config b html (written s))) on h)))
+pub encoding_untold : (text : List ℕ) (encoding : Option Encoding) → eqb (length text) 0 ≡ true
+    → encoding ≡ None → IsEncoding text encoding
+encoding_untold [] encoding e s = s
+encoding_untold (b ∷ t) encoding e s = absurd (grind (arith, nat_tests))
 
--- as the reader of any page gives it
-pub by_html5 : (given : HtmdOptions) (html markdown : List ℕ) (config : Config) (scripting : Bool)
-    → (given.reader == strict) ≡ false → (given.reader == page) ≡ false → config ≡ config_of given
-    → scripting ≡ is_scripting given → IsHtml5Markdown config scripting html markdown
-    → IsMarkdownBy given html markdown
-by_html5 given html markdown config scripting e p k on h =
-    subst (λ b. MatchBool b (IsMarkdownOf (config_of given) (is_scripting given) html markdown)
-    (IsOfPage given html markdown)) (sym e)
-    (subst (λ b. MatchBool b (IsMarkdownOfPage (config_of given) (is_scripting given) html markdown)
-    (IsHtml5Markdown (config_of given) (is_scripting given) html markdown)) (sym p)
-    (subst (λ c. IsHtml5Markdown c (is_scripting given) html markdown) k
-    (subst (λ b. IsHtml5Markdown config b html markdown) on h)))
+-- ---- a text with bytes
 
--- ---- what a reader sees of a text
+pub selectors_told : (text found : List ℕ) (before steps : List Step) → eqb (length text) 0 ≡ false
+    → IsUtf8 text → found ≡ text → before ≡ [] → AddsSelectors before steps found → AreSelectors text steps
+selectors_told [] found before steps e u f n a = absurd (grind (arith, nat_tests))
+selectors_told (b ∷ t) found before steps e u f n (more, is, added) =
+    (u, subst (λ s. selectors s ≡ Some steps) f (is ∙ ap Some (sym (added ∙ ap (λ l. l ++ more) n))))
 
--- with no tags skipped
-seen : (given : HtmdOptions) (html : List ℕ) (document : Blocks) (scripting : Bool) (skipped : List (List ℕ))
-    → scripting ≡ is_scripting given → skipped ≡ [] → IsDocumentOf scripting skipped html document
-    → IsDocumentOf (is_scripting given) [] html document
-seen given html document scripting skipped on none d =
-    subst (λ s. IsDocumentOf (is_scripting given) s html document) none
-    (subst (λ b. IsDocumentOf b skipped html document) on d)
+pub names_told : (text found : List ℕ) (before names : List (List ℕ)) → eqb (length text) 0 ≡ false
+    → IsUtf8 text → found ≡ text → before ≡ [] → list_all is_filled (parts found) ≡ true
+    → names ≡ before ++ parts found → AreNames text names
+names_told [] found before names e u f n a p = absurd (grind (arith, nat_tests))
+names_told (b ∷ t) found before names e u f n a p = (
+  u,
+  ap (λ s. list_all is_filled (parts s)) (sym f) ∙ a,
+  p ∙ ap (λ l. l ++ parts found) n ∙ ap parts f,
+)
 
--- what a reader sees of a text by the reader that the struct says, which isn't the strict one
-abbrev IsSeenOfPage : HtmdOptions → List ℕ → Blocks → Type 0
-IsSeenOfPage given html document =
-    MatchBool (given.reader == page) (IsDocumentOf (is_scripting given) [] (body_part html) document)
-    (document ≡ html5_page_document (is_scripting given) [] html)
+pub base_told : (text found : List ℕ) (base : Option Parts) (address : Parts) → eqb (length text) 0 ≡ false
+    → IsUtf8 text → found ≡ text → Some address ≡ url found → base ≡ Some address → IsBase text base
+base_told [] found base address e u f a p = absurd (grind (arith, nat_tests))
+base_told (b ∷ t) found base address e u f a p = (u, address, sym (a ∙ ap url f), p)
 
--- as the strict reader reads it
-pub seen_by_strict : (given : HtmdOptions) (html : List ℕ) (document : Blocks) (scripting : Bool)
-    (skipped : List (List ℕ)) → (given.reader == strict) ≡ true → scripting ≡ is_scripting given → skipped
-    ≡ []
-    → IsDocumentOf scripting skipped html document → IsDocumentBy given html document
-seen_by_strict given html document scripting skipped e on none d =
-    subst (λ b. MatchBool b (IsDocumentOf (is_scripting given) [] html document) (IsSeenOfPage given html document))
-    (sym e) (seen given html document scripting skipped on none d)
+pub encoding_told : (text : List ℕ) (encoding : Option Encoding) (named : Encoding)
+    → eqb (length text) 0 ≡ false → encoding_named text ≡ Some named → encoding ≡ Some named
+    → IsEncoding text encoding
+encoding_told [] encoding named e a p = absurd (grind (arith, nat_tests))
+encoding_told (b ∷ t) encoding named e a p = (named, a, p)
 
--- as the reader of pages' bodies reads it
-pub seen_by_page : (given : HtmdOptions) (html : List ℕ) (document : Blocks) (scripting : Bool)
-    (skipped : List (List ℕ)) → (given.reader == strict) ≡ false → (given.reader == page) ≡ true
-    → scripting ≡ is_scripting given → skipped ≡ [] → IsDocumentOf scripting skipped (body_part html) document
-    → IsDocumentBy given html document
-seen_by_page given html document scripting skipped e p on none d =
-    subst (λ b. MatchBool b (IsDocumentOf (is_scripting given) [] html document) (IsSeenOfPage given html document))
-    (sym e)
-    (subst (λ b. MatchBool b (IsDocumentOf (is_scripting given) [] (body_part html) document)
-    (document ≡ html5_page_document (is_scripting given) [] html)) (sym p)
-    (seen given (body_part html) document scripting skipped on none d))
+-- ---- settings without names
 
--- ---- what a text becomes
+pub no_names : (names : List (Bor (List ℕ))) → map (λ name. name.now) names ≡ [] → names ≡ []
+no_names [] e = refl
+no_names (name ∷ names) e = absurd (cc)
 
--- its document as it is written
-abbrev IsDocumentOutput : HtmdOptions → List ℕ → List ℕ → Type 0
-IsDocumentOutput given html output =
-    (document : Blocks) × IsDocumentBy given html document × (output ≡ written given document)
+-- ---- why a page becomes nothing
 
--- its Markdown by the handlers
-pub output_of_handlers : (given : HtmdOptions) (html output : List ℕ) → writes_document given ≡ false
-    → IsMarkdownBy given html output → IsOutputBy given html output
-output_of_handlers given html output e is =
-    subst (λ b. MatchBool b (IsDocumentOutput given html output) (IsMarkdownBy given html output)) (sym e) is
+pub page_fault : (given : HtmdPageOptions) (settings : Settings) (bytes : List ℕ) (e : PageError)
+    → IsSettingsOf given settings → IsFaultOf settings bytes e → IsPageFault given bytes e
+page_fault given settings bytes NotUtf8 s f = (settings, s, f)
+page_fault given settings bytes (Refused place kind) s f = (settings, s, f)
+page_fault given settings bytes (Unsupported encoding) s f = (settings, s, f)
+page_fault given settings bytes NothingSelected s f = (settings, s, f)
+page_fault given settings bytes Memory s f = tt
 
-pub output_of_document : (given : HtmdOptions) (html output : List ℕ) (document : Blocks)
-    → writes_document given ≡ true → IsDocumentBy given html document → output ≡ written given document
-    → IsOutputBy given html output
-output_of_document given html output document e is w =
-    subst (λ b. MatchBool b (IsDocumentOutput given html output) (IsMarkdownBy given html output)) (sym e)
-    (document, is, w)
+-- bytes in UTF-8 are in no other encoding, unless a mark says so
+decoded_some : (mark : Option Encoding) (encoding : UnsupportedEncoding) (bytes : List ℕ)
+    → marked_or_given mark (Some Utf8) bytes ≡ named.Unsupported encoding → ⊥
+decoded_some None encoding bytes e = absurd (cc)
+decoded_some (Some mark) encoding bytes e = absurd (cc)
+
+pub text_fault : (given : HtmdOptions) (bytes : List ℕ) (e : PageError) → IsUtf8 bytes
+    → IsFaultOf (settings_of given) bytes e → IsTextFault (settings_of given) bytes e
+text_fault given bytes NotUtf8 u (strict, n) = n
+text_fault given bytes (Refused place kind) u (text, html5, utf8, refused) = (u, html5, refused)
+text_fault given bytes (Unsupported encoding) u (any, is) = decoded_some (marked bytes) encoding bytes is
+text_fault given bytes NothingSelected u (readable, (tree, by, none)) = absurd (cc)
+text_fault given bytes Memory u f = tt

@@ -1,8 +1,10 @@
 -- Worked examples of the definitions.
-use Rattle.std.proofs.Common.{◌≡◌, true, false, refl}
+use Rattle.std.proofs.Common.{◌≡◌, true, false, refl, Some}
 use Rattle.htmd.specs.TranslationMode.TheVariants.{Faithful}
 use Rattle.htmd.specs.Defaults.{default_options}
-use Rattle.htmd_c.specs.Options.{default_struct, is_good, is_scripting, options_of, writes_document}
+use Rattle.htmd.specs.PageSettings.{default_settings}
+use Rattle.htmd_encodings.specs.declared.encodings.Encoding.TheVariants.{Utf8}
+use Rattle.htmd_c.specs.Options.{default_struct, is_good, is_scripting, options_of, settings_of}
 
 -- the struct that a caller begins with stands for the defaults
 the_default_struct_is_good : is_good default_struct ≡ true
@@ -28,14 +30,11 @@ any_page_as_json : is_good (record default_struct { reader = 2; output = 1 }) �
 any_page_as_json = refl
 
 -- what they stand for
-the_default_struct_writes_no_document : writes_document default_struct ≡ false
-the_default_struct_writes_no_document = refl
+the_default_struct_is_strict : settings_of default_struct ≡ record default_settings { encoding = Some Utf8 }
+the_default_struct_is_strict = refl
 
-guarded_writes_a_document : writes_document (record default_struct { mode = 2 }) ≡ true
-guarded_writes_a_document = refl
-
-json_is_a_document : writes_document (record default_struct { output = 1 }) ≡ true
-json_is_a_document = refl
+two_is_any_page : (settings_of (record default_struct { reader = 2; mode = 2; front_matter = 1 })).front_matter ≡ true
+two_is_any_page = refl
 
 one_is_faithful : options_of (record default_struct { mode = 1 })
     ≡ record default_options { translation_mode = Faithful }

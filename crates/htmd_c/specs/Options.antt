@@ -1,6 +1,6 @@
 -- What the numbers of the struct of options mean. For each field 0 is the default of `convert`, except for the version,
 -- scripting, which is on by default, and the spacings.
-use Rattle.std.specs.Prelude.{ℕ, Bool, ◌&&◌, ◌||◌, ◌==◌, nat_lt, if◌then◌else◌, replicate}
+use Rattle.std.specs.Prelude.{ℕ, Bool, false, ◌&&◌, ◌==◌, [], Some, None, nat_lt, if◌then◌else◌, replicate}
 use Rattle.std.specs.List.{list_all}
 use Rattle.htmd.specs.HeadingStyle.{HeadingStyle}
 use Rattle.htmd.specs.HeadingStyle.TheVariants.{Atx, Setex}
@@ -21,6 +21,8 @@ use Rattle.htmd.specs.CodeBlockStyle.TheVariants.{Fenced, Indented}
 use Rattle.htmd.specs.TranslationMode.{TranslationMode}
 use Rattle.htmd.specs.TranslationMode.TheVariants.{Pure, Faithful}
 use Rattle.htmd.specs.Options.{Options}
+use Rattle.htmd.specs.PageSettings.{Settings}
+use Rattle.htmd_encodings.specs.declared.encodings.Encoding.TheVariants.{Utf8}
 use Rattle.htmd_c.specs.declared.options.HtmdOptions.{HtmdOptions}
 
 -- the version of the struct that this library knows
@@ -63,7 +65,8 @@ default_struct = record {
   ol_number_spacing = 2;
   preformatted_code = 0;
   output = 0;
-  reserved = replicate 16 0;
+  front_matter = 0;
+  reserved = replicate 15 0;
 }
 
 -- what a text is read as, and what becomes of what Markdown has no form for, have numbers that are known
@@ -77,11 +80,11 @@ are_lines_known given =
     nat_lt given.heading_style 2 && nat_lt given.hr_style 3 && nat_lt given.br_style 2
     && nat_lt given.link_style 3 && nat_lt given.link_reference_style 3
 
--- the styles of code and of lists and the output have numbers that are known; a spacing is any number
+-- the styles of code and of lists, the output and what is written before it have numbers that are known; a spacing is any number
 abbrev pub are_blocks_known : HtmdOptions → Bool
 are_blocks_known given =
     nat_lt given.code_block_style 2 && nat_lt given.code_block_fence 2 && nat_lt given.bullet_list_marker 2
-    && nat_lt given.preformatted_code 2 && nat_lt given.output 2
+    && nat_lt given.preformatted_code 2 && nat_lt given.output 2 && nat_lt given.front_matter 2
 
 -- the version is known, each number is one of its field's, and what is reserved is 0
 abbrev pub is_good : HtmdOptions → Bool
@@ -132,10 +135,25 @@ options_of given = record {
   translation_mode = mode given.mode;
 }
 
--- what a reader sees of the text is written
-abbrev pub writes_document : HtmdOptions → Bool
-writes_document given = (given.mode == guarded) || (given.output == mdast)
-
 -- scripting is on
 abbrev pub is_scripting : HtmdOptions → Bool
 is_scripting given = given.scripting == 1
+
+-- how a page is read and converted by a good struct, whose bytes are UTF-8
+abbrev pub settings_of : HtmdOptions → Settings
+settings_of given = record {
+  text = false;
+  body = given.reader == page;
+  html5 = given.reader == html5;
+  encoding = Some Utf8;
+  guarded = given.mode == guarded;
+  mdast = given.output == mdast;
+  scripting = is_scripting given;
+  options = options_of given;
+  skipped = [];
+  selected = [];
+  dropped = [];
+  base = None;
+  run_page = None;
+  front_matter = given.front_matter == 1;
+}

@@ -3,19 +3,30 @@
 //! written overlaps nothing else.
 #![tactic(auto)]
 
-ghost use Rattle.std.specs.Prelude.{◌≡◌, ◌≢◌, ◌≤◌, ◌<◌, ◌+◌, ◌++◌, ◌↔◌, ℕ, false, IsUtf8, drop, length};
+ghost use Rattle.std.specs.Prelude.{◌≡◌, ◌≢◌, ◌≤◌, ◌<◌, ◌+◌, ◌++◌, ◌↔◌, [], ℕ, false, IsUtf8, drop, length};
 ghost use Rattle.std.specs.Str.{IsValidUpTo};
 ghost use Rattle.htmd.specs.Lines.{characters, line_front, lines_ended};
 ghost use Rattle.htmd_c.specs.Options as spec;
-ghost use Rattle.htmd_c.specs.CallResults.{IsWritten, IsTooLong, IsRefusedAt};
+ghost use Rattle.htmd_c.specs.CallResults.{BySettings, HasNoneSelected, IsInUnsupported, IsRefusedAt, IsTooLong};
+ghost use Rattle.htmd_c.specs.CallResults.{IsWritten};
+ghost use Rattle.htmd_c.specs.CallResults.{status_of};
+ghost use Rattle.htmd_c.specs.PageOptions.{AreNoNames, AreNoSelectors, IsNoBase, IsNoEncoding};
+ghost use Rattle.htmd_encodings.specs.declared.encodings.UnsupportedEncoding.{UnsupportedEncoding};
+ghost use Rattle.htmd_grammar.specs.declared.fault.FaultKind.{FaultKind};
+ghost use Rattle.htmd_grammar.specs.Faults.{number_of};
 
+mod failures;
 mod options;
 mod output;
+mod page_options;
 
-use htmd::line_and_column;
+use failures::Failure;
+use htmd::{PageError, line_and_column};
 pub use options::HtmdOptions;
 use options::default_struct;
-use output::{Failure, output_of};
+use output::{output_of, page_output_of};
+pub use page_options::HtmdPageOptions;
+use page_options::default_page_struct;
 use std::alloc::Global;
 
 /// What the text becomes was written.
@@ -31,12 +42,40 @@ pub const NO_MEMORY: u32 = 4;
 /// A field of the struct of options has a number that it may not have.
 pub const BAD_OPTIONS: u32 = 5;
 
+/// The page is in an encoding that isn't supported.
+pub const UNSUPPORTED: u32 = 6;
+/// No element of the page is selected.
+pub const NOTHING_SELECTED: u32 = 7;
+/// What is to be converted isn't told by selectors.
+pub const BAD_SELECT: u32 = 8;
+/// What is to be left out isn't told by selectors.
+pub const BAD_DROP: u32 = 9;
+/// What gives nothing isn't told by names with commas between them.
+pub const BAD_SKIP: u32 = 10;
+/// The base isn't an absolute URL.
+pub const BAD_BASE: u32 = 11;
+/// The encoding isn't one that is supported.
+pub const BAD_ENCODING: u32 = 12;
+
 /// The options of `convert`: read as it stands, Pure, scripting on.
 #[unsafe(no_mangle)]
 pub extern "C" fn htmd_default_options(options: &mut HtmdOptions)
     ensures { options.new ≡ spec.default_struct }
 {
     *options = default_struct();
+}
+
+/// The options of a page: those of `htmd_default_options`, and no texts.
+#[unsafe(no_mangle)]
+pub extern "C" fn htmd_default_page_options<'a>(options: &mut HtmdPageOptions<'a>)
+    ensures options { options.new.options ≡ spec.default_struct }
+    ensures select { options.new.select.now ≡ [] }
+    ensures drop { options.new.drop.now ≡ [] }
+    ensures skip { options.new.skip.now ≡ [] }
+    ensures base { options.new.base.now ≡ [] }
+    ensures encoding { options.new.encoding.now ≡ [] }
+{
+    *options = default_page_struct();
 }
 
 // Writes a text to the front of a buffer, if it has room.
@@ -53,8 +92,51 @@ fn write_front(text: &[u8], out: &mut [u8]) -> u32
     DONE
 }
 
-/// Writes what bytes become by the options, Markdown or JSON, to the front of the buffer. The status says what was
-/// done; only `DONE` writes to the buffer, and `needed`, `place` and `kind` are 0 where they say nothing.
+// Says on the two numbers where bytes are wrong, and answers the status.
+fn report(html: &[u8], failure: &Failure, place: &mut usize, kind: &mut u8) -> u32
+    ensures status { result ≡ status_of failure.now }
+    ensures refused { result ≡ REFUSED → (fault : FaultKind)
+        × (failure.now ≡ Failure.Page (PageError.Refused place.new fault)) × (kind.new ≡ number_of fault) }
+    ensures not_utf8 { result ≡ NOT_UTF8 → failure.now ≡ Failure.Page PageError.NotUtf8 }
+    ensures place { ¬ IsUtf8 html.now → result ≡ NOT_UTF8 → IsValidUpTo html.now place.new }
+    ensures unsupported { result ≡ UNSUPPORTED → (encoding : UnsupportedEncoding)
+        × (failure.now ≡ Failure.Page (PageError.Unsupported encoding)) }
+    ensures nothing_selected { result ≡ NOTHING_SELECTED → failure.now ≡ Failure.Page PageError.NothingSelected }
+    ensures no_place { result ≢ REFUSED → result ≢ NOT_UTF8 → place.new ≡ place.old }
+    ensures no_kind { result ≢ REFUSED → kind.new ≡ kind.old }
+{
+    match failure {
+        Failure::Page(
+            PageError::Refused {
+                place: at,
+                kind: fault,
+            },
+        ) => {
+            *place = *at;
+            *kind = fault.number();
+            REFUSED
+        }
+        Failure::Page(PageError::NotUtf8) => {
+            *place = match str::from_utf8(html) {
+                Ok(_) => 0,
+                Err(fault) => fault.valid_up_to(),
+            };
+            NOT_UTF8
+        }
+        Failure::Page(PageError::Memory) => NO_MEMORY,
+        Failure::Page(PageError::Unsupported { .. }) => UNSUPPORTED,
+        Failure::Page(PageError::NothingSelected) => NOTHING_SELECTED,
+        Failure::BadOptions => BAD_OPTIONS,
+        Failure::BadSelect => BAD_SELECT,
+        Failure::BadDrop => BAD_DROP,
+        Failure::BadSkip => BAD_SKIP,
+        Failure::BadBase => BAD_BASE,
+        Failure::BadEncoding => BAD_ENCODING,
+    }
+}
+
+/// Writes what bytes in UTF-8 become by the options, Markdown or JSON, to the front of the buffer. The status says what
+/// was done; only `DONE` writes to the buffer, and `needed`, `place` and `kind` are 0 where they say nothing.
 #[unsafe(no_mangle)]
 pub extern "C" fn htmd_convert(
     alloc: Global,
@@ -65,9 +147,12 @@ pub extern "C" fn htmd_convert(
     place: &mut usize,
     kind: &mut u8,
 ) -> u32
-    ensures done { result ≡ DONE → IsWritten options.now html.now out.old out.new needed.new }
-    ensures too_small { result ≡ TOO_SMALL → IsTooLong options.now html.now out.old needed.new }
-    ensures refused { result ≡ REFUSED → IsRefusedAt options.now html.now place.new kind.new }
+    ensures done { result ≡ DONE → IsWritten (spec.settings_of options.now) html.now out.old out.new needed.new }
+    ensures too_small { result ≡ TOO_SMALL
+        → IsTooLong (spec.settings_of options.now) html.now out.old needed.new }
+    ensures utf8 { result ≤ TOO_SMALL → IsUtf8 html.now }
+    ensures refused { result ≡ REFUSED
+        → IsRefusedAt (spec.settings_of options.now) html.now place.new kind.new }
     ensures not_utf8 { result ≡ NOT_UTF8 → (¬ IsUtf8 html.now) × IsValidUpTo html.now place.new }
     ensures bad_options { (result ≡ BAD_OPTIONS) ↔ (spec.is_good options.now ≡ false) }
     ensures statuses { result ≤ BAD_OPTIONS }
@@ -84,22 +169,53 @@ pub extern "C" fn htmd_convert(
             *needed = output.len();
             write_front(output.as_bytes(), out)
         }
-        Err(
-            Failure::Refused {
-                place: at,
-                kind: fault,
-            },
-        ) => {
-            *place = at;
-            *kind = fault.number();
-            REFUSED
+        Err(failure) => report(html, &failure, place, kind),
+    }
+}
+
+/// Writes what the bytes of a page become by the options to the front of the buffer, as `convert_page` of `htmd` makes
+/// it. `UNSUPPORTED` is a page in an encoding that isn't supported, `NOTHING_SELECTED` one of which no element is
+/// selected, and the statuses from `BAD_SELECT` say which text of the options isn't what it has to be.
+#[unsafe(no_mangle)]
+pub extern "C" fn htmd_convert_page(
+    alloc: Global,
+    page: &[u8],
+    options: &HtmdPageOptions<'_>,
+    out: &mut [u8],
+    needed: &mut usize,
+    place: &mut usize,
+    kind: &mut u8,
+) -> u32
+    ensures done { result ≡ DONE → BySettings options.now
+        (λ settings. IsWritten settings page.now out.old out.new needed.new) }
+    ensures too_small { result ≡ TOO_SMALL → BySettings options.now
+        (λ settings. IsTooLong settings page.now out.old needed.new) }
+    ensures refused { result ≡ REFUSED → BySettings options.now
+        (λ settings. IsRefusedAt settings page.now place.new kind.new) }
+    ensures not_utf8 { result ≡ NOT_UTF8 → (¬ IsUtf8 page.now) × IsValidUpTo page.now place.new }
+    ensures bad_options { (result ≡ BAD_OPTIONS) ↔ (spec.is_good options.now.options ≡ false) }
+    ensures unsupported { result ≡ UNSUPPORTED → IsInUnsupported options.now page.now }
+    ensures nothing_selected { result ≡ NOTHING_SELECTED → HasNoneSelected options.now page.now }
+    ensures bad_select { result ≡ BAD_SELECT → AreNoSelectors options.now.select.now }
+    ensures bad_drop { result ≡ BAD_DROP → AreNoSelectors options.now.drop.now }
+    ensures bad_skip { result ≡ BAD_SKIP → AreNoNames options.now.skip.now }
+    ensures bad_base { result ≡ BAD_BASE → IsNoBase options.now.base.now }
+    ensures bad_encoding { result ≡ BAD_ENCODING → IsNoEncoding options.now.encoding.now }
+    ensures statuses { result ≤ BAD_ENCODING }
+    ensures untouched { result ≢ DONE → out.new ≡ out.old }
+    ensures needs_nothing { result ≢ DONE → result ≢ TOO_SMALL → needed.new ≡ 0 }
+    ensures no_place { result ≢ REFUSED → result ≢ NOT_UTF8 → place.new ≡ 0 }
+    ensures no_kind { result ≢ REFUSED → kind.new ≡ 0 }
+{
+    *needed = 0;
+    *place = 0;
+    *kind = 0;
+    match page_output_of(alloc, page, options) {
+        Ok(output) => {
+            *needed = output.len();
+            write_front(output.as_bytes(), out)
         }
-        Err(Failure::NotUtf8 { place: at }) => {
-            *place = at;
-            NOT_UTF8
-        }
-        Err(Failure::Memory) => NO_MEMORY,
-        Err(Failure::BadOptions) => BAD_OPTIONS,
+        Err(failure) => report(page, &failure, place, kind),
     }
 }
 

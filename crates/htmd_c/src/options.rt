@@ -1,27 +1,34 @@
 //! The struct of options: what its numbers mean, and which are good.
 ghost use Rattle.std.specs.Prelude.{◌≡◌, ◌==◌};
 ghost use Rattle.std.specs.List.{list_all};
+ghost use Rattle.htmd.specs.PageSettings.{settings_in};
 ghost use Rattle.htmd_c.specs.Options as spec;
 
+use htmd::PageSettings;
 use htmd::options::{
     BrStyle, BulletListMarker, CodeBlockFence, CodeBlockStyle, HeadingStyle, HrStyle,
     LinkReferenceStyle, LinkStyle, Options, TranslationMode,
 };
+use htmd_encodings::Encoding;
+use std::alloc::Global;
 
 /// The version of the struct that this library knows.
 const VERSION: u8 = 1;
 
 /// The text is read as it stands.
-pub(crate) const STRICT: u8 = 0;
+const STRICT: u8 = 0;
 
 /// What is between the tags of a page's body is read.
-pub(crate) const PAGE: u8 = 1;
+const PAGE: u8 = 1;
+
+/// Any page is read, as browsers read it.
+const HTML5: u8 = 2;
 
 /// What a reader sees of the text is written, so that a reader of CommonMark reads it back.
 const GUARDED: u8 = 2;
 
 /// What a reader sees of the text is written as JSON, in the form of mdast.
-pub(crate) const MDAST: u8 = 1;
+const MDAST: u8 = 1;
 
 /// The options of a conversion, as numbers. A new field will take the place of a reserved byte, whose 0 then stands for
 /// what is done without it; a new value of a field will be a number that is not good yet.
@@ -44,7 +51,8 @@ pub struct HtmdOptions {
     pub ol_number_spacing: u8,
     pub preformatted_code: u8,
     pub output: u8,
-    pub reserved: [u8; 16],
+    pub front_matter: u8,
+    pub reserved: [u8; 15],
 }
 
 /// The struct for the options of `convert`.
@@ -68,7 +76,8 @@ pub(crate) fn default_struct() -> HtmdOptions
         ol_number_spacing: 2,
         preformatted_code: 0,
         output: 0,
-        reserved: [0; 16],
+        front_matter: 0,
+        reserved: [0; 15],
     }
 }
 
@@ -76,13 +85,6 @@ fn is_reading_known(given: &HtmdOptions) -> bool
     ensures { result ≡ spec.is_reading_known given.now }
 {
     given.version == VERSION && given.reader < 3 && given.mode < 3 && given.scripting < 2
-}
-
-/// Whether what a reader sees of the text is written, as Markdown or as JSON.
-pub(crate) fn writes_document(given: &HtmdOptions) -> bool
-    ensures { result ≡ spec.writes_document given.now }
-{
-    given.mode == GUARDED || given.output == MDAST
 }
 
 fn are_lines_known(given: &HtmdOptions) -> bool
@@ -103,6 +105,7 @@ fn are_blocks_known(given: &HtmdOptions) -> bool
         && given.bullet_list_marker < 2
         && given.preformatted_code < 2
         && given.output < 2
+        && given.front_matter < 2
 }
 
 fn are_zero(bytes: &[u8]) -> bool
@@ -206,7 +209,7 @@ fn bullet_list_marker(number: u8) -> BulletListMarker
 }
 
 /// The options that a good struct stands for.
-pub(crate) fn options_of(given: &HtmdOptions) -> Options
+fn options_of(given: &HtmdOptions) -> Options
     ensures { result ≡ spec.options_of given.now }
 {
     Options {
@@ -223,4 +226,20 @@ pub(crate) fn options_of(given: &HtmdOptions) -> Options
         preformatted_code: given.preformatted_code == 1,
         translation_mode: mode(given.mode),
     }
+}
+
+/// The settings that a good struct stands for, for bytes in UTF-8.
+pub(crate) fn settings_of<'a>(alloc: Global, given: &HtmdOptions) -> PageSettings<'a>
+    ensures { settings_in result ≡ spec.settings_of given.now }
+{
+    let mut settings = PageSettings::new(alloc);
+    settings.body = given.reader == PAGE;
+    settings.html5 = given.reader == HTML5;
+    settings.encoding = Some(Encoding::Utf8);
+    settings.guarded = given.mode == GUARDED;
+    settings.mdast = given.output == MDAST;
+    settings.scripting = given.scripting == 1;
+    settings.options = options_of(given);
+    settings.front_matter = given.front_matter == 1;
+    settings
 }

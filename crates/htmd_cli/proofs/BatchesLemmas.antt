@@ -1,15 +1,14 @@
 -- Answers to rows, read by read.
 use Rattle.std.proofs.Common.{◌≡◌, ◌∙◌, sym, ap, subst, refl, ℕ, zero, suc, ◌+◌, ◌<◌, ◌≤◌, ◌==◌, true, false}
-use Rattle.std.proofs.Common.{List, [], ◌∷◌, ◌++◌, length}
-use Rattle.std.proofs.Common.{Option, Some, None, Result, Ok, Err, IfOk, OnOk, OnErr, take, length-take, arith}
-use Rattle.std.proofs.Common.{append_assoc, append-nil}
-use Rattle.std.proofs.Common.{length-append}
+use Rattle.std.proofs.Common.{List, [], ◌∷◌, ◌++◌, length, Option, Some, None, Result, Ok, Err, IfOk, OnOk, OnErr, take}
+use Rattle.std.proofs.Common.{length-take, arith}
+use Rattle.std.proofs.Common.{append_assoc, append-nil, length-append}
 use Rattle.std.proofs.KnownBytes.{Appends-nil, Appends-trans, Consumes-trans}
 use Rattle.std.specs.Str.{bytes_eq}
 use Rattle.std.specs.Io.KnownBytes.{Appends, Consumes, IsAtEnd}
 use Rattle.htmd.specs.Characters.{line_feed}
 use Rattle.htmd_streams.specs.Ends.{AppendsSome}
-use Rattle.htmd_cli.specs.Settings.{Settings}
+use Rattle.htmd.specs.PageSettings.{Settings}
 use Rattle.htmd_streams.specs.Lines.{lacks, rows, before_end, end_mark}
 use Rattle.htmd_cli.specs.Rows.{IsRowAnswer, AreAnswers, FirstRowsOf, ConvertsRows, StopsAtRow, StopsInRows, counted}
 use Rattle.htmd_cli.specs.Batches.{Answers, rows_from, rows_left, followed}

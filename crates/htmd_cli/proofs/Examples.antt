@@ -1,7 +1,7 @@
 -- Worked examples of what the program writes.
 use Rattle.std.proofs.Common.{◌≡◌, ℕ, List, [], ◌∷◌, true, false, codes, refl, Some}
 use Rattle.htmd.specs.Items.{Item}
-use Rattle.htmd_pages.specs.Reading.{read}
+use Rattle.htmd_selectors.specs.Reading.{read}
 use Rattle.htmd.specs.Blocks.{is_block}
 use Rattle.htmd.specs.NumberedTrees.{tree_of, forest_from}
 use Rattle.htmd.specs.Ancestors.{ancestors_of, ancestors_up}
@@ -9,10 +9,12 @@ use Rattle.htmd.specs.Rendering.{written_within}
 use Rattle.htmd.specs.Markdown.{markdown}
 use Rattle.htmd.specs.Choice.{Config}
 use Rattle.htmd.specs.BuiltIn.{built_in}
-use Rattle.htmd_cli.specs.Settings.{Settings, default_settings, options_of}
+use Rattle.htmd.specs.PageSettings.{Settings, default_settings}
+use Rattle.htmd_cli.specs.ModeRuns.{options_of}
 use Rattle.htmd_cli.specs.Options.{Request, after, default_request, meaning, known_options}
-use Rattle.htmd_cli.specs.Changes.{head_of, part_of}
-use Rattle.htmd_cli.specs.PageOutputs.{paragraph, paragraph_markdown, paragraph_output, after_head, config_of, tree_markdown, tree_output}
+use Rattle.htmd.specs.PageChanges.{head_of, part_of}
+use Rattle.htmd.specs.PageOutputs.{paragraph, paragraph_markdown, paragraph_output, after_head, config_of}
+use Rattle.htmd.specs.PageOutputs.{tree_markdown, tree_output}
 
 abbrev plain : Config
 plain = built_in (options_of false)

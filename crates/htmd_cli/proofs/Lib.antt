@@ -1,7 +1,4 @@
--- Lemmas of what inputs become, runs, options and rows, and worked rows.
-pub mod ChangesLemmas
-pub mod PageOutputsLemmas
-pub mod PageSightsLemmas
+-- Lemmas of faults, runs, options and rows, and worked rows.
 pub mod FailuresLemmas
 pub mod StreamConversionsLemmas
 pub mod ModeRunsLemmas

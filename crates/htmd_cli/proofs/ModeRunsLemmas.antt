@@ -19,9 +19,8 @@ use Rattle.htmd.specs.declared.convert_error.ConvertError.TheVariants as convers
 use Rattle.htmd_cli.specs.declared.faults.RunError.{RunError}
 use Rattle.htmd_cli.specs.declared.faults.RunError.TheVariants.{NotUtf8, Refused, Memory}
 use Rattle.htmd_cli.specs.Failures.{run_error}
-use Rattle.htmd_cli.specs.ModeRuns.{IsBeforeConversion, IsMarkdownBy, handlers_by}
-use Rattle.htmd_cli.specs.PageOutputs.{paragraph, paragraph_markdown}
-use Rattle.htmd_cli.specs.Settings.{options_of}
+use Rattle.htmd_cli.specs.ModeRuns.{IsBeforeConversion, IsMarkdownBy, handlers_by, options_of}
+use Rattle.htmd.specs.PageOutputs.{paragraph, paragraph_markdown}
 
 -- ---- the Markdown of an input
 

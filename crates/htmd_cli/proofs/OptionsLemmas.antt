@@ -1,23 +1,24 @@
 -- Options, their values and what they ask for, step by step.
 use Rattle.std.proofs.Common.{◌≡◌, ℕ, zero, suc, ◌+◌, ◌<◌, Bool, true, false, ◌&&◌, ◌||◌, List, [], ◌∷◌, ◌++◌}
-use Rattle.std.proofs.Common.{length, drop, map, get_or, eqb, refl, sym, ◌∙◌, ap, subst, arith, append_assoc}
+use Rattle.std.proofs.Common.{length, drop, get_or, eqb, refl, sym, ◌∙◌, ap, subst, arith}
 use Rattle.std.proofs.Common.{Option, Some, None, MatchOption, option_map, is_some, ◌⊎◌, inl, inr}
 use Rattle.std.specs.Borrow.{Bor}
 use Rattle.std.specs.Str.Pattern.{LacksTextAt, StripsPrefix, FindsTextPrefix}
-use Rattle.std.specs.List.{list_all, list_any, position_or_len, before_first, after_first}
+use Rattle.std.specs.List.{list_any}
 use Rattle.std.specs.declared.alloc.Global.{Global}
 use Rattle.std.specs.declared.string.String.{String}
-use Rattle.std.proofs.lemmas.List.{drop_more, map_push}
+use Rattle.std.proofs.lemmas.List.{drop_more}
 use Rattle.std.proofs.lemmas.Bool.{eqb-true}
 use Rattle.std.proofs.lemmas.Bool.Decides.{nat_tests}
 use Rattle.htmd.specs.CharacterClasses.{begins_with}
 use Rattle.htmd_cli.specs.Options.{Request, is_given, request_after, request_by, default_request}
-use Rattle.htmd_cli.specs.Options.{number_behind, with_digit, parts, is_filled, selectors, are_known, is_known}
+use Rattle.htmd.specs.PageValues.{selectors}
+use Rattle.htmd_cli.specs.Options.{number_behind, with_digit, are_known, is_known}
 use Rattle.htmd_cli.specs.Options.{takes_memory}
 use Rattle.htmd_cli.specs.OptionRows.{IsOptionFault}
 use Rattle.htmd_cli.specs.declared.requests.OptionFault.{OptionFault}
 use Rattle.htmd_cli.specs.declared.requests.OptionFault.TheVariants as fault
-use Rattle.htmd_pages.specs.SelectorSteps.{Step}
+use Rattle.htmd_selectors.specs.SelectorSteps.{Step}
 
 -- either way, with what the test says
 test : {P : Type 0} (b : Bool) → (b ≡ true → P) → (b ≡ false → P) → P
@@ -35,37 +36,6 @@ pub number_goes_on : (n : ℕ) (s : List ℕ) (i : ℕ) (r : Option ℕ) → i <
     → r ≡ with_digit n (get_or s i 0)
     → number_behind (Some n) (drop i s) ≡ number_behind r (drop (i + 1) s)
 number_goes_on n s i r l e = rw (drop_more s i 0 l) (ap (λ o. number_behind o (drop (i + 1) s)) (sym e))
-
--- ---- names
-
--- with what comes before the first part, if it is filled
-abbrev pub are_filled : Bool → List (List ℕ) → Bool
-are_filled filled [] = true
-are_filled filled (part ∷ others) = (filled || is_filled part) && list_all is_filled others
-
-some_part : (s : List ℕ) → (part : List ℕ) × (others : List (List ℕ)) × (parts s ≡ part ∷ others)
-some_part [] = ([], [], refl)
-some_part (b ∷ s) =
-    let i = some_part s in
-    test (eqb b 44) (λ e. ([], parts s, rw e refl)) (λ e. (b ∷ i.0, i.1, rw (e, i.2) refl))
-
-pub one_part : (s : List ℕ) → position_or_len (λ b. eqb b 44) s ≡ length s → parts s ≡ s ∷ []
-one_part [] e = refl
-one_part (b ∷ s) e =
-    test (eqb b 44) (λ q. let z = rw q at e in absurd (omega arith))
-    (λ q. let z = rw q at e in rw (q, one_part s (omega arith)) refl)
-
-pub first_part : (s : List ℕ) → position_or_len (λ b. eqb b 44) s < length s
-    → parts s ≡ before_first (λ b. eqb b 44) s ∷ parts (after_first (λ b. eqb b 44) s)
-first_part [] l = absurd (omega arith)
-first_part (b ∷ s) l =
-    test (eqb b 44) (λ q. rw q refl)
-    (λ q.
-    let z = rw q at l in
-    let n : ℕ = position_or_len (λ b. eqb b 44) s in
-    let k : 1 + n ≡ suc n = omega arith in
-    let m : (1 + n) + 1 ≡ suc (n + 1) = omega arith in
-    rw q (rw (m, k, first_part s (omega arith)) refl))
 
 -- ---- the rows of the source's table
 
@@ -100,31 +70,6 @@ pub asked_first : (request : Request) (given : List (String Global)) → request
     → request_after request given ≡ request_by given
 unfolding request_by
 asked_first request given e = ap (λ x. request_after x given) e
-
--- ---- names that are added
-
-abbrev texts : List (Bor (List ℕ)) → List (List ℕ)
-texts names = map (λ name. name.now) names
-
--- one name more
-pub one_more_name : (names now : List (Bor (List ℕ))) (name : Bor (List ℕ)) (s behind : List ℕ)
-    → now ≡ names ++ (name ∷ [])
-    → (position_or_len (λ b. eqb b 44) s < length s) × (name.now ≡ before_first (λ b. eqb b 44) s)
-    × (behind ≡ after_first (λ b. eqb b 44) s)
-    → texts now ++ parts behind ≡ texts names ++ parts s
-one_more_name names now name s behind e f =
-    let p : parts s ≡ name.now ∷ parts behind =
-    first_part s f.0 ∙ (ap (λ x. x ∷ parts (after_first (λ b. eqb b 44) s)) (sym f.1)
-    ∙ ap (λ x. name.now ∷ parts x) (sym f.2)) in
-    ap (λ x. texts x ++ parts behind) e ∙ (ap (λ x. x ++ parts behind) (map_push (λ n. n.now) names name)
-    ∙ (append_assoc (texts names) (name.now ∷ []) (parts behind) ∙ ap (λ x. texts names ++ x) (sym p)))
-
-pub last_name : (names now : List (Bor (List ℕ))) (name : Bor (List ℕ)) (s : List ℕ)
-    → now ≡ names ++ (name ∷ [])
-    → name.now ≡ s → position_or_len (λ b. eqb b 44) s ≡ length s → texts now ≡ texts names ++ parts s
-last_name names now name s e n f =
-    ap texts e ∙ (map_push (λ n. n.now) names name
-    ∙ (ap (λ x. texts names ++ (x ∷ [])) n ∙ ap (λ x. texts names ++ x) (sym (one_part s f))))
 
 -- ---- selectors
 

@@ -3,15 +3,14 @@ use Rattle.std.proofs.Common.{◌≡◌, ◌≢◌, ◌∙◌, ap, subst, refl, 
 use Rattle.std.proofs.Common.{Result, Ok, Err, OnOk, append_assoc, inl, inr}
 use Rattle.std.specs.Str.{bytes_eq}
 use Rattle.htmd.specs.Characters.{line_feed}
-use Rattle.htmd_cli.specs.Settings.{Settings}
-use Rattle.htmd_cli.specs.declared.faults.PageError.{PageError}
-use Rattle.htmd_cli.specs.declared.faults.PageError.TheVariants.{Run}
-use Rattle.htmd_cli.specs.declared.faults.RunError.TheVariants.{Memory}
-use Rattle.htmd_cli.specs.PageOutputs.{IsFaultOf, IsOutputOf}
+use Rattle.htmd.specs.PageSettings.{Settings}
+use Rattle.htmd.specs.declared.page_error.PageError.{PageError}
+use Rattle.htmd.specs.declared.page_error.PageError.TheVariants.{Memory}
+use Rattle.htmd.specs.PageOutputs.{IsFaultOf, IsOutputOf}
 use Rattle.htmd_streams.specs.Fields.{null, read_field, written_field}
 use Rattle.htmd_streams.specs.Lines.{other_fields, last_field}
 use Rattle.htmd_cli.specs.Rows.{IsPageAnswer, IsFieldAnswer, IsRowAnswer}
-use Rattle.htmd_cli.proofs.PageOutputsLemmas.{match_false}
+use Rattle.htmd.proofs.PageOutputsLemmas.{match_false}
 
 -- a page that becomes this
 pub page_answer : (settings : Settings) (page output : List ℕ) → IsOutputOf settings page output
@@ -20,7 +19,7 @@ page_answer settings page output m = inl (output, m, refl)
 
 -- a page that becomes nothing
 pub refused_answer : (settings : Settings) (page : List ℕ) (e : PageError) → IsFaultOf settings page e
-    → e ≢ Run Memory
+    → e ≢ Memory
     → IsPageAnswer settings page null
 refused_answer settings page e f m = inr ((e, f, m), refl)
 

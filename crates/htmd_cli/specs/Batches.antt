@@ -1,6 +1,6 @@
 -- How a batch goes from row to row; only the contracts of private functions cite it.
 use Rattle.std.specs.Prelude.{◌≡◌, ◌+◌, Bool, if◌then◌else◌, ℕ, List, [], ◌∷◌, ◌++◌, length}
-use Rattle.htmd_cli.specs.Settings.{Settings}
+use Rattle.htmd.specs.PageSettings.{Settings}
 use Rattle.htmd_streams.specs.Lines.{rows}
 use Rattle.htmd_cli.specs.Rows.{AreAnswers, counted}
 

@@ -5,10 +5,6 @@ pub use Rattle.htmd_encodings.specs.Decoding
 pub use Rattle.htmd_streams.specs.Lines
 pub use Rattle.htmd_streams.specs.Fields
 pub mod Failures
-pub mod Settings
-pub mod Changes
-pub mod PageOutputs
-pub mod PageSights
 pub mod StreamConversions
 pub mod ModeRuns
 pub mod Options

@@ -1,5 +1,5 @@
 -- What a run by a mode writes of its input, and what it ends at if that isn't UTF-8.
-use Rattle.std.specs.Prelude.{◌≡◌, ℕ, Bool, true, false, List, [], ◌∷◌, ◌++◌, Option, IsUtf8, ⊤}
+use Rattle.std.specs.Prelude.{◌≡◌, ℕ, Bool, true, false, if◌then◌else◌, List, [], ◌∷◌, ◌++◌, Option, IsUtf8, ⊤}
 use Rattle.std.specs.Io.KnownBytes.{Appends}
 use Rattle.htmd.specs.BuiltIn.{built_in}
 use Rattle.htmd.specs.Characters.{line_feed}
@@ -7,8 +7,14 @@ use Rattle.htmd.specs.Choice.{Config}
 use Rattle.htmd.specs.Conversions.{IsMarkdownOf}
 use Rattle.htmd_cli.specs.declared.faults.RunError.{RunError}
 use Rattle.htmd_cli.specs.declared.faults.RunError.TheVariants.{NotUtf8, Memory, Read}
-use Rattle.htmd_cli.specs.PageOutputs.{paragraph_markdown}
-use Rattle.htmd_cli.specs.Settings.{options_of}
+use Rattle.htmd.specs.PageOutputs.{paragraph_markdown}
+use Rattle.htmd.specs.Defaults.{default_options}
+use Rattle.htmd.specs.Options.{Options}
+use Rattle.htmd.specs.TranslationMode.TheVariants.{Pure, Faithful}
+
+-- the options of a mode: the default ones, but Faithful if that is asked for
+abbrev pub options_of : Bool → Options
+options_of faithful = record default_options { translation_mode = if faithful then Faithful else Pure }
 
 -- the built-in handlers with the default options, but Faithful if that is asked for
 abbrev pub handlers_by : Bool → Config

@@ -1,5 +1,6 @@
 -- What the rows of the source's table of options mean; only the contracts of private functions cite it.
-use Rattle.std.specs.Prelude.{◌≡◌, ◌⊎◌, ◌++◌, ◌||◌, ℕ, Bool, true, false, if◌then◌else◌, List, Option, Some, None, option_map, is_some}
+use Rattle.std.specs.Prelude.{◌≡◌, ◌||◌, ℕ, Bool, true, false, if◌then◌else◌, List, Option, Some, None, option_map}
+use Rattle.std.specs.Prelude.{is_some}
 use Rattle.std.specs.List.{list_all}
 use Rattle.htmd_cli.specs.declared.options.Setting.{Setting}
 use Rattle.htmd_cli.specs.declared.options.Setting.TheVariants as setting
@@ -11,14 +12,12 @@ use Rattle.htmd_cli.specs.declared.options.OptionRow.{OptionRow}
 use Rattle.htmd_cli.specs.declared.requests.Request as held
 use Rattle.htmd_cli.specs.declared.requests.OptionFault.{OptionFault}
 use Rattle.htmd_cli.specs.declared.requests.OptionFault.TheVariants as fault
-use Rattle.htmd_pages.specs.SelectorSteps.{Step}
-use Rattle.htmd_pages.specs.declared.selectors.SelectorError.{SelectorError}
-use Rattle.htmd_pages.specs.declared.selectors.SelectorError.TheVariants.{Memory}
 use Rattle.htmd.specs.Options.{Options}
 use Rattle.htmd_encodings.specs.Labels.{encoding_named}
-use Rattle.htmd_cli.specs.Settings.{settings_in}
+use Rattle.htmd.specs.PageSettings.{settings_in}
 use Rattle.htmd_cli.specs.Options.{Request, KnownOption, sets, sets_option, skips, takes_rows, shows_instead, number}
-use Rattle.htmd_cli.specs.Options.{parts, is_filled, selectors, url, selects, drops, is_based_on, takes_any_page_guarded}
+use Rattle.htmd.specs.PageValues.{parts, is_filled, selectors, url}
+use Rattle.htmd_cli.specs.Options.{selects, drops, is_based_on, takes_any_page_guarded}
 use Rattle.htmd_cli.specs.Options.{takes_faithful}
 
 -- the setting is told by a value
@@ -101,11 +100,3 @@ abbrev pub IsOptionFault : OptionFault → Bool → Bool → Type 0
 IsOptionFault fault.Memory known takes = (takes || known) ≡ true
 IsOptionFault (fault.Unknown option) known takes = known ≡ false
 IsOptionFault (fault.Selector option error) known takes = known ≡ false
-
--- the selectors of a text were added
-abbrev pub AddsSelectors : List Step → List Step → List ℕ → Type 0
-AddsSelectors before after text = (steps : List Step) × (selectors text ≡ Some steps) × (after ≡ before ++ steps)
-
--- a text isn't selectors, unless memory ran out
-abbrev pub IsSelectorFault : List ℕ → SelectorError → Type 0
-IsSelectorFault text error = (selectors text ≡ None) ⊎ (error ≡ Memory)

@@ -1,14 +1,13 @@
 -- The program's command-line options, and what they ask for.
-use Rattle.std.specs.Prelude.{ℕ, ◌+◌, ◌-◌, ◌*◌, Bool, true, false, ◌&&◌, ◌==◌, nat_lt, if◌then◌else◌}
+use Rattle.std.specs.Prelude.{ℕ, ◌+◌, ◌-◌, ◌*◌, Bool, true, false, ◌&&◌, nat_lt, if◌then◌else◌}
 use Rattle.std.specs.Prelude.{List, [], ◌∷◌, ◌++◌, length, drop, Option, Some, None, is_some, option_map}
-use Rattle.std.specs.Prelude.{option_and_then, unwrap_or, codes}
-use Rattle.std.specs.Prelude.{string_bytes}
+use Rattle.std.specs.Prelude.{option_and_then, codes, string_bytes}
 use Rattle.std.specs.List.{list_all}
 use Rattle.std.specs.Char.{is_ascii_digit}
 use Rattle.std.specs.Str.{bytes_eq}
 use Rattle.std.specs.declared.alloc.Global.{Global}
 use Rattle.std.specs.declared.string.String.{String}
-use Rattle.htmd.specs.Characters.{comma, digit_zero}
+use Rattle.htmd.specs.Characters.{digit_zero}
 use Rattle.htmd.specs.CharacterClasses.{begins_with}
 use Rattle.htmd.specs.HeadingStyle.TheVariants as heading
 use Rattle.htmd.specs.HrStyle.TheVariants as rule
@@ -22,14 +21,11 @@ use Rattle.htmd.specs.TranslationMode.TheVariants as translation
 use Rattle.htmd.specs.Options.{Options}
 use Rattle.htmd_encodings.specs.declared.encodings.Encoding.{Encoding}
 use Rattle.htmd_encodings.specs.Labels.{encoding_named}
-use Rattle.std.specs.Result.{result_ok}
-use Rattle.htmd_pages.specs.SelectorSteps.{Step}
-use Rattle.htmd_pages.specs.Reading.{steps_of_text}
-use Rattle.htmd_addresses.specs.Leads.{RunPage}
+use Rattle.htmd_selectors.specs.SelectorSteps.{Step}
 use Rattle.htmd_addresses.specs.PageUrls.{page_url}
 use Rattle.url.specs.Parts.{Parts}
-use Rattle.url.specs.Parser.{parse_url}
-use Rattle.htmd_cli.specs.Settings.{Settings, default_settings}
+use Rattle.htmd.specs.PageSettings.{Settings, default_settings}
+use Rattle.htmd.specs.PageValues.{is_filled, parts, selectors, url}
 
 -- what the options ask for: the settings, whether the source is rows with a page each, and whether the help or the
 -- version is shown in place of a conversion
@@ -58,27 +54,6 @@ abbrev pub number : List ℕ → Option ℕ
 number [] = None
 number (b ∷ s) = number_behind (Some 0) (b ∷ s)
 
-abbrev pub before_parts : ℕ → List (List ℕ) → List (List ℕ)
-before_parts b [] = []
-before_parts b (part ∷ parts) = (b ∷ part) ∷ parts
-
--- the parts of a text between its commas
-abbrev pub parts : List ℕ → List (List ℕ)
-parts [] = [] ∷ []
-parts (b ∷ s) = if b == comma then [] ∷ parts s else before_parts b (parts s)
-
--- the selectors that a text is, if it is some
-abbrev pub selectors : List ℕ → Option (List Step)
-selectors s = result_ok (steps_of_text s)
-
--- the absolute URL that a text is, if it is one
-abbrev pub url : List ℕ → Option Parts
-url s = result_ok (parse_url None s)
-
-abbrev pub is_filled : List ℕ → Bool
-is_filled [] = false
-is_filled (b ∷ s) = true
-
 -- ---- what an option does to what is asked for so far
 
 abbrev pub sets : (Settings → Settings) → Request → Request
@@ -102,16 +77,9 @@ drops steps = sets (λ settings. record settings { dropped = settings.dropped ++
 abbrev pub is_based_on : Parts → Request → Request
 is_based_on url = sets (λ settings. record settings { base = Some url })
 
--- the page has this path in the folder whose URL the options say, if they do: no option says that, but what the options
--- ask for is done of each page of a folder by its own URL
-abbrev pub is_at : List ℕ → Request → Request
-is_at path = sets (λ settings. record settings {
-  base = option_map (λ url. unwrap_or (page_url url path) url) settings.base;
-})
-
--- the page is one of a run: no option says that, but what the options ask for is done of each page of a run
-abbrev pub is_one_of_run : RunPage → Request → Request
-is_one_of_run page = sets (λ settings. record settings { run_page = Some page })
+-- the URL of the page that has this path in the folder whose URL the options say, if they do
+abbrev pub url_in_folder : Option Parts → List ℕ → Option Parts
+url_in_folder base path = option_and_then (λ url. page_url url path) base
 
 -- any page, and what a reader sees of it is written
 abbrev pub takes_any_page_guarded : Request → Request

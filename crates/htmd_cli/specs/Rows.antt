@@ -4,14 +4,13 @@ use Rattle.std.specs.Prelude.{IfSome, MatchBool}
 use Rattle.std.specs.Str.{bytes_eq}
 use Rattle.std.specs.Io.KnownBytes.{Appends}
 use Rattle.htmd.specs.Characters.{line_feed}
-use Rattle.htmd_cli.specs.Settings.{Settings}
+use Rattle.htmd.specs.PageSettings.{Settings}
 use Rattle.htmd_cli.specs.Options.{Request}
 use Rattle.htmd_cli.specs.StreamConversions.{Converts}
 use Rattle.htmd_streams.specs.Ends.{AppendsSome}
-use Rattle.htmd_cli.specs.declared.faults.PageError.{PageError}
-use Rattle.htmd_cli.specs.declared.faults.PageError.TheVariants.{Run}
-use Rattle.htmd_cli.specs.declared.faults.RunError.TheVariants.{Memory}
-use Rattle.htmd_cli.specs.PageOutputs.{IsFaultOf, IsOutputOf}
+use Rattle.htmd.specs.declared.page_error.PageError.{PageError}
+use Rattle.htmd.specs.declared.page_error.PageError.TheVariants.{Memory}
+use Rattle.htmd.specs.PageOutputs.{IsFaultOf, IsOutputOf}
 use Rattle.htmd_streams.specs.Fields.{null, read_field, written_field}
 use Rattle.htmd_streams.specs.Lines.{rows, other_fields, last_field}
 
@@ -22,7 +21,7 @@ IsConverted settings page field =
 
 -- the page becomes nothing, and not because memory ran out
 abbrev pub IsRefusedPage : Settings → List ℕ → Type 0
-IsRefusedPage settings page = (error : PageError) × IsFaultOf settings page error × (error ≢ Run Memory)
+IsRefusedPage settings page = (error : PageError) × IsFaultOf settings page error × (error ≢ Memory)
 
 -- this is written for a page: what it becomes, or null if that is nothing
 abbrev pub IsPageAnswer : Settings → List ℕ → List ℕ → Type 0

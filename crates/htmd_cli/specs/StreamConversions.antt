@@ -2,11 +2,11 @@
 use Rattle.std.specs.Prelude.{◌≡◌, ℕ, List, [], ◌∷◌, ◌++◌, false, Option, IfSome, Result, Ok, Err, IsUtf8}
 use Rattle.std.specs.Io.KnownBytes.{Appends, IsAtEnd}
 use Rattle.htmd.specs.Characters.{line_feed}
-use Rattle.htmd_cli.specs.declared.faults.RunError.TheVariants.{NotUtf8, Refused, Memory, Read, Write}
-use Rattle.htmd_cli.specs.declared.faults.PageError.{PageError}
-use Rattle.htmd_cli.specs.declared.faults.PageError.TheVariants.{Run, Unsupported, NothingSelected}
-use Rattle.htmd_cli.specs.Settings.{Settings}
-use Rattle.htmd_cli.specs.PageOutputs.{IsOutputOf, IsRefusedBy, IsUnselected, IsUnsupported, reads_any}
+use Rattle.htmd.specs.declared.page_error.PageError.TheVariants.{NotUtf8, Refused, Unsupported, NothingSelected, Memory}
+use Rattle.htmd_cli.specs.declared.faults.StreamError.{StreamError}
+use Rattle.htmd_cli.specs.declared.faults.StreamError.TheVariants.{Page, Read, Write}
+use Rattle.htmd.specs.PageSettings.{Settings}
+use Rattle.htmd.specs.PageOutputs.{IsOutputOf, IsRefusedBy, IsUnselected, IsUnsupported, reads_any}
 
 -- what the bytes become, and a line feed, were written
 abbrev pub Writes : Settings → Option (List ℕ) → Option (List ℕ) → List ℕ → Type 0
@@ -24,26 +24,26 @@ Converts settings input before after = IfSome input (Writes settings before afte
 -- How a run ends, case by case: by the settings, the input, what is left of it, and the sink before and after the run.
 abbrev pub Ends : {W T : Type 0} → Settings → Option (List ℕ) → Option (List ℕ)
     → (W → Option (List ℕ)) → W → W
-    → Result T PageError → Type 0
+    → Result T StreamError → Type 0
 -- all was read, and what it becomes and a line feed were written
 Ends settings input rest contents before after (Ok done) =
     IsAtEnd rest × Converts settings input (contents before) (contents after)
 -- all was read and is not UTF-8, which any page may be; nothing was written
-Ends settings input rest contents before after (Err (Run NotUtf8)) =
+Ends settings input rest contents before after (Err (Page NotUtf8)) =
     IsAtEnd rest × (reads_any settings ≡ false) × IfSome input (λ bytes. ¬ IsUtf8 bytes) × (after ≡ before)
 -- all was read and is a page in an encoding that isn't supported; nothing was written
-Ends settings input rest contents before after (Err (Unsupported encoding)) =
+Ends settings input rest contents before after (Err (Page (Unsupported encoding))) =
     IsAtEnd rest × IfSome input (λ bytes. IsUnsupported settings bytes encoding) × (after ≡ before)
 -- all was read and is UTF-8, was taken for HTML of the strict grammar, and is outside it; nothing was written
-Ends settings input rest contents before after (Err (Run (Refused place kind))) =
+Ends settings input rest contents before after (Err (Page (Refused place kind))) =
     IsAtEnd rest × (settings.text ≡ false) × (settings.html5 ≡ false)
     × IfSome input (λ bytes. IsUtf8 bytes × IsRefusedBy settings bytes place kind) × (after ≡ before)
 -- all was read and holds the text of a page, of which no element is selected; nothing was written
-Ends settings input rest contents before after (Err NothingSelected) =
+Ends settings input rest contents before after (Err (Page NothingSelected)) =
     IsAtEnd rest × IfSome input (IsUnselected settings) × (after ≡ before)
 -- out of memory; nothing was written
-Ends settings input rest contents before after (Err (Run Memory)) = after ≡ before
+Ends settings input rest contents before after (Err (Page Memory)) = after ≡ before
 -- the source failed; nothing was written
-Ends settings input rest contents before after (Err (Run Read)) = after ≡ before
+Ends settings input rest contents before after (Err Read) = after ≡ before
 -- all was read, and becomes something, and the sink failed
-Ends settings input rest contents before after (Err (Run Write)) = IsAtEnd rest × IfSome input (IsConvertible settings)
+Ends settings input rest contents before after (Err Write) = IsAtEnd rest × IfSome input (IsConvertible settings)

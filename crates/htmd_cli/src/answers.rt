@@ -1,14 +1,10 @@
 //! What is written for a row.
 ghost use Rattle.std.specs.Prelude.{◌≡◌, ◌++◌, [], List, ℕ, OnOk};
-ghost use Rattle.htmd_cli.specs.PageOutputs.{GoesBy};
 ghost use Rattle.htmd_cli.specs.Rows.{IsFieldAnswer, IsPageAnswer, IsRowAnswer};
-ghost use Rattle.htmd_cli.specs.Settings.{settings_in};
+ghost use Rattle.htmd.specs.PageConverters.{IsReady, settings_of};
 
-use crate::faults::{PageError, RunError};
-use crate::page_output::output_of;
-use crate::settings::Settings;
-use htmd::HtmlToMarkdown;
 use htmd::element_handler::Registry;
+use htmd::{PageConverter, PageError};
 use htmd_streams::{NULL, fields_of, read_field, write_field};
 use std::alloc::{AllocError, Global};
 
@@ -16,20 +12,19 @@ use std::alloc::{AllocError, Global};
 /// `Some` if that page is refused.
 pub(crate) fn answer_row<H: Registry>(
     alloc: Global,
-    converter: &HtmlToMarkdown<H>,
-    settings: &Settings<'_>,
+    converter: &PageConverter<'_, '_, H>,
     row: &[u8],
     page: &mut Vec<u8>,
     answer: &mut Vec<u8>,
 ) -> Result<Option<PageError>, AllocError>
-    requires goes_by { GoesBy H.ready H.config converter.now (settings_in settings.now) }
+    requires ready { IsReady H.ready H.config converter.now }
     requires page { page.old.items ≡ [] }
     requires answer { answer.old.items ≡ [] }
-    ensures { OnOk result (IsRowAnswer (settings_in settings.now) row.now answer.new.items) }
+    ensures { OnOk result (IsRowAnswer (settings_of converter.now) row.now answer.new.items) }
 {
     let (others, last) = fields_of(row);
     answer.extend_from_slice(others)?;
-    let refused = answer_field(alloc, converter, settings, last, page, answer)?;
+    let refused = answer_field(alloc, converter, last, page, answer)?;
     answer.push(b'\n')?;
     Ok(refused)
 }
@@ -37,15 +32,14 @@ pub(crate) fn answer_row<H: Registry>(
 // The same for a field.
 fn answer_field<H: Registry>(
     alloc: Global,
-    converter: &HtmlToMarkdown<H>,
-    settings: &Settings<'_>,
+    converter: &PageConverter<'_, '_, H>,
     field: &[u8],
     page: &mut Vec<u8>,
     answer: &mut Vec<u8>,
 ) -> Result<Option<PageError>, AllocError>
-    requires goes_by { GoesBy H.ready H.config converter.now (settings_in settings.now) }
+    requires ready { IsReady H.ready H.config converter.now }
     requires page { page.old.items ≡ [] }
-    ensures { OnOk result ((written : List ℕ) × IsFieldAnswer (settings_in settings.now) field.now written
+    ensures { OnOk result ((written : List ℕ) × IsFieldAnswer (settings_of converter.now) field.now written
         × (answer.new.items ≡ answer.old.items ++ written)) }
 {
     if field == NULL {
@@ -53,28 +47,27 @@ fn answer_field<H: Registry>(
         return Ok(None);
     }
     read_field(field, page)?;
-    answer_page(alloc, converter, settings, page.as_slice(), answer)
+    answer_page(alloc, converter, page.as_slice(), answer)
 }
 
 // The same for a page.
 #[tactic(auto, using(crate::proofs::RowsLemmas::page_answer, crate::proofs::RowsLemmas::refused_answer))]
 fn answer_page<H: Registry>(
     alloc: Global,
-    converter: &HtmlToMarkdown<H>,
-    settings: &Settings<'_>,
+    converter: &PageConverter<'_, '_, H>,
     page: &[u8],
     answer: &mut Vec<u8>,
 ) -> Result<Option<PageError>, AllocError>
-    requires goes_by { GoesBy H.ready H.config converter.now (settings_in settings.now) }
-    ensures { OnOk result ((written : List ℕ) × IsPageAnswer (settings_in settings.now) page.now written
+    requires ready { IsReady H.ready H.config converter.now }
+    ensures { OnOk result ((written : List ℕ) × IsPageAnswer (settings_of converter.now) page.now written
         × (answer.new.items ≡ answer.old.items ++ written)) }
 {
-    match output_of(alloc, converter, settings, page) {
+    match converter.convert_alone(alloc, page) {
         Ok(output) => {
             write_field(output.as_bytes(), answer)?;
             Ok(None)
         }
-        Err(PageError::Run(RunError::Memory)) => Err(AllocError),
+        Err(PageError::Memory) => Err(AllocError),
         Err(error) => {
             answer.extend_from_slice(NULL)?;
             Ok(Some(error))

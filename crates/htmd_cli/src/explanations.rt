@@ -1,6 +1,5 @@
 //! What the program says about a refused input, apart from the line that it always writes.
-use crate::faults::{PageError, RunError};
-use htmd::{FaultKind, line_and_column};
+use htmd::{FaultKind, PageError, line_and_column};
 use std::fmt;
 use std::fmt::Write;
 use unicode::width::UnicodeWidthChar;
@@ -139,13 +138,13 @@ fn write_front<W: Write>(out: &mut W, front: &str) -> fmt::Result {
 /// Writes where and why an input is refused, or where it is not UTF-8; it writes nothing for any other error.
 pub(crate) fn explain<W: Write>(out: &mut W, error: &PageError, input: &[u8]) -> fmt::Result {
     match (error, str::from_utf8(input)) {
-        (PageError::Run(RunError::Refused { place, kind }), Ok(text)) => {
+        (PageError::Refused { place, kind }, Ok(text)) => {
             let (line, column) = line_and_column(text, *place);
             writeln!(out, "line {line}, column {column}: {}", sentence(*kind))?;
             write_mark(out, text, *place)?;
             out.write_str("--web reads any page.\n")
         }
-        (PageError::Run(RunError::NotUtf8), Err(fault)) => {
+        (PageError::NotUtf8, Err(fault)) => {
             writeln!(out, "the first bad byte is byte {}", fault.valid_up_to())
         }
         _ => Ok(()),

@@ -1,11 +1,11 @@
 //! What can go wrong in a run.
 ghost use Rattle.std.specs.Prelude.{◌≡◌};
-ghost use Rattle.htmd_cli.specs.declared.faults.PageError.TheVariants.{Run};
+ghost use Rattle.htmd.specs.declared.page_error.PageError.TheVariants.{Memory as NoMemory};
 ghost use Rattle.htmd_cli.specs.declared.faults.RunError.TheVariants.{Memory};
-ghost use Rattle.htmd_cli.specs.Failures.{decode_error, run_error};
+ghost use Rattle.htmd_cli.specs.declared.faults.StreamError.TheVariants.{Page};
+ghost use Rattle.htmd_cli.specs.Failures.{run_error, stream_error};
 
-use htmd::{ConvertError, FaultKind};
-use htmd_encodings::{DecodeError, UnsupportedEncoding};
+use htmd::{ConvertError, FaultKind, PageError};
 use std::alloc::AllocError;
 use thiserror::Error;
 
@@ -29,18 +29,18 @@ pub enum RunError {
     Write,
 }
 
-/// Why a page was not converted by settings.
+/// Why the page that a source gives was not converted into a sink.
 #[derive(Debug, PartialEq, Eq, Drop, Error)]
-pub enum PageError {
-    /// For a reason that a run by a mode can have too.
+pub enum StreamError {
+    /// The page was not converted.
     #[error(transparent)]
-    Run(RunError),
-    /// The page is in an encoding that isn't supported.
-    #[error("the page says {encoding}, which is not supported: convert it to UTF-8 first, or give --encoding")]
-    Unsupported { encoding: UnsupportedEncoding },
-    /// No element of the page is selected.
-    #[error("no element of the page is selected by --select")]
-    NothingSelected,
+    Page(PageError),
+    /// The source failed.
+    #[error("read failed")]
+    Read,
+    /// The sink failed.
+    #[error("write failed")]
+    Write,
 }
 
 /// Why a batch did not succeed, and the number of the row at which it ended, from 1.
@@ -70,37 +70,34 @@ impl From<ConvertError> for RunError {
     }
 }
 
-impl From<RunError> for PageError {
-    ghost from_gives = { λ e error. error ≡ Run e };
+impl From<PageError> for StreamError {
+    ghost from_gives = { λ e error. error ≡ Page e };
 
-    fn from(e: RunError) -> PageError {
-        PageError::Run(e)
+    fn from(e: PageError) -> StreamError {
+        StreamError::Page(e)
     }
 }
 
-impl From<AllocError> for PageError {
-    ghost from_gives = { λ _ error. error ≡ Run Memory };
+impl From<AllocError> for StreamError {
+    ghost from_gives = { λ _ error. error ≡ Page NoMemory };
 
-    fn from(_error: AllocError) -> PageError {
-        PageError::Run(RunError::Memory)
+    fn from(_error: AllocError) -> StreamError {
+        StreamError::Page(PageError::Memory)
     }
 }
 
-impl From<ConvertError> for PageError {
-    ghost from_gives = { λ e error. error ≡ Run (run_error e) };
+impl From<RunError> for StreamError {
+    ghost from_gives = { λ e error. error ≡ stream_error e };
 
-    fn from(e: ConvertError) -> PageError {
-        PageError::Run(RunError::from(e))
-    }
-}
-
-impl From<DecodeError> for PageError {
-    ghost from_gives = { λ e error. error ≡ decode_error e };
-
-    fn from(e: DecodeError) -> PageError {
+    fn from(e: RunError) -> StreamError {
         match e {
-            DecodeError::Unsupported(encoding) => PageError::Unsupported { encoding },
-            DecodeError::Memory => PageError::Run(RunError::Memory),
+            RunError::Refused { place, kind } => {
+                StreamError::Page(PageError::Refused { place, kind })
+            }
+            RunError::NotUtf8 => StreamError::Page(PageError::NotUtf8),
+            RunError::Memory => StreamError::Page(PageError::Memory),
+            RunError::Read => StreamError::Read,
+            RunError::Write => StreamError::Write,
         }
     }
 }

@@ -9,18 +9,24 @@ use htmd_streams::{Failed, Sink, write_all};
 const USAGE: &str = "\
 Usage: htmd [OPTION..] [FILE..]
 
-Reads pages and writes them as Markdown: without FILE from standard input to standard output.
-If two options set the same thing, the last one wins; each --skip, --select and --drop adds to those
-before it. For most pages use --web.
+Converts HTML to Markdown: each FILE, the pages below a FILE that is a folder,
+or without FILE standard input. For most pages use --web. If two options set the
+same thing, the last one wins; but --skip, --select and --drop add up.
 ";
 
-/// The crate that is ported, and its version.
-const VERSION: &str = "htmd 0.5.6, ported to Rattle\n";
+/// The program and its version, which is that of the file VERSION.
+const VERSION: &str = "htmd 0.6.0\n";
 
 /// Each line of the help begins with an option, in a column of this many characters.
-const COLUMN: &str = "                                        ";
+const COLUMN: &str = "                         ";
 
-pub(crate) const GROUPS: [Group; 4] = [Group::Input, Group::Written, Group::Files, Group::Help];
+pub(crate) const GROUPS: [Group; 5] = [
+    Group::Input,
+    Group::Written,
+    Group::Style,
+    Group::Files,
+    Group::Help,
+];
 
 // Writes what is wanted in place of a conversion.
 pub(crate) fn show<W: Sink>(sink: &mut W, notice: Notice) -> Result<(), Failed>
@@ -39,6 +45,7 @@ pub(crate) fn title(group: Group) -> &'static str {
     match group {
         Group::Input => "Input",
         Group::Written => "What is written",
+        Group::Style => "Style",
         Group::Files => "Files",
         Group::Help => "Help",
     }
@@ -66,18 +73,28 @@ fn write_group<W: Sink>(sink: &mut W, group: Group) -> Result<(), Failed>
         return write_file_options(sink);
     }
     for row in &OPTIONS {
-        if row.group == group {
-            write_option(sink, "", row.name, row.value, row.help)?;
+        if row.group == group && !row.line.is_empty() {
+            write_row(sink, row)?;
         }
     }
     Ok(())
+}
+
+// Writes an option with its line, which has the fixed values, if there are any.
+fn write_row<W: Sink>(sink: &mut W, row: &OptionRow) -> Result<(), Failed>
+    ensures { FailsAtErr result (W.has_failed sink.old) (W.has_failed sink.new) }
+{
+    match row.name.split_once('=') {
+        None | Some((_, "")) => write_option(sink, "", row.name, row.value, row.line),
+        Some((name, _)) => write_option(sink, "", name, "=", row.line),
+    }
 }
 
 fn write_file_options<W: Sink>(sink: &mut W) -> Result<(), Failed>
     ensures { FailsAtErr result (W.has_failed sink.old) (W.has_failed sink.new) }
 {
     for row in &FILE_OPTIONS {
-        write_option(sink, row.short, row.name, row.value, row.help)?;
+        write_option(sink, row.short, row.name, row.value, row.line)?;
     }
     Ok(())
 }

@@ -8,35 +8,32 @@
 #![tactic(auto, using(std::proofs::lemmas::Grind::common_steps))]
 
 mod answers;
-mod changes;
 mod completions;
 mod explanations;
 mod faults;
 mod help;
 mod manual;
 mod markdown;
+mod mode;
 mod option_faults;
 mod options;
-mod page_output;
-mod paragraph;
 mod pipeline;
 mod program;
 mod reports;
 mod requests;
 mod rows;
-mod settings;
 mod values;
 
-pub use faults::{PageError, RowFault, RunError};
-pub use htmd_addresses::{Page, Pages, RunPage};
+pub use faults::{RowFault, RunError, StreamError};
+pub use htmd::{Page, PageError, PageSettings as Settings, Pages, RunPage};
 pub use htmd_encodings::{
     ByteOrder, DecodeError, Encoding, SingleByte, UnsupportedEncoding, encoding_named, page_text,
 };
 pub use htmd_streams::{Failed, Input, Output, Sink, Source, read_field, write_field};
+pub use mode::Mode;
 pub use option_faults::{say_fault, say_warnings};
-pub use pipeline::{run, run_over};
+pub use pipeline::{convert_stream, run, run_over};
 pub use program::command;
 pub use reports::report_page;
 pub use requests::{OptionFault, Request, read_options};
 pub use rows::run_rows;
-pub use settings::{Mode, Settings};

@@ -6,7 +6,7 @@ use crate::options::{FILE_OPTIONS, FileOption, Group, OPTIONS, OptionRow};
 use htmd_streams::{Failed, Sink, write_all};
 
 /// What comes before the options.
-const HEAD: &str = r#".TH HTMD 1 2026-11-27 "htmd 0.5.6" "User Commands"
+const HEAD: &str = r#".TH HTMD 1 2026-11-27 "htmd 0.6.0" "User Commands"
 .SH NAME
 htmd \- convert HTML to Markdown
 .SH SYNOPSIS
@@ -26,17 +26,18 @@ is standard input too.
 .PP
 For most pages use
 .BR \-\-web .
-It reads any page as browsers do, and writes what a reader sees, so that reading the Markdown gives the same.
+It reads any page as browsers do, and writes what people see of it, so that a reader of the Markdown sees the same.
 Without it, and without
 .BR \-\-html5 ,
-htmd refuses pages in which an end tag is missing or an element isn't allowed where it is.
+htmd rejects pages in which an end tag is missing or an element isn't allowed where it is.
 .PP
 A
 .I FILE
 may be a folder.
-It stands for all files below it whose names end in .html, .htm or .xhtml, in either case, and
+It stands for all files below it whose names end in .html, .htm or .xhtml, in either case.
+Their Markdown gets the same paths, with the ending .md, below the folder that
 .B \-o
-names the folder below which their Markdown gets the same paths, with the ending .md:
+names:
 .PP
 .RS 4
 .EX
@@ -45,9 +46,10 @@ htmd \-\-web \-o out site/
 .RE
 .PP
 An output gets its name only once it is complete.
-Until then it is a new file beside it, with the ending .htmd\-partial, which only a run that is killed leaves behind.
-A link, a folder or an input where an output should go stays as it is, and that page fails.
-A page that fails leaves an earlier output as it was, and the other pages are converted.
+Until then it is a new file beside it, with the ending .htmd\-partial, which stays behind only if the run is killed
+or can't remove it.
+If there is a link, a folder or an input where an output should go, that stays as it is, and the page fails.
+If a page fails, an earlier output of it stays as it was, and the other pages are converted.
 .PP
 If two options set the same thing, the last one wins.
 Each
@@ -66,11 +68,11 @@ const TAIL: &str = r#".SH EXIT STATUS
 All pages were converted.
 .TP
 .B 1
-A page was refused, or couldn't be read, converted or written.
+A page was rejected, or couldn't be read, converted or written.
 A line on standard error says which one, and why.
 With
 .B \-\-rows
-a page that is refused becomes a null, and the status is 0.
+a page that is rejected becomes null, and the status is 0.
 .TP
 .B 2
 An option isn't known or has a wrong value, or the files can't be converted together,

@@ -4,14 +4,13 @@ ghost use Rattle.htmd.specs.Conversions.{IsRefused};
 ghost use Rattle.htmd.specs.FaultKind.{FaultKind};
 ghost use Rattle.htmd_cli.specs.ModeRuns.{IsMarkdownBy};
 
-use crate::paragraph::paragraph;
-use crate::settings::Mode;
-use htmd::{ConvertError, HtmlToMarkdown};
+use crate::mode::Mode;
+use htmd::{ConvertError, HtmlToMarkdown, paragraph_of};
 use std::alloc::Global;
 
 /// The Markdown of an input by a mode: of its one paragraph, or of its HTML. `Refused` if that is outside the grammar,
 /// `Memory` when out of memory.
-#[tactic(auto, unfolding(crate::specs::PageOutputs::paragraph_markdown))]
+#[tactic(auto, unfolding(htmd::specs::PageOutputs::paragraph_markdown))]
 pub(crate) fn markdown_by(alloc: Global, mode: Mode, input: &str) -> Result<String, ConvertError>
     ensures ok { IfOk result (λ markdown. IsMarkdownBy mode.text mode.faithful input.now (string_bytes markdown)) }
     ensures refused_html { (place : ℕ) (kind : FaultKind) → result ≡ Err (ConvertError.Refused place kind)
@@ -23,7 +22,7 @@ pub(crate) fn markdown_by(alloc: Global, mode: Mode, input: &str) -> Result<Stri
         .options(mode.options())
         .build();
     if mode.text {
-        let tree = paragraph(alloc, input)?;
+        let tree = paragraph_of(alloc, input)?;
         return Ok(converter.tree_to_markdown(alloc, &tree, tree.root())?);
     }
     converter.convert(alloc, input)

@@ -9,15 +9,16 @@ ghost use Rattle.htmd_streams.specs.Ends.{FailsAtErr};
 ghost use Rattle.htmd_cli.specs.Failures.{IsReadFault};
 ghost use Rattle.htmd_cli.specs.ModeRuns.{HasMarkdown, IsBeforeConversion, WritesMarkdown};
 ghost use Rattle.htmd_cli.specs.StreamConversions.{Ends};
-ghost use Rattle.htmd_cli.specs.Settings.{settings_in};
+ghost use Rattle.htmd.specs.PageConverters.{IsReady, settings_of};
+ghost use Rattle.htmd.specs.PageSettings.{page_in, settings_for, settings_in};
 
-use crate::faults::{PageError, RunError};
+use crate::faults::{RunError, StreamError};
 use crate::markdown::markdown_by;
-use crate::page_output::{converter_by, output_of};
-use crate::settings::{Mode, Settings};
-use htmd::HtmlToMarkdown;
+use crate::mode::Mode;
+use htmd::element_handler::Registry;
+use htmd::{HtmlToMarkdown, PageConverter, PageInRun, PageSettings};
 use htmd_streams::{Failed, Sink, Source, write_all};
-use std::alloc::Global;
+use std::alloc::{AllocError, Global};
 
 /// Reads the whole source, asks whether it is UTF-8, converts it by the mode, writes the Markdown and one line feed to
 /// the sink, and flushes that. The source and the sink must not have failed before. The first fault in this order is
@@ -58,27 +59,54 @@ pub fn run<R: Source, W: Sink>(
 }
 
 /// Reads the whole source, and writes what it becomes by settings, and one line feed, to the sink; also returns what
-/// was read, which is nothing if the source or the memory failed while it was read. The source and the sink must not
-/// have failed before. Apart from the errors of `run`, with `Unsupported` it is a page in an encoding that isn't
-/// supported, with `NothingSelected` a page of which no element is selected. Where any page is read, neither `NotUtf8`
-/// nor `Refused` comes. The sink is not touched before the conversion has succeeded; after `Write` it isn't known how
-/// much was written.
+/// was read, as `convert_stream` does it with a converter by these settings.
 pub fn run_over<R: Source, W: Sink>(
     alloc: Global,
     source: &mut R,
     sink: &mut W,
-    settings: &Settings<'_>,
-) -> (Result<(), PageError>, Vec<u8>)
+    settings: &PageSettings<'_>,
+) -> (Result<(), StreamError>, Vec<u8>)
     requires source { R.has_failed source.old ≡ false }
     requires sink { W.has_failed sink.old ≡ false }
     ensures ends { Ends (settings_in settings.now) (R.remaining source.old) (R.remaining source.new)
         W.contents sink.old sink.new result.0 }
-    ensures read_failed { IsErrOf result.0 (PageError.Run RunError.Read) ↔ IsTrue (R.has_failed source.new) }
-    ensures write_failed { IsErrOf result.0 (PageError.Run RunError.Write) ↔ IsTrue (W.has_failed sink.new) }
+    ensures read_failed { IsErrOf result.0 StreamError.Read ↔ IsTrue (R.has_failed source.new) }
+    ensures write_failed { IsErrOf result.0 StreamError.Write ↔ IsTrue (W.has_failed sink.new) }
+{
+    let Ok(builder) = HtmlToMarkdown::builder(alloc) else {
+        return (Err(StreamError::from(AllocError)), Vec::new(alloc));
+    };
+    let Ok(converter) = PageConverter::new(builder, settings) else {
+        return (Err(StreamError::from(AllocError)), Vec::new(alloc));
+    };
+    convert_stream(alloc, source, sink, &converter, &PageInRun::alone())
+}
+
+/// Reads the whole source, and writes what `PageConverter::convert` makes of it, and one line feed, to the sink; also
+/// returns what was read, which is nothing if the source or the memory failed while it was read. The source and the
+/// sink must not have failed before. The sink is not touched before the conversion has succeeded; after `Write` it
+/// isn't known how much was written.
+pub fn convert_stream<R: Source, W: Sink, H: Registry>(
+    alloc: Global,
+    source: &mut R,
+    sink: &mut W,
+    converter: &PageConverter<'_, '_, H>,
+    page: &PageInRun<'_>,
+) -> (Result<(), StreamError>, Vec<u8>)
+    requires source { R.has_failed source.old ≡ false }
+    requires sink { W.has_failed sink.old ≡ false }
+    requires ready { IsReady H.ready H.config converter.now }
+    ensures ends { Ends (settings_for (page_in page.now) (settings_of converter.now))
+        (R.remaining source.old) (R.remaining source.new) W.contents sink.old sink.new result.0 }
+    ensures read_failed { IsErrOf result.0 StreamError.Read ↔ IsTrue (R.has_failed source.new) }
+    ensures write_failed { IsErrOf result.0 StreamError.Write ↔ IsTrue (W.has_failed sink.new) }
 {
     match read_all(alloc, source) {
-        Ok(input) => (write_output(alloc, input.as_slice(), sink, settings), input),
-        Err(error) => (Err(PageError::Run(error)), Vec::new(alloc)),
+        Ok(input) => (
+            write_output(alloc, input.as_slice(), sink, converter, page),
+            input,
+        ),
+        Err(error) => (Err(StreamError::from(error)), Vec::new(alloc)),
     }
 }
 
@@ -135,23 +163,25 @@ fn write_markdown<W: Sink>(
     }
 }
 
-// Writes what an input becomes by settings to the sink.
-fn write_output<W: Sink>(
+// Writes what an input becomes to the sink.
+fn write_output<W: Sink, H: Registry>(
     alloc: Global,
     input: &[u8],
     sink: &mut W,
-    settings: &Settings<'_>,
-) -> Result<(), PageError>
+    converter: &PageConverter<'_, '_, H>,
+    page: &PageInRun<'_>,
+) -> Result<(), StreamError>
     requires sink { W.has_failed sink.old ≡ false }
-    ensures ends { Ends (settings_in settings.now) (Some input.now) (Some []) W.contents sink.old sink.new result }
-    ensures read { ¬ IsErrOf result (PageError.Run RunError.Read) }
-    ensures write_failed { IsErrOf result (PageError.Run RunError.Write) ↔ IsTrue (W.has_failed sink.new) }
+    requires ready { IsReady H.ready H.config converter.now }
+    ensures ends { Ends (settings_for (page_in page.now) (settings_of converter.now))
+        (Some input.now) (Some []) W.contents sink.old sink.new result }
+    ensures read { ¬ IsErrOf result StreamError.Read }
+    ensures write_failed { IsErrOf result StreamError.Write ↔ IsTrue (W.has_failed sink.new) }
 {
-    let converter = converter_by(HtmlToMarkdown::builder(alloc)?, settings)?;
-    let output = output_of(alloc, &converter, settings, input)?;
+    let output = converter.convert(alloc, input, page)?;
     match write_line(sink, output.as_str()) {
         Ok(()) => Ok(()),
-        Err(_) => Err(PageError::Run(RunError::Write)),
+        Err(_) => Err(StreamError::Write),
     }
 }
 

@@ -2,17 +2,15 @@
 ghost use Rattle.std.specs.Prelude.{◌≡◌, ◌≢◌, ◌≤◌, false, true};
 ghost use Rattle.std.specs.List.{list_any};
 ghost use Rattle.std.specs.Io.KnownBytes.{IsAtEnd, Keeps};
-ghost use Rattle.htmd_streams.specs.Ends.{FailsAtErr};
 ghost use Rattle.htmd_cli.specs.Rows.{AnswersSome, Succeeds};
 ghost use Rattle.htmd_cli.specs.OptionRows.{request_in};
 ghost use Rattle.htmd_cli.specs.Options.{are_known, request_by, takes_memory};
 
-use crate::explanations::explain;
 use crate::faults::RunError;
 use crate::help::show;
 use crate::option_faults::{say_fault, say_warnings};
 use crate::pipeline::run_over;
-use crate::reports::Lines;
+use crate::reports::{Lines, explain_stream};
 use crate::requests::{OptionFault, Request, read_options};
 use crate::rows::run_rows;
 use htmd_streams::{Failed, Sink, Source};
@@ -108,7 +106,7 @@ fn run_request<R: Source, W: Sink, E: Sink>(
         ..
     } = request;
     if rows {
-        return match run_rows(alloc, source, sink, errors, settings, explains) {
+        return match run_rows(alloc, source, sink, errors, &settings, explains) {
             Ok(()) => 0,
             Err(fault) => failed(errors, &fault),
         };
@@ -118,7 +116,7 @@ fn run_request<R: Source, W: Sink, E: Sink>(
         (Err(error), input) => {
             let status = failed(errors, &error);
             if explains {
-                let _ = explain(&mut Lines { sink: errors }, &error, input.as_slice());
+                explain_stream(&mut Lines { sink: errors }, &error, input.as_slice());
             }
             status
         }

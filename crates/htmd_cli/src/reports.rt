@@ -3,7 +3,8 @@ ghost use Rattle.std.specs.Prelude.{◌≡◌};
 ghost use Rattle.std.specs.Io.KnownBytes.{Appends};
 
 use crate::explanations::explain;
-use crate::faults::{PageError, RunError};
+use crate::faults::StreamError;
+use htmd::PageError;
 use htmd_streams::{Sink, write_all};
 use std::fmt;
 use std::fmt::Write;
@@ -41,10 +42,17 @@ pub(crate) fn report<E: Sink>(
     }
 }
 
+/// Says where and why a page is refused, if it is.
+pub(crate) fn explain_stream<E: Sink>(lines: &mut Lines<'_, E>, error: &StreamError, input: &[u8]) {
+    if let StreamError::Page(error) = error {
+        let _ = explain(lines, error, input);
+    }
+}
+
 /// What helps if the strict reader refused a page.
-fn hint(error: &PageError) -> &'static str {
+fn hint(error: &StreamError) -> &'static str {
     match error {
-        PageError::Run(RunError::Refused { .. }) => " (--web reads any page)",
+        StreamError::Page(PageError::Refused { .. }) => " (--web reads any page)",
         _ => "",
     }
 }
@@ -54,7 +62,7 @@ fn hint(error: &PageError) -> &'static str {
 pub fn report_page<E: Sink>(
     errors: &mut E,
     path: &str,
-    error: &PageError,
+    error: &StreamError,
     input: &[u8],
     explains: bool,
 ) {
@@ -62,6 +70,6 @@ pub fn report_page<E: Sink>(
     let hint = if explains { "" } else { hint(error) };
     let _ = writeln!(lines, "htmd: {path}: {error}{hint}");
     if explains {
-        let _ = explain(&mut lines, error, input);
+        explain_stream(&mut lines, error, input);
     }
 }

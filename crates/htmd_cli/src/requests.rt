@@ -3,26 +3,29 @@ ghost use Rattle.std.specs.Prelude.{◌≡◌, ◌⊎◌, true, false, None, is_
 ghost use Rattle.std.specs.Prelude.{IfOk, IfErr};
 ghost use Rattle.htmd_cli.specs.Options as spec;
 ghost use Rattle.std.specs.List.{list_any};
-ghost use Rattle.htmd_addresses.specs.RunViews.{run_page_of};
-ghost use Rattle.htmd_pages.specs.Views.{steps_in};
-ghost use Rattle.htmd_cli.specs.OptionRows.{AddsSelectors, IsOptionFault, takes_value, takes_memory, value_takes_memory, styled};
+ghost use Rattle.htmd_selectors.specs.Views.{steps_in};
+ghost use Rattle.htmd.specs.PageValues as values;
+ghost use Rattle.htmd.specs.PageValues.{AddsSelectors};
+ghost use Rattle.htmd_cli.specs.OptionRows.{IsOptionFault, takes_value, takes_memory, value_takes_memory, styled};
 ghost use Rattle.htmd_cli.specs.OptionRows.{effect_of, value_effect, option_of, request_in};
-ghost use Rattle.htmd_cli.specs.Settings.{settings_in};
+ghost use Rattle.htmd.specs.PageSettings.{settings_in};
 ghost use Rattle.htmd_cli.specs.declared.requests.OptionFault.TheVariants.{Memory};
 
 use crate::options::{Notice, OPTIONS, OptionRow, Setting, Style, Valued};
-use crate::settings::Settings;
-use crate::values::{are_names, number, push_names, push_selectors, url};
+use crate::values::number;
+use htmd::PageSettings;
 use htmd::options::{Options, TranslationMode};
-use htmd_addresses::{RunPage, page_url};
+use htmd::page_values::{are_names, parse_url, push_names, push_selectors};
+use htmd_addresses::page_url;
 use htmd_encodings::encoding_named;
-use htmd_pages::{SelectorError, Selectors};
+use htmd_selectors::{SelectorError, Selectors};
 use std::alloc::{AllocError, Global};
+use url::Url;
 
 /// What the options ask for.
 #[derive(Drop)]
 pub struct Request<'a> {
-    pub(crate) settings: Settings<'a>,
+    pub(crate) settings: PageSettings<'a>,
     /// The source is rows with a page each.
     pub(crate) rows: bool,
     pub(crate) shows: Option<Notice>,
@@ -121,7 +124,7 @@ fn add_selectors<'a>(
     option: &'a str,
 ) -> Result<(), OptionFault<'a>>
     ensures ok { OnOk result (AddsSelectors (steps_in selectors.old) (steps_in selectors.new) value.now) }
-    ensures fault { IfErr result (λ fault. (spec.selectors value.now ≡ None) ⊎ (fault ≡ Memory)) }
+    ensures fault { IfErr result (λ fault. (values.selectors value.now ≡ None) ⊎ (fault ≡ Memory)) }
 {
     match push_selectors(alloc, selectors, value) {
         Ok(()) => Ok(()),
@@ -136,7 +139,7 @@ impl<'a> Request<'a> {
         ensures { request_in result ≡ spec.default_request }
     {
         Request {
-            settings: Settings::new(alloc),
+            settings: PageSettings::new(alloc),
             rows: false,
             shows: None,
             explains: false,
@@ -144,38 +147,21 @@ impl<'a> Request<'a> {
     }
 
     /// What a run is asked to do.
-    pub fn settings(&self) -> &Settings<'a>
+    pub fn settings(&self) -> &PageSettings<'a>
         ensures { settings_in result.now ≡ (request_in self.now).settings }
     {
         &self.settings
     }
 
-    /// The page has this path in the folder whose URL is the base, if there is one: its own URL becomes the base. `Err`
-    /// means out of memory, or a URL of 4 GB.
-    pub fn set_path_in_folder(&mut self, alloc: Global, path: &str) -> Result<(), AllocError>
-        ensures { OnOk result (request_in self.new ≡ spec.is_at path.now (request_in self.old)) }
+    /// The URL of the page that has this path in the folder whose URL is the base; none if there is no base, or no such
+    /// URL. `Err` means out of memory, or a URL of 4 GB.
+    pub fn url_in_folder(&self, alloc: Global, path: &str) -> Result<Option<Url>, AllocError>
+        ensures { IfOk result (λ url. url ≡ spec.url_in_folder (request_in self.now).settings.base path.now) }
     {
-        let Some(url) = &self.settings.base else {
-            return Ok(());
-        };
-        if let Some(url) = page_url(alloc, url, path)? {
-            self.settings.base = Some(url);
+        match &self.settings.base {
+            Some(url) => page_url(alloc, url, path),
+            None => Ok(None),
         }
-        Ok(())
-    }
-
-    /// The page is one of a run.
-    pub fn set_run_page(&mut self, page: RunPage<'a>)
-        ensures { request_in self.new ≡ spec.is_one_of_run (run_page_of page.entry) (request_in self.old) }
-    {
-        self.settings.run_page = Some(page);
-    }
-
-    /// Whether addresses are made absolute, by a URL.
-    pub fn has_base(&self) -> bool
-        ensures { result ≡ is_some (request_in self.now).settings.base }
-    {
-        self.settings.base.is_some()
     }
 
     /// Whether the source is rows with a page each.
@@ -222,7 +208,7 @@ impl<'a> Request<'a> {
             Valued::Drop => add_selectors(alloc, &mut settings.dropped, value, given)?,
             Valued::Skip if are_names(value) => push_names(&mut settings.skipped, value)?,
             Valued::Skip => return Err(OptionFault::Unknown(given)),
-            Valued::Base => match url(alloc, value)? {
+            Valued::Base => match parse_url(alloc, value)? {
                 Some(url) => settings.base = Some(url),
                 None => return Err(OptionFault::Unknown(given)),
             },

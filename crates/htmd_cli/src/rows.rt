@@ -4,20 +4,18 @@ ghost use Rattle.std.specs.Prelude.{IfOk, IfErr, OnOk, OnErr, IsErrAnd};
 ghost use Rattle.std.specs.Io.KnownBytes.{Appends};
 ghost use Rattle.htmd.specs.Characters.{line_feed};
 ghost use Rattle.htmd_cli.specs.Batches.{Answers, followed, rows_from, rows_left};
-ghost use Rattle.htmd_cli.specs.PageOutputs.{GoesBy};
 ghost use Rattle.htmd_streams.specs.Ends.{AppendsSome, FailsAtErr};
 ghost use Rattle.htmd_cli.specs.Failures.{IsRowFault};
 ghost use Rattle.htmd_streams.specs.Lines.{lacks, rows};
 ghost use Rattle.htmd_cli.specs.Rows.{ConvertsRows, IsRowAnswer, StopsAtRow, StopsInRows, counted};
-ghost use Rattle.htmd_cli.specs.Settings.{settings_in};
+ghost use Rattle.htmd.specs.PageConverters.{IsReady, settings_of};
+ghost use Rattle.htmd.specs.PageSettings.{settings_in};
 
 use crate::answers::answer_row;
 use crate::faults::{RowFault, RunError};
-use crate::page_output::converter_by;
 use crate::reports::report;
-use crate::settings::Settings;
-use htmd::HtmlToMarkdown;
 use htmd::element_handler::Registry;
+use htmd::{HtmlToMarkdown, PageConverter, PageSettings};
 use htmd_streams::{Failed, Sink, Source, parted, write_all};
 use std::alloc::{AllocError, Global};
 
@@ -36,18 +34,18 @@ pub fn run_rows<R: Source, W: Sink, E: Sink>(
     source: &mut R,
     sink: &mut W,
     errors: &mut E,
-    settings: Settings<'_>,
+    settings: &PageSettings<'_>,
     explains: bool,
 ) -> Result<(), RowFault>
     requires source { R.has_failed source.old ≡ false }
     requires sink { W.has_failed sink.old ≡ false }
-    ensures ok { OnOk result (ConvertsRows (settings_in settings.entry)
+    ensures ok { OnOk result (ConvertsRows (settings_in settings.now)
         (R.remaining source.old) (W.contents sink.old) (W.contents sink.new)) }
     ensures stops { IfErr result (λ fault. fault.error ≢ RunError.Write
-        → StopsAtRow (settings_in settings.entry) fault.row
+        → StopsAtRow (settings_in settings.now) fault.row
         (R.remaining source.old) (W.contents sink.old) (W.contents sink.new)) }
     ensures write { IfErr result (λ fault. fault.error ≡ RunError.Write
-        → StopsInRows (settings_in settings.entry) fault.row
+        → StopsInRows (settings_in settings.now) fault.row
         (R.remaining source.old) (W.contents sink.old) (W.contents sink.new)) }
     ensures faults { IfErr result (λ fault. IsRowFault fault.error) }
     ensures read_failed { IsErrAnd result (λ fault. fault.error ≡ RunError.Read)
@@ -58,10 +56,10 @@ pub fn run_rows<R: Source, W: Sink, E: Sink>(
     let Ok(builder) = HtmlToMarkdown::builder(alloc) else {
         return Err(first_row_fault());
     };
-    let Ok(converter) = converter_by(builder, &settings) else {
+    let Ok(converter) = PageConverter::new(builder, settings) else {
         return Err(first_row_fault());
     };
-    answer_all(alloc, &converter, &settings, source, sink, errors, explains)
+    answer_all(alloc, &converter, source, sink, errors, explains)
 }
 
 // Out of memory before the first row.
@@ -89,23 +87,22 @@ fn write_fault(answered: u64) -> RowFault
 // The same by a converter.
 fn answer_all<H: Registry, R: Source, W: Sink, E: Sink>(
     alloc: Global,
-    converter: &HtmlToMarkdown<H>,
-    settings: &Settings<'_>,
+    converter: &PageConverter<'_, '_, H>,
     source: &mut R,
     sink: &mut W,
     errors: &mut E,
     explains: bool,
 ) -> Result<(), RowFault>
-    requires goes_by { GoesBy H.ready H.config converter.now (settings_in settings.now) }
+    requires ready { IsReady H.ready H.config converter.now }
     requires source { R.has_failed source.old ≡ false }
     requires sink { W.has_failed sink.old ≡ false }
-    ensures ok { OnOk result (ConvertsRows (settings_in settings.now)
+    ensures ok { OnOk result (ConvertsRows (settings_of converter.now)
         (R.remaining source.old) (W.contents sink.old) (W.contents sink.new)) }
     ensures stops { IfErr result (λ fault. fault.error ≢ RunError.Write
-        → StopsAtRow (settings_in settings.now) fault.row
+        → StopsAtRow (settings_of converter.now) fault.row
         (R.remaining source.old) (W.contents sink.old) (W.contents sink.new)) }
     ensures write { IfErr result (λ fault. fault.error ≡ RunError.Write
-        → StopsInRows (settings_in settings.now) fault.row
+        → StopsInRows (settings_of converter.now) fault.row
         (R.remaining source.old) (W.contents sink.old) (W.contents sink.new)) }
     ensures faults { IfErr result (λ fault. IsRowFault fault.error) }
     ensures read_failed { IsErrAnd result (λ fault. fault.error ≡ RunError.Read)
@@ -119,7 +116,7 @@ fn answer_all<H: Registry, R: Source, W: Sink, E: Sink>(
         let Ok(count) = source.read(&mut buffer) else {
             return Err(batch.fault(RunError::Read));
         };
-        let outcome = batch.take_read(converter, settings, &buffer[..count], errors);
+        let outcome = batch.take_read(converter, &buffer[..count], errors);
         match batch.hand_on(sink) {
             Ok(()) => {}
             Err(_) => return Err(write_fault(batch.answered)),
@@ -182,43 +179,41 @@ impl Batch {
     // Takes what was read; no bytes mean the end. It is false if no row follows.
     fn take_read<H: Registry, E: Sink>(
         &mut self,
-        converter: &HtmlToMarkdown<H>,
-        settings: &Settings<'_>,
+        converter: &PageConverter<'_, '_, H>,
         bytes: &[u8],
         errors: &mut E,
     ) -> Result<bool, AllocError>
-        requires goes_by { GoesBy H.ready H.config converter.now (settings_in settings.now) }
+        requires ready { IsReady H.ready H.config converter.now }
         requires begun { lacks line_feed self.old.begun.items ≡ true }
-        ensures ok { IfOk result (λ goes_on. Answers (settings_in settings.now)
+        ensures ok { IfOk result (λ goes_on. Answers (settings_of converter.now)
             (λ tail. rows_from self.old.begun.items (followed bytes.now tail))
             (rows_left goes_on self.new.begun.items)
             self.old.answers.items self.new.answers.items self.old.answered self.new.answered) }
-        ensures err { OnErr result ((rest : List ℕ → List (List ℕ)) × Answers (settings_in settings.now)
+        ensures err { OnErr result ((rest : List ℕ → List (List ℕ)) × Answers (settings_of converter.now)
             (λ tail. rows_from self.old.begun.items (followed bytes.now tail)) rest
             self.old.answers.items self.new.answers.items self.old.answered self.new.answered) }
         ensures begun { IfOk result (λ goes_on. goes_on ≡ true → lacks line_feed self.new.begun.items ≡ true) }
         ensures end { IfOk result (λ goes_on. goes_on ≡ true → 0 < length bytes.now) }
     {
         if bytes.is_empty() {
-            self.take_end(converter, settings, errors)?;
+            self.take_end(converter, errors)?;
             return Ok(false);
         }
-        self.take(converter, settings, bytes, errors)
+        self.take(converter, bytes, errors)
     }
 
     // Answers the row that is open at the end, if there is one.
     fn take_end<H: Registry, E: Sink>(
         &mut self,
-        converter: &HtmlToMarkdown<H>,
-        settings: &Settings<'_>,
+        converter: &PageConverter<'_, '_, H>,
         errors: &mut E,
     ) -> Result<(), AllocError>
-        requires goes_by { GoesBy H.ready H.config converter.now (settings_in settings.now) }
+        requires ready { IsReady H.ready H.config converter.now }
         requires begun { lacks line_feed self.old.begun.items ≡ true }
-        ensures ok { OnOk result (Answers (settings_in settings.now)
+        ensures ok { OnOk result (Answers (settings_of converter.now)
             (λ _. rows self.old.begun.items) (λ _. [])
             self.old.answers.items self.new.answers.items self.old.answered self.new.answered) }
-        ensures err { OnErr result ((rest : List ℕ → List (List ℕ)) × Answers (settings_in settings.now)
+        ensures err { OnErr result ((rest : List ℕ → List (List ℕ)) × Answers (settings_of converter.now)
             (λ _. rows self.old.begun.items) rest
             self.old.answers.items self.new.answers.items self.old.answered self.new.answered) }
     {
@@ -228,24 +223,23 @@ impl Batch {
         if self.begun.as_slice() == END_MARK {
             return Ok(());
         }
-        self.answer_open(converter, settings, errors)
+        self.answer_open(converter, errors)
     }
 
     // Answers each row that ends in these bytes, and keeps what follows. It is false if the data ends.
     fn take<H: Registry, E: Sink>(
         &mut self,
-        converter: &HtmlToMarkdown<H>,
-        settings: &Settings<'_>,
+        converter: &PageConverter<'_, '_, H>,
         bytes: &[u8],
         errors: &mut E,
     ) -> Result<bool, AllocError>
-        requires goes_by { GoesBy H.ready H.config converter.now (settings_in settings.now) }
+        requires ready { IsReady H.ready H.config converter.now }
         requires begun { lacks line_feed self.old.begun.items ≡ true }
-        ensures ok { IfOk result (λ goes_on. Answers (settings_in settings.now)
+        ensures ok { IfOk result (λ goes_on. Answers (settings_of converter.now)
             (λ tail. rows_from self.old.begun.items (bytes.now ++ tail))
             (rows_left goes_on self.new.begun.items)
             self.old.answers.items self.new.answers.items self.old.answered self.new.answered) }
-        ensures err { OnErr result ((rest : List ℕ → List (List ℕ)) × Answers (settings_in settings.now)
+        ensures err { OnErr result ((rest : List ℕ → List (List ℕ)) × Answers (settings_of converter.now)
             (λ tail. rows_from self.old.begun.items (bytes.now ++ tail)) rest
             self.old.answers.items self.new.answers.items self.old.answered self.new.answered) }
         ensures begun { OnOk result (lacks line_feed self.new.begun.items ≡ true) }
@@ -256,7 +250,7 @@ impl Batch {
             if self.begun.as_slice() == END_MARK {
                 return Ok(false);
             }
-            self.answer_open(converter, settings, errors)?;
+            self.answer_open(converter, errors)?;
             rest = behind;
         }
         self.begun.extend_from_slice(rest)?;
@@ -266,12 +260,11 @@ impl Batch {
     // Answers the row that is open, and opens the next one.
     fn answer_open<H: Registry, E: Sink>(
         &mut self,
-        converter: &HtmlToMarkdown<H>,
-        settings: &Settings<'_>,
+        converter: &PageConverter<'_, '_, H>,
         errors: &mut E,
     ) -> Result<(), AllocError>
-        requires goes_by { GoesBy H.ready H.config converter.now (settings_in settings.now) }
-        ensures ok { OnOk result ((written : List ℕ) × IsRowAnswer (settings_in settings.now)
+        requires ready { IsReady H.ready H.config converter.now }
+        ensures ok { OnOk result ((written : List ℕ) × IsRowAnswer (settings_of converter.now)
             self.old.begun.items written × (self.new.answers.items ≡ self.old.answers.items ++ written)) }
         ensures next { OnOk result (self.new.begun.items ≡ []) }
         ensures answered { OnOk result (self.new.answered ≡ counted (self.old.answered + 1)) }
@@ -283,7 +276,6 @@ impl Batch {
         let refused = answer_row(
             self.alloc,
             converter,
-            settings,
             self.begun.as_slice(),
             &mut self.page,
             &mut self.answer,

@@ -25,7 +25,8 @@ use Rattle.htmd_folders.specs.Pages.{Conversion}
 use Rattle.htmd_folders.specs.declared.operands.Missed.{Missed}
 use Rattle.htmd_folders.specs.PlanViews.{missed_in, IsNoPlan}
 use Rattle.htmd_folders.specs.Plans.{IsPlanOf}
-use Rattle.htmd_command.specs.Programs.{IsOfFiles, Runs, RunsJob, ShowsInput, ShowsNamed, WritesJob, WritesPages, becomes_in}
+use Rattle.htmd_command.specs.Programs.{IsOfFiles, Runs, RunsJob, ShowsInput, ShowsNamed, WritesJob, WritesPages}
+use Rattle.htmd_command.specs.Programs.{becomes_in}
 use Rattle.htmd_command.specs.Streams.{Stream, IsUntouched, SaysMemory, Shows}
 
 -- ---- the words

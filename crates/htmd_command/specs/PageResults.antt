@@ -1,15 +1,16 @@
 -- What the program makes of the bytes of a page, by what its options ask for.
-use Rattle.std.specs.Prelude.{◌≡◌, ℕ, if◌then◌else◌, List, [], ◌∷◌, ◌++◌, map, Option, Some, None, option_map}
-use Rattle.std.specs.Prelude.{MatchBool, string_bytes}
+use Rattle.std.specs.Prelude.{◌≡◌, ℕ, if◌then◌else◌, List, [], ◌∷◌, ◌++◌, map, Option, Some, option_and_then}
+use Rattle.std.specs.Prelude.{None, option_map, MatchBool, string_bytes}
 use Rattle.std.specs.Borrow.{Bor}
 use Rattle.htmd.specs.Characters.{line_feed}
-use Rattle.htmd_cli.specs.PageOutputs.{IsOutputOf}
-use Rattle.htmd_addresses.specs.Leads.{PageValue}
+use Rattle.htmd.specs.PageOutputs.{IsOutputOf}
+use Rattle.htmd_addresses.specs.Leads.{PageValue, RunPage}
 use Rattle.htmd_addresses.specs.RunViews.{pages_in}
 use Rattle.htmd_addresses.specs.declared.pages.Pages.{Pages}
-use Rattle.htmd_cli.specs.Options.{Request, is_at, is_one_of_run}
+use Rattle.htmd_cli.specs.Options.{Request, sets, url_in_folder}
 use Rattle.htmd_cli.specs.Rows.{rows_of}
-use Rattle.htmd_cli.specs.Settings.{Settings}
+use Rattle.htmd.specs.PageSettings.{PageInRun, Settings, settings_for}
+use Rattle.url.specs.Parts.{Parts}
 use Rattle.htmd_files.specs.declared.planning.Page.{Page}
 use Rattle.htmd_files.specs.Words.{Job}
 
@@ -39,19 +40,21 @@ path_in_folder page = option_map (λ path. string_bytes path) page.path_in_folde
 abbrev pub pages_led : Option (Bor Pages) → Option (List PageValue)
 pages_led kept = option_map (λ pages. pages_in pages.now) kept
 
--- a page that was found below a folder has its own URL, if that of the folder is known
-abbrev pub at : Option (List ℕ) → Request → Request
-at None request = request
-at (Some path) request = is_at path request
+-- the URL of a page that was found below a folder, if that of the folder is known
+abbrev pub own_url : Option Parts → Page → Option Parts
+own_url base page = option_and_then (url_in_folder base) (path_in_folder page)
 
--- a page is one of a run, if addresses lead to its pages
-abbrev pub in_run : Option (List PageValue) → PageValue → Request → Request
-in_run None own request = request
-in_run (Some pages) own request = is_one_of_run (record { pages = pages; own = own }) request
+-- a page as one of a run, if addresses lead to its pages
+abbrev pub run_page_in : Option (List PageValue) → Page → Option RunPage
+run_page_in pages page = option_map (λ pages. record { pages = pages; own = value_of page }) pages
+
+-- what a run adds for one of its pages
+abbrev pub in_run : Option (List PageValue) → Page → Settings → PageInRun
+in_run pages page settings = record { url = own_url settings.base page; run_page = run_page_in pages page }
 
 -- what is asked for of a page that holds no rows
 abbrev pub page_request : Option (List PageValue) → Page → Request → Request
-page_request pages page request = in_run pages (value_of page) (at (path_in_folder page) request)
+page_request pages page request = sets (settings_for (in_run pages page request.settings)) request
 
 -- what is asked for of a page; rows are pages of their own
 abbrev pub request_for : Option (List PageValue) → Page → Request → Request

@@ -6,7 +6,8 @@ ghost use Rattle.htmd_files.specs.WordViews.{job_in, texts_of};
 ghost use Rattle.htmd_folders.specs.Changes.{Makes};
 ghost use Rattle.htmd_folders.specs.FolderConversions.{AreApart};
 ghost use Rattle.htmd_folders.specs.PlanViews.{missed_in};
-ghost use Rattle.htmd_command.specs.Programs.{IsOfFiles, Runs, RunsInput, RunsJob, ShowsInput, ShowsNamed, WritesJob, WritesPages};
+ghost use Rattle.htmd_command.specs.Programs.{IsOfFiles, Runs, RunsInput, RunsJob, ShowsInput, ShowsNamed, WritesJob};
+ghost use Rattle.htmd_command.specs.Programs.{WritesPages};
 ghost use Rattle.htmd_command.specs.Streams.{stream, SaysMemory, Shows};
 
 use crate::leads::led_pages;
@@ -25,6 +26,15 @@ use std::fmt::{Display, Write};
 use std::io::ErrorKind;
 
 const OUT_OF_MEMORY: &[u8] = b"htmd: out of memory\n";
+
+/// A job with files, and what its options ask for, which is a conversion.
+#[derive(Drop)]
+struct FileJob<'a, 'b, 'c> {
+    alloc: Global,
+    job: &'a Job<'b>,
+    request: &'a Request<'c>,
+    is_terminal: bool,
+}
 
 /// The program: converts the files that its words name, or the standard input if they name none, and returns the exit
 /// status. 0 is success, 1 means that a page was not converted, and 2 that the words can't be done: an option that is
@@ -85,62 +95,51 @@ fn run_named<S: Store, R: Source, W: Sink, E: Sink>(
         return command(alloc, options, source, sink, errors);
     }
     say_warnings(errors, &request);
-    run_job(
+    let file_job = FileJob {
         alloc,
-        store,
         job,
-        &request,
-        source,
-        sink,
-        errors,
+        request: &request,
         is_terminal,
-    )
+    };
+    run_job(&file_job, store, source, sink, errors)
 }
 
 // The same by what its options ask for, which is a conversion.
 fn run_job<S: Store, R: Source, W: Sink, E: Sink>(
-    alloc: Global,
+    of: &FileJob<'_, '_, '_>,
     store: &mut S,
-    job: &Job<'_>,
-    request: &Request<'_>,
     source: &mut R,
     sink: &mut W,
     errors: &mut E,
-    is_terminal: bool,
 ) -> u8
     requires source { R.has_failed source.old ≡ false }
     requires sink { W.has_failed sink.old ≡ false }
-    requires request { request_in request.now ≡ request_by job.now.options.items }
-    requires asked { IsOfFiles (job_in job.now) job.now.options.items }
-    ensures run { RunsJob (job_in job.now) job.now.options.items (S.changes store.old) (S.changes store.new)
+    requires request { request_in of.now.request.now ≡ request_by of.now.job.now.options.items }
+    requires asked { IsOfFiles (job_in of.now.job.now) of.now.job.now.options.items }
+    ensures run { RunsJob (job_in of.now.job.now) of.now.job.now.options.items
+        (S.changes store.old) (S.changes store.new)
         (R.remaining source.old) (stream W.contents W.has_failed sink.old sink.new)
         (stream E.contents E.has_failed errors.old errors.new) result }
     ensures status { result ≤ 2 }
 {
-    let (plan, missed) = match find_plan(alloc, store, job) {
+    let (plan, missed) = match find_plan(of.alloc, store, of.job) {
         Ok(found) => found,
         Err(fault) => return fail_plan(errors, &fault),
     };
     match plan {
         FilePlan::StandardOutput { input } => {
-            let input = input.as_str();
-            show_input(alloc, store, job, request, input, source, sink, errors)
+            show_input(of, store, input.as_str(), source, sink, errors)
         }
         FilePlan::Files { pages } => {
-            let pages = pages.as_slice();
-            let missed = missed.as_slice();
-            let progress = progress_of(job, is_terminal);
-            write_pages(alloc, store, job, request, pages, missed, errors, progress)
+            write_pages(of, store, pages.as_slice(), missed.as_slice(), errors)
         }
     }
 }
 
 // Converts the only input of a job into the sink, and answers the status.
 fn show_input<S: Store, R: Source, W: Sink, E: Sink>(
-    alloc: Global,
+    of: &FileJob<'_, '_, '_>,
     store: &mut S,
-    job: &Job<'_>,
-    request: &Request<'_>,
     input: &str,
     source: &mut R,
     sink: &mut W,
@@ -148,22 +147,22 @@ fn show_input<S: Store, R: Source, W: Sink, E: Sink>(
 ) -> u8
     requires source { R.has_failed source.old ≡ false }
     requires sink { W.has_failed sink.old ≡ false }
-    requires request { request_in request.now ≡ request_by job.now.options.items }
-    requires asked { IsOfFiles (job_in job.now) job.now.options.items }
+    requires request { request_in of.now.request.now ≡ request_by of.now.job.now.options.items }
+    requires asked { IsOfFiles (job_in of.now.job.now) of.now.job.now.options.items }
     ensures same { Makes (S.changes store.old) (S.changes store.new) [] }
-    ensures shown { ShowsInput job.now.options.items (S.changes store.old) input.now (R.remaining source.old)
-        (stream W.contents W.has_failed sink.old sink.new) (stream E.contents E.has_failed errors.old errors.new)
-        result }
+    ensures shown { ShowsInput of.now.job.now.options.items (S.changes store.old) input.now
+        (R.remaining source.old) (stream W.contents W.has_failed sink.old sink.new)
+        (stream E.contents E.has_failed errors.old errors.new) result }
     ensures status { result ≤ 2 }
 {
-    let options = job.options.as_slice();
+    let options = of.job.options.as_slice();
     if input == "-" {
-        return command(alloc, options, source, sink, errors);
+        return command(of.alloc, options, source, sink, errors);
     }
     let conversion = Requested {
-        alloc,
+        alloc: of.alloc,
         options,
-        request,
+        request: of.request,
         pages: None,
     };
     show_file(store, &conversion, input, sink, errors)
@@ -171,33 +170,40 @@ fn show_input<S: Store, R: Source, W: Sink, E: Sink>(
 
 // Converts the pages of a job, and answers the status.
 fn write_pages<S: Store, E: Sink>(
-    alloc: Global,
+    of: &FileJob<'_, '_, '_>,
     store: &mut S,
-    job: &Job<'_>,
-    request: &Request<'_>,
     pages: &[Page],
     missed: &[Missed],
     errors: &mut E,
-    progress: Progress,
 ) -> u8
-    requires request { request_in request.now ≡ request_by job.now.options.items }
-    requires asked { IsOfFiles (job_in job.now) job.now.options.items }
+    requires request { request_in of.now.request.now ≡ request_by of.now.job.now.options.items }
+    requires asked { IsOfFiles (job_in of.now.job.now) of.now.job.now.options.items }
     requires apart { AreApart pages.now }
-    ensures written { WritesJob (job_in job.now) job.now.options.items pages.now (missed_in missed.now)
-        (S.changes store.old) (S.changes store.new) (stream E.contents E.has_failed errors.old errors.new) result }
+    ensures written { WritesJob (job_in of.now.job.now) of.now.job.now.options.items pages.now
+        (missed_in missed.now) (S.changes store.old) (S.changes store.new)
+        (stream E.contents E.has_failed errors.old errors.new) result }
     ensures status { result ≤ 1 }
 {
-    let Ok(led) = led_pages(alloc, job, pages) else {
+    let Ok(led) = led_pages(of.alloc, of.job, pages) else {
         return fail_memory(errors);
     };
-    let options = job.options.as_slice();
+    let options = of.job.options.as_slice();
     let conversion = Requested {
-        alloc,
+        alloc: of.alloc,
         options,
-        request,
+        request: of.request,
         pages: led.as_ref(),
     };
-    convert_files(alloc, store, &conversion, pages, missed, errors, progress)
+    let progress = progress_of(of.job, of.is_terminal);
+    convert_files(
+        of.alloc,
+        store,
+        &conversion,
+        pages,
+        missed,
+        errors,
+        progress,
+    )
 }
 
 // Converts a file into the sink, and answers the status.

@@ -1,22 +1,21 @@
 //! What the options ask for, as a conversion.
-ghost use Rattle.std.specs.Prelude.{◌≡◌, true, false, IfOk, OnErr, OnOk};
+ghost use Rattle.std.specs.Prelude.{◌≡◌, ◌↔◌, true, false, option_map, IfOk, IsErrOf, IsTrue, OnErr, OnOk};
+ghost use Rattle.htmd.specs.PageSettings.{page_in, settings_for, settings_in};
+ghost use Rattle.htmd_addresses.specs.RunViews.{run_page_of};
 ghost use Rattle.htmd_cli.specs.OptionRows.{request_in};
 ghost use Rattle.htmd_cli.specs.Options.{request_by};
 ghost use Rattle.htmd_cli.specs.Rows.{AnswersSome, Succeeds};
-ghost use Rattle.htmd_cli.specs.StreamConversions.{Converts};
-ghost use Rattle.htmd_cli.specs.Settings.{settings_in};
-ghost use Rattle.htmd_folders.specs.Pages.{Becomes};
-ghost use Rattle.htmd_command.specs.PageResults.{IsResultOf, at, in_run, page_request, pages_led, path_in_folder, request_for, value_of};
+ghost use Rattle.htmd_cli.specs.StreamConversions.{Converts, Ends};
+ghost use Rattle.htmd_command.specs.PageResults.{IsResultOf, in_run, own_url, pages_led, request_for, run_page_in};
 
+use htmd::{HtmlToMarkdown, PageConverter, PageError, PageInRun, PageSettings};
 use htmd_addresses::{Pages, RunPage};
-use htmd_cli::{
-    PageError, Request, RunError, Settings, Sink, Source, command, read_options, report_page,
-    run_over,
-};
+use htmd_cli::{Request, Sink, Source, StreamError, command, convert_stream, report_page};
 use htmd_files::Page;
 use htmd_folders::{Conversion, Lines, ShownName};
 use std::alloc::{AllocError, Global};
 use std::fmt::Write;
+use url::Url;
 
 /// The conversion of one page, or of rows with a page each, by what the options ask for.
 #[derive(Drop)]
@@ -34,12 +33,93 @@ pub(crate) struct Requested<'a, 'b, 'c, 'd> {
 #[derive(Drop)]
 pub(crate) enum Refusal {
     /// The page's error, and what was read of it.
-    Page { error: PageError, input: Vec<u8> },
+    Page { error: StreamError, input: Vec<u8> },
     /// Rows stopped; where and why was said.
     Rows,
 }
 
+/// Reads the whole source, and writes what it becomes by settings and by what a run adds, as `convert_stream` does it;
+/// also returns what was read.
+fn convert_in_run<R: Source, W: Sink>(
+    alloc: Global,
+    source: &mut R,
+    sink: &mut W,
+    settings: &PageSettings<'_>,
+    page: &PageInRun<'_>,
+) -> (Result<(), StreamError>, Vec<u8>)
+    requires source { R.has_failed source.old ≡ false }
+    requires sink { W.has_failed sink.old ≡ false }
+    ensures ends { Ends (settings_for (page_in page.now) (settings_in settings.now))
+        (R.remaining source.old) (R.remaining source.new) W.contents sink.old sink.new result.0 }
+    ensures write_failed { IsErrOf result.0 StreamError.Write ↔ IsTrue (W.has_failed sink.new) }
+{
+    let Ok(builder) = HtmlToMarkdown::builder(alloc) else {
+        return (Err(StreamError::from(AllocError)), Vec::new(alloc));
+    };
+    let Ok(converter) = PageConverter::new(builder, settings) else {
+        return (Err(StreamError::from(AllocError)), Vec::new(alloc));
+    };
+    convert_stream(alloc, source, sink, &converter, page)
+}
+
+/// A page as one of a run, if addresses lead to its pages.
+#[tactic(auto, using(crate::proofs::PageResultsLemmas::run_told, crate::proofs::PageResultsLemmas::run_untold))]
+fn run_page<'a>(pages: Option<&'a Pages>, page: &'a Page) -> Option<RunPage<'a>>
+    ensures { option_map run_page_of result ≡ run_page_in (pages_led pages.entry) page.now }
+{
+    match pages {
+        Some(pages) => Some(RunPage {
+            pages,
+            input: &page.input,
+            output: &page.output,
+        }),
+        None => None,
+    }
+}
+
 impl Requested<'_, '_, '_, '_> {
+    /// Converts rows with a page each.
+    fn convert_rows<R: Source, W: Sink, E: Sink>(
+        &self,
+        source: &mut R,
+        sink: &mut W,
+        errors: &mut E,
+    ) -> Result<(), Refusal>
+        requires source { R.has_failed source.old ≡ false }
+        requires sink { W.has_failed sink.old ≡ false }
+        requires rows { (request_by self.now.options.now).rows ≡ true }
+        ensures done { OnOk result (Succeeds (request_by self.now.options.now)
+            (R.remaining source.old) (W.contents sink.old) (W.contents sink.new)) }
+        ensures some { OnErr result (W.has_failed sink.new ≡ false
+            → AnswersSome (request_by self.now.options.now)
+            (R.remaining source.old) (W.contents sink.old) (W.contents sink.new)) }
+    {
+        match command(self.alloc, self.options, source, sink, errors) {
+            0 => Ok(()),
+            _ => Err(Refusal::Rows),
+        }
+    }
+
+    /// Converts a page, with what the run adds for it.
+    fn convert_page<R: Source, W: Sink>(
+        &self,
+        page: &PageInRun<'_>,
+        source: &mut R,
+        sink: &mut W,
+    ) -> Result<(), Refusal>
+        requires source { R.has_failed source.old ≡ false }
+        requires sink { W.has_failed sink.old ≡ false }
+        ensures done { OnOk result (Converts
+            (settings_for (page_in page.now) (request_by self.now.options.now).settings)
+            (R.remaining source.old) (W.contents sink.old) (W.contents sink.new)) }
+        ensures nothing { OnErr result (W.has_failed sink.new ≡ false → sink.new ≡ sink.old) }
+    {
+        match convert_in_run(self.alloc, source, sink, self.request.settings(), page) {
+            (Ok(()), _) => Ok(()),
+            (Err(error), input) => Err(Refusal::Page { error, input }),
+        }
+    }
+
     /// Converts a page as if it was alone, or rows with a page each.
     pub(crate) fn convert_alone<R: Source, W: Sink, E: Sink>(
         &self,
@@ -58,108 +138,33 @@ impl Requested<'_, '_, '_, '_> {
             (R.remaining source.old) (W.contents sink.old) (W.contents sink.new)) }
     {
         if self.request.takes_rows() {
-            return match command(self.alloc, self.options, source, sink, errors) {
-                0 => Ok(()),
-                _ => Err(Refusal::Rows),
-            };
+            return self.convert_rows(source, sink, errors);
         }
-        convert_by(self.alloc, self.request.settings(), source, sink)
+        self.convert_page(&PageInRun::alone(), source, sink)
     }
 
-    /// Whether of a page something else is asked for than of one alone. Of rows it isn't.
-    #[tactic(auto, using(crate::proofs::PageResultsLemmas::rows_alike, crate::proofs::PageResultsLemmas::page_of_file, crate::proofs::PageResultsLemmas::page_without_base))]
-    fn has_own_request(&self, page: &Page) -> bool
-        ensures alone { result ≡ false
-            → request_for (pages_led self.now.pages) page.now (request_by self.now.options.now)
-            ≡ request_by self.now.options.now }
-        ensures own { result ≡ true → (request_by self.now.options.now).rows ≡ false }
+    /// The URL of a page that was found below a folder, if the URL of that is known. `Err` means out of memory.
+    #[tactic(auto, using(crate::proofs::PageResultsLemmas::url_at, crate::proofs::PageResultsLemmas::no_url))]
+    fn own_url(&self, page: &Page) -> Result<Option<Url>, AllocError>
+        ensures { IfOk result
+            (λ url. url ≡ own_url (request_by self.now.options.now).settings.base page.now) }
     {
-        if self.request.takes_rows() {
-            return false;
-        }
-        self.pages.is_some() || page.path_in_folder.is_some() && self.request.has_base()
-    }
-
-    /// What is asked for of a page that holds no rows. `Err` means out of memory.
-    fn page_request<'x>(&'x self, page: &'x Page) -> Result<Request<'x>, AllocError>
-        ensures { IfOk result (λ request. request_in request
-            ≡ page_request (pages_led self.now.pages) page.now (request_by self.now.options.now)) }
-    {
-        // The options were read before: only memory can be missing.
-        let Ok(mut request) = read_options(self.alloc, self.options) else {
-            return Err(AllocError);
-        };
-        set_path(self.alloc, &mut request, page)?;
-        set_run(&mut request, self.pages, page);
-        Ok(request)
-    }
-
-    /// Converts a page by what is asked for of it.
-    fn convert_in_run<R: Source, W: Sink>(
-        &self,
-        page: &Page,
-        source: &mut R,
-        sink: &mut W,
-    ) -> Result<(), Refusal>
-        requires source { R.has_failed source.old ≡ false }
-        requires sink { W.has_failed sink.old ≡ false }
-        ensures { OnOk result (Converts
-            (page_request (pages_led self.now.pages) page.now (request_by self.now.options.now)).settings
-            (R.remaining source.old) (W.contents sink.old) (W.contents sink.new)) }
-    {
-        match self.page_request(page) {
-            Ok(request) => convert_by(self.alloc, request.settings(), source, sink),
-            Err(AllocError) => Err(Refusal::Page {
-                error: PageError::Run(RunError::Memory),
-                input: Vec::new(self.alloc),
-            }),
+        match &page.path_in_folder {
+            Some(path) => self.request.url_in_folder(self.alloc, path),
+            None => Ok(None),
         }
     }
-}
 
-/// A page that was found below a folder has its own URL.
-#[tactic(auto, using(crate::proofs::PageResultsLemmas::path_set, crate::proofs::PageResultsLemmas::path_kept))]
-fn set_path(alloc: Global, request: &mut Request<'_>, page: &Page) -> Result<(), AllocError>
-    ensures { OnOk result (request_in request.new ≡ at (path_in_folder page.now) (request_in request.old)) }
-{
-    let Some(path) = &page.path_in_folder else {
-        return Ok(());
-    };
-    request.set_path_in_folder(alloc, path)?;
-    Ok(())
-}
-
-/// A page is one of a run, if addresses lead to its pages.
-#[tactic(auto, using(crate::proofs::PageResultsLemmas::run_set, crate::proofs::PageResultsLemmas::run_kept))]
-fn set_run<'a>(request: &mut Request<'a>, pages: Option<&'a Pages>, page: &'a Page)
-    ensures { request_in request.new ≡ in_run (pages_led pages.entry) (value_of page.now) (request_in request.old) }
-{
-    let Some(pages) = pages else {
-        return;
-    };
-    request.set_run_page(RunPage {
-        pages,
-        input: &page.input,
-        output: &page.output,
-    });
-}
-
-/// Converts a page by settings.
-fn convert_by<R: Source, W: Sink>(
-    alloc: Global,
-    settings: &Settings<'_>,
-    source: &mut R,
-    sink: &mut W,
-) -> Result<(), Refusal>
-    requires source { R.has_failed source.old ≡ false }
-    requires sink { W.has_failed sink.old ≡ false }
-    ensures done { OnOk result (Converts (settings_in settings.now)
-        (R.remaining source.old) (W.contents sink.old) (W.contents sink.new)) }
-    ensures nothing { OnErr result (W.has_failed sink.new ≡ false → sink.new ≡ sink.old) }
-{
-    match run_over(alloc, source, sink, settings) {
-        (Ok(()), _) => Ok(()),
-        (Err(error), input) => Err(Refusal::Page { error, input }),
+    /// What the run adds for a page. `Err` means out of memory.
+    fn page_in_run<'x>(&'x self, page: &'x Page) -> Result<PageInRun<'x>, AllocError>
+        ensures { IfOk result (λ added. page_in added
+            ≡ in_run (pages_led self.now.pages) page.now (request_by self.now.options.now).settings) }
+    {
+        let url = self.own_url(page)?;
+        Ok(PageInRun {
+            url,
+            run_page: run_page(self.pages, page),
+        })
     }
 }
 
@@ -177,10 +182,16 @@ impl Conversion for Requested<'_, '_, '_, '_> {
         sink: &mut W,
         errors: &mut E,
     ) -> Result<(), Refusal> {
-        if self.has_own_request(page) {
-            return self.convert_in_run(page, source, sink);
+        if self.request.takes_rows() {
+            return self.convert_rows(source, sink, errors);
         }
-        self.convert_alone(source, sink, errors)
+        match self.page_in_run(page) {
+            Ok(added) => self.convert_page(&added, source, sink),
+            Err(AllocError) => Err(Refusal::Page {
+                error: StreamError::Page(PageError::Memory),
+                input: Vec::new(self.alloc),
+            }),
+        }
     }
 
     fn report<E: Sink>(&self, page: &str, fault: &Refusal, errors: &mut E) {

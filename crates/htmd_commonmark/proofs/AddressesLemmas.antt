@@ -9,8 +9,8 @@ use Rattle.std.proofs.lemmas.Bool.Decides.{nat_tests}
 use Rattle.std.proofs.lemmas.List.{drop_more}
 use Rattle.std.proofs.lemmas.List.Edits.{between_more, between_none}
 use Rattle.std.proofs.lemmas.Str.{IsCharBoundary-before_ascii}
-use Rattle.htmd_grammar.specs.Characters.{ampersand, backslash, is_one_of}
-use Rattle.htmd_grammar.specs.CharacterClasses.{is_empty}
+use Rattle.htmd_lexical.specs.Characters.{ampersand, backslash, is_one_of}
+use Rattle.htmd_lexical.specs.CharacterClasses.{is_empty}
 use Rattle.htmd_text.proofs.EscapedPlacesLemmas.{below_ascii_end}
 use Rattle.htmd_markdown.specs.Rewriting.{StandsFor}
 use Rattle.htmd_markdown.proofs.AddressesLemmas.{among_is_ascii}

@@ -1,7 +1,8 @@
 -- Blocks and items, one after the other.
-use denote.Param.Weighed.{most, at_most}
-use Rattle.std.proofs.Common.{◌≡◌, ℕ, zero, suc, ◌+◌, ◌-◌, ◌*◌, ◌/◌, ◌%◌, ◌^◌, ◌<◌, ◌≤◌, Bool, true, false, cond, List, []}
-use Rattle.std.proofs.Common.{◌∷◌, ◌++◌, length, get_or, drop, map, refl, sym, ap, ◌∙◌, arith, append_assoc, codes, add-one}
+use Rattle.std.proofs.Common.{◌≡◌, ℕ, zero, suc, ◌+◌, ◌-◌, ◌*◌, ◌/◌, ◌%◌, ◌^◌, ◌<◌, ◌≤◌, Bool, true, false, cond, List}
+use Rattle.std.proofs.Common.{[]}
+use Rattle.std.proofs.Common.{◌∷◌, ◌++◌, length, get_or, drop, map, refl, sym, ap, ◌∙◌, arith, append_assoc, codes}
+use Rattle.std.proofs.Common.{add-one}
 use Rattle.std.proofs.Common.{subst, drop-cons, string_bytes}
 use Rattle.std.specs.Prelude.{◌==◌, ◌||◌, Option, Some, None, Vec, Result, Ok, Err, OnOk, replicate, take}
 use Rattle.std.specs.declared.alloc.Global.{Global}
@@ -11,7 +12,7 @@ use Rattle.std.proofs.lemmas.Bool.Decides.{nat_tests}
 use Rattle.std.proofs.lemmas.Fmt.{decimal_by_steps}
 use Rattle.std.proofs.lemmas.List.{append-nil, drop_all, length-take-le, take_more}
 use Rattle.std.proofs.lemmas.List.Folds.{list_any-append}
-use Rattle.htmd_grammar.specs.Characters.{line_feed, number_sign}
+use Rattle.htmd_lexical.specs.Characters.{line_feed, number_sign}
 use Rattle.htmd_text.specs.Trims.{is_line_feed}
 use Rattle.htmd_document.specs.declared.document.Block.{Block}
 use Rattle.htmd_document.specs.declared.document.Block as source
@@ -24,14 +25,18 @@ use Rattle.htmd_commonmark.specs.declared.blocks.Place.{Place}
 use Rattle.htmd_commonmark.specs.declared.markers.Markers.{Markers}
 use Rattle.htmd_commonmark.specs.declared.markers.Sign.{Sign}
 use Rattle.htmd_commonmark.specs.declared.options.DocumentOptions.{DocumentOptions}
-use Rattle.htmd_commonmark.specs.BlockMarkdown.{has_break, is_or_has_break, marker, spaces, sign_text, sign_of, separator}
-use Rattle.htmd_commonmark.specs.BlockMarkdown.{behind_first, place_at, place_in_item, written_blocks, further_blocks, written_block}
+use Rattle.htmd_commonmark.specs.BlockMarkdown.{has_break, is_or_has_break, marker, spaces, sign_text, sign_of}
+use Rattle.htmd_commonmark.specs.BlockMarkdown.{separator}
+use Rattle.htmd_commonmark.specs.BlockMarkdown.{behind_first, place_at, place_in_item, written_blocks, further_blocks}
+use Rattle.htmd_commonmark.specs.BlockMarkdown.{written_block}
 use Rattle.htmd_commonmark.specs.BlockMarkdown.{written_items, further_items, item_count, number_signs}
 use Rattle.htmd_commonmark.specs.DocumentMarkdown.{written_definitions}
 use Rattle.htmd_commonmark.specs.BlockViews.{Output, put, put_text, all_items_of}
-use Rattle.htmd_commonmark.specs.Pages.{Page, IsMarker, nothing, with_byte, wrote, in_item, behind_item, in_quote, behind_quote, quoted, indented}
+use Rattle.htmd_commonmark.specs.Pages.{Page, IsMarker, nothing, with_byte, wrote, in_item, behind_item, in_quote}
+use Rattle.htmd_commonmark.specs.Pages.{behind_quote, quoted, indented}
 use Rattle.htmd_commonmark.specs.WrittenText.{Written}
 use Rattle.htmd_commonmark.proofs.PagesLemmas.{wrote-append, in_item-wrote, in_quote-wrote}
+use denote.Param.Weighed.{most, at_most}
 
 -- ---- breaks
 

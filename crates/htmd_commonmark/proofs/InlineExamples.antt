@@ -1,34 +1,23 @@
 -- Worked rows of inlines. Each holds by computing.
 use Rattle.std.proofs.Common.{◌≡◌, ℕ, true, false, List, [], ◌∷◌, refl, codes}
 use Rattle.std.specs.Prelude.{Option, Some, None}
-use lib.Utf8.{encode}
 use Rattle.std.specs.Fmt.{digits}
 use Rattle.std.specs.Str.{chars}
 use Rattle.unicode.proofs.CategoryComputing.{ucd_category}
 use Rattle.htmd_markdown.specs.declared.line_break.BrStyle.TheVariants.{TwoSpaces}
 use Rattle.htmd_markdown.specs.declared.link.LinkStyle.{LinkStyle}
 use Rattle.htmd_markdown.specs.declared.link.LinkStyle.TheVariants.{Inlined, InlinedPreferAutolinks, Referenced}
-use Rattle.htmd_document.specs.Documents.{emphasis, strong, deleted, superscript, subscript}
+use Rattle.htmd_document.specs.declared.document.Format.{Format}
+use Rattle.htmd_document.specs.declared.document.Format.TheVariants.{Emphasis, Strong, Deleted, Superscript, Subscript}
 use Rattle.htmd_document.specs.Documents.{Inline, text, code, formatted, link, image, line_break, task, inlines_of}
 use Rattle.htmd_commonmark.specs.declared.line.Line.{Line}
 use Rattle.htmd_commonmark.specs.declared.line.LineKind.{LineKind}
 use Rattle.htmd_commonmark.specs.declared.line.LineKind.TheVariants.{Paragraph, Heading, Cell}
 use Rattle.htmd_commonmark.specs.InlineMarkdown.{written_line}
+use lib.Utf8.{encode}
 
-abbrev emphasis_of : List Inline → Inline
-emphasis_of xs = formatted emphasis (inlines_of xs)
-
-abbrev strong_of : List Inline → Inline
-strong_of xs = formatted strong (inlines_of xs)
-
-abbrev deleted_of : List Inline → Inline
-deleted_of xs = formatted deleted (inlines_of xs)
-
-abbrev superscript_of : List Inline → Inline
-superscript_of xs = formatted superscript (inlines_of xs)
-
-abbrev subscript_of : List Inline → Inline
-subscript_of xs = formatted subscript (inlines_of xs)
+abbrev in_format : Format → List Inline → Inline
+in_format format xs = formatted format (inlines_of xs)
 
 abbrev link_of : List ℕ → Option (List ℕ) → List Inline → Inline
 link_of address title xs = link address title (inlines_of xs)
@@ -54,87 +43,87 @@ autolinks = text_of (line_of Paragraph InlinedPreferAutolinks)
 
 pub marks :
     paragraph
-    (emphasis_of (text (codes "ab c") ∷ []) ∷ text (codes " ") ∷ strong_of (text (codes "d") ∷ [])
-    ∷ text (codes " ") ∷ deleted_of (text (codes "e f") ∷ []) ∷ [])
+    (in_format Emphasis (text (codes "ab c") ∷ []) ∷ text (codes " ") ∷ in_format Strong (text (codes "d") ∷ [])
+    ∷ text (codes " ") ∷ in_format Deleted (text (codes "e f") ∷ []) ∷ [])
     ≡ codes "*ab c* **d** ~~e f~~"
 unfolding chars encode ucd_category
 marks = refl
 
 pub always_tags :
     paragraph
-    (text (codes "x") ∷ superscript_of (text (codes "2") ∷ []) ∷ text (codes " H")
-    ∷ subscript_of (text (codes "2") ∷ []) ∷ text (codes "O") ∷ [])
+    (text (codes "x") ∷ in_format Superscript (text (codes "2") ∷ []) ∷ text (codes " H")
+    ∷ in_format Subscript (text (codes "2") ∷ []) ∷ text (codes "O") ∷ [])
     ≡ codes "x<sup>2</sup> H<sub>2</sub>O"
 unfolding chars encode ucd_category
 always_tags = refl
 
 pub strong_in_emphasis :
     paragraph
-    (emphasis_of (text (codes "a ") ∷ strong_of (text (codes "b") ∷ []) ∷ []) ∷ [])
+    (in_format Emphasis (text (codes "a ") ∷ in_format Strong (text (codes "b") ∷ []) ∷ []) ∷ [])
     ≡ codes "*a __b__*"
 unfolding chars encode ucd_category
 strong_in_emphasis = refl
 
 pub emphasis_in_strong :
     paragraph
-    (strong_of (emphasis_of (text (codes "a") ∷ []) ∷ []) ∷ [])
+    (in_format Strong (in_format Emphasis (text (codes "a") ∷ []) ∷ []) ∷ [])
     ≡ codes "**_a_**"
 unfolding chars encode ucd_category
 emphasis_in_strong = refl
 
 pub formats_side_by_side :
     paragraph
-    (emphasis_of (text (codes "a") ∷ []) ∷ strong_of (text (codes "b") ∷ []) ∷ [])
+    (in_format Emphasis (text (codes "a") ∷ []) ∷ in_format Strong (text (codes "b") ∷ []) ∷ [])
     ≡ codes "*a*__b__"
 unfolding chars encode ucd_category
 formats_side_by_side = refl
 
 pub three_formats :
     paragraph
-    (strong_of (text (codes "a") ∷ []) ∷ emphasis_of (text (codes "b") ∷ [])
-    ∷ strong_of (text (codes "c") ∷ []) ∷ [])
+    (in_format Strong (text (codes "a") ∷ []) ∷ in_format Emphasis (text (codes "b") ∷ [])
+    ∷ in_format Strong (text (codes "c") ∷ []) ∷ [])
     ≡ codes "**a**_b_**c**"
 unfolding chars encode ucd_category
 three_formats = refl
 
 pub in_a_word :
     paragraph
-    (text (codes "f") ∷ strong_of (text (codes "o") ∷ []) ∷ text (codes "o") ∷ [])
+    (text (codes "f") ∷ in_format Strong (text (codes "o") ∷ []) ∷ text (codes "o") ∷ [])
     ≡ codes "f**o**o"
 unfolding chars encode ucd_category
 in_a_word = refl
 
 pub parenthesis_in_a_word :
     paragraph
-    (text (codes "f") ∷ strong_of (text (codes "(o)") ∷ []) ∷ text (codes "o") ∷ [])
+    (text (codes "f") ∷ in_format Strong (text (codes "(o)") ∷ []) ∷ text (codes "o") ∷ [])
     ≡ codes "f<strong>(o)</strong>o"
 unfolding chars encode ucd_category
 parenthesis_in_a_word = refl
 
 pub stop_before_a_space :
     paragraph
-    (strong_of (text (codes "a.") ∷ []) ∷ text (codes " b") ∷ [])
+    (in_format Strong (text (codes "a.") ∷ []) ∷ text (codes " b") ∷ [])
     ≡ codes "**a.** b"
 unfolding chars encode ucd_category
 stop_before_a_space = refl
 
 pub tildes_beside_asterisks :
     paragraph
-    (deleted_of (text (codes "a") ∷ []) ∷ strong_of (text (codes "b") ∷ []) ∷ [])
+    (in_format Deleted (text (codes "a") ∷ []) ∷ in_format Strong (text (codes "b") ∷ []) ∷ [])
     ≡ codes "<del>a</del>**b**"
 unfolding chars encode ucd_category
 tildes_beside_asterisks = refl
 
 pub asterisks_as_text :
     paragraph
-    (emphasis_of (text (codes "*a*") ∷ []) ∷ [])
+    (in_format Emphasis (text (codes "*a*") ∷ []) ∷ [])
     ≡ codes "*\\*a\\**"
 unfolding chars encode ucd_category
 asterisks_as_text = refl
 
 pub link_in_strong :
     paragraph
-    (strong_of (link_of (codes "/x") None (text (codes "a") ∷ []) ∷ []) ∷ text (codes "s") ∷ [])
+    (in_format Strong (link_of (codes "/x") None (text (codes "a") ∷ []) ∷ []) ∷ text (codes "s") ∷ [])
     ≡ codes "<strong>[a](/x)</strong>s"
 unfolding chars encode ucd_category
 link_in_strong = refl

@@ -1,6 +1,7 @@
 -- What is written in a quote or an item is the quote or the item of what is written.
 use Rattle.std.proofs.Common.{◌≡◌, ℕ, zero, suc, ◌+◌, ◌-◌, ◌<◌, ◌≤◌, Bool, true, false, cond, List, [], ◌∷◌, ◌++◌}
-use Rattle.std.proofs.Common.{length, get_or, take, drop, min, refl, sym, ap, ◌∙◌, arith, append_assoc, codes, length-append}
+use Rattle.std.proofs.Common.{length, get_or, take, drop, min, refl, sym, ap, ◌∙◌, arith, append_assoc, codes}
+use Rattle.std.proofs.Common.{length-append}
 use Rattle.std.specs.Prelude.{◌==◌, ◌||◌, ◌&&◌, not, nat_lt, replicate, reverse, map, Result, Ok, Err, OnOk}
 use Rattle.std.specs.Result.{is_ok}
 use Rattle.std.specs.Char.{is_ascii}
@@ -12,7 +13,7 @@ use Rattle.std.proofs.lemmas.List.Splits.{slice_split-cons_yes, slice_split-cons
 use Rattle.std.proofs.lemmas.List.Sums.{suffix_len-le-length}
 use Rattle.std.proofs.lemmas.List.Folds.{list_any-append}
 use Rattle.std.proofs.Math.Seq.{take-append_seam}
-use Rattle.htmd_grammar.specs.Characters.{line_feed, space}
+use Rattle.htmd_lexical.specs.Characters.{line_feed, space}
 use Rattle.htmd_text.specs.Indents.{indented_line, indented_lines, next_line}
 use Rattle.htmd_text.specs.Joins.{joined_texts}
 use Rattle.htmd_text.specs.Trims.{trimmed_end, is_line_feed, is_space}

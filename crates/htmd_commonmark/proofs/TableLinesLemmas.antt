@@ -1,6 +1,7 @@
 -- Rows of tables, cell by cell.
 use Rattle.std.proofs.Common.{◌≡◌, ℕ, zero, suc, ◌+◌, ◌-◌, ◌<◌, ◌≤◌, Bool, true, false, cond, List, [], ◌∷◌, ◌++◌}
-use Rattle.std.proofs.Common.{length, get_or, set, take, drop, max, refl, sym, ap, ◌∙◌, arith, append_assoc, codes, add-one, drop-cons}
+use Rattle.std.proofs.Common.{length, get_or, set, take, drop, max, refl, sym, ap, ◌∙◌, arith, append_assoc, codes}
+use Rattle.std.proofs.Common.{add-one, drop-cons}
 use Rattle.std.specs.Prelude.{◌==◌, replicate, map, String, string_bytes, Vec}
 use Rattle.std.specs.declared.alloc.Global.{Global}
 use Rattle.std.specs.List.{flat_map, slice_split, onto_first, suffix_len, take-map}
@@ -8,15 +9,16 @@ use Rattle.std.specs.Str.{chars}
 use Rattle.std.proofs.lemmas.Bool.Decides.{nat_tests}
 use Rattle.std.proofs.lemmas.List.{append-nil, drop_more, drop_all, length-map, take_all}
 use Rattle.std.proofs.lemmas.List.Splits.{slice_split-cons_yes, slice_split-cons_no}
-use Rattle.htmd_grammar.specs.Characters.{line_feed, space, vertical_bar}
+use Rattle.htmd_lexical.specs.Characters.{line_feed, space, vertical_bar}
 use Rattle.htmd_text.specs.Joins.{joined_texts}
-use Rattle.htmd_grammar.specs.CharacterClasses.{is_empty}
+use Rattle.htmd_lexical.specs.CharacterClasses.{is_empty}
 use Rattle.htmd_markdown.specs.Tables.{padded_cell, barred_cells, line, texts}
 use Rattle.htmd_document.specs.declared.document.Alignment.{Alignment}
 use Rattle.htmd_document.specs.declared.document.Inline.{Inline}
 use Rattle.htmd_document.specs.Documents.{Inlines}
 use Rattle.htmd_document.specs.DocumentViews.{inlines_of}
-use Rattle.htmd_commonmark.specs.TableLines.{with_escaped_bars, in_cell, widened, width_of, line_width, delimiters, dashes}
+use Rattle.htmd_commonmark.specs.TableLines.{with_escaped_bars, in_cell, widened, width_of, line_width, delimiters}
+use Rattle.htmd_commonmark.specs.TableLines.{dashes}
 use Rattle.htmd_commonmark.specs.TableLines.{without_empty_end, narrowest, rows_text, shown_cells}
 use Rattle.htmd_commonmark.specs.declared.line.Line.{Line}
 use Rattle.htmd_commonmark.specs.BlockMarkdown.{written_cells, written_rows}

@@ -1,5 +1,6 @@
 -- Rows of underscores, and which places get a backslash.
-use Rattle.std.proofs.Common.{◌≡◌, ℕ, zero, suc, ◌+◌, ◌-◌, ◌<◌, Bool, true, false, cond, List, [], ◌∷◌, ◌++◌, length, get_or}
+use Rattle.std.proofs.Common.{◌≡◌, ℕ, zero, suc, ◌+◌, ◌-◌, ◌<◌, Bool, true, false, cond, List, [], ◌∷◌, ◌++◌, length}
+use Rattle.std.proofs.Common.{get_or}
 use Rattle.std.proofs.Common.{take, drop, refl, sym, ap, ◌∙◌, arith, ⊎_elim}
 use Rattle.std.specs.Prelude.{◌==◌, ◌&&◌, ◌||◌, not, nat_le, slice_index, codes, Option, Some, None}
 use Rattle.std.specs.Option.{option_or}
@@ -9,9 +10,9 @@ use Rattle.std.proofs.lemmas.Bool.{or_cases, and_parts, false≢true}
 use Rattle.std.proofs.lemmas.Bool.Decides.{nat_tests}
 use Rattle.std.proofs.lemmas.List.{drop_more, length-take-le, take-take}
 use Rattle.std.proofs.lemmas.List.Sums.{suffix_len-take_yes, suffix_len-le-length}
-use Rattle.htmd_grammar.specs.Characters.{underscore, hyphen, colon, number_sign, is_one_of, ampersand}
-use Rattle.htmd_grammar.specs.Characters.{right_square_bracket, backslash, less_than_sign, exclamation_mark}
-use Rattle.htmd_grammar.specs.CharacterClasses.{first_is}
+use Rattle.htmd_lexical.specs.Characters.{underscore, hyphen, colon, number_sign, is_one_of, ampersand}
+use Rattle.htmd_lexical.specs.Characters.{right_square_bracket, backslash, less_than_sign, exclamation_mark}
+use Rattle.htmd_lexical.specs.CharacterClasses.{first_is}
 use Rattle.htmd_text.specs.EscapedPlaces.{is_place}
 use Rattle.htmd_text.specs.ListMarkers.{number_signs}
 use Rattle.htmd_text.specs.Trims.{trimmed_start, trimmed_end}

@@ -3,8 +3,8 @@ use Rattle.std.specs.Prelude.{ℕ, Bool, true, not, ◌&&◌, ◌||◌, ◌==◌
 use Rattle.std.specs.Prelude.{slice_index, slice_get, codes, Option, Some, None}
 use Rattle.std.specs.Char.{is_ascii_alphabetic, is_ascii_alphanumeric, is_ascii_punctuation}
 use Rattle.std.specs.List.{list_any, prefix_len}
-use Rattle.htmd_grammar.specs.Characters.{space, ampersand, colon, backslash, is_one_of}
-use Rattle.htmd_grammar.specs.CharacterClasses.{is_empty}
+use Rattle.htmd_lexical.specs.Characters.{space, ampersand, colon, backslash, is_one_of}
+use Rattle.htmd_lexical.specs.CharacterClasses.{is_empty}
 use Rattle.htmd_commonmark.specs.References.{is_reference, holds_reference}
 
 -- ---- escapes

@@ -1,14 +1,15 @@
 -- The first and the last character of what is written of an inline, as far as what is beside it asks.
 use Rattle.std.specs.Prelude.{ℕ, false, true, if◌then◌else◌, Option, Some, None, codes}
-use Rattle.htmd_grammar.specs.Characters.{asterisk, backslash, exclamation_mark, grave_accent, greater_than_sign}
-use Rattle.htmd_grammar.specs.Characters.{left_square_bracket, right_square_bracket, right_parenthesis, less_than_sign}
-use Rattle.htmd_grammar.specs.Characters.{line_feed, is_one_of}
-use Rattle.htmd_document.specs.Documents.{Format, emphasis, strong, deleted, superscript, subscript}
+use Rattle.htmd_lexical.specs.Characters.{asterisk, backslash, exclamation_mark, grave_accent, greater_than_sign}
+use Rattle.htmd_lexical.specs.Characters.{left_square_bracket, right_square_bracket, right_parenthesis, less_than_sign}
+use Rattle.htmd_lexical.specs.Characters.{line_feed, is_one_of}
+use Rattle.htmd_document.specs.declared.document.Format.{Format}
 use Rattle.htmd_document.specs.Documents.{Inline, text, code, formatted, link, image, line_break, task}
 use Rattle.htmd_document.specs.Documents.{Inlines, no_inlines, inline}
 use Rattle.htmd_commonmark.specs.declared.line.LineKind.{LineKind}
 use Rattle.htmd_commonmark.specs.declared.inline_ends.Following.{Following}
 use Rattle.htmd_commonmark.specs.CharacterKinds.{first_character, last_character}
+use Rattle.htmd_commonmark.specs.Marks.{is_always_tag}
 use Rattle.htmd_commonmark.specs.WrittenText.{is_one_line}
 
 -- a text's first character, or its backslash
@@ -16,20 +17,12 @@ abbrev pub escaped_first : Option ℕ → Option ℕ
 escaped_first None = None
 escaped_first (Some c) = if is_one_of (codes "`*[~") c then Some backslash else Some c
 
--- superscripts and subscripts are tags, and the others mostly marks
+-- what has no marks is a tag, and the other formats are mostly marks
 abbrev pub first_of_format : Format → ℕ
-first_of_format emphasis = asterisk
-first_of_format strong = asterisk
-first_of_format deleted = asterisk
-first_of_format superscript = less_than_sign
-first_of_format subscript = less_than_sign
+first_of_format format = if is_always_tag format then less_than_sign else asterisk
 
 abbrev pub last_of_format : Format → ℕ
-last_of_format emphasis = asterisk
-last_of_format strong = asterisk
-last_of_format deleted = asterisk
-last_of_format superscript = greater_than_sign
-last_of_format subscript = greater_than_sign
+last_of_format format = if is_always_tag format then greater_than_sign else asterisk
 
 abbrev pub first_of_break : LineKind → ℕ
 first_of_break kind = if is_one_line kind then less_than_sign else line_feed

@@ -1,11 +1,12 @@
 -- What is written of inlines, from left to right (CommonMark 0.31.2, 6).
-use Rattle.std.specs.Prelude.{ℕ, suc, ◌-◌, Bool, false, true, not, ◌&&◌, ◌||◌, ◌==◌, nat_eq, nat_lt, if◌then◌else◌, List}
+use Rattle.std.specs.Prelude.{ℕ, suc, ◌-◌, Bool, false, true, not, ◌&&◌, ◌||◌, ◌==◌, nat_eq, nat_lt, if◌then◌else◌}
+use Rattle.std.specs.Prelude.{List}
 use Rattle.std.specs.Prelude.{[], ◌∷◌, ◌++◌, length, take, slice_index, Option, Some, None, is_none, codes}
 use Rattle.std.specs.Fmt.{decimal}
 use Rattle.std.specs.List.{starts_with, suffix_len}
 use Rattle.std.specs.Str.{bytes_eq}
-use Rattle.htmd_grammar.specs.Characters.{space, number_sign, less_than_sign, greater_than_sign, left_square_bracket}
-use Rattle.htmd_grammar.specs.Characters.{right_square_bracket}
+use Rattle.htmd_lexical.specs.Characters.{space, number_sign, less_than_sign, greater_than_sign, left_square_bracket}
+use Rattle.htmd_lexical.specs.Characters.{right_square_bracket}
 use Rattle.htmd_markdown.specs.declared.link.LinkStyle.{LinkStyle}
 use Rattle.htmd_markdown.specs.declared.link.LinkStyle.TheVariants.{InlinedPreferAutolinks, Referenced}
 use Rattle.htmd_markdown.specs.LineBreaks as breaks

@@ -2,8 +2,9 @@
 -- and GitHub's strikethrough).
 use Rattle.std.specs.Prelude.{ℕ, Bool, false, true, not, ◌&&◌, ◌||◌, ◌==◌, if◌then◌else◌, List, Option, Some, None}
 use Rattle.std.specs.Prelude.{codes}
-use Rattle.htmd_grammar.specs.Characters.{asterisk, tilde, underscore, less_than_sign, is_one_of}
-use Rattle.htmd_document.specs.Documents.{Format, emphasis, strong, deleted, superscript, subscript}
+use Rattle.htmd_lexical.specs.Characters.{asterisk, tilde, underscore, less_than_sign, is_one_of}
+use Rattle.htmd_document.specs.declared.document.Format.{Format}
+use Rattle.htmd_document.specs.declared.document.Format.TheVariants.{Emphasis, Strong, Deleted, Superscript, Subscript}
 use Rattle.htmd_commonmark.specs.declared.marks.Sides.{Sides}
 use Rattle.htmd_commonmark.specs.CharacterKinds.{is_space, is_word, is_apart}
 
@@ -65,16 +66,22 @@ row sign signs = record { sign = sign; opener = signs; closer = signs }
 abbrev pub tags : List ℕ → List ℕ → Mark
 tags opener closer = record { sign = less_than_sign; opener = opener; closer = closer }
 
+-- formats that have no marks
+abbrev pub is_always_tag : Format → Bool
+is_always_tag Superscript = true
+is_always_tag Subscript = true
+is_always_tag format = false
+
 -- Asterisks or tildes where they fit, else underscores where those do, else tags.
 abbrev pub mark_for : Format → Sides → Mark
-mark_for emphasis s =
+mark_for Emphasis s =
     if fits asterisk s then row asterisk (codes "*")
     else if fits underscore s then row underscore (codes "_")
     else tags (codes "<em>") (codes "</em>")
-mark_for strong s =
+mark_for Strong s =
     if fits asterisk s then row asterisk (codes "**")
     else if fits underscore s then row underscore (codes "__")
     else tags (codes "<strong>") (codes "</strong>")
-mark_for deleted s = if fits tilde s then row tilde (codes "~~") else tags (codes "<del>") (codes "</del>")
-mark_for superscript s = tags (codes "<sup>") (codes "</sup>")
-mark_for subscript s = tags (codes "<sub>") (codes "</sub>")
+mark_for Deleted s = if fits tilde s then row tilde (codes "~~") else tags (codes "<del>") (codes "</del>")
+mark_for Superscript s = tags (codes "<sup>") (codes "</sup>")
+mark_for Subscript s = tags (codes "<sub>") (codes "</sub>")

@@ -2,8 +2,8 @@
 use Rattle.std.specs.Prelude.{ℕ, Bool, false, not, ◌&&◌, ◌||◌, ◌==◌, if◌then◌else◌, List, [], ◌∷◌, codes, drop}
 use Rattle.std.specs.Prelude.{slice_index, find, Option, Some, None}
 use Rattle.std.specs.Char.{is_ascii_alphabetic, is_ascii_alphanumeric, is_ascii_digit, is_ascii_hexdigit}
-use Rattle.htmd_grammar.specs.Characters.{ampersand, number_sign, semicolon, is_one_of}
-use Rattle.htmd_grammar.specs.CharacterClasses.{first_is}
+use Rattle.htmd_lexical.specs.Characters.{ampersand, number_sign, semicolon, is_one_of}
+use Rattle.htmd_lexical.specs.CharacterClasses.{first_is}
 
 abbrev pub is_semicolon : Option ℕ → Bool
 is_semicolon None = false

@@ -3,8 +3,8 @@ use Rattle.std.specs.Prelude.{ℕ, ◌+◌, ◌-◌, Bool, true, false, ◌==◌
 use Rattle.std.specs.Prelude.{◌∷◌, ◌++◌, fold, length, map, replicate, take, codes}
 use Rattle.std.specs.List.{flat_map, suffix_len}
 use Rattle.std.specs.Str.{chars}
-use Rattle.htmd_grammar.specs.Characters.{line_feed, hyphen, colon, vertical_bar}
-use Rattle.htmd_grammar.specs.CharacterClasses.{is_empty}
+use Rattle.htmd_lexical.specs.Characters.{line_feed, hyphen, colon, vertical_bar}
+use Rattle.htmd_lexical.specs.CharacterClasses.{is_empty}
 use Rattle.htmd_markdown.specs.Tables.{line}
 use Rattle.htmd_document.specs.declared.document.Alignment.{Alignment}
 use Rattle.htmd_document.specs.declared.document.Alignment.TheVariants.{Left, Center, Right}

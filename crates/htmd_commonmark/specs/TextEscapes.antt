@@ -3,18 +3,8 @@ use Rattle.std.specs.Prelude.{ℕ, ◌+◌, Bool, true, false, not, ◌&&◌, �
 use Rattle.std.specs.Prelude.{slice_index, slice_get, codes, Option, Some, None}
 use Rattle.std.specs.Option.{option_or}
 use Rattle.std.specs.Char.{is_ascii_punctuation}
-use Rattle.htmd_grammar.specs.Characters.{
-  line_feed,
-  space,
-  exclamation_mark,
-  ampersand,
-  less_than_sign,
-  left_square_bracket,
-  backslash,
-  right_square_bracket,
-  underscore,
-  is_one_of,
-}
+use Rattle.htmd_lexical.specs.Characters.{line_feed, space, exclamation_mark, ampersand, less_than_sign}
+use Rattle.htmd_lexical.specs.Characters.{left_square_bracket, backslash, right_square_bracket, underscore, is_one_of}
 use Rattle.htmd_text.specs.EscapedPlaces.{with_backslashes, is_place}
 use Rattle.htmd_text.specs.Trims.{trimmed_start, trimmed_end}
 pub use Rattle.htmd_commonmark.specs.declared.text_escape.Place.{Place}

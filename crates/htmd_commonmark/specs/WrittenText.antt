@@ -2,7 +2,7 @@
 use Rattle.std.specs.Prelude.{ℕ, ◌-◌, ◌%◌, Bool, false, true, ◌==◌, if◌then◌else◌, List, [], ◌++◌, length, take}
 use Rattle.std.specs.Prelude.{Option, Some, None, is_none, map, string_bytes}
 use Rattle.std.specs.List.{suffix_len}
-use Rattle.htmd_grammar.specs.Characters.{backslash, line_feed}
+use Rattle.htmd_lexical.specs.Characters.{backslash, line_feed}
 use Rattle.htmd_commonmark.specs.CharacterKinds.{last_character}
 use Rattle.htmd_commonmark.specs.declared.line.LineKind.{LineKind}
 use Rattle.htmd_commonmark.specs.declared.line.LineKind.TheVariants.{Paragraph, Heading, Cell}

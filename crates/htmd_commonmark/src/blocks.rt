@@ -20,7 +20,7 @@ use crate::lines::Lines;
 use crate::markers::{Markers, Sign, list_sign};
 use crate::options::DocumentOptions;
 use crate::table::TableTexts;
-use htmd_document::{Alignment, Block, Document, Inline};
+use htmd_document::{Alignment, Block, CellContent, Document, Inline, RowContent};
 use htmd_markdown::{HeadingStyle, HrStyle};
 use htmd_text::push_repeated;
 use std::alloc::{AllocError, Global};
@@ -316,8 +316,8 @@ impl BlockWriter {
     fn write_table(
         &mut self,
         alignments: &[Alignment],
-        header: &[Vec<Inline>],
-        rows: &[Vec<Vec<Inline>>],
+        header: &[CellContent],
+        rows: &[RowContent],
         options: &DocumentOptions,
     ) -> Result<(), AllocError>
         ensures { OnOk result (output_of self.new ≡ put (output_of self.old)
@@ -415,12 +415,7 @@ fn is_or_has_break(inline: &Inline) -> bool
 {
     match inline {
         Inline::LineBreak => true,
-        Inline::Emphasis(content)
-        | Inline::Strong(content)
-        | Inline::Deleted(content)
-        | Inline::Superscript(content)
-        | Inline::Subscript(content)
-        | Inline::Link { content, .. } => has_break(content),
+        Inline::Formatted(_, content) | Inline::Link { content, .. } => has_break(content),
         Inline::Text(_) | Inline::Code(_) | Inline::Image { .. } | Inline::Task(_) => false,
     }
 }

@@ -6,7 +6,8 @@ ghost use Rattle.htmd_commonmark.specs.WrittenText as written;
 
 use crate::character_kind::{first_character, last_character};
 use crate::line::LineKind;
-use htmd_document::Inline;
+use crate::marks::is_always_tag;
+use htmd_document::{Format, Inline};
 use htmd_text::repeats::trailing_len;
 
 /// What follows an inline: the first character, none at the end of a block, and whether it closes what the inline is
@@ -45,6 +46,20 @@ fn escaped_first(first: Option<char>) -> Option<char>
     }
 }
 
+/// A format's first character: of a tag, or mostly a mark.
+fn first_of_format(format: Format) -> char
+    ensures { result ≡ spec.first_of_format format }
+{
+    if is_always_tag(format) { '<' } else { '*' }
+}
+
+/// A format's last character.
+fn last_of_format(format: Format) -> char
+    ensures { result ≡ spec.last_of_format format }
+{
+    if is_always_tag(format) { '>' } else { '*' }
+}
+
 /// The first character of a break.
 fn first_of_break(kind: LineKind) -> char
     ensures { result ≡ spec.first_of_break kind }
@@ -59,8 +74,7 @@ fn first_of(x: &Inline, kind: LineKind) -> Option<char>
     match x {
         Inline::Text(text) => escaped_first(first_character(text)),
         Inline::Code(_) => Some('`'),
-        Inline::Emphasis(_) | Inline::Strong(_) | Inline::Deleted(_) => Some('*'),
-        Inline::Superscript(_) | Inline::Subscript(_) => Some('<'),
+        Inline::Formatted(format, _) => Some(first_of_format(*format)),
         Inline::Link { .. } | Inline::Task(_) => Some('['),
         Inline::Image { .. } => Some('!'),
         Inline::LineBreak => Some(first_of_break(kind)),
@@ -74,8 +88,7 @@ fn last_of(x: &Inline) -> Option<char>
     match x {
         Inline::Text(text) => last_character(text),
         Inline::Code(_) => Some('`'),
-        Inline::Emphasis(_) | Inline::Strong(_) | Inline::Deleted(_) => Some('*'),
-        Inline::Superscript(_) | Inline::Subscript(_) => Some('>'),
+        Inline::Formatted(format, _) => Some(last_of_format(*format)),
         Inline::Link { .. } | Inline::Image { .. } => Some(')'),
         Inline::LineBreak => Some('\n'),
         Inline::Task(_) => Some(']'),

@@ -5,7 +5,6 @@ ghost use Rattle.std.specs.Option.{option_copied};
 ghost use Rattle.htmd_document.specs.DocumentViews.{inline_of, inlines_of};
 ghost use Rattle.htmd_document.specs.Documents as value;
 ghost use Rattle.htmd_commonmark.specs.InlineMarkdown as spec;
-ghost use Rattle.htmd_commonmark.specs.MarkViews.{format_of};
 ghost use Rattle.htmd_commonmark.specs.WrittenText.{nothing_written, written_of, wrote};
 
 use crate::address::{is_autolink, push_destination, push_title};
@@ -14,9 +13,9 @@ use crate::inline_ends::{
     Following, character_before, first_of_all, follows, is_last_escaped, last_of_all,
 };
 use crate::line::{Line, LineKind};
-use crate::marks::{Format, Sides, mark_for};
+use crate::marks::{Sides, mark_for};
 use crate::text_escape::{Place, push_escaped};
-use htmd_document::Inline;
+use htmd_document::{Format, Inline};
 use htmd_markdown::{BrStyle, LinkStyle};
 use htmd_text::repeats::trailing_len;
 use std::alloc::{AllocError, Global};
@@ -206,11 +205,7 @@ impl InlineWriter {
         match x {
             Inline::Text(text) => self.write_text(text, line, follows),
             Inline::Code(code) => self.write_code(code, line),
-            Inline::Emphasis(xs) => self.write_format(xs, Format::Emphasis, line, follows),
-            Inline::Strong(xs) => self.write_format(xs, Format::Strong, line, follows),
-            Inline::Deleted(xs) => self.write_format(xs, Format::Deleted, line, follows),
-            Inline::Superscript(xs) => self.write_format(xs, Format::Superscript, line, follows),
-            Inline::Subscript(xs) => self.write_format(xs, Format::Subscript, line, follows),
+            Inline::Formatted(format, xs) => self.write_format(xs, *format, line, follows),
             Inline::Link {
                 address,
                 title,
@@ -236,7 +231,7 @@ impl InlineWriter {
         follows: Following,
     ) -> Result<(), AllocError>
         ensures { OnOk result (written_of self.new ≡ spec.with_inline line (written_of self.old) follows
-            (value.formatted (format_of format) (inlines_of content.now))) }
+            (value.formatted format (inlines_of content.now))) }
     {
         let sides = Sides {
             before: character_before(&self.text),

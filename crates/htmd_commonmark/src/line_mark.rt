@@ -2,7 +2,7 @@
 ghost use Rattle.std.specs.Prelude.{◌≡◌, ◌≤◌, ◌∷◌, codes, length};
 ghost use Rattle.std.specs.Char.{is_ascii_digit};
 ghost use Rattle.std.specs.List.{list_all, prefix_len};
-ghost use Rattle.htmd_grammar.specs.Characters.{is_one_of};
+ghost use Rattle.htmd_lexical.specs.Characters.{is_one_of};
 ghost use Rattle.htmd_commonmark.specs.LineMarks as spec;
 
 use htmd_text::repeats::leading_len;

@@ -2,7 +2,7 @@
 ghost use Rattle.std.specs.Prelude.{◌≡◌, ◌≤◌, ◌++◌, IfOk, OnOk, true, false, drop, length, replicate, string_bytes};
 ghost use Rattle.std.specs.List.{list_all, list_any};
 ghost use Rattle.std.specs.Char.{is_ascii};
-ghost use Rattle.htmd_grammar.specs.Characters.{line_feed, number_sign, space};
+ghost use Rattle.htmd_lexical.specs.Characters.{line_feed, number_sign, space};
 ghost use Rattle.htmd_text.specs.Trims.{trimmed_end, is_line_feed, is_space};
 ghost use Rattle.htmd_commonmark.specs.BlockMarkdown.{separator};
 ghost use Rattle.htmd_commonmark.specs.Pages as page;

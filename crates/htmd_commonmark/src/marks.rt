@@ -1,19 +1,10 @@
 //! The marks of formats, and where each is written (CommonMark 0.31.2, 6.2, and GitHub's strikethrough).
 ghost use Rattle.std.specs.Prelude.{◌≡◌, ◌==◌, option_map};
 ghost use Rattle.htmd_commonmark.specs.Marks as spec;
-ghost use Rattle.htmd_commonmark.specs.MarkViews.{format_of, mark_of};
+ghost use Rattle.htmd_commonmark.specs.MarkViews.{mark_of};
 
 use crate::character_kind::{is_apart, is_space, is_word};
-
-/// What can be around inlines, links aside.
-#[derive(Clone, Copy, PartialEq)]
-pub enum Format {
-    Emphasis,
-    Strong,
-    Deleted,
-    Superscript,
-    Subscript,
-}
+use htmd_document::Format;
 
 /// What is written before a format's content and after it, and the first character of both.
 #[derive(Clone, Copy)]
@@ -121,9 +112,16 @@ fn tags(opener: &'static str, closer: &'static str) -> Mark
     }
 }
 
+/// Whether a format has no marks, and is written by tags wherever it is.
+pub(crate) fn is_always_tag(format: Format) -> bool
+    ensures { result ≡ spec.is_always_tag format }
+{
+    matches!(format, Format::Superscript | Format::Subscript)
+}
+
 /// What a format is written by: asterisks or tildes where they fit, else underscores where those do, else tags.
 pub(crate) fn mark_for(format: Format, sides: Sides) -> Mark
-    ensures { mark_of result ≡ spec.mark_for (format_of format) sides }
+    ensures { mark_of result ≡ spec.mark_for format sides }
 {
     match format {
         Format::Emphasis if fits('*', sides) => row('*', "*"),

@@ -1,8 +1,8 @@
 //! What is a character reference to some reader (CommonMark 0.31.2, 2.5).
 ghost use Rattle.std.specs.Prelude.{◌≡◌, find, not};
 ghost use Rattle.std.specs.Char.{is_ascii_alphanumeric, is_ascii_digit, is_ascii_hexdigit};
-ghost use Rattle.htmd_grammar.specs.Characters.{semicolon};
-ghost use Rattle.htmd_grammar.specs.CharacterClasses.{first_is};
+ghost use Rattle.htmd_lexical.specs.Characters.{semicolon};
+ghost use Rattle.htmd_lexical.specs.CharacterClasses.{first_is};
 ghost use Rattle.htmd_commonmark.specs.References as spec;
 
 /// Whether a number, or a letter and letters or digits, and a semicolon follow an `&`.

@@ -2,7 +2,7 @@
 
 ghost use Rattle.std.specs.Prelude.{◌≡◌, ◌≤◌, ◌-◌, ◌++◌, IfOk, OnOk, length, map, min, replicate, codes, string_bytes};
 ghost use Rattle.std.specs.List.{suffix_len};
-ghost use Rattle.htmd_grammar.specs.CharacterClasses.{is_empty};
+ghost use Rattle.htmd_lexical.specs.CharacterClasses.{is_empty};
 ghost use Rattle.htmd_markdown.specs.Tables as tables;
 ghost use Rattle.htmd_commonmark.specs.BlockMarkdown.{written_cells, written_rows};
 ghost use Rattle.htmd_commonmark.specs.BlockViews.{cells_of, rows_of};
@@ -12,7 +12,7 @@ ghost use Rattle.htmd_commonmark.specs.WrittenText.{written_of};
 use crate::character_kind::character_count;
 use crate::inlines::InlineWriter;
 use crate::line::Line;
-use htmd_document::{Alignment, Inline};
+use htmd_document::{Alignment, CellContent, RowContent};
 use htmd_text::push_repeated;
 use std::alloc::{AllocError, Global};
 
@@ -36,8 +36,8 @@ impl TableTexts {
     pub(crate) fn of(
         alloc: Global,
         inlines: &mut InlineWriter,
-        header: &[Vec<Inline>],
-        rows: &[Vec<Vec<Inline>>],
+        header: &[CellContent],
+        rows: &[RowContent],
         line: Line,
     ) -> Result<TableTexts, AllocError>
         ensures header { let top = written_cells line (written_of inlines.old).definitions (cells_of header.now) in
@@ -107,7 +107,7 @@ impl TableTexts {
 fn cell_texts(
     alloc: Global,
     inlines: &mut InlineWriter,
-    cells: &[Vec<Inline>],
+    cells: &[CellContent],
     line: Line,
 ) -> Result<Vec<String>, AllocError>
     ensures cells { let w = written_cells line (written_of inlines.old).definitions (cells_of cells.now) in

@@ -1,6 +1,7 @@
 //! A text with a backslash before each character that a reader would take for more (CommonMark 0.31.2, 2.4).
-ghost use Rattle.std.specs.Prelude.{◌≡◌, ◌<◌, ◌++◌, ◌-◌, ◌&&◌, ◌||◌, ◌==◌, ℕ, not, OnOk, length, slice_index, string_bytes};
-ghost use Rattle.htmd_grammar.specs.Characters.{underscore};
+ghost use Rattle.std.specs.Prelude.{◌≡◌, ◌<◌, ◌++◌, ◌-◌, ◌&&◌, ◌||◌, ◌==◌, ℕ, not, OnOk, length, slice_index};
+ghost use Rattle.std.specs.Prelude.{string_bytes};
+ghost use Rattle.htmd_lexical.specs.Characters.{underscore};
 ghost use Rattle.htmd_text.specs.EscapedPlaces.{is_place};
 ghost use Rattle.htmd_commonmark.specs.LineMarks.{line_mark};
 ghost use Rattle.htmd_commonmark.specs.TextEscapes as spec;

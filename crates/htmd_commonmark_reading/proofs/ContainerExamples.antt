@@ -1,15 +1,7 @@
 -- Worked rows of block quotes and list items (CommonMark 0.31.2, 5.1 and 5.2). Each holds by computing.
 use Rattle.std.proofs.Common.{◌≡◌, refl, true, false, [], codes, None, Some}
 use Rattle.std.specs.Str.{chars}
-use Rattle.htmd_commonmark_reading.specs.Markup.{
-  code_block,
-  quote,
-  thematic_break,
-  list,
-  no_blocks,
-  block,
-  no_items,
-}
+use Rattle.htmd_commonmark_reading.specs.Markup.{code_block, quote, thematic_break, list, no_blocks, block, no_items}
 use Rattle.htmd_commonmark_reading.specs.Reading.{read}
 use Rattle.htmd_commonmark_reading.proofs.ExampleTexts.{text, one, two, and_item, one_item}
 

@@ -4,13 +4,13 @@ use Rattle.std.specs.Str.{chars}
 use Rattle.ucd_table.specs.Rows.{value_in}
 use Rattle.ucd_category.specs.GeneralCategoryRows.{general_category_rows}
 use Rattle.unicode.specs.GeneralCategory.{general_category}
-use Rattle.htmd_document.specs.Documents.{emphasis, strong, deleted}
+use Rattle.htmd_document.specs.declared.document.Format.TheVariants.{Emphasis, Strong, Deleted}
 use Rattle.htmd_commonmark_reading.specs.Markup.{Inlines, no_inlines, letters, formatted, code}
 use Rattle.htmd_commonmark_reading.specs.Brackets.{inlines}
 use Rattle.htmd_commonmark_reading.proofs.ExampleTexts.{plain}
 
 abbrev emphasized : Inlines → Inlines → Inlines
-emphasized content rest = formatted emphasis content rest
+emphasized content rest = formatted Emphasis content rest
 
 -- asterisks within a word are marks, underscores aren't
 pub in_words : inlines [] (codes "a*b*c d_e_f")
@@ -38,11 +38,11 @@ unfolding chars general_category value_in general_category_rows
 symbols = refl
 
 pub strong_in_emphasis : inlines [] (codes "***a** b*")
-    ≡ emphasized (formatted strong (plain (codes "a")) (plain (codes " b"))) no_inlines
+    ≡ emphasized (formatted Strong (plain (codes "a")) (plain (codes " b"))) no_inlines
 unfolding chars
 strong_in_emphasis = refl
 
-pub both : inlines [] (codes "___a___") ≡ emphasized (formatted strong (plain (codes "a")) no_inlines) no_inlines
+pub both : inlines [] (codes "___a___") ≡ emphasized (formatted Strong (plain (codes "a")) no_inlines) no_inlines
 unfolding chars
 both = refl
 
@@ -56,7 +56,7 @@ unfolding chars
 first_closes = refl
 
 pub strikethrough : inlines [] (codes "~a~ ~~b~~ ~~~c~~~ ~~d~")
-    ≡ formatted deleted (plain (codes "a")) (letters (codes " ") (formatted deleted (plain (codes "b"))
+    ≡ formatted Deleted (plain (codes "a")) (letters (codes " ") (formatted Deleted (plain (codes "b"))
     (plain (codes " ~~~c~~~ ~~d~"))))
 unfolding chars
 strikethrough = refl

@@ -1,6 +1,7 @@
 -- Short words for the blocks and inlines of worked rows.
 use Rattle.std.proofs.Common.{ℕ, List}
-use Rattle.htmd_commonmark_reading.specs.Markup.{Inlines, no_inlines, Block, paragraph, Blocks, no_blocks, block, Items, no_items, item, letters}
+use Rattle.htmd_commonmark_reading.specs.Markup.{Inlines, no_inlines, Block, paragraph, Blocks, no_blocks, block, Items}
+use Rattle.htmd_commonmark_reading.specs.Markup.{no_items, item, letters}
 
 abbrev pub plain : List ℕ → Inlines
 plain s = letters s no_inlines

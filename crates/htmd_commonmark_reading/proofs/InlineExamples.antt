@@ -1,10 +1,10 @@
 -- Worked rows of code spans, autolinks, raw HTML and line breaks (CommonMark 0.31.2, 6.1 and 6.5 to 6.9). Each holds by
 -- computing.
 use Rattle.std.proofs.Common.{◌≡◌, refl, [], codes, None}
-use lib.Utf8.{encode}
 use Rattle.htmd_commonmark_reading.specs.Markup.{no_inlines, letters, code, link, raw, line_break}
 use Rattle.htmd_commonmark_reading.specs.Brackets.{inlines}
 use Rattle.htmd_commonmark_reading.proofs.ExampleTexts.{plain}
+use lib.Utf8.{encode}
 
 -- a space at either end goes, if there is something else
 pub code_spans : inlines [] (codes "`` a`b `` `  ` `c\nd` ` e`")

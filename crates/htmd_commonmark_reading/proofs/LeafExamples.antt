@@ -1,16 +1,7 @@
 -- Worked rows of leaf blocks (CommonMark 0.31.2, 4.1 to 4.6 and 4.8). Each holds by computing.
 use Rattle.std.proofs.Common.{◌≡◌, refl, codes, None, Some}
-use Rattle.htmd_commonmark_reading.specs.Markup.{
-  no_inlines,
-  paragraph,
-  heading,
-  code_block,
-  thematic_break,
-  html_block,
-  block,
-  letters,
-  raw,
-}
+use Rattle.htmd_commonmark_reading.specs.Markup.{no_inlines, paragraph, heading, code_block, thematic_break, html_block}
+use Rattle.htmd_commonmark_reading.specs.Markup.{block, letters, raw}
 use Rattle.htmd_commonmark_reading.specs.Reading.{read}
 use Rattle.htmd_commonmark_reading.proofs.ExampleTexts.{plain, text, one, two}
 

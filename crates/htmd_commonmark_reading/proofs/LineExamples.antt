@@ -1,10 +1,10 @@
 -- Worked rows of lines, tabs, escapes and references (CommonMark 0.31.2, 2). Each holds by computing.
 use Rattle.std.proofs.Common.{◌≡◌, ℕ, refl, false, List, [], ◌∷◌, ◌++◌, codes, None}
-use lib.Utf8.{encode}
 use Rattle.htmd_html5_tokens.specs.NamedReferences.{small_names}
 use Rattle.htmd_commonmark_reading.specs.Markup.{code_block, quote, list}
 use Rattle.htmd_commonmark_reading.specs.Reading.{read}
 use Rattle.htmd_commonmark_reading.proofs.ExampleTexts.{text, one, two, one_item}
+use lib.Utf8.{encode}
 
 -- U+FFFD
 abbrev replacement : List ℕ

@@ -1,12 +1,12 @@
 -- Worked rows of links and images (CommonMark 0.31.2, 6.3 and 6.4). Each holds by computing.
 use Rattle.std.proofs.Common.{◌≡◌, ℕ, refl, List, [], ◌∷◌, codes, None, Some}
 use Rattle.std.specs.Str.{chars}
-use lib.Utf8.{encode}
-use Rattle.htmd_document.specs.Documents.{emphasis}
+use Rattle.htmd_document.specs.declared.document.Format.TheVariants.{Emphasis}
 use Rattle.htmd_commonmark_reading.specs.LinkDefinitions.{Definition}
 use Rattle.htmd_commonmark_reading.specs.Markup.{Inlines, no_inlines, letters, formatted, link, image}
 use Rattle.htmd_commonmark_reading.specs.Brackets.{inlines}
 use Rattle.htmd_commonmark_reading.proofs.ExampleTexts.{plain}
+use lib.Utf8.{encode}
 
 -- `a` as a link to an address
 abbrev to : List ℕ → Inlines → Inlines
@@ -48,13 +48,13 @@ link_in_link = refl
 
 -- brackets bind tighter than emphasis
 pub brackets_first : inlines [] (codes "*c [d*](e) [*a](f)*")
-    ≡ formatted emphasis (letters (codes "c ") (link (codes "e") None (plain (codes "d*")) (letters (codes " ")
+    ≡ formatted Emphasis (letters (codes "c ") (link (codes "e") None (plain (codes "d*")) (letters (codes " ")
     (link (codes "f") None (plain (codes "*a")) no_inlines)))) no_inlines
 unfolding chars
 brackets_first = refl
 
 pub description : inlines [] (codes "!![c *d*](e)")
     ≡ letters (codes "!") (image (codes "e") None (letters (codes "c ")
-    (formatted emphasis (plain (codes "d")) no_inlines)) no_inlines)
+    (formatted Emphasis (plain (codes "d")) no_inlines)) no_inlines)
 unfolding chars
 description = refl

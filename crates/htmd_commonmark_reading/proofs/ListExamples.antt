@@ -1,18 +1,9 @@
 -- Worked rows of lists (CommonMark 0.31.2, 5.3) and tasks (GFM 0.29, 5.3). Each holds by computing.
 use Rattle.std.proofs.Common.{◌≡◌, refl, true, false, codes, None, Some}
 use Rattle.std.specs.Str.{chars}
-use Rattle.htmd_document.specs.Documents.{emphasis}
-use Rattle.htmd_commonmark_reading.specs.Markup.{
-  no_inlines,
-  paragraph,
-  thematic_break,
-  list,
-  block,
-  item,
-  no_items,
-  task,
-  formatted,
-}
+use Rattle.htmd_document.specs.declared.document.Format.TheVariants.{Emphasis}
+use Rattle.htmd_commonmark_reading.specs.Markup.{no_inlines, paragraph, thematic_break, list, block, item, no_items}
+use Rattle.htmd_commonmark_reading.specs.Markup.{task, formatted}
 use Rattle.htmd_commonmark_reading.specs.Reading.{read}
 use Rattle.htmd_commonmark_reading.proofs.ExampleTexts.{plain, text, one, two, and_item, one_item}
 
@@ -52,7 +43,7 @@ tight_at_end = refl
 
 pub tasks : read (codes "- [ ] a\n- [x] *b*\n- [x]\n- [y] c\n")
     ≡ one (list None true (and_item (paragraph (task false (plain (codes "a"))))
-    (and_item (paragraph (task true (formatted emphasis (plain (codes "b")) no_inlines)))
+    (and_item (paragraph (task true (formatted Emphasis (plain (codes "b")) no_inlines)))
     (and_item (text (codes "[x]")) (and_item (text (codes "[y] c")) no_items)))))
 unfolding chars
 tasks = refl

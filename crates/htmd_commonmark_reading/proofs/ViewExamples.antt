@@ -2,8 +2,9 @@
 use Rattle.std.proofs.Common.{◌≡◌, ℕ, refl, true, List, [], codes, None, Some}
 use Rattle.std.specs.Str.{chars}
 use Rattle.htmd_document.specs.Documents as document
-use Rattle.htmd_document.specs.Documents.{emphasis, strong, superscript, subscript}
-use Rattle.htmd_commonmark_reading.specs.Markup.{Inlines, no_inlines, letters, joined, formatted, code, link, image, line_break, raw}
+use Rattle.htmd_document.specs.declared.document.Format.TheVariants.{Emphasis, Strong, Superscript, Subscript}
+use Rattle.htmd_commonmark_reading.specs.Markup.{Inlines, no_inlines, letters, joined, formatted, code, link, image}
+use Rattle.htmd_commonmark_reading.specs.Markup.{line_break, raw}
 use Rattle.htmd_commonmark_reading.specs.Brackets.{inlines}
 use Rattle.htmd_commonmark_reading.specs.SeenMarkup.{seen_inlines}
 use Rattle.htmd_commonmark_reading.specs.Reading as reading
@@ -13,16 +14,16 @@ abbrev seen : List ℕ → Inlines
 seen s = seen_inlines (inlines [] s)
 
 pub formats : seen (codes "<em>a<sub>b</sub></em><br><code>c \\<</code>")
-    ≡ formatted emphasis (letters (codes "a") (formatted subscript (plain (codes "b")) no_inlines))
+    ≡ formatted Emphasis (letters (codes "a") (formatted Subscript (plain (codes "b")) no_inlines))
     (line_break (code (codes "c <") no_inlines))
 unfolding chars
 formats = refl
 
 -- a closing tag matches the last open one of its name; what matches nothing stays
 pub unmatched : seen (codes "<sup>a<em>b</sup>c</em> **<b>d</em>**")
-    ≡ formatted superscript (letters (codes "a") (raw (codes "<em>") (plain (codes "b")))) (letters (codes "c")
+    ≡ formatted Superscript (letters (codes "a") (raw (codes "<em>") (plain (codes "b")))) (letters (codes "c")
     (raw (codes "</em>") (letters (codes " ")
-    (formatted strong (raw (codes "<b>") (letters (codes "d") (raw (codes "</em>") no_inlines))) no_inlines))))
+    (formatted Strong (raw (codes "<b>") (letters (codes "d") (raw (codes "</em>") no_inlines))) no_inlines))))
 unfolding chars
 unmatched = refl
 
@@ -32,7 +33,7 @@ in_raw_code xs = raw (codes "<code>") (joined xs (raw (codes "</code>") no_inlin
 
 -- a line's end is a space of the text
 pub code_of_text : seen (codes "<sup><code>a\nb</code></sup>")
-    ≡ formatted superscript (code (codes "a b") no_inlines) no_inlines
+    ≡ formatted Superscript (code (codes "a b") no_inlines) no_inlines
 unfolding chars
 code_of_text = refl
 
@@ -47,8 +48,8 @@ unfolding chars
 code_with_a_link = refl
 
 pub code_with_formats : seen (codes "<code>a *b*</code><code><sup>c</sup></code>")
-    ≡ joined (in_raw_code (letters (codes "a ") (formatted emphasis (plain (codes "b")) no_inlines)))
-    (in_raw_code (formatted superscript (plain (codes "c")) no_inlines))
+    ≡ joined (in_raw_code (letters (codes "a ") (formatted Emphasis (plain (codes "b")) no_inlines)))
+    (in_raw_code (formatted Superscript (plain (codes "c")) no_inlines))
 unfolding chars
 code_with_formats = refl
 
@@ -73,9 +74,9 @@ description = refl
 
 pub document_of_text : reading.document (codes "*a* b<sup>c</sup>\n\n---\n")
     ≡ Some (document.block (document.paragraph
-    (document.inline (document.formatted emphasis (document.inline (document.text (codes "a")) document.no_inlines))
+    (document.inline (document.formatted Emphasis (document.inline (document.text (codes "a")) document.no_inlines))
     (document.inline (document.text (codes " b"))
-    (document.inline (document.formatted superscript (document.inline (document.text (codes "c")) document.no_inlines))
+    (document.inline (document.formatted Superscript (document.inline (document.text (codes "c")) document.no_inlines))
     document.no_inlines)))) (document.block document.thematic_break document.no_blocks))
 unfolding chars
 document_of_text = refl

@@ -4,24 +4,16 @@ use Rattle.std.specs.Prelude.{List, [], ◌∷◌, length, drop, reverse, codes,
 use Rattle.std.specs.List.{list_all, list_any}
 use Rattle.std.specs.Char.{is_ascii_digit, is_ascii_alphanumeric}
 use Rattle.std.specs.Str.{str_to_ascii_lowercase}
-use Rattle.htmd_grammar.specs.Characters.{
-  number_sign,
-  asterisk,
-  plus_sign,
-  hyphen,
-  slash,
-  less_than_sign,
-  greater_than_sign,
-  underscore,
-  grave_accent,
-  tilde,
-  is_one_of,
-}
-use Rattle.htmd_grammar.specs.CharacterClasses.{first_is, begins_with, holds_in_any_case, leading_run, behind_run, lacks, is_among}
-use Rattle.htmd_grammar.specs.References.{number}
+use Rattle.htmd_lexical.specs.Characters.{number_sign, asterisk, plus_sign, hyphen, slash, less_than_sign}
+use Rattle.htmd_lexical.specs.Characters.{greater_than_sign, underscore, grave_accent, tilde, is_one_of}
+use Rattle.htmd_lexical.specs.CharacterClasses.{first_is, begins_with, holds_in_any_case, leading_run, behind_run}
+use Rattle.htmd_lexical.specs.CharacterClasses.{lacks, is_among}
+use Rattle.htmd_lexical.specs.Numbers.{number}
 use Rattle.htmd_commonmark_reading.specs.Characters.{is_space_or_tab, past_blanks, stripped}
 use Rattle.htmd_commonmark_reading.specs.Lines.{Line, is_blank, is_blank_text, indent, cut, after_marker, marks}
-use Rattle.htmd_commonmark_reading.specs.Boxes.{ClosedBlock, headed, rule, html, no_closed_blocks, closed_block, Container, quoting, listing, paragraph, indented, fenced, raw, ClosedBlocks, Open, nothing, leaf, within, Box, box, joined}
+use Rattle.htmd_commonmark_reading.specs.Boxes.{ClosedBlock, headed, rule, html, no_closed_blocks, closed_block}
+use Rattle.htmd_commonmark_reading.specs.Boxes.{Container, quoting, listing, paragraph, indented, fenced, raw}
+use Rattle.htmd_commonmark_reading.specs.Boxes.{ClosedBlocks, Open, nothing, leaf, within, Box, box, joined}
 use Rattle.htmd_commonmark_reading.specs.RawTags.{begins_with_letter, open_tag, closing_tag, is_in_tag_name}
 
 -- What a line stands under: nothing that it could go on with, a paragraph, or a paragraph in a container that the line

@@ -3,8 +3,8 @@
 use Rattle.std.specs.Prelude.{ℕ, Bool, true, false, not, ◌&&◌, ◌||◌, if◌then◌else◌, nat_lt}
 use Rattle.std.specs.Prelude.{List, [], ◌∷◌, ◌++◌, length, Option, Some, None}
 use Rattle.htmd_document.specs.declared.document.Alignment.{Alignment}
-use Rattle.htmd_grammar.specs.Characters.{line_feed}
-use Rattle.htmd_grammar.specs.CharacterClasses.{is_empty, leading_run}
+use Rattle.htmd_lexical.specs.Characters.{line_feed}
+use Rattle.htmd_lexical.specs.CharacterClasses.{is_empty, leading_run}
 use Rattle.htmd_commonmark_reading.specs.Characters.{unescaped, is_white}
 use Rattle.htmd_commonmark_reading.specs.Lines.{is_blank_text}
 use Rattle.htmd_commonmark_reading.specs.LinkDefinitions.{Definition, Definitions, definitions}

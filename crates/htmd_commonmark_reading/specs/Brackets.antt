@@ -4,52 +4,17 @@ use Rattle.std.specs.Prelude.{ℕ, zero, suc, ◌+◌, ◌-◌, Bool, true, fals
 use Rattle.std.specs.Prelude.{if◌then◌else◌, List, [], ◌∷◌, ◌++◌, length, drop, take, codes, Option, Some, None}
 use Rattle.std.specs.Option.{option_or}
 use Rattle.std.specs.Str.{bytes_eq}
-use Rattle.htmd_grammar.specs.Characters.{
-  line_feed,
-  space,
-  exclamation_mark,
-  ampersand,
-  left_parenthesis,
-  right_parenthesis,
-  asterisk,
-  less_than_sign,
-  left_square_bracket,
-  backslash,
-  right_square_bracket,
-  underscore,
-  grave_accent,
-  tilde,
-}
-use Rattle.htmd_grammar.specs.CharacterClasses.{is_empty, first_is, begins_with, leading_run, behind_run}
-use Rattle.htmd_commonmark_reading.specs.Characters.{
-  Front,
-  Piece,
-  is_space_or_tab,
-  past_blanks,
-  escape,
-  referenced,
-  unescaped,
-}
+use Rattle.htmd_lexical.specs.Characters.{line_feed, space, exclamation_mark, ampersand, left_parenthesis}
+use Rattle.htmd_lexical.specs.Characters.{right_parenthesis, asterisk, less_than_sign, left_square_bracket, backslash}
+use Rattle.htmd_lexical.specs.Characters.{right_square_bracket, underscore, grave_accent, tilde}
+use Rattle.htmd_lexical.specs.CharacterClasses.{is_empty, first_is, begins_with, leading_run, behind_run}
+use Rattle.htmd_commonmark_reading.specs.Characters.{Front, Piece, is_space_or_tab, past_blanks, escape, referenced}
+use Rattle.htmd_commonmark_reading.specs.Characters.{unescaped}
 use Rattle.htmd_commonmark_reading.specs.BlockStarts.{is_same}
-use Rattle.htmd_commonmark_reading.specs.LinkDefinitions.{
-  Definition,
-  label,
-  label_key,
-  past_white,
-  destination,
-  title_after,
-}
-use Rattle.htmd_commonmark_reading.specs.Markup.{
-  Inlines,
-  no_inlines,
-  letter,
-  code,
-  link,
-  image,
-  line_break,
-  letters,
-  signs,
-}
+use Rattle.htmd_commonmark_reading.specs.LinkDefinitions.{Definition, label, label_key, past_white, destination}
+use Rattle.htmd_commonmark_reading.specs.LinkDefinitions.{title_after}
+use Rattle.htmd_commonmark_reading.specs.Markup.{Inlines, no_inlines, letter, code, link, image, line_break, letters}
+use Rattle.htmd_commonmark_reading.specs.Markup.{signs}
 use Rattle.htmd_commonmark_reading.specs.DelimiterRuns.{Token, finished, run, run_of, processed}
 use Rattle.htmd_commonmark_reading.specs.InlineTokens.{is_grave_accent, before_graves, in_one_line, code_text, angle}
 use Rattle.htmd_commonmark_reading.specs.InlineTokens as token

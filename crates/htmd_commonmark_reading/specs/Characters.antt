@@ -4,24 +4,17 @@ use Rattle.std.specs.Prelude.{ℕ, zero, suc, ◌+◌, Bool, true, false, not, �
 use Rattle.std.specs.Prelude.{if◌then◌else◌, List, [], ◌∷◌, ◌++◌, length, drop, reverse, slice_get, codes}
 use Rattle.std.specs.Prelude.{Option, Some, None}
 use Rattle.std.specs.Str.{chars}
-use Rattle.std.specs.Char.{encode_utf8, is_ascii_alphanumeric, is_ascii_digit, is_ascii_hexdigit, is_ascii_punctuation, is_ascii_whitespace}
+use Rattle.std.specs.Char.{encode_utf8, is_ascii_alphanumeric, is_ascii_digit, is_ascii_hexdigit, is_ascii_punctuation}
+use Rattle.std.specs.Char.{is_ascii_whitespace}
 use Rattle.unicode.specs.declared.properties.GeneralCategory.{GeneralCategory}
 use Rattle.unicode.specs.declared.properties.GeneralCategory.TheVariants.{SpaceSeparator}
 use Rattle.unicode.specs.declared.properties.GeneralCategoryGroup.TheVariants.{Punctuation, Symbol}
 use Rattle.unicode.specs.GeneralCategory.{general_category}
 use Rattle.unicode.specs.GeneralCategoryGroup.{in_group}
-use Rattle.htmd_grammar.specs.Characters.{
-  tab,
-  line_feed,
-  space,
-  number_sign,
-  ampersand,
-  semicolon,
-  backslash,
-  is_one_of,
-}
-use Rattle.htmd_grammar.specs.CharacterClasses.{is_empty, first_is, leading_run, behind_run}
-use Rattle.htmd_grammar.specs.References.{number, is_between}
+use Rattle.htmd_lexical.specs.Characters.{tab, line_feed, space, number_sign, ampersand, semicolon, backslash}
+use Rattle.htmd_lexical.specs.Characters.{is_one_of}
+use Rattle.htmd_lexical.specs.CharacterClasses.{is_empty, first_is, leading_run, behind_run}
+use Rattle.htmd_lexical.specs.Numbers.{number, is_between}
 use Rattle.htmd_html5_tokens.specs.NamedReferences.{named}
 
 -- ---- classes (2.1)

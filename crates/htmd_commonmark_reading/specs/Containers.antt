@@ -1,41 +1,14 @@
 -- How containers take lines, and lazy continuation lines (CommonMark 0.31.2, 5.1, 5.2 and appendix, phase 1).
 use Rattle.std.specs.Prelude.{ℕ, Bool, true, false, not, ◌&&◌, nat_le, if◌then◌else◌, List, [], ◌∷◌}
 use Rattle.std.specs.Prelude.{Option, Some, None}
-use Rattle.htmd_grammar.specs.Characters.{greater_than_sign}
-use Rattle.htmd_grammar.specs.CharacterClasses.{first_is}
+use Rattle.htmd_lexical.specs.Characters.{greater_than_sign}
+use Rattle.htmd_lexical.specs.CharacterClasses.{first_is}
 use Rattle.htmd_commonmark_reading.specs.Lines.{Line, is_blank, indent, cut}
-use Rattle.htmd_commonmark_reading.specs.Boxes.{
-  ClosedBlocks,
-  no_closed_blocks,
-  closed_block,
-  Container,
-  quoting,
-  listing,
-  paragraph,
-  Open,
-  nothing,
-  leaf,
-  within,
-  Box,
-  box,
-  joined,
-  closed,
-  shut,
-  was_blank,
-  in_paragraph,
-}
-use Rattle.htmd_commonmark_reading.specs.BlockStarts.{
-  After,
-  alone,
-  lazy,
-  Start,
-  no_start,
-  whole,
-  first_line,
-  started,
-  behind_quote,
-  within_box,
-}
+use Rattle.htmd_commonmark_reading.specs.Boxes.{ClosedBlocks, no_closed_blocks, closed_block, Container, quoting}
+use Rattle.htmd_commonmark_reading.specs.Boxes.{listing, paragraph, Open, nothing, leaf, within, Box, box, joined}
+use Rattle.htmd_commonmark_reading.specs.Boxes.{closed, shut, was_blank, in_paragraph}
+use Rattle.htmd_commonmark_reading.specs.BlockStarts.{After, alone, lazy, Start, no_start, whole, first_line, started}
+use Rattle.htmd_commonmark_reading.specs.BlockStarts.{behind_quote, within_box}
 use Rattle.htmd_commonmark_reading.specs.LeafBlocks.{begun, longer, on_leaf}
 
 -- ---- what a container takes of a line

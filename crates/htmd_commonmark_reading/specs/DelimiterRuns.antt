@@ -2,15 +2,12 @@
 -- 6.5), whose runs are one or two tildes.
 use Rattle.std.specs.Prelude.{ℕ, zero, suc, ◌+◌, ◌-◌, ◌%◌, Bool, true, false, not, ◌&&◌, ◌||◌, ◌==◌, nat_lt}
 use Rattle.std.specs.Prelude.{min, if◌then◌else◌, List, [], ◌∷◌, Option, Some, None}
-use Rattle.htmd_document.specs.Documents.{Format, emphasis, strong, deleted}
-use Rattle.htmd_grammar.specs.Characters.{underscore, tilde}
-use Rattle.htmd_grammar.specs.CharacterClasses.{behind_run}
-use Rattle.htmd_commonmark_reading.specs.Characters.{
-  is_unicode_white,
-  is_unicode_punctuation,
-  first_character,
-  last_character,
-}
+use Rattle.htmd_document.specs.declared.document.Format.{Format}
+use Rattle.htmd_document.specs.declared.document.Format.TheVariants.{Emphasis, Strong, Deleted}
+use Rattle.htmd_lexical.specs.Characters.{underscore, tilde}
+use Rattle.htmd_lexical.specs.CharacterClasses.{behind_run}
+use Rattle.htmd_commonmark_reading.specs.Characters.{is_unicode_white, is_unicode_punctuation, first_character}
+use Rattle.htmd_commonmark_reading.specs.Characters.{last_character}
 use Rattle.htmd_commonmark_reading.specs.Markup.{Inlines, no_inlines, formatted, joined, signs}
 
 -- ---- what a run may do
@@ -132,7 +129,7 @@ less r n = record r { unused = r.unused - n }
 
 -- what a match makes of its inside, by the sign and the number of signs that it uses (rules 13 and 14)
 abbrev pub format_of : ℕ → ℕ → Format
-format_of c n = if c == tilde then deleted else if n == 1 then emphasis else strong
+format_of c n = if c == tilde then Deleted else if n == 1 then Emphasis else Strong
 
 -- the stack after a match that uses so many signs of both
 abbrev pub matched : Match → ℕ → Stack

@@ -4,18 +4,9 @@ use Rattle.std.specs.Prelude.{if◌then◌else◌, List, [], ◌∷◌, ◌++◌
 use Rattle.std.specs.Prelude.{Option, Some, None}
 use Rattle.std.specs.List.{list_all, slice_split}
 use Rattle.std.specs.Char.{is_ascii_alphanumeric}
-use Rattle.htmd_grammar.specs.Characters.{
-  line_feed,
-  space,
-  hyphen,
-  full_stop,
-  colon,
-  less_than_sign,
-  greater_than_sign,
-  grave_accent,
-  is_one_of,
-}
-use Rattle.htmd_grammar.specs.CharacterClasses.{is_empty, first_is, leading_run, behind_run}
+use Rattle.htmd_lexical.specs.Characters.{line_feed, space, hyphen, full_stop, colon, less_than_sign, greater_than_sign}
+use Rattle.htmd_lexical.specs.Characters.{grave_accent, is_one_of}
+use Rattle.htmd_lexical.specs.CharacterClasses.{is_empty, first_is, leading_run, behind_run}
 use Rattle.htmd_commonmark_reading.specs.Characters.{dereferenced, in_front_of}
 use Rattle.htmd_commonmark_reading.specs.Markup.{Inlines, no_inlines, link, raw, letters}
 use Rattle.htmd_commonmark_reading.specs.RawTags.{raw_tag, begins_with_letter}

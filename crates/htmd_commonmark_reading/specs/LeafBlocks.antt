@@ -3,45 +3,17 @@ use Rattle.std.specs.Prelude.{ℕ, Bool, true, false, ◌&&◌, ◌==◌, ◌||�
 use Rattle.std.specs.Prelude.{List, [], ◌∷◌, ◌++◌, length, Option, Some, None}
 use Rattle.std.specs.List.{list_all}
 use Rattle.htmd_document.specs.declared.document.Alignment.{Alignment}
-use Rattle.htmd_grammar.specs.Characters.{hyphen, equals_sign}
-use Rattle.htmd_grammar.specs.CharacterClasses.{is_empty, first_is}
+use Rattle.htmd_lexical.specs.Characters.{hyphen, equals_sign}
+use Rattle.htmd_lexical.specs.CharacterClasses.{is_empty, first_is}
 use Rattle.htmd_commonmark_reading.specs.Characters.{past_blanks, stripped}
 use Rattle.htmd_commonmark_reading.specs.Lines.{Line, is_blank, indent, cut}
 use Rattle.htmd_commonmark_reading.specs.LinkDefinitions.{Definitions, definitions}
 use Rattle.htmd_commonmark_reading.specs.Tables.{cells, delimiter_row}
-use Rattle.htmd_commonmark_reading.specs.Boxes.{
-  text,
-  headed,
-  ClosedBlocks,
-  Leaf,
-  paragraph,
-  indented,
-  fenced,
-  raw,
-  table,
-  nothing,
-  leaf,
-  Box,
-  box,
-  joined,
-  joined_lines,
-  parts_of,
-  closed_leaf,
-  was_blank,
-}
-use Rattle.htmd_commonmark_reading.specs.BlockStarts.{
-  alone,
-  under,
-  is_same,
-  closes_fence,
-  has_end,
-  Start,
-  no_start,
-  whole,
-  first_line,
-  opened,
-  started,
-}
+use Rattle.htmd_commonmark_reading.specs.Boxes.{text, headed, ClosedBlocks, Leaf, paragraph, indented, fenced, raw}
+use Rattle.htmd_commonmark_reading.specs.Boxes.{table, nothing, leaf, Box, box, joined, joined_lines, parts_of}
+use Rattle.htmd_commonmark_reading.specs.Boxes.{closed_leaf, was_blank}
+use Rattle.htmd_commonmark_reading.specs.BlockStarts.{alone, under, is_same, closes_fence, has_end, Start, no_start}
+use Rattle.htmd_commonmark_reading.specs.BlockStarts.{whole, first_line, opened, started}
 
 -- a box in which nothing is open, after a line that starts this
 abbrev pub begun : ClosedBlocks → Bool → Line → Start → Box

@@ -3,8 +3,8 @@ use Rattle.std.specs.Prelude.{ℕ, zero, suc, ◌+◌, ◌-◌, ◌%◌, Bool, t
 use Rattle.std.specs.Prelude.{List, [], ◌∷◌, ◌++◌, drop}
 use Rattle.std.specs.List.{list_all}
 use Rattle.std.specs.Char.{encode_utf8}
-use Rattle.htmd_grammar.specs.Characters.{null, tab, line_feed, carriage_return, space}
-use Rattle.htmd_grammar.specs.CharacterClasses.{first_is}
+use Rattle.htmd_lexical.specs.Characters.{null, tab, line_feed, carriage_return, space}
+use Rattle.htmd_lexical.specs.CharacterClasses.{first_is}
 use Rattle.htmd_commonmark_reading.specs.Characters.{is_space_or_tab, replacement_character}
 
 -- ---- the lines of a text

@@ -7,30 +7,12 @@ use Rattle.std.specs.Char.{to_ascii_lowercase}
 use Rattle.std.specs.Option.{option_or}
 use Rattle.std.specs.Str.{chars}
 use Rattle.unicode.specs.CaseFolding.{full_fold}
-use Rattle.htmd_grammar.specs.Characters.{
-  line_feed,
-  space,
-  quotation_mark,
-  apostrophe,
-  left_parenthesis,
-  right_parenthesis,
-  colon,
-  less_than_sign,
-  greater_than_sign,
-  left_square_bracket,
-  backslash,
-  right_square_bracket,
-}
-use Rattle.htmd_grammar.specs.CharacterClasses.{is_empty, first_is, behind_run, lacks}
-use Rattle.htmd_commonmark_reading.specs.Characters.{
-  Front,
-  is_white,
-  stripped_end,
-  past_blanks,
-  before_in_front,
-  begins_with_punctuation,
-  unescaped,
-}
+use Rattle.htmd_lexical.specs.Characters.{line_feed, space, quotation_mark, apostrophe, left_parenthesis}
+use Rattle.htmd_lexical.specs.Characters.{right_parenthesis, colon, less_than_sign, greater_than_sign}
+use Rattle.htmd_lexical.specs.Characters.{left_square_bracket, backslash, right_square_bracket}
+use Rattle.htmd_lexical.specs.CharacterClasses.{is_empty, first_is, behind_run, lacks}
+use Rattle.htmd_commonmark_reading.specs.Characters.{Front, is_white, stripped_end, past_blanks, before_in_front}
+use Rattle.htmd_commonmark_reading.specs.Characters.{begins_with_punctuation, unescaped}
 
 -- spaces, tabs and up to one line ending: no text has a blank line
 abbrev pub past_white : List ℕ → List ℕ

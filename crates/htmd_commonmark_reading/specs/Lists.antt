@@ -1,32 +1,16 @@
 -- The blocks that closed blocks are once all definitions are known (CommonMark 0.31.2, 5.3 and appendix, phase 2), and
 -- tasks (GFM 0.29, 5.3).
 use Rattle.std.specs.Prelude.{ℕ, Bool, false, not, ◌&&◌, ◌||◌, ◌==◌, if◌then◌else◌, List, [], ◌∷◌, ◌++◌}
-use Rattle.std.specs.Prelude.{drop, Option}
-use Rattle.std.specs.Prelude.{codes}
-use Rattle.htmd_grammar.specs.Characters.{left_square_bracket, right_square_bracket, space, is_one_of}
-use Rattle.htmd_grammar.specs.CharacterClasses.{behind_run}
+use Rattle.std.specs.Prelude.{drop, Option, codes}
+use Rattle.htmd_lexical.specs.Characters.{left_square_bracket, right_square_bracket, space, is_one_of}
+use Rattle.htmd_lexical.specs.CharacterClasses.{behind_run}
 use Rattle.htmd_commonmark_reading.specs.Characters.{is_space_or_tab, is_white}
-use Rattle.htmd_commonmark_reading.specs.Boxes.{Container, quoting, listing, ClosedBlock, ClosedBlocks, no_closed_blocks, closed_block}
+use Rattle.htmd_commonmark_reading.specs.Boxes.{Container, quoting, listing, ClosedBlock, ClosedBlocks}
+use Rattle.htmd_commonmark_reading.specs.Boxes.{no_closed_blocks, closed_block}
 use Rattle.htmd_commonmark_reading.specs.Boxes as closed
-use Rattle.htmd_commonmark_reading.specs.Markup.{
-  Inlines,
-  task,
-  Block,
-  paragraph,
-  heading,
-  code_block,
-  quote,
-  thematic_break,
-  list,
-  table,
-  html_block,
-  Blocks,
-  no_blocks,
-  block,
-  Items,
-  no_items,
-  item,
-}
+use Rattle.htmd_commonmark_reading.specs.Markup.{Inlines, task, Block, paragraph, heading, code_block, quote}
+use Rattle.htmd_commonmark_reading.specs.Markup.{thematic_break, list, table, html_block, Blocks, no_blocks, block}
+use Rattle.htmd_commonmark_reading.specs.Markup.{Items, no_items, item}
 use Rattle.htmd_commonmark_reading.specs.Brackets.{References, inlines}
 
 -- ---- definitions (4.7)

@@ -2,8 +2,8 @@
 -- and the rest; of text each byte is one.
 use Rattle.std.specs.Prelude.{ℕ, zero, suc, Bool, List, [], ◌∷◌, ◌++◌, Option}
 use Rattle.htmd_document.specs.declared.document.Alignment.{Alignment}
-use Rattle.htmd_document.specs.Documents.{Format}
-use Rattle.htmd_grammar.specs.Characters.{space}
+use Rattle.htmd_document.specs.declared.document.Format.{Format}
+use Rattle.htmd_lexical.specs.Characters.{space}
 
 pub data Inlines : Type 0 where
   no_inlines : Inlines

@@ -4,19 +4,9 @@ use Rattle.std.specs.Prelude.{ℕ, Bool, false, not, ◌&&◌, ◌||◌, ◌==�
 use Rattle.std.specs.Prelude.{List, [], ◌∷◌, ◌++◌, drop, codes, Option, Some, None}
 use Rattle.std.specs.Option.{option_or}
 use Rattle.std.specs.Char.{is_ascii_alphabetic, is_ascii_alphanumeric}
-use Rattle.htmd_grammar.specs.Characters.{
-  quotation_mark,
-  apostrophe,
-  hyphen,
-  slash,
-  colon,
-  equals_sign,
-  greater_than_sign,
-  question_mark,
-  underscore,
-  is_one_of,
-}
-use Rattle.htmd_grammar.specs.CharacterClasses.{first_is, begins_with, leading_run, behind_run}
+use Rattle.htmd_lexical.specs.Characters.{quotation_mark, apostrophe, hyphen, slash, colon, equals_sign}
+use Rattle.htmd_lexical.specs.Characters.{greater_than_sign, question_mark, underscore, is_one_of}
+use Rattle.htmd_lexical.specs.CharacterClasses.{first_is, begins_with, leading_run, behind_run}
 use Rattle.htmd_commonmark_reading.specs.Characters.{is_white, one_more, in_front_of}
 
 -- ---- classes

@@ -4,40 +4,15 @@
 use Rattle.std.specs.Prelude.{ℕ, Bool, true, false, if◌then◌else◌, List, [], ◌∷◌, ◌++◌, codes}
 use Rattle.std.specs.Prelude.{Option, Some, None}
 use Rattle.std.specs.Str.{bytes_eq}
-use Rattle.htmd_document.specs.Documents.{Format, emphasis, strong, deleted, superscript, subscript}
+use Rattle.htmd_document.specs.declared.document.Format.{Format}
+use Rattle.htmd_document.specs.declared.document.Format.TheVariants.{Emphasis, Strong, Deleted, Superscript, Subscript}
 use Rattle.htmd_document.specs.Documents as document
-use Rattle.htmd_grammar.specs.Characters.{space}
-use Rattle.htmd_grammar.specs.CharacterClasses.{is_among}
-use Rattle.htmd_commonmark_reading.specs.Markup.{
-  Inlines,
-  no_inlines,
-  letter,
-  code,
-  formatted,
-  link,
-  image,
-  line_break,
-  task,
-  raw,
-  Block,
-  paragraph,
-  heading,
-  code_block,
-  quote,
-  thematic_break,
-  list,
-  table,
-  html_block,
-  Blocks,
-  no_blocks,
-  block,
-  Items,
-  no_items,
-  item,
-  joined,
-  letters,
-  plain_text,
-}
+use Rattle.htmd_lexical.specs.Characters.{space}
+use Rattle.htmd_lexical.specs.CharacterClasses.{is_among}
+use Rattle.htmd_commonmark_reading.specs.Markup.{Inlines, no_inlines, letter, code, formatted, link, image, line_break}
+use Rattle.htmd_commonmark_reading.specs.Markup.{task, raw, Block, paragraph, heading, code_block, quote}
+use Rattle.htmd_commonmark_reading.specs.Markup.{thematic_break, list, table, html_block, Blocks, no_blocks, block}
+use Rattle.htmd_commonmark_reading.specs.Markup.{Items, no_items, item, joined, letters, plain_text}
 
 -- ---- tags that are seen
 
@@ -52,11 +27,11 @@ pub record Tag : Type 0 where
 
 abbrev pub tags : List Tag
 tags =
-    record { name = codes "em"; pair = format_pair emphasis }
-    ∷ record { name = codes "strong"; pair = format_pair strong }
-    ∷ record { name = codes "del"; pair = format_pair deleted }
-    ∷ record { name = codes "sup"; pair = format_pair superscript }
-    ∷ record { name = codes "sub"; pair = format_pair subscript }
+    record { name = codes "em"; pair = format_pair Emphasis }
+    ∷ record { name = codes "strong"; pair = format_pair Strong }
+    ∷ record { name = codes "del"; pair = format_pair Deleted }
+    ∷ record { name = codes "sup"; pair = format_pair Superscript }
+    ∷ record { name = codes "sub"; pair = format_pair Subscript }
     ∷ record { name = codes "code"; pair = code_pair }
     ∷ []
 

@@ -2,8 +2,8 @@
 use Rattle.std.specs.Prelude.{ℕ, zero, suc, Bool, true, false, not, ◌&&◌, ◌==◌, if◌then◌else◌}
 use Rattle.std.specs.Prelude.{List, [], ◌∷◌, reverse, Option, Some, None}
 use Rattle.htmd_document.specs.declared.document.Alignment.{Alignment}
-use Rattle.htmd_grammar.specs.Characters.{hyphen, colon, backslash, vertical_bar}
-use Rattle.htmd_grammar.specs.CharacterClasses.{is_empty, first_is, behind_run}
+use Rattle.htmd_lexical.specs.Characters.{hyphen, colon, backslash, vertical_bar}
+use Rattle.htmd_lexical.specs.CharacterClasses.{is_empty, first_is, behind_run}
 use Rattle.htmd_commonmark_reading.specs.Characters.{stripped}
 use Rattle.htmd_commonmark_reading.specs.Lines.{is_blank_text, onto_first}
 

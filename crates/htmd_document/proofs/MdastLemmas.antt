@@ -1,5 +1,6 @@
 -- Lemmas on documents in the form of mdast.
-use Rattle.std.proofs.Common.{◌≡◌, ℕ, zero, suc, ◌+◌, ◌<◌, ◌&&◌, ◌==◌, Bool, true, false, List, [], ◌∷◌, ◌++◌, map, length}
+use Rattle.std.proofs.Common.{◌≡◌, ℕ, zero, suc, ◌+◌, ◌<◌, ◌&&◌, ◌==◌, Bool, true, false, List, [], ◌∷◌, ◌++◌, map}
+use Rattle.std.proofs.Common.{length}
 use Rattle.std.proofs.Common.{if◌then◌else◌, ◌≤◌, Option, Vec, Global, codes, take, get_or, refl, sym, ◌∙◌, ap, arith}
 use Rattle.std.proofs.lemmas.Bool.Decides.{nat_tests}
 use Rattle.std.proofs.lemmas.List.{length-map, length-take-le, take_all}
@@ -7,11 +8,11 @@ use Rattle.serde_json.specs.Data as json
 use Rattle.serde_json.specs.Data.{Data}
 use Rattle.serde_json.specs.View.{view, items_of, items_view}
 use Rattle.serde_json.specs.declared.value.Value as declared_value
-use Rattle.htmd_grammar.specs.Characters.{space}
+use Rattle.htmd_lexical.specs.Characters.{space}
 use Rattle.htmd_document.specs.Mdast.{without_space}
 use Rattle.htmd_document.specs.declared.document.Inline as declared_inline
-use Rattle.htmd_document.specs.declared.document.Inline.TheVariants.{Emphasis, Strong, Deleted, Superscript, Subscript}
-use Rattle.htmd_document.specs.declared.document.Inline.TheVariants.{rolls-Emphasis, rolls-Strong, rolls-Deleted, rolls-Superscript, rolls-Subscript}
+use Rattle.htmd_document.specs.declared.document.Format.{Format}
+use Rattle.htmd_document.specs.declared.document.Inline.TheVariants.{Formatted, rolls-Formatted}
 use Rattle.htmd_document.specs.declared.document.Inline.TheFolds.{fold-roll-Inline}
 use Rattle.htmd_document.specs.declared.document.Inline.TheOpen.{Inline-F}
 use Rattle.htmd_document.specs.declared.document.Block.TheVariants.{rolls-List}
@@ -22,9 +23,10 @@ use Rattle.htmd_document.specs.declared.document.Block as declared_block
 use Rattle.htmd_document.specs.Documents as value
 use Rattle.htmd_document.specs.Documents.{Inline, Inlines, no_inlines, inline, Block, Blocks, no_blocks, block}
 use Rattle.htmd_document.specs.DocumentViews.{inline_step, inline_of, inlines_of, block_step, block_of, blocks_of}
-use Rattle.htmd_document.specs.Mdast.{beside, one_item, with_value, between, node_data, children_data, inlines_data, block_data, within_data}
+use Rattle.htmd_document.specs.Mdast.{beside, one_item, with_value, between, node_data, children_data, inlines_data}
+use Rattle.htmd_document.specs.Mdast.{block_data, within_data}
 use Rattle.htmd_document.specs.Mdast.{blocks_data, items_data, item_data, checked_data}
-use Rattle.htmd_document.proofs.NestLemmas.{map-append, take-step}
+use Rattle.htmd_document.proofs.ValuesLemmas.{map-append, take-step}
 
 -- ---- values after others
 
@@ -203,28 +205,11 @@ items-step is_tight items i bs old new checked made children h e k c m p q =
 
 -- ---- an inline by its variant
 
-pub inline-emphasis : (xs : Vec declared_inline.Inline Global)
-    → inline_of (Emphasis xs) ≡ value.formatted value.emphasis (inlines_of xs.items)
-inline-emphasis xs = ap inline_of (sym (rolls-Emphasis xs))
-    ∙ fold-roll-Inline Inline inline_step (Inline-F.Emphasis xs)
-
-pub inline-strong : (xs : Vec declared_inline.Inline Global)
-    → inline_of (Strong xs) ≡ value.formatted value.strong (inlines_of xs.items)
-inline-strong xs = ap inline_of (sym (rolls-Strong xs)) ∙ fold-roll-Inline Inline inline_step (Inline-F.Strong xs)
-
-pub inline-deleted : (xs : Vec declared_inline.Inline Global)
-    → inline_of (Deleted xs) ≡ value.formatted value.deleted (inlines_of xs.items)
-inline-deleted xs = ap inline_of (sym (rolls-Deleted xs)) ∙ fold-roll-Inline Inline inline_step (Inline-F.Deleted xs)
-
-pub inline-superscript : (xs : Vec declared_inline.Inline Global)
-    → inline_of (Superscript xs) ≡ value.formatted value.superscript (inlines_of xs.items)
-inline-superscript xs =
-    ap inline_of (sym (rolls-Superscript xs)) ∙ fold-roll-Inline Inline inline_step (Inline-F.Superscript xs)
-
-pub inline-subscript : (xs : Vec declared_inline.Inline Global)
-    → inline_of (Subscript xs) ≡ value.formatted value.subscript (inlines_of xs.items)
-inline-subscript xs =
-    ap inline_of (sym (rolls-Subscript xs)) ∙ fold-roll-Inline Inline inline_step (Inline-F.Subscript xs)
+pub inline-formatted : (format : Format) (xs : Vec declared_inline.Inline Global)
+    → inline_of (Formatted format xs) ≡ value.formatted format (inlines_of xs.items)
+inline-formatted format xs =
+    ap inline_of (sym (rolls-Formatted format xs))
+    ∙ fold-roll-Inline Inline inline_step (Inline-F.Formatted format xs)
 
 pub block-list : (start : Option ℕ) (tight : Bool) (items : Vec (Vec declared_block.Block Global) Global)
     → block_of (built_block.List start tight items)

@@ -9,10 +9,12 @@ use Rattle.htmd_document.specs.declared.document.Alignment.{Alignment}
 use Rattle.htmd_document.specs.declared.document.Alignment.TheVariants as aligned
 use Rattle.htmd_document.specs.Documents as value
 use Rattle.htmd_document.specs.Documents.{Inlines, no_inlines, inline, Inline, text, code, formatted, link, image}
-use Rattle.htmd_document.specs.Documents.{line_break, task, emphasis, strong, deleted, superscript, subscript}
-use Rattle.htmd_document.specs.Documents.{Blocks, no_blocks, block, Block, paragraph, heading, code_block, quote}
+use Rattle.htmd_document.specs.declared.document.Format.{Format}
+use Rattle.htmd_document.specs.declared.document.Format.TheVariants.{Emphasis, Strong, Deleted, Superscript, Subscript}
+use Rattle.htmd_document.specs.Documents.{line_break, task, Blocks, no_blocks, block, Block, paragraph, heading}
+use Rattle.htmd_document.specs.Documents.{code_block, quote}
 use Rattle.htmd_document.specs.Documents.{thematic_break, table}
-use Rattle.htmd_document.specs.Mdast.{beside, parent, text_or_null, node_data, children_data, inlines_data}
+use Rattle.htmd_document.specs.Mdast.{beside, parent, text_or_null, format_data, node_data, children_data, inlines_data}
 use Rattle.htmd_document.specs.Mdast.{cell_data, row_data, alignment_data, without_box, checked_data}
 use Rattle.htmd_document.specs.Mdast.{block_data, within_data, blocks_data, items_data}
 use Rattle.htmd_document.specs.Mdast.{number_or_null, root_data, root_data_with}
@@ -43,15 +45,19 @@ start-plain : (start : Option ℕ) → has_float (number_or_null start) ≡ fals
 start-plain None = refl
 start-plain (Some n) = refl
 
+format-plain : (format : Format) (cs : json.Items) → items_have_float cs ≡ false
+    → items_have_float (format_data format cs) ≡ false
+format-plain Emphasis cs h = rw h refl
+format-plain Strong cs h = rw h refl
+format-plain Deleted cs h = rw h refl
+format-plain Superscript cs h = beside-plain cs _ h refl
+format-plain Subscript cs h = beside-plain cs _ h refl
+
 node-plain : (x : Inline) (cs : json.Items) → items_have_float cs ≡ false
     → items_have_float (node_data x cs) ≡ false
 node-plain (text s) cs h = refl
 node-plain (code s) cs h = refl
-node-plain (formatted emphasis xs) cs h = rw h refl
-node-plain (formatted strong xs) cs h = rw h refl
-node-plain (formatted deleted xs) cs h = rw h refl
-node-plain (formatted superscript xs) cs h = beside-plain cs _ h refl
-node-plain (formatted subscript xs) cs h = beside-plain cs _ h refl
+node-plain (formatted format xs) cs h = format-plain format cs h
 node-plain (link address title xs) cs h = rw (h, title-plain title) refl
 node-plain (image address title description) cs h = rw (title-plain title) refl
 node-plain line_break cs h = refl

@@ -15,11 +15,7 @@ bytes_of_title title = option_map string_bytes title
 abbrev pub inline_step : Inline-F value.Inline → value.Inline
 inline_step (Inline-F.Text s) = value.text (string_bytes s)
 inline_step (Inline-F.Code s) = value.code (string_bytes s)
-inline_step (Inline-F.Emphasis xs) = value.formatted value.emphasis (value.inlines_of xs.items)
-inline_step (Inline-F.Strong xs) = value.formatted value.strong (value.inlines_of xs.items)
-inline_step (Inline-F.Deleted xs) = value.formatted value.deleted (value.inlines_of xs.items)
-inline_step (Inline-F.Superscript xs) = value.formatted value.superscript (value.inlines_of xs.items)
-inline_step (Inline-F.Subscript xs) = value.formatted value.subscript (value.inlines_of xs.items)
+inline_step (Inline-F.Formatted format xs) = value.formatted format (value.inlines_of xs.items)
 inline_step (Inline-F.Link address title xs) =
     value.link (string_bytes address) (bytes_of_title title) (value.inlines_of xs.items)
 inline_step (Inline-F.Image address title description) =

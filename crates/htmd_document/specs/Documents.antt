@@ -1,14 +1,7 @@
 -- Documents: what a reader sees of a page. A text is the list of its UTF-8 bytes.
 use Rattle.std.specs.Prelude.{ℕ, Bool, List, [], ◌∷◌, Option}
 use Rattle.htmd_document.specs.declared.document.Alignment.{Alignment}
-
--- what can stand around inlines, links aside
-pub data Format : Type 0 where
-  emphasis : Format
-  strong : Format
-  deleted : Format
-  superscript : Format
-  subscript : Format
+use Rattle.htmd_document.specs.declared.document.Format.{Format}
 
 mutual
   -- a part of a line of text

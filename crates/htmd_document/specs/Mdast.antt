@@ -1,14 +1,17 @@
 -- A document in the form of mdast 4, as JSON. The members of an object stand in the order of their keys.
-use Rattle.std.specs.Prelude.{ℕ, Bool, true, false, not, List, [], ◌∷◌, ◌==◌, map, codes, Option, Some, None, if◌then◌else◌}
+use Rattle.std.specs.Prelude.{ℕ, Bool, true, false, not, List, [], ◌∷◌, ◌==◌, map, codes, Option, Some, None}
+use Rattle.std.specs.Prelude.{if◌then◌else◌}
 use Rattle.serde_json.specs.Data as json
 use Rattle.serde_json.specs.View.{items_of}
 use Rattle.serde_json.specs.Written.{compact_text}
 use Rattle.serde_json.specs.Data.{Data, null, boolean, number, unsigned, string, array, object}
-use Rattle.htmd_grammar.specs.Characters.{space}
+use Rattle.htmd_lexical.specs.Characters.{space}
 use Rattle.htmd_document.specs.Documents as value
 use Rattle.htmd_document.specs.Documents.{Inlines, no_inlines, inline, Inline, text, code, formatted, link, image}
-use Rattle.htmd_document.specs.Documents.{line_break, task, emphasis, strong, deleted, superscript, subscript}
-use Rattle.htmd_document.specs.Documents.{Blocks, no_blocks, block, Block, paragraph, heading, code_block, quote}
+use Rattle.htmd_document.specs.declared.document.Format.{Format}
+use Rattle.htmd_document.specs.declared.document.Format.TheVariants.{Emphasis, Strong, Deleted, Superscript, Subscript}
+use Rattle.htmd_document.specs.Documents.{line_break, task, Blocks, no_blocks, block, Block, paragraph, heading}
+use Rattle.htmd_document.specs.Documents.{code_block, quote}
 use Rattle.htmd_document.specs.Documents.{thematic_break, table}
 use Rattle.htmd_document.specs.declared.document.Alignment.{Alignment}
 use Rattle.htmd_document.specs.declared.document.Alignment.TheVariants as aligned
@@ -72,15 +75,19 @@ between before children after =
 abbrev pub box_text : Bool → List ℕ
 box_text is_checked = if is_checked then codes "[x]" else codes "[ ]"
 
--- an inline, by what stands in it; what mdast has no node for stands between two pieces of HTML
+-- a format, by what stands in it; what mdast has no node for stands between two pieces of HTML
+abbrev pub format_data : Format → json.Items → json.Items
+format_data Emphasis children = one_item (parent (codes "emphasis") children)
+format_data Strong children = one_item (parent (codes "strong") children)
+format_data Deleted children = one_item (parent (codes "delete") children)
+format_data Superscript children = between (codes "<sup>") children (codes "</sup>")
+format_data Subscript children = between (codes "<sub>") children (codes "</sub>")
+
+-- an inline, by what stands in it
 abbrev pub node_data : Inline → json.Items → json.Items
 node_data (text s) children = one_item (with_value (codes "text") s)
 node_data (code s) children = one_item (with_value (codes "inlineCode") s)
-node_data (formatted emphasis xs) children = one_item (parent (codes "emphasis") children)
-node_data (formatted strong xs) children = one_item (parent (codes "strong") children)
-node_data (formatted deleted xs) children = one_item (parent (codes "delete") children)
-node_data (formatted superscript xs) children = between (codes "<sup>") children (codes "</sup>")
-node_data (formatted subscript xs) children = between (codes "<sub>") children (codes "</sub>")
+node_data (formatted format xs) children = format_data format children
 node_data (link address title xs) children = one_item (link_data address title children)
 node_data (image address title description) children = one_item (image_data address title description)
 node_data line_break children = one_item (bare (codes "break"))

@@ -30,26 +30,31 @@ pub enum Block {
     List {
         start: Option<u32>,
         tight: bool,
-        items: Vec<Vec<Block>>,
+        items: Vec<ItemContent>,
     },
     /// A header and rows of cells, each with one cell for each column, and how the columns are aligned.
     Table {
         alignments: Vec<Alignment>,
-        header: Vec<Vec<Inline>>,
-        rows: Vec<Vec<Vec<Inline>>>,
+        header: RowContent,
+        rows: Vec<RowContent>,
     },
 }
+
+/// What is in an item of a list.
+pub type ItemContent = Vec<Block>;
+
+/// What is in a cell of a table.
+pub type CellContent = Vec<Inline>;
+
+/// What is in the cells of a row of a table.
+pub type RowContent = Vec<CellContent>;
 
 /// A part of a line of text.
 #[derive(Drop)]
 pub enum Inline {
     Text(String),
     Code(String),
-    Emphasis(Vec<Inline>),
-    Strong(Vec<Inline>),
-    Deleted(Vec<Inline>),
-    Superscript(Vec<Inline>),
-    Subscript(Vec<Inline>),
+    Formatted(Format, Vec<Inline>),
     Link {
         address: String,
         title: Option<String>,
@@ -64,6 +69,16 @@ pub enum Inline {
     LineBreak,
     /// The box at the beginning of a task, and whether it is checked.
     Task(bool),
+}
+
+/// What can be around inlines, links aside.
+#[derive(Debug, Clone, Copy, PartialEq, Eq)]
+pub enum Format {
+    Emphasis,
+    Strong,
+    Deleted,
+    Superscript,
+    Subscript,
 }
 
 /// How the cells of a column are aligned.

@@ -2,11 +2,12 @@
 ghost use Rattle.std.specs.Prelude.{◌≡◌, true, if◌then◌else◌, IfOk, map, string_bytes, codes};
 ghost use Rattle.serde_json.specs.View.{view, items_of, items_view};
 ghost use Rattle.serde_json.specs.Written.{compact_text};
-ghost use Rattle.htmd_document.specs.DocumentViews.{inline_of, inlines_of, block_of, blocks_of, document_of, bytes_of_title};
+ghost use Rattle.htmd_document.specs.DocumentViews.{inline_of, inlines_of, block_of, blocks_of, document_of};
+ghost use Rattle.htmd_document.specs.DocumentViews.{bytes_of_title};
 ghost use Rattle.htmd_document.specs.Documents as value;
 ghost use Rattle.htmd_document.specs.Mdast as spec;
 
-use crate::document::{Alignment, Block, Document, Inline};
+use crate::document::{Alignment, Block, CellContent, Document, Format, Inline, RowContent};
 use serde_json::{Value, json};
 use std::alloc::{AllocError, Global};
 
@@ -130,6 +131,25 @@ fn push_between(
     Ok(())
 }
 
+/// Appends a format, by what is in it.
+fn push_format(
+    alloc: Global,
+    out: &mut Vec<Value>,
+    format: Format,
+    children: Vec<Value>,
+) -> Result<(), AllocError>
+    ensures { IfOk result (λ _. items_view out.new.items
+        ≡ spec.beside (items_view out.old.items) (spec.format_data format (items_view children.items))) }
+{
+    match format {
+        Format::Emphasis => push_value(out, parent(alloc, "emphasis", children)?),
+        Format::Strong => push_value(out, parent(alloc, "strong", children)?),
+        Format::Deleted => push_value(out, parent(alloc, "delete", children)?),
+        Format::Superscript => push_between(alloc, out, "<sup>", children, "</sup>"),
+        Format::Subscript => push_between(alloc, out, "<sub>", children, "</sub>"),
+    }
+}
+
 /// Appends an inline, by what is in it.
 fn push_node(
     alloc: Global,
@@ -144,11 +164,7 @@ fn push_node(
     match inline {
         Inline::Text(text) => push_value(out, with_value(alloc, "text", text)?),
         Inline::Code(text) => push_value(out, with_value(alloc, "inlineCode", text)?),
-        Inline::Emphasis(_) => push_value(out, parent(alloc, "emphasis", children)?),
-        Inline::Strong(_) => push_value(out, parent(alloc, "strong", children)?),
-        Inline::Deleted(_) => push_value(out, parent(alloc, "delete", children)?),
-        Inline::Superscript(_) => push_between(alloc, out, "<sup>", children, "</sup>"),
-        Inline::Subscript(_) => push_between(alloc, out, "<sub>", children, "</sub>"),
+        Inline::Formatted(format, _) => push_format(alloc, out, *format, children),
         Inline::Link { address, title, .. } => {
             push_value(out, link(alloc, address, title, children)?)
         }
@@ -170,12 +186,9 @@ fn children_of(alloc: Global, inline: &Inline) -> Result<Vec<Value>, AllocError>
     ensures { IfOk result (λ vs. items_view vs.items ≡ spec.children_data (inline_of inline.now)) }
 {
     match inline {
-        Inline::Emphasis(content) => inlines_values(alloc, content),
-        Inline::Strong(content) => inlines_values(alloc, content),
-        Inline::Deleted(content) => inlines_values(alloc, content),
-        Inline::Superscript(content) => inlines_values(alloc, content),
-        Inline::Subscript(content) => inlines_values(alloc, content),
-        Inline::Link { content, .. } => inlines_values(alloc, content),
+        Inline::Formatted(_, content) | Inline::Link { content, .. } => {
+            inlines_values(alloc, content)
+        }
         _ => Ok(Vec::new(alloc)),
     }
 }
@@ -200,7 +213,7 @@ fn around(alloc: Global, kind: &str, content: &[Inline]) -> Result<Value, AllocE
     parent(alloc, kind, children)
 }
 
-fn row(alloc: Global, cells: &[Vec<Inline>]) -> Result<Value, AllocError>
+fn row(alloc: Global, cells: &[CellContent]) -> Result<Value, AllocError>
     ensures { IfOk result (λ v. view v ≡ spec.row_data (map (λ cell. inlines_of cell.items) cells.now)) }
 {
     let mut children = Vec::with_capacity(alloc, cells.len())?;
@@ -240,8 +253,8 @@ fn table_node(alloc: Global, align: Vec<Value>, children: Vec<Value>) -> Result<
 fn table(
     alloc: Global,
     alignments: &[Alignment],
-    header: &[Vec<Inline>],
-    rows: &[Vec<Vec<Inline>>],
+    header: &[CellContent],
+    rows: &[RowContent],
 ) -> Result<Value, AllocError>
     ensures { IfOk result (λ v. view v ≡ spec.table_data alignments.now
         (map (λ cell. inlines_of cell.items) header.now)

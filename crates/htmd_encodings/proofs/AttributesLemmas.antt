@@ -2,11 +2,11 @@
 use Rattle.std.proofs.Common.{◌≡◌, ℕ, zero, suc, ◌+◌, ◌-◌, ◌<◌, ◌≤◌, true, false, List, [], ◌∷◌, length, take}
 use Rattle.std.proofs.Common.{drop, refl, sym, ◌∙◌, ap, arith, length-drop, Some, None}
 use Rattle.std.specs.Prelude.{◌==◌}
-use Rattle.htmd_grammar.specs.WhiteSpace.{is_ascii_white_space}
-use Rattle.htmd_grammar.proofs.Cases.{test}
-use Rattle.htmd_grammar.specs.CharacterClasses.{is_empty, first_is, leading_run, behind_run}
-use Rattle.htmd_grammar.specs.TagReading.{TagPart, malformed, tag_end, attribute, is_other, quoted_value}
-use Rattle.htmd_grammar.proofs.RunsLemmas.{behind_within, run_within, take_run, drop_run}
+use Rattle.htmd_lexical.specs.WhiteSpace.{is_ascii_white_space}
+use Rattle.htmd_lexical.proofs.Cases.{test}
+use Rattle.htmd_lexical.specs.CharacterClasses.{is_empty, first_is, leading_run, behind_run}
+use Rattle.htmd_lexical.specs.TagReading.{TagPart, malformed, tag_end, attribute, is_other, quoted_value}
+use Rattle.htmd_lexical.proofs.RunsLemmas.{behind_within, run_within, take_run, drop_run}
 use Rattle.htmd_encodings.specs.declared.attributes.Attributes.{Attributes}
 use Rattle.htmd_encodings.specs.Attributes.{is_gap_byte, is_name_byte, is_unquoted_byte}
 use Rattle.htmd_encodings.specs.Attributes.{value_part, after_name, after_gap, next_part}

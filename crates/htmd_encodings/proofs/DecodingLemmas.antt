@@ -12,7 +12,7 @@ use Rattle.htmd_encodings.specs.declared.encodings.Encoding.TheVariants.{Utf8}
 use Rattle.htmd_encodings.specs.declared.encodings.Named.{Named}
 use Rattle.htmd_encodings.specs.declared.encodings.Named.TheVariants.{Supported}
 use Rattle.htmd_encodings.specs.Decoding.{believed, outweighs_utf8, said_anywhere, said_or_default}
-use Rattle.htmd_grammar.proofs.Cases.{test}
+use Rattle.htmd_lexical.proofs.Cases.{test}
 use Rattle.htmd_encodings.specs.Utf16.{code_unit, code_units_after}
 
 -- one code unit more

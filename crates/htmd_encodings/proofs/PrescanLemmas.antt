@@ -1,15 +1,16 @@
 -- The search goes on from ever shorter bytes.
 use Rattle.std.proofs.Common.{◌≡◌, ℕ, zero, suc, ◌<◌, ◌≤◌, ◌&&◌, ◌||◌, List, [], ◌∷◌, length, drop, refl}
 use Rattle.std.proofs.Common.{◌∙◌, ap, arith, length-drop, Option, Some, None, codes}
-use Rattle.htmd_grammar.proofs.Cases.{test}
-use Rattle.htmd_grammar.proofs.RunsLemmas.{behind_within}
-use Rattle.htmd_grammar.specs.CharacterClasses.{behind_run, begins_in_any_case, begins_with, first_is}
-use Rattle.htmd_grammar.specs.Characters.{exclamation_mark, question_mark, slash, less_than_sign, greater_than_sign}
-use Rattle.htmd_grammar.specs.TagReading.{is_other}
+use Rattle.htmd_lexical.proofs.Cases.{test}
+use Rattle.htmd_lexical.proofs.RunsLemmas.{behind_within}
+use Rattle.htmd_lexical.specs.CharacterClasses.{behind_run, begins_in_any_case, begins_with, first_is}
+use Rattle.htmd_lexical.specs.Characters.{exclamation_mark, question_mark, slash, less_than_sign, greater_than_sign}
+use Rattle.htmd_lexical.specs.TagReading.{is_other}
 use Rattle.htmd_encodings.specs.declared.encodings.Named.{Named}
 use Rattle.htmd_encodings.specs.Attributes.{Tag, tag, is_unquoted_byte}
 use Rattle.htmd_encodings.specs.Declarations.{in_attributes}
-use Rattle.htmd_encodings.specs.Prescan.{Found, said, onward, said_or, found_in_meta, behind_tag, begins_with_gap, is_tag}
+use Rattle.htmd_encodings.specs.Prescan.{Found, said, onward, said_or, found_in_meta, behind_tag, begins_with_gap}
+use Rattle.htmd_encodings.specs.Prescan.{is_tag}
 use Rattle.htmd_encodings.specs.Prescan.{found_after, after_sign, search_found, search_at, search_within}
 use Rattle.htmd_encodings.proofs.AttributesLemmas.{size_of_rest, tag_size}
 use Rattle.htmd_encodings.proofs.RunsLemmas.{after_first_within}

@@ -1,25 +1,9 @@
--- How bytes begin, and what follows the first of some bytes.
-use Rattle.std.proofs.Common.{◌≡◌, ℕ, ◌<◌, ◌≤◌, true, false, List, [], ◌∷◌, length, drop, refl, arith}
+-- What follows the first of some bytes.
+use Rattle.std.proofs.Common.{◌≡◌, ℕ, ◌<◌, ◌≤◌, List, [], ◌∷◌, length, drop, refl, arith}
 use Rattle.std.proofs.Common.{length-drop}
-use Rattle.std.proofs.lemmas.Bool.{and_parts}
-use Rattle.std.specs.Prelude.{◌==◌}
-use Rattle.htmd_grammar.specs.CharacterClasses.{begins_with, onward}
-use Rattle.htmd_grammar.proofs.Cases.{test}
+use Rattle.htmd_lexical.specs.CharacterClasses.{begins_with, onward}
+use Rattle.htmd_lexical.proofs.Cases.{test}
 use Rattle.htmd_encodings.specs.Declarations.{after_first}
-
-pub begins_no_further : (p s : List ℕ) → 0 < length p → length s < 1 → begins_with p s ≡ false
-begins_no_further [] s l m = absurd (omega arith)
-begins_no_further (c ∷ p) [] l m = refl
-begins_no_further (c ∷ p) (b ∷ s) l m = absurd (omega arith)
-
--- bytes are no shorter than their beginning
-pub begins_front : (p s : List ℕ) → begins_with p s ≡ true → length p ≤ length s
-begins_front [] s e = omega arith
-begins_front (c ∷ p) [] e = absurd (cc)
-begins_front (c ∷ p) (b ∷ s) e =
-    let h = begins_front p s (and_parts (b == c) (begins_with p s) e).1 in omega arith
-
--- ---- what follows the first of some bytes
 
 onward_within : (p s : List ℕ) → length (onward (begins_with p) s) ≤ length s
 onward_within p [] = omega arith

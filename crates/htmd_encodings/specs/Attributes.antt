@@ -1,11 +1,12 @@
 -- The attributes of a tag, as the search for an encoding takes them: the HTML Standard, 13.2.3.2, "get an attribute".
-use Rattle.std.specs.Prelude.{ℕ, zero, suc, Bool, false, not, ◌||◌, ◌==◌, if◌then◌else◌, List, [], ◌∷◌, drop, length, codes}
+use Rattle.std.specs.Prelude.{ℕ, zero, suc, Bool, false, not, ◌||◌, ◌==◌, if◌then◌else◌, List, [], ◌∷◌, drop, length}
+use Rattle.std.specs.Prelude.{codes}
 use Rattle.std.specs.Prelude.{Option, Some, None, option_and_then}
 use Rattle.std.specs.Option.{unwrap_or}
-use Rattle.htmd_grammar.specs.Characters.{quotation_mark, apostrophe, slash, equals_sign, greater_than_sign}
-use Rattle.htmd_grammar.specs.WhiteSpace.{is_ascii_white_space}
-use Rattle.htmd_grammar.specs.CharacterClasses.{first_is, leading_run, behind_run}
-use Rattle.htmd_grammar.specs.TagReading.{TagPart, malformed, tag_end, attribute, quoted_value}
+use Rattle.htmd_lexical.specs.Characters.{quotation_mark, apostrophe, slash, equals_sign, greater_than_sign}
+use Rattle.htmd_lexical.specs.WhiteSpace.{is_ascii_white_space}
+use Rattle.htmd_lexical.specs.CharacterClasses.{first_is, leading_run, behind_run}
+use Rattle.htmd_lexical.specs.TagReading.{TagPart, malformed, tag_end, attribute, quoted_value}
 use Rattle.htmd_encodings.specs.declared.attributes.Attributes.{Attributes}
 use Rattle.htmd_encodings.specs.ContentLabels.{content_label}
 use Rattle.htmd_encodings.specs.Labels.{is_in_any_case, named}

@@ -1,10 +1,11 @@
 -- The label in the attribute `content` of a `meta`: the HTML Standard, 2.4.2, "extracting a character encoding from a
 -- meta element".
-use Rattle.std.specs.Prelude.{ℕ, Bool, not, ◌&&◌, ◌||◌, ◌==◌, if◌then◌else◌, List, [], ◌∷◌, drop, codes, Option, Some, None}
-use Rattle.htmd_grammar.specs.Characters.{quotation_mark, apostrophe, equals_sign, semicolon}
-use Rattle.htmd_grammar.specs.WhiteSpace.{is_ascii_white_space}
-use Rattle.htmd_grammar.specs.CharacterClasses.{is_empty, first_is, begins_in_any_case, leading_run, behind_run}
-use Rattle.htmd_grammar.specs.TagReading.{is_other}
+use Rattle.std.specs.Prelude.{ℕ, Bool, not, ◌&&◌, ◌||◌, ◌==◌, if◌then◌else◌, List, [], ◌∷◌, drop, codes, Option, Some}
+use Rattle.std.specs.Prelude.{None}
+use Rattle.htmd_lexical.specs.Characters.{quotation_mark, apostrophe, equals_sign, semicolon}
+use Rattle.htmd_lexical.specs.WhiteSpace.{is_ascii_white_space}
+use Rattle.htmd_lexical.specs.CharacterClasses.{is_empty, first_is, begins_in_any_case, leading_run, behind_run}
+use Rattle.htmd_lexical.specs.TagReading.{is_other}
 
 -- a label without quotes goes on up to white space or `;`
 abbrev pub is_label_byte : ℕ → Bool

@@ -2,9 +2,9 @@
 -- declaration ("get an XML encoding").
 use Rattle.std.specs.Prelude.{ℕ, Bool, true, not, ◌&&◌, nat_le, if◌then◌else◌, List, drop, length, codes}
 use Rattle.std.specs.Prelude.{Option, Some, None, option_map, option_and_then}
-use Rattle.htmd_grammar.specs.Characters.{quotation_mark, apostrophe, equals_sign, greater_than_sign}
-use Rattle.htmd_grammar.specs.CharacterClasses.{is_empty, first_is, begins_with, onward, behind_run}
-use Rattle.htmd_grammar.specs.TagReading.{is_other}
+use Rattle.htmd_lexical.specs.Characters.{quotation_mark, apostrophe, equals_sign, greater_than_sign}
+use Rattle.htmd_lexical.specs.CharacterClasses.{is_empty, first_is, begins_with, onward, behind_run}
+use Rattle.htmd_lexical.specs.TagReading.{is_other}
 use Rattle.htmd_encodings.specs.declared.attributes.Attributes.{Attributes}
 use Rattle.htmd_encodings.specs.declared.encodings.SingleByte.TheVariants.{Windows1252, XUserDefined}
 use Rattle.htmd_encodings.specs.declared.encodings.Encoding.TheVariants.{Utf8, Utf16, SingleByte}

@@ -1,10 +1,11 @@
 -- The text of a page's bytes: the Encoding Standard, 6.1, "decode" and "BOM sniff", and the HTML Standard, 13.2.3.2.
-use Rattle.std.specs.Prelude.{ℕ, Bool, true, false, not, ◌&&◌, ◌||◌, nat_le, ◌-◌, if◌then◌else◌, List, [], ◌∷◌, drop, take, map}
+use Rattle.std.specs.Prelude.{ℕ, Bool, true, false, not, ◌&&◌, ◌||◌, nat_le, ◌-◌, if◌then◌else◌, List, [], ◌∷◌, drop}
+use Rattle.std.specs.Prelude.{take, map}
 use Rattle.std.specs.Prelude.{slice_index, encode_utf8_all, Option, Some, None}
 use Rattle.std.specs.Option.{option_or}
 use Rattle.std.specs.Str.{is_utf8}
 use Rattle.std.specs.Str.Lossy.{utf8_lossy}
-use Rattle.htmd_grammar.specs.CharacterClasses.{begins_with}
+use Rattle.htmd_lexical.specs.CharacterClasses.{begins_with}
 use Rattle.htmd_encodings.specs.declared.encodings.ByteOrder.TheVariants.{BigEndian, LittleEndian}
 use Rattle.htmd_encodings.specs.declared.encodings.SingleByte.TheVariants.{Windows1252}
 use Rattle.htmd_encodings.specs.declared.encodings.UnsupportedEncoding.TheVariants.{Iso2022Jp}

@@ -3,8 +3,8 @@ use Rattle.std.specs.Prelude.{ℕ, Bool, List, [], ◌∷◌, map, codes, Option
 use Rattle.std.specs.Char.{to_ascii_lowercase}
 use Rattle.std.specs.List.{list_all}
 use Rattle.std.specs.Str.{bytes_eq}
-use Rattle.htmd_grammar.specs.CharacterClasses.{behind_run}
-use Rattle.htmd_grammar.specs.WhiteSpace.{is_ascii_white_space}
+use Rattle.htmd_lexical.specs.CharacterClasses.{behind_run}
+use Rattle.htmd_lexical.specs.WhiteSpace.{is_ascii_white_space}
 use Rattle.htmd_encodings.specs.declared.encodings.ByteOrder.TheVariants.{BigEndian, LittleEndian}
 use Rattle.htmd_encodings.specs.declared.encodings.SingleByte as held
 use Rattle.htmd_encodings.specs.declared.encodings.SingleByte.TheVariants as single_byte

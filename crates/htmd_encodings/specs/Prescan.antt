@@ -4,9 +4,9 @@ use Rattle.std.specs.Prelude.{ℕ, zero, suc, Bool, false, ◌&&◌, ◌||◌, i
 use Rattle.std.specs.Prelude.{drop, length, codes, Option, Some, None}
 use Rattle.std.specs.Char.{is_ascii_alphabetic}
 use Rattle.std.specs.Option.{option_or}
-use Rattle.htmd_grammar.specs.Characters.{exclamation_mark, question_mark, slash, less_than_sign, greater_than_sign}
-use Rattle.htmd_grammar.specs.CharacterClasses.{first_is, begins_with, begins_in_any_case, behind_run}
-use Rattle.htmd_grammar.specs.TagReading.{is_other}
+use Rattle.htmd_lexical.specs.Characters.{exclamation_mark, question_mark, slash, less_than_sign, greater_than_sign}
+use Rattle.htmd_lexical.specs.CharacterClasses.{first_is, begins_with, begins_in_any_case, behind_run}
+use Rattle.htmd_lexical.specs.TagReading.{is_other}
 use Rattle.htmd_encodings.specs.declared.encodings.ByteOrder.TheVariants.{BigEndian, LittleEndian}
 use Rattle.htmd_encodings.specs.declared.encodings.Encoding.TheVariants.{Utf16}
 use Rattle.htmd_encodings.specs.declared.encodings.Named.{Named}

@@ -1,6 +1,6 @@
 -- What the search finds, as the program holds it; only the contracts of private functions cite it.
 use Rattle.std.specs.Prelude.{ℕ, Bool, ◌&&◌, List, drop, codes}
-use Rattle.htmd_grammar.specs.CharacterClasses.{begins_in_any_case}
+use Rattle.htmd_lexical.specs.CharacterClasses.{begins_in_any_case}
 use Rattle.htmd_encodings.specs.declared.prescan.Found as held
 use Rattle.htmd_encodings.specs.declared.prescan.Found.TheVariants.{Said, Onward}
 use Rattle.htmd_encodings.specs.Prescan.{Found, said, onward, begins_with_gap}

@@ -1,9 +1,9 @@
 -- What the values that the program holds are in these terms; only the contracts of private functions cite it.
 use Rattle.std.specs.Prelude.{ℕ, Bool, false, List, [], ◌∷◌, Option, option_map}
 use Rattle.std.specs.Borrow.{Bor}
-use Rattle.htmd_grammar.specs.CharacterClasses.{leading_run, behind_run}
-use Rattle.htmd_grammar.specs.TagReading.{TagPart, malformed, tag_end, attribute, is_other}
-use Rattle.htmd_grammar.specs.WhiteSpace.{is_ascii_white_space}
+use Rattle.htmd_lexical.specs.CharacterClasses.{leading_run, behind_run}
+use Rattle.htmd_lexical.specs.TagReading.{TagPart, malformed, tag_end, attribute, is_other}
+use Rattle.htmd_lexical.specs.WhiteSpace.{is_ascii_white_space}
 use Rattle.htmd_encodings.specs.declared.attributes.Attributes.{Attributes}
 use Rattle.htmd_encodings.specs.declared.attributes.Part.{Part}
 use Rattle.htmd_encodings.specs.declared.attributes.Part.TheVariants.{Unended, End, Attribute}

@@ -1,6 +1,6 @@
 //! The attributes of a tag, as far as they say something of the encoding.
 ghost use Rattle.std.specs.Prelude.{◌≡◌, option_and_then, option_map};
-ghost use Rattle.htmd_grammar.specs.TagReading as reading;
+ghost use Rattle.htmd_lexical.specs.TagReading as reading;
 ghost use Rattle.htmd_encodings.specs.Attributes as spec;
 ghost use Rattle.htmd_encodings.specs.ContentLabels as contents;
 ghost use Rattle.htmd_encodings.specs.Labels as labels;

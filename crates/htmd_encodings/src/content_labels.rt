@@ -3,7 +3,8 @@ ghost use Rattle.std.specs.Prelude.{◌≡◌};
 ghost use Rattle.htmd_encodings.specs.ContentLabels as spec;
 ghost use Rattle.htmd_encodings.specs.Views.{value_of};
 
-use crate::cuts::{Class, begins_in_any_case, split_run, strip_byte};
+use crate::cuts::{Class, split_run, strip_byte};
+use htmd_scanning::begins_in_any_case;
 
 /// What comes before the next such quote, if there is one.
 pub(crate) fn before_quote(bytes: &[u8], quote: u8) -> Option<&[u8]>

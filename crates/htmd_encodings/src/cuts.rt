@@ -1,10 +1,11 @@
-//! How bytes begin, the longest run of one class and characters of ASCII, and which are the same in any ASCII case.
-ghost use Rattle.std.specs.Prelude.{◌≡◌, ◌≤◌, true, false, length, drop, MatchOption};
-ghost use Rattle.htmd_grammar.specs.CharacterClasses.{first_is, leading_run, behind_run};
-ghost use Rattle.htmd_grammar.specs.CharacterClasses as classes;
+//! How bytes begin, the longest run of one class, and which are the same in any ASCII case.
+ghost use Rattle.std.specs.Prelude.{◌≡◌, true, false, drop, MatchOption};
+ghost use Rattle.htmd_lexical.specs.CharacterClasses.{first_is, leading_run, behind_run};
 ghost use Rattle.htmd_encodings.specs.Declarations as declarations;
 ghost use Rattle.htmd_encodings.specs.Labels as labels;
 ghost use Rattle.htmd_encodings.specs.Views.{is_in};
+
+use htmd_scanning::{ByteClass, begins_with, run_len};
 
 /// What the bytes of a run have in common.
 #[derive(Clone, Copy)]
@@ -24,32 +25,25 @@ pub(crate) enum Class {
     Other(u8),
 }
 
-fn is_of(byte: u8, class: Class) -> bool
-    ensures { result ≡ is_in class byte }
-{
-    match class {
-        Class::White => byte.is_ascii_whitespace(),
-        Class::Gap => byte.is_ascii_whitespace() || byte == b'/',
-        Class::AttributeName => !(byte.is_ascii_whitespace() || matches!(byte, b'/' | b'=' | b'>')),
-        Class::UnquotedValue => !(byte.is_ascii_whitespace() || byte == b'>'),
-        Class::Label => !(byte.is_ascii_whitespace() || byte == b';'),
-        Class::Control => byte <= b' ',
-        Class::Visible => byte > b' ',
-        Class::Other(other) => byte != other,
-    }
-}
+impl ByteClass for Class {
+    ghost use Rattle.htmd_encodings.specs.Views.{is_in};
 
-#[tactic(auto, using(htmd_grammar::proofs::RunsLemmas::run_more, htmd_grammar::proofs::RunsLemmas::run_stops))]
-fn run_len(bytes: &[u8], class: Class) -> usize
-    ensures bound { result ≤ length bytes.now }
-    ensures value { result ≡ length (leading_run (is_in class) bytes.now) }
-{
-    for (len, byte) in bytes.iter().enumerate() {
-        if !is_of(*byte, class) {
-            return len;
+    ghost bytes = { is_in };
+
+    #[inline(always)]
+    fn has(self, byte: u8) -> bool {
+        match self {
+            Class::White => byte.is_ascii_whitespace(),
+            Class::Gap => byte.is_ascii_whitespace() || byte == b'/',
+            Class::AttributeName => !(byte.is_ascii_whitespace()
+                || matches!(byte, b'/' | b'=' | b'>')),
+            Class::UnquotedValue => !(byte.is_ascii_whitespace() || byte == b'>'),
+            Class::Label => !(byte.is_ascii_whitespace() || byte == b';'),
+            Class::Control => byte <= b' ',
+            Class::Visible => byte > b' ',
+            Class::Other(other) => byte != other,
         }
     }
-    bytes.len()
 }
 
 /// The run at the front of the bytes, and what follows it.
@@ -69,34 +63,6 @@ pub(crate) fn strip_byte(bytes: &[u8], byte: u8) -> Option<&[u8]>
         [first, after @ ..] if *first == byte => Some(after),
         _ => None,
     }
-}
-
-/// Whether the bytes begin with these ones.
-pub(crate) fn begins_with(bytes: &[u8], beginning: &[u8]) -> bool
-    ensures { result ≡ classes.begins_with beginning.now bytes.now }
-{
-    let mut rest = bytes;
-    for byte in beginning {
-        match rest {
-            [first, after @ ..] if *first == *byte => rest = after,
-            _ => return false,
-        }
-    }
-    true
-}
-
-/// The same in any ASCII case; the beginning is given in lower case.
-pub(crate) fn begins_in_any_case(bytes: &[u8], beginning: &[u8]) -> bool
-    ensures { result ≡ classes.begins_in_any_case beginning.now bytes.now }
-{
-    let mut rest = bytes;
-    for byte in beginning {
-        match rest {
-            [first, after @ ..] if first.to_ascii_lowercase() == *byte => rest = after,
-            _ => return false,
-        }
-    }
-    true
 }
 
 /// What follows the first such bytes, or nothing if there are none.

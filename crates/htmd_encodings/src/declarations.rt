@@ -5,12 +5,13 @@ ghost use Rattle.htmd_encodings.specs.Views.{value_of};
 
 use crate::attributes::Attributes;
 use crate::content_labels::before_quote;
-use crate::cuts::{Class, after_first, begins_with, split_run, strip_byte};
+use crate::cuts::{Class, after_first, split_run, strip_byte};
 use crate::encodings::Encoding::{SingleByte, Utf8, Utf16};
 use crate::encodings::Named;
 use crate::encodings::Named::Supported;
 use crate::encodings::SingleByte::{Windows1252, XUserDefined};
 use crate::labels::named;
+use htmd_scanning::begins_with;
 
 /// The encoding that a `meta` means by this one.
 fn in_meta(named: Named) -> Named

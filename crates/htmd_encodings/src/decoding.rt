@@ -9,11 +9,11 @@ ghost use Rattle.htmd_encodings.specs.declared.decoding.DecodeError.TheVariants.
 ghost use Rattle.htmd_encodings.specs.declared.encodings.Encoding.TheVariants as held;
 ghost use Rattle.htmd_encodings.specs.declared.encodings.Named.TheVariants as held_named;
 
-use crate::cuts::begins_with;
 use crate::encodings::Named::{Supported, Unsupported};
 use crate::encodings::{ByteOrder, Encoding, Named, SingleByte, UnsupportedEncoding};
 use crate::indexes::index_of;
 use crate::prescan::{prescan, search};
+use htmd_scanning::begins_with;
 use std::alloc::{AllocError, Global};
 use std::borrow::CowStr;
 

@@ -3,14 +3,15 @@ ghost use Rattle.std.specs.Prelude.{◌≡◌};
 ghost use Rattle.htmd_encodings.specs.Prescan as spec;
 ghost use Rattle.htmd_encodings.specs.Attributes as tags;
 ghost use Rattle.htmd_encodings.specs.PrescanViews.{found_of, is_meta};
-ghost use Rattle.htmd_grammar.specs.CharacterClasses.{behind_run};
+ghost use Rattle.htmd_lexical.specs.CharacterClasses.{behind_run};
 
 use crate::attributes::tag;
-use crate::cuts::{Class, after_first, begins_in_any_case, begins_with, split_run, strip_byte};
+use crate::cuts::{Class, after_first, split_run, strip_byte};
 use crate::declarations::{in_attributes, in_declaration};
 use crate::encodings::Encoding::Utf16;
 use crate::encodings::Named::Supported;
 use crate::encodings::{ByteOrder, Named};
+use htmd_scanning::{begins_in_any_case, begins_with};
 
 /// What is at a `<`.
 enum Found<'a> {

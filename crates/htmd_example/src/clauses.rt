@@ -6,7 +6,7 @@ ghost use Rattle.htmd.specs.Conversions.{DenotesNothing, IsMarkdownOf, html5_mar
 ghost use Rattle.htmd.specs.Defaults.{default_options};
 
 use htmd::{ConvertError, HtmlToMarkdown, convert};
-use htmd_laws::grammar::at_most_one_tree;
+use htmd_law_trees::grammar::at_most_one_tree;
 use std::alloc::{AllocError, Global};
 
 /// The Markdown of a text, and a line feed after it.

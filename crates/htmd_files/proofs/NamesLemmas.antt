@@ -1,5 +1,6 @@
 -- The ending of a path, as its bytes are compared.
-use Rattle.std.proofs.Common.{◌≡◌, ℕ, ◌-◌, true, false, Bool, List, length, take, drop, map, sym, ap, ◌∙◌, Some, None, arith}
+use Rattle.std.proofs.Common.{◌≡◌, ℕ, ◌-◌, true, false, Bool, List, length, take, drop, map, sym, ap, ◌∙◌, Some, None}
+use Rattle.std.proofs.Common.{arith}
 use Rattle.std.specs.Prelude.{if◌then◌else◌}
 use Rattle.std.specs.Char.{to_ascii_lowercase}
 use Rattle.std.proofs.lemmas.Bool.{false_from_ne_true}

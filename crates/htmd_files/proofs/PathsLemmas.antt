@@ -2,7 +2,6 @@
 use Rattle.std.proofs.Common.{◌≡◌, ℕ, suc, ◌+◌, ◌-◌, ◌<◌, ◌≤◌, Bool, true, false, not, ◌&&◌, ◌||◌, List, [], ◌∷◌, ◌++◌}
 use Rattle.std.proofs.Common.{length, take, drop, reverse, get_or, refl, sym, ap, ◌∙◌, arith, append_assoc, cond}
 use Rattle.std.proofs.Common.{Some, None, Bor}
-use mathlib.Core.Bool.{beq}
 use Rattle.std.specs.Prelude.{codes, slice_get, option_map}
 use Rattle.std.proofs.Math.ListN.{drop_of_length-le}
 use Rattle.std.proofs.Math.Seq.{drop-length}
@@ -10,15 +9,18 @@ use Rattle.std.specs.List.{common_prefix_len, list_any}
 use Rattle.std.specs.Cmp.Lexicographic.{pointwise}
 use Rattle.std.specs.Str.{bytes_eq}
 use Rattle.std.proofs.lemmas.Bool.{false≢true}
-use Rattle.std.proofs.lemmas.List.{map_push, drop_more, drop-map, reverse-append, get_or-reverse, length-reverse, reverse-reverse}
+use Rattle.std.proofs.lemmas.List.{map_push, drop_more, drop-map, reverse-append, get_or-reverse, length-reverse}
+use Rattle.std.proofs.lemmas.List.{reverse-reverse}
 use Rattle.std.proofs.lemmas.List.{length-map}
 use Rattle.std.proofs.lemmas.Option.{slice_get-map, get_or_from_slice_get, slice_get-get_or, slice_get_within}
 use Rattle.std.proofs.lemmas.Slice.Eq.{bytes_eq-Decides}
-use Rattle.htmd_grammar.specs.Characters.{slash}
-use Rattle.htmd_files.specs.Paths.{Place, is_up, above, alike, names_after, lead_down, leads_down, is_below, with_slashes}
+use Rattle.htmd_lexical.specs.Characters.{slash}
+use Rattle.htmd_files.specs.Paths.{Place, is_up, above, alike, names_after, lead_down, leads_down, is_below}
+use Rattle.htmd_files.specs.Paths.{with_slashes}
 use Rattle.htmd_files.specs.Paths.{parts, is_absolute, place, led, further, joined}
 use Rattle.htmd_files.specs.Relative.{folder_of, ups, up_and_down, way, way_between, relative_place}
 use Rattle.htmd_files.specs.PlaceViews.{texts}
+use mathlib.Core.Bool.{beq}
 
 -- either way, with what the test says
 pub test : {P : Type 0} (b : Bool) → (b ≡ true → P) → (b ≡ false → P) → P

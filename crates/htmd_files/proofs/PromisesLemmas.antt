@@ -8,9 +8,11 @@ use Rattle.std.proofs.lemmas.List.Elements.{All-nil, All-cons}
 use Rattle.std.proofs.lemmas.List.Quantifiers.{all_pairs_push}
 use Rattle.std.proofs.lemmas.Slice.Eq.{bytes_eq-Decides}
 use Rattle.htmd_files.specs.Paths.{normal, place, is_same, is_below}
-use Rattle.htmd_files.specs.FilePlans.{Operand, Destination, Page, FilePlan, Fault, standard_input, file, folder, is_outside}
+use Rattle.htmd_files.specs.FilePlans.{Operand, Destination, Page, FilePlan, Fault, standard_input, file, folder}
+use Rattle.htmd_files.specs.FilePlans.{is_outside}
 use Rattle.htmd_files.specs.FilePlans.{unless_outside, if_below, pages_at, pages_to, names_folder, single_input}
-use Rattle.htmd_files.specs.FilePlans.{writes_to, shared_fault, shared_after, overwritten_fault, overwritten_in, or_fault}
+use Rattle.htmd_files.specs.FilePlans.{writes_to, shared_fault, shared_after, overwritten_fault, overwritten_in}
+use Rattle.htmd_files.specs.FilePlans.{or_fault}
 use Rattle.htmd_files.specs.FilePlans.{output_fault, unless, if_apart, only_input, plan}
 use Rattle.htmd_files.specs.Promises.{pages_in, Differ, AreApart, KeepInputs, AreBelow}
 

@@ -3,7 +3,7 @@ use Rattle.std.specs.Prelude.{ℕ, Bool, true, false, not, ◌&&◌, ◌||◌, �
 use Rattle.std.specs.Prelude.{reverse, codes, Option, Some, None}
 use Rattle.std.specs.List.{slice_split, starts_with, ends_with}
 use Rattle.std.specs.Str.{bytes_eq}
-use Rattle.htmd_grammar.specs.Characters.{slash}
+use Rattle.htmd_lexical.specs.Characters.{slash}
 
 -- what stands between the slashes of a path; some may be empty
 abbrev pub parts : List ℕ → List (List ℕ)

@@ -1,8 +1,10 @@
 -- What each plan keeps.
-use Rattle.std.specs.Prelude.{◌≡◌, ◌≢◌, ℕ, Bool, true, false, not, ◌&&◌, List, [], ◌++◌, Option, Some, None, is_some, All, AllPairs, ⊤}
+use Rattle.std.specs.Prelude.{◌≡◌, ◌≢◌, ℕ, Bool, true, false, not, ◌&&◌, List, [], ◌++◌, Option, Some, None, is_some}
+use Rattle.std.specs.Prelude.{All, AllPairs, ⊤}
 use Rattle.std.specs.Prelude.{◌<◌, codes, length}
 use Rattle.htmd_files.specs.Paths.{normal, place, is_below}
-use Rattle.htmd_files.specs.FilePlans.{Operand, Destination, Page, FilePlan, standard_output, files, single_input, names_folder}
+use Rattle.htmd_files.specs.FilePlans.{Operand, Destination, Page, FilePlan, standard_output, files, single_input}
+use Rattle.htmd_files.specs.FilePlans.{names_folder}
 
 -- the pages that are written to files
 abbrev pub pages_in : FilePlan → List Page

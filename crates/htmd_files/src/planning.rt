@@ -5,7 +5,8 @@ ghost use Rattle.htmd_files.specs.Names as names;
 ghost use Rattle.htmd_files.specs.Paths as paths;
 ghost use Rattle.htmd_files.specs.FilePlans as spec;
 ghost use Rattle.htmd_files.specs.PlaceViews.{texts};
-ghost use Rattle.htmd_files.specs.PlanViews.{operand_of, destination_of, page_of, pages_of, plan_in, IsRefusal, HoldsOutputs};
+ghost use Rattle.htmd_files.specs.PlanViews.{operand_of, destination_of, page_of, pages_of, plan_in, IsRefusal};
+ghost use Rattle.htmd_files.specs.PlanViews.{HoldsOutputs};
 ghost use Rattle.htmd_files.specs.Promises.{AreApart, KeepInputs, AreBelow, AreNamed, pages_in as pages_written};
 ghost use Rattle.htmd_files.specs.WordViews.{texts_of};
 

@@ -6,7 +6,8 @@ use Rattle.std.specs.List.{AllByRecursion}
 use Rattle.htmd_files.specs.declared.planning.Page.{Page}
 use Rattle.htmd_folders.specs.Changes.{Change, created, nothing, unfinished, whole, held, IsReplaceable}
 use Rattle.htmd_folders.specs.Pages.{Conversion, input_name, output_name}
-use Rattle.htmd_folders.specs.FolderConversions.{Takes, HasUnfinishedName, AreSparing, IsApart, AreApart, IsSpared, IsConverted, IsConvertedOrKept, IfKnown}
+use Rattle.htmd_folders.specs.FolderConversions.{Takes, HasUnfinishedName, AreSparing, IsApart, AreApart, IsSpared}
+use Rattle.htmd_folders.specs.FolderConversions.{IsConverted, IsConvertedOrKept, IfKnown}
 use Rattle.htmd_folders.specs.FolderConversions.{AtEachMoment, IsAsBeforeOrWhole, IsNeverHalf}
 use Rattle.htmd_folders.proofs.FolderConversionsLemmas.{TakesOne}
 use Rattle.htmd_folders.proofs.ChangesLemmas.{step_of, spared_by, obstacle_by, held_output, held_kept, some_same}

@@ -2,7 +2,8 @@
 use Rattle.std.specs.Prelude.{◌≡◌, ◌≢◌, ◌↔◌, ℕ, Bool, true, false, if◌then◌else◌, List, [], ◌∷◌, ◌++◌, map, codes}
 use Rattle.std.specs.Prelude.{Option, Some, None, is_some, option_map, IfSome, Result}
 use Rattle.std.specs.List.{list_any}
-use Rattle.htmd_files.specs.FilePlans.{Operand, Destination, FilePlan, Fault, standard_input, file, folder, path_of, plan}
+use Rattle.htmd_files.specs.FilePlans.{Operand, Destination, FilePlan, Fault, standard_input, file, folder, path_of}
+use Rattle.htmd_files.specs.FilePlans.{plan}
 use Rattle.htmd_files.specs.Names.{is_page}
 use Rattle.htmd_files.specs.Words.{Job}
 use Rattle.htmd_folders.specs.Changes.{Change}

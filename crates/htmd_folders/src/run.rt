@@ -3,7 +3,8 @@ ghost use Rattle.std.specs.Prelude.{◌≡◌, ◌⊎◌, ◌<◌, ◌+◌, ◌^
 ghost use Rattle.std.specs.List.{AllByRecursion};
 ghost use Rattle.htmd_folders.specs.Changes.{held, IsReplaceable};
 ghost use Rattle.htmd_folders.specs.Pages.{Converts, Fails};
-ghost use Rattle.htmd_folders.specs.FolderConversions.{Takes, AreApart, AreSparing, IfKnown, IsConverted, IsConvertedOrKept, IsNeverHalf, IsSpared};
+ghost use Rattle.htmd_folders.specs.FolderConversions.{Takes, AreApart, AreSparing, IfKnown, IsConverted};
+ghost use Rattle.htmd_folders.specs.FolderConversions.{IsConvertedOrKept, IsNeverHalf, IsSpared};
 
 use crate::conversion::Conversion;
 use crate::faults::PageFault;

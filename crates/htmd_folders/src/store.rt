@@ -1,7 +1,8 @@
 //! The files that pages are read from and written to.
 ghost use Rattle.std.specs.Prelude.{◌≡◌, ◌⊎◌, List, [], ◌∷◌, Option, None, false, IfOk, IfErr, IfSome, OnOk, OnErr};
 ghost use Rattle.htmd_files.specs.WordViews.{texts_of};
-ghost use Rattle.htmd_folders.specs.Changes.{Change, created, Makes, IsFree, IsLeft, IsOpenTo, IsOpened, IsNew, IsMoved};
+ghost use Rattle.htmd_folders.specs.Changes.{Change, created, Makes, IsFree, IsLeft, IsOpenTo, IsOpened, IsNew};
+ghost use Rattle.htmd_folders.specs.Changes.{IsMoved};
 ghost use Rattle.htmd_folders.specs.Listings.{is_file, Lists, TellsFolder};
 
 use crate::faults::StoreFault;

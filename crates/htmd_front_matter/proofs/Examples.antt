@@ -1,7 +1,8 @@
 -- What a small page says of itself.
 use Rattle.std.proofs.Common.{◌≡◌, ℕ, List, [], ◌∷◌, Some, None, refl}
 use Rattle.std.specs.Prelude.{codes}
-use Rattle.htmd_grammar.specs.ValueTrees.{AttributePair, ValueForest, text, element, none, more}
+use Rattle.htmd_lexical.specs.AttributePairs.{AttributePair}
+use Rattle.htmd_values.specs.ValueTrees.{ValueForest, text, element, none, more}
 use Rattle.htmd_front_matter.specs.declared.values.Key.TheVariants.{Title, Lang, Description, Canonical}
 use Rattle.htmd_front_matter.specs.Values.{first_value}
 use Rattle.htmd_front_matter.specs.Lines.{tidied}

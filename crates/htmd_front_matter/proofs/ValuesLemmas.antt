@@ -5,10 +5,10 @@ use Rattle.std.specs.Prelude.{flat_map}
 use Rattle.std.proofs.lemmas.List.{drop_more}
 use Rattle.std.specs.Option.{option_copied, option_or}
 use Rattle.std.proofs.lemmas.Bool.{false≢true}
-use Rattle.htmd_grammar.specs.declared.attribute.Attribute.{Attribute}
+use Rattle.htmd_lexical.specs.declared.attribute.Attribute.{Attribute}
 use Rattle.htmd_nodes.specs.Items.{Data, Item, data_at, children_of, IsTree}
 use Rattle.htmd_nodes.specs.NumberedTrees.{NumberedTree, NumberedForest, with_children, tree_of, forest_of, value_tree}
-use Rattle.htmd_nodes.specs.NodeValues.{value_at}
+use Rattle.htmd_nodes.specs.NumberedTrees.{value_at}
 use Rattle.htmd_nodes.specs.Views.{data_of}
 use Rattle.htmd_nodes.specs.declared.tree.NodeData.{NodeData}
 use Rattle.htmd_nodes.specs.declared.tree.NodeData.TheVariants.{Document, Doctype, Text, Comment, Element}

@@ -1,10 +1,10 @@
 -- The front matter of a page: lines of YAML, whose values are JSON strings.
 use Rattle.std.specs.Prelude.{ℕ, List, [], ◌∷◌, ◌++◌, flat_map, Option, Some, None, codes}
 use Rattle.json.specs.Print.{quoted}
-use Rattle.htmd_grammar.specs.Characters.{line_feed}
-use Rattle.htmd_grammar.specs.WhiteSpace.{is_document_white_space}
+use Rattle.htmd_lexical.specs.Characters.{line_feed}
+use Rattle.htmd_lexical.specs.WhiteSpace.{is_document_white_space}
 use Rattle.htmd_nodes.specs.Items.{Item}
-use Rattle.htmd_nodes.specs.NodeValues.{value_at}
+use Rattle.htmd_nodes.specs.NumberedTrees.{value_at}
 use Rattle.htmd_text.specs.SqueezedTexts.{squeezed_text}
 use Rattle.htmd_text.specs.Trims.{trimmed_text}
 use Rattle.htmd_front_matter.specs.declared.values.Key.{Key}

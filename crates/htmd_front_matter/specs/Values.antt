@@ -3,8 +3,9 @@ use Rattle.std.specs.Prelude.{ℕ, Bool, if◌then◌else◌, List, [], ◌∷�
 use Rattle.std.specs.Char.{to_ascii_lowercase}
 use Rattle.std.specs.Option.{option_or}
 use Rattle.std.specs.Str.{bytes_eq}
-use Rattle.htmd_grammar.specs.ValueTrees.{AttributePair, ValueTree, document, doctype, text, comment, element}
-use Rattle.htmd_grammar.specs.ValueTrees.{ValueForest, none, more}
+use Rattle.htmd_lexical.specs.AttributePairs.{AttributePair}
+use Rattle.htmd_values.specs.ValueTrees.{ValueTree, document, doctype, text, comment, element}
+use Rattle.htmd_values.specs.ValueTrees.{ValueForest, none, more}
 use Rattle.htmd_front_matter.specs.declared.values.Key.{Key}
 use Rattle.htmd_front_matter.specs.declared.values.Key.TheVariants.{Title, Lang, Description, Author, Date, Canonical}
 use Rattle.htmd_front_matter.specs.declared.values.Key.TheVariants.{Keywords}

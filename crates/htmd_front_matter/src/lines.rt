@@ -1,7 +1,7 @@
 //! The front matter of a page, line by line.
 ghost use Rattle.std.specs.Prelude.{◌≡◌, ◌++◌, [], IfOk, OnOk, string_bytes, option_copied, flat_map};
 ghost use Rattle.json.specs.Print.{quoted};
-ghost use Rattle.htmd_nodes.specs.NodeValues.{value_at};
+ghost use Rattle.htmd_nodes.specs.NumberedTrees.{value_at};
 ghost use Rattle.htmd_front_matter.specs.Values.{value_in};
 ghost use Rattle.htmd_front_matter.specs.Lines as spec;
 

@@ -1,9 +1,9 @@
 //! What the head of a page says about it.
 ghost use Rattle.std.specs.Prelude.{◌≡◌, ◌<◌, length, option_copied};
-ghost use Rattle.htmd_grammar.specs.Attributes.{pairs_of};
+ghost use Rattle.htmd_lexical.specs.Attributes.{pairs_of};
 ghost use Rattle.htmd_nodes.specs.Items.{children_of};
 ghost use Rattle.htmd_nodes.specs.NumberedTrees.{tree_of, forest_of, value_forest};
-ghost use Rattle.htmd_nodes.specs.NodeValues.{value_at};
+ghost use Rattle.htmd_nodes.specs.NumberedTrees.{value_at};
 ghost use Rattle.htmd_front_matter.specs.Values as spec;
 
 use htmd_nodes::{Attribute, NodeData, NodeId, Tree};

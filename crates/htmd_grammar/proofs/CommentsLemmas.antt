@@ -4,9 +4,9 @@ use Rattle.std.proofs.Common.{◌&&◌, ◌++◌, ◌∙◌, ◌∷◌, ◌≡�
 use Rattle.std.proofs.lemmas.Bool.Decides.{nat_tests}
 use Rattle.std.specs.Prelude.{option_map, ◌==◌}
 use Rattle.std.proofs.lemmas.Bool.{and_parts}
-use Rattle.htmd_grammar.specs.CharacterClasses.{begins_with}
+use Rattle.htmd_lexical.specs.CharacterClasses.{begins_with}
 use Rattle.htmd_grammar.specs.Comments.{before_comment_end}
-use Rattle.htmd_grammar.proofs.BooleanLemmas.{and_false, if_then}
+use Rattle.htmd_lexical.proofs.BooleanLemmas.{and_false, if_then}
 
 pub map_some : {A B : Type 0} (f : A → B) (o : Option A) (y : B) → option_map f o ≡ Some y
     → (x : A) × (o ≡ Some x) × (f x ≡ y)

@@ -11,11 +11,12 @@ use Rattle.std.specs.Prelude.{if◌then◌else◌}
 use Rattle.std.specs.Str.{bytes_eq}
 use Rattle.std.proofs.Math.Bool.{or-true, or-false}
 use Rattle.std.proofs.lemmas.Bool.{and_parts}
-use Rattle.htmd_grammar.specs.WhiteSpace.{is_ascii_white_space}
-use Rattle.htmd_grammar.proofs.Cases.{test}
-use Rattle.htmd_grammar.specs.CharacterClasses.{are_distinct, behind_run, is_among, is_empty, is_tag_name}
-use Rattle.htmd_grammar.specs.CharacterClasses.{is_tag_name_byte, leading_run, up_to}
-use Rattle.htmd_grammar.specs.Comments.{before_comment_end, is_comment_text, normalized}
+use Rattle.htmd_lexical.specs.WhiteSpace.{is_ascii_white_space}
+use Rattle.htmd_lexical.proofs.Cases.{test}
+use Rattle.htmd_lexical.specs.CharacterClasses.{are_distinct, behind_run, is_among, is_empty, is_tag_name}
+use Rattle.htmd_lexical.specs.CharacterClasses.{is_tag_name_byte, leading_run, up_to}
+use Rattle.htmd_grammar.specs.Comments.{before_comment_end, is_comment_text}
+use Rattle.htmd_lexical.specs.LineEnds.{normalized}
 use Rattle.htmd_grammar.specs.HtmlDocuments.{above_body, below_body, body_text}
 use Rattle.htmd_grammar.specs.Faults.{top_children}
 use Rattle.htmd_grammar.specs.Grammar.{ReadsForest, ReadsTree, begins_with_row, may_end_rows, reads}
@@ -26,22 +27,29 @@ use Rattle.htmd_grammar.specs.RawContent.{raw_text_of, text_of}
 use Rattle.htmd_grammar.specs.References.{Names, Piece, after_line_feed, decode, less_line_feed, piece_at, stands}
 use Rattle.htmd_grammar.specs.References.{wrong}
 use Rattle.htmd_grammar.specs.Rules.{Rules}
-use Rattle.htmd_grammar.specs.Serialisation.{is_void}
-use Rattle.htmd_grammar.specs.ReaderSteps.{OpenElement, Reaches, State, Step, between, body, close_step, closed, ends_rows}
-use Rattle.htmd_grammar.specs.ReaderSteps.{finished, form_step, fresh, has_unknown_reference, here, is_implied, is_text_end}
-use Rattle.htmd_grammar.specs.ReaderSteps.{is_too_deep, names_of, place_step, started, step, via, with_children, with_forest}
+use Rattle.htmd_values.specs.Serialisation.{is_void}
+use Rattle.htmd_grammar.specs.ReaderSteps.{OpenElement, Reaches, State, Step, between, body, close_step, closed}
+use Rattle.htmd_grammar.specs.ReaderSteps.{ends_rows}
+use Rattle.htmd_grammar.specs.ReaderSteps.{finished, form_step, fresh, has_unknown_reference, here, is_implied}
+use Rattle.htmd_grammar.specs.ReaderSteps.{is_text_end}
+use Rattle.htmd_grammar.specs.ReaderSteps.{is_too_deep, names_of, place_step, started, step, via, with_children}
+use Rattle.htmd_grammar.specs.ReaderSteps.{with_forest}
 use Rattle.htmd_grammar.specs.ReaderSteps.{with_tree, ◌+++◌}
-use Rattle.htmd_grammar.specs.TagReading.{form_within}
-use Rattle.htmd_grammar.specs.Tags.{IsEndTag, IsStartTag, IsTagRest, attribute_names, decode_values}
-use Rattle.htmd_grammar.specs.ValueTrees.{AttributePair, ValueForest, ValueTree, comment, doctype, document, element}
-use Rattle.htmd_grammar.specs.ValueTrees.{more, none, text}
-use Rattle.htmd_grammar.proofs.BooleanLemmas.{and_false}
+use Rattle.htmd_lexical.specs.TagReading.{form_within}
+use Rattle.htmd_grammar.specs.Tags.{IsEndTag, IsStartTag, IsTagRest, decode_values}
+use Rattle.htmd_lexical.specs.Attributes.{attribute_names}
+use Rattle.htmd_lexical.specs.AttributePairs.{AttributePair}
+use Rattle.htmd_values.specs.ValueTrees.{ValueForest, ValueTree, comment, doctype, document, element}
+use Rattle.htmd_values.specs.ValueTrees.{more, none, text}
+use Rattle.htmd_lexical.proofs.BooleanLemmas.{and_false}
 use Rattle.htmd_grammar.proofs.CommentsLemmas.{before_close-append}
-use Rattle.htmd_grammar.proofs.NestingLemmas.{allowed_parts, bytes_same, no_text_alone, one_name, part_place, row_place}
+use Rattle.htmd_grammar.proofs.NestingLemmas.{allowed_parts, no_text_alone, one_name, part_place, row_place}
+use Rattle.htmd_lexical.proofs.BytesLemmas.{bytes_same}
 use Rattle.htmd_grammar.proofs.NestingLemmas.{tbody_no_text_alone, tbody_not_table, tbody_place}
 use Rattle.htmd_grammar.proofs.ReferencesLemmas.{Fits, IsBound, drop_over, known, less_bounds, piece_bound}
 use Rattle.htmd_grammar.proofs.ReferencesLemmas.{piece_fits, piece_over, put_parts}
-use Rattle.htmd_grammar.proofs.TagReadingLemmas.{filled, form_read, halts_name, rest_halts, white_back}
+use Rattle.htmd_lexical.proofs.LeadingRunsLemmas.{filled}
+use Rattle.htmd_grammar.proofs.TagReadingLemmas.{form_read, halts_name, rest_halts, white_back}
 use Rattle.htmd_grammar.proofs.TagsLemmas.{values_parts}
 use Rattle.htmd_grammar.proofs.TextLemmas.{Stops, end_stops, gap_no_name, letter_not, name_cut, rows_go_on, rows_stop}
 use Rattle.htmd_grammar.proofs.TextLemmas.{run_head, run_not_stop, run_of-append, stop_head, stops-append, stops_not}

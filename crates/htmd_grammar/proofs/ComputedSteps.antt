@@ -3,13 +3,13 @@ use Rattle.std.proofs.Common.{Bool, Err, List, Ok, [], ap, arith, false, length,
 use Rattle.std.proofs.Common.{zero, ℕ, ◌&&◌, ◌+◌, ◌<◌, ◌∙◌, ◌≡◌}
 use Rattle.std.proofs.lemmas.Bool.Decides.{nat_tests}
 use Rattle.std.specs.Prelude.{nat_le}
-use Rattle.htmd_grammar.specs.Characters.{null}
-use Rattle.htmd_grammar.specs.CharacterClasses.{is_empty, lacks}
+use Rattle.htmd_lexical.specs.Characters.{null}
+use Rattle.htmd_lexical.specs.CharacterClasses.{is_empty, lacks}
 use Rattle.htmd_grammar.specs.HtmlDocuments.{ReadsDocument, above_body, document_tree}
 use Rattle.htmd_grammar.specs.Faults.{IsFault}
 use Rattle.htmd_grammar.specs.Rules.{Rules, project}
 use Rattle.htmd_grammar.specs.ReaderSteps.{Reaches, State, Step, finished, here, started, step, via}
-use Rattle.htmd_grammar.specs.ValueTrees.{ValueForest, ValueTree}
+use Rattle.htmd_values.specs.ValueTrees.{ValueForest, ValueTree}
 use Rattle.htmd_grammar.specs.declared.fault.FaultKind.{FaultKind}
 use Rattle.htmd_grammar.proofs.ViablePrefixes.{refused, sound_end}
 use Rattle.htmd_grammar.proofs.RightFaults.{faults_are_right}

@@ -7,20 +7,21 @@ use Rattle.std.specs.List.{list_all}
 use Rattle.std.specs.Prelude.{◌==◌}
 use Rattle.std.specs.Str.{bytes_eq}
 use Rattle.std.proofs.lemmas.Bool.{not-true, and_parts}
-use Rattle.htmd_grammar.specs.WhiteSpace.{is_ascii_white_space}
-use Rattle.htmd_grammar.proofs.Cases.{test}
-use Rattle.htmd_grammar.specs.CharacterClasses.{begins_in_any_case, behind_run, first_is, leading_run}
+use Rattle.htmd_lexical.specs.WhiteSpace.{is_ascii_white_space}
+use Rattle.htmd_lexical.proofs.Cases.{test}
+use Rattle.htmd_lexical.specs.CharacterClasses.{begins_in_any_case, behind_run, first_is, leading_run}
 use Rattle.htmd_grammar.specs.Fronts.{IsKept}
 use Rattle.htmd_grammar.specs.RawContent.{content_of, drops_line_feed}
 use Rattle.htmd_grammar.specs.References.{Names, Piece, after_line_feed, behind_ampersand, behind_number_sign}
-use Rattle.htmd_grammar.specs.References.{less_line_feed, may_be_numbered, named, number, number_at, numbered, piece_at}
+use Rattle.htmd_grammar.specs.References.{less_line_feed, may_be_numbered, named, number_at, numbered, piece_at}
+use Rattle.htmd_lexical.specs.Numbers.{number}
 use Rattle.htmd_grammar.specs.References.{stands, wrong}
 use Rattle.htmd_grammar.specs.Rules.{character_named}
 use Rattle.htmd_grammar.specs.declared.fault.FaultKind.TheVariants.{BadNumber}
-use Rattle.htmd_grammar.proofs.BooleanLemmas.{if_then}
-use Rattle.htmd_grammar.proofs.NestingLemmas.{same_bytes}
+use Rattle.htmd_lexical.proofs.BooleanLemmas.{if_then}
+use Rattle.htmd_lexical.proofs.BytesLemmas.{same_bytes}
 use Rattle.htmd_grammar.proofs.ReferencesLemmas.{Fits, drop_cut, piece_fits, stands_same, named_fits}
-use Rattle.htmd_grammar.proofs.TagReadingLemmas.{back_split, front_all, front_cut}
+use Rattle.htmd_lexical.proofs.LeadingRunsLemmas.{back_split, front_all, front_cut}
 use Rattle.htmd_grammar.proofs.TagSpellingLemmas.{at_head}
 
 -- a run that `;` ends, and what follows it

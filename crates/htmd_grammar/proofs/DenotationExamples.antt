@@ -1,13 +1,14 @@
 -- Texts and the documents that they denote.
 use Rattle.std.proofs.Common.{List, [], codes, false, refl, true, ℕ, ◌++◌, ◌∷◌}
 use Rattle.std.specs.Char.{encode_utf8}
-use lib.Utf8.{encode}
 use Rattle.htmd_grammar.specs.Nesting.{is_allowed}
 use Rattle.htmd_grammar.specs.References.{may_be_numbered}
-use Rattle.htmd_grammar.specs.Serialisation.{is_void}
+use Rattle.htmd_values.specs.Serialisation.{is_void}
 use Rattle.htmd_grammar.specs.ReaderSteps.{step}
-use Rattle.htmd_grammar.specs.ValueTrees.{AttributePair, comment, element, more, none, text}
+use Rattle.htmd_lexical.specs.AttributePairs.{AttributePair}
+use Rattle.htmd_values.specs.ValueTrees.{comment, element, more, none, text}
 use Rattle.htmd_grammar.proofs.ComputedSteps.{Denotes, denotes}
+use lib.Utf8.{encode}
 
 abbrev attribute_pair : List ℕ → List ℕ → AttributePair
 attribute_pair n v = record { name = n; value = v }

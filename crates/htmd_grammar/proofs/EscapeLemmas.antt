@@ -4,15 +4,15 @@ use Rattle.std.proofs.Common.{◌∷◌, ◌≡◌}
 use Rattle.std.proofs.lemmas.List.{append-nil}
 use Rattle.std.specs.Prelude.{◌==◌}
 use Rattle.std.proofs.lemmas.Bool.{not-true, and_parts, eqb-true}
-use lib.Utf8.{encode}
-use Rattle.htmd_grammar.specs.CharacterClasses.{lacks}
-use Rattle.htmd_grammar.specs.RawBlocks.{RefersToLineFeeds, line_feed_reference}
+use Rattle.htmd_lexical.specs.CharacterClasses.{lacks}
+use Rattle.htmd_values.specs.RawBlocks.{RefersToLineFeeds, line_feed_reference}
 use Rattle.htmd_grammar.specs.References.{Names, decode, may_be_numbered}
 use Rattle.htmd_grammar.specs.Rules.{character_named}
-use Rattle.htmd_grammar.specs.Serialisation.{escaped_html, is_no_break_space, text_byte, value_byte}
-use Rattle.htmd_grammar.proofs.BooleanLemmas.{lacks-append}
+use Rattle.htmd_values.specs.Serialisation.{escaped_html, is_no_break_space, text_byte, value_byte}
+use Rattle.htmd_lexical.proofs.BooleanLemmas.{lacks-append}
 use Rattle.htmd_grammar.proofs.ReferencedLineFeeds.{refers_first, refers_nothing, refers_plain, refers_split}
-use Rattle.htmd_grammar.proofs.Cases.{test}
+use Rattle.htmd_lexical.proofs.Cases.{test}
+use lib.Utf8.{encode}
 
 -- the names that the serialiser writes
 pub record HasEscapes (names : Names) : Type 0 where

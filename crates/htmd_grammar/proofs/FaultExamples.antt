@@ -1,16 +1,16 @@
 -- Texts and their faults: of each kind, and of two that fit a piece the lower.
-use lib.Utf8.{encode}
 use Rattle.std.proofs.Common.{Err, List, [], arith, codes, false, inl, length, refl, true, ℕ, ◌&&◌, ◌++◌, ◌+◌, ◌<◌, ◌≡◌}
 use Rattle.std.proofs.lemmas.Bool.Decides.{nat_tests}
 use Rattle.std.specs.Prelude.{nat_le}
-use Rattle.htmd_grammar.specs.Characters.{null}
-use Rattle.htmd_grammar.specs.CharacterClasses.{is_empty, lacks}
-use Rattle.htmd_grammar.specs.HtmlDocuments.{above_body, byte_order_mark}
+use Rattle.htmd_lexical.specs.Characters.{null}
+use Rattle.htmd_lexical.specs.CharacterClasses.{is_empty, lacks}
+use Rattle.htmd_grammar.specs.HtmlDocuments.{above_body}
+use Rattle.htmd_lexical.specs.ByteOrderMarks.{byte_order_mark}
 use Rattle.htmd_grammar.specs.Faults.{IsFault}
 use Rattle.htmd_grammar.specs.Nesting.{is_allowed}
 use Rattle.htmd_grammar.specs.References.{may_be_numbered}
 use Rattle.htmd_grammar.specs.Rules.{Rules, named_characters, project}
-use Rattle.htmd_grammar.specs.Serialisation.{is_void}
+use Rattle.htmd_values.specs.Serialisation.{is_void}
 use Rattle.htmd_grammar.specs.ReaderSteps.{State, started, step}
 use Rattle.htmd_grammar.specs.declared.fault.FaultKind.{FaultKind}
 use Rattle.htmd_grammar.specs.declared.fault.FaultKind.TheVariants.{BadNumber, DuplicateAttribute, MalformedComment}
@@ -20,6 +20,7 @@ use Rattle.htmd_grammar.specs.declared.fault.FaultKind.TheVariants.{StrayText, T
 use Rattle.htmd_grammar.specs.declared.fault.FaultKind.TheVariants.{UnknownReference}
 use Rattle.htmd_grammar.proofs.RightFaults.{faults_are_right}
 use Rattle.htmd_grammar.proofs.ComputedSteps.{steps, steps_reach}
+use lib.Utf8.{encode}
 
 -- a fault of the project's rules, as computed by this many steps
 fault_of : (rules : Rules) (n : ℕ) (s : List ℕ) (place : ℕ) (kind : FaultKind) → lacks null s ≡ true

@@ -7,30 +7,32 @@ use Rattle.std.specs.Char.{to_ascii_lowercase}
 use Rattle.std.specs.List.{list_any}
 use Rattle.std.proofs.lemmas.Bool.{not-true, and_parts, or_parts}
 use Rattle.std.proofs.Math.Bool.{or-true}
-use Rattle.htmd_grammar.specs.Characters.{ampersand, carriage_return, exclamation_mark, greater_than_sign, hyphen}
-use Rattle.htmd_grammar.specs.Characters.{less_than_sign, line_feed, number_sign, semicolon, slash}
-use Rattle.htmd_grammar.specs.WhiteSpace.{is_ascii_white_space}
-use Rattle.htmd_grammar.proofs.Cases.{test}
-use Rattle.htmd_grammar.specs.CharacterClasses.{begins_in_any_case, begins_with, behind_run, first_is, is_tag_name}
-use Rattle.htmd_grammar.specs.CharacterClasses.{is_tag_name_byte, lacks, leading_run}
+use Rattle.htmd_lexical.specs.Characters.{ampersand, carriage_return, exclamation_mark, greater_than_sign, hyphen}
+use Rattle.htmd_lexical.specs.Characters.{less_than_sign, line_feed, number_sign, semicolon, slash}
+use Rattle.htmd_lexical.specs.WhiteSpace.{is_ascii_white_space}
+use Rattle.htmd_lexical.proofs.Cases.{test}
+use Rattle.htmd_lexical.specs.CharacterClasses.{begins_in_any_case, begins_with, behind_run, first_is, is_tag_name}
+use Rattle.htmd_lexical.specs.CharacterClasses.{is_tag_name_byte, lacks, leading_run}
 use Rattle.htmd_grammar.specs.Comments.{before_comment_end, is_comment_text}
 use Rattle.htmd_grammar.specs.Faults.{HasComment, HasEndTag, HasTagForm, has_bad_number, is_bad_number}
 use Rattle.htmd_grammar.specs.RawContent.{ends_text, holds_text_alone}
 use Rattle.htmd_grammar.specs.References.{Names, Piece, behind, behind_ampersand, behind_number_sign, decode}
-use Rattle.htmd_grammar.specs.References.{may_be_numbered, named, number, number_at, numbered, piece_at, put, stands}
+use Rattle.htmd_grammar.specs.References.{may_be_numbered, named, number_at, numbered, piece_at, put, stands}
+use Rattle.htmd_lexical.specs.Numbers.{number}
 use Rattle.htmd_grammar.specs.References.{wrong}
 use Rattle.htmd_grammar.specs.Rules.{character_named}
 use Rattle.htmd_grammar.specs.ReaderSteps.{has_unknown_reference, is_unknown}
-use Rattle.htmd_grammar.specs.TagReading.{TagForm, form, form_within}
+use Rattle.htmd_lexical.specs.TagReading.{TagForm, form, form_within}
 use Rattle.htmd_grammar.specs.Tags.{decode_values, with_value}
-use Rattle.htmd_grammar.specs.ValueTrees.{AttributePair}
+use Rattle.htmd_lexical.specs.AttributePairs.{AttributePair}
 use Rattle.htmd_grammar.specs.declared.fault.FaultKind.{FaultKind}
 use Rattle.htmd_grammar.specs.declared.fault.FaultKind.TheVariants.{BadNumber, UnknownReference}
-use Rattle.htmd_grammar.proofs.BooleanLemmas.{if_then}
+use Rattle.htmd_lexical.proofs.BooleanLemmas.{if_then}
 use Rattle.htmd_grammar.proofs.CommentsLemmas.{before_close-append, cut}
 use Rattle.htmd_grammar.proofs.ReferencesLemmas.{Skips, piece_fits, put_parts, skips_fit}
 use Rattle.htmd_grammar.proofs.Soundness.{end_tag_at}
-use Rattle.htmd_grammar.proofs.TagReadingLemmas.{back_split, form_read, halts_name, rest_halts, white_back}
+use Rattle.htmd_lexical.proofs.LeadingRunsLemmas.{back_split}
+use Rattle.htmd_grammar.proofs.TagReadingLemmas.{form_read, halts_name, rest_halts, white_back}
 use Rattle.htmd_grammar.proofs.TagsLemmas.{values_parts}
 use Rattle.htmd_grammar.proofs.TextLemmas.{gap_no_name, name_cut, name_head, stop_head}
 

@@ -3,23 +3,24 @@ use Rattle.std.proofs.Common.{Bool, List, [], ap, append_assoc, codes, false, in
 use Rattle.std.proofs.Common.{◌++◌, ◌∙◌, ◌∷◌, ◌≡◌, ◌⊎◌}
 use Rattle.std.proofs.lemmas.List.{append-nil}
 use Rattle.std.specs.Char.{is_ascii_alphabetic, to_ascii_lowercase}
-use Rattle.htmd_grammar.specs.CharacterClasses.{is_tag_name_byte, leading_run}
+use Rattle.htmd_lexical.specs.CharacterClasses.{is_tag_name_byte, leading_run}
 use Rattle.htmd_grammar.specs.Fronts.{IsFront, IsKept, Opens, content_so_far, ends_at}
 use Rattle.htmd_grammar.specs.Grammar.{Apart, ReadsForest, ReadsTree, begins_with_row, may_end_rows, tag_name_at}
 use Rattle.htmd_grammar.specs.Nesting.{Context, is_table, is_table_part, is_tbody}
 use Rattle.htmd_grammar.specs.RawContent.{begins_markup, content_of, drops_line_feed, holds_text_alone}
 use Rattle.htmd_grammar.specs.Rules.{Rules}
-use Rattle.htmd_grammar.specs.Serialisation.{is_void}
+use Rattle.htmd_values.specs.Serialisation.{is_void}
 use Rattle.htmd_grammar.specs.ReaderSteps.{OpenElement, closed, names_of, with_children, ◌+++◌}
 use Rattle.htmd_grammar.specs.Tags.{IsEndTag, IsStartTag, IsTagForm}
-use Rattle.htmd_grammar.specs.ValueTrees.{AttributePair, ValueForest, ValueTree, comment, doctype, document, element}
-use Rattle.htmd_grammar.specs.ValueTrees.{more, none, text}
+use Rattle.htmd_lexical.specs.AttributePairs.{AttributePair}
+use Rattle.htmd_values.specs.ValueTrees.{ValueForest, ValueTree, comment, doctype, document, element}
+use Rattle.htmd_values.specs.ValueTrees.{more, none, text}
 use Rattle.htmd_grammar.proofs.Completeness.{content_over, decoded_full}
 use Rattle.htmd_grammar.proofs.NestingLemmas.{no_text_alone, one_name, tbody_place}
 use Rattle.htmd_grammar.proofs.TagReadingLemmas.{halts_name, rest_halts}
 use Rattle.htmd_grammar.proofs.TextLemmas.{Stops, name_cut, name_head, no_tag, run_not_stop}
 use Rattle.htmd_grammar.proofs.TreeTexts.{Inside, IsTextTree, node_no_title, row_start, stops_after}
-use Rattle.htmd_grammar.proofs.Cases.{test}
+use Rattle.htmd_lexical.proofs.Cases.{test}
 
 -- a text comes last
 abbrev pub ends_in_text : ValueForest → Bool

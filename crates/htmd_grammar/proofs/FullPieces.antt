@@ -3,17 +3,18 @@ use Rattle.std.proofs.Common.{Bool, List, None, Option, Some, [], codes, drop, i
 use Rattle.std.proofs.Common.{suc, ℕ, ◌&&◌, ◌+◌, ◌∙◌, ◌∷◌, ◌≡◌, ◌≢◌}
 use Rattle.std.specs.Char.{is_ascii_alphanumeric, is_ascii_digit, is_ascii_hexdigit}
 use Rattle.std.specs.Prelude.{◌==◌}
-use lib.Utf8.{encode}
-use Rattle.htmd_grammar.specs.CharacterClasses.{begins_in_any_case, behind_run, first_is, is_among, leading_run}
-use Rattle.htmd_grammar.specs.Comments.{normalized}
+use Rattle.htmd_lexical.specs.CharacterClasses.{begins_in_any_case, behind_run, first_is, is_among, leading_run}
+use Rattle.htmd_lexical.specs.LineEnds.{normalized}
 use Rattle.htmd_grammar.specs.RawContent.{has_script_escape, raw_text_of}
 use Rattle.htmd_grammar.specs.References.{Names, Piece, behind, behind_ampersand, behind_number_sign, decode}
-use Rattle.htmd_grammar.specs.References.{may_be_numbered, named, number, number_at, numbered, piece_at, put, stands}
+use Rattle.htmd_grammar.specs.References.{may_be_numbered, named, number_at, numbered, piece_at, put, stands}
+use Rattle.htmd_lexical.specs.Numbers.{number}
 use Rattle.htmd_grammar.specs.References.{wrong}
 use Rattle.htmd_grammar.specs.Rules.{character_named}
-use Rattle.htmd_grammar.proofs.BooleanLemmas.{and_false, if_then}
+use Rattle.htmd_lexical.proofs.BooleanLemmas.{and_false, if_then}
 use Rattle.htmd_grammar.proofs.ReferencesLemmas.{stands_same}
-use Rattle.htmd_grammar.proofs.Cases.{test}
+use Rattle.htmd_lexical.proofs.Cases.{test}
+use lib.Utf8.{encode}
 
 encode_full : (c : ℕ) → encode c ≢ []
 unfolding encode

@@ -6,24 +6,25 @@ use Rattle.std.specs.Char.{is_ascii_alphabetic}
 use Rattle.std.specs.List.{flat_map, list_all}
 use Rattle.std.specs.Prelude.{nat_le, ◌==◌}
 use Rattle.std.proofs.lemmas.Bool.{and_parts}
-use Rattle.htmd_grammar.specs.CharacterClasses.{holds_control, is_attribute_name, is_attribute_name_byte, is_empty}
-use Rattle.htmd_grammar.specs.CharacterClasses.{is_tag_name, is_tag_name_byte, lacks}
+use Rattle.htmd_lexical.specs.CharacterClasses.{holds_control, is_attribute_name, is_attribute_name_byte, is_empty}
+use Rattle.htmd_lexical.specs.CharacterClasses.{is_tag_name, is_tag_name_byte, lacks}
 use Rattle.htmd_grammar.specs.Grammar.{ReadsForest, ReadsTree, may_end_rows}
 use Rattle.htmd_grammar.specs.Nesting.{Context}
 use Rattle.htmd_grammar.specs.RawContent.{content_of}
 use Rattle.htmd_grammar.specs.ReadBack.{all_read_alone, reads_alone, attribute_reads_alone, is_special}
 use Rattle.htmd_grammar.specs.Rules.{Rules}
-use Rattle.htmd_grammar.specs.Serialisation.{all_markup_of, attribute_text, end_tag, escaped_html, is_no_break_space}
-use Rattle.htmd_grammar.specs.Serialisation.{is_raw_text, is_void, markup_of, serialisation, start_tag, text_byte}
-use Rattle.htmd_grammar.specs.Serialisation.{value_byte}
-use Rattle.htmd_grammar.specs.Tags.{attribute_names}
-use Rattle.htmd_grammar.specs.ValueTrees.{AttributePair, ValueForest, ValueTree, comment, doctype, document, element}
-use Rattle.htmd_grammar.specs.ValueTrees.{more, none, text}
-use Rattle.htmd_grammar.proofs.BooleanLemmas.{all_pass, lacks-append}
+use Rattle.htmd_values.specs.Serialisation.{all_markup_of, attribute_text, end_tag, escaped_html, is_no_break_space}
+use Rattle.htmd_values.specs.Serialisation.{is_raw_text, is_void, markup_of, serialisation, start_tag, text_byte}
+use Rattle.htmd_values.specs.Serialisation.{value_byte}
+use Rattle.htmd_lexical.specs.Attributes.{attribute_names}
+use Rattle.htmd_lexical.specs.AttributePairs.{AttributePair}
+use Rattle.htmd_values.specs.ValueTrees.{ValueForest, ValueTree, comment, doctype, document, element}
+use Rattle.htmd_values.specs.ValueTrees.{more, none, text}
+use Rattle.htmd_lexical.proofs.BooleanLemmas.{all_pass, lacks-append}
 use Rattle.htmd_grammar.proofs.NestingLemmas.{one_name}
 use Rattle.htmd_grammar.proofs.TagsLemmas.{AreTreeKeys, IsTreeName, decoded_names, tree_keys, tree_name}
 use Rattle.htmd_grammar.proofs.TreeTexts.{Inside}
-use Rattle.htmd_grammar.proofs.Cases.{test}
+use Rattle.htmd_lexical.proofs.Cases.{test}
 
 abbrev mutual
   -- the texts, comments and values of a tree lack the byte

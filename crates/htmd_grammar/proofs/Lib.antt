@@ -1,21 +1,11 @@
 -- The lemmas of the grammar: what is written and read back, the steps of a reader, fronts, faults, and worked examples.
-pub mod Cases
-pub mod SerialisationLemmas
-pub mod RawBlocksLemmas
-mod Examples
-pub mod BooleanLemmas
 pub mod NestingLemmas
 mod ReferencedLineFeeds
 mod EscapeLemmas
 mod TagNamesLemmas
 pub mod TagsLemmas
 pub mod ReadBackLemmas
-pub mod RunsLemmas
-pub mod CharacterClassesLemmas
 pub mod PreludeLemmas
-pub mod LineEndsLemmas
-pub mod NumbersLemmas
-pub mod NamesLemmas
 pub mod TagReadingLemmas
 pub mod TagSpellingLemmas
 pub mod TextLemmas

@@ -3,9 +3,9 @@ use Rattle.std.proofs.Common.{Bool, List, None, [], ap, arith, codes, false, inl
 use Rattle.std.proofs.Common.{ℕ, ◌<◌, ◌∙◌, ◌∷◌, ◌≡◌, ◌≤◌, ◌⊎◌}
 use Rattle.std.specs.Char.{is_ascii_alphabetic}
 use Rattle.std.specs.List.{list_all, list_any}
-use Rattle.htmd_grammar.specs.Characters.{exclamation_mark, less_than_sign, slash}
-use Rattle.htmd_grammar.specs.WhiteSpace.{is_ascii_white_space}
-use Rattle.htmd_grammar.specs.CharacterClasses.{are_distinct, begins_with, up_to}
+use Rattle.htmd_lexical.specs.Characters.{exclamation_mark, less_than_sign, slash}
+use Rattle.htmd_lexical.specs.WhiteSpace.{is_ascii_white_space}
+use Rattle.htmd_lexical.specs.CharacterClasses.{are_distinct, begins_with, up_to}
 use Rattle.htmd_grammar.specs.HtmlDocuments.{above_body}
 use Rattle.htmd_grammar.specs.Faults.{HasComment, HasEndTag, HasPiece, HasTagForm, Applies, begins_tag, context_for}
 use Rattle.htmd_grammar.specs.Faults.{has_bad_number, number_of}
@@ -13,10 +13,10 @@ use Rattle.htmd_grammar.specs.Nesting.{holds_parts, is_allowed, is_outside, pare
 use Rattle.htmd_grammar.specs.RawContent.{ends_text, holds_raw_text, raw_text_of}
 use Rattle.htmd_grammar.specs.References.{Names, Piece, piece_at, stands, wrong}
 use Rattle.htmd_grammar.specs.Rules.{Rules}
-use Rattle.htmd_grammar.specs.Serialisation.{is_void}
+use Rattle.htmd_values.specs.Serialisation.{is_void}
 use Rattle.htmd_grammar.specs.ReaderSteps.{OpenElement, has_unknown_reference, names_of}
-use Rattle.htmd_grammar.specs.Tags.{attribute_names}
-use Rattle.htmd_grammar.specs.ValueTrees.{AttributePair}
+use Rattle.htmd_lexical.specs.Attributes.{attribute_names}
+use Rattle.htmd_lexical.specs.AttributePairs.{AttributePair}
 use Rattle.htmd_grammar.specs.declared.fault.FaultKind.{FaultKind}
 use Rattle.htmd_grammar.specs.declared.fault.FaultKind.TheVariants.{BadNumber, DuplicateAttribute, MalformedComment}
 use Rattle.htmd_grammar.specs.declared.fault.FaultKind.TheVariants.{MalformedDeclaration, MalformedTag, NotAllowedHere}

@@ -1,23 +1,17 @@
 -- Which names may stand where.
 use Rattle.std.proofs.Common.{Bool, List, [], ap, codes, false, not, refl, sym, true, ℕ, ◌&&◌, ◌∙◌, ◌∷◌, ◌≡◌}
-use Rattle.std.proofs.lemmas.Slice.Eq.{bytes_eq-Decides}
 use Rattle.std.specs.List.{list_all}
 use Rattle.std.specs.Str.{bytes_eq}
 use Rattle.std.proofs.lemmas.Bool.{not-true, and_parts}
 use Rattle.std.proofs.Math.Bool.{or-false}
-use Rattle.htmd_grammar.specs.CharacterClasses.{is_among}
+use Rattle.htmd_lexical.specs.CharacterClasses.{is_among}
 use Rattle.htmd_grammar.specs.Nesting.{Context, fits_lists, fits_open_elements, fits_select, fits_table, is_allowed}
 use Rattle.htmd_grammar.specs.Nesting.{is_outside, is_row, is_table, is_table_part, is_tbody, parent_name}
 use Rattle.htmd_grammar.specs.RawContent.{holds_text_alone}
-use Rattle.htmd_grammar.specs.Serialisation.{is_void}
-use Rattle.htmd_grammar.proofs.BooleanLemmas.{and_false}
-use Rattle.htmd_grammar.proofs.Cases.{test}
-
-pub same_bytes : (n m : List ℕ) → bytes_eq n m ≡ true → n ≡ m
-same_bytes n m e = (bytes_eq-Decides n m).0 e
-
-pub bytes_same : (n : List ℕ) → bytes_eq n n ≡ true
-bytes_same n = (bytes_eq-Decides n n).1 refl
+use Rattle.htmd_values.specs.Serialisation.{is_void}
+use Rattle.htmd_lexical.proofs.BooleanLemmas.{and_false}
+use Rattle.htmd_lexical.proofs.Cases.{test}
+use Rattle.htmd_lexical.proofs.BytesLemmas.{same_bytes}
 
 pub one_name : (m n : List ℕ) → is_among (m ∷ []) n ≡ true → n ≡ m
 one_name m n e = same_bytes n m (sym (or-false (bytes_eq n m)) ∙ e)

@@ -5,12 +5,12 @@ use Rattle.std.proofs.lemmas.Bool.{eqb-true, and_parts}
 use Rattle.std.proofs.lemmas.Str.{encodes-chars}
 use Rattle.std.specs.List.{list_any}
 use Rattle.std.specs.Str.{IsUtf8, chars, encode_utf8_all}
+use Rattle.htmd_lexical.specs.BlankLines.{with_blank_lines}
+use Rattle.htmd_lexical.proofs.Cases.{test}
+use Rattle.htmd_lexical.specs.CharacterClasses.{lacks}
+use Rattle.htmd_values.specs.RawBlocks.{RefersToLineFeeds, raw_block, raw_html}
+use Rattle.htmd_values.proofs.RawBlocksLemmas.{raw_block-raw_html}
 use lib.Utf8.{encode}
-use Rattle.htmd_grammar.specs.BlankLines.{with_blank_lines}
-use Rattle.htmd_grammar.proofs.Cases.{test}
-use Rattle.htmd_grammar.specs.CharacterClasses.{lacks}
-use Rattle.htmd_grammar.specs.RawBlocks.{RefersToLineFeeds, raw_block, raw_html}
-use Rattle.htmd_grammar.proofs.RawBlocksLemmas.{raw_block-raw_html}
 
 encode-carriage_return : encode 13 ≡ 13 ∷ []
 unfolding encode

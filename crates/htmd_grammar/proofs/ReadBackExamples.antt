@@ -2,23 +2,24 @@
 use Rattle.std.proofs.Common.{Bool, List, [], codes, false, inl, inr, refl, subst, sym, true, ℕ, ◌++◌, ◌∷◌, ◌≡◌}
 use Rattle.std.specs.Prelude.{if◌then◌else◌, ◌==◌}
 use Rattle.std.proofs.lemmas.Bool.{eqb-true}
-use lib.Utf8.{encode}
-use Rattle.htmd_grammar.specs.Characters.{line_feed}
-use Rattle.htmd_grammar.proofs.Cases.{test}
+use Rattle.htmd_lexical.specs.Characters.{line_feed}
+use Rattle.htmd_lexical.proofs.Cases.{test}
 use Rattle.htmd_grammar.specs.HtmlDocuments.{above_body, below_body}
 use Rattle.htmd_grammar.specs.Grammar.{reads}
 use Rattle.htmd_grammar.specs.Nesting.{is_allowed}
-use Rattle.htmd_grammar.specs.RawBlocks.{RefersToLineFeeds, line_feed_reference, nothing, reference, same}
+use Rattle.htmd_values.specs.RawBlocks.{RefersToLineFeeds, line_feed_reference, nothing, reference, same}
 use Rattle.htmd_grammar.specs.ReadBack.{DenotesAlone, is_special}
 use Rattle.htmd_grammar.specs.References.{may_be_numbered}
 use Rattle.htmd_grammar.specs.Rules.{project}
-use Rattle.htmd_grammar.specs.Serialisation.{is_raw_text, is_void, serialisation}
+use Rattle.htmd_values.specs.Serialisation.{is_raw_text, is_void, serialisation}
 use Rattle.htmd_grammar.specs.ReaderSteps.{Reaches, State, finished, started, step}
-use Rattle.htmd_grammar.specs.ValueTrees.{AttributePair, ValueForest, ValueTree, element, more, none, text}
+use Rattle.htmd_lexical.specs.AttributePairs.{AttributePair}
+use Rattle.htmd_values.specs.ValueTrees.{ValueForest, ValueTree, element, more, none, text}
 use Rattle.htmd_grammar.proofs.ViablePrefixes.{sound_end}
 use Rattle.htmd_grammar.proofs.ReferencedLineFeeds.{refers_same}
 use Rattle.htmd_grammar.proofs.ComputedSteps.{Denotes, denotes, steps, steps_reach}
 use Rattle.htmd_grammar.proofs.Subtrees.{project_has, reads_back}
+use lib.Utf8.{encode}
 
 -- line feeds written as references where the flag says so, and as they are after the last flag
 abbrev referred : List Bool → List ℕ → List ℕ

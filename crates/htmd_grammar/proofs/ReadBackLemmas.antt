@@ -7,25 +7,27 @@ use Rattle.std.specs.List.{list_all}
 use Rattle.std.specs.Prelude.{◌==◌}
 use Rattle.std.specs.Str.{bytes_eq}
 use Rattle.std.proofs.lemmas.Bool.{not-true, and_parts, or_parts}
-use Rattle.htmd_grammar.specs.CharacterClasses.{lacks, up_to}
+use Rattle.htmd_lexical.specs.CharacterClasses.{lacks, up_to}
 use Rattle.htmd_grammar.specs.Grammar.{ReadsForest, ReadsTree, begins_with_row, may_end_rows}
 use Rattle.htmd_grammar.specs.Nesting.{Context, is_tbody, parent_name}
-use Rattle.htmd_grammar.specs.RawBlocks.{RefersToLineFeeds}
-use Rattle.htmd_grammar.specs.RawContent.{begins_markup, begins_own_end, content_of, drops_line_feed, ends_text}
+use Rattle.htmd_values.specs.RawBlocks.{RefersToLineFeeds}
+use Rattle.htmd_grammar.specs.RawContent.{begins_markup, content_of, drops_line_feed, ends_text}
+use Rattle.htmd_lexical.specs.EndTags.{begins_own_end}
 use Rattle.htmd_grammar.specs.RawContent.{holds_raw_text, holds_text_alone}
 use Rattle.htmd_grammar.specs.ReadBack.{all_read_alone, reads_alone, attribute_reads_alone, is_special}
 use Rattle.htmd_grammar.specs.References.{Names}
 use Rattle.htmd_grammar.specs.Rules.{Rules}
-use Rattle.htmd_grammar.specs.Serialisation.{all_markup_of, end_tag, is_raw_text, is_void, markup_of, start_tag}
+use Rattle.htmd_values.specs.Serialisation.{all_markup_of, end_tag, is_raw_text, is_void, markup_of, start_tag}
 use Rattle.htmd_grammar.specs.Tags.{IsEndTag, IsStartTag}
-use Rattle.htmd_grammar.specs.ValueTrees.{AttributePair, ValueForest, ValueTree, comment, doctype, document, element}
-use Rattle.htmd_grammar.specs.ValueTrees.{more, none, text}
-use Rattle.htmd_grammar.proofs.BooleanLemmas.{and_false}
+use Rattle.htmd_lexical.specs.AttributePairs.{AttributePair}
+use Rattle.htmd_values.specs.ValueTrees.{ValueForest, ValueTree, comment, doctype, document, element}
+use Rattle.htmd_values.specs.ValueTrees.{more, none, text}
+use Rattle.htmd_lexical.proofs.BooleanLemmas.{and_false}
 use Rattle.htmd_grammar.proofs.EscapeLemmas.{HasEscapes, text_back}
 use Rattle.htmd_grammar.proofs.NestingLemmas.{one_name, tbody_not_void}
 use Rattle.htmd_grammar.proofs.ReferencedLineFeeds.{refers_nothing, refers_split}
 use Rattle.htmd_grammar.proofs.TagsLemmas.{IsTreeName, end_tag_back, start_tag_back, tree_name}
-use Rattle.htmd_grammar.proofs.Cases.{test}
+use Rattle.htmd_lexical.proofs.Cases.{test}
 
 -- without `<` there is no markup
 pub no_markup : (b : ℕ) (s : List ℕ) → (b == 60) ≡ false → begins_markup (b ∷ s) ≡ false

@@ -7,21 +7,22 @@ use Rattle.std.proofs.lemmas.List.{append-nil}
 use Rattle.std.specs.List.{list_all}
 use Rattle.std.specs.Prelude.{◌==◌}
 use Rattle.std.proofs.lemmas.Bool.{not-true, and_parts}
-use Rattle.htmd_grammar.specs.WhiteSpace.{is_ascii_white_space}
-use Rattle.htmd_grammar.proofs.Cases.{test}
-use Rattle.htmd_grammar.specs.CharacterClasses.{is_empty, lacks, onward, up_to}
+use Rattle.htmd_lexical.specs.WhiteSpace.{is_ascii_white_space}
+use Rattle.htmd_lexical.proofs.Cases.{test}
+use Rattle.htmd_lexical.specs.CharacterClasses.{is_empty, lacks, onward, up_to}
 use Rattle.htmd_grammar.specs.Fronts.{IsFront}
 use Rattle.htmd_grammar.specs.Grammar.{ReadsForest, ReadsTree, reads}
 use Rattle.htmd_grammar.specs.Nesting.{Context, holds_parts, parent_name}
 use Rattle.htmd_grammar.specs.RawContent.{ends_text, holds_raw_text, text_of}
 use Rattle.htmd_grammar.specs.References.{Names, Piece, behind, decode, piece_at, put, stands, wrong}
 use Rattle.htmd_grammar.specs.Rules.{Rules}
-use Rattle.htmd_grammar.specs.ReaderSteps.{OpenElement, Reaches, State, Step, between, body, character_step, ends_rows, fault}
+use Rattle.htmd_grammar.specs.ReaderSteps.{OpenElement, Reaches, State, Step, between, body, character_step, ends_rows}
+use Rattle.htmd_grammar.specs.ReaderSteps.{fault}
 use Rattle.htmd_grammar.specs.ReaderSteps.{here, is_text_end, is_too_deep, markup_step, names_of, raw_text_step, step}
 use Rattle.htmd_grammar.specs.ReaderSteps.{tbody_step, text_step, via, with_tree}
-use Rattle.htmd_grammar.specs.ValueTrees.{text}
+use Rattle.htmd_values.specs.ValueTrees.{text}
 use Rattle.htmd_grammar.specs.declared.fault.FaultKind.TheVariants.{StrayText, TooDeep, Unclosed}
-use Rattle.htmd_grammar.proofs.BooleanLemmas.{if_then}
+use Rattle.htmd_lexical.proofs.BooleanLemmas.{if_then}
 use Rattle.htmd_grammar.proofs.Completeness.{IsNamed, at_piece, in_text, nothing_read, text_goes_on}
 use Rattle.htmd_grammar.proofs.CutLemmas.{piece_cut}
 use Rattle.htmd_grammar.proofs.FrontsLemmas.{grows, nodes_weaker}

@@ -2,8 +2,8 @@
 use Rattle.std.proofs.Common.{List, [], ap, inl, inr, not, refl, subst, sym, true, ℕ, ◌++◌, ◌∙◌, ◌∷◌, ◌≡◌, ◌⊎◌}
 use Rattle.std.specs.Prelude.{◌==◌}
 use Rattle.std.proofs.lemmas.Bool.{and_parts}
-use Rattle.htmd_grammar.specs.CharacterClasses.{lacks}
-use Rattle.htmd_grammar.specs.RawBlocks.{RefersToLineFeeds, line_feed_reference, nothing, reference, same}
+use Rattle.htmd_lexical.specs.CharacterClasses.{lacks}
+use Rattle.htmd_values.specs.RawBlocks.{RefersToLineFeeds, line_feed_reference, nothing, reference, same}
 
 pub refers_same : (s : List ℕ) → RefersToLineFeeds s s
 refers_same [] = nothing

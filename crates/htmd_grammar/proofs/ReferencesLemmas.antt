@@ -6,16 +6,17 @@ use Rattle.std.proofs.lemmas.Bool.Decides.{nat_tests}
 use Rattle.std.specs.Char.{is_ascii_alphanumeric, is_ascii_digit, is_ascii_hexdigit, to_ascii_lowercase}
 use Rattle.std.specs.Prelude.{◌==◌}
 use Rattle.std.proofs.lemmas.Bool.{not-true, and_parts, eqb-true}
-use Rattle.htmd_grammar.specs.CharacterClasses.{begins_in_any_case, behind_run, first_is, lacks, leading_run}
+use Rattle.htmd_lexical.specs.CharacterClasses.{begins_in_any_case, behind_run, first_is, lacks, leading_run}
 use Rattle.htmd_grammar.specs.References.{Names, Piece, behind, behind_ampersand, behind_number_sign, decode}
-use Rattle.htmd_grammar.specs.References.{may_be_numbered, named, number, number_at, numbered, piece_at, put, stands}
+use Rattle.htmd_grammar.specs.References.{may_be_numbered, named, number_at, numbered, piece_at, put, stands}
+use Rattle.htmd_lexical.specs.Numbers.{number}
 use Rattle.htmd_grammar.specs.References.{wrong}
 use Rattle.htmd_grammar.specs.Rules.{character_named}
 use Rattle.htmd_grammar.specs.ReaderSteps.{has_unknown_reference, is_unknown}
-use Rattle.htmd_grammar.proofs.BooleanLemmas.{if_then, lacks-append}
-use Rattle.htmd_grammar.proofs.TagReadingLemmas.{back_split}
+use Rattle.htmd_lexical.proofs.BooleanLemmas.{if_then, lacks-append}
+use Rattle.htmd_lexical.proofs.LeadingRunsLemmas.{back_split}
 use Rattle.htmd_grammar.proofs.TagSpellingLemmas.{at_head}
-use Rattle.htmd_grammar.proofs.Cases.{test}
+use Rattle.htmd_lexical.proofs.Cases.{test}
 
 -- what is in no piece after its first byte
 pub record IsBound (c : ℕ) : Type 0 where

@@ -1,14 +1,14 @@
 -- Texts that denote nothing, each with the place and kind of its refusal: the places, and what is too deep.
 use Rattle.std.proofs.Common.{codes, false, refl, true, ℕ}
-use lib.Utf8.{encode}
 use Rattle.htmd_grammar.specs.Nesting.{is_allowed}
 use Rattle.htmd_grammar.specs.References.{may_be_numbered}
 use Rattle.htmd_grammar.specs.Rules.{Rules, named_characters, project}
-use Rattle.htmd_grammar.specs.Serialisation.{is_void}
+use Rattle.htmd_values.specs.Serialisation.{is_void}
 use Rattle.htmd_grammar.specs.ReaderSteps.{step}
 use Rattle.htmd_grammar.specs.declared.fault.FaultKind.TheVariants.{BadNumber, MalformedComment, MalformedDeclaration}
 use Rattle.htmd_grammar.specs.declared.fault.FaultKind.TheVariants.{MalformedTag, NotAllowedHere, StrayText, TooDeep}
 use Rattle.htmd_grammar.proofs.ComputedSteps.{Refuses, refuses}
+use lib.Utf8.{encode}
 
 -- the project's names, and this many levels below the Document
 abbrev shallow_rules : ℕ → Rules

@@ -2,7 +2,7 @@
 use Rattle.std.proofs.Common.{Bool, Err, List, [], ap, codes, false, inl, inr, length, refl, subst, true, ℕ, ◌++◌, ◌+◌}
 use Rattle.std.proofs.Common.{◌<◌, ◌∷◌, ◌≡◌, ◌⊎◌}
 use Rattle.std.proofs.Math.Bool.{or-true}
-use Rattle.htmd_grammar.specs.CharacterClasses.{is_among, is_empty}
+use Rattle.htmd_lexical.specs.CharacterClasses.{is_among, is_empty}
 use Rattle.htmd_grammar.specs.HtmlDocuments.{above_body, body_text}
 use Rattle.htmd_grammar.specs.Faults.{IsPieceFault, Applies}
 use Rattle.htmd_grammar.specs.Fronts.{IsFront, with_text}
@@ -12,7 +12,7 @@ use Rattle.htmd_grammar.specs.Nesting.{Context}
 use Rattle.htmd_grammar.specs.RawContent.{content_of, ends_text, holds_raw_text, holds_text_alone}
 use Rattle.htmd_grammar.specs.Rules.{Rules}
 use Rattle.htmd_grammar.specs.ReaderSteps.{OpenElement, Reaches, names_of, started, step}
-use Rattle.htmd_grammar.specs.ValueTrees.{ValueForest, ValueTree, comment, doctype, document, element, more, none, text}
+use Rattle.htmd_values.specs.ValueTrees.{ValueForest, ValueTree, comment, doctype, document, element, more, none, text}
 use Rattle.htmd_grammar.specs.declared.fault.FaultKind.{FaultKind}
 use Rattle.htmd_grammar.specs.declared.fault.FaultKind.TheVariants.{BadNumber, DuplicateAttribute, MalformedComment}
 use Rattle.htmd_grammar.specs.declared.fault.FaultKind.TheVariants.{MalformedDeclaration, MalformedTag, NotAllowedHere}
@@ -27,7 +27,7 @@ use Rattle.htmd_grammar.proofs.Readings.{Middle, conf_start, kept}
 use Rattle.htmd_grammar.proofs.Soundness.{IsConf, flag, not_none, not_stops}
 use Rattle.htmd_grammar.proofs.StepFaults.{step_faulty}
 use Rattle.htmd_grammar.proofs.TreeTexts.{IsTextTree, node_no_title}
-use Rattle.htmd_grammar.proofs.Cases.{test}
+use Rattle.htmd_lexical.proofs.Cases.{test}
 
 module _ (rules : Rules) where
   -- if elements could stand there, a list of trees ends with something other than a text

@@ -10,11 +10,12 @@ use Rattle.std.specs.Prelude.{⊤, ◌==◌}
 use Rattle.std.specs.Str.{bytes_eq}
 use Rattle.std.proofs.lemmas.Bool.{not-true, and_parts, eqb-true}
 use Rattle.std.proofs.Math.Bool.{or-true, or-false}
-use Rattle.htmd_grammar.specs.WhiteSpace.{is_ascii_white_space}
-use Rattle.htmd_grammar.proofs.Cases.{test}
-use Rattle.htmd_grammar.specs.CharacterClasses.{are_distinct, begins_with, behind_run, first_is, is_among, is_empty}
-use Rattle.htmd_grammar.specs.CharacterClasses.{is_tag_name, is_tag_name_byte, leading_run, onward, up_to}
-use Rattle.htmd_grammar.specs.Comments.{before_comment_end, is_comment_text, normalized}
+use Rattle.htmd_lexical.specs.WhiteSpace.{is_ascii_white_space}
+use Rattle.htmd_lexical.proofs.Cases.{test}
+use Rattle.htmd_lexical.specs.CharacterClasses.{are_distinct, begins_with, behind_run, first_is, is_among, is_empty}
+use Rattle.htmd_lexical.specs.CharacterClasses.{is_tag_name, is_tag_name_byte, leading_run, onward, up_to}
+use Rattle.htmd_grammar.specs.Comments.{before_comment_end, is_comment_text}
+use Rattle.htmd_lexical.specs.LineEnds.{normalized}
 use Rattle.htmd_grammar.specs.Faults.{top_children}
 use Rattle.htmd_grammar.specs.Fronts.{IsFront, IsKept, content_so_far}
 use Rattle.htmd_grammar.specs.Grammar.{ReadsForest, ReadsTree, begins_with_row, may_end_rows, tag_name_at}
@@ -24,29 +25,33 @@ use Rattle.htmd_grammar.specs.RawContent.{content_of, drops_line_feed, ends_text
 use Rattle.htmd_grammar.specs.RawContent.{raw_text_of, text_of}
 use Rattle.htmd_grammar.specs.References.{Piece, after_line_feed, less_line_feed, piece_at, stands, wrong}
 use Rattle.htmd_grammar.specs.Rules.{Rules}
-use Rattle.htmd_grammar.specs.Serialisation.{is_void}
+use Rattle.htmd_values.specs.Serialisation.{is_void}
 use Rattle.htmd_grammar.specs.ReaderSteps.{OpenElement, State, Step, add, between, close_step, closed, comment_step}
 use Rattle.htmd_grammar.specs.ReaderSteps.{end_tag_name_at, ends_rows, fault, form_step, fresh, has_unknown_reference}
-use Rattle.htmd_grammar.specs.ReaderSteps.{is_implied, is_too_deep, markup_step, name_step, names_of, open_step, place_step}
+use Rattle.htmd_grammar.specs.ReaderSteps.{is_implied, is_too_deep, markup_step, name_step, names_of, open_step}
+use Rattle.htmd_grammar.specs.ReaderSteps.{place_step}
 use Rattle.htmd_grammar.specs.ReaderSteps.{raw_text_step, start_tag_step, tbody_step, values_step, with_tree, ◌+++◌}
-use Rattle.htmd_grammar.specs.TagReading.{TagForm, form, form_within, no_form}
-use Rattle.htmd_grammar.specs.Tags.{IsEndTag, IsStartTag, IsTagForm, attribute_names, decode_values}
-use Rattle.htmd_grammar.specs.ValueTrees.{AttributePair, ValueForest, ValueTree, comment, doctype, document, element}
-use Rattle.htmd_grammar.specs.ValueTrees.{more, none, text}
+use Rattle.htmd_lexical.specs.TagReading.{TagForm, form, form_within, no_form}
+use Rattle.htmd_grammar.specs.Tags.{IsEndTag, IsStartTag, IsTagForm, decode_values}
+use Rattle.htmd_lexical.specs.Attributes.{attribute_names}
+use Rattle.htmd_lexical.specs.AttributePairs.{AttributePair}
+use Rattle.htmd_values.specs.ValueTrees.{ValueForest, ValueTree, comment, doctype, document, element}
+use Rattle.htmd_values.specs.ValueTrees.{more, none, text}
 use Rattle.htmd_grammar.specs.declared.fault.FaultKind.TheVariants.{DuplicateAttribute, MalformedComment}
 use Rattle.htmd_grammar.specs.declared.fault.FaultKind.TheVariants.{MalformedDeclaration, MalformedTag, SelfClosing}
 use Rattle.htmd_grammar.specs.declared.fault.FaultKind.TheVariants.{StrayEndTag, TagOutside, TooDeep, UnknownReference}
-use Rattle.htmd_grammar.proofs.BooleanLemmas.{if_then}
+use Rattle.htmd_lexical.proofs.BooleanLemmas.{if_then}
 use Rattle.htmd_grammar.proofs.CommentsLemmas.{before_close-split, dashes}
 use Rattle.htmd_grammar.proofs.Completeness.{at_piece, content_over}
 use Rattle.htmd_grammar.proofs.CutLemmas.{kept_cut, piece_cut}
 use Rattle.htmd_grammar.proofs.FrontsLemmas.{closes, content_plain, ends_in_text, front_weaker, grows, kept_tag}
 use Rattle.htmd_grammar.proofs.FrontsLemmas.{row_append, tag_starts}
 use Rattle.htmd_grammar.proofs.FullPieces.{raw_text_full}
-use Rattle.htmd_grammar.proofs.NestingLemmas.{no_text_alone, one_name, row_not_void, same_bytes, table_takes}
+use Rattle.htmd_grammar.proofs.NestingLemmas.{no_text_alone, one_name, row_not_void, table_takes}
+use Rattle.htmd_lexical.proofs.BytesLemmas.{same_bytes}
 use Rattle.htmd_grammar.proofs.NestingLemmas.{text_alone_passes}
 use Rattle.htmd_grammar.proofs.ReferencesLemmas.{drop_cut}
-use Rattle.htmd_grammar.proofs.TagReadingLemmas.{back_split, front_all}
+use Rattle.htmd_lexical.proofs.LeadingRunsLemmas.{back_split, front_all}
 use Rattle.htmd_grammar.proofs.TagSpellingLemmas.{at_head, tag_spelled}
 use Rattle.htmd_grammar.proofs.TextLemmas.{Stops, letter_not, markup_head, name_head, no_tag, stop_head, stops-append}
 use Rattle.htmd_grammar.proofs.TreeTexts.{IsTextTree, node_stops}

@@ -7,13 +7,14 @@ use Rattle.std.specs.List.{list_all, list_any}
 use Rattle.std.specs.Str.{bytes_eq}
 use Rattle.std.proofs.lemmas.Bool.{not-true, not-false, and_parts, eqb-true, ltb-true}
 use Rattle.std.proofs.Math.Bool.{or-false}
-use Rattle.htmd_grammar.specs.Characters.{exclamation_mark, greater_than_sign, hyphen, less_than_sign, question_mark}
-use Rattle.htmd_grammar.specs.Characters.{slash}
-use Rattle.htmd_grammar.specs.WhiteSpace.{is_ascii_white_space}
-use Rattle.htmd_grammar.proofs.Cases.{test}
-use Rattle.htmd_grammar.specs.CharacterClasses.{are_distinct, begins_with, behind_run, first_is, is_empty, is_tag_name}
-use Rattle.htmd_grammar.specs.CharacterClasses.{is_tag_name_byte, leading_run, onward, up_to}
-use Rattle.htmd_grammar.specs.Comments.{before_comment_end, is_comment_text, normalized}
+use Rattle.htmd_lexical.specs.Characters.{exclamation_mark, greater_than_sign, hyphen, less_than_sign, question_mark}
+use Rattle.htmd_lexical.specs.Characters.{slash}
+use Rattle.htmd_lexical.specs.WhiteSpace.{is_ascii_white_space}
+use Rattle.htmd_lexical.proofs.Cases.{test}
+use Rattle.htmd_lexical.specs.CharacterClasses.{are_distinct, begins_with, behind_run, first_is, is_empty, is_tag_name}
+use Rattle.htmd_lexical.specs.CharacterClasses.{is_tag_name_byte, leading_run, onward, up_to}
+use Rattle.htmd_grammar.specs.Comments.{before_comment_end, is_comment_text}
+use Rattle.htmd_lexical.specs.LineEnds.{normalized}
 use Rattle.htmd_grammar.specs.HtmlDocuments.{above_body}
 use Rattle.htmd_grammar.specs.Faults.{HasComment, HasEndTag, HasTagForm, IsTextWithReferences, Applies, context_for}
 use Rattle.htmd_grammar.specs.Faults.{has_bad_number, number_of}
@@ -21,20 +22,24 @@ use Rattle.htmd_grammar.specs.Nesting.{Context, holds_parts, is_allowed, is_outs
 use Rattle.htmd_grammar.specs.RawContent.{ends_text, holds_raw_text, holds_text_alone, raw_text_of, text_of}
 use Rattle.htmd_grammar.specs.References.{Piece, piece_at, stands, wrong}
 use Rattle.htmd_grammar.specs.Rules.{Rules}
-use Rattle.htmd_grammar.specs.Serialisation.{is_void}
+use Rattle.htmd_values.specs.Serialisation.{is_void}
 use Rattle.htmd_grammar.specs.ReaderSteps.{OpenElement, State, Step, character_step, close_step, comment_step}
 use Rattle.htmd_grammar.specs.ReaderSteps.{declaration_step, end_tag_step, ends_rows, fault, form_step, fresh}
-use Rattle.htmd_grammar.specs.ReaderSteps.{has_unknown_reference, is_text_end, is_too_deep, markup_step, name_step, names_of}
-use Rattle.htmd_grammar.specs.ReaderSteps.{open_step, place_step, raw_text_step, start_tag_step, step, text_step, values_step}
-use Rattle.htmd_grammar.specs.TagReading.{TagForm, form, no_form}
-use Rattle.htmd_grammar.specs.Tags.{attribute_names, decode_values}
-use Rattle.htmd_grammar.specs.ValueTrees.{AttributePair, comment, none}
+use Rattle.htmd_grammar.specs.ReaderSteps.{has_unknown_reference, is_text_end, is_too_deep, markup_step, name_step}
+use Rattle.htmd_grammar.specs.ReaderSteps.{names_of}
+use Rattle.htmd_grammar.specs.ReaderSteps.{open_step, place_step, raw_text_step, start_tag_step, step, text_step}
+use Rattle.htmd_grammar.specs.ReaderSteps.{values_step}
+use Rattle.htmd_lexical.specs.TagReading.{TagForm, form, no_form}
+use Rattle.htmd_lexical.specs.Attributes.{attribute_names}
+use Rattle.htmd_grammar.specs.Tags.{decode_values}
+use Rattle.htmd_lexical.specs.AttributePairs.{AttributePair}
+use Rattle.htmd_values.specs.ValueTrees.{comment, none}
 use Rattle.htmd_grammar.specs.declared.fault.FaultKind.{FaultKind}
 use Rattle.htmd_grammar.specs.declared.fault.FaultKind.TheVariants.{BadNumber, DuplicateAttribute, MalformedComment}
 use Rattle.htmd_grammar.specs.declared.fault.FaultKind.TheVariants.{MalformedDeclaration, MalformedTag, NotAllowedHere}
 use Rattle.htmd_grammar.specs.declared.fault.FaultKind.TheVariants.{ScriptEscape, SelfClosing, StrayEndTag, StrayText}
 use Rattle.htmd_grammar.specs.declared.fault.FaultKind.TheVariants.{TagOutside, TooDeep, Unclosed, UnknownReference}
-use Rattle.htmd_grammar.proofs.BooleanLemmas.{if_then}
+use Rattle.htmd_lexical.proofs.BooleanLemmas.{if_then}
 use Rattle.htmd_grammar.proofs.CommentsLemmas.{before_close-split, cut, cut_same, dashes}
 use Rattle.htmd_grammar.proofs.FaultPieces.{IsWrongReference, comment_is_read, end_is_read, end_tag_there, form_is_read}
 use Rattle.htmd_grammar.proofs.FaultPieces.{form_letter, form_read_behind, name_read, piece_wrong, same_form, two_bytes}
@@ -42,9 +47,10 @@ use Rattle.htmd_grammar.proofs.FaultPieces.{values_right, values_wrong}
 use Rattle.htmd_grammar.proofs.LowerFaults.{NoneBelow, TagPassed, TextPassed, none_below_comment, none_below_end}
 use Rattle.htmd_grammar.proofs.LowerFaults.{none_below_five, none_of_comment, none_of_end, none_of_tag, none_of_text}
 use Rattle.htmd_grammar.proofs.LowerFaults.{none_below_nothing, none_below_tag, none_below_text, not_both}
-use Rattle.htmd_grammar.proofs.NestingLemmas.{bytes_same, one_name, row_fits, same_bytes}
+use Rattle.htmd_lexical.proofs.BytesLemmas.{bytes_same, same_bytes}
+use Rattle.htmd_grammar.proofs.NestingLemmas.{one_name, row_fits}
 use Rattle.htmd_grammar.proofs.Soundness.{shallow}
-use Rattle.htmd_grammar.proofs.TagReadingLemmas.{back_split}
+use Rattle.htmd_lexical.proofs.LeadingRunsLemmas.{back_split}
 use Rattle.htmd_grammar.proofs.TagSpellingLemmas.{tag_spelled}
 use Rattle.htmd_grammar.specs.ReaderSteps as steps
 use Rattle.htmd_grammar.proofs.Readings.{empty_is}

@@ -2,23 +2,24 @@
 use Rattle.std.proofs.Common.{Bool, List, [], ap, inl, inr, refl, rules, subst, sym, true, ℕ, ◌++◌, ◌∙◌, ◌∷◌, ◌≡◌, ◌⊎◌}
 use Rattle.std.proofs.lemmas.List.{append-nil}
 use Rattle.std.specs.Bool.{MatchBool}
-use Rattle.htmd_grammar.specs.CharacterClasses.{lacks}
+use Rattle.htmd_lexical.specs.CharacterClasses.{lacks}
 use Rattle.htmd_grammar.specs.Grammar.{ReadsForest, ReadsTree, begins_with_row, may_end_rows, reads}
 use Rattle.htmd_grammar.specs.Nesting.{Context, is_tbody}
-use Rattle.htmd_grammar.specs.RawBlocks.{RefersToLineFeeds}
+use Rattle.htmd_values.specs.RawBlocks.{RefersToLineFeeds}
 use Rattle.htmd_grammar.specs.RawContent.{content_of}
 use Rattle.htmd_grammar.specs.ReadBack.{AreIn, DenotesAlone, IsIn, RawBlockReadsBack, ReadsBack, reads_alone}
 use Rattle.htmd_grammar.specs.Rules.{Rules, project}
-use Rattle.htmd_grammar.specs.Serialisation.{is_void, serialisation}
+use Rattle.htmd_values.specs.Serialisation.{is_void, serialisation}
 use Rattle.htmd_grammar.specs.Tags.{IsEndTag, IsStartTag}
-use Rattle.htmd_grammar.specs.ValueTrees.{AttributePair, ValueForest, ValueTree, comment, doctype, document, element}
-use Rattle.htmd_grammar.specs.ValueTrees.{more, none, text}
+use Rattle.htmd_lexical.specs.AttributePairs.{AttributePair}
+use Rattle.htmd_values.specs.ValueTrees.{ValueForest, ValueTree, comment, doctype, document, element}
+use Rattle.htmd_values.specs.ValueTrees.{more, none, text}
 use Rattle.htmd_grammar.proofs.EscapeLemmas.{HasEscapes}
 use Rattle.htmd_grammar.proofs.LackLemmas.{ser_no_carriage_return}
 use Rattle.htmd_grammar.proofs.RawReadBack.{block_refers}
 use Rattle.htmd_grammar.proofs.ReadBackLemmas.{node_back}
 use Rattle.htmd_grammar.proofs.Uniqueness.{unique_in}
-use Rattle.htmd_grammar.proofs.Cases.{test}
+use Rattle.htmd_lexical.proofs.Cases.{test}
 
 module _ (rules : Rules) (d : Context) (k : List ℕ) (attributes : List AttributePair) (us : ValueForest) where
   abbrev Sought : ValueTree

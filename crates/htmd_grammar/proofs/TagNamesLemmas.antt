@@ -5,10 +5,10 @@ use Rattle.std.specs.Char.{is_ascii_alphabetic, is_ascii_uppercase, to_ascii_low
 use Rattle.std.specs.List.{list_all}
 use Rattle.std.specs.Prelude.{nat_lt, ◌==◌}
 use Rattle.std.proofs.lemmas.Bool.{and_parts}
-use Rattle.htmd_grammar.specs.CharacterClasses.{holds_control, is_attribute_name, is_attribute_name_byte, is_empty}
-use Rattle.htmd_grammar.specs.CharacterClasses.{is_tag_name, is_tag_name_byte, lacks}
-use Rattle.htmd_grammar.proofs.BooleanLemmas.{all_pass}
-use Rattle.htmd_grammar.proofs.Cases.{test}
+use Rattle.htmd_lexical.specs.CharacterClasses.{holds_control, is_attribute_name, is_attribute_name_byte, is_empty}
+use Rattle.htmd_lexical.specs.CharacterClasses.{is_tag_name, is_tag_name_byte, lacks}
+use Rattle.htmd_lexical.proofs.BooleanLemmas.{all_pass}
+use Rattle.htmd_lexical.proofs.Cases.{test}
 
 -- what is said of a byte in small letters is said for capital letters and for the others
 pub by_lower : (P : ℕ → ℕ → Type 0) (b : ℕ) → (is_ascii_uppercase b ≡ true → P b (b + 32))

@@ -1,66 +1,20 @@
 -- The reader takes a tag apart as the grammar spells it.
-use Rattle.std.proofs.Common.{Bool, List, [], ap, append_assoc, arith, drop, eqb, false, inl, inr, length, length-append}
+use Rattle.std.proofs.Common.{Bool, List, [], ap, append_assoc, arith, false, inl, inr, length, length-append}
 use Rattle.std.proofs.Common.{not, refl, suc, sym, true, zero, ℕ, ◌&&◌, ◌++◌, ◌<◌, ◌∙◌, ◌∷◌, ◌≡◌, ◌≢◌, ◌⊎◌}
 use Rattle.std.proofs.lemmas.Bool.Decides.{nat_tests}
 use Rattle.std.specs.List.{list_all}
 use Rattle.std.specs.Prelude.{◌==◌}
-use Rattle.std.proofs.lemmas.Bool.{not-false, not-true, and_parts}
-use Rattle.htmd_grammar.specs.WhiteSpace.{is_ascii_white_space}
-use Rattle.htmd_grammar.proofs.Cases.{test}
-use Rattle.htmd_grammar.specs.CharacterClasses.{behind_run, first_is, is_attribute_name, is_attribute_name_byte}
-use Rattle.htmd_grammar.specs.CharacterClasses.{is_empty, is_tag_name_byte, is_unquoted_byte, lacks, leading_run}
+use Rattle.std.proofs.lemmas.Bool.{not-true, and_parts}
+use Rattle.htmd_lexical.specs.WhiteSpace.{is_ascii_white_space}
+use Rattle.htmd_lexical.proofs.Cases.{test}
+use Rattle.htmd_lexical.specs.CharacterClasses.{behind_run, first_is, is_attribute_name, is_attribute_name_byte}
+use Rattle.htmd_lexical.specs.CharacterClasses.{is_empty, is_tag_name_byte, is_unquoted_byte, lacks}
 use Rattle.htmd_grammar.specs.ReaderSteps.{body}
-use Rattle.htmd_grammar.specs.TagReading.{attribute, behind_attribute_name, behind_gap, form, form_within, is_other}
-use Rattle.htmd_grammar.specs.TagReading.{malformed, next_part, quoted_value, tag_end, value_part}
+use Rattle.htmd_lexical.specs.TagReading.{attribute, behind_attribute_name, behind_gap, form, form_within, is_other}
+use Rattle.htmd_lexical.specs.TagReading.{next_part, quoted_value, tag_end, value_part}
 use Rattle.htmd_grammar.specs.Tags.{IsTagRest, IsValue, optional_slash}
-use Rattle.htmd_grammar.specs.ValueTrees.{AttributePair}
-
--- nothing follows that passes the test
-abbrev pub halts : (ℕ → Bool) → List ℕ → Bool
-halts p [] = true
-halts p (b ∷ s) = not (p b)
-
-pub front_cut : (p : ℕ → Bool) (w r : List ℕ) → list_all p w ≡ true → halts p r ≡ true
-    → (leading_run p (w ++ r) ≡ w) × (behind_run p (w ++ r) ≡ r)
-front_cut p [] [] l h = (refl, refl)
-front_cut p [] (b ∷ r) l h = let q = not-true (p b) h in (rw q refl, rw q refl)
-front_cut p (b ∷ w) r l h =
-    let k = and_parts (p b) (list_all p w) l in
-    let i = front_cut p w r k.1 h in
-    (rw (k.0, i.0) refl, rw (k.0, i.1) refl)
-
-pub back_split : (p : ℕ → Bool) (s : List ℕ) → s ≡ leading_run p s ++ behind_run p s
-back_split p [] = refl
-back_split p (b ∷ s) = test (p b) (λ q. rw q (ap (λ (y : List ℕ). b ∷ y) (back_split p s))) (λ q. rw q refl)
-
-pub front_all : (p : ℕ → Bool) (s : List ℕ) → list_all p (leading_run p s) ≡ true
-front_all p [] = refl
-front_all p (b ∷ s) = test (p b) (λ q. rw q (rw q (front_all p s))) (λ q. rw q refl)
-
-pub back_halts : (p : ℕ → Bool) (s : List ℕ) → halts p (behind_run p s) ≡ true
-back_halts p [] = refl
-back_halts p (b ∷ s) = test (p b) (λ q. rw q (back_halts p s)) (λ q. rw q (rw q refl))
-
--- a run that is whole
-pub front_whole : (p : ℕ → Bool) (w r : List ℕ) → leading_run p (w ++ r) ≡ w
-    → (list_all p w ≡ true) × (halts p r ≡ true)
-front_whole p [] [] e = (refl, refl)
-front_whole p [] (b ∷ r) e = test (p b) (λ q. let z = rw q at e in absurd (cc)) (λ q. (refl, rw q refl))
-front_whole p (b ∷ w) r e = test (p b)
-    (λ q. let z = rw q at e in let i = front_whole p w r (cc) in (rw (q, i.0) refl, i.1))
-    (λ q. let z = rw q at e in absurd (cc))
-
-pub halts_append : (p : ℕ → Bool) (r x : List ℕ) → r ≢ [] → halts p r ≡ true → halts p (r ++ x) ≡ true
-halts_append p [] x n h = absurd (n refl)
-halts_append p (b ∷ r) x n h = h
-
-pub halts_cut : (p : ℕ → Bool) (r x : List ℕ) → halts p (r ++ x) ≡ true → halts p r ≡ true
-halts_cut p [] x h = refl
-halts_cut p (b ∷ r) x h = h
-
-pub filled : (s : List ℕ) → s ≢ [] → is_empty s ≡ false
-filled [] n = absurd (n refl)
-filled (b ∷ s) n = refl
+use Rattle.htmd_lexical.specs.AttributePairs.{AttributePair}
+use Rattle.htmd_lexical.proofs.LeadingRunsLemmas.{halts, front_cut, front_whole, halts_append, filled}
 
 -- the reading is a function of the parts
 lex_gap : (gap r : List ℕ) → list_all is_ascii_white_space gap ≡ true → halts is_ascii_white_space r ≡ true
@@ -304,25 +258,3 @@ halts_name [] h = refl
 halts_name (b ∷ s) h = ap not (name_is_key b (not-true (is_attribute_name_byte b) h))
 
 -- ---- values in quotes
-
--- what ends a run of other characters
-quote_behind : (q : ℕ) (s : List ℕ)
-    → first_is q (behind_run (is_other q) s) ≡ not (is_empty (behind_run (is_other q) s))
-quote_behind q [] = refl
-quote_behind q (b ∷ s) = test (eqb b q) (λ e. rw (e, e) refl) (λ e. rw e (quote_behind q s))
-
-pub quote_lacks : (q : ℕ) (name s behind : List ℕ) → behind ≡ behind_run (is_other q) s
-    → first_is q behind ≡ false
-    → malformed ≡ quoted_value q name s
-quote_lacks q name s behind e f =
-    let k : not (is_empty (behind_run (is_other q) s)) ≡ false = sym (quote_behind q s) ∙ rw e at f in
-    let m : is_empty (behind_run (is_other q) s) ≡ true = not-false _ k in
-    rw m refl
-
-pub quote_ends : (q : ℕ) (name s value behind rest : List ℕ) → value ≡ leading_run (is_other q) s
-    → behind ≡ behind_run (is_other q) s → first_is q behind ≡ true → rest ≡ drop 1 behind
-    → attribute name value rest ≡ quoted_value q name s
-quote_ends q name s value behind rest d e f g =
-    let k : not (is_empty (behind_run (is_other q) s)) ≡ true = sym (quote_behind q s) ∙ rw e at f in
-    let m : is_empty (behind_run (is_other q) s) ≡ false = not-true _ k in
-    rw (m, d, g, e) refl

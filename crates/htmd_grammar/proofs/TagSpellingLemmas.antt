@@ -5,19 +5,19 @@ use Rattle.std.specs.Char.{to_ascii_lowercase}
 use Rattle.std.specs.List.{list_all}
 use Rattle.std.specs.Prelude.{◌==◌}
 use Rattle.std.proofs.lemmas.Bool.{not-true, and_parts, eqb-true}
-use Rattle.htmd_grammar.specs.Characters.{slash}
-use Rattle.htmd_grammar.specs.WhiteSpace.{is_ascii_white_space}
-use Rattle.htmd_grammar.proofs.Cases.{test}
-use Rattle.htmd_grammar.specs.CharacterClasses.{behind_run, first_is, is_attribute_name, is_attribute_name_byte}
-use Rattle.htmd_grammar.specs.CharacterClasses.{is_empty, is_unquoted_byte, lacks, leading_run}
+use Rattle.htmd_lexical.specs.Characters.{slash}
+use Rattle.htmd_lexical.specs.WhiteSpace.{is_ascii_white_space}
+use Rattle.htmd_lexical.proofs.Cases.{test}
+use Rattle.htmd_lexical.specs.CharacterClasses.{behind_run, first_is, is_attribute_name, is_attribute_name_byte}
+use Rattle.htmd_lexical.specs.CharacterClasses.{is_empty, is_unquoted_byte, lacks, leading_run}
 use Rattle.htmd_grammar.specs.ReaderSteps.{body}
-use Rattle.htmd_grammar.specs.TagReading.{TagForm, TagPart, attribute, behind_attribute_name, behind_gap, behind_slash}
-use Rattle.htmd_grammar.specs.TagReading.{form, form_behind, form_within, is_other, malformed, next_part, no_form}
-use Rattle.htmd_grammar.specs.TagReading.{quoted_value, tag_end, unquoted_value, value_part, with_attribute}
+use Rattle.htmd_lexical.specs.TagReading.{TagForm, TagPart, attribute, behind_attribute_name, behind_gap, behind_slash}
+use Rattle.htmd_lexical.specs.TagReading.{form, form_behind, form_within, is_other, malformed, next_part, no_form}
+use Rattle.htmd_lexical.specs.TagReading.{quoted_value, tag_end, unquoted_value, value_part, with_attribute}
 use Rattle.htmd_grammar.specs.Tags.{IsEqualsSign, IsTagRest, IsValue, optional_slash}
-use Rattle.htmd_grammar.specs.ValueTrees.{AttributePair}
-use Rattle.htmd_grammar.proofs.BooleanLemmas.{if_then}
-use Rattle.htmd_grammar.proofs.TagReadingLemmas.{back_halts, back_split, front_all, front_cut, halts, halts_cut}
+use Rattle.htmd_lexical.specs.AttributePairs.{AttributePair}
+use Rattle.htmd_lexical.proofs.BooleanLemmas.{if_then}
+use Rattle.htmd_lexical.proofs.LeadingRunsLemmas.{back_halts, back_split, front_all, front_cut, halts, halts_cut}
 
 pub at_head : (b : ℕ) (s : List ℕ) → first_is b s ≡ true → s ≡ b ∷ drop 1 s
 at_head b [] e = absurd (cc)

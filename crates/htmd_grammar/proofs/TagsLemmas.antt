@@ -5,15 +5,16 @@ use Rattle.std.specs.Char.{to_ascii_lowercase}
 use Rattle.std.specs.List.{flat_map, list_all}
 use Rattle.std.specs.Prelude.{⊤}
 use Rattle.std.proofs.lemmas.Bool.{and_parts}
-use Rattle.htmd_grammar.specs.CharacterClasses.{are_distinct, is_attribute_name, is_tag_name, lacks}
-use Rattle.htmd_grammar.specs.RawBlocks.{RefersToLineFeeds}
+use Rattle.htmd_lexical.specs.CharacterClasses.{are_distinct, is_attribute_name, is_tag_name, lacks}
+use Rattle.htmd_values.specs.RawBlocks.{RefersToLineFeeds}
 use Rattle.htmd_grammar.specs.ReadBack.{attribute_reads_alone}
 use Rattle.htmd_grammar.specs.References.{Names, decode}
-use Rattle.htmd_grammar.specs.Serialisation.{attribute_text, end_tag, escaped_html, start_tag, value_byte}
-use Rattle.htmd_grammar.specs.Tags.{IsEndTag, IsStartTag, IsTagForm, IsTagRest, attribute_names, decode_values}
+use Rattle.htmd_values.specs.Serialisation.{attribute_text, end_tag, escaped_html, start_tag, value_byte}
+use Rattle.htmd_grammar.specs.Tags.{IsEndTag, IsStartTag, IsTagForm, IsTagRest, decode_values}
+use Rattle.htmd_lexical.specs.Attributes.{attribute_names}
 use Rattle.htmd_grammar.specs.Tags.{with_value}
-use Rattle.htmd_grammar.specs.ValueTrees.{AttributePair}
-use Rattle.htmd_grammar.proofs.BooleanLemmas.{lacks-append}
+use Rattle.htmd_lexical.specs.AttributePairs.{AttributePair}
+use Rattle.htmd_lexical.proofs.BooleanLemmas.{lacks-append}
 use Rattle.htmd_grammar.proofs.EscapeLemmas.{HasEscapes, value_back}
 use Rattle.htmd_grammar.proofs.ReferencedLineFeeds.{refers_plain, refers_split}
 use Rattle.htmd_grammar.proofs.TagNamesLemmas.{is_key-lower, is_name-lower, key_lacks, lower_name, name_lacks}

@@ -7,16 +7,17 @@ use Rattle.std.specs.Char.{is_ascii_alphabetic, to_ascii_lowercase}
 use Rattle.std.specs.List.{list_all}
 use Rattle.std.specs.Prelude.{◌==◌}
 use Rattle.std.proofs.lemmas.Bool.{not-true, and_parts, or_parts, eqb-true}
-use Rattle.htmd_grammar.specs.WhiteSpace.{is_ascii_white_space}
-use Rattle.htmd_grammar.proofs.Cases.{test}
-use Rattle.htmd_grammar.specs.CharacterClasses.{behind_run, is_tag_name, is_tag_name_byte, lacks, leading_run, onward}
-use Rattle.htmd_grammar.specs.CharacterClasses.{up_to}
+use Rattle.htmd_lexical.specs.WhiteSpace.{is_ascii_white_space}
+use Rattle.htmd_lexical.proofs.Cases.{test}
+use Rattle.htmd_lexical.specs.CharacterClasses.{behind_run, is_tag_name, is_tag_name_byte, lacks, leading_run, onward}
+use Rattle.htmd_lexical.specs.CharacterClasses.{up_to}
 use Rattle.htmd_grammar.specs.Grammar.{tag_name_at}
-use Rattle.htmd_grammar.specs.RawContent.{begins_markup, begins_own_end, ends_text, goes_on_with_name, holds_text_alone}
+use Rattle.htmd_grammar.specs.RawContent.{begins_markup, ends_text, holds_text_alone}
+use Rattle.htmd_lexical.specs.EndTags.{begins_own_end, goes_on_with_name}
 use Rattle.htmd_grammar.specs.ReaderSteps.{end_tag_name_at, ends_rows}
-use Rattle.htmd_grammar.proofs.BooleanLemmas.{and_false, if_then}
+use Rattle.htmd_lexical.proofs.BooleanLemmas.{and_false, if_then}
 use Rattle.htmd_grammar.proofs.NestingLemmas.{text_alone_passes}
-use Rattle.htmd_grammar.proofs.TagReadingLemmas.{front_cut, halts}
+use Rattle.htmd_lexical.proofs.LeadingRunsLemmas.{front_cut, halts}
 
 -- nothing follows, or what ends a text under this parent
 abbrev pub Stops : Bool → List ℕ → List ℕ → Type 0

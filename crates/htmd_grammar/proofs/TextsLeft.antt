@@ -1,20 +1,21 @@
 -- What is left of a text at a state is an end of it.
 use Rattle.std.proofs.Common.{Bool, List, None, Option, Some, [], ap, append_assoc, arith, codes, drop, inl, inr}
 use Rattle.std.proofs.Common.{length, refl, subst, suc, sym, zero, ℕ, ◌++◌, ◌∙◌, ◌∷◌, ◌≡◌}
-use Rattle.htmd_grammar.specs.Characters.{greater_than_sign}
-use Rattle.htmd_grammar.specs.WhiteSpace.{is_ascii_white_space}
-use Rattle.htmd_grammar.proofs.Cases.{test}
-use Rattle.htmd_grammar.specs.CharacterClasses.{begins_in_any_case, begins_with, behind_run, first_is, leading_run}
+use Rattle.htmd_lexical.specs.Characters.{greater_than_sign}
+use Rattle.htmd_lexical.specs.WhiteSpace.{is_ascii_white_space}
+use Rattle.htmd_lexical.proofs.Cases.{test}
+use Rattle.htmd_lexical.specs.CharacterClasses.{begins_in_any_case, begins_with, behind_run, first_is, leading_run}
 use Rattle.htmd_grammar.specs.Comments.{behind_doctype, doctype_end, doctype_name, white_space_and_name}
-use Rattle.htmd_grammar.specs.HtmlDocuments.{above_body, behind_mark, behind_prelude, body_text, byte_order_mark}
+use Rattle.htmd_grammar.specs.HtmlDocuments.{above_body, behind_prelude, body_text}
+use Rattle.htmd_lexical.specs.ByteOrderMarks.{behind_mark, byte_order_mark}
 use Rattle.htmd_grammar.specs.Laws.{FaultsRefuseDocuments, RestIsAnEnd}
 use Rattle.htmd_grammar.specs.Rules.{Rules}
 use Rattle.htmd_grammar.specs.ReaderSteps.{State, finished, started}
-use Rattle.htmd_grammar.specs.ValueTrees.{ValueForest}
-use Rattle.htmd_grammar.proofs.BooleanLemmas.{if_then}
+use Rattle.htmd_values.specs.ValueTrees.{ValueForest}
+use Rattle.htmd_lexical.proofs.BooleanLemmas.{if_then}
 use Rattle.htmd_grammar.proofs.ViablePrefixes.{refused}
 use Rattle.htmd_grammar.proofs.Readings.{conf_start, kept}
-use Rattle.htmd_grammar.proofs.TagReadingLemmas.{back_split}
+use Rattle.htmd_lexical.proofs.LeadingRunsLemmas.{back_split}
 
 abbrev pub IsEndOf : List ℕ → List ℕ → Type 0
 IsEndOf rest s = (taken : List ℕ) × (s ≡ taken ++ rest)

@@ -6,11 +6,12 @@ use Rattle.htmd_grammar.specs.Grammar.{Apart, ReadsForest, ReadsTree, begins_wit
 use Rattle.htmd_grammar.specs.Nesting.{Context, is_tbody}
 use Rattle.htmd_grammar.specs.RawContent.{begins_markup, content_of, holds_text_alone}
 use Rattle.htmd_grammar.specs.Rules.{Rules}
-use Rattle.htmd_grammar.specs.Serialisation.{is_void}
+use Rattle.htmd_values.specs.Serialisation.{is_void}
 use Rattle.htmd_grammar.specs.ReaderSteps.{ends_rows}
 use Rattle.htmd_grammar.specs.Tags.{IsEndTag, IsStartTag}
-use Rattle.htmd_grammar.specs.ValueTrees.{AttributePair, ValueForest, ValueTree, comment, doctype, document, element}
-use Rattle.htmd_grammar.specs.ValueTrees.{more, none, text}
+use Rattle.htmd_lexical.specs.AttributePairs.{AttributePair}
+use Rattle.htmd_values.specs.ValueTrees.{ValueForest, ValueTree, comment, doctype, document, element}
+use Rattle.htmd_values.specs.ValueTrees.{more, none, text}
 use Rattle.htmd_grammar.proofs.NestingLemmas.{no_text_alone, one_name, row_is_no_tbody}
 use Rattle.htmd_grammar.proofs.TextLemmas.{Stops, front_stops, markup-append, name_head}
 

@@ -4,23 +4,25 @@ use Rattle.std.proofs.Common.{◌∷◌, ◌≡◌}
 use Rattle.std.specs.Char.{to_ascii_lowercase}
 use Rattle.std.specs.Prelude.{if◌then◌else◌}
 use Rattle.std.specs.Str.{bytes_eq}
-use Rattle.htmd_grammar.specs.CharacterClasses.{is_tag_name}
+use Rattle.htmd_lexical.specs.CharacterClasses.{is_tag_name}
 use Rattle.htmd_grammar.specs.HtmlDocuments.{ReadsDocument, above_body, body_text, document_tree}
 use Rattle.htmd_grammar.specs.Faults.{top_children}
 use Rattle.htmd_grammar.specs.Grammar.{reads}
 use Rattle.htmd_grammar.specs.Nesting.{Context, is_table}
-use Rattle.htmd_grammar.specs.RawContent.{goes_on_with_name, holds_text_alone}
+use Rattle.htmd_lexical.specs.EndTags.{goes_on_with_name}
+use Rattle.htmd_grammar.specs.RawContent.{holds_text_alone}
 use Rattle.htmd_grammar.specs.Rules.{Rules}
 use Rattle.htmd_grammar.specs.ReaderSteps.{OpenElement, Reaches, State, Step, ends_rows, fault, fresh, here, step, via}
 use Rattle.htmd_grammar.specs.ReaderSteps.{with_forest}
-use Rattle.htmd_grammar.specs.ValueTrees.{ValueForest, ValueTree}
+use Rattle.htmd_values.specs.ValueTrees.{ValueForest, ValueTree}
 use Rattle.htmd_grammar.specs.declared.fault.FaultKind.{FaultKind}
 use Rattle.htmd_grammar.specs.declared.fault.FaultKind.TheVariants.{MalformedTag}
-use Rattle.htmd_grammar.proofs.BooleanLemmas.{and_false}
+use Rattle.htmd_lexical.proofs.BooleanLemmas.{and_false}
 use Rattle.htmd_grammar.proofs.Completeness.{at_piece, nodes_read}
-use Rattle.htmd_grammar.proofs.NestingLemmas.{one_name, same_bytes, text_alone_passes}
+use Rattle.htmd_grammar.proofs.NestingLemmas.{one_name, text_alone_passes}
+use Rattle.htmd_lexical.proofs.BytesLemmas.{same_bytes}
 use Rattle.htmd_grammar.proofs.TextLemmas.{Stops, begins_name-lower, name_cut}
-use Rattle.htmd_grammar.proofs.Cases.{test}
+use Rattle.htmd_lexical.proofs.Cases.{test}
 
 -- what ends any text there, and isn't a tag
 abbrev bar : Bool → List ℕ → List ℕ

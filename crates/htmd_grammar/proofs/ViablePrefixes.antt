@@ -4,25 +4,26 @@ use Rattle.std.proofs.Common.{Bool, Err, List, [], append_assoc, codes, false, i
 use Rattle.std.proofs.Common.{◌&&◌, ◌++◌, ◌∷◌, ◌≡◌, ◌⊎◌}
 use Rattle.std.proofs.iter.runs.Made.{run}
 use Rattle.std.proofs.lemmas.List.{append-nil}
-use Rattle.htmd_grammar.specs.CharacterClasses.{is_empty}
+use Rattle.htmd_lexical.specs.CharacterClasses.{is_empty}
 use Rattle.htmd_grammar.specs.HtmlDocuments.{above_body, below_body, body_text}
 use Rattle.htmd_grammar.specs.Fronts.{IsFront, IsViablePrefix, Opens, end_tags, with_text}
 use Rattle.htmd_grammar.specs.Grammar.{ReadsForest, begins_with_row, reads}
 use Rattle.htmd_grammar.specs.Nesting.{Context}
 use Rattle.htmd_grammar.specs.Rules.{Rules}
-use Rattle.htmd_grammar.specs.Serialisation.{end_tag}
-use Rattle.htmd_grammar.specs.ReaderSteps.{OpenElement, Reaches, State, body, closed, ends_rows, fault, finished, names_of}
+use Rattle.htmd_values.specs.Serialisation.{end_tag}
+use Rattle.htmd_grammar.specs.ReaderSteps.{OpenElement, Reaches, State, body, closed, ends_rows, fault, finished}
+use Rattle.htmd_grammar.specs.ReaderSteps.{names_of}
 use Rattle.htmd_grammar.specs.ReaderSteps.{started, step, with_children}
-use Rattle.htmd_grammar.specs.ValueTrees.{ValueForest, more, none, text}
+use Rattle.htmd_values.specs.ValueTrees.{ValueForest, more, none, text}
 use Rattle.htmd_grammar.specs.declared.fault.FaultKind.{FaultKind}
 use Rattle.htmd_grammar.specs.declared.fault.FaultKind.TheVariants.{Unclosed}
-use Rattle.htmd_grammar.proofs.BooleanLemmas.{and_false}
+use Rattle.htmd_lexical.proofs.BooleanLemmas.{and_false}
 use Rattle.htmd_grammar.proofs.Completeness.{complete, in_text}
 use Rattle.htmd_grammar.proofs.FrontsLemmas.{closes, front_weaker, nodes_weaker, row_append}
 use Rattle.htmd_grammar.proofs.NestingLemmas.{one_name}
 use Rattle.htmd_grammar.proofs.Readings.{IsAt, Middle, at_conf, conf_start, kept, middle_front, sound}
 use Rattle.htmd_grammar.proofs.Soundness.{IsConf, flag, flag_rows, not_none}
-use Rattle.htmd_grammar.proofs.TagReadingLemmas.{filled}
+use Rattle.htmd_lexical.proofs.LeadingRunsLemmas.{filled}
 use Rattle.htmd_grammar.proofs.TagsLemmas.{IsTreeName, tree_name}
 use Rattle.htmd_grammar.proofs.Uniqueness.{same_end}
 

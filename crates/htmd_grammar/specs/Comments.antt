@@ -1,17 +1,10 @@
 -- Comments (HTML Standard, 13.1.6) and the doctype (13.1.1).
-use Rattle.std.specs.Prelude.{◌≡◌, ℕ, Bool, true, not, ◌&&◌, ◌==◌, if◌then◌else◌, List, [], ◌∷◌, ◌++◌, drop, Option}
+use Rattle.std.specs.Prelude.{◌≡◌, ℕ, Bool, true, not, ◌&&◌, if◌then◌else◌, List, [], ◌∷◌, ◌++◌, drop, Option}
 use Rattle.std.specs.Prelude.{Some, None, option_map, codes}
-use Rattle.htmd_grammar.specs.Characters.{line_feed, carriage_return, greater_than_sign}
-use Rattle.htmd_grammar.specs.WhiteSpace.{is_ascii_white_space}
-use Rattle.htmd_grammar.specs.CharacterClasses.{first_is, begins_with, begins_in_any_case, behind_run, holds}
-
--- a text without references, where CR LF and a lone CR are a line feed
-abbrev pub normalized : List ℕ → List ℕ
-normalized [] = []
-normalized (b ∷ s) =
-    if b == carriage_return && first_is line_feed s
-    then normalized s
-    else (if b == carriage_return then line_feed else b) ∷ normalized s
+use Rattle.htmd_lexical.specs.Characters.{greater_than_sign}
+use Rattle.htmd_lexical.specs.WhiteSpace.{is_ascii_white_space}
+use Rattle.htmd_lexical.specs.CharacterClasses.{first_is, begins_with, begins_in_any_case, behind_run, holds}
+use Rattle.htmd_lexical.specs.LineEnds.{normalized}
 
 -- what comes before the first `-->`, and what follows it
 abbrev pub before_comment_end : List ℕ → Option (List ℕ × List ℕ)

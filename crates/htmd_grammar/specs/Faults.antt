@@ -3,38 +3,28 @@ use Rattle.std.specs.Prelude.{◌≡◌, ◌≢◌, ◌⊎◌, ℕ, ◌<◌, ◌
 use Rattle.std.specs.Prelude.{[], ◌∷◌, ◌++◌, length, codes, None}
 use Rattle.std.specs.List.{list_any, list_all}
 use Rattle.std.specs.Char.{is_ascii_alphabetic}
-use Rattle.htmd_grammar.specs.Characters.{null, slash, less_than_sign}
-use Rattle.htmd_grammar.specs.WhiteSpace.{is_ascii_white_space}
-use Rattle.htmd_grammar.specs.ValueTrees.{AttributePair, ValueForest, none}
-use Rattle.htmd_grammar.specs.CharacterClasses.{begins_with, lacks, up_to, are_distinct}
+use Rattle.htmd_lexical.specs.Characters.{null, slash, less_than_sign}
+use Rattle.htmd_lexical.specs.WhiteSpace.{is_ascii_white_space}
+use Rattle.htmd_lexical.specs.AttributePairs.{AttributePair}
+use Rattle.htmd_values.specs.ValueTrees.{ValueForest, none}
+use Rattle.htmd_lexical.specs.CharacterClasses.{begins_with, lacks, up_to, are_distinct}
 use Rattle.htmd_grammar.specs.Rules.{Rules}
 use Rattle.htmd_grammar.specs.References.{Names, Piece, stands, wrong, piece_at}
-use Rattle.htmd_grammar.specs.Tags.{attribute_names, IsTagForm, IsEndTag}
+use Rattle.htmd_lexical.specs.Attributes.{attribute_names}
+use Rattle.htmd_grammar.specs.Tags.{IsTagForm, IsEndTag}
 use Rattle.htmd_grammar.specs.Comments.{IsComment}
 use Rattle.htmd_grammar.specs.RawContent.{holds_raw_text, ends_text, raw_text_of}
 use Rattle.htmd_grammar.specs.Nesting.{Context, is_outside, is_row, is_table, holds_parts, is_allowed}
 use Rattle.htmd_grammar.specs.HtmlDocuments.{above_body, body_text}
-use Rattle.htmd_grammar.specs.Serialisation.{is_void}
+use Rattle.htmd_values.specs.Serialisation.{is_void}
 use Rattle.htmd_grammar.specs.ReaderSteps.{OpenElement, names_of, has_unknown_reference}
 use Rattle.htmd_grammar.specs.Fronts.{IsViablePrefix}
 use Rattle.htmd_grammar.specs.declared.fault.FaultKind.{FaultKind}
-use Rattle.htmd_grammar.specs.declared.fault.FaultKind.TheVariants.{
-  Nul,
-  MalformedTag,
-  MalformedComment,
-  MalformedDeclaration,
-  UnknownReference,
-  BadNumber,
-  DuplicateAttribute,
-  SelfClosing,
-  TagOutside,
-  NotAllowedHere,
-  StrayEndTag,
-  StrayText,
-  Unclosed,
-  ScriptEscape,
-  TooDeep,
-}
+use Rattle.htmd_grammar.specs.declared.fault.FaultKind.TheVariants.{Nul, MalformedTag, MalformedComment}
+use Rattle.htmd_grammar.specs.declared.fault.FaultKind.TheVariants.{MalformedDeclaration, UnknownReference, BadNumber}
+use Rattle.htmd_grammar.specs.declared.fault.FaultKind.TheVariants.{DuplicateAttribute, SelfClosing, TagOutside}
+use Rattle.htmd_grammar.specs.declared.fault.FaultKind.TheVariants.{NotAllowedHere, StrayEndTag, StrayText, Unclosed}
+use Rattle.htmd_grammar.specs.declared.fault.FaultKind.TheVariants.{ScriptEscape, TooDeep}
 
 -- the number of a kind: of two kinds that fit a piece the lower is right
 abbrev pub number_of : FaultKind → ℕ

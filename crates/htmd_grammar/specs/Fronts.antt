@@ -2,15 +2,15 @@
 -- a character or reference of the text in two (`&am` is itself a text): there is no refusal there (`faults_are_one`).
 use Rattle.std.specs.Prelude.{◌≡◌, ◌⊎◌, ℕ, ◌≤◌, Bool, true, false, ◌&&◌, if◌then◌else◌, List, [], ◌∷◌, ◌++◌, length}
 use Rattle.std.specs.Prelude.{codes}
-use Rattle.htmd_grammar.specs.ValueTrees.{text, ValueForest, none, more}
-use Rattle.htmd_grammar.specs.CharacterClasses.{is_empty}
+use Rattle.htmd_values.specs.ValueTrees.{text, ValueForest, none, more}
+use Rattle.htmd_lexical.specs.CharacterClasses.{is_empty}
 use Rattle.htmd_grammar.specs.Rules.{Rules}
 use Rattle.htmd_grammar.specs.Tags.{IsStartTag}
 use Rattle.htmd_grammar.specs.RawContent.{content_of}
 use Rattle.htmd_grammar.specs.Nesting.{Context, is_table_part, is_tbody, is_allowed}
 use Rattle.htmd_grammar.specs.Grammar.{begins_with_row, ReadsForest, reads}
 use Rattle.htmd_grammar.specs.HtmlDocuments.{above_body, below_body}
-use Rattle.htmd_grammar.specs.Serialisation.{is_void, end_tag}
+use Rattle.htmd_values.specs.Serialisation.{is_void, end_tag}
 use Rattle.htmd_grammar.specs.ReaderSteps.{OpenElement, names_of, closed, with_children, ends_rows, ◌+++◌}
 
 -- whether an implied `tbody` may end before this element

@@ -4,16 +4,16 @@ use Rattle.std.specs.Prelude.{length, map, Some, ⊤}
 use Rattle.std.specs.Bool.{MatchBool}
 use Rattle.std.specs.List.{list_all}
 use Rattle.std.specs.Char.{to_ascii_lowercase, is_ascii_alphabetic}
-use Rattle.htmd_grammar.specs.Characters.{less_than_sign}
-use Rattle.htmd_grammar.specs.WhiteSpace.{is_ascii_white_space}
-use Rattle.htmd_grammar.specs.ValueTrees.{ValueTree, document, doctype, text, comment, element, ValueForest, none, more}
-use Rattle.htmd_grammar.specs.CharacterClasses.{is_tag_name_byte, leading_run, up_to}
+use Rattle.htmd_lexical.specs.Characters.{less_than_sign}
+use Rattle.htmd_lexical.specs.WhiteSpace.{is_ascii_white_space}
+use Rattle.htmd_values.specs.ValueTrees.{ValueTree, document, doctype, text, comment, element, ValueForest, none, more}
+use Rattle.htmd_lexical.specs.CharacterClasses.{is_tag_name_byte, leading_run, up_to}
 use Rattle.htmd_grammar.specs.Rules.{Rules}
 use Rattle.htmd_grammar.specs.Tags.{IsStartTag, IsEndTag}
 use Rattle.htmd_grammar.specs.Comments.{IsComment}
 use Rattle.htmd_grammar.specs.RawContent.{holds_text_alone, ends_text, text_of, content_of}
 use Rattle.htmd_grammar.specs.Nesting.{Context, parent_name, is_table_part, is_tbody, is_row, holds_parts, is_allowed}
-use Rattle.htmd_grammar.specs.Serialisation.{is_void}
+use Rattle.htmd_values.specs.Serialisation.{is_void}
 
 -- ---- neighbours
 

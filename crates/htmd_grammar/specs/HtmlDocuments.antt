@@ -1,20 +1,13 @@
 -- A whole document: a byte order mark, a doctype, and the content of `body`.
-use Rattle.std.specs.Prelude.{◌≡◌, ℕ, true, if◌then◌else◌, List, [], ◌∷◌, drop, Option, Some, None, codes}
-use Rattle.htmd_grammar.specs.Characters.{null}
-use Rattle.htmd_grammar.specs.ValueTrees.{ValueTree, document, doctype, element, ValueForest, none, more}
-use Rattle.htmd_grammar.specs.CharacterClasses.{begins_with, lacks}
+use Rattle.std.specs.Prelude.{◌≡◌, ℕ, true, List, [], ◌∷◌, Option, Some, None, codes}
+use Rattle.htmd_lexical.specs.Characters.{null}
+use Rattle.htmd_values.specs.ValueTrees.{ValueTree, document, doctype, element, ValueForest, none, more}
+use Rattle.htmd_lexical.specs.CharacterClasses.{lacks}
 use Rattle.htmd_grammar.specs.Rules.{Rules}
 use Rattle.htmd_grammar.specs.Comments.{behind_doctype}
 use Rattle.htmd_grammar.specs.Nesting.{Context}
 use Rattle.htmd_grammar.specs.Grammar.{reads}
-
--- U+FEFF in UTF-8
-abbrev pub byte_order_mark : List ℕ
-byte_order_mark = 0xEF ∷ 0xBB ∷ 0xBF ∷ []
-
--- the text without a byte order mark at its beginning, which denotes nothing
-abbrev pub behind_mark : List ℕ → List ℕ
-behind_mark s = if begins_with byte_order_mark s then drop 3 s else s
+use Rattle.htmd_lexical.specs.ByteOrderMarks.{behind_mark}
 
 -- the ancestors of `body`: `html` and the Document
 abbrev pub above_body : Context

@@ -1,8 +1,8 @@
 -- The laws of a reader's steps and of their faults.
 use Rattle.std.specs.Prelude.{◌≡◌, ℕ, ◌+◌, ◌≤◌, ◌<◌, true, false, ◌&&◌, List, [], ◌∷◌, ◌++◌, length, Err}
-use Rattle.htmd_grammar.specs.Characters.{null}
-use Rattle.htmd_grammar.specs.ValueTrees.{ValueTree, ValueForest}
-use Rattle.htmd_grammar.specs.CharacterClasses.{lacks}
+use Rattle.htmd_lexical.specs.Characters.{null}
+use Rattle.htmd_values.specs.ValueTrees.{ValueTree, ValueForest}
+use Rattle.htmd_lexical.specs.CharacterClasses.{lacks}
 use Rattle.htmd_grammar.specs.Rules.{Rules}
 use Rattle.htmd_grammar.specs.Grammar.{reads}
 use Rattle.htmd_grammar.specs.HtmlDocuments.{above_body, below_body, body_text, ReadsDocument}

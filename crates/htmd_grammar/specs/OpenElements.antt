@@ -3,10 +3,10 @@ use Rattle.std.specs.Prelude.{ℕ, Bool, true, false, ◌&&◌, ◌||◌, ◌==�
 use Rattle.std.specs.Prelude.{◌∷◌, map, codes}
 use Rattle.std.specs.Str.{bytes_eq}
 use Rattle.std.specs.Char.{to_ascii_lowercase}
-use Rattle.htmd_grammar.specs.Characters.{slash, less_than_sign}
-use Rattle.htmd_grammar.specs.ValueTrees.{AttributePair, ValueTree, element, ValueForest, none, more}
-use Rattle.htmd_grammar.specs.CharacterClasses.{leading_run}
-use Rattle.htmd_grammar.specs.CharacterClasses.{is_tag_name_byte}
+use Rattle.htmd_lexical.specs.Characters.{slash, less_than_sign}
+use Rattle.htmd_lexical.specs.AttributePairs.{AttributePair}
+use Rattle.htmd_values.specs.ValueTrees.{ValueTree, element, ValueForest, none, more}
+use Rattle.htmd_lexical.specs.CharacterClasses.{leading_run, is_tag_name_byte}
 use Rattle.htmd_grammar.specs.References.{Names, Piece, stands, wrong, piece_at}
 use Rattle.htmd_grammar.specs.Nesting.{Context, is_table_part}
 use Rattle.htmd_grammar.specs.Grammar.{tag_name_at}

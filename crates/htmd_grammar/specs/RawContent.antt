@@ -1,13 +1,13 @@
 -- Elements that hold only text, up to their own end tag (HTML Standard, 13.1.2, raw text and escapable raw text
 -- elements), and what is in them.
 use Rattle.std.specs.Prelude.{ℕ, Bool, false, ◌&&◌, ◌||◌, ◌==◌, if◌then◌else◌, List, [], ◌∷◌, Option, Some, None, codes}
-use Rattle.std.specs.Char.{to_ascii_lowercase, is_ascii_alphabetic}
-use Rattle.htmd_grammar.specs.Characters.{exclamation_mark, slash, less_than_sign, greater_than_sign, question_mark}
-use Rattle.htmd_grammar.specs.WhiteSpace.{is_ascii_white_space}
-use Rattle.htmd_grammar.specs.CharacterClasses.{begins_with, holds_in_any_case, is_among}
-use Rattle.htmd_grammar.specs.Comments.{normalized}
+use Rattle.std.specs.Char.{is_ascii_alphabetic}
+use Rattle.htmd_lexical.specs.Characters.{exclamation_mark, slash, less_than_sign, question_mark}
+use Rattle.htmd_lexical.specs.CharacterClasses.{begins_with, holds_in_any_case, is_among}
+use Rattle.htmd_lexical.specs.LineEnds.{normalized}
 use Rattle.htmd_grammar.specs.Rules.{Rules}
 use Rattle.htmd_grammar.specs.References.{decode, after_line_feed}
+use Rattle.htmd_lexical.specs.EndTags.{begins_own_end}
 
 -- text without references; `noscript` if scripting is on
 abbrev pub holds_raw_text : Bool → List ℕ → Bool
@@ -19,19 +19,6 @@ holds_raw_text scripting n =
 -- only text, with references or without
 abbrev pub holds_text_alone : Bool → List ℕ → Bool
 holds_text_alone scripting n = is_among (codes "title" ∷ codes "textarea" ∷ []) n || holds_raw_text scripting n
-
--- the name in any case, and then what ends the name of a tag
-abbrev pub goes_on_with_name : List ℕ → List ℕ → Bool
-goes_on_with_name [] [] = false
-goes_on_with_name [] (b ∷ s) = is_ascii_white_space b || (b == slash) || (b == greater_than_sign)
-goes_on_with_name (p ∷ ps) [] = false
-goes_on_with_name (p ∷ ps) (b ∷ s) = (to_ascii_lowercase b == p) && goes_on_with_name ps s
-
--- the end of raw content of this element: `</`, its name, and white space, `/` or `>`
-abbrev pub begins_own_end : List ℕ → List ℕ → Bool
-begins_own_end n [] = false
-begins_own_end n (b ∷ []) = false
-begins_own_end n (b ∷ c ∷ s) = (b == less_than_sign) && (c == slash) && goes_on_with_name n s
 
 -- `<` before a letter, `/`, `!` or `?` begins markup; any other `<` is a character
 abbrev pub is_markup : ℕ → ℕ → Bool

@@ -3,16 +3,17 @@
 use Rattle.std.specs.Prelude.{◌≡◌, ◌⊎◌, ℕ, Bool, true, false, not, ◌&&◌, ◌||◌, List, [], ◌∷◌, codes}
 use Rattle.std.specs.List.{list_all}
 use Rattle.std.specs.Str.{IsUtf8}
-use Rattle.htmd_grammar.specs.BlankLines.{with_blank_lines}
-use Rattle.htmd_grammar.specs.Characters.{carriage_return}
-use Rattle.htmd_grammar.specs.ValueTrees.{AttributePair, ValueTree, document, doctype, text, comment, element}
-use Rattle.htmd_grammar.specs.ValueTrees.{ValueForest, none, more}
-use Rattle.htmd_grammar.specs.CharacterClasses.{lacks, is_among}
+use Rattle.htmd_lexical.specs.BlankLines.{with_blank_lines}
+use Rattle.htmd_lexical.specs.Characters.{carriage_return}
+use Rattle.htmd_lexical.specs.AttributePairs.{AttributePair}
+use Rattle.htmd_values.specs.ValueTrees.{ValueTree, document, doctype, text, comment, element}
+use Rattle.htmd_values.specs.ValueTrees.{ValueForest, none, more}
+use Rattle.htmd_lexical.specs.CharacterClasses.{lacks, is_among}
 use Rattle.htmd_grammar.specs.Rules.{Rules}
 use Rattle.htmd_grammar.specs.Nesting.{Context}
 use Rattle.htmd_grammar.specs.Grammar.{reads}
-use Rattle.htmd_grammar.specs.Serialisation.{serialisation, is_raw_text}
-use Rattle.htmd_grammar.specs.RawBlocks.{raw_block, RefersToLineFeeds}
+use Rattle.htmd_values.specs.Serialisation.{serialisation, is_raw_text}
+use Rattle.htmd_values.specs.RawBlocks.{raw_block, RefersToLineFeeds}
 
 -- ---- which subtrees
 

@@ -5,37 +5,29 @@ use Rattle.std.specs.Prelude.{◌∷◌, ◌++◌, length, map, drop, Option, So
 use Rattle.std.specs.List.{list_any, list_all}
 use Rattle.std.specs.Str.{bytes_eq}
 use Rattle.std.specs.Char.{to_ascii_lowercase}
-use Rattle.htmd_grammar.specs.Characters.{exclamation_mark, slash, greater_than_sign, question_mark}
-use Rattle.htmd_grammar.specs.WhiteSpace.{is_ascii_white_space}
-use Rattle.htmd_grammar.specs.ValueTrees.{AttributePair, ValueTree, text, comment, element, ValueForest, none}
-use Rattle.htmd_grammar.specs.CharacterClasses.{is_empty, first_is, begins_with, leading_run, behind_run, up_to, onward}
-use Rattle.htmd_grammar.specs.CharacterClasses.{is_tag_name_byte, is_tag_name, are_distinct}
+use Rattle.htmd_lexical.specs.Characters.{exclamation_mark, slash, greater_than_sign, question_mark}
+use Rattle.htmd_lexical.specs.WhiteSpace.{is_ascii_white_space}
+use Rattle.htmd_lexical.specs.AttributePairs.{AttributePair}
+use Rattle.htmd_values.specs.ValueTrees.{ValueTree, text, comment, element, ValueForest, none}
+use Rattle.htmd_lexical.specs.CharacterClasses.{is_empty, first_is, begins_with, leading_run, behind_run, up_to, onward}
+use Rattle.htmd_lexical.specs.CharacterClasses.{is_tag_name_byte, is_tag_name, are_distinct}
 use Rattle.htmd_grammar.specs.Rules.{Rules}
 use Rattle.htmd_grammar.specs.References.{Piece, stands, wrong, piece_at}
-use Rattle.htmd_grammar.specs.Tags.{attribute_names, decode_values}
-use Rattle.htmd_grammar.specs.Comments.{normalized, before_comment_end, is_comment_text}
+use Rattle.htmd_lexical.specs.Attributes.{attribute_names}
+use Rattle.htmd_grammar.specs.Tags.{decode_values}
+use Rattle.htmd_lexical.specs.LineEnds.{normalized}
+use Rattle.htmd_grammar.specs.Comments.{before_comment_end, is_comment_text}
 use Rattle.htmd_grammar.specs.RawContent.{holds_raw_text, ends_text, text_of, content_of}
 use Rattle.htmd_grammar.specs.Nesting.{Context, parent_name, is_outside, is_row, holds_parts, is_allowed}
 use Rattle.htmd_grammar.specs.HtmlDocuments.{body_text}
-use Rattle.htmd_grammar.specs.Serialisation.{is_void}
-use Rattle.htmd_grammar.specs.TagReading.{TagForm, no_form, form, form_within}
+use Rattle.htmd_values.specs.Serialisation.{is_void}
+use Rattle.htmd_lexical.specs.TagReading.{TagForm, no_form, form, form_within}
 use Rattle.htmd_grammar.specs.declared.fault.FaultKind.{FaultKind}
-use Rattle.htmd_grammar.specs.declared.fault.FaultKind.TheVariants.{
-  MalformedTag,
-  MalformedComment,
-  MalformedDeclaration,
-  UnknownReference,
-  BadNumber,
-  DuplicateAttribute,
-  SelfClosing,
-  TagOutside,
-  NotAllowedHere,
-  StrayEndTag,
-  StrayText,
-  Unclosed,
-  ScriptEscape,
-  TooDeep,
-}
+use Rattle.htmd_grammar.specs.declared.fault.FaultKind.TheVariants.{MalformedTag, MalformedComment}
+use Rattle.htmd_grammar.specs.declared.fault.FaultKind.TheVariants.{MalformedDeclaration, UnknownReference, BadNumber}
+use Rattle.htmd_grammar.specs.declared.fault.FaultKind.TheVariants.{DuplicateAttribute, SelfClosing, TagOutside}
+use Rattle.htmd_grammar.specs.declared.fault.FaultKind.TheVariants.{NotAllowedHere, StrayEndTag, StrayText, Unclosed}
+use Rattle.htmd_grammar.specs.declared.fault.FaultKind.TheVariants.{ScriptEscape, TooDeep}
 pub use Rattle.htmd_grammar.specs.OpenElements.{OpenElement, State, closed, end_tag_name_at, ends_rows}
 pub use Rattle.htmd_grammar.specs.OpenElements.{fresh, has_unknown_reference, is_implied, is_unknown, names_of}
 pub use Rattle.htmd_grammar.specs.OpenElements.{with_children, with_forest, with_tree, ◌+++◌}

@@ -1,22 +1,15 @@
 -- Characters and character references (HTML Standard, 13.1.4), and what a run of them denotes. CR LF and a lone CR
 -- are a line feed.
-use Rattle.std.specs.Prelude.{ℕ, zero, suc, ◌+◌, ◌-◌, ◌*◌, Bool, not, ◌&&◌, ◌==◌, nat_le, nat_lt, if◌then◌else◌, List}
+use Rattle.std.specs.Prelude.{ℕ, zero, suc, ◌+◌, Bool, not, ◌&&◌, ◌==◌, nat_le, nat_lt, if◌then◌else◌, List}
 use Rattle.std.specs.Prelude.{[], ◌∷◌, ◌++◌, length, drop, Option, Some, None, codes}
 use Rattle.std.specs.Str.{bytes_eq}
-use Rattle.std.specs.Char.{encode_utf8, to_ascii_lowercase, is_ascii_digit, is_ascii_hexdigit, is_ascii_alphanumeric}
-use Rattle.htmd_grammar.specs.Characters.{
-  line_feed,
-  carriage_return,
-  number_sign,
-  ampersand,
-  semicolon,
-  digit_zero,
-  small_letter_a,
-}
-use Rattle.htmd_grammar.specs.CharacterClasses.{first_is, begins_in_any_case, leading_run, behind_run}
+use Rattle.std.specs.Char.{encode_utf8, is_ascii_digit, is_ascii_hexdigit, is_ascii_alphanumeric}
+use Rattle.htmd_lexical.specs.Characters.{line_feed, carriage_return, number_sign, ampersand, semicolon}
+use Rattle.htmd_lexical.specs.CharacterClasses.{first_is, begins_in_any_case, leading_run, behind_run}
 use Rattle.htmd_grammar.specs.Rules.{NamedCharacter, character_named}
 use Rattle.htmd_grammar.specs.declared.fault.FaultKind.{FaultKind}
 use Rattle.htmd_grammar.specs.declared.fault.FaultKind.TheVariants.{UnknownReference, BadNumber}
+use Rattle.htmd_lexical.specs.Numbers.{number, is_between}
 
 abbrev pub Names : Type 0
 Names = List NamedCharacter
@@ -29,19 +22,6 @@ pub data Piece : Type 0 where
   wrong : FaultKind → Piece
 
 -- ---- references by number
-
--- the value of a digit
-abbrev pub digit_value : ℕ → ℕ
-digit_value b =
-    if is_ascii_digit b then b - digit_zero else to_ascii_lowercase b - small_letter_a + 10
-
--- what digits mean in a base, after others
-abbrev pub number : ℕ → ℕ → List ℕ → ℕ
-number base sum [] = sum
-number base sum (b ∷ s) = number base (base * sum + digit_value b) s
-
-abbrev pub is_between : ℕ → ℕ → ℕ → Bool
-is_between low high c = nat_le low c && nat_le c high
 
 -- the characters that a number may name: not U+0000, a surrogate, above U+10FFFF, or a control U+0080 to U+009F
 unfoldable pub may_be_numbered : ℕ → Bool

@@ -2,14 +2,15 @@
 use Rattle.std.specs.Prelude.{◌≡◌, ◌≢◌, ◌⊎◌, ℕ, Bool, true, if◌then◌else◌, List, [], ◌∷◌, ◌++◌, map, Option, Some, None}
 use Rattle.std.specs.List.{list_all}
 use Rattle.std.specs.Char.{to_ascii_lowercase}
-use Rattle.htmd_grammar.specs.Characters.{quotation_mark, apostrophe, slash, less_than_sign, equals_sign}
-use Rattle.htmd_grammar.specs.Characters.{greater_than_sign}
-use Rattle.htmd_grammar.specs.WhiteSpace.{is_ascii_white_space}
-use Rattle.htmd_grammar.specs.ValueTrees.{AttributePair}
-use Rattle.htmd_grammar.specs.CharacterClasses.{is_tag_name, is_attribute_name, is_unquoted_byte, leading_run, lacks}
-use Rattle.htmd_grammar.specs.CharacterClasses.{are_distinct}
+use Rattle.htmd_lexical.specs.Characters.{quotation_mark, apostrophe, slash, less_than_sign, equals_sign}
+use Rattle.htmd_lexical.specs.Characters.{greater_than_sign}
+use Rattle.htmd_lexical.specs.WhiteSpace.{is_ascii_white_space}
+use Rattle.htmd_lexical.specs.AttributePairs.{AttributePair}
+use Rattle.htmd_lexical.specs.CharacterClasses.{is_tag_name, is_attribute_name, is_unquoted_byte, leading_run, lacks}
+use Rattle.htmd_lexical.specs.CharacterClasses.{are_distinct}
 use Rattle.htmd_grammar.specs.References.{Names, decode}
-use Rattle.htmd_grammar.specs.Serialisation.{is_void}
+use Rattle.htmd_values.specs.Serialisation.{is_void}
+use Rattle.htmd_lexical.specs.Attributes.{attribute_names}
 
 -- `=`, with white space on either side
 abbrev pub IsEqualsSign : List ℕ → Type 0
@@ -49,9 +50,6 @@ abbrev pub IsTagForm : List ℕ → List ℕ → List AttributePair → Bool →
 IsTagForm tag n spelled present =
     (name rest : List ℕ) × (tag ≡ less_than_sign ∷ (name ++ rest))
     × (is_tag_name name ≡ true) × (map to_ascii_lowercase name ≡ n) × IsTagRest spelled present rest
-
-abbrev pub attribute_names : List AttributePair → List (List ℕ)
-attribute_names attributes = map (λ a. a.name) attributes
 
 abbrev pub with_value : List ℕ → Option (List ℕ) → Option (List AttributePair) → Option (List AttributePair)
 with_value n None attributes = None

@@ -1,5 +1,5 @@
 //! The laws that the reader and the serialiser of `htmd_nodes` call: each is the contract of a function that does
-//! nothing. `htmd_laws` has those that no code calls.
+//! nothing. `htmd_law_trees` has those that no code calls.
 ghost use Rattle.std.specs.Prelude.{Bool};
 ghost use Rattle.htmd_grammar.specs.Rules.{Rules, project};
 ghost use Rattle.htmd_grammar.specs.Laws.{StepsReadAll, StepsReadRightly, FaultsRefuse, PrefixesAreViable};

@@ -2,11 +2,7 @@
 //! and the laws of these definitions that a reader calls.
 #![tactic(auto)]
 
-mod attribute;
-mod content_model;
 mod fault;
 pub mod laws;
 
-pub use attribute::Attribute;
-pub use content_model::{ContentModel, RawElement};
 pub use fault::FaultKind;

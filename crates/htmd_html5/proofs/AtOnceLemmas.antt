@@ -6,17 +6,18 @@ use Rattle.std.specs.Prelude.{if◌then◌else◌}
 use Rattle.std.proofs.lemmas.Bool.{true≢false, and_parts, and_left, or_right, not_from_true}
 use Rattle.std.proofs.lemmas.List.{append-nil}
 use Rattle.std.proofs.lemmas.List.Folds.{list_all-append}
-use Rattle.htmd_grammar.proofs.Cases.{test}
-use Rattle.htmd_grammar.specs.WhiteSpace.{is_ascii_white_space}
-use Rattle.htmd_grammar.specs.CharacterClasses.{is_empty, leading_run}
-use Rattle.htmd_grammar.proofs.TagReadingLemmas.{front_all, back_split}
+use Rattle.htmd_lexical.proofs.Cases.{test}
+use Rattle.htmd_lexical.specs.WhiteSpace.{is_ascii_white_space}
+use Rattle.htmd_lexical.specs.CharacterClasses.{is_empty, leading_run}
+use Rattle.htmd_lexical.proofs.LeadingRunsLemmas.{front_all, back_split}
 use Rattle.htmd_html5_state.specs.Foreign.{current_is_html}
 use Rattle.htmd_html5_state.specs.Insertion.{insert_text}
 use Rattle.htmd_html5_state.specs.AppendedTexts.{appends_text}
 use Rattle.htmd_html5_state.specs.State.{StateValue}
 use Rattle.htmd_html5_state.specs.declared.modes.InsertionMode.TheVariants.{InBody, InCaption, InCell}
 use Rattle.htmd_html5_state.specs.declared.modes.InsertionMode.{InsertionMode}
-use Rattle.htmd_html5_state.proofs.AppendedTextsLemmas.{AppendsText, appends, insert_text-twice, insert_text-appends, appends-reconstruct}
+use Rattle.htmd_html5_state.proofs.AppendedTextsLemmas.{AppendsText, appends, insert_text-twice, insert_text-appends}
+use Rattle.htmd_html5_state.proofs.AppendedTextsLemmas.{appends-reconstruct}
 use Rattle.htmd_html5.specs.Outcomes.{outcome, done}
 use Rattle.htmd_html5.specs.AtOnce.{is_body_mode, is_not_null, takes_at_once, is_without_null, put_at_once}
 use Rattle.htmd_html5.specs.ForeignContent.{is_foreign}

@@ -1,6 +1,6 @@
 -- Worked rows: pages and their trees.
 use Rattle.std.proofs.Common.{◌≡◌, ℕ, List, [], codes, true, refl}
-use Rattle.htmd_grammar.specs.ValueTrees.{ValueTree, ValueForest, text, element, none, more}
+use Rattle.htmd_values.specs.ValueTrees.{ValueTree, ValueForest, text, element, none, more}
 use Rattle.htmd_nodes.specs.Items.{Item}
 use Rattle.htmd_nodes.specs.Layout.{document_items}
 use Rattle.htmd_html5_state.specs.Adoption.{move_last, wrap_children}

@@ -1,5 +1,6 @@
 -- End tags in foreign content, and U+FFFD for each character.
-use Rattle.std.proofs.Common.{◌≡◌, ◌∙◌, ℕ, suc, ◌+◌, ◌<◌, true, false, List, ◌∷◌, ◌++◌, length, drop, get_or, append_assoc, drop-cons, add-one, ap, sym, refl}
+use Rattle.std.proofs.Common.{◌≡◌, ◌∙◌, ℕ, suc, ◌+◌, ◌<◌, true, false, List, ◌∷◌, ◌++◌, length, drop, get_or}
+use Rattle.std.proofs.Common.{append_assoc, drop-cons, add-one, ap, sym, refl}
 use Rattle.std.specs.Char.{encode_utf8}
 use Rattle.htmd_html5_state.specs.Foreign.{ForeignEnd, by_mode, closed_to, nothing, foreign_end, goes_by_mode}
 use Rattle.htmd_html5_state.specs.Foreign.{after_foreign_end}

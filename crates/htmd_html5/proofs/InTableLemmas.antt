@@ -1,8 +1,9 @@
 -- Texts in tables, run by run.
-use Rattle.std.proofs.Common.{◌≡◌, ◌∙◌, ℕ, zero, suc, ◌<◌, ◌≤◌, true, false, List, [], ◌∷◌, ◌++◌, length, append_assoc, refl, ap, sym, arith}
+use Rattle.std.proofs.Common.{◌≡◌, ◌∙◌, ℕ, zero, suc, ◌<◌, ◌≤◌, true, false, List, [], ◌∷◌, ◌++◌, length, append_assoc}
+use Rattle.std.proofs.Common.{refl, ap, sym, arith}
 use Rattle.std.proofs.lemmas.Bool.Decides.{nat_tests}
-use Rattle.htmd_grammar.proofs.Cases.{test}
-use Rattle.htmd_grammar.specs.CharacterClasses.{leading_run, behind_run}
+use Rattle.htmd_lexical.proofs.Cases.{test}
+use Rattle.htmd_lexical.specs.CharacterClasses.{leading_run, behind_run}
 use Rattle.htmd_html5_state.specs.State.{StateValue}
 use Rattle.htmd_html5.specs.InBody.{run_in_body}
 use Rattle.htmd_html5.specs.InTable.{without_nulls, kept_of, fostered, foster_runs}

@@ -1,6 +1,6 @@
 -- Worked rows: the nodes of a document, and the tree that they are laid out as.
 use Rattle.std.proofs.Common.{◌≡◌, ℕ, List, [], ◌∷◌, codes, None, refl}
-use Rattle.htmd_grammar.specs.ValueTrees.{ValueTree, ValueForest, text, element, comment, doctype, none, more}
+use Rattle.htmd_values.specs.ValueTrees.{ValueTree, ValueForest, text, element, comment, doctype, none, more}
 use Rattle.htmd_nodes.specs.Items.{document_item}
 use Rattle.htmd_nodes.specs.Layout.{document_items}
 use Rattle.htmd_html5_state.specs.Nodes.{KindValue, NodeValue}

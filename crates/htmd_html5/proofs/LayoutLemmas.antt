@@ -8,8 +8,7 @@ use Rattle.std.specs.Option.{option_to_list}
 use Rattle.std.specs.Prelude.{reverse}
 use Rattle.htmd_nodes.specs.Items.{Item}
 use Rattle.htmd_html5_state.specs.Nodes.{NodeValue, children_at}
-use Rattle.htmd_html5.specs.Layout.{Coming, Layout, coming}
-use Rattle.htmd_html5.specs.Layout.{put_node, put_next, layout_within, with_children_under}
+use Rattle.htmd_html5.specs.Layout.{Coming, Layout, coming, put_node, put_next, layout_within, with_children_under}
 use Rattle.htmd_html5.specs.Layout.{first_layout, document_of}
 use Rattle.htmd_html5.specs.LayoutViews.{coming_of, coming_under, work_of, MayHold, AllMayHold}
 use Rattle.htmd_html5.specs.declared.layout.Coming as program

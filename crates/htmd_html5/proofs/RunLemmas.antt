@@ -2,9 +2,9 @@
 use Rattle.std.proofs.Common.{◌≡◌, ℕ, ◌<◌, true, false, List, length, refl, arith}
 use Rattle.std.proofs.lemmas.Bool.Decides.{nat_tests}
 use Rattle.std.specs.Str.{IsUtf8, IsCharBoundary}
-use Rattle.htmd_grammar.specs.CharacterClasses.{leading_run}
-use Rattle.htmd_grammar.proofs.CharacterClassesLemmas.{white_is_ascii}
-use Rattle.htmd_grammar.proofs.RunsLemmas.{behind_last}
+use Rattle.htmd_lexical.specs.CharacterClasses.{leading_run}
+use Rattle.htmd_lexical.proofs.CharacterClassesLemmas.{white_is_ascii}
+use Rattle.htmd_lexical.proofs.RunsLemmas.{behind_last}
 use Rattle.htmd_html5_tokens.proofs.RunCuts.{cut_before_ascii}
 use Rattle.htmd_html5.specs.Runs.{is_of_kind}
 use Rattle.htmd_html5.specs.declared.tokens.RunKind.{RunKind}

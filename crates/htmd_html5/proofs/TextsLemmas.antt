@@ -1,9 +1,9 @@
 -- Texts are taken part by part, each of at least one character.
 use Rattle.std.proofs.Common.{◌≡◌, ◌∙◌, ℕ, zero, suc, ◌<◌, ◌≤◌, true, false, List, [], ◌∷◌, length, refl, ap, sym}
 use Rattle.std.proofs.Common.{arith, ◌+◌, ◌-◌, ◌==◌}
-use Rattle.htmd_grammar.proofs.Cases.{test}
-use Rattle.htmd_grammar.specs.WhiteSpace.{is_ascii_white_space}
-use Rattle.htmd_grammar.proofs.RunsLemmas.{behind_within}
+use Rattle.htmd_lexical.proofs.Cases.{test}
+use Rattle.htmd_lexical.specs.WhiteSpace.{is_ascii_white_space}
+use Rattle.htmd_lexical.proofs.RunsLemmas.{behind_within}
 use Rattle.htmd_html5_state.specs.State.{StateValue}
 use Rattle.htmd_html5.specs.Outcomes.{Outcome, outcome}
 use Rattle.htmd_html5.specs.Runs.{is_of_kind, kind_of_byte, is_null, first_kind, first_run, after_first_run}

@@ -1,8 +1,8 @@
 -- Where a text is put all at once: the parts of it, put one after another, would be joined.
 use Rattle.std.specs.Prelude.{ℕ, Bool, true, false, not, ◌&&◌, if◌then◌else◌, List}
 use Rattle.std.specs.List.{list_all}
-use Rattle.htmd_grammar.specs.CharacterClasses.{is_empty}
-use Rattle.htmd_grammar.specs.WhiteSpace.{is_ascii_white_space}
+use Rattle.htmd_lexical.specs.CharacterClasses.{is_empty}
+use Rattle.htmd_lexical.specs.WhiteSpace.{is_ascii_white_space}
 use Rattle.htmd_html5_state.specs.Foreign.{current_is_html}
 use Rattle.htmd_html5_state.specs.Insertion.{insert_text}
 use Rattle.htmd_html5_state.specs.AppendedTexts.{appends_text}

@@ -1,6 +1,6 @@
 -- The mode "before head" (HTML Standard, 13.2.6.4.3).
 use Rattle.std.specs.Prelude.{List, [], length, Some}
-use Rattle.htmd_grammar.specs.ValueTrees.{AttributePair}
+use Rattle.htmd_lexical.specs.AttributePairs.{AttributePair}
 use Rattle.htmd_html5_state.specs.Names.{NameValue, known}
 use Rattle.htmd_html5.specs.Tokens.{doctype, comment, StartTagValue, TokenValue, start_tag, end_tag, run}
 use Rattle.htmd_html5_state.specs.State.{StateValue}

@@ -3,7 +3,7 @@ use Rattle.std.specs.Prelude.{ℕ, Bool, true, false, if◌then◌else◌, List,
 use Rattle.std.specs.Prelude.{find}
 use Rattle.std.specs.Str.{bytes_eq}
 use Rattle.std.specs.Char.{to_ascii_lowercase}
-use Rattle.htmd_grammar.specs.ValueTrees.{AttributePair}
+use Rattle.htmd_lexical.specs.AttributePairs.{AttributePair}
 use Rattle.htmd_html5_state.specs.Names.{NameValue, known, other}
 use Rattle.htmd_html5_state.specs.Nodes.{detach, is_named, add_missing}
 use Rattle.htmd_html5.specs.Tokens.{StartTagValue}
@@ -29,7 +29,7 @@ use Rattle.htmd_html5.specs.SharedRules.{with_mode, insert_tag, insert_void_tag,
 use Rattle.htmd_html5.specs.SharedRules.{no_frameset, close_paragraph, add_to_root, insert_head_element}
 use Rattle.htmd_html5_state.specs.declared.names.TagName.TheVariants as tags
 use Rattle.htmd_html5.specs.declared.body_starts.StartRule.TheVariants as rule
-use Rattle.htmd_grammar.specs.declared.content_model.RawElement.TheVariants as raw
+use Rattle.htmd_lexical.specs.declared.content_model.RawElement.TheVariants as raw
 
 -- ---- which rule a name has
 

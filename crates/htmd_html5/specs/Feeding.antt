@@ -1,18 +1,18 @@
 -- What a token of the tokenizer does; the mode "text" (HTML Standard, 13.2.6.4.8).
 use Rattle.std.specs.Prelude.{ℕ, Bool, true, false, ◌&&◌, if◌then◌else◌, List, drop}
-use Rattle.htmd_grammar.specs.CharacterClasses.{is_empty, first_is}
-use Rattle.htmd_grammar.specs.Characters.{line_feed}
+use Rattle.htmd_lexical.specs.CharacterClasses.{is_empty, first_is}
+use Rattle.htmd_lexical.specs.Characters.{line_feed}
 use Rattle.htmd_html5_state.specs.Names.{NameValue, name_of_text}
 use Rattle.htmd_html5.specs.Tokens.{doctype, comment, StartTagValue, start_tag, end_tag, end_of_file}
 use Rattle.htmd_html5_state.specs.OpenElements.{pop}
 use Rattle.htmd_html5_state.specs.State.{StateValue, on_stack}
 use Rattle.htmd_html5_state.specs.Insertion.{insert_text}
-use Rattle.htmd_grammar.specs.declared.content_model.ContentModel.{ContentModel}
-use Rattle.htmd_grammar.specs.declared.content_model.ContentModel.TheVariants.{Normal, Raw}
+use Rattle.htmd_lexical.specs.declared.content_model.ContentModel.{ContentModel}
+use Rattle.htmd_lexical.specs.declared.content_model.ContentModel.TheVariants.{Normal, Raw}
 use Rattle.htmd_html5_tokens.specs.Tokens.{TagValue}
 use Rattle.htmd_html5.specs.Processing.{process}
 use Rattle.htmd_html5.specs.Texts.{put_text}
-use Rattle.htmd_grammar.specs.declared.content_model.RawElement.TheVariants as raw
+use Rattle.htmd_lexical.specs.declared.content_model.RawElement.TheVariants as raw
 use Rattle.htmd_html5_tokens.specs.Tokens as tokens
 
 -- an element of only text is open, up to its end tag

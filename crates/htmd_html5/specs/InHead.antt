@@ -11,7 +11,7 @@ use Rattle.htmd_html5.specs.Outcomes.{Outcome, done, again}
 use Rattle.htmd_html5.specs.SharedRules.{with_mode, insert_tag, insert_raw_tag, add_to_root, end_template}
 use Rattle.htmd_html5.specs.SharedRules.{insert_head_element}
 use Rattle.htmd_html5_state.specs.declared.names.TagName.TheVariants as tags
-use Rattle.htmd_grammar.specs.declared.content_model.RawElement.TheVariants as raw
+use Rattle.htmd_lexical.specs.declared.content_model.RawElement.TheVariants as raw
 
 abbrev pub close_head : StateValue → StateValue
 close_head s = with_mode AfterHead (on_stack pop s)

@@ -1,6 +1,6 @@
 -- The mode "in table body" (HTML Standard, 13.2.6.4.13).
 use Rattle.std.specs.Prelude.{Bool, true, false, if◌then◌else◌, List, []}
-use Rattle.htmd_grammar.specs.ValueTrees.{AttributePair}
+use Rattle.htmd_lexical.specs.AttributePairs.{AttributePair}
 use Rattle.htmd_html5_state.specs.Names.{NameValue, known}
 use Rattle.htmd_html5.specs.Tokens.{StartTagValue, TokenValue, start_tag, end_tag}
 use Rattle.htmd_html5_state.specs.OpenElements.{is_in_scope, pop, clear_to}

@@ -1,8 +1,8 @@
 -- Texts are taken run by run: all white space, all U+0000, or neither, each as long as it goes.
 use Rattle.std.specs.Prelude.{ℕ, Bool, not, ◌&&◌, ◌==◌, if◌then◌else◌, List, [], ◌∷◌}
-use Rattle.htmd_grammar.specs.CharacterClasses.{leading_run, behind_run}
-use Rattle.htmd_grammar.specs.WhiteSpace.{is_ascii_white_space}
-use Rattle.htmd_grammar.specs.Characters.{null}
+use Rattle.htmd_lexical.specs.CharacterClasses.{leading_run, behind_run}
+use Rattle.htmd_lexical.specs.WhiteSpace.{is_ascii_white_space}
+use Rattle.htmd_lexical.specs.Characters.{null}
 use Rattle.htmd_html5.specs.declared.tokens.RunKind.{RunKind}
 use Rattle.htmd_html5.specs.declared.tokens.RunKind.TheVariants.{White, Nulls, Characters}
 

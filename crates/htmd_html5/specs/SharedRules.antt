@@ -1,6 +1,6 @@
 -- Rules that many modes share.
 use Rattle.std.specs.Prelude.{ℕ, Bool, true, false, if◌then◌else◌, List, ◌∷◌, Option, Some, None}
-use Rattle.htmd_grammar.specs.ValueTrees.{AttributePair}
+use Rattle.htmd_lexical.specs.AttributePairs.{AttributePair}
 use Rattle.htmd_html5_state.specs.Names.{NameValue, text_of_name, known}
 use Rattle.htmd_html5_state.specs.Nodes.{add_missing}
 use Rattle.htmd_html5.specs.Tokens.{StartTagValue}
@@ -16,9 +16,9 @@ use Rattle.htmd_html5_state.specs.declared.names.Namespace.{Namespace}
 use Rattle.htmd_html5_state.specs.declared.names.TagName.{TagName}
 use Rattle.htmd_html5_state.specs.declared.sets.NameSet.TheVariants.{Only}
 use Rattle.htmd_html5_state.specs.declared.sets.Scope.TheVariants.{Button as ButtonScope}
-use Rattle.htmd_grammar.specs.declared.content_model.RawElement.{RawElement}
+use Rattle.htmd_lexical.specs.declared.content_model.RawElement.{RawElement}
 use Rattle.htmd_html5_state.specs.declared.names.TagName.TheVariants as tags
-use Rattle.htmd_grammar.specs.declared.content_model.RawElement.TheVariants as raw
+use Rattle.htmd_lexical.specs.declared.content_model.RawElement.TheVariants as raw
 
 abbrev pub with_mode : InsertionMode → StateValue → StateValue
 with_mode mode s = record s { mode = mode }

@@ -1,6 +1,6 @@
 -- Texts, run by run; in a table itself all that is left is taken at once (HTML Standard, 13.2.6.4.10).
 use Rattle.std.specs.Prelude.{ℕ, Bool, true, false, ◌&&◌, if◌then◌else◌, List, [], length, suc, zero}
-use Rattle.htmd_grammar.specs.CharacterClasses.{is_empty}
+use Rattle.htmd_lexical.specs.CharacterClasses.{is_empty}
 use Rattle.htmd_html5.specs.Tokens.{TokenValue, run}
 use Rattle.htmd_html5_state.specs.OpenElements.{current_is}
 use Rattle.htmd_html5_state.specs.State.{StateValue}

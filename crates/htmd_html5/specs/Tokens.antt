@@ -1,8 +1,8 @@
 -- The tokens of tree construction (HTML Standard, 13.2.6): tags with their names found, and texts run by run.
 use Rattle.std.specs.Prelude.{ℕ, Bool, List}
-use Rattle.htmd_grammar.specs.ValueTrees.{AttributePair}
+use Rattle.htmd_lexical.specs.AttributePairs.{AttributePair}
 use Rattle.htmd_html5_state.specs.Names.{NameValue, name_of}
-use Rattle.htmd_grammar.specs.Attributes.{pairs_of}
+use Rattle.htmd_lexical.specs.Attributes.{pairs_of}
 use Rattle.htmd_html5.specs.declared.tokens.RunKind.{RunKind}
 use Rattle.htmd_html5.specs.declared.tokens.StartTag.{StartTag}
 

@@ -5,7 +5,7 @@ ghost use Rattle.htmd_html5.specs.AfterHead as spec;
 ghost use Rattle.htmd_html5.specs.Outcomes.{outcome};
 ghost use Rattle.htmd_html5.specs.SharedRules.{no_frameset};
 ghost use Rattle.htmd_html5.specs.Tokens.{tag_of};
-ghost use Rattle.htmd_grammar.specs.Attributes.{pairs_of};
+ghost use Rattle.htmd_lexical.specs.Attributes.{pairs_of};
 
 use crate::shared_rules::{add_to_root, end_template, insert_head_element, insert_tag};
 use crate::tokens::StartTag;

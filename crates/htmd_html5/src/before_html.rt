@@ -4,7 +4,7 @@ ghost use Rattle.htmd_html5_state.specs.Names.{name_of};
 ghost use Rattle.htmd_html5.specs.Outcomes.{outcome};
 ghost use Rattle.htmd_html5.specs.BeforeHtml as spec;
 ghost use Rattle.htmd_html5.specs.Tokens.{tag_of};
-ghost use Rattle.htmd_grammar.specs.Attributes.{pairs_of};
+ghost use Rattle.htmd_lexical.specs.Attributes.{pairs_of};
 
 use crate::tokens::StartTag;
 use htmd_html5_state::{HtmlName, HtmlState, InsertionMode, TagName};

@@ -4,7 +4,7 @@ ghost use Rattle.htmd_html5_state.specs.Names.{name_of};
 ghost use Rattle.htmd_html5_state.specs.State.{on_stack};
 ghost use Rattle.htmd_html5.specs.BodyStarts as spec;
 ghost use Rattle.htmd_html5.specs.Tokens.{tag_of};
-ghost use Rattle.htmd_grammar.specs.Attributes.{pairs_of};
+ghost use Rattle.htmd_lexical.specs.Attributes.{pairs_of};
 
 use crate::shared_rules::{
     add_to_root, close_paragraph, insert_foreign_tag, insert_head_element, insert_raw_tag,

@@ -1,7 +1,7 @@
 //! What a token of the tokenizer does.
 ghost use Rattle.std.specs.Prelude.{◌≡◌, true, false, drop, string_bytes, IfOk, MatchOption, OnOk};
-ghost use Rattle.htmd_grammar.specs.Characters.{line_feed};
-ghost use Rattle.htmd_grammar.specs.CharacterClasses.{first_is};
+ghost use Rattle.htmd_lexical.specs.Characters.{line_feed};
+ghost use Rattle.htmd_lexical.specs.CharacterClasses.{first_is};
 ghost use Rattle.htmd_html5_state.specs.Names.{name_of};
 ghost use Rattle.htmd_html5.specs.Feeding as spec;
 ghost use Rattle.htmd_html5_tokens.specs.Tokens.{value_of};

@@ -6,7 +6,7 @@ ghost use Rattle.htmd_html5.specs.Outcomes.{outcome};
 ghost use Rattle.htmd_html5.specs.ForeignContent as spec;
 ghost use Rattle.htmd_html5.specs.Tokens.{tag_of, start_tag, run};
 ghost use Rattle.htmd_html5.specs.declared.tokens.RunKind.{RunKind};
-ghost use Rattle.htmd_grammar.specs.Attributes.{pair_of, pairs_of};
+ghost use Rattle.htmd_lexical.specs.Attributes.{pair_of, pairs_of};
 
 use crate::modes::{end_by_mode, start_by_mode};
 use crate::shared_rules::insert_foreign_tag;

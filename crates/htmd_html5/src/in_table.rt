@@ -1,7 +1,7 @@
 //! The modes "in table" and "in table text".
 ghost use Rattle.std.specs.Prelude.{◌≡◌, ◌++◌, is_some, length, string_bytes, IfOk, IfSome, OnOk};
 ghost use Rattle.std.specs.List.{list_all};
-ghost use Rattle.htmd_grammar.specs.WhiteSpace.{is_ascii_white_space};
+ghost use Rattle.htmd_lexical.specs.WhiteSpace.{is_ascii_white_space};
 ghost use Rattle.htmd_html5_state.specs.Names.{name_of};
 ghost use Rattle.htmd_html5.specs.Outcomes.{outcome};
 ghost use Rattle.htmd_html5.specs.BodyEnds.{end_in_body};
@@ -9,7 +9,7 @@ ghost use Rattle.htmd_html5.specs.BodyStarts.{start_in_body};
 ghost use Rattle.htmd_html5.specs.InBody.{run_in_body};
 ghost use Rattle.htmd_html5.specs.InTable as spec;
 ghost use Rattle.htmd_html5.specs.Tokens.{tag_of};
-ghost use Rattle.htmd_grammar.specs.Attributes.{pairs_of};
+ghost use Rattle.htmd_lexical.specs.Attributes.{pairs_of};
 
 use crate::body_ends::end_in_body;
 use crate::body_starts::{is_hidden, start_in_body};

@@ -6,7 +6,7 @@ ghost use Rattle.htmd_html5_state.specs.declared.sets.Scope.TheVariants.{Table};
 ghost use Rattle.htmd_html5.specs.Outcomes.{outcome};
 ghost use Rattle.htmd_html5.specs.InTableBody as spec;
 ghost use Rattle.htmd_html5.specs.Tokens.{tag_of};
-ghost use Rattle.htmd_grammar.specs.Attributes.{pairs_of};
+ghost use Rattle.htmd_lexical.specs.Attributes.{pairs_of};
 
 use crate::in_table::{end_in_table, start_in_table};
 use crate::tokens::StartTag;

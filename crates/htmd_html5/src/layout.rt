@@ -5,7 +5,7 @@ ghost use Rattle.htmd_html5_state.specs.Views.{kind_of, nodes_of};
 ghost use Rattle.htmd_html5.specs.Layout as spec;
 ghost use Rattle.htmd_html5.specs.LayoutViews.{coming_of, coming_under, layout_of, work_of, AllMayHold, MayHold};
 ghost use Rattle.htmd_nodes.specs.Items.{comment_node, doctype_node, element_node, text_node, greatest_depth};
-ghost use Rattle.htmd_grammar.specs.Attributes.{pairs_of};
+ghost use Rattle.htmd_lexical.specs.Attributes.{pairs_of};
 ghost use Rattle.htmd_nodes.specs.declared.tree.TreeError.TheVariants.{TooDeep};
 
 use htmd_html5_state::{Node, NodeKind, OtherElement};

@@ -1,7 +1,6 @@
 //! The tokens of tree construction.
-ghost use Rattle.std.specs.Prelude.{◌≡◌, ◌≤◌, length, IfOk};
+ghost use Rattle.std.specs.Prelude.{◌≡◌, IfOk};
 ghost use Rattle.std.specs.Str.{IsUtf8};
-ghost use Rattle.htmd_grammar.specs.CharacterClasses.{leading_run};
 ghost use Rattle.htmd_html5.specs.Runs as runs;
 ghost use Rattle.htmd_html5.specs.Tokens.{tag_of};
 ghost use Rattle.htmd_html5.specs.Feeding.{named};
@@ -10,6 +9,7 @@ ghost use Rattle.htmd_html5_tokens.specs.Tokens as tokens;
 use htmd_html5_state::HtmlName;
 use htmd_html5_tokens::Tag;
 use htmd_nodes::Attribute;
+use htmd_scanning::{ByteClass, run_len};
 use std::alloc::{AllocError, Global};
 
 /// A start tag, with its name found.
@@ -61,10 +61,15 @@ impl RunKind {
             RunKind::Characters
         }
     }
+}
 
-    fn has(self, byte: u8) -> bool
-        ensures { result ≡ runs.is_of_kind self byte }
-    {
+impl ByteClass for RunKind {
+    ghost use Rattle.htmd_html5.specs.Runs.{is_of_kind};
+
+    ghost bytes = { is_of_kind };
+
+    #[inline(always)]
+    fn has(self, byte: u8) -> bool {
         match self {
             RunKind::White => byte.is_ascii_whitespace(),
             RunKind::Nulls => byte == 0,
@@ -81,19 +86,6 @@ fn first_kind(bytes: &[u8]) -> RunKind
         [first, ..] => RunKind::of(*first),
         [] => RunKind::Characters,
     }
-}
-
-#[tactic(auto, using(htmd_grammar::proofs::RunsLemmas::run_more, htmd_grammar::proofs::RunsLemmas::run_stops))]
-fn run_len(bytes: &[u8], kind: RunKind) -> usize
-    ensures bound { result ≤ length bytes.now }
-    ensures value { result ≡ length (leading_run (runs.is_of_kind kind) bytes.now) }
-{
-    for (len, byte) in bytes.iter().enumerate() {
-        if !kind.has(*byte) {
-            return len;
-        }
-    }
-    bytes.len()
 }
 
 /// The first run of a text, and what follows it.

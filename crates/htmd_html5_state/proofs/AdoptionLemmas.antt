@@ -3,13 +3,14 @@ use Rattle.std.proofs.Common.{◌≡◌, ℕ, Bool, true, false, List, [], ◌�
 use Rattle.std.proofs.Common.{refl, sym, ap, ◌∙◌, subst}
 use Rattle.std.proofs.lemmas.Bool.{true≢false, and_parts, eq-eqb, eqb-true}
 use Rattle.std.specs.Prelude.{◌==◌, if◌then◌else◌}
-use Rattle.htmd_grammar.proofs.Cases.{test}
+use Rattle.htmd_lexical.proofs.Cases.{test}
 use Rattle.htmd_html5_state.specs.Names.{html, known}
 use Rattle.htmd_html5_state.specs.OpenElements.{OpenValue, is_in, pop}
 use Rattle.htmd_html5_state.specs.State.{StateValue, on_nodes, on_formatting, on_stack}
 use Rattle.htmd_html5_state.specs.Insertion.{current, opened}
 use Rattle.htmd_html5_state.specs.Formatting.{without_entry}
-use Rattle.htmd_html5_state.specs.Adoption.{Furthest, Chain, chain, begin_chain, move_last, wrap_children, with_bookmark}
+use Rattle.htmd_html5_state.specs.Adoption.{Furthest, Chain, chain, begin_chain, move_last, wrap_children}
+use Rattle.htmd_html5_state.specs.Adoption.{with_bookmark}
 use Rattle.htmd_html5_state.specs.Adoption.{adopt, adopt_by, finish, adoption_agency, node_is, closes_at_once, rounds}
 use Rattle.htmd_html5_state.specs.Adoption.{formatting_element, round_of, round_with, last_round, go_on}
 use Rattle.htmd_html5_state.specs.AdoptionViews.{closes_newest}

@@ -5,8 +5,8 @@ use Rattle.std.specs.Prelude.{insert, nat_lt}
 use Rattle.std.proofs.lemmas.Bool.{true≢false, and_parts, cases_lt, ltb-true, not_from_true}
 use Rattle.std.proofs.lemmas.List.{get_or_append_left, get_or_at, get_or-set_same, get_or_past}
 use Rattle.std.proofs.lemmas.List.{set-append_left, set_at, set-set, length-set, length-append, append_assoc}
-use Rattle.htmd_grammar.proofs.Cases.{test}
-use Rattle.htmd_grammar.specs.CharacterClasses.{is_empty}
+use Rattle.htmd_lexical.proofs.Cases.{test}
+use Rattle.htmd_lexical.specs.CharacterClasses.{is_empty}
 use Rattle.htmd_html5_state.proofs.DocumentLemmas.{insert_last}
 use Rattle.htmd_html5_state.specs.Nodes.{NodeValue, KindValue, document, text, new_node, node_at, kind_at, children_at}
 use Rattle.htmd_html5_state.specs.Nodes.{text_of, with_kind, with_parent, with_children, last_in, put_child, add}

@@ -7,8 +7,9 @@ use Rattle.std.proofs.lemmas.List.{take_all, take_more, drop_all}
 use Rattle.std.specs.List.{list_any}
 use Rattle.std.specs.Prelude.{◌==◌, slice_set, insert, remove, String}
 use Rattle.std.specs.Global.{Global}
-use Rattle.htmd_grammar.proofs.Cases.{test}
-use Rattle.htmd_html5_state.specs.Nodes.{NodeValue, KindValue, text, node_at, kind_at, new_node, document, is_number, index_of}
+use Rattle.htmd_lexical.proofs.Cases.{test}
+use Rattle.htmd_html5_state.specs.Nodes.{NodeValue, KindValue, text, node_at, kind_at, new_node, document, is_number}
+use Rattle.htmd_html5_state.specs.Nodes.{index_of}
 use Rattle.htmd_html5_state.specs.Nodes.{joined, joined_with, text_of}
 use Rattle.htmd_html5_state.specs.Views.{node_of, nodes_of, kind_of}
 use Rattle.htmd_html5_state.specs.declared.document.Node.{Node}

@@ -12,7 +12,8 @@ use Rattle.htmd_html5_state.specs.Adoption.{adoption_agency, move_last, wrap_chi
 use Rattle.htmd_html5_state.specs.Resetting.{reset_insertion_mode}
 use Rattle.htmd_html5_state.specs.Foreign.{insert_foreign}
 use Rattle.htmd_html5_state.specs.declared.names.TagName.{TagName}
-use Rattle.htmd_html5_state.specs.declared.names.TagName.TheVariants.{A, B, Body, Html, I, Li, P, Table, TBody, Td, Tr, Ul, Div}
+use Rattle.htmd_html5_state.specs.declared.names.TagName.TheVariants.{A, B, Body, Html, I, Li, P, Table, TBody, Td, Tr}
+use Rattle.htmd_html5_state.specs.declared.names.TagName.TheVariants.{Ul, Div}
 use Rattle.htmd_html5_state.specs.declared.names.Namespace.TheVariants.{Svg}
 use Rattle.htmd_html5_state.specs.declared.sets.NameSet.TheVariants.{Only, TableContext}
 use Rattle.htmd_html5_state.specs.declared.sets.Scope.TheVariants as scope

@@ -4,7 +4,7 @@ use Rattle.std.proofs.Common.{refl, sym, ap, ◌∙◌, suc, ◌+◌, ◌<◌, t
 use Rattle.std.specs.Prelude.{insert, remove, filter, MatchOption, is_some, ◌&&◌}
 use Rattle.std.proofs.lemmas.Bool.{true≢false, eq-eqb}
 use Rattle.std.proofs.lemmas.List.{reverse-append, append_assoc, length-append, length_push, take_at, drop_at, set_at}
-use Rattle.htmd_grammar.proofs.Cases.{test}
+use Rattle.htmd_lexical.proofs.Cases.{test}
 use Rattle.htmd_html5_state.specs.Nodes.{KindValue, document, doctype, text, comment, element}
 use Rattle.htmd_html5_state.specs.Nodes.{attributes_of, same_attributes, same_element}
 use Rattle.htmd_html5_state.specs.Views.{have_same_name}

@@ -1,6 +1,7 @@
 -- Where open elements stand: what a place says of a scope, and what changes where an element is opened or closed.
 use Rattle.std.proofs.Common.{◌≡◌, ℕ, suc, ◌+◌, ◌<◌, ◌≤◌, Bool, true, false, ◌||◌, cond, List, [], ◌∷◌, length}
-use Rattle.std.proofs.Common.{get_or, set, take, drop, ◌-◌, Option, Some, None, vec_len, ◌++◌, refl, sym, ap, ◌∙◌, subst, arith}
+use Rattle.std.proofs.Common.{get_or, set, take, drop, ◌-◌, Option, Some, None, vec_len, ◌++◌, refl, sym, ap, ◌∙◌}
+use Rattle.std.proofs.Common.{subst, arith}
 use Rattle.std.proofs.lemmas.Bool.{true≢false, eqb-true}
 use Rattle.std.proofs.lemmas.Bool.Decides.{nat_tests}
 use Rattle.std.proofs.lemmas.List.{get_or-set_same, get_or-set_other, length-set, length-append, get_or_append_left}
@@ -9,17 +10,19 @@ use Rattle.std.specs.List.{list_any}
 use Rattle.std.specs.Map.{update}
 use Rattle.std.specs.Prelude.{◌==◌, nat_lt, unwrap_or, is_some, remove}
 use Rattle.std.specs.Str.{bytes_eq}
-use Rattle.htmd_grammar.proofs.NestingLemmas.{same_bytes}
-use Rattle.htmd_grammar.proofs.Cases.{test}
+use Rattle.htmd_lexical.proofs.BytesLemmas.{same_bytes}
+use Rattle.htmd_lexical.proofs.Cases.{test}
 use Rattle.htmd_html5_state.specs.Adoption.{bounds_any}
 use Rattle.htmd_html5_state.specs.Names.{NameValue, ElementNameValue, html, svg, math, known, other, same_element_name}
-use Rattle.htmd_html5_state.specs.OpenElements.{OpenValue, is_in, is_node, has_name, inside, scope_has, is_node_in_scope}
+use Rattle.htmd_html5_state.specs.OpenElements.{OpenValue, is_in, is_node, has_name, inside, scope_has}
+use Rattle.htmd_html5_state.specs.OpenElements.{is_node_in_scope}
 use Rattle.htmd_html5_state.specs.OpenElements.{is_open_node, pop}
 use Rattle.htmd_html5_state.specs.OpenViews.{open_of, stack_of}
-use Rattle.htmd_html5_state.specs.Places.{innermost, bounds_in, is_from, bound_of, name_place, has_room, innermost_named}
-use Rattle.htmd_html5_state.specs.Places.{place_of_name}
-use Rattle.htmd_html5_state.specs.Places.{IsAround, IsLinked, HasRoom, AllHaveRoom, IsPlaced}
-use Rattle.htmd_html5_state.specs.Sets.{bounds, bounds_known, bounds_list_item, bounds_scope, is_table_context, is_template}
+use Rattle.htmd_html5_state.specs.Places.{innermost, bounds_in, is_from, bound_of, name_place, has_room}
+use Rattle.htmd_html5_state.specs.Places.{innermost_named}
+use Rattle.htmd_html5_state.specs.Places.{place_of_name, IsAround, IsLinked, HasRoom, AllHaveRoom, IsPlaced}
+use Rattle.htmd_html5_state.specs.Sets.{bounds, bounds_known, bounds_list_item, bounds_scope, is_table_context}
+use Rattle.htmd_html5_state.specs.Sets.{is_template}
 use Rattle.htmd_html5_state.specs.declared.names.TagName.{TagName}
 use Rattle.htmd_html5_state.specs.declared.names.TagName.TheVariants.{Html, Ol, Table, Template, Ul}
 use Rattle.htmd_html5_state.specs.declared.open_elements.OpenElement.{OpenElement}
@@ -30,16 +33,9 @@ use Rattle.htmd_html5_state.specs.declared.places.NamePlaces.{NamePlaces}
 use Rattle.htmd_html5_state.specs.declared.places.Places.{Places}
 use Rattle.htmd_html5_state.specs.declared.sets.NameSet.TheVariants.{Only}
 use Rattle.htmd_html5_state.specs.declared.sets.Scope.{Scope}
-use Rattle.htmd_html5_state.specs.declared.sets.Scope.TheVariants.{
-  Default,
-  ListItem,
-  Button as ButtonScope,
-  Table as TableScope,
-  Select,
-  Template as TemplateScope,
-  Special,
-  Items,
-}
+use Rattle.htmd_html5_state.specs.declared.sets.Scope.TheVariants.{Default, ListItem, Button as ButtonScope}
+use Rattle.htmd_html5_state.specs.declared.sets.Scope.TheVariants.{Table as TableScope, Select}
+use Rattle.htmd_html5_state.specs.declared.sets.Scope.TheVariants.{Template as TemplateScope, Special, Items}
 use Rattle.htmd_html5_state.specs.SetMembers.{members}
 use Rattle.htmd_html5_state.specs.declared.sets.NameSet.{NameSet}
 use Rattle.htmd_html5_state.proofs.StackLemmas.{stack-around, stack-removed}

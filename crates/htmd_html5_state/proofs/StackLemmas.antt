@@ -1,14 +1,15 @@
 -- The stack of open elements as the program holds it.
 use Rattle.std.proofs.Common.{◌≡◌, ℕ, suc, ◌+◌, ◌-◌, ◌<◌, ◌≤◌, true, false, List, [], ◌∷◌, ◌++◌, length}
 use Rattle.std.proofs.Common.{Some, None, cond, take, drop, get_or, reverse, refl, sym, ap, ◌∙◌, arith, add-one}
-use Rattle.std.proofs.lemmas.List.{take_more, reverse-reverse, map-append, reverse-append, append_assoc, take_at, drop_at, length-append}
+use Rattle.std.proofs.lemmas.List.{take_more, reverse-reverse, map-append, reverse-append, append_assoc, take_at}
+use Rattle.std.proofs.lemmas.List.{drop_at, length-append}
 use Rattle.std.proofs.lemmas.List.{length_push, length-map, length-reverse, take-append-drop, drop_more, length-take-le}
 use Rattle.std.proofs.lemmas.Bool.{true≢false, ne_eqb}
 use Rattle.std.proofs.lemmas.List.Folds.{list_any-append}
 use Rattle.std.proofs.lemmas.Bool.Decides.{nat_tests}
 use Rattle.std.specs.List.{list_any}
 use Rattle.std.specs.Prelude.{◌==◌, remove}
-use Rattle.htmd_grammar.proofs.Cases.{test}
+use Rattle.htmd_lexical.proofs.Cases.{test}
 use Rattle.htmd_html5_state.specs.OpenElements.{OpenValue, is_in, is_open_node, is_node, without}
 use Rattle.htmd_html5_state.specs.OpenElements.{outermost, first_open, second_open}
 use Rattle.htmd_html5_state.specs.Adoption.{Furthest, furthest_block, is_special_element}

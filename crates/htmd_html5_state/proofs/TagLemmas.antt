@@ -1,5 +1,6 @@
 -- The names that a rule speaks of by number, and the members of sets.
-use Rattle.std.proofs.Common.{◌≡◌, ℕ, zero, suc, ◌<◌, Bool, true, false, not, cond, List, [], ◌∷◌, get_or, map, refl, sym, ap, ◌∙◌, arith}
+use Rattle.std.proofs.Common.{◌≡◌, ℕ, zero, suc, ◌<◌, Bool, true, false, not, cond, List, [], ◌∷◌, get_or, map, refl}
+use Rattle.std.proofs.Common.{sym, ap, ◌∙◌, arith}
 use Rattle.std.proofs.lemmas.Bool.{true≢false, eq-eqb, ne_eqb}
 use Rattle.std.proofs.Math.ListN as math
 use Rattle.std.proofs.lemmas.Bool.Decides.{nat_tests}
@@ -7,8 +8,8 @@ use Rattle.std.proofs.lemmas.List.{get_or-map}
 use Rattle.std.specs.Borrow.{Bor}
 use Rattle.std.specs.List.{list_any, list_all}
 use Rattle.std.specs.Prelude.{◌==◌, nat_lt}
-use Rattle.htmd_grammar.proofs.Cases.{test}
-use Rattle.htmd_grammar.proofs.NestingLemmas.{bytes_same, same_bytes}
+use Rattle.htmd_lexical.proofs.Cases.{test}
+use Rattle.htmd_lexical.proofs.BytesLemmas.{bytes_same, same_bytes}
 use Rattle.htmd_html5_state.specs.Names.{spelling, same_tag, NameValue, ElementNameValue, html, svg, math, known, other}
 use Rattle.htmd_html5_state.specs.Names.{same_name}
 use Rattle.htmd_html5_state.specs.OpenElements.{OpenValue, is_in, has_name}
@@ -17,137 +18,27 @@ use Rattle.htmd_html5_state.specs.Sets.{has, is_of}
 use Rattle.htmd_html5_state.specs.TagNumbers.{number, tags}
 use Rattle.htmd_html5_state.specs.declared.names.TagName.{TagName}
 use Rattle.htmd_html5_state.specs.declared.sets.NameSet.{NameSet}
-use Rattle.htmd_html5_state.specs.declared.sets.NameSet.TheVariants.{
-  Only,
-  Headings,
-  DescriptionParts,
-  Cells,
-  TableSections,
-  Options,
-  ImpliedEnd,
-  ImpliedEndInRuby,
-  Fostering,
-  TableContext,
-  TableBodyContext,
-  TableRowContext,
-}
+use Rattle.htmd_html5_state.specs.declared.sets.NameSet.TheVariants.{Only, Headings, DescriptionParts, Cells}
+use Rattle.htmd_html5_state.specs.declared.sets.NameSet.TheVariants.{TableSections, Options, ImpliedEnd}
+use Rattle.htmd_html5_state.specs.declared.sets.NameSet.TheVariants.{ImpliedEndInRuby, Fostering, TableContext}
+use Rattle.htmd_html5_state.specs.declared.sets.NameSet.TheVariants.{TableBodyContext, TableRowContext}
 use Rattle.htmd_html5_state.proofs.NamesLemmas.{same_spelling}
-use Rattle.htmd_html5_state.specs.declared.names.TagName.TheVariants.{
-  A,
-  Address,
-  Applet,
-  Area,
-  Article,
-  Aside,
-  B,
-  Base,
-  BaseFont,
-  BgSound,
-  Big,
-  BlockQuote,
-  Body,
-  Br,
-  Button,
-  Caption,
-  Center,
-  Code,
-  Col,
-  ColGroup,
-  Dd,
-  Details,
-  Dialog,
-  Dir,
-  Div,
-  Dl,
-  Dt,
-  Em,
-  Embed,
-  FieldSet,
-  FigCaption,
-  Figure,
-  Font,
-  Footer,
-  Form,
-  Frame,
-  FrameSet,
-  H1,
-  H2,
-  H3,
-  H4,
-  H5,
-  H6,
-  Head,
-  Header,
-  HGroup,
-  Hr,
-  Html,
-  I,
-  Iframe,
-  Image,
-  Img,
-  Input,
-  KeyGen,
-  Li,
-  Link,
-  Listing,
-  Main,
-  MalignMark,
-  Marquee,
-  Math,
-  Menu,
-  Meta,
-  MGlyph,
-  Nav,
-  NoBr,
-  NoEmbed,
-  NoFrames,
-  NoScript,
-  Object,
-  Ol,
-  OptGroup,
-  OptionTag,
-  P,
-  Param,
-  PlainText,
-  Pre,
-  Rb,
-  Rp,
-  Rt,
-  Rtc,
-  Ruby,
-  S,
-  Script,
-  Search,
-  Section,
-  Select,
-  Small,
-  Source,
-  Span,
-  Strike,
-  Strong,
-  Style,
-  Sub,
-  Summary,
-  Sup,
-  Svg,
-  Table,
-  TBody,
-  Td,
-  Template,
-  TextArea,
-  TFoot,
-  Th,
-  THead,
-  Title,
-  Tr,
-  Track,
-  Tt,
-  U,
-  Ul,
-  Var,
-  Wbr,
-  Xmp,
-}
+use Rattle.htmd_html5_state.specs.declared.names.TagName.TheVariants.{A, Address, Applet, Area, Article, Aside, B, Base}
+use Rattle.htmd_html5_state.specs.declared.names.TagName.TheVariants.{BaseFont, BgSound, Big, BlockQuote, Body, Br}
+use Rattle.htmd_html5_state.specs.declared.names.TagName.TheVariants.{Button, Caption, Center, Code, Col, ColGroup, Dd}
+use Rattle.htmd_html5_state.specs.declared.names.TagName.TheVariants.{Details, Dialog, Dir, Div, Dl, Dt, Em, Embed}
+use Rattle.htmd_html5_state.specs.declared.names.TagName.TheVariants.{FieldSet, FigCaption, Figure, Font, Footer, Form}
+use Rattle.htmd_html5_state.specs.declared.names.TagName.TheVariants.{Frame, FrameSet, H1, H2, H3, H4, H5, H6, Head}
+use Rattle.htmd_html5_state.specs.declared.names.TagName.TheVariants.{Header, HGroup, Hr, Html, I, Iframe, Image, Img}
+use Rattle.htmd_html5_state.specs.declared.names.TagName.TheVariants.{Input, KeyGen, Li, Link, Listing, Main}
+use Rattle.htmd_html5_state.specs.declared.names.TagName.TheVariants.{MalignMark, Marquee, Math, Menu, Meta, MGlyph}
+use Rattle.htmd_html5_state.specs.declared.names.TagName.TheVariants.{Nav, NoBr, NoEmbed, NoFrames, NoScript, Object}
+use Rattle.htmd_html5_state.specs.declared.names.TagName.TheVariants.{Ol, OptGroup, OptionTag, P, Param, PlainText, Pre}
+use Rattle.htmd_html5_state.specs.declared.names.TagName.TheVariants.{Rb, Rp, Rt, Rtc, Ruby, S, Script, Search, Section}
+use Rattle.htmd_html5_state.specs.declared.names.TagName.TheVariants.{Select, Small, Source, Span, Strike, Strong}
+use Rattle.htmd_html5_state.specs.declared.names.TagName.TheVariants.{Style, Sub, Summary, Sup, Svg, Table, TBody, Td}
+use Rattle.htmd_html5_state.specs.declared.names.TagName.TheVariants.{Template, TextArea, TFoot, Th, THead, Title, Tr}
+use Rattle.htmd_html5_state.specs.declared.names.TagName.TheVariants.{Track, Tt, U, Ul, Var, Wbr, Xmp}
 
 -- ---- numbers
 

@@ -1,6 +1,6 @@
 -- Where text needs nothing before it and goes to the end of the current node.
 use Rattle.std.specs.Prelude.{Bool, not, ◌&&◌, nat_lt, length}
-use Rattle.htmd_grammar.specs.CharacterClasses.{is_empty}
+use Rattle.htmd_lexical.specs.CharacterClasses.{is_empty}
 use Rattle.htmd_html5_state.specs.Formatting.{closed_elements}
 use Rattle.htmd_html5_state.specs.Insertion.{current}
 use Rattle.htmd_html5_state.specs.State.{StateValue}

@@ -3,7 +3,7 @@ use Rattle.std.specs.Prelude.{ℕ, Bool, true, false, ◌||◌, ◌&&◌, if◌t
 use Rattle.std.specs.Prelude.{Option, Some, None, unwrap_or}
 use Rattle.std.specs.Char.{to_ascii_lowercase}
 use Rattle.std.specs.Str.{bytes_eq}
-use Rattle.htmd_grammar.specs.ValueTrees.{AttributePair}
+use Rattle.htmd_lexical.specs.AttributePairs.{AttributePair}
 use Rattle.htmd_html5_state.specs.Names.{ElementNameValue, html, svg, math}
 use Rattle.htmd_html5_state.specs.Sets.{is_math_text, is_svg_point}
 use Rattle.htmd_html5_state.specs.Nodes.{NodeValue, attributes_at, value_of}

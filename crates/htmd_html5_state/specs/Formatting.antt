@@ -1,7 +1,7 @@
 -- The list of active formatting elements (HTML Standard, 13.2.4.3), newest first.
 use Rattle.std.specs.Prelude.{ℕ, Bool, true, false, ◌==◌, nat_le, if◌then◌else◌, List, [], ◌∷◌, length, filter}
 use Rattle.std.specs.Prelude.{Option, Some, None}
-use Rattle.htmd_grammar.specs.ValueTrees.{AttributePair}
+use Rattle.htmd_lexical.specs.AttributePairs.{AttributePair}
 use Rattle.htmd_html5_state.specs.Names.{NameValue}
 use Rattle.htmd_html5_state.specs.Nodes.{NodeValue, KindValue, element, kind_at, same_element}
 use Rattle.htmd_html5_state.specs.OpenElements.{OpenValue, is_open_node}

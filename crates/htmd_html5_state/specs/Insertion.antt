@@ -1,8 +1,8 @@
 -- Nodes are inserted (HTML Standard, 13.2.6.1).
 use Rattle.std.specs.Prelude.{ℕ, ◌&&◌, if◌then◌else◌, List, [], ◌∷◌, length, Option, Some, None}
-use Rattle.htmd_grammar.specs.ValueTrees.{AttributePair}
-use Rattle.htmd_grammar.specs.declared.content_model.ContentModel.TheVariants.{Raw}
-use Rattle.htmd_grammar.specs.declared.content_model.RawElement.{RawElement}
+use Rattle.htmd_lexical.specs.AttributePairs.{AttributePair}
+use Rattle.htmd_lexical.specs.declared.content_model.ContentModel.TheVariants.{Raw}
+use Rattle.htmd_lexical.specs.declared.content_model.RawElement.{RawElement}
 use Rattle.htmd_html5_state.specs.Names.{ElementNameValue, NameValue, html, other}
 use Rattle.htmd_html5_state.specs.Nodes.{NodeValue, element, comment, doctype, parent_at, add, add_text}
 use Rattle.htmd_html5_state.specs.Nodes.{last_in, before_in}

@@ -5,124 +5,25 @@ use Rattle.std.specs.Str.{bytes_eq}
 use Rattle.htmd_html5_state.specs.declared.names.HtmlName.{HtmlName}
 use Rattle.htmd_html5_state.specs.declared.names.HtmlName.TheVariants.{Known, Other}
 use Rattle.htmd_html5_state.specs.declared.names.ElementName.{ElementName}
-use Rattle.htmd_html5_state.specs.declared.names.ElementName.TheVariants.{Html as HtmlElement, Svg as SvgElement, Math as MathElement}
+use Rattle.htmd_html5_state.specs.declared.names.ElementName.TheVariants.{Html as HtmlElement, Svg as SvgElement}
+use Rattle.htmd_html5_state.specs.declared.names.ElementName.TheVariants.{Math as MathElement}
 use Rattle.htmd_html5_state.specs.declared.names.TagName.{TagName}
-use Rattle.htmd_html5_state.specs.declared.names.TagName.TheVariants.{
-  A,
-  Address,
-  Applet,
-  Area,
-  Article,
-  Aside,
-  B,
-  Base,
-  BaseFont,
-  BgSound,
-  Big,
-  BlockQuote,
-  Body,
-  Br,
-  Button,
-  Caption,
-  Center,
-  Code,
-  Col,
-  ColGroup,
-  Dd,
-  Details,
-  Dialog,
-  Dir,
-  Div,
-  Dl,
-  Dt,
-  Em,
-  Embed,
-  FieldSet,
-  FigCaption,
-  Figure,
-  Font,
-  Footer,
-  Form,
-  Frame,
-  FrameSet,
-  H1,
-  H2,
-  H3,
-  H4,
-  H5,
-  H6,
-  Head,
-  Header,
-  HGroup,
-  Hr,
-  Html,
-  I,
-  Iframe,
-  Image,
-  Img,
-  Input,
-  KeyGen,
-  Li,
-  Link,
-  Listing,
-  Main,
-  MalignMark,
-  Marquee,
-  Math,
-  Menu,
-  Meta,
-  MGlyph,
-  Nav,
-  NoBr,
-  NoEmbed,
-  NoFrames,
-  NoScript,
-  Object,
-  Ol,
-  OptGroup,
-  OptionTag,
-  P,
-  Param,
-  PlainText,
-  Pre,
-  Rb,
-  Rp,
-  Rt,
-  Rtc,
-  Ruby,
-  S,
-  Script,
-  Search,
-  Section,
-  Select,
-  Small,
-  Source,
-  Span,
-  Strike,
-  Strong,
-  Style,
-  Sub,
-  Summary,
-  Sup,
-  Svg,
-  Table,
-  TBody,
-  Td,
-  Template,
-  TextArea,
-  TFoot,
-  Th,
-  THead,
-  Title,
-  Tr,
-  Track,
-  Tt,
-  U,
-  Ul,
-  Var,
-  Wbr,
-  Xmp,
-}
+use Rattle.htmd_html5_state.specs.declared.names.TagName.TheVariants.{A, Address, Applet, Area, Article, Aside, B, Base}
+use Rattle.htmd_html5_state.specs.declared.names.TagName.TheVariants.{BaseFont, BgSound, Big, BlockQuote, Body, Br}
+use Rattle.htmd_html5_state.specs.declared.names.TagName.TheVariants.{Button, Caption, Center, Code, Col, ColGroup, Dd}
+use Rattle.htmd_html5_state.specs.declared.names.TagName.TheVariants.{Details, Dialog, Dir, Div, Dl, Dt, Em, Embed}
+use Rattle.htmd_html5_state.specs.declared.names.TagName.TheVariants.{FieldSet, FigCaption, Figure, Font, Footer, Form}
+use Rattle.htmd_html5_state.specs.declared.names.TagName.TheVariants.{Frame, FrameSet, H1, H2, H3, H4, H5, H6, Head}
+use Rattle.htmd_html5_state.specs.declared.names.TagName.TheVariants.{Header, HGroup, Hr, Html, I, Iframe, Image, Img}
+use Rattle.htmd_html5_state.specs.declared.names.TagName.TheVariants.{Input, KeyGen, Li, Link, Listing, Main}
+use Rattle.htmd_html5_state.specs.declared.names.TagName.TheVariants.{MalignMark, Marquee, Math, Menu, Meta, MGlyph}
+use Rattle.htmd_html5_state.specs.declared.names.TagName.TheVariants.{Nav, NoBr, NoEmbed, NoFrames, NoScript, Object}
+use Rattle.htmd_html5_state.specs.declared.names.TagName.TheVariants.{Ol, OptGroup, OptionTag, P, Param, PlainText, Pre}
+use Rattle.htmd_html5_state.specs.declared.names.TagName.TheVariants.{Rb, Rp, Rt, Rtc, Ruby, S, Script, Search, Section}
+use Rattle.htmd_html5_state.specs.declared.names.TagName.TheVariants.{Select, Small, Source, Span, Strike, Strong}
+use Rattle.htmd_html5_state.specs.declared.names.TagName.TheVariants.{Style, Sub, Summary, Sup, Svg, Table, TBody, Td}
+use Rattle.htmd_html5_state.specs.declared.names.TagName.TheVariants.{Template, TextArea, TFoot, Th, THead, Title, Tr}
+use Rattle.htmd_html5_state.specs.declared.names.TagName.TheVariants.{Track, Tt, U, Ul, Var, Wbr, Xmp}
 
 -- a name of HTML
 pub data NameValue : Type 0 where

@@ -7,16 +7,9 @@ use Rattle.htmd_html5_state.specs.Sets.{bounds}
 use Rattle.htmd_html5_state.specs.OpenElements.{OpenValue, has_name, is_node}
 use Rattle.htmd_html5_state.specs.TagNumbers.{number}
 use Rattle.htmd_html5_state.specs.declared.sets.Scope.{Scope}
-use Rattle.htmd_html5_state.specs.declared.sets.Scope.TheVariants.{
-  Default,
-  ListItem,
-  Button as ButtonScope,
-  Table as TableScope,
-  Select,
-  Template as TemplateScope,
-  Special,
-  Items,
-}
+use Rattle.htmd_html5_state.specs.declared.sets.Scope.TheVariants.{Default, ListItem, Button as ButtonScope}
+use Rattle.htmd_html5_state.specs.declared.sets.Scope.TheVariants.{Table as TableScope, Select}
+use Rattle.htmd_html5_state.specs.declared.sets.Scope.TheVariants.{Template as TemplateScope, Special, Items}
 use Rattle.htmd_html5_state.specs.declared.places.Bounds.{Bounds}
 use Rattle.htmd_html5_state.specs.declared.places.Around.{Around}
 use Rattle.htmd_html5_state.specs.declared.places.NamePlaces.{NamePlaces}

@@ -4,41 +4,16 @@ use Rattle.htmd_html5_state.specs.Names.{ElementNameValue, html, svg, math, know
 use Rattle.htmd_html5_state.specs.OpenElements.{OpenValue, is_in_scope}
 use Rattle.htmd_html5_state.specs.State.{StateValue}
 use Rattle.htmd_html5_state.specs.declared.names.TagName.{TagName}
-use Rattle.htmd_html5_state.specs.declared.names.TagName.TheVariants.{
-  Body,
-  Caption,
-  ColGroup,
-  FrameSet,
-  Head,
-  Html,
-  Select,
-  Table,
-  TBody,
-  Td,
-  Template,
-  TFoot,
-  Th,
-  THead,
-  Tr,
-}
+use Rattle.htmd_html5_state.specs.declared.names.TagName.TheVariants.{Body, Caption, ColGroup, FrameSet, Head, Html}
+use Rattle.htmd_html5_state.specs.declared.names.TagName.TheVariants.{Select, Table, TBody, Td, Template, TFoot, Th}
+use Rattle.htmd_html5_state.specs.declared.names.TagName.TheVariants.{THead, Tr}
 use Rattle.htmd_html5_state.specs.declared.sets.NameSet.TheVariants.{Only}
 use Rattle.htmd_html5_state.specs.declared.sets.Scope.TheVariants.{Template as TemplateScope}
 use Rattle.htmd_html5_state.specs.declared.modes.InsertionMode.{InsertionMode}
-use Rattle.htmd_html5_state.specs.declared.modes.InsertionMode.TheVariants.{
-  BeforeHead,
-  InHead,
-  AfterHead,
-  InBody,
-  InTable,
-  InCaption,
-  InColumnGroup,
-  InTableBody,
-  InRow,
-  InCell,
-  InSelect,
-  InSelectInTable,
-  InFrameset,
-}
+use Rattle.htmd_html5_state.specs.declared.modes.InsertionMode.TheVariants.{BeforeHead, InHead, AfterHead, InBody}
+use Rattle.htmd_html5_state.specs.declared.modes.InsertionMode.TheVariants.{InTable, InCaption, InColumnGroup}
+use Rattle.htmd_html5_state.specs.declared.modes.InsertionMode.TheVariants.{InTableBody, InRow, InCell, InSelect}
+use Rattle.htmd_html5_state.specs.declared.modes.InsertionMode.TheVariants.{InSelectInTable, InFrameset}
 
 -- the innermost template insertion mode
 abbrev pub template_mode : List InsertionMode → InsertionMode

@@ -1,48 +1,14 @@
 -- The names of a set, as the program lists them. No public clause cites it.
 use Rattle.std.specs.Prelude.{List, [], ◌∷◌}
 use Rattle.htmd_html5_state.specs.declared.sets.NameSet.{NameSet}
-use Rattle.htmd_html5_state.specs.declared.sets.NameSet.TheVariants.{
-  Only,
-  Headings,
-  DescriptionParts,
-  Cells,
-  TableSections,
-  Options,
-  ImpliedEnd,
-  ImpliedEndInRuby,
-  Fostering,
-  TableContext,
-  TableBodyContext,
-  TableRowContext,
-}
+use Rattle.htmd_html5_state.specs.declared.sets.NameSet.TheVariants.{Only, Headings, DescriptionParts, Cells}
+use Rattle.htmd_html5_state.specs.declared.sets.NameSet.TheVariants.{TableSections, Options, ImpliedEnd}
+use Rattle.htmd_html5_state.specs.declared.sets.NameSet.TheVariants.{ImpliedEndInRuby, Fostering, TableContext}
+use Rattle.htmd_html5_state.specs.declared.sets.NameSet.TheVariants.{TableBodyContext, TableRowContext}
 use Rattle.htmd_html5_state.specs.declared.names.TagName.{TagName}
-use Rattle.htmd_html5_state.specs.declared.names.TagName.TheVariants.{
-  Dd,
-  Dt,
-  H1,
-  H2,
-  H3,
-  H4,
-  H5,
-  H6,
-  Html,
-  Li,
-  OptGroup,
-  OptionTag,
-  P,
-  Rb,
-  Rp,
-  Rt,
-  Rtc,
-  Table,
-  TBody,
-  Td,
-  Template,
-  TFoot,
-  Th,
-  THead,
-  Tr,
-}
+use Rattle.htmd_html5_state.specs.declared.names.TagName.TheVariants.{Dd, Dt, H1, H2, H3, H4, H5, H6, Html, Li}
+use Rattle.htmd_html5_state.specs.declared.names.TagName.TheVariants.{OptGroup, OptionTag, P, Rb, Rp, Rt, Rtc, Table}
+use Rattle.htmd_html5_state.specs.declared.names.TagName.TheVariants.{TBody, Td, Template, TFoot, Th, THead, Tr}
 
 -- of a set of several names
 abbrev pub members : NameSet → List TagName

@@ -1,126 +1,31 @@
 -- Sets of names, and what bounds a scope (HTML Standard, 13.2.4.2).
 use Rattle.std.specs.Prelude.{ℕ, Bool, true, false, not, ◌&&◌, ◌||◌, List, [], ◌∷◌, codes}
 use Rattle.std.specs.Str.{bytes_eq}
-use Rattle.htmd_grammar.specs.CharacterClasses.{is_among}
+use Rattle.htmd_lexical.specs.CharacterClasses.{is_among}
 use Rattle.htmd_html5_state.specs.Names.{ElementNameValue, html, svg, math, known, other, same_tag}
 use Rattle.htmd_html5_state.specs.declared.sets.NameSet.{NameSet}
-use Rattle.htmd_html5_state.specs.declared.sets.NameSet.TheVariants.{
-  Only,
-  Headings,
-  DescriptionParts,
-  Cells,
-  TableSections,
-  Options,
-  ImpliedEnd,
-  ImpliedEndInRuby,
-  Fostering,
-  TableContext,
-  TableBodyContext,
-  TableRowContext,
-}
+use Rattle.htmd_html5_state.specs.declared.sets.NameSet.TheVariants.{Only, Headings, DescriptionParts, Cells}
+use Rattle.htmd_html5_state.specs.declared.sets.NameSet.TheVariants.{TableSections, Options, ImpliedEnd}
+use Rattle.htmd_html5_state.specs.declared.sets.NameSet.TheVariants.{ImpliedEndInRuby, Fostering, TableContext}
+use Rattle.htmd_html5_state.specs.declared.sets.NameSet.TheVariants.{TableBodyContext, TableRowContext}
 use Rattle.htmd_html5_state.specs.declared.sets.Scope.{Scope}
-use Rattle.htmd_html5_state.specs.declared.sets.Scope.TheVariants.{
-  Default,
-  ListItem,
-  Button as ButtonScope,
-  Table as TableScope,
-  Select,
-  Template as TemplateScope,
-  Special,
-  Items,
-}
+use Rattle.htmd_html5_state.specs.declared.sets.Scope.TheVariants.{Default, ListItem, Button as ButtonScope}
+use Rattle.htmd_html5_state.specs.declared.sets.Scope.TheVariants.{Table as TableScope, Select}
+use Rattle.htmd_html5_state.specs.declared.sets.Scope.TheVariants.{Template as TemplateScope, Special, Items}
 use Rattle.htmd_html5_state.specs.declared.names.TagName.{TagName}
-use Rattle.htmd_html5_state.specs.declared.names.TagName.TheVariants.{
-  Address,
-  Applet,
-  Area,
-  Article,
-  Aside,
-  Base,
-  BaseFont,
-  BgSound,
-  BlockQuote,
-  Body,
-  Br,
-  Button,
-  Caption,
-  Center,
-  Col,
-  ColGroup,
-  Dd,
-  Details,
-  Dir,
-  Div,
-  Dl,
-  Dt,
-  Embed,
-  FieldSet,
-  FigCaption,
-  Figure,
-  Footer,
-  Form,
-  Frame,
-  FrameSet,
-  H1,
-  H2,
-  H3,
-  H4,
-  H5,
-  H6,
-  Head,
-  Header,
-  HGroup,
-  Hr,
-  Html,
-  Iframe,
-  Img,
-  Input,
-  KeyGen,
-  Li,
-  Link,
-  Listing,
-  Main,
-  Marquee,
-  Menu,
-  Meta,
-  Nav,
-  NoEmbed,
-  NoFrames,
-  NoScript,
-  Object,
-  Ol,
-  OptGroup,
-  OptionTag,
-  P,
-  Param,
-  PlainText,
-  Pre,
-  Rb,
-  Rp,
-  Rt,
-  Rtc,
-  Script,
-  Search,
-  Section,
-  Select,
-  Source,
-  Style,
-  Summary,
-  Table,
-  TBody,
-  Td,
-  Template,
-  TextArea,
-  TFoot,
-  Th,
-  THead,
-  Title,
-  Tr,
-  Track,
-  Ul,
-  Wbr,
-  Xmp,
-}
+use Rattle.htmd_html5_state.specs.declared.names.TagName.TheVariants.{Address, Applet, Area, Article, Aside, Base}
+use Rattle.htmd_html5_state.specs.declared.names.TagName.TheVariants.{BaseFont, BgSound, BlockQuote, Body, Br, Button}
+use Rattle.htmd_html5_state.specs.declared.names.TagName.TheVariants.{Caption, Center, Col, ColGroup, Dd, Details, Dir}
+use Rattle.htmd_html5_state.specs.declared.names.TagName.TheVariants.{Div, Dl, Dt, Embed, FieldSet, FigCaption, Figure}
+use Rattle.htmd_html5_state.specs.declared.names.TagName.TheVariants.{Footer, Form, Frame, FrameSet, H1, H2, H3, H4, H5}
+use Rattle.htmd_html5_state.specs.declared.names.TagName.TheVariants.{H6, Head, Header, HGroup, Hr, Html, Iframe, Img}
+use Rattle.htmd_html5_state.specs.declared.names.TagName.TheVariants.{Input, KeyGen, Li, Link, Listing, Main, Marquee}
+use Rattle.htmd_html5_state.specs.declared.names.TagName.TheVariants.{Menu, Meta, Nav, NoEmbed, NoFrames, NoScript}
+use Rattle.htmd_html5_state.specs.declared.names.TagName.TheVariants.{Object, Ol, OptGroup, OptionTag, P, Param}
+use Rattle.htmd_html5_state.specs.declared.names.TagName.TheVariants.{PlainText, Pre, Rb, Rp, Rt, Rtc, Script, Search}
+use Rattle.htmd_html5_state.specs.declared.names.TagName.TheVariants.{Section, Select, Source, Style, Summary, Table}
+use Rattle.htmd_html5_state.specs.declared.names.TagName.TheVariants.{TBody, Td, Template, TextArea, TFoot, Th, THead}
+use Rattle.htmd_html5_state.specs.declared.names.TagName.TheVariants.{Title, Tr, Track, Ul, Wbr, Xmp}
 
 -- ---- sets of known names
 

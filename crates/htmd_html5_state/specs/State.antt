@@ -1,7 +1,7 @@
 -- The state of tree construction (HTML Standard, 13.2.4).
 use Rattle.std.specs.Prelude.{ℕ, Bool, true, false, List, [], ◌∷◌, Option, None}
-use Rattle.htmd_grammar.specs.declared.content_model.ContentModel.{ContentModel}
-use Rattle.htmd_grammar.specs.declared.content_model.ContentModel.TheVariants.{Normal}
+use Rattle.htmd_lexical.specs.declared.content_model.ContentModel.{ContentModel}
+use Rattle.htmd_lexical.specs.declared.content_model.ContentModel.TheVariants.{Normal}
 use Rattle.htmd_html5_state.specs.Nodes.{NodeValue, document, new_node}
 use Rattle.htmd_html5_state.specs.OpenElements.{OpenValue}
 use Rattle.htmd_html5_state.specs.declared.modes.InsertionMode.{InsertionMode}

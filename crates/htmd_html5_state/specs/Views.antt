@@ -1,14 +1,15 @@
 -- What the program's nodes, open elements and entries are.
 use Rattle.std.specs.Prelude.{ℕ, Bool, true, false, List, [], ◌∷◌, map, string_bytes, Option, Some, None}
 use Rattle.std.specs.Borrow.{Bor}
-use Rattle.htmd_grammar.specs.Attributes.{pairs_of}
+use Rattle.htmd_lexical.specs.Attributes.{pairs_of}
 use Rattle.htmd_html5_state.specs.Names.{element_name_of, html, known, same_element_name}
 use Rattle.htmd_html5_state.specs.Nodes.{KindValue, NodeValue, document, doctype, text, comment, element}
 use Rattle.htmd_html5_state.specs.declared.children.Children.{Children}
 use Rattle.htmd_html5_state.specs.declared.children.Children.TheVariants as kept
 use Rattle.htmd_html5_state.specs.declared.document.Node.{Node}
 use Rattle.htmd_html5_state.specs.declared.document.NodeKind.{NodeKind}
-use Rattle.htmd_html5_state.specs.declared.document.NodeKind.TheVariants.{Document, Doctype, Text, Comment, Known, Other}
+use Rattle.htmd_html5_state.specs.declared.document.NodeKind.TheVariants.{Document, Doctype, Text, Comment, Known}
+use Rattle.htmd_html5_state.specs.declared.document.NodeKind.TheVariants.{Other}
 
 abbrev pub kind_of : NodeKind → KindValue
 kind_of Document = document

@@ -1,10 +1,10 @@
 //! Attributes of elements: copies, those that are missing, and whether two elements have the same.
 ghost use Rattle.std.specs.Prelude.{◌≡◌, IfOk, OnOk, option_map};
 ghost use Rattle.std.specs.List.{list_all};
-ghost use Rattle.htmd_grammar.specs.Attributes.{pair_of, pairs_of};
+ghost use Rattle.htmd_lexical.specs.Attributes.{pair_of, pairs_of};
 ghost use Rattle.htmd_html5_state.specs.Nodes as spec;
 
-use htmd_grammar::Attribute;
+use htmd_lexical::Attribute;
 use std::alloc::{AllocError, Global};
 
 fn copy(attribute: &Attribute) -> Result<Attribute, AllocError>

@@ -1,14 +1,15 @@
 //! Documents while they are made: nodes by number, each with its parent and its children.
-ghost use Rattle.std.specs.Prelude.{◌≡◌, ◌∷◌, ◌++◌, ◌≤◌, [], insert, length, string_bytes, IfOk, OnOk, MatchBool, MatchOption, Some, None, false};
+ghost use Rattle.std.specs.Prelude.{◌≡◌, ◌∷◌, ◌++◌, ◌≤◌, [], insert, length, string_bytes, IfOk, OnOk, MatchBool};
+ghost use Rattle.std.specs.Prelude.{MatchOption, Some, None, false};
 ghost use Rattle.htmd_html5_state.specs.Nodes as spec;
 ghost use Rattle.htmd_html5_state.specs.Names.{element_name_of};
 ghost use Rattle.htmd_html5_state.specs.Views.{is_element, kind_of, kind_seen, nodes_of, numbers_of};
-ghost use Rattle.htmd_grammar.specs.Attributes.{pairs_of};
+ghost use Rattle.htmd_lexical.specs.Attributes.{pairs_of};
 
 use crate::attributes::{add_missing, copy_all};
 use crate::children::Children;
 use crate::names::{ElementName, HtmlName, TagName};
-use htmd_grammar::Attribute;
+use htmd_lexical::Attribute;
 use std::alloc::{AllocError, Global};
 use std::marker::Model;
 use std::mem;

@@ -7,7 +7,7 @@ ghost use Rattle.htmd_html5_state.specs.Names.{element_name_of};
 ghost use Rattle.htmd_html5_state.specs.OpenViews.{open_of, stack_of};
 ghost use Rattle.htmd_html5_state.specs.State.{on_stack};
 ghost use Rattle.htmd_html5_state.specs.Views.{kind_seen};
-ghost use Rattle.htmd_grammar.specs.Attributes.{pairs_of};
+ghost use Rattle.htmd_lexical.specs.Attributes.{pairs_of};
 ghost use Rattle.htmd_html5_state.specs.ForeignViews.{end_of};
 
 use crate::attributes::value;
@@ -16,7 +16,7 @@ use crate::names::{ElementName, Namespace};
 use crate::open_elements::{OpenElement, split_innermost};
 use crate::sets::{is_math_text, is_svg_point};
 use crate::state::HtmlState;
-use htmd_grammar::Attribute;
+use htmd_lexical::Attribute;
 use std::alloc::{AllocError, Global};
 
 static SVG_NAMES: [&str; 37] = [

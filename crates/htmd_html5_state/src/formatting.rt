@@ -2,11 +2,11 @@
 ghost use Rattle.std.specs.Prelude.{◌≡◌, OnOk};
 ghost use Rattle.htmd_html5_state.specs.Formatting as spec;
 ghost use Rattle.htmd_html5_state.specs.Names.{name_of};
-ghost use Rattle.htmd_grammar.specs.Attributes.{pairs_of};
+ghost use Rattle.htmd_lexical.specs.Attributes.{pairs_of};
 
 use crate::names::HtmlName;
 use crate::state::HtmlState;
-use htmd_grammar::Attribute;
+use htmd_lexical::Attribute;
 use std::alloc::AllocError;
 
 impl HtmlState {

@@ -1,6 +1,7 @@
 //! The list of active formatting elements.
-ghost use Rattle.std.specs.Prelude.{◌≡◌, ◌∷◌, ◌++◌, ◌<◌, [], length, IfSome, true, false, Some, None, IfOk, OnOk, MatchOption, find, filter};
-ghost use Rattle.htmd_grammar.specs.CharacterClasses.{is_empty};
+ghost use Rattle.std.specs.Prelude.{◌≡◌, ◌∷◌, ◌++◌, ◌<◌, [], length, IfSome, true, false, Some, None, IfOk, OnOk};
+ghost use Rattle.std.specs.Prelude.{MatchOption, find, filter};
+ghost use Rattle.htmd_lexical.specs.CharacterClasses.{is_empty};
 ghost use Rattle.htmd_html5_state.specs.Adoption as adoption;
 ghost use Rattle.htmd_html5_state.specs.Nodes.{same_element, kind_at};
 ghost use Rattle.htmd_html5_state.specs.Formatting as spec;

@@ -5,7 +5,7 @@ ghost use Rattle.htmd_html5_state.specs.Foreign as foreign;
 ghost use Rattle.htmd_html5_state.specs.Insertion as spec;
 ghost use Rattle.htmd_html5_state.specs.Names.{name_of, element_name_of};
 ghost use Rattle.htmd_html5_state.specs.OpenViews.{stack_of};
-ghost use Rattle.htmd_grammar.specs.Attributes.{pairs_of};
+ghost use Rattle.htmd_lexical.specs.Attributes.{pairs_of};
 
 use crate::document::{Document, NodeKind, Place, last_in};
 use crate::foreign::{foreign_attributes, foreign_name};
@@ -13,7 +13,7 @@ use crate::names::{ElementName, HtmlName, Namespace, TagName};
 use crate::open_elements::{OpenElement, split_innermost};
 use crate::sets::NameSet;
 use crate::state::HtmlState;
-use htmd_grammar::{Attribute, ContentModel, RawElement};
+use htmd_lexical::{Attribute, ContentModel, RawElement};
 use std::alloc::AllocError;
 
 /// The place by a table: before it in its parent, or else in the element that is open around it.

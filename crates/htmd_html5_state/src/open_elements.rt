@@ -1,12 +1,14 @@
 //! The stack of open elements.
-ghost use Rattle.std.specs.Prelude.{◌≡◌, ◌-◌, ◌<◌, ◌≤◌, ◌^◌, ◌∷◌, ◌++◌, [], length, drop, take, remove, vec_len, true, false, IfOk, OnOk, IfSome, MatchOption, option_map};
+ghost use Rattle.std.specs.Prelude.{◌≡◌, ◌-◌, ◌<◌, ◌≤◌, ◌^◌, ◌∷◌, ◌++◌, [], length, drop, take, remove, vec_len, true};
+ghost use Rattle.std.specs.Prelude.{false, IfOk, OnOk, IfSome, MatchOption, option_map};
 ghost use Rattle.std.specs.List.{list_any};
 ghost use Rattle.htmd_html5_state.specs.Names.{element_name_of, name_of, html};
 ghost use Rattle.htmd_html5_state.specs.OpenElements as spec;
 ghost use Rattle.htmd_html5_state.specs.Insertion as insertion;
 ghost use Rattle.htmd_html5_state.specs.Adoption as adoption;
 ghost use Rattle.htmd_html5_state.specs.Places.{IsPlaced, AllHaveRoom, innermost, bounds_in};
-ghost use Rattle.htmd_html5_state.specs.OpenViews.{open_of, all_open_of, stack_of, furthest_of, is_special, IsInnermost, IsFirstSpecial};
+ghost use Rattle.htmd_html5_state.specs.OpenViews.{open_of, all_open_of, stack_of, furthest_of, is_special};
+ghost use Rattle.htmd_html5_state.specs.OpenViews.{IsInnermost, IsFirstSpecial};
 
 use crate::names::{ElementName, HtmlName};
 use crate::places::{Places, is_from};

@@ -1,9 +1,11 @@
 //! The places of open elements on the stack, so that no question about it needs a walk. A place is counted from 1 at
 //! the outermost element; 0 is nowhere.
-ghost use Rattle.std.specs.Prelude.{◌≡◌, ◌∷◌, [], ◌<◌, ◌≤◌, List, OnOk, cond, true, false, length, get_or, vec_len, string_bytes, ℕ, ◌==◌, if◌then◌else◌};
+ghost use Rattle.std.specs.Prelude.{◌≡◌, ◌∷◌, [], ◌<◌, ◌≤◌, List, OnOk, cond, true, false, length, get_or, vec_len};
+ghost use Rattle.std.specs.Prelude.{string_bytes, ℕ, ◌==◌, if◌then◌else◌};
 ghost use Rattle.std.specs.HashMap.{get_by_text};
 ghost use Rattle.std.specs.List.{list_any};
-ghost use Rattle.htmd_html5_state.specs.Names.{NameValue, ElementNameValue, element_name_of, name_of, same_element_name, html, known, other};
+ghost use Rattle.htmd_html5_state.specs.Names.{NameValue, ElementNameValue, element_name_of, name_of};
+ghost use Rattle.htmd_html5_state.specs.Names.{same_element_name, html, known, other};
 ghost use Rattle.htmd_html5_state.specs.OpenElements as spec;
 ghost use Rattle.htmd_html5_state.specs.OpenElements.{OpenValue};
 ghost use Rattle.htmd_html5_state.specs.OpenViews.{open_of};

@@ -1,6 +1,6 @@
 //! Sets of names, and what bounds a scope.
 ghost use Rattle.std.specs.Prelude.{◌≡◌, map};
-ghost use Rattle.htmd_grammar.specs.CharacterClasses as classes;
+ghost use Rattle.htmd_lexical.specs.CharacterClasses as classes;
 ghost use Rattle.htmd_html5_state.specs.Names.{element_name_of};
 ghost use Rattle.htmd_html5_state.specs.SetMembers.{members};
 ghost use Rattle.htmd_html5_state.specs.Sets as spec;

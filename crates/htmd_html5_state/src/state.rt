@@ -9,7 +9,7 @@ ghost use Rattle.htmd_html5_state.specs.Resetting as resetting;
 ghost use Rattle.htmd_html5_state.specs.AppendedTexts as appends;
 ghost use Rattle.htmd_html5_state.specs.State as spec;
 ghost use Rattle.htmd_html5_state.specs.Views.{nodes_of};
-ghost use Rattle.htmd_grammar.specs.Attributes.{pairs_of};
+ghost use Rattle.htmd_lexical.specs.Attributes.{pairs_of};
 
 use crate::document::{Document, Node};
 use crate::formatting_list::FormattingList;
@@ -17,7 +17,7 @@ use crate::modes::InsertionMode;
 use crate::names::{ElementName, HtmlName};
 use crate::open_elements::OpenElements;
 use crate::sets::{NameSet, Scope};
-use htmd_grammar::{Attribute, ContentModel};
+use htmd_lexical::{Attribute, ContentModel};
 use std::alloc::{AllocError, Global};
 use std::marker::Model;
 

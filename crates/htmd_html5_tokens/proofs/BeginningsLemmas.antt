@@ -5,10 +5,10 @@ use Rattle.std.proofs.lemmas.Bool.Decides.{nat_tests}
 use Rattle.std.proofs.lemmas.List.{get_or-drop}
 use Rattle.std.specs.Prelude.{◌==◌}
 use Rattle.std.specs.Str.{IsCharBoundary}
-use Rattle.htmd_grammar.proofs.Cases.{test}
-use Rattle.htmd_grammar.specs.CharacterClasses.{first_is, up_to, behind_run, is_empty}
-use Rattle.htmd_grammar.specs.TagReading.{is_other}
-use Rattle.htmd_grammar.proofs.CharacterClassesLemmas.{up_to-le-length, stops_at}
+use Rattle.htmd_lexical.proofs.Cases.{test}
+use Rattle.htmd_lexical.specs.CharacterClasses.{first_is, up_to, behind_run, is_empty}
+use Rattle.htmd_lexical.specs.TagReading.{is_other}
+use Rattle.htmd_lexical.proofs.CharacterClassesLemmas.{up_to-le-length, stops_at}
 pub use Rattle.htmd_scanning.proofs.BeginningsLemmas.{cut_after_beginning}
 use Rattle.htmd_html5_tokens.specs.Comments.{ends_comment}
 use Rattle.htmd_html5_tokens.specs.NextToken.{ends_section, begins_markup}

@@ -9,14 +9,15 @@ use Rattle.std.specs.Char.{encode_utf8, is_ascii_uppercase, to_ascii_lowercase}
 use Rattle.std.specs.List.{list_all}
 use Rattle.std.specs.Prelude.{◌==◌, nat_lt}
 use Rattle.std.specs.Str.{IsUtf8, IsCharBoundary}
-use Rattle.htmd_grammar.proofs.Cases.{test}
-use Rattle.htmd_grammar.specs.CharacterClasses.{leading_run, behind_run, begins_with}
-use Rattle.htmd_grammar.proofs.CharacterClassesLemmas.{take_leading_run, drop_leading_run}
+use Rattle.htmd_lexical.proofs.Cases.{test}
+use Rattle.htmd_lexical.specs.CharacterClasses.{leading_run, behind_run, begins_with}
+use Rattle.htmd_lexical.proofs.CharacterClassesLemmas.{take_leading_run, drop_leading_run}
 use Rattle.htmd_html5_tokens.specs.References.{Piece, after_ampersand, replacement_character}
 use Rattle.htmd_html5_tokens.specs.Contents.{has_references, is_text, is_value, name_of, piece_at, decoded}
 use Rattle.htmd_html5_tokens.specs.AppendedCharacters.{is_literal, is_small, HasPushed}
 use Rattle.htmd_html5_tokens.specs.declared.contents.Reading.{Reading}
-use Rattle.htmd_html5_tokens.specs.declared.contents.Reading.TheVariants.{Text, EscapableRawText, RawText, AttributeValue}
+use Rattle.htmd_html5_tokens.specs.declared.contents.Reading.TheVariants.{Text, EscapableRawText, RawText}
+use Rattle.htmd_html5_tokens.specs.declared.contents.Reading.TheVariants.{AttributeValue}
 use Rattle.htmd_scanning.proofs.RunCuts.{cut_before_ascii}
 
 -- ---- pieces

@@ -3,8 +3,8 @@ use Rattle.std.proofs.Common.{◌≡◌, ℕ, ◌&&◌, false, List, [], ◌∷�
 use Rattle.std.specs.Char.{to_ascii_lowercase}
 use Rattle.std.specs.Prelude.{◌==◌}
 use Rattle.std.specs.Str.{bytes_eq}
-use Rattle.htmd_grammar.specs.CharacterClasses.{first_is, begins_in_any_case, behind_run}
-use Rattle.htmd_grammar.specs.TagReading.{is_other}
+use Rattle.htmd_lexical.specs.CharacterClasses.{first_is, begins_in_any_case, behind_run}
+use Rattle.htmd_lexical.specs.TagReading.{is_other}
 use Rattle.htmd_html5_tokens.specs.Doctypes.{quoted_by}
 use Rattle.htmd_html5_tokens.proofs.BeginningsLemmas.{other_ends}
 

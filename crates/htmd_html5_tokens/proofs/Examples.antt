@@ -1,22 +1,23 @@
 -- Tokens of small texts, from the HTML Standard.
-use lib.Utf8.{encode}
 use Rattle.std.proofs.Common.{◌≡◌, ℕ, Bool, true, false, List, [], ◌∷◌, ◌++◌, refl}
 use Rattle.std.specs.Prelude.{codes, not, ◌&&◌}
 use Rattle.std.specs.List.{list_all, list_any}
 use Rattle.std.specs.Str.{bytes_eq}
 use Rattle.std.specs.Char.{is_ascii_alphanumeric}
-use Rattle.htmd_grammar.specs.CharacterClasses.{begins_with}
-use Rattle.htmd_grammar.specs.ValueTrees.{AttributePair}
+use Rattle.htmd_lexical.specs.CharacterClasses.{begins_with}
+use Rattle.htmd_lexical.specs.AttributePairs.{AttributePair}
 use Rattle.htmd_html5_tokens.specs.Preprocessing.{preprocessed}
-use Rattle.htmd_html5_tokens.specs.Tokens.{TagValue, TokenValue, start_tag, end_tag, text, comment, doctype, end_of_file}
+use Rattle.htmd_html5_tokens.specs.Tokens.{TagValue, TokenValue, start_tag, end_tag, text, comment, doctype}
+use Rattle.htmd_html5_tokens.specs.Tokens.{end_of_file}
 use Rattle.htmd_html5_tokens.specs.NamedReferences.{NamedReference, capital_names, small_names, old_names}
 use Rattle.htmd_html5_tokens.specs.References.{character_numbered}
 use Rattle.htmd_html5_tokens.specs.Doctypes.{quirky_identifiers, quirky_beginnings, loose_beginnings}
 use Rattle.htmd_html5_tokens.specs.Doctypes.{quirky_system_identifier}
 use Rattle.htmd_html5_tokens.specs.NextToken.{next_token}
-use Rattle.htmd_grammar.specs.declared.content_model.ContentModel.TheVariants.{Normal, Raw}
-use Rattle.htmd_grammar.specs.declared.content_model.RawElement.{RawElement}
-use Rattle.htmd_grammar.specs.declared.content_model.RawElement.TheVariants.{Title, Style, Script, Plaintext}
+use Rattle.htmd_lexical.specs.declared.content_model.ContentModel.TheVariants.{Normal, Raw}
+use Rattle.htmd_lexical.specs.declared.content_model.RawElement.{RawElement}
+use Rattle.htmd_lexical.specs.declared.content_model.RawElement.TheVariants.{Title, Style, Script, Plaintext}
+use lib.Utf8.{encode}
 
 -- the first token of a text
 abbrev token : List ℕ → TokenValue

@@ -10,18 +10,18 @@ use Rattle.std.specs.List.{list_all}
 use Rattle.std.specs.Ordering.{nat_cmp}
 use Rattle.std.specs.Prelude.{◌==◌}
 use Rattle.std.specs.Str.{bytes_eq}
-use denote.Ref.{Bor}
-use Rattle.htmd_grammar.proofs.Cases.{test}
-use Rattle.htmd_grammar.specs.ValueTrees.{AttributePair}
-use Rattle.htmd_grammar.specs.CharacterClasses.{is_among, are_distinct}
-use Rattle.htmd_grammar.specs.Tags.{attribute_names}
-use Rattle.htmd_grammar.specs.declared.attribute.Attribute.{Attribute}
-use Rattle.htmd_grammar.specs.Attributes.{pairs_of}
-use Rattle.htmd_grammar.proofs.NamesLemmas.{HasNames, name_added}
+use Rattle.htmd_lexical.proofs.Cases.{test}
+use Rattle.htmd_lexical.specs.AttributePairs.{AttributePair}
+use Rattle.htmd_lexical.specs.CharacterClasses.{is_among, are_distinct}
+use Rattle.htmd_lexical.specs.Attributes.{attribute_names}
+use Rattle.htmd_lexical.specs.declared.attribute.Attribute.{Attribute}
+use Rattle.htmd_lexical.specs.Attributes.{pairs_of}
+use Rattle.htmd_lexical.proofs.NamesLemmas.{HasNames, name_added}
 use Rattle.htmd_html5_tokens.specs.Tags.{attribute_of, firsts}
 use Rattle.htmd_html5_tokens.specs.Firsts.{are_first, split_mark, if_marked, those_marked}
 use Rattle.htmd_html5_tokens.specs.TagViews.{spelled_of, all_spelled_of}
 use Rattle.htmd_html5_tokens.specs.declared.attributes.SpelledAttribute.{SpelledAttribute}
+use denote.Ref.{Bor}
 
 pub marked_firsts : (before : List (List ℕ)) (xs : List AttributePair)
     → those_marked xs (are_first before xs) ≡ firsts before xs

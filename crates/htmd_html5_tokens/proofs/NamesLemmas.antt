@@ -1,5 +1,6 @@
 -- Names in a table.
-use Rattle.std.proofs.Common.{◌≡◌, ℕ, ◌+◌, ◌<◌, ◌==◌, ◌∙◌, arith, true, false, List, [], ◌∷◌, length, drop, get_or, Option, None, Some, refl, sym, suc, take, zero}
+use Rattle.std.proofs.Common.{◌≡◌, ℕ, ◌+◌, ◌<◌, ◌==◌, ◌∙◌, arith, true, false, List, [], ◌∷◌, length, drop, get_or}
+use Rattle.std.proofs.Common.{Option, None, Some, refl, sym, suc, take, zero}
 use Rattle.std.proofs.lemmas.Bool.Decides.{nat_tests}
 use Rattle.std.proofs.lemmas.List.{drop_more, drop_all, take_all}
 use Rattle.std.proofs.lemmas.Str.Pattern.{IsSplitOnceResult, split_once_first}
@@ -7,17 +8,10 @@ use Rattle.std.specs.Borrow.{Bor}
 use Rattle.std.specs.List.{position_or_len}
 use Rattle.std.specs.Option.{unwrap_or}
 use Rattle.std.specs.Str.{bytes_eq}
-use Rattle.htmd_grammar.proofs.Cases.{test}
-use Rattle.htmd_grammar.specs.Characters.{semicolon}
-use Rattle.htmd_grammar.specs.CharacterClasses.{begins_with}
-use Rattle.htmd_html5_tokens.specs.NamedReferences.{
-  row_of,
-  loan_rows,
-  old_loan_row,
-  old_loan_rows,
-  named_in,
-  first_in,
-}
+use Rattle.htmd_lexical.proofs.Cases.{test}
+use Rattle.htmd_lexical.specs.Characters.{semicolon}
+use Rattle.htmd_lexical.specs.CharacterClasses.{begins_with}
+use Rattle.htmd_html5_tokens.specs.NamedReferences.{row_of, loan_rows, old_loan_row, old_loan_rows, named_in, first_in}
 
 abbrev pub no_text : Bor (List ℕ)
 no_text = record { ref_ptr = (0, 0); now = [] }

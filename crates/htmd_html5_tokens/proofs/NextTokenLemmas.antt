@@ -3,8 +3,8 @@ use Rattle.std.proofs.Common.{◌≡◌, ℕ, Bool, true, false, List, [], ◌�
 use Rattle.std.proofs.lemmas.Bool.{and_parts}
 use Rattle.std.specs.List.{list_all}
 use Rattle.std.specs.Prelude.{◌==◌, not}
-use Rattle.htmd_grammar.proofs.Cases.{test}
-use Rattle.htmd_grammar.specs.CharacterClasses.{leading_run, behind_run, up_to, onward}
+use Rattle.htmd_lexical.proofs.Cases.{test}
+use Rattle.htmd_lexical.specs.CharacterClasses.{leading_run, behind_run, up_to, onward}
 use Rattle.htmd_html5_tokens.specs.NextToken.{begins_section, begins_markup, read_markup, read_piece, read_text}
 use Rattle.htmd_html5_tokens.specs.AppendedCharacters.{is_literal, ends_text}
 use Rattle.htmd_html5_tokens.specs.Tokens.{text, Read}

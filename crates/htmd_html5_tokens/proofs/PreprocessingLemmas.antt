@@ -3,7 +3,7 @@ use Rattle.std.proofs.Common.{◌≡◌, ℕ, true, false, not, Bool, List, [], 
 use Rattle.std.proofs.lemmas.Bool.{and_parts}
 use Rattle.std.specs.List.{list_all}
 use Rattle.std.specs.Prelude.{◌==◌}
-use Rattle.htmd_grammar.specs.Comments.{normalized}
+use Rattle.htmd_lexical.specs.LineEnds.{normalized}
 use Rattle.htmd_html5_tokens.specs.Preprocessing.{is_not_return}
 
 no : (x : Bool) → not x ≡ true → x ≡ false

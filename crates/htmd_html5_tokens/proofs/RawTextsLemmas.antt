@@ -6,24 +6,15 @@ use Rattle.std.proofs.lemmas.Slice.{between_to_end}
 use Rattle.std.proofs.lemmas.Str.{IsCharBoundary-end}
 use Rattle.std.specs.Prelude.{◌==◌}
 use Rattle.std.specs.Str.{IsCharBoundary}
-use Rattle.htmd_grammar.proofs.Cases.{test}
-use Rattle.htmd_grammar.specs.RawContent.{begins_own_end}
+use Rattle.htmd_lexical.proofs.Cases.{test}
+use Rattle.htmd_lexical.specs.EndTags.{begins_own_end}
 use Rattle.htmd_html5_tokens.specs.RawTexts.{ends_script, escape_after, script_len, own_text_len, raw_text_len}
 use Rattle.htmd_html5_tokens.specs.declared.raw_texts.Escape.{Escape}
 use Rattle.htmd_html5_tokens.specs.declared.raw_texts.Escape.TheVariants.{Unescaped, Escaped, DoublyEscaped}
-use Rattle.htmd_grammar.specs.declared.content_model.RawElement.{RawElement}
-use Rattle.htmd_grammar.specs.declared.content_model.RawElement.TheVariants.{
-  Title,
-  Textarea,
-  Style,
-  Xmp,
-  Iframe,
-  Noembed,
-  Noframes,
-  Noscript,
-  Script,
-  Plaintext,
-}
+use Rattle.htmd_lexical.specs.declared.content_model.RawElement.{RawElement}
+use Rattle.htmd_lexical.specs.declared.content_model.RawElement.TheVariants.{Title, Textarea, Style, Xmp, Iframe}
+use Rattle.htmd_lexical.specs.declared.content_model.RawElement.TheVariants.{Noembed, Noframes, Noscript, Script}
+use Rattle.htmd_lexical.specs.declared.content_model.RawElement.TheVariants.{Plaintext}
 use Rattle.htmd_html5_tokens.proofs.BeginningsLemmas.{BeginsAscii, cut_up_to, same}
 
 module _ (s : List ℕ) (i : ℕ) (e : Escape) (l : i < length s) where

@@ -10,12 +10,12 @@ use Rattle.std.specs.Char.{encode_utf8, InScalarRange, OutOfScalarRange, is_asci
 use Rattle.std.specs.List.{list_all, slice_index}
 use Rattle.std.specs.Prelude.{nat_lt}
 use Rattle.std.specs.Str.{IsUtf8, IsCharBoundary}
-use Rattle.htmd_grammar.proofs.Cases.{test}
-use Rattle.htmd_grammar.specs.CharacterClasses.{is_empty, first_is, begins_with, leading_run}
-use Rattle.htmd_grammar.specs.CharacterClasses.{behind_run}
-use Rattle.htmd_grammar.specs.References.{number, is_between}
-use Rattle.htmd_grammar.proofs.CharacterClassesLemmas.{take_leading_run, drop_leading_run}
-use Rattle.htmd_grammar.proofs.RunsLemmas.{last_of, run_within}
+use Rattle.htmd_lexical.proofs.Cases.{test}
+use Rattle.htmd_lexical.specs.CharacterClasses.{is_empty, first_is, begins_with, leading_run}
+use Rattle.htmd_lexical.specs.CharacterClasses.{behind_run}
+use Rattle.htmd_lexical.specs.Numbers.{number, is_between}
+use Rattle.htmd_lexical.proofs.CharacterClassesLemmas.{take_leading_run, drop_leading_run}
+use Rattle.htmd_lexical.proofs.RunsLemmas.{last_of, run_within}
 use Rattle.htmd_html5_tokens.specs.NamedReferences.{NamedReference, named, first_in, old_names, longest_old}
 use Rattle.htmd_html5_tokens.specs.References.{Piece, character_numbered, is_no_character, windows_characters}
 use Rattle.htmd_html5_tokens.specs.References.{semicolon_len, numbered, old_reference, reference_by_name}

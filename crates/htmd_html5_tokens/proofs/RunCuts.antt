@@ -2,23 +2,16 @@
 use Rattle.std.proofs.Common.{◌≡◌, ℕ, ◌<◌, true, false, List, length, arith, inl, inr}
 use Rattle.std.proofs.lemmas.Bool.Decides.{nat_tests}
 use Rattle.std.specs.Str.{IsUtf8, IsCharBoundary}
-use Rattle.htmd_grammar.specs.CharacterClasses.{leading_run}
-use Rattle.htmd_grammar.proofs.CharacterClassesLemmas.{white_is_ascii}
+use Rattle.htmd_lexical.specs.CharacterClasses.{leading_run}
+use Rattle.htmd_lexical.proofs.CharacterClassesLemmas.{white_is_ascii}
 pub use Rattle.htmd_scanning.proofs.RunCuts.{cut_before_ascii}
 use Rattle.htmd_scanning.proofs.RunCuts.{IsUniform, outside_other, cut_at}
 use Rattle.htmd_html5_tokens.specs.Tags.{is_name_byte, is_attribute_name_byte, is_unquoted_byte, is_gap_byte}
 use Rattle.htmd_html5_tokens.specs.Doctypes.{is_black}
 use Rattle.htmd_html5_tokens.specs.Classes.{is_in, is_ascii}
 use Rattle.htmd_html5_tokens.specs.declared.classes.Class.{Class}
-use Rattle.htmd_html5_tokens.specs.declared.classes.Class.TheVariants.{
-  Name,
-  AttributeName,
-  UnquotedValue,
-  Gap,
-  White,
-  Black,
-  Other,
-}
+use Rattle.htmd_html5_tokens.specs.declared.classes.Class.TheVariants.{Name, AttributeName, UnquotedValue, Gap, White}
+use Rattle.htmd_html5_tokens.specs.declared.classes.Class.TheVariants.{Black, Other}
 
 outside_name : (b : ℕ) → is_name_byte b ≡ false → b < 128
 outside_name b e = grind (arith, nat_tests)

@@ -2,8 +2,8 @@
 use Rattle.std.proofs.Common.{◌≡◌, ℕ, zero, suc, ◌<◌, ◌≤◌, Bool, List, [], ◌∷◌, length, drop, refl, sym, ap, ◌∙◌}
 use Rattle.std.proofs.Common.{arith, codes, Option, Some, None, length-drop}
 use Rattle.std.proofs.lemmas.Bool.{and_parts}
-use Rattle.htmd_grammar.proofs.Cases.{test}
-use Rattle.htmd_grammar.specs.CharacterClasses.{begins_with, is_empty}
+use Rattle.htmd_lexical.proofs.Cases.{test}
+use Rattle.htmd_lexical.specs.CharacterClasses.{begins_with, is_empty}
 use Rattle.htmd_html5_tokens.specs.NextToken.{begins_section, after_empty_section, after_empty_piece, or_else}
 use Rattle.htmd_html5_tokens.specs.NextToken.{after_pieces}
 use Rattle.htmd_scanning.proofs.BeginningsLemmas.{begins_front}

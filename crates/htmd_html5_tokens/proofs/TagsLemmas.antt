@@ -1,18 +1,19 @@
 -- The parts of a tag, and that each is shorter than what it stands in.
-use Rattle.std.proofs.Common.{◌≡◌, ℕ, zero, suc, ◌+◌, ◌-◌, ◌<◌, ◌≤◌, Bool, true, false, List, [], ◌∷◌, ◌++◌, length, take}
+use Rattle.std.proofs.Common.{◌≡◌, ℕ, zero, suc, ◌+◌, ◌-◌, ◌<◌, ◌≤◌, Bool, true, false, List, [], ◌∷◌, ◌++◌, length}
+use Rattle.std.proofs.Common.{take}
 use Rattle.std.proofs.Common.{drop, get_or, refl, sym, ◌∙◌, ap, subst, arith, append_assoc, length-drop}
 use Rattle.std.proofs.lemmas.List.{drop_more}
 use Rattle.std.proofs.lemmas.Slice.{between_to_end}
 use Rattle.std.proofs.lemmas.Str.{IsCharBoundary-from_rest}
 use Rattle.std.specs.Prelude.{◌==◌}
 use Rattle.std.specs.Str.{IsCharBoundary}
-use Rattle.htmd_grammar.specs.WhiteSpace.{is_ascii_white_space}
-use Rattle.htmd_grammar.proofs.Cases.{test}
-use Rattle.htmd_grammar.specs.ValueTrees.{AttributePair}
-use Rattle.htmd_grammar.specs.CharacterClasses.{is_empty, first_is, leading_run, behind_run}
-use Rattle.htmd_grammar.specs.TagReading.{TagPart, malformed, tag_end, attribute, is_other, quoted_value}
-use Rattle.htmd_grammar.proofs.CharacterClassesLemmas.{take_leading_run, drop_leading_run}
-use Rattle.htmd_grammar.proofs.RunsLemmas.{behind_within}
+use Rattle.htmd_lexical.specs.WhiteSpace.{is_ascii_white_space}
+use Rattle.htmd_lexical.proofs.Cases.{test}
+use Rattle.htmd_lexical.specs.AttributePairs.{AttributePair}
+use Rattle.htmd_lexical.specs.CharacterClasses.{is_empty, first_is, leading_run, behind_run}
+use Rattle.htmd_lexical.specs.TagReading.{TagPart, malformed, tag_end, attribute, is_other, quoted_value}
+use Rattle.htmd_lexical.proofs.CharacterClassesLemmas.{take_leading_run, drop_leading_run}
+use Rattle.htmd_lexical.proofs.RunsLemmas.{behind_within}
 use Rattle.htmd_html5_tokens.specs.Tags.{is_attribute_name_byte, is_unquoted_byte, is_gap_byte, ends_in_slash}
 use Rattle.htmd_html5_tokens.specs.Tags.{value_part, after_attribute_name, after_gap, next_part}
 use Rattle.htmd_html5_tokens.specs.Tags.{TagForm, unended, ended, with_attribute, form_after, form_within}

@@ -1,17 +1,13 @@
 -- How characters are appended to others.
 use Rattle.std.specs.Prelude.{◌≡◌, ℕ, Bool, not, ◌&&◌, ◌||◌, ◌==◌, List, ◌++◌}
 use Rattle.std.specs.Char.{is_ascii_uppercase}
-use Rattle.htmd_grammar.specs.Characters.{null, ampersand, less_than_sign}
-use Rattle.htmd_grammar.specs.CharacterClasses.{is_empty}
+use Rattle.htmd_lexical.specs.Characters.{null, ampersand, less_than_sign}
+use Rattle.htmd_lexical.specs.CharacterClasses.{is_empty}
 use Rattle.htmd_html5_tokens.specs.Contents.{decoded}
 use Rattle.htmd_html5_tokens.specs.NextToken.{begins_markup}
 use Rattle.htmd_html5_tokens.specs.declared.contents.Reading.{Reading}
-use Rattle.htmd_html5_tokens.specs.declared.contents.Reading.TheVariants.{
-  Text,
-  EscapableRawText,
-  RawText,
-  AttributeValue,
-}
+use Rattle.htmd_html5_tokens.specs.declared.contents.Reading.TheVariants.{Text, EscapableRawText, RawText}
+use Rattle.htmd_html5_tokens.specs.declared.contents.Reading.TheVariants.{AttributeValue}
 
 -- a byte that stands for itself whatever follows
 abbrev pub is_literal : Reading → ℕ → Bool

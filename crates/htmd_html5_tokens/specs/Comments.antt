@@ -1,9 +1,9 @@
 -- Comments (HTML Standard, 13.2.5.41 to 13.2.5.52).
 use Rattle.std.specs.Prelude.{ℕ, Bool, ◌||◌, if◌then◌else◌, List, [], ◌∷◌, drop, codes}
-use Rattle.htmd_grammar.specs.Characters.{greater_than_sign}
-use Rattle.htmd_grammar.specs.CharacterClasses.{is_among, begins_with, leading_run, behind_run, up_to}
-use Rattle.htmd_grammar.specs.CharacterClasses.{onward}
-use Rattle.htmd_grammar.specs.TagReading.{is_other}
+use Rattle.htmd_lexical.specs.Characters.{greater_than_sign}
+use Rattle.htmd_lexical.specs.CharacterClasses.{is_among, begins_with, leading_run, behind_run, up_to}
+use Rattle.htmd_lexical.specs.CharacterClasses.{onward}
+use Rattle.htmd_lexical.specs.TagReading.{is_other}
 use Rattle.htmd_html5_tokens.specs.Contents.{decoded}
 use Rattle.htmd_html5_tokens.specs.Tokens.{comment, Read}
 use Rattle.htmd_html5_tokens.specs.declared.contents.Reading.TheVariants.{RawText}

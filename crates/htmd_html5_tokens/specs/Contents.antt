@@ -1,17 +1,14 @@
 -- What the characters of a text, of a raw text or of a value stand for, with the references among them.
-use Rattle.std.specs.Prelude.{ℕ, zero, suc, Bool, true, false, not, ◌&&◌, ◌==◌, if◌then◌else◌, List, [], ◌∷◌, ◌++◌, codes}
+use Rattle.std.specs.Prelude.{ℕ, zero, suc, Bool, true, false, not, ◌&&◌, ◌==◌, if◌then◌else◌, List, [], ◌∷◌, ◌++◌}
+use Rattle.std.specs.Prelude.{codes}
 use Rattle.std.specs.Prelude.{map}
 use Rattle.std.specs.Char.{encode_utf8, to_ascii_lowercase}
-use Rattle.htmd_grammar.specs.Characters.{null, ampersand, less_than_sign}
-use Rattle.htmd_grammar.specs.CharacterClasses.{begins_with}
+use Rattle.htmd_lexical.specs.Characters.{null, ampersand, less_than_sign}
+use Rattle.htmd_lexical.specs.CharacterClasses.{begins_with}
 use Rattle.htmd_html5_tokens.specs.References.{Piece, replacement_character, after_ampersand}
 use Rattle.htmd_html5_tokens.specs.declared.contents.Reading.{Reading}
-use Rattle.htmd_html5_tokens.specs.declared.contents.Reading.TheVariants.{
-  Text,
-  EscapableRawText,
-  RawText,
-  AttributeValue,
-}
+use Rattle.htmd_html5_tokens.specs.declared.contents.Reading.TheVariants.{Text, EscapableRawText, RawText}
+use Rattle.htmd_html5_tokens.specs.declared.contents.Reading.TheVariants.{AttributeValue}
 
 -- whether `&` begins references
 abbrev pub has_references : Reading → Bool

@@ -4,11 +4,11 @@ use Rattle.std.specs.Prelude.{Option, Some, None, codes}
 use Rattle.std.specs.List.{list_any}
 use Rattle.std.specs.Str.{bytes_eq}
 use Rattle.std.specs.Char.{to_ascii_lowercase}
-use Rattle.htmd_grammar.specs.Characters.{quotation_mark, apostrophe}
-use Rattle.htmd_grammar.specs.WhiteSpace.{is_ascii_white_space}
-use Rattle.htmd_grammar.specs.CharacterClasses.{is_empty, first_is, begins_in_any_case, leading_run, behind_run}
-use Rattle.htmd_grammar.specs.CharacterClasses.{is_among}
-use Rattle.htmd_grammar.specs.TagReading.{is_other}
+use Rattle.htmd_lexical.specs.Characters.{quotation_mark, apostrophe}
+use Rattle.htmd_lexical.specs.WhiteSpace.{is_ascii_white_space}
+use Rattle.htmd_lexical.specs.CharacterClasses.{is_empty, first_is, begins_in_any_case, leading_run, behind_run}
+use Rattle.htmd_lexical.specs.CharacterClasses.{is_among}
+use Rattle.htmd_lexical.specs.TagReading.{is_other}
 use Rattle.htmd_html5_tokens.specs.Comments.{before_sign, after_sign}
 use Rattle.htmd_html5_tokens.specs.Tokens.{doctype, Read}
 

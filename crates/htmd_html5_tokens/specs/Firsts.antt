@@ -1,7 +1,7 @@
 -- Which attributes are the first of their name.
 use Rattle.std.specs.Prelude.{ℕ, Bool, true, false, not, List, [], ◌∷◌, ◌++◌, Option, Some, None}
-use Rattle.htmd_grammar.specs.ValueTrees.{AttributePair}
-use Rattle.htmd_grammar.specs.CharacterClasses.{is_among}
+use Rattle.htmd_lexical.specs.AttributePairs.{AttributePair}
+use Rattle.htmd_lexical.specs.CharacterClasses.{is_among}
 
 -- for each attribute, whether its name is none of these names, nor that of an attribute before it
 abbrev pub are_first : List (List ℕ) → List AttributePair → List Bool

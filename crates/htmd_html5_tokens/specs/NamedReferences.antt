@@ -5,68 +5,24 @@ use Rattle.std.specs.List.{before_first, after_first}
 use Rattle.std.specs.Str.{bytes_eq}
 use Rattle.std.specs.Char.{is_ascii_uppercase}
 use Rattle.std.specs.Borrow.{Bor}
-use Rattle.htmd_grammar.specs.Characters.{semicolon}
-use Rattle.htmd_grammar.specs.CharacterClasses.{begins_with}
-use Rattle.htmd_html5_tokens.specs.declared.names.capital_names.TheConstants.{
-  CAPITAL_A,
-  CAPITAL_B,
-  CAPITAL_C,
-  CAPITAL_D,
-  CAPITAL_E,
-  CAPITAL_F,
-  CAPITAL_G,
-  CAPITAL_H,
-  CAPITAL_I,
-  CAPITAL_J,
-  CAPITAL_K,
-  CAPITAL_L,
-  CAPITAL_M,
-  CAPITAL_N,
-  CAPITAL_O,
-  CAPITAL_P,
-  CAPITAL_Q,
-  CAPITAL_R,
-  CAPITAL_S,
-  CAPITAL_T,
-  CAPITAL_U,
-  CAPITAL_V,
-  CAPITAL_W,
-  CAPITAL_X,
-  CAPITAL_Y,
-  CAPITAL_Z,
-}
-use Rattle.htmd_html5_tokens.specs.declared.names.names_a_to_k.TheConstants.{
-  SMALL_A,
-  SMALL_B,
-  SMALL_C,
-  SMALL_D,
-  SMALL_E,
-  SMALL_F,
-  SMALL_G,
-  SMALL_H,
-  SMALL_I,
-  SMALL_J,
-  SMALL_K,
-}
-use Rattle.htmd_html5_tokens.specs.declared.names.names_l_to_r.TheConstants.{
-  SMALL_L,
-  SMALL_M,
-  SMALL_N,
-  SMALL_O,
-  SMALL_P,
-  SMALL_Q,
-  SMALL_R,
-}
-use Rattle.htmd_html5_tokens.specs.declared.names.names_s_to_z.TheConstants.{
-  SMALL_S,
-  SMALL_T,
-  SMALL_U,
-  SMALL_V,
-  SMALL_W,
-  SMALL_X,
-  SMALL_Y,
-  SMALL_Z,
-}
+use Rattle.htmd_lexical.specs.Characters.{semicolon}
+use Rattle.htmd_lexical.specs.CharacterClasses.{begins_with}
+use Rattle.htmd_html5_tokens.specs.declared.names.capital_names.TheConstants.{CAPITAL_A, CAPITAL_B, CAPITAL_C}
+use Rattle.htmd_html5_tokens.specs.declared.names.capital_names.TheConstants.{CAPITAL_D, CAPITAL_E, CAPITAL_F}
+use Rattle.htmd_html5_tokens.specs.declared.names.capital_names.TheConstants.{CAPITAL_G, CAPITAL_H, CAPITAL_I}
+use Rattle.htmd_html5_tokens.specs.declared.names.capital_names.TheConstants.{CAPITAL_J, CAPITAL_K, CAPITAL_L}
+use Rattle.htmd_html5_tokens.specs.declared.names.capital_names.TheConstants.{CAPITAL_M, CAPITAL_N, CAPITAL_O}
+use Rattle.htmd_html5_tokens.specs.declared.names.capital_names.TheConstants.{CAPITAL_P, CAPITAL_Q, CAPITAL_R}
+use Rattle.htmd_html5_tokens.specs.declared.names.capital_names.TheConstants.{CAPITAL_S, CAPITAL_T, CAPITAL_U}
+use Rattle.htmd_html5_tokens.specs.declared.names.capital_names.TheConstants.{CAPITAL_V, CAPITAL_W, CAPITAL_X}
+use Rattle.htmd_html5_tokens.specs.declared.names.capital_names.TheConstants.{CAPITAL_Y, CAPITAL_Z}
+use Rattle.htmd_html5_tokens.specs.declared.names.names_a_to_k.TheConstants.{SMALL_A, SMALL_B, SMALL_C, SMALL_D}
+use Rattle.htmd_html5_tokens.specs.declared.names.names_a_to_k.TheConstants.{SMALL_E, SMALL_F, SMALL_G, SMALL_H}
+use Rattle.htmd_html5_tokens.specs.declared.names.names_a_to_k.TheConstants.{SMALL_I, SMALL_J, SMALL_K}
+use Rattle.htmd_html5_tokens.specs.declared.names.names_l_to_r.TheConstants.{SMALL_L, SMALL_M, SMALL_N, SMALL_O}
+use Rattle.htmd_html5_tokens.specs.declared.names.names_l_to_r.TheConstants.{SMALL_P, SMALL_Q, SMALL_R}
+use Rattle.htmd_html5_tokens.specs.declared.names.names_s_to_z.TheConstants.{SMALL_S, SMALL_T, SMALL_U, SMALL_V}
+use Rattle.htmd_html5_tokens.specs.declared.names.names_s_to_z.TheConstants.{SMALL_W, SMALL_X, SMALL_Y, SMALL_Z}
 use Rattle.htmd_html5_tokens.specs.declared.names.old_names.TheConstants.{OLD_NAMES}
 
 pub record NamedReference : Type 0 where

@@ -2,8 +2,8 @@
 use Rattle.std.specs.Prelude.{ℕ, zero, suc, Bool, false, not, ◌&&◌, ◌||◌, ◌==◌, if◌then◌else◌, List, [], ◌∷◌}
 use Rattle.std.specs.Prelude.{drop, take, length, codes, Option, Some, None}
 use Rattle.std.specs.Char.{is_ascii_alphabetic}
-use Rattle.htmd_grammar.specs.Characters.{exclamation_mark, slash, less_than_sign, greater_than_sign, question_mark}
-use Rattle.htmd_grammar.specs.CharacterClasses.{is_empty, first_is, begins_with, begins_in_any_case, up_to, onward}
+use Rattle.htmd_lexical.specs.Characters.{exclamation_mark, slash, less_than_sign, greater_than_sign, question_mark}
+use Rattle.htmd_lexical.specs.CharacterClasses.{is_empty, first_is, begins_with, begins_in_any_case, up_to, onward}
 use Rattle.htmd_html5_tokens.specs.Tokens.{text, end_of_file, Read}
 use Rattle.htmd_html5_tokens.specs.Contents.{decoded}
 use Rattle.htmd_html5_tokens.specs.Tags.{read_tag}
@@ -12,9 +12,9 @@ use Rattle.htmd_html5_tokens.specs.Doctypes.{read_doctype}
 use Rattle.htmd_html5_tokens.specs.RawTexts.{reading_of, raw_text_len}
 use Rattle.htmd_html5_tokens.specs.declared.contents.Reading.{Reading}
 use Rattle.htmd_html5_tokens.specs.declared.contents.Reading.TheVariants.{Text}
-use Rattle.htmd_grammar.specs.declared.content_model.ContentModel.{ContentModel}
-use Rattle.htmd_grammar.specs.declared.content_model.ContentModel.TheVariants.{Normal, Raw}
-use Rattle.htmd_grammar.specs.declared.content_model.RawElement.{RawElement}
+use Rattle.htmd_lexical.specs.declared.content_model.ContentModel.{ContentModel}
+use Rattle.htmd_lexical.specs.declared.content_model.ContentModel.TheVariants.{Normal, Raw}
+use Rattle.htmd_lexical.specs.declared.content_model.RawElement.{RawElement}
 
 abbrev pub at_end : Read
 at_end = record { token = end_of_file; rest = [] }

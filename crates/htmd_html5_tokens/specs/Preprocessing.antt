@@ -1,9 +1,9 @@
 -- What is read of a page (HTML Standard, 13.2.3.5): its text without a byte order mark at the start, with a line feed
 -- for each CR LF and each lone CR.
 use Rattle.std.specs.Prelude.{ℕ, Bool, not, ◌==◌, List}
-use Rattle.htmd_grammar.specs.Characters.{carriage_return}
-use Rattle.htmd_grammar.specs.Comments.{normalized}
-use Rattle.htmd_grammar.specs.HtmlDocuments.{behind_mark}
+use Rattle.htmd_lexical.specs.Characters.{carriage_return}
+use Rattle.htmd_lexical.specs.LineEnds.{normalized}
+use Rattle.htmd_lexical.specs.ByteOrderMarks.{behind_mark}
 
 abbrev pub preprocessed : List ℕ → List ℕ
 preprocessed s = normalized (behind_mark s)

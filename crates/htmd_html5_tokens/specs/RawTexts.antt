@@ -1,26 +1,17 @@
 -- Elements that hold only text, up to their own end tag (HTML Standard, 13.2.5.2 to 13.2.5.5 and 13.2.5.9 to
 -- 13.2.5.31).
 use Rattle.std.specs.Prelude.{ℕ, suc, Bool, false, ◌&&◌, ◌==◌, if◌then◌else◌, List, [], ◌∷◌, length, codes}
-use Rattle.htmd_grammar.specs.Characters.{less_than_sign}
-use Rattle.htmd_grammar.specs.CharacterClasses.{begins_with, up_to}
-use Rattle.htmd_grammar.specs.RawContent.{goes_on_with_name, begins_own_end}
+use Rattle.htmd_lexical.specs.Characters.{less_than_sign}
+use Rattle.htmd_lexical.specs.CharacterClasses.{begins_with, up_to}
+use Rattle.htmd_lexical.specs.EndTags.{goes_on_with_name, begins_own_end}
 use Rattle.htmd_html5_tokens.specs.declared.contents.Reading.{Reading}
 use Rattle.htmd_html5_tokens.specs.declared.contents.Reading.TheVariants.{EscapableRawText, RawText}
 use Rattle.htmd_html5_tokens.specs.declared.raw_texts.Escape.{Escape}
 use Rattle.htmd_html5_tokens.specs.declared.raw_texts.Escape.TheVariants.{Unescaped, Escaped, DoublyEscaped}
-use Rattle.htmd_grammar.specs.declared.content_model.RawElement.{RawElement}
-use Rattle.htmd_grammar.specs.declared.content_model.RawElement.TheVariants.{
-  Title,
-  Textarea,
-  Style,
-  Xmp,
-  Iframe,
-  Noembed,
-  Noframes,
-  Noscript,
-  Script,
-  Plaintext,
-}
+use Rattle.htmd_lexical.specs.declared.content_model.RawElement.{RawElement}
+use Rattle.htmd_lexical.specs.declared.content_model.RawElement.TheVariants.{Title, Textarea, Style, Xmp, Iframe}
+use Rattle.htmd_lexical.specs.declared.content_model.RawElement.TheVariants.{Noembed, Noframes, Noscript, Script}
+use Rattle.htmd_lexical.specs.declared.content_model.RawElement.TheVariants.{Plaintext}
 
 abbrev pub name_of_element : RawElement → List ℕ
 name_of_element Title = codes "title"

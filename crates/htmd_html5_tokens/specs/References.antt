@@ -3,10 +3,10 @@
 use Rattle.std.specs.Prelude.{ℕ, suc, ◌+◌, ◌-◌, Bool, false, ◌&&◌, ◌||◌, ◌==◌, nat_lt, if◌then◌else◌, List, [], ◌∷◌}
 use Rattle.std.specs.Prelude.{length, drop, slice_index, Option, Some, None, codes}
 use Rattle.std.specs.Char.{encode_utf8, is_ascii_digit, is_ascii_hexdigit, is_ascii_alphanumeric}
-use Rattle.htmd_grammar.specs.Characters.{number_sign, ampersand, semicolon, equals_sign}
-use Rattle.htmd_grammar.specs.CharacterClasses.{is_empty, first_is, begins_in_any_case, leading_run}
-use Rattle.htmd_grammar.specs.CharacterClasses.{behind_run}
-use Rattle.htmd_grammar.specs.References.{number, is_between}
+use Rattle.htmd_lexical.specs.Characters.{number_sign, ampersand, semicolon, equals_sign}
+use Rattle.htmd_lexical.specs.CharacterClasses.{is_empty, first_is, begins_in_any_case, leading_run}
+use Rattle.htmd_lexical.specs.CharacterClasses.{behind_run}
+use Rattle.htmd_lexical.specs.Numbers.{number, is_between}
 use Rattle.htmd_html5_tokens.specs.NamedReferences.{NamedReference, named, longest_old}
 
 -- what begins at a place: how many of the bytes that follow belong to it, and the characters that it stands for

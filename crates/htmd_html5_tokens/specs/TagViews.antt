@@ -1,8 +1,8 @@
 -- What the parts of a tag, as the program holds them, are.
 use Rattle.std.specs.Prelude.{ℕ, List, [], ◌∷◌, ◌++◌, map}
-use Rattle.htmd_grammar.specs.ValueTrees.{AttributePair}
-use Rattle.htmd_grammar.specs.CharacterClasses.{leading_run, behind_run}
-use Rattle.htmd_grammar.specs.TagReading.{TagPart, malformed, tag_end, attribute}
+use Rattle.htmd_lexical.specs.AttributePairs.{AttributePair}
+use Rattle.htmd_lexical.specs.CharacterClasses.{leading_run, behind_run}
+use Rattle.htmd_lexical.specs.TagReading.{TagPart, malformed, tag_end, attribute}
 use Rattle.htmd_html5_tokens.specs.Tags.{after_attribute_name, is_attribute_name_byte, TagForm, unended, ended}
 use Rattle.htmd_html5_tokens.specs.declared.attributes.SpelledAttribute.{SpelledAttribute}
 use Rattle.htmd_html5_tokens.specs.declared.attributes.Part.{Part}

@@ -1,12 +1,12 @@
 -- Start tags and end tags (HTML Standard, 13.2.5.8 and 13.2.5.32 to 13.2.5.40).
 use Rattle.std.specs.Prelude.{ℕ, zero, suc, Bool, true, false, not, ◌&&◌, ◌||◌, ◌==◌, if◌then◌else◌, List, [], ◌∷◌, map}
 use Rattle.std.specs.Prelude.{drop, length}
-use Rattle.htmd_grammar.specs.Characters.{quotation_mark, apostrophe, slash, equals_sign}
-use Rattle.htmd_grammar.specs.Characters.{greater_than_sign}
-use Rattle.htmd_grammar.specs.WhiteSpace.{is_ascii_white_space}
-use Rattle.htmd_grammar.specs.ValueTrees.{AttributePair}
-use Rattle.htmd_grammar.specs.CharacterClasses.{first_is, leading_run, behind_run, is_among}
-use Rattle.htmd_grammar.specs.TagReading.{TagPart, malformed, tag_end, attribute, quoted_value}
+use Rattle.htmd_lexical.specs.Characters.{quotation_mark, apostrophe, slash, equals_sign}
+use Rattle.htmd_lexical.specs.Characters.{greater_than_sign}
+use Rattle.htmd_lexical.specs.WhiteSpace.{is_ascii_white_space}
+use Rattle.htmd_lexical.specs.AttributePairs.{AttributePair}
+use Rattle.htmd_lexical.specs.CharacterClasses.{first_is, leading_run, behind_run, is_among}
+use Rattle.htmd_lexical.specs.TagReading.{TagPart, malformed, tag_end, attribute, quoted_value}
 use Rattle.htmd_html5_tokens.specs.Contents.{decoded, name_of}
 use Rattle.htmd_html5_tokens.specs.Tokens.{TagValue, TokenValue, start_tag, end_tag, end_of_file, Read}
 use Rattle.htmd_html5_tokens.specs.declared.contents.Reading.TheVariants.{AttributeValue}

@@ -1,18 +1,12 @@
 -- The tokens of a page (HTML Standard, 13.2.5), and what the program's values denote.
 use Rattle.std.specs.Prelude.{ℕ, Bool, List, string_bytes}
 use Rattle.std.specs.Cow.{cow_str_bytes}
-use Rattle.htmd_grammar.specs.ValueTrees.{AttributePair}
-use Rattle.htmd_grammar.specs.Attributes.{pairs_of}
+use Rattle.htmd_lexical.specs.AttributePairs.{AttributePair}
+use Rattle.htmd_lexical.specs.Attributes.{pairs_of}
 use Rattle.htmd_html5_tokens.specs.declared.tokens.Tag.{Tag}
 use Rattle.htmd_html5_tokens.specs.declared.tokens.Token.{Token}
-use Rattle.htmd_html5_tokens.specs.declared.tokens.Token.TheVariants.{
-  StartTag,
-  EndTag,
-  Text,
-  Comment,
-  Doctype,
-  EndOfFile,
-}
+use Rattle.htmd_html5_tokens.specs.declared.tokens.Token.TheVariants.{StartTag, EndTag, Text, Comment, Doctype}
+use Rattle.htmd_html5_tokens.specs.declared.tokens.Token.TheVariants.{EndOfFile}
 
 pub record TagValue : Type 0 where
   pub name : List ℕ

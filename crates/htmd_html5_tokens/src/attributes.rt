@@ -1,12 +1,12 @@
 //! What is in a tag after its name: attributes, its `/` and its `>`.
 ghost use Rattle.std.specs.Prelude.{◌≡◌, ◌<◌, false, length, IfOk, MatchOption};
-ghost use Rattle.htmd_grammar.specs.CharacterClasses.{is_empty};
-ghost use Rattle.htmd_grammar.specs.TagReading as reading;
+ghost use Rattle.htmd_lexical.specs.CharacterClasses.{is_empty};
+ghost use Rattle.htmd_lexical.specs.TagReading as reading;
 ghost use Rattle.htmd_html5_tokens.specs.Tags as spec;
 ghost use Rattle.htmd_html5_tokens.specs.TagViews.{part_of, all_spelled_of, attribute_part};
 
-use crate::classes::{Class, run_len, split_run};
-use htmd_scanning::strip_byte;
+use crate::classes::{Class, split_run};
+use htmd_scanning::{run_len, strip_byte};
 use std::alloc::{AllocError, Global};
 
 /// An attribute as it is spelled.

@@ -1,7 +1,9 @@
 //! How a text begins: the longest run of characters of one class.
-ghost use Rattle.std.specs.Prelude.{◌≡◌, ◌≤◌, true, length};
-ghost use Rattle.htmd_grammar.specs.CharacterClasses.{leading_run, behind_run};
+ghost use Rattle.std.specs.Prelude.{◌≡◌, true};
+ghost use Rattle.htmd_lexical.specs.CharacterClasses.{leading_run, behind_run};
 ghost use Rattle.htmd_html5_tokens.specs.Classes.{is_in, is_ascii};
+
+use htmd_scanning::{ByteClass, run_len};
 
 /// What the characters of a run have in common. Outside ASCII they are all of the class, or none is.
 #[derive(Clone, Copy)]
@@ -17,33 +19,24 @@ pub(crate) enum Class {
     Other(u8),
 }
 
-#[inline(always)]
-fn is_of(byte: u8, class: Class) -> bool
-    ensures { result ≡ is_in class byte }
-{
-    match class {
-        Class::Name => !(byte.is_ascii_whitespace() || matches!(byte, b'/' | b'>')),
-        Class::AttributeName => !(byte.is_ascii_whitespace() || matches!(byte, b'/' | b'>' | b'=')),
-        Class::UnquotedValue => !(byte.is_ascii_whitespace() || byte == b'>'),
-        Class::Gap => byte.is_ascii_whitespace() || byte == b'/',
-        Class::White => byte.is_ascii_whitespace(),
-        Class::Black => !byte.is_ascii_whitespace(),
-        Class::Other(other) => byte != other,
-    }
-}
+impl ByteClass for Class {
+    ghost use Rattle.htmd_html5_tokens.specs.Classes.{is_in};
 
-#[tactic(auto, using(htmd_grammar::proofs::RunsLemmas::run_more, htmd_grammar::proofs::RunsLemmas::run_stops))]
-#[inline(always)]
-pub(crate) fn run_len(bytes: &[u8], class: Class) -> usize
-    ensures bound { result ≤ length bytes.now }
-    ensures value { result ≡ length (leading_run (is_in class) bytes.now) }
-{
-    for (len, byte) in bytes.iter().enumerate() {
-        if !is_of(*byte, class) {
-            return len;
+    ghost bytes = { is_in };
+
+    #[inline(always)]
+    fn has(self, byte: u8) -> bool {
+        match self {
+            Class::Name => !(byte.is_ascii_whitespace() || matches!(byte, b'/' | b'>')),
+            Class::AttributeName => !(byte.is_ascii_whitespace()
+                || matches!(byte, b'/' | b'>' | b'=')),
+            Class::UnquotedValue => !(byte.is_ascii_whitespace() || byte == b'>'),
+            Class::Gap => byte.is_ascii_whitespace() || byte == b'/',
+            Class::White => byte.is_ascii_whitespace(),
+            Class::Black => !byte.is_ascii_whitespace(),
+            Class::Other(other) => byte != other,
         }
     }
-    bytes.len()
 }
 
 /// The run at the front of a text, and what follows it.

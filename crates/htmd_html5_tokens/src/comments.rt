@@ -1,6 +1,6 @@
 //! Comments, and what is read as one.
 ghost use Rattle.std.specs.Prelude.{◌≡◌, ◌≤◌, length, IfOk};
-ghost use Rattle.htmd_grammar.specs.CharacterClasses.{up_to, onward};
+ghost use Rattle.htmd_lexical.specs.CharacterClasses.{up_to, onward};
 ghost use Rattle.htmd_html5_tokens.specs.Comments as spec;
 ghost use Rattle.htmd_html5_tokens.specs.Readings.{read_of};
 

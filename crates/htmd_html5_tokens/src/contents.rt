@@ -1,13 +1,14 @@
 //! What characters stand for: texts, raw texts, values and names.
-ghost use Rattle.std.specs.Prelude.{◌≡◌, ◌<◌, ◌≤◌, ◌++◌, false, length, slice_index, string_bytes, IfOk, OnOk, ◌∷◌, true};
+ghost use Rattle.std.specs.Prelude.{◌≡◌, ◌<◌, ◌≤◌, ◌++◌, false, length, slice_index, string_bytes, IfOk, OnOk, ◌∷◌};
+ghost use Rattle.std.specs.Prelude.{true};
 ghost use Rattle.std.specs.Cow.{cow_str_bytes};
 ghost use Rattle.std.specs.List.{list_all};
 ghost use Rattle.std.specs.Str.{IsUtf8};
-ghost use Rattle.htmd_grammar.specs.CharacterClasses.{leading_run, behind_run};
+ghost use Rattle.htmd_lexical.specs.CharacterClasses.{leading_run, behind_run};
 ghost use Rattle.htmd_html5_tokens.specs.Contents as spec;
 ghost use Rattle.htmd_html5_tokens.specs.ReferenceViews.{characters_of};
 ghost use Rattle.htmd_html5_tokens.specs.declared.contents.Reading.TheVariants.{Text};
-ghost use Rattle.htmd_grammar.specs.Characters.{ampersand, less_than_sign};
+ghost use Rattle.htmd_lexical.specs.Characters.{ampersand, less_than_sign};
 ghost use Rattle.htmd_html5_tokens.specs.AppendedCharacters.{is_literal, is_small, HasPushed};
 
 use crate::references::{Characters, read_reference};
@@ -50,7 +51,7 @@ fn are_literal(bytes: &[u8], reading: Reading) -> bool
 }
 
 /// How many bytes at the beginning are literal.
-#[tactic(auto, using(htmd_grammar::proofs::RunsLemmas::run_more, htmd_grammar::proofs::RunsLemmas::run_stops))]
+#[tactic(auto, using(htmd_lexical::proofs::RunsLemmas::run_more, htmd_lexical::proofs::RunsLemmas::run_stops))]
 fn literal_len(bytes: &[u8], reading: Reading) -> usize
     ensures bound { result ≤ length bytes.now }
     ensures value { result ≡ length (leading_run (is_literal reading) bytes.now) }

@@ -1,9 +1,9 @@
 //! Which attributes count: the first of those with one name.
 ghost use Rattle.std.specs.Prelude.{◌≡◌, [], IfOk};
-ghost use Rattle.htmd_grammar.specs.Attributes.{pairs_of};
+ghost use Rattle.htmd_lexical.specs.Attributes.{pairs_of};
 ghost use Rattle.htmd_html5_tokens.specs.Firsts.{are_first};
 
-use htmd_grammar::Attribute;
+use htmd_lexical::Attribute;
 use std::alloc::{AllocError, Global};
 use std::collections::BTreeSet;
 

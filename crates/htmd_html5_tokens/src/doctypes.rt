@@ -1,7 +1,7 @@
 //! Doctypes, and which of them mean quirks mode.
 ghost use Rattle.std.specs.Prelude.{◌≡◌, ◌<◌, map, bytes_eq};
 ghost use Rattle.std.specs.Char.{to_ascii_lowercase};
-ghost use Rattle.htmd_grammar.specs.CharacterClasses.{is_among};
+ghost use Rattle.htmd_lexical.specs.CharacterClasses.{is_among};
 ghost use Rattle.htmd_html5_tokens.specs.Doctypes as spec;
 ghost use Rattle.htmd_html5_tokens.specs.Readings.{read_of, quoted_of};
 

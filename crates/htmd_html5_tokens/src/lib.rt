@@ -18,7 +18,7 @@ mod tags;
 mod tokenizer;
 mod tokens;
 
-pub use htmd_grammar::{ContentModel, RawElement};
+pub use htmd_lexical::{ContentModel, RawElement};
 pub use preprocessing::preprocess;
 pub use tokenizer::Tokenizer;
 pub use tokens::{Tag, Token};

@@ -1,6 +1,6 @@
 //! Markup, and the text before it.
 ghost use Rattle.std.specs.Prelude.{◌≡◌, ◌<◌, ◌≤◌, drop, length, IfOk};
-ghost use Rattle.htmd_grammar.specs.CharacterClasses.{up_to, onward};
+ghost use Rattle.htmd_lexical.specs.CharacterClasses.{up_to, onward};
 ghost use Rattle.htmd_html5_tokens.specs.NextToken as spec;
 ghost use Rattle.htmd_html5_tokens.specs.AppendedCharacters as plain;
 ghost use Rattle.htmd_html5_tokens.specs.Readings.{read_of};

@@ -2,9 +2,9 @@
 ghost use Rattle.std.specs.Prelude.{◌≡◌, ◌++◌, ◌∷◌, IfOk, OnOk, string_bytes};
 ghost use Rattle.std.specs.Cow.{cow_str_bytes};
 ghost use Rattle.std.specs.List.{list_all};
-ghost use Rattle.htmd_grammar.specs.Characters.{carriage_return};
-ghost use Rattle.htmd_grammar.specs.Comments.{normalized};
-ghost use Rattle.htmd_grammar.specs.HtmlDocuments.{behind_mark};
+ghost use Rattle.htmd_lexical.specs.Characters.{carriage_return};
+ghost use Rattle.htmd_lexical.specs.LineEnds.{normalized};
+ghost use Rattle.htmd_lexical.specs.ByteOrderMarks.{behind_mark};
 ghost use Rattle.htmd_html5_tokens.specs.Preprocessing as spec;
 
 use htmd_scanning::first_is;

@@ -4,7 +4,7 @@ ghost use Rattle.htmd_html5_tokens.specs.RawTexts as spec;
 ghost use Rattle.htmd_html5_tokens.specs.declared.raw_texts.Escape.TheVariants.{Unescaped};
 
 use crate::contents::Reading;
-use htmd_grammar::RawElement;
+use htmd_lexical::RawElement;
 use htmd_scanning::{begins_own_end, goes_on_with_name, raw_content_len};
 
 /// How a script is escaped: `<!--` escapes it, and in an escaped one `<script` escapes it doubly.

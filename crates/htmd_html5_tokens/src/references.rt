@@ -1,9 +1,9 @@
 //! Character references (HTML Standard, 13.2.5.72 to 13.2.5.80).
 ghost use Rattle.std.specs.Prelude.{◌≡◌, ◌≤◌, ◌<◌, ◌+◌, ℕ, Bool, length, drop, true};
 ghost use Rattle.std.specs.Str.{IsCharBoundary};
-ghost use Rattle.htmd_grammar.specs.Characters.{number_sign};
-ghost use Rattle.htmd_grammar.specs.CharacterClasses.{leading_run, first_is};
-ghost use Rattle.htmd_grammar.specs.References as grammar;
+ghost use Rattle.htmd_lexical.specs.Characters.{number_sign};
+ghost use Rattle.htmd_lexical.specs.CharacterClasses.{leading_run, first_is};
+ghost use Rattle.htmd_lexical.specs.Numbers as grammar;
 ghost use Rattle.htmd_html5_tokens.specs.NamedReferences.{longest_old};
 ghost use Rattle.htmd_html5_tokens.specs.References as spec;
 ghost use Rattle.htmd_html5_tokens.specs.ReferenceViews.{piece_of, IsAsciiTest};

@@ -1,6 +1,6 @@
 //! CDATA sections in foreign content, and empty pieces, which denote nothing.
 ghost use Rattle.std.specs.Prelude.{◌≡◌, ◌≤◌, length, option_map, IfOk};
-ghost use Rattle.htmd_grammar.specs.CharacterClasses.{up_to, onward};
+ghost use Rattle.htmd_lexical.specs.CharacterClasses.{up_to, onward};
 ghost use Rattle.htmd_html5_tokens.specs.NextToken as spec;
 ghost use Rattle.htmd_html5_tokens.specs.Readings.{read_of};
 

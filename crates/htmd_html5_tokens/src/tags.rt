@@ -1,6 +1,6 @@
 //! Start tags and end tags.
 ghost use Rattle.std.specs.Prelude.{◌≡◌, ◌++◌, if◌then◌else◌, map, option_map, IfOk, OnOk};
-ghost use Rattle.htmd_grammar.specs.Attributes.{pair_of, pairs_of};
+ghost use Rattle.htmd_lexical.specs.Attributes.{pair_of, pairs_of};
 ghost use Rattle.htmd_html5_tokens.specs.Tags as spec;
 ghost use Rattle.htmd_html5_tokens.specs.Firsts.{split_mark, if_marked, those_marked};
 ghost use Rattle.htmd_html5_tokens.specs.TagViews.{spelled_of, all_spelled_of};
@@ -12,7 +12,7 @@ use crate::classes::{Class, split_run};
 use crate::contents::{Reading, decoded, name_of, tag_name_of};
 use crate::distinct::first_marks;
 use crate::tokens::{Tag, Token};
-use htmd_grammar::Attribute;
+use htmd_lexical::Attribute;
 use htmd_scanning::{are_distinct, strip_byte};
 use std::alloc::{AllocError, Global};
 

@@ -11,7 +11,7 @@ use crate::raw_texts::{raw_text_len, reading_of};
 use crate::sections::{after_empty_pieces, read_section};
 use crate::tags::read_tag;
 use crate::tokens::Token;
-use htmd_grammar::{ContentModel, RawElement};
+use htmd_lexical::{ContentModel, RawElement};
 use htmd_scanning::{strip, strip_byte};
 use std::alloc::{AllocError, Global};
 use std::marker::Model;

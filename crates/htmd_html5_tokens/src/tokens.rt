@@ -1,5 +1,5 @@
 //! The tokens of a page.
-use htmd_grammar::Attribute;
+use htmd_lexical::Attribute;
 use std::borrow::CowStr;
 
 /// A start tag or end tag. Of attributes with one name it has only the first. Its name is borrowed if the text has it

@@ -8,7 +8,7 @@ use Rattle.std.specs.Char.{is_ascii, is_ascii_punctuation}
 use Rattle.std.proofs.lemmas.Bool.{or_cases, or_parts, and_parts}
 use Rattle.std.proofs.lemmas.Bool.Decides.{nat_tests}
 use Rattle.std.proofs.lemmas.List.{append-nil}
-use Rattle.htmd_grammar.specs.Characters.{backslash, is_one_of}
+use Rattle.htmd_lexical.specs.Characters.{backslash, is_one_of}
 use Rattle.htmd_text.specs.EscapedPlaces.{with_backslashes}
 use Rattle.htmd_text.specs.Unescape.{unescape}
 use Rattle.htmd_text.proofs.EscapedPlacesLemmas.{Writing, writing_none, writing_plain, writing_marked, writing_all}

@@ -5,7 +5,6 @@ use Rattle.std.specs.Prelude.{reverse, not, ◌&&◌, ◌==◌, nat_lt}
 use Rattle.std.specs.List.{between, flat_map, list_all}
 use Rattle.std.specs.Str.{IsCharBoundary, IsUtf8, all_scalars, encode_utf8_all}
 use Rattle.std.specs.Char.{encode_utf8}
-use lib.Utf8.{encode, scalar, low_scalar}
 use Rattle.std.proofs.lemmas.Bool.{and_parts, cases_Bool, false≢true, eqb-true}
 use Rattle.std.proofs.lemmas.Bool.Decides.{nat_tests}
 use Rattle.std.proofs.lemmas.List.{append-nil, reverse-append, drop_more, drop_all}
@@ -15,13 +14,14 @@ use Rattle.std.proofs.lemmas.List.Folds.{list_all-append}
 use Rattle.std.proofs.lemmas.List.Concat.{flat_map-append}
 use Rattle.std.proofs.lemmas.Str.{IsUtf8-nil, IsUtf8-append, IsUtf8-take, IsUtf8-drop, encode_ascii, inside_one}
 use Rattle.std.proofs.lemmas.Str.{IsCharBoundary-start, IsCharBoundary-after_ascii}
-use Rattle.htmd_grammar.specs.Characters.{line_feed, carriage_return, space, vertical_bar}
+use Rattle.htmd_lexical.specs.Characters.{line_feed, carriage_return, space, vertical_bar}
 use Rattle.htmd_text.specs.Trims.{trimmed_text, trimmed_start}
-use Rattle.htmd_grammar.specs.WhiteSpace.{is_document_white_space}
+use Rattle.htmd_lexical.specs.WhiteSpace.{is_document_white_space}
 use Rattle.htmd_text.proofs.TrimsLemmas.{start_boundary, end_boundary, document_of_ascii}
 use Rattle.htmd_markdown.specs.Tables.{in_cell, normalised_cell}
 use Rattle.htmd_markdown.specs.CellBytes.{IsReplaced}
 use Rattle.htmd_markdown.proofs.TrimmedTexts.{Begins, IsBare, trimmed_is, trimmed_between}
+use lib.Utf8.{encode, scalar, low_scalar}
 
 -- what stands for a byte, case by case
 pub by_cases : (P : List ℕ → Type 0) (b : ℕ) → (b ≡ line_feed → P (space ∷ []))

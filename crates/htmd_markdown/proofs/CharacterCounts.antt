@@ -5,16 +5,16 @@ use Rattle.std.specs.Prelude.{nat_lt, count_by, sum_by, cond}
 use Rattle.std.specs.List.{flat_map}
 use Rattle.std.specs.Str.{IsUtf8, encode_utf8_all, chars}
 use Rattle.std.specs.Char.{encode_utf8}
-use lib.Utf8.{encode}
 use Rattle.std.proofs.lemmas.Bool.{cases_Bool}
 use Rattle.std.proofs.lemmas.Bool.Decides.{nat_tests}
 use Rattle.std.proofs.lemmas.List.Sums.{sum_by-cons, sum_by-append}
 use Rattle.std.proofs.lemmas.Str.{chars_from_encodes}
 use Rattle.htmd_text.specs.Trims.{trimmed_text}
-use Rattle.htmd_grammar.specs.WhiteSpace.{is_document_white_space}
+use Rattle.htmd_lexical.specs.WhiteSpace.{is_document_white_space}
 use Rattle.htmd_markdown.specs.CellBytes.{begins_character, byte_width}
 use Rattle.htmd_markdown.specs.Tables.{in_cell, normalised_cell, cell_width}
 use Rattle.htmd_markdown.proofs.CellsLemmas.{normalised_is, normalised_is_cell}
+use lib.Utf8.{encode}
 
 -- how many bytes begin a character
 abbrev pub characters : List ℕ → ℕ

@@ -6,9 +6,9 @@ use Rattle.std.specs.Option.{unwrap_or}
 use Rattle.std.proofs.lemmas.Bool.Decides.{nat_tests}
 use Rattle.std.proofs.lemmas.List.{length_push}
 use Rattle.std.proofs.Math.Seq.{get_or-append_seam, take-append_seam}
-use denote.Ref.{Bor}
-use Rattle.htmd_grammar.specs.Characters.{line_feed}
+use Rattle.htmd_lexical.specs.Characters.{line_feed}
 use Rattle.htmd_markdown.specs.CodeBlocks.{code_of}
+use denote.Ref.{Bor}
 
 code_of-push : (s : List ℕ) → code_of (s ++ line_feed ∷ []) ≡ s
 code_of-push s =

@@ -7,7 +7,7 @@ use Rattle.std.specs.Option.{option_map}
 use Rattle.std.proofs.lemmas.Bool.Decides.{nat_tests}
 use Rattle.std.proofs.lemmas.List.{length_push, take-append-le, take_all}
 use Rattle.std.proofs.lemmas.List.Folds.{prefix_len-replicate}
-use Rattle.htmd_grammar.specs.Characters.{carriage_return, grave_accent, line_feed, space}
+use Rattle.htmd_lexical.specs.Characters.{carriage_return, grave_accent, line_feed, space}
 use Rattle.htmd_markdown.specs.CodeSpanReading.{is_backquote, before_run, line_ends_as_spaces, without_padding}
 use Rattle.htmd_markdown.specs.CodeSpanReading.{opening_len, read_span}
 

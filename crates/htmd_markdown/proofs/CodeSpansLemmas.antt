@@ -7,9 +7,9 @@ use Rattle.std.proofs.lemmas.Bool.{cases_lt, not-true, or_parts}
 use Rattle.std.proofs.lemmas.Bool.Decides.{nat_tests}
 use Rattle.std.proofs.lemmas.List.{append-nil}
 use Rattle.std.proofs.lemmas.List.Sums.{passes_at_first, position_or_len_is}
-use Rattle.htmd_grammar.specs.Characters.{carriage_return, grave_accent, line_feed, space}
+use Rattle.htmd_lexical.specs.Characters.{carriage_return, grave_accent, line_feed, space}
 use Rattle.htmd_text.specs.Trims.{trimmed_text}
-use Rattle.htmd_grammar.specs.WhiteSpace.{is_document_white_space}
+use Rattle.htmd_lexical.specs.WhiteSpace.{is_document_white_space}
 use Rattle.htmd_markdown.specs.Runs.{runs, longest_run, has_run}
 use Rattle.htmd_markdown.specs.CodeSpans.{begins_with, ends_with, meets_delimiter, smallest_unused_len, delimiter_len}
 use Rattle.htmd_markdown.specs.CodeSpans.{delimited_text, code_span}

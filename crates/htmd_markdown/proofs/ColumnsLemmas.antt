@@ -6,7 +6,7 @@ use Rattle.std.specs.Str.{IsUtf8, chars}
 use Rattle.std.proofs.lemmas.List.{take-append-drop, drop_more, drop_all, take_all, take_more_set, drop-set-lt}
 use Rattle.std.proofs.lemmas.List.{length_push, length-map, length-set, length-replicate}
 use Rattle.std.proofs.lemmas.Str.{length-le-encodes, encodes-chars, chars-nil}
-use Rattle.htmd_grammar.specs.Characters.{space, vertical_bar}
+use Rattle.htmd_lexical.specs.Characters.{space, vertical_bar}
 use Rattle.htmd_markdown.specs.Tables as spec
 use Rattle.htmd_markdown.specs.TableReading.{column_count}
 use Rattle.htmd_markdown.specs.CellBytes.{held, held_widths}

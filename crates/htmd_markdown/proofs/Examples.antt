@@ -1,6 +1,5 @@
 -- Worked examples of the definitions. Each holds by computing.
 use Rattle.std.proofs.Common.{◌≡◌, refl, Some, None, codes, [], ◌∷◌}
-use lib.Utf8.{encode}
 use Rattle.std.specs.Str.{chars, trim_start, trim_end}
 use Rattle.htmd_markdown.specs.declared.emphasis.Emphasis.TheVariants.{Regular, Strong}
 use Rattle.htmd_markdown.specs.declared.heading.HeadingStyle.TheVariants.{Atx, Setex}
@@ -9,6 +8,7 @@ use Rattle.htmd_markdown.specs.Headings.{heading}
 use Rattle.htmd_markdown.specs.Quotes.{quote}
 use Rattle.htmd_markdown.specs.Tables.{row, table, cell_width}
 use Rattle.htmd_markdown.specs.TableReading.{read_row}
+use lib.Utf8.{encode}
 
 pub strong : emphasised_text Strong (codes "C ") ≡ Some (codes "**C** ")
 unfolding chars trim_start trim_end encode

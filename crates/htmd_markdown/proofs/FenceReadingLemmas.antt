@@ -8,7 +8,7 @@ use Rattle.std.proofs.lemmas.Bool.Decides.{nat_tests}
 use Rattle.std.proofs.lemmas.List.{length_push}
 use Rattle.std.proofs.lemmas.List.Folds.{list_any-append}
 use Rattle.std.proofs.Math.Seq.{drop-append_seam, take-append_seam}
-use Rattle.htmd_grammar.specs.Characters.{grave_accent, line_feed, space, tab, tilde}
+use Rattle.htmd_lexical.specs.Characters.{grave_accent, line_feed, space, tab, tilde}
 use Rattle.htmd_markdown.specs.FenceReading.{is_line_end, first_line, behind_line_end, behind_first_line}
 use Rattle.htmd_markdown.specs.FenceReading.{symbols_at_start, behind_symbols, is_opening, unindented_line, is_closing}
 use Rattle.htmd_markdown.specs.FenceReading.{before_closing, read_fence}

@@ -3,9 +3,8 @@ use Rattle.std.proofs.Common.{◌≡◌, ◌⊎◌, inl, inr, ℕ, zero, suc, �
 use Rattle.std.proofs.Common.{◌++◌, drop, refl, ap, ◌∙◌, arith, append_assoc}
 use Rattle.std.specs.Prelude.{not, ◌||◌, ◌==◌, replicate, Option, None, Some}
 use Rattle.std.specs.Option.{option_copied, unwrap_or}
-use denote.Ref.{Bor}
 use Rattle.std.specs.List.{list_any}
-use Rattle.htmd_grammar.specs.Characters.{carriage_return, line_feed}
+use Rattle.htmd_lexical.specs.Characters.{carriage_return, line_feed}
 use Rattle.htmd_markdown.specs.declared.fence.CodeBlockFence.{CodeBlockFence}
 use Rattle.htmd_markdown.specs.declared.fence.CodeBlockFence.TheVariants.{Tildes, Backticks}
 use Rattle.htmd_markdown.specs.CodeBlocks.{code_of}
@@ -15,6 +14,7 @@ use Rattle.htmd_markdown.proofs.RunsLemmas.{run_at-le-longest}
 use Rattle.htmd_markdown.proofs.CodeBlocksLemmas.{code_of-behind}
 use Rattle.htmd_markdown.proofs.FenceReadingLemmas.{Below, MakesFences, read_fence-between, opens_with_tildes}
 use Rattle.htmd_markdown.proofs.FenceReadingLemmas.{opens_with_backquotes}
+use denote.Ref.{Bor}
 
 makes_fences : (fence : CodeBlockFence) → MakesFences (symbol_of fence)
 makes_fences Tildes = record { itself = refl; no_space = refl; no_line_end = refl; no_line_feed = refl }

@@ -11,8 +11,8 @@ use Rattle.std.proofs.lemmas.Bool.Decides.{nat_tests}
 use Rattle.std.proofs.lemmas.Str.Parse.{IsNumeralModel, numerals_by_value, tells_all_ascii_digits, parse_signed_minus}
 use Rattle.std.proofs.lemmas.Str.Parse.{parse_signed_plain, parse_signed_plus, without_leading_plus_none}
 use Rattle.std.proofs.lemmas.Str.Parse.{without_leading_plus_plus}
-use lib.Signed.{lt_z}
 use Rattle.htmd_markdown.specs.Lists.{first_number}
+use lib.Signed.{lt_z}
 
 own : IsNumeralModel (λ ds. all_ascii_digits ds ≡ true) (digits_value 10)
 own = numerals_by_value (λ ds. all_ascii_digits ds ≡ true) tells_all_ascii_digits

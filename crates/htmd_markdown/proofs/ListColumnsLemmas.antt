@@ -14,7 +14,7 @@ use Rattle.std.proofs.lemmas.Str.Parse.{digit_at}
 use Rattle.std.proofs.lemmas.List.{length-map, length-replicate, reverse-append, replicate_more, take-append-drop}
 use Rattle.std.proofs.lemmas.List.{get_or_append_left, get_or-reverse, length-reverse}
 use Rattle.std.proofs.lemmas.List.Sums.{fold-append, suffix_len-le-length, suffix_len-take_no, prefix_len_stops}
-use Rattle.htmd_grammar.specs.Characters.{line_feed, space, full_stop}
+use Rattle.htmd_lexical.specs.Characters.{line_feed, space, full_stop}
 use Rattle.htmd_text.specs.Digits.{digits}
 use Rattle.htmd_text.specs.Trims.{trimmed_start, trimmed_end, cut_end, is_line_feed}
 use Rattle.htmd_text.specs.Indents.{indented_text}

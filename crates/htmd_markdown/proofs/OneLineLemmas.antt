@@ -8,7 +8,7 @@ use Rattle.std.proofs.lemmas.List.{append-nil, get_or-append-add, get_or-map, le
 use Rattle.std.proofs.lemmas.List.Folds.{list_any-append}
 use Rattle.std.proofs.lemmas.List.Splits.{length-slice_split}
 use Rattle.std.proofs.lemmas.List.Sums.{fold_push}
-use Rattle.htmd_grammar.specs.Characters.{grave_accent, line_feed, space}
+use Rattle.htmd_lexical.specs.Characters.{grave_accent, line_feed, space}
 use Rattle.htmd_text.specs.Joins.{joined_texts}
 use Rattle.htmd_text.specs.Trims.{is_line_feed}
 use Rattle.htmd_markdown.specs.Runs.{runs, longest_run, has_run}

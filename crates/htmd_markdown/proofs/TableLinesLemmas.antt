@@ -4,7 +4,6 @@ use Rattle.std.proofs.Common.{sym, ap, ◌∙◌, subst, arith, append_assoc, le
 use Rattle.std.specs.Prelude.{not, ◌&&◌, ◌==◌, slice_index, replicate, All}
 use Rattle.std.specs.List.{slice_split, flat_map}
 use Rattle.std.specs.Str.{IsUtf8, chars}
-use lib.Utf8.{encode}
 use Rattle.std.specs.Str.Lines.{lines, lines_of_parts, strip_carriage_return}
 use Rattle.std.proofs.lemmas.Bool.{cond-false}
 use Rattle.std.proofs.lemmas.List.{append-nil, get_or_at}
@@ -12,13 +11,14 @@ use Rattle.std.proofs.lemmas.List.Elements.{All-nil, All-cons}
 use Rattle.std.proofs.lemmas.List.Splits.{slice_split_at}
 use Rattle.std.proofs.lemmas.List.Folds.{list_all-append}
 use Rattle.std.proofs.lemmas.Str.{IsUtf8-nil, IsUtf8-append, IsUtf8-from_ascii}
-use Rattle.htmd_grammar.specs.Characters.{line_feed, space, vertical_bar}
+use Rattle.htmd_lexical.specs.Characters.{line_feed, space, vertical_bar}
 use Rattle.htmd_markdown.specs.Tables as spec
 use Rattle.htmd_markdown.specs.TableReading.{IsTableLine, IsEven}
 use Rattle.htmd_markdown.specs.CellBytes.{bar}
 use Rattle.htmd_markdown.proofs.CellsLemmas.{lacks}
 use Rattle.htmd_markdown.proofs.CharacterCounts.{characters, characters-append, characters_are}
 use Rattle.htmd_markdown.proofs.TablesLemmas.{AreCells, padded_lacks, none_of, line_bars}
+use lib.Utf8.{encode}
 
 -- each cell fits its column
 abbrev pub Fit : List (List ℕ) → List ℕ → Type 0

@@ -13,9 +13,9 @@ use Rattle.std.proofs.lemmas.List.Folds.{list_all-append}
 use Rattle.std.proofs.lemmas.List.Sums.{AllPass-from_list_all, sum_by-append}
 use Rattle.std.proofs.lemmas.List.Splits.{slice_split_at}
 use Rattle.std.proofs.lemmas.Str.{IsUtf8-nil, IsUtf8-string_bytes}
-use Rattle.htmd_grammar.specs.Characters.{line_feed, space, vertical_bar}
+use Rattle.htmd_lexical.specs.Characters.{line_feed, space, vertical_bar}
 use Rattle.htmd_text.specs.Trims.{trimmed_text}
-use Rattle.htmd_grammar.specs.WhiteSpace.{is_document_white_space}
+use Rattle.htmd_lexical.specs.WhiteSpace.{is_document_white_space}
 use Rattle.htmd_markdown.specs.Tables.{normalised_cell, line_cells, padded_cell, barred_cells, line}
 use Rattle.htmd_markdown.specs.TableReading.{read_row, bars}
 use Rattle.htmd_markdown.specs.CellBytes.{bar}

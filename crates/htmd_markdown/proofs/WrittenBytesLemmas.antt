@@ -5,7 +5,7 @@ use Rattle.std.specs.Prelude.{◌==◌, slice_index}
 use Rattle.std.specs.Str.{bytes_eq}
 use Rattle.std.proofs.lemmas.Bool.Decides.{nat_tests}
 use Rattle.std.proofs.lemmas.List.{drop_more, drop_all}
-use Rattle.htmd_grammar.specs.Characters.{backslash, is_one_of}
+use Rattle.htmd_lexical.specs.Characters.{backslash, is_one_of}
 use Rattle.htmd_text.specs.EscapedPlaces.{with_backslashes}
 use Rattle.htmd_markdown.specs.Addresses.{parentheses}
 use Rattle.htmd_markdown.specs.WrittenBytes.{written_byte}

@@ -1,7 +1,7 @@
 -- The address of a link or image as it is written (CommonMark 0.31.2, 6.3).
 use Rattle.std.specs.Prelude.{◌≡◌, ℕ, Bool, ◌==◌, if◌then◌else◌, List, [], ◌++◌, slice_index, codes}
 use Rattle.std.specs.List.{list_any}
-use Rattle.htmd_grammar.specs.Characters.{space, backslash, is_one_of}
+use Rattle.htmd_lexical.specs.Characters.{space, backslash, is_one_of}
 use Rattle.htmd_text.specs.EscapedPlaces.{with_backslashes}
 use Rattle.htmd_text.specs.Unescape.{unescape}
 

@@ -1,6 +1,6 @@
 -- Cells byte by byte, as the code goes through them; only the contracts of private functions cite it.
 use Rattle.std.specs.Prelude.{◌≡◌, ℕ, ◌<◌, Bool, not, ◌&&◌, List, [], ◌∷◌, nat_le, nat_lt, count_by, min, map}
-use Rattle.htmd_grammar.specs.Characters.{vertical_bar}
+use Rattle.htmd_lexical.specs.Characters.{vertical_bar}
 use Rattle.htmd_markdown.specs.Tables.{in_cell, cell_width}
 
 -- a number as far as a `usize` goes

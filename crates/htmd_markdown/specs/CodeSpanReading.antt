@@ -3,7 +3,7 @@ use Rattle.std.specs.Prelude.{ℕ, ◌-◌, Bool, false, not, ◌&&◌, ◌||◌
 use Rattle.std.specs.Prelude.{drop, slice_index, Option, Some, None}
 use Rattle.std.specs.List.{list_all, position_or_len, prefix_len}
 use Rattle.std.specs.Option.{option_map}
-use Rattle.htmd_grammar.specs.Characters.{carriage_return, grave_accent, line_feed, space}
+use Rattle.htmd_lexical.specs.Characters.{carriage_return, grave_accent, line_feed, space}
 
 abbrev pub is_backquote : ℕ → Bool
 is_backquote b = b == grave_accent

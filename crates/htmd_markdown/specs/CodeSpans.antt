@@ -2,9 +2,9 @@
 use Rattle.std.specs.Prelude.{ℕ, ◌+◌, ◌-◌, Bool, not, ◌&&◌, ◌||◌, ◌==◌, if◌then◌else◌, List, [], ◌∷◌, ◌++◌, length, map}
 use Rattle.std.specs.Prelude.{replicate, slice_index}
 use Rattle.std.specs.List.{list_all, position_or_len, range_with_len}
-use Rattle.htmd_grammar.specs.Characters.{grave_accent, line_feed, space}
+use Rattle.htmd_lexical.specs.Characters.{grave_accent, line_feed, space}
 use Rattle.htmd_text.specs.Trims.{trimmed_text, is_line_feed, is_space}
-use Rattle.htmd_grammar.specs.WhiteSpace.{is_document_white_space}
+use Rattle.htmd_lexical.specs.WhiteSpace.{is_document_white_space}
 use Rattle.htmd_markdown.specs.Runs.{longest_run, has_run}
 
 -- the character is at the start, and at the end

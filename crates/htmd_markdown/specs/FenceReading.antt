@@ -3,7 +3,7 @@ use Rattle.std.specs.Prelude.{ℕ, ◌-◌, Bool, true, not, ◌&&◌, ◌||◌,
 use Rattle.std.specs.Prelude.{take, drop, slice_index, Option, Some, None}
 use Rattle.std.specs.List.{list_all, list_any, position_or_len, prefix_len}
 use Rattle.std.specs.Option.{option_map}
-use Rattle.htmd_grammar.specs.Characters.{carriage_return, grave_accent, line_feed, space, tab, tilde}
+use Rattle.htmd_lexical.specs.Characters.{carriage_return, grave_accent, line_feed, space, tab, tilde}
 
 -- a line ends at a line feed, at a carriage return, or at both in this order (CommonMark 0.31.2, 2.1)
 abbrev pub is_line_end : ℕ → Bool

@@ -1,7 +1,7 @@
 -- Fenced code blocks as they are written (CommonMark 0.31.2, 4.5).
 use Rattle.std.specs.Prelude.{ℕ, ◌+◌, Bool, not, ◌||◌, ◌==◌, max, List, [], ◌∷◌, ◌++◌, replicate, Option, Some, None}
 use Rattle.std.specs.List.{list_any}
-use Rattle.htmd_grammar.specs.Characters.{carriage_return, grave_accent, line_feed, tilde}
+use Rattle.htmd_lexical.specs.Characters.{carriage_return, grave_accent, line_feed, tilde}
 use Rattle.htmd_markdown.specs.declared.fence.CodeBlockFence.{CodeBlockFence}
 use Rattle.htmd_markdown.specs.declared.fence.CodeBlockFence.TheVariants.{Tildes, Backticks}
 use Rattle.htmd_markdown.specs.CodeBlocks.{code_of}

@@ -1,10 +1,10 @@
 -- Headings of six levels.
 use Rattle.std.specs.Prelude.{ℕ, ◌==◌, nat_le, if◌then◌else◌, List, [], ◌∷◌, ◌++◌, length, replicate}
 use Rattle.std.specs.Str.{chars}
-use Rattle.htmd_grammar.specs.Characters.{line_feed, space, number_sign, hyphen, equals_sign}
+use Rattle.htmd_lexical.specs.Characters.{line_feed, space, number_sign, hyphen, equals_sign}
 use Rattle.htmd_text.specs.Trims.{trimmed_text}
-use Rattle.htmd_grammar.specs.WhiteSpace.{is_document_white_space}
-use Rattle.htmd_grammar.specs.BlankLines.{with_blank_lines}
+use Rattle.htmd_lexical.specs.WhiteSpace.{is_document_white_space}
+use Rattle.htmd_lexical.specs.BlankLines.{with_blank_lines}
 use Rattle.htmd_markdown.specs.declared.heading.HeadingStyle.{HeadingStyle}
 use Rattle.htmd_markdown.specs.declared.heading.HeadingStyle.TheVariants.{Atx, Setex}
 

@@ -1,7 +1,7 @@
 -- Indented code blocks (CommonMark 0.31.2, 4.4).
 use Rattle.std.specs.Prelude.{ℕ, List, [], ◌∷◌, ◌++◌, map, replicate}
 use Rattle.std.specs.Str.Lines.{lines}
-use Rattle.htmd_grammar.specs.Characters.{line_feed, space}
+use Rattle.htmd_lexical.specs.Characters.{line_feed, space}
 use Rattle.htmd_text.specs.Joins.{joined_texts}
 use Rattle.htmd_markdown.specs.CodeBlocks.{code_of}
 

@@ -2,7 +2,7 @@
 use Rattle.std.specs.Prelude.{ℕ, if◌then◌else◌, List, ◌++◌, Option, Some, None, codes}
 use Rattle.std.specs.Fmt.{decimal}
 use Rattle.std.specs.Str.{bytes_eq}
-use Rattle.htmd_grammar.specs.WhiteSpace.{is_document_white_space}
+use Rattle.htmd_lexical.specs.WhiteSpace.{is_document_white_space}
 use Rattle.htmd_text.specs.Trims.{trimmed_text, trimmed_start, cut_end}
 use Rattle.htmd_markdown.specs.Addresses.{escaped_address, opening_bracket, closing_bracket}
 use Rattle.htmd_markdown.specs.Titles.{description, title_text}

@@ -1,6 +1,6 @@
 -- Where the contents of an ordered list's items begin.
 use Rattle.std.specs.Prelude.{◌≡◌, ℕ, ◌+◌, true, List, [], ◌∷◌, ◌++◌, length}
-use Rattle.htmd_grammar.specs.Characters.{line_feed}
+use Rattle.htmd_lexical.specs.Characters.{line_feed}
 use Rattle.htmd_text.specs.Digits.{digits}
 use Rattle.htmd_text.specs.Trims.{trimmed_start, trimmed_end, is_line_feed}
 use Rattle.htmd_text.specs.Indents.{indented_text}

@@ -1,8 +1,8 @@
 -- The items of bullet lists and of ordered lists (CommonMark 0.31.2, 5.2).
 use Rattle.std.specs.Prelude.{ℕ, ◌+◌, ◌-◌, true, List, [], ◌∷◌, ◌++◌, length, replicate}
 use Rattle.std.specs.Fmt.{decimal}
-use Rattle.htmd_grammar.specs.Characters.{line_feed, space, asterisk, hyphen, full_stop}
-use Rattle.htmd_grammar.specs.WhiteSpace.{is_document_white_space}
+use Rattle.htmd_lexical.specs.Characters.{line_feed, space, asterisk, hyphen, full_stop}
+use Rattle.htmd_lexical.specs.WhiteSpace.{is_document_white_space}
 use Rattle.htmd_text.specs.Trims.{trimmed_start, is_line_feed}
 use Rattle.htmd_text.specs.Indents.{indented_text}
 use Rattle.htmd_text.specs.Digits.{digits}

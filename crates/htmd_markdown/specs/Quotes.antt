@@ -1,11 +1,11 @@
 -- Block quotes (CommonMark 0.31.2, 5.1).
 use Rattle.std.specs.Prelude.{ℕ, List, [], ◌∷◌, ◌++◌, map, codes}
 use Rattle.std.specs.Str.Lines.{lines}
-use Rattle.htmd_grammar.specs.Characters.{line_feed}
+use Rattle.htmd_lexical.specs.Characters.{line_feed}
 use Rattle.htmd_text.specs.Joins.{joined_texts}
 use Rattle.htmd_text.specs.Trims.{trimmed_start, trimmed_end, is_line_feed}
-use Rattle.htmd_grammar.specs.WhiteSpace.{is_document_white_space}
-use Rattle.htmd_grammar.specs.BlankLines.{with_blank_lines}
+use Rattle.htmd_lexical.specs.WhiteSpace.{is_document_white_space}
+use Rattle.htmd_lexical.specs.BlankLines.{with_blank_lines}
 
 -- a line after a block quote marker and a space; an empty one too
 abbrev pub quoted_line : List ℕ → List ℕ

@@ -3,9 +3,9 @@ use Rattle.std.specs.Prelude.{◌≡◌, ℕ, ◌+◌, ◌-◌, max, ◌==◌, L
 use Rattle.std.specs.List.{slice_split}
 use Rattle.std.specs.Str.{chars}
 use Rattle.std.specs.Str.Lines.{lines}
-use Rattle.htmd_grammar.specs.Characters.{vertical_bar}
+use Rattle.htmd_lexical.specs.Characters.{vertical_bar}
 use Rattle.htmd_text.specs.Trims.{trimmed_text}
-use Rattle.htmd_grammar.specs.WhiteSpace.{is_document_white_space}
+use Rattle.htmd_lexical.specs.WhiteSpace.{is_document_white_space}
 
 -- the parts of a line between two of its bars
 abbrev pub between_bars : List ℕ → List (List ℕ)

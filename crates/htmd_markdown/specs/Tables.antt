@@ -4,9 +4,9 @@ use Rattle.std.specs.Prelude.{ℕ, ◌-◌, max, ◌==◌, if◌then◌else◌, 
 use Rattle.std.specs.Prelude.{codes, String, string_bytes, Vec}
 use Rattle.std.specs.List.{flat_map}
 use Rattle.std.specs.Str.{chars}
-use Rattle.htmd_grammar.specs.Characters.{line_feed, carriage_return, space, hyphen, vertical_bar}
+use Rattle.htmd_lexical.specs.Characters.{line_feed, carriage_return, space, hyphen, vertical_bar}
 use Rattle.htmd_text.specs.Trims.{trimmed_text}
-use Rattle.htmd_grammar.specs.WhiteSpace.{is_document_white_space}
+use Rattle.htmd_lexical.specs.WhiteSpace.{is_document_white_space}
 
 -- the texts of some strings, and of a row
 abbrev pub texts : {Z : Type 0} → List (String Z) → List (List ℕ)

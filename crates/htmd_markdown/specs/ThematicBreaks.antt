@@ -1,6 +1,6 @@
 -- Thematic breaks (CommonMark 0.31.2, 4.1).
 use Rattle.std.specs.Prelude.{ℕ, List, codes}
-use Rattle.htmd_grammar.specs.BlankLines.{with_blank_lines}
+use Rattle.htmd_lexical.specs.BlankLines.{with_blank_lines}
 use Rattle.htmd_markdown.specs.declared.thematic_break.HrStyle.{HrStyle}
 use Rattle.htmd_markdown.specs.declared.thematic_break.HrStyle.TheVariants.{Dashes, Asterisks, Underscores}
 

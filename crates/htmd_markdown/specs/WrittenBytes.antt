@@ -1,7 +1,7 @@
 -- How a text is compared with an address as it is written, byte by byte; only private clauses cite this.
 use Rattle.std.specs.Prelude.{◌≡◌, ℕ, false, if◌then◌else◌, List, [], ◌∷◌, ◌++◌, Option, Some, None}
 use Rattle.std.specs.Str.{bytes_eq}
-use Rattle.htmd_grammar.specs.Characters.{backslash, is_one_of}
+use Rattle.htmd_lexical.specs.Characters.{backslash, is_one_of}
 use Rattle.htmd_markdown.specs.Addresses.{parentheses}
 
 -- one byte of an address as it is written

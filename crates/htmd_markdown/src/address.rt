@@ -3,7 +3,7 @@ ghost use Rattle.std.specs.Prelude.{◌≡◌, [], ◌∷◌, ◌++◌, IsTrue, 
 ghost use Rattle.std.specs.Char.{is_ascii};
 ghost use Rattle.std.specs.List.{list_all};
 ghost use Rattle.std.specs.Option.{option_copied};
-ghost use Rattle.htmd_grammar.specs.Characters.{is_one_of};
+ghost use Rattle.htmd_lexical.specs.Characters.{is_one_of};
 ghost use Rattle.htmd_markdown.specs.Addresses as spec;
 ghost use Rattle.htmd_markdown.specs.WrittenBytes.{StandsBehind, written_byte};
 

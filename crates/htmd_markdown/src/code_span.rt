@@ -2,9 +2,9 @@
 ghost use Rattle.std.specs.List.{list_all};
 ghost use Rattle.std.specs.Prelude.{◌≡◌, ◌≢◌, ◌==◌, ◌&&◌, ◌||◌, ◌++◌, [], false, map, Some, if◌then◌else◌, IfOk, OnOk};
 ghost use Rattle.std.specs.Prelude.{string_bytes};
-ghost use Rattle.htmd_grammar.specs.Characters.{space};
+ghost use Rattle.htmd_lexical.specs.Characters.{space};
 ghost use Rattle.htmd_text.specs.Trims.{is_line_feed, trimmed_text};
-ghost use Rattle.htmd_grammar.specs.WhiteSpace.{is_document_white_space};
+ghost use Rattle.htmd_lexical.specs.WhiteSpace.{is_document_white_space};
 ghost use Rattle.htmd_markdown.specs.CodeSpans as spec;
 ghost use Rattle.htmd_markdown.specs.CodeSpanReading.{read_span, line_ends_as_spaces};
 

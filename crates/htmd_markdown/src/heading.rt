@@ -1,7 +1,7 @@
 //! Headings of six levels.
 ghost use Rattle.std.specs.Prelude.{◌≡◌, ◌<◌, ◌≤◌, IfOk, length, string_bytes};
 ghost use Rattle.std.specs.Str.{chars};
-ghost use Rattle.htmd_grammar.specs.BlankLines.{with_blank_lines};
+ghost use Rattle.htmd_lexical.specs.BlankLines.{with_blank_lines};
 ghost use Rattle.htmd_markdown.specs.Headings as spec;
 
 use htmd_text::{TrimDocumentWhitespace, push_repeated};

@@ -1,6 +1,6 @@
 //! Indented code blocks (CommonMark 0.31.2, 4.4).
 ghost use Rattle.std.specs.Prelude.{◌≡◌, ◌++◌, ◌∷◌, [], not, IfOk, OnOk, if◌then◌else◌, string_bytes};
-ghost use Rattle.htmd_grammar.specs.Characters.{line_feed};
+ghost use Rattle.htmd_lexical.specs.Characters.{line_feed};
 ghost use Rattle.htmd_markdown.specs.IndentedCode as spec;
 
 use crate::code_block::code_of;

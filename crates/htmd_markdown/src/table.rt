@@ -1,5 +1,6 @@
 //! Tables: lines of cells between bars.
-ghost use Rattle.std.specs.Prelude.{◌≡◌, ◌≤◌, ◌+◌, ◌∷◌, ◌++◌, IfOk, OnOk, MatchOption, length, map, fold, min, string_bytes};
+ghost use Rattle.std.specs.Prelude.{◌≡◌, ◌≤◌, ◌+◌, ◌∷◌, ◌++◌, IfOk, OnOk, MatchOption, length, map, fold, min};
+ghost use Rattle.std.specs.Prelude.{string_bytes};
 ghost use Rattle.htmd_markdown.specs.Tables as spec;
 ghost use Rattle.htmd_markdown.specs.TableReading.{read_row, bars, column_count, IsEven};
 ghost use Rattle.htmd_markdown.specs.CellBytes as bytes;

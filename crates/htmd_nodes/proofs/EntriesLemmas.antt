@@ -9,20 +9,20 @@ use Rattle.std.proofs.lemmas.List.{get_or_default, get_or_append_left, get_or_pu
 use Rattle.std.proofs.lemmas.List.{map_push, append-nil}
 use Rattle.std.proofs.lemmas.Str.{IsUtf8-string_bytes}
 use Rattle.std.specs.Str.{IsUtf8}
-use Rattle.htmd_grammar.specs.ValueTrees.{AttributePair}
-use Rattle.htmd_grammar.specs.declared.attribute.Attribute.{Attribute}
+use Rattle.htmd_lexical.specs.AttributePairs.{AttributePair}
+use Rattle.htmd_lexical.specs.declared.attribute.Attribute.{Attribute}
 use Rattle.htmd_nodes.specs.declared.tree.Entry.{Entry}
 use Rattle.htmd_nodes.specs.declared.tree.NodeData.{NodeData}
 use Rattle.htmd_nodes.specs.declared.tree.NodeData.TheVariants.{Document, Doctype, Text, Comment, Element}
 use Rattle.htmd_nodes.specs.Items.{Item, document_item, is_child, children_of, holds_children, data_at, depth_at}
 use Rattle.htmd_nodes.specs.Items.{new_item, greatest_depth, IsTree, HoldsText, HoldTexts}
-use Rattle.htmd_grammar.specs.Attributes.{pairs_of}
+use Rattle.htmd_lexical.specs.Attributes.{pairs_of}
 use Rattle.htmd_nodes.specs.Views.{data_of}
 use Rattle.htmd_nodes.specs.Entries.{parent_of, item_of, items_of, IsStored}
 use Rattle.htmd_nodes.proofs.ItemsLemmas.{children_from-push, children_from-none, is_child-before, IsTree-added}
 
--- an entry of the same depth is the same item
-pub item_of-level : (old new : Entry) → data_of new.data ≡ data_of old.data → new.parent ≡ old.parent
+-- an entry of the same depth and parent is the same item
+pub item_of-level : (old new : Entry) → data_of new.data ≡ data_of old.data → new.level.parent ≡ old.level.parent
     → new.level.depth ≡ old.level.depth → item_of new ≡ item_of old
 item_of-level old new same parent depth =
     ap (λ d. record { parent = parent_of new; depth = new.level.depth; node_data = d }) same
@@ -31,7 +31,7 @@ item_of-level old new same parent depth =
       depth = new.level.depth;
       node_data = data_of old.data;
     }) parent
-    ∙ ap (λ n. record { parent = cond (eqb n 0) None (Some old.parent); depth = n; node_data = data_of old.data })
+    ∙ ap (λ n. record { parent = cond (eqb n 0) None (Some old.level.parent); depth = n; node_data = data_of old.data })
     depth)
 
 -- an entry is replaced by one that is the same node
@@ -153,7 +153,7 @@ IsStored-added entries p old new last l here same kids this no_kids holds shallo
 
 -- the item of the entry that is added, from a read of its parent's entry
 pub last_item : (entries : List Entry) (i : ℕ) (read last : Entry) → i < length entries
-    → read ≡ get_or entries i read → last.parent ≡ i → last.level.depth ≡ read.level.depth + 1
+    → read ≡ get_or entries i read → last.level.parent ≡ i → last.level.depth ≡ read.level.depth + 1
     → item_of last ≡ new_item (items_of entries) i (data_of last.data)
 last_item entries i read last l here parent deeper =
     let depth : read.level.depth ≡ depth_at (items_of entries) i = ap (λ (x : Entry). x.level.depth) here

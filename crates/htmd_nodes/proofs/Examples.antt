@@ -3,7 +3,7 @@ use Rattle.std.proofs.Common.{◌≡◌, List, [], ◌∷◌, Some, refl}
 use Rattle.std.specs.Prelude.{codes}
 use Rattle.htmd_nodes.specs.Items.{Item, document_item, text_node, element_node, children_of}
 use Rattle.htmd_nodes.specs.NumberedTrees.{document, text, element, none, more, forest_from, tree_of, height}
-use Rattle.htmd_grammar.specs.ValueTrees as values
+use Rattle.htmd_values.specs.ValueTrees as values
 use Rattle.htmd_nodes.specs.Layout.{document_items}
 use Rattle.htmd_nodes.specs.Ancestors.{ancestors_up, ancestors_of}
 

@@ -1,5 +1,5 @@
 -- What an addition does to a tree and to the numbers of children.
-use Rattle.htmd_grammar.proofs.Cases.{test}
+use Rattle.htmd_lexical.proofs.Cases.{test}
 use Rattle.std.proofs.Common.{◌≡◌, ℕ, zero, suc, ◌+◌, ◌<◌, ◌≤◌, true, false, cond, List, [], ◌∷◌, ◌++◌, length, Option}
 use Rattle.std.proofs.Common.{Some, None, IsSome, refl, sym, ap, ◌∙◌, subst, arith, add-zero, inl, inr, eqb-true}
 use Rattle.std.proofs.Common.{get_or}
@@ -7,7 +7,8 @@ use Rattle.std.proofs.lemmas.Bool.{cases_lt}
 use Rattle.std.proofs.lemmas.Bool.Decides.{nat_tests}
 use Rattle.std.proofs.lemmas.List.{get_or_append_left, get_or_push, length_push}
 use Rattle.htmd_nodes.specs.Items.{Data, Item, document_item, item_at, parent_at, depth_at, data_at, is_child}
-use Rattle.htmd_nodes.specs.Items.{children_from, children_of, holds_children, new_item, greatest_depth, IsUnder, IsTree}
+use Rattle.htmd_nodes.specs.Items.{children_from, children_of, holds_children, new_item, greatest_depth, IsUnder}
+use Rattle.htmd_nodes.specs.Items.{IsTree}
 
 -- an item at the end is the last child of its parent
 pub children_from-push : (b : ℕ) (items : List Item) (item : Item) (p : ℕ)

@@ -3,11 +3,11 @@ use Rattle.std.proofs.Common.{◌≡◌, ◌≢◌, ℕ, suc, ◌+◌, ◌<◌, 
 use Rattle.std.proofs.Common.{◌∙◌, arith, length}
 use Rattle.std.proofs.lemmas.Bool.Decides.{nat_tests}
 use Rattle.std.proofs.lemmas.List.{append_assoc, append-nil, length-append}
-use Rattle.htmd_nodes.specs.Items.{item_at}
-use Rattle.htmd_nodes.specs.Items.{Data, document_node, doctype_node, text_node, comment_node, element_node, Item}
+use Rattle.htmd_nodes.specs.Items.{item_at, Data, document_node, doctype_node, text_node, comment_node, element_node}
+use Rattle.htmd_nodes.specs.Items.{Item}
 use Rattle.htmd_nodes.specs.NumberedTrees.{with_children, forest_from, tree_of, value_forest}
 use Rattle.htmd_nodes.specs.NumberedTrees as numbered
-use Rattle.htmd_grammar.specs.ValueTrees.{ValueTree, document, doctype, text, comment, element, ValueForest, none, more}
+use Rattle.htmd_values.specs.ValueTrees.{ValueTree, document, doctype, text, comment, element, ValueForest, none, more}
 use Rattle.htmd_nodes.specs.Layout.{size, sizes, item_under, tree_items, forest_items, LayoutDenotes}
 
 module _ (d p b : ℕ) (node_data : Data) (rest : List Item) where

@@ -6,6 +6,4 @@ pub mod NumberedTreesLemmas
 pub mod AncestorsLemmas
 pub mod LayoutLemmas
 pub mod SerialiserLemmas
-pub mod NodeValuesLemmas
-pub mod RawBlockLemmas
 mod Examples

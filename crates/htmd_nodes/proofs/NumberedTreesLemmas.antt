@@ -8,7 +8,7 @@ use Rattle.htmd_nodes.specs.Items.{document_item, item_at, parent_at, data_at, i
 use Rattle.htmd_nodes.specs.Items.{holds_children, IsTree, IsBelow, child, deeper}
 use Rattle.htmd_nodes.specs.NumberedTrees.{NumberedTree, document, doctype, text, comment, element, NumberedForest}
 use Rattle.htmd_nodes.specs.NumberedTrees.{with_children, forest_from, tree_of, forest_of, height, tallest}
-use Rattle.htmd_grammar.proofs.Cases.{test}
+use Rattle.htmd_lexical.proofs.Cases.{test}
 use Rattle.htmd_nodes.proofs.ItemsLemmas.{is_child-before, child_read}
 
 -- items that name another parent give no trees

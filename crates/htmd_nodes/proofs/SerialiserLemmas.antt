@@ -4,7 +4,7 @@ use Rattle.std.proofs.Common.{Err, OnOk, is_ok}
 use Rattle.std.proofs.lemmas.List.{append_assoc}
 use Rattle.htmd_nodes.specs.Items.{Data, Item, data_at, children_of, IsTree}
 use Rattle.htmd_nodes.specs.NumberedTrees.{value_tree, NumberedTree, with_children, tree_of, forest_of}
-use Rattle.htmd_grammar.specs.Serialisation.{markup_of}
+use Rattle.htmd_values.specs.Serialisation.{markup_of}
 use Rattle.htmd_nodes.proofs.NumberedTreesLemmas.{tree-open}
 
 pub OnOk-pushed : {T E : Type 0} (r : Result T E) (new out piece : List ℕ)

@@ -1,16 +1,11 @@
 -- What a tree is: its nodes in order of addition, the value tree of a node, its ancestors, what the texts and
 -- attributes of the source stand for, how a document is laid out as a tree. The last three, how a tree lies in memory,
--- serve private functions alone. The value trees and what they are written as are those of the grammar.
-pub use Rattle.htmd_grammar.specs.ValueTrees
-pub use Rattle.htmd_grammar.specs.Serialisation
-pub use Rattle.htmd_grammar.specs.RawBlocks
+-- serve private functions alone.
 pub mod Items
 pub mod NumberedTrees
 pub mod Ancestors
 pub mod Views
 pub mod Layout
-pub mod OpenItems
-pub mod NodeValues
 pub mod ElementNames
 pub mod Levels
 pub mod Entries

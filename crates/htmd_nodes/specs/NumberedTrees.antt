@@ -1,7 +1,8 @@
 -- The value tree of a node, each part of which keeps the number of its node.
 use Rattle.std.specs.Prelude.{ℕ, suc, max, if◌then◌else◌, List, [], ◌∷◌}
-use Rattle.htmd_grammar.specs.ValueTrees.{AttributePair, ValueTree, ValueForest}
-use Rattle.htmd_grammar.specs.ValueTrees as value
+use Rattle.htmd_lexical.specs.AttributePairs.{AttributePair}
+use Rattle.htmd_values.specs.ValueTrees.{ValueTree, ValueForest}
+use Rattle.htmd_values.specs.ValueTrees as value
 use Rattle.htmd_nodes.specs.Items.{Data, document_node, doctype_node, text_node, comment_node, element_node, Item}
 use Rattle.htmd_nodes.specs.Items.{is_child, data_at}
 
@@ -67,3 +68,7 @@ abbrev mutual
   pub value_forest : NumberedForest → ValueForest
   value_forest none = value.none
   value_forest (more tree trees) = value.more (value_tree tree) (value_forest trees)
+
+-- the value tree of a node
+abbrev pub value_at : List Item → ℕ → ValueTree
+value_at items id = value_tree (tree_of items id)

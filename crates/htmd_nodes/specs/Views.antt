@@ -2,7 +2,7 @@
 use Rattle.std.specs.Prelude.{string_bytes}
 use Rattle.htmd_nodes.specs.declared.tree.NodeData.{NodeData}
 use Rattle.htmd_nodes.specs.declared.tree.NodeData.TheVariants.{Document, Doctype, Text, Comment, Element}
-use Rattle.htmd_grammar.specs.Attributes.{pairs_of}
+use Rattle.htmd_lexical.specs.Attributes.{pairs_of}
 use Rattle.htmd_nodes.specs.Items.{Data, document_node, doctype_node, text_node, comment_node, element_node}
 
 -- what a node is

@@ -9,7 +9,7 @@ mod names;
 mod serialiser;
 mod tree;
 
-pub use htmd_grammar::Attribute;
+pub use htmd_lexical::Attribute;
 pub use names::Name;
 pub use serialiser::{is_void, push_end_tag, push_start_tag, raw_block, serialize};
 pub use tree::{MAX_DEPTH, NodeData, NodeId, Tree, TreeError, number_of};

@@ -1,18 +1,16 @@
 //! How a tree is written as HTML, and as a block of raw HTML.
 ghost use Rattle.std.specs.Prelude.{◌≡◌, ◌<◌, ◌++◌, ◌∷◌, false, length, string_bytes, IfOk, OnErr, OnOk};
-ghost use Rattle.std.specs.Str.{chars, encode_utf8_all};
+ghost use Rattle.std.specs.Str.{IsUtf8, chars, encode_utf8_all};
 ghost use Rattle.htmd_nodes.specs.Items.{children_of};
 ghost use Rattle.htmd_nodes.specs.NumberedTrees.{tree_of, forest_of, value_tree, value_forest};
-ghost use Rattle.htmd_grammar.specs.Attributes.{pair_of, pairs_of};
-ghost use Rattle.htmd_nodes.specs.NodeValues.{IsReadBack};
+ghost use Rattle.htmd_lexical.specs.Attributes.{pair_of, pairs_of};
 ghost use Rattle.htmd_text.specs.Beginnings.{IsBeginning};
-ghost use Rattle.htmd_grammar.specs.Serialisation as spec;
-ghost use Rattle.htmd_grammar.specs.RawBlocks as blocks;
-ghost use Rattle.htmd_grammar.specs.SerialiserSteps as steps;
+ghost use Rattle.htmd_values.specs.Serialisation as spec;
+ghost use Rattle.htmd_values.specs.RawBlocks as blocks;
+ghost use Rattle.htmd_values.specs.SerialiserSteps as steps;
 
 use crate::tree::{NodeData, NodeId, Tree};
-use htmd_grammar::Attribute;
-use htmd_grammar::laws::raw_html_reads_back;
+use htmd_lexical::Attribute;
 use htmd_text::surround_with_blank_lines;
 use std::alloc::{AllocError, Global};
 
@@ -65,7 +63,7 @@ fn push_value(out: &mut String, value: &str) -> Result<(), AllocError>
 
 /// Whether an element with this name, in lower case, is written without an end tag (HTML Standard, 13.3). The name is
 /// only compared with names of its own length.
-#[tactic(auto, unfolding(htmd_grammar::specs::Serialisation::is_void))]
+#[tactic(auto, unfolding(htmd_values::specs::Serialisation::is_void))]
 pub fn is_void(name: &str) -> bool
     ensures { result ≡ spec.is_void name.now }
 {
@@ -82,7 +80,7 @@ pub fn is_void(name: &str) -> bool
 }
 
 /// Whether the texts of an element are written as they are.
-#[tactic(auto, unfolding(htmd_grammar::specs::Serialisation::is_raw_text))]
+#[tactic(auto, unfolding(htmd_values::specs::Serialisation::is_raw_text))]
 fn is_raw_text(name: &str) -> bool
     ensures { result ≡ spec.is_raw_text name.now }
 {
@@ -273,18 +271,15 @@ fn without_blank_lines(alloc: Global, text: String) -> Result<String, AllocError
 }
 
 /// The serialisation of a node as a block of raw HTML (CommonMark 0.31.2, 4.6): between blank lines, with references in
-/// place of the line ends that would make one. For an element below `body` of a tree that was read, the block reads
-/// back as that element if it holds no carriage return, comment, `pre`, `textarea` or raw text element. The tree must
-/// contain the node. `Err` means out of memory.
+/// place of the line ends that would make one. The tree must contain the node. `Err` means out of memory.
 pub fn raw_block(alloc: Global, tree: &Tree, node: NodeId) -> Result<String, AllocError>
     requires { node < length tree.now }
     ensures text { IfOk result (λ text. string_bytes text
         ≡ blocks.raw_block (spec.serialisation (value_tree (tree_of tree.now node)))) }
     ensures raw { let s = spec.serialisation (value_tree (tree_of tree.now node)) in IfOk result
         (λ text. blocks.has_carriage_return s ≡ false → blocks.IsRawBlock s (string_bytes text)) }
-    ensures reads_back { IfOk result (λ text. IsReadBack tree.now node (string_bytes text)) }
+    ensures utf8 { IfOk result (λ _. IsUtf8 (spec.serialisation (value_tree (tree_of tree.now node)))) }
 {
-    raw_html_reads_back();
     let text = serialize(alloc, tree, node)?;
     let mut block = without_blank_lines(alloc, text)?;
     surround_with_blank_lines(&mut block)?;

@@ -5,13 +5,13 @@ ghost use Rattle.std.specs.Option.{option_copied};
 ghost use Rattle.htmd_nodes.specs.Items.{IsTree, data_at, parent_at, depth_at, children_of, holds_children, tag_of};
 ghost use Rattle.htmd_nodes.specs.Items.{new_item, document_item, doctype_node, text_node, comment_node, element_node};
 ghost use Rattle.htmd_nodes.specs.Items.{greatest_depth, HoldTexts};
-ghost use Rattle.htmd_grammar.specs.Attributes.{pairs_of};
+ghost use Rattle.htmd_lexical.specs.Attributes.{pairs_of};
 ghost use Rattle.htmd_nodes.specs.Views.{data_of};
 ghost use Rattle.htmd_nodes.specs.declared.tree.TreeError.TheVariants.{Memory};
 
 use crate::levels::Level;
 use crate::names::Name;
-use htmd_grammar::Attribute;
+use htmd_lexical::Attribute;
 use std::alloc::{AllocError, AllocFailed, Global};
 use std::marker::Model;
 use thiserror::Error;
@@ -79,11 +79,10 @@ impl<T: Drop> From<AllocFailed<T>> for TreeError {
     }
 }
 
-/// A node as it is kept. The Document, the only node at depth 0, is its own parent here.
+/// A node as it is kept, in 64 bytes. The Document, the only node at depth 0, is its own parent here.
 #[derive(Drop)]
 struct Entry {
     data: NodeData,
-    parent: NodeId,
     level: Level,
 }
 
@@ -125,8 +124,7 @@ impl Tree {
         let mut entries = Vec::with_capacity(alloc, nodes)?;
         entries.push(Entry {
             data: NodeData::Document,
-            parent: NodeId { index: 0 },
-            level: Level::new(0),
+            level: Level::new(0, 0),
         })?;
         Ok(Tree { entries, alloc })
     }
@@ -164,11 +162,13 @@ impl Tree {
         ensures value { result ≡ parent_at self.now id }
         ensures tree { IsTree self.now }
     {
-        let entry = &self.entries[id.index];
-        if entry.level.depth() == 0 {
+        let level = &self.entries[id.index].level;
+        if level.depth() == 0 {
             None
         } else {
-            Some(entry.parent)
+            Some(NodeId {
+                index: level.parent(),
+            })
         }
     }
 
@@ -229,10 +229,10 @@ impl Tree {
         let id = NodeId {
             index: self.entries.len(),
         };
+        let depth = self.entries[parent.index].level.depth() + 1;
         let entry = Entry {
             data: node_data,
-            parent,
-            level: Level::new(self.entries[parent.index].level.depth() + 1),
+            level: Level::new(depth, parent.index),
         };
         self.entries.reserve(1)?;
         self.entries[parent.index].level.push_child(self.alloc, id)?;

@@ -7,7 +7,7 @@ use Rattle.std.proofs.lemmas.Str.{IsCharBoundary-from_take, IsUtf8-from_ascii}
 use Rattle.std.specs.List.{list_all}
 use Rattle.std.specs.Prelude.{nat_lt, ◌==◌}
 use Rattle.std.specs.Str.{IsUtf8, IsCharBoundary, IsAscii}
-use Rattle.htmd_grammar.specs.CharacterClasses.{begins_with}
+use Rattle.htmd_lexical.specs.CharacterClasses.{begins_with}
 
 pub begins_no_further : (cs s : List ℕ) → 0 < length cs → length s < 1 → begins_with cs s ≡ false
 begins_no_further [] s l m = absurd (omega arith)

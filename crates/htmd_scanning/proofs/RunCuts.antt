@@ -3,10 +3,10 @@ use Rattle.std.proofs.Common.{◌≡◌, ◌⊎◌, ℕ, ◌<◌, Bool, true, fa
 use Rattle.std.proofs.lemmas.Bool.Decides.{nat_tests}
 use Rattle.std.specs.Prelude.{nat_lt}
 use Rattle.std.specs.Str.{IsUtf8, IsCharBoundary}
-use Rattle.htmd_grammar.specs.CharacterClasses.{leading_run}
-use Rattle.htmd_grammar.specs.TagReading.{is_other}
-use Rattle.htmd_grammar.proofs.CharacterClassesLemmas.{behind_leading_run}
-use Rattle.htmd_grammar.proofs.RunsLemmas.{run_within, behind_last}
+use Rattle.htmd_lexical.specs.CharacterClasses.{leading_run}
+use Rattle.htmd_lexical.specs.TagReading.{is_other}
+use Rattle.htmd_lexical.proofs.CharacterClassesLemmas.{behind_leading_run}
+use Rattle.htmd_lexical.proofs.RunsLemmas.{run_within, behind_last}
 
 -- all characters outside ASCII pass, or none does
 abbrev pub IsUniform : (ℕ → Bool) → Type 0

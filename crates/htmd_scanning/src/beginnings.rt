@@ -1,7 +1,7 @@
 //! How a text begins. Each character that the readers look for is ASCII, and so one byte.
 ghost use Rattle.std.specs.Prelude.{◌≡◌, ◌<◌, true, false, length, drop, MatchOption, nat_lt};
 ghost use Rattle.std.specs.List.{list_all};
-ghost use Rattle.htmd_grammar.specs.CharacterClasses as classes;
+ghost use Rattle.htmd_lexical.specs.CharacterClasses as classes;
 
 /// Whether the text begins with this byte.
 pub fn first_is(bytes: &[u8], byte: u8) -> bool

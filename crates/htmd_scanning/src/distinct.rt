@@ -1,10 +1,10 @@
 //! Whether the names of attributes are distinct.
 ghost use Rattle.std.specs.Prelude.{◌≡◌, IfOk};
-ghost use Rattle.htmd_grammar.specs.CharacterClasses as classes;
-ghost use Rattle.htmd_grammar.specs.Tags.{attribute_names};
-ghost use Rattle.htmd_grammar.specs.Attributes.{pairs_of};
+ghost use Rattle.htmd_lexical.specs.CharacterClasses as classes;
+ghost use Rattle.htmd_lexical.specs.Attributes.{attribute_names};
+ghost use Rattle.htmd_lexical.specs.Attributes.{pairs_of};
 
-use htmd_grammar::Attribute;
+use htmd_lexical::Attribute;
 use std::alloc::{AllocError, Global};
 use std::collections::BTreeSet;
 

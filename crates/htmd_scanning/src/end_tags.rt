@@ -1,7 +1,7 @@
 //! Where raw content ends: at the end tag of its own element.
 ghost use Rattle.std.specs.Prelude.{◌≡◌, ◌≤◌, [], length};
-ghost use Rattle.htmd_grammar.specs.CharacterClasses.{up_to};
-ghost use Rattle.htmd_grammar.specs.RawContent as raw;
+ghost use Rattle.htmd_lexical.specs.CharacterClasses.{up_to};
+ghost use Rattle.htmd_lexical.specs.EndTags as raw;
 
 /// Whether a tag's name ends here: white space, `/` or `>`.
 fn ends_name(bytes: &[u8]) -> bool

@@ -5,13 +5,13 @@
 mod beginnings;
 mod distinct;
 mod end_tags;
-mod lengths;
 mod numbers;
+mod runs;
 
 pub use beginnings::{
     begins_in_any_case, begins_with, first_is, strip, strip_byte, strip_in_any_case,
 };
 pub use distinct::are_distinct;
 pub use end_tags::{begins_own_end, goes_on_with_name, raw_content_len};
-pub use lengths::{alphanumeric_len, digits_len, hexdigits_len};
 pub use numbers::number;
+pub use runs::{ByteClass, alphanumeric_len, digits_len, hexdigits_len, run_len};

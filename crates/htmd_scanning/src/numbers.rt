@@ -1,6 +1,6 @@
 //! What the digits of a numeric character reference mean.
 ghost use Rattle.std.specs.Prelude.{◌≡◌, ◌≤◌, ◌<◌, min};
-ghost use Rattle.htmd_grammar.specs.References as references;
+ghost use Rattle.htmd_lexical.specs.Numbers as references;
 
 /// One more than the greatest number of a character.
 const LIMIT: u32 = 0x11_0000;

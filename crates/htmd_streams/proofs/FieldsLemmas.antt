@@ -1,11 +1,11 @@
 -- Fields, escape by escape.
 use Rattle.std.proofs.Common.{◌≡◌, ◌∙◌, sym, ap, refl, ℕ, zero, suc, ◌+◌, ◌-◌, ◌*◌, ◌%◌, ◌<◌, ◌≤◌, ◌==◌}
-use Rattle.std.proofs.Common.{Bool, true, false, append-nil}
-use Rattle.std.proofs.Common.{if◌then◌else◌, List, [], ◌∷◌, ◌++◌, length, take, drop, get_or, arith, append_assoc}
+use Rattle.std.proofs.Common.{Bool, true, false, append-nil, if◌then◌else◌, List, [], ◌∷◌, ◌++◌, length, take, drop}
+use Rattle.std.proofs.Common.{get_or, arith, append_assoc}
 use Rattle.std.proofs.lemmas.List.{drop_more, drop_all, take_all, take_more, take_rest}
 use Rattle.std.proofs.lemmas.Bool.{lt-ltb, le-ltb}
 use Rattle.std.specs.Prelude.{nat_lt}
-use Rattle.htmd_grammar.specs.Characters.{backslash}
+use Rattle.htmd_lexical.specs.Characters.{backslash}
 use Rattle.htmd_streams.specs.Fields.{digit_value, digits, number_behind, escaped, escape_length}
 use Rattle.htmd_streams.specs.Fields.{read_behind, read_field, written_byte, written_field}
 use Rattle.htmd_streams.specs.Lines.{lacks}

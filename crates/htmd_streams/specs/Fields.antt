@@ -2,7 +2,7 @@
 use Rattle.std.specs.Prelude.{ℕ, zero, suc, ◌+◌, ◌-◌, ◌*◌, ◌%◌, Bool, ◌&&◌, ◌==◌, nat_lt, nat_le}
 use Rattle.std.specs.Prelude.{if◌then◌else◌, List, [], ◌∷◌, ◌++◌, codes}
 use Rattle.std.specs.Char.{is_ascii_digit}
-use Rattle.htmd_grammar.specs.Characters.{backslash, carriage_return, digit_zero, form_feed, line_feed, tab}
+use Rattle.htmd_lexical.specs.Characters.{backslash, carriage_return, digit_zero, form_feed, line_feed, tab}
 
 -- the field that has no value
 abbrev pub null : List ℕ

@@ -1,7 +1,7 @@
 -- Lines, and the fields of a line, as PostgreSQL's COPY writes them: "COPY", File Formats, Text Format.
 use Rattle.std.specs.Prelude.{◌==◌, if◌then◌else◌, ℕ, Bool, true, false, List, [], ◌∷◌, codes}
 use Rattle.std.specs.Str.{bytes_eq}
-use Rattle.htmd_grammar.specs.Characters.{line_feed, tab}
+use Rattle.htmd_lexical.specs.Characters.{line_feed, tab}
 
 -- the text has no such byte
 abbrev pub lacks : ℕ → List ℕ → Bool

@@ -7,9 +7,10 @@ use Rattle.std.proofs.lemmas.Bool.{or_cases, or_parts, and_parts}
 use Rattle.std.proofs.lemmas.Bool.Decides.{nat_tests}
 use Rattle.std.proofs.lemmas.List.{get_or-drop}
 use Rattle.std.proofs.lemmas.List.Sums.{prefix_len_passes}
-use Rattle.htmd_grammar.specs.Characters.{full_stop, space, less_than_sign, backslash, is_one_of}
+use Rattle.htmd_lexical.specs.Characters.{full_stop, space, less_than_sign, backslash, is_one_of}
 use Rattle.htmd_text.specs.ListMarkers.{is_atx_heading, numerals_len, dots_len, ordered_item_dot}
-use Rattle.htmd_text.specs.EscapedPlaces.{is_escaped, is_always_escaped, is_html_opener, begins_block, numbered_item_dot}
+use Rattle.htmd_text.specs.EscapedPlaces.{is_escaped, is_always_escaped, is_html_opener, begins_block}
+use Rattle.htmd_text.specs.EscapedPlaces.{numbered_item_dot}
 use Rattle.htmd_text.specs.EscapedPlaces.{is_place}
 use Rattle.htmd_text.specs.EscapeKinds.{AreAscii}
 use Rattle.htmd_text.specs.declared.escape.EscapeKind.TheVariants.{Markdown}

@@ -12,7 +12,7 @@ use Rattle.std.proofs.lemmas.List.Edits.{between_more, between_none}
 use Rattle.std.proofs.lemmas.Slice.{between_to_end}
 use Rattle.std.proofs.lemmas.Str.{IsCharBoundary-start, IsCharBoundary-before_ascii}
 use Rattle.htmd_text.specs.EscapedPlaces.{with_backslashes, is_always_escaped, is_place}
-use Rattle.htmd_grammar.specs.Characters.{backslash, less_than_sign}
+use Rattle.htmd_lexical.specs.Characters.{backslash, less_than_sign}
 use Rattle.htmd_text.specs.declared.escape.EscapeKind.{EscapeKind}
 use Rattle.htmd_text.specs.declared.escape.EscapeKind.TheVariants.{Html, Markdown}
 use Rattle.htmd_text.specs.EscapeKinds.{is_escaped_by, is_special, needs_no_escape}

@@ -1,13 +1,13 @@
 -- Worked rows of the definitions. Each holds by computing.
 use Rattle.std.proofs.Common.{◌≡◌, refl, true, false, codes}
-use lib.Utf8.{encode}
 use Rattle.std.specs.Str.{chars}
 use Rattle.unicode.proofs.CategoryComputing.{ucd_category}
 use Rattle.htmd_text.specs.ListMarkers.{is_atx_heading}
 use Rattle.htmd_text.specs.EscapedPlaces.{escaped_markdown, escaped_angle_brackets, escaped_pre_text}
 use Rattle.htmd_text.specs.SqueezedTexts.{squeezed_text}
 use Rattle.htmd_text.specs.Blocks.{is_block}
-use Rattle.htmd_grammar.specs.BlankLines.{with_blank_lines}
+use Rattle.htmd_lexical.specs.BlankLines.{with_blank_lines}
+use lib.Utf8.{encode}
 
 pub bullet : escaped_markdown (codes "- x") ≡ codes "\\- x"
 bullet = refl

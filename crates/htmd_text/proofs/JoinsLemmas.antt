@@ -10,7 +10,7 @@ use Rattle.std.proofs.iter.Next.{Ran}
 use Rattle.std.proofs.iter.runs.Made.{run, to_end}
 use Rattle.std.proofs.lemmas.List.{map_more, map_push, flat_map_more, length_push, take-replicate}
 use Rattle.std.proofs.lemmas.List.Sums.{fold_push}
-use Rattle.htmd_grammar.specs.Characters.{line_feed}
+use Rattle.htmd_lexical.specs.Characters.{line_feed}
 use Rattle.htmd_text.specs.Trims.{trimmed_start, trimmed_end, is_line_feed}
 use Rattle.htmd_text.specs.Joins.{joined_texts, block_separator, join_block, joined_blocks}
 

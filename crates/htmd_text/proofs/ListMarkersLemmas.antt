@@ -13,7 +13,7 @@ use Rattle.unicode.specs.GeneralCategory.{general_category}
 use Rattle.unicode.proofs.CategoryComputing.{ucd_category}
 use Rattle.unicode.proofs.GeneralCategoryLemmas.{general_category_stepped}
 use Rattle.unicode.proofs.Facts.{Stepped-below, same_from_beq}
-use Rattle.htmd_grammar.specs.Characters.{space}
+use Rattle.htmd_lexical.specs.Characters.{space}
 use Rattle.htmd_text.specs.ListMarkers.{is_number, is_numeric, numerals_len, dots_len, ordered_item_dot}
 
 -- in ASCII the numeric characters are the digits

@@ -10,8 +10,8 @@ use Rattle.std.proofs.lemmas.Bool.{and_left, and_right, and_cases, false≢true,
 use Rattle.std.proofs.lemmas.Bool.{cond-false, false_from_ne_true, not-false}
 use Rattle.std.proofs.lemmas.Bool.Decides.{Decides-eqb, nat_tests}
 use Rattle.std.proofs.lemmas.Slice.Eq.{starts_is}
-use Rattle.htmd_grammar.specs.Characters.{backslash, less_than_sign, question_mark, slash, exclamation_mark, space}
-use Rattle.htmd_grammar.specs.Characters.{full_stop, number_sign, is_one_of}
+use Rattle.htmd_lexical.specs.Characters.{backslash, less_than_sign, question_mark, slash, exclamation_mark, space}
+use Rattle.htmd_lexical.specs.Characters.{full_stop, number_sign, is_one_of}
 use Rattle.htmd_text.specs.EscapedPlaces.{with_backslashes, is_always_escaped, is_html_opener, opens_html, begins_block}
 use Rattle.htmd_text.specs.EscapedPlaces.{numbered_item_dot, is_place, is_escaped, escaped_markdown}
 use Rattle.htmd_text.specs.PlainText.{each_bare, begins_no_inline, begins_no_html, follows_no_html, begins_item}

@@ -12,7 +12,7 @@ use Rattle.std.proofs.lemmas.List.Sums.{suffix_len-take_no}
 use Rattle.std.proofs.lemmas.Str.{IsCharBoundary-start, IsCharBoundary-end, IsCharBoundary-before_ascii}
 use Rattle.std.proofs.lemmas.Str.{IsCharBoundary-after_ascii, IsCharBoundary-from_drop, IsCharBoundary-from_take}
 use Rattle.htmd_text.specs.Trims.{is_line_feed, is_space}
-use Rattle.htmd_grammar.specs.WhiteSpace.{is_document_white_space}
+use Rattle.htmd_lexical.specs.WhiteSpace.{is_document_white_space}
 
 -- what passes is ASCII
 abbrev pub OfAscii : (ℕ → Bool) → Type 0

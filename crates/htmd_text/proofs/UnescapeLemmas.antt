@@ -3,7 +3,7 @@ use Rattle.std.proofs.Common.{◌≡◌, ℕ, suc, ◌+◌, ◌<◌, Bool, true,
 use Rattle.std.proofs.Common.{◌∙◌, arith}
 use Rattle.std.specs.Prelude.{◌==◌}
 use Rattle.std.specs.Char.{is_ascii_punctuation}
-use Rattle.htmd_grammar.specs.Characters.{backslash}
+use Rattle.htmd_lexical.specs.Characters.{backslash}
 use Rattle.htmd_text.specs.EscapedPlaces.{with_backslashes, is_escaped, escaped_markdown}
 use Rattle.htmd_text.specs.Unescape.{unescape}
 use Rattle.htmd_text.proofs.EscapeKindsLemmas.{marked_is_punctuation, unmarked_is_no_backslash}

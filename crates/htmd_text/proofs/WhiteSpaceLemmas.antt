@@ -10,10 +10,10 @@ use Rattle.std.proofs.lemmas.List.{drop_more, drop_all, drop-drop, get_or-drop, 
 use Rattle.std.proofs.lemmas.List.Edits.{between_more, between_none}
 use Rattle.std.proofs.lemmas.Slice.{between_to_end}
 use Rattle.std.proofs.lemmas.Str.{IsCharBoundary-start, IsCharBoundary-after_ascii}
-use Rattle.htmd_grammar.specs.Characters.{space}
-use Rattle.htmd_grammar.specs.WhiteSpace.{is_ascii_white_space, begins_with_white_space}
+use Rattle.htmd_lexical.specs.Characters.{space}
+use Rattle.htmd_lexical.specs.WhiteSpace.{is_ascii_white_space, begins_with_white_space}
 use Rattle.htmd_text.specs.SqueezedTexts.{squeezed_text}
-use Rattle.htmd_grammar.proofs.CharacterClassesLemmas.{white_is_ascii}
+use Rattle.htmd_lexical.proofs.CharacterClassesLemmas.{white_is_ascii}
 use Rattle.htmd_text.specs.Replacement.{IsReplaced, is_squeezed}
 
 shorter : (w v : Bool) (b : ℕ) (s rest : List ℕ) → length rest ≤ length s

@@ -2,7 +2,7 @@
 use Rattle.std.specs.Prelude.{◌≡◌, ℕ, ◌<◌, true, length, Bool, not, ◌&&◌, ◌||◌, ◌==◌, List, slice_index, is_none}
 use Rattle.std.specs.Char.{is_ascii}
 use Rattle.std.specs.List.{list_any}
-use Rattle.htmd_grammar.specs.Characters.{less_than_sign}
+use Rattle.htmd_lexical.specs.Characters.{less_than_sign}
 use Rattle.htmd_text.specs.declared.escape.EscapeKind.{EscapeKind}
 use Rattle.htmd_text.specs.declared.escape.EscapeKind.TheVariants.{Html, Markdown}
 use Rattle.htmd_text.specs.EscapedPlaces.{is_always_escaped, is_html_opener, is_html_opener_alone, is_place}

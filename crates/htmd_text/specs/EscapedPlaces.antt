@@ -3,8 +3,8 @@ use Rattle.std.specs.Prelude.{ℕ, suc, ◌+◌, Bool, false, not, ◌&&◌, ◌
 use Rattle.std.specs.Prelude.{drop, slice_index, codes, Option, Some, None}
 use Rattle.std.specs.List.{starts_with}
 use Rattle.std.specs.Char.{is_ascii_alphabetic, is_ascii_digit}
-use Rattle.htmd_grammar.specs.Characters.{space, exclamation_mark, slash, less_than_sign, question_mark, backslash}
-use Rattle.htmd_grammar.specs.Characters.{is_one_of}
+use Rattle.htmd_lexical.specs.Characters.{space, exclamation_mark, slash, less_than_sign, question_mark, backslash}
+use Rattle.htmd_lexical.specs.Characters.{is_one_of}
 use Rattle.htmd_text.specs.ListMarkers.{is_atx_heading, ordered_item_dot}
 
 -- a text with a backslash before each place that is escaped; its first byte is at place k

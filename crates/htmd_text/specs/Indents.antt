@@ -2,9 +2,9 @@
 use Rattle.std.specs.Prelude.{ℕ, Bool, ◌==◌, if◌then◌else◌, List, [], ◌∷◌, ◌++◌, map, replicate}
 use Rattle.std.specs.List.{flat_map}
 use Rattle.std.specs.Str.Lines.{lines}
-use Rattle.htmd_grammar.specs.Characters.{line_feed, space}
+use Rattle.htmd_lexical.specs.Characters.{line_feed, space}
 use Rattle.htmd_text.specs.Trims.{trimmed_end}
-use Rattle.htmd_grammar.specs.WhiteSpace.{is_document_white_space}
+use Rattle.htmd_lexical.specs.WhiteSpace.{is_document_white_space}
 
 -- a line, without document white space at its end if asked
 abbrev pub line_text : Bool → List ℕ → List ℕ

@@ -1,7 +1,7 @@
 -- Texts one after another.
 use Rattle.std.specs.Prelude.{ℕ, min, max, List, [], ◌∷◌, ◌++◌, fold, replicate}
 use Rattle.std.specs.List.{prefix_len, suffix_len, flat_map}
-use Rattle.htmd_grammar.specs.Characters.{line_feed}
+use Rattle.htmd_lexical.specs.Characters.{line_feed}
 use Rattle.htmd_text.specs.Trims.{trimmed_start, trimmed_end, is_line_feed}
 
 -- the texts with the separator between each two

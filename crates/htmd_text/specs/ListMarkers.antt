@@ -6,7 +6,7 @@ use Rattle.std.specs.Str.{chars}
 use Rattle.unicode.specs.declared.properties.GeneralCategory.{GeneralCategory}
 use Rattle.unicode.specs.declared.properties.GeneralCategory.TheVariants.{DecimalNumber, LetterNumber, OtherNumber}
 use Rattle.unicode.specs.GeneralCategory.{general_category}
-use Rattle.htmd_grammar.specs.Characters.{space, number_sign, full_stop}
+use Rattle.htmd_lexical.specs.Characters.{space, number_sign, full_stop}
 
 -- how many `#` the text begins with
 abbrev pub number_signs : List ℕ → ℕ

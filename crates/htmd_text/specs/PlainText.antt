@@ -3,8 +3,8 @@ use Rattle.std.specs.Prelude.{ℕ, ◌+◌, Bool, true, not, ◌&&◌, ◌||◌,
 use Rattle.std.specs.Prelude.{slice_index, codes}
 use Rattle.std.specs.List.{prefix_len, starts_with}
 use Rattle.std.specs.Char.{is_ascii_alphabetic, is_ascii_digit, is_ascii_punctuation}
-use Rattle.htmd_grammar.specs.Characters.{space, exclamation_mark, full_stop, slash, less_than_sign, question_mark}
-use Rattle.htmd_grammar.specs.Characters.{backslash, is_one_of}
+use Rattle.htmd_lexical.specs.Characters.{space, exclamation_mark, full_stop, slash, less_than_sign, question_mark}
+use Rattle.htmd_lexical.specs.Characters.{backslash, is_one_of}
 
 -- From each character on that no backslash escapes, the text passes (backslashes are read from left
 -- to right, CommonMark 0.31.2, 2.4).

@@ -1,8 +1,8 @@
 -- How the code squeezes white space: what is in place of one byte, and a test for texts that stay. No public clause
 -- cites it.
 use Rattle.std.specs.Prelude.{◌≡◌, ◌==◌, ℕ, Bool, true, not, ◌&&◌, ◌||◌, List, [], ◌∷◌, ◌++◌, drop, slice_index}
-use Rattle.htmd_grammar.specs.Characters.{space}
-use Rattle.htmd_grammar.specs.WhiteSpace.{is_ascii_white_space}
+use Rattle.htmd_lexical.specs.Characters.{space}
+use Rattle.htmd_lexical.specs.WhiteSpace.{is_ascii_white_space}
 use Rattle.htmd_text.specs.SqueezedTexts.{squeezed_text}
 
 -- the first byte is white space, and other bytes are in its place

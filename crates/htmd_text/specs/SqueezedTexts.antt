@@ -1,7 +1,7 @@
 -- A text with each run of its white space squeezed.
 use Rattle.std.specs.Prelude.{ℕ, if◌then◌else◌, List, [], ◌∷◌}
-use Rattle.htmd_grammar.specs.Characters.{space}
-use Rattle.htmd_grammar.specs.WhiteSpace.{is_ascii_white_space, begins_with_white_space}
+use Rattle.htmd_lexical.specs.Characters.{space}
+use Rattle.htmd_lexical.specs.WhiteSpace.{is_ascii_white_space, begins_with_white_space}
 
 -- The text with each maximal run of ASCII white space as one space:
 -- the last of a run becomes a space, and the others go.

@@ -2,7 +2,7 @@
 use Rattle.std.specs.Prelude.{ℕ, ◌-◌, Bool, ◌==◌, List, [], ◌∷◌, length, take, drop, Option, Some, None}
 use Rattle.std.specs.List.{prefix_len, suffix_len}
 use Rattle.std.specs.Str.{trim_start, trim_end}
-use Rattle.htmd_grammar.specs.Characters.{line_feed, space}
+use Rattle.htmd_lexical.specs.Characters.{line_feed, space}
 
 -- the text without the bytes at its start that pass
 abbrev pub trimmed_start : (ℕ → Bool) → List ℕ → List ℕ

@@ -1,7 +1,7 @@
 -- How Markdown reads backslashes (CommonMark 0.31.2, 2.4).
 use Rattle.std.specs.Prelude.{ℕ, ◌&&◌, ◌==◌, if◌then◌else◌, List, [], ◌∷◌}
 use Rattle.std.specs.Char.{is_ascii_punctuation}
-use Rattle.htmd_grammar.specs.Characters.{backslash}
+use Rattle.htmd_lexical.specs.Characters.{backslash}
 
 -- The text that is meant: from left to right, a backslash before ASCII punctuation is dropped and
 -- that character kept. Any other backslash stands for itself.

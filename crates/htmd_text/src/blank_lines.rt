@@ -1,6 +1,6 @@
 //! Blank lines around a text.
 ghost use Rattle.std.specs.Prelude.{◌≡◌, IfOk, OnErr, OnOk, string_bytes};
-ghost use Rattle.htmd_grammar.specs.BlankLines as spec;
+ghost use Rattle.htmd_lexical.specs.BlankLines as spec;
 
 use crate::join::concat;
 use std::alloc::{AllocError, Global};

@@ -1,6 +1,7 @@
 //! The beginnings of a line that Markdown reads as a heading or as an ordered list item.
-ghost use Rattle.std.specs.Prelude.{◌≡◌, ◌==◌, ◌&&◌, ◌≤◌, ◌+◌, ◌-◌, None, Some, if◌then◌else◌, length, nat_lt, slice_index};
-ghost use Rattle.htmd_grammar.specs.Characters.{space};
+ghost use Rattle.std.specs.Prelude.{◌≡◌, ◌==◌, ◌&&◌, ◌≤◌, ◌+◌, ◌-◌, None, Some, if◌then◌else◌, length, nat_lt};
+ghost use Rattle.std.specs.Prelude.{slice_index};
+ghost use Rattle.htmd_lexical.specs.Characters.{space};
 ghost use Rattle.htmd_text.specs.ListMarkers as spec;
 
 use crate::repeats::leading_len;

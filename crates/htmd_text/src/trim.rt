@@ -5,7 +5,7 @@ ghost use Rattle.std.specs.List.{prefix_len, suffix_len};
 ghost use Rattle.std.specs.Str.{trim_start, trim_end, IsCharBoundary};
 ghost use Rattle.htmd_text.specs.Trims.{trimmed_text, trimmed_start, trimmed_end, cut_start, cut_end, some_text};
 ghost use Rattle.htmd_text.specs.Trims.{white_space_at_start, white_space_at_end, is_line_feed, is_space};
-ghost use Rattle.htmd_grammar.specs.WhiteSpace as white;
+ghost use Rattle.htmd_lexical.specs.WhiteSpace as white;
 
 use crate::repeats::{leading_len, trailing_len};
 use std::convert::AsStr;

@@ -1,7 +1,7 @@
 //! White space of a text.
 ghost use Rattle.std.specs.Prelude.{◌≡◌, ◌++◌, true, false, IfOk, OnOk, IsOkAnd, MatchOption, take, drop, string_bytes};
 ghost use Rattle.std.specs.Cow.{cow_str_bytes, IsBorrowedStr};
-ghost use Rattle.htmd_grammar.specs.WhiteSpace as white;
+ghost use Rattle.htmd_lexical.specs.WhiteSpace as white;
 ghost use Rattle.htmd_text.specs.SqueezedTexts as spec;
 ghost use Rattle.htmd_text.specs.Replacement.{IsReplaced, is_squeezed};
 

@@ -5,15 +5,16 @@ use Rattle.std.specs.Option.{option_to_list}
 use Rattle.std.proofs.lemmas.List.{length-append}
 use Rattle.std.specs.Prelude.{nat_le, nat_lt}
 use Rattle.std.proofs.lemmas.Bool.Decides.{nat_tests}
-use Rattle.htmd_grammar.specs.ValueTrees.{AttributePair, none, more}
-use Rattle.htmd_grammar.specs.CharacterClasses.{is_empty}
+use Rattle.htmd_lexical.specs.AttributePairs.{AttributePair}
+use Rattle.htmd_values.specs.ValueTrees.{none, more}
+use Rattle.htmd_lexical.specs.CharacterClasses.{is_empty}
 use Rattle.htmd_grammar.specs.HtmlDocuments.{above_body}
 use Rattle.htmd_grammar.specs.ReaderSteps.{OpenElement, Step, step, here, via, names_of, closed, fresh}
 use Rattle.htmd_grammar.specs.ReaderSteps.{with_tree, add, fault, between, is_too_deep}
 use Rattle.htmd_grammar.specs.declared.fault.FaultKind.TheVariants.{TooDeep}
 use Rattle.htmd_nodes.specs.Items.{Data, element_node, Item, depth_at, data_at, new_item, greatest_depth}
 use Rattle.htmd_tree.specs.Surroundings.{surroundings_of}
-use Rattle.htmd_nodes.specs.OpenItems.{stack_items, innermost_number}
+use Rattle.htmd_tree.specs.OpenItems.{stack_items, innermost_number}
 use Rattle.htmd_tree.specs.OpenNodes.{innermost_name, open_node, open_nodes}
 use Rattle.htmd_tree.specs.OpenNodes.{MayOpen, Holds, IsReading}
 use Rattle.htmd_tree.specs.Advances.{Answer, state_at, rules_of, Follows, Advances, leaf, IsLeaf, HasAdded}

@@ -1,19 +1,17 @@
 -- The first start tag and the last end tag of a body, by going through a text.
 use Rattle.std.proofs.Common.{◌++◌, ◌≡◌, ◌≢◌, ℕ, zero, suc, ◌+◌, ◌-◌, ◌<◌, ◌≤◌, Bool, true, false, not, ◌&&◌, List}
-use Rattle.std.proofs.Common.{[], ◌∷◌}
-use Rattle.std.proofs.Common.{length, take, drop, get_or, eqb, refl, sym, ◌∙◌, ap, subst, arith, add-one}
+use Rattle.std.proofs.Common.{[], ◌∷◌, length, take, drop, get_or, eqb, refl, sym, ◌∙◌, ap, subst, arith, add-one}
 use Rattle.std.proofs.Common.{None}
 use Rattle.std.proofs.lemmas.List.{drop_more, get_or-take}
-use Rattle.htmd_grammar.proofs.Cases.{test}
-use Rattle.htmd_grammar.specs.CharacterClasses.{first_is, behind_run}
-use Rattle.htmd_grammar.specs.TagReading.{TagPart, attribute, is_other, next_part, TagForm, no_form, form}
-use Rattle.htmd_grammar.specs.TagReading.{with_attribute}
-use Rattle.htmd_grammar.specs.TagReading.{form_behind, form_within}
+use Rattle.htmd_lexical.proofs.Cases.{test}
+use Rattle.htmd_lexical.specs.CharacterClasses.{first_is, behind_run}
+use Rattle.htmd_lexical.specs.TagReading.{TagPart, attribute, is_other, next_part, TagForm, no_form, form}
+use Rattle.htmd_lexical.specs.TagReading.{with_attribute, form_behind, form_within}
 use Rattle.std.proofs.lemmas.Bool.{eqb-true, or_parts}
 use Rattle.std.proofs.Math.Bool.{or-true}
 use Rattle.htmd_tree.specs.Bodies.{behind_form, behind_name, first_of, behind_first_start_tag}
 use Rattle.htmd_tree.specs.Bodies.{begins_end_tag, holds_end_tag, before_last_end_tag}
-use Rattle.htmd_grammar.proofs.RunsLemmas.{behind_within}
+use Rattle.htmd_lexical.proofs.RunsLemmas.{behind_within}
 use Rattle.htmd_tree.proofs.TagPartsLemmas.{part_shorter, form_same}
 
 -- ---- start tags

@@ -1,8 +1,7 @@
 -- The laws of the part of a page that is converted.
 use Rattle.std.proofs.Common.{◌≡◌, ℕ, suc, ◌+◌, ◌-◌, ◌≤◌, Bool, true, false, ◌&&◌, List, [], ◌∷◌, ◌++◌}
 use Rattle.std.proofs.Common.{length, map, eqb, refl, sym, ◌∙◌, ap, subst, arith, append_assoc, append-nil}
-use Rattle.std.proofs.Common.{length-append}
-use Rattle.std.proofs.Common.{Option, Some, None, codes}
+use Rattle.std.proofs.Common.{length-append, Option, Some, None, codes}
 use Rattle.std.specs.List.{list_all}
 use Rattle.std.specs.Str.{bytes_eq}
 use Rattle.std.specs.Char.{to_ascii_lowercase, is_ascii_alphabetic}
@@ -11,20 +10,21 @@ use Rattle.std.proofs.lemmas.Bool.Decides.{nat_tests}
 use Rattle.std.proofs.lemmas.Slice.Eq.{bytes_eq-Decides}
 use Rattle.std.specs.Prelude.{if◌then◌else◌}
 use Rattle.std.proofs.Math.Bool.{and-false, or-true}
-use Rattle.htmd_grammar.specs.Characters.{less_than_sign, greater_than_sign, slash}
-use Rattle.htmd_grammar.specs.WhiteSpace.{is_ascii_white_space}
-use Rattle.htmd_grammar.specs.CharacterClasses.{first_is, begins_with, leading_run, behind_run, is_tag_name}
-use Rattle.htmd_grammar.specs.CharacterClasses.{is_tag_name_byte}
-use Rattle.htmd_grammar.specs.ValueTrees.{AttributePair}
+use Rattle.htmd_lexical.specs.Characters.{less_than_sign, greater_than_sign, slash}
+use Rattle.htmd_lexical.specs.WhiteSpace.{is_ascii_white_space}
+use Rattle.htmd_lexical.specs.CharacterClasses.{first_is, begins_with, leading_run, behind_run, is_tag_name}
+use Rattle.htmd_lexical.specs.CharacterClasses.{is_tag_name_byte}
+use Rattle.htmd_lexical.specs.AttributePairs.{AttributePair}
 use Rattle.htmd_grammar.specs.Faults.{HasEndTag}
-use Rattle.htmd_grammar.specs.TagReading.{TagForm, no_form, form, form_within}
+use Rattle.htmd_lexical.specs.TagReading.{TagForm, no_form, form, form_within}
 use Rattle.htmd_grammar.proofs.FaultPieces.{end_is_read, end_tag_there, form_read_behind, name_read}
-use Rattle.htmd_grammar.proofs.TagReadingLemmas.{back_split, front_all, form_read, halts_name, rest_halts}
+use Rattle.htmd_lexical.proofs.LeadingRunsLemmas.{back_split, front_all}
+use Rattle.htmd_grammar.proofs.TagReadingLemmas.{form_read, halts_name, rest_halts}
 use Rattle.htmd_grammar.proofs.TagSpellingLemmas.{tag_spelled}
 use Rattle.htmd_grammar.proofs.TextLemmas.{name_cut}
 use Rattle.htmd_tree.specs.Bodies.{is_body_name, behind_form, behind_name, behind_start_tag, first_of}
-use Rattle.htmd_tree.specs.Bodies.{behind_first_start_tag}
-use Rattle.htmd_tree.specs.Bodies.{begins_end_tag, holds_end_tag, before_last_end_tag, body_part, body_place}
+use Rattle.htmd_tree.specs.Bodies.{behind_first_start_tag, begins_end_tag, holds_end_tag, before_last_end_tag}
+use Rattle.htmd_tree.specs.Bodies.{body_part, body_place}
 use Rattle.htmd_tree.specs.Bodies.{part_behind, place_behind, StandsAt}
 use Rattle.htmd_tree.specs.BodyLaws.{LacksStartTag, IsPart, StartTagsAreForms, FormsAreStartTags, EndTagsAreForms}
 use Rattle.htmd_tree.specs.BodyLaws.{BodyStandsBetween, BodyRunsToTheEnd, NoBodyIsAll}

@@ -2,8 +2,8 @@
 use Rattle.std.proofs.Common.{◌≡◌, ℕ, ◌<◌, true, false, List, length, arith, inl, inr}
 use Rattle.std.proofs.lemmas.Bool.Decides.{nat_tests}
 use Rattle.std.specs.Str.{IsUtf8, IsCharBoundary}
-use Rattle.htmd_grammar.specs.CharacterClasses.{leading_run, is_tag_name_byte, is_attribute_name_byte, is_unquoted_byte}
-use Rattle.htmd_grammar.proofs.CharacterClassesLemmas.{white_is_ascii}
+use Rattle.htmd_lexical.specs.CharacterClasses.{leading_run, is_tag_name_byte, is_attribute_name_byte, is_unquoted_byte}
+use Rattle.htmd_lexical.proofs.CharacterClassesLemmas.{white_is_ascii}
 use Rattle.htmd_scanning.proofs.RunCuts.{IsUniform, outside_other, cut_at}
 use Rattle.htmd_tree.specs.declared.reader.scan.Class.{Class}
 use Rattle.htmd_tree.specs.declared.reader.scan.Class.TheVariants.{TagName, WhiteSpace, AttributeName, UnquotedValue}

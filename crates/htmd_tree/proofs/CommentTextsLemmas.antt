@@ -1,17 +1,16 @@
 -- Where a comment ends.
 use Rattle.std.proofs.Common.{◌≡◌, ℕ, ◌+◌, ◌<◌, ◌≤◌, true, false, List, [], ◌∷◌, length}
-use Rattle.std.proofs.Common.{take, drop, get_or, codes}
-use Rattle.std.proofs.Common.{⊎_elim, None, Some, refl, ap, sym, subst, ◌∙◌, arith}
+use Rattle.std.proofs.Common.{take, drop, get_or, codes, ⊎_elim, None, Some, refl, ap, sym, subst, ◌∙◌, arith}
 use Rattle.std.proofs.lemmas.Bool.{and_parts, and_right, cases_eq}
 use Rattle.std.proofs.lemmas.Bool.Decides.{nat_tests}
 use Rattle.std.proofs.lemmas.List.{get_or-drop, length-drop, drop-drop}
 use Rattle.std.proofs.lemmas.Str.{IsCharBoundary-before_ascii, IsCharBoundary-after_ascii}
 use Rattle.std.specs.Prelude.{◌==◌, ◌&&◌}
 use Rattle.std.specs.Str.{IsUtf8, IsCharBoundary}
-use Rattle.htmd_grammar.proofs.Cases.{test}
-use Rattle.htmd_grammar.specs.CharacterClasses.{begins_with, up_to, onward}
+use Rattle.htmd_lexical.proofs.Cases.{test}
+use Rattle.htmd_lexical.specs.CharacterClasses.{begins_with, up_to, onward}
 use Rattle.htmd_grammar.specs.Comments.{before_comment_end}
-use Rattle.htmd_grammar.proofs.CharacterClassesLemmas.{take_up_to, drop_up_to, up_to-le-length, stops_at}
+use Rattle.htmd_lexical.proofs.CharacterClassesLemmas.{take_up_to, drop_up_to, up_to-le-length, stops_at}
 
 abbrev ends : List ℕ → List ℕ
 ends s = up_to (begins_with (codes "-->")) s

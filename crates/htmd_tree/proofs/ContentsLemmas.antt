@@ -8,9 +8,9 @@ use Rattle.std.specs.Str.{bytes_eq, IsUtf8, IsCharBoundary}
 use Rattle.std.proofs.lemmas.List.{append-nil, take_all}
 use Rattle.std.proofs.lemmas.Slice.Eq.{bytes_eq-Decides}
 use Rattle.std.proofs.lemmas.Str.{IsCharBoundary-start, IsCharBoundary-after_ascii, char_from_byte, encode_ascii}
-use Rattle.htmd_grammar.proofs.Cases.{test}
-use Rattle.htmd_grammar.specs.Characters.{line_feed}
-use Rattle.htmd_grammar.specs.CharacterClasses.{first_is, leading_run, behind_run}
+use Rattle.htmd_lexical.proofs.Cases.{test}
+use Rattle.htmd_lexical.specs.Characters.{line_feed}
+use Rattle.htmd_lexical.specs.CharacterClasses.{first_is, leading_run, behind_run}
 use Rattle.htmd_grammar.specs.Rules.{NamedCharacter, character_named, named_characters}
 use Rattle.htmd_grammar.specs.References.{Piece, stands, wrong, named, behind_ampersand, piece_at, less_line_feed}
 use Rattle.htmd_grammar.specs.References.{after_line_feed}

@@ -15,16 +15,16 @@ use Rattle.std.specs.Char.{OutOfScalarRange}
 use Rattle.std.specs.Option.{MatchOption, SomeIff}
 use Rattle.std.specs.Prelude.{◌==◌, ◌&&◌, not}
 use Rattle.std.specs.Str.{bytes_eq}
-use Rattle.htmd_grammar.proofs.Cases.{test}
-use Rattle.htmd_grammar.specs.CharacterClasses.{first_is, leading_run, behind_run, begins_in_any_case}
-use Rattle.htmd_grammar.specs.References.{stands, wrong, number, digit_value, may_be_numbered, is_between}
-use Rattle.htmd_grammar.specs.References.{numbered}
-use Rattle.htmd_grammar.specs.References.{named, number_at, behind_ampersand, behind_number_sign}
+use Rattle.htmd_lexical.proofs.Cases.{test}
+use Rattle.htmd_lexical.specs.CharacterClasses.{first_is, leading_run, behind_run, begins_in_any_case}
+use Rattle.htmd_grammar.specs.References.{stands, wrong, may_be_numbered}
+use Rattle.htmd_lexical.specs.Numbers.{number, digit_value, is_between}
+use Rattle.htmd_grammar.specs.References.{numbered, named, number_at, behind_ampersand, behind_number_sign}
 use Rattle.htmd_grammar.specs.Rules.{character_named, named_characters}
 use Rattle.htmd_grammar.specs.declared.fault.FaultKind.TheVariants.{UnknownReference, BadNumber}
 use Rattle.htmd_tree.specs.DecodedCharacters.{entry, IsPieceEnd}
-use Rattle.htmd_grammar.proofs.NumbersLemmas.{limit}
-use Rattle.htmd_grammar.proofs.CharacterClassesLemmas.{take_leading_run, drop_leading_run}
+use Rattle.htmd_lexical.proofs.NumbersLemmas.{limit}
+use Rattle.htmd_lexical.proofs.CharacterClassesLemmas.{take_leading_run, drop_leading_run}
 
 -- ---- the characters that a number may name
 

@@ -7,14 +7,14 @@ use Rattle.std.proofs.lemmas.List.{drop-drop, get_or-drop}
 use Rattle.std.specs.Char.{encode_utf8}
 use Rattle.std.specs.Prelude.{◌==◌, slice_index}
 use Rattle.std.specs.Str.{IsCharBoundary}
-use Rattle.htmd_grammar.proofs.Cases.{test}
-use Rattle.htmd_grammar.specs.CharacterClasses.{leading_run, behind_run}
+use Rattle.htmd_lexical.proofs.Cases.{test}
+use Rattle.htmd_lexical.specs.CharacterClasses.{leading_run, behind_run}
 use Rattle.htmd_grammar.specs.References.{stands, piece_at, behind, put, decode}
 use Rattle.htmd_grammar.specs.Rules.{named_characters}
 use Rattle.htmd_grammar.proofs.Readings.{behind_nothing}
 use Rattle.htmd_tree.specs.DecodedCharacters.{is_itself, piece_of, HasPushed}
 use Rattle.htmd_tree.specs.declared.reader.references.Character.{Character}
-use Rattle.htmd_grammar.proofs.CharacterClassesLemmas.{take_leading_run, drop_leading_run, behind_leading_run}
+use Rattle.htmd_lexical.proofs.CharacterClassesLemmas.{take_leading_run, drop_leading_run, behind_leading_run}
 use Rattle.htmd_tree.proofs.TextRunsLemmas.{before_others}
 
 behind_both : (v w : List ℕ) (o : Option (List ℕ)) → behind (v ++ w) o ≡ behind v (behind w o)

@@ -1,21 +1,21 @@
 -- What a document is that was read to its end, or up to a fault.
 use Rattle.std.proofs.Common.{◌≡◌, ℕ, ◌+◌, ◌-◌, ◌<◌, ◌≤◌, Bool, true, false, List, [], ◌∷◌, ◌++◌, length, Option, Some}
-use Rattle.std.proofs.Common.{None}
-use Rattle.std.proofs.Common.{refl, sym, ap, ◌∙◌, subst, arith, Ok, Err, Result, is_some, inl, ◌&&◌, ◌==◌, not}
+use Rattle.std.proofs.Common.{None, refl, sym, ap, ◌∙◌, subst, arith, Ok, Err, Result, is_some, inl, ◌&&◌, ◌==◌, not}
 use Rattle.std.proofs.Common.{eqb-true}
 use Rattle.std.specs.Prelude.{nat_lt}
 use Rattle.std.specs.List.{list_any, position, position_or_len}
 use Rattle.std.proofs.lemmas.Bool.{or_parts}
 use Rattle.std.specs.Option.{MatchOption}
 use Rattle.std.proofs.lemmas.Bool.Decides.{nat_tests}
-use Rattle.htmd_grammar.proofs.Cases.{test}
+use Rattle.htmd_lexical.proofs.Cases.{test}
 use Rattle.std.proofs.lemmas.List.{append-nil, length-append}
-use Rattle.htmd_grammar.specs.Characters.{null}
-use Rattle.htmd_grammar.specs.ValueTrees.{ValueTree, ValueForest, document}
-use Rattle.htmd_grammar.specs.CharacterClasses.{lacks}
+use Rattle.htmd_lexical.specs.Characters.{null}
+use Rattle.htmd_values.specs.ValueTrees.{ValueTree, ValueForest, document}
+use Rattle.htmd_lexical.specs.CharacterClasses.{lacks}
 use Rattle.htmd_grammar.specs.Comments.{behind_doctype}
 use Rattle.htmd_grammar.specs.Rules.{project}
-use Rattle.htmd_grammar.specs.HtmlDocuments.{above_body, body_text, behind_mark, with_doctype, skeleton}
+use Rattle.htmd_grammar.specs.HtmlDocuments.{above_body, body_text, with_doctype, skeleton}
+use Rattle.htmd_lexical.specs.ByteOrderMarks.{behind_mark}
 use Rattle.htmd_grammar.specs.HtmlDocuments.{ReadsDocument}
 use Rattle.htmd_grammar.specs.ReaderSteps.{step, Reaches, started, finished, body, with_children}
 use Rattle.htmd_grammar.specs.Faults.{IsFault, IsFirstNul}
@@ -24,7 +24,7 @@ use Rattle.htmd_grammar.specs.declared.fault.FaultKind.{FaultKind}
 use Rattle.htmd_grammar.specs.declared.fault.FaultKind.TheVariants.{Nul}
 use Rattle.htmd_nodes.specs.Items.{Item}
 use Rattle.htmd_nodes.specs.Layout.{forest_items, document_items}
-use Rattle.htmd_nodes.proofs.NodeValuesLemmas.{laid_out}
+use Rattle.htmd_tree.proofs.NodeValuesLemmas.{laid_out}
 use Rattle.htmd_tree.specs.Advances.{Ends, state_at, rules_of}
 use Rattle.htmd_tree.specs.declared.reader.Reader.{Reader}
 use Rattle.htmd_tree.specs.declared.reader.Stop.TheVariants.{Refused}

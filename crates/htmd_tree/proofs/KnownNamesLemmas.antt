@@ -1,12 +1,17 @@
 -- What is known of a name answers each question that the rules of nesting ask of it.
 use Rattle.std.proofs.Common.{◌≡◌, ℕ, Bool, true, false, not, ◌||◌, ◌==◌, List, [], ◌∷◌, refl, sym, ◌∙◌, codes}
 use Rattle.std.specs.List.{list_all}
-use Rattle.htmd_grammar.proofs.Cases.{test}
-use Rattle.htmd_grammar.specs.CharacterClasses.{is_among}
+use Rattle.htmd_lexical.proofs.Cases.{test}
+use Rattle.htmd_lexical.specs.CharacterClasses.{is_among}
 use Rattle.htmd_grammar.proofs.NestingLemmas.{among_passes}
-use Rattle.htmd_tree.specs.KnownNames.{known_name, beginning, of_a, of_b, of_c, of_d, of_f, of_h, of_i, of_l, of_m, of_n, of_o, of_p, of_s, of_t, of_u, of_x, is, holds_raw_text, closes_paragraph, is_table_part, holds_parts, is_part_of_select}
+use Rattle.htmd_tree.specs.KnownNames.{known_name, beginning, of_a, of_b, of_c, of_d, of_f, of_h, of_i, of_l, of_m}
+use Rattle.htmd_tree.specs.KnownNames.{of_n, of_o, of_p, of_s, of_t, of_u, of_x, is, holds_raw_text, closes_paragraph}
+use Rattle.htmd_tree.specs.KnownNames.{is_table_part, holds_parts, is_part_of_select}
 use Rattle.htmd_tree.specs.declared.reader.names.KnownName.{KnownName}
-use Rattle.htmd_tree.specs.declared.reader.names.KnownName.TheVariants.{Outside, NoScript, Text, Heading, P, A, Button, Form, NoBr, Li, ItemList, Description, Dl, Select, OptGroup, OptionTag, Table, ColGroup, Rows, Row, Cell, Col, Other}
+use Rattle.htmd_tree.specs.declared.reader.names.KnownName.TheVariants.{Outside, NoScript, Text, Heading, P, A, Button}
+use Rattle.htmd_tree.specs.declared.reader.names.KnownName.TheVariants.{Form, NoBr, Li, ItemList, Description, Dl}
+use Rattle.htmd_tree.specs.declared.reader.names.KnownName.TheVariants.{Select, OptGroup, OptionTag, Table, ColGroup}
+use Rattle.htmd_tree.specs.declared.reader.names.KnownName.TheVariants.{Rows, Row, Cell, Col, Other}
 
 -- all names that are known
 unfoldable names : List (List ℕ)

@@ -1,4 +1,6 @@
 -- How the reader's calls take the grammar's steps; bodies and lines.
+pub mod NodeValuesLemmas
+pub mod RawBlockLemmas
 pub mod ClassesLemmas
 pub mod TagPartsLemmas
 pub mod OpenNodesLemmas

@@ -6,7 +6,7 @@ use Rattle.std.specs.Prelude.{◌||◌, nat_le, nat_lt, if◌then◌else◌}
 use Rattle.std.proofs.lemmas.Bool.Decides.{nat_tests}
 use Rattle.std.proofs.lemmas.List.Sums.{sum_by-append}
 use Rattle.std.proofs.Math.Bool.{or-true}
-use Rattle.htmd_grammar.proofs.Cases.{test}
+use Rattle.htmd_lexical.proofs.Cases.{test}
 use Rattle.htmd_tree.specs.Lines.{ends_line, lines_ended, line_front, begins_character, characters}
 
 pub line_ends : (n : ℕ) (s : List ℕ) → n < length s → ends_line (drop n s) ≡ true

@@ -2,14 +2,14 @@
 use Rattle.std.proofs.Common.{◌≡◌, ℕ, suc, ◌+◌, ◌≤◌, Bool, List, [], ◌∷◌, ◌++◌, length, refl}
 use Rattle.std.proofs.Common.{sym, ap, ◌∙◌, arith, add-zero, add_assoc, get_or}
 use Rattle.std.proofs.lemmas.List.{append_assoc, append-nil, length-append}
-use Rattle.htmd_grammar.specs.ValueTrees.{ValueTree, document, doctype, text, comment, element, ValueForest, none, more}
-use Rattle.htmd_grammar.specs.ValueTrees.{AttributePair}
+use Rattle.htmd_values.specs.ValueTrees.{ValueTree, document, doctype, text, comment, element, ValueForest, none, more}
+use Rattle.htmd_lexical.specs.AttributePairs.{AttributePair}
 use Rattle.htmd_grammar.specs.HtmlDocuments.{above_body}
 use Rattle.htmd_grammar.specs.ReaderSteps.{OpenElement, names_of, closed, fresh, with_forest, with_tree, ◌+++◌}
 use Rattle.htmd_nodes.specs.Items.{Data, document_node, doctype_node, text_node, comment_node, element_node, Item}
 use Rattle.htmd_nodes.specs.Items.{item_at, depth_at, data_at, new_item}
 use Rattle.htmd_nodes.specs.Layout.{size, sizes, item_under, tree_items, forest_items}
-use Rattle.htmd_nodes.specs.OpenItems.{stack_items, innermost_number}
+use Rattle.htmd_tree.specs.OpenItems.{stack_items, innermost_number}
 use Rattle.htmd_nodes.proofs.LayoutLemmas.{item_at-middle, length-tree_items, length-forest_items}
 use Rattle.htmd_tree.specs.OpenNodes.{open_node, open_nodes, AreOpen, IsReading}
 use Rattle.htmd_tree.specs.Advances.{leaf, IsLeaf}

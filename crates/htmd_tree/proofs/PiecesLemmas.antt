@@ -2,21 +2,23 @@
 use Rattle.std.proofs.Common.{◌≡◌, ℕ, suc, ◌<◌, ◌≤◌, Bool, true, false, cond, ◌&&◌, ◌==◌, List, [], ◌∷◌, length}
 use Rattle.std.proofs.Common.{refl, sym, ap, ◌∙◌, subst, arith, Ok, Err, Option, Some, None, drop, OnOk, codes}
 use Rattle.std.proofs.Math.Bool.{and-false}
-use Rattle.htmd_grammar.proofs.Cases.{test}
-use Rattle.htmd_grammar.specs.Characters.{less_than_sign}
-use Rattle.htmd_grammar.specs.ValueTrees.{AttributePair, text}
-use Rattle.htmd_grammar.specs.CharacterClasses.{is_empty, first_is, onward}
+use Rattle.htmd_lexical.proofs.Cases.{test}
+use Rattle.htmd_lexical.specs.Characters.{less_than_sign}
+use Rattle.htmd_lexical.specs.AttributePairs.{AttributePair}
+use Rattle.htmd_values.specs.ValueTrees.{text}
+use Rattle.htmd_lexical.specs.CharacterClasses.{is_empty, first_is, onward}
 use Rattle.htmd_grammar.specs.Rules.{Rules, project}
-use Rattle.htmd_grammar.specs.RawContent.{holds_text_alone, holds_raw_text, begins_own_end, begins_markup, ends_text}
+use Rattle.htmd_grammar.specs.RawContent.{holds_text_alone, holds_raw_text, begins_markup, ends_text}
+use Rattle.htmd_lexical.specs.EndTags.{begins_own_end}
 use Rattle.htmd_grammar.specs.RawContent.{text_of}
-use Rattle.htmd_grammar.specs.CharacterClasses.{up_to}
+use Rattle.htmd_lexical.specs.CharacterClasses.{up_to}
 use Rattle.htmd_grammar.specs.HtmlDocuments.{above_body}
 use Rattle.htmd_grammar.specs.ReaderSteps.{OpenElement, State, step, Reaches, here, via, closed, with_tree, fault}
 use Rattle.htmd_grammar.specs.ReaderSteps.{between, is_too_deep, is_implied, ends_rows, markup_step, raw_text_step}
 use Rattle.htmd_grammar.specs.ReaderSteps.{with_children, body}
 use Rattle.htmd_grammar.specs.declared.fault.FaultKind.TheVariants.{Unclosed, TooDeep}
 use Rattle.htmd_grammar.proofs.NestingLemmas.{tbody_not_table}
-use Rattle.htmd_nodes.specs.OpenItems.{stack_items}
+use Rattle.htmd_tree.specs.OpenItems.{stack_items}
 use Rattle.htmd_tree.specs.OpenNodes.{innermost_name, AreOpen, Holds, IsReading}
 use Rattle.htmd_tree.specs.Advances.{Answer, state_at, rules_of, Follows, Advances, Ends, HasImpliedClosed, HasRead}
 use Rattle.htmd_tree.specs.Advances.{IsAtText}

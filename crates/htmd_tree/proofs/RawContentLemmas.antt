@@ -1,16 +1,16 @@
 -- A script with a comment and a script in it.
 use Rattle.std.proofs.Common.{◌≡◌, ℕ, ◌+◌, ◌-◌, ◌<◌, Bool, true, false, ◌&&◌, ◌||◌, List}
-use Rattle.std.proofs.Common.{[], ◌∷◌, length, take, drop}
-use Rattle.std.proofs.Common.{get_or, codes, refl, ap, sym, subst, ◌∙◌, arith}
+use Rattle.std.proofs.Common.{[], ◌∷◌, length, take, drop, get_or, codes, refl, ap, sym, subst, ◌∙◌, arith}
 use Rattle.std.proofs.lemmas.Bool.{and_parts}
 use Rattle.std.proofs.lemmas.Bool.Decides.{nat_tests}
 use Rattle.std.proofs.lemmas.List.{drop_more, get_or-drop}
 use Rattle.std.proofs.lemmas.Slice.{between_to_end}
 use Rattle.std.specs.Prelude.{◌==◌}
 use Rattle.std.specs.Str.{IsCharBoundary}
-use Rattle.htmd_grammar.specs.CharacterClasses.{begins_with, begins_in_any_case, holds_in_any_case, up_to}
-use Rattle.htmd_grammar.specs.RawContent.{has_script_escape, begins_own_end, goes_on_with_name}
-use Rattle.htmd_grammar.proofs.CharacterClassesLemmas.{up_to-le-length, stops_at}
+use Rattle.htmd_lexical.specs.CharacterClasses.{begins_with, begins_in_any_case, holds_in_any_case, up_to}
+use Rattle.htmd_grammar.specs.RawContent.{has_script_escape}
+use Rattle.htmd_lexical.specs.EndTags.{begins_own_end, goes_on_with_name}
+use Rattle.htmd_lexical.proofs.CharacterClassesLemmas.{up_to-le-length, stops_at}
 
 -- whether the rest has what is still to come
 abbrev pub goes_on : Bool → List ℕ → Bool

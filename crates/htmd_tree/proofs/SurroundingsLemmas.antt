@@ -3,41 +3,17 @@ use Rattle.std.proofs.Common.{◌≡◌, ℕ, Bool, true, false, ◌&&◌, ◌||
 use Rattle.std.proofs.Common.{subst, codes}
 use Rattle.std.specs.Prelude.{if◌then◌else◌}
 use Rattle.std.specs.Str.{bytes_eq}
-use Rattle.htmd_grammar.proofs.Cases.{test}
-use Rattle.htmd_grammar.specs.CharacterClasses.{is_among}
+use Rattle.htmd_lexical.proofs.Cases.{test}
+use Rattle.htmd_lexical.specs.CharacterClasses.{is_among}
 use Rattle.htmd_grammar.specs.Nesting.{Context, is_open, excludes_itself, is_allowed}
 use Rattle.htmd_grammar.proofs.NestingLemmas.{one_name}
 use Rattle.htmd_tree.specs.KnownNames.{known_name}
 use Rattle.htmd_tree.specs.Surroundings.{surroundings_of, own_flag, flags_allow, flags_inside}
-use Rattle.htmd_tree.proofs.KnownNamesLemmas.{
-  outside-is,
-  text-is,
-  raw_text-is,
-  no_script-is,
-  parts-is,
-  table-is,
-  table_part-is,
-  rows-is,
-  row-is,
-  cell-is,
-  column-is,
-  column_group-is,
-  select-is,
-  option_group-is,
-  option-is,
-  part_of_select-is,
-  closer-is,
-  heading-is,
-  paragraph-is,
-  anchor-is,
-  button-is,
-  form-is,
-  nobr-is,
-  item-is,
-  item_list-is,
-  description-is,
-  description_list-is,
-}
+use Rattle.htmd_tree.proofs.KnownNamesLemmas.{outside-is, text-is, raw_text-is, no_script-is, parts-is, table-is}
+use Rattle.htmd_tree.proofs.KnownNamesLemmas.{table_part-is, rows-is, row-is, cell-is, column-is, column_group-is}
+use Rattle.htmd_tree.proofs.KnownNamesLemmas.{select-is, option_group-is, option-is, part_of_select-is, closer-is}
+use Rattle.htmd_tree.proofs.KnownNamesLemmas.{heading-is, paragraph-is, anchor-is, button-is, form-is, nobr-is, item-is}
+use Rattle.htmd_tree.proofs.KnownNamesLemmas.{item_list-is, description-is, description_list-is}
 use Rattle.htmd_tree.specs.declared.reader.surroundings.Surroundings.{Surroundings}
 
 -- what is kept is its flags

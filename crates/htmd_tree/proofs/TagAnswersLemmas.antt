@@ -4,8 +4,8 @@ use Rattle.std.proofs.Common.{Ok, Err, OnOk}
 use Rattle.htmd_grammar.specs.HtmlDocuments.{above_body}
 use Rattle.std.specs.Prelude.{◌&&◌, cond, codes}
 use Rattle.std.specs.Str.{bytes_eq}
-use Rattle.htmd_grammar.proofs.Cases.{test}
-use Rattle.htmd_grammar.specs.ValueTrees.{AttributePair}
+use Rattle.htmd_lexical.proofs.Cases.{test}
+use Rattle.htmd_lexical.specs.AttributePairs.{AttributePair}
 use Rattle.htmd_grammar.specs.Rules.{project}
 use Rattle.htmd_grammar.specs.Nesting.{is_row}
 use Rattle.htmd_grammar.specs.ReaderSteps.{OpenElement, Step, fault, between, fresh, closed, with_tree, is_too_deep}

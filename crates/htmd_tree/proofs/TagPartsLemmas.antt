@@ -1,24 +1,23 @@
 -- How the parts of a start tag follow from the runs that are found.
 use Rattle.std.proofs.Common.{◌≡◌, ℕ, zero, suc, ◌<◌, ◌≤◌, Bool, true, false, not, ◌&&◌, List, [], ◌∷◌, ◌++◌, length}
-use Rattle.std.proofs.Common.{map}
-use Rattle.std.proofs.Common.{drop, get_or, refl, sym, ◌∙◌, ap, arith, eqb, append_assoc, length-drop}
+use Rattle.std.proofs.Common.{map, drop, get_or, refl, sym, ◌∙◌, ap, arith, eqb, append_assoc, length-drop}
 use Rattle.std.specs.Prelude.{◌==◌, if◌then◌else◌}
 use Rattle.std.proofs.lemmas.Bool.{and_parts, eqb-true, not-true, not-false}
 use Rattle.std.proofs.lemmas.Bool.Decides.{nat_tests}
 use Rattle.std.specs.List.{list_all}
 use Rattle.std.specs.Char.{is_ascii_alphabetic, to_ascii_lowercase}
-use Rattle.htmd_grammar.specs.WhiteSpace.{is_ascii_white_space}
-use Rattle.htmd_grammar.proofs.Cases.{test}
-use Rattle.htmd_grammar.specs.ValueTrees.{AttributePair}
-use Rattle.htmd_grammar.specs.CharacterClasses.{is_empty, first_is, leading_run, behind_run, is_tag_name}
-use Rattle.htmd_grammar.specs.CharacterClasses.{is_tag_name_byte}
-use Rattle.htmd_grammar.specs.CharacterClasses.{is_attribute_name, is_attribute_name_byte, holds_control}
-use Rattle.htmd_grammar.specs.CharacterClasses.{is_unquoted_byte}
-use Rattle.htmd_grammar.specs.TagReading.{TagPart, malformed, tag_end, attribute, is_other, quoted_value, value_part}
-use Rattle.htmd_grammar.specs.TagReading.{unquoted_value, behind_attribute_name, behind_slash, behind_gap, next_part}
-use Rattle.htmd_grammar.specs.TagReading.{TagForm, no_form, form, with_attribute, form_behind, form_within}
-use Rattle.htmd_grammar.proofs.RunsLemmas.{behind_within}
-use Rattle.htmd_grammar.proofs.TagReadingLemmas.{front_all}
+use Rattle.htmd_lexical.specs.WhiteSpace.{is_ascii_white_space}
+use Rattle.htmd_lexical.proofs.Cases.{test}
+use Rattle.htmd_lexical.specs.AttributePairs.{AttributePair}
+use Rattle.htmd_lexical.specs.CharacterClasses.{is_empty, first_is, leading_run, behind_run, is_tag_name}
+use Rattle.htmd_lexical.specs.CharacterClasses.{is_tag_name_byte}
+use Rattle.htmd_lexical.specs.CharacterClasses.{is_attribute_name, is_attribute_name_byte, holds_control}
+use Rattle.htmd_lexical.specs.CharacterClasses.{is_unquoted_byte}
+use Rattle.htmd_lexical.specs.TagReading.{TagPart, malformed, tag_end, attribute, is_other, quoted_value, value_part}
+use Rattle.htmd_lexical.specs.TagReading.{unquoted_value, behind_attribute_name, behind_slash, behind_gap, next_part}
+use Rattle.htmd_lexical.specs.TagReading.{TagForm, no_form, form, with_attribute, form_behind, form_within}
+use Rattle.htmd_lexical.proofs.RunsLemmas.{behind_within}
+use Rattle.htmd_lexical.proofs.LeadingRunsLemmas.{front_all}
 use Rattle.htmd_tree.specs.TagParts.{attribute_part, with_attributes}
 
 -- ---- names

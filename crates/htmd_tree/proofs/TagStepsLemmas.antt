@@ -5,22 +5,25 @@ use Rattle.std.specs.Prelude.{codes, ⊤}
 use Rattle.std.specs.List.{list_any}
 use Rattle.std.specs.Str.{bytes_eq}
 use Rattle.std.specs.Char.{to_ascii_lowercase}
-use Rattle.htmd_grammar.proofs.Cases.{test}
-use Rattle.htmd_grammar.specs.Characters.{line_feed}
-use Rattle.htmd_grammar.specs.WhiteSpace.{is_ascii_white_space}
-use Rattle.htmd_grammar.specs.ValueTrees.{AttributePair, ValueTree, element, none}
-use Rattle.htmd_grammar.specs.CharacterClasses.{first_is, leading_run, behind_run, is_tag_name, is_tag_name_byte}
-use Rattle.htmd_grammar.specs.CharacterClasses.{are_distinct}
+use Rattle.htmd_lexical.proofs.Cases.{test}
+use Rattle.htmd_lexical.specs.Characters.{line_feed}
+use Rattle.htmd_lexical.specs.WhiteSpace.{is_ascii_white_space}
+use Rattle.htmd_lexical.specs.AttributePairs.{AttributePair}
+use Rattle.htmd_values.specs.ValueTrees.{ValueTree, element, none}
+use Rattle.htmd_lexical.specs.CharacterClasses.{first_is, leading_run, behind_run, is_tag_name, is_tag_name_byte}
+use Rattle.htmd_lexical.specs.CharacterClasses.{are_distinct}
 use Rattle.htmd_grammar.specs.Rules.{Rules, project, named_characters}
 use Rattle.htmd_grammar.specs.References.{Piece, stands, wrong, piece_at, less_line_feed, after_line_feed}
-use Rattle.htmd_grammar.specs.Tags.{attribute_names, decode_values}
+use Rattle.htmd_lexical.specs.Attributes.{attribute_names}
+use Rattle.htmd_grammar.specs.Tags.{decode_values}
 use Rattle.htmd_grammar.specs.RawContent.{drops_line_feed, content_of}
 use Rattle.htmd_grammar.specs.Nesting.{Context, is_outside, is_row, is_allowed}
-use Rattle.htmd_grammar.specs.Serialisation.{is_void}
-use Rattle.htmd_grammar.specs.TagReading.{TagForm, form, form_within}
+use Rattle.htmd_values.specs.Serialisation.{is_void}
+use Rattle.htmd_lexical.specs.TagReading.{TagForm, form, form_within}
 use Rattle.htmd_grammar.specs.OpenElements.{has_unknown_reference}
 use Rattle.htmd_grammar.specs.ReaderSteps.{OpenElement, Step, fault, between, fresh, with_tree, names_of, innermost}
-use Rattle.htmd_grammar.specs.ReaderSteps.{is_too_deep, add, open_step, place_step, values_step, form_step, start_tag_step}
+use Rattle.htmd_grammar.specs.ReaderSteps.{is_too_deep, add, open_step, place_step, values_step, form_step}
+use Rattle.htmd_grammar.specs.ReaderSteps.{start_tag_step}
 use Rattle.htmd_grammar.specs.ReaderSteps.{close_step, end_tag_step, markup_step}
 use Rattle.htmd_grammar.specs.declared.fault.FaultKind.{FaultKind}
 use Rattle.htmd_grammar.specs.declared.fault.FaultKind.TheVariants.{MalformedTag, SelfClosing, TagOutside}

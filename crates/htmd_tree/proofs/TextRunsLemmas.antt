@@ -12,20 +12,21 @@ use Rattle.std.specs.Char.{encode_utf8, is_ascii_whitespace}
 use Rattle.std.specs.List.{list_all}
 use Rattle.std.specs.Prelude.{◌==◌, ◌&&◌, not, slice_index}
 use Rattle.std.specs.Str.{IsUtf8, IsCharBoundary}
-use Rattle.htmd_grammar.proofs.Cases.{test}
-use Rattle.htmd_grammar.specs.WhiteSpace.{is_ascii_white_space}
-use Rattle.htmd_grammar.proofs.CharacterClassesLemmas.{white_is_ascii}
-use Rattle.htmd_grammar.specs.CharacterClasses.{is_empty, leading_run, behind_run}
+use Rattle.htmd_lexical.proofs.Cases.{test}
+use Rattle.htmd_lexical.specs.WhiteSpace.{is_ascii_white_space}
+use Rattle.htmd_lexical.proofs.CharacterClassesLemmas.{white_is_ascii}
+use Rattle.htmd_lexical.specs.CharacterClasses.{is_empty, leading_run, behind_run}
 use Rattle.htmd_grammar.specs.HtmlDocuments.{above_body}
 use Rattle.htmd_grammar.specs.Nesting.{parent_name, holds_parts}
-use Rattle.htmd_grammar.specs.RawContent.{begins_markup, begins_own_end, holds_raw_text, ends_text}
+use Rattle.htmd_grammar.specs.RawContent.{begins_markup, holds_raw_text, ends_text}
+use Rattle.htmd_lexical.specs.EndTags.{begins_own_end}
 use Rattle.htmd_grammar.specs.References.{Piece, stands, wrong, piece_at}
 use Rattle.htmd_grammar.specs.Rules.{project, named_characters}
 use Rattle.htmd_grammar.specs.ReaderSteps.{OpenElement, Reaches, here, via, step, names_of, is_implied, ends_rows}
 use Rattle.htmd_grammar.specs.ReaderSteps.{is_too_deep, character_step}
 use Rattle.htmd_grammar.specs.declared.fault.FaultKind.{FaultKind}
 use Rattle.htmd_grammar.specs.declared.fault.FaultKind.TheVariants.{StrayText, TooDeep}
-use Rattle.htmd_grammar.proofs.BooleanLemmas.{and_false}
+use Rattle.htmd_lexical.proofs.BooleanLemmas.{and_false}
 use Rattle.htmd_grammar.proofs.TextLemmas.{rows_go_on}
 use Rattle.htmd_grammar.proofs.ReadBackLemmas.{no_markup, no_end}
 use Rattle.htmd_tree.specs.DecodedCharacters.{piece_of, IsPieceEnd}
@@ -35,8 +36,8 @@ use Rattle.htmd_tree.specs.declared.reader.Stop.{Stop}
 use Rattle.htmd_tree.specs.declared.reader.Stop.TheVariants.{Memory, Refused}
 use Rattle.htmd_tree.specs.declared.reader.references.Character.{Character}
 use Rattle.htmd_tree.specs.declared.reader.texts.TextSurroundings.{TextSurroundings}
-use Rattle.htmd_grammar.proofs.CharacterClassesLemmas.{take_leading_run, drop_leading_run, behind_leading_run}
-use Rattle.htmd_grammar.proofs.RunsLemmas.{run_within, behind_last}
+use Rattle.htmd_lexical.proofs.CharacterClassesLemmas.{take_leading_run, drop_leading_run, behind_leading_run}
+use Rattle.htmd_lexical.proofs.RunsLemmas.{run_within, behind_last}
 
 -- ---- where a run may be cut
 

@@ -1,17 +1,17 @@
 -- A text, read in one call, against the grammar's steps.
 use Rattle.std.proofs.Common.{◌≡◌, ℕ, ◌<◌, Bool, true, false, cond, List, [], ◌∷◌, length, Ok, Err, refl, ap, sym}
-use Rattle.std.proofs.Common.{subst}
-use Rattle.std.proofs.Common.{◌∙◌, arith, codes, take, drop}
+use Rattle.std.proofs.Common.{subst, ◌∙◌, arith, codes, take, drop}
 use Rattle.std.proofs.lemmas.Bool.{or_right}
 use Rattle.std.specs.Prelude.{◌&&◌, ◌||◌}
 use Rattle.std.specs.Str.{bytes_eq}
-use Rattle.htmd_grammar.proofs.Cases.{test}
-use Rattle.htmd_grammar.specs.ValueTrees.{text}
-use Rattle.htmd_grammar.specs.CharacterClasses.{is_empty, is_among, up_to, onward}
-use Rattle.htmd_grammar.specs.Comments.{normalized}
+use Rattle.htmd_lexical.proofs.Cases.{test}
+use Rattle.htmd_values.specs.ValueTrees.{text}
+use Rattle.htmd_lexical.specs.CharacterClasses.{is_empty, is_among, up_to, onward}
+use Rattle.htmd_lexical.specs.LineEnds.{normalized}
 use Rattle.htmd_grammar.specs.HtmlDocuments.{above_body}
 use Rattle.htmd_grammar.specs.Nesting.{parent_name}
-use Rattle.htmd_grammar.specs.RawContent.{begins_markup, begins_own_end, ends_text, holds_raw_text, holds_text_alone}
+use Rattle.htmd_grammar.specs.RawContent.{begins_markup, ends_text, holds_raw_text, holds_text_alone}
+use Rattle.htmd_lexical.specs.EndTags.{begins_own_end}
 use Rattle.htmd_grammar.specs.RawContent.{has_script_escape, raw_text_of, text_of}
 use Rattle.htmd_grammar.specs.References.{decode}
 use Rattle.htmd_grammar.specs.Rules.{project, named_characters}
@@ -27,7 +27,7 @@ use Rattle.htmd_tree.specs.declared.reader.Reader.{Reader}
 use Rattle.htmd_tree.specs.declared.reader.Stop.{Stop}
 use Rattle.htmd_tree.specs.declared.reader.Stop.TheVariants.{Memory, Refused}
 use Rattle.htmd_tree.specs.declared.reader.texts.TextSurroundings.{TextSurroundings}
-use Rattle.htmd_grammar.proofs.CharacterClassesLemmas.{take_up_to, drop_up_to}
+use Rattle.htmd_lexical.proofs.CharacterClassesLemmas.{take_up_to, drop_up_to}
 use Rattle.htmd_tree.proofs.PiecesLemmas.{reaches_then}
 
 -- ---- the place of a text

@@ -5,19 +5,19 @@ use Rattle.std.proofs.lemmas.List.{at_drop_more, map-append}
 use Rattle.std.specs.Prelude.{String, string_bytes}
 use Rattle.std.specs.Global.{Global}
 use Rattle.std.specs.Char.{to_ascii_lowercase}
-use Rattle.std.proofs.Common.{Option, Some, None}
-use Rattle.std.proofs.Common.{Bool, false, cond, Ok, Err}
+use Rattle.std.proofs.Common.{Option, Some, None, Bool, false, cond, Ok, Err}
 use Rattle.std.specs.List.{list_any}
-use Rattle.htmd_grammar.specs.CharacterClasses.{are_distinct}
+use Rattle.htmd_lexical.specs.CharacterClasses.{are_distinct}
 use Rattle.htmd_grammar.specs.OpenElements.{has_unknown_reference}
-use Rattle.htmd_grammar.specs.ValueTrees.{AttributePair}
+use Rattle.htmd_lexical.specs.AttributePairs.{AttributePair}
 use Rattle.htmd_grammar.specs.References.{decode}
 use Rattle.htmd_grammar.specs.Rules.{named_characters}
-use Rattle.htmd_grammar.specs.Tags.{attribute_names, with_value, decode_values}
+use Rattle.htmd_lexical.specs.Attributes.{attribute_names}
+use Rattle.htmd_grammar.specs.Tags.{with_value, decode_values}
 use Rattle.htmd_grammar.specs.declared.fault.FaultKind.TheVariants.{DuplicateAttribute}
 use Rattle.htmd_tree.specs.TagParts.{read_attributes, all_spelled_of}
-use Rattle.htmd_grammar.specs.Attributes.{pair_of, pairs_of}
-use Rattle.htmd_grammar.specs.declared.attribute.Attribute.{Attribute}
+use Rattle.htmd_lexical.specs.Attributes.{pair_of, pairs_of}
+use Rattle.htmd_lexical.specs.declared.attribute.Attribute.{Attribute}
 use Rattle.htmd_tree.specs.declared.reader.attributes.SpelledAttribute.{SpelledAttribute}
 
 -- attributes, and then those of an answer

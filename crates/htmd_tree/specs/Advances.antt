@@ -1,7 +1,7 @@
 -- What a call of a reader left and answered, by the grammar's steps.
 use Rattle.std.specs.Prelude.{◌≡◌, ℕ, ◌<◌, Bool, false, ◌&&◌, List, [], ◌∷◌, ◌++◌, length, true, ⊤, Result, Ok, Err}
-use Rattle.htmd_grammar.specs.ValueTrees.{ValueTree, ValueForest, none, doctype, text, comment, element}
-use Rattle.htmd_grammar.specs.CharacterClasses.{is_empty}
+use Rattle.htmd_values.specs.ValueTrees.{ValueTree, ValueForest, none, doctype, text, comment, element}
+use Rattle.htmd_lexical.specs.CharacterClasses.{is_empty}
 use Rattle.htmd_grammar.specs.Rules.{Rules, project}
 use Rattle.htmd_grammar.specs.RawContent.{ends_text, holds_raw_text}
 use Rattle.htmd_grammar.specs.HtmlDocuments.{above_body}
@@ -9,7 +9,7 @@ use Rattle.htmd_grammar.specs.ReaderSteps.{OpenElement, State, Step, step, Reach
 use Rattle.htmd_grammar.specs.ReaderSteps.{with_children, body, finished, is_too_deep}
 use Rattle.htmd_grammar.specs.declared.fault.FaultKind.TheVariants.{TooDeep}
 use Rattle.htmd_nodes.specs.Items.{Data, document_node, doctype_node, text_node, comment_node, element_node, new_item}
-use Rattle.htmd_nodes.specs.OpenItems.{stack_items, innermost_number}
+use Rattle.htmd_tree.specs.OpenItems.{stack_items, innermost_number}
 use Rattle.htmd_tree.specs.OpenNodes.{Holds, WhateverIsOpen, innermost_name}
 use Rattle.htmd_tree.specs.declared.reader.Reader.{Reader}
 use Rattle.htmd_tree.specs.declared.reader.Stop.{Stop}

@@ -3,10 +3,10 @@ use Rattle.std.specs.Prelude.{◌≡◌, ℕ, suc, ◌-◌, Bool, false, not, �
 use Rattle.std.specs.Prelude.{List, [], ◌∷◌, ◌++◌, length, map, drop, Option, Some, None, codes}
 use Rattle.std.specs.Str.{bytes_eq}
 use Rattle.std.specs.Char.{to_ascii_lowercase}
-use Rattle.htmd_grammar.specs.Characters.{less_than_sign, greater_than_sign}
-use Rattle.htmd_grammar.specs.WhiteSpace.{is_ascii_white_space}
-use Rattle.htmd_grammar.specs.CharacterClasses.{first_is, begins_with, leading_run, behind_run, is_tag_name_byte}
-use Rattle.htmd_grammar.specs.TagReading.{TagForm, no_form, form, form_within}
+use Rattle.htmd_lexical.specs.Characters.{less_than_sign, greater_than_sign}
+use Rattle.htmd_lexical.specs.WhiteSpace.{is_ascii_white_space}
+use Rattle.htmd_lexical.specs.CharacterClasses.{first_is, begins_with, leading_run, behind_run, is_tag_name_byte}
+use Rattle.htmd_lexical.specs.TagReading.{TagForm, no_form, form, form_within}
 
 -- the tag name here is `body`, in any case
 abbrev pub is_body_name : List ℕ → Bool

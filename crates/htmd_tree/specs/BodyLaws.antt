@@ -1,6 +1,6 @@
 -- Laws of the part of a page that is converted.
 use Rattle.std.specs.Prelude.{◌≡◌, ◌≢◌, ◌↔◌, ℕ, ◌+◌, Bool, true, false, List, [], ◌++◌, length, Some, None, codes}
-use Rattle.htmd_grammar.specs.ValueTrees.{AttributePair}
+use Rattle.htmd_lexical.specs.AttributePairs.{AttributePair}
 use Rattle.htmd_grammar.specs.Tags.{IsTagForm}
 use Rattle.htmd_grammar.specs.Faults.{HasEndTag}
 use Rattle.htmd_tree.specs.Bodies.{behind_start_tag, begins_end_tag, holds_end_tag, body_part, body_place}

@@ -1,8 +1,8 @@
 -- Which class of the grammar each class of the reader is.
 use Rattle.std.specs.Prelude.{ℕ, Bool, true, nat_lt}
-use Rattle.htmd_grammar.specs.WhiteSpace.{is_ascii_white_space}
-use Rattle.htmd_grammar.specs.CharacterClasses.{is_tag_name_byte, is_attribute_name_byte, is_unquoted_byte}
-use Rattle.htmd_grammar.specs.TagReading.{is_other}
+use Rattle.htmd_lexical.specs.WhiteSpace.{is_ascii_white_space}
+use Rattle.htmd_lexical.specs.CharacterClasses.{is_tag_name_byte, is_attribute_name_byte, is_unquoted_byte}
+use Rattle.htmd_lexical.specs.TagReading.{is_other}
 use Rattle.htmd_tree.specs.declared.reader.scan.Class.{Class}
 use Rattle.htmd_tree.specs.declared.reader.scan.Class.TheVariants.{TagName, WhiteSpace, AttributeName, UnquotedValue}
 use Rattle.htmd_tree.specs.declared.reader.scan.Class.TheVariants.{Other}

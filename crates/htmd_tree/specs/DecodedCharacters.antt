@@ -3,7 +3,7 @@ use Rattle.std.specs.Prelude.{◌≡◌, List, ℕ, ◌-◌, ◌<◌, ◌≤◌,
 use Rattle.std.specs.Prelude.{◌&&◌, ◌==◌, Result, Ok, Err}
 use Rattle.std.specs.Borrow.{Bor}
 use Rattle.std.specs.Char.{encode_utf8}
-use Rattle.htmd_grammar.specs.Characters.{carriage_return, ampersand}
+use Rattle.htmd_lexical.specs.Characters.{carriage_return, ampersand}
 use Rattle.htmd_grammar.specs.References.{Piece, stands, wrong, behind, decode}
 use Rattle.htmd_grammar.specs.Rules.{NamedCharacter, named_characters}
 use Rattle.htmd_grammar.specs.declared.fault.FaultKind.{FaultKind}

@@ -1,36 +1,12 @@
 -- What the rules of nesting know of a name. Private functions alone are said by it.
 use Rattle.std.specs.Prelude.{ℕ, Bool, true, false, ◌==◌, if◌then◌else◌, List, [], ◌∷◌, codes}
-use Rattle.htmd_grammar.specs.CharacterClasses.{is_among}
+use Rattle.htmd_lexical.specs.CharacterClasses.{is_among}
 use Rattle.htmd_tree.specs.declared.reader.names.KnownName.{KnownName}
-use Rattle.htmd_tree.specs.declared.reader.names.KnownName.TheVariants.{
-  Outside,
-  RawText,
-  Xmp,
-  NoScript,
-  Text,
-  Block,
-  Heading,
-  P,
-  A,
-  Button,
-  Form,
-  NoBr,
-  Li,
-  ItemList,
-  Description,
-  Dl,
-  Select,
-  OptGroup,
-  OptionTag,
-  Table,
-  Caption,
-  ColGroup,
-  Rows,
-  Row,
-  Cell,
-  Col,
-  Other,
-}
+use Rattle.htmd_tree.specs.declared.reader.names.KnownName.TheVariants.{Outside, RawText, Xmp, NoScript, Text, Block}
+use Rattle.htmd_tree.specs.declared.reader.names.KnownName.TheVariants.{Heading, P, A, Button, Form, NoBr, Li, ItemList}
+use Rattle.htmd_tree.specs.declared.reader.names.KnownName.TheVariants.{Description, Dl, Select, OptGroup, OptionTag}
+use Rattle.htmd_tree.specs.declared.reader.names.KnownName.TheVariants.{Table, Caption, ColGroup, Rows, Row, Cell, Col}
+use Rattle.htmd_tree.specs.declared.reader.names.KnownName.TheVariants.{Other}
 
 -- a name that begins with `a`
 unfoldable pub of_a : List ℕ → KnownName

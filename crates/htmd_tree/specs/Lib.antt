@@ -1,5 +1,7 @@
 -- What the reader answers: the body of a page, and lines and columns. The others serve private functions alone: the
 -- reader's places and open elements as those of the grammar's steps, and the parts of tags and texts.
+pub mod OpenItems
+pub mod NodeValues
 pub mod Bodies
 pub mod BodyLaws
 pub mod Lines

@@ -1,8 +1,8 @@
 -- Lines and columns of a text. Lines end with a line feed, a carriage return and a line feed, or a carriage return.
 use Rattle.std.specs.Prelude.{ℕ, zero, suc, ◌+◌, Bool, false, not, ◌&&◌, ◌||◌, ◌==◌, nat_le, nat_lt}
 use Rattle.std.specs.Prelude.{if◌then◌else◌, List, [], ◌∷◌, count_by}
-use Rattle.htmd_grammar.specs.Characters.{line_feed, carriage_return}
-use Rattle.htmd_grammar.specs.CharacterClasses.{first_is}
+use Rattle.htmd_lexical.specs.Characters.{line_feed, carriage_return}
+use Rattle.htmd_lexical.specs.CharacterClasses.{first_is}
 
 -- a line ends with the first byte: a line feed, or a carriage return that no line feed follows
 abbrev pub ends_line : List ℕ → Bool

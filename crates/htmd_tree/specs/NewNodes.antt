@@ -2,7 +2,7 @@
 use Rattle.std.specs.Prelude.{string_bytes}
 use Rattle.htmd_tree.specs.declared.reader.NewNode.{NewNode}
 use Rattle.htmd_tree.specs.declared.reader.NewNode.TheVariants.{Text, OwnedText, Comment, Element}
-use Rattle.htmd_grammar.specs.Attributes.{pairs_of}
+use Rattle.htmd_lexical.specs.Attributes.{pairs_of}
 use Rattle.htmd_nodes.specs.Items.{Data, text_node, comment_node, element_node}
 
 abbrev pub data_of_new : NewNode → Data

@@ -3,7 +3,7 @@ use Rattle.std.specs.Prelude.{◌≡◌, ℕ, suc, Bool, true, false, List, [], 
 use Rattle.htmd_grammar.specs.Nesting.{parent_name, is_tbody, is_table}
 use Rattle.htmd_grammar.specs.HtmlDocuments.{above_body}
 use Rattle.htmd_grammar.specs.ReaderSteps.{OpenElement, names_of}
-use Rattle.htmd_nodes.specs.OpenItems.{stack_items}
+use Rattle.htmd_tree.specs.OpenItems.{stack_items}
 use Rattle.htmd_tree.specs.Surroundings.{surroundings_of}
 use Rattle.htmd_tree.specs.declared.reader.OpenNode.{OpenNode}
 use Rattle.htmd_tree.specs.declared.reader.Reader.{Reader}

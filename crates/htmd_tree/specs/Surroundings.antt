@@ -1,6 +1,6 @@
 -- What a reader keeps of an open element and its ancestors, to know what may stand there.
 use Rattle.std.specs.Prelude.{Bool, false, not, ◌&&◌, ◌||◌, if◌then◌else◌, [], ◌∷◌, codes}
-use Rattle.htmd_grammar.specs.CharacterClasses.{is_among}
+use Rattle.htmd_lexical.specs.CharacterClasses.{is_among}
 use Rattle.htmd_grammar.specs.RawContent.{holds_raw_text, holds_text_alone}
 use Rattle.htmd_grammar.specs.Nesting.{Context, parent_name, is_open, is_met_before, is_heading, is_table, holds_rows}
 use Rattle.htmd_grammar.specs.Nesting.{is_row, holds_parts, is_optgroup, is_option}

@@ -2,20 +2,21 @@
 use Rattle.std.specs.Prelude.{ℕ, Bool, not, ◌&&◌, List, ◌++◌, map, if◌then◌else◌, Option, Some, None, Result, Ok, Err}
 use Rattle.std.specs.List.{list_any}
 use Rattle.std.specs.Char.{to_ascii_lowercase}
-use Rattle.htmd_grammar.specs.ValueTrees.{AttributePair}
-use Rattle.htmd_grammar.specs.CharacterClasses.{leading_run, behind_run, is_attribute_name, is_attribute_name_byte}
-use Rattle.htmd_grammar.specs.CharacterClasses.{are_distinct}
+use Rattle.htmd_lexical.specs.AttributePairs.{AttributePair}
+use Rattle.htmd_lexical.specs.CharacterClasses.{leading_run, behind_run, is_attribute_name, is_attribute_name_byte}
+use Rattle.htmd_lexical.specs.CharacterClasses.{are_distinct}
 use Rattle.htmd_grammar.specs.Nesting.{is_outside}
 use Rattle.htmd_grammar.specs.Rules.{named_characters}
-use Rattle.htmd_grammar.specs.Serialisation.{is_void}
-use Rattle.htmd_grammar.specs.Tags.{attribute_names, decode_values}
+use Rattle.htmd_values.specs.Serialisation.{is_void}
+use Rattle.htmd_lexical.specs.Attributes.{attribute_names}
+use Rattle.htmd_grammar.specs.Tags.{decode_values}
 use Rattle.htmd_grammar.specs.OpenElements.{has_unknown_reference}
 use Rattle.htmd_grammar.specs.declared.fault.FaultKind.{FaultKind}
 use Rattle.htmd_grammar.specs.declared.fault.FaultKind.TheVariants.{UnknownReference, BadNumber, DuplicateAttribute}
 use Rattle.htmd_grammar.specs.declared.fault.FaultKind.TheVariants.{SelfClosing}
 use Rattle.htmd_grammar.specs.declared.fault.FaultKind.TheVariants.{TagOutside}
-use Rattle.htmd_grammar.specs.TagReading.{TagPart, malformed, tag_end, attribute, behind_attribute_name}
-use Rattle.htmd_grammar.specs.TagReading.{TagForm, no_form, form}
+use Rattle.htmd_lexical.specs.TagReading.{TagPart, malformed, tag_end, attribute, behind_attribute_name}
+use Rattle.htmd_lexical.specs.TagReading.{TagForm, no_form, form}
 use Rattle.htmd_tree.specs.declared.reader.attributes.SpelledAttribute.{SpelledAttribute}
 use Rattle.htmd_tree.specs.declared.reader.attributes.Part.{Part}
 use Rattle.htmd_tree.specs.declared.reader.attributes.Part.TheVariants.{Malformed, End, Attribute}

@@ -4,12 +4,13 @@ use Rattle.std.specs.Prelude.{if◌then◌else◌, List, [], length, drop}
 use Rattle.std.specs.Prelude.{Option, Some, None, Result, Ok, Err, slice_index, ⊤}
 use Rattle.std.specs.Borrow.{Bor}
 use Rattle.std.specs.List.{list_all}
-use Rattle.htmd_grammar.specs.Characters.{less_than_sign, ampersand, carriage_return}
-use Rattle.htmd_grammar.specs.WhiteSpace.{is_ascii_white_space}
-use Rattle.htmd_grammar.specs.CharacterClasses.{is_empty}
+use Rattle.htmd_lexical.specs.Characters.{less_than_sign, ampersand, carriage_return}
+use Rattle.htmd_lexical.specs.WhiteSpace.{is_ascii_white_space}
+use Rattle.htmd_lexical.specs.CharacterClasses.{is_empty}
 use Rattle.htmd_grammar.specs.HtmlDocuments.{above_body}
 use Rattle.htmd_grammar.specs.Nesting.{parent_name, holds_parts}
-use Rattle.htmd_grammar.specs.RawContent.{begins_markup, begins_own_end, holds_raw_text, holds_text_alone}
+use Rattle.htmd_grammar.specs.RawContent.{begins_markup, holds_raw_text, holds_text_alone}
+use Rattle.htmd_lexical.specs.EndTags.{begins_own_end}
 use Rattle.htmd_grammar.specs.References.{Piece, stands, wrong, piece_at}
 use Rattle.htmd_grammar.specs.Rules.{project, named_characters}
 use Rattle.htmd_grammar.specs.ReaderSteps.{OpenElement, State, step, Reaches, names_of, is_implied, is_too_deep}

@@ -5,12 +5,14 @@
 
 pub mod laws;
 mod lines;
+mod raw_blocks;
 mod reader;
 
 pub use htmd_grammar::FaultKind;
 pub use htmd_nodes::{
     Attribute, MAX_DEPTH, Name, NodeData, NodeId, Tree, TreeError, is_void, push_end_tag,
-    push_start_tag, raw_block, serialize,
+    push_start_tag, serialize,
 };
 pub use lines::line_and_column;
+pub use raw_blocks::raw_block;
 pub use reader::{ReadError, body_of, read_html};

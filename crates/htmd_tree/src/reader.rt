@@ -1,6 +1,7 @@
 //! The reader of HTML: a tree from a text of the strict grammar, or the first fault of any other text.
 ghost use Rattle.std.specs.Prelude.{◌≡◌, ◌∷◌, ◌<◌, ℕ, Bool, true, false, List, [], length};
-ghost use Rattle.std.specs.Prelude.{◌==◌, ◌++◌, ◌≤◌, ◌↔◌, OnOk, IfOk, IfErr, IsErrOf, IsTrue, Ok, Err, if◌then◌else◌, codes};
+ghost use Rattle.std.specs.Prelude.{◌==◌, ◌++◌, ◌≤◌, ◌↔◌, OnOk, IfOk, IfErr, IsErrOf, IsTrue, Ok, Err, if◌then◌else◌};
+ghost use Rattle.std.specs.Prelude.{codes};
 ghost use Rattle.htmd_grammar.specs.HtmlDocuments.{above_body};
 ghost use Rattle.htmd_grammar.specs.Nesting.{is_table};
 ghost use Rattle.htmd_grammar.specs.ReaderSteps.{OpenElement, is_too_deep, add, fault, between};
@@ -8,18 +9,19 @@ ghost use Rattle.htmd_grammar.specs.ReaderSteps.{fresh, closed, with_tree};
 ghost use Rattle.htmd_grammar.specs.HtmlDocuments.{ReadsDocument};
 ghost use Rattle.htmd_grammar.specs.Faults.{IsFault};
 ghost use Rattle.htmd_grammar.specs.Rules.{project};
-ghost use Rattle.htmd_grammar.specs.ValueTrees.{ValueTree, ValueForest, document};
+ghost use Rattle.htmd_values.specs.ValueTrees.{ValueTree, ValueForest, document};
 ghost use Rattle.htmd_grammar.specs.declared.fault.FaultKind.{FaultKind};
 ghost use Rattle.htmd_grammar.specs.declared.fault.FaultKind.TheVariants.{TooDeep};
-ghost use Rattle.htmd_grammar.specs.Characters.{null};
+ghost use Rattle.htmd_lexical.specs.Characters.{null};
 ghost use Rattle.htmd_nodes.specs.Layout.{document_items};
 ghost use Rattle.std.specs.List.{list_any, position};
-ghost use Rattle.htmd_grammar.specs.Attributes.{pairs_of};
+ghost use Rattle.htmd_lexical.specs.Attributes.{pairs_of};
 ghost use Rattle.htmd_nodes.specs.Items.{holds_children, data_at, new_item, greatest_depth, depth_at};
 ghost use Rattle.htmd_tree.specs.OpenNodes.{Holds, IsReading, MayOpen, innermost_name, open_node, WhateverIsOpen};
 ghost use Rattle.htmd_tree.specs.NewNodes.{data_of_new};
 ghost use Rattle.htmd_tree.specs.Advances.{HasAdded, StopsDeep, IsLeaf, leaf, rules_of, Steps};
 ghost use Rattle.htmd_tree.specs.declared.reader.Stop.TheVariants.{Memory, Refused};
+ghost use Rattle.htmd_tree.specs.KnownNames.{known_name};
 
 mod attributes;
 mod beginning;
@@ -34,10 +36,12 @@ mod surroundings;
 mod tags;
 mod texts;
 
+use crate::reader::names::{KnownName, known_name};
 use crate::reader::surroundings::Surroundings;
 pub use body::body_of;
+use htmd_grammar::FaultKind;
 use htmd_grammar::laws::{faults_are_right, steps_read_the_grammar};
-use htmd_grammar::{Attribute, FaultKind};
+use htmd_lexical::Attribute;
 use htmd_nodes::{MAX_DEPTH, NodeData, NodeId, Tree, TreeError};
 use std::alloc::{AllocError, AllocFailed, Global};
 use thiserror::Error;
@@ -199,8 +203,15 @@ impl<'a> Reader<'a> {
     }
 
     /// A new element in the innermost open element; it is then the innermost one.
-    fn open_node(&mut self, name: &str, attrs: Vec<Attribute>, implied: bool) -> Result<(), Stop>
+    fn open_node(
+        &mut self,
+        name: &str,
+        known: KnownName,
+        attrs: Vec<Attribute>,
+        implied: bool,
+    ) -> Result<(), Stop>
         requires reading { IsReading self.old }
+        requires known { known ≡ known_name name.now }
         requires may_open { WhateverIsOpen self.old (λ has_doctype fs.
             MayOpen name.now implied fs) }
         ensures follows { Steps self.old self.new result
@@ -208,7 +219,7 @@ impl<'a> Reader<'a> {
             else between (fresh name.now (pairs_of attrs.items) implied ∷ fs) self.old.rest.now) }
         ensures rest { self.new.rest.now ≡ self.old.rest.now }
     {
-        let surroundings = self.top().surroundings.inner(name, self.scripting);
+        let surroundings = self.top().surroundings.inner(known, self.scripting);
         let id = self.add_node(NewNode::Element { name, attrs })?;
         self.stack.push(OpenNode {
             id,
@@ -219,14 +230,21 @@ impl<'a> Reader<'a> {
     }
 
     /// A new element in the innermost open element; it is then the innermost one, and `rest` is what is left.
-    fn open_element(&mut self, name: &str, attrs: Vec<Attribute>, rest: &'a str) -> Result<(), Stop>
+    fn open_element(
+        &mut self,
+        name: &str,
+        known: KnownName,
+        attrs: Vec<Attribute>,
+        rest: &'a str,
+    ) -> Result<(), Stop>
         requires reading { IsReading self.old }
+        requires known { known ≡ known_name name.now }
         ensures follows { Steps self.old self.new result
             (λ fs. if is_too_deep (rules_of self.old) above_body fs then fault TooDeep
             else between (fresh name.now (pairs_of attrs.items) false ∷ fs) rest.now) }
         ensures reading { OnOk result (IsReading self.new) }
     {
-        self.open_node(name, attrs, false)?;
+        self.open_node(name, known, attrs, false)?;
         self.rest = rest;
         Ok(())
     }
@@ -240,7 +258,8 @@ impl<'a> Reader<'a> {
             else between (fresh (codes "tbody") [] true ∷ fs) self.old.rest.now) }
         ensures reading { OnOk result (IsReading self.new) }
     {
-        self.open_node("tbody", Vec::new(self.alloc), true)
+        let name = "tbody";
+        self.open_node(name, known_name(name), Vec::new(self.alloc), true)
     }
 
     /// Closes the innermost open element, which isn't the outermost; `rest` is what is left then.

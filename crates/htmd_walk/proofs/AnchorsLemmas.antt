@@ -4,8 +4,8 @@ use Rattle.std.proofs.Common.{append_assoc, ◌≤◌, length, take}
 use Rattle.std.specs.Prelude.{◌==◌}
 use Rattle.std.proofs.lemmas.List.{take_all}
 use Rattle.std.specs.List.{flat_map}
-use Rattle.htmd_grammar.specs.Characters.{line_feed}
-use Rattle.htmd_grammar.specs.BlankLines.{blank_line}
+use Rattle.htmd_lexical.specs.Characters.{line_feed}
+use Rattle.htmd_lexical.specs.BlankLines.{blank_line}
 use Rattle.htmd_walk.specs.Anchors.{definitions_block}
 use Rattle.htmd_walk.specs.Markdown.{append_text}
 

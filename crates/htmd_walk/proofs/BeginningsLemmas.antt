@@ -1,15 +1,16 @@
 -- Definitions only grow.
 use Rattle.std.proofs.Common.{◌≡◌, ℕ, zero, suc, List, [], ◌∷◌, ◌++◌, Option, Some, None, drop, refl}
-use Rattle.std.proofs.Common.{sym, ap, ◌∙◌}
-use Rattle.std.proofs.Common.{Bool, true, false, cond}
+use Rattle.std.proofs.Common.{sym, ap, ◌∙◌, Bool, true, false, cond}
 use Rattle.std.proofs.lemmas.List.{append_assoc, append-nil}
 use Rattle.htmd_text.specs.Blocks.{is_block}
 use Rattle.htmd_nodes.specs.Items.{Data, document_node, doctype_node, text_node, comment_node, element_node, data_at}
-use Rattle.htmd_nodes.specs.NumberedTrees.{NumberedTree, document, doctype, text, comment, element, NumberedForest, none}
+use Rattle.htmd_nodes.specs.NumberedTrees.{NumberedTree, document, doctype, text, comment, element, NumberedForest}
+use Rattle.htmd_nodes.specs.NumberedTrees.{none}
 use Rattle.htmd_nodes.specs.NumberedTrees.{more}
 use Rattle.htmd_nodes.specs.Ancestors.{Ancestor}
-use Rattle.htmd_nodes.specs.Serialisation.{comment_of}
-use Rattle.htmd_walk.specs.Handling.{ElementView, ResultView, PlanView, nothing, this_result, raw_html, content_of_children}
+use Rattle.htmd_values.specs.Serialisation.{comment_of}
+use Rattle.htmd_walk.specs.Handling.{ElementView, ResultView, PlanView, nothing, this_result, raw_html}
+use Rattle.htmd_walk.specs.Handling.{content_of_children}
 use Rattle.htmd_walk.specs.Handling.{content_of_descendant, content_of_fallback, contents_of_each, HandlerMeaning}
 use Rattle.htmd_walk.specs.Handling.{OutcomeView, final_result, children_too}
 use Rattle.htmd_walk.specs.OrdinaryText.{in_pre_or_code}
@@ -19,10 +20,8 @@ use Rattle.htmd_walk.specs.Outputs.{Conversion, Output, push_text, Context, cont
 use Rattle.htmd_walk.specs.Children.{is_block_tree, before_child, trim_after, write_children, write_groups, trims_first}
 use Rattle.htmd_walk.specs.Children.{content_alone, descendant_tree}
 use Rattle.htmd_walk.specs.Elements.{Occurrence, Answer, content_of, raw_element, raw_answer, after_fallback}
-use Rattle.htmd_walk.specs.Elements.{Contents}
-use Rattle.htmd_walk.specs.Elements.{contents_alone, outcome_answer, plan_answer, first_answer, answer_after}
-use Rattle.htmd_walk.specs.Elements.{occurrence_at}
-use Rattle.htmd_walk.specs.Elements.{each_answer}
+use Rattle.htmd_walk.specs.Elements.{Contents, contents_alone, outcome_answer, plan_answer, first_answer, answer_after}
+use Rattle.htmd_walk.specs.Elements.{occurrence_at, each_answer}
 use Rattle.htmd_walk.specs.Rendering.{with_result, write_node, written_within}
 
 -- the second list goes on where the first ends

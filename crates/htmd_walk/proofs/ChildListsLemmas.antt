@@ -1,7 +1,6 @@
 -- Loops over the children of a node, and over attributes.
 use Rattle.std.proofs.Common.{◌≡◌, ℕ, ◌+◌, ◌<◌, ◌≤◌, List, [], ◌∷◌, ◌++◌, length, get_or, take, drop, map, refl, sym}
-use Rattle.std.proofs.Common.{ap}
-use Rattle.std.proofs.Common.{◌∙◌, arith, All, Bool, true, false, cond, ◌||◌, ◌&&◌, Some, None, subst, filter, fold}
+use Rattle.std.proofs.Common.{ap, ◌∙◌, arith, All, Bool, true, false, cond, ◌||◌, ◌&&◌, Some, None, subst, filter, fold}
 use Rattle.std.specs.List.{list_any, zip}
 use Rattle.std.specs.Str.{bytes_eq}
 use Rattle.std.specs.String.{string_bytes}
@@ -10,8 +9,8 @@ use Rattle.std.proofs.lemmas.List.{take-append-drop}
 use Rattle.std.proofs.lemmas.List.Sums.{fold-append, fold_more}
 use Rattle.std.proofs.lemmas.List.Folds.{list_any_at, list_any-append}
 use Rattle.std.proofs.lemmas.List.Elements.{All-from_get_or, Contains-get_or, filter_more, filter-append}
-use Rattle.htmd_grammar.specs.declared.attribute.Attribute.{Attribute}
-use Rattle.htmd_grammar.specs.Attributes.{pairs_of}
+use Rattle.htmd_lexical.specs.declared.attribute.Attribute.{Attribute}
+use Rattle.htmd_lexical.specs.Attributes.{pairs_of}
 use Rattle.htmd_nodes.specs.Items.{Item, children_of, IsTree, IsBelow, child}
 use Rattle.htmd_nodes.proofs.ItemsLemmas.{child_read}
 use Rattle.std.proofs.lemmas.List.Elements.{All-get_or}

@@ -1,7 +1,6 @@
 -- The children of a node, one group after another.
 use Rattle.std.proofs.Common.{◌≡◌, ℕ, zero, suc, ◌<◌, List, length, get_or, take, drop, Option, Some, None}
-use Rattle.std.proofs.Common.{refl, sym, ap, ◌∙◌}
-use Rattle.std.proofs.Common.{Bool, false, eqb, arith, All, subst, IsSome, IfSome}
+use Rattle.std.proofs.Common.{refl, sym, ap, ◌∙◌, Bool, false, eqb, arith, All, subst, IsSome, IfSome}
 use Rattle.std.specs.Borrow.{Bor}
 use Rattle.std.specs.Option.{option_copied}
 use Rattle.htmd_nodes.specs.Items.{Data, document_node, doctype_node, text_node, comment_node, element_node, data_at}
@@ -10,7 +9,8 @@ use Rattle.htmd_nodes.proofs.NumberedTreesLemmas.{tree-open}
 use Rattle.std.proofs.lemmas.List.{get_or_default}
 use Rattle.std.proofs.lemmas.List.Elements.{All-from_get_or, All-get_or}
 use Rattle.htmd_nodes.specs.Items.{Item, IsTree, children_of, parent_at}
-use Rattle.htmd_nodes.specs.NumberedTrees.{NumberedTree, NumberedForest, document, doctype, text, comment, element, more}
+use Rattle.htmd_nodes.specs.NumberedTrees.{NumberedTree, NumberedForest, document, doctype, text, comment, element}
+use Rattle.htmd_nodes.specs.NumberedTrees.{more}
 use Rattle.htmd_nodes.specs.NumberedTrees.{forest_of, tree_of, height}
 use Rattle.htmd_nodes.specs.Ancestors.{ancestors_of, chain_from}
 use Rattle.htmd_nodes.proofs.NumberedTreesLemmas.{lower_child}

@@ -4,12 +4,13 @@ use Rattle.std.proofs.Common.{true, false, cond, if◌then◌else◌, refl, sym,
 use Rattle.std.specs.List.{list_all}
 use Rattle.std.specs.Option.{option_or}
 use Rattle.std.specs.Str.{bytes_eq}
-use Rattle.htmd_grammar.specs.declared.attribute.Attribute.{Attribute}
+use Rattle.htmd_lexical.specs.declared.attribute.Attribute.{Attribute}
 use Rattle.htmd_nodes.specs.Items.{Item}
-use Rattle.htmd_grammar.specs.Attributes.{pairs_of}
+use Rattle.htmd_lexical.specs.Attributes.{pairs_of}
 use Rattle.htmd_walk.proofs.Steps.{stepped}
 use Rattle.htmd_walk.specs.ElementPlans.{is_tag_among, tag_at}
-use Rattle.htmd_walk.specs.Code.{language_of_class, first_language, classes_of, language_of, language_at, language_of_pre}
+use Rattle.htmd_walk.specs.Code.{language_of_class, first_language, classes_of, language_of, language_at}
+use Rattle.htmd_walk.specs.Code.{language_of_pre}
 
 pub language-here : (all : List (List ℕ)) (k : ℕ) (class language : List ℕ) → k < length all
     → class ≡ get_or all k class

@@ -1,7 +1,6 @@
 -- What the handlers of an element answer, one handler at a time.
 use Rattle.std.proofs.Common.{◌≡◌, ℕ, zero, suc, ◌+◌, List, [], ◌∷◌, drop, Some, None, slice_get, refl, sym, ap}
-use Rattle.std.proofs.Common.{◌∙◌}
-use Rattle.std.proofs.Common.{Bool, true, false, cond, add-one}
+use Rattle.std.proofs.Common.{◌∙◌, Bool, true, false, cond, add-one}
 use Rattle.htmd_walk.specs.Handling.{PlanView, OutcomeView, HandlerMeaning}
 use Rattle.htmd_walk.specs.Choice.{indexes, handler_at, handlers_at}
 use Rattle.htmd_walk.specs.Outputs.{is_markdown_alone}

@@ -1,12 +1,11 @@
 -- The first group of what is left of a node's children, and what a node shows with the joined text.
 use Rattle.std.proofs.Common.{◌≡◌, ℕ, suc, ◌<◌, List, [], ◌∷◌, ◌++◌, length, get_or, take, drop, Option}
-use Rattle.std.proofs.Common.{Some, None, IsSome}
-use Rattle.std.proofs.Common.{refl, sym, ap, ◌∙◌, subst, Bool, true, false, cond, arith}
+use Rattle.std.proofs.Common.{Some, None, IsSome, refl, sym, ap, ◌∙◌, subst, Bool, true, false, cond, arith}
 use Rattle.std.proofs.lemmas.List.{append-nil}
 use Rattle.std.specs.Prelude.{Vec}
 use Rattle.std.specs.Global.{Global}
-use Rattle.htmd_nodes.specs.ValueTrees.{AttributePair}
-use Rattle.htmd_grammar.specs.declared.attribute.Attribute.{Attribute}
+use Rattle.htmd_lexical.specs.AttributePairs.{AttributePair}
+use Rattle.htmd_lexical.specs.declared.attribute.Attribute.{Attribute}
 use Rattle.htmd_nodes.specs.declared.tree.NodeData.{NodeData}
 use Rattle.htmd_nodes.specs.declared.tree.NodeData.TheVariants.{Document, Doctype, Text, Comment, Element}
 use Rattle.htmd_nodes.specs.Items.{Item, Data, element_node, IsTree, data_at}
@@ -15,7 +14,8 @@ use Rattle.htmd_nodes.proofs.NumberedTreesLemmas.{tree-open}
 use Rattle.htmd_nodes.specs.NumberedTrees.{NumberedTree, document, doctype, text, comment, element}
 use Rattle.htmd_nodes.specs.NumberedTrees.{NumberedForest, none, more, forest_of, with_children, tree_of}
 use Rattle.htmd_walk.specs.Groups.{only_text, with_only_text, Joint, joint_with, joint_of, both_join, is_joinable}
-use Rattle.htmd_walk.specs.Groups.{joint_text, text_of, with_text, in_front, groups_of, group_length, texts_of, group_text}
+use Rattle.htmd_walk.specs.Groups.{joint_text, text_of, with_text, in_front, groups_of, group_length, texts_of}
+use Rattle.htmd_walk.specs.Groups.{group_text}
 use Rattle.htmd_walk.specs.Groups.{group_tree, children_at}
 
 -- ---- a tree with another text

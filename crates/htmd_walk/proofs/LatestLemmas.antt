@@ -1,8 +1,7 @@
 -- From a tag's newest registration to the older ones, and one registration more.
 use Rattle.std.proofs.Common.{◌≡◌, ℕ, suc, ◌<◌, ◌≤◌, Bool, true, false, cond, List, [], ◌∷◌, ◌++◌, length, map}
 use Rattle.std.proofs.Common.{get_or, take, Option, Some, None, refl, sym, ap, ◌∙◌, arith, subst, slice_get}
-use Rattle.std.proofs.Common.{string_bytes}
-use Rattle.std.proofs.Common.{⊎_elim}
+use Rattle.std.proofs.Common.{string_bytes, ⊎_elim}
 use Rattle.std.specs.Str.{bytes_eq}
 use Rattle.std.proofs.Common.{◌⊎◌, inl, inr, String}
 use Rattle.std.specs.Map.{update, lookup}

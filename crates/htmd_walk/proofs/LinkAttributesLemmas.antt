@@ -5,9 +5,9 @@ use Rattle.std.proofs.lemmas.List.{take_more, map-append}
 use Rattle.std.specs.List.{list_any}
 use Rattle.std.specs.Option.{option_or}
 use Rattle.std.specs.Str.{bytes_eq}
-use Rattle.htmd_nodes.specs.ValueTrees.{AttributePair}
-use Rattle.htmd_grammar.specs.declared.attribute.Attribute.{Attribute}
-use Rattle.htmd_grammar.specs.Attributes.{pair_of, pairs_of}
+use Rattle.htmd_lexical.specs.AttributePairs.{AttributePair}
+use Rattle.htmd_lexical.specs.declared.attribute.Attribute.{Attribute}
+use Rattle.htmd_lexical.specs.Attributes.{pair_of, pairs_of}
 use Rattle.htmd_walk.specs.LinkAttributes.{is_among, last_value}
 
 pub among_names : (names : List (Bor (List ℕ))) (name : List ℕ)

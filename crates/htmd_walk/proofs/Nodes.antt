@@ -8,11 +8,12 @@ use Rattle.htmd_text.specs.Blocks.{is_block}
 use Rattle.htmd_text.proofs.BlocksLemmas.{block-nil}
 use Rattle.htmd_nodes.specs.Items.{Item, Data, document_node, doctype_node, text_node, comment_node, element_node}
 use Rattle.htmd_nodes.specs.Items.{IsTree, data_at, parent_at, tag_of, holds_children}
-use Rattle.htmd_nodes.specs.NumberedTrees.{NumberedTree, document, doctype, text, comment, element, NumberedForest, none}
+use Rattle.htmd_nodes.specs.NumberedTrees.{NumberedTree, document, doctype, text, comment, element, NumberedForest}
+use Rattle.htmd_nodes.specs.NumberedTrees.{none}
 use Rattle.htmd_nodes.specs.NumberedTrees.{more, with_children, forest_of, tree_of}
 use Rattle.htmd_nodes.specs.Ancestors.{Ancestor, ancestor_of, ancestors_of, chain_from}
 use Rattle.htmd_nodes.specs.Views.{data_of}
-use Rattle.htmd_grammar.specs.declared.attribute.Attribute.{Attribute}
+use Rattle.htmd_lexical.specs.declared.attribute.Attribute.{Attribute}
 use Rattle.htmd_nodes.specs.declared.tree.NodeData.{NodeData}
 use Rattle.htmd_nodes.specs.declared.tree.NodeData.TheVariants.{Document, Doctype, Text, Comment, Element}
 use Rattle.std.specs.Prelude.{String, Vec}

@@ -2,7 +2,7 @@
 use Rattle.std.proofs.Common.{◌≡◌, ℕ, List, [], ◌∷◌, ◌++◌, length, Some, codes, refl}
 use Rattle.htmd_text.specs.Blocks.{is_block}
 use Rattle.htmd_nodes.specs.Items.{Item, document_item, new_item, element_node, text_node}
-use Rattle.htmd_nodes.specs.ValueTrees.{document}
+use Rattle.htmd_values.specs.ValueTrees.{document}
 use Rattle.htmd_nodes.specs.NumberedTrees.{tree_of, forest_from, value_tree}
 use Rattle.htmd_nodes.specs.Ancestors.{ancestors_of, ancestors_up}
 use Rattle.htmd_walk.specs.Defaults.{default_options}

@@ -5,11 +5,11 @@ use Rattle.std.specs.Option.{unwrap_or}
 use Rattle.std.proofs.lemmas.Bool.{and_right}
 use Rattle.std.proofs.lemmas.List.{append-nil}
 use Rattle.htmd_text.specs.Blocks.{is_block}
-use Rattle.htmd_grammar.specs.BlankLines.{with_blank_lines}
+use Rattle.htmd_lexical.specs.BlankLines.{with_blank_lines}
 use Rattle.htmd_text.specs.EscapedPlaces.{escaped_markdown}
 use Rattle.htmd_text.specs.Trims.{trimmed_end, trimmed_text, is_space, is_line_feed}
-use Rattle.htmd_grammar.specs.WhiteSpace.{is_document_white_space}
-use Rattle.htmd_nodes.specs.ValueTrees as value
+use Rattle.htmd_lexical.specs.WhiteSpace.{is_document_white_space}
+use Rattle.htmd_values.specs.ValueTrees as value
 use Rattle.htmd_nodes.specs.Items.{Data, document_node, doctype_node, text_node, comment_node, element_node, Item}
 use Rattle.htmd_nodes.specs.Items.{IsTree, data_at, children_of}
 use Rattle.htmd_nodes.specs.NumberedTrees.{NumberedTree, document, doctype, text, comment, element, NumberedForest}
@@ -26,7 +26,8 @@ use Rattle.htmd_walk.specs.Groups.{in_front, groups_of}
 use Rattle.htmd_walk.specs.Outputs.{Conversion, conversion_of, Output, context_of, empty_output, is_markdown_alone}
 use Rattle.htmd_walk.specs.Children.{trim_after, write_children, content_inside}
 use Rattle.htmd_walk.specs.ElementPlans.{children_plan}
-use Rattle.htmd_walk.specs.Elements.{Occurrence, Answer, content_of, answer_after, first_answer, plan_answer, with_finish}
+use Rattle.htmd_walk.specs.Elements.{Occurrence, Answer, content_of, answer_after, first_answer, plan_answer}
+use Rattle.htmd_walk.specs.Elements.{with_finish}
 use Rattle.htmd_walk.specs.Elements.{without_handler, view_at, occurrence_at}
 use Rattle.htmd_walk.specs.Rendering.{with_answer, end_of_document, written_within}
 use Rattle.htmd_walk.specs.Paragraphs.{paragraphs}

@@ -6,10 +6,10 @@ use Rattle.std.specs.List.{prefix_len, suffix_len, filter}
 use Rattle.std.proofs.lemmas.Bool.{lt-ltb, ne_eqb, cond-true}
 use Rattle.std.proofs.lemmas.List.{append_assoc, append-nil, length-append, reverse-append}
 use Rattle.std.proofs.lemmas.List.Elements.{All-nil, All-cons, All-head, All-tail, All-append, All-map}
-use Rattle.htmd_grammar.specs.Characters.{line_feed}
-use Rattle.htmd_grammar.specs.BlankLines.{blank_line, with_blank_lines}
+use Rattle.htmd_lexical.specs.Characters.{line_feed}
+use Rattle.htmd_lexical.specs.BlankLines.{blank_line, with_blank_lines}
 use Rattle.htmd_text.specs.Trims.{trimmed_start, trimmed_end, trimmed_text, is_space, is_line_feed}
-use Rattle.htmd_grammar.specs.WhiteSpace.{is_document_white_space}
+use Rattle.htmd_lexical.specs.WhiteSpace.{is_document_white_space}
 use Rattle.htmd_text.specs.EscapedPlaces.{escaped_markdown}
 use Rattle.htmd_walk.specs.Seams.{joined_at_seam, joined_by_line_feeds}
 use Rattle.htmd_walk.specs.ParagraphLaws.{text_shown, texts_shown, texts_read}

@@ -7,10 +7,10 @@ use Rattle.std.proofs.lemmas.Bool.{false≢true, false_from_ne_true, cond-false}
 use Rattle.std.proofs.lemmas.Bool.Decides.{nat_tests}
 use Rattle.std.proofs.lemmas.List.{append_assoc, append-nil, length-append}
 use Rattle.std.proofs.lemmas.List.Elements.{All-nil, All-cons, All-head, All-tail, All-weaker, All-append}
-use Rattle.htmd_grammar.specs.Characters.{line_feed}
-use Rattle.htmd_grammar.specs.BlankLines.{blank_line}
+use Rattle.htmd_lexical.specs.Characters.{line_feed}
+use Rattle.htmd_lexical.specs.BlankLines.{blank_line}
 use Rattle.htmd_text.specs.Trims.{trimmed_end, trimmed_text, is_space, is_line_feed}
-use Rattle.htmd_grammar.specs.WhiteSpace.{is_document_white_space}
+use Rattle.htmd_lexical.specs.WhiteSpace.{is_document_white_space}
 use Rattle.htmd_text.specs.EscapedPlaces.{is_escaped, escaped_markdown}
 use Rattle.htmd_text.specs.Unescape.{unescape}
 use Rattle.htmd_text.proofs.UnescapeLemmas.{unescape-escaped}

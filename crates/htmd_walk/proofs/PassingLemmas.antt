@@ -5,8 +5,8 @@ use Rattle.std.proofs.Common.{zero, suc, ◌<◌, length, map, get_or, arith}
 use Rattle.std.specs.Borrow.{Bor}
 use Rattle.std.specs.Option.{is_some, option_copied}
 use Rattle.std.proofs.lemmas.List.{append-nil, append_assoc}
-use Rattle.htmd_grammar.proofs.Cases.{test}
-use Rattle.htmd_nodes.specs.ValueTrees.{AttributePair}
+use Rattle.htmd_lexical.proofs.Cases.{test}
+use Rattle.htmd_lexical.specs.AttributePairs.{AttributePair}
 use Rattle.htmd_nodes.specs.Items.{Data, element_node, data_at}
 use Rattle.std.proofs.lemmas.Slice.Eq.{bytes_eq-Decides}
 use Rattle.htmd_nodes.specs.Ancestors.{Ancestor, ancestor_of}

@@ -2,7 +2,7 @@
 use Rattle.std.proofs.Common.{◌≡◌, ℕ, ◌+◌, ◌<◌, ◌≤◌, Bool, suc, List, [], ◌∷◌, ◌++◌, length}
 use Rattle.std.proofs.Common.{Option, Some, None, refl, sym, ap, ◌∙◌, arith}
 use Rattle.std.proofs.lemmas.List.{append-nil, length-append}
-use Rattle.htmd_nodes.specs.ValueTrees.{AttributePair}
+use Rattle.htmd_lexical.specs.AttributePairs.{AttributePair}
 use Rattle.htmd_nodes.specs.Items.{Item, IsTree, element_node, data_at}
 use Rattle.htmd_nodes.specs.NumberedTrees.{tree_of, height}
 use Rattle.htmd_nodes.specs.Ancestors.{ancestor_of, ancestors_of}

@@ -1,18 +1,16 @@
 -- How a node is written, by what it is.
 use Rattle.std.proofs.Common.{◌≡◌, ℕ, zero, suc, ◌<◌, ◌≤◌, List, ◌∷◌, length, Option, Some, None, refl, sym}
-use Rattle.std.proofs.Common.{ap, ◌∙◌}
-use Rattle.std.proofs.Common.{Bool, true, false, cond, arith}
+use Rattle.std.proofs.Common.{ap, ◌∙◌, Bool, true, false, cond, arith}
 use Rattle.std.proofs.Props.{props}
 use Rattle.std.proofs.Math.Logic.{∥∥₁_elim}
 use Rattle.htmd_text.specs.Trims.{trimmed_end, is_space}
-use Rattle.htmd_nodes.specs.ValueTrees.{AttributePair}
+use Rattle.htmd_lexical.specs.AttributePairs.{AttributePair}
 use Rattle.htmd_nodes.specs.Items.{Item, Data, document_node, doctype_node, text_node, comment_node, element_node}
 use Rattle.htmd_nodes.specs.Items.{IsTree, IsBelow, data_at}
 use Rattle.htmd_nodes.specs.NumberedTrees.{NumberedTree, NumberedForest, document, doctype, text, comment, element}
-use Rattle.htmd_nodes.specs.NumberedTrees.{with_children}
-use Rattle.htmd_nodes.specs.NumberedTrees.{tree_of, height}
+use Rattle.htmd_nodes.specs.NumberedTrees.{with_children, tree_of, height}
 use Rattle.htmd_nodes.specs.Ancestors.{ancestor_of, ancestors_of}
-use Rattle.htmd_nodes.specs.Serialisation.{comment_of}
+use Rattle.htmd_values.specs.Serialisation.{comment_of}
 use Rattle.htmd_nodes.proofs.NumberedTreesLemmas.{tree-open, lower_below, height_pos, IsLower}
 use Rattle.htmd_walk.specs.Choice.{Config}
 use Rattle.htmd_walk.specs.OrdinaryText.{in_pre_or_code}

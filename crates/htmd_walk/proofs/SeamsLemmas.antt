@@ -8,7 +8,7 @@ use Rattle.std.proofs.lemmas.List.{same_lists, get_or-take, get_or-drop, get_or-
 use Rattle.std.proofs.lemmas.List.{length-replicate, length-drop, get_or-reverse, take-append-drop, drop-append-le}
 use Rattle.std.proofs.lemmas.List.{drop-replicate, replicate-append-replicate, append_assoc}
 use Rattle.std.proofs.lemmas.List.Sums.{prefix_len_passes, prefix_len-le-length, suffix_len-le-length}
-use Rattle.htmd_grammar.specs.Characters.{line_feed}
+use Rattle.htmd_lexical.specs.Characters.{line_feed}
 use Rattle.htmd_text.specs.Trims.{trimmed_start, trimmed_end, is_line_feed}
 use Rattle.htmd_walk.specs.Seams.{joined_by_line_feeds}
 

@@ -8,9 +8,9 @@ use Rattle.std.proofs.lemmas.Bool.{cases_lt, false≢true, false_from_ne_true}
 use Rattle.std.proofs.lemmas.Bool.Decides.{nat_tests}
 use Rattle.std.proofs.lemmas.List.{get_or_append_left, get_or-append_right}
 use Rattle.std.proofs.lemmas.List.Elements.{All-nil, All-cons, All-head, All-tail, All-take, All-drop, All-weaker}
-use Rattle.htmd_grammar.specs.Characters.{space, backslash}
+use Rattle.htmd_lexical.specs.Characters.{space, backslash}
 use Rattle.htmd_text.specs.Trims.{trimmed_end, is_space, is_line_feed}
-use Rattle.htmd_grammar.specs.WhiteSpace.{is_ascii_white_space, is_document_white_space, begins_with_white_space}
+use Rattle.htmd_lexical.specs.WhiteSpace.{is_ascii_white_space, is_document_white_space, begins_with_white_space}
 use Rattle.htmd_text.specs.SqueezedTexts.{squeezed_text}
 use Rattle.htmd_text.specs.EscapedPlaces.{with_backslashes, is_escaped, escaped_markdown}
 use Rattle.htmd_text.specs.Unescape.{unescape}

@@ -4,13 +4,15 @@ use Rattle.std.proofs.Common.{refl, sym, ap, ◌∙◌, drop}
 use Rattle.std.proofs.lemmas.List.{append-nil, append_assoc, append_cancel_left}
 use Rattle.htmd_text.specs.Blocks.{is_block}
 use Rattle.htmd_nodes.specs.Items.{Data, document_node, doctype_node, text_node, comment_node, element_node, data_at}
-use Rattle.htmd_nodes.specs.NumberedTrees.{NumberedTree, document, doctype, text, comment, element, NumberedForest, none}
+use Rattle.htmd_nodes.specs.NumberedTrees.{NumberedTree, document, doctype, text, comment, element, NumberedForest}
+use Rattle.htmd_nodes.specs.NumberedTrees.{none}
 use Rattle.htmd_nodes.specs.NumberedTrees.{more}
 use Rattle.htmd_nodes.specs.Ancestors.{Ancestor}
-use Rattle.htmd_nodes.specs.Serialisation.{comment_of, start_tag}
-use Rattle.htmd_nodes.specs.ValueTrees.{AttributePair}
+use Rattle.htmd_values.specs.Serialisation.{comment_of, start_tag}
+use Rattle.htmd_lexical.specs.AttributePairs.{AttributePair}
 use Rattle.htmd_walk.proofs.BeginningsLemmas.{IsBeginning}
-use Rattle.htmd_walk.specs.Handling.{ElementView, ResultView, PlanView, nothing, this_result, raw_html, content_of_children}
+use Rattle.htmd_walk.specs.Handling.{ElementView, ResultView, PlanView, nothing, this_result, raw_html}
+use Rattle.htmd_walk.specs.Handling.{content_of_children}
 use Rattle.htmd_walk.specs.Handling.{content_of_descendant, content_of_fallback, contents_of_each, OutcomeView}
 use Rattle.htmd_walk.specs.Handling.{final_result, children_too, Finish, HandlerMeaning}
 use Rattle.htmd_walk.specs.OrdinaryText.{in_pre_or_code}
@@ -20,7 +22,8 @@ use Rattle.htmd_walk.specs.Outputs.{Conversion, Output, push_text, Context, cont
 use Rattle.htmd_walk.specs.Outputs.{result_of}
 use Rattle.htmd_walk.specs.Children.{is_block_tree, before_child, trim_after, write_children, write_groups, trims_first}
 use Rattle.htmd_walk.specs.Children.{content_alone, descendant_tree}
-use Rattle.htmd_walk.specs.Elements.{Occurrence, Answer, content_of, raw_element, raw_answer, after_fallback, finish_answer}
+use Rattle.htmd_walk.specs.Elements.{Occurrence, Answer, content_of, raw_element, raw_answer, after_fallback}
+use Rattle.htmd_walk.specs.Elements.{finish_answer}
 use Rattle.htmd_walk.specs.Elements.{Contents, contents_alone, outcome_answer, each_answer, plan_answer, first_answer}
 use Rattle.htmd_walk.specs.Elements.{answer_after, occurrence_at, with_finish, answer_of, raw_result, end_of_element}
 use Rattle.htmd_walk.specs.Rendering.{with_result, with_answer, end_of_document, write_node, written_within}

@@ -11,7 +11,8 @@ use Rattle.htmd_walk.specs.declared.element_handler.table_layout.PartKind.{PartK
 use Rattle.htmd_walk.specs.declared.element_handler.table_layout.PartKind.TheVariants.{Caption, Headers, Row}
 use Rattle.htmd_walk.specs.declared.element_handler.table_layout.TableChild.{TableChild}
 use Rattle.htmd_walk.specs.declared.element_handler.table_layout.TableChild.TheVariants.{TableCaption, TableHead}
-use Rattle.htmd_walk.specs.declared.element_handler.table_layout.TableChild.TheVariants.{TableSection, DirectRow, OtherChild}
+use Rattle.htmd_walk.specs.declared.element_handler.table_layout.TableChild.TheVariants.{TableSection, DirectRow}
+use Rattle.htmd_walk.specs.declared.element_handler.table_layout.TableChild.TheVariants.{OtherChild}
 use Rattle.htmd_walk.specs.TableLayouts.{Part, Layout, part, has_tag, tagged_children, if_none, header_cells}
 use Rattle.htmd_walk.specs.TableLayouts.{with_cells, with_row, with_headers_or, is_headless, with_section_row}
 use Rattle.htmd_walk.specs.TableLayouts.{with_table_row, head_row, with_head, table_child, with_table_child, with_child}

@@ -3,7 +3,7 @@ use Rattle.std.proofs.Common.{◌≡◌, ℕ, zero, suc, ◌+◌, ◌<◌, List,
 use Rattle.std.proofs.Common.{None, refl, sym, ap, ◌∙◌, ◌≤◌, arith, subst, IsSome}
 use Rattle.std.proofs.Common.{Bool, Result, Ok, Err, IfOk}
 use Rattle.std.proofs.lemmas.List.{drop_more, append_assoc}
-use Rattle.htmd_nodes.specs.ValueTrees.{AttributePair}
+use Rattle.htmd_lexical.specs.AttributePairs.{AttributePair}
 use Rattle.htmd_nodes.specs.Items.{Item, element_node, data_at, IsTree, IsBelow}
 use Rattle.htmd_nodes.proofs.NumberedTreesLemmas.{tree-open, height_pos, IsLower}
 use Rattle.htmd_walk.proofs.RenderingLemmas.{proper_lower}

@@ -1,15 +1,14 @@
 -- The handler of a, and the definitions that its references name.
 use Rattle.std.specs.Prelude.{ℕ, ◌+◌, if◌then◌else◌, List, [], ◌∷◌, length, Option, Some, None, codes}
 use Rattle.std.specs.Option.{unwrap_or}
-use Rattle.htmd_grammar.specs.Characters.{line_feed}
-use Rattle.htmd_grammar.specs.BlankLines.{with_blank_lines}
+use Rattle.htmd_lexical.specs.Characters.{line_feed}
+use Rattle.htmd_lexical.specs.BlankLines.{with_blank_lines}
 use Rattle.htmd_text.specs.Joins.{joined_texts}
 use Rattle.htmd_markdown.specs.Links.{inline_link, autolink, reference, definition}
 use Rattle.htmd_markdown.specs.declared.link.LinkStyle.{LinkStyle}
 use Rattle.htmd_markdown.specs.declared.link.LinkStyle.TheVariants.{Inlined, InlinedPreferAutolinks, Referenced}
 use Rattle.htmd_walk.specs.Handling.{ElementView, ResultView, PlanView, raw_html, content_of_children, Finish}
-use Rattle.htmd_walk.specs.Handling.{HandlerMeaning}
-use Rattle.htmd_walk.specs.Handling.{final_result, without_definitions}
+use Rattle.htmd_walk.specs.Handling.{HandlerMeaning, final_result, without_definitions}
 use Rattle.htmd_walk.specs.ElementPlans.{attributes_of}
 use Rattle.htmd_walk.specs.LinkAttributes.{last_value, is_raw_unless_among, title_of}
 use Rattle.htmd_walk.specs.ElementPlans.{markdown_result}

@@ -4,11 +4,11 @@ use Rattle.std.specs.Prelude.{codes, drop, ◌==◌}
 use Rattle.std.specs.List.{list_all, slice_split, starts_with}
 use Rattle.std.specs.Str.{bytes_eq}
 use Rattle.std.specs.Option.{is_some, option_or}
-use Rattle.htmd_grammar.specs.Characters.{space}
+use Rattle.htmd_lexical.specs.Characters.{space}
 use Rattle.htmd_markdown.specs.CodeSpans.{code_span}
 use Rattle.htmd_markdown.specs.Fences.{fenced_code_block}
 use Rattle.htmd_markdown.specs.IndentedCode.{indented_code_block}
-use Rattle.htmd_nodes.specs.ValueTrees.{AttributePair}
+use Rattle.htmd_lexical.specs.AttributePairs.{AttributePair}
 use Rattle.htmd_nodes.specs.Items.{Item, data_at, parent_at, children_of}
 use Rattle.htmd_nodes.specs.Ancestors.{ancestor_of}
 use Rattle.htmd_walk.specs.Handling.{ElementView, ResultView, PlanView, raw_html, content_of_children, HandlerMeaning}

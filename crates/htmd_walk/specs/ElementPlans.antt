@@ -4,11 +4,11 @@ use Rattle.std.specs.Prelude.{Some, None, true, ℤ, pos, negsuc}
 use Rattle.std.specs.List.{list_any, list_all}
 use Rattle.std.specs.Str.{bytes_eq}
 use Rattle.htmd_text.specs.Trims.{trimmed_text, is_line_feed}
-use Rattle.htmd_grammar.specs.BlankLines.{with_blank_lines}
-use Rattle.htmd_nodes.specs.ValueTrees.{AttributePair}
+use Rattle.htmd_lexical.specs.BlankLines.{with_blank_lines}
+use Rattle.htmd_lexical.specs.AttributePairs.{AttributePair}
 use Rattle.htmd_nodes.specs.NumberedTrees.{tree_of, value_tree}
-use Rattle.htmd_nodes.specs.Serialisation.{serialisation}
-use Rattle.htmd_nodes.specs.RawBlocks.{raw_block}
+use Rattle.htmd_values.specs.Serialisation.{serialisation}
+use Rattle.htmd_values.specs.RawBlocks.{raw_block}
 use Rattle.htmd_walk.specs.Handling.{ElementView, ResultView, PlanView, this_result, raw_html, content_of_children}
 use Rattle.htmd_walk.specs.Handling.{HandlerMeaning, of_plan}
 use Rattle.htmd_walk.specs.Outputs.{is_markdown_alone}

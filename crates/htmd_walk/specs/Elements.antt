@@ -4,8 +4,8 @@ use Rattle.htmd_text.specs.Blocks.{is_block}
 use Rattle.htmd_nodes.specs.Items.{Data, element_node, data_at}
 use Rattle.htmd_nodes.specs.NumberedTrees.{NumberedForest, tree_of, value_tree}
 use Rattle.htmd_nodes.specs.Ancestors.{Ancestor}
-use Rattle.htmd_nodes.specs.Serialisation.{serialisation, start_tag, end_tag, is_void}
-use Rattle.htmd_nodes.specs.RawBlocks.{raw_block}
+use Rattle.htmd_values.specs.Serialisation.{serialisation, start_tag, end_tag, is_void}
+use Rattle.htmd_values.specs.RawBlocks.{raw_block}
 use Rattle.htmd_walk.specs.Handling.{ElementView, ResultView, PlanView, nothing, this_result, raw_html}
 use Rattle.htmd_walk.specs.Handling.{content_of_children, content_of_descendant, content_of_fallback, contents_of_each}
 use Rattle.htmd_walk.specs.Handling.{OutcomeView, final_result, children_too, Finish, HandlerMeaning}

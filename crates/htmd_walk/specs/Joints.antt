@@ -1,6 +1,6 @@
 -- What the joints of the source stand for.
 use Rattle.std.specs.Prelude.{Option, Some, None}
-use Rattle.htmd_grammar.specs.Attributes.{pairs_of}
+use Rattle.htmd_lexical.specs.Attributes.{pairs_of}
 use Rattle.htmd_walk.specs.declared.group.Joint as source
 use Rattle.htmd_walk.specs.Groups.{Joint}
 

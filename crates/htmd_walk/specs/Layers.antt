@@ -1,6 +1,7 @@
 -- A handler that stands in place of another.
 use Rattle.std.specs.Prelude.{ℕ, Option, None, set}
-use Rattle.htmd_walk.specs.Handling.{ElementView, ResultView, PlanView, HandlerMeaning, final_result, without_definitions}
+use Rattle.htmd_walk.specs.Handling.{ElementView, ResultView, PlanView, HandlerMeaning, final_result}
+use Rattle.htmd_walk.specs.Handling.{without_definitions}
 use Rattle.htmd_walk.specs.Choice.{Config, handler_at}
 
 -- the handler plans and finishes by these functions, and puts after a conversion what it did

@@ -2,14 +2,12 @@
 -- are put together, what an element and a node give by them, what a whole conversion gives; then the
 -- built-in handlers, what a document of paragraphs reads back as, and the registry; last what only private contracts
 -- mention.
-pub use Rattle.htmd_grammar.specs.Characters
+pub use Rattle.htmd_lexical.specs.Characters
 pub use Rattle.htmd_text.specs.Blocks
-pub use Rattle.htmd_nodes.specs.ValueTrees
 pub use Rattle.htmd_nodes.specs.Items
 pub use Rattle.htmd_nodes.specs.NumberedTrees
 pub use Rattle.htmd_nodes.specs.Ancestors
-pub use Rattle.htmd_grammar.specs.CharacterClasses
-pub use Rattle.htmd_grammar.specs.declared.fault.FaultKind
+pub use Rattle.htmd_lexical.specs.CharacterClasses
 pub use Rattle.htmd_markdown.specs.declared.heading.HeadingStyle
 pub use Rattle.htmd_markdown.specs.declared.thematic_break.HrStyle
 pub use Rattle.htmd_markdown.specs.declared.line_break.BrStyle

@@ -3,7 +3,7 @@ use Rattle.std.specs.Prelude.{ℕ, Bool, not, ◌&&◌, if◌then◌else◌, Lis
 use Rattle.std.specs.List.{list_any}
 use Rattle.std.specs.Option.{option_or}
 use Rattle.std.specs.Str.{bytes_eq}
-use Rattle.htmd_nodes.specs.ValueTrees.{AttributePair}
+use Rattle.htmd_lexical.specs.AttributePairs.{AttributePair}
 use Rattle.htmd_walk.specs.Handling.{ElementView}
 use Rattle.htmd_walk.specs.Outputs.{is_markdown_alone}
 use Rattle.htmd_walk.specs.ElementPlans.{attributes_of}

@@ -4,12 +4,13 @@ use Rattle.std.specs.Prelude.{map}
 use Rattle.std.specs.List.{list_any, zip}
 use Rattle.std.specs.Str.{bytes_eq}
 use Rattle.htmd_markdown.specs.Lists.{first_number, Block, item, other, ordered_list, list_block}
-use Rattle.htmd_nodes.specs.ValueTrees.{AttributePair}
+use Rattle.htmd_lexical.specs.AttributePairs.{AttributePair}
 use Rattle.htmd_nodes.specs.Items.{Item, data_at, children_of}
 use Rattle.htmd_walk.specs.Handling.{ElementView, ResultView, PlanView, raw_html, content_of_children, HandlerMeaning}
 use Rattle.htmd_walk.specs.Handling.{contents_of_each, final_result, without_definitions}
 use Rattle.htmd_walk.specs.Outputs.{is_markdown_alone}
-use Rattle.htmd_walk.specs.ElementPlans.{tag_of, attributes_of, parent_tag, value_of_first, are_markdown, raw_block_result}
+use Rattle.htmd_walk.specs.ElementPlans.{tag_of, attributes_of, parent_tag, value_of_first, are_markdown}
+use Rattle.htmd_walk.specs.ElementPlans.{raw_block_result}
 use Rattle.htmd_walk.specs.ElementPlans.{is_raw_html_due, is_tag_among, optional_markdown}
 use Rattle.htmd_nodes.specs.Items as tree
 

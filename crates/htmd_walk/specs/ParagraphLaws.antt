@@ -3,11 +3,11 @@ use Rattle.std.specs.Prelude.{◌≡◌, ℕ, ◌&&◌, ◌==◌, if◌then◌el
 use Rattle.std.specs.Prelude.{Option, Some, None}
 use Rattle.std.specs.List.{filter, onto_first}
 use Rattle.std.specs.Option.{unwrap_or}
-use Rattle.htmd_grammar.specs.Characters.{line_feed}
+use Rattle.htmd_lexical.specs.Characters.{line_feed}
 use Rattle.htmd_text.specs.Trims.{trimmed_start, trimmed_end, is_space}
 use Rattle.htmd_text.specs.Unescape.{unescape}
 use Rattle.htmd_text.specs.SqueezedTexts.{squeezed_text}
-use Rattle.htmd_nodes.specs.ValueTrees.{ValueTree, document, text, element, ValueForest, none, more}
+use Rattle.htmd_values.specs.ValueTrees.{ValueTree, document, text, element, ValueForest, none, more}
 use Rattle.htmd_nodes.specs.Items.{Item}
 use Rattle.htmd_nodes.specs.NumberedTrees.{tree_of, value_tree}
 use Rattle.htmd_walk.specs.declared.options.Options.{Options}

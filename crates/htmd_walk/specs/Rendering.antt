@@ -1,13 +1,13 @@
 -- How a node is written: the plain definition, over value trees and lists of ancestors.
 use Rattle.std.specs.Prelude.{ℕ, zero, suc, Bool, true, false, ◌&&◌, if◌then◌else◌, List, [], ◌∷◌}
 use Rattle.std.specs.Prelude.{Option, Some, None, codes}
-use Rattle.htmd_grammar.specs.WhiteSpace.{is_document_white_space}
+use Rattle.htmd_lexical.specs.WhiteSpace.{is_document_white_space}
 use Rattle.htmd_text.specs.Trims.{trimmed_end}
 use Rattle.htmd_nodes.specs.Items.{Item, Data, document_node, doctype_node, text_node, comment_node, element_node}
 use Rattle.htmd_nodes.specs.Items.{data_at}
 use Rattle.htmd_nodes.specs.NumberedTrees.{document, doctype, text, comment, element}
 use Rattle.htmd_nodes.specs.Ancestors.{Ancestor, ancestor_of, ancestors_of}
-use Rattle.htmd_nodes.specs.Serialisation.{comment_of}
+use Rattle.htmd_values.specs.Serialisation.{comment_of}
 use Rattle.htmd_walk.specs.Handling.{ResultView}
 use Rattle.htmd_walk.specs.Seams.{joined_at_seam}
 use Rattle.htmd_walk.specs.OrdinaryText.{in_pre_or_code, parent_is_pre, written_text}

@@ -1,9 +1,8 @@
 -- How a text is appended to another one.
 use Rattle.std.specs.Prelude.{ℕ, ◌+◌, min, max, Bool, ◌&&◌, ◌||◌, ◌==◌, nat_lt, if◌then◌else◌, List, ◌++◌}
-use Rattle.std.specs.Prelude.{length}
-use Rattle.std.specs.Prelude.{drop, replicate}
+use Rattle.std.specs.Prelude.{length, drop, replicate}
 use Rattle.std.specs.List.{prefix_len, suffix_len}
-use Rattle.htmd_grammar.specs.Characters.{line_feed}
+use Rattle.htmd_lexical.specs.Characters.{line_feed}
 use Rattle.htmd_text.specs.Trims.{trimmed_start, trimmed_end, is_line_feed, is_space}
 
 abbrev pub begins_with_space : List ℕ → Bool

@@ -2,7 +2,7 @@
 use Rattle.std.specs.Prelude.{Bool, not, ◌&&◌, ◌||◌, if◌then◌else◌, List, Option, Some, None}
 use Rattle.std.specs.Option.{option_map}
 use Rattle.htmd_text.specs.Trims.{trimmed_text, is_line_feed, some_text}
-use Rattle.htmd_grammar.specs.BlankLines.{with_blank_lines}
+use Rattle.htmd_lexical.specs.BlankLines.{with_blank_lines}
 use Rattle.htmd_walk.specs.Handling.{ElementView, ResultView, PlanView, HandlerMeaning, contents_of_each, final_result}
 use Rattle.htmd_walk.specs.Handling.{without_definitions, content_of_fallback, OutcomeView, children_too}
 use Rattle.htmd_walk.specs.Outputs.{is_markdown_alone}

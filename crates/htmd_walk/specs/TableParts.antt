@@ -1,7 +1,7 @@
 -- The handlers of tr, and of tbody, thead and caption.
 use Rattle.std.specs.Prelude.{ℕ, List, [], ◌∷◌, Option, Some, codes}
 use Rattle.htmd_text.specs.Trims.{trimmed_text, is_line_feed}
-use Rattle.htmd_grammar.specs.BlankLines.{with_blank_lines}
+use Rattle.htmd_lexical.specs.BlankLines.{with_blank_lines}
 use Rattle.htmd_walk.specs.Handling.{ElementView, ResultView, HandlerMeaning, of_plan}
 use Rattle.htmd_walk.specs.ElementPlans.{unless_attributes, plan_under}
 

@@ -3,13 +3,14 @@ use Rattle.std.specs.Prelude.{ℕ, Bool, false, not, ◌&&◌, ◌||◌, List, [
 use Rattle.std.specs.Prelude.{true, codes, ◌++◌, map, take, drop}
 use Rattle.std.specs.List.{list_any, flat_map}
 use Rattle.htmd_text.specs.Trims.{trimmed_text}
-use Rattle.htmd_grammar.specs.BlankLines.{blank_line}
-use Rattle.htmd_grammar.specs.Characters.{line_feed}
-use Rattle.htmd_grammar.specs.WhiteSpace.{is_document_white_space}
+use Rattle.htmd_lexical.specs.BlankLines.{blank_line}
+use Rattle.htmd_lexical.specs.Characters.{line_feed}
+use Rattle.htmd_lexical.specs.WhiteSpace.{is_document_white_space}
 use Rattle.htmd_markdown.specs.Tables.{table}
 use Rattle.htmd_nodes.specs.Ancestors.{Ancestor}
 use Rattle.htmd_nodes.specs.Items.{Item}
-use Rattle.htmd_nodes.specs.NumberedTrees.{NumberedTree, document, doctype, text, comment, element, NumberedForest, none}
+use Rattle.htmd_nodes.specs.NumberedTrees.{NumberedTree, document, doctype, text, comment, element, NumberedForest}
+use Rattle.htmd_nodes.specs.NumberedTrees.{none}
 use Rattle.htmd_nodes.specs.NumberedTrees.{more}
 use Rattle.htmd_walk.specs.Handling.{ResultView}
 use Rattle.htmd_walk.specs.declared.element_handler.table_layout.PartKind.{PartKind}

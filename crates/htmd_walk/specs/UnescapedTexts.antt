@@ -1,7 +1,7 @@
 -- A test for texts that are written as they are, as the code makes it. No public clause cites it.
 use Rattle.std.specs.Prelude.{ℕ, Bool, true, not, ◌&&◌, ◌||◌, ◌==◌, nat_lt, if◌then◌else◌, List, [], ◌∷◌, codes}
 use Rattle.std.specs.Char.{is_ascii_digit}
-use Rattle.htmd_grammar.specs.Characters.{space, is_one_of}
+use Rattle.htmd_lexical.specs.Characters.{space, is_one_of}
 use Rattle.htmd_text.specs.EscapeKinds.{is_special}
 
 -- the byte stands for itself everywhere: not a backslash, white space or a control character

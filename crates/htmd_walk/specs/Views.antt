@@ -6,7 +6,8 @@ use Rattle.htmd_nodes.specs.NumberedTrees.{NumberedForest}
 use Rattle.htmd_walk.specs.declared.element_handler.Element.{Element}
 use Rattle.htmd_walk.specs.declared.element_handler.HandlerResult.{HandlerResult}
 use Rattle.htmd_walk.specs.declared.element_handler.Plan.{Plan}
-use Rattle.htmd_walk.specs.declared.element_handler.Plan.TheVariants.{Skip, Text, RawHtml, Children, Descendant, Fallback}
+use Rattle.htmd_walk.specs.declared.element_handler.Plan.TheVariants.{Skip, Text, RawHtml, Children, Descendant}
+use Rattle.htmd_walk.specs.declared.element_handler.Plan.TheVariants.{Fallback}
 use Rattle.htmd_walk.specs.Handling.{ElementView, ResultView, PlanView, nothing, this_result, raw_html}
 use Rattle.htmd_walk.specs.Handling.{content_of_children, content_of_descendant, content_of_fallback}
 use Rattle.htmd_walk.specs.Groups.{group_children, children_at}

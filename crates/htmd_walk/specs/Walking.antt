@@ -1,5 +1,6 @@
 -- The definitions that only private clauses use: what the walk refers to on its way.
-use Rattle.std.specs.Prelude.{◌≡◌, ℕ, suc, ◌≤◌, ◌<◌, Bool, false, List, Option, Result, All, IfOk, IfSome, IsSome, length}
+use Rattle.std.specs.Prelude.{◌≡◌, ℕ, suc, ◌≤◌, ◌<◌, Bool, false, List, Option, Result, All, IfOk, IfSome, IsSome}
+use Rattle.std.specs.Prelude.{length}
 use Rattle.std.specs.Option.{option_copied}
 use Rattle.htmd_nodes.specs.Items.{Item, data_at, parent_at}
 use Rattle.htmd_nodes.specs.NumberedTrees.{NumberedForest, tree_of, height}

@@ -11,7 +11,7 @@ ghost use Rattle.std.specs.Option.{option_copied};
 ghost use Rattle.htmd_nodes.specs.Items.{data_at, element_node, IsTree};
 ghost use Rattle.htmd_nodes.specs.NumberedTrees.{tree_of};
 ghost use Rattle.htmd_nodes.specs.Ancestors.{ancestors_of};
-ghost use Rattle.htmd_grammar.specs.Attributes.{pairs_of};
+ghost use Rattle.htmd_lexical.specs.Attributes.{pairs_of};
 ghost use Rattle.htmd_walk.specs.Handling.{IsProper, contents_of_each};
 ghost use Rattle.htmd_walk.specs.Choice.{indexes, handler_at, handlers_at};
 ghost use Rattle.htmd_walk.specs.OrdinaryText.{in_pre_or_code, parent_is_pre, written_text};

@@ -3,7 +3,7 @@
 ghost use Rattle.std.specs.Prelude.{◌≡◌, ◌<◌, [], ℕ, List, Option, IfOk, map, length, string_bytes};
 ghost use Rattle.std.specs.Option.{option_copied};
 ghost use Rattle.htmd_nodes.specs.Items.{data_at, element_node, parent_at};
-ghost use Rattle.htmd_grammar.specs.Attributes.{pairs_of};
+ghost use Rattle.htmd_lexical.specs.Attributes.{pairs_of};
 ghost use Rattle.htmd_walk.specs.Handling.{ElementView, ResultView, PlanView, IsProper};
 ghost use Rattle.htmd_walk.specs.Groups.{only_text, group_children, children_at};
 ghost use Rattle.htmd_walk.specs.Code.{language_of_pre};

@@ -2,7 +2,7 @@
 
 ghost use Rattle.std.specs.Prelude.{◌≡◌, ◌<◌, ◌≤◌, All, IfOk, length};
 ghost use Rattle.htmd_nodes.specs.NumberedTrees.{tree_of};
-ghost use Rattle.htmd_grammar.specs.Attributes.{pairs_of};
+ghost use Rattle.htmd_lexical.specs.Attributes.{pairs_of};
 ghost use Rattle.htmd_walk.specs.Groups as spec;
 ghost use Rattle.htmd_walk.specs.Joints.{joint_view, optional_joint};
 ghost use Rattle.htmd_walk.specs.Views.{optional_text};

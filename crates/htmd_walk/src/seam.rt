@@ -1,7 +1,8 @@
 //! How content is appended to a text.
 
-ghost use Rattle.std.specs.Prelude.{◌≡◌, ◌++◌, ◌&&◌, ◌==◌, OnOk, string_bytes};
+ghost use Rattle.std.specs.Prelude.{◌≡◌, ◌++◌, ◌&&◌, ◌==◌, OnOk, drop, string_bytes};
 ghost use Rattle.std.specs.List.{prefix_len, suffix_len};
+ghost use Rattle.std.specs.Str.{IsCharBoundary};
 ghost use Rattle.htmd_text.specs.Trims.{is_line_feed};
 ghost use Rattle.htmd_walk.specs.Seams.{begins_with_space, ends_with_space, joined_by_white_space, joined_at_seam};
 
@@ -18,23 +19,25 @@ fn loses_space(out: &[u8], content: &[u8]) -> bool
     has_no_line_feed && has_spaces
 }
 
-/// The part of a content that is appended to a text that is not empty.
-fn rest_at_seam<'a>(out: &[u8], content: &'a str) -> &'a str
-    ensures { out.now ++ result.now
+/// Where the part of a content begins that is appended to a text that is not empty.
+fn start_at_seam(out: &[u8], content: &str) -> usize
+    ensures value { out.now ++ drop result content.now
         ≡ joined_by_white_space (suffix_len is_line_feed out.now) (prefix_len is_line_feed content.now)
         out.now content.now }
+    ensures cut { IsCharBoundary content.now result }
 {
     if loses_space(out, content.as_bytes()) {
-        return &content[1..];
+        return 1;
     }
     let ending = trailing_len(out, b'\n');
     let beginning = leading_len(content.as_bytes(), b'\n');
     let kept = beginning.min(2 - ending.min(2));
-    &content[beginning - kept..]
+    beginning - kept
 }
 
-/// Appends content to a text, whole or at a seam; if the text is empty, the content is moved. What is left of the
-/// content is of use only for its memory.
+/// Appends content to a text, whole or at a seam. If the text is empty, the content is moved; if the content is longer
+/// than what there is room for, the text is put in front of it. What is left of the content is of use only for its
+/// memory.
 pub(crate) fn append_normalized_content(
     out: &mut String,
     content: &mut String,
@@ -47,9 +50,15 @@ pub(crate) fn append_normalized_content(
         std::mem::swap(out, content);
         return Ok(());
     }
-    if whole {
-        return out.push_str(content.as_str());
+    let start = if whole {
+        0
+    } else {
+        start_at_seam(out.as_bytes(), content.as_str())
+    };
+    if content.len() <= out.capacity() {
+        return out.push_str(&content[start..]);
     }
-    let rest = rest_at_seam(out.as_bytes(), content.as_str());
-    out.push_str(rest)
+    content.replace_range(..start, out.as_str())?;
+    std::mem::swap(out, content);
+    Ok(())
 }

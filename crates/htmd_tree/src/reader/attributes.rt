@@ -2,16 +2,17 @@
 ghost use Rattle.std.specs.Prelude.{◌≡◌, ◌<◌, suc, length, IfOk, MatchOption, option_map, Ok, Err, MatchResult};
 ghost use Rattle.htmd_grammar.specs.Tags.{decode_values};
 ghost use Rattle.htmd_tree.specs.TagParts.{part_of, all_spelled_of, attribute_part, read_attributes};
-ghost use Rattle.htmd_grammar.specs.Attributes.{pairs_of};
+ghost use Rattle.htmd_lexical.specs.Attributes.{pairs_of};
 ghost use Rattle.std.specs.List.{list_any};
 ghost use Rattle.htmd_grammar.specs.Rules.{named_characters};
-ghost use Rattle.htmd_grammar.specs.CharacterClasses as classes;
-ghost use Rattle.htmd_grammar.specs.TagReading as spec;
+ghost use Rattle.htmd_lexical.specs.CharacterClasses as classes;
+ghost use Rattle.htmd_lexical.specs.TagReading as spec;
 ghost use Rattle.htmd_grammar.specs.OpenElements as steps;
 
 use crate::reader::references;
 use crate::reader::scan::{Class, split_run};
-use htmd_grammar::{Attribute, FaultKind};
+use htmd_grammar::FaultKind;
+use htmd_lexical::Attribute;
 use htmd_scanning::{are_distinct, strip_byte};
 use std::alloc::{AllocError, Global};
 

@@ -1,14 +1,15 @@
 //! A document before its content: a byte order mark and a Doctype if they are there (HTML Standard, 13.1.1), `html`
 //! with its `head`, and `body`, which is open.
 ghost use Rattle.std.specs.Prelude.{◌≡◌, length, option_map, ◌≢◌, ◌∷◌, [], IfOk, IfErr, is_some};
-ghost use Rattle.htmd_grammar.specs.WhiteSpace.{is_ascii_white_space};
-ghost use Rattle.htmd_grammar.specs.HtmlDocuments.{behind_mark, body_text};
+ghost use Rattle.htmd_lexical.specs.WhiteSpace.{is_ascii_white_space};
+ghost use Rattle.htmd_lexical.specs.ByteOrderMarks.{behind_mark};
+ghost use Rattle.htmd_grammar.specs.HtmlDocuments.{body_text};
 ghost use Rattle.htmd_grammar.specs.ReaderSteps.{body};
-ghost use Rattle.htmd_nodes.specs.OpenItems.{stack_items};
+ghost use Rattle.htmd_tree.specs.OpenItems.{stack_items};
 ghost use Rattle.htmd_tree.specs.OpenNodes.{Holds};
-ghost use Rattle.htmd_grammar.specs.CharacterClasses as classes;
+ghost use Rattle.htmd_lexical.specs.CharacterClasses as classes;
 ghost use Rattle.htmd_grammar.specs.Comments as comments;
-ghost use Rattle.htmd_grammar.specs.HtmlDocuments as documents;
+ghost use Rattle.htmd_lexical.specs.ByteOrderMarks as documents;
 
 use crate::reader::scan::{Class, split_run};
 use crate::reader::surroundings::Surroundings;

@@ -1,6 +1,6 @@
 //! The part of a page that is converted: what is between the tags of its body.
 ghost use Rattle.std.specs.Prelude.{◌≡◌, suc, length, option_map};
-ghost use Rattle.htmd_grammar.specs.TagReading.{form_within};
+ghost use Rattle.htmd_lexical.specs.TagReading.{form_within};
 ghost use Rattle.htmd_tree.specs.Bodies as spec;
 
 use crate::reader::attributes::{Part, next_part};

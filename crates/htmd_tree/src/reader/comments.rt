@@ -1,6 +1,6 @@
 //! Comments and other declarations (HTML Standard, 13.1.6).
 ghost use Rattle.std.specs.Prelude.{◌≡◌, ◌≤◌, length, option_map, codes, ◌<◌, OnOk};
-ghost use Rattle.htmd_grammar.specs.CharacterClasses.{up_to, begins_with, holds};
+ghost use Rattle.htmd_lexical.specs.CharacterClasses.{up_to, begins_with, holds};
 ghost use Rattle.htmd_grammar.specs.HtmlDocuments.{above_body};
 ghost use Rattle.htmd_grammar.specs.ReaderSteps.{declaration_step};
 ghost use Rattle.htmd_tree.specs.OpenNodes.{IsReading};

@@ -2,11 +2,11 @@
 ghost use Rattle.std.specs.Prelude.{◌≡◌, map, ◌<◌, false, length, OnOk};
 ghost use Rattle.std.specs.Str.{bytes_eq};
 ghost use Rattle.std.specs.Char.{to_ascii_lowercase};
-ghost use Rattle.htmd_grammar.specs.CharacterClasses.{is_empty};
+ghost use Rattle.htmd_lexical.specs.CharacterClasses.{is_empty};
 ghost use Rattle.htmd_grammar.specs.RawContent.{ends_text};
 ghost use Rattle.htmd_tree.specs.OpenNodes.{IsReading, innermost_name, WhateverIsOpen};
 ghost use Rattle.htmd_tree.specs.Advances.{Advances, Ends, HasImpliedClosed};
-ghost use Rattle.htmd_grammar.specs.CharacterClasses as classes;
+ghost use Rattle.htmd_lexical.specs.CharacterClasses as classes;
 ghost use Rattle.htmd_grammar.specs.OpenElements as spec;
 ghost use Rattle.htmd_grammar.specs.Nesting as nesting;
 

@@ -2,15 +2,15 @@
 //! end tag.
 ghost use Rattle.std.specs.Prelude.{◌≡◌, codes, ◌++◌, ◌∷◌, IfOk, OnOk, string_bytes, true};
 ghost use Rattle.std.specs.Prelude.{false};
-ghost use Rattle.htmd_grammar.specs.CharacterClasses.{begins_with, up_to, is_empty, onward};
-ghost use Rattle.htmd_grammar.specs.Characters.{carriage_return};
+ghost use Rattle.htmd_lexical.specs.CharacterClasses.{begins_with, up_to, is_empty, onward};
+ghost use Rattle.htmd_lexical.specs.Characters.{carriage_return};
 ghost use Rattle.htmd_grammar.specs.HtmlDocuments.{above_body};
 ghost use Rattle.htmd_grammar.specs.RawContent.{ends_text, holds_raw_text, text_of};
 ghost use Rattle.htmd_grammar.specs.ReaderSteps.{raw_text_step};
 ghost use Rattle.htmd_tree.specs.OpenNodes.{IsReading, innermost_name, WhateverIsOpen};
 ghost use Rattle.htmd_tree.specs.Advances.{Follows, rules_of};
 ghost use Rattle.htmd_grammar.specs.RawContent as spec;
-ghost use Rattle.htmd_grammar.specs.Comments as comments;
+ghost use Rattle.htmd_lexical.specs.LineEnds as comments;
 
 use crate::reader::{NewNode, Reader, Stop};
 use htmd_grammar::FaultKind;

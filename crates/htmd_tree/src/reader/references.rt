@@ -1,14 +1,15 @@
 //! Characters and character references (HTML Standard, 13.1.4), and what texts with references denote.
 ghost use Rattle.std.specs.Prelude.{◌≡◌, ◌≤◌, ◌<◌, ◌+◌, ℕ, Bool, length, drop, map, None, Some, if◌then◌else◌};
 ghost use Rattle.std.specs.Prelude.{false, IfOk, slice_index, ⊤, MatchOption, option_map, string_bytes};
-ghost use Rattle.htmd_grammar.specs.CharacterClasses.{first_is, leading_run};
-ghost use Rattle.htmd_grammar.specs.Characters.{number_sign, semicolon};
+ghost use Rattle.htmd_lexical.specs.CharacterClasses.{first_is, leading_run};
+ghost use Rattle.htmd_lexical.specs.Characters.{number_sign, semicolon};
 ghost use Rattle.htmd_tree.specs.DecodedCharacters.{entry, piece_of, IsPieceEnd, is_itself, HasPushed};
 ghost use Rattle.std.specs.Str.{IsUtf8};
 ghost use Rattle.htmd_grammar.specs.OpenElements.{has_unknown_reference, is_unknown};
 ghost use Rattle.htmd_grammar.specs.References.{behind, decode};
 ghost use Rattle.htmd_grammar.specs.Rules.{named_characters};
 ghost use Rattle.htmd_grammar.specs.References as spec;
+ghost use Rattle.htmd_lexical.specs.Numbers as numbers;
 ghost use Rattle.htmd_grammar.specs.Rules as rules;
 
 use htmd_grammar::FaultKind;
@@ -86,7 +87,7 @@ fn character_named(name: &[u8], names: &[(&str, char)]) -> Option<char>
 
 /// Whether this is the number of a control above ASCII.
 fn is_control(number: u32) -> bool
-    ensures { result ≡ spec.is_between 0x80 0x9F number }
+    ensures { result ≡ numbers.is_between 0x80 0x9F number }
 {
     0x80 <= number && number <= 0x9F
 }

@@ -1,9 +1,11 @@
 //! How a text begins: with markup, with one character, or with a run of characters of one class. Each character that
 //! the grammar names is ASCII, and so one byte.
-ghost use Rattle.std.specs.Prelude.{◌≡◌, ◌≤◌, length, ◌<◌, true, drop, slice_index};
-ghost use Rattle.htmd_grammar.specs.CharacterClasses.{leading_run, behind_run};
+ghost use Rattle.std.specs.Prelude.{◌≡◌, length, ◌<◌, true, drop, slice_index};
+ghost use Rattle.htmd_lexical.specs.CharacterClasses.{leading_run, behind_run};
 ghost use Rattle.htmd_tree.specs.Classes.{is_in, is_ascii};
 ghost use Rattle.htmd_grammar.specs.RawContent as raw;
+
+use htmd_scanning::{ByteClass, run_len};
 
 /// Whether markup begins here: `<` before a letter, `/`, `!` or `?`.
 pub(crate) fn begins_markup(bytes: &[u8]) -> bool
@@ -26,38 +28,30 @@ pub(crate) enum Class {
     Other(u8),
 }
 
-fn is_of(byte: u8, class: Class) -> bool
-    ensures { result ≡ is_in class byte }
-{
-    match class {
-        Class::TagName => {
-            byte.is_ascii_alphanumeric() || matches!(byte, b'-' | b'_' | b'.' | b':')
-        }
-        Class::WhiteSpace => byte.is_ascii_whitespace(),
-        Class::AttributeName => {
-            byte.is_ascii_alphabetic()
-                || !(byte.is_ascii_whitespace()
-                    || byte.is_ascii_control()
-                    || matches!(byte, b'"' | b'\'' | b'<' | b'/' | b'>' | b'='))
-        }
-        Class::UnquotedValue => {
-            !(byte.is_ascii_whitespace() || matches!(byte, b'"' | b'\'' | b'<' | b'>' | b'`'))
-        }
-        Class::Other(other) => byte != other,
-    }
-}
+impl ByteClass for Class {
+    ghost use Rattle.htmd_tree.specs.Classes.{is_in};
 
-#[tactic(auto, using(htmd_grammar::proofs::RunsLemmas::run_more, htmd_grammar::proofs::RunsLemmas::run_stops))]
-fn run_len(bytes: &[u8], class: Class) -> usize
-    ensures bound { result ≤ length bytes.now }
-    ensures value { result ≡ length (leading_run (is_in class) bytes.now) }
-{
-    for (len, byte) in bytes.iter().enumerate() {
-        if !is_of(*byte, class) {
-            return len;
+    ghost bytes = { is_in };
+
+    #[inline(always)]
+    fn has(self, byte: u8) -> bool {
+        match self {
+            Class::TagName => {
+                byte.is_ascii_alphanumeric() || matches!(byte, b'-' | b'_' | b'.' | b':')
+            }
+            Class::WhiteSpace => byte.is_ascii_whitespace(),
+            Class::AttributeName => {
+                byte.is_ascii_alphabetic()
+                    || !(byte.is_ascii_whitespace()
+                        || byte.is_ascii_control()
+                        || matches!(byte, b'"' | b'\'' | b'<' | b'/' | b'>' | b'='))
+            }
+            Class::UnquotedValue => {
+                !(byte.is_ascii_whitespace() || matches!(byte, b'"' | b'\'' | b'<' | b'>' | b'`'))
+            }
+            Class::Other(other) => byte != other,
         }
     }
-    bytes.len()
 }
 
 /// The run at the front of a text, and what follows it.

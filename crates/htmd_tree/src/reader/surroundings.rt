@@ -1,12 +1,13 @@
 //! What is kept of an open element and its ancestors, so that looking up what is allowed there costs the same at any
 //! depth.
-ghost use Rattle.std.specs.Prelude.{◌≡◌, ◌∷◌, Bool};
+ghost use Rattle.std.specs.Prelude.{◌≡◌, ◌∷◌, ℕ, Bool, List};
 ghost use Rattle.htmd_grammar.specs.HtmlDocuments.{below_body};
 ghost use Rattle.htmd_grammar.specs.Nesting as spec;
 ghost use Rattle.htmd_tree.specs.Surroundings.{surroundings_of};
 ghost use Rattle.htmd_tree.specs.Surroundings as flags;
+ghost use Rattle.htmd_tree.specs.KnownNames.{known_name};
 
-use crate::reader::names::{KnownName, known_name};
+use crate::reader::names::KnownName;
 
 /// What is kept of an open element and its ancestors.
 #[derive(Clone, Copy, Drop)]
@@ -55,11 +56,11 @@ pub(crate) struct Surroundings {
     pub(crate) description: bool,
 }
 
-/// Whether a tag with this name has no place at all.
-pub(crate) fn is_outside(name: &str) -> bool
-    ensures { result ≡ spec.is_outside name.now }
+/// Whether a tag of this kind has no place at all.
+pub(crate) fn is_outside(known: KnownName) -> bool
+    ensures { (n : List ℕ) → known ≡ known_name n → result ≡ spec.is_outside n }
 {
-    known_name(name).is(KnownName::Outside)
+    known.is(KnownName::Outside)
 }
 
 impl Surroundings {
@@ -124,12 +125,12 @@ impl Surroundings {
         }
     }
 
-    /// What is kept of an element with this name inside an element with these surroundings.
-    pub(crate) fn inner(self, name: &str, scripting: bool) -> Surroundings
-        ensures { (c : spec.Context) → self ≡ surroundings_of scripting c
-            → result ≡ surroundings_of scripting (name.now ∷ c) }
+    /// What is kept of an element of this kind inside an element with these surroundings.
+    pub(crate) fn inner(self, known: KnownName, scripting: bool) -> Surroundings
+        ensures { (n : List ℕ) (c : spec.Context) → known ≡ known_name n → self ≡ surroundings_of scripting c
+            → result ≡ surroundings_of scripting (n ∷ c) }
     {
-        self.inside(known_name(name), scripting)
+        self.inside(known, scripting)
     }
 
     /// Whether a part of a table of this kind, or another element, may stand here, as far as tables decide.
@@ -173,7 +174,7 @@ impl Surroundings {
         }
     }
 
-    #[tactic(auto, using(htmd_grammar::proofs::BooleanLemmas::and_false))]
+    #[tactic(auto, using(htmd_lexical::proofs::BooleanLemmas::and_false))]
     /// Whether an element of this kind may stand here, as far as the open elements decide.
     fn fits_open_elements(self, known: KnownName) -> bool
         ensures { result ≡ flags.flags_fit_open_elements self known }
@@ -184,7 +185,7 @@ impl Surroundings {
             && !(self.heading && known.is(KnownName::Heading))
     }
 
-    #[tactic(auto, using(htmd_grammar::proofs::BooleanLemmas::and_false))]
+    #[tactic(auto, using(htmd_lexical::proofs::BooleanLemmas::and_false))]
     /// Whether an element of this kind may stand here, as far as lists decide.
     fn fits_lists(self, known: KnownName) -> bool
         ensures { result ≡ flags.flags_fit_lists self known }
@@ -205,11 +206,11 @@ impl Surroundings {
             && self.fits_lists(known)
     }
 
-    /// Whether an element with this name is allowed here.
-    pub(crate) fn allows(self, name: &str) -> bool
-        ensures { (scripting : Bool) (c : spec.Context) → self ≡ surroundings_of scripting c
-            → result ≡ spec.is_allowed scripting c name.now }
+    /// Whether an element of this kind is allowed here.
+    pub(crate) fn allows(self, known: KnownName) -> bool
+        ensures { (n : List ℕ) (scripting : Bool) (c : spec.Context) → known ≡ known_name n
+            → self ≡ surroundings_of scripting c → result ≡ spec.is_allowed scripting c n }
     {
-        self.fits(known_name(name))
+        self.fits(known)
     }
 }

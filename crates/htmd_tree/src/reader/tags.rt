@@ -1,31 +1,35 @@
 //! Start tags and end tags, their names, and where the content of an element begins. A fault of a tag is at its `<`,
 //! where the text that is left begins.
 ghost use Rattle.std.specs.Prelude.{◌≡◌, ◌==◌, true, false, map, MatchOption, IfOk, [], ◌<◌, ◌&&◌, length, drop};
-ghost use Rattle.std.specs.Prelude.{OnOk, codes};
+ghost use Rattle.std.specs.Prelude.{OnOk, codes, ℕ, List};
 ghost use Rattle.std.specs.Char.{to_ascii_lowercase};
 ghost use Rattle.std.specs.Cow.{cow_str_bytes};
 ghost use Rattle.std.specs.List.{list_all};
-ghost use Rattle.htmd_grammar.specs.CharacterClasses.{leading_run, behind_run, is_tag_name, is_tag_name_byte};
-ghost use Rattle.htmd_grammar.specs.CharacterClasses.{first_is};
+ghost use Rattle.htmd_lexical.specs.CharacterClasses.{leading_run, behind_run, is_tag_name, is_tag_name_byte};
+ghost use Rattle.htmd_lexical.specs.CharacterClasses.{first_is};
 ghost use Rattle.htmd_grammar.specs.References.{after_line_feed};
 ghost use Rattle.std.specs.Str.{bytes_eq};
-ghost use Rattle.htmd_grammar.specs.Characters.{less_than_sign};
+ghost use Rattle.htmd_lexical.specs.Characters.{less_than_sign};
 ghost use Rattle.htmd_grammar.specs.HtmlDocuments.{above_body};
 ghost use Rattle.htmd_grammar.specs.Nesting.{is_allowed, is_row};
-ghost use Rattle.htmd_grammar.specs.ReaderSteps.{names_of, start_tag_step, place_step, open_step, end_tag_step, close_step};
+ghost use Rattle.htmd_grammar.specs.ReaderSteps.{names_of, start_tag_step, place_step, open_step, end_tag_step};
+ghost use Rattle.htmd_grammar.specs.ReaderSteps.{close_step};
 ghost use Rattle.htmd_grammar.specs.ReaderSteps.{markup_step};
-ghost use Rattle.htmd_grammar.specs.Attributes.{pairs_of};
+ghost use Rattle.htmd_lexical.specs.Attributes.{pairs_of};
 ghost use Rattle.htmd_tree.specs.TagParts.{fault_of_name};
 ghost use Rattle.htmd_tree.specs.OpenNodes.{IsReading, innermost_name, WhateverIsOpen};
 ghost use Rattle.htmd_tree.specs.Advances.{rules_of, Steps};
 ghost use Rattle.htmd_grammar.specs.RawContent as spec;
+ghost use Rattle.htmd_tree.specs.KnownNames.{known_name};
 
 use crate::reader::attributes::{attributes_of, tag_form};
+use crate::reader::names::{KnownName, known_name};
 use crate::reader::references::character_at;
 use crate::reader::scan::{Class, behind_first, split_run};
 use crate::reader::surroundings::is_outside;
 use crate::reader::{NewNode, Reader, Stop};
-use htmd_grammar::{Attribute, FaultKind};
+use htmd_grammar::FaultKind;
+use htmd_lexical::Attribute;
 use htmd_nodes::is_void;
 use htmd_scanning::strip_byte;
 use std::alloc::{AllocError, Global};
@@ -99,43 +103,51 @@ pub(crate) fn content_of<'a>(name: &str, text: &'a str) -> &'a str
 }
 
 /// What is wrong with a start tag of this name: it has a `/` and isn't void, or it has no place at all.
-fn fault_of_name(name: &str, slash: bool) -> Option<FaultKind>
+fn fault_of_name(name: &str, known: KnownName, slash: bool) -> Option<FaultKind>
+    requires known { known ≡ known_name name.now }
     ensures { result ≡ fault_of_name name.now slash }
 {
     if slash && !is_void(name) {
         return Some(FaultKind::SelfClosing);
     }
-    if is_outside(name) {
+    if is_outside(known) {
         return Some(FaultKind::TagOutside);
     }
     None
 }
 
 impl<'a> Reader<'a> {
-    /// Whether an element with this name is allowed here.
-    fn allows(&self, name: &str) -> bool
+    /// Whether an element of this kind is allowed here.
+    fn allows(&self, known: KnownName) -> bool
         requires reading { IsReading self.now }
-        ensures { WhateverIsOpen self.now (λ has_doctype fs.
-            result ≡ is_allowed self.now.scripting (names_of above_body fs) name.now) }
+        ensures { (n : List ℕ) → known ≡ known_name n → WhateverIsOpen self.now (λ has_doctype fs.
+            result ≡ is_allowed self.now.scripting (names_of above_body fs) n) }
     {
-        self.top().surroundings.allows(name)
+        self.top().surroundings.allows(known)
     }
 
     /// Opens the element of a start tag, or adds a void one.
-    fn open_tag(&mut self, name: &str, attrs: Vec<Attribute>, rest: &'a str) -> Result<(), Stop>
+    fn open_tag(
+        &mut self,
+        name: &str,
+        known: KnownName,
+        attrs: Vec<Attribute>,
+        rest: &'a str,
+    ) -> Result<(), Stop>
         requires reading { IsReading self.old }
+        requires known { known ≡ known_name name.now }
         ensures follows { Steps self.old self.new result
             (λ fs. open_step (rules_of self.old) above_body fs name.now (pairs_of attrs.items) rest.now) }
         ensures reading { OnOk result (IsReading self.new) }
     {
-        if !self.allows(name) {
+        if !self.allows(known) {
             return Err(self.refused(FaultKind::NotAllowedHere));
         }
         if is_void(name) {
             return self.add_leaf(NewNode::Element { name, attrs }, rest);
         }
         let content = content_of(name, rest);
-        self.open_element(name, attrs, content)
+        self.open_element(name, known, attrs, content)
     }
 
     /// Whether an element with this name implies a `tbody` here: a row in a table.
@@ -148,17 +160,24 @@ impl<'a> Reader<'a> {
     }
 
     /// Gives the element of a start tag its place, in an implied `tbody` if it implies one.
-    fn place_tag(&mut self, name: &str, attrs: Vec<Attribute>, rest: &'a str) -> Result<(), Stop>
+    fn place_tag(
+        &mut self,
+        name: &str,
+        known: KnownName,
+        attrs: Vec<Attribute>,
+        rest: &'a str,
+    ) -> Result<(), Stop>
         requires reading { IsReading self.old }
+        requires known { known ≡ known_name name.now }
         ensures follows { Steps self.old self.new result
             (λ fs. place_step (rules_of self.old) above_body fs name.now (pairs_of attrs.items) rest.now) }
         ensures reading { OnOk result (IsReading self.new) }
     {
         if self.implies_body(name) {
             self.open_implied_body()?;
-            return self.open_tag(name, attrs, rest);
+            return self.open_tag(name, known, attrs, rest);
         }
-        self.open_tag(name, attrs, rest)
+        self.open_tag(name, known, attrs, rest)
     }
 
     /// Reads a start tag, given what follows `<`.
@@ -182,9 +201,10 @@ impl<'a> Reader<'a> {
         };
         let lowered = in_lower_case(self.alloc, spelled)?;
         let name = lowered.as_str();
-        match fault_of_name(name, form.slash) {
+        let known = known_name(name);
+        match fault_of_name(name, known, form.slash) {
             Some(kind) => Err(self.refused(kind)),
-            None => self.place_tag(name, attrs, form.rest),
+            None => self.place_tag(name, known, attrs, form.rest),
         }
     }
 
@@ -222,7 +242,7 @@ impl<'a> Reader<'a> {
             return Err(self.refused(FaultKind::MalformedTag));
         };
         let name = in_lower_case(self.alloc, spelled)?;
-        if is_outside(name.as_str()) {
+        if is_outside(known_name(name.as_str())) {
             return Err(self.refused(FaultKind::TagOutside));
         }
         self.close_tag(name.as_str(), rest)

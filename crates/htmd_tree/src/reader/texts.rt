@@ -2,7 +2,7 @@
 ghost use Rattle.std.specs.Prelude.{◌≡◌, ◌<◌, ◌≤◌, Bool, List, [], ℕ, false, length, slice_index, string_bytes, IfOk};
 ghost use Rattle.std.specs.Prelude.{OnOk, MatchResult};
 ghost use Rattle.std.specs.Str.{IsUtf8};
-ghost use Rattle.htmd_grammar.specs.CharacterClasses.{leading_run, is_empty};
+ghost use Rattle.htmd_lexical.specs.CharacterClasses.{leading_run, is_empty};
 ghost use Rattle.htmd_grammar.specs.ReaderSteps.{OpenElement};
 ghost use Rattle.htmd_tree.specs.declared.reader.Stop.TheVariants.{Refused};
 ghost use Rattle.htmd_tree.specs.TextRuns.{is_literal, is_run_end, TellsOfText, Pushes, ReadsRun, IsCharacterIn};
@@ -34,7 +34,8 @@ fn is_literal(byte: u8, parts: bool) -> bool
     if parts {
         byte.is_ascii_whitespace() && byte != b'\r'
     } else {
-        byte != b'<' && byte != b'&' && byte != b'\r'
+        // Most bytes are letters, which are greater than each of the marks.
+        byte > b'<' || byte != b'<' && byte != b'&' && byte != b'\r'
     }
 }
 

@@ -4,8 +4,8 @@ ghost use Rattle.std.specs.Prelude.{◌≡◌, ◌<◌, ℕ, List, true, IfOk, I
 ghost use Rattle.std.specs.Prelude.{◌++◌, nat_lt, if◌then◌else◌, length, string_bytes, []};
 ghost use Rattle.std.specs.Option.{option_copied};
 ghost use Rattle.htmd_text.specs.Trims.{trimmed_end, is_space};
-ghost use Rattle.htmd_grammar.specs.Attributes.{pairs_of};
-ghost use Rattle.htmd_nodes.specs.Serialisation.{start_tag, comment_of};
+ghost use Rattle.htmd_lexical.specs.Attributes.{pairs_of};
+ghost use Rattle.htmd_values.specs.Serialisation.{start_tag, comment_of};
 ghost use Rattle.htmd_walk.specs.Groups.{only_text, group_children, children_at};
 ghost use Rattle.htmd_walk.specs.Elements.{raw_result, end_of_element};
 ghost use Rattle.htmd_walk.specs.Passing.{passed_text};

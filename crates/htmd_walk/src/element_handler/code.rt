@@ -3,7 +3,7 @@
 ghost use Rattle.std.specs.Prelude.{◌≡◌, ◌<◌, Some, IfOk, true, length};
 ghost use Rattle.std.specs.Option.{option_copied};
 ghost use Rattle.htmd_nodes.specs.Items.{parent_at};
-ghost use Rattle.htmd_grammar.specs.Attributes.{pairs_of};
+ghost use Rattle.htmd_lexical.specs.Attributes.{pairs_of};
 ghost use Rattle.htmd_walk.specs.Code as spec;
 ghost use Rattle.htmd_walk.specs.Views.{plan_view, element_view, result_view, optional_result};
 

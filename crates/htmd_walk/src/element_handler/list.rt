@@ -4,7 +4,7 @@ ghost use Rattle.std.specs.Prelude.{◌≡◌, ◌<◌, IfOk, All, length, map, 
 ghost use Rattle.std.specs.List.{list_any};
 ghost use Rattle.htmd_markdown.specs.Lists.{block_of};
 ghost use Rattle.htmd_nodes.specs.Items.{children_of, data_at, tag_of};
-ghost use Rattle.htmd_grammar.specs.Attributes.{pairs_of};
+ghost use Rattle.htmd_lexical.specs.Attributes.{pairs_of};
 ghost use Rattle.htmd_walk.specs.Handling.{IsProper};
 ghost use Rattle.htmd_walk.specs.Lists as spec;
 ghost use Rattle.htmd_walk.specs.Views.{element_view, result_view, results_view, optional_result};

@@ -2,7 +2,7 @@
 
 ghost use Rattle.std.specs.Prelude.{◌≡◌, ◌&&◌, ◌||◌, not, IfOk, length};
 ghost use Rattle.std.specs.Option.{option_copied};
-ghost use Rattle.htmd_grammar.specs.Attributes.{pairs_of};
+ghost use Rattle.htmd_lexical.specs.Attributes.{pairs_of};
 ghost use Rattle.htmd_walk.specs.ElementPlans as spec;
 ghost use Rattle.htmd_walk.specs.Outputs.{is_markdown_alone};
 ghost use Rattle.htmd_walk.specs.ElementPlans.{wrapped_result};

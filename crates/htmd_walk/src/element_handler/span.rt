@@ -2,7 +2,7 @@
 
 ghost use Rattle.std.specs.Prelude.{◌≡◌, IfOk};
 ghost use Rattle.std.specs.Option.{option_copied};
-ghost use Rattle.htmd_grammar.specs.Attributes.{pairs_of};
+ghost use Rattle.htmd_lexical.specs.Attributes.{pairs_of};
 ghost use Rattle.htmd_walk.specs.Spans.{spans, formula_mark, mark_of_class, span_result};
 ghost use Rattle.htmd_walk.specs.Views.{plan_view, element_view, result_view, optional_result};
 

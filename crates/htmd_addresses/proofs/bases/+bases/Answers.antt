@@ -1,7 +1,7 @@
 -- What is left to prove of the functions of the cycle `bases`.
 use Rattle.std.proofs.Common.{rules, ◌<◌, length, sym, ap, ◌∙◌, arith, ℕ, List}
-use Rattle.htmd_grammar.specs.Attributes.{pairs_of}
-use Rattle.htmd_grammar.specs.ValueTrees.{AttributePair}
+use Rattle.htmd_lexical.specs.Attributes.{pairs_of}
+use Rattle.htmd_lexical.specs.AttributePairs.{AttributePair}
 use Rattle.htmd_nodes.specs.Items.{document_node, element_node, children_of}
 use Rattle.htmd_nodes.specs.NumberedTrees.{tree_of, forest_of, value_forest}
 use Rattle.htmd_nodes.specs.Views.{data_of}

@@ -1,5 +1,5 @@
 use Rattle.std.proofs.Common.{◌≡◌, drop}
-use Rattle.htmd_grammar.specs.Attributes.{pairs_of}
+use Rattle.htmd_lexical.specs.Attributes.{pairs_of}
 use Rattle.htmd_addresses.specs.Bases.{href_of}
 use Rattle.htmd_addresses.proofs.bases.href_of.Given as goal
 

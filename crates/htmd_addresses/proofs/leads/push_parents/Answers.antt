@@ -1,5 +1,5 @@
 use Rattle.std.proofs.Common.{◌∙◌, ◌++◌, ◌∷◌, [], ap, arith, lit<, string_bytes}
-use Rattle.htmd_grammar.specs.Characters.{slash}
+use Rattle.htmd_lexical.specs.Characters.{slash}
 use Rattle.htmd_addresses.proofs.LeadsLemmas.{parents-more}
 use Rattle.htmd_addresses.proofs.leads.push_parents.Goals as goal
 

@@ -4,7 +4,7 @@ use Rattle.std.specs.Slice.Iter.{split_rest}
 use Rattle.std.proofs.lemmas.List.{length_push, drop_all}
 use Rattle.std.proofs.lemmas.Iterator.Splits.{YieldsList-from_slice_split}
 use Rattle.std.proofs.lemmas.Iterator.Consumers.{YieldsList-turn, YieldsList-end}
-use Rattle.htmd_grammar.specs.Characters.{slash}
+use Rattle.htmd_lexical.specs.Characters.{slash}
 use Rattle.htmd_addresses.specs.PageViews.{names_of}
 use Rattle.htmd_addresses.specs.Paths.{enter_all, name_len, names_before}
 use Rattle.htmd_addresses.proofs.PathsLemmas.{enter_all-turn}

@@ -1,7 +1,7 @@
 -- What the loop of `name_len` keeps.
 use Rattle.std.proofs.Common.{◌≡◌, ◌==◌, ◌+◌, ◌≤◌, length, not, take}
 use Rattle.std.specs.List.{suffix_len}
-use Rattle.htmd_grammar.specs.Characters.{slash}
+use Rattle.htmd_lexical.specs.Characters.{slash}
 use Rattle.htmd_addresses.proofs.paths.name_len.Given as goal
 
 abbrev pub invariant-loop-end : goal.invariant-loop-end

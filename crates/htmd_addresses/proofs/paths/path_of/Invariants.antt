@@ -1,7 +1,7 @@
 -- What the loop of `path_of` keeps.
 use Rattle.std.proofs.Common.{◌≡◌, ◌++◌, ◌∷◌, [], drop}
 use Rattle.std.specs.List.{flat_map}
-use Rattle.htmd_grammar.specs.Characters.{slash}
+use Rattle.htmd_lexical.specs.Characters.{slash}
 use Rattle.htmd_addresses.specs.PageViews.{names_of}
 use Rattle.htmd_addresses.proofs.paths.path_of.Given as goal
 

@@ -1,5 +1,5 @@
 use Rattle.std.proofs.Common.{◌≡◌, ◌++◌, drop}
-use Rattle.htmd_grammar.specs.Attributes.{pairs_of}
+use Rattle.htmd_lexical.specs.Attributes.{pairs_of}
 use Rattle.htmd_addresses.specs.Addresses as spec
 use Rattle.htmd_addresses.proofs.resolving.attributes_of.Given as goal
 

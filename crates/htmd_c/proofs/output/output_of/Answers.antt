@@ -1,9 +1,10 @@
--- The text is the bytes.
+-- The settings are those that the struct stands for.
 use Rattle.std.proofs.Common.{subst, string_bytes}
-use Rattle.htmd_c.specs.CallResults.{IsOutputBy}
+use Rattle.htmd.specs.PageOutputs.{IsOutputOf}
+use Rattle.htmd.specs.PageSettings.{Settings}
 use Rattle.htmd_c.proofs.output.output_of.Goals as goal
 
-pub returns-in-Ok-text_output-clause-ok : goal.returns-in-Ok-text_output-clause-ok
-returns-in-Ok-text_output-clause-ok c =
-    subst (λ html. IsOutputBy c.args.options.now html (string_bytes c.in-Ok-text_output.output))
-    c.in-Ok.ensures.cases.0 c.in-Ok-text_output.ensures.ok
+pub returns-clause-ok : goal.returns-clause-ok
+returns-clause-ok c =
+    let P : Settings → Type 0 = λ s. IsOutputOf s c.args.html.now (string_bytes c.in_ok-convert_page.field-0) in
+    subst P c.settings_of-settings.ensures c.in_ok-convert_page.ensures.ok

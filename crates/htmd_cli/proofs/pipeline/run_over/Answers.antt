@@ -1,18 +1,16 @@
--- All was read, or not.
-use Rattle.std.proofs.Common.{refl}
-use Rattle.htmd_cli.specs.Settings.{settings_in}
-use Rattle.htmd_cli.proofs.StreamConversionsLemmas.{ends_over, ends_unread}
+-- A page by itself is converted by the settings.
+use Rattle.std.proofs.Common.{◌∙◌, subst}
+use Rattle.htmd.specs.PageConverters.{settings_of}
+use Rattle.htmd.specs.PageSettings.{Settings, page_in}
+use Rattle.htmd.proofs.PageOutputsLemmas.{alone_adds_nothing}
+use Rattle.htmd_cli.specs.StreamConversions.{Ends}
 use Rattle.htmd_cli.proofs.pipeline.run_over.Goals as goal
 
-pub returns-in-Ok-clause-ends : goal.returns-in-Ok-clause-ends
-returns-in-Ok-clause-ends g c =
-    ends_over (settings_in c.args.settings.now) (g.R.Source.remaining c.args.source.now)
-    (g.R.Source.remaining c.read_all.new.source) c.in-Ok.input.items c.as_slice.result.now g.W.Sink.contents
-    c.args.sink.now c.write_output.new.sink c.write_output.result c.in-Ok.ensures.bytes c.in-Ok.ensures.end
-    c.as_slice.ensures.value c.write_output.ensures.ends
-
-pub returns-in-Err-clause-ends : goal.returns-in-Err-clause-ends
-returns-in-Err-clause-ends g c =
-    ends_unread (Unit {0}) (settings_in c.args.settings.now) (g.R.Source.remaining c.args.source.now)
-    (g.R.Source.remaining c.read_all.new.source) g.W.Sink.contents c.args.sink.now c.args.sink.now c.in-Err.error
-    c.in-Err.ensures.others refl
+pub returns-clause-ends : goal.returns-clause-ends
+returns-clause-ends g c =
+    let converter = c.in-Ok-new.converter in
+    let P : Settings → Type 0 = λ settings. Ends settings (g.R.Source.remaining c.args.source.now)
+    (g.R.Source.remaining c.convert_stream.new.source) g.W.Sink.contents c.args.sink.now c.convert_stream.new.sink
+    c.convert_stream.result.0 in
+    subst P (alone_adds_nothing (page_in c.alone.result) (settings_of converter) c.alone.ensures
+    ∙ c.in-Ok-new.ensures.settings) c.convert_stream.ensures.ends

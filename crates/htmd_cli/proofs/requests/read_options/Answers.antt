@@ -2,7 +2,8 @@
 use Rattle.std.proofs.Common.{rules, ◌∙◌, ◌+◌, ap, sym, refl, arith, is_some}
 use Rattle.std.proofs.lemmas.Grind.{common_steps}
 use Rattle.htmd_cli.specs.Options.{meaning, known_options, is_read_in_memory}
-use Rattle.htmd_cli.proofs.OptionsLemmas.{asked_first, known_more, memory_fault, second, unknown_later, untaken_at, untaken_later}
+use Rattle.htmd_cli.proofs.OptionsLemmas.{asked_first, known_more, memory_fault, second, unknown_later, untaken_at}
+use Rattle.htmd_cli.proofs.OptionsLemmas.{untaken_later}
 use Rattle.htmd_cli.proofs.requests.read_options.Goals.{in-Ok, in-Err-Memory}
 use Rattle.htmd_cli.proofs.requests.read_options.Goals as goal
 

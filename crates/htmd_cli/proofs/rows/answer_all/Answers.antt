@@ -3,7 +3,7 @@ use Rattle.std.proofs.Common.{◌≡◌, ◌∙◌, ◌+◌, ap, subst, length, 
 use Rattle.std.specs.Io.KnownBytes.{IsAtEnd}
 use Rattle.htmd.specs.Characters.{line_feed}
 use Rattle.htmd_cli.specs.Batches.{Answers, followed, rows_from, rows_left}
-use Rattle.htmd_cli.specs.Settings.{settings_in}
+use Rattle.htmd.specs.PageConverters.{settings_of}
 use Rattle.htmd_streams.specs.Lines.{lacks}
 use Rattle.htmd_cli.specs.Rows.{counted}
 use Rattle.htmd_cli.proofs.BatchesLemmas.{Progress-step, Progress-kept, batch_rests, batch_breaks, batch_ends}
@@ -12,7 +12,7 @@ use Rattle.htmd_cli.proofs.rows.answer_all.Goals as goal
 
 pub returns-in_default-clause-stops : goal.returns-in_default-clause-stops
 returns-in_default-clause-stops g c =
-    let settings = settings_in c.args.settings.now in
+    let settings = settings_of c.args.converter.now in
     let source = g.R.Source.remaining c.args.source.now in
     let sink = g.W.Sink.contents c.args.sink.now in
     λ _. batch_rests settings source (g.R.Source.remaining c.loop.source) sink (g.W.Sink.contents c.loop.sink)
@@ -20,7 +20,7 @@ returns-in_default-clause-stops g c =
 
 pub returns-clause-stops : goal.returns-clause-stops
 returns-clause-stops g c =
-    let settings = settings_in c.args.settings.now in
+    let settings = settings_of c.args.converter.now in
     let source = g.R.Source.remaining c.args.source.now in
     let sink = g.W.Sink.contents c.args.sink.now in
     λ _. batch_rests settings source (g.R.Source.remaining c.loop.source) sink (g.W.Sink.contents c.loop.sink)
@@ -28,7 +28,7 @@ returns-clause-stops g c =
 
 pub returns-in-Err-clause-write : goal.returns-in-Err-clause-write
 returns-in-Err-clause-write g c =
-    let settings = settings_in c.args.settings.now in
+    let settings = settings_of c.args.converter.now in
     let source = g.R.Source.remaining c.args.source.now in
     let sink = g.W.Sink.contents c.args.sink.now in
     let was = c.loop.batch in
@@ -48,7 +48,7 @@ returns-in-Err-clause-write g c =
 
 pub returns-in-Ok-false-clause-ok : goal.returns-in-Ok-false-clause-ok
 returns-in-Ok-false-clause-ok g c =
-    let settings = settings_in c.args.settings.now in
+    let settings = settings_of c.args.converter.now in
     let source = g.R.Source.remaining c.args.source.now in
     let sink = g.W.Sink.contents c.args.sink.now in
     let was = c.loop.batch in
@@ -68,7 +68,7 @@ returns-in-Ok-false-clause-ok g c =
 
 pub returns-in-Err-outcome-clause-stops : goal.returns-in-Err-outcome-clause-stops
 returns-in-Err-outcome-clause-stops g c =
-    let settings = settings_in c.args.settings.now in
+    let settings = settings_of c.args.converter.now in
     let source = g.R.Source.remaining c.args.source.now in
     let sink = g.W.Sink.contents c.args.sink.now in
     let was = c.loop.batch in
@@ -86,7 +86,7 @@ returns-in-Err-outcome-clause-stops g c =
 
 pub loop-preserved : goal.loop-preserved
 loop-preserved g c =
-    let settings = settings_in c.args.settings.now in
+    let settings = settings_of c.args.converter.now in
     let source = g.R.Source.remaining c.args.source.now in
     let sink = g.W.Sink.contents c.args.sink.now in
     let was = c.loop.batch in

@@ -11,7 +11,7 @@ use Rattle.htmd_command.proofs.program.run_job.Goals as goal
 
 pub returns-in-Err-clause-run : goal.returns-in-Err-clause-run
 returns-in-Err-clause-run g c =
-    run_refused (job_in c.args.job.now) c.args.job.now.options.items (g.S.Store.changes c.args.store.now)
+    run_refused (job_in c.args.of.now.job.now) c.args.of.now.job.now.options.items (g.S.Store.changes c.args.store.now)
     (g.S.Store.changes c.find_plan.new.store) (g.R.Source.remaining c.args.source.now)
     (stream g.W.Sink.contents g.W.Sink.has_failed c.args.sink.now c.args.sink.now)
     (stream g.E.Sink.contents g.E.Sink.has_failed c.args.errors.now c.fail_plan.new.errors) c.fail_plan.result
@@ -21,31 +21,31 @@ returns-in-Err-clause-run g c =
 pub returns-in-StandardOutput-clause-run : goal.returns-in-StandardOutput-clause-run
 returns-in-StandardOutput-clause-run g c =
     let before = g.S.Store.changes c.args.store.now in
-    let asked = job_in c.args.job.now in
+    let asked = job_in c.args.of.now.job.now in
     let missed = missed_in c.in-Ok.found.1.items in
     let P : FilePlan → Type 0 = λ planned. IsPlanOf before asked missed (Ok planned) in
-    run_shown asked c.args.job.now.options.items before (g.S.Store.changes c.show_input.new.store)
+    run_shown asked c.args.of.now.job.now.options.items before (g.S.Store.changes c.show_input.new.store)
     (g.R.Source.remaining c.args.source.now)
     (stream g.W.Sink.contents g.W.Sink.has_failed c.args.sink.now c.show_input.new.sink)
     (stream g.E.Sink.contents g.E.Sink.has_failed c.args.errors.now c.show_input.new.errors) c.show_input.result
-    (g.S.Store.changes c.find_plan.new.store) c.as_str-input.result.now missed c.requires.asked
-    (subst P (ap plan_in c.in-StandardOutput.is ∙ ap standard_output (sym c.as_str-input.ensures.value))
+    (g.S.Store.changes c.find_plan.new.store) c.as_str.result.now missed c.requires.asked
+    (subst P (ap plan_in c.in-StandardOutput.is ∙ ap standard_output (sym c.as_str.ensures.value))
     c.in-Ok.ensures.ok)
     c.find_plan.ensures.same c.show_input.ensures.same c.show_input.ensures.shown
 
 pub returns-clause-run : goal.returns-clause-run
 returns-clause-run g c =
     let before = g.S.Store.changes c.args.store.now in
-    let asked = job_in c.args.job.now in
+    let asked = job_in c.args.of.now.job.now in
     let P : FilePlan → Type 0 =
-    λ planned. IsPlanOf before asked (missed_in c.as_slice-missed.result.now) (Ok planned) in
-    run_written asked c.args.job.now.options.items before (g.S.Store.changes c.write_pages.new.store)
+    λ planned. IsPlanOf before asked (missed_in c.as_slice-in-Files.result.now) (Ok planned) in
+    run_written asked c.args.of.now.job.now.options.items before (g.S.Store.changes c.write_pages.new.store)
     (g.R.Source.remaining c.args.source.now)
     (stream g.W.Sink.contents g.W.Sink.has_failed c.args.sink.now c.args.sink.now)
     (stream g.E.Sink.contents g.E.Sink.has_failed c.args.errors.now c.write_pages.new.errors) c.write_pages.result
-    (g.S.Store.changes c.find_plan.new.store) c.as_slice-pages.result.now (missed_in c.as_slice-missed.result.now)
+    (g.S.Store.changes c.find_plan.new.store) c.as_slice.result.now (missed_in c.as_slice-in-Files.result.now)
     c.requires.asked
-    (subst P (ap plan_in c.in-Files.is ∙ ap (λ items. files (pages_of items)) (sym c.as_slice-pages.ensures.value))
+    (subst P (ap plan_in c.in-Files.is ∙ ap (λ items. files (pages_of items)) (sym c.as_slice.ensures.value))
     (subst (λ items. IsPlanOf before asked (missed_in items) (Ok (plan_in c.in-Ok.found.0)))
-    (sym c.as_slice-missed.ensures.value) c.in-Ok.ensures.ok))
+    (sym c.as_slice-in-Files.ensures.value) c.in-Ok.ensures.ok))
     c.find_plan.ensures.same refl c.write_pages.ensures.written

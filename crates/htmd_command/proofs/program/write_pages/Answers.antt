@@ -29,10 +29,10 @@ returns-clause-written g c =
     let becomes : Option (List PageValue) → List (String Global) → Conversion =
     λ led options page. IsResultOf (request_for led page (request_by options)) in
     let led : Option (List PageValue) = option_map (λ kept. pages_in kept.now) c.as_ref.result in
-    let led_is : led ≡ pages_led_to (job_in c.args.job.now) pages =
+    let led_is : led ≡ pages_led_to (job_in c.args.of.now.job.now) pages =
     led_copied c.as_ref.result ∙ ap (option_map pages_in) c.as_ref.ensures.value ∙ c.in-Ok.ensures in
     let Q : List (String Global) → Type 0 = λ options.
     WritesPages (becomes led options) pages missed before after taken.0 status in
     let R : Option (List PageValue) → Type 0 = λ led.
-    WritesPages (becomes led c.args.job.now.options.items) pages missed before after taken.0 status in
+    WritesPages (becomes led c.args.of.now.job.now.options.items) pages missed before after taken.0 status in
     inl (taken.0, subst R led_is (subst Q c.as_slice-options.ensures.value taken.1))

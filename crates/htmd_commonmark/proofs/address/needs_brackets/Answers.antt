@@ -4,7 +4,7 @@ use Rattle.std.specs.Prelude.{◌||◌}
 use Rattle.std.specs.List.{list_any}
 use Rattle.std.proofs.lemmas.Iterator.{YieldsList-from_slice}
 use Rattle.std.proofs.lemmas.Iterator.Search.{any_from_yields_List}
-use Rattle.htmd_grammar.specs.CharacterClasses.{is_empty}
+use Rattle.htmd_lexical.specs.CharacterClasses.{is_empty}
 use Rattle.htmd_commonmark.specs.Addresses.{is_space_or_control}
 use Rattle.htmd_commonmark.proofs.AddressesLemmas.{filled_if}
 use Rattle.htmd_commonmark.proofs.address.needs_brackets.Goals as goal

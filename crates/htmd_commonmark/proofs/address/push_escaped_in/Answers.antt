@@ -1,20 +1,23 @@
 -- One more byte, escaped or not.
-use Rattle.std.proofs.Common.{◌≡◌, ◌++◌, ◌∷◌, [], ◌+◌, true, false, length, drop, lit<, ap, sym, ◌∙◌, arith, get_or, codes}
+use Rattle.std.proofs.Common.{◌≡◌, ◌++◌, ◌∷◌, [], ◌+◌, true, false, length, drop, lit<, ap, sym, ◌∙◌, arith, get_or}
+use Rattle.std.proofs.Common.{codes}
 use Rattle.std.proofs.Common.{List, ℕ, refl}
 use Rattle.std.proofs.lemmas.Bool.Decides.{nat_tests}
 use Rattle.std.proofs.lemmas.Slice.{between_to_end}
 use Rattle.std.proofs.lemmas.Str.{IsCharBoundary-before_ascii}
 use Rattle.std.specs.String.{string_bytes}
 use Rattle.std.specs.List.{between}
-use Rattle.htmd_grammar.proofs.Cases.{pushed}
-use Rattle.htmd_grammar.specs.Characters.{backslash}
+use Rattle.htmd_lexical.proofs.Cases.{pushed}
+use Rattle.htmd_lexical.specs.Characters.{backslash}
 use Rattle.htmd_markdown.proofs.RewritingLemmas.{rewriting_none, rewriting_stays, rewriting_replaced, rewriting_all}
 use Rattle.htmd_commonmark.specs.Addresses.{is_escaped, escaped_in}
 use Rattle.htmd_commonmark.specs.References.{begins_reference}
-use Rattle.htmd_commonmark.proofs.AddressesLemmas.{rewriting_escaped, escaped_at, reference_at, stays_at, escaped_is_ascii}
+use Rattle.htmd_commonmark.proofs.AddressesLemmas.{rewriting_escaped, escaped_at, reference_at, stays_at}
+use Rattle.htmd_commonmark.proofs.AddressesLemmas.{escaped_is_ascii}
 use Rattle.htmd_commonmark.proofs.address.push_escaped_in.Goals as goal
 use Rattle.htmd_commonmark.proofs.address.push_escaped_in.Goals.{then-is_escaped+in_ok-push_str+in_ok-push}
-use Rattle.htmd_commonmark.proofs.address.push_escaped_in.Goals.{else-is_escaped+then-begins_reference+in_ok-push_str-2+in_ok-push_str-3, else-is_escaped+else-begins_reference}
+use Rattle.htmd_commonmark.proofs.address.push_escaped_in.Goals.{else-is_escaped+then-begins_reference+in_ok-push_str-2+in_ok-push_str-3}
+use Rattle.htmd_commonmark.proofs.address.push_escaped_in.Goals.{else-is_escaped+else-begins_reference}
 
 -- the test as the code makes it
 escaped_told : (signs s bytes : List ℕ) (i : ℕ) → bytes ≡ s

@@ -1,5 +1,6 @@
 -- One more definition.
-use Rattle.std.proofs.Common.{◌≡◌, [], true, false, cond, codes, length, get_or, take, sym, ap, ◌∙◌, arith, string_bytes}
+use Rattle.std.proofs.Common.{◌≡◌, [], true, false, cond, codes, length, get_or, take, sym, ap, ◌∙◌, arith}
+use Rattle.std.proofs.Common.{string_bytes}
 use Rattle.std.specs.Prelude.{◌==◌}
 use Rattle.std.proofs.lemmas.Bool.Decides.{nat_tests}
 use Rattle.std.proofs.lemmas.List.{length-map, get_or-map, take_all}

@@ -4,7 +4,7 @@ use Rattle.std.proofs.Common.{string_bytes, string_len}
 use Rattle.std.specs.Prelude.{◌==◌}
 use Rattle.std.proofs.lemmas.List.{length-map, get_or-map}
 use Rattle.std.proofs.lemmas.List.Sums.{suffix_len-take_yes, suffix_len-take_no, suffix_len-le-length}
-use Rattle.htmd_grammar.specs.CharacterClasses.{is_empty}
+use Rattle.htmd_lexical.specs.CharacterClasses.{is_empty}
 use Rattle.htmd_markdown.specs.Tables.{texts}
 use Rattle.htmd_commonmark.proofs.TableLinesLemmas.{empty_if}
 use Rattle.htmd_commonmark.proofs.table.filled_len.Goals as goal

@@ -1,7 +1,7 @@
 -- The cells behind are empty.
 use Rattle.std.proofs.Common.{◌≡◌, ◌+◌, ◌≤◌, length, map, take, string_bytes}
 use Rattle.std.specs.List.{suffix_len}
-use Rattle.htmd_grammar.specs.CharacterClasses.{is_empty}
+use Rattle.htmd_lexical.specs.CharacterClasses.{is_empty}
 use Rattle.htmd_markdown.specs.Tables.{texts}
 use Rattle.htmd_commonmark.proofs.table.filled_len.Given as goal
 

@@ -1,5 +1,6 @@
 -- One more column.
-use Rattle.std.proofs.Common.{◌≡◌, ◌++◌, [], ◌+◌, codes, length, get_or, sym, ap, ◌∙◌, lit<, rules, string_bytes, ⊎_elim, arith}
+use Rattle.std.proofs.Common.{◌≡◌, ◌++◌, [], ◌+◌, codes, length, get_or, sym, ap, ◌∙◌, lit<, rules, string_bytes}
+use Rattle.std.proofs.Common.{⊎_elim, arith}
 use Rattle.std.proofs.lemmas.Bool.{cases_lt}
 use Rattle.std.proofs.lemmas.List.{append-nil, length_push}
 use Rattle.std.proofs.lemmas.Slice.Zip.{zip_turn, zip_end}

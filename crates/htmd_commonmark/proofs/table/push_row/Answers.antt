@@ -5,7 +5,7 @@ use Rattle.std.specs.Prelude.{replicate}
 use Rattle.std.proofs.lemmas.Bool.{cases_lt}
 use Rattle.std.proofs.lemmas.List.{append-nil, length_push, length-map, get_or-map}
 use Rattle.std.proofs.lemmas.Slice.Zip.{zip_turn, zip_end}
-use Rattle.htmd_grammar.specs.Characters.{space}
+use Rattle.htmd_lexical.specs.Characters.{space}
 use Rattle.htmd_markdown.specs.Tables.{texts}
 use Rattle.htmd_commonmark.specs.TableLines.{width_of}
 use Rattle.htmd_commonmark.proofs.TableLinesLemmas.{cells_left, cells-more, cells-end, columns-end}

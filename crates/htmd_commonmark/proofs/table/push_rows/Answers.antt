@@ -2,7 +2,7 @@
 use Rattle.std.proofs.Common.{◌≡◌, ◌∷◌, [], ◌++◌, length, get_or, map, take, sym, ap, ◌∙◌, arith, append_assoc, lit<}
 use Rattle.std.proofs.Common.{string_bytes}
 use Rattle.std.proofs.lemmas.List.{map_more, take_all}
-use Rattle.htmd_grammar.specs.Characters.{line_feed}
+use Rattle.htmd_lexical.specs.Characters.{line_feed}
 use Rattle.htmd_markdown.specs.Tables.{line, texts, row_texts}
 use Rattle.htmd_commonmark.specs.TableLines.{rows_text, shown_cells}
 use Rattle.htmd_commonmark.proofs.TableLinesLemmas.{rows_more}

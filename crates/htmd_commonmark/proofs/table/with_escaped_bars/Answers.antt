@@ -6,7 +6,7 @@ use Rattle.std.specs.String.{string_bytes}
 use Rattle.std.proofs.lemmas.List.{append-nil, length_push, map-id, take_all}
 use Rattle.std.proofs.lemmas.Iterator.Splits.{YieldsList-from_str_split}
 use Rattle.std.proofs.lemmas.Iterator.Consumers.{YieldsList-turn, YieldsList-end}
-use Rattle.htmd_grammar.specs.Characters.{vertical_bar}
+use Rattle.htmd_lexical.specs.Characters.{vertical_bar}
 use Rattle.htmd_text.specs.Joins.{joined_texts}
 use Rattle.htmd_text.proofs.IndentsLemmas.{pushed_some}
 use Rattle.htmd_markdown.proofs.JoinedTextsLemmas.{joined_more, separator_unless}

@@ -3,7 +3,7 @@ use Rattle.std.proofs.Common.{◌≡◌, [], ◌++◌, codes, length, map, take}
 use Rattle.std.specs.Prelude.{◌==◌}
 use Rattle.std.specs.List.{slice_split}
 use Rattle.std.specs.String.{string_bytes}
-use Rattle.htmd_grammar.specs.Characters.{vertical_bar}
+use Rattle.htmd_lexical.specs.Characters.{vertical_bar}
 use Rattle.htmd_text.specs.Joins.{joined_texts}
 use Rattle.htmd_commonmark.proofs.table.with_escaped_bars.Given as goal
 

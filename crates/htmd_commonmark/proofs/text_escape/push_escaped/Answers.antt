@@ -5,13 +5,14 @@ use Rattle.std.proofs.lemmas.Slice.{between_to_end}
 use Rattle.std.proofs.lemmas.Str.{IsCharBoundary-before_ascii}
 use Rattle.std.specs.String.{string_bytes}
 use Rattle.std.specs.List.{between}
-use Rattle.htmd_grammar.proofs.Cases.{pushed}
-use Rattle.htmd_grammar.specs.Characters.{backslash, underscore}
+use Rattle.htmd_lexical.proofs.Cases.{pushed}
+use Rattle.htmd_lexical.specs.Characters.{backslash, underscore}
 use Rattle.htmd_markdown.proofs.AddressesLemmas.{escaping_none, escaping_plain, escaping_marked, escaping_all}
 use Rattle.htmd_commonmark.specs.TextEscapes.{is_in_word, is_marked}
 use Rattle.htmd_commonmark.proofs.TextEscapesLemmas.{mark_is_ascii, mark_told, no_row, row_goes_on}
 use Rattle.htmd_commonmark.proofs.text_escape.push_escaped.Goals as goal
-use Rattle.htmd_commonmark.proofs.text_escape.push_escaped.Goals.{then-is_marked+in_ok-push_str+in_ok-push, else-is_marked}
+use Rattle.htmd_commonmark.proofs.text_escape.push_escaped.Goals.{then-is_marked+in_ok-push_str+in_ok-push}
+use Rattle.htmd_commonmark.proofs.text_escape.push_escaped.Goals.{else-is_marked}
 use Rattle.htmd_commonmark.proofs.text_escape.push_escaped.Goals.{then-begins_row, else-begins_row}
 
 pub loop-i-init : goal.loop-i-init

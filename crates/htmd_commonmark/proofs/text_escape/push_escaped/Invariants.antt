@@ -1,7 +1,7 @@
 -- What was written, the piece that waits, and what is known of the row of underscores.
 use Rattle.std.proofs.Common.{◌≡◌, ◌+◌, ℕ, slice_index}
 use Rattle.std.specs.String.{string_bytes}
-use Rattle.htmd_grammar.specs.Characters.{underscore}
+use Rattle.htmd_lexical.specs.Characters.{underscore}
 use Rattle.htmd_markdown.proofs.AddressesLemmas.{Escaping}
 use Rattle.htmd_commonmark.specs.TextEscapes.{is_in_word, is_marked}
 use Rattle.htmd_commonmark.proofs.text_escape.push_escaped.Given as goal

@@ -1,7 +1,7 @@
 -- The name is the first byte and a run.
 use Rattle.std.proofs.Common.{◌∙◌, ap, rules}
 use Rattle.std.proofs.lemmas.List.{take_rest}
-use Rattle.htmd_grammar.specs.CharacterClasses.{leading_run}
+use Rattle.htmd_lexical.specs.CharacterClasses.{leading_run}
 use Rattle.htmd_encodings.specs.Attributes.{is_name_byte}
 use Rattle.htmd_encodings.proofs.AttributesLemmas.{attribute_cut, attribute_split}
 use Rattle.htmd_encodings.proofs.attributes.attribute.Goals as goal

@@ -1,6 +1,6 @@
 -- The run from the front, and what is left of it.
 use Rattle.std.proofs.Common.{◌∙◌, take, drop, ap}
-use Rattle.htmd_grammar.proofs.RunsLemmas.{take_run, drop_run}
+use Rattle.htmd_lexical.proofs.RunsLemmas.{take_run, drop_run}
 use Rattle.htmd_encodings.specs.Views.{is_in}
 use Rattle.htmd_encodings.proofs.cuts.split_run.Goals as goal
 

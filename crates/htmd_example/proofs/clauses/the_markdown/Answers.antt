@@ -1,11 +1,11 @@
 -- The law, at the documents that the text denotes by either.
 use Rattle.std.proofs.Common.{◌≡◌, ◌∙◌, ℕ, true, List, sym, ap, string_bytes}
 use Rattle.std.proofs.lemmas.Result.{IfOk-weaker}
-use Rattle.htmd_grammar.specs.ValueTrees.{document}
+use Rattle.htmd_values.specs.ValueTrees.{document}
 use Rattle.htmd_grammar.specs.Rules.{project}
 use Rattle.htmd_nodes.specs.Items.{Item}
 use Rattle.htmd_nodes.specs.Layout.{document_items}
-use Rattle.htmd_tree_laws.specs.GrammarLaws.{AtMostOneDocument}
+use Rattle.htmd_law_trees.specs.GrammarLaws.{AtMostOneDocument}
 use Rattle.htmd.specs.BuiltIn.{built_in}
 use Rattle.htmd.specs.Conversions.{IsMarkdownOf}
 use Rattle.htmd.specs.Defaults.{default_options}

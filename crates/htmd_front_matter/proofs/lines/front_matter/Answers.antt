@@ -1,5 +1,5 @@
 use Rattle.std.proofs.Common.{arith, string_bytes}
-use Rattle.htmd_nodes.specs.NodeValues.{value_at}
+use Rattle.htmd_nodes.specs.NumberedTrees.{value_at}
 use Rattle.htmd_front_matter.specs.Values.{value_in}
 use Rattle.htmd_front_matter.specs.Lines.{keys, line_if}
 use Rattle.htmd_front_matter.specs.declared.values.Key.TheVariants.{Title}

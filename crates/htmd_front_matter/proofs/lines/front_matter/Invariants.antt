@@ -1,6 +1,6 @@
 use Rattle.std.proofs.Common.{◌≡◌, ◌++◌, drop, string_bytes}
 use Rattle.std.specs.Prelude.{flat_map}
-use Rattle.htmd_nodes.specs.NodeValues.{value_at}
+use Rattle.htmd_nodes.specs.NumberedTrees.{value_at}
 use Rattle.htmd_front_matter.specs.Values.{value_in}
 use Rattle.htmd_front_matter.specs.Lines.{keys, line_if, front_matter}
 use Rattle.htmd_front_matter.proofs.lines.front_matter.Given as goal

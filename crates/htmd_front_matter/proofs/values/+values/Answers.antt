@@ -1,7 +1,8 @@
 -- What is left to prove of the functions of the cycle `values`.
 use Rattle.std.proofs.Common.{rules, ◌<◌, length, sym, ap, ◌∙◌, arith, ℕ, List}
-use Rattle.htmd_grammar.specs.Attributes.{pairs_of}
-use Rattle.htmd_grammar.specs.ValueTrees.{AttributePair, ValueForest}
+use Rattle.htmd_lexical.specs.Attributes.{pairs_of}
+use Rattle.htmd_lexical.specs.AttributePairs.{AttributePair}
+use Rattle.htmd_values.specs.ValueTrees.{ValueForest}
 use Rattle.htmd_nodes.specs.Items.{document_node, element_node, children_of}
 use Rattle.htmd_nodes.specs.NumberedTrees.{tree_of, forest_of, value_forest}
 use Rattle.htmd_nodes.specs.Views.{data_of}

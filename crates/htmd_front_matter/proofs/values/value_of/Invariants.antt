@@ -1,5 +1,5 @@
 use Rattle.std.proofs.Common.{◌≡◌, drop}
-use Rattle.htmd_grammar.specs.Attributes.{pairs_of}
+use Rattle.htmd_lexical.specs.Attributes.{pairs_of}
 use Rattle.htmd_front_matter.specs.Values.{value_of}
 use Rattle.htmd_front_matter.proofs.values.value_of.Given as goal
 

@@ -1,6 +1,6 @@
 -- No attribute so far is a type.
 use Rattle.std.proofs.Common.{◌≡◌, drop}
-use Rattle.htmd_grammar.specs.Attributes.{pairs_of}
+use Rattle.htmd_lexical.specs.Attributes.{pairs_of}
 use Rattle.htmd_html5.specs.BodyStarts.{has_hidden_type}
 use Rattle.htmd_html5.proofs.body_starts.is_hidden.Given as goal
 

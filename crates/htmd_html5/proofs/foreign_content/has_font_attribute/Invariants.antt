@@ -1,6 +1,6 @@
 -- No attribute so far is one of a `font`.
 use Rattle.std.proofs.Common.{◌≡◌, drop}
-use Rattle.htmd_grammar.specs.Attributes.{pairs_of}
+use Rattle.htmd_lexical.specs.Attributes.{pairs_of}
 use Rattle.htmd_html5.specs.ForeignContent.{has_font_attribute}
 use Rattle.htmd_html5.proofs.foreign_content.has_font_attribute.Given as goal
 

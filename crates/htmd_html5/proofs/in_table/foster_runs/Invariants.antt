@@ -1,9 +1,9 @@
 -- What is left to put is the same all along.
-use denote.Shadow.{shadow}
-use denote.Text.{Utf8}
 use Rattle.std.proofs.Common.{◌≡◌, length}
 use Rattle.htmd_html5.specs.InTable.{foster_runs}
 use Rattle.htmd_html5.proofs.in_table.foster_runs.Given as goal
+use denote.Shadow.{shadow}
+use denote.Text.{Utf8}
 
 abbrev pub invariant-loop-rest : goal.invariant-loop-rest
 invariant-loop-rest l = record {

@@ -4,7 +4,7 @@ use Rattle.std.specs.Prelude.{not, OnOk}
 use Rattle.htmd_html5_state.specs.State.{StateValue}
 use Rattle.htmd_html5_tokens.specs.NextToken.{next_token}
 use Rattle.htmd_html5_tokens.specs.Tokens.{Read, value_of}
-use Rattle.htmd_grammar.specs.declared.content_model.ContentModel.{ContentModel}
+use Rattle.htmd_lexical.specs.declared.content_model.ContentModel.{ContentModel}
 use Rattle.htmd_html5.specs.Html5Documents.{next_read}
 use Rattle.htmd_html5.proofs.Html5DocumentsLemmas.{turn_on, turn_ends, reads_over}
 use Rattle.htmd_html5.proofs.reader.read_all.Goals as goal

@@ -1,9 +1,9 @@
 -- What is left to put is the same all along.
-use denote.Shadow.{shadow}
-use denote.Text.{Utf8}
 use Rattle.std.proofs.Common.{◌≡◌, length}
 use Rattle.htmd_html5.specs.Texts.{put_text}
 use Rattle.htmd_html5.proofs.texts.put_parts.Given as goal
+use denote.Shadow.{shadow}
+use denote.Text.{Utf8}
 
 abbrev pub invariant-loop-rest : goal.invariant-loop-rest
 invariant-loop-rest l = record {

@@ -2,10 +2,10 @@
 use Rattle.std.proofs.Common.{◌≡◌, ◌∙◌, length, take, drop, sym, ap, subst}
 use Rattle.std.specs.Str.{IsCharBoundary, IsUtf8}
 use Rattle.std.proofs.lemmas.Str.{IsUtf8-drop}
-use Rattle.htmd_grammar.specs.CharacterClasses.{leading_run, behind_run}
+use Rattle.htmd_lexical.specs.CharacterClasses.{leading_run, behind_run}
 use Rattle.htmd_html5.specs.Runs.{is_of_kind, first_kind}
 use Rattle.htmd_html5.specs.declared.tokens.RunKind.{RunKind}
-use Rattle.htmd_grammar.proofs.RunsLemmas.{take_run, drop_run}
+use Rattle.htmd_lexical.proofs.RunsLemmas.{take_run, drop_run}
 use Rattle.htmd_html5.proofs.RunLemmas.{run_cut}
 use Rattle.htmd_html5.proofs.tokens.split_run.Goals as goal
 

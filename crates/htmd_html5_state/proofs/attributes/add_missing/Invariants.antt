@@ -1,7 +1,7 @@
 -- What is left is still to be done with.
 use Rattle.std.proofs.Common.{◌≡◌}
 use Rattle.std.specs.Vec.Iter.{into_iter_items}
-use Rattle.htmd_grammar.specs.Attributes.{pairs_of}
+use Rattle.htmd_lexical.specs.Attributes.{pairs_of}
 use Rattle.htmd_html5_state.specs.Nodes.{with_missing}
 use Rattle.htmd_html5_state.proofs.attributes.add_missing.Given as goal
 

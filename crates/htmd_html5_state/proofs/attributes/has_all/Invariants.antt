@@ -1,7 +1,7 @@
 -- All that were met are there.
 use Rattle.std.proofs.Common.{◌≡◌, drop}
 use Rattle.std.specs.List.{list_all}
-use Rattle.htmd_grammar.specs.Attributes.{pairs_of}
+use Rattle.htmd_lexical.specs.Attributes.{pairs_of}
 use Rattle.htmd_html5_state.specs.Nodes.{has_pair}
 use Rattle.htmd_html5_state.proofs.attributes.has_all.Given as goal
 

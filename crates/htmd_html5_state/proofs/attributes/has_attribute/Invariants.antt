@@ -1,6 +1,6 @@
 -- The name was not met so far.
 use Rattle.std.proofs.Common.{◌≡◌, drop}
-use Rattle.htmd_grammar.specs.Attributes.{pairs_of}
+use Rattle.htmd_lexical.specs.Attributes.{pairs_of}
 use Rattle.htmd_html5_state.specs.Nodes.{has_attribute}
 use Rattle.htmd_html5_state.proofs.attributes.has_attribute.Given as goal
 

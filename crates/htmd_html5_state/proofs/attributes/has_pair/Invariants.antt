@@ -1,6 +1,6 @@
 -- The attribute was not met so far.
 use Rattle.std.proofs.Common.{◌≡◌, drop}
-use Rattle.htmd_grammar.specs.Attributes.{pair_of, pairs_of}
+use Rattle.htmd_lexical.specs.Attributes.{pair_of, pairs_of}
 use Rattle.htmd_html5_state.specs.Nodes.{has_pair}
 use Rattle.htmd_html5_state.proofs.attributes.has_pair.Given as goal
 

@@ -1,6 +1,6 @@
 -- The name was not met so far.
 use Rattle.std.proofs.Common.{◌≡◌, drop}
-use Rattle.htmd_grammar.specs.Attributes.{pairs_of}
+use Rattle.htmd_lexical.specs.Attributes.{pairs_of}
 use Rattle.htmd_html5_state.specs.Nodes.{value_of}
 use Rattle.htmd_html5_state.proofs.attributes.value.Given as goal
 

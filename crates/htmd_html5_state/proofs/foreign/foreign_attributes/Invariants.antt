@@ -1,7 +1,7 @@
 -- Those so far, and what is left.
 use Rattle.std.proofs.Common.{◌≡◌, ◌++◌, map}
 use Rattle.std.specs.Vec.Iter.{into_iter_items}
-use Rattle.htmd_grammar.specs.Attributes.{pairs_of}
+use Rattle.htmd_lexical.specs.Attributes.{pairs_of}
 use Rattle.htmd_html5_state.specs.Foreign.{foreign_attributes}
 use Rattle.htmd_html5_state.proofs.foreign.foreign_attributes.Given as goal
 

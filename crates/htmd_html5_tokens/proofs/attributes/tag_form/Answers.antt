@@ -1,7 +1,7 @@
 -- One more attribute.
 use Rattle.std.proofs.Common.{◌≡◌, suc, List, ◌∷◌, [], ◌++◌, length, ◌∙◌, ap, rules}
 use Rattle.std.proofs.lemmas.List.{map_push}
-use Rattle.htmd_grammar.specs.ValueTrees.{AttributePair}
+use Rattle.htmd_lexical.specs.AttributePairs.{AttributePair}
 use Rattle.htmd_html5_tokens.specs.Tags.{form_within}
 use Rattle.htmd_html5_tokens.specs.TagViews.{spelled_of, all_spelled_of, with_attributes}
 use Rattle.htmd_html5_tokens.proofs.TagsLemmas.{part_shorter, form_more}

@@ -1,10 +1,10 @@
 -- The attributes so far, and the form of what is left.
 use Rattle.std.proofs.Common.{◌≡◌, suc, length}
-use denote.Text.{Utf8}
-use denote.Shadow.{shadow}
 use Rattle.htmd_html5_tokens.specs.Tags.{form_within}
 use Rattle.htmd_html5_tokens.specs.TagViews.{all_spelled_of, with_attributes}
 use Rattle.htmd_html5_tokens.proofs.attributes.tag_form.Given as goal
+use denote.Text.{Utf8}
+use denote.Shadow.{shadow}
 
 abbrev pub invariant-loop-attributes : goal.invariant-loop-attributes
 invariant-loop-attributes l = record {

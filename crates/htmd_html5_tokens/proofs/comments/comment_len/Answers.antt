@@ -1,6 +1,6 @@
 -- What is left to prove of `comment_len`.
 use Rattle.std.proofs.Common.{arith}
-use Rattle.htmd_grammar.proofs.CharacterClassesLemmas.{up_to_more}
+use Rattle.htmd_lexical.proofs.CharacterClassesLemmas.{up_to_more}
 use Rattle.htmd_html5_tokens.specs.Comments.{ends_comment}
 use Rattle.htmd_html5_tokens.proofs.comments.comment_len.Goals as goal
 

@@ -1,10 +1,10 @@
 -- What is held so far, and what the rest stands for.
-use denote.Shadow.{shadow}
-use denote.Text.{Utf8}
 use Rattle.std.proofs.Common.{◌≡◌, ◌++◌, length}
 use Rattle.std.specs.String.{string_bytes}
 use Rattle.htmd_html5_tokens.specs.Contents.{decoded}
 use Rattle.htmd_html5_tokens.proofs.contents.decoded_pieces.Given as goal
+use denote.Shadow.{shadow}
+use denote.Text.{Utf8}
 
 abbrev pub invariant-loop-rest : goal.invariant-loop-rest
 invariant-loop-rest l = record {

@@ -1,6 +1,6 @@
 -- The literal bytes from the front, and what is left.
 use Rattle.std.proofs.Common.{◌≡◌, ◌+◌, length, drop}
-use Rattle.htmd_grammar.specs.CharacterClasses.{leading_run}
+use Rattle.htmd_lexical.specs.CharacterClasses.{leading_run}
 use Rattle.htmd_html5_tokens.specs.AppendedCharacters.{is_literal}
 use Rattle.htmd_html5_tokens.proofs.contents.literal_len.Given as goal
 

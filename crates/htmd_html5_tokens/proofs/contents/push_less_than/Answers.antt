@@ -1,6 +1,6 @@
 -- After `/>` the text may be cut.
 use Rattle.std.proofs.Common.{◌∙◌, ap, sym, codes}
-use Rattle.htmd_grammar.specs.CharacterClasses.{begins_with}
+use Rattle.htmd_lexical.specs.CharacterClasses.{begins_with}
 use Rattle.htmd_html5_tokens.proofs.ContentsLemmas.{cut_after_slash}
 use Rattle.htmd_html5_tokens.proofs.contents.push_less_than.Goals as goal
 

@@ -1,7 +1,7 @@
 -- Before `<` and `&` the text may be cut.
 use Rattle.std.proofs.Common.{◌∙◌, ap, take, drop, length}
-use Rattle.htmd_grammar.specs.CharacterClasses.{leading_run}
-use Rattle.htmd_grammar.proofs.RunsLemmas.{take_run, drop_run}
+use Rattle.htmd_lexical.specs.CharacterClasses.{leading_run}
+use Rattle.htmd_lexical.proofs.RunsLemmas.{take_run, drop_run}
 use Rattle.htmd_html5_tokens.specs.AppendedCharacters.{is_literal}
 use Rattle.htmd_html5_tokens.specs.declared.contents.Reading.TheVariants.{Text}
 use Rattle.htmd_html5_tokens.proofs.ContentsLemmas.{plain_cut}

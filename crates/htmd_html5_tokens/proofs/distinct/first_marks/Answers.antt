@@ -1,6 +1,6 @@
 -- One more name, which was met before or wasn't.
 use Rattle.std.proofs.Common.{◌∙◌, ◌+◌, ◌++◌, drop, ap, arith}
-use Rattle.htmd_grammar.specs.Attributes.{pairs_of}
+use Rattle.htmd_lexical.specs.Attributes.{pairs_of}
 use Rattle.htmd_html5_tokens.specs.Firsts.{are_first}
 use Rattle.htmd_html5_tokens.proofs.FirstsLemmas.{marks_more}
 use Rattle.htmd_html5_tokens.proofs.distinct.first_marks.Goals as goal

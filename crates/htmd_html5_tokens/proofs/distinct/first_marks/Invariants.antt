@@ -1,7 +1,7 @@
 -- The names so far are in the set, and each attribute so far is marked.
 use Rattle.std.proofs.Common.{◌≡◌, ℕ, List, [], ◌++◌, drop}
-use Rattle.htmd_grammar.specs.Attributes.{pairs_of}
-use Rattle.htmd_grammar.proofs.NamesLemmas.{HasNames}
+use Rattle.htmd_lexical.specs.Attributes.{pairs_of}
+use Rattle.htmd_lexical.proofs.NamesLemmas.{HasNames}
 use Rattle.htmd_html5_tokens.specs.Firsts.{are_first}
 use Rattle.htmd_html5_tokens.proofs.distinct.first_marks.Given as goal
 

@@ -1,7 +1,7 @@
 -- What is left to prove of `text_len`.
 use Rattle.std.proofs.Common.{◌∙◌, ap, sym, arith}
 use Rattle.std.proofs.lemmas.List.{take_rest}
-use Rattle.htmd_grammar.proofs.CharacterClassesLemmas.{up_to_more}
+use Rattle.htmd_lexical.proofs.CharacterClassesLemmas.{up_to_more}
 use Rattle.htmd_html5_tokens.specs.NextToken.{begins_markup}
 use Rattle.htmd_html5_tokens.proofs.markup.text_len.Goals as goal
 

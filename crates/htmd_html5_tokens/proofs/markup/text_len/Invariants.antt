@@ -1,6 +1,6 @@
 -- What the loop of `text_len` keeps.
 use Rattle.std.proofs.Common.{◌≡◌, ◌≤◌, ◌+◌, ◌-◌, length, drop}
-use Rattle.htmd_grammar.specs.CharacterClasses.{up_to}
+use Rattle.htmd_lexical.specs.CharacterClasses.{up_to}
 use Rattle.htmd_html5_tokens.specs.NextToken.{begins_markup}
 use Rattle.htmd_html5_tokens.proofs.markup.text_len.Given as goal
 

@@ -1,7 +1,7 @@
 -- The name is the row's, or isn't.
 use Rattle.std.proofs.Common.{◌∙◌, ap, sym, refl}
 use Rattle.std.specs.Str.{bytes_eq}
-use Rattle.htmd_grammar.specs.CharacterClasses.{begins_with}
+use Rattle.htmd_lexical.specs.CharacterClasses.{begins_with}
 use Rattle.htmd_html5_tokens.proofs.NamesLemmas.{not_its_name, split_row, its_name, other_name}
 use Rattle.htmd_html5_tokens.proofs.names.named_by.Goals as goal
 

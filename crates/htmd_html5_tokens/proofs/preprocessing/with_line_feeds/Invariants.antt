@@ -1,10 +1,10 @@
 -- What the loop of `with_line_feeds` keeps.
-use denote.Shadow.{shadow}
-use denote.Text.{Utf8}
 use Rattle.std.proofs.Common.{◌≡◌, ◌++◌, length}
 use Rattle.std.specs.String.{string_bytes}
-use Rattle.htmd_grammar.specs.Comments.{normalized}
+use Rattle.htmd_lexical.specs.LineEnds.{normalized}
 use Rattle.htmd_html5_tokens.proofs.preprocessing.with_line_feeds.Given as goal
+use denote.Shadow.{shadow}
+use denote.Text.{Utf8}
 
 abbrev pub invariant-loop-line : goal.invariant-loop-line
 invariant-loop-line l = record {

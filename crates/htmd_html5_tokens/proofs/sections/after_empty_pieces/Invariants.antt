@@ -1,9 +1,9 @@
 -- Nothing but what denotes nothing stood before what is left.
-use denote.Shadow.{shadow}
-use denote.Text.{Utf8}
 use Rattle.std.proofs.Common.{◌≡◌, length}
 use Rattle.htmd_html5_tokens.specs.NextToken.{after_empty_pieces}
 use Rattle.htmd_html5_tokens.proofs.sections.after_empty_pieces.Given as goal
+use denote.Shadow.{shadow}
+use denote.Text.{Utf8}
 
 abbrev pub invariant-loop-after : goal.invariant-loop-after
 invariant-loop-after l = record {

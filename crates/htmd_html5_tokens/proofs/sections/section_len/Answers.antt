@@ -1,6 +1,6 @@
 -- What is left to prove of `section_len`.
 use Rattle.std.proofs.Common.{arith}
-use Rattle.htmd_grammar.proofs.CharacterClassesLemmas.{up_to_more}
+use Rattle.htmd_lexical.proofs.CharacterClassesLemmas.{up_to_more}
 use Rattle.htmd_html5_tokens.specs.NextToken.{ends_section}
 use Rattle.htmd_html5_tokens.proofs.sections.section_len.Goals as goal
 

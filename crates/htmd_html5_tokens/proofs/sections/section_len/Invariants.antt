@@ -1,6 +1,6 @@
 -- What the loop of `section_len` keeps.
 use Rattle.std.proofs.Common.{◌≡◌, ◌≤◌, ◌+◌, ◌-◌, length, drop}
-use Rattle.htmd_grammar.specs.CharacterClasses.{up_to}
+use Rattle.htmd_lexical.specs.CharacterClasses.{up_to}
 use Rattle.htmd_html5_tokens.specs.NextToken.{ends_section}
 use Rattle.htmd_html5_tokens.proofs.sections.section_len.Given as goal
 

@@ -1,7 +1,7 @@
 -- The text may be cut there.
 use Rattle.std.proofs.Common.{◌∙◌, ap, take, drop, length}
-use Rattle.htmd_grammar.specs.CharacterClasses.{up_to}
-use Rattle.htmd_grammar.proofs.CharacterClassesLemmas.{take_up_to, drop_up_to}
+use Rattle.htmd_lexical.specs.CharacterClasses.{up_to}
+use Rattle.htmd_lexical.proofs.CharacterClassesLemmas.{take_up_to, drop_up_to}
 use Rattle.htmd_html5_tokens.specs.NextToken.{ends_section}
 use Rattle.htmd_html5_tokens.proofs.BeginningsLemmas.{cut_up_to, section_end_begins}
 use Rattle.htmd_html5_tokens.proofs.sections.split_section.Goals as goal

@@ -1,11 +1,11 @@
 -- Distinct attributes all count, and of others those that are marked.
 use Rattle.std.proofs.Common.{◌≡◌, ◌∙◌, sym, ap, subst, List, [], map, true}
 use Rattle.std.specs.Result.{IfOk}
-use Rattle.htmd_grammar.specs.ValueTrees.{AttributePair}
-use Rattle.htmd_grammar.specs.CharacterClasses.{are_distinct}
-use Rattle.htmd_grammar.specs.Tags.{attribute_names}
-use Rattle.htmd_grammar.specs.declared.attribute.Attribute.{Attribute}
-use Rattle.htmd_grammar.specs.Attributes.{pairs_of}
+use Rattle.htmd_lexical.specs.AttributePairs.{AttributePair}
+use Rattle.htmd_lexical.specs.CharacterClasses.{are_distinct}
+use Rattle.htmd_lexical.specs.Attributes.{attribute_names}
+use Rattle.htmd_lexical.specs.declared.attribute.Attribute.{Attribute}
+use Rattle.htmd_lexical.specs.Attributes.{pairs_of}
 use Rattle.htmd_html5_tokens.specs.Tags.{attribute_of, attributes_of, firsts}
 use Rattle.htmd_html5_tokens.specs.Firsts.{are_first, those_marked}
 use Rattle.htmd_html5_tokens.specs.TagViews.{all_spelled_of}

@@ -1,8 +1,8 @@
 -- One more attribute, which is marked or isn't.
 use Rattle.std.proofs.Common.{◌∙◌, ◌++◌, List, [], drop, get_or, map, refl, ap, sym, arith}
 use Rattle.std.proofs.lemmas.List.{append-nil}
-use Rattle.htmd_grammar.specs.ValueTrees.{AttributePair}
-use Rattle.htmd_grammar.specs.Attributes.{pairs_of}
+use Rattle.htmd_lexical.specs.AttributePairs.{AttributePair}
+use Rattle.htmd_lexical.specs.Attributes.{pairs_of}
 use Rattle.htmd_html5_tokens.specs.Tags.{attribute_of}
 use Rattle.htmd_html5_tokens.specs.TagViews.{all_spelled_of}
 use Rattle.htmd_html5_tokens.specs.declared.attributes.SpelledAttribute.{SpelledAttribute}

@@ -1,6 +1,6 @@
 -- The marked attributes so far, and what those that are left denote.
 use Rattle.std.proofs.Common.{◌≡◌, ◌++◌, drop, map}
-use Rattle.htmd_grammar.specs.Attributes.{pairs_of}
+use Rattle.htmd_lexical.specs.Attributes.{pairs_of}
 use Rattle.htmd_html5_tokens.specs.Tags.{attribute_of}
 use Rattle.htmd_html5_tokens.specs.Firsts.{those_marked}
 use Rattle.htmd_html5_tokens.specs.TagViews.{all_spelled_of}

@@ -6,8 +6,8 @@ use Rattle.std.proofs.lemmas.Str.{IsCharBoundary-before_ascii}
 use Rattle.std.specs.Prelude.{slice_index}
 use Rattle.std.specs.String.{string_bytes}
 use Rattle.std.specs.List.{between}
-use Rattle.htmd_grammar.proofs.Cases.{pushed}
-use Rattle.htmd_grammar.specs.Characters.{is_one_of, backslash}
+use Rattle.htmd_lexical.proofs.Cases.{pushed}
+use Rattle.htmd_lexical.specs.Characters.{is_one_of, backslash}
 use Rattle.htmd_markdown.proofs.AddressesLemmas.{escaping_none, escaping_plain, escaping_marked, escaping_all}
 use Rattle.htmd_markdown.proofs.AddressesLemmas.{among_is_ascii}
 use Rattle.htmd_markdown.proofs.address.push_escaped.Goals as goal

@@ -1,7 +1,7 @@
 -- What was written, and the piece that waits.
 use Rattle.std.specs.Prelude.{slice_index}
 use Rattle.std.specs.String.{string_bytes}
-use Rattle.htmd_grammar.specs.Characters.{is_one_of}
+use Rattle.htmd_lexical.specs.Characters.{is_one_of}
 use Rattle.htmd_markdown.proofs.AddressesLemmas.{Escaping}
 use Rattle.htmd_markdown.proofs.address.push_escaped.Given as goal
 

@@ -1,7 +1,7 @@
 -- A line feed was stripped, or none ends the content.
 use Rattle.std.proofs.Common.{ap, lit<, refl, ◌∙◌}
 use Rattle.std.proofs.lemmas.Str.Pattern.{strip_suffix_char}
-use Rattle.htmd_grammar.specs.Characters.{line_feed}
+use Rattle.htmd_lexical.specs.Characters.{line_feed}
 use Rattle.htmd_markdown.proofs.CodeBlocksLemmas.{code_of-stripped}
 use Rattle.htmd_markdown.proofs.code_block.code_of.Goals as goal
 

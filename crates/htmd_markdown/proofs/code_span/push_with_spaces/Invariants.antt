@@ -3,7 +3,7 @@ use Rattle.std.proofs.Common.{◌≡◌, [], ◌∷◌, ◌++◌, length, map, t
 use Rattle.std.specs.Prelude.{◌==◌}
 use Rattle.std.specs.List.{slice_split}
 use Rattle.std.specs.String.{string_bytes}
-use Rattle.htmd_grammar.specs.Characters.{line_feed, space}
+use Rattle.htmd_lexical.specs.Characters.{line_feed, space}
 use Rattle.htmd_text.specs.Joins.{joined_texts}
 use Rattle.htmd_markdown.proofs.code_span.push_with_spaces.Given as goal
 

@@ -1,6 +1,6 @@
 -- The first length that no run has, or the one after the longest.
 use Rattle.std.proofs.Common.{◌≡◌, ◌+◌, ◌-◌, false, sym, ap, ◌∙◌, arith}
-use Rattle.htmd_grammar.specs.Characters.{grave_accent}
+use Rattle.htmd_lexical.specs.Characters.{grave_accent}
 use Rattle.htmd_markdown.specs.Runs.{longest_run, has_run}
 use Rattle.htmd_markdown.specs.CodeSpans.{smallest_unused_len}
 use Rattle.htmd_markdown.proofs.CodeSpansLemmas.{first_unused}

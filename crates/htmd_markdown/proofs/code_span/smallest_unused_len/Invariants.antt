@@ -1,6 +1,6 @@
 -- Each length so far is a run's.
 use Rattle.std.proofs.Common.{◌≡◌, ℕ, ◌≤◌, ◌<◌, true}
-use Rattle.htmd_grammar.specs.Characters.{grave_accent}
+use Rattle.htmd_lexical.specs.Characters.{grave_accent}
 use Rattle.htmd_markdown.specs.Runs.{has_run}
 use Rattle.htmd_markdown.proofs.code_span.smallest_unused_len.Given as goal
 

@@ -2,7 +2,7 @@
 use Rattle.std.proofs.Common.{◌≡◌, ℕ, false, List, IfOk, ap, subst, sym, ◌∙◌, string_bytes}
 use Rattle.std.specs.Prelude.{◌||◌, Some}
 use Rattle.htmd_text.specs.Trims.{trimmed_text}
-use Rattle.htmd_grammar.specs.WhiteSpace.{is_document_white_space}
+use Rattle.htmd_lexical.specs.WhiteSpace.{is_document_white_space}
 use Rattle.htmd_markdown.specs.CodeSpans.{code_span, delimited_text, delimiter_len, meets_delimiter}
 use Rattle.htmd_markdown.specs.CodeSpanReading.{read_span, line_ends_as_spaces}
 use Rattle.htmd_markdown.proofs.ResultLemmas.{of_answer}

@@ -2,7 +2,7 @@ use Rattle.std.proofs.Common.{◌≡◌, take, min, ap, ◌∙◌}
 use Rattle.std.specs.Prelude.{sum_by}
 use Rattle.std.proofs.lemmas.List.{take_all}
 use Rattle.htmd_text.specs.Trims.{trimmed_text}
-use Rattle.htmd_grammar.specs.WhiteSpace.{is_document_white_space}
+use Rattle.htmd_lexical.specs.WhiteSpace.{is_document_white_space}
 use Rattle.htmd_markdown.specs.CellBytes.{byte_width}
 use Rattle.htmd_markdown.proofs.CharacterCounts.{width_counted}
 use Rattle.htmd_markdown.proofs.table.cell_width.Goals as goal

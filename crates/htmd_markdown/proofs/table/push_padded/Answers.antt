@@ -1,7 +1,7 @@
 use Rattle.std.proofs.Common.{◌≡◌, ◌-◌, ◌++◌, length, min, ap, ◌∙◌, arith, codes, string_bytes}
 use Rattle.std.specs.Prelude.{replicate}
 use Rattle.std.specs.Str.{chars}
-use Rattle.htmd_grammar.specs.Characters.{space}
+use Rattle.htmd_lexical.specs.Characters.{space}
 use Rattle.htmd_markdown.specs.Tables.{normalised_cell}
 use Rattle.htmd_markdown.proofs.TablesLemmas.{padded_pushed}
 use Rattle.htmd_markdown.proofs.table.push_padded.Goals as goal

@@ -9,7 +9,7 @@ use Rattle.std.proofs.lemmas.Iterator.Consumers.{YieldsList-turn, YieldsList-end
 use Rattle.htmd_markdown.proofs.TitlesLemmas.{tidying_none, tidying_empty, tidying_first, tidying_later, written}
 use Rattle.htmd_markdown.proofs.TitlesLemmas.{escaped_line}
 use Rattle.htmd_markdown.specs.Titles.{is_filled}
-use Rattle.htmd_grammar.specs.WhiteSpace.{is_document_white_space}
+use Rattle.htmd_lexical.specs.WhiteSpace.{is_document_white_space}
 use Rattle.htmd_text.specs.Trims.{trimmed_text}
 use Rattle.htmd_markdown.proofs.title.push_tidied.Goals.{then-not-is_first+in_ok-push, else-not-is_first}
 use Rattle.htmd_markdown.proofs.title.push_tidied.Goals as goal

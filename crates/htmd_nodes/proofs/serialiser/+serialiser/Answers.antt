@@ -2,11 +2,12 @@
 use Rattle.std.proofs.Common.{rules, ◌≡◌, ◌<◌, ◌++◌, length, string_bytes, sym, ap, ◌∙◌, arith, ℕ, List, false, codes}
 use Rattle.htmd_nodes.specs.Items.{children_of, document_node, doctype_node, text_node, comment_node, element_node}
 use Rattle.htmd_nodes.specs.NumberedTrees.{tree_of, forest_of, value_forest}
-use Rattle.htmd_grammar.specs.Attributes.{pairs_of}
-use Rattle.htmd_grammar.specs.declared.attribute.Attribute.{Attribute}
+use Rattle.htmd_lexical.specs.Attributes.{pairs_of}
+use Rattle.htmd_lexical.specs.declared.attribute.Attribute.{Attribute}
 use Rattle.htmd_nodes.specs.Views.{data_of}
-use Rattle.htmd_grammar.specs.ValueTrees.{AttributePair, ValueForest}
-use Rattle.htmd_grammar.specs.Serialisation.{start_tag, end_tag, is_void, is_raw_text, all_markup_of}
+use Rattle.htmd_lexical.specs.AttributePairs.{AttributePair}
+use Rattle.htmd_values.specs.ValueTrees.{ValueForest}
+use Rattle.htmd_values.specs.Serialisation.{start_tag, end_tag, is_void, is_raw_text, all_markup_of}
 use Rattle.htmd_nodes.proofs.ItemsLemmas.{child_read}
 use Rattle.htmd_nodes.proofs.SerialiserLemmas.{OnOk-pushed, OnOk-third, markup_of-node}
 use Rattle.htmd_nodes.proofs.serialiser.+serialiser.Goals as goal

@@ -2,7 +2,7 @@
 use Rattle.std.proofs.Common.{◌≡◌, ◌+◌, ◌-◌, ◌*◌, ◌++◌, length, drop, string_bytes}
 use Rattle.htmd_nodes.specs.Items.{children_of}
 use Rattle.htmd_nodes.specs.NumberedTrees.{tree_of, forest_of, value_forest}
-use Rattle.htmd_grammar.specs.Serialisation.{all_markup_of}
+use Rattle.htmd_values.specs.Serialisation.{all_markup_of}
 use Rattle.htmd_nodes.proofs.serialiser.+serialiser.Given as goal
 
 -- children come after their parent

@@ -5,8 +5,8 @@ use Rattle.std.specs.Str.{chars}
 use Rattle.std.specs.Str.Iter.{chars_rest}
 use Rattle.std.proofs.lemmas.List.{nil_from_length}
 use Rattle.std.proofs.lemmas.Str.{IsUtf8-past_char, chars-nil}
-use Rattle.htmd_grammar.specs.SerialiserSteps.{has_blank_line_from, has_blank_line}
-use Rattle.htmd_grammar.proofs.RawBlocksLemmas.{found_here, past_line_feed, past_other, has_blank_line-turn}
+use Rattle.htmd_values.specs.SerialiserSteps.{has_blank_line_from, has_blank_line}
+use Rattle.htmd_values.proofs.RawBlocksLemmas.{found_here, past_line_feed, past_other, has_blank_line-turn}
 use Rattle.htmd_nodes.proofs.serialiser.has_blank_line.Goals as goal
 
 pub returns-then-behind : goal.returns-then-behind

@@ -2,7 +2,7 @@
 use Rattle.std.proofs.Common.{◌≡◌}
 use Rattle.std.specs.Str.{IsUtf8, chars}
 use Rattle.std.specs.Str.Iter.{chars_rest}
-use Rattle.htmd_grammar.specs.SerialiserSteps.{has_blank_line_from, has_blank_line}
+use Rattle.htmd_values.specs.SerialiserSteps.{has_blank_line_from, has_blank_line}
 use Rattle.htmd_nodes.proofs.serialiser.has_blank_line.Given as goal
 
 abbrev pub invariant-loop-c : goal.invariant-loop-c

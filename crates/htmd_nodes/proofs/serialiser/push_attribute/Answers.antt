@@ -1,6 +1,6 @@
 -- The refusal of memory for each part.
 use Rattle.htmd_text.proofs.BeginningsLemmas.{begins-same, begins-pushed, begins-trans}
-use Rattle.htmd_grammar.proofs.Cases.{OnErr-always}
+use Rattle.htmd_lexical.proofs.Cases.{OnErr-always}
 use Rattle.htmd_nodes.proofs.serialiser.push_attribute.Goals as goal
 
 pub returns-in_err-push_str-clause-err : goal.returns-in_err-push_str-clause-err

@@ -4,7 +4,7 @@ use Rattle.std.specs.Str.{chars, encode_utf8_all}
 use Rattle.std.specs.Str.Iter.{chars_rest}
 use Rattle.std.proofs.lemmas.List.{append-nil, nil_from_length}
 use Rattle.std.proofs.lemmas.Str.{IsUtf8-past_char, chars_past_char, chars-nil}
-use Rattle.htmd_grammar.specs.RawBlocks.{without_blank_lines}
+use Rattle.htmd_values.specs.RawBlocks.{without_blank_lines}
 use Rattle.htmd_nodes.proofs.serialiser.push_block.Goals as goal
 
 pub loop-c-preserved : goal.loop-c-preserved

@@ -2,7 +2,7 @@
 use Rattle.std.proofs.Common.{◌≡◌, ◌++◌, false, length, string_bytes}
 use Rattle.std.specs.Str.{IsUtf8, chars, encode_utf8_all}
 use Rattle.std.specs.Str.Iter.{chars_rest}
-use Rattle.htmd_grammar.specs.RawBlocks.{without_blank_lines}
+use Rattle.htmd_values.specs.RawBlocks.{without_blank_lines}
 use Rattle.htmd_nodes.proofs.serialiser.push_block.Given as goal
 
 abbrev pub invariant-loop-c : goal.invariant-loop-c

@@ -2,11 +2,11 @@
 use Rattle.std.proofs.Common.{◌+◌, List, ◌∷◌, ◌++◌, drop, sym, ap, ◌∙◌, append_assoc, string_bytes}
 use Rattle.std.specs.List.{flat_map}
 use Rattle.std.proofs.lemmas.List.{at_drop_more}
-use Rattle.htmd_grammar.specs.Serialisation.{attribute_text}
-use Rattle.htmd_grammar.specs.declared.attribute.Attribute.{Attribute}
-use Rattle.htmd_grammar.specs.Attributes.{pair_of, pairs_of}
+use Rattle.htmd_values.specs.Serialisation.{attribute_text}
+use Rattle.htmd_lexical.specs.declared.attribute.Attribute.{Attribute}
+use Rattle.htmd_lexical.specs.Attributes.{pair_of, pairs_of}
 use Rattle.htmd_text.proofs.BeginningsLemmas.{begins-same, begins-pushed, begins-trans}
-use Rattle.htmd_grammar.proofs.Cases.{OnErr-always}
+use Rattle.htmd_lexical.proofs.Cases.{OnErr-always}
 use Rattle.htmd_nodes.proofs.serialiser.push_start_tag.Goals as goal
 
 pub returns-in_err-push_str-clause-err : goal.returns-in_err-push_str-clause-err

@@ -2,8 +2,8 @@
 use Rattle.std.proofs.Common.{◌≡◌, ◌++◌, drop, string_bytes}
 use Rattle.std.specs.List.{flat_map}
 use Rattle.htmd_text.specs.Beginnings.{IsBeginning}
-use Rattle.htmd_grammar.specs.Serialisation.{attribute_text}
-use Rattle.htmd_grammar.specs.Attributes.{pairs_of}
+use Rattle.htmd_values.specs.Serialisation.{attribute_text}
+use Rattle.htmd_lexical.specs.Attributes.{pairs_of}
 use Rattle.htmd_nodes.proofs.serialiser.push_start_tag.Given as goal
 
 abbrev pub invariant-loop-attribute : goal.invariant-loop-attribute

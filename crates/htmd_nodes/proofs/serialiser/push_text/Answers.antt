@@ -1,8 +1,8 @@
 -- What is left to prove of `push_text`.
 use Rattle.std.proofs.Common.{string_bytes}
 use Rattle.std.specs.Str.Iter.{chars_rest}
-use Rattle.htmd_grammar.specs.Serialisation.{text_byte}
-use Rattle.htmd_grammar.proofs.SerialisationLemmas.{text_byte-high, escaped_html-turn}
+use Rattle.htmd_values.specs.Serialisation.{text_byte}
+use Rattle.htmd_values.proofs.SerialisationLemmas.{text_byte-high, escaped_html-turn}
 use Rattle.htmd_nodes.proofs.serialiser.push_text.Goals as goal
 
 pub loop-c-preserved : goal.loop-c-preserved

@@ -1,7 +1,7 @@
 -- What the loop of `push_text` keeps.
 use Rattle.std.proofs.Common.{◌≡◌, ◌++◌, string_bytes}
 use Rattle.std.specs.Str.Iter.{chars_rest}
-use Rattle.htmd_grammar.specs.Serialisation.{text_byte, escaped_html}
+use Rattle.htmd_values.specs.Serialisation.{text_byte, escaped_html}
 use Rattle.htmd_nodes.proofs.serialiser.push_text.Given as goal
 
 abbrev pub invariant-loop-c : goal.invariant-loop-c

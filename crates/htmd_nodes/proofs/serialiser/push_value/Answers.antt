@@ -1,10 +1,10 @@
 -- One more character of a value, or the refusal of its memory.
 use Rattle.std.proofs.Common.{string_bytes, refl, rules}
-use Rattle.htmd_grammar.proofs.Cases.{OnErr-always}
+use Rattle.htmd_lexical.proofs.Cases.{OnErr-always}
 use Rattle.std.specs.Str.Iter.{chars_rest}
 use Rattle.htmd_text.proofs.BeginningsLemmas.{begins-same, begins-pushed, begins-trans}
-use Rattle.htmd_grammar.specs.Serialisation.{value_byte}
-use Rattle.htmd_grammar.proofs.SerialisationLemmas.{value_byte-high, escaped_html-turn}
+use Rattle.htmd_values.specs.Serialisation.{value_byte}
+use Rattle.htmd_values.proofs.SerialisationLemmas.{value_byte-high, escaped_html-turn}
 use Rattle.htmd_nodes.proofs.serialiser.push_value.Goals as goal
 
 pub loop-c-init : goal.loop-c-init

@@ -2,7 +2,7 @@
 use Rattle.std.proofs.Common.{◌≡◌, ◌++◌, string_bytes}
 use Rattle.std.specs.Str.Iter.{chars_rest}
 use Rattle.htmd_text.specs.Beginnings.{IsBeginning}
-use Rattle.htmd_grammar.specs.Serialisation.{value_byte, escaped_html}
+use Rattle.htmd_values.specs.Serialisation.{value_byte, escaped_html}
 use Rattle.htmd_nodes.proofs.serialiser.push_value.Given as goal
 
 abbrev pub invariant-loop-c : goal.invariant-loop-c

@@ -2,8 +2,8 @@
 use Rattle.std.proofs.Common.{◌≡◌, ◌∙◌, ap, false, string_bytes, sym}
 use Rattle.std.specs.Str.{chars}
 use Rattle.std.proofs.lemmas.Str.{IsUtf8-string_bytes}
-use Rattle.htmd_grammar.specs.SerialiserSteps.{has_blank_line}
-use Rattle.htmd_grammar.proofs.RawBlocksLemmas.{without_blank_lines-none}
+use Rattle.htmd_values.specs.SerialiserSteps.{has_blank_line}
+use Rattle.htmd_values.proofs.RawBlocksLemmas.{without_blank_lines-none}
 use Rattle.htmd_nodes.proofs.serialiser.without_blank_lines.Goals as goal
 
 pub returns-then-not-has_blank_line : goal.returns-then-not-has_blank_line

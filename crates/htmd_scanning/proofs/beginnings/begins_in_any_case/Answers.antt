@@ -1,7 +1,7 @@
 -- What is left to prove of `begins_in_any_case`.
 use Rattle.std.proofs.Common.{◌∙◌, ℕ, drop, sym, arith}
 use Rattle.std.proofs.lemmas.List.{length-drop}
-use Rattle.htmd_grammar.proofs.CharacterClassesLemmas.{begins_no_further}
+use Rattle.htmd_lexical.proofs.CharacterClassesLemmas.{begins_no_further}
 use Rattle.htmd_scanning.proofs.beginnings.begins_in_any_case.Goals as goal
 
 pub returns-in_default : goal.returns-in_default

@@ -1,6 +1,6 @@
 -- What the loop of `begins_in_any_case` keeps.
 use Rattle.std.proofs.Common.{◌≡◌, drop}
-use Rattle.htmd_grammar.specs.CharacterClasses.{begins_in_any_case}
+use Rattle.htmd_lexical.specs.CharacterClasses.{begins_in_any_case}
 use Rattle.htmd_scanning.proofs.beginnings.begins_in_any_case.Given as goal
 
 abbrev pub invariant-loop-character : goal.invariant-loop-character

@@ -1,6 +1,6 @@
 -- What the loop of `begins_with` keeps.
 use Rattle.std.proofs.Common.{◌≡◌, drop}
-use Rattle.htmd_grammar.specs.CharacterClasses.{begins_with}
+use Rattle.htmd_lexical.specs.CharacterClasses.{begins_with}
 use Rattle.htmd_scanning.proofs.beginnings.begins_with.Given as goal
 
 abbrev pub invariant-loop-character : goal.invariant-loop-character

@@ -1,6 +1,6 @@
 -- After ASCII characters a text may be cut.
 use Rattle.std.proofs.Common.{◌≡◌, true, ◌∙◌, sym, ap}
-use Rattle.htmd_grammar.specs.CharacterClasses.{begins_with}
+use Rattle.htmd_lexical.specs.CharacterClasses.{begins_with}
 use Rattle.htmd_scanning.proofs.BeginningsLemmas.{cut_after_beginning}
 use Rattle.htmd_scanning.proofs.beginnings.strip.Goals as goal
 

@@ -1,7 +1,7 @@
 -- After ASCII characters a text may be cut.
 use Rattle.std.proofs.Common.{◌≡◌, true, ◌∙◌, sym, ap}
-use Rattle.htmd_grammar.specs.CharacterClasses.{begins_in_any_case}
-use Rattle.htmd_grammar.proofs.PreludeLemmas.{begins_within, lead_behind}
+use Rattle.htmd_lexical.specs.CharacterClasses.{begins_in_any_case}
+use Rattle.htmd_lexical.proofs.AnyCaseLemmas.{begins_within, lead_behind}
 use Rattle.htmd_scanning.proofs.beginnings.strip_in_any_case.Goals as goal
 
 pub range_from-requires : goal.range_from-requires

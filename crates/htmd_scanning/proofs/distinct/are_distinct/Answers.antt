@@ -1,7 +1,7 @@
 -- The last name of those that are left, in the set or not.
 use Rattle.std.proofs.Common.{sym, ◌∙◌}
 use Rattle.std.proofs.lemmas.Bool.{not-true, not-false}
-use Rattle.htmd_grammar.proofs.NamesLemmas.{met_again, met_first}
+use Rattle.htmd_lexical.proofs.NamesLemmas.{met_again, met_first}
 use Rattle.htmd_scanning.proofs.distinct.are_distinct.Goals as goal
 
 pub returns-then-not-is_new : goal.returns-then-not-is_new

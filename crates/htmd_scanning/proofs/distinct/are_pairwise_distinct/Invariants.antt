@@ -1,8 +1,7 @@
 -- No name stood twice so far.
 use Rattle.std.proofs.Common.{◌≡◌, length}
-use Rattle.htmd_grammar.specs.CharacterClasses.{are_distinct}
-use Rattle.htmd_grammar.specs.Tags.{attribute_names}
-use Rattle.htmd_grammar.specs.Attributes.{pairs_of}
+use Rattle.htmd_lexical.specs.CharacterClasses.{are_distinct}
+use Rattle.htmd_lexical.specs.Attributes.{attribute_names, pairs_of}
 use Rattle.htmd_scanning.proofs.distinct.are_pairwise_distinct.Given as goal
 
 abbrev pub invariant-loop-rest : goal.invariant-loop-rest

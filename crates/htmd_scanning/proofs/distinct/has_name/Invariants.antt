@@ -1,8 +1,7 @@
 -- The name was not met so far.
 use Rattle.std.proofs.Common.{◌≡◌, drop}
-use Rattle.htmd_grammar.specs.CharacterClasses.{is_among}
-use Rattle.htmd_grammar.specs.Tags.{attribute_names}
-use Rattle.htmd_grammar.specs.Attributes.{pairs_of}
+use Rattle.htmd_lexical.specs.CharacterClasses.{is_among}
+use Rattle.htmd_lexical.specs.Attributes.{attribute_names, pairs_of}
 use Rattle.htmd_scanning.proofs.distinct.has_name.Given as goal
 
 abbrev pub invariant-loop-attribute : goal.invariant-loop-attribute

@@ -1,7 +1,7 @@
 -- What is left to prove of `raw_content_len`.
 use Rattle.std.proofs.Common.{arith}
-use Rattle.htmd_grammar.specs.RawContent.{begins_own_end}
-use Rattle.htmd_grammar.proofs.CharacterClassesLemmas.{up_to_more}
+use Rattle.htmd_lexical.specs.EndTags.{begins_own_end}
+use Rattle.htmd_lexical.proofs.CharacterClassesLemmas.{up_to_more}
 use Rattle.htmd_scanning.proofs.end_tags.raw_content_len.Goals as goal
 
 pub loop-len-preserved : goal.loop-len-preserved

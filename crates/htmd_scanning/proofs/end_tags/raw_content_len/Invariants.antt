@@ -1,7 +1,7 @@
 -- What the loop of `raw_content_len` keeps.
 use Rattle.std.proofs.Common.{◌≡◌, ◌≤◌, ◌+◌, ◌-◌, length, drop}
-use Rattle.htmd_grammar.specs.CharacterClasses.{up_to}
-use Rattle.htmd_grammar.specs.RawContent.{begins_own_end}
+use Rattle.htmd_lexical.specs.CharacterClasses.{up_to}
+use Rattle.htmd_lexical.specs.EndTags.{begins_own_end}
 use Rattle.htmd_scanning.proofs.end_tags.raw_content_len.Given as goal
 
 abbrev pub invariant-loop-len : goal.invariant-loop-len

@@ -1,7 +1,7 @@
 -- What is left to prove of `number`.
 use Rattle.std.proofs.Common.{◌≡◌, ◌+◌, ◌*◌, ◌∙◌, min, get_or, ap, arith}
-use Rattle.htmd_grammar.specs.References.{digit_value}
-use Rattle.htmd_grammar.proofs.NumbersLemmas.{number_more}
+use Rattle.htmd_lexical.specs.Numbers.{digit_value}
+use Rattle.htmd_lexical.proofs.NumbersLemmas.{number_more}
 use Rattle.htmd_scanning.proofs.numbers.number.Goals as goal
 
 pub loop-digit-preserved : goal.loop-digit-preserved

@@ -1,6 +1,6 @@
 -- What the loop of `number` keeps.
 use Rattle.std.proofs.Common.{◌≡◌, ◌≤◌, drop, min}
-use Rattle.htmd_grammar.specs.References.{number}
+use Rattle.htmd_lexical.specs.Numbers.{number}
 use Rattle.htmd_scanning.proofs.numbers.number.Given as goal
 
 abbrev pub invariant-loop-digit : goal.invariant-loop-digit

@@ -1,6 +1,6 @@
 -- The last tab, or that there is none.
 use Rattle.std.proofs.Common.{◌≡◌, ◌<◌, ◌+◌, sym, length, get_or, rules}
-use Rattle.htmd_grammar.specs.Characters.{tab}
+use Rattle.htmd_lexical.specs.Characters.{tab}
 use Rattle.htmd_streams.proofs.LinesLemmas.{lacks-all, lacks-behind, others-at, last-at, other_fields-none}
 use Rattle.htmd_streams.proofs.LinesLemmas.{last_field-whole}
 use Rattle.htmd_streams.proofs.lines.fields_of.Goals as goal

@@ -4,9 +4,10 @@ use Rattle.std.proofs.lemmas.Bool.Decides.{nat_tests}
 use Rattle.std.proofs.lemmas.Slice.{between_to_end}
 use Rattle.std.specs.String.{string_bytes}
 use Rattle.std.specs.List.{between}
-use Rattle.htmd_grammar.specs.Characters.{backslash}
+use Rattle.htmd_lexical.specs.Characters.{backslash}
 use Rattle.htmd_text.specs.EscapeKinds.{is_escaped_by, needs_no_escape}
-use Rattle.htmd_text.proofs.EscapedPlacesLemmas.{grows, writing_none, writing_plain, writing_marked, writing_nothing, writing_all, plain_stays}
+use Rattle.htmd_text.proofs.EscapedPlacesLemmas.{grows, writing_none, writing_plain, writing_marked, writing_nothing}
+use Rattle.htmd_text.proofs.EscapedPlacesLemmas.{writing_all, plain_stays}
 use Rattle.htmd_text.proofs.escape.with_backslashes.Goals as goal
 use Rattle.htmd_text.proofs.escape.with_backslashes.Goals.{then-is_escaped+in_ok-push_str+in_ok-push}
 use Rattle.htmd_text.proofs.escape.with_backslashes.Goals.{then-is_empty+in_ok-reserve, else-is_empty, else-is_escaped}

@@ -4,7 +4,7 @@ use Rattle.std.specs.Prelude.{◌==◌}
 use Rattle.std.specs.List.{between, prefix_len}
 use Rattle.std.proofs.lemmas.List.{length-drop}
 use Rattle.std.proofs.lemmas.Slice.{between_to_end}
-use Rattle.htmd_grammar.specs.Characters.{full_stop}
+use Rattle.htmd_lexical.specs.Characters.{full_stop}
 use Rattle.htmd_text.specs.ListMarkers.{dots_len}
 use Rattle.htmd_text.proofs.ListMarkersLemmas.{dot_told}
 use Rattle.htmd_text.proofs.list_markers.index_of_markdown_ordered_item_dot.Goals as goal

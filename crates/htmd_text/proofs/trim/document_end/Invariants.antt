@@ -1,7 +1,7 @@
 -- What the loop of `document_end` keeps.
 use Rattle.std.proofs.Common.{◌≡◌, ◌+◌, ◌≤◌, length, take}
 use Rattle.std.specs.List.{suffix_len}
-use Rattle.htmd_grammar.specs.WhiteSpace.{is_document_white_space}
+use Rattle.htmd_lexical.specs.WhiteSpace.{is_document_white_space}
 use Rattle.htmd_text.proofs.trim.document_end.Given as goal
 
 abbrev pub invariant-loop-end : goal.invariant-loop-end

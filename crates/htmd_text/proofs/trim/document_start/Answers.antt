@@ -2,7 +2,7 @@
 use Rattle.std.proofs.Common.{ℕ, length, subst, sym, arith}
 use Rattle.std.specs.Str.{IsCharBoundary}
 use Rattle.std.proofs.lemmas.List.Sums.{prefix_len_is}
-use Rattle.htmd_grammar.specs.WhiteSpace.{is_document_white_space}
+use Rattle.htmd_lexical.specs.WhiteSpace.{is_document_white_space}
 use Rattle.htmd_text.proofs.TrimsLemmas.{start_boundary, document_of_ascii}
 use Rattle.htmd_text.proofs.trim.document_start.Goals as goal
 

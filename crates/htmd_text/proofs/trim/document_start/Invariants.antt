@@ -1,6 +1,6 @@
 -- What the loop of `document_start` keeps.
 use Rattle.std.proofs.Common.{◌≡◌, ℕ, ◌<◌, get_or, true}
-use Rattle.htmd_grammar.specs.WhiteSpace.{is_document_white_space}
+use Rattle.htmd_lexical.specs.WhiteSpace.{is_document_white_space}
 use Rattle.htmd_text.proofs.trim.document_start.Given as goal
 
 abbrev pub invariant-loop-i : goal.invariant-loop-i

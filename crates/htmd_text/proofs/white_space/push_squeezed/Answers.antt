@@ -5,7 +5,7 @@ use Rattle.std.specs.List.{between}
 use Rattle.std.proofs.lemmas.Slice.{between_to_end}
 use Rattle.htmd_text.specs.SqueezedTexts.{squeezed_text}
 use Rattle.htmd_text.specs.Replacement.{IsReplaced}
-use Rattle.htmd_grammar.proofs.Cases.{pushed}
+use Rattle.htmd_lexical.proofs.Cases.{pushed}
 use Rattle.htmd_text.proofs.WhiteSpaceLemmas.{squeezing_none, squeezing_stays, squeezing_replaced, squeezing_all}
 use Rattle.htmd_text.proofs.white_space.push_squeezed.Goals as goal
 use Rattle.htmd_text.proofs.white_space.push_squeezed.Goals.{in-Some+in_ok-push_str+in_ok-push_str-2, in_default}

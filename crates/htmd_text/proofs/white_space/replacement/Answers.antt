@@ -2,7 +2,7 @@
 use Rattle.std.proofs.Common.{◌≡◌, ℕ, List, [], true, length, get_or, subst, sym, arith}
 use Rattle.std.specs.List.{between}
 use Rattle.std.proofs.lemmas.Slice.{first_rest}
-use Rattle.htmd_grammar.specs.WhiteSpace.{is_ascii_white_space, begins_with_white_space}
+use Rattle.htmd_lexical.specs.WhiteSpace.{is_ascii_white_space, begins_with_white_space}
 use Rattle.htmd_text.specs.Replacement.{IsReplaced}
 use Rattle.htmd_text.proofs.WhiteSpaceLemmas.{inner_replaced}
 use Rattle.htmd_text.proofs.white_space.replacement.Goals as goal

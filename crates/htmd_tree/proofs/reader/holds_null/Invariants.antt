@@ -2,7 +2,7 @@
 use Rattle.std.proofs.Common.{◌≡◌, take}
 use Rattle.std.specs.Prelude.{◌==◌}
 use Rattle.std.specs.List.{list_any}
-use Rattle.htmd_grammar.specs.Characters.{null}
+use Rattle.htmd_lexical.specs.Characters.{null}
 use Rattle.htmd_tree.proofs.reader.holds_null.Given as goal
 
 abbrev pub invariant-loop-byte : goal.invariant-loop-byte

@@ -1,7 +1,7 @@
 -- What is left to prove of `read_html`.
 use Rattle.std.proofs.Common.{◌-◌, ◌∷◌, [], Err, length, is_some, sym, subst}
 use Rattle.htmd_grammar.specs.Comments.{behind_doctype}
-use Rattle.htmd_grammar.specs.HtmlDocuments.{behind_mark}
+use Rattle.htmd_lexical.specs.ByteOrderMarks.{behind_mark}
 use Rattle.htmd_grammar.specs.Faults.{IsFault}
 use Rattle.htmd_grammar.specs.Rules.{project}
 use Rattle.htmd_grammar.specs.ReaderSteps.{body}

@@ -1,6 +1,6 @@
 use Rattle.std.proofs.Common.{List, ℕ, Option, Some, None, sym, ap, ◌∙◌}
-use Rattle.htmd_nodes.specs.ValueTrees.{AttributePair}
-use Rattle.htmd_grammar.specs.Attributes.{pairs_of}
+use Rattle.htmd_lexical.specs.AttributePairs.{AttributePair}
+use Rattle.htmd_lexical.specs.Attributes.{pairs_of}
 use Rattle.htmd_nodes.specs.Views.{data_of}
 use Rattle.htmd_walk.specs.Groups.{Joint}
 use Rattle.htmd_walk.specs.Joints.{optional_joint}

@@ -1,7 +1,7 @@
 use Rattle.std.proofs.Common.{◌≡◌, ◌++◌, ◌∙◌, ◌||◌, ap, sym, string_bytes, ltb}
 use Rattle.std.specs.List.{suffix_len}
 use Rattle.std.proofs.lemmas.Result.{on_ok_weaker}
-use Rattle.htmd_grammar.proofs.Cases.{pushed}
+use Rattle.htmd_lexical.proofs.Cases.{pushed}
 use Rattle.htmd_text.specs.EscapedPlaces.{escaped_markdown}
 use Rattle.htmd_text.specs.SqueezedTexts.{squeezed_text}
 use Rattle.htmd_text.specs.Trims.{is_space}

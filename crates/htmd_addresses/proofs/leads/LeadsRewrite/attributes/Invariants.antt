@@ -1,7 +1,7 @@
 -- The attributes so far, and those that follow.
 use Rattle.std.proofs.Common.{◌≡◌, ◌++◌, drop, map}
 use Rattle.std.specs.Option.{option_copied}
-use Rattle.htmd_grammar.specs.Attributes.{pairs_of}
+use Rattle.htmd_lexical.specs.Attributes.{pairs_of}
 use Rattle.htmd_addresses.specs.Leads.{attribute_of}
 use Rattle.htmd_addresses.specs.RunViews.{own_of, pages_in}
 use Rattle.htmd_addresses.proofs.leads.LeadsRewrite.attributes.Given as goal

@@ -3,7 +3,7 @@ use Rattle.std.proofs.Common.{◌∙◌, ◌++◌, ap, sym, refl}
 use Rattle.std.specs.Str.{bytes_eq}
 use Rattle.htmd.specs.Characters.{line_feed}
 use Rattle.htmd_cli.specs.Batches.{rows_from}
-use Rattle.htmd_cli.specs.Settings.{settings_in}
+use Rattle.htmd.specs.PageConverters.{settings_of}
 use Rattle.htmd_streams.specs.Lines.{end_mark, lacks}
 use Rattle.htmd_cli.proofs.BatchesLemmas.{Answers-none, Answers-row, Answers-then, Answers-like, stopped}
 use Rattle.htmd_cli.proofs.BatchesLemmas.{row_ends, data_ends, lacks_on}
@@ -12,12 +12,12 @@ use Rattle.htmd_cli.proofs.rows.Batch.take.Goals as goal
 pub loop-front-init : goal.loop-front-init
 loop-front-init g c = record {
   begun = c.requires.begun;
-  answers = Answers-none (settings_in c.args.settings.now) _ _ _ _ (λ tail. refl);
+  answers = Answers-none (settings_of c.args.converter.now) _ _ _ _ (λ tail. refl);
 }
 
 pub loop-front-preserved : goal.loop-front-preserved
 loop-front-preserved g c =
-    let settings = settings_in c.args.settings.now in
+    let settings = settings_of c.args.converter.now in
     let was = c.loop-front.self in
     let row = c.extend_from_slice.new.self.items in
     let new = c.answer_open.new.self in
@@ -37,20 +37,20 @@ loop-front-preserved g c =
 pub returns-in_err-extend_from_slice-clause-err : goal.returns-in_err-extend_from_slice-clause-err
 returns-in_err-extend_from_slice-clause-err g c =
     let was = c.loop-front.self in
-    stopped (settings_in c.args.settings.now) _
+    stopped (settings_of c.args.converter.now) _
     (λ tail. rows_from was.begun.items (c.loop-front.rest.now ++ tail)) _ was.answers.items _ was.answered _
     c.loop-front.invariant.answers
 
 pub returns-in_err-extend_from_slice-2-clause-err : goal.returns-in_err-extend_from_slice-2-clause-err
 returns-in_err-extend_from_slice-2-clause-err g c =
     let was = c.loop-front.self in
-    stopped (settings_in c.args.settings.now) _
+    stopped (settings_of c.args.converter.now) _
     (λ tail. rows_from was.begun.items (c.loop-front.rest.now ++ tail)) _ was.answers.items _ was.answered _
     c.loop-front.invariant.answers
 
 pub returns-in_err-answer_open-clause-err : goal.returns-in_err-answer_open-clause-err
 returns-in_err-answer_open-clause-err g c =
-    let settings = settings_in c.args.settings.now in
+    let settings = settings_of c.args.converter.now in
     let was = c.loop-front.self in
     let new = c.answer_open.new.self in
     stopped settings _ (λ tail. rows_from was.begun.items (c.loop-front.rest.now ++ tail)) _ new.answers.items _
@@ -62,7 +62,7 @@ returns-in_err-answer_open-clause-err g c =
 
 pub returns-then-eq-clause-ok : goal.returns-then-eq-clause-ok
 returns-then-eq-clause-ok g c =
-    let settings = settings_in c.args.settings.now in
+    let settings = settings_of c.args.converter.now in
     let was = c.loop-front.self in
     let row = c.extend_from_slice.new.self.items in
     Answers-then settings _ (λ tail. rows_from was.begun.items (c.loop-front.rest.now ++ tail)) _ _ was.answers.items

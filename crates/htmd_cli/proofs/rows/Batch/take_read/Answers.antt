@@ -1,7 +1,7 @@
 -- Nothing was read.
 use Rattle.std.proofs.Common.{◌∙◌, sym}
 use Rattle.std.proofs.lemmas.Bool.{eqb-true}
-use Rattle.htmd_cli.specs.Settings.{settings_in}
+use Rattle.htmd.specs.PageConverters.{settings_of}
 use Rattle.htmd_cli.proofs.BatchesLemmas.{read_none}
 use Rattle.htmd_cli.proofs.rows.Batch.take_read.Goals as goal
 
@@ -9,6 +9,6 @@ pub returns-then-is_empty-clause-ok : goal.returns-then-is_empty-clause-ok
 returns-then-is_empty-clause-ok g c =
     let was = c.args.self.now in
     let new = c.take_end.new.self in
-    read_none (settings_in c.args.settings.now) was.begun.items c.args.bytes.now was.answers.items
+    read_none (settings_of c.args.converter.now) was.begun.items c.args.bytes.now was.answers.items
     new.answers.items _ was.answered new.answered (eqb-true _ _ (sym c.is_empty.ensures ∙ c.if-is_empty.true))
     c.in_ok-take_end.ensures.ok

@@ -1,29 +1,30 @@
--- A page by what is asked for of it, or as if it was alone.
-use Rattle.std.proofs.Common.{sym, subst, List, Option, OnOk}
+-- Rows as they are, or a page with what the run adds for it.
+use Rattle.std.proofs.Common.{◌≡◌, ◌∙◌, ap, sym, List, Option, true, false}
 use Rattle.std.proofs.lemmas.Result.{on_ok_weaker}
+use Rattle.htmd.specs.PageSettings.{page_in}
 use Rattle.htmd_addresses.specs.Leads.{PageValue}
 use Rattle.htmd_cli.specs.Options.{Request, request_by}
-use Rattle.htmd_folders.specs.Pages.{Becomes}
-use Rattle.htmd_command.specs.PageResults.{IsResultOf, pages_led}
-use Rattle.htmd_command.proofs.PageResultsLemmas.{page_becomes, succeeds_becomes}
+use Rattle.htmd_command.specs.PageResults.{pages_led, request_for}
+use Rattle.htmd_command.proofs.PageResultsLemmas.{page_becomes, rows_alike, rows_become}
 use Rattle.htmd_command.proofs.requested.RequestedConversion.convert.Goals as goal
 
-pub returns-then-has_own_request : goal.returns-then-has_own_request
-returns-then-has_own_request g c =
+pub returns-then-takes_rows : goal.returns-then-takes_rows
+returns-then-takes_rows g c =
     let request : Request = request_by c.args.self.now.options.now in
     let pages : Option (List PageValue) = pages_led c.args.self.now.pages in
-    on_ok_weaker c.convert_in_run.result (λ converts. page_becomes pages c.args.page.now request
+    let rows : request.rows ≡ true =
+    ap (λ (r : Request). r.rows) (sym c.args.self.now.is_read) ∙ sym c.takes_rows.ensures ∙ c.if-takes_rows.true in
+    on_ok_weaker c.convert_rows.result (λ done. rows_become request (request_for pages c.args.page.now request)
     (g.R.Source.remaining c.args.source.now) (g.W.Sink.contents c.args.sink.now)
-    (g.W.Sink.contents c.convert_in_run.new.sink)
-    (c.has_own_request.ensures.own c.if-has_own_request.true) converts)
-    c.convert_in_run.ensures
+    (g.W.Sink.contents c.convert_rows.new.sink) (rows_alike pages c.args.page.now request rows) done)
+    c.convert_rows.ensures.done
 
-pub returns : goal.returns
-returns g c =
-    let P : Request → Type 0 = λ asked. OnOk c.convert_alone.result (Becomes (IsResultOf asked)
-    (g.R.Source.remaining c.args.source.now) (g.W.Sink.contents c.args.sink.now)
-    (g.W.Sink.contents c.convert_alone.new.sink)) in
-    subst P (sym (c.has_own_request.ensures.alone c.if-has_own_request.false))
-    (on_ok_weaker c.convert_alone.result (λ done. succeeds_becomes (request_by c.args.self.now.options.now)
-    (g.R.Source.remaining c.args.source.now) (g.W.Sink.contents c.args.sink.now)
-    (g.W.Sink.contents c.convert_alone.new.sink) done) c.convert_alone.ensures.done)
+pub returns-in-Ok : goal.returns-in-Ok
+returns-in-Ok g c =
+    let request : Request = request_by c.args.self.now.options.now in
+    let pages : Option (List PageValue) = pages_led c.args.self.now.pages in
+    let rows : request.rows ≡ false =
+    ap (λ (r : Request). r.rows) (sym c.args.self.now.is_read) ∙ sym c.takes_rows.ensures ∙ c.if-takes_rows.false in
+    on_ok_weaker c.convert_page.result (λ converts. page_becomes pages c.args.page.now request
+    (page_in c.in-Ok.added) (g.R.Source.remaining c.args.source.now) (g.W.Sink.contents c.args.sink.now)
+    (g.W.Sink.contents c.convert_page.new.sink) rows c.in-Ok.ensures converts) c.convert_page.ensures.done

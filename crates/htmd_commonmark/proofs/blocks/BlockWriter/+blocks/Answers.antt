@@ -4,16 +4,21 @@ use Rattle.std.specs.Prelude.{◌==◌, OnOk, true}
 use Rattle.htmd_document.specs.Documents as value
 use Rattle.htmd_document.specs.DocumentViews.{block_of, blocks_of}
 use Rattle.htmd_commonmark.specs.declared.markers.Markers.{Markers}
-use Rattle.htmd_commonmark.specs.BlockMarkdown.{marker, spaces, separator, sign_of, place_in_item, place_in_quote, item_count}
+use Rattle.htmd_commonmark.specs.BlockMarkdown.{marker, spaces, separator, sign_of, place_in_item, place_in_quote}
+use Rattle.htmd_commonmark.specs.BlockMarkdown.{item_count}
 use Rattle.htmd_commonmark.specs.BlockMarkdown.{markers_of, written_blocks, written_block, written_items}
 use Rattle.htmd_commonmark.specs.BlockViews.{output_of, put, put_text, all_items_of}
 use Rattle.htmd_commonmark.specs.Pages.{in_item, indented}
-use Rattle.htmd_commonmark.proofs.BlocksLemmas.{counted, list_shape, on_ok, quote_put, item_put, with_blocks, with_items, block_split}
-use Rattle.htmd_commonmark.proofs.BlocksLemmas.{item_less, item_split, blocks_step, items_step, no_more_blocks, no_more_items}
+use Rattle.htmd_commonmark.proofs.BlocksLemmas.{counted, list_shape, on_ok, quote_put, item_put, with_blocks}
+use Rattle.htmd_commonmark.proofs.BlocksLemmas.{with_items, block_split}
+use Rattle.htmd_commonmark.proofs.BlocksLemmas.{item_less, item_split, blocks_step, items_step, no_more_blocks}
+use Rattle.htmd_commonmark.proofs.BlocksLemmas.{no_more_items}
 use Rattle.htmd_commonmark.proofs.BlocksLemmas.{pushed_some, pushed_none}
 use Rattle.htmd_commonmark.proofs.blocks.BlockWriter.+blocks.Goals as goal
-use Rattle.htmd_commonmark.proofs.blocks.BlockWriter.+blocks.Goals.{write_blocks-then-i-gt0+in_ok-push_separator, write_blocks-else-i-gt0}
-use Rattle.htmd_commonmark.proofs.blocks.BlockWriter.+blocks.Goals.{write_list-then-i-gt0+in_ok-push_separator, write_list-else-i-gt0}
+use Rattle.htmd_commonmark.proofs.blocks.BlockWriter.+blocks.Goals.{write_blocks-then-i-gt0+in_ok-push_separator}
+use Rattle.htmd_commonmark.proofs.blocks.BlockWriter.+blocks.Goals.{write_blocks-else-i-gt0}
+use Rattle.htmd_commonmark.proofs.blocks.BlockWriter.+blocks.Goals.{write_list-then-i-gt0+in_ok-push_separator}
+use Rattle.htmd_commonmark.proofs.blocks.BlockWriter.+blocks.Goals.{write_list-else-i-gt0}
 
 pub write_block-returns-in-List : goal.write_block-returns-in-List
 write_block-returns-in-List n c =

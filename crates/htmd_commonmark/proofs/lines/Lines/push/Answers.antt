@@ -5,7 +5,7 @@ use Rattle.std.specs.List.{slice_split}
 use Rattle.std.proofs.lemmas.List.{length_push, map-id, take_all}
 use Rattle.std.proofs.lemmas.Iterator.Splits.{YieldsList-from_str_split}
 use Rattle.std.proofs.lemmas.Iterator.Consumers.{YieldsList-turn, YieldsList-end}
-use Rattle.htmd_grammar.specs.Characters.{line_feed}
+use Rattle.htmd_lexical.specs.Characters.{line_feed}
 use Rattle.htmd_text.specs.Joins.{joined_texts}
 use Rattle.htmd_text.proofs.IndentsLemmas.{pushed_some}
 use Rattle.htmd_commonmark.specs.Pages.{wrote, with_byte}

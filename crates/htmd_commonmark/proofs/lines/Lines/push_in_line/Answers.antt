@@ -1,6 +1,7 @@
 -- The line has its prefix, and then the text.
-use Rattle.std.proofs.Common.{◌≡◌, ◌++◌, List, ℕ, length, drop, replicate, sym, ap, ◌∙◌, append_assoc, rules, string_bytes, string_len}
-use Rattle.htmd_grammar.specs.Characters.{space}
+use Rattle.std.proofs.Common.{◌≡◌, ◌++◌, List, ℕ, length, drop, replicate, sym, ap, ◌∙◌, append_assoc, rules}
+use Rattle.std.proofs.Common.{string_bytes, string_len}
+use Rattle.htmd_lexical.specs.Characters.{space}
 use Rattle.htmd_commonmark.specs.Pages.{Page, wrote}
 use Rattle.htmd_commonmark.proofs.PagesLemmas.{pushed_page, text_pushed}
 use Rattle.htmd_commonmark.proofs.lines.Lines.push_in_line.Goals as goal

@@ -1,6 +1,6 @@
 -- One more sign.
 use Rattle.std.proofs.Common.{◌≡◌, ◌∷◌, [], ap, ◌∙◌}
-use Rattle.htmd_grammar.specs.Characters.{number_sign}
+use Rattle.htmd_lexical.specs.Characters.{number_sign}
 use Rattle.htmd_commonmark.specs.Pages.{wrote}
 use Rattle.htmd_commonmark.proofs.PagesLemmas.{signs-more}
 use Rattle.htmd_commonmark.proofs.lines.Lines.push_signs.Goals as goal

@@ -1,6 +1,6 @@
 -- One part of one node is written.
 use Rattle.std.proofs.Common.{◌≡◌, ◌∙◌, length, ap, arith, rules}
-use Rattle.htmd_grammar.specs.Attributes.{pairs_of}
+use Rattle.htmd_lexical.specs.Attributes.{pairs_of}
 use Rattle.htmd_html5_state.specs.Nodes.{NodeValue, KindValue, kind_with_missing}
 use Rattle.htmd_html5_state.specs.Views.{node_of}
 use Rattle.htmd_html5_state.proofs.DocumentLemmas.{written}

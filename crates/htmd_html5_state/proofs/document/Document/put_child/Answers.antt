@@ -1,8 +1,7 @@
 -- One part of one node is written.
 use Rattle.std.proofs.Common.{◌≡◌, ◌∙◌, ℕ, List, length, ap, arith, rules}
 use Rattle.std.specs.Prelude.{insert}
-use Rattle.htmd_html5_state.specs.Nodes.{NodeValue}
-use Rattle.htmd_html5_state.specs.Nodes.{place_index}
+use Rattle.htmd_html5_state.specs.Nodes.{NodeValue, place_index}
 use Rattle.htmd_html5_state.specs.Views.{node_of, numbers_of}
 use Rattle.htmd_html5_state.proofs.DocumentLemmas.{written}
 use Rattle.htmd_html5_state.proofs.document.Document.put_child.Goals as goal

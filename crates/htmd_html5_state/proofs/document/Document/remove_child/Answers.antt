@@ -1,8 +1,7 @@
 -- One part of one node is written.
 use Rattle.std.proofs.Common.{◌≡◌, ◌∙◌, ℕ, List, length, sym, ap, arith, rules}
 use Rattle.std.specs.Prelude.{remove}
-use Rattle.htmd_html5_state.specs.Nodes.{NodeValue}
-use Rattle.htmd_html5_state.specs.Nodes.{index_of, without_child}
+use Rattle.htmd_html5_state.specs.Nodes.{NodeValue, index_of, without_child}
 use Rattle.htmd_html5_state.specs.Views.{node_of, numbers_of}
 use Rattle.htmd_html5_state.proofs.DocumentLemmas.{written, remove_past}
 use Rattle.htmd_html5_state.proofs.document.Document.remove_child.Goals as goal

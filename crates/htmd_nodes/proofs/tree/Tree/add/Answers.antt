@@ -14,30 +14,32 @@ use Rattle.htmd_nodes.proofs.tree.Tree.add.Goals as goal
 pub invariant_of-self-in_err-push_child : goal.invariant_of-self-in_err-push_child
 invariant_of-self-in_err-push_child c =
     let entries : List Entry = c.reserve.new.self.items in
-    let i : ℕ = c.parent-2.inside.index in
+    let i : ℕ = c.parent.inside.index in
     let old : Entry = c.index_mut.result.now in
-    let new : Entry = record { «data» = old.data; parent = old.parent; level = c.push_child.new.self } in
+    let new : Entry = record { «data» = old.data; level = c.push_child.new.self } in
     let items : items_of entries ≡ c.args.self.now = ap items_of c.reserve.ensures.items ∙ c.self.view_is in
     let stored : IsStored entries = subst IsStored (sym c.reserve.ensures.items) c.self.invariant in
-    let at : i ≡ c.args.parent = c.parent-2.view_is in
+    let at : i ≡ c.args.parent = c.parent.view_is in
     let within : i < length entries = omega (arith, length-map entries item_of, ap length items, c.requires.within) in
     let same : item_of new ≡ item_of old =
-    item_of-level old new refl refl (ap (λ (l : LevelValue). l.depth) c.in_err-push_child.ensures.err) in
+    item_of-level old new refl (ap (λ (l : LevelValue). l.parent) c.in_err-push_child.ensures.err)
+    (ap (λ (l : LevelValue). l.depth) c.in_err-push_child.ensures.err) in
     IsStored-kept entries i old new within c.index_mut.ensures.value same
     (ap (λ (l : LevelValue). l.children) c.in_err-push_child.ensures.err) stored
 
 pub returns-in_err-push_child-clause-err : goal.returns-in_err-push_child-clause-err
 returns-in_err-push_child-clause-err c =
     let entries : List Entry = c.reserve.new.self.items in
-    let i : ℕ = c.parent-2.inside.index in
+    let i : ℕ = c.parent.inside.index in
     let old : Entry = c.index_mut.result.now in
-    let new : Entry = record { «data» = old.data; parent = old.parent; level = c.push_child.new.self } in
+    let new : Entry = record { «data» = old.data; level = c.push_child.new.self } in
     let items : items_of entries ≡ c.args.self.now = ap items_of c.reserve.ensures.items ∙ c.self.view_is in
     let stored : IsStored entries = subst IsStored (sym c.reserve.ensures.items) c.self.invariant in
-    let at : i ≡ c.args.parent = c.parent-2.view_is in
+    let at : i ≡ c.args.parent = c.parent.view_is in
     let within : i < length entries = omega (arith, length-map entries item_of, ap length items, c.requires.within) in
     let same : item_of new ≡ item_of old =
-    item_of-level old new refl refl (ap (λ (l : LevelValue). l.depth) c.in_err-push_child.ensures.err) in
+    item_of-level old new refl (ap (λ (l : LevelValue). l.parent) c.in_err-push_child.ensures.err)
+    (ap (λ (l : LevelValue). l.depth) c.in_err-push_child.ensures.err) in
     let unchanged : items_of (set entries i new) ≡ c.args.self.now =
     items_of-set entries i old new c.index_mut.ensures.value same ∙ items in
     search (rules, unchanged)
@@ -45,22 +47,23 @@ returns-in_err-push_child-clause-err c =
 pub invariant_of-self-2 : goal.invariant_of-self-2
 invariant_of-self-2 c =
     let entries : List Entry = c.reserve.new.self.items in
-    let i : ℕ = c.parent-2.inside.index in
+    let i : ℕ = c.parent.inside.index in
     let old : Entry = c.index_mut.result.now in
-    let new : Entry = record { «data» = old.data; parent = old.parent; level = c.push_child.new.self } in
+    let new : Entry = record { «data» = old.data; level = c.push_child.new.self } in
     let items : items_of entries ≡ c.args.self.now = ap items_of c.reserve.ensures.items ∙ c.self.view_is in
     let stored : IsStored entries = subst IsStored (sym c.reserve.ensures.items) c.self.invariant in
-    let at : i ≡ c.args.parent = c.parent-2.view_is in
+    let at : i ≡ c.args.parent = c.parent.view_is in
     let within : i < length entries = omega (arith, length-map entries item_of, ap length items, c.requires.within) in
     let same : item_of new ≡ item_of old =
-    item_of-level old new refl refl (ap (λ (l : LevelValue). l.depth) c.in_ok-push_child.ensures.ok) in
-    let last : Entry = record { «data» = c.args.node_data; parent = c.args.parent; level = c.new.result } in
+    item_of-level old new refl (ap (λ (l : LevelValue). l.parent) c.in_ok-push_child.ensures.ok)
+    (ap (λ (l : LevelValue). l.depth) c.in_ok-push_child.ensures.ok) in
+    let last : Entry = record { «data» = c.args.node_data; level = c.new.result } in
     let read : c.index.result.now ≡ get_or entries i c.index.result.now = c.index.ensures
     ∙ (ap (λ (x : List Entry). get_or x c.parent.inside.index c.index.result.now) (sym c.reserve.ensures.items)
     ∙ ap (λ n. get_or entries n c.index.result.now) (c.parent.view_is ∙ sym at)) in
     let this : item_of last ≡ new_item (items_of entries) i (data_of c.args.node_data) =
-    last_item entries i c.index.result.now last within read (sym at)
-    (ap (λ (l : LevelValue). l.depth) c.new.ensures ∙ ap (λ n. n + 1) c.depth.ensures) in
+    last_item entries i c.index.result.now last within read (ap (λ (l : LevelValue). l.parent) c.new.ensures)
+    (ap (λ (l : LevelValue). l.depth) c.new.ensures ∙ ap (λ n. n + 1) c.depth-depth.ensures) in
     let number : c.len.result ≡ length entries = c.len.ensures ∙ search rules in
     subst IsStored (sym c.in_ok-push.ensures.items)
     (IsStored-added entries i old new last within c.index_mut.ensures.value same
@@ -72,22 +75,23 @@ invariant_of-self-2 c =
 pub returns-clause-ok : goal.returns-clause-ok
 returns-clause-ok c =
     let entries : List Entry = c.reserve.new.self.items in
-    let i : ℕ = c.parent-2.inside.index in
+    let i : ℕ = c.parent.inside.index in
     let old : Entry = c.index_mut.result.now in
-    let new : Entry = record { «data» = old.data; parent = old.parent; level = c.push_child.new.self } in
+    let new : Entry = record { «data» = old.data; level = c.push_child.new.self } in
     let items : items_of entries ≡ c.args.self.now = ap items_of c.reserve.ensures.items ∙ c.self.view_is in
     let stored : IsStored entries = subst IsStored (sym c.reserve.ensures.items) c.self.invariant in
-    let at : i ≡ c.args.parent = c.parent-2.view_is in
+    let at : i ≡ c.args.parent = c.parent.view_is in
     let within : i < length entries = omega (arith, length-map entries item_of, ap length items, c.requires.within) in
     let same : item_of new ≡ item_of old =
-    item_of-level old new refl refl (ap (λ (l : LevelValue). l.depth) c.in_ok-push_child.ensures.ok) in
-    let last : Entry = record { «data» = c.args.node_data; parent = c.args.parent; level = c.new.result } in
+    item_of-level old new refl (ap (λ (l : LevelValue). l.parent) c.in_ok-push_child.ensures.ok)
+    (ap (λ (l : LevelValue). l.depth) c.in_ok-push_child.ensures.ok) in
+    let last : Entry = record { «data» = c.args.node_data; level = c.new.result } in
     let read : c.index.result.now ≡ get_or entries i c.index.result.now = c.index.ensures
     ∙ (ap (λ (x : List Entry). get_or x c.parent.inside.index c.index.result.now) (sym c.reserve.ensures.items)
     ∙ ap (λ n. get_or entries n c.index.result.now) (c.parent.view_is ∙ sym at)) in
     let this : item_of last ≡ new_item (items_of entries) i (data_of c.args.node_data) =
-    last_item entries i c.index.result.now last within read (sym at)
-    (ap (λ (l : LevelValue). l.depth) c.new.ensures ∙ ap (λ n. n + 1) c.depth.ensures) in
+    last_item entries i c.index.result.now last within read (ap (λ (l : LevelValue). l.parent) c.new.ensures)
+    (ap (λ (l : LevelValue). l.depth) c.new.ensures ∙ ap (λ n. n + 1) c.depth-depth.ensures) in
     ap items_of c.in_ok-push.ensures.items
     ∙ (items_of-added entries i old new last c.index_mut.ensures.value same
     ∙ (ap (λ (x : Item). items_of entries ++ x ∷ []) this ∙ rw (items, at) refl))

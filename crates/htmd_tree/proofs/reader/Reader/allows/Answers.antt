@@ -6,6 +6,6 @@ use Rattle.htmd_tree.proofs.reader.Reader.allows.Goals as goal
 
 pub returns : goal.returns
 returns c =
-    λ has_doctype fs h.
-    c.allows.ensures c.args.self.now.scripting (names_of above_body fs)
+    λ n known has_doctype fs h.
+    c.allows.ensures n c.args.self.now.scripting (names_of above_body fs) known
     ((top_at c.args.self.now has_doctype fs c.top.result c.top.ensures.top h).1)

@@ -2,12 +2,12 @@
 use Rattle.std.proofs.Common.{◌≡◌, ℕ, List, refl, sym, ap, ◌∙◌}
 use Rattle.std.specs.Prelude.{Vec}
 use Rattle.std.specs.Global.{Global}
-use Rattle.htmd_grammar.specs.ValueTrees.{AttributePair}
-use Rattle.htmd_grammar.specs.declared.attribute.Attribute.{Attribute}
+use Rattle.htmd_lexical.specs.AttributePairs.{AttributePair}
+use Rattle.htmd_lexical.specs.declared.attribute.Attribute.{Attribute}
 use Rattle.htmd_nodes.specs.declared.tree.NodeData.{NodeData}
 use Rattle.htmd_nodes.specs.declared.tree.NodeData.TheVariants.{Document, Doctype, Text, Comment, Element}
 use Rattle.htmd_nodes.specs.Items.{element_node}
-use Rattle.htmd_grammar.specs.Attributes.{pairs_of}
+use Rattle.htmd_lexical.specs.Attributes.{pairs_of}
 use Rattle.htmd_nodes.specs.Views.{data_of}
 use Rattle.htmd_tree.proofs.AdvancesLemmas.{name_at, element_at}
 use Rattle.htmd_tree.proofs.reader.Reader.innermost_name.Goals as goal

@@ -1,6 +1,7 @@
 -- What is left to prove of `is_at_markup`.
 use Rattle.std.proofs.Common.{◌∙◌, sym, ap}
-use Rattle.htmd_grammar.specs.RawContent.{begins_own_end, begins_markup}
+use Rattle.htmd_lexical.specs.EndTags.{begins_own_end}
+use Rattle.htmd_grammar.specs.RawContent.{begins_markup}
 use Rattle.htmd_tree.specs.OpenNodes.{innermost_name}
 use Rattle.htmd_tree.proofs.PiecesLemmas.{text_alone_at, ends_alone, ends_at_markup}
 use Rattle.htmd_tree.proofs.reader.Reader.is_at_markup.Goals as goal

@@ -2,7 +2,7 @@
 use Rattle.std.proofs.Common.{◌≡◌, true, refl, sym, ◌∙◌, codes}
 use Rattle.std.specs.Str.{bytes_eq}
 use Rattle.std.proofs.lemmas.Bool.{and_parts}
-use Rattle.htmd_grammar.specs.Attributes.{pairs_of}
+use Rattle.htmd_lexical.specs.Attributes.{pairs_of}
 use Rattle.htmd_grammar.specs.Nesting.{is_row}
 use Rattle.htmd_tree.specs.OpenNodes.{innermost_name}
 use Rattle.htmd_tree.proofs.TagAnswersLemmas.{implied_follows}

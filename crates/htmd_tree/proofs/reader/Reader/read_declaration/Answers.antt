@@ -1,8 +1,8 @@
 -- What is left to prove of `read_declaration`.
 use Rattle.std.proofs.Common.{◌<◌, ◌∙◌, length, codes, ap, sym, arith}
 use Rattle.std.proofs.lemmas.List.{length-drop}
-use Rattle.htmd_grammar.specs.ValueTrees.{comment}
-use Rattle.htmd_grammar.specs.CharacterClasses.{begins_with}
+use Rattle.htmd_values.specs.ValueTrees.{comment}
+use Rattle.htmd_lexical.specs.CharacterClasses.{begins_with}
 use Rattle.htmd_grammar.specs.HtmlDocuments.{above_body}
 use Rattle.htmd_grammar.specs.ReaderSteps.{add}
 use Rattle.htmd_tree.specs.Advances.{rules_of}

@@ -1,11 +1,11 @@
 -- What is left is shorter.
 use Rattle.std.proofs.Common.{◌<◌, length, ap, arith, length-drop}
-use Rattle.htmd_grammar.specs.WhiteSpace.{is_ascii_white_space}
-use Rattle.htmd_grammar.specs.CharacterClasses.{is_tag_name_byte}
+use Rattle.htmd_lexical.specs.WhiteSpace.{is_ascii_white_space}
+use Rattle.htmd_lexical.specs.CharacterClasses.{is_tag_name_byte}
 use Rattle.htmd_grammar.specs.HtmlDocuments.{above_body}
 use Rattle.htmd_grammar.specs.ReaderSteps.{close_step}
 use Rattle.htmd_tree.specs.Advances.{rules_of}
-use Rattle.htmd_grammar.proofs.RunsLemmas.{behind_within}
+use Rattle.htmd_lexical.proofs.RunsLemmas.{behind_within}
 use Rattle.htmd_tree.proofs.TagStepsLemmas.{close_within}
 use Rattle.htmd_tree.proofs.TagAnswersLemmas.{shorter_follows}
 use Rattle.htmd_tree.proofs.reader.Reader.read_end_tag.Goals as goal

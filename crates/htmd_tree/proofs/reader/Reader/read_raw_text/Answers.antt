@@ -2,10 +2,11 @@
 use Rattle.std.proofs.Common.{◌≡◌, ◌∙◌, ◌∷◌, [], false, true, length, codes, ap, sym}
 use Rattle.std.specs.Prelude.{◌&&◌, string_bytes}
 use Rattle.std.specs.Str.{bytes_eq}
-use Rattle.htmd_grammar.specs.ValueTrees.{text}
-use Rattle.htmd_grammar.specs.CharacterClasses.{is_among, up_to}
+use Rattle.htmd_values.specs.ValueTrees.{text}
+use Rattle.htmd_lexical.specs.CharacterClasses.{is_among, up_to}
 use Rattle.htmd_grammar.specs.HtmlDocuments.{above_body}
-use Rattle.htmd_grammar.specs.RawContent.{begins_own_end, has_script_escape}
+use Rattle.htmd_lexical.specs.EndTags.{begins_own_end}
+use Rattle.htmd_grammar.specs.RawContent.{has_script_escape}
 use Rattle.htmd_grammar.specs.ReaderSteps.{add}
 use Rattle.htmd_grammar.specs.declared.fault.FaultKind.TheVariants.{ScriptEscape}
 use Rattle.htmd_tree.specs.Advances.{rules_of}

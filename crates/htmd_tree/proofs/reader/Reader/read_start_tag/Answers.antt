@@ -1,14 +1,14 @@
 -- The tag has its form: what its attributes and its name make of it.
 use Rattle.std.proofs.Common.{◌≡◌, ◌<◌, ◌≤◌, rules, suc, length, map, refl, sym, ◌∙◌, ap, arith, Ok, Err, None}
 use Rattle.std.specs.Char.{to_ascii_lowercase}
-use Rattle.htmd_grammar.specs.CharacterClasses.{is_tag_name_byte}
+use Rattle.htmd_lexical.specs.CharacterClasses.{is_tag_name_byte}
 use Rattle.htmd_grammar.specs.HtmlDocuments.{above_body}
 use Rattle.htmd_grammar.specs.ReaderSteps.{place_step}
-use Rattle.htmd_grammar.specs.TagReading.{form, form_within}
+use Rattle.htmd_lexical.specs.TagReading.{form, form_within}
 use Rattle.htmd_tree.specs.Advances.{rules_of}
 use Rattle.htmd_tree.specs.TagParts.{all_spelled_of, read_attributes, fault_of_name}
-use Rattle.htmd_grammar.specs.Attributes.{pairs_of}
-use Rattle.htmd_grammar.proofs.RunsLemmas.{behind_within}
+use Rattle.htmd_lexical.specs.Attributes.{pairs_of}
+use Rattle.htmd_lexical.proofs.RunsLemmas.{behind_within}
 use Rattle.htmd_tree.proofs.TagPartsLemmas.{form_size}
 use Rattle.htmd_tree.proofs.TagStepsLemmas.{start_read, named_step, place_within}
 use Rattle.htmd_tree.proofs.TagAnswersLemmas.{refused_follows, same_follows, shorter_follows}

@@ -2,7 +2,7 @@
 use Rattle.std.proofs.Common.{◌≡◌, ◌∙◌, ℕ, List, length, subst, sym}
 use Rattle.std.proofs.lemmas.Result.{err_from_is_err_and}
 use Rattle.std.specs.String.{string_bytes}
-use Rattle.htmd_grammar.specs.ValueTrees.{text}
+use Rattle.htmd_values.specs.ValueTrees.{text}
 use Rattle.htmd_grammar.specs.HtmlDocuments.{above_body}
 use Rattle.htmd_grammar.specs.ReaderSteps.{add}
 use Rattle.htmd_tree.specs.Advances.{rules_of}

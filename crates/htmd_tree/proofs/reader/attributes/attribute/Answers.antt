@@ -1,6 +1,6 @@
 -- What has a name, is an attribute.
 use Rattle.std.proofs.Common.{◌≡◌, false, sym, ◌∙◌}
-use Rattle.htmd_grammar.specs.CharacterClasses.{holds_control}
+use Rattle.htmd_lexical.specs.CharacterClasses.{holds_control}
 use Rattle.htmd_tree.proofs.TagPartsLemmas.{attribute_is_named}
 use Rattle.htmd_tree.proofs.reader.attributes.attribute.Goals as goal
 

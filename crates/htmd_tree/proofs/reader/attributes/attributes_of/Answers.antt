@@ -1,10 +1,11 @@
 -- No name twice, or one.
 use Rattle.std.proofs.Common.{◌≡◌, true, false, sym, ◌∙◌, Some}
-use Rattle.htmd_grammar.specs.CharacterClasses.{are_distinct}
+use Rattle.htmd_lexical.specs.CharacterClasses.{are_distinct}
 use Rattle.htmd_grammar.specs.Rules.{named_characters}
-use Rattle.htmd_grammar.specs.Tags.{attribute_names, decode_values}
+use Rattle.htmd_lexical.specs.Attributes.{attribute_names}
+use Rattle.htmd_grammar.specs.Tags.{decode_values}
 use Rattle.htmd_tree.specs.TagParts.{all_spelled_of}
-use Rattle.htmd_grammar.specs.Attributes.{pairs_of}
+use Rattle.htmd_lexical.specs.Attributes.{pairs_of}
 use Rattle.htmd_tree.proofs.ValuesLemmas.{attributes_distinct}
 use Rattle.htmd_tree.proofs.reader.attributes.attributes_of.Goals as goal
 

@@ -4,7 +4,7 @@ use Rattle.std.specs.Prelude.{option_map, string_bytes}
 use Rattle.htmd_grammar.specs.Rules.{named_characters}
 use Rattle.htmd_grammar.specs.Tags.{decode_values}
 use Rattle.htmd_tree.specs.TagParts.{all_spelled_of}
-use Rattle.htmd_grammar.specs.Attributes.{pairs_of}
+use Rattle.htmd_lexical.specs.Attributes.{pairs_of}
 use Rattle.htmd_tree.proofs.ValuesLemmas.{behind_attributes, decoded_more}
 use Rattle.htmd_tree.proofs.reader.attributes.decoded.Goals as goal
 

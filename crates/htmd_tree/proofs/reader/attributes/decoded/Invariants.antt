@@ -3,7 +3,7 @@ use Rattle.std.proofs.Common.{◌≡◌, drop}
 use Rattle.htmd_grammar.specs.Rules.{named_characters}
 use Rattle.htmd_grammar.specs.Tags.{decode_values}
 use Rattle.htmd_tree.specs.TagParts.{all_spelled_of}
-use Rattle.htmd_grammar.specs.Attributes.{pairs_of}
+use Rattle.htmd_lexical.specs.Attributes.{pairs_of}
 use Rattle.htmd_tree.proofs.ValuesLemmas.{behind_attributes}
 use Rattle.htmd_tree.proofs.reader.attributes.decoded.Given as goal
 

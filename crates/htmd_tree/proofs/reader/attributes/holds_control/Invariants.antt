@@ -1,6 +1,6 @@
 -- Nothing was found so far.
 use Rattle.std.proofs.Common.{◌≡◌, length}
-use Rattle.htmd_grammar.specs.CharacterClasses.{holds_control}
+use Rattle.htmd_lexical.specs.CharacterClasses.{holds_control}
 use Rattle.htmd_tree.proofs.reader.attributes.holds_control.Given as goal
 
 abbrev pub invariant-loop-rest : goal.invariant-loop-rest

@@ -1,5 +1,5 @@
 -- The value ends where its quote stands again.
-use Rattle.htmd_grammar.proofs.TagReadingLemmas.{quote_lacks, quote_ends}
+use Rattle.htmd_lexical.proofs.QuotedValuesLemmas.{quote_lacks, quote_ends}
 use Rattle.htmd_tree.proofs.reader.attributes.quoted_value.Goals as goal
 
 pub returns-in-None : goal.returns-in-None

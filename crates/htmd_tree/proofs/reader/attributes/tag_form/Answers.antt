@@ -1,8 +1,8 @@
 -- One more attribute.
 use Rattle.std.proofs.Common.{◌≡◌, suc, List, ◌∷◌, [], ◌++◌, length, ◌∙◌, ap, rules}
 use Rattle.std.proofs.lemmas.List.{map_push}
-use Rattle.htmd_grammar.specs.ValueTrees.{AttributePair}
-use Rattle.htmd_grammar.specs.TagReading.{form_within}
+use Rattle.htmd_lexical.specs.AttributePairs.{AttributePair}
+use Rattle.htmd_lexical.specs.TagReading.{form_within}
 use Rattle.htmd_tree.specs.TagParts.{spelled_of, all_spelled_of, with_attributes}
 use Rattle.htmd_tree.proofs.TagPartsLemmas.{part_shorter, form_more}
 use Rattle.htmd_tree.proofs.reader.attributes.tag_form.Goals as goal

@@ -1,10 +1,10 @@
 -- The attributes so far, and the form of what is left.
 use Rattle.std.proofs.Common.{◌≡◌, suc, length}
-use denote.Text.{Utf8}
-use denote.Shadow.{shadow}
-use Rattle.htmd_grammar.specs.TagReading.{form_within}
+use Rattle.htmd_lexical.specs.TagReading.{form_within}
 use Rattle.htmd_tree.specs.TagParts.{all_spelled_of, with_attributes}
 use Rattle.htmd_tree.proofs.reader.attributes.tag_form.Given as goal
+use denote.Text.{Utf8}
+use denote.Shadow.{shadow}
 
 abbrev pub invariant-loop-attributes : goal.invariant-loop-attributes
 invariant-loop-attributes l = record {

@@ -1,9 +1,9 @@
 -- The front is cut from the text, and no end tag of a body stands after it.
 use Rattle.std.proofs.Common.{◌≡◌, ◌≤◌, false, length, take, drop}
-use denote.Text.{Utf8}
-use denote.Shadow.{shadow}
 use Rattle.htmd_tree.specs.Bodies as spec
 use Rattle.htmd_tree.proofs.reader.body.before_last_end_tag.Given as goal
+use denote.Text.{Utf8}
+use denote.Shadow.{shadow}
 
 abbrev pub invariant-loop-place : goal.invariant-loop-place
 invariant-loop-place l = record {

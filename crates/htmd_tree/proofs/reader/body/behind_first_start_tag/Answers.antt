@@ -1,6 +1,6 @@
 -- The next `<`, and what begins there.
 use Rattle.std.proofs.Common.{◌∙◌, ap, sym, rules}
-use Rattle.htmd_grammar.specs.CharacterClasses.{first_is}
+use Rattle.htmd_lexical.specs.CharacterClasses.{first_is}
 use Rattle.htmd_tree.specs.Bodies.{first_of, behind_first_start_tag}
 use Rattle.htmd_tree.proofs.BodiesLemmas.{without_sign, next_sign, sign_shorter}
 use Rattle.htmd_tree.proofs.reader.body.behind_first_start_tag.Goals as goal

@@ -1,9 +1,9 @@
 -- No start tag of a body stands in what is gone.
 use Rattle.std.proofs.Common.{◌≡◌, length}
-use denote.Text.{Utf8}
-use denote.Shadow.{shadow}
 use Rattle.htmd_tree.specs.Bodies as spec
 use Rattle.htmd_tree.proofs.reader.body.behind_first_start_tag.Given as goal
+use denote.Text.{Utf8}
+use denote.Shadow.{shadow}
 
 abbrev pub invariant-loop-behind : goal.invariant-loop-behind
 invariant-loop-behind l = record {

@@ -1,10 +1,10 @@
 -- What follows the tag is what follows it from here on.
 use Rattle.std.proofs.Common.{◌≡◌, suc, length}
-use denote.Text.{Utf8}
-use denote.Shadow.{shadow}
-use Rattle.htmd_grammar.specs.TagReading.{form_within}
+use Rattle.htmd_lexical.specs.TagReading.{form_within}
 use Rattle.htmd_tree.specs.Bodies as spec
 use Rattle.htmd_tree.proofs.reader.body.behind_form.Given as goal
+use denote.Text.{Utf8}
+use denote.Shadow.{shadow}
 
 abbrev pub invariant-loop-rest : goal.invariant-loop-rest
 invariant-loop-rest l = record {

@@ -1,7 +1,7 @@
 -- What is left to prove of `comment_len`.
 use Rattle.std.proofs.Common.{codes, arith}
-use Rattle.htmd_grammar.specs.CharacterClasses.{begins_with}
-use Rattle.htmd_grammar.proofs.CharacterClassesLemmas.{up_to_more}
+use Rattle.htmd_lexical.specs.CharacterClasses.{begins_with}
+use Rattle.htmd_lexical.proofs.CharacterClassesLemmas.{up_to_more}
 use Rattle.htmd_tree.proofs.reader.comments.comment_len.Goals as goal
 
 pub loop-len-preserved : goal.loop-len-preserved

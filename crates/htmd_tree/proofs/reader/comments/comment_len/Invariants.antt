@@ -1,6 +1,6 @@
 -- What the loop of `comment_len` keeps.
 use Rattle.std.proofs.Common.{◌≡◌, ◌≤◌, ◌+◌, ◌-◌, length, drop, codes}
-use Rattle.htmd_grammar.specs.CharacterClasses.{begins_with, up_to}
+use Rattle.htmd_lexical.specs.CharacterClasses.{begins_with, up_to}
 use Rattle.htmd_tree.proofs.reader.comments.comment_len.Given as goal
 
 abbrev pub invariant-loop-len : goal.invariant-loop-len

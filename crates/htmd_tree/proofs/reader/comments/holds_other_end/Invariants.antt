@@ -1,6 +1,6 @@
 -- What the loop of `holds_other_end` keeps.
 use Rattle.std.proofs.Common.{◌≡◌, length, codes}
-use Rattle.htmd_grammar.specs.CharacterClasses.{holds}
+use Rattle.htmd_lexical.specs.CharacterClasses.{holds}
 use Rattle.htmd_tree.proofs.reader.comments.holds_other_end.Given as goal
 
 abbrev pub invariant-loop-rest : goal.invariant-loop-rest

@@ -2,7 +2,7 @@
 use Rattle.std.proofs.Common.{◌≡◌, ◌+◌, ◌∙◌, length, codes, drop, take, sym}
 use Rattle.std.proofs.Common.{ap}
 use Rattle.std.proofs.lemmas.Slice.{between_from_start}
-use Rattle.htmd_grammar.specs.CharacterClasses.{begins_with, up_to}
+use Rattle.htmd_lexical.specs.CharacterClasses.{begins_with, up_to}
 use Rattle.htmd_tree.proofs.CommentTextsLemmas.{no_comment_end, comment_end, cut_before, cut_behind}
 use Rattle.htmd_tree.proofs.reader.comments.split_comment.Goals as goal
 

@@ -2,8 +2,8 @@
 use Rattle.std.proofs.Common.{◌∙◌, ◌∷◌, ◌++◌, ap, sym, lit<}
 use Rattle.std.proofs.lemmas.Str.Pattern.{split_parts}
 use Rattle.std.specs.String.{string_bytes}
-use Rattle.htmd_grammar.specs.Comments.{normalized}
-use Rattle.htmd_grammar.proofs.LineEndsLemmas.{line_more, normalized_same, behind_return}
+use Rattle.htmd_lexical.specs.LineEnds.{normalized}
+use Rattle.htmd_lexical.proofs.LineEndsLemmas.{line_more, normalized_same, behind_return}
 use Rattle.htmd_tree.proofs.reader.raw_text.normalized.Goals as goal
 
 pub loop-line-preserved : goal.loop-line-preserved

@@ -1,10 +1,10 @@
 -- What the loop of `normalized` keeps.
-use denote.Shadow.{shadow}
-use denote.Text.{Utf8}
 use Rattle.std.proofs.Common.{◌≡◌, ◌++◌, length}
 use Rattle.std.specs.String.{string_bytes}
-use Rattle.htmd_grammar.specs.Comments.{normalized}
+use Rattle.htmd_lexical.specs.LineEnds.{normalized}
 use Rattle.htmd_tree.proofs.reader.raw_text.normalized.Given as goal
+use denote.Shadow.{shadow}
+use denote.Text.{Utf8}
 
 abbrev pub invariant-loop-line : goal.invariant-loop-line
 invariant-loop-line l = record {

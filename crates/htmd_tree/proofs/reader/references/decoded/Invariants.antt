@@ -1,12 +1,12 @@
 -- What the loop of `decoded` keeps.
-use denote.Shadow.{shadow}
-use denote.Text.{Utf8}
 use Rattle.std.proofs.Common.{◌≡◌, ◌<◌, length}
 use Rattle.std.specs.Prelude.{slice_index}
 use Rattle.std.specs.String.{string_bytes}
 use Rattle.htmd_grammar.specs.References.{behind, decode}
 use Rattle.htmd_grammar.specs.Rules.{named_characters}
 use Rattle.htmd_tree.proofs.reader.references.decoded.Given as goal
+use denote.Shadow.{shadow}
+use denote.Text.{Utf8}
 
 abbrev pub invariant-loop-rest : goal.invariant-loop-rest
 invariant-loop-rest l = record {

@@ -1,6 +1,6 @@
 -- What the loop of `literal_len` keeps.
 use Rattle.std.proofs.Common.{◌≡◌, ◌≤◌, ◌+◌, ◌-◌, length, drop}
-use Rattle.htmd_grammar.specs.CharacterClasses.{leading_run}
+use Rattle.htmd_lexical.specs.CharacterClasses.{leading_run}
 use Rattle.htmd_tree.specs.DecodedCharacters.{is_itself}
 use Rattle.htmd_tree.proofs.reader.references.literal_len.Given as goal
 

@@ -1,7 +1,7 @@
 -- What is left to prove of `push_literal`.
 use Rattle.std.proofs.Common.{◌∙◌, length, ap}
 use Rattle.std.specs.String.{string_bytes}
-use Rattle.htmd_grammar.specs.CharacterClasses.{leading_run}
+use Rattle.htmd_lexical.specs.CharacterClasses.{leading_run}
 use Rattle.htmd_tree.specs.DecodedCharacters.{is_itself}
 use Rattle.htmd_tree.proofs.DecodedValuesLemmas.{literal_cut, literal_pushed, literal_end}
 use Rattle.htmd_tree.proofs.reader.references.push_literal.Goals as goal

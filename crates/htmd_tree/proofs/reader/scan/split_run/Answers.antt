@@ -1,8 +1,8 @@
 use Rattle.std.proofs.Common.{◌∙◌, length, take, drop, sym, ap, subst}
 use Rattle.std.specs.Str.{IsCharBoundary}
-use Rattle.htmd_grammar.specs.CharacterClasses.{leading_run}
+use Rattle.htmd_lexical.specs.CharacterClasses.{leading_run}
 use Rattle.htmd_tree.specs.Classes.{is_in}
-use Rattle.htmd_grammar.proofs.RunsLemmas.{take_run, drop_run}
+use Rattle.htmd_lexical.proofs.RunsLemmas.{take_run, drop_run}
 use Rattle.htmd_tree.proofs.ClassesLemmas.{run_cut}
 use Rattle.htmd_tree.proofs.reader.scan.split_run.Goals as goal
 

@@ -6,4 +6,4 @@ use Rattle.htmd_tree.proofs.KnownNamesLemmas.{outside-is}
 use Rattle.htmd_tree.proofs.reader.surroundings.is_outside.Goals as goal
 
 pub returns : goal.returns
-returns c = c.is.ensures ∙ (ap (is Outside) c.known_name.ensures ∙ outside-is c.args.name.now)
+returns c = λ n e. c.is.ensures ∙ (ap (is Outside) e ∙ outside-is n)

@@ -1,6 +1,4 @@
 -- What the loop of `read_run` keeps.
-use denote.Shadow.{shadow}
-use denote.Text.{Utf8}
 use Rattle.std.proofs.Common.{◌≡◌, ◌<◌, Bool, false, List, [], length}
 use Rattle.std.specs.String.{string_bytes}
 use Rattle.htmd_grammar.specs.HtmlDocuments.{above_body}
@@ -8,6 +6,8 @@ use Rattle.htmd_grammar.specs.Rules.{project}
 use Rattle.htmd_grammar.specs.ReaderSteps.{OpenElement, Reaches}
 use Rattle.htmd_tree.specs.TextRuns.{is_run_end, in_run, TellsOfText}
 use Rattle.htmd_tree.proofs.reader.texts.read_run.Given as goal
+use denote.Shadow.{shadow}
+use denote.Text.{Utf8}
 
 abbrev pub invariant-loop-around : goal.invariant-loop-around
 invariant-loop-around l = record {

@@ -1,15 +1,15 @@
 -- The walk writes what its definition says.
-mod HandlerAnswers
-mod ContentAnswers
-mod AloneAnswers
-mod ChildrenAnswers
-mod NodeAnswers
 use Rattle.htmd_walk.proofs.dom_walker.Walk.+walk.Answers.HandlerAnswers as handlers
 use Rattle.htmd_walk.proofs.dom_walker.Walk.+walk.Answers.ContentAnswers as contents
 use Rattle.htmd_walk.proofs.dom_walker.Walk.+walk.Answers.AloneAnswers as alone
 use Rattle.htmd_walk.proofs.dom_walker.Walk.+walk.Answers.ChildrenAnswers as children
 use Rattle.htmd_walk.proofs.dom_walker.Walk.+walk.Answers.NodeAnswers as nodes
 use Rattle.htmd_walk.proofs.dom_walker.Walk.+walk.Goals as goal
+mod HandlerAnswers
+mod ContentAnswers
+mod AloneAnswers
+mod ChildrenAnswers
+mod NodeAnswers
 
 pub without_handler-returns-then-is_markdown_alone : goal.without_handler-returns-then-is_markdown_alone
 without_handler-returns-then-is_markdown_alone = handlers.without_handler-returns-then-is_markdown_alone

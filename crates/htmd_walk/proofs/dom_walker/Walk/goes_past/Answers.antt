@@ -2,12 +2,13 @@
 use Rattle.std.proofs.Common.{◌≡◌, ◌∙◌, ap, sym, not, true, false}
 use Rattle.std.specs.Option.{is_some}
 use Rattle.htmd_nodes.specs.Items.{element_node, data_at}
-use Rattle.htmd_grammar.specs.Attributes.{pairs_of}
+use Rattle.htmd_lexical.specs.Attributes.{pairs_of}
 use Rattle.htmd_nodes.specs.Views.{data_of}
 use Rattle.htmd_walk.specs.Choice.{indexes, handlers_at}
 use Rattle.htmd_walk.specs.Outputs.{is_markdown_alone}
 use Rattle.htmd_walk.specs.Spans.{is_span, formula_mark}
-use Rattle.htmd_walk.proofs.PassingLemmas.{passed-plain, no_handlers, none_after, not-false, not-true, no_value, span_tag}
+use Rattle.htmd_walk.proofs.PassingLemmas.{passed-plain, no_handlers, none_after, not-false, not-true, no_value}
+use Rattle.htmd_walk.proofs.PassingLemmas.{span_tag}
 use Rattle.htmd_walk.proofs.dom_walker.Walk.goes_past.Goals as goal
 
 pub returns-then-ne : goal.returns-then-ne

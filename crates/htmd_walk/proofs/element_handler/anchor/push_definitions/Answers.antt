@@ -1,7 +1,7 @@
 -- The blank line after the last definition.
 use Rattle.std.proofs.Common.{◌++◌, ap, sym, ◌∙◌, map, string_bytes}
 use Rattle.std.specs.Prelude.{◌==◌}
-use Rattle.htmd_grammar.specs.BlankLines.{blank_line}
+use Rattle.htmd_lexical.specs.BlankLines.{blank_line}
 use Rattle.htmd_walk.specs.Anchors.{definitions_block}
 use Rattle.htmd_walk.specs.Markdown.{append_text}
 use Rattle.htmd_walk.proofs.AnchorsLemmas.{definitions-all}

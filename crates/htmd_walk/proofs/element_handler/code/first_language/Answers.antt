@@ -4,7 +4,7 @@ use Rattle.std.specs.Option.{option_copied}
 use Rattle.std.proofs.lemmas.List.{length_push, drop_all}
 use Rattle.std.proofs.lemmas.Iterator.Splits.{YieldsList-from_str_split}
 use Rattle.std.proofs.lemmas.Iterator.Consumers.{YieldsList-turn, YieldsList-end}
-use Rattle.htmd_grammar.specs.Characters.{space}
+use Rattle.htmd_lexical.specs.Characters.{space}
 use Rattle.htmd_walk.specs.Code.{first_language, classes_of}
 use Rattle.htmd_walk.proofs.CodeLemmas.{language-here, language-later}
 use Rattle.htmd_walk.proofs.element_handler.code.first_language.Goals as goal

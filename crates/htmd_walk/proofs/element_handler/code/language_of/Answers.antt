@@ -2,7 +2,7 @@
 use Rattle.std.proofs.Common.{ap, sym, ◌∙◌, codes}
 use Rattle.std.specs.Str.{bytes_eq}
 use Rattle.std.proofs.lemmas.List.{drop_all}
-use Rattle.htmd_grammar.specs.Attributes.{pairs_of}
+use Rattle.htmd_lexical.specs.Attributes.{pairs_of}
 use Rattle.htmd_walk.specs.Code.{first_language, classes_of, language_of}
 use Rattle.htmd_walk.proofs.CodeLemmas.{class-here, class-later}
 use Rattle.htmd_walk.proofs.element_handler.code.language_of.Goals as goal

@@ -1,6 +1,6 @@
 -- No attribute so far is a class.
 use Rattle.std.proofs.Common.{◌≡◌, drop}
-use Rattle.htmd_grammar.specs.Attributes.{pairs_of}
+use Rattle.htmd_lexical.specs.Attributes.{pairs_of}
 use Rattle.htmd_walk.specs.Code.{language_of}
 use Rattle.htmd_walk.proofs.element_handler.code.language_of.Given as goal
 

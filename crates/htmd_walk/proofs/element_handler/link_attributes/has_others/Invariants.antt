@@ -1,6 +1,6 @@
 -- Each attribute so far has one of the names.
 use Rattle.std.proofs.Common.{◌≡◌, map, drop}
-use Rattle.htmd_grammar.specs.Attributes.{pairs_of}
+use Rattle.htmd_lexical.specs.Attributes.{pairs_of}
 use Rattle.htmd_walk.specs.LinkAttributes.{has_others}
 use Rattle.htmd_walk.proofs.element_handler.link_attributes.has_others.Given as goal
 

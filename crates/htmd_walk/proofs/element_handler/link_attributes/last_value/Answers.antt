@@ -2,7 +2,7 @@
 use Rattle.std.proofs.Common.{ap, sym, ◌∙◌, map, Some}
 use Rattle.std.specs.Option.{option_copied}
 use Rattle.std.proofs.lemmas.List.{take_all}
-use Rattle.htmd_grammar.specs.Attributes.{pairs_of}
+use Rattle.htmd_lexical.specs.Attributes.{pairs_of}
 use Rattle.htmd_walk.specs.LinkAttributes.{is_among, last_value}
 use Rattle.htmd_walk.proofs.LinkAttributesLemmas.{value-here, value-other}
 use Rattle.htmd_walk.proofs.element_handler.link_attributes.last_value.Goals as goal

@@ -1,5 +1,5 @@
 use Rattle.std.proofs.Common.{◌≡◌, drop}
-use Rattle.htmd_grammar.specs.Attributes.{pairs_of}
+use Rattle.htmd_lexical.specs.Attributes.{pairs_of}
 use Rattle.htmd_walk.specs.ElementPlans.{value_of_first}
 use Rattle.htmd_walk.proofs.element_handler.plans.find_value.Given as goal
 

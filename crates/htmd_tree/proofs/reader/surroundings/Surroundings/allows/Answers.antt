@@ -5,6 +5,6 @@ use Rattle.htmd_tree.proofs.SurroundingsLemmas.{flags_allow-is}
 use Rattle.htmd_tree.proofs.reader.surroundings.Surroundings.allows.Goals as goal
 
 pub returns : goal.returns
-returns c = λ scripting above e.
-    c.fits.ensures ∙ (ap (flags_allow c.args.self) c.known_name.ensures
-    ∙ flags_allow-is scripting above c.args.self c.args.name.now e)
+returns c = λ n scripting above k e.
+    c.fits.ensures ∙ (ap (flags_allow c.args.self) k
+    ∙ flags_allow-is scripting above c.args.self n e)

@@ -6,6 +6,6 @@ use Rattle.htmd_tree.proofs.SurroundingsLemmas.{flags_inside-is}
 use Rattle.htmd_tree.proofs.reader.surroundings.Surroundings.inner.Goals as goal
 
 pub returns : goal.returns
-returns c = λ above e.
-    c.inside.ensures ∙ (ap (λ (k : KnownName). flags_inside c.args.scripting k c.args.self) c.known_name.ensures
-    ∙ flags_inside-is c.args.scripting above c.args.self c.args.name.now e)
+returns c = λ n above known e.
+    c.inside.ensures ∙ (ap (λ (k : KnownName). flags_inside c.args.scripting k c.args.self) known
+    ∙ flags_inside-is c.args.scripting above c.args.self n e)

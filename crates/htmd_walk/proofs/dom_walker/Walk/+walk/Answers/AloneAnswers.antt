@@ -1,14 +1,13 @@
 -- Nodes that are handed over by themselves.
 use Rattle.std.proofs.Common.{rules, ◌≡◌, ◌<◌, ◌≤◌, ◌+◌, ◌++◌, ◌∙◌, ℕ, List, [], ◌∷◌, Bool}
-use Rattle.std.proofs.Common.{true, false}
-use Rattle.std.proofs.Common.{refl, sym, ap, subst, arith, length, drop, suc, Option, Some, None}
+use Rattle.std.proofs.Common.{true, false, refl, sym, ap, subst, arith, length, drop, suc, Option, Some, None}
 use Rattle.std.proofs.Common.{string_bytes}
 use Rattle.std.specs.Option.{option_copied, is_some}
 use Rattle.std.proofs.lemmas.List.{map-append, length-map}
 use Rattle.std.proofs.lemmas.Bool.{eqb-true}
 use Rattle.std.proofs.lemmas.Result.{IfOk-weaker}
 use Rattle.htmd_nodes.specs.Items.{Item, Data, IsBelow, data_at, element_node}
-use Rattle.htmd_grammar.specs.Attributes.{pairs_of}
+use Rattle.htmd_lexical.specs.Attributes.{pairs_of}
 use Rattle.htmd_nodes.specs.Views.{data_of}
 use Rattle.htmd_nodes.specs.NumberedTrees.{tree_of, height}
 use Rattle.htmd_nodes.specs.Ancestors.{ancestor_of, ancestors_of}
@@ -27,7 +26,7 @@ use Rattle.htmd_walk.proofs.RememberingLemmas.{given-always, result_put}
 use Rattle.htmd_walk.proofs.WalkingLemmas.{following, contents_more}
 use Rattle.htmd_walk.proofs.WalkingLemmas.{text_alone, below_lower}
 use Rattle.htmd_walk.proofs.dom_walker.Walk.+walk.Goals as goal
-use Rattle.htmd_grammar.proofs.Cases.{test}
+use Rattle.htmd_lexical.proofs.Cases.{test}
 
 pub walk_alone-returns : goal.walk_alone-returns
 walk_alone-returns g t c =

@@ -1,7 +1,6 @@
 -- The children of a node, one group after another.
 use Rattle.std.proofs.Common.{rules, ◌≡◌, ◌<◌, ◌≤◌, ◌+◌, ◌-◌, ◌*◌, ◌∙◌}
-use Rattle.std.proofs.Common.{cond}
-use Rattle.std.proofs.Common.{All, sym, ap, subst, arith, length, take, drop, nat_lt}
+use Rattle.std.proofs.Common.{cond, All, sym, ap, subst, arith, length, take, drop, nat_lt}
 use Rattle.std.proofs.Common.{string_bytes}
 use Rattle.std.specs.Option.{option_copied}
 use Rattle.std.proofs.lemmas.List.Elements.{All-drop}
@@ -15,8 +14,7 @@ use Rattle.htmd_walk.specs.Code.{language_of_pre}
 use Rattle.htmd_walk.specs.Rendering.{written_within, inside_of}
 use Rattle.htmd_walk.specs.Views.{output_view}
 use Rattle.htmd_walk.proofs.ChildrenLemmas.{IsChild, children-all, child-first, inside-child, nonempty, if_some}
-use Rattle.htmd_walk.proofs.ChildrenLemmas.{first-has_text}
-use Rattle.htmd_walk.proofs.ChildrenLemmas.{group_written}
+use Rattle.htmd_walk.proofs.ChildrenLemmas.{first-has_text, group_written}
 use Rattle.htmd_walk.proofs.RenderingLemmas.{cut_before}
 use Rattle.htmd_walk.proofs.dom_walker.Walk.+walk.Goals as goal
 

@@ -6,7 +6,7 @@ use Rattle.std.specs.Option.{option_copied}
 use Rattle.std.specs.Str.{bytes_eq}
 use Rattle.htmd_nodes.specs.Items.{Item, element_node, data_at}
 use Rattle.htmd_nodes.specs.Ancestors.{ancestor_of, ancestors_of}
-use Rattle.htmd_grammar.specs.Attributes.{pairs_of}
+use Rattle.htmd_lexical.specs.Attributes.{pairs_of}
 use Rattle.htmd_walk.specs.OrdinaryText.{in_pre_or_code, parent_is_pre, written_text}
 use Rattle.htmd_walk.specs.Groups.{only_text, group_children, children_at}
 use Rattle.htmd_walk.specs.Outputs.{Output, conversion_of}

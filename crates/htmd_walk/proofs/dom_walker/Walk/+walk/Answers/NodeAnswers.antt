@@ -1,21 +1,18 @@
 -- A node, by what it is.
 use Rattle.std.proofs.Common.{◌≡◌, ◌≤◌, ◌++◌, ◌∙◌, ℕ, suc, List}
-use Rattle.std.proofs.Common.{true, false}
-use Rattle.std.proofs.Common.{sym, ap, subst}
-use Rattle.std.proofs.Common.{string_bytes}
+use Rattle.std.proofs.Common.{true, false, sym, ap, subst, string_bytes}
 use Rattle.std.specs.Option.{option_copied}
 use Rattle.std.proofs.lemmas.Result.{on_ok_weaker}
-use Rattle.htmd_nodes.specs.Serialisation.{comment_of}
+use Rattle.htmd_values.specs.Serialisation.{comment_of}
 use Rattle.htmd_nodes.specs.Items.{data_at, element_node}
 use Rattle.htmd_nodes.specs.NumberedTrees.{tree_of, height}
 use Rattle.htmd_nodes.specs.Ancestors.{ancestors_of}
-use Rattle.htmd_grammar.specs.Attributes.{pairs_of}
+use Rattle.htmd_lexical.specs.Attributes.{pairs_of}
 use Rattle.htmd_nodes.specs.Views.{data_of}
 use Rattle.htmd_walk.specs.OrdinaryText.{parent_is_pre, written_text}
 use Rattle.htmd_walk.specs.Groups.{group_children, children_at}
 use Rattle.htmd_walk.specs.Outputs.{Output, conversion_of, context_of, is_markdown_alone}
-use Rattle.htmd_walk.specs.Elements.{Answer, answer_after}
-use Rattle.htmd_walk.specs.Elements.{occurrence_at}
+use Rattle.htmd_walk.specs.Elements.{Answer, answer_after, occurrence_at}
 use Rattle.htmd_walk.specs.Rendering.{written_within, is_text, inside_of}
 use Rattle.htmd_walk.specs.Views.{answer_view, optional_result, output_view}
 use Rattle.htmd_walk.proofs.RenderingLemmas.{text_written, doctype_written, comment_written, document_written}

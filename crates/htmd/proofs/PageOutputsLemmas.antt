@@ -1,0 +1,180 @@
+-- What the bytes of an input become, and why they become nothing.
+use Rattle.std.proofs.Common.{◌≡◌, ◌∙◌, ap, sym, subst, ℕ, Bool, true, false, List, [], ◌∷◌, ◌++◌, length, map, eqb}
+use Rattle.std.proofs.Common.{MatchBool, arith, codes, refl}
+use Rattle.std.proofs.lemmas.Bool.Decides.{nat_tests}
+use Rattle.std.proofs.Common.{Option, Some, None, option_map}
+use Rattle.std.specs.Prelude.{if◌then◌else◌}
+use Rattle.std.specs.Borrow.{Bor}
+use Rattle.std.specs.Str.{IsUtf8}
+use Rattle.htmd_walk.specs.Choice.{Config, no_handler, with_handler}
+use Rattle.htmd_grammar.specs.declared.fault.FaultKind.{FaultKind}
+use Rattle.htmd_nodes.specs.Items.{Item, document_item, new_item, element_node, text_node}
+use Rattle.htmd_lexical.specs.AttributePairs.{AttributePair}
+use Rattle.htmd.specs.declared.convert_error.ConvertError.{ConvertError}
+use Rattle.htmd.specs.declared.convert_error.ConvertError.TheVariants as conversion
+use Rattle.htmd_encodings.specs.Decoding.{encoding_of, page_text}
+use Rattle.htmd_encodings.specs.declared.decoding.DecodeError.{DecodeError}
+use Rattle.htmd_encodings.specs.declared.decoding.DecodeError.TheVariants as decoding
+use Rattle.htmd_encodings.specs.declared.encodings.Named.TheVariants as named
+use Rattle.htmd_encodings.specs.declared.encodings.UnsupportedEncoding.{UnsupportedEncoding}
+use Rattle.htmd.specs.PageFailures.{decode_fault, conversion_fault}
+use Rattle.htmd.specs.PageSettings.{PageInRun, Settings, alone, settings_for}
+use Rattle.htmd.specs.PageChanges.{selected_of, without_dropped}
+use Rattle.htmd.specs.declared.page_error.PageError.{PageError}
+use Rattle.htmd.specs.declared.page_error.PageError.TheVariants.{NotUtf8, Refused, Unsupported, NothingSelected, Memory}
+use Rattle.htmd.specs.PageOutputs.{skipping, IsFaultOf, IsOutputBy, IsOutputOf, IsReadable, IsRefusedBy, IsUnselected}
+use Rattle.htmd.specs.PageOutputs.{SelectsNothing, reads_any, text_in, empty_paragraph, paragraph}
+use Rattle.htmd.specs.PageOutputs.{tree_markdown, tree_output}
+
+-- one equation after the other
+pub then_same : (x y z : Config) → x ≡ y → y ≡ z → x ≡ z
+then_same x y z p q = p ∙ q
+
+abbrev pub texts : List (Bor (List ℕ)) → List (List ℕ)
+texts names = map (λ t. t.now) names
+
+pub skips_nothing : (names : List (Bor (List ℕ))) (config : Config) → eqb (length names) 0 ≡ true
+    → config ≡ skipping (texts names) config
+skips_nothing [] config e = refl
+skips_nothing (name ∷ names) config e = absurd (grind (arith, nat_tests))
+
+pub skips_some : (names : List (Bor (List ℕ))) (config : Config) → eqb (length names) 0 ≡ false
+    → with_handler config (texts names) no_handler ≡ skipping (texts names) config
+skips_some [] config e = absurd (grind (arith, nat_tests))
+skips_some (name ∷ names) config e = refl
+
+pub no_names : (names : List (Bor (List ℕ))) → eqb (length names) 0 ≡ true → [] ≡ texts names
+no_names [] e = refl
+no_names (name ∷ names) e = absurd (grind (arith, nat_tests))
+
+pub match_true : (P Q : Type 0) (b : Bool) → b ≡ true → P → MatchBool b P Q
+match_true P Q true e p = p
+match_true P Q false e p = absurd (cc)
+
+pub match_false : (P Q : Type 0) (b : Bool) → b ≡ false → Q → MatchBool b P Q
+match_false P Q true e p = absurd (cc)
+match_false P Q false e p = p
+
+-- ---- the tree of a text that is one paragraph
+
+-- an element under the Document
+pub element_added : (document after : List Item) (root : ℕ) (attributes : List AttributePair)
+    → document ≡ document_item ∷ [] → root ≡ 0 → attributes ≡ []
+    → after ≡ document ++ new_item document root (element_node (codes "p") attributes) ∷ [] → after
+    ≡ empty_paragraph
+element_added document after root attributes d r n e = e ∙ rw (d, r, n) refl
+
+-- and a text in it
+pub text_added : (document before after : List Item) (element : ℕ) (text : List ℕ) → document ≡ document_item
+    ∷ []
+    → before ≡ empty_paragraph → element ≡ length document → eqb (length text) 0 ≡ false
+    → after ≡ before ++ new_item before element (text_node text) ∷ [] → after ≡ paragraph text
+text_added document before after element [] d b i e a = absurd (grind (arith, nat_tests))
+text_added document before after element (c ∷ s) d b i e a = a ∙ rw (b, i ∙ ap length d) refl
+
+-- or none, since it is empty
+pub none_added : (before : List Item) (text : List ℕ) → before ≡ empty_paragraph → eqb (length text) 0 ≡ true
+    → before ≡ paragraph text
+none_added before [] b e = b
+none_added before (c ∷ s) b e = absurd (grind (arith, nat_tests))
+
+-- ---- the text that the bytes of an input hold
+
+-- of any page
+pub readable_page : (settings : Settings) (any : Bool) (input text : List ℕ) → any ≡ reads_any settings
+    → any ≡ true
+    → page_text settings.encoding input ≡ Some text
+    → IsReadable settings input × (text ≡ text_in settings input)
+readable_page settings any input text a t e =
+    let reads : reads_any settings ≡ true = sym a ∙ t in
+    (match_true _ _ (reads_any settings) reads (rw e refl), rw (reads, e) refl)
+
+-- of UTF-8 alone
+pub readable_utf8 : (settings : Settings) (any : Bool) (input text : List ℕ) → any ≡ reads_any settings
+    → any ≡ false
+    → IsUtf8 input → text ≡ input
+    → IsReadable settings input × (text ≡ text_in settings input)
+readable_utf8 settings any input text a f u e =
+    let strict : reads_any settings ≡ false = sym a ∙ f in
+    (match_false _ _ (reads_any settings) strict u, rw strict e)
+
+-- an encoding that isn't supported
+pub undecoded : (settings : Settings) (any : Bool) (input : List ℕ) (e : DecodeError) → any ≡ reads_any settings
+    → any ≡ true
+    → ((encoding : UnsupportedEncoding) → e ≡ decoding.Unsupported encoding
+    → encoding_of settings.encoding input ≡ named.Unsupported encoding)
+    → IsFaultOf settings input (decode_fault e)
+undecoded settings any input (decoding.Unsupported encoding) a t u = (sym a ∙ t, u encoding refl)
+undecoded settings any input decoding.Memory a t u = tt
+
+-- ---- what the text becomes
+
+of_strict : (P Q : Type 0) (b : Bool) → b ≡ false → MatchBool b P Q → Q
+of_strict P Q true e p = absurd (cc)
+of_strict P Q false e p = p
+
+-- its tree, and what is written of it
+pub of_readable : (settings : Settings) (input text found output : List ℕ)
+    → IsReadable settings input × (text ≡ text_in settings input) → found ≡ text
+    → IsOutputBy settings found output → IsOutputOf settings input output
+of_readable settings input text found output (r, t) f m = (r, subst (λ x. IsOutputBy settings x output) (f ∙ t) m)
+
+-- nothing of it is selected
+pub of_unselected : (settings : Settings) (input text found : List ℕ)
+    → IsReadable settings input × (text ≡ text_in settings input) → found ≡ text
+    → SelectsNothing settings found → IsUnselected settings input
+of_unselected settings input text found (r, t) f n = (r, subst (SelectsNothing settings) (f ∙ t) n)
+
+-- it is refused, and so is the input
+pub of_refused : (settings : Settings) (input text found : List ℕ) (e : ConvertError)
+    → IsReadable settings input × (text ≡ text_in settings input) → found ≡ text
+    → ((place : ℕ) (kind : FaultKind) → e ≡ conversion.Refused place kind → settings.text ≡ false)
+    → ((place : ℕ) (kind : FaultKind) → e ≡ conversion.Refused place kind → settings.html5 ≡ false)
+    → ((place : ℕ) (kind : FaultKind) → e ≡ conversion.Refused place kind
+    → IsRefusedBy settings found place kind)
+    → IsFaultOf settings input (conversion_fault e)
+of_refused settings input text found (conversion.Refused place kind) (r, t) f x h g =
+    let strict : reads_any settings ≡ false = rw (h place kind refl) refl in
+    let whole : text_in settings input ≡ input = rw strict refl in (
+      x place kind refl,
+      h place kind refl,
+      of_strict _ _ (reads_any settings) strict r,
+      subst (λ s. IsRefusedBy settings s place kind) (f ∙ (t ∙ whole)) (g place kind refl),
+    )
+of_refused settings input text found conversion.Memory (r, t) f x h g = tt
+
+-- ---- a page of a run
+
+-- what a run adds changes only addresses
+pub same_output : (page : PageInRun) (settings : Settings) (head : List ℕ) (part : List Item)
+    → tree_output settings head part ≡ tree_output (settings_for page settings) head part
+unfolding tree_output tree_markdown
+same_output page settings head part = refl
+
+none_either_way : {A : Type 0} (b : Bool) (f g : A → A) (x : A) (chosen : Option A)
+    → (if b then Some x else option_map f chosen) ≡ None → (if b then Some x else option_map g chosen) ≡ None
+none_either_way true f g x chosen e = absurd (cc)
+none_either_way false f g x None e = refl
+none_either_way false f g x (Some y) e = absurd (cc)
+
+-- nor does it change why a page becomes nothing
+pub fault_for : (page : PageInRun) (settings : Settings) (bytes : List ℕ) (e : PageError)
+    → IsFaultOf settings bytes e → IsFaultOf (settings_for page settings) bytes e
+fault_for page settings bytes NotUtf8 f = f
+fault_for page settings bytes (Unsupported encoding) f = f
+fault_for page settings bytes (Refused place kind) f = f
+fault_for page settings bytes NothingSelected (readable, (tree, by, none)) = (
+  readable,
+  (
+    tree,
+    by,
+    none_either_way settings.text _ _ tree
+        (selected_of settings (without_dropped settings tree)) none,
+  ),
+)
+fault_for page settings bytes Memory f = tt
+
+-- a page by itself has nothing added
+pub alone_adds_nothing : (page : PageInRun) (settings : Settings) → page ≡ alone
+    → settings_for page settings ≡ settings
+alone_adds_nothing page settings e = ap (λ (p : PageInRun). settings_for p settings) e

@@ -1,0 +1,99 @@
+-- How a page is read, and how it is converted; and what a run over several pages adds to that.
+use Rattle.std.specs.Prelude.{Bool, true, false, List, [], ℕ, map, Option, None, option_map}
+use Rattle.std.specs.Option.{option_or}
+use Rattle.htmd_encodings.specs.declared.encodings.Encoding.{Encoding}
+use Rattle.htmd_walk.specs.declared.options.Options.{Options}
+use Rattle.htmd_walk.specs.Defaults.{default_options}
+use Rattle.htmd_selectors.specs.SelectorSteps.{Step}
+use Rattle.htmd_selectors.specs.Views.{steps_in}
+use Rattle.htmd_addresses.specs.Leads.{RunPage}
+use Rattle.htmd_addresses.specs.RunViews.{run_page_of}
+use Rattle.url.specs.Parts.{Parts}
+use Rattle.htmd.specs.declared.page_settings.PageSettings as held
+use Rattle.htmd.specs.declared.page_settings.PageInRun as held_in_run
+
+pub record Settings : Type 0 where
+  -- the input is the text of one paragraph, and not HTML
+  pub text : Bool
+  -- the input is a whole page, of which the body is converted
+  pub body : Bool
+  -- the input is any page, as browsers read it
+  pub html5 : Bool
+  -- the encoding of bytes without a mark, if it is given
+  pub encoding : Option Encoding
+  -- what a reader sees of the page is written
+  pub guarded : Bool
+  -- that is written as JSON, in the form of mdast
+  pub mdast : Bool
+  pub scripting : Bool
+  pub options : Options
+  -- elements with these names give nothing
+  pub skipped : List (List ℕ)
+  -- only the outermost elements that these selectors name are converted, if there are any selectors
+  pub selected : List Step
+  -- the elements that these selectors name are left out
+  pub dropped : List Step
+  -- the URL of the page, if addresses are made absolute
+  pub base : Option Parts
+  -- the page as one of a run, if addresses lead to the outputs of its pages; what is said of all pages doesn't say it
+  pub run_page : Option RunPage
+  -- what the head of the page says of it is written first
+  pub front_matter : Bool
+
+-- the settings that are held
+abbrev pub settings_in : held.PageSettings → Settings
+settings_in settings = record {
+  text = settings.text;
+  body = settings.body;
+  html5 = settings.html5;
+  encoding = settings.encoding;
+  guarded = settings.guarded;
+  mdast = settings.mdast;
+  scripting = settings.scripting;
+  options = settings.options;
+  skipped = map (λ name. name.now) settings.skipped.items;
+  selected = steps_in settings.selected;
+  dropped = steps_in settings.dropped;
+  base = settings.base;
+  run_page = None;
+  front_matter = settings.front_matter;
+}
+
+-- the settings if nothing else is said
+abbrev pub default_settings : Settings
+default_settings = record {
+  text = false;
+  body = false;
+  html5 = false;
+  encoding = None;
+  guarded = false;
+  mdast = false;
+  scripting = true;
+  options = default_options;
+  skipped = [];
+  selected = [];
+  dropped = [];
+  base = None;
+  run_page = None;
+  front_matter = false;
+}
+
+-- what a run adds for one of its pages: the URL of that page, and the page as one of the run
+pub record PageInRun : Type 0 where
+  pub url : Option Parts
+  pub run_page : Option RunPage
+
+-- what is held of a page in a run
+abbrev pub page_in : held_in_run.PageInRun → PageInRun
+page_in page = record { url = page.url; run_page = option_map run_page_of page.run_page }
+
+-- a page by itself
+abbrev pub alone : PageInRun
+alone = record { url = None; run_page = None }
+
+-- the settings for one page of a run
+abbrev pub settings_for : PageInRun → Settings → Settings
+settings_for page settings = record settings {
+  base = option_or page.url settings.base;
+  run_page = option_or page.run_page settings.run_page;
+}

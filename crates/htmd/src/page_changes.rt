@@ -1,0 +1,135 @@
+//! What is done to the tree of a page before it is converted.
+ghost use Rattle.std.specs.Prelude.{◌≡◌, IfOk, option_copied, option_map, string_bytes};
+ghost use Rattle.htmd_addresses.specs.RunViews.{run_page_of};
+ghost use Rattle.std.specs.Option.{option_or};
+ghost use Rattle.htmd_selectors.specs.Views.{steps_in};
+ghost use Rattle.htmd.specs.PageChanges as spec;
+ghost use Rattle.htmd.specs.PageSettings.{page_in, settings_for, settings_in};
+
+use crate::page_settings::{PageInRun, PageSettings};
+use htmd_addresses::{RunPage, base_of, lead_to_pages, make_absolute};
+use htmd_front_matter::front_matter;
+use htmd_nodes::Tree;
+use htmd_selectors::{Selectors, drop_elements, select_elements};
+use std::alloc::{AllocError, Global};
+use url::Url;
+
+/// Whether there are selectors.
+fn are_given(selectors: &Selectors) -> bool
+    ensures { result ≡ spec.are_given (steps_in selectors.now) }
+{
+    !selectors.is_empty()
+}
+
+/// What the head of a page says about it, if that is written; a text has no head.
+#[tactic(auto, using(crate::proofs::PageChangesLemmas::no_lines, crate::proofs::PageChangesLemmas::are_lines))]
+pub(crate) fn head_of(
+    alloc: Global,
+    settings: &PageSettings<'_>,
+    page: &Tree,
+) -> Result<String, AllocError>
+    ensures value { IfOk result (λ lines. string_bytes lines ≡ spec.head_of (settings_in settings.now) page.now) }
+    ensures lines { IfOk result (λ lines. spec.AreLines (string_bytes lines)) }
+{
+    if settings.front_matter && !settings.text {
+        front_matter(alloc, page)
+    } else {
+        Ok(String::new(alloc))
+    }
+}
+
+/// The page without what is dropped.
+fn without_dropped(
+    alloc: Global,
+    settings: &PageSettings<'_>,
+    page: Tree,
+) -> Result<Tree, AllocError>
+    ensures { IfOk result (λ tree. tree ≡ spec.without_dropped (settings_in settings.now) page) }
+{
+    if are_given(&settings.dropped) {
+        drop_elements(alloc, &page, &settings.dropped)
+    } else {
+        Ok(page)
+    }
+}
+
+/// What is selected of a page, or all of it where nothing is said of that.
+fn selected(
+    alloc: Global,
+    settings: &PageSettings<'_>,
+    page: Tree,
+) -> Result<Option<Tree>, AllocError>
+    ensures { IfOk result (λ tree. tree ≡ spec.selected_of (settings_in settings.now) page) }
+{
+    if are_given(&settings.selected) {
+        select_elements(alloc, &page, &settings.selected)
+    } else {
+        Ok(Some(page))
+    }
+}
+
+/// What is selected of a page, without what is dropped.
+fn chosen(
+    alloc: Global,
+    settings: &PageSettings<'_>,
+    page: Tree,
+) -> Result<Option<Tree>, AllocError>
+    ensures { IfOk result (λ part. part ≡ spec.selected_of (settings_in settings.now)
+        (spec.without_dropped (settings_in settings.now) page)) }
+{
+    let kept = without_dropped(alloc, settings, page)?;
+    selected(alloc, settings, kept)
+}
+
+/// The base that a page names, against its URL; none if it names none, or if the URL isn't known.
+#[tactic(auto, using(crate::proofs::PageChangesLemmas::own_or_url))]
+fn own_base(url: Option<&Url>, page: &Tree) -> Result<Option<Url>, AllocError>
+    ensures { IfOk result (λ own. option_or own (option_copied url.entry)
+        ≡ spec.base_of (option_copied url.entry) page.now) }
+{
+    match url {
+        Some(url) => base_of(page, url),
+        None => Ok(None),
+    }
+}
+
+/// A part of a page with the addresses that it is to have.
+fn with_addresses(
+    alloc: Global,
+    run_page: Option<RunPage<'_>>,
+    base: Option<&Url>,
+    part: Tree,
+) -> Result<Tree, AllocError>
+    ensures { IfOk result (λ tree. tree
+        ≡ spec.with_addresses (option_map run_page_of run_page.entry) (option_copied base.entry) part) }
+{
+    match (run_page, base) {
+        (Some(page), base) => lead_to_pages(alloc, &part, page, base),
+        (None, Some(base)) => make_absolute(alloc, &part, base),
+        (None, None) => Ok(part),
+    }
+}
+
+/// The part of a page that is converted, with the addresses that it is to have; none if nothing is selected. Both
+/// kinds of selectors and the base are those of the whole page. Of a text it is all.
+#[tactic(auto, using(crate::proofs::PageChangesLemmas::first_copied))]
+pub(crate) fn part_of(
+    alloc: Global,
+    settings: &PageSettings<'_>,
+    in_run: &PageInRun<'_>,
+    page: Tree,
+) -> Result<Option<Tree>, AllocError>
+    ensures { IfOk result (λ part. part
+        ≡ spec.part_of (settings_for (page_in in_run.now) (settings_in settings.now)) page) }
+{
+    if settings.text {
+        return Ok(Some(page));
+    }
+    let url = in_run.url.as_ref().or(settings.base.as_ref());
+    let own = own_base(url, &page)?;
+    let base = own.as_ref().or(url);
+    match chosen(alloc, settings, page)? {
+        Some(part) => Ok(Some(with_addresses(alloc, in_run.run_page, base, part)?)),
+        None => Ok(None),
+    }
+}

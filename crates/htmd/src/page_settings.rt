@@ -1,0 +1,88 @@
+//! How a page is read, and how it is converted.
+
+ghost use Rattle.std.specs.Prelude.{◌≡◌};
+ghost use Rattle.htmd.specs.PageSettings.{alone, default_settings, page_in, settings_in};
+
+use htmd_addresses::RunPage;
+use htmd_encodings::Encoding;
+use htmd_selectors::Selectors;
+use htmd_walk::options::Options;
+use std::alloc::Global;
+use url::Url;
+
+/// How a page is read, and how it is converted.
+#[derive(Drop)]
+pub struct PageSettings<'a> {
+    /// The input is the text of one paragraph, and not HTML. Then what says how a page is read, which parts of it count
+    /// and what is written of its head has no effect.
+    pub text: bool,
+    /// The input is a whole page, and what is between the tags of its body is converted.
+    pub body: bool,
+    /// The input is any page, as browsers read it: bytes that aren't UTF-8 are decoded, and nothing is refused but an
+    /// encoding that isn't supported. Then `body` has no effect.
+    pub html5: bool,
+    /// The encoding of any page whose bytes have no mark, if it is known. Otherwise the page's own declaration counts.
+    pub encoding: Option<Encoding>,
+    /// What a reader sees of the page is written, so that a reader of CommonMark reads it back.
+    pub guarded: bool,
+    /// What a reader sees of the page is written as JSON, in the form of mdast. Then `guarded` has no effect.
+    pub mdast: bool,
+    /// The content of `noscript` is one text, else it is nodes.
+    pub scripting: bool,
+    pub options: Options,
+    /// Elements with these names give nothing. The names of elements are in lower case.
+    pub skipped: Vec<&'a str>,
+    /// If there are any, only the outermost elements that these name are converted.
+    pub selected: Selectors,
+    /// The elements that these name are left out, before others are selected.
+    pub dropped: Selectors,
+    /// The URL of the page. Addresses are made absolute by it, or by the base that the page names against it.
+    pub base: Option<Url>,
+    /// What the head of the page says about it is written first.
+    pub front_matter: bool,
+}
+
+/// What a run over several pages adds to the settings for one of them.
+#[derive(Drop)]
+pub struct PageInRun<'a> {
+    /// The URL of this page, if it has one of its own. It counts in place of the settings' base.
+    pub url: Option<Url>,
+    /// Addresses of `a` and `area` that lead to pages of the run lead to their outputs, and aren't made absolute.
+    pub run_page: Option<RunPage<'a>>,
+}
+
+impl<'a> PageSettings<'a> {
+    /// The settings that convert as `convert` does: the input is HTML of the strict grammar, its Markdown is that of the
+    /// Rust crate by the default options, scripting is on, and no element is skipped.
+    pub fn new(alloc: Global) -> PageSettings<'a>
+        ensures { settings_in result ≡ default_settings }
+    {
+        PageSettings {
+            text: false,
+            body: false,
+            html5: false,
+            encoding: None,
+            guarded: false,
+            mdast: false,
+            scripting: true,
+            options: Options::default(),
+            skipped: Vec::new(alloc),
+            selected: Selectors::new(alloc),
+            dropped: Selectors::new(alloc),
+            base: None,
+            front_matter: false,
+        }
+    }
+}
+
+impl<'a> PageInRun<'a> {
+    /// A page by itself: nothing is added.
+    pub fn alone() -> PageInRun<'a>
+        ensures { page_in result ≡ alone }
+    {
+        PageInRun {
+            url: None,
+            run_page: None,
+        }
+    }
+}

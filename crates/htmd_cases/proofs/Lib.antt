@@ -1,1 +1,0 @@
--- No lemmas: only the loop of `push_encoded` asks for a proof.

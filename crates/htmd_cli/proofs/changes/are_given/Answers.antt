@@ -1,8 +1,0 @@
--- There are some, or none.
-use Rattle.std.proofs.Common.{◌∙◌, ap, not}
-use Rattle.htmd_pages.specs.Views.{steps_in}
-use Rattle.htmd_cli.proofs.ChangesLemmas.{are_some}
-use Rattle.htmd_cli.proofs.changes.are_given.Goals as goal
-
-pub returns : goal.returns
-returns c = ap not c.is_empty.ensures ∙ are_some (steps_in c.args.selectors.now)

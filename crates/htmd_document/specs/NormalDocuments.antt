@@ -1,0 +1,145 @@
+-- The normal form of documents: what the document of every tree is like, and what is read back.
+use Rattle.std.specs.Prelude.{◌≡◌, ℕ, suc, ◌+◌, ◌==◌, max, nat_le, Bool, true, false, not, ◌&&◌, ◌||◌, if◌then◌else◌}
+use Rattle.std.specs.Prelude.{List, [], ◌∷◌, length, Option, Some, None}
+use Rattle.std.specs.List.{list_all}
+use Rattle.htmd_lexical.specs.Characters.{null, carriage_return}
+use Rattle.htmd_lexical.specs.CharacterClasses.{is_empty}
+use Rattle.htmd_lexical.specs.WhiteSpace.{is_ascii_white_space}
+use Rattle.htmd_document.specs.declared.document.Alignment.{Alignment}
+use Rattle.htmd_document.specs.LanguageNames.{is_mark}
+use Rattle.htmd_document.specs.DocumentLimits.{most_nested}
+use Rattle.htmd_document.specs.Documents.{Inlines, inline, task, Block, paragraph, heading, code_block, quote}
+use Rattle.htmd_document.specs.Documents.{thematic_break, list, table, Blocks, no_blocks, block, Items, no_items, item}
+use Rattle.htmd_document.specs.TightItems.{is_filled, is_tight_item, is_short}
+use Rattle.htmd_document.specs.DocumentLimits.{greatest_start}
+use Rattle.htmd_document.specs.NormalInlines.{has_none, first_passes, begins_with_space, is_normal_line, is_normal_item}
+
+-- ---- leaves
+
+-- the inlines of a paragraph: there are some, and in an item's first one a task may stand first
+abbrev pub is_normal_paragraph : Bool → Inlines → Bool
+is_normal_paragraph in_item content =
+    not (has_none content) && (if in_item then is_normal_item content else is_normal_line content)
+
+abbrev pub is_level : ℕ → Bool
+is_level level = nat_le 1 level && nat_le level 6
+
+abbrev pub is_normal_heading : ℕ → Inlines → Bool
+is_normal_heading level content = is_level level && not (has_none content) && is_normal_line content
+
+-- in a word that a reader takes for a language: no white space, and no mark
+abbrev pub is_language_byte : ℕ → Bool
+is_language_byte b = not (is_ascii_white_space b || (b == 0x0B) || (b == null) || is_mark b)
+
+abbrev pub is_language : List ℕ → Bool
+is_language s = not (is_empty s) && list_all is_language_byte s
+
+abbrev pub has_language : Option (List ℕ) → Bool
+has_language None = true
+has_language (Some s) = is_language s
+
+-- no carriage return, which ends a line, and no U+0000, which is replaced (CommonMark 0.31.2, 2.1 and 2.3)
+abbrev pub is_code_byte : ℕ → Bool
+is_code_byte b = not (b == carriage_return) && not (b == null)
+
+abbrev pub is_normal_code : Option (List ℕ) → List ℕ → Bool
+is_normal_code language s = has_language language && list_all is_code_byte s
+
+-- ---- lists
+
+abbrev pub item_count : Items → ℕ
+item_count no_items = 0
+item_count (item first rest) = suc (item_count rest)
+
+-- the numbers of a list have at most nine digits (5.2)
+abbrev pub are_short_numbers : Option ℕ → ℕ → Bool
+are_short_numbers None count = true
+are_short_numbers (Some start) count = nat_le (start + count) (greatest_start + 1)
+
+-- something stands in one of the items
+abbrev pub has_filled_item : Items → Bool
+has_filled_item no_items = false
+has_filled_item (item first rest) = is_filled first || has_filled_item rest
+
+-- what an item of a tight list may hold: nothing, one block, or a paragraph and a list that can go on it
+abbrev pub may_be_tight : Blocks → Bool
+may_be_tight blocks = is_short blocks || is_tight_item blocks
+
+abbrev pub are_tight : Items → Bool
+are_tight no_items = true
+are_tight (item first rest) = may_be_tight first && are_tight rest
+
+-- two items or two blocks of one, where a reader can see whether a blank line stands between them (5.3)
+abbrev pub is_spread : Items → Bool
+is_spread no_items = false
+is_spread (item first no_items) = not (is_short first)
+is_spread (item first (item second rest)) = true
+
+-- a tight list can be written tight, and a reader can see that a loose one is loose
+abbrev pub has_right_distance : Bool → Items → Bool
+has_right_distance is_tight items = if is_tight then are_tight items else is_spread items
+
+abbrev pub is_normal_list : Option ℕ → Bool → Items → Bool
+is_normal_list start is_tight items =
+    has_filled_item items && are_short_numbers start (item_count items) && has_right_distance is_tight items
+
+-- ---- tables
+
+abbrev pub has_cell : List Inlines → Bool
+has_cell [] = false
+has_cell (content ∷ rest) = true
+
+-- a row of as many cells as the header, each of one line
+abbrev pub is_normal_row : ℕ → List Inlines → Bool
+is_normal_row columns cells = (length cells == columns) && list_all is_normal_line cells
+
+abbrev pub is_normal_table : List Alignment → List Inlines → List (List Inlines) → Bool
+is_normal_table alignments header rows =
+    has_cell header && (length alignments == length header)
+    && is_normal_row (length header) header && list_all (is_normal_row (length header)) rows
+
+-- ---- blocks
+
+abbrev mutual
+  -- in an item the first block may be a paragraph with a task
+  pub is_normal_block : Bool → Block → Bool
+  is_normal_block in_item (paragraph content) = is_normal_paragraph in_item content
+  is_normal_block in_item (heading level content) = is_normal_heading level content
+  is_normal_block in_item (code_block language s) = is_normal_code language s
+  is_normal_block in_item (quote content) = is_filled content && are_normal_blocks false content
+  is_normal_block in_item thematic_break = true
+  is_normal_block in_item (list start is_tight items) = is_normal_list start is_tight items && are_normal_items items
+  is_normal_block in_item (table alignments header rows) = is_normal_table alignments header rows
+
+  pub are_normal_blocks : Bool → Blocks → Bool
+  are_normal_blocks in_item no_blocks = true
+  are_normal_blocks in_item (block first rest) = is_normal_block in_item first && are_normal_blocks false rest
+
+  pub are_normal_items : Items → Bool
+  are_normal_items no_items = true
+  are_normal_items (item first rest) = are_normal_blocks true first && are_normal_items rest
+
+-- ---- lists and quotes in each other
+
+abbrev mutual
+  -- how many stand in each other
+  pub depth_of : Block → ℕ
+  depth_of (quote content) = suc (depth_among content)
+  depth_of (list start is_tight items) = suc (depth_of_items items)
+  depth_of b = 0
+
+  pub depth_among : Blocks → ℕ
+  depth_among no_blocks = 0
+  depth_among (block first rest) = max (depth_of first) (depth_among rest)
+
+  pub depth_of_items : Items → ℕ
+  depth_of_items no_items = 0
+  depth_of_items (item first rest) = max (depth_among first) (depth_of_items rest)
+
+-- ---- documents
+
+abbrev pub is_normal_document : Blocks → Bool
+is_normal_document d = are_normal_blocks false d && nat_le (depth_among d) most_nested
+
+abbrev pub IsNormal : Blocks → Type 0
+IsNormal d = is_normal_document d ≡ true

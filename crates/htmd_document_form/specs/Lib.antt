@@ -1,3 +1,0 @@
--- The normal form of documents.
-pub mod NormalInlines
-pub mod NormalDocuments

@@ -1,0 +1,22 @@
+-- What the cells and rows of a table of the source stand for.
+use Rattle.std.specs.Prelude.{List, map, Vec}
+use Rattle.std.specs.declared.alloc.Global.{Global}
+use Rattle.htmd_document.specs.declared.document.Inline.{Inline}
+use Rattle.htmd_document_of_tree.specs.declared.grid.Cell as code
+use Rattle.htmd_document_of_tree.specs.declared.grid.Row as codes
+use Rattle.htmd_document.specs.Documents.{Inlines}
+use Rattle.htmd_document.specs.DocumentViews.{inlines_of}
+use Rattle.htmd_document_of_tree.specs.Grids.{Cell, Row}
+
+abbrev pub cell_of : code.Cell → Cell
+cell_of cell = record { content = inlines_of cell.content.items; columns = cell.columns; rows = cell.rows }
+
+abbrev pub row_of : codes.Row → Row
+row_of row = record { part = row.part; cells = map cell_of row.cells.items }
+
+-- cells without spans
+abbrev pub line_of : List (Vec Inline Global) → List Inlines
+line_of cells = map (λ cell. inlines_of cell.items) cells
+
+abbrev pub lines_of : List (Vec (Vec Inline Global) Global) → List (List Inlines)
+lines_of lines = map (λ cells. line_of cells.items) lines

@@ -1,0 +1,10 @@
+-- Bytes that the source looks for in a text before its characters.
+use Rattle.std.specs.Prelude.{ℕ, Bool, ◌||◌, ◌==◌}
+use Rattle.htmd_lexical.specs.Characters.{null, carriage_return}
+
+-- U+0000, and the byte that begins U+FEFF
+abbrev pub is_unshown_byte : ℕ → Bool
+is_unshown_byte b = (b == null) || (b == 0xEF)
+
+abbrev pub is_return : ℕ → Bool
+is_return b = b == carriage_return

@@ -1,1 +1,0 @@
--- No lemmas: only clauses of two callers ask for a proof.

@@ -1,5 +1,0 @@
-use Rattle.htmd_html5_laws.proofs.UndroppedLettersLemmas.{harmless_letters_kept}
-use Rattle.htmd_html5_laws.proofs.letters.undropped_letters_are_kept.Goals as goal
-
-pub returns : goal.returns
-returns c = harmless_letters_kept

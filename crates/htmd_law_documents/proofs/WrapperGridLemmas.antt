@@ -1,0 +1,142 @@
+-- The grid of a table keeps the wrappers of its cells, in order.
+use Rattle.std.proofs.Common.{◌≡◌, ℕ, zero, suc, ◌-◌, Bool, true, false, cond, List, [], ◌∷◌, ◌++◌, length, map}
+use Rattle.std.proofs.Common.{refl, sym, ◌∙◌, ap, append_assoc, filter, ◌||◌, Option, Some, None}
+use Rattle.std.specs.Prelude.{replicate, drop, nat_lt}
+use Rattle.std.specs.List.{flat_map, list_any, prefix_len}
+use Rattle.std.proofs.lemmas.List.{append-nil}
+use Rattle.std.proofs.lemmas.Grind.{flat_map-append}
+use Rattle.htmd_lexical.proofs.Cases.{test}
+use Rattle.htmd_document.specs.declared.document.Alignment.{Alignment}
+use Rattle.htmd_document.specs.Documents.{Inlines, no_inlines, inline, Block}
+use Rattle.htmd_document_of_tree.specs.Grids.{Cell, Row, columns_before, laid, taken_in, shapes_from, shapes_of, filled}
+use Rattle.htmd_document_of_tree.specs.Grids.{filled_all}
+use Rattle.htmd_document_of_tree.specs.Grids.{contents_of, is_too_large, grid, is_filled_row, width, padded, body}
+use Rattle.htmd_document_of_tree.specs.Grids.{table_of}
+use Rattle.htmd_document_of_tree.specs.Grids.{table_if_filled}
+use Rattle.htmd_law_documents.proofs.Readers.{Reader, read_line, read_cells, read_block}
+
+module _ (R : Reader) where
+  abbrev pub wrappers_of_rows : List (List Inlines) → List R.Seen
+  wrappers_of_rows rows = flat_map (read_cells R) rows
+
+  -- ---- cells where they begin
+
+  none-wrappers : (k : ℕ) (cells : List Cell) → read_cells R (filled (replicate k false) cells) ≡ []
+  none-wrappers zero cells = refl
+  none-wrappers (suc k) cells = none-wrappers k cells
+
+  skipped-wrappers : (k : ℕ) (begins : List Bool) (cells : List Cell)
+      → read_cells R (filled (replicate k false ++ begins) cells) ≡ read_cells R (filled begins cells)
+  skipped-wrappers zero begins cells = refl
+  skipped-wrappers (suc k) begins cells = skipped-wrappers k begins cells
+
+  abbrev contents : List Cell → List Inlines
+  contents cells = map (λ (c : Cell). c.content) cells
+
+  laid-wrappers : (cells : List Cell) (n : ℕ) (taken : List ℕ)
+      → read_cells R (filled (laid n taken cells).begins cells) ≡ read_cells R (contents cells)
+  laid-wrappers [] n taken = none-wrappers (prefix_len (nat_lt n) taken) []
+  laid-wrappers (cell ∷ cells) n taken =
+      let kept : ℕ = prefix_len (nat_lt n) taken in
+      let free : List ℕ = drop kept taken in
+      let columns : ℕ = columns_before free n cell.columns in
+      let rest : List Bool = (laid n (drop columns free) cells).begins in
+      ap (λ begins. read_cells R (filled begins (cell ∷ cells)))
+      (append_assoc (replicate kept false) (true ∷ replicate (columns - 1) false) rest)
+      ∙ (skipped-wrappers kept ((true ∷ replicate (columns - 1) false) ++ rest) (cell ∷ cells)
+      ∙ ap (λ t. (read_line R []) cell.content ++ t)
+      (skipped-wrappers (columns - 1) rest cells ∙ laid-wrappers cells n (drop columns free)))
+
+  shapes-wrappers : (rows : List Row) (n : ℕ) (part : Option ℕ) (taken : List ℕ)
+      → wrappers_of_rows (filled_all (shapes_from n part taken rows) rows) ≡ wrappers_of_rows (map contents_of rows)
+  shapes-wrappers [] n part taken = refl
+  shapes-wrappers (row ∷ rows) n part taken =
+      ap (λ t. t ++ wrappers_of_rows (filled_all (shapes_from (suc n) row.part
+      (laid n (taken_in part row.part taken) row.cells).taken rows) rows))
+      (laid-wrappers row.cells n (taken_in part row.part taken))
+      ∙ ap (λ t. read_cells R (contents_of row) ++ t)
+      (shapes-wrappers rows (suc n) row.part (laid n (taken_in part row.part taken) row.cells).taken)
+
+  either-wrappers : (b : Bool) (xs ys zs : List (List Inlines)) → wrappers_of_rows xs ≡ wrappers_of_rows zs
+      → wrappers_of_rows ys ≡ wrappers_of_rows zs → wrappers_of_rows (cond b xs ys) ≡ wrappers_of_rows zs
+  either-wrappers true xs ys zs g h = g
+  either-wrappers false xs ys zs g h = h
+
+  pub grid-wrappers : (rows : List Row) → wrappers_of_rows (grid rows) ≡ wrappers_of_rows (map contents_of rows)
+  grid-wrappers rows = either-wrappers (is_too_large rows) (map contents_of rows) (filled_all (shapes_of rows) rows)
+      (map contents_of rows) refl (shapes-wrappers rows 0 None [])
+
+  -- ---- rows
+
+  empty-wrappers : (k : ℕ) → read_cells R (replicate k no_inlines) ≡ []
+  empty-wrappers zero = refl
+  empty-wrappers (suc k) = empty-wrappers k
+
+  padded-wrappers : (n : ℕ) (cells : List Inlines) → read_cells R (padded n cells) ≡ read_cells R cells
+  padded-wrappers n cells =
+      flat_map-append (read_line R []) cells (replicate (n - length cells) no_inlines)
+      ∙ (ap (λ t. read_cells R cells ++ t) (empty-wrappers (n - length cells))
+      ∙ append-nil (read_cells R cells))
+
+  all-padded : (n : ℕ) (rows : List (List Inlines)) → wrappers_of_rows (map (padded n) rows)
+      ≡ wrappers_of_rows rows
+  all-padded n [] = refl
+  all-padded n (row ∷ rows) =
+      ap (λ t. t ++ wrappers_of_rows (map (padded n) rows)) (padded-wrappers n row)
+      ∙ ap (λ t. read_cells R row ++ t) (all-padded n rows)
+
+  unfilled-wrappers : (cells : List Inlines) → is_filled_row cells ≡ false → read_cells R cells ≡ []
+  unfilled-wrappers [] e = refl
+  unfilled-wrappers (no_inlines ∷ cells) e = unfilled-wrappers cells e
+  unfilled-wrappers (inline x xs ∷ cells) e = absurd (clash e)
+    where
+      clash : true ≡ false → ⊥
+      clash p = (cc)
+
+  filtered-wrappers : (rows : List (List Inlines)) → wrappers_of_rows (filter is_filled_row rows)
+      ≡ wrappers_of_rows rows
+  filtered-wrappers [] = refl
+  filtered-wrappers (row ∷ rows) = test (is_filled_row row)
+      (λ e. ap (λ b. wrappers_of_rows (cond b (row ∷ filter is_filled_row rows) (filter is_filled_row rows))) e
+      ∙ ap (λ t. read_cells R row ++ t) (filtered-wrappers rows))
+      (λ e. ap (λ b. wrappers_of_rows (cond b (row ∷ filter is_filled_row rows) (filter is_filled_row rows))) e
+      ∙ (filtered-wrappers rows ∙ ap (λ t. t ++ wrappers_of_rows rows) (sym (unfilled-wrappers row e))))
+
+  body-wrappers : (n : ℕ) (rows : List (List Inlines)) → wrappers_of_rows (body n rows) ≡ wrappers_of_rows rows
+  body-wrappers n rows = all-padded n (filter is_filled_row rows) ∙ filtered-wrappers rows
+
+  none-filled : (rows : List (List Inlines)) → list_any is_filled_row rows ≡ false → wrappers_of_rows rows ≡ []
+  none-filled [] e = refl
+  none-filled (row ∷ rows) e = test (is_filled_row row)
+      (λ h. absurd (clash (sym (ap (λ b. b || list_any is_filled_row rows) h) ∙ e)))
+      (λ h. ap (λ t. t ++ wrappers_of_rows rows) (unfilled-wrappers row h)
+      ∙ none-filled rows (sym (ap (λ b. b || list_any is_filled_row rows) h) ∙ e))
+    where
+      clash : true ≡ false → ⊥
+      clash p = (cc)
+
+  -- ---- the table
+
+  abbrev pub wrappers_of_option : Option Block → List R.Seen
+  wrappers_of_option None = []
+  wrappers_of_option (Some b) = read_block R b
+
+  table_of-wrappers : (alignments : List Alignment) (has_header : Bool) (rows : List (List Inlines))
+      → wrappers_of_option (table_of alignments has_header rows) ≡ wrappers_of_rows rows
+  table_of-wrappers alignments has_header [] = refl
+  table_of-wrappers alignments true (first ∷ rest) =
+      let n : ℕ = width (first ∷ rest) in
+      ap (λ t. t ++ wrappers_of_rows (body n rest)) (padded-wrappers n first)
+      ∙ ap (λ t. read_cells R first ++ t) (body-wrappers n rest)
+  table_of-wrappers alignments false (first ∷ rest) =
+      let n : ℕ = width (first ∷ rest) in
+      ap (λ t. t ++ wrappers_of_rows (body n (first ∷ rest))) (padded-wrappers n [])
+      ∙ body-wrappers n (first ∷ rest)
+
+  pub table-wrappers : (alignments : List Alignment) (has_header : Bool) (rows : List (List Inlines))
+      → wrappers_of_option (table_if_filled alignments has_header rows) ≡ wrappers_of_rows rows
+  table-wrappers alignments has_header rows = test (list_any is_filled_row rows)
+      (λ e. ap (λ b. wrappers_of_option (cond b (table_of alignments has_header rows) None)) e
+      ∙ table_of-wrappers alignments has_header rows)
+      (λ e. ap (λ b. wrappers_of_option (cond b (table_of alignments has_header rows) None)) e
+      ∙ sym (none-filled rows e))

@@ -1,0 +1,256 @@
+-- What follows each other, and lists, keep the wrappers of their nodes.
+use Rattle.std.proofs.Common.{◌≡◌, ℕ, Bool, true, false, cond, List, [], ◌∷◌, ◌++◌, refl, sym, ap, ◌∙◌}
+use Rattle.std.proofs.Common.{append_assoc, subst, Option, None}
+use Rattle.std.specs.Prelude.{ℤ, if◌then◌else◌, nat_le}
+use Rattle.std.specs.List.{flat_map}
+use Rattle.htmd_lexical.proofs.Cases.{test}
+use Rattle.htmd_nodes.specs.NumberedTrees.{NumberedTree, document, doctype, text, comment, element}
+use Rattle.htmd_document_of_tree.specs.AllTexts.{all_text_among}
+use Rattle.htmd_document_of_tree.specs.Contexts.{Context, is_lined, deeper, apart}
+use Rattle.htmd_document.specs.DocumentLimits.{most_nested}
+use Rattle.htmd_document_of_tree.specs.Flows.{Node, is_item, blocks_of, before_items, behind_item, item_of, items_of}
+use Rattle.htmd_document_of_tree.specs.Flows.{each_whole}
+use Rattle.htmd_document_of_tree.specs.Flows.{list_parts, goes_on, items_in_a_row, flow_all, flow_after, is_grid}
+use Rattle.htmd_document_of_tree.specs.Flows.{lines_of_table}
+use Rattle.htmd_document_of_tree.specs.Lists.{ListItem, lists_if_filled}
+use Rattle.htmd_document_of_tree.specs.Parts.{Part, edge}
+use Rattle.htmd_document_of_tree.specs.Roles as roles
+use Rattle.htmd_document_of_tree.specs.Roles.{role_of}
+use Rattle.htmd_document_of_tree.specs.Shown.{children_of}
+use Rattle.htmd_document_of_tree.specs.Tables.{has}
+use Rattle.htmd_law_documents.proofs.NormalTextLemmas.{neither, false-true}
+use Rattle.htmd_law_documents.proofs.Readers.{Reader, read_blocks, read_tree, read_trees}
+use Rattle.htmd_law_documents.proofs.WrapperWritingLemmas.{AllAgree}
+use Rattle.htmd_law_documents.proofs.WrapperPartsLemmas.{Keep, keep-nil, keep-append, keep-same, keep-edge, keep-edges}
+use Rattle.htmd_law_documents.proofs.WrapperPartsLemmas.{keep-after, keep-apart, blocks-keep}
+use Rattle.htmd_law_documents.proofs.WrapperListLemmas.{items_wrapped, lists-keep}
+use Rattle.htmd_law_documents.proofs.WrapperKindLemmas.{kind-wrappers}
+
+-- marks don't depend on how many lists and quotes there are
+abbrev pub shallow : Context → Context
+shallow c = record c { nested = 0 }
+
+pub not-flat : (c : Context) → is_lined c ≡ false → c.is_flat ≡ false
+not-flat c e = (neither c.is_flat (nat_le most_nested c.nested) e).0
+
+module _ (R : Reader) where
+  abbrev pub wrappers_in : NumberedTree → Context → List R.Seen
+  wrappers_in t c = read_trees R (children_of t) c false
+
+  abbrev pub node_wrapped : Context → Node → List R.Seen
+  node_wrapped c n = read_tree R n.tree c false
+
+  abbrev pub nodes_wrapped : List Node → Context → List R.Seen
+  nodes_wrapped nodes c = flat_map (node_wrapped c) nodes
+
+  item-wrappers : (t : NumberedTree) (c : Context) → has roles.is_item t ≡ true → read_tree R t c false
+      ≡ wrappers_in t c
+  item-wrappers (document id children) c e = refl
+  item-wrappers (doctype id) c e = refl
+  item-wrappers (text id s) c e = false-true e
+  item-wrappers (comment id s) c e = refl
+  item-wrappers (element id name attributes children) c e =
+      (kind-wrappers R id attributes (all_text_among children) (is_grid children (lines_of_table children))
+      (read_trees R children) c false name).item e
+
+  -- from the first item on
+  abbrev from_item : List Node → List Node
+  from_item [] = []
+  from_item (n ∷ nodes) = if is_item n then n ∷ nodes else from_item nodes
+
+  -- the wrappers before it
+  abbrev wrapped_before : List Node → Context → List R.Seen
+  wrapped_before [] c = []
+  wrapped_before (n ∷ nodes) c = if is_item n then [] else node_wrapped c n ++ wrapped_before nodes c
+
+  parted-wrappers : (nodes : List Node) (c : Context)
+      → nodes_wrapped nodes c ≡ wrapped_before nodes c ++ nodes_wrapped (from_item nodes) c
+  parted-wrappers [] c = refl
+  parted-wrappers (n ∷ nodes) c =
+      let rest : nodes_wrapped nodes c ≡ wrapped_before nodes c
+      ++ nodes_wrapped (from_item nodes) c = parted-wrappers nodes
+      c in
+      test (is_item n)
+      (λ e. sym (ap (λ b. cond b [] (node_wrapped c n ++ wrapped_before nodes c)
+      ++ nodes_wrapped (cond b (n ∷ nodes) (from_item nodes)) c) e))
+      (λ e. ap (λ t. node_wrapped c n ++ t) rest
+      ∙ (sym (append_assoc (node_wrapped c n) (wrapped_before nodes c) (nodes_wrapped (from_item nodes) c))
+      ∙ sym (ap (λ b. cond b [] (node_wrapped c n ++ wrapped_before nodes c)
+      ++ nodes_wrapped (cond b (n ∷ nodes) (from_item nodes)) c) e)))
+
+  -- the wrappers after the items that began before
+  abbrev wrapped_after : List Node → Context → List R.Seen
+  wrapped_after [] c = []
+  wrapped_after (n ∷ nodes) c = if goes_on n then wrapped_after nodes c else node_wrapped c n ++ nodes_wrapped nodes c
+
+  row-wrappers : (nodes : List Node) (c : Context)
+      → nodes_wrapped nodes c ≡ nodes_wrapped (items_in_a_row nodes) c ++ wrapped_after nodes c
+  row-wrappers [] c = refl
+  row-wrappers (n ∷ nodes) c =
+      let rest : nodes_wrapped nodes c ≡ nodes_wrapped (items_in_a_row nodes) c ++ wrapped_after nodes c =
+      row-wrappers nodes c in
+      test (goes_on n)
+      (λ e. ap (λ t. node_wrapped c n ++ t) rest
+      ∙ (sym (append_assoc (node_wrapped c n) (nodes_wrapped (items_in_a_row nodes) c) (wrapped_after nodes c))
+      ∙ sym (ap (λ b. nodes_wrapped (cond b (n ∷ items_in_a_row nodes) []) c
+      ++ cond b (wrapped_after nodes c) (node_wrapped c n ++ nodes_wrapped nodes c)) e)))
+      (λ e. sym (ap (λ b. nodes_wrapped (cond b (n ∷ items_in_a_row nodes) []) c
+      ++ cond b (wrapped_after nodes c) (node_wrapped c n ++ nodes_wrapped nodes c)) e))
+
+  module _ (addr : ℕ → R.Wrap) where
+    -- the links around have their addresses
+    abbrev pub Agree : Context → Type 0
+    Agree c = AllAgree R addr c.around
+
+    -- what a node gives keeps its wrappers, in any context
+    pub record NodeKeeps (n : Node) : Type 0 where
+      pub whole : (c : Context) → Agree c → Keep R addr c.is_flat (n.whole c) (node_wrapped (shallow c) n)
+      pub content : (c : Context) → Agree c → Keep R addr c.is_flat (n.content c) (wrappers_in n.tree (shallow c))
+
+    abbrev pub NodesKeep : List Node → Type 0
+    NodesKeep [] = Unit {0}
+    NodesKeep (n ∷ nodes) = NodeKeeps n × NodesKeep nodes
+
+    pub keep-either : (b : Bool) (in_line : Bool) (ps qs : List Part) (cs : List R.Seen)
+        → (b ≡ true → Keep R addr in_line ps cs)
+        → (b ≡ false → Keep R addr in_line qs cs) → Keep R addr in_line (cond b ps qs) cs
+    keep-either true in_line ps qs cs g h = g refl
+    keep-either false in_line ps qs cs g h = h refl
+
+    pub keep-in : (b d : Bool) (ps : List Part) (cs : List R.Seen) → b ≡ d → Keep R addr d ps cs
+        → Keep R addr b ps cs
+    keep-in b d ps cs e h = subst (λ (x : Bool). Keep R addr x ps cs) (sym e) h
+
+    each-keeps : (nodes : List Node) → NodesKeep nodes → (c : Context) → Agree c
+        → Keep R addr c.is_flat (each_whole nodes c) (nodes_wrapped nodes (shallow c))
+    each-keeps [] h c a = keep-nil R addr c.is_flat
+    each-keeps (n ∷ nodes) h c a =
+        keep-append R addr c.is_flat (n.whole c) (each_whole nodes c) (node_wrapped (shallow c) n)
+        (nodes_wrapped nodes (shallow c)) (h.0.whole c a) (each-keeps nodes h.1 c a)
+
+    -- ---- lists
+
+    if-item : (b : Bool) (in_line : Bool) (ps : List Part) (cs : List R.Seen) → Keep R addr in_line ps cs
+        → Keep R addr in_line (cond b [] ps) (cond b [] cs)
+    if-item true in_line ps cs h = keep-nil R addr in_line
+    if-item false in_line ps cs h = h
+
+    before-keeps : (nodes : List Node) → NodesKeep nodes → (c : Context) → Agree c
+        → Keep R addr c.is_flat (before_items nodes c) (wrapped_before nodes (shallow c))
+    before-keeps [] h c a = keep-nil R addr c.is_flat
+    before-keeps (n ∷ nodes) h c a =
+        if-item (is_item n) c.is_flat (n.whole c ++ before_items nodes c)
+        (node_wrapped (shallow c) n ++ wrapped_before nodes (shallow c))
+        (keep-append R addr c.is_flat (n.whole c) (before_items nodes c) (node_wrapped (shallow c) n)
+        (wrapped_before nodes (shallow c)) (h.0.whole c a) (before-keeps nodes h.1 c a))
+
+    behind-keeps : (nodes : List Node) → NodesKeep nodes → (c : Context) → Agree c
+        → Keep R addr c.is_flat (behind_item nodes c) (wrapped_before nodes (shallow c))
+    behind-keeps [] h c a = keep-nil R addr c.is_flat
+    behind-keeps (n ∷ nodes) h c a =
+        let cs : List R.Seen = node_wrapped (shallow c) n ++ wrapped_before nodes (shallow c) in
+        if-item (is_item n) c.is_flat (edge ∷ n.whole c ++ behind_item nodes c) cs
+        (keep-edge R addr c.is_flat (n.whole c ++ behind_item nodes c) cs
+        (keep-append R addr c.is_flat (n.whole c) (behind_item nodes c) (node_wrapped (shallow c) n)
+        (wrapped_before nodes (shallow c)) (h.0.whole c a) (behind-keeps nodes h.1 c a)))
+
+    either-items : (b : Bool) (xs ys : List ListItem) (ns ms : List Node) (c : Context)
+        → (b ≡ true → items_wrapped R xs ≡ nodes_wrapped ns c)
+        → (b ≡ false → items_wrapped R ys ≡ nodes_wrapped ms c)
+        → items_wrapped R (cond b xs ys) ≡ nodes_wrapped (cond b ns ms) c
+    either-items true xs ys ns ms c g h = g refl
+    either-items false xs ys ns ms c g h = h refl
+
+    items-keep : (nodes : List Node) → NodesKeep nodes → (c : Context) → Agree c → c.is_flat ≡ false
+        → items_wrapped R (items_of nodes c) ≡ nodes_wrapped (from_item nodes) (shallow c)
+    items-keep [] h c a e = refl
+    items-keep (n ∷ nodes) h c a e =
+        let s : Context = shallow c in
+        let rest : items_wrapped R (items_of nodes c) ≡ nodes_wrapped
+        (from_item nodes) s = items-keep nodes h.1 c a e in
+        let parts : List Part = n.content c ++ behind_item nodes c in
+        let cs : List R.Seen = wrappers_in n.tree s ++ wrapped_before nodes s in
+        let keeps : Keep R addr c.is_flat parts cs =
+        keep-append R addr c.is_flat (n.content c) (behind_item nodes c) (wrappers_in n.tree s) (wrapped_before nodes s)
+        (h.0.content c a) (behind-keeps nodes h.1 c a) in
+        let is : read_blocks R (blocks_of true parts) ≡ cs =
+        blocks-keep R addr true parts cs (keep-in false c.is_flat parts cs (sym e) keeps) in
+        either-items (is_item n) (item_of n parts ∷ items_of nodes c) (items_of nodes c) (n ∷ nodes)
+        (from_item nodes) s
+        (λ i. ap (λ t. t ++ items_wrapped R (items_of nodes c)) is
+        ∙ (ap (λ t. cs ++ t) rest
+        ∙ (append_assoc (wrappers_in n.tree s) (wrapped_before nodes s) (nodes_wrapped (from_item nodes) s)
+        ∙ (ap (λ t. wrappers_in n.tree s ++ t) (sym (parted-wrappers nodes s))
+        ∙ ap (λ t. t ++ nodes_wrapped nodes s) (sym (item-wrappers n.tree s i))))))
+        (λ i. rest)
+
+    pub list-parts-keep : (start : Option ℤ) (nodes : List Node) → NodesKeep nodes → (c : Context) → Agree c
+        → Keep R addr c.is_flat (list_parts start nodes c) (nodes_wrapped nodes (shallow c))
+    list-parts-keep start nodes h c a =
+        let s : Context = shallow c in
+        let items : List ListItem = items_of nodes (deeper c) in
+        let lists : List Part = lists_if_filled start items in
+        let front : List Part = edge ∷ before_items nodes c in
+        let cs : List R.Seen = wrapped_before nodes s in
+        let ds : List R.Seen = nodes_wrapped (from_item nodes) s in
+        keep-either (is_lined c) c.is_flat (apart (each_whole nodes c)) (front ++ edge ∷ lists ++ edge ∷ [])
+        (nodes_wrapped nodes s)
+        (λ e. keep-apart R addr c.is_flat (each_whole nodes c) (nodes_wrapped nodes s) (each-keeps nodes h c a))
+        (λ e.
+        let flat : c.is_flat ≡ false = not-flat c e in
+        let all : items_wrapped R items ≡ ds = items-keep nodes h (deeper c) a flat in
+        keep-same R addr c.is_flat (front ++ edge ∷ lists ++ edge ∷ []) (cs ++ ds) (nodes_wrapped nodes s)
+        (sym (parted-wrappers nodes s))
+        (keep-after R addr c.is_flat (front ++ edge ∷ lists) (edge ∷ []) (cs ++ ds)
+        (keep-append R addr c.is_flat front (edge ∷ lists) cs ds
+        (keep-edge R addr c.is_flat (before_items nodes c) cs (before-keeps nodes h c a))
+        (keep-edge R addr c.is_flat lists ds
+        (keep-in c.is_flat false lists ds flat
+        (keep-same R addr false lists (items_wrapped R items) ds all (lists-keep R addr start items)))))
+        (keep-edges R addr c.is_flat)))
+
+    -- ---- what follows each other
+
+    either-row : (b : Bool) (n : Node) (nodes : List Node) → NodeKeeps n → NodesKeep nodes
+        → NodesKeep (cond b (n ∷ nodes) [])
+    either-row true n nodes g h = (g, h)
+    either-row false n nodes g h = tt
+
+    row-keeps : (nodes : List Node) → NodesKeep nodes → NodesKeep (items_in_a_row nodes)
+    row-keeps [] h = tt
+    row-keeps (n ∷ nodes) h = either-row (goes_on n) n (items_in_a_row nodes) h.0 (row-keeps nodes h.1)
+
+    either-after : (b : Bool) (in_line : Bool) (ps qs : List Part) (cs ds : List R.Seen) → Keep R addr in_line ps cs
+        → Keep R addr in_line qs ds → Keep R addr in_line (cond b ps qs) (cond b cs ds)
+    either-after true in_line ps qs cs ds g h = g
+    either-after false in_line ps qs cs ds g h = h
+
+    mutual
+      pub flow-keeps : (nodes : List Node) → NodesKeep nodes → (c : Context) → Agree c
+          → Keep R addr c.is_flat (flow_all nodes c) (nodes_wrapped nodes (shallow c))
+      flow-keeps [] h c a = keep-nil R addr c.is_flat
+      flow-keeps (n ∷ nodes) h c a =
+          let s : Context = shallow c in
+          let items : List Node = n ∷ items_in_a_row nodes in
+          keep-either (is_item n) c.is_flat (list_parts None items c ++ flow_after nodes c)
+          (n.whole c ++ flow_all nodes c) (nodes_wrapped (n ∷ nodes) s)
+          (λ e. keep-same R addr c.is_flat (list_parts None items c ++ flow_after nodes c)
+          (nodes_wrapped items s ++ wrapped_after nodes s) (nodes_wrapped (n ∷ nodes) s)
+          (append_assoc (node_wrapped s n) (nodes_wrapped (items_in_a_row nodes) s) (wrapped_after nodes s)
+          ∙ ap (λ t. node_wrapped s n ++ t) (sym (row-wrappers nodes s)))
+          (keep-append R addr c.is_flat (list_parts None items c) (flow_after nodes c) (nodes_wrapped items s)
+          (wrapped_after nodes s) (list-parts-keep None items (h.0, row-keeps nodes h.1) c a)
+          (after-keeps nodes h.1 c a)))
+          (λ e. keep-append R addr c.is_flat (n.whole c) (flow_all nodes c) (node_wrapped s n) (nodes_wrapped nodes s)
+          (h.0.whole c a) (flow-keeps nodes h.1 c a))
+
+      after-keeps : (nodes : List Node) → NodesKeep nodes → (c : Context) → Agree c
+          → Keep R addr c.is_flat (flow_after nodes c) (wrapped_after nodes (shallow c))
+      after-keeps [] h c a = keep-nil R addr c.is_flat
+      after-keeps (n ∷ nodes) h c a =
+          let s : Context = shallow c in
+          either-after (goes_on n) c.is_flat (flow_after nodes c) (n.whole c ++ flow_all nodes c)
+          (wrapped_after nodes s)
+          (node_wrapped s n ++ nodes_wrapped nodes s) (after-keeps nodes h.1 c a)
+          (keep-append R addr c.is_flat (n.whole c) (flow_all nodes c) (node_wrapped s n) (nodes_wrapped nodes s)
+          (h.0.whole c a) (flow-keeps nodes h.1 c a))

@@ -1,0 +1,20 @@
+//! The normal form of the document of a tree.
+ghost use Rattle.std.specs.Prelude.{map};
+ghost use Rattle.htmd_nodes.specs.NumberedTrees.{tree_of};
+ghost use Rattle.htmd_document_of_tree.specs.TreeDocuments.{document_of_tree};
+ghost use Rattle.htmd_document.specs.NormalDocuments.{IsNormal};
+ghost use Rattle.htmd_law_documents.specs.NormalLaws.{DocumentsAreNormal};
+
+use htmd_nodes::Tree;
+
+/// The document of a tree is in normal form.
+pub fn documents_are_normal()
+    ensures { DocumentsAreNormal }
+{}
+
+/// So it is for every `Tree`, whether scripts run or not, and whatever names are skipped.
+pub fn this_document_is_normal(tree: &Tree, scripting: bool, skip: &[&str])
+    ensures { IsNormal (document_of_tree scripting (map (λ name. name.now) skip.now) (tree_of tree.now 0)) }
+{
+    let _root = tree.root();
+}

@@ -1,0 +1,111 @@
+-- Unambiguous texts, the tokens of texts of the strict grammar, and plain trees.
+use Rattle.std.proofs.Common.{◌≡◌, true, false, [], ◌∷◌, refl}
+use Rattle.std.specs.Prelude.{codes}
+use Rattle.htmd_values.specs.ValueTrees.{none, more}
+use Rattle.htmd_values.specs.Serialisation.{is_void}
+use Rattle.htmd_html5_tokens.specs.NamedReferences.{old_names}
+use Rattle.htmd_html5_tokens.specs.Tokens.{start_tag, end_tag, text, comment}
+use Rattle.htmd_grammar.specs.HtmlDocuments.{skeleton}
+use Rattle.htmd_nodes.specs.Layout.{document_items}
+use Rattle.htmd_html5.specs.BodyEnds.{text_end_rule}
+use Rattle.htmd_html5.specs.BodyStarts.{block_rule, formatting_rule, phrasing_rule}
+use Rattle.htmd_html5.specs.Html5Documents.{html5_document}
+use Rattle.htmd_law_html5.specs.StrictReferences.{outside, has_bare_reference}
+use Rattle.htmd_law_html5.specs.StrictTokens.{tokens_of_text, tag_named, after_feed, is_simple}
+use Rattle.htmd_law_html5.specs.StrictTrees.{is_plain_element, are_plain}
+use Rattle.htmd_values.specs.ValueTrees as trees
+
+-- ---- references by name
+
+without_its_semicolon : has_bare_reference outside (codes "a &amp b") ≡ true
+unfolding old_names
+without_its_semicolon = refl
+
+with_it : has_bare_reference outside (codes "a &amp; b") ≡ false
+unfolding old_names
+with_it = refl
+
+-- `AT` is no name
+a_bare_ampersand : has_bare_reference outside (codes "AT&T") ≡ false
+unfolding old_names
+a_bare_ampersand = refl
+
+-- a name that more letters or `=` follow, in a value and in a text
+in_an_address : has_bare_reference outside (codes "<a href=\"?a=1&section=2&copy=3\">b</a>") ≡ false
+unfolding old_names
+in_an_address = refl
+
+in_a_text : has_bare_reference outside (codes "<b>?a=1&section=2</b>") ≡ true
+unfolding old_names
+in_a_text = refl
+
+at_the_end_of_a_value : has_bare_reference outside (codes "<a href=\"?a&copy\">b</a>") ≡ true
+unfolding old_names
+at_the_end_of_a_value = refl
+
+after_a_title : has_bare_reference outside (codes "<title></title><a href=\"?a&section=2\">b</a>") ≡ true
+unfolding old_names
+after_a_title = refl
+
+-- ---- tokens
+
+an_element : tokens_of_text false (codes "<p>a<br>b</p><!-- c -->")
+    ≡ start_tag (tag_named (codes "p") [] false) ∷ text (codes "a") ∷ start_tag (tag_named (codes "br") [] false)
+    ∷ text (codes "b") ∷ end_tag (tag_named (codes "p") [] false) ∷ comment (codes " c ") ∷ []
+an_element = refl
+
+only_text : tokens_of_text false (codes "<title><b></title>")
+    ≡ start_tag (tag_named (codes "title") [] false) ∷ text (codes "<b>")
+    ∷ end_tag (tag_named (codes "title") [] false) ∷ []
+only_text = refl
+
+a_feed_alone : after_feed (text (codes "\n") ∷ start_tag (tag_named (codes "b") [] false) ∷ [])
+    ≡ start_tag (tag_named (codes "b") [] false) ∷ []
+a_feed_alone = refl
+
+a_feed_and_text : after_feed (text (codes "\na") ∷ []) ≡ text (codes "a") ∷ []
+a_feed_and_text = refl
+
+-- ---- elements
+
+a_block : is_plain_element (codes "section") ≡ true
+unfolding is_void
+a_block = refl
+
+a_name_of_its_own : is_plain_element (codes "my-card") ≡ true
+unfolding is_void
+a_name_of_its_own = refl
+
+a_table : is_plain_element (codes "table") ≡ false
+unfolding is_void
+a_table = refl
+
+an_element_of_only_text : is_plain_element (codes "style") ≡ true
+unfolding is_void
+an_element_of_only_text = refl
+
+a_script_is_not_plain : is_plain_element (codes "script") ≡ false
+unfolding is_void
+a_script_is_not_plain = refl
+
+a_script_is_set_aside : is_simple (more (trees.element (codes "script") [] none) none) ≡ false
+a_script_is_set_aside = refl
+
+a_plain_paragraph : are_plain (more (trees.element (codes "p") [] (more (trees.text (codes "a")) none)) none) ≡ true
+unfolding is_void
+a_plain_paragraph = refl
+
+-- ---- trees
+
+a_text_and_a_paragraph : html5_document false (codes "a<p>b</p>")
+    ≡ document_items (skeleton (more (trees.text (codes "a"))
+    (more (trees.element (codes "p") [] (more (trees.text (codes "b")) none)) none)))
+unfolding html5_document block_rule formatting_rule phrasing_rule text_end_rule
+a_text_and_a_paragraph = refl
+
+-- a `style` stays where it is, and holds only text
+a_style_in_the_body : html5_document false (codes "a<style><b></style>")
+    ≡ document_items (skeleton (more (trees.text (codes "a"))
+    (more (trees.element (codes "style") [] (more (trees.text (codes "<b>")) none)) none)))
+unfolding html5_document block_rule formatting_rule phrasing_rule text_end_rule
+a_style_in_the_body = refl

@@ -1,0 +1,5 @@
+use Rattle.htmd_law_html5.proofs.UndroppedLettersLemmas.{harmless_letters_taken}
+use Rattle.htmd_law_html5.proofs.letters.undropped_letters_are_taken.Goals as goal
+
+pub returns : goal.returns
+returns c = harmless_letters_taken

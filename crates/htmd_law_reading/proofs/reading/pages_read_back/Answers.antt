@@ -1,0 +1,5 @@
+use Rattle.htmd_law_reading.proofs.PageLaws as laws
+use Rattle.htmd_law_reading.proofs.reading.pages_read_back.Goals as goal
+
+pub returns : goal.returns
+returns c = laws.pages_read_back

@@ -1,0 +1,5 @@
+use Rattle.htmd_law_sizes.proofs.BoundsLemmas as laws
+use Rattle.htmd_law_sizes.proofs.bounds.normal_markdown_is_bounded.Goals as goal
+
+pub returns : goal.returns
+returns c = laws.normal_markdown_is_bounded

@@ -1,5 +1,0 @@
-use Rattle.htmd_laws.proofs.OneParagraphLawsLemmas.{paragraph_reads_back}
-use Rattle.htmd_laws.proofs.program_runs.paragraph_reads_back.Goals as goal
-
-pub returns : goal.returns
-returns c = paragraph_reads_back

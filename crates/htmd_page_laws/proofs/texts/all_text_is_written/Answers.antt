@@ -1,5 +1,0 @@
-use Rattle.htmd_page_laws.proofs.PageLaws as laws
-use Rattle.htmd_page_laws.proofs.texts.all_text_is_written.Goals as goal
-
-pub returns : goal.returns
-returns c = laws.all_text_is_written

@@ -1,5 +1,0 @@
-use Rattle.htmd_reading_laws.proofs.PageLaws as laws
-use Rattle.htmd_reading_laws.proofs.reading.pages_are_seen.Goals as goal
-
-pub returns : goal.returns
-returns c = laws.pages_are_seen

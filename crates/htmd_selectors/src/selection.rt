@@ -1,0 +1,119 @@
+//! Parts of a page, as trees of their own.
+ghost use Rattle.std.specs.Prelude.{◌≡◌, ◌<◌, ◌++◌, [], length, IfOk, OnOk};
+ghost use Rattle.htmd_nodes.specs.Items.{children_of, depth_at};
+ghost use Rattle.htmd_nodes.specs.Layout.{forest_items};
+ghost use Rattle.htmd_nodes.specs.NumberedTrees.{tree_of, forest_of, value_forest};
+ghost use Rattle.htmd_nodes.specs.NumberedTrees.{value_at};
+ghost use Rattle.htmd_selectors.specs.Rewriting.{unchanged};
+ghost use Rattle.htmd_selectors.specs.SelectorStates.{kept_tree, outermost, outermost_tree};
+ghost use Rattle.htmd_selectors.specs.SelectedParts as spec;
+ghost use Rattle.htmd_selectors.specs.Views.{steps_of, steps_in};
+
+use crate::copying::{Page, Unchanged, new_tree, push_kept, push_kept_child};
+use crate::matching::{NO_MARK, StepState, is_named, states_of};
+use crate::selectors::Selectors;
+use htmd_nodes::{NodeData, NodeId, Tree};
+use std::alloc::{AllocError, Global};
+
+/// Appends the outermost elements below a node that are named to the Document of another tree.
+#[cycle(outermost)]
+fn push_outermost(
+    out: &mut Tree,
+    page: &Page<'_, Unchanged>,
+    node: NodeId,
+    states: &[StepState],
+) -> Result<(), AllocError>
+    requires node { node < length page.now.tree.now }
+    requires states { length states.now ≡ length page.now.steps.now }
+    ensures { OnOk result (out.new ≡ out.old ++ forest_items 1 0 (length out.old)
+        (outermost (steps_of page.now.steps.now) states.now
+        (value_forest (forest_of (tree_of page.now.tree.now) (children_of page.now.tree.now node))))) }
+{
+    for child in page.tree.children(node) {
+        push_outermost_child(out, page, *child, states)?;
+    }
+    Ok(())
+}
+
+#[cycle(outermost)]
+fn push_outermost_child(
+    out: &mut Tree,
+    page: &Page<'_, Unchanged>,
+    node: NodeId,
+    states: &[StepState],
+) -> Result<(), AllocError>
+    requires node { node < length page.now.tree.now }
+    requires below { 0 < depth_at page.now.tree.now node }
+    requires states { length states.now ≡ length page.now.steps.now }
+    ensures { OnOk result (out.new ≡ out.old ++ forest_items 1 0 (length out.old)
+        (outermost_tree (steps_of page.now.steps.now) states.now (value_at page.now.tree.now node))) }
+{
+    let NodeData::Element { name, attrs } = page.tree.data(node) else {
+        return Ok(());
+    };
+    let (name, attrs) = (name.as_str(), attrs.as_slice());
+    let states = states_of(page.alloc, page.steps, states, name, attrs)?;
+    if is_named(page.steps, states.as_slice()) {
+        return push_whole(out, page, node);
+    }
+    push_outermost(out, page, node, states.as_slice())
+}
+
+/// Appends a node and all that is below it to the Document of another tree.
+fn push_whole(out: &mut Tree, page: &Page<'_, Unchanged>, node: NodeId) -> Result<(), AllocError>
+    requires node { node < length page.now.tree.now }
+    requires below { 0 < depth_at page.now.tree.now node }
+    ensures { OnOk result (out.new ≡ out.old ++ forest_items 1 0 (length out.old)
+        (kept_tree unchanged [] [] (value_at page.now.tree.now node))) }
+{
+    let whole = Page {
+        tree: page.tree,
+        steps: &[],
+        rewrite: page.rewrite,
+        alloc: page.alloc,
+    };
+    push_kept_child(out, out.root(), &whole, node, &[])
+}
+
+/// The page without all elements that are named, and without what is below them. `Err` means out of memory.
+pub fn drop_elements(alloc: Global, tree: &Tree, selectors: &Selectors) -> Result<Tree, AllocError>
+    ensures ok { IfOk result (λ page. page ≡ spec.dropped (steps_in selectors.now) tree.now) }
+{
+    let steps = selectors.steps.as_slice();
+    let states = vec![in alloc; NO_MARK; steps.len()]?;
+    let mut out = new_tree(alloc)?;
+    let under = out.root();
+    let page = Page {
+        tree,
+        steps,
+        rewrite: &Unchanged,
+        alloc,
+    };
+    push_kept(&mut out, under, &page, tree.root(), states.as_slice())?;
+    Ok(out)
+}
+
+/// The outermost elements that are named, in document order, each with what is below it, as the children of a new
+/// Document; none where no element is. `Err` means out of memory.
+pub fn select_elements(
+    alloc: Global,
+    tree: &Tree,
+    selectors: &Selectors,
+) -> Result<Option<Tree>, AllocError>
+    ensures ok { IfOk result (λ page. page ≡ spec.selected (steps_in selectors.now) tree.now) }
+{
+    let steps = selectors.steps.as_slice();
+    let states = vec![in alloc; NO_MARK; steps.len()]?;
+    let mut out = new_tree(alloc)?;
+    let page = Page {
+        tree,
+        steps,
+        rewrite: &Unchanged,
+        alloc,
+    };
+    push_outermost(&mut out, &page, tree.root(), states.as_slice())?;
+    if out.children(out.root()).is_empty() {
+        return Ok(None);
+    }
+    Ok(Some(out))
+}

@@ -1,0 +1,112 @@
+//! Selectors, as they are kept.
+ghost use Rattle.std.specs.Prelude.{◌≡◌, ◌++◌, ◌==◌, [], length, OnOk, OnErr};
+ghost use Rattle.htmd_selectors.specs.declared.selectors.SelectorError.TheVariants.{Memory};
+
+use std::alloc::{AllocError, AllocFailed, Global};
+use thiserror::Error;
+
+/// What a simple selector requires of an element.
+#[derive(Drop)]
+pub(crate) enum Condition {
+    /// `main`: this name.
+    Tag(Vec<u8>),
+    /// `.note`: this word in its `class`.
+    Class(Vec<u8>),
+    /// `#top`: this `id`.
+    Id(Vec<u8>),
+    /// `[href]`: an attribute with this name.
+    Attribute(Vec<u8>),
+    /// `[rel=nofollow]`: an attribute with this name and this value.
+    Value { name: Vec<u8>, value: Vec<u8> },
+}
+
+/// How a simple selector relates to the one before it.
+#[derive(Clone, Copy, PartialEq, Eq)]
+pub(crate) enum Relation {
+    /// Another selector begins.
+    Start,
+    /// It is about the same element.
+    Same,
+    /// It is about a child of that element.
+    Child,
+    /// It is about an element below that element.
+    Below,
+}
+
+/// A simple selector, and how it relates to the one before it.
+#[derive(Drop)]
+pub(crate) struct Step {
+    pub(crate) relation: Relation,
+    pub(crate) condition: Condition,
+}
+
+/// Selectors, by their simple selectors in order. `parse_selectors` reads them from a text.
+#[derive(Drop)]
+pub struct Selectors {
+    pub(crate) steps: Vec<Step>,
+}
+
+impl Selectors {
+    ghost use Rattle.htmd_selectors.specs.Views.{steps_in};
+
+    /// No selectors, which name no element.
+    pub fn new(alloc: Global) -> Selectors
+        ensures { steps_in result ≡ [] }
+    {
+        Selectors {
+            steps: Vec::new(alloc),
+        }
+    }
+
+    /// Whether there are none.
+    pub fn is_empty(&self) -> bool
+        ensures { result ≡ (length (steps_in self.now) == 0) }
+    {
+        self.steps.is_empty()
+    }
+
+    /// Adds others, as if a comma stood between them. `Err` means out of memory: these are then as they were.
+    pub fn append(&mut self, others: Selectors) -> Result<(), AllocError>
+        ensures ok { OnOk result (steps_in self.new ≡ steps_in self.old ++ steps_in others) }
+        ensures err { OnErr result (steps_in self.new ≡ steps_in self.old) }
+    {
+        let mut steps = others.steps;
+        self.steps.append(&mut steps)
+    }
+}
+
+/// Why a text isn't a selector, and the place in it, in bytes from 0.
+#[derive(Debug, PartialEq, Eq, Drop, Error)]
+pub enum SelectorError {
+    /// Out of memory.
+    #[error("out of memory")]
+    Memory,
+    /// There is no selector before a comma, after `>` or at the end.
+    #[error("a selector is missing at byte {place}")]
+    NoSelector { place: usize },
+    /// There is no name after `.`, `#`, `[` or `=`, or a name begins with a digit.
+    #[error("a name is missing at byte {place}")]
+    NoName { place: usize },
+    /// A bracket or a quotation mark isn't closed.
+    #[error("`]` or a quotation mark is missing at byte {place}")]
+    Unclosed { place: usize },
+    /// A sign that means nothing there.
+    #[error("the sign at byte {place} isn't supported")]
+    Unsupported { place: usize },
+}
+
+impl From<AllocError> for SelectorError {
+    ghost from_gives = { λ _ e. e ≡ Memory };
+
+    fn from(_e: AllocError) -> SelectorError {
+        SelectorError::Memory
+    }
+}
+
+impl<T: Drop> From<AllocFailed<T>> for SelectorError {
+    ghost from_gives = { λ _ e. e ≡ Memory };
+
+    fn from(_e: AllocFailed<T>) -> SelectorError {
+        SelectorError::Memory
+    }
+}

@@ -1,5 +1,0 @@
-use Rattle.htmd_size_laws.proofs.TreeCosts as laws
-use Rattle.htmd_size_laws.proofs.bounds.document_is_bounded.Goals as goal
-
-pub returns : goal.returns
-returns c = laws.document_is_bounded

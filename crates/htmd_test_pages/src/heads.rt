@@ -1,0 +1,97 @@
+//! Absolute addresses of a small page, and what it says of itself.
+use htmd_addresses::{base_of, make_absolute, page_url};
+use htmd_front_matter::front_matter;
+use htmd_test_expected::expect_text;
+use htmd_tree::{read_html, serialize};
+use std::alloc::Global;
+use std::test::Fail;
+use url::Url;
+
+/// The body of a page at an address, with absolute addresses.
+fn absolute(alloc: Global, html: &str) -> Result<String, Fail> {
+    let page = read_html(alloc, html, false)?;
+    let url = Url::parse(alloc, "https://a.example/b/c")?;
+    let part = match base_of(&page, &url)? {
+        Some(base) => make_absolute(alloc, &page, &base)?,
+        None => make_absolute(alloc, &page, &url)?,
+    };
+    Ok(serialize(alloc, &part, part.root())?)
+}
+
+#[test]
+fn addresses_are_absolute(rt: HostRuntime) -> Result<(), Fail> {
+    let html = absolute(
+        rt.alloc(),
+        "<p><a href=x?y#z title=x>a</a><img src=//i.example/j><a href='http://['>b</a>\
+        <a href=#y>c</a></p>",
+    )?;
+    expect_text(
+        "no base",
+        html.as_str(),
+        "<html><head></head><body><p><a href=\"https://a.example/b/x?y#z\" title=\"x\">a</a>\
+        <img src=\"https://i.example/j\"><a href=\"http://[\">b</a><a href=\"#y\">c</a></p></body></html>",
+    )
+}
+
+#[test]
+fn a_page_names_its_base(rt: HostRuntime) -> Result<(), Fail> {
+    let html = absolute(
+        rt.alloc(),
+        "<base><base href=/d/><base href=/e/><a href=x>a</a>",
+    )?;
+    expect_text(
+        "base",
+        html.as_str(),
+        "<html><head></head><body><base><base href=\"https://a.example/d/\"><base href=\"https://a.example/e/\">\
+        <a href=\"https://a.example/d/x\">a</a></body></html>",
+    )
+}
+
+/// URLs of folders, paths of pages in them, and the URLs of these pages.
+const PAGE_URLS: &[(&str, &str, &str)] = &[
+    ("https://a.example/", "b.html", "https://a.example/b.html"),
+    (
+        "https://a.example/b/?x#y",
+        "c/d.html",
+        "https://a.example/b/c/d.html",
+    ),
+    ("https://a.example/b", "c.html", "https://a.example/c.html"),
+    (
+        "https://a.example/",
+        "é f/100%.html",
+        "https://a.example/%C3%A9%20f/100%25.html",
+    ),
+    (
+        "https://a.example/",
+        "c:\\d?e#f.html",
+        "https://a.example/c%3A%5Cd%3Fe%23f.html",
+    ),
+    ("file:///a/", "b.html", "file:///a/b.html"),
+    ("mailto:x", "b.html", "none"),
+];
+
+#[test]
+fn pages_of_folders_have_urls(rt: HostRuntime) -> Result<(), Fail> {
+    for (folder, path, want) in PAGE_URLS {
+        let url = Url::parse(rt.alloc(), folder)?;
+        let found = page_url(rt.alloc(), &url, path)?;
+        let found = found.as_ref().map_or("none", Url::as_str);
+        expect_text(path, found, want)?;
+    }
+    Ok(())
+}
+
+const HEAD: &str =
+    "<title> A \"b\"\n c </title><meta name=Description content=d><meta name=keywords>\
+<link rel=canonical href=/x><meta name=description content=e>";
+
+#[test]
+fn a_page_says_something(rt: HostRuntime) -> Result<(), Fail> {
+    let page = read_html(rt.alloc(), HEAD, false)?;
+    let lines = front_matter(rt.alloc(), &page)?;
+    expect_text(
+        "front matter",
+        lines.as_str(),
+        "title: \"A \\\"b\\\" c\"\ndescription: \"d\"\ncanonical: \"/x\"\n",
+    )
+}

@@ -1,0 +1,93 @@
+//! Addresses of pages of a run.
+use htmd_addresses::{Page, Pages, RunPage, lead_to_pages};
+use htmd_test_expected::expect_text;
+use htmd_tree::{read_html, serialize};
+use std::alloc::{AllocError, Global};
+use std::test::Fail;
+
+/// The inputs of a run and their outputs.
+const PAGES: &[(&str, &str)] = &[
+    ("site/a.html", "out/a.md"),
+    ("./site/sub/b c.html", "out/sub/b c.md"),
+    ("site/100%.html", "out/100%.md"),
+    ("site/sub/../a.html", "out/later.md"),
+    ("site/é:.htm", "out/é:.md"),
+    ("site/sub/index.html", "out/sub/index.md"),
+];
+
+fn pages(alloc: Global) -> Result<Pages, AllocError> {
+    let mut pages = Vec::new(alloc);
+    for (input, output) in PAGES {
+        pages.push(Page {
+            input: String::from_str(alloc, input)?,
+            output: String::from_str(alloc, output)?,
+        })?;
+    }
+    Pages::new(alloc, pages)
+}
+
+fn led(alloc: Global, own: (&str, &str), html: &str) -> Result<String, Fail> {
+    let page = read_html(alloc, html, false)?;
+    let pages = pages(alloc)?;
+    let own = RunPage {
+        pages: &pages,
+        input: own.0,
+        output: own.1,
+    };
+    let led = lead_to_pages(alloc, &page, own, None)?;
+    Ok(serialize(alloc, &led, led.root())?)
+}
+
+/// Addresses in `site/a.html`, and what they become.
+const ADDRESSES: &[(&str, &str)] = &[
+    ("a.html", "a.md"),
+    (" ./sub/b%20c.html?x#y&\n", "sub/b%20c.md?x#y&amp;"),
+    ("sub\\b c.html", "sub/b%20c.md"),
+    ("SUB/b c.html", "SUB/b c.html"),
+    ("../site/100%.html", "100%25.md"),
+    ("100%25.html", "100%25.md"),
+    ("%C3%A9:.htm#", "%C3%A9%3A.md#"),
+    ("é:.htm", "%C3%A9%3A.md"),
+    ("sub/b%20c.html/", "sub/b%20c.html/"),
+    ("sub/?x#y", "sub/index.md?x#y"),
+    ("sub/.", "sub/index.md"),
+    ("sub/index.html/..", "sub/index.md"),
+    ("sub", "sub"),
+    ("./", "./"),
+    ("a.htm", "a.htm"),
+    ("../a.html", "../a.html"),
+    ("/site/a.html", "/site/a.html"),
+    ("//site/a.html", "//site/a.html"),
+    ("file:a.html", "file:a.html"),
+    ("#a.html", "#a.html"),
+    ("?a.html", "?a.html"),
+    ("", ""),
+];
+
+#[test]
+fn addresses_lead_to_outputs(rt: HostRuntime) -> Result<(), Fail> {
+    for (address, want) in ADDRESSES {
+        let html = format!(in rt.alloc(); "<a href=\"{address}\">t</a>")?;
+        let want = format!(in rt.alloc();
+            "<html><head></head><body><a href=\"{want}\">t</a></body></html>"
+        )?;
+        let html = led(rt.alloc(), PAGES[0], html.as_str())?;
+        expect_text(address, html.as_str(), want.as_str())?;
+    }
+    Ok(())
+}
+
+#[test]
+fn other_attributes_stay(rt: HostRuntime) -> Result<(), Fail> {
+    let html = led(
+        rt.alloc(),
+        PAGES[1],
+        "<p href=\"../a.html\"><a name=\"../a.html\" href=\"../a.html\">t</a></p><img src=\"../a.html\">",
+    )?;
+    expect_text(
+        "other attributes",
+        html.as_str(),
+        "<html><head></head><body><p href=\"../a.html\"><a name=\"../a.html\" href=\"../a.md\">t</a></p>\
+        <img src=\"../a.html\"></body></html>",
+    )
+}

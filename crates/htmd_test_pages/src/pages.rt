@@ -1,0 +1,98 @@
+//! Parts of a small page, and what is written of a text that is no selector.
+use htmd_selectors::{drop_elements, parse_selectors, select_elements};
+use htmd_test_expected::expect_text;
+use htmd_tree::{read_html, serialize};
+use std::alloc::Global;
+use std::test::Fail;
+
+const PAGE: &str =
+    "<nav class=\"a\tb\">N</nav><main id=m><div class='aa  x' lang>P<a class=headerlink href=#>#</a></div>\
+<div>Q<div>R</div></div></main>";
+
+const P: &str = "<div class=\"aa  x\" lang=\"\">P<a class=\"headerlink\" href=\"#\">#</a></div>";
+
+fn selected(alloc: Global, selectors: &str) -> Result<String, Fail> {
+    let page = read_html(alloc, PAGE, false)?;
+    let selectors = parse_selectors(alloc, selectors)?;
+    match select_elements(alloc, &page, &selectors)? {
+        Some(part) => Ok(serialize(alloc, &part, part.root())?),
+        None => Ok(String::from_str(alloc, "none")?),
+    }
+}
+
+fn dropped(alloc: Global, selectors: &str) -> Result<String, Fail> {
+    let page = read_html(alloc, PAGE, false)?;
+    let selectors = parse_selectors(alloc, selectors)?;
+    let part = drop_elements(alloc, &page, &selectors)?;
+    Ok(serialize(alloc, &part, part.root())?)
+}
+
+/// Selectors, and what they select.
+const SELECTED: &[(&str, &str)] = &[
+    ("nav", "<nav class=\"a\tb\">N</nav>"),
+    ("NAV.a.b", "<nav class=\"a\tb\">N</nav>"),
+    (".A", "none"),
+    (
+        "div",
+        "<div class=\"aa  x\" lang=\"\">P<a class=\"headerlink\" href=\"#\">#</a></div><div>Q<div>R</div></div>",
+    ),
+    (
+        "main div > div,\n nav",
+        "<nav class=\"a\tb\">N</nav><div>R</div>",
+    ),
+    ("main > a", "none"),
+    (
+        "body>main div>a[href='#']",
+        "<a class=\"headerlink\" href=\"#\">#</a>",
+    ),
+    ("#m > div.x[LANG]", P),
+    ("[ class = \"aa  x\" ]", P),
+    ("[class=a]", "none"),
+];
+
+#[test]
+fn elements_are_selected(rt: HostRuntime) -> Result<(), Fail> {
+    for (selectors, want) in SELECTED {
+        let html = selected(rt.alloc(), selectors)?;
+        expect_text(selectors, html.as_str(), want)?;
+    }
+    Ok(())
+}
+
+#[test]
+fn elements_are_dropped(rt: HostRuntime) -> Result<(), Fail> {
+    let html = dropped(rt.alloc(), "nav, div div, .headerlink")?;
+    expect_text(
+        "dropped",
+        html.as_str(),
+        "<html><head></head><body><main id=\"m\"><div class=\"aa  x\" lang=\"\">P</div><div>Q</div></main>\
+        </body></html>",
+    )
+}
+
+/// Texts that are no selectors, and what is written of them.
+const FAULTS: &[(&str, &str)] = &[
+    ("", "a selector is missing at byte 0"),
+    ("a > > b", "a selector is missing at byte 4"),
+    ("a, ", "a selector is missing at byte 3"),
+    ("a:x", "the sign at byte 1 isn't supported"),
+    ("#-1 x", "a name is missing at byte 1"),
+    ("[a~=b]", "`]` or a quotation mark is missing at byte 2"),
+    ("[a='b]", "`]` or a quotation mark is missing at byte 6"),
+];
+
+fn fault(alloc: Global, selectors: &str) -> Result<String, Fail> {
+    match parse_selectors(alloc, selectors) {
+        Ok(_) => Ok(String::from_str(alloc, "none")?),
+        Err(e) => Ok(format!(in alloc; "{e}")?),
+    }
+}
+
+#[test]
+fn other_texts_are_refused(rt: HostRuntime) -> Result<(), Fail> {
+    for (selectors, want) in FAULTS {
+        let message = fault(rt.alloc(), selectors)?;
+        expect_text(selectors, message.as_str(), want)?;
+    }
+    Ok(())
+}

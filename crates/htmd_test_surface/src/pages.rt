@@ -1,0 +1,81 @@
+//! Pages by settings, in one call.
+use htmd::page_values::{are_names, parse_url, push_names, push_selectors};
+use htmd::{
+    HtmlToMarkdown, PageConverter, PageError, PageInRun, PageSettings, UnsupportedEncoding,
+    convert_page,
+};
+use htmd_test_expected::{expect_text, expect_that};
+use std::alloc::Global;
+use std::test::Fail;
+
+/// The settings for any page.
+fn any_page<'a>(alloc: Global) -> PageSettings<'a> {
+    let mut settings = PageSettings::new(alloc);
+    settings.html5 = true;
+    settings
+}
+
+#[test]
+fn decodes_pages(rt: HostRuntime) -> Result<(), Fail> {
+    let settings = any_page(rt.alloc());
+    let page = b"<meta charset=koi8-r><p>\xf0\xd2\xc9\xd7\xc5\xd4";
+    let markdown = convert_page(rt.alloc(), page, &settings)?;
+    expect_text("koi8-r", markdown.as_str(), "Привет")
+}
+
+#[test]
+fn refuses_encodings(rt: HostRuntime) -> Result<(), Fail> {
+    let settings = any_page(rt.alloc());
+    let page = b"<meta charset=big5><p>\xa7A\xa6n";
+    let encoding = UnsupportedEncoding::Big5;
+    expect_that(
+        "big5 is refused",
+        convert_page(rt.alloc(), page, &settings) == Err(PageError::Unsupported { encoding }),
+    )
+}
+
+const PAGE: &[u8] = b"<title>T</title><nav>n</nav><main><p>a <a href=b>b</a><p class=note>c</main>";
+
+#[test]
+fn selects_parts(rt: HostRuntime) -> Result<(), Fail> {
+    let alloc = rt.alloc();
+    let mut settings = any_page(alloc);
+    push_selectors(alloc, &mut settings.selected, "main")?;
+    push_selectors(alloc, &mut settings.dropped, ".note")?;
+    let markdown = convert_page(alloc, PAGE, &settings)?;
+    expect_text("selected", markdown.as_str(), "a [b](b)")?;
+
+    push_selectors(alloc, &mut settings.dropped, "main")?;
+    expect_that(
+        "nothing is selected",
+        convert_page(alloc, PAGE, &settings) == Err(PageError::NothingSelected),
+    )
+}
+
+#[test]
+fn resolves_addresses(rt: HostRuntime) -> Result<(), Fail> {
+    let alloc = rt.alloc();
+    let mut settings = any_page(alloc);
+    push_selectors(alloc, &mut settings.selected, "main")?;
+    push_selectors(alloc, &mut settings.dropped, ".note")?;
+    settings.front_matter = true;
+    settings.base = parse_url(alloc, "https://example.org/docs/")?;
+    let converter = PageConverter::new(HtmlToMarkdown::builder(alloc)?, &settings)?;
+    let markdown = converter.convert(alloc, PAGE, &PageInRun::alone())?;
+    let whole = "---\ntitle: \"T\"\n---\n\na [b](https://example.org/docs/b)";
+    expect_text("absolute", markdown.as_str(), whole)
+}
+
+#[test]
+fn skips_elements(rt: HostRuntime) -> Result<(), Fail> {
+    let alloc = rt.alloc();
+    let names = "a,aside";
+    expect_that("names", are_names(names) && !are_names("a,,b"))?;
+    let mut settings = any_page(alloc);
+    push_names(&mut settings.skipped, names)?;
+    let selected = htmd::parse_selectors(alloc, "main,nav")?;
+    settings.selected.append(selected)?;
+    push_selectors(alloc, &mut settings.dropped, ".note")?;
+    let markdown = convert_page(alloc, PAGE, &settings)?;
+    expect_text("skipped", markdown.as_str(), "n\n\na")
+}

@@ -1,5 +1,0 @@
-use Rattle.htmd_tree_laws.proofs.ContentLawsLemmas.{content_is_trimmed}
-use Rattle.htmd_tree_laws.proofs.conversion.content_is_trimmed.Goals as goal
-
-pub returns : goal.returns
-returns c = content_is_trimmed

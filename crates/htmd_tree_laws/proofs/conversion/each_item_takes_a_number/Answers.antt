@@ -1,5 +1,0 @@
-use Rattle.htmd_tree_laws.proofs.ListLawsLemmas.{each_item}
-use Rattle.htmd_tree_laws.proofs.conversion.each_item_takes_a_number.Goals as goal
-
-pub returns : goal.returns
-returns c = each_item

@@ -1,5 +1,0 @@
-use Rattle.htmd_grammar.proofs.Uniqueness.{unique_in, unique_document}
-use Rattle.htmd_tree_laws.proofs.grammar.at_most_one_tree.Goals as goal
-
-pub returns : goal.returns
-returns c = record { document = unique_document; in_context = unique_in }

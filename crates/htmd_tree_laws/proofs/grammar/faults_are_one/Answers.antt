@@ -1,5 +1,0 @@
-use Rattle.htmd_tree_laws.proofs.OneFault.{faults_are_one}
-use Rattle.htmd_tree_laws.proofs.grammar.faults_are_one.Goals as goal
-
-pub returns : goal.returns
-returns c = faults_are_one

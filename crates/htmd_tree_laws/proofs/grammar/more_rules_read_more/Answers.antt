@@ -1,5 +1,0 @@
-use Rattle.htmd_tree_laws.proofs.ParameterLaw.{more_rules, more_rules_documents}
-use Rattle.htmd_tree_laws.proofs.grammar.more_rules_read_more.Goals as goal
-
-pub returns : goal.returns
-returns c = record { in_context = more_rules; document = more_rules_documents }

@@ -1,7 +1,0 @@
--- The laws, in reading order: of the grammar; of the content, of children, emphasis, links and lists.
-pub mod GrammarLaws
-pub mod ContentLaws
-pub mod GroupLaws
-pub mod EmphasisLaws
-pub mod LinkLaws
-pub mod ListLaws

@@ -1,0 +1,2 @@
+//! Value trees, which say what a document holds, and what they are written as: definitions and their lemmas alone.
+#![tactic(auto)]
