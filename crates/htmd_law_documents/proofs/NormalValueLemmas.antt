@@ -115,7 +115,8 @@ clean-run s h = record {
 pub utf8-trimmed : (p : ℕ → Bool) → OfAscii p → (s : List ℕ) → IsUtf8 s → IsUtf8 (trimmed_text p s)
 utf8-trimmed p ascii s h =
     let start : List ℕ = trimmed_start p s in
-    IsUtf8-take start (length start - suffix_len p start) (IsUtf8-drop s (prefix_len p s) h (start_boundary p s h ascii))
+    IsUtf8-take start (length start - suffix_len p start)
+    (IsUtf8-drop s (prefix_len p s) h (start_boundary p s h ascii))
     (end_boundary p start ascii)
 
 pub clean-trimmed : (p : ℕ → Bool) → OfAscii p → (s : List ℕ) → IsClean s → IsClean (trimmed_text p s)

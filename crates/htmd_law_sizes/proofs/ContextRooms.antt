@@ -92,7 +92,8 @@ missing_added : (gs : List Format) (f : Format) (xs : List Around) → list_any 
 missing_added [] f xs h = omega arith
 missing_added (g ∷ gs) f xs h = go (is_same_format g f) refl (missing_added gs f xs h)
   where
-    go : (t : Bool) → is_same_format g f ≡ t → missing gs (xs ++ formatted f ∷ []) + times f gs ≡ missing gs xs
+    go : (t : Bool) → is_same_format g f ≡ t
+        → missing gs (xs ++ formatted f ∷ []) + times f gs ≡ missing gs xs
         → missing (g ∷ gs) (xs ++ formatted f ∷ []) + ((if t then 1 else 0) + times f gs)
         ≡ missing (g ∷ gs) xs
     go true e i =

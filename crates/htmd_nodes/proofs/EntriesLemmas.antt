@@ -22,7 +22,8 @@ use Rattle.htmd_nodes.specs.Entries.{parent_of, item_of, items_of, IsStored}
 use Rattle.htmd_nodes.proofs.ItemsLemmas.{children_from-push, children_from-none, is_child-before, IsTree-added}
 
 -- an entry of the same depth and parent is the same item
-pub item_of-level : (old new : Entry) → data_of new.data ≡ data_of old.data → new.level.parent ≡ old.level.parent
+pub item_of-level : (old new : Entry) → data_of new.data ≡ data_of old.data
+    → new.level.parent ≡ old.level.parent
     → new.level.depth ≡ old.level.depth → item_of new ≡ item_of old
 item_of-level old new same parent depth =
     ap (λ d. record { parent = parent_of new; depth = new.level.depth; node_data = d }) same
@@ -31,7 +32,11 @@ item_of-level old new same parent depth =
       depth = new.level.depth;
       node_data = data_of old.data;
     }) parent
-    ∙ ap (λ n. record { parent = cond (eqb n 0) None (Some old.level.parent); depth = n; node_data = data_of old.data })
+    ∙ ap (λ n. record {
+      parent = cond (eqb n 0) None (Some old.level.parent);
+      depth = n;
+      node_data = data_of old.data;
+    })
     depth)
 
 -- an entry is replaced by one that is the same node

@@ -1,6 +1,6 @@
 //! Tests of the converter that need code: handlers of your own, the registry, deep and large pages, and allocations
-//! that fail. Tests that are a text and its answer are families of `htmd_test_cases`. Expected values are written by hand
-//! from the rules, and never taken from the program's own output.
+//! that fail. Tests that are a text and its answer are families of `htmd_test_cases`. Expected values are written by
+//! hand from the rules, and never taken from the program's own output.
 #![tactic(auto)]
 
 #[cfg(test)]

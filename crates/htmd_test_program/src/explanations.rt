@@ -1,4 +1,5 @@
-//! What the program says about long lines and bad bytes that are refused. Other refusals are a family of `htmd_test_cases`.
+//! What the program says about long lines and bad bytes that are refused. Other refusals are a family of
+//! `htmd_test_cases`.
 use crate::calls::called;
 use htmd_test_expected::expect_text;
 use std::alloc::{AllocError, Global};
