@@ -25,7 +25,8 @@ AreNoSelectors text = (¬ IsUtf8 text) ⊎ (selectors text ≡ None)
 -- the text is names between commas, none of them empty
 abbrev pub AreNames : List ℕ → List (List ℕ) → Type 0
 AreNames [] names = names ≡ []
-AreNames (b ∷ s) names = IsUtf8 (b ∷ s) × (list_all is_filled (parts (b ∷ s)) ≡ true) × (names ≡ parts (b ∷ s))
+AreNames (b ∷ s) names =
+    IsUtf8 (b ∷ s) × (list_all is_filled (parts (b ∷ s)) ≡ true) × (names ≡ parts (b ∷ s))
 
 -- the text is no such names
 abbrev pub AreNoNames : List ℕ → Type 0
@@ -34,7 +35,8 @@ AreNoNames text = (¬ IsUtf8 text) ⊎ (list_all is_filled (parts text) ≡ fals
 -- the text is an absolute URL
 abbrev pub IsBase : List ℕ → Option Parts → Type 0
 IsBase [] base = base ≡ None
-IsBase (b ∷ s) base = IsUtf8 (b ∷ s) × (address : Parts) × (url (b ∷ s) ≡ Some address) × (base ≡ Some address)
+IsBase (b ∷ s) base =
+    IsUtf8 (b ∷ s) × (address : Parts) × (url (b ∷ s) ≡ Some address) × (base ≡ Some address)
 
 -- the text is no such URL
 abbrev pub IsNoBase : List ℕ → Type 0

@@ -115,7 +115,8 @@ page_becomes pages page request added input before after e adds converts =
     (converts_becomes own input before after e (subst Q adds converts))
 
 -- a page by itself is converted by the settings alone
-pub alone_converts : (page : PageInRun) (settings : Settings) (input before after : Option (List ℕ)) → page ≡ alone
+pub alone_converts : (page : PageInRun) (settings : Settings) (input before after : Option (List ℕ))
+    → page ≡ alone
     → Converts (settings_for page settings) input before after → Converts settings input before after
 alone_converts page settings input before after e =
     subst (λ (p : PageInRun). Converts (settings_for p settings) input before after
@@ -125,7 +126,8 @@ alone_converts page settings input before after e =
 
 -- a page has a path in a folder, or none
 pub url_at : (page : Page) (path : String Global) (text : List ℕ) (base : Option Parts)
-    → page.path_in_folder ≡ Some path → text ≡ string_bytes path → url_in_folder base text ≡ own_url base page
+    → page.path_in_folder ≡ Some path → text ≡ string_bytes path
+    → url_in_folder base text ≡ own_url base page
 url_at page path text base p t =
     ap (url_in_folder base) t
     ∙ ap (λ (o : Option (String Global)). option_and_then (url_in_folder base) (option_map (λ s. string_bytes s) o))
