@@ -123,13 +123,13 @@ enum {
     HTMD_NO_MEMORY = 4,  /* out of memory */
     HTMD_BAD_OPTIONS = 5, /* a field of the struct has a number that isn't valid for it */
     /* only htmd_convert_page returns these */
-    HTMD_UNSUPPORTED = 6,      /* the page is in an encoding that isn't supported */
+    HTMD_UNSUPPORTED = 6,      /* never returned: each encoding is supported */
     HTMD_NOTHING_SELECTED = 7, /* no element of the page is selected */
     HTMD_BAD_SELECT = 8,       /* select isn't selectors with commas between them */
     HTMD_BAD_DROP = 9,         /* drop isn't selectors with commas between them */
     HTMD_BAD_SKIP = 10,        /* skip isn't names with commas between them */
     HTMD_BAD_BASE = 11,        /* base isn't an absolute URL */
-    HTMD_BAD_ENCODING = 12     /* encoding isn't the label of an encoding that is supported */
+    HTMD_BAD_ENCODING = 12     /* encoding isn't the label of an encoding */
 };
 
 /* The kinds of a refusal; docs/GRAMMAR.md says what each means, and what to do. */

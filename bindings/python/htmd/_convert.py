@@ -110,9 +110,8 @@ def convert(
     fenced, and the white space of code spans is squeezed.
 
     Raises `Refused` for a page outside the strict grammar (never with "html5"), `UnicodeError` for bytes that are not
-    UTF-8 (never with "html5"), `LookupError` for a page in an encoding that isn't supported, `ValueError` if no element
-    is selected, `ValueError` and `TypeError` for an unknown option or value, and `MemoryError`. Calls from several
-    threads run in parallel.
+    UTF-8 (never with "html5"), `ValueError` if no element is selected, `ValueError` and `TypeError` for an unknown
+    option or value, and `MemoryError`. Calls from several threads run in parallel.
     """
     options = _options(
         scripting,
@@ -251,7 +250,7 @@ _WANTED = {
     _library.BAD_DROP: ("drop", "selectors with commas between them"),
     _library.BAD_SKIP: ("skip", "names with commas between them"),
     _library.BAD_BASE: ("base", "an absolute URL"),
-    _library.BAD_ENCODING: ("encoding", "the label of an encoding that is supported"),
+    _library.BAD_ENCODING: ("encoding", "the label of an encoding"),
 }
 
 
@@ -262,8 +261,6 @@ def _error(status: int, text: bytes, texts: Dict[str, bytes], place: int, kind: 
         return UnicodeDecodeError("utf-8", text, place, place + 1, "not UTF-8")
     if status == _library.NO_MEMORY:
         return MemoryError()
-    if status == _library.UNSUPPORTED:
-        return LookupError("the page is in an encoding that is not supported: decode it first, or give its encoding")
     if status == _library.NOTHING_SELECTED:
         return ValueError("no element of the page is selected")
     if status in _WANTED:

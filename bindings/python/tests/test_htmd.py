@@ -142,8 +142,11 @@ class Pages(unittest.TestCase):
         self.assertEqual(htmd.convert(page, encoding="koi8-r"), "\u041f\u0440\u0438\u0432\u0435\u0442")
         self.assertEqual(htmd.convert(b"<p>\xff</p>"), "\u00ff")
         self.assertEqual(htmd.convert("<meta charset=koi8-r><p>\u0410"), "\u0410")
-        with self.assertRaises(LookupError):
-            htmd.convert(b"<meta charset=big5><p>\xa7A")
+        self.assertEqual(htmd.convert(b"<meta charset=big5><p>\xa7A"), "\u4f60")
+        for encoding in ("gbk", "gb18030", "big5", "euc-jp", "iso-2022-jp", "shift_jis"):
+            with self.subTest(encoding=encoding):
+                self.assertEqual(htmd.convert("<p>\u4e00".encode(encoding), encoding=encoding), "\u4e00")
+        self.assertEqual(htmd.convert("<p>\ud55c".encode("euc-kr"), encoding="euc-kr"), "\ud55c")
 
     def test_faults(self):
         with self.assertRaisesRegex(ValueError, "no element"):
@@ -153,7 +156,7 @@ class Pages(unittest.TestCase):
             ("drop", ".."),
             ("skip", "a,,b"),
             ("base", "docs/"),
-            ("encoding", "big5"),
+            ("encoding", "utf-7"),
         ):
             with self.subTest(option=option), self.assertRaisesRegex(ValueError, option):
                 htmd.convert(b"<p>a", **{option: value})

@@ -12,16 +12,12 @@ use Rattle.htmd_nodes.specs.Items.{Item, document_item, new_item, element_node, 
 use Rattle.htmd_lexical.specs.AttributePairs.{AttributePair}
 use Rattle.htmd.specs.declared.convert_error.ConvertError.{ConvertError}
 use Rattle.htmd.specs.declared.convert_error.ConvertError.TheVariants as conversion
-use Rattle.htmd_encodings.specs.Decoding.{encoding_of, page_text}
-use Rattle.htmd_encodings.specs.declared.decoding.DecodeError.{DecodeError}
-use Rattle.htmd_encodings.specs.declared.decoding.DecodeError.TheVariants as decoding
-use Rattle.htmd_encodings.specs.declared.encodings.Named.TheVariants as named
-use Rattle.htmd_encodings.specs.declared.encodings.UnsupportedEncoding.{UnsupportedEncoding}
-use Rattle.htmd.specs.PageFailures.{decode_fault, conversion_fault}
+use Rattle.htmd_encodings.specs.Decoding.{page_text}
+use Rattle.htmd.specs.PageFailures.{conversion_fault}
 use Rattle.htmd.specs.PageSettings.{PageInRun, Settings, alone, settings_for}
 use Rattle.htmd.specs.PageChanges.{selected_of, without_dropped}
 use Rattle.htmd.specs.declared.page_error.PageError.{PageError}
-use Rattle.htmd.specs.declared.page_error.PageError.TheVariants.{NotUtf8, Refused, Unsupported, NothingSelected, Memory}
+use Rattle.htmd.specs.declared.page_error.PageError.TheVariants.{NotUtf8, Refused, NothingSelected, Memory}
 use Rattle.htmd.specs.PageOutputs.{skipping, IsFaultOf, IsOutputBy, IsOutputOf, IsReadable, IsRefusedBy, IsUnselected}
 use Rattle.htmd.specs.PageOutputs.{SelectsNothing, reads_any, text_in, empty_paragraph, paragraph}
 use Rattle.htmd.specs.PageOutputs.{tree_markdown, tree_output}
@@ -83,11 +79,11 @@ none_added before (c ∷ s) b e = absurd (grind (arith, nat_tests))
 -- of any page
 pub readable_page : (settings : Settings) (any : Bool) (input text : List ℕ) → any ≡ reads_any settings
     → any ≡ true
-    → page_text settings.encoding input ≡ Some text
+    → text ≡ page_text settings.encoding input
     → IsReadable settings input × (text ≡ text_in settings input)
 readable_page settings any input text a t e =
     let reads : reads_any settings ≡ true = sym a ∙ t in
-    (match_true _ _ (reads_any settings) reads (rw e refl), rw (reads, e) refl)
+    (match_true _ _ (reads_any settings) reads tt, rw (reads, e) refl)
 
 -- of UTF-8 alone
 pub readable_utf8 : (settings : Settings) (any : Bool) (input text : List ℕ) → any ≡ reads_any settings
@@ -98,14 +94,9 @@ readable_utf8 settings any input text a f u e =
     let strict : reads_any settings ≡ false = sym a ∙ f in
     (match_false _ _ (reads_any settings) strict u, rw strict e)
 
--- an encoding that isn't supported
-pub undecoded : (settings : Settings) (any : Bool) (input : List ℕ) (e : DecodeError) → any ≡ reads_any settings
-    → any ≡ true
-    → ((encoding : UnsupportedEncoding) → e ≡ decoding.Unsupported encoding
-    → encoding_of settings.encoding input ≡ named.Unsupported encoding)
-    → IsFaultOf settings input (decode_fault e)
-undecoded settings any input (decoding.Unsupported encoding) a t u = (sym a ∙ t, u encoding refl)
-undecoded settings any input decoding.Memory a t u = tt
+-- or there is no memory for it
+pub out_of_memory : (settings : Settings) (input : List ℕ) (e : PageError) → e ≡ Memory → IsFaultOf settings input e
+out_of_memory settings input e m = subst (IsFaultOf settings input) (sym m) tt
 
 -- ---- what the text becomes
 
@@ -161,7 +152,6 @@ none_either_way false f g x (Some y) e = absurd (cc)
 pub fault_for : (page : PageInRun) (settings : Settings) (bytes : List ℕ) (e : PageError)
     → IsFaultOf settings bytes e → IsFaultOf (settings_for page settings) bytes e
 fault_for page settings bytes NotUtf8 f = f
-fault_for page settings bytes (Unsupported encoding) f = f
 fault_for page settings bytes (Refused place kind) f = f
 fault_for page settings bytes NothingSelected (readable, (tree, by, none)) = (
   readable,

@@ -1,8 +1,7 @@
 -- What the bytes of an input become by settings, and why they become nothing.
 use Rattle.std.specs.Prelude.{◌≡◌, ◌&&◌, ◌||◌, ℕ, Bool, true, false, not, if◌then◌else◌, List, [], ◌∷◌, ◌++◌, codes}
 use Rattle.std.specs.Prelude.{MatchBool, ⊤}
-use Rattle.std.specs.Prelude.{length, take, Some, None, IsUtf8, IsSome}
-use Rattle.std.specs.Option.{unwrap_or}
+use Rattle.std.specs.Prelude.{length, take, Some, None, IsUtf8}
 use Rattle.htmd_nodes.specs.Items.{IsTree, HoldTexts}
 use Rattle.htmd_lexical.specs.Characters.{line_feed}
 use Rattle.htmd_grammar.specs.declared.fault.FaultKind.{FaultKind}
@@ -19,12 +18,10 @@ use Rattle.htmd_document.specs.Mdast.{mdast_of, mdast_with_front_matter}
 use Rattle.htmd_commonmark.specs.DocumentMarkdown.{markdown_of}
 use Rattle.htmd.specs.Converters.{handlers_of, scripting_of, skipped_of}
 use Rattle.htmd.specs.declared.converter.HtmlToMarkdown.{HtmlToMarkdown}
-use Rattle.htmd_encodings.specs.declared.encodings.UnsupportedEncoding.{UnsupportedEncoding}
-use Rattle.htmd_encodings.specs.declared.encodings.Named.TheVariants as named
-use Rattle.htmd_encodings.specs.Decoding.{encoding_of, page_text}
+use Rattle.htmd_encodings.specs.Decoding.{page_text}
 use Rattle.htmd_html5.specs.Html5Documents.{html5_document}
 use Rattle.htmd.specs.declared.page_error.PageError.{PageError}
-use Rattle.htmd.specs.declared.page_error.PageError.TheVariants.{NotUtf8, Refused, Unsupported, NothingSelected, Memory}
+use Rattle.htmd.specs.declared.page_error.PageError.TheVariants.{NotUtf8, Refused, NothingSelected, Memory}
 use Rattle.htmd.specs.PageSettings.{Settings}
 use Rattle.htmd.specs.PageChanges.{head_of, part_of}
 
@@ -54,24 +51,17 @@ paragraph_markdown config text = markdown config (paragraph text) 0
 abbrev pub paragraph_output : Config → List ℕ → List ℕ
 paragraph_output config text = paragraph_markdown config text ++ line_feed ∷ []
 
--- the bytes of an input are read as browsers read them, in any encoding that is supported
+-- the bytes of an input are read as browsers read them, in any encoding
 abbrev pub reads_any : Settings → Bool
 reads_any settings = settings.html5 && not settings.text
 
--- the bytes hold a text: in their encoding if all are read, else only in UTF-8
+-- the bytes hold a text: in their encoding, whatever they are, if all are read, else only in UTF-8
 abbrev pub IsReadable : Settings → List ℕ → Type 0
-IsReadable settings bytes =
-    MatchBool (reads_any settings) (IsSome (page_text settings.encoding bytes)) (IsUtf8 bytes)
+IsReadable settings bytes = MatchBool (reads_any settings) ⊤ (IsUtf8 bytes)
 
 -- the text that they hold
 abbrev pub text_in : Settings → List ℕ → List ℕ
-text_in settings bytes =
-    if reads_any settings then unwrap_or (page_text settings.encoding bytes) [] else bytes
-
--- the bytes are a page in this encoding, which isn't supported
-abbrev pub IsUnsupported : Settings → List ℕ → UnsupportedEncoding → Type 0
-IsUnsupported settings bytes encoding =
-    (reads_any settings ≡ true) × (encoding_of settings.encoding bytes ≡ named.Unsupported encoding)
+text_in settings bytes = if reads_any settings then page_text settings.encoding bytes else bytes
 
 -- what a reader sees of a tree
 abbrev pub document_in : Settings → List Item → Blocks
@@ -149,8 +139,6 @@ IsUnselected settings bytes = IsReadable settings bytes × SelectsNothing settin
 abbrev pub IsFaultOf : Settings → List ℕ → PageError → Type 0
 -- they are not UTF-8, which any page may be
 IsFaultOf settings bytes NotUtf8 = (reads_any settings ≡ false) × (¬ IsUtf8 bytes)
--- they are a page in an encoding that isn't supported
-IsFaultOf settings bytes (Unsupported encoding) = IsUnsupported settings bytes encoding
 -- they are UTF-8, were taken for HTML of the strict grammar, and are outside it
 IsFaultOf settings bytes (Refused place kind) =
     (settings.text ≡ false) × (settings.html5 ≡ false) × IsUtf8 bytes × IsRefusedBy settings bytes place kind

@@ -24,9 +24,8 @@ pub struct PageConverter<'a, 'b, R = ElementHandlers> {
 
 /// What the bytes of a page become by settings: Markdown, or JSON in the form of mdast. In Markdown of what a person
 /// sees, a reader of CommonMark sees the same. The settings say how the bytes are decoded and read, what of the page is
-/// converted, and how that is written. `Unsupported` is a page in an encoding that isn't supported, and
-/// `NothingSelected` a page of which no element is selected; `NotUtf8` and `Refused` come only where a text or strict
-/// HTML is read; `Memory` means out of memory.
+/// converted, and how that is written. `NothingSelected` is a page of which no element is selected; `NotUtf8` and
+/// `Refused` come only where a text or strict HTML is read; `Memory` means out of memory.
 pub fn convert_page(
     alloc: Global,
     bytes: &[u8],

@@ -1,11 +1,10 @@
 //! Why a page was not converted.
 
 ghost use Rattle.std.specs.Prelude.{◌≡◌};
-ghost use Rattle.htmd.specs.PageFailures.{conversion_fault, decode_fault};
+ghost use Rattle.htmd.specs.PageFailures.{conversion_fault};
 ghost use Rattle.htmd.specs.declared.page_error.PageError.TheVariants.{Memory};
 
 use crate::convert_error::ConvertError;
-use htmd_encodings::{DecodeError, UnsupportedEncoding};
 use htmd_tree::FaultKind;
 use std::alloc::AllocError;
 use thiserror::Error;
@@ -19,9 +18,6 @@ pub enum PageError {
     /// The bytes are not UTF-8.
     #[error("not UTF-8")]
     NotUtf8,
-    /// The page is in an encoding that isn't supported.
-    #[error("the page says {encoding}, which is not supported: convert it to UTF-8 first, or give --encoding")]
-    Unsupported { encoding: UnsupportedEncoding },
     /// No element of the page is selected.
     #[error("no element of the page is selected by --select")]
     NothingSelected,
@@ -45,17 +41,6 @@ impl From<ConvertError> for PageError {
         match e {
             ConvertError::Refused { place, kind } => PageError::Refused { place, kind },
             ConvertError::Memory => PageError::Memory,
-        }
-    }
-}
-
-impl From<DecodeError> for PageError {
-    ghost from_gives = { λ e error. error ≡ decode_fault e };
-
-    fn from(e: DecodeError) -> PageError {
-        match e {
-            DecodeError::Unsupported(encoding) => PageError::Unsupported { encoding },
-            DecodeError::Memory => PageError::Memory,
         }
     }
 }

@@ -64,7 +64,7 @@ fn reads_any(settings: &PageSettings<'_>) -> bool
 }
 
 /// The text that the bytes of an input hold: in their encoding if any page is read, else only in UTF-8.
-#[tactic(auto, using(crate::proofs::PageOutputsLemmas::readable_page, crate::proofs::PageOutputsLemmas::readable_utf8, crate::proofs::PageOutputsLemmas::undecoded))]
+#[tactic(auto, using(crate::proofs::PageOutputsLemmas::readable_page, crate::proofs::PageOutputsLemmas::readable_utf8, crate::proofs::PageOutputsLemmas::out_of_memory))]
 fn text_of<'a>(
     alloc: Global,
     settings: &PageSettings<'_>,

@@ -18,8 +18,8 @@ pub struct PageSettings<'a> {
     pub text: bool,
     /// The input is a whole page, and what is between the tags of its body is converted.
     pub body: bool,
-    /// The input is any page, as browsers read it: bytes that aren't UTF-8 are decoded, and nothing is refused but an
-    /// encoding that isn't supported. Then `body` has no effect.
+    /// The input is any page, as browsers read it: bytes that aren't UTF-8 are decoded, and nothing is refused. Then
+    /// `body` has no effect.
     pub html5: bool,
     /// The encoding of any page whose bytes have no mark, if it is known. Otherwise the page's own declaration counts.
     pub encoding: Option<Encoding>,

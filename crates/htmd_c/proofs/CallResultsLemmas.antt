@@ -7,16 +7,12 @@ use Rattle.std.proofs.lemmas.Bool.Decides.{nat_tests}
 use Rattle.htmd.specs.PageOutputs.{IsFaultOf}
 use Rattle.htmd.specs.PageValues.{AddsSelectors, is_filled, parts, selectors, url}
 use Rattle.htmd.specs.declared.page_error.PageError.{PageError}
-use Rattle.htmd.specs.declared.page_error.PageError.TheVariants.{NotUtf8, Refused, Unsupported, NothingSelected, Memory}
+use Rattle.htmd.specs.declared.page_error.PageError.TheVariants.{NotUtf8, Refused, NothingSelected, Memory}
 use Rattle.htmd.specs.PageSettings.{Settings}
 use Rattle.htmd_encodings.specs.Labels.{encoding_named}
 use Rattle.htmd_encodings.specs.declared.encodings.Encoding.{Encoding}
 use Rattle.htmd_selectors.specs.SelectorSteps.{Step}
 use Rattle.url.specs.Parts.{Parts}
-use Rattle.htmd_encodings.specs.Decoding.{marked, marked_or_given}
-use Rattle.htmd_encodings.specs.declared.encodings.Encoding.TheVariants.{Utf8}
-use Rattle.htmd_encodings.specs.declared.encodings.Named.TheVariants as named
-use Rattle.htmd_encodings.specs.declared.encodings.UnsupportedEncoding.{UnsupportedEncoding}
 use Rattle.htmd_c.specs.declared.options.HtmdOptions.{HtmdOptions}
 use Rattle.htmd_c.specs.Options.{settings_of}
 use Rattle.htmd_c.specs.CallResults.{IsPageFault, IsTextFault}
@@ -86,20 +82,12 @@ pub page_fault : (given : HtmdPageOptions) (settings : Settings) (bytes : List �
     → IsSettingsOf given settings → IsFaultOf settings bytes e → IsPageFault given bytes e
 page_fault given settings bytes NotUtf8 s f = (settings, s, f)
 page_fault given settings bytes (Refused place kind) s f = (settings, s, f)
-page_fault given settings bytes (Unsupported encoding) s f = (settings, s, f)
 page_fault given settings bytes NothingSelected s f = (settings, s, f)
 page_fault given settings bytes Memory s f = tt
-
--- bytes in UTF-8 are in no other encoding, unless a mark says so
-decoded_some : (mark : Option Encoding) (encoding : UnsupportedEncoding) (bytes : List ℕ)
-    → marked_or_given mark (Some Utf8) bytes ≡ named.Unsupported encoding → ⊥
-decoded_some None encoding bytes e = absurd (cc)
-decoded_some (Some mark) encoding bytes e = absurd (cc)
 
 pub text_fault : (given : HtmdOptions) (bytes : List ℕ) (e : PageError) → IsUtf8 bytes
     → IsFaultOf (settings_of given) bytes e → IsTextFault (settings_of given) bytes e
 text_fault given bytes NotUtf8 u (strict, n) = n
 text_fault given bytes (Refused place kind) u (text, html5, utf8, refused) = (u, html5, refused)
-text_fault given bytes (Unsupported encoding) u (any, is) = decoded_some (marked bytes) encoding bytes is
 text_fault given bytes NothingSelected u (readable, (tree, by, none)) = absurd (cc)
 text_fault given bytes Memory u f = tt

@@ -2,14 +2,13 @@
 use Rattle.std.specs.Prelude.{◌≡◌, ◌≤◌, ◌<◌, ◌++◌, ℕ, List, length, drop, IsUtf8, false, ⊤}
 use Rattle.htmd_grammar.specs.declared.fault.FaultKind.{FaultKind}
 use Rattle.htmd_grammar.specs.Faults.{number_of}
-use Rattle.htmd.specs.PageOutputs.{IsFaultOf, IsOutputOf, IsRefusedBy, IsUnselected, IsUnsupported}
+use Rattle.htmd.specs.PageOutputs.{IsFaultOf, IsOutputOf, IsRefusedBy, IsUnselected}
 use Rattle.htmd.specs.PageSettings.{Settings}
 use Rattle.htmd.specs.declared.page_error.PageError.{PageError}
-use Rattle.htmd.specs.declared.page_error.PageError.TheVariants.{NotUtf8, Refused, Unsupported, NothingSelected, Memory}
-use Rattle.htmd_encodings.specs.declared.encodings.UnsupportedEncoding.{UnsupportedEncoding}
+use Rattle.htmd.specs.declared.page_error.PageError.TheVariants.{NotUtf8, Refused, NothingSelected, Memory}
 use Rattle.htmd_c.specs.declared.failures.Failure.{Failure}
 use Rattle.htmd_c.specs.declared.failures.Failure.TheVariants as failure
-use Rattle.htmd_c.specs.declared.TheConstants.{REFUSED, NOT_UTF8, NO_MEMORY, BAD_OPTIONS, UNSUPPORTED, NOTHING_SELECTED}
+use Rattle.htmd_c.specs.declared.TheConstants.{REFUSED, NOT_UTF8, NO_MEMORY, BAD_OPTIONS, NOTHING_SELECTED}
 use Rattle.htmd_c.specs.declared.TheConstants.{BAD_SELECT, BAD_DROP, BAD_SKIP, BAD_BASE, BAD_ENCODING}
 use Rattle.htmd_c.specs.declared.options.HtmdOptions.{HtmdOptions}
 use Rattle.htmd_c.specs.declared.page_options.HtmdPageOptions.{HtmdPageOptions}
@@ -48,11 +47,6 @@ BySettings given holds = (settings : Settings) × IsSettingsOf given settings ×
 -- this is what a page becomes by the struct
 abbrev pub IsPageOutputOf : HtmdPageOptions → List ℕ → List ℕ → Type 0
 IsPageOutputOf given bytes output = BySettings given (λ settings. IsOutputOf settings bytes output)
-
--- the page is in an encoding that isn't supported
-abbrev pub IsInUnsupported : HtmdPageOptions → List ℕ → Type 0
-IsInUnsupported given bytes =
-    BySettings given (λ settings. (encoding : UnsupportedEncoding) × IsUnsupported settings bytes encoding)
 
 -- no element of the page is selected
 abbrev pub HasNoneSelected : HtmdPageOptions → List ℕ → Type 0
@@ -95,5 +89,4 @@ status_of failure.BadEncoding = BAD_ENCODING
 status_of (failure.Page (Refused place kind)) = REFUSED
 status_of (failure.Page NotUtf8) = NOT_UTF8
 status_of (failure.Page Memory) = NO_MEMORY
-status_of (failure.Page (Unsupported encoding)) = UNSUPPORTED
 status_of (failure.Page NothingSelected) = NOTHING_SELECTED

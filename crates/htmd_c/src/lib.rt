@@ -7,11 +7,10 @@ ghost use Rattle.std.specs.Prelude.{◌≡◌, ◌≢◌, ◌≤◌, ◌<◌, �
 ghost use Rattle.std.specs.Str.{IsValidUpTo};
 ghost use Rattle.htmd.specs.Lines.{characters, line_front, lines_ended};
 ghost use Rattle.htmd_c.specs.Options as spec;
-ghost use Rattle.htmd_c.specs.CallResults.{BySettings, HasNoneSelected, IsInUnsupported, IsRefusedAt, IsTooLong};
+ghost use Rattle.htmd_c.specs.CallResults.{BySettings, HasNoneSelected, IsRefusedAt, IsTooLong};
 ghost use Rattle.htmd_c.specs.CallResults.{IsWritten};
 ghost use Rattle.htmd_c.specs.CallResults.{status_of};
 ghost use Rattle.htmd_c.specs.PageOptions.{AreNoNames, AreNoSelectors, IsNoBase, IsNoEncoding};
-ghost use Rattle.htmd_encodings.specs.declared.encodings.UnsupportedEncoding.{UnsupportedEncoding};
 ghost use Rattle.htmd_grammar.specs.declared.fault.FaultKind.{FaultKind};
 ghost use Rattle.htmd_grammar.specs.Faults.{number_of};
 
@@ -41,9 +40,7 @@ pub const NOT_UTF8: u32 = 3;
 pub const NO_MEMORY: u32 = 4;
 /// A field of the struct of options has a number that it may not have.
 pub const BAD_OPTIONS: u32 = 5;
-
-/// The page is in an encoding that isn't supported.
-pub const UNSUPPORTED: u32 = 6;
+// 6 was a page in an encoding that wasn't supported. All are.
 /// No element of the page is selected.
 pub const NOTHING_SELECTED: u32 = 7;
 /// What is to be converted isn't told by selectors.
@@ -99,8 +96,6 @@ fn report(html: &[u8], failure: &Failure, place: &mut usize, kind: &mut u8) -> u
         × (failure.now ≡ Failure.Page (PageError.Refused place.new fault)) × (kind.new ≡ number_of fault) }
     ensures not_utf8 { result ≡ NOT_UTF8 → failure.now ≡ Failure.Page PageError.NotUtf8 }
     ensures place { ¬ IsUtf8 html.now → result ≡ NOT_UTF8 → IsValidUpTo html.now place.new }
-    ensures unsupported { result ≡ UNSUPPORTED → (encoding : UnsupportedEncoding)
-        × (failure.now ≡ Failure.Page (PageError.Unsupported encoding)) }
     ensures nothing_selected { result ≡ NOTHING_SELECTED → failure.now ≡ Failure.Page PageError.NothingSelected }
     ensures no_place { result ≢ REFUSED → result ≢ NOT_UTF8 → place.new ≡ place.old }
     ensures no_kind { result ≢ REFUSED → kind.new ≡ kind.old }
@@ -124,7 +119,6 @@ fn report(html: &[u8], failure: &Failure, place: &mut usize, kind: &mut u8) -> u
             NOT_UTF8
         }
         Failure::Page(PageError::Memory) => NO_MEMORY,
-        Failure::Page(PageError::Unsupported { .. }) => UNSUPPORTED,
         Failure::Page(PageError::NothingSelected) => NOTHING_SELECTED,
         Failure::BadOptions => BAD_OPTIONS,
         Failure::BadSelect => BAD_SELECT,
@@ -174,8 +168,8 @@ pub extern "C" fn htmd_convert(
 }
 
 /// Writes what the bytes of a page become by the options to the front of the buffer, as `convert_page` of `htmd` makes
-/// it. `UNSUPPORTED` is a page in an encoding that isn't supported, `NOTHING_SELECTED` one of which no element is
-/// selected, and the statuses from `BAD_SELECT` say which text of the options isn't what it has to be.
+/// it. `NOTHING_SELECTED` is a page of which no element is selected, and the statuses from `BAD_SELECT` say which text of
+/// the options isn't what it has to be.
 #[unsafe(no_mangle)]
 pub extern "C" fn htmd_convert_page(
     alloc: Global,
@@ -194,7 +188,6 @@ pub extern "C" fn htmd_convert_page(
         (λ settings. IsRefusedAt settings page.now place.new kind.new) }
     ensures not_utf8 { result ≡ NOT_UTF8 → (¬ IsUtf8 page.now) × IsValidUpTo page.now place.new }
     ensures bad_options { (result ≡ BAD_OPTIONS) ↔ (spec.is_good options.now.options ≡ false) }
-    ensures unsupported { result ≡ UNSUPPORTED → IsInUnsupported options.now page.now }
     ensures nothing_selected { result ≡ NOTHING_SELECTED → HasNoneSelected options.now page.now }
     ensures bad_select { result ≡ BAD_SELECT → AreNoSelectors options.now.select.now }
     ensures bad_drop { result ≡ BAD_DROP → AreNoSelectors options.now.drop.now }

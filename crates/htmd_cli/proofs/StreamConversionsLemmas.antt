@@ -8,12 +8,12 @@ use Rattle.htmd.specs.Characters.{line_feed}
 use Rattle.htmd_cli.specs.declared.faults.RunError.{RunError}
 use Rattle.htmd_cli.specs.declared.faults.RunError.TheVariants as run
 use Rattle.htmd.specs.declared.page_error.PageError.{PageError}
-use Rattle.htmd.specs.declared.page_error.PageError.TheVariants.{NotUtf8, Refused, Unsupported, NothingSelected, Memory}
+use Rattle.htmd.specs.declared.page_error.PageError.TheVariants.{NotUtf8, Refused, NothingSelected, Memory}
 use Rattle.htmd_cli.specs.declared.faults.StreamError.{StreamError}
 use Rattle.htmd_cli.specs.declared.faults.StreamError.TheVariants.{Page, Read, Write}
 use Rattle.htmd.specs.PageSettings.{Settings}
 use Rattle.htmd_cli.specs.Failures.{IsReadFault, stream_error}
-use Rattle.htmd.specs.PageOutputs.{IsFaultOf, IsOutputOf, IsRefusedBy, IsUnselected, IsUnsupported}
+use Rattle.htmd.specs.PageOutputs.{IsFaultOf, IsOutputOf, IsRefusedBy, IsUnselected}
 use Rattle.htmd_cli.specs.StreamConversions.{Ends, IsConvertible, Writes}
 
 -- the whole input was converted, and that was written
@@ -35,7 +35,6 @@ pub ends_early : {W : Type 0} (T : Type 0) (settings : Settings) (contents : W �
     (input : List ℕ) (e : PageError) → IsFaultOf settings input e → after ≡ before
     → Ends {T = T} settings (Some input) (Some []) contents before after (Err (Page e))
 ends_early T settings contents before after input NotUtf8 (s, n) k = (refl, s, n, k)
-ends_early T settings contents before after input (Unsupported encoding) u k = (refl, u, k)
 ends_early T settings contents before after input (Refused place kind) (x, h, u, r) k = (refl, x, h, (u, r), k)
 ends_early T settings contents before after input NothingSelected l k = (refl, l, k)
 ends_early T settings contents before after input Memory f k = k
@@ -67,9 +66,6 @@ ends_over settings old new items input contents before after (Err (Page NotUtf8)
       (subst (λ bytes. ¬ IsUtf8 bytes) i h.2),
   h.3,
 )
-ends_over settings old new items input contents before after (Err (Page (Unsupported encoding))) c e i h =
-    let P : List ℕ → Type 0 = λ bytes. IsUnsupported settings bytes encoding in
-    (e, Consumes-whole old new items P c e (subst P i h.1), h.2)
 ends_over settings old new items input contents before after (Err (Page (Refused place kind))) c e i h =
     let P : List ℕ → Type 0 = λ bytes. IsUtf8 bytes × IsRefusedBy settings bytes place kind in
     (e, h.1, h.2, Consumes-whole old new items P c e (subst P i h.3), h.4)

@@ -125,7 +125,7 @@ numbered name effect = record {
   effect = λ value. option_map effect (number value);
 }
 
--- an option that ends with the label of an encoding that is supported
+-- an option that ends with the label of an encoding
 abbrev pub labelled : List ℕ → (Encoding → Request → Request) → KnownOption
 labelled name effect = record {
   name = name;

@@ -2,11 +2,11 @@
 use Rattle.std.specs.Prelude.{◌≡◌, ℕ, List, [], ◌∷◌, ◌++◌, false, Option, IfSome, Result, Ok, Err, IsUtf8}
 use Rattle.std.specs.Io.KnownBytes.{Appends, IsAtEnd}
 use Rattle.htmd.specs.Characters.{line_feed}
-use Rattle.htmd.specs.declared.page_error.PageError.TheVariants.{NotUtf8, Refused, Unsupported, NothingSelected, Memory}
+use Rattle.htmd.specs.declared.page_error.PageError.TheVariants.{NotUtf8, Refused, NothingSelected, Memory}
 use Rattle.htmd_cli.specs.declared.faults.StreamError.{StreamError}
 use Rattle.htmd_cli.specs.declared.faults.StreamError.TheVariants.{Page, Read, Write}
 use Rattle.htmd.specs.PageSettings.{Settings}
-use Rattle.htmd.specs.PageOutputs.{IsOutputOf, IsRefusedBy, IsUnselected, IsUnsupported, reads_any}
+use Rattle.htmd.specs.PageOutputs.{IsOutputOf, IsRefusedBy, IsUnselected, reads_any}
 
 -- what the bytes become, and a line feed, were written
 abbrev pub Writes : Settings → Option (List ℕ) → Option (List ℕ) → List ℕ → Type 0
@@ -31,9 +31,6 @@ Ends settings input rest contents before after (Ok done) =
 -- all was read and is not UTF-8, which any page may be; nothing was written
 Ends settings input rest contents before after (Err (Page NotUtf8)) =
     IsAtEnd rest × (reads_any settings ≡ false) × IfSome input (λ bytes. ¬ IsUtf8 bytes) × (after ≡ before)
--- all was read and is a page in an encoding that isn't supported; nothing was written
-Ends settings input rest contents before after (Err (Page (Unsupported encoding))) =
-    IsAtEnd rest × IfSome input (λ bytes. IsUnsupported settings bytes encoding) × (after ≡ before)
 -- all was read and is UTF-8, was taken for HTML of the strict grammar, and is outside it; nothing was written
 Ends settings input rest contents before after (Err (Page (Refused place kind))) =
     IsAtEnd rest × (settings.text ≡ false) × (settings.html5 ≡ false)

@@ -4,8 +4,8 @@ ghost use Rattle.htmd_streams.specs.Ends.{FailsAtErr};
 use crate::options::{FILE_OPTIONS, FileOption, OPTIONS, OptionRow, Setting, Shell, Valued};
 use htmd_streams::{Failed, Sink, write_all};
 
-/// The names of the encodings that a page is decoded from, in lower case.
-pub(crate) const ENCODINGS: [&str; 32] = [
+/// The names of the encodings, in lower case.
+pub(crate) const ENCODINGS: [&str; 40] = [
     "utf-8",
     "utf-16be",
     "utf-16le",
@@ -37,6 +37,14 @@ pub(crate) const ENCODINGS: [&str; 32] = [
     "windows-1257",
     "windows-1258",
     "x-mac-cyrillic",
+    "gbk",
+    "gb18030",
+    "big5",
+    "euc-jp",
+    "iso-2022-jp",
+    "shift_jis",
+    "euc-kr",
+    "replacement",
     "x-user-defined",
 ];
 

@@ -26,9 +26,7 @@ mod values;
 
 pub use faults::{RowFault, RunError, StreamError};
 pub use htmd::{Page, PageError, PageSettings as Settings, Pages, RunPage};
-pub use htmd_encodings::{
-    ByteOrder, DecodeError, Encoding, SingleByte, UnsupportedEncoding, encoding_named, page_text,
-};
+pub use htmd_encodings::{ByteOrder, Encoding, MultiByte, SingleByte, encoding_named, page_text};
 pub use htmd_streams::{Failed, Input, Output, Sink, Source, read_field, write_field};
 pub use mode::Mode;
 pub use option_faults::{say_fault, say_warnings};

@@ -17,7 +17,7 @@ fn name_part(option: &str) -> &str {
 /// What a value has to be.
 fn wanted(valued: Valued) -> &'static str {
     match valued {
-        Valued::Encoding => "the label of an encoding that is supported, as utf-8 or windows-1252",
+        Valued::Encoding => "the label of an encoding, as utf-8 or windows-1252",
         Valued::Select | Valued::Drop => "selectors with commas between them, as main,.note",
         Valued::Skip => "names with commas between them, as nav,footer",
         Valued::Base => "an absolute URL, as https://example.org/docs/",

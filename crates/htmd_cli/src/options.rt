@@ -106,7 +106,7 @@ pub(crate) const OPTIONS: [OptionRow; 44] = [
         value: "",
         setting: Setting::Html5,
         line: "reads any page, or a part of one, as browsers do",
-        help: "reads any page, or a part of one, as browsers do, and rejects only some encodings",
+        help: "reads any page, or a part of one, as browsers do, in the encoding that it declares",
     },
     OptionRow {
         group: Group::Input,

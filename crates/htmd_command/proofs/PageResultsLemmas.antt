@@ -9,7 +9,7 @@ use Rattle.htmd_addresses.specs.Leads.{PageValue, RunPage}
 use Rattle.htmd_addresses.specs.RunViews.{pages_in}
 use Rattle.htmd_addresses.specs.declared.pages.Pages.{Pages}
 use Rattle.htmd.specs.Characters.{line_feed}
-use Rattle.htmd.specs.declared.page_error.PageError.TheVariants.{NotUtf8, Refused, Unsupported, NothingSelected, Memory}
+use Rattle.htmd.specs.declared.page_error.PageError.TheVariants.{NotUtf8, Refused, NothingSelected, Memory}
 use Rattle.htmd_cli.specs.declared.faults.StreamError.{StreamError}
 use Rattle.htmd_cli.specs.declared.faults.StreamError.TheVariants as stream
 use Rattle.htmd_cli.specs.Options.{Request, url_in_folder}
@@ -57,7 +57,6 @@ ends_by : {W : Type 0} (T : Type 0) (settings : Settings) (input rest : Option (
     → Ends {W = W} {T = T} settings input rest contents before after (Err error) → error ≢ stream.Write
     → after ≡ before
 ends_by T settings input rest contents before after (stream.Page NotUtf8) e n = e.3
-ends_by T settings input rest contents before after (stream.Page (Unsupported encoding)) e n = e.2
 ends_by T settings input rest contents before after (stream.Page (Refused place kind)) e n = e.4
 ends_by T settings input rest contents before after (stream.Page NothingSelected) e n = e.2
 ends_by T settings input rest contents before after (stream.Page Memory) e n = e

@@ -7,33 +7,32 @@ use Rattle.std.specs.Str.Lossy.{utf8_lossy, utf8_valid_len, utf8_error_len}
 use Rattle.htmd_encodings.specs.declared.encodings.ByteOrder.TheVariants.{BigEndian, LittleEndian}
 use Rattle.htmd_encodings.specs.declared.encodings.SingleByte.TheVariants.{Koi8U, Windows1252, Windows1255}
 use Rattle.htmd_encodings.specs.declared.encodings.SingleByte.TheVariants.{Iso8859_2, Iso8859_7, Iso8859_8I, Koi8R}
-use Rattle.htmd_encodings.specs.declared.encodings.UnsupportedEncoding.TheVariants.{ShiftJis, Iso2022Jp}
-use Rattle.htmd_encodings.specs.declared.encodings.Encoding.TheVariants.{Utf8, Utf16, SingleByte}
-use Rattle.htmd_encodings.specs.declared.encodings.Named.TheVariants.{Supported, Unsupported}
-use Rattle.htmd_encodings.specs.Labels.{labels, named}
+use Rattle.htmd_encodings.specs.declared.encodings.MultiByte.TheVariants.{ShiftJis}
+use Rattle.htmd_encodings.specs.declared.encodings.Encoding.TheVariants.{Utf8, Utf16, SingleByte, MultiByte, Iso2022Jp}
+use Rattle.htmd_encodings.specs.Labels.{labels, encoding_named}
 use Rattle.htmd_encodings.specs.Indexes.{index}
 use Rattle.htmd_encodings.specs.Utf16.{utf16_text}
 use Rattle.htmd_encodings.specs.Prescan.{prescan}
 use Rattle.htmd_encodings.specs.Decoding.{believed, character, decoded, encoding_of}
 
--- a label in any case and with white space, one that means windows-1252, one that isn't supported, and none
-labels_named : (named (codes " KOI8-r\n") ≡ Some (Supported (SingleByte Koi8R)))
-    × (named (codes "latin1") ≡ Some (Supported (SingleByte Windows1252)))
-    × (named (codes "x-sjis") ≡ Some (Unsupported ShiftJis)) × (named (codes "utf-7") ≡ None)
+-- a label in any case and with white space, one that means windows-1252, one of several bytes, and none
+labels_named : (encoding_named (codes " KOI8-r\n") ≡ Some (SingleByte Koi8R))
+    × (encoding_named (codes "latin1") ≡ Some (SingleByte Windows1252))
+    × (encoding_named (codes "x-sjis") ≡ Some (MultiByte ShiftJis)) × (encoding_named (codes "utf-7") ≡ None)
 unfolding labels
 labels_named = (refl, refl, refl, refl)
 
 -- a `charset`, the first of two, with other attributes and without quotes
-charsets_said : (prescan (codes "<meta charset=iso-8859-2>") ≡ Some (Supported (SingleByte Iso8859_2)))
-    × (prescan (codes "<META/x='>' Charset = \"koi8-r\"charset=latin1>") ≡ Some (Supported (SingleByte Koi8R)))
-    × (prescan (codes "<meta charset=utf-16le>") ≡ Some (Supported Utf8))
+charsets_said : (prescan (codes "<meta charset=iso-8859-2>") ≡ Some (SingleByte Iso8859_2))
+    × (prescan (codes "<META/x='>' Charset = \"koi8-r\"charset=latin1>") ≡ Some (SingleByte Koi8R))
+    × (prescan (codes "<meta charset=utf-16le>") ≡ Some Utf8)
 unfolding labels
 charsets_said = (refl, refl, refl)
 
 -- a `content` counts beside `http-equiv`, and not without it
 pragmas_said :
     (prescan (codes "<meta content='text/html; charset=iso-8859-7' http-equiv=Content-Type>")
-    ≡ Some (Supported (SingleByte Iso8859_7)))
+    ≡ Some (SingleByte Iso8859_7))
     × (prescan (codes "<meta content='text/html; charset=iso-8859-7'>") ≡ None)
 unfolding labels
 pragmas_said = (refl, refl)
@@ -42,33 +41,33 @@ pragmas_said = (refl, refl)
 passed_over : (prescan (codes "<!--<meta charset=koi8-r>-->") ≡ None)
     × (prescan (codes "<p title='<meta charset=koi8-r>'>") ≡ None)
     × (prescan (codes "<meta charset=koi8-r ") ≡ None)
-    × (prescan (codes "<!--><meta charset=koi8-r>") ≡ Some (Supported (SingleByte Koi8R)))
+    × (prescan (codes "<!--><meta charset=koi8-r>") ≡ Some (SingleByte Koi8R))
 unfolding labels
 passed_over = (refl, refl, refl, refl)
 
 -- an XML declaration counts if no `meta` does
-declarations_said : prescan (codes "<?xml version='1.0' encoding='shift_jis'?><p>") ≡ Some (Unsupported ShiftJis)
+declarations_said : prescan (codes "<?xml version='1.0' encoding='shift_jis'?><p>") ≡ Some (MultiByte ShiftJis)
 unfolding labels
 declarations_said = refl
 
 -- a mark stands over what is given, and that over what the page says; bytes that are UTF-8 are UTF-8, but for
 -- ISO-2022-JP
 encodings_chosen :
-    (encoding_of (Some (SingleByte Koi8R)) (0xFF ∷ 0xFE ∷ []) ≡ Supported (Utf16 LittleEndian))
-    × (encoding_of (Some (SingleByte Koi8R)) (codes "<meta charset=latin1>") ≡ Supported (SingleByte Koi8R))
-    × (encoding_of None (codes "<meta charset=koi8-r>") ≡ Supported Utf8)
-    × (encoding_of None (codes "<meta charset=koi8-r>" ++ 0xC1 ∷ []) ≡ Supported (SingleByte Koi8R))
-    × (encoding_of None (codes "<meta charset=iso-2022-jp>") ≡ Unsupported Iso2022Jp)
-    × (encoding_of None (0xC1 ∷ []) ≡ Supported (SingleByte Windows1252))
+    (encoding_of (Some (SingleByte Koi8R)) (0xFF ∷ 0xFE ∷ []) ≡ Utf16 LittleEndian)
+    × (encoding_of (Some (SingleByte Koi8R)) (codes "<meta charset=latin1>") ≡ SingleByte Koi8R)
+    × (encoding_of None (codes "<meta charset=koi8-r>") ≡ Utf8)
+    × (encoding_of None (codes "<meta charset=koi8-r>" ++ 0xC1 ∷ []) ≡ SingleByte Koi8R)
+    × (encoding_of None (codes "<meta charset=iso-2022-jp>") ≡ Iso2022Jp)
+    × (encoding_of None (0xC1 ∷ []) ≡ SingleByte Windows1252)
 unfolding labels encode_utf8 is_utf8 chars
 encodings_chosen = (refl, refl, refl, refl, refl, refl)
 
 -- after the first 1,024 bytes a `meta` counts only where they say nothing; bytes that are UTF-8 are so in spite of it
 late_metas :
-    (believed None (codes "<meta charset=koi8-r>" ++ 0xC1 ∷ []) ≡ Supported (SingleByte Koi8R))
-    × (believed (Some (Supported (SingleByte Koi8U))) (codes "<meta charset=koi8-r>" ++ 0xC1 ∷ [])
-    ≡ Supported (SingleByte Koi8U))
-    × (believed None (codes "<meta charset=iso-2022-jp>") ≡ Supported Utf8)
+    (believed None (codes "<meta charset=koi8-r>" ++ 0xC1 ∷ []) ≡ SingleByte Koi8R)
+    × (believed (Some (SingleByte Koi8U)) (codes "<meta charset=koi8-r>" ++ 0xC1 ∷ [])
+    ≡ SingleByte Koi8U)
+    × (believed None (codes "<meta charset=iso-2022-jp>") ≡ Utf8)
 unfolding labels encode_utf8 is_utf8 chars
 late_metas = (refl, refl, refl)
 

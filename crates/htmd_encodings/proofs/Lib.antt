@@ -3,5 +3,8 @@ pub mod RunsLemmas
 pub mod LabelsLemmas
 pub mod AttributesLemmas
 pub mod PrescanLemmas
+pub mod SequencesLemmas
+pub mod RangesLemmas
 pub mod DecodingLemmas
 mod Examples
+mod MultiByteExamples

@@ -6,7 +6,7 @@ use Rattle.htmd_lexical.proofs.RunsLemmas.{behind_within}
 use Rattle.htmd_lexical.specs.CharacterClasses.{behind_run, begins_in_any_case, begins_with, first_is}
 use Rattle.htmd_lexical.specs.Characters.{exclamation_mark, question_mark, slash, less_than_sign, greater_than_sign}
 use Rattle.htmd_lexical.specs.TagReading.{is_other}
-use Rattle.htmd_encodings.specs.declared.encodings.Named.{Named}
+use Rattle.htmd_encodings.specs.declared.encodings.Encoding.{Encoding}
 use Rattle.htmd_encodings.specs.Attributes.{Tag, tag, is_unquoted_byte}
 use Rattle.htmd_encodings.specs.Declarations.{in_attributes}
 use Rattle.htmd_encodings.specs.Prescan.{Found, said, onward, said_or, found_in_meta, behind_tag, begins_with_gap}
@@ -20,7 +20,7 @@ abbrev size_of : Found → ℕ
 size_of (said encoding) = 0
 size_of (onward s) = length s
 
-or_size : (encoding : Option Named) (s : List ℕ) → size_of (said_or encoding s) ≤ length s
+or_size : (encoding : Option Encoding) (s : List ℕ) → size_of (said_or encoding s) ≤ length s
 or_size None s = omega arith
 or_size (Some encoding) s = omega arith
 
@@ -87,7 +87,7 @@ abbrev pub at_sign : List ℕ → List ℕ
 at_sign s = behind_run (is_other less_than_sign) s
 
 -- the search goes on after it
-pub search_more : (s sign after rest : List ℕ) (whole : Option Named) → sign ≡ at_sign s → 1 ≤ length sign
+pub search_more : (s sign after rest : List ℕ) (whole : Option Encoding) → sign ≡ at_sign s → 1 ≤ length sign
     → after ≡ drop 1 sign → onward rest ≡ found_after after
     → search_within (suc (length s)) s ≡ whole → search_within (suc (length rest)) rest ≡ whole
 search_more s [] after rest whole e l d f h = absurd (omega arith)

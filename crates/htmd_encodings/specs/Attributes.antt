@@ -9,7 +9,7 @@ use Rattle.htmd_lexical.specs.CharacterClasses.{first_is, leading_run, behind_ru
 use Rattle.htmd_lexical.specs.TagReading.{TagPart, malformed, tag_end, attribute, quoted_value}
 use Rattle.htmd_encodings.specs.declared.attributes.Attributes.{Attributes}
 use Rattle.htmd_encodings.specs.ContentLabels.{content_label}
-use Rattle.htmd_encodings.specs.Labels.{is_in_any_case, named}
+use Rattle.htmd_encodings.specs.Labels.{is_in_any_case, encoding_named}
 
 -- ---- the next part of a tag: an attribute, or the end. It is `malformed` if the bytes end before that. Whether a tag
 -- has `/` doesn't matter.
@@ -63,9 +63,9 @@ first_of first said = Some (unwrap_or first said)
 -- attributes and then one more: names are the same in any ASCII case, and the first of one name counts
 abbrev pub with_attribute : Attributes → List ℕ → List ℕ → Attributes
 with_attribute a name value =
-    if is_in_any_case name (codes "charset") then record a { charset = first_of a.charset (named value) }
+    if is_in_any_case name (codes "charset") then record a { charset = first_of a.charset (encoding_named value) }
     else if is_in_any_case name (codes "content")
-    then record a { content = first_of a.content (option_and_then named (content_label value)) }
+    then record a { content = first_of a.content (option_and_then encoding_named (content_label value)) }
     else if is_in_any_case name (codes "http-equiv")
     then record a { http_equiv = first_of a.http_equiv (is_in_any_case value (codes "content-type")) }
     else a

@@ -8,31 +8,30 @@ use Rattle.htmd_lexical.specs.TagReading.{is_other}
 use Rattle.htmd_encodings.specs.declared.attributes.Attributes.{Attributes}
 use Rattle.htmd_encodings.specs.declared.encodings.SingleByte.TheVariants.{Windows1252, XUserDefined}
 use Rattle.htmd_encodings.specs.declared.encodings.Encoding.TheVariants.{Utf8, Utf16, SingleByte}
-use Rattle.htmd_encodings.specs.declared.encodings.Named.{Named}
-use Rattle.htmd_encodings.specs.declared.encodings.Named.TheVariants.{Supported}
+use Rattle.htmd_encodings.specs.declared.encodings.Encoding.{Encoding}
 use Rattle.htmd_encodings.specs.ContentLabels.{before_quote}
-use Rattle.htmd_encodings.specs.Labels.{named}
+use Rattle.htmd_encodings.specs.Labels.{encoding_named}
 
 -- ---- the attributes of `meta`
 
 -- a page that can say so isn't UTF-16, and `x-user-defined` means windows-1252 there
-abbrev pub in_meta : Named → Named
-in_meta (Supported (Utf16 order)) = Supported Utf8
-in_meta (Supported (SingleByte XUserDefined)) = Supported (SingleByte Windows1252)
+abbrev pub in_meta : Encoding → Encoding
+in_meta (Utf16 order) = Utf8
+in_meta (SingleByte XUserDefined) = SingleByte Windows1252
 in_meta other = other
 
 -- what `content` says counts if `http-equiv` is `content-type`
-abbrev pub in_pragma : Option Bool → Option (Option Named) → Option Named
+abbrev pub in_pragma : Option Bool → Option (Option Encoding) → Option Encoding
 in_pragma (Some true) (Some said) = said
 in_pragma _ _ = None
 
 -- what `charset` says counts, even if that is nothing; without it, what `content` says
-abbrev pub said_in : Option (Option Named) → Attributes → Option Named
+abbrev pub said_in : Option (Option Encoding) → Attributes → Option Encoding
 said_in (Some said) a = said
 said_in None a = in_pragma a.http_equiv a.content
 
 -- the encoding that the attributes of `meta` say
-abbrev pub in_attributes : Attributes → Option Named
+abbrev pub in_attributes : Attributes → Option Encoding
 in_attributes a = option_map in_meta (said_in a.charset a)
 
 -- ---- an XML declaration
@@ -49,8 +48,8 @@ abbrev pub after_first : List ℕ → List ℕ → List ℕ
 after_first searched s = drop (length searched) (onward (begins_with searched) s)
 
 -- a page that can say so isn't UTF-16
-abbrev pub in_xml : Named → Named
-in_xml (Supported (Utf16 order)) = Supported Utf8
+abbrev pub in_xml : Encoding → Encoding
+in_xml (Utf16 order) = Utf8
 in_xml other = other
 
 -- a label between quotes that has no control and no space
@@ -60,11 +59,11 @@ xml_label s =
     else if first_is apostrophe s then before_quote apostrophe (drop 1 s)
     else None
 
-abbrev pub whole_label : List ℕ → Option Named
-whole_label label = if is_empty (behind_run is_visible label) then named label else None
+abbrev pub whole_label : List ℕ → Option Encoding
+whole_label label = if is_empty (behind_run is_visible label) then encoding_named label else None
 
 -- the value of `encoding` in a declaration
-abbrev pub after_encoding : List ℕ → Option Named
+abbrev pub after_encoding : List ℕ → Option Encoding
 after_encoding s =
     if first_is equals_sign (behind_run is_control s)
     then option_and_then whole_label (xml_label (behind_run is_control (drop 1 (behind_run is_control s)))) else None
@@ -74,6 +73,6 @@ abbrev pub is_declaration : List ℕ → Bool
 is_declaration s = begins_with (codes "<?xml") s && not (is_empty (behind_run (is_other greater_than_sign) s))
 
 -- the encoding that it says
-abbrev pub in_declaration : List ℕ → Option Named
+abbrev pub in_declaration : List ℕ → Option Encoding
 in_declaration s =
     if is_declaration s then option_map in_xml (after_encoding (after_first (codes "encoding") s)) else None

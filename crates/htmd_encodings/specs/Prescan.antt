@@ -9,15 +9,14 @@ use Rattle.htmd_lexical.specs.CharacterClasses.{first_is, begins_with, begins_in
 use Rattle.htmd_lexical.specs.TagReading.{is_other}
 use Rattle.htmd_encodings.specs.declared.encodings.ByteOrder.TheVariants.{BigEndian, LittleEndian}
 use Rattle.htmd_encodings.specs.declared.encodings.Encoding.TheVariants.{Utf16}
-use Rattle.htmd_encodings.specs.declared.encodings.Named.{Named}
-use Rattle.htmd_encodings.specs.declared.encodings.Named.TheVariants.{Supported}
+use Rattle.htmd_encodings.specs.declared.encodings.Encoding.{Encoding}
 use Rattle.htmd_encodings.specs.Attributes.{Tag, tag, is_gap_byte, is_unquoted_byte}
 use Rattle.htmd_encodings.specs.Declarations.{after_first, in_attributes, in_declaration}
 
 -- what is at a `<`: an encoding is said, or nothing up to a place from which the search goes on. Where the bytes end
 -- before that, nothing is left.
 pub data Found : Type 0 where
-  said : Named → Found
+  said : Encoding → Found
   onward : List ℕ → Found
 
 -- the place after the next `>`
@@ -25,7 +24,7 @@ abbrev pub after_sign : List ℕ → List ℕ
 after_sign s = drop 1 (behind_run (is_other greater_than_sign) s)
 
 -- a `meta`, if its attributes say an encoding
-abbrev pub said_or : Option Named → List ℕ → Found
+abbrev pub said_or : Option Encoding → List ℕ → Found
 said_or None s = onward s
 said_or (Some encoding) s = said encoding
 
@@ -60,30 +59,30 @@ found_after s =
     else if first_is exclamation_mark s || first_is slash s || first_is question_mark s then onward (after_sign s)
     else onward s
 
-abbrev pub search_found : Found → (List ℕ → Option Named) → Option Named
+abbrev pub search_found : Found → (List ℕ → Option Encoding) → Option Encoding
 search_found (said encoding) go = Some encoding
 search_found (onward s) go = go s
 
-abbrev pub search_at : List ℕ → (List ℕ → Option Named) → Option Named
+abbrev pub search_at : List ℕ → (List ℕ → Option Encoding) → Option Encoding
 search_at [] go = None
 search_at (b ∷ s) go = search_found (found_after s) go
 
 -- the encoding that is said at one of fewer than this many places
-abbrev pub search_within : ℕ → List ℕ → Option Named
+abbrev pub search_within : ℕ → List ℕ → Option Encoding
 search_within zero s = None
 search_within (suc k) s = search_at (behind_run (is_other less_than_sign) s) (search_within k)
 
 -- every place takes at least one byte
-abbrev pub search : List ℕ → Option Named
+abbrev pub search : List ℕ → Option Encoding
 search s = search_within (suc (length s)) s
 
 -- `<?x` in UTF-16
-abbrev pub utf16_declaration : List ℕ → Option Named
+abbrev pub utf16_declaration : List ℕ → Option Encoding
 utf16_declaration s =
-    if begins_with (0x3C ∷ 0 ∷ 0x3F ∷ 0 ∷ 0x78 ∷ 0 ∷ []) s then Some (Supported (Utf16 LittleEndian))
-    else if begins_with (0 ∷ 0x3C ∷ 0 ∷ 0x3F ∷ 0 ∷ 0x78 ∷ []) s then Some (Supported (Utf16 BigEndian))
+    if begins_with (0x3C ∷ 0 ∷ 0x3F ∷ 0 ∷ 0x78 ∷ 0 ∷ []) s then Some (Utf16 LittleEndian)
+    else if begins_with (0 ∷ 0x3C ∷ 0 ∷ 0x3F ∷ 0 ∷ 0x78 ∷ []) s then Some (Utf16 BigEndian)
     else None
 
 -- the encoding that a page says in these bytes
-abbrev pub prescan : List ℕ → Option Named
+abbrev pub prescan : List ℕ → Option Encoding
 prescan s = option_or (utf16_declaration s) (option_or (search s) (in_declaration s))

@@ -7,7 +7,7 @@ use Rattle.htmd_lexical.specs.WhiteSpace.{is_ascii_white_space}
 use Rattle.htmd_encodings.specs.declared.attributes.Attributes.{Attributes}
 use Rattle.htmd_encodings.specs.declared.attributes.Part.{Part}
 use Rattle.htmd_encodings.specs.declared.attributes.Part.TheVariants.{Unended, End, Attribute}
-use Rattle.htmd_encodings.specs.declared.encodings.Named.{Named}
+use Rattle.htmd_encodings.specs.declared.encodings.Encoding.{Encoding}
 use Rattle.htmd_encodings.specs.declared.cuts.Class.{Class}
 use Rattle.htmd_encodings.specs.declared.cuts.Class.TheVariants as class
 use Rattle.htmd_encodings.specs.Attributes.{is_gap_byte, is_name_byte, is_unquoted_byte, after_name}
@@ -17,7 +17,7 @@ use Rattle.htmd_encodings.specs.Labels.{Label}
 
 -- a row of the source's table
 abbrev pub Row : Type 0
-Row = Bor (List ℕ) × Named
+Row = Bor (List ℕ) × Encoding
 
 abbrev pub label_of : Row → Label
 label_of row = (row.0.now, row.1)

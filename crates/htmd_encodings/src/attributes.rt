@@ -8,8 +8,8 @@ ghost use Rattle.htmd_encodings.specs.Views.{attribute_part, part_of, tag_of};
 
 use crate::content_labels::content_label;
 use crate::cuts::{Class, is_in_any_case, split_run, strip_byte};
-use crate::encodings::Named;
-use crate::labels::named;
+use crate::encodings::Encoding;
+use crate::labels::encoding_named;
 
 /// What comes next in a tag after its name.
 pub(crate) enum Part<'a> {
@@ -29,9 +29,9 @@ pub(crate) enum Part<'a> {
 #[derive(Clone, Copy)]
 pub(crate) struct Attributes {
     /// What `charset` names.
-    pub(crate) charset: Option<Option<Named>>,
+    pub(crate) charset: Option<Option<Encoding>>,
     /// What the label in `content` names.
-    pub(crate) content: Option<Option<Named>>,
+    pub(crate) content: Option<Option<Encoding>>,
     /// Whether `http-equiv` is `content-type`.
     pub(crate) http_equiv: Option<bool>,
 }
@@ -102,10 +102,10 @@ fn next_part(bytes: &[u8]) -> Part<'_>
 }
 
 /// What the label in a `content` names.
-fn named_in_content(content: &[u8]) -> Option<Named>
-    ensures { result ≡ option_and_then labels.named (contents.content_label content.now) }
+fn named_in_content(content: &[u8]) -> Option<Encoding>
+    ensures { result ≡ option_and_then labels.encoding_named (contents.content_label content.now) }
 {
-    named(content_label(content)?)
+    encoding_named(content_label(content)?)
 }
 
 impl Attributes {
@@ -125,7 +125,7 @@ impl Attributes {
         ensures { self.new ≡ spec.with_attribute self.old name.now value.now }
     {
         if is_in_any_case(name, b"charset") {
-            self.charset = Some(self.charset.unwrap_or(named(value)));
+            self.charset = Some(self.charset.unwrap_or(encoding_named(value)));
         } else if is_in_any_case(name, b"content") {
             self.content = Some(self.content.unwrap_or(named_in_content(value)));
         } else if is_in_any_case(name, b"http-equiv") {

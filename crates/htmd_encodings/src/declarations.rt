@@ -6,26 +6,25 @@ ghost use Rattle.htmd_encodings.specs.Views.{value_of};
 use crate::attributes::Attributes;
 use crate::content_labels::before_quote;
 use crate::cuts::{Class, after_first, split_run, strip_byte};
+use crate::encodings::Encoding;
 use crate::encodings::Encoding::{SingleByte, Utf8, Utf16};
-use crate::encodings::Named;
-use crate::encodings::Named::Supported;
 use crate::encodings::SingleByte::{Windows1252, XUserDefined};
-use crate::labels::named;
+use crate::labels::encoding_named;
 use htmd_scanning::begins_with;
 
 /// The encoding that a `meta` means by this one.
-fn in_meta(named: Named) -> Named
+fn in_meta(named: Encoding) -> Encoding
     ensures { result ≡ spec.in_meta named }
 {
     match named {
-        Supported(Utf16(_)) => Supported(Utf8),
-        Supported(SingleByte(XUserDefined)) => Supported(SingleByte(Windows1252)),
+        Utf16(_) => Utf8,
+        SingleByte(XUserDefined) => SingleByte(Windows1252),
         other => other,
     }
 }
 
 /// The encoding that the attributes of `meta` say.
-pub(crate) fn in_attributes(attributes: Attributes) -> Option<Named>
+pub(crate) fn in_attributes(attributes: Attributes) -> Option<Encoding>
     ensures { result ≡ spec.in_attributes attributes }
 {
     let said = match attributes.charset {
@@ -36,7 +35,7 @@ pub(crate) fn in_attributes(attributes: Attributes) -> Option<Named>
 }
 
 /// What `content` says, if `http-equiv` makes it count.
-fn in_pragma(http_equiv: Option<bool>, content: Option<Option<Named>>) -> Option<Named>
+fn in_pragma(http_equiv: Option<bool>, content: Option<Option<Encoding>>) -> Option<Encoding>
     ensures { result ≡ spec.in_pragma http_equiv content }
 {
     match http_equiv {
@@ -46,11 +45,11 @@ fn in_pragma(http_equiv: Option<bool>, content: Option<Option<Named>>) -> Option
 }
 
 /// The encoding that an XML declaration means by this one.
-fn in_xml(named: Named) -> Named
+fn in_xml(named: Encoding) -> Encoding
     ensures { result ≡ spec.in_xml named }
 {
     match named {
-        Supported(Utf16(_)) => Supported(Utf8),
+        Utf16(_) => Utf8,
         other => other,
     }
 }
@@ -66,18 +65,18 @@ fn xml_label(bytes: &[u8]) -> Option<&[u8]>
 }
 
 /// What a label names that has no control and no space.
-fn whole_label(label: &[u8]) -> Option<Named>
+fn whole_label(label: &[u8]) -> Option<Encoding>
     ensures { result ≡ spec.whole_label label.now }
 {
     let (_, after) = split_run(label, Class::Visible);
     if !after.is_empty() {
         return None;
     }
-    named(label)
+    encoding_named(label)
 }
 
 /// The value of `encoding` in an XML declaration.
-fn after_encoding(bytes: &[u8]) -> Option<Named>
+fn after_encoding(bytes: &[u8]) -> Option<Encoding>
     ensures { result ≡ spec.after_encoding bytes.now }
 {
     let (_, sign) = split_run(bytes, Class::Control);
@@ -94,7 +93,7 @@ fn is_declaration(bytes: &[u8]) -> bool
 }
 
 /// The encoding that an XML declaration says.
-pub(crate) fn in_declaration(bytes: &[u8]) -> Option<Named>
+pub(crate) fn in_declaration(bytes: &[u8]) -> Option<Encoding>
     ensures { result ≡ spec.in_declaration bytes.now }
 {
     if !is_declaration(bytes) {

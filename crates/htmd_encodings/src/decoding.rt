@@ -1,38 +1,20 @@
 //! The text of a page's bytes.
-ghost use Rattle.std.specs.Prelude.{◌≡◌, Err, IfOk, IsOkAnd, IsUtf8, MatchOption, Some, string_bytes};
+ghost use Rattle.std.specs.Prelude.{◌≡◌, IfOk, IsOkAnd, IsUtf8, MatchOption, string_bytes};
 ghost use Rattle.std.specs.Char.Utf16.{is_high_surrogate};
 ghost use Rattle.std.specs.Cow.{cow_str_bytes};
 ghost use Rattle.std.specs.Str.Lossy.{utf8_lossy};
 ghost use Rattle.htmd_encodings.specs.Decoding as spec;
 ghost use Rattle.htmd_encodings.specs.Utf16.{code_unit, code_units, utf16_text};
-ghost use Rattle.htmd_encodings.specs.declared.decoding.DecodeError.TheVariants.{Memory};
 ghost use Rattle.htmd_encodings.specs.declared.encodings.Encoding.TheVariants as held;
-ghost use Rattle.htmd_encodings.specs.declared.encodings.Named.TheVariants as held_named;
 
-use crate::encodings::Named::{Supported, Unsupported};
-use crate::encodings::{ByteOrder, Encoding, Named, SingleByte, UnsupportedEncoding};
+use crate::encodings::{ByteOrder, Encoding, SingleByte};
 use crate::indexes::index_of;
+use crate::iso_2022_jp::iso_2022_jp_text;
+use crate::multi_byte::multi_byte_text;
 use crate::prescan::{prescan, search};
 use htmd_scanning::begins_with;
 use std::alloc::{AllocError, Global};
 use std::borrow::CowStr;
-
-/// Why bytes have no text.
-#[derive(Debug, Clone, Copy, PartialEq, Eq, Drop)]
-pub enum DecodeError {
-    /// Their encoding isn't supported.
-    Unsupported(UnsupportedEncoding),
-    /// Out of memory.
-    Memory,
-}
-
-impl From<AllocError> for DecodeError {
-    ghost from_gives = { λ _ error. error ≡ Memory };
-
-    fn from(_error: AllocError) -> DecodeError {
-        DecodeError::Memory
-    }
-}
 
 /// The text of a page's bytes. A mark at their beginning says the encoding, and else the one that is given is taken. If
 /// none is given, bytes that are UTF-8 are the text itself, and others are searched for what the page says: the first
@@ -43,20 +25,18 @@ pub fn page_text(
     alloc: Global,
     given: Option<Encoding>,
     bytes: &[u8],
-) -> Result<CowStr<'_>, DecodeError>
-    ensures ok { IfOk result (λ text. spec.page_text given bytes.now ≡ Some (cow_str_bytes text)) }
-    ensures unsupported { (encoding : UnsupportedEncoding) → result ≡ Err (DecodeError.Unsupported encoding)
-        → spec.encoding_of given bytes.now ≡ held_named.Unsupported encoding }
+) -> Result<CowStr<'_>, AllocError>
+    ensures ok { IfOk result (λ text. cow_str_bytes text ≡ spec.page_text given bytes.now) }
 
     // Bytes that are UTF-8 are the text itself, and need no memory, unless they are in another encoding.
-    ensures utf8 { IsUtf8 bytes.now → spec.encoding_of given bytes.now ≡ held_named.Supported held.Utf8
+    ensures utf8 { IsUtf8 bytes.now → spec.encoding_of given bytes.now ≡ held.Utf8
         → IsOkAnd result (λ text. cow_str_bytes text ≡ bytes.now) }
 {
     if let Some(encoding) = marked(bytes) {
-        return text_in(alloc, Supported(encoding), bytes);
+        return decoded(alloc, encoding, bytes);
     }
     if let Some(encoding) = given {
-        return text_in(alloc, Supported(encoding), bytes);
+        return decoded(alloc, encoding, bytes);
     }
     guessed(alloc, bytes)
 }
@@ -77,7 +57,7 @@ fn marked(bytes: &[u8]) -> Option<Encoding>
 const SEARCHED: usize = 1024;
 
 // What the page says of its encoding in its first bytes.
-fn said(bytes: &[u8]) -> Option<Named>
+fn said(bytes: &[u8]) -> Option<Encoding>
     ensures { result ≡ spec.said bytes.now }
 {
     match bytes.split_at_checked(SEARCHED) {
@@ -87,7 +67,7 @@ fn said(bytes: &[u8]) -> Option<Named>
 }
 
 // What the page says anywhere, if its first bytes say this.
-fn said_anywhere(said: Option<Named>, bytes: &[u8]) -> Option<Named>
+fn said_anywhere(said: Option<Encoding>, bytes: &[u8]) -> Option<Encoding>
     ensures { result ≡ spec.said_anywhere said bytes.now }
 {
     match said {
@@ -97,30 +77,27 @@ fn said_anywhere(said: Option<Named>, bytes: &[u8]) -> Option<Named>
 }
 
 // Whether what a page says is believed even if its bytes are UTF-8.
-fn outweighs_utf8(said: Option<Named>) -> bool
+fn outweighs_utf8(said: Option<Encoding>) -> bool
     ensures { result ≡ spec.outweighs_utf8 said }
 {
-    matches!(
-        said,
-        Some(Supported(Encoding::Utf16(_)) | Unsupported(UnsupportedEncoding::Iso2022Jp))
-    )
+    matches!(said, Some(Encoding::Utf16(_) | Encoding::Iso2022Jp))
 }
 
 // What the page says, or windows-1252.
-fn said_or_default(said: Option<Named>) -> Named
+fn said_or_default(said: Option<Encoding>) -> Encoding
     ensures { result ≡ spec.said_or_default said }
 {
     match said {
         Some(named) => named,
-        None => Supported(Encoding::SingleByte(SingleByte::Windows1252)),
+        None => Encoding::SingleByte(SingleByte::Windows1252),
     }
 }
 
 // The text of bytes that are UTF-8, unless what the page says in its first bytes outweighs that.
 #[tactic(auto, using(crate::proofs::DecodingLemmas::believed_other, crate::proofs::DecodingLemmas::believed_said))]
-fn as_utf8(bytes: &[u8], said: Option<Named>) -> Option<&str>
+fn as_utf8(bytes: &[u8], said: Option<Encoding>) -> Option<&str>
     ensures { MatchOption result (spec.believed said bytes.now ≡ spec.said_or_default (spec.said_anywhere said bytes.now))
-        (λ text. (spec.believed said bytes.now ≡ held_named.Supported held.Utf8) × (text.now ≡ bytes.now)
+        (λ text. (spec.believed said bytes.now ≡ held.Utf8) × (text.now ≡ bytes.now)
         × (utf8_lossy bytes.now ≡ bytes.now)) }
 {
     if outweighs_utf8(said) {
@@ -133,32 +110,16 @@ fn as_utf8(bytes: &[u8], said: Option<Named>) -> Option<&str>
 }
 
 // The text when nothing is given and no mark is there.
-fn guessed(alloc: Global, bytes: &[u8]) -> Result<CowStr<'_>, DecodeError>
-    ensures ok { IfOk result (λ text. spec.text_in (spec.guessed bytes.now) bytes.now ≡ Some (cow_str_bytes text)) }
-    ensures unsupported { (encoding : UnsupportedEncoding) → result ≡ Err (DecodeError.Unsupported encoding)
-        → spec.guessed bytes.now ≡ held_named.Unsupported encoding }
-    ensures utf8 { IsUtf8 bytes.now → spec.guessed bytes.now ≡ held_named.Supported held.Utf8
+fn guessed(alloc: Global, bytes: &[u8]) -> Result<CowStr<'_>, AllocError>
+    ensures ok { IfOk result (λ text. cow_str_bytes text ≡ spec.decoded (spec.guessed bytes.now) bytes.now) }
+    ensures utf8 { IsUtf8 bytes.now → spec.guessed bytes.now ≡ held.Utf8
         → IsOkAnd result (λ text. cow_str_bytes text ≡ bytes.now) }
 {
     let said = said(bytes);
     if let Some(text) = as_utf8(bytes, said) {
         return Ok(CowStr::Borrowed(text));
     }
-    text_in(alloc, said_or_default(said_anywhere(said, bytes)), bytes)
-}
-
-// The text in what a label names.
-fn text_in(alloc: Global, named: Named, bytes: &[u8]) -> Result<CowStr<'_>, DecodeError>
-    ensures ok { IfOk result (λ text. spec.text_in named bytes.now ≡ Some (cow_str_bytes text)) }
-    ensures unsupported { (encoding : UnsupportedEncoding) → result ≡ Err (DecodeError.Unsupported encoding)
-        → named ≡ held_named.Unsupported encoding }
-    ensures utf8 { IsUtf8 bytes.now → named ≡ held_named.Supported held.Utf8
-        → IsOkAnd result (λ text. cow_str_bytes text ≡ bytes.now) }
-{
-    match named {
-        Supported(encoding) => Ok(decoded(alloc, encoding, bytes)?),
-        Unsupported(encoding) => Err(DecodeError::Unsupported(encoding)),
-    }
+    decoded(alloc, said_or_default(said_anywhere(said, bytes)), bytes)
 }
 
 /// The text in an encoding.
@@ -173,6 +134,11 @@ fn decoded(alloc: Global, encoding: Encoding, bytes: &[u8]) -> Result<CowStr<'_>
         Encoding::SingleByte(encoding) => {
             Ok(CowStr::Owned(text_by(alloc, index_of(encoding), bytes)?))
         }
+        Encoding::MultiByte(encoding) => Ok(CowStr::Owned(multi_byte_text(
+            alloc, encoding, bytes,
+        )?)),
+        Encoding::Iso2022Jp => Ok(CowStr::Owned(iso_2022_jp_text(alloc, bytes)?)),
+        Encoding::Replacement => Ok(CowStr::Borrowed(replacement_text(bytes))),
     }
 }
 
@@ -242,6 +208,17 @@ fn unit_of(first: u8, second: u8, order: ByteOrder) -> u16
     match order {
         ByteOrder::BigEndian => u16::from_be_bytes([first, second]),
         ByteOrder::LittleEndian => u16::from_le_bytes([first, second]),
+    }
+}
+
+// One error for any bytes.
+#[tactic(auto, using(crate::proofs::DecodingLemmas::replaced))]
+fn replacement_text(bytes: &[u8]) -> &'static str
+    ensures { result.now ≡ spec.replacement_text bytes.now }
+{
+    match bytes {
+        [] => "",
+        [_, ..] => "\u{fffd}",
     }
 }
 

@@ -1,9 +1,4 @@
 //! The encodings of the Encoding Standard.
-ghost use Rattle.std.specs.Prelude.{◌≡◌};
-ghost use Rattle.htmd_encodings.specs.Labels.{name_of};
-
-use std::fmt;
-
 /// Which byte of a code unit comes first.
 #[derive(Debug, Clone, Copy, PartialEq, Eq, Drop)]
 pub enum ByteOrder {
@@ -45,54 +40,25 @@ pub enum SingleByte {
     XUserDefined,
 }
 
-/// An encoding that is known by name, and from which nothing is decoded.
+/// An encoding with characters of one byte and of several, each of which is read by itself.
 #[derive(Debug, Clone, Copy, PartialEq, Eq, Drop)]
-pub enum UnsupportedEncoding {
+pub enum MultiByte {
     Gbk,
     Gb18030,
     Big5,
     EucJp,
-    Iso2022Jp,
     ShiftJis,
     EucKr,
-    Replacement,
 }
 
-/// An encoding that a page is decoded from.
+/// An encoding of the Encoding Standard.
 #[derive(Debug, Clone, Copy, PartialEq, Eq, Drop)]
 pub enum Encoding {
     Utf8,
     Utf16(ByteOrder),
     SingleByte(SingleByte),
-}
-
-/// What a label names.
-#[derive(Debug, Clone, Copy, PartialEq, Eq, Drop)]
-pub enum Named {
-    Supported(Encoding),
-    Unsupported(UnsupportedEncoding),
-}
-
-impl UnsupportedEncoding {
-    /// The name of the encoding in lower case.
-    pub fn name(self) -> &'static str
-        ensures { result.now ≡ name_of self }
-    {
-        match self {
-            UnsupportedEncoding::Gbk => "gbk",
-            UnsupportedEncoding::Gb18030 => "gb18030",
-            UnsupportedEncoding::Big5 => "big5",
-            UnsupportedEncoding::EucJp => "euc-jp",
-            UnsupportedEncoding::Iso2022Jp => "iso-2022-jp",
-            UnsupportedEncoding::ShiftJis => "shift_jis",
-            UnsupportedEncoding::EucKr => "euc-kr",
-            UnsupportedEncoding::Replacement => "replacement",
-        }
-    }
-}
-
-impl fmt::Display for UnsupportedEncoding {
-    fn fmt<W: fmt::Write>(&self, f: &mut fmt::Formatter<W>) -> fmt::Result {
-        f.write_str(self.name())
-    }
+    MultiByte(MultiByte),
+    Iso2022Jp,
+    /// What stands for encodings that aren't safe to read, as HZ: bytes in it are one U+FFFD.
+    Replacement,
 }

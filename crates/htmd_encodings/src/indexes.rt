@@ -1,7 +1,14 @@
-//! The indexes of the single-byte encodings, made from the Encoding Standard's. Each has the characters of the bytes 80
-//! to FF; a byte without a character is U+FFFD.
+//! The indexes of the encodings, made from the Encoding Standard's. Those of the single-byte encodings have the characters
+//! of the bytes 80 to FF; a byte without a character is U+FFFD. Those of the encodings with characters of several bytes
+//! are in modules of their own.
 ghost use Rattle.std.specs.Prelude.{◌≡◌};
 ghost use Rattle.htmd_encodings.specs.Indexes as spec;
+
+pub(crate) mod big5;
+pub(crate) mod euc_kr;
+pub(crate) mod gb18030;
+pub(crate) mod jis0208;
+pub(crate) mod jis0212;
 
 use crate::encodings::SingleByte;
 

@@ -9,14 +9,13 @@ use crate::attributes::tag;
 use crate::cuts::{Class, after_first, split_run, strip_byte};
 use crate::declarations::{in_attributes, in_declaration};
 use crate::encodings::Encoding::Utf16;
-use crate::encodings::Named::Supported;
-use crate::encodings::{ByteOrder, Named};
+use crate::encodings::{ByteOrder, Encoding};
 use htmd_scanning::{begins_in_any_case, begins_with};
 
 /// What is at a `<`.
 enum Found<'a> {
     /// The page says its encoding there.
-    Said(Named),
+    Said(Encoding),
     /// It doesn't, and the search goes on here.
     Onward(&'a [u8]),
 }
@@ -98,7 +97,7 @@ fn found_after(bytes: &[u8]) -> Found<'_>
 }
 
 /// The first encoding that is said in tags.
-pub(crate) fn search(bytes: &[u8]) -> Option<Named>
+pub(crate) fn search(bytes: &[u8]) -> Option<Encoding>
     ensures { result ≡ spec.search bytes.now }
 {
     let mut rest = bytes;
@@ -115,20 +114,20 @@ pub(crate) fn search(bytes: &[u8]) -> Option<Named>
 }
 
 /// The encoding of bytes that begin with `<?x` in UTF-16.
-fn utf16_declaration(bytes: &[u8]) -> Option<Named>
+fn utf16_declaration(bytes: &[u8]) -> Option<Encoding>
     ensures { result ≡ spec.utf16_declaration bytes.now }
 {
     if begins_with(bytes, b"<\0?\0x\0") {
-        return Some(Supported(Utf16(ByteOrder::LittleEndian)));
+        return Some(Utf16(ByteOrder::LittleEndian));
     }
     if begins_with(bytes, b"\0<\0?\0x") {
-        return Some(Supported(Utf16(ByteOrder::BigEndian)));
+        return Some(Utf16(ByteOrder::BigEndian));
     }
     None
 }
 
 /// The encoding that a page says in these bytes.
-pub(crate) fn prescan(bytes: &[u8]) -> Option<Named>
+pub(crate) fn prescan(bytes: &[u8]) -> Option<Encoding>
     ensures { result ≡ spec.prescan bytes.now }
 {
     if let Some(named) = utf16_declaration(bytes) {

@@ -2,7 +2,7 @@
 //! of the gate, lets each allocation of the first two tests fail in turn, which then end out of memory, and all
 //! allocations of the third, which passes.
 use crate::indexes::INDEXES;
-use htmd_encodings::{DecodeError, encoding_named, page_text};
+use htmd_encodings::{encoding_named, page_text};
 use htmd_test_expected::{expect_text, expect_that};
 use std::alloc::AllocError;
 use std::borrow::CowStr;
@@ -200,44 +200,53 @@ fn searches_the_rest(rt: HostRuntime) -> Result<(), Fail> {
     Ok(())
 }
 
-// So does one of an encoding that isn't supported, but bytes that are UTF-8 are so whatever is said there.
+// So does one of an encoding with characters of several bytes, but bytes that are UTF-8 are so whatever is said there.
 #[test]
-fn refuses_late_encodings(rt: HostRuntime) -> Result<(), Fail> {
+fn reads_late_encodings(rt: HostRuntime) -> Result<(), Fail> {
     const ROWS: &[(&[u8], &str)] = &[
-        (b"<meta charset=x-sjis>\xC1", "shift_jis"),
-        (b"<meta charset=replacement>\xC1", "replacement"),
-        (b"<meta charset=iso-2022-jp>\xC1", "iso-2022-jp"),
-        (b"<meta charset=iso-2022-jp>", ""),
+        (b"<meta charset=x-sjis>\xB1", "\u{ff71}"),
+        (b"<meta charset=gb2312>\xB0\xA1", "\u{554a}"),
+        (
+            b"<meta charset=iso-2022-jp>\xC1\x1B$B0!",
+            "\u{fffd}\u{4e9c}",
+        ),
+        (b"<meta charset=iso-2022-jp>\x1B$B0!", "\x1B$B0!"),
     ];
-    for &(rest, name) in ROWS {
+    for &(rest, end) in ROWS {
         let page = page_of(rt, b"", 1024, rest)?;
-        expect_text(name, unsupported_name(rt, page.as_slice()), name)?;
+        let text = page_text(rt.alloc(), None, page.as_slice())?;
+        expect_that(end, text.as_str().ends_with(end))?;
     }
     Ok(())
 }
 
-// The name of an encoding that isn't supported, or nothing if the page has a text.
-fn unsupported_name(rt: HostRuntime, page: &[u8]) -> &'static str {
-    match page_text(rt.alloc(), None, page) {
-        Ok(_) => "",
-        Err(DecodeError::Unsupported(encoding)) => encoding.name(),
-        Err(DecodeError::Memory) => "memory",
-    }
-}
-
-// An encoding that isn't supported, unless the bytes are UTF-8; ISO-2022-JP even then.
+// What a page says of its encoding counts unless the bytes are UTF-8; ISO-2022-JP even then. A page that says
+// `replacement`, or the label of an encoding for which that stands, is one error.
 #[test]
-fn names_unsupported_encodings(rt: HostRuntime) -> Result<(), Fail> {
+fn believes_pages(rt: HostRuntime) -> Result<(), Fail> {
     const ROWS: &[(&[u8], &str)] = &[
-        (b"<meta charset=x-sjis>\xC1", "shift_jis"),
-        (b"<meta charset=gb2312>\xC1", "gbk"),
-        (b"<meta charset=hz-gb-2312>\xC1", "replacement"),
-        (b"<meta charset=replacement>\xC1", "replacement"),
-        (b"<meta charset=iso-2022-jp>", "iso-2022-jp"),
-        (b"<meta charset=x-sjis>", ""),
+        (
+            b"<meta charset=x-sjis>\x88\x9F",
+            "<meta charset=x-sjis>\u{4e9c}",
+        ),
+        (
+            b"<meta charset=gb2312>\xB0\xA1",
+            "<meta charset=gb2312>\u{554a}",
+        ),
+        (b"<meta charset=hz-gb-2312>\xC1", "\u{fffd}"),
+        (b"<meta charset=replacement>\xC1", "\u{fffd}"),
+        (
+            b"<meta charset=iso-2022-jp>\x1B$B0!",
+            "<meta charset=iso-2022-jp>\u{4e9c}",
+        ),
+        (b"<meta charset=x-sjis>", "<meta charset=x-sjis>"),
     ];
-    for &(page, name) in ROWS {
-        expect_text(name, unsupported_name(rt, page), name)?;
+    for &(page, expected) in ROWS {
+        expect_text(
+            expected,
+            page_text(rt.alloc(), None, page)?.as_str(),
+            expected,
+        )?;
     }
     Ok(())
 }

@@ -5,3 +5,5 @@
 mod decoding;
 #[cfg(test)]
 mod indexes;
+#[cfg(test)]
+mod multi_byte;

@@ -1,6 +1,6 @@
 //! The texts of errors of runs and pages, as they are displayed and for debugging.
 use htmd::{ConvertError, FaultKind};
-use htmd_cli::{DecodeError, Failed, Mode, PageError, RunError, StreamError, UnsupportedEncoding};
+use htmd_cli::{Failed, Mode, PageError, RunError, StreamError};
 use htmd_test_expected::expect_text;
 use std::test::Fail;
 
@@ -39,12 +39,6 @@ fn tells_errors_of_pages(rt: HostRuntime) -> Result<(), Fail> {
             PageError::from(ConvertError::Memory),
             "out of memory Memory",
         ),
-        (
-            PageError::from(DecodeError::Unsupported(UnsupportedEncoding::EucKr)),
-            "the page says euc-kr, which is not supported: convert it to UTF-8 first, or give --encoding Unsupported { \
-             encoding: EucKr }",
-        ),
-        (PageError::from(DecodeError::Memory), "out of memory Memory"),
         (
             PageError::NothingSelected,
             "no element of the page is selected by --select NothingSelected",

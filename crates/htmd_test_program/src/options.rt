@@ -31,8 +31,6 @@ fn refuses_options(rt: HostRuntime) -> Result<(), Fail> {
         "--encoding",
         "--encoding=",
         "--encoding=utf-7",
-        "--encoding=gbk",
-        "--encoding=replacement",
         "page.html",
         "-h",
         "--skip",

@@ -1,9 +1,6 @@
 //! Pages by settings, in one call.
 use htmd::page_values::{are_names, parse_url, push_names, push_selectors};
-use htmd::{
-    HtmlToMarkdown, PageConverter, PageError, PageInRun, PageSettings, UnsupportedEncoding,
-    convert_page,
-};
+use htmd::{HtmlToMarkdown, PageConverter, PageError, PageInRun, PageSettings, convert_page};
 use htmd_test_expected::{expect_text, expect_that};
 use std::alloc::Global;
 use std::test::Fail;
@@ -24,14 +21,11 @@ fn decodes_pages(rt: HostRuntime) -> Result<(), Fail> {
 }
 
 #[test]
-fn refuses_encodings(rt: HostRuntime) -> Result<(), Fail> {
+fn decodes_pairs_of_bytes(rt: HostRuntime) -> Result<(), Fail> {
     let settings = any_page(rt.alloc());
     let page = b"<meta charset=big5><p>\xa7A\xa6n";
-    let encoding = UnsupportedEncoding::Big5;
-    expect_that(
-        "big5 is refused",
-        convert_page(rt.alloc(), page, &settings) == Err(PageError::Unsupported { encoding }),
-    )
+    let markdown = convert_page(rt.alloc(), page, &settings)?;
+    expect_text("big5", markdown.as_str(), "你好")
 }
 
 const PAGE: &[u8] = b"<title>T</title><nav>n</nav><main><p>a <a href=b>b</a><p class=note>c</main>";

@@ -41,13 +41,6 @@ returns-in-Err-clause-not_utf8 c q =
     let n : IsUtf8 c.args.page.now → ⊥ = by.2.1 in
     (n, c.report.ensures.place n q)
 
-pub returns-in-Err-clause-unsupported : goal.returns-in-Err-clause-unsupported
-returns-in-Err-clause-unsupported c q =
-    let P : Failure → Type 0 = λ f. IsPageFailureOf c.args.options.now c.args.page.now f in
-    let told = c.report.ensures.unsupported q in
-    let by = subst P told.1 c.in-Err.ensures.fault in
-    (by.0, by.1, (told.0, by.2))
-
 pub returns-in-Err-clause-nothing_selected : goal.returns-in-Err-clause-nothing_selected
 returns-in-Err-clause-nothing_selected c q =
     let P : Failure → Type 0 = λ f. IsPageFailureOf c.args.options.now c.args.page.now f in
