@@ -34,10 +34,12 @@ pub use converter::{
 pub use documents::document_options;
 pub use htmd_addresses::{Page, Pages, RunPage};
 pub use htmd_commonmark::{DocumentOptions, to_markdown};
-pub use htmd_document::{Alignment, Block, Document, Format, Inline};
+pub use htmd_document::{
+    Alignment, Block, CellContent, Document, Format, Inline, ItemContent, RowContent,
+};
 pub use htmd_document_of_tree::OfTree;
 pub use htmd_encodings::{Encoding, encoding_named};
-pub use htmd_nodes::{Attribute, Name, NodeData, NodeId, Tree, TreeError};
+pub use htmd_nodes::{Attribute, Name, NodeData, NodeId, Tag, Tree, TreeError};
 pub use htmd_selectors::{SelectorError, Selectors, parse_selectors};
 pub use htmd_tree::{FaultKind, ReadError, body_of, line_and_column};
 pub use htmd_walk::element_handler::Element;

@@ -1,22 +1,19 @@
 -- The base of a page: what its first `base` with an address says (HTML, 2.4.3).
-use Rattle.std.specs.Prelude.{ℕ, Bool, not, ◌||◌, if◌then◌else◌, List, [], ◌∷◌, Option, Some, None, Ok, Err, codes}
+use Rattle.std.specs.Prelude.{ℕ, Bool, not, ◌||◌, if◌then◌else◌, List, Option, Some, None, Ok, Err, codes}
 use Rattle.std.specs.Option.{option_or, unwrap_or}
 use Rattle.std.specs.Str.{bytes_eq}
 use Rattle.htmd_lexical.specs.AttributePairs.{AttributePair}
 use Rattle.htmd_values.specs.ValueTrees.{ValueTree, document, doctype, text, comment, element}
 use Rattle.htmd_values.specs.ValueTrees.{ValueForest, none, more}
+use Rattle.htmd_nodes.specs.AttributeValues.{value_of}
 use Rattle.htmd_nodes.specs.Items.{Item}
 use Rattle.htmd_nodes.specs.NumberedTrees.{value_at}
 use Rattle.url.specs.Parts.{Parts}
 use Rattle.url.specs.Parser.{Parsed, parse_url}
 
--- the value of the first `href`
-abbrev pub href_of : List AttributePair → Option (List ℕ)
-href_of [] = None
-href_of (a ∷ attributes) = if bytes_eq a.name (codes "href") then Some a.value else href_of attributes
-
+-- the value of the first `href` of a `base`
 abbrev pub own_base : List ℕ → List AttributePair → Option (List ℕ)
-own_base name attributes = if bytes_eq name (codes "base") then href_of attributes else None
+own_base name attributes = if bytes_eq name (codes "base") then value_of (codes "href") attributes else None
 
 abbrev mutual
   -- the address of the first `base` that has one, in document order

@@ -7,26 +7,19 @@ ghost use Rattle.htmd_nodes.specs.NumberedTrees.{value_at};
 ghost use Rattle.htmd_addresses.specs.Bases as bases;
 
 use crate::resolving::url_of;
-use htmd_nodes::{Attribute, NodeData, NodeId, Tree};
+use htmd_nodes::{Attribute, NodeData, NodeId, Tree, value_of};
 use std::alloc::AllocError;
 use url::Url;
-
-fn href_of(attrs: &[Attribute]) -> Option<&str>
-    ensures { option_copied result ≡ bases.href_of (pairs_of attrs.now) }
-{
-    for attribute in attrs {
-        if attribute.name.as_str() == "href" {
-            return Some(attribute.value.as_str());
-        }
-    }
-    None
-}
 
 /// The address of the element, if it is `base`.
 fn own_base<'a>(name: &str, attrs: &'a [Attribute]) -> Option<&'a str>
     ensures { option_copied result ≡ bases.own_base name.now (pairs_of attrs.now) }
 {
-    if name == "base" { href_of(attrs) } else { None }
+    if name == "base" {
+        value_of(attrs, "href")
+    } else {
+        None
+    }
 }
 
 /// The address of the first `base` among a node and what is below it.

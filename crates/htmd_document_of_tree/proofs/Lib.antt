@@ -1,7 +1,5 @@
 -- Lemmas on the document of a tree.
 pub mod RolesLemmas
-pub mod RoleLengthsLemmas
-pub mod AttributesLemmas
 pub mod WordsLemmas
 pub mod ShownLemmas
 pub mod NestingLemmas

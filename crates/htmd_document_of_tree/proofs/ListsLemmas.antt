@@ -63,8 +63,3 @@ close_at items i x l e = ap (list_all is_close) (map_at item_of items i x l e)
 pub start_past : (z : ℤ) (count : ℕ) → 1000000000 < count → start_of z count ≡ None
 start_past (pos n) count l = grind (arith, nat_tests)
 start_past (negsuc n) count l = grind (arith, nat_tests)
-
-pub map_twice : {A B C : Type 0} (f : B → C) (g : A → B) (xs : List A)
-    → map f (map g xs) ≡ map (λ x. f (g x)) xs
-map_twice f g [] = refl
-map_twice f g (x ∷ xs) = ap (λ ys. f (g x) ∷ ys) (map_twice f g xs)

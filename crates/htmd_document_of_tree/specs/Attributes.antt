@@ -10,6 +10,7 @@ use Rattle.htmd_lexical.specs.Characters.{null, tab, line_feed, carriage_return,
 use Rattle.htmd_lexical.specs.Characters.{plus_sign, hyphen, digit_zero, semicolon, colon}
 use Rattle.htmd_lexical.specs.AttributePairs.{AttributePair}
 use Rattle.htmd_lexical.specs.WhiteSpace.{is_ascii_white_space}
+pub use Rattle.htmd_nodes.specs.AttributeValues.{value_of}
 use Rattle.htmd_text.specs.Joins.{joined_texts}
 use Rattle.htmd_text.specs.Trims.{trimmed_start, trimmed_text}
 use Rattle.htmd_document_of_tree.specs.ShownTexts.{shown_text}
@@ -17,11 +18,7 @@ use Rattle.htmd_document.specs.declared.document.Alignment.{Alignment}
 use Rattle.htmd_document.specs.declared.document.Alignment.TheVariants as align
 use Rattle.htmd_document.specs.LanguageNames.{is_mark}
 
--- the value of the first attribute with this name
-abbrev pub value_of : List ℕ → List AttributePair → Option (List ℕ)
-value_of name [] = None
-value_of name (a ∷ attributes) = if bytes_eq a.name name then Some a.value else value_of name attributes
-
+-- there is an attribute with this name
 abbrev pub has_attribute : List ℕ → List AttributePair → Bool
 has_attribute name attributes = is_some (value_of name attributes)
 

@@ -9,7 +9,6 @@ pub mod Nesting
 pub mod NestViews
 pub mod Paragraphs
 pub mod Roles
-pub mod RoleViews
 pub mod Shown
 pub mod SightFacts
 pub mod SightViews

@@ -100,7 +100,7 @@ fn push_text_of(
     match sight.tree.data(node) {
         NodeData::Text(text) => push_shown(alloc, out, text.as_str()),
         NodeData::Element { name, attrs } => {
-            let role = role_of(name.as_str());
+            let role = role_of(name);
             if is_line_break(role) {
                 out.push('\n')
             } else if is_image(role) {

@@ -16,20 +16,8 @@ ghost use Rattle.htmd_document.specs.DocumentViews.{bytes_of_title};
 
 use crate::shown_text::{is_all_shown, shown_text};
 use htmd_document::Alignment;
-use htmd_nodes::Attribute;
+use htmd_nodes::{Attribute, value_of};
 use std::alloc::{AllocError, Global};
-
-/// The value of the first attribute with this name.
-pub(crate) fn value_of<'a>(attrs: &'a [Attribute], name: &str) -> Option<&'a str>
-    ensures { option_copied result ≡ spec.value_of name.now (pairs_of attrs.now) }
-{
-    for attribute in attrs {
-        if attribute.name.as_str() == name {
-            return Some(attribute.value.as_str());
-        }
-    }
-    None
-}
 
 /// The value of the first attribute with this name, or nothing.
 pub(crate) fn text_of<'a>(attrs: &'a [Attribute], name: &str) -> &'a str

@@ -17,12 +17,12 @@ ghost use Rattle.htmd_document_of_tree.specs.SightViews as sights;
 
 use crate::all_text::{all_text, is_blank_text, language_of_block, without_last_line_feed};
 use crate::around::Around;
-use crate::attributes::{address, description_of, text_of, title_of, value_of};
+use crate::attributes::{address, description_of, text_of, title_of};
 use crate::flow::Flow;
 use crate::paragraphs::Paragraphs;
 use crate::place::{Place, holds_link};
 use htmd_document::Block;
-use htmd_nodes::{Attribute, NodeId};
+use htmd_nodes::{Attribute, NodeId, value_of};
 use htmd_text::repeats::{leading_len, trailing_len};
 use std::alloc::AllocError;
 

@@ -1,9 +1,10 @@
 //! What an element is to the document.
 ghost use Rattle.std.specs.Prelude.{◌≡◌, map};
-ghost use Rattle.htmd_document_of_tree.specs.RoleViews as views;
 ghost use Rattle.htmd_document_of_tree.specs.Roles as spec;
+ghost use Rattle.htmd_nodes.specs.Tags.{tag_text};
 
 use htmd_document::Format;
+use htmd_nodes::{Name, Tag};
 
 /// What an element is to the document.
 #[derive(Clone, Copy, PartialEq, Eq)]
@@ -41,140 +42,151 @@ pub enum Role {
 }
 
 /// What an element with this name is.
-pub(crate) fn role_of(name: &str) -> Role
+#[tactic(auto, using(crate::proofs::RolesLemmas::plain_name))]
+pub(crate) fn role_of(name: &Name) -> Role
     ensures { result ≡ spec.role_of name.now }
 {
-    match name.len() {
-        1 => role_of_one(name),
-        2 => role_of_two(name),
-        3 => role_of_three(name),
-        4 => role_of_four(name),
-        5 => role_of_five(name),
-        _ => role_of_more(name),
+    match name.tag() {
+        Some(tag) => role_of_tag(tag),
+        None => Role::Plain,
     }
 }
 
-/// What an element is whose name has one byte.
-#[tactic(auto, unfolding(crate::specs::RoleViews::one_role))]
-fn role_of_one(name: &str) -> Role
-    ensures { result ≡ views.one_role name.now }
+/// What an element with this tag is.
+#[tactic(auto, unfolding(crate::specs::Roles::role_of))]
+fn role_of_tag(tag: Tag) -> Role
+    ensures { result ≡ spec.role_of (tag_text tag) }
 {
-    match name {
-        "p" => Role::Paragraph,
-        "i" => Role::Format(Format::Emphasis),
-        "b" => Role::Format(Format::Strong),
-        "s" => Role::Format(Format::Deleted),
-        "a" => Role::Anchor,
-        "q" => Role::Quotation,
+    match tag {
+        Tag::P => Role::Paragraph,
+        Tag::Li => Role::Item,
+        Tag::Ul | Tag::Menu | Tag::Dir => Role::BulletList,
+        Tag::Ol => Role::NumberedList,
+        Tag::Pre | Tag::Listing | Tag::Xmp | Tag::Plaintext => Role::Verbatim,
+        Tag::Blockquote => Role::BlockQuote,
+        Tag::Hr => Role::ThematicBreak,
+        _ => table_role(tag),
+    }
+}
+
+/// The same of a tag that is none of those above.
+#[tactic(auto, unfolding(crate::specs::Roles::table_role))]
+fn table_role(tag: Tag) -> Role
+    ensures { result ≡ spec.table_role (tag_text tag) }
+{
+    match tag {
+        Tag::Table => Role::Table,
+        Tag::Caption => Role::Caption,
+        Tag::Thead => Role::TableHead,
+        Tag::Tbody | Tag::Tfoot => Role::TableBody,
+        Tag::Tr => Role::Row,
+        Tag::Td => Role::Cell,
+        Tag::Th => Role::HeaderCell,
+        _ => heading_or_block(tag),
+    }
+}
+
+/// The same of a tag that is none of those above.
+#[tactic(auto, unfolding(crate::specs::Roles::heading_or_block))]
+fn heading_or_block(tag: Tag) -> Role
+    ensures { result ≡ spec.heading_or_block (tag_text tag) }
+{
+    match tag {
+        Tag::H1 => Role::Heading(1),
+        Tag::H2 => Role::Heading(2),
+        Tag::H3 => Role::Heading(3),
+        Tag::H4 => Role::Heading(4),
+        Tag::H5 => Role::Heading(5),
+        Tag::H6 => Role::Heading(6),
+        _ if is_block(tag) => Role::Block,
+        _ => inline_role(tag),
+    }
+}
+
+/// Whether it is the tag of a block that is nothing else.
+fn is_block(tag: Tag) -> bool
+    ensures { result ≡ spec.is_among spec.block_names (tag_text tag) }
+{
+    matches!(
+        tag,
+        Tag::Address
+            | Tag::Article
+            | Tag::Aside
+            | Tag::Body
+            | Tag::Center
+            | Tag::Dd
+            | Tag::Details
+            | Tag::Dialog
+            | Tag::Div
+            | Tag::Dl
+            | Tag::Dt
+            | Tag::Fieldset
+            | Tag::Figcaption
+            | Tag::Figure
+            | Tag::Footer
+            | Tag::Form
+            | Tag::Frameset
+            | Tag::Header
+            | Tag::Hgroup
+            | Tag::Html
+            | Tag::Legend
+            | Tag::Main
+            | Tag::Nav
+            | Tag::Search
+            | Tag::Section
+            | Tag::Summary
+    )
+}
+
+/// What an element with this tag is, if it stands in lines.
+#[tactic(auto, unfolding(crate::specs::Roles::inline_role))]
+fn inline_role(tag: Tag) -> Role
+    ensures { result ≡ spec.inline_role (tag_text tag) }
+{
+    match tag {
+        Tag::Em | Tag::I | Tag::Cite | Tag::Dfn | Tag::Var => Role::Format(Format::Emphasis),
+        Tag::Strong | Tag::B => Role::Format(Format::Strong),
+        Tag::Del | Tag::S | Tag::Strike => Role::Format(Format::Deleted),
+        Tag::Sup => Role::Format(Format::Superscript),
+        Tag::Sub => Role::Format(Format::Subscript),
+        Tag::Code | Tag::Tt | Tag::Kbd | Tag::Samp => Role::Code,
+        Tag::A => Role::Anchor,
+        Tag::Q => Role::Quotation,
+        Tag::Button | Tag::Select | Tag::Option | Tag::Optgroup | Tag::Textarea => Role::Apart,
+        Tag::Br => Role::LineBreak,
+        Tag::Img => Role::Image,
+        Tag::Input => Role::Input,
         _ => Role::Plain,
     }
 }
 
-/// What an element is whose name has two bytes.
-#[tactic(auto, unfolding(crate::specs::RoleViews::two_role))]
-fn role_of_two(name: &str) -> Role
-    ensures { result ≡ views.two_role name.now }
+/// Whether a browser never shows elements with this name.
+pub(crate) fn is_never_shown(name: &Name) -> bool
+    ensures { result ≡ spec.is_among spec.hidden_names name.now }
 {
-    match name {
-        "li" => Role::Item,
-        "ul" => Role::BulletList,
-        "ol" => Role::NumberedList,
-        "hr" => Role::ThematicBreak,
-        "tr" => Role::Row,
-        "td" => Role::Cell,
-        "th" => Role::HeaderCell,
-        "h1" => Role::Heading(1),
-        "h2" => Role::Heading(2),
-        "h3" => Role::Heading(3),
-        "h4" => Role::Heading(4),
-        "h5" => Role::Heading(5),
-        "h6" => Role::Heading(6),
-        "dd" | "dl" | "dt" => Role::Block,
-        "em" => Role::Format(Format::Emphasis),
-        "tt" => Role::Code,
-        "br" => Role::LineBreak,
-        _ => Role::Plain,
+    match name.tag() {
+        Some(tag) => is_hidden_tag(tag),
+        None => false,
     }
 }
 
-/// What an element is whose name has three bytes.
-#[tactic(auto, unfolding(crate::specs::RoleViews::three_role))]
-fn role_of_three(name: &str) -> Role
-    ensures { result ≡ views.three_role name.now }
+/// Whether a browser never shows elements with this tag.
+fn is_hidden_tag(tag: Tag) -> bool
+    ensures { result ≡ spec.is_among spec.hidden_names (tag_text tag) }
 {
-    match name {
-        "dir" => Role::BulletList,
-        "pre" | "xmp" => Role::Verbatim,
-        "div" | "nav" => Role::Block,
-        "dfn" | "var" => Role::Format(Format::Emphasis),
-        "del" => Role::Format(Format::Deleted),
-        "sup" => Role::Format(Format::Superscript),
-        "sub" => Role::Format(Format::Subscript),
-        "kbd" => Role::Code,
-        "img" => Role::Image,
-        _ => Role::Plain,
-    }
-}
-
-/// What an element is whose name has four bytes.
-#[tactic(auto, unfolding(crate::specs::RoleViews::four_role))]
-fn role_of_four(name: &str) -> Role
-    ensures { result ≡ views.four_role name.now }
-{
-    match name {
-        "menu" => Role::BulletList,
-        "body" | "form" | "html" | "main" => Role::Block,
-        "cite" => Role::Format(Format::Emphasis),
-        "code" | "samp" => Role::Code,
-        _ => Role::Plain,
-    }
-}
-
-/// What an element is whose name has five bytes.
-#[tactic(auto, unfolding(crate::specs::RoleViews::five_role))]
-fn role_of_five(name: &str) -> Role
-    ensures { result ≡ views.five_role name.now }
-{
-    match name {
-        "table" => Role::Table,
-        "thead" => Role::TableHead,
-        "tbody" | "tfoot" => Role::TableBody,
-        "aside" => Role::Block,
-        "input" => Role::Input,
-        _ => Role::Plain,
-    }
-}
-
-/// What an element is whose name has six bytes or more.
-#[tactic(auto, unfolding(crate::specs::RoleViews::more_role))]
-fn role_of_more(name: &str) -> Role
-    ensures { result ≡ views.more_role name.now }
-{
-    match name {
-        "strong" => Role::Format(Format::Strong),
-        "listing" | "plaintext" => Role::Verbatim,
-        "blockquote" => Role::BlockQuote,
-        "caption" => Role::Caption,
-        _ => {
-            if is_block(name) {
-                Role::Block
-            } else {
-                rare_role(name)
-            }
-        }
-    }
-}
-
-/// What an element is that is no block and whose name has six bytes or more.
-#[tactic(auto, unfolding(crate::specs::RoleViews::rare_role))]
-fn rare_role(name: &str) -> Role
-    ensures { result ≡ views.rare_role name.now }
-{
-    match name {
-        "strike" => Role::Format(Format::Deleted),
-        "button" | "select" | "option" | "optgroup" | "textarea" => Role::Apart,
-        _ => Role::Plain,
-    }
+    matches!(
+        tag,
+        Tag::Script
+            | Tag::Style
+            | Tag::Title
+            | Tag::Iframe
+            | Tag::Noframes
+            | Tag::Noembed
+            | Tag::Template
+            | Tag::Datalist
+            | Tag::Annotation
+            | Tag::AnnotationXml
+    )
 }
 
 /// Whether the name is one of these.
@@ -182,33 +194,6 @@ pub(crate) fn is_among(name: &str, names: &[&str]) -> bool
     ensures { result ≡ spec.is_among (map (λ n. n.now) names.now) name.now }
 {
     names.contains(&name)
-}
-
-/// Whether the name has six bytes or more, and is that of a block that is nothing else.
-fn is_block(name: &str) -> bool
-    ensures { result ≡ spec.is_among views.long_block_names name.now }
-{
-    is_among(
-        name,
-        &[
-            "address",
-            "article",
-            "center",
-            "details",
-            "dialog",
-            "fieldset",
-            "figcaption",
-            "figure",
-            "footer",
-            "frameset",
-            "header",
-            "hgroup",
-            "legend",
-            "search",
-            "section",
-            "summary",
-        ],
-    )
 }
 
 /// Whether the content of such an element is ignored.

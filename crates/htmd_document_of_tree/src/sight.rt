@@ -6,8 +6,8 @@ ghost use Rattle.htmd_nodes.specs.NumberedTrees.{tree_of};
 ghost use Rattle.htmd_document_of_tree.specs.Roles as roles;
 ghost use Rattle.htmd_document_of_tree.specs.Shown as spec;
 
-use crate::role::{self, Role, is_among, is_void, role_of};
-use htmd_nodes::{Attribute, NodeData, NodeId, Tree};
+use crate::role::{self, Role, is_among, is_never_shown, is_void, role_of};
+use htmd_nodes::{Attribute, Name, NodeData, NodeId, Tree};
 
 /// A tree, and what its reader chose to see of it.
 #[derive(Clone, Copy)]
@@ -20,48 +20,18 @@ pub(crate) struct Sight<'t> {
     ghost is_tree: { IsTree tree.now },
 }
 
-/// No name that is never shown is shorter.
-const SHORTEST_HIDDEN: usize = 5;
-
-/// Whether a browser never shows elements with this name.
-#[tactic(auto, using(crate::proofs::RoleLengthsLemmas::hidden_long))]
-fn is_never_shown(name: &str) -> bool
-    ensures { result ≡ roles.is_among roles.hidden_names name.now }
-{
-    name.len() >= SHORTEST_HIDDEN && is_hidden_name(name)
-}
-
-/// Whether the name is one of those that are never shown.
-fn is_hidden_name(name: &str) -> bool
-    ensures { result ≡ roles.is_among roles.hidden_names name.now }
-{
-    is_among(
-        name,
-        &[
-            "script",
-            "style",
-            "title",
-            "iframe",
-            "noframes",
-            "noembed",
-            "template",
-            "datalist",
-            "annotation",
-            "annotation-xml",
-        ],
-    )
-}
-
 impl<'t> Sight<'t> {
     ghost use Rattle.htmd_document_of_tree.specs.SightViews.{sight_of, shown_at, shows_at, role_at, shown_among};
     ghost use Rattle.htmd_document_of_tree.specs.SightFacts.{IsLower};
     ghost use Rattle.htmd_document_of_tree.specs.Tables.{has};
 
     /// Whether an element with this name doesn't show.
-    fn is_hidden(&self, name: &str) -> bool
+    fn is_hidden(&self, name: &Name) -> bool
         ensures { result ≡ spec.is_hidden (sight_of self.now) name.now }
     {
-        is_never_shown(name) || is_among(name, self.skip) || name == "noscript" && self.scripting
+        is_never_shown(name)
+            || is_among(name.as_str(), self.skip)
+            || name.as_str() == "noscript" && self.scripting
     }
 
     /// Whether a node shows: a text, or an element that isn't hidden.
@@ -74,7 +44,7 @@ impl<'t> Sight<'t> {
             NodeData::Doctype => false,
             NodeData::Text(_) => true,
             NodeData::Comment(_) => false,
-            NodeData::Element { name, .. } => !self.is_hidden(name.as_str()),
+            NodeData::Element { name, .. } => !self.is_hidden(name),
         }
     }
 
@@ -89,10 +59,10 @@ impl<'t> Sight<'t> {
             NodeData::Text(_) => None,
             NodeData::Comment(_) => None,
             NodeData::Element { name, .. } => {
-                if self.is_hidden(name.as_str()) {
+                if self.is_hidden(name) {
                     None
                 } else {
-                    Some(role_of(name.as_str()))
+                    Some(role_of(name))
                 }
             }
         }
@@ -196,7 +166,7 @@ impl<'t> Sight<'t> {
             NodeData::Doctype => false,
             NodeData::Text(_) => false,
             NodeData::Comment(_) => false,
-            NodeData::Element { name, .. } => role::is_header_cell(role_of(name.as_str())),
+            NodeData::Element { name, .. } => role::is_header_cell(role_of(name)),
         }
     }
 
@@ -212,7 +182,7 @@ impl<'t> Sight<'t> {
             NodeData::Text(_) => &[],
             NodeData::Comment(_) => &[],
             NodeData::Element { name, .. } => {
-                if is_void(role_of(name.as_str())) {
+                if is_void(role_of(name)) {
                     &[]
                 } else {
                     self.tree.children(node)

@@ -1,12 +1,13 @@
 -- The parts of a tag, and that each is shorter than what it stands in.
 use Rattle.std.proofs.Common.{◌≡◌, ℕ, zero, suc, ◌+◌, ◌-◌, ◌<◌, ◌≤◌, true, false, List, [], ◌∷◌, length, take}
-use Rattle.std.proofs.Common.{drop, refl, sym, ◌∙◌, ap, arith, length-drop, Some, None}
+use Rattle.std.proofs.Common.{drop, refl, sym, ◌∙◌, ap, arith, Some, None}
 use Rattle.std.specs.Prelude.{◌==◌}
-use Rattle.htmd_lexical.specs.WhiteSpace.{is_ascii_white_space}
 use Rattle.htmd_lexical.proofs.Cases.{test}
-use Rattle.htmd_lexical.specs.CharacterClasses.{is_empty, first_is, leading_run, behind_run}
-use Rattle.htmd_lexical.specs.TagReading.{TagPart, malformed, tag_end, attribute, is_other, quoted_value}
+use Rattle.htmd_lexical.specs.CharacterClasses.{first_is, leading_run, behind_run}
+use Rattle.htmd_lexical.specs.TagReading.{TagPart, malformed, tag_end, attribute}
 use Rattle.htmd_lexical.proofs.RunsLemmas.{behind_within, run_within, take_run, drop_run}
+use Rattle.htmd_scanning.proofs.PartSizesLemmas as parts
+use Rattle.htmd_scanning.proofs.PartSizesLemmas.{size_of, rest_shorter}
 use Rattle.htmd_encodings.specs.declared.attributes.Attributes.{Attributes}
 use Rattle.htmd_encodings.specs.Attributes.{is_gap_byte, is_name_byte, is_unquoted_byte}
 use Rattle.htmd_encodings.specs.Attributes.{value_part, after_name, after_gap, next_part}
@@ -45,35 +46,11 @@ gap_attribute (b ∷ s) e = rw e refl
 
 -- ---- each part takes at least one byte
 
--- one more than what is left after a part
-abbrev size_of : TagPart → ℕ
-size_of malformed = 0
-size_of (tag_end slash s) = suc (length s)
-size_of (attribute name value s) = suc (length s)
-
-quoted_size : (q : ℕ) (name s : List ℕ) → size_of (quoted_value q name s) ≤ suc (length s)
-quoted_size q name s =
-    let k = behind_within (is_other q) s in
-    let d = length-drop 1 (behind_run (is_other q) s) in
-    test (is_empty (behind_run (is_other q) s)) (λ e. rw e (omega arith)) (λ e. rw e (omega arith))
-
 value_size : (name s : List ℕ) → size_of (value_part name s) ≤ suc (length s)
-value_size name s =
-    let d = length-drop 1 s in
-    let two = quoted_size 34 name (drop 1 s) in
-    let one = quoted_size 39 name (drop 1 s) in
-    let none_ = behind_within is_unquoted_byte s in
-    test (first_is 34 s) (λ e. rw e (omega arith))
-    (λ e. test (first_is 39 s) (λ f. rw (e, f) (omega arith)) (λ f. rw (e, f) (omega arith)))
+value_size name s = parts.value_size name s _ (let k = behind_within is_unquoted_byte s in omega arith)
 
 name_size : (name s : List ℕ) → size_of (after_name name s) ≤ suc (length s)
-name_size name s =
-    let sign : List ℕ = behind_run is_ascii_white_space s in
-    let k = behind_within is_ascii_white_space s in
-    let d = length-drop 1 sign in
-    let l = behind_within is_ascii_white_space (drop 1 sign) in
-    let v = value_size name (behind_run is_ascii_white_space (drop 1 sign)) in
-    test (first_is 61 sign) (λ e. rw e (omega arith)) (λ e. rw e (omega arith))
+name_size name s = parts.name_size name s (value_part name) (value_size name)
 
 gap_size : (s : List ℕ) → size_of (after_gap s) ≤ length s
 gap_size [] = omega arith
@@ -90,10 +67,7 @@ part_size s =
 
 pub part_shorter : (s name value rest : List ℕ) → attribute name value rest ≡ next_part s
     → length rest < length s
-part_shorter s name value rest e =
-    let a : suc (length rest) ≡ size_of (next_part s) = ap size_of e in
-    let b = part_size s in
-    omega arith
+part_shorter s name value rest = rest_shorter (next_part s) s name value rest (part_size s)
 
 -- ---- a tag
 

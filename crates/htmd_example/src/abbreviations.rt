@@ -1,7 +1,7 @@
 //! A handler of your own that reads an attribute: after what is in `abbr` comes its `title`, in parentheses.
 ghost use Rattle.std.specs.Prelude.{Some, None, codes};
 ghost use Rattle.htmd.specs.Handling.{content_of_children};
-ghost use Rattle.htmd.specs.ElementPlans.{attributes_of, value_of_first};
+ghost use Rattle.htmd.specs.ElementPlans.{attributes_of, value_of};
 ghost use Rattle.htmd_example.specs.Abbreviations.{spelled_out};
 
 use htmd::element_handler::{ElementHandler, HandlerResult, Plan};
@@ -15,7 +15,7 @@ impl ElementHandler for Abbreviation {
     ghost plan_of = { λ _ _. content_of_children };
 
     ghost finish_of = { λ _ view given. Some (record {
-      content = spelled_out given.content (value_of_first (codes "title") (attributes_of view));
+      content = spelled_out given.content (value_of (codes "title") (attributes_of view));
       markdown_translated = given.markdown_translated;
     }) };
 

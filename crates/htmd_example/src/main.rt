@@ -7,6 +7,7 @@ mod closures;
 mod documents;
 mod either;
 mod pages;
+mod parts;
 mod settings;
 mod skipping;
 
@@ -15,8 +16,9 @@ use clauses::{as_file, is_html, of_any_page, the_markdown};
 use closures::shouted;
 use documents::{what_shows, with_note};
 use either::site_heading;
-use htmd::{ConvertError, HtmlToMarkdown, Tree, TreeError, convert};
+use htmd::{ConvertError, HtmlToMarkdown, Tree, TreeError, convert, parse_selectors};
 use pages::three_pages;
+use parts::selected_parts;
 use settings::{faithful, underlined};
 use skipping::without_asides;
 use std::alloc::Global;
@@ -83,6 +85,14 @@ fn main(rt: HostRuntime) -> io::Result<()> {
             Ok(is_html) => println!(rt; "{html} {is_html}")?,
             Err(error) => eprintln!(rt; "{error}")?,
         }
+    }
+    let page = b"<nav>Menu</nav><main><h1>Caf\xe9</h1></main>";
+    match parse_selectors(alloc, "main") {
+        Ok(selected) => match selected_parts(alloc, page, selected) {
+            Ok(markdown) => println!(rt; "{markdown}")?,
+            Err(error) => eprintln!(rt; "{error}")?,
+        },
+        Err(error) => eprintln!(rt; "{error}")?,
     }
     Ok(())
 }

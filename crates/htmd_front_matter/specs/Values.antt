@@ -1,11 +1,12 @@
 -- What the head of a page says of it: the first element in document order that says it.
-use Rattle.std.specs.Prelude.{ℕ, Bool, if◌then◌else◌, List, [], ◌∷◌, map, Option, Some, None, codes}
+use Rattle.std.specs.Prelude.{ℕ, Bool, if◌then◌else◌, List, map, Option, Some, None, codes}
 use Rattle.std.specs.Char.{to_ascii_lowercase}
 use Rattle.std.specs.Option.{option_or}
 use Rattle.std.specs.Str.{bytes_eq}
 use Rattle.htmd_lexical.specs.AttributePairs.{AttributePair}
 use Rattle.htmd_values.specs.ValueTrees.{ValueTree, document, doctype, text, comment, element}
 use Rattle.htmd_values.specs.ValueTrees.{ValueForest, none, more}
+use Rattle.htmd_nodes.specs.AttributeValues.{value_of}
 use Rattle.htmd_front_matter.specs.declared.values.Key.{Key}
 use Rattle.htmd_front_matter.specs.declared.values.Key.TheVariants.{Title, Lang, Description, Author, Date, Canonical}
 use Rattle.htmd_front_matter.specs.declared.values.Key.TheVariants.{Keywords}
@@ -19,11 +20,6 @@ name_of Author = codes "author"
 name_of Date = codes "date"
 name_of Canonical = codes "canonical"
 name_of Keywords = codes "keywords"
-
--- the value of the first attribute with this name
-abbrev pub value_of : List ℕ → List AttributePair → Option (List ℕ)
-value_of name [] = None
-value_of name (a ∷ attributes) = if bytes_eq a.name name then Some a.value else value_of name attributes
 
 -- ASCII letters in either case
 abbrev pub is_same : List ℕ → List ℕ → Bool

@@ -6,7 +6,7 @@ ghost use Rattle.htmd_nodes.specs.NumberedTrees.{tree_of, forest_of, value_fores
 ghost use Rattle.htmd_nodes.specs.NumberedTrees.{value_at};
 ghost use Rattle.htmd_front_matter.specs.Values as spec;
 
-use htmd_nodes::{Attribute, NodeData, NodeId, Tree};
+use htmd_nodes::{Attribute, NodeData, NodeId, Tree, value_of};
 
 /// What is said.
 #[derive(Clone, Copy)]
@@ -33,18 +33,6 @@ pub(crate) fn name_of(key: Key) -> &'static str
         Key::Canonical => "canonical",
         Key::Keywords => "keywords",
     }
-}
-
-/// The value of the first attribute with this name.
-fn value_of<'a>(attrs: &'a [Attribute], name: &str) -> Option<&'a str>
-    ensures { option_copied result ≡ spec.value_of name.now (pairs_of attrs.now) }
-{
-    for attribute in attrs {
-        if attribute.name.as_str() == name {
-            return Some(attribute.value.as_str());
-        }
-    }
-    None
 }
 
 /// The value of an attribute, if another one has this value, with ASCII letters in either case.

@@ -1,11 +1,11 @@
 -- Start tags in the mode "in body" (HTML Standard, 13.2.6.4.7): a rule for each name, and what the rules do.
 use Rattle.std.specs.Prelude.{ℕ, Bool, true, false, if◌then◌else◌, List, Option, Some, None, codes, is_some, map}
-use Rattle.std.specs.Prelude.{find}
 use Rattle.std.specs.Str.{bytes_eq}
 use Rattle.std.specs.Char.{to_ascii_lowercase}
 use Rattle.htmd_lexical.specs.AttributePairs.{AttributePair}
+use Rattle.htmd_nodes.specs.AttributeValues.{value_of}
 use Rattle.htmd_html5_state.specs.Names.{NameValue, known, other}
-use Rattle.htmd_html5_state.specs.Nodes.{detach, is_named, add_missing}
+use Rattle.htmd_html5_state.specs.Nodes.{detach, add_missing}
 use Rattle.htmd_html5.specs.Tokens.{StartTagValue}
 use Rattle.htmd_html5_state.specs.OpenElements.{OpenValue, current_is, is_open, is_in_scope, second_open, pop}
 use Rattle.htmd_html5_state.specs.OpenElements.{pop_while, close, outermost, without}
@@ -263,12 +263,12 @@ start_void tag s = no_frameset (insert_void_tag tag (reconstruct s))
 abbrev pub is_hidden_value : List ℕ → Bool
 is_hidden_value value = bytes_eq (map to_ascii_lowercase value) (codes "hidden")
 
-abbrev pub has_hidden_value : Option AttributePair → Bool
+abbrev pub has_hidden_value : Option (List ℕ) → Bool
 has_hidden_value None = false
-has_hidden_value (Some a) = is_hidden_value a.value
+has_hidden_value (Some value) = is_hidden_value value
 
 abbrev pub has_hidden_type : List AttributePair → Bool
-has_hidden_type attributes = has_hidden_value (find (is_named (codes "type")) attributes)
+has_hidden_type attributes = has_hidden_value (value_of (codes "type") attributes)
 
 abbrev pub is_hidden : StartTagValue → Bool
 is_hidden tag = has_hidden_type tag.attributes

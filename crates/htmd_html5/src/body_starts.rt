@@ -13,7 +13,7 @@ use crate::shared_rules::{
 use crate::tokens::StartTag;
 use htmd_html5_state::{HtmlName, HtmlState, InsertionMode, NameSet, Namespace, Scope, TagName};
 use htmd_html5_tokens::RawElement;
-use htmd_nodes::Attribute;
+use htmd_nodes::{Attribute, value_of};
 use std::alloc::AllocError;
 
 /// What a start tag does.
@@ -408,12 +408,10 @@ fn is_hidden_value(value: &str) -> bool
 pub(crate) fn is_hidden(attributes: &[Attribute]) -> bool
     ensures { result ≡ spec.has_hidden_type (pairs_of attributes.now) }
 {
-    for attribute in attributes {
-        if attribute.name.as_str() == "type" {
-            return is_hidden_value(attribute.value.as_str());
-        }
+    match value_of(attributes, "type") {
+        Some(value) => is_hidden_value(value),
+        None => false,
     }
-    false
 }
 
 fn start_input(state: &mut HtmlState, tag: StartTag) -> Result<(), AllocError>

@@ -20,7 +20,7 @@ use Rattle.htmd_lexical.proofs.NamesLemmas.{HasNames, name_added}
 use Rattle.htmd_html5_tokens.specs.Tags.{attribute_of, firsts}
 use Rattle.htmd_html5_tokens.specs.Firsts.{are_first, split_mark, if_marked, those_marked}
 use Rattle.htmd_html5_tokens.specs.TagViews.{spelled_of, all_spelled_of}
-use Rattle.htmd_html5_tokens.specs.declared.attributes.SpelledAttribute.{SpelledAttribute}
+use Rattle.htmd_scanning.specs.declared.tag_parts.SpelledAttribute.{SpelledAttribute}
 use denote.Ref.{Bor}
 
 pub marked_firsts : (before : List (List ℕ)) (xs : List AttributePair)

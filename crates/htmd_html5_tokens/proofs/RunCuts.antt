@@ -1,11 +1,10 @@
--- Where a text may be cut after a run of characters of one class.
-use Rattle.std.proofs.Common.{◌≡◌, ℕ, ◌<◌, true, false, List, length, arith, inl, inr}
+-- Where a text may be cut after a run of characters of one class: outside ASCII all characters are of it, or none is.
+use Rattle.std.proofs.Common.{◌≡◌, ℕ, ◌<◌, true, false, arith, inl, inr}
 use Rattle.std.proofs.lemmas.Bool.Decides.{nat_tests}
-use Rattle.std.specs.Str.{IsUtf8, IsCharBoundary}
-use Rattle.htmd_lexical.specs.CharacterClasses.{leading_run}
 use Rattle.htmd_lexical.proofs.CharacterClassesLemmas.{white_is_ascii}
 pub use Rattle.htmd_scanning.proofs.RunCuts.{cut_before_ascii}
-use Rattle.htmd_scanning.proofs.RunCuts.{IsUniform, outside_other, cut_at}
+use Rattle.htmd_scanning.specs.Runs.{IsUniform}
+use Rattle.htmd_scanning.proofs.RunCuts.{outside_other}
 use Rattle.htmd_html5_tokens.specs.Tags.{is_name_byte, is_attribute_name_byte, is_unquoted_byte, is_gap_byte}
 use Rattle.htmd_html5_tokens.specs.Doctypes.{is_black}
 use Rattle.htmd_html5_tokens.specs.Classes.{is_in, is_ascii}
@@ -28,7 +27,7 @@ inside_gap b e = grind (arith, nat_tests)
 outside_black : (b : ℕ) → is_black b ≡ false → b < 128
 outside_black b e = grind (arith, nat_tests)
 
-uniform : (class : Class) → is_ascii class ≡ true → IsUniform (is_in class)
+pub uniform : (class : Class) → is_ascii class ≡ true → IsUniform (is_in class)
 uniform Name a = inl outside_name
 uniform AttributeName a = inl outside_attribute_name
 uniform UnquotedValue a = inl outside_unquoted
@@ -36,7 +35,3 @@ uniform Gap a = inr inside_gap
 uniform White a = inr white_is_ascii
 uniform Black a = inl outside_black
 uniform (Other other) a = inl (λ b. outside_other other b a)
-
-pub run_cut : (class : Class) (s : List ℕ) → is_ascii class ≡ true → IsUtf8 s
-    → IsCharBoundary s (length (leading_run (is_in class) s))
-run_cut class s a u = cut_at (is_in class) s u (uniform class a)

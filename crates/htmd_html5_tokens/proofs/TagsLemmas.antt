@@ -1,17 +1,16 @@
 -- The parts of a tag, and that each is shorter than what it stands in.
 use Rattle.std.proofs.Common.{◌≡◌, ℕ, zero, suc, ◌+◌, ◌-◌, ◌<◌, ◌≤◌, Bool, true, false, List, [], ◌∷◌, ◌++◌, length}
 use Rattle.std.proofs.Common.{take}
-use Rattle.std.proofs.Common.{drop, get_or, refl, sym, ◌∙◌, ap, subst, arith, append_assoc, length-drop}
+use Rattle.std.proofs.Common.{drop, get_or, refl, sym, ◌∙◌, ap, subst, arith, append_assoc}
 use Rattle.std.proofs.lemmas.List.{drop_more}
 use Rattle.std.proofs.lemmas.Slice.{between_to_end}
 use Rattle.std.proofs.lemmas.Str.{IsCharBoundary-from_rest}
 use Rattle.std.specs.Prelude.{◌==◌}
 use Rattle.std.specs.Str.{IsCharBoundary}
-use Rattle.htmd_lexical.specs.WhiteSpace.{is_ascii_white_space}
 use Rattle.htmd_lexical.proofs.Cases.{test}
 use Rattle.htmd_lexical.specs.AttributePairs.{AttributePair}
-use Rattle.htmd_lexical.specs.CharacterClasses.{is_empty, first_is, leading_run, behind_run}
-use Rattle.htmd_lexical.specs.TagReading.{TagPart, malformed, tag_end, attribute, is_other, quoted_value}
+use Rattle.htmd_lexical.specs.CharacterClasses.{first_is, leading_run, behind_run}
+use Rattle.htmd_lexical.specs.TagReading.{TagPart, malformed, tag_end, attribute}
 use Rattle.htmd_lexical.proofs.CharacterClassesLemmas.{take_leading_run, drop_leading_run}
 use Rattle.htmd_lexical.proofs.RunsLemmas.{behind_within}
 use Rattle.htmd_html5_tokens.specs.Tags.{is_attribute_name_byte, is_unquoted_byte, is_gap_byte, ends_in_slash}
@@ -19,6 +18,8 @@ use Rattle.htmd_html5_tokens.specs.Tags.{value_part, after_attribute_name, after
 use Rattle.htmd_html5_tokens.specs.Tags.{TagForm, unended, ended, with_attribute, form_after, form_within}
 use Rattle.htmd_html5_tokens.specs.TagViews.{with_attributes, attribute_part}
 use Rattle.htmd_scanning.proofs.RunCuts.{cut_before_ascii}
+use Rattle.htmd_scanning.proofs.PartSizesLemmas as parts
+use Rattle.htmd_scanning.proofs.PartSizesLemmas.{size_of, rest_shorter}
 use Rattle.htmd_html5_tokens.proofs.RunCuts.{outside_attribute_name}
 
 -- ---- the name of an attribute
@@ -82,35 +83,11 @@ gap_attribute ends (b ∷ s) l e = rw e refl
 
 -- ---- each part takes at least one character
 
--- one more than what is left after a part
-abbrev size_of : TagPart → ℕ
-size_of malformed = 0
-size_of (tag_end slash s) = suc (length s)
-size_of (attribute name value s) = suc (length s)
-
-quoted_size : (q : ℕ) (name s : List ℕ) → size_of (quoted_value q name s) ≤ suc (length s)
-quoted_size q name s =
-    let k = behind_within (is_other q) s in
-    let d = length-drop 1 (behind_run (is_other q) s) in
-    test (is_empty (behind_run (is_other q) s)) (λ e. rw e (omega arith)) (λ e. rw e (omega arith))
-
 value_size : (name s : List ℕ) → size_of (value_part name s) ≤ suc (length s)
-value_size name s =
-    let d = length-drop 1 s in
-    let two = quoted_size 34 name (drop 1 s) in
-    let one = quoted_size 39 name (drop 1 s) in
-    let none_ = behind_within is_unquoted_byte s in
-    test (first_is 34 s) (λ e. rw e (omega arith))
-    (λ e. test (first_is 39 s) (λ f. rw (e, f) (omega arith)) (λ f. rw (e, f) (omega arith)))
+value_size name s = parts.value_size name s _ (let k = behind_within is_unquoted_byte s in omega arith)
 
 name_size : (name s : List ℕ) → size_of (after_attribute_name name s) ≤ suc (length s)
-name_size name s =
-    let sign : List ℕ = behind_run is_ascii_white_space s in
-    let k = behind_within is_ascii_white_space s in
-    let d = length-drop 1 sign in
-    let l = behind_within is_ascii_white_space (drop 1 sign) in
-    let v = value_size name (behind_run is_ascii_white_space (drop 1 sign)) in
-    test (first_is 61 sign) (λ e. rw e (omega arith)) (λ e. rw e (omega arith))
+name_size name s = parts.name_size name s (value_part name) (value_size name)
 
 gap_size : (ends : Bool) (s : List ℕ) → size_of (after_gap ends s) ≤ length s
 gap_size ends [] = omega arith
@@ -127,10 +104,7 @@ part_size s =
 
 pub part_shorter : (s name value rest : List ℕ) → attribute name value rest ≡ next_part s
     → length rest < length s
-part_shorter s name value rest e =
-    let a : suc (length rest) ≡ size_of (next_part s) = ap size_of e in
-    let b = part_size s in
-    omega arith
+part_shorter s name value rest = rest_shorter (next_part s) s name value rest (part_size s)
 
 -- ---- the form of a tag
 

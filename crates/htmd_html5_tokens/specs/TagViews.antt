@@ -2,16 +2,9 @@
 use Rattle.std.specs.Prelude.{ℕ, List, [], ◌∷◌, ◌++◌, map}
 use Rattle.htmd_lexical.specs.AttributePairs.{AttributePair}
 use Rattle.htmd_lexical.specs.CharacterClasses.{leading_run, behind_run}
-use Rattle.htmd_lexical.specs.TagReading.{TagPart, malformed, tag_end, attribute}
+use Rattle.htmd_lexical.specs.TagReading.{TagPart, malformed}
 use Rattle.htmd_html5_tokens.specs.Tags.{after_attribute_name, is_attribute_name_byte, TagForm, unended, ended}
-use Rattle.htmd_html5_tokens.specs.declared.attributes.SpelledAttribute.{SpelledAttribute}
-use Rattle.htmd_html5_tokens.specs.declared.attributes.Part.{Part}
-use Rattle.htmd_html5_tokens.specs.declared.attributes.Part.TheVariants.{Unended, End, Attribute}
-
-abbrev pub part_of : Part → TagPart
-part_of Unended = malformed
-part_of (End slash rest) = tag_end slash rest.now
-part_of (Attribute spelled rest) = attribute spelled.name.now spelled.value.now rest.now
+use Rattle.htmd_scanning.specs.declared.tag_parts.SpelledAttribute.{SpelledAttribute}
 
 abbrev pub spelled_of : SpelledAttribute → AttributePair
 spelled_of a = record { name = a.name.now; value = a.value.now }

@@ -1,58 +1,13 @@
 //! What is in a tag after its name: attributes, its `/` and its `>`.
 ghost use Rattle.std.specs.Prelude.{◌≡◌, ◌<◌, false, length, IfOk, MatchOption};
 ghost use Rattle.htmd_lexical.specs.CharacterClasses.{is_empty};
-ghost use Rattle.htmd_lexical.specs.TagReading as reading;
 ghost use Rattle.htmd_html5_tokens.specs.Tags as spec;
-ghost use Rattle.htmd_html5_tokens.specs.TagViews.{part_of, all_spelled_of, attribute_part};
+ghost use Rattle.htmd_html5_tokens.specs.TagViews.{all_spelled_of, attribute_part};
+ghost use Rattle.htmd_scanning.specs.TagParts.{part_of};
 
 use crate::classes::{Class, split_run};
-use htmd_scanning::{run_len, strip_byte};
+use htmd_scanning::{Part, SpelledAttribute, TagForm, quoted_value, run_len, strip_byte};
 use std::alloc::{AllocError, Global};
-
-/// An attribute as it is spelled.
-#[derive(Clone, Copy, Drop)]
-pub(crate) struct SpelledAttribute<'a> {
-    pub(crate) name: &'a str,
-    pub(crate) value: &'a str,
-}
-
-/// What comes next in a tag after its name.
-#[derive(Drop)]
-pub(crate) enum Part<'a> {
-    /// The text ends before that.
-    Unended,
-    End {
-        slash: bool,
-        rest: &'a str,
-    },
-    Attribute {
-        spelled: SpelledAttribute<'a>,
-        rest: &'a str,
-    },
-}
-
-/// What is in a tag after its name, and what follows the tag.
-#[derive(Drop)]
-pub(crate) struct TagForm<'a> {
-    pub(crate) attributes: Vec<SpelledAttribute<'a>>,
-    pub(crate) slash: bool,
-    pub(crate) rest: &'a str,
-}
-
-/// A value between quotes; the first one comes before the text.
-fn quoted_value<'a>(name: &'a str, text: &'a str, quote: u8) -> Part<'a>
-    requires { quote < 128 }
-    ensures { part_of result ≡ reading.quoted_value quote name.now text.now }
-{
-    let (value, after) = split_run(text, Class::Other(quote));
-    match strip_byte(after, quote) {
-        Some(rest) => Part::Attribute {
-            spelled: SpelledAttribute { name, value },
-            rest,
-        },
-        None => Part::Unended,
-    }
-}
 
 /// An attribute from its value on, after `=` and white space.
 fn value_part<'a>(name: &'a str, text: &'a str) -> Part<'a>
@@ -114,7 +69,7 @@ pub(crate) fn next_part(text: &str) -> Part<'_>
 {
     let (gap, after) = split_run(text, Class::Gap);
     if after.is_empty() {
-        return Part::Unended;
+        return Part::Malformed;
     }
     match strip_byte(after, b'>') {
         Some(rest) => Part::End {
@@ -135,7 +90,7 @@ pub(crate) fn tag_form<'a>(alloc: Global, text: &'a str) -> Result<Option<TagFor
     let mut after = text;
     loop {
         match next_part(after) {
-            Part::Unended => return Ok(None),
+            Part::Malformed => return Ok(None),
             Part::End { slash, rest } => {
                 return Ok(Some(TagForm {
                     attributes,

@@ -3,7 +3,7 @@ ghost use Rattle.std.specs.Prelude.{◌≡◌, true};
 ghost use Rattle.htmd_lexical.specs.CharacterClasses.{leading_run, behind_run};
 ghost use Rattle.htmd_html5_tokens.specs.Classes.{is_in, is_ascii};
 
-use htmd_scanning::{ByteClass, run_len};
+use htmd_scanning::ByteClass;
 
 /// What the characters of a run have in common. Outside ASCII they are all of the class, or none is.
 #[derive(Clone, Copy)]
@@ -46,5 +46,5 @@ pub(crate) fn split_run(text: &str, class: Class) -> (&str, &str)
     ensures run { result.0.now ≡ leading_run (is_in class) text.now }
     ensures rest { result.1.now ≡ behind_run (is_in class) text.now }
 {
-    text.split_at(run_len(text.as_bytes(), class))
+    htmd_scanning::split_run(text, class)
 }

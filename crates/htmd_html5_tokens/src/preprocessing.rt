@@ -1,13 +1,11 @@
 //! What is read of a page (HTML Standard, 13.2.3.5).
-ghost use Rattle.std.specs.Prelude.{◌≡◌, ◌++◌, ◌∷◌, IfOk, OnOk, string_bytes};
+ghost use Rattle.std.specs.Prelude.{◌≡◌, IfOk};
 ghost use Rattle.std.specs.Cow.{cow_str_bytes};
 ghost use Rattle.std.specs.List.{list_all};
-ghost use Rattle.htmd_lexical.specs.Characters.{carriage_return};
-ghost use Rattle.htmd_lexical.specs.LineEnds.{normalized};
 ghost use Rattle.htmd_lexical.specs.ByteOrderMarks.{behind_mark};
 ghost use Rattle.htmd_html5_tokens.specs.Preprocessing as spec;
 
-use htmd_scanning::first_is;
+use htmd_scanning::with_line_feeds;
 use std::alloc::{AllocError, Global};
 use std::borrow::CowStr;
 
@@ -19,33 +17,6 @@ fn after_mark(text: &str) -> &str
         Some(rest) => rest,
         None => text,
     }
-}
-
-/// Appends the line end that a CR stands for: none if it is part of CR LF.
-fn push_line_end(lines: &mut String, after: &str) -> Result<(), AllocError>
-    ensures { OnOk result (string_bytes lines.new ++ normalized after.now
-        ≡ string_bytes lines.old ++ normalized (carriage_return ∷ after.now)) }
-{
-    if first_is(after.as_bytes(), b'\n') {
-        Ok(())
-    } else {
-        lines.push('\n')
-    }
-}
-
-/// The text with a line feed for each CR LF and each lone CR.
-fn with_line_feeds(alloc: Global, text: &str) -> Result<String, AllocError>
-    ensures { IfOk result (λ t. string_bytes t ≡ normalized text.now) }
-{
-    let mut lines = String::with_capacity(alloc, text.len())?;
-    let mut rest = text;
-    while let Some((line, after)) = rest.split_once('\r') {
-        lines.push_str(line)?;
-        push_line_end(&mut lines, after)?;
-        rest = after;
-    }
-    lines.push_str(rest)?;
-    Ok(lines)
 }
 
 /// Whether no byte is CR. All are looked at, so that a processor can compare many at once.

@@ -7,13 +7,13 @@ ghost use Rattle.htmd_html5_tokens.specs.TagViews.{spelled_of, all_spelled_of};
 ghost use Rattle.htmd_html5_tokens.specs.Tokens.{tag_of, start_tag, end_tag};
 ghost use Rattle.htmd_html5_tokens.specs.Readings.{read_of};
 
-use crate::attributes::{SpelledAttribute, TagForm, tag_form};
+use crate::attributes::tag_form;
 use crate::classes::{Class, split_run};
 use crate::contents::{Reading, decoded, name_of, tag_name_of};
 use crate::distinct::first_marks;
 use crate::tokens::{Tag, Token};
 use htmd_lexical::Attribute;
-use htmd_scanning::{are_distinct, strip_byte};
+use htmd_scanning::{SpelledAttribute, TagForm, are_distinct, strip_byte};
 use std::alloc::{AllocError, Global};
 
 /// What a spelled attribute denotes.

@@ -23,7 +23,8 @@ use Rattle.htmd_law_documents.proofs.NormalTextLemmas.{and-true, and-false, true
 use Rattle.htmd_law_documents.proofs.NormalTextLemmas.{ends-same, ends-more, first-append}
 use Rattle.htmd_law_documents.proofs.NormalTextLemmas.{from-text, text-append, trimmed-text, from-trimmed}
 use Rattle.htmd_law_documents.proofs.NormalLineLemmas.{is_clash, may-meet, Ends, ends-other, ends-as}
-use Rattle.htmd_law_documents.proofs.NormalLineLemmas.{ends-more as ends-beside, joined-met, text-like, in_link}
+use Rattle.htmd_document_of_tree.proofs.NestLemmas.{joined-last}
+use Rattle.htmd_law_documents.proofs.NormalLineLemmas.{ends-more as ends-beside, text-like, in_link}
 use Rattle.htmd_law_documents.proofs.NormalLineLemmas.{formats_in, FitAll, Apart, is_leaf, IsLast, Held}
 use Rattle.htmd_law_documents.proofs.NormalLineLemmas.{IsStop, held-stop, wrapped-begins, wrapped-no_break}
 use Rattle.htmd_law_documents.proofs.NormalLineLemmas.{leaf-no_break, leaf-no_clash}
@@ -87,7 +88,7 @@ module _ (l : Bool) (r : List Format) (xs : Inlines) where
       → joined xs y ≡ followed xs (one_inline y)
   joined-beside x y e m =
       ap (λ zs. joined zs y) e.is
-      ∙ (joined-met e.before x y
+      ∙ (joined-last e.before x y
       ∙ (ap (followed e.before) m
       ∙ (sym (followed-assoc e.before (one_inline x) (one_inline y))
       ∙ ap (λ zs. followed zs (one_inline y)) (sym e.is))))
@@ -101,7 +102,7 @@ module _ (l : Bool) (r : List Format) (xs : Inlines) where
       → ((w : Inline) → may_meet w x ≡ true → may_meet w z ≡ true) → Ends l r (joined xs y) z
   melted x y z e m f =
       ends-as l r (joined xs y) (followed e.before (one_inline z)) z
-      (ap (λ zs. joined zs y) e.is ∙ (joined-met e.before x y ∙ ap (followed e.before) m))
+      (ap (λ zs. joined zs y) e.is ∙ (joined-last e.before x y ∙ ap (followed e.before) m))
       (ends-other l r xs x z e f)
 
   -- a text, which may have a space at its ends if there is none before it and no break

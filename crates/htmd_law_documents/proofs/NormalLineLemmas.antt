@@ -8,7 +8,7 @@ use Rattle.htmd_document.specs.Documents.{inline}
 use Rattle.htmd_document.specs.Documents as value
 use Rattle.htmd_document_of_tree.specs.Nesting.{Wrapper, of_format, of_link, wrapper_of, is_same, shared, wrapped_by}
 use Rattle.htmd_document_of_tree.specs.Nesting.{wrapped}
-use Rattle.htmd_document_of_tree.specs.Nesting.{one_inline, is_apart, met, joined, in_last, with_content, behind}
+use Rattle.htmd_document_of_tree.specs.Nesting.{one_inline, is_apart, in_last, with_content, behind}
 use Rattle.htmd_document_of_tree.specs.Nesting.{text_or_code}
 use Rattle.htmd_document_of_tree.specs.NestViews.{followed}
 use Rattle.htmd_document_of_tree.specs.Parts.{Around, formatted, linked}
@@ -117,11 +117,6 @@ ends-other l r xs x y e f = record {
 pub ends-as : (l : Bool) (r : List Format) (xs ys : Inlines) (x : Inline) → xs ≡ ys → Ends l r ys x
     → Ends l r xs x
 ends-as l r xs ys x e h = subst (λ (zs : Inlines). Ends l r zs x) (sym e) h
-
-pub joined-met : (xs : Inlines) (x y : Inline) → joined (followed xs (one_inline x)) y ≡ followed xs (met x y)
-joined-met no_inlines x y = refl
-joined-met (inline z no_inlines) x y = refl
-joined-met (inline z (inline z' xs)) x y = ap (inline z) (joined-met (inline z' xs) x y)
 
 -- ---- texts in place of others
 

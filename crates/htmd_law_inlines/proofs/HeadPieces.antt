@@ -296,7 +296,7 @@ row_ends line w f content tildes sign ks i s fit n o =
 
 -- ---- the text after a row
 
-scalars_one_more : (cs : List ℕ) (c : ℕ) → scalars cs ≡ true → scalar c ≡ true
+pub scalars_one_more : (cs : List ℕ) (c : ℕ) → scalars cs ≡ true → scalar c ≡ true
     → scalars (cs ++ (c ∷ [])) ≡ true
 scalars_one_more [] c h k = rw k refl
 scalars_one_more (d ∷ cs) c h k =

@@ -1,118 +1,37 @@
 -- The lines of link definitions are read as those.
-use Rattle.std.proofs.Common.{◌≡◌, ◌∙◌, refl, ap, sym, subst, ℕ, zero, suc, ◌+◌, ◌-◌, ◌<◌, ◌≤◌, true, false, List, []}
+use Rattle.std.proofs.Common.{◌≡◌, ◌∙◌, refl, ap, sym, subst, ℕ, ◌+◌, ◌-◌, ◌<◌, true, false, List, []}
 use Rattle.std.proofs.Common.{◌∷◌, ◌++◌, Option, Some, None, codes, append_assoc, arith}
-use Rattle.std.specs.Prelude.{length, ◌==◌, ◌&&◌, ◌/◌, ◌%◌, if◌then◌else◌, not, nat_lt, slice_get}
-use Rattle.std.specs.List.{list_all, list_any, flat_map}
+use Rattle.std.specs.Prelude.{length, ◌==◌, ◌&&◌, if◌then◌else◌, not, slice_get}
+use Rattle.std.specs.List.{list_all, list_any}
 use Rattle.std.specs.Option.{option_or}
-use Rattle.std.specs.Str.{chars, IsAscii}
-use Rattle.std.specs.Char.{is_ascii_digit, to_ascii_lowercase}
-use Rattle.std.specs.Fmt.{decimal, digits, digits_onto, digit_glyph}
-use Rattle.std.proofs.lemmas.Bool.{and_parts, or_parts, eqb-true, le-ltb, lt-ltb}
-use Rattle.std.proofs.lemmas.Bool.Decides.{nat_tests}
+use Rattle.std.specs.Fmt.{decimal}
+use Rattle.std.proofs.lemmas.Bool.{or_parts, eqb-true}
 use Rattle.std.proofs.lemmas.List.{append-nil, length-append}
-use Rattle.std.proofs.lemmas.Str.{chars-IsAscii}
 use Rattle.htmd_lexical.specs.Characters.{is_one_of}
-use Rattle.htmd_lexical.specs.CharacterClasses.{first_is, is_empty}
+use Rattle.htmd_lexical.specs.CharacterClasses.{first_is}
 use Rattle.htmd_commonmark.specs.Addresses.{escaped_in, needs_brackets, is_space_or_control, is_escaped, may_escape}
 use Rattle.htmd_commonmark.specs.Addresses as writer
 use Rattle.htmd_commonmark.specs.InlineMarkdown as writing
-use Rattle.htmd_commonmark_reading.specs.Characters.{is_white, stripped_end, unescaped}
+use Rattle.htmd_commonmark_reading.specs.Characters.{unescaped}
 use Rattle.htmd_commonmark_reading.specs.LinkDefinitions.{Definition, Definitions, definition, definitions}
 use Rattle.htmd_commonmark_reading.specs.LinkDefinitions.{definitions_behind, no_more, and_then, after_label}
 use Rattle.htmd_commonmark_reading.specs.LinkDefinitions.{after_destination, with_title, defined_with, title_after}
 use Rattle.htmd_commonmark_reading.specs.LinkDefinitions.{past_line, past_white, destination, unless_front_is_empty}
-use Rattle.htmd_commonmark_reading.specs.LinkDefinitions.{bare, pointed, label_key, label_text, single_spaced, folded}
+use Rattle.htmd_commonmark_reading.specs.LinkDefinitions.{bare, pointed, label_key}
 use Rattle.htmd_commonmark_reading.specs.Boxes.{joined_lines, end_line}
 use Rattle.htmd_law_blocks.specs.LineTexts.{IsFirstLine, IsFurtherLine, AreFurtherLines}
 use Rattle.htmd_law_blocks.specs.DocumentTexts.{AreOneLine, DefinitionTexts}
 use Rattle.htmd_document.specs.NormalInlines.{is_kept, is_title}
 use Rattle.htmd_law_inlines.specs.ReadBack.{references, of_defined}
-use Rattle.htmd_law_inlines.proofs.TextPieces.{test, differs}
+use Rattle.htmd_law_inlines.proofs.TextPieces.{test}
 use Rattle.htmd_law_inlines.proofs.AddressPieces.{are_bare_signs, bare_signs, piece_cases, address_text, until_read}
 use Rattle.htmd_law_inlines.proofs.AddressPieces.{escaped_punctuation, bare_plain, no_punctuation_next, slash_escapes}
 use Rattle.htmd_law_inlines.proofs.ResourcePieces.{title_signs, raw_address, Begins, begins_other, raw_text}
 use Rattle.htmd_law_inlines.proofs.ResourcePieces.{bare_destination, bare_begins, pointed_read}
-use Rattle.htmd_law_inlines.proofs.NumberPieces.{digits_until}
+use Rattle.htmd_law_inlines.proofs.NumberPieces.{digits_until, label_of_number}
 use Rattle.htmd_law_texts.proofs.PieceTexts.{decimal_digits, definition_all}
 use Rattle.htmd_law_texts.proofs.WrittenLines.{IsClean, plain_of_clean, clean_line}
 use Rattle.htmd_law_texts.proofs.InlineStarts.{bracket_line}
-use Rattle.htmd_law_texts.proofs.PieceEnds.{EndsInk, strip_ink}
-
--- ---- numbers
-
-digits_some : (k n : ℕ) (acc : List ℕ) → is_empty (digits_onto (suc k) 10 false n acc) ≡ false
-digits_some zero n acc = test (n / 10 == 0) (λ e. rw e refl) (λ e. rw e refl)
-digits_some (suc k) n acc =
-    test (n / 10 == 0) (λ e. rw e refl) (λ e. rw e (digits_some k (n / 10) (digit_glyph false (n % 10) ∷ acc)))
-
-digits_few : (k n : ℕ) (acc : List ℕ) → length (digits_onto k 10 false n acc) ≤ k + length acc
-digits_few zero n acc = omega arith
-digits_few (suc k) n acc =
-    let i = digits_few k (n / 10) (digit_glyph false (n % 10) ∷ acc) in
-    test (n / 10 == 0) (λ e. rw e (omega arith)) (λ e. rw e (omega arith))
-
-decimal_some : (n : ℕ) → is_empty (decimal n) ≡ false
-unfolding digits
-decimal_some n = digits_some 63 n []
-
-decimal_few : (n : ℕ) → length (decimal n) ≤ 64
-unfolding digits
-decimal_few n = let i = digits_few 64 n [] in omega arith
-
-digit_small : (c : ℕ) → is_ascii_digit c ≡ true → c < 128
-digit_small c h = grind (arith, nat_tests)
-
-digits_ascii : (s : List ℕ) → list_all is_ascii_digit s ≡ true → IsAscii s
-digits_ascii [] h i = omega arith
-digits_ascii (c ∷ s) h zero = digit_small c (and_parts (is_ascii_digit c) (list_all is_ascii_digit s) h).0
-digits_ascii (c ∷ s) h (suc i) = digits_ascii s (and_parts (is_ascii_digit c) (list_all is_ascii_digit s) h).1 i
-
-digit_ink : (c : ℕ) → is_ascii_digit c ≡ true → is_white c ≡ false
-digit_ink c h =
-    rw (differs is_ascii_digit c 32 h refl, differs is_ascii_digit c 9 h refl, differs is_ascii_digit c 10 h refl) refl
-
-digits_ink : (c : ℕ) (s : List ℕ) → list_all is_ascii_digit (c ∷ s) ≡ true → EndsInk (c ∷ s)
-digits_ink c [] h = digit_ink c (and_parts (is_ascii_digit c) true h).0
-digits_ink c (d ∷ s) h = digits_ink d s (and_parts (is_ascii_digit c) (list_all is_ascii_digit (d ∷ s)) h).1
-
-digits_spaced : (s : List ℕ) → list_all is_ascii_digit s ≡ true → single_spaced s ≡ s
-digits_spaced [] h = refl
-digits_spaced (c ∷ s) h =
-    let p = and_parts (is_ascii_digit c) (list_all is_ascii_digit s) h in
-    rw (digit_ink c p.0) (ap (λ l. c ∷ l) (digits_spaced s p.1))
-
-label_digits : (s : List ℕ) → list_all is_ascii_digit s ≡ true → is_empty s ≡ false → label_text s ≡ s
-label_digits [] h e = absurd (cc)
-label_digits (c ∷ s) h e =
-    let p = and_parts (is_ascii_digit c) (list_all is_ascii_digit s) h in
-    let w : past_white (c ∷ s) ≡ c ∷ s = rw (digit_ink c p.0) refl in
-    ap (λ l. single_spaced (stripped_end is_white l)) w ∙ ap single_spaced (strip_ink (c ∷ s) (digits_ink c s h))
-    ∙ digits_spaced (c ∷ s) h
-
-digit_folded : (c : ℕ) → is_ascii_digit c ≡ true → to_ascii_lowercase c ≡ c
-digit_folded c h = grind (arith, nat_tests)
-
-digits_folded : (s : List ℕ) → list_all is_ascii_digit s ≡ true → flat_map folded s ≡ s
-digits_folded [] h = refl
-digits_folded (c ∷ s) h =
-    let p = and_parts (is_ascii_digit c) (list_all is_ascii_digit s) h in
-    rw (lt-ltb c 128 (digit_small c p.0), digit_folded c p.0) (ap (λ l. c ∷ l) (digits_folded s p.1))
-
--- a number is its own label
-pub number_is_label : (n : ℕ) → label_key (decimal n) ≡ decimal n
-number_is_label n =
-    let s = decimal n in
-    let d = decimal_digits n in
-    let c = chars-IsAscii s (digits_ascii s d) in
-    let l = decimal_few n in
-    let few : nat_lt 999 (length (chars s)) ≡ false =
-    ap (λ t. nat_lt 999 (length t)) c ∙ le-ltb 999 (length s) (omega arith) in
-    rw few (ap (λ t. flat_map folded (chars t)) (label_digits s d (decimal_some n)) ∙ ap (flat_map folded) c
-    ∙ digits_folded s d)
-
--- a number is a label
-number_key : (n : ℕ) → is_empty (label_key (decimal n)) ≡ false
-number_key n = ap is_empty (number_is_label n) ∙ decimal_some n
 
 -- ---- addresses before an end of a line
 
@@ -235,7 +154,7 @@ definition_read n a t r h k =
     let key = label_key (decimal n) in
     ap definition (line_written n a t r)
     ∙ ap after_label (digits_until (decimal n) (58 ∷ 32 ∷ u) (decimal_digits n))
-    ∙ ap (λ b. if not b then after_destination key (destination (past_white u)) else None) (number_key n)
+    ∙ ap (λ b. if not b then after_destination key (destination (past_white u)) else None) (label_of_number n)
     ∙ ap (λ v. after_destination key (destination v)) d.1.no_white
     ∙ ap (after_destination key) d.0
     ∙ title_to key (raw_address a) t r k

@@ -43,7 +43,8 @@ use Rattle.std.proofs.lemmas.List.{append-nil, length-append}
 use Rattle.htmd_commonmark.specs.InlineMarkdown as writing
 use Rattle.htmd_commonmark_reading.specs.LinkDefinitions.{definition}
 use Rattle.htmd_law_inlines.specs.ReadBack.{are_numbered, is_number}
-use Rattle.htmd_law_texts.proofs.DefinitionLines.{AreDefined, definition_read, number_is_label}
+use Rattle.htmd_law_inlines.proofs.NumberPieces.{label_is}
+use Rattle.htmd_law_texts.proofs.DefinitionLines.{AreDefined, definition_read}
 use Rattle.htmd_law_texts.proofs.LineLaws.{line_parts}
 
 -- ---- lines that define numbers
@@ -78,7 +79,7 @@ numbers_are n (l ∷ ls) d =
     let read = ap definition (d.0.is ∙ sym (append-nil (writing.definition n d.0.address d.0.title)))
     ∙ definition_read n d.0.address d.0.title [] d.0.kept tt in
     and_from (is_number n (definition l)) (are_numbered (suc n) ls)
-    (ap (is_number n) read ∙ ap (λ k. bytes_eq k (decimal n)) (number_is_label n) ∙ same_bytes (decimal n))
+    (ap (is_number n) read ∙ ap (λ k. bytes_eq k (decimal n)) (label_is n) ∙ same_bytes (decimal n))
     (numbers_are (suc n) ls d.1)
 
 pub numbered_append : (n : ℕ) (ls ms : List (List ℕ)) → Numbered n ls → Numbered (n + length ls) ms

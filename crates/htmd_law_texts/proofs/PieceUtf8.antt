@@ -6,7 +6,7 @@ use Rattle.std.specs.List.{list_all}
 use Rattle.std.specs.Str.{IsUtf8, is_utf8}
 use Rattle.std.specs.Char.{is_ascii_digit}
 use Rattle.std.specs.Fmt.{decimal}
-use Rattle.std.proofs.lemmas.Bool.{and_parts, and_from, ltb-true}
+use Rattle.std.proofs.lemmas.Bool.{and_parts, ltb-true}
 use Rattle.std.proofs.lemmas.Bool.Decides.{nat_tests}
 use Rattle.std.proofs.lemmas.List.{append-nil}
 use Rattle.std.proofs.lemmas.Str.{IsUtf8-append, IsUtf8-from_is_utf8, IsUtf8-nil, encodes-append, encode_ascii}
@@ -36,6 +36,7 @@ use Rattle.htmd_law_inlines.proofs.TextPieces.{test}
 use Rattle.htmd_law_inlines.proofs.TextRead.{escapes_of}
 use Rattle.htmd_law_inlines.proofs.TextMarks.{marks_all, are_due}
 use Rattle.htmd_law_inlines.proofs.ReferencePieces.{AreEscapes}
+use Rattle.htmd_law_inlines.proofs.HeadPieces.{scalars_one_more}
 use Rattle.htmd_law_inlines.proofs.RowsRead.{last_of_encodes}
 use Rattle.htmd_law_inlines.proofs.WalkPieces.{ascii_utf8, escaped_utf8}
 use Rattle.htmd_law_inlines.proofs.Utf8Pieces.{resource_utf8}
@@ -43,7 +44,7 @@ use Rattle.htmd_law_texts.proofs.WrittenPieces.{pieces, piece, text_piece, link_
 use Rattle.htmd_law_texts.proofs.WrittenPieces.{stars, score, scores, tildes, Tag, em_tag, strong_tag, del_tag, sup_tag}
 use Rattle.htmd_law_texts.proofs.WrittenPieces.{sub_tag, opener, closer, mark_cases}
 use Rattle.htmd_law_texts.proofs.PieceTexts.{all_by, all_replicate, decimal_digits}
-use lib.Utf8.{encode, encodes, scalar, scalars, low_scalar}
+use lib.Utf8.{encode, encodes, scalar, low_scalar}
 
 -- ---- ASCII
 
@@ -65,13 +66,6 @@ digit_small c h = grind (arith, nat_tests)
 
 -- ---- the last character
 
-scalars_end : (cs : List ℕ) (c : ℕ) → scalars cs ≡ true → scalar c ≡ true → scalars (cs ++ (c ∷ []))
-    ≡ true
-scalars_end [] c h k = rw k refl
-scalars_end (d ∷ cs) c h k =
-    let p = and_parts (scalar d) (scalars cs) h in
-    and_from (scalar d) (scalars (cs ++ (c ∷ []))) p.0 (scalars_end cs c p.1 k)
-
 -- what ends in a character of ASCII
 pub before_ascii : (s : List ℕ) (c : ℕ) → IsUtf8 s → c < 128 → character_before (s ++ (c ∷ []))
     ≡ in_line (Some c)
@@ -80,7 +74,7 @@ before_ascii s c (cs, (h, e)) l =
     encodes-append cs (c ∷ []) ∙ ap (λ x. x ++ (encode c ++ [])) e
     ∙ ap (λ x. s ++ x) (append-nil (encode c) ∙ encode_ascii c l) in
     ap (λ x. in_line (writer.last_character x)) (sym is)
-    ∙ ap in_line (last_of_encodes cs c (scalars_end cs c h (small_scalar c l)))
+    ∙ ap in_line (last_of_encodes cs c (scalars_one_more cs c h (small_scalar c l)))
 
 -- ---- pieces
 

@@ -32,7 +32,7 @@ use Rattle.htmd_walk.specs.Handling.{ElementView, ResultView}
 use Rattle.htmd_walk.specs.Outputs.{is_markdown_alone}
 use Rattle.htmd_walk.specs.Children.{content_alone, descendant_tree}
 use Rattle.htmd_walk.specs.Elements.{Occurrence, contents_alone}
-use Rattle.htmd_walk.specs.ElementPlans.{raw_block_result, are_markdown, attributes_of, value_of_first}
+use Rattle.htmd_walk.specs.ElementPlans.{raw_block_result, are_markdown, attributes_of, value_of}
 use Rattle.htmd_walk.specs.ElementPlans.{optional_markdown}
 use Rattle.htmd_walk.specs.Lists.{block_of_child, blocks_of_list, blocks_of, first_number_of, is_in_item}
 use Rattle.htmd_law_trees.specs.ListLaws.{ItemsBeginInOneColumn, is_item, HasItemBehind, EachItemTakesANumber}
@@ -303,7 +303,7 @@ items_begin view few results =
     let spacing = view.options.ol_number_spacing in
     let blocks = blocks_of view results in
     let small : first + item_count blocks < 2 ^ 64 =
-    omega (arith, few, items_among view results, first_below (value_of_first (codes "start") (attributes_of view))) in
+    omega (arith, few, items_among view results, first_below (value_of (codes "start") (attributes_of view))) in
     markdown_holds (HasEqualColumns first spacing blocks) (is_markdown_alone view.options || are_markdown results)
     (list_block (is_in_item view) (ordered_list first spacing blocks)) (raw_block_result view) refl
     (block_holds (HasEqualColumns first spacing blocks) (between_line_feeds (cond (is_in_item view) 1 2))

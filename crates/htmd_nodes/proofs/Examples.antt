@@ -1,11 +1,13 @@
 -- A small document, `<p>Hi</p><br>`, whose text was added last.
-use Rattle.std.proofs.Common.{◌≡◌, List, [], ◌∷◌, Some, refl}
+use Rattle.std.proofs.Common.{◌≡◌, List, [], ◌∷◌, Some, None, refl}
 use Rattle.std.specs.Prelude.{codes}
 use Rattle.htmd_nodes.specs.Items.{Item, document_item, text_node, element_node, children_of}
 use Rattle.htmd_nodes.specs.NumberedTrees.{document, text, element, none, more, forest_from, tree_of, height}
 use Rattle.htmd_values.specs.ValueTrees as values
 use Rattle.htmd_nodes.specs.Layout.{document_items}
 use Rattle.htmd_nodes.specs.Ancestors.{ancestors_up, ancestors_of}
+use Rattle.htmd_nodes.specs.AttributeValues.{value_of}
+use Rattle.htmd_lexical.specs.AttributePairs.{AttributePair}
 
 abbrev items : List Item
 items =
@@ -44,3 +46,17 @@ document_items-children : document_items
     ∷ record { parent = Some 0; depth = 1; node_data = element_node (codes "br") [] }
     ∷ [])
 document_items-children = refl
+
+-- attributes: two with one name, of which the first counts
+abbrev attributes : List AttributePair
+attributes =
+    record { name = codes "id"; value = codes "a" }
+    ∷ record { name = codes "title"; value = codes "b" }
+    ∷ record { name = codes "title"; value = codes "c" }
+    ∷ []
+
+value_of-title : value_of (codes "title") attributes ≡ Some (codes "b")
+value_of-title = refl
+
+value_of-href : value_of (codes "href") attributes ≡ None
+value_of-href = refl

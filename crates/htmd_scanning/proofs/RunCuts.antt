@@ -1,5 +1,5 @@
 -- Where a text may be cut after a run of characters of one class.
-use Rattle.std.proofs.Common.{◌≡◌, ◌⊎◌, ℕ, ◌<◌, Bool, true, false, List, length, get_or, refl, arith, inl, inr}
+use Rattle.std.proofs.Common.{◌≡◌, ℕ, ◌<◌, Bool, true, false, List, length, get_or, refl, arith, inl, inr}
 use Rattle.std.proofs.lemmas.Bool.Decides.{nat_tests}
 use Rattle.std.specs.Prelude.{nat_lt}
 use Rattle.std.specs.Str.{IsUtf8, IsCharBoundary}
@@ -7,13 +7,13 @@ use Rattle.htmd_lexical.specs.CharacterClasses.{leading_run}
 use Rattle.htmd_lexical.specs.TagReading.{is_other}
 use Rattle.htmd_lexical.proofs.CharacterClassesLemmas.{behind_leading_run}
 use Rattle.htmd_lexical.proofs.RunsLemmas.{run_within, behind_last}
-
--- all characters outside ASCII pass, or none does
-abbrev pub IsUniform : (ℕ → Bool) → Type 0
-IsUniform p = ((b : ℕ) → p b ≡ false → b < 128) ⊎ ((b : ℕ) → p b ≡ true → b < 128)
+pub use Rattle.htmd_scanning.specs.Runs.{IsUniform}
 
 pub outside_other : (other b : ℕ) → nat_lt other 128 ≡ true → is_other other b ≡ false → b < 128
 outside_other other b l e = grind (arith, nat_tests)
+
+pub outside_byte : (other b : ℕ) → other < 128 → is_other other b ≡ false → b < 128
+outside_byte other b l e = grind (arith, nat_tests)
 
 -- before an ASCII character that ends a run
 pub cut_before_ascii : (p : ℕ → Bool) (s : List ℕ) → ((b : ℕ) → p b ≡ false → b < 128)

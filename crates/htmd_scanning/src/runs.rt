@@ -1,7 +1,8 @@
 //! How many bytes of a class are at the beginning of a text.
 ghost use Rattle.std.specs.Prelude.{◌≡◌, ◌≤◌, ℕ, Bool, length};
 ghost use Rattle.std.specs.Char.{is_ascii_alphanumeric, is_ascii_digit, is_ascii_hexdigit};
-ghost use Rattle.htmd_lexical.specs.CharacterClasses.{leading_run};
+ghost use Rattle.htmd_lexical.specs.CharacterClasses.{leading_run, behind_run};
+ghost use Rattle.htmd_scanning.specs.Runs.{IsUniform};
 
 /// What the bytes of a run have in common.
 pub trait ByteClass: Copy {
@@ -25,6 +26,18 @@ pub fn run_len<C: ByteClass>(bytes: &[u8], class: C) -> usize
         }
     }
     bytes.len()
+}
+
+/// The run of the class at the beginning, and what follows it. Outside ASCII all characters must be of the class, or
+/// none.
+#[tactic(auto)]
+#[inline(always)]
+pub fn split_run<C: ByteClass>(text: &str, class: C) -> (&str, &str)
+    requires { IsUniform (C.bytes class) }
+    ensures run { result.0.now ≡ leading_run (C.bytes class) text.now }
+    ensures rest { result.1.now ≡ behind_run (C.bytes class) text.now }
+{
+    text.split_at(run_len(text.as_bytes(), class))
 }
 
 /// ASCII letters and digits.

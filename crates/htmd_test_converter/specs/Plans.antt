@@ -2,7 +2,7 @@
 use Rattle.std.specs.Prelude.{ℕ, zero, suc, true, ◌==◌, if◌then◌else◌, List, [], ◌∷◌, Option, Some, None, codes}
 use Rattle.htmd_nodes.specs.Items.{Item, children_of}
 use Rattle.htmd.specs.Handling.{ElementView, PlanView, nothing, this_result, content_of_descendant, content_of_fallback}
-use Rattle.htmd.specs.ElementPlans.{attributes_of, value_of_first}
+use Rattle.htmd.specs.ElementPlans.{attributes_of, value_of}
 
 -- this text, if there is one
 abbrev pub plan_of_text : Option (List ℕ) → PlanView
@@ -35,4 +35,4 @@ plan_of_value (Some value) = content_of_fallback
 
 -- what the handler before gives, if there is an attribute `id`
 abbrev pub plan_with_id : ElementView → PlanView
-plan_with_id view = plan_of_value (value_of_first (codes "id") (attributes_of view))
+plan_with_id view = plan_of_value (value_of (codes "id") (attributes_of view))

@@ -1,10 +1,8 @@
 //! Handlers of your own, of each kind.
-ghost use Rattle.std.specs.Option.{option_copied};
 ghost use Rattle.std.specs.Prelude.{◌≡◌, ◌<◌, ◌&&◌, Some, None, if◌then◌else◌, length, not, true};
 ghost use Rattle.std.specs.Prelude.{codes, string_bytes};
 ghost use Rattle.htmd_nodes.specs.Items.{children_of};
-ghost use Rattle.htmd_lexical.specs.Attributes.{pairs_of};
-ghost use Rattle.htmd.specs.ElementPlans.{attributes_of, is_more_than, value_of_first};
+ghost use Rattle.htmd.specs.ElementPlans.{attributes_of, is_more_than};
 ghost use Rattle.htmd.specs.Handling.{this_result, raw_html, content_of_children, content_of_fallback};
 ghost use Rattle.htmd.specs.Outputs.{is_markdown_alone};
 ghost use Rattle.htmd.specs.Views.{optional_text};
@@ -12,7 +10,7 @@ ghost use Rattle.htmd_test_converter.specs.Plans.{plan_of_text, plan_of_first, p
 ghost use Rattle.htmd_test_converter.specs.Plans.{plan_with_id};
 
 use htmd::element_handler::{Element, ElementHandler, HandlerResult, Plan, is_raw_html_due};
-use htmd::{Attribute, NodeId, Tree};
+use htmd::{NodeId, Tree};
 use std::alloc::{AllocError, Global};
 
 /// Gives this text with this flag.
@@ -305,18 +303,6 @@ impl ElementHandler for FirstBelow {
     }
 }
 
-// The value of the first attribute with this name.
-fn value_of<'e>(attrs: &'e [Attribute], name: &str) -> Option<&'e str>
-    ensures { option_copied result ≡ value_of_first name.now (pairs_of attrs.now) }
-{
-    for attribute in attrs {
-        if attribute.name.as_str() == name {
-            return Some(attribute.value.as_str());
-        }
-    }
-    None
-}
-
 /// Gives what the handler before gives, if the element has the attribute `id`.
 #[derive(Drop)]
 pub(crate) struct NeedsId;
@@ -333,7 +319,7 @@ impl ElementHandler for NeedsId {
     }
 
     fn plan(&self, _alloc: Global, element: &Element) -> Result<Plan, AllocError> {
-        match value_of(element.attrs, "id") {
+        match element.attribute("id") {
             Some(_) => Ok(Plan::Fallback),
             None => Ok(Plan::Skip),
         }

@@ -142,6 +142,7 @@ fn tells_of_a_failed_help(rt: HostRuntime) -> Result<(), Fail> {
         ("--help", 500),
         ("--version", 0),
         ("--version", 10),
+        ("--version", 11),
     ];
     for &(option, writes) in ROWS {
         expect_failed(rt.alloc(), option, writes)?;

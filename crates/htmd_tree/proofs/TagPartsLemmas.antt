@@ -1,23 +1,25 @@
 -- How the parts of a start tag follow from the runs that are found.
 use Rattle.std.proofs.Common.{◌≡◌, ℕ, zero, suc, ◌<◌, ◌≤◌, Bool, true, false, not, ◌&&◌, List, [], ◌∷◌, ◌++◌, length}
-use Rattle.std.proofs.Common.{map, drop, get_or, refl, sym, ◌∙◌, ap, arith, eqb, append_assoc, length-drop}
+use Rattle.std.proofs.Common.{map, get_or, refl, sym, ◌∙◌, ap, arith, eqb, append_assoc}
 use Rattle.std.specs.Prelude.{◌==◌, if◌then◌else◌}
-use Rattle.std.proofs.lemmas.Bool.{and_parts, eqb-true, not-true, not-false}
+use Rattle.std.proofs.lemmas.Bool.{and_parts, eqb-true}
 use Rattle.std.proofs.lemmas.Bool.Decides.{nat_tests}
 use Rattle.std.specs.List.{list_all}
 use Rattle.std.specs.Char.{is_ascii_alphabetic, to_ascii_lowercase}
 use Rattle.htmd_lexical.specs.WhiteSpace.{is_ascii_white_space}
 use Rattle.htmd_lexical.proofs.Cases.{test}
 use Rattle.htmd_lexical.specs.AttributePairs.{AttributePair}
-use Rattle.htmd_lexical.specs.CharacterClasses.{is_empty, first_is, leading_run, behind_run, is_tag_name}
+use Rattle.htmd_lexical.specs.CharacterClasses.{is_empty, leading_run, behind_run, is_tag_name}
 use Rattle.htmd_lexical.specs.CharacterClasses.{is_tag_name_byte}
 use Rattle.htmd_lexical.specs.CharacterClasses.{is_attribute_name, is_attribute_name_byte, holds_control}
 use Rattle.htmd_lexical.specs.CharacterClasses.{is_unquoted_byte}
-use Rattle.htmd_lexical.specs.TagReading.{TagPart, malformed, tag_end, attribute, is_other, quoted_value, value_part}
+use Rattle.htmd_lexical.specs.TagReading.{TagPart, malformed, tag_end, attribute, value_part}
 use Rattle.htmd_lexical.specs.TagReading.{unquoted_value, behind_attribute_name, behind_slash, behind_gap, next_part}
 use Rattle.htmd_lexical.specs.TagReading.{TagForm, no_form, form, with_attribute, form_behind, form_within}
 use Rattle.htmd_lexical.proofs.RunsLemmas.{behind_within}
 use Rattle.htmd_lexical.proofs.LeadingRunsLemmas.{front_all}
+use Rattle.htmd_scanning.proofs.PartSizesLemmas as parts
+use Rattle.htmd_scanning.proofs.PartSizesLemmas.{size_of, choice_size, rest_shorter}
 use Rattle.htmd_tree.specs.TagParts.{attribute_part, with_attributes}
 
 -- ---- names
@@ -57,40 +59,16 @@ attribute_is_named s name rest d e f g =
 
 -- ---- each part takes at least one character
 
--- one more than what is left after a part
-abbrev size_of : TagPart → ℕ
-size_of malformed = 0
-size_of (tag_end present s) = suc (length s)
-size_of (attribute name value s) = suc (length s)
-
-quoted_size : (q : ℕ) (name s : List ℕ) → size_of (quoted_value q name s) ≤ suc (length s)
-quoted_size q name s =
-    let k = behind_within (is_other q) s in
-    let d = length-drop 1 (behind_run (is_other q) s) in
-    test (is_empty (behind_run (is_other q) s)) (λ e. rw e (omega arith)) (λ e. rw e (omega arith))
-
 unquoted_size : (name s : List ℕ) → size_of (unquoted_value name s) ≤ suc (length s)
 unquoted_size name s =
     let k = behind_within is_unquoted_byte s in
     test (is_empty (leading_run is_unquoted_byte s)) (λ e. rw e (omega arith)) (λ e. rw e (omega arith))
 
 value_size : (name s : List ℕ) → size_of (value_part name s) ≤ suc (length s)
-value_size name s =
-    let d = length-drop 1 s in
-    let two = quoted_size 34 name (drop 1 s) in
-    let one = quoted_size 39 name (drop 1 s) in
-    let none_ = unquoted_size name s in
-    test (first_is 34 s) (λ e. rw e (omega arith))
-    (λ e. test (first_is 39 s) (λ f. rw (e, f) (omega arith)) (λ f. rw (e, f) none_))
+value_size name s = parts.value_size name s _ (unquoted_size name s)
 
 name_size : (name s : List ℕ) → size_of (behind_attribute_name name s) ≤ suc (length s)
-name_size name s =
-    let sign : List ℕ = behind_run is_ascii_white_space s in
-    let k = behind_within is_ascii_white_space s in
-    let d = length-drop 1 sign in
-    let l = behind_within is_ascii_white_space (drop 1 sign) in
-    let v = value_size name (behind_run is_ascii_white_space (drop 1 sign)) in
-    test (first_is 61 sign) (λ e. rw e (omega arith)) (λ e. rw e (omega arith))
+name_size name s = parts.name_size name s (value_part name) (value_size name)
 
 run_behind : (p : ℕ → Bool) (s : List ℕ) → is_empty (leading_run p s) ≡ false
     → length (behind_run p s) < length s
@@ -105,11 +83,6 @@ attribute_size s =
     test (is_empty name) (λ e. rw e (omega arith))
     (λ e. let l = run_behind is_attribute_name_byte s e in
     test (is_attribute_name name) (λ f. rw f (omega arith)) (λ f. rw f (omega arith)))
-
-choice_size : (b : Bool) (p q : TagPart) (n : ℕ) → size_of p ≤ n → size_of q ≤ n
-    → size_of (if b then p else q) ≤ n
-choice_size true p q n h k = h
-choice_size false p q n h k = k
 
 gap_size : (w : Bool) (s : List ℕ) → size_of (behind_gap w s) ≤ length s
 gap_size w [] = omega arith
@@ -135,10 +108,7 @@ part_size s =
 
 pub part_shorter : (s name value rest : List ℕ) → attribute name value rest ≡ next_part s
     → length rest < length s
-part_shorter s name value rest e =
-    let a : suc (length rest) ≡ size_of (next_part s) = ap size_of e in
-    let b = part_size s in
-    omega arith
+part_shorter s name value rest = rest_shorter (next_part s) s name value rest (part_size s)
 
 -- ---- the form of a tag
 

@@ -18,7 +18,7 @@ use Rattle.htmd_grammar.specs.declared.fault.FaultKind.TheVariants.{DuplicateAtt
 use Rattle.htmd_tree.specs.TagParts.{read_attributes, all_spelled_of}
 use Rattle.htmd_lexical.specs.Attributes.{pair_of, pairs_of}
 use Rattle.htmd_lexical.specs.declared.attribute.Attribute.{Attribute}
-use Rattle.htmd_tree.specs.declared.reader.attributes.SpelledAttribute.{SpelledAttribute}
+use Rattle.htmd_scanning.specs.declared.tag_parts.SpelledAttribute.{SpelledAttribute}
 
 -- attributes, and then those of an answer
 abbrev pub behind_attributes : List AttributePair → Option (List AttributePair) → Option (List AttributePair)

@@ -15,16 +15,9 @@ use Rattle.htmd_grammar.specs.declared.fault.FaultKind.{FaultKind}
 use Rattle.htmd_grammar.specs.declared.fault.FaultKind.TheVariants.{UnknownReference, BadNumber, DuplicateAttribute}
 use Rattle.htmd_grammar.specs.declared.fault.FaultKind.TheVariants.{SelfClosing}
 use Rattle.htmd_grammar.specs.declared.fault.FaultKind.TheVariants.{TagOutside}
-use Rattle.htmd_lexical.specs.TagReading.{TagPart, malformed, tag_end, attribute, behind_attribute_name}
+use Rattle.htmd_lexical.specs.TagReading.{TagPart, malformed, behind_attribute_name}
 use Rattle.htmd_lexical.specs.TagReading.{TagForm, no_form, form}
-use Rattle.htmd_tree.specs.declared.reader.attributes.SpelledAttribute.{SpelledAttribute}
-use Rattle.htmd_tree.specs.declared.reader.attributes.Part.{Part}
-use Rattle.htmd_tree.specs.declared.reader.attributes.Part.TheVariants.{Malformed, End, Attribute}
-
-abbrev pub part_of : Part → TagPart
-part_of Malformed = malformed
-part_of (End slash rest) = tag_end slash rest.now
-part_of (Attribute spelled rest) = attribute spelled.name.now spelled.value.now rest.now
+use Rattle.htmd_scanning.specs.declared.tag_parts.SpelledAttribute.{SpelledAttribute}
 
 abbrev pub spelled_of : SpelledAttribute → AttributePair
 spelled_of a = record { name = map to_ascii_lowercase a.name.now; value = a.value.now }

@@ -10,7 +10,7 @@ mod reader;
 
 pub use htmd_grammar::FaultKind;
 pub use htmd_nodes::{
-    Attribute, MAX_DEPTH, Name, NodeData, NodeId, Tree, TreeError, is_void, push_end_tag,
+    Attribute, MAX_DEPTH, Name, NodeData, NodeId, Tag, Tree, TreeError, is_void, push_end_tag,
     push_start_tag, serialize,
 };
 pub use lines::line_and_column;

@@ -1,23 +1,19 @@
--- Loops over the children of a node, and over attributes.
+-- Loops over the children of a node.
 use Rattle.std.proofs.Common.{◌≡◌, ℕ, ◌+◌, ◌<◌, ◌≤◌, List, [], ◌∷◌, ◌++◌, length, get_or, take, drop, map, refl, sym}
-use Rattle.std.proofs.Common.{ap, ◌∙◌, arith, All, Bool, true, false, cond, ◌||◌, ◌&&◌, Some, None, subst, filter, fold}
+use Rattle.std.proofs.Common.{ap, ◌∙◌, arith, All, Bool, true, false, cond, ◌||◌, ◌&&◌, subst, filter, fold}
 use Rattle.std.specs.List.{list_any, zip}
-use Rattle.std.specs.Str.{bytes_eq}
-use Rattle.std.specs.String.{string_bytes}
 use Rattle.std.proofs.lemmas.List.{take_more, take_all, drop_more, drop_all, get_or_default, append-nil, map_push}
 use Rattle.std.proofs.lemmas.List.{take-append-drop}
 use Rattle.std.proofs.lemmas.List.Sums.{fold-append, fold_more}
 use Rattle.std.proofs.lemmas.List.Folds.{list_any_at, list_any-append}
 use Rattle.std.proofs.lemmas.List.Elements.{All-from_get_or, Contains-get_or, filter_more, filter-append}
-use Rattle.htmd_lexical.specs.declared.attribute.Attribute.{Attribute}
-use Rattle.htmd_lexical.specs.Attributes.{pairs_of}
 use Rattle.htmd_nodes.specs.Items.{Item, children_of, IsTree, IsBelow, child}
 use Rattle.htmd_nodes.proofs.ItemsLemmas.{child_read}
 use Rattle.std.proofs.lemmas.List.Elements.{All-get_or}
 use Rattle.std.proofs.lemmas.Slice.Zip.{length-zip, get_or-zip}
 use Rattle.htmd_walk.specs.declared.element_handler.HandlerResult.{HandlerResult}
 use Rattle.htmd_walk.specs.Views.{results_view}
-use Rattle.htmd_walk.specs.ElementPlans.{value_of_first, are_markdown}
+use Rattle.htmd_walk.specs.ElementPlans.{are_markdown}
 
 -- ---- whether one of a list passes a test
 
@@ -107,28 +103,6 @@ pub child_within : (items : List Item) (node : ℕ) (ids : List ℕ) (i x : ℕ)
     → ids ≡ children_of items node → i < length ids → x ≡ get_or ids i x → x < length items
 child_within items node ids i x t w e l h = (child_read items node ids i x t w e l h).1
 
--- ---- the first attribute of a name
-
-pub value_here : (name : List ℕ) (xs : List Attribute) (i : ℕ) (x : Attribute) → i < length xs
-    → x ≡ get_or xs i x
-    → bytes_eq (string_bytes x.name) name ≡ true
-    → value_of_first name (pairs_of (drop i xs)) ≡ Some (string_bytes x.value)
-value_here name xs i x l e h =
-    ap (λ ys. value_of_first name (pairs_of ys)) (drop_more xs i x l ∙ ap (λ y. y ∷ drop (i + 1) xs) (sym e))
-    ∙ ap (λ b. cond b (Some (string_bytes x.value)) (value_of_first name (pairs_of (drop (i + 1) xs)))) h
-
-pub value_passed : (name : List ℕ) (xs : List Attribute) (i : ℕ) (x : Attribute) → i < length xs
-    → x ≡ get_or xs i x
-    → bytes_eq (string_bytes x.name) name ≡ false
-    → value_of_first name (pairs_of (drop i xs)) ≡ value_of_first name (pairs_of (drop (i + 1) xs))
-value_passed name xs i x l e h =
-    ap (λ ys. value_of_first name (pairs_of ys)) (drop_more xs i x l ∙ ap (λ y. y ∷ drop (i + 1) xs) (sym e))
-    ∙ ap (λ b. cond b (Some (string_bytes x.value)) (value_of_first name (pairs_of (drop (i + 1) xs)))) h
-
-pub value_none : (name : List ℕ) (xs : List Attribute) (i : ℕ) → length xs ≤ i
-    → value_of_first name (pairs_of (drop i xs)) ≡ None
-value_none name xs i l = ap (λ ys. value_of_first name (pairs_of ys)) (drop_all i xs l)
-
 -- ---- pairs
 
 pub zip-map : {A B C D : Type 0} (f : A × C → D) (g : B → C) (xs : List A) (ys : List B)
@@ -136,11 +110,6 @@ pub zip-map : {A B C D : Type 0} (f : A × C → D) (g : B → C) (xs : List A) 
 zip-map f g [] ys = refl
 zip-map f g (x ∷ xs) [] = refl
 zip-map f g (x ∷ xs) (y ∷ ys) = ap (λ zs. f (x, g y) ∷ zs) (zip-map f g xs ys)
-
-pub map_twice : {A B C : Type 0} (f : B → C) (g : A → B) (xs : List A)
-    → map f (map g xs) ≡ map (λ x. f (g x)) xs
-map_twice f g [] = refl
-map_twice f g (x ∷ xs) = ap (λ zs. f (g x) ∷ zs) (map_twice f g xs)
 
 -- what holds for all first parts holds for each that comes up
 pub zip_first_all : {A B : Type 0} (P : A → Type 0) (xs : List A) (ys : List B) (i : ℕ) (x : A) (y : B) → All P xs

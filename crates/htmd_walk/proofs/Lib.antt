@@ -4,6 +4,7 @@ pub mod Cuts
 pub mod SeamsLemmas
 pub mod UnescapedTextsLemmas
 pub mod Nodes
+pub mod BlockTagsLemmas
 pub mod ChoiceLemmas
 pub mod LatestLemmas
 pub mod GroupsLemmas

@@ -1,5 +1,5 @@
 -- What is asked of a node, against its value tree and its ancestors.
-use Rattle.std.proofs.Common.{◌≡◌, ℕ, ◌<◌, List, [], ◌∷◌, length, get_or, Some, None, refl, sym, ap, ◌∙◌, arith, subst}
+use Rattle.std.proofs.Common.{◌≡◌, ℕ, ◌<◌, List, [], ◌∷◌, length, get_or, Some, None, refl, ap, ◌∙◌, arith, subst}
 use Rattle.std.proofs.Common.{Bool, ◌||◌, not, ◌&&◌, true, false, codes, eqb}
 use Rattle.std.specs.List.{list_any}
 use Rattle.std.specs.Str.{bytes_eq}
@@ -52,7 +52,7 @@ tag-held tags (text_node s) h = cc
 tag-held tags (comment_node s) h = cc
 tag-held tags (element_node name attributes) h = refl
 
-bytes_eq-swapped : (n m : List ℕ) → bytes_eq n m ≡ bytes_eq m n
+pub bytes_eq-swapped : (n m : List ℕ) → bytes_eq n m ≡ bytes_eq m n
 bytes_eq-swapped [] [] = refl
 bytes_eq-swapped [] (b ∷ m) = refl
 bytes_eq-swapped (b ∷ n) [] = refl
@@ -158,19 +158,18 @@ module _ (items : List Item) (t : IsTree items) where
   only_text-none (i ∷ j ∷ ids) l = two_or_more (tree_of items i) (tree_of items j) (forest_of (tree_of items) ids)
 
 -- the tag that an ancestor's trimming asks for
-pub tag_some : (c : Data) (tag : List ℕ) → Some tag ≡ tag_of c → (ancestor_of c).tag ≡ tag
-tag_some document_node tag e = cc
-tag_some doctype_node tag e = cc
-tag_some (text_node s) tag e = cc
-tag_some (comment_node s) tag e = cc
-tag_some (element_node name attributes) tag e = cc
+-- the Document has the tag of `html`, and what is no element has none
+pub html_block : is_block (ancestor_of document_node).tag ≡ true
+unfolding is_block
+html_block = refl
 
-pub tag_none : (c : Data) → None ≡ tag_of c → is_block (ancestor_of c).tag ≡ false
-tag_none document_node e = cc
-tag_none doctype_node e = block-nil
-tag_none (text_node s) e = block-nil
-tag_none (comment_node s) e = block-nil
-tag_none (element_node name attributes) e = cc
+pub other_tag : (n : NodeData) → (n ≡ Document → ⊥) → ((name : List ℕ) (attributes : Vec Attribute Global)
+    → n ≡ Element name attributes → ⊥) → is_block (ancestor_of (data_of n)).tag ≡ false
+other_tag Document d h = absurd (d refl)
+other_tag Doctype d h = block-nil
+other_tag (Text s) d h = block-nil
+other_tag (Comment s) d h = block-nil
+other_tag (Element name attributes) d h = absurd (h name attributes refl)
 
 -- a stored node that isn't an element, or isn't text
 pub not_block : (n : NodeData) → ((name : List ℕ) (attributes : Vec Attribute Global)

@@ -1,6 +1,8 @@
 -- The built-in handlers and their tags.
 use Rattle.std.specs.Prelude.{ℕ, List, [], ◌∷◌, codes, map}
 use Rattle.std.specs.Borrow.{Bor}
+use Rattle.htmd_nodes.specs.declared.tag.Tag.{Tag}
+use Rattle.htmd_nodes.specs.Tags.{tag_text}
 use Rattle.htmd_walk.specs.declared.options.Options.{Options}
 use Rattle.htmd_walk.specs.declared.element_handler.built_in.BuiltIn.{BuiltIn}
 use Rattle.htmd_walk.specs.declared.element_handler.built_in.BuiltIn.TheVariants.{ListElement, ListItem}
@@ -120,5 +122,5 @@ meaning_of Span = spans
 meaning_of OtherBlock = other_blocks
 
 -- a handler and its tags, as the source has them
-abbrev pub row_of : BuiltIn × Bor (List (Bor (List ℕ))) → Row
-row_of r = row (map (λ tag. tag.now) r.1.now) (meaning_of r.0)
+abbrev pub row_of : BuiltIn × Bor (List Tag) → Row
+row_of r = row (map tag_text r.1.now) (meaning_of r.0)

@@ -1,8 +1,7 @@
 -- The handler of code.
 use Rattle.std.specs.Prelude.{ℕ, Bool, false, not, ◌&&◌, ◌||◌, if◌then◌else◌, List, [], ◌∷◌, Option, Some, None, true}
-use Rattle.std.specs.Prelude.{codes, drop, ◌==◌}
+use Rattle.std.specs.Prelude.{codes, drop, option_and_then, ◌==◌}
 use Rattle.std.specs.List.{list_all, slice_split, starts_with}
-use Rattle.std.specs.Str.{bytes_eq}
 use Rattle.std.specs.Option.{is_some, option_or}
 use Rattle.htmd_lexical.specs.Characters.{space}
 use Rattle.htmd_markdown.specs.CodeSpans.{code_span}
@@ -17,7 +16,7 @@ use Rattle.htmd_walk.specs.Outputs.{is_markdown_alone}
 use Rattle.htmd_walk.specs.declared.options.CodeBlockStyle.{CodeBlockStyle}
 use Rattle.htmd_walk.specs.declared.options.CodeBlockStyle.TheVariants.{Indented, Fenced}
 use Rattle.htmd_walk.specs.Rendering.{is_text}
-use Rattle.htmd_walk.specs.ElementPlans.{attributes_of, tag_at, parent_tag, is_raw_html_due, is_tag_among}
+use Rattle.htmd_walk.specs.ElementPlans.{attributes_of, value_of, tag_at, parent_tag, is_raw_html_due, is_tag_among}
 use Rattle.htmd_walk.specs.ElementPlans.{markdown_result}
 
 -- ---- the language of a code block
@@ -38,10 +37,7 @@ classes_of s = slice_split (λ b. b == space) s
 
 -- the first class attribute counts
 abbrev pub language_of : List AttributePair → Option (List ℕ)
-language_of [] = None
-language_of (a ∷ attributes) =
-    if bytes_eq a.name (codes "class") then first_language (classes_of a.value)
-    else language_of attributes
+language_of attributes = option_and_then (λ v. first_language (classes_of v)) (value_of (codes "class") attributes)
 
 abbrev pub language_at : List Item → Option ℕ → Option (List ℕ)
 language_at items None = None

@@ -1,11 +1,12 @@
 -- What a handler reads off an element that it is shown, and the plans and results that many handlers have.
-use Rattle.std.specs.Prelude.{ℕ, Bool, false, not, ◌&&◌, ◌||◌, if◌then◌else◌, nat_lt, List, [], ◌∷◌, length, Option}
+use Rattle.std.specs.Prelude.{ℕ, Bool, false, not, ◌&&◌, ◌||◌, if◌then◌else◌, nat_lt, List, length, Option}
 use Rattle.std.specs.Prelude.{Some, None, true, ℤ, pos, negsuc}
 use Rattle.std.specs.List.{list_any, list_all}
 use Rattle.std.specs.Str.{bytes_eq}
 use Rattle.htmd_text.specs.Trims.{trimmed_text, is_line_feed}
 use Rattle.htmd_lexical.specs.BlankLines.{with_blank_lines}
 use Rattle.htmd_lexical.specs.AttributePairs.{AttributePair}
+pub use Rattle.htmd_nodes.specs.AttributeValues.{value_of}
 use Rattle.htmd_nodes.specs.NumberedTrees.{tree_of, value_tree}
 use Rattle.htmd_values.specs.Serialisation.{serialisation}
 use Rattle.htmd_values.specs.RawBlocks.{raw_block}
@@ -31,11 +32,6 @@ tag_at items (Some node) = tree.tag_of (tree.data_at items node)
 -- the tag of the parent; the Document's is html
 abbrev pub parent_tag : ElementView → Option (List ℕ)
 parent_tag view = tag_at view.items (tree.parent_at view.items view.node)
-
--- the value of the first attribute with this name
-abbrev pub value_of_first : List ℕ → List AttributePair → Option (List ℕ)
-value_of_first name [] = None
-value_of_first name (a ∷ attributes) = if bytes_eq a.name name then Some a.value else value_of_first name attributes
 
 -- whether all of these are Markdown
 abbrev pub are_markdown : List ResultView → Bool

@@ -9,7 +9,7 @@ use Rattle.htmd_nodes.specs.Items.{Item, data_at, children_of}
 use Rattle.htmd_walk.specs.Handling.{ElementView, ResultView, PlanView, raw_html, content_of_children, HandlerMeaning}
 use Rattle.htmd_walk.specs.Handling.{contents_of_each, final_result, without_definitions}
 use Rattle.htmd_walk.specs.Outputs.{is_markdown_alone}
-use Rattle.htmd_walk.specs.ElementPlans.{tag_of, attributes_of, parent_tag, value_of_first, are_markdown}
+use Rattle.htmd_walk.specs.ElementPlans.{tag_of, attributes_of, parent_tag, value_of, are_markdown}
 use Rattle.htmd_walk.specs.ElementPlans.{raw_block_result}
 use Rattle.htmd_walk.specs.ElementPlans.{is_raw_html_due, is_tag_among, optional_markdown}
 use Rattle.htmd_nodes.specs.Items as tree
@@ -66,7 +66,7 @@ abbrev pub blocks_of : ElementView → List ResultView → List Block
 blocks_of view contents = blocks_of_list view.items (children_of view.items view.node) contents
 
 abbrev pub first_number_of : ElementView → ℕ
-first_number_of view = first_number (value_of_first (codes "start") (attributes_of view))
+first_number_of view = first_number (value_of (codes "start") (attributes_of view))
 
 -- the items after their numbers, and the other children's contents
 abbrev pub ordered_text : ElementView → List Block → List ℕ

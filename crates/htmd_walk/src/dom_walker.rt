@@ -1,8 +1,6 @@
 //! The walk over a tree.
 
 mod results;
-#[cfg(test)]
-mod tests;
 mod visit;
 
 ghost use Rattle.std.specs.Prelude.{◌≡◌, ◌<◌, ℕ, List, None, true, false, IfOk, IfSome, IsTrue, OnOk};

@@ -8,9 +8,8 @@ ghost use Rattle.htmd_walk.specs.Handling.{ElementView, ResultView, PlanView, Is
 ghost use Rattle.htmd_walk.specs.Groups.{only_text, group_children, children_at};
 ghost use Rattle.htmd_walk.specs.Code.{language_of_pre};
 
-use self::plans::find_value;
 use crate::options::Options;
-use htmd_nodes::{Attribute, NodeId, Tree};
+use htmd_nodes::{Attribute, NodeId, Tree, value_of};
 use std::alloc::{AllocError, Global};
 use std::marker::Model;
 
@@ -71,7 +70,7 @@ pub struct Element<'a> {
 
 impl<'a> Element<'a> {
     ghost use Rattle.htmd_walk.specs.Views.{element_view};
-    ghost use Rattle.htmd_walk.specs.ElementPlans.{attributes_of, value_of_first};
+    ghost use Rattle.htmd_walk.specs.ElementPlans.{attributes_of, value_of};
 
     /// The tree as it was handed in.
     pub fn tree(&self) -> &Tree
@@ -97,9 +96,9 @@ impl<'a> Element<'a> {
 
     /// The value of the first attribute with this name, if there is one. The reader gives names in lower case.
     pub fn attribute(&self, name: &str) -> Option<&str>
-        ensures { option_copied result ≡ value_of_first name.now (attributes_of (element_view self.now)) }
+        ensures { option_copied result ≡ value_of name.now (attributes_of (element_view self.now)) }
     {
-        find_value(self.attrs, name)
+        value_of(self.attrs, name)
     }
 }
 

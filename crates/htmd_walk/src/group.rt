@@ -7,9 +7,9 @@ ghost use Rattle.htmd_walk.specs.Groups as spec;
 ghost use Rattle.htmd_walk.specs.Joints.{joint_view, optional_joint};
 ghost use Rattle.htmd_walk.specs.Views.{optional_text};
 
+use crate::block_tags::is_block_name;
 use crate::node_util::only_text;
-use htmd_nodes::{Attribute, NodeData, NodeId, Tree};
-use htmd_text::is_block_element;
+use htmd_nodes::{Attribute, Name, NodeData, NodeId, Tree};
 use std::alloc::{AllocError, Global};
 
 /// Whether the name is one of emphasis. It is only compared with a name of its own length.
@@ -37,7 +37,7 @@ fn is_strong(name: &str) -> bool
 /// What counts of an element when it is joined.
 #[derive(Drop)]
 pub(crate) struct Joint<'t> {
-    name: &'t str,
+    name: &'t Name,
     attrs: &'t [Attribute],
     text: &'t str,
 }
@@ -52,7 +52,7 @@ fn find_joint(tree: &Tree, node: NodeId) -> Option<Joint<'_>>
     };
     let text = only_text(tree, node)?;
     Some(Joint {
-        name: name.as_str(),
+        name,
         attrs: attrs.as_slice(),
         text,
     })
@@ -66,10 +66,10 @@ fn same_attributes(left: &[Attribute], right: &[Attribute]) -> bool
 }
 
 /// Whether an element with this name joins with what follows.
-fn may_join(name: &str) -> bool
+fn may_join(name: &Name) -> bool
     ensures { result ≡ spec.may_join name.now }
 {
-    !is_block_element(name) && name != "a"
+    !is_block_name(name) && name.as_str() != "a"
 }
 
 /// Whether these names count as one.
@@ -83,7 +83,9 @@ fn alike(left: &str, right: &str) -> bool
 fn joins(left: &Joint, right: &Joint) -> bool
     ensures { result ≡ spec.joins (joint_view left.now) (joint_view right.now) }
 {
-    may_join(left.name) && alike(left.name, right.name) && same_attributes(left.attrs, right.attrs)
+    may_join(left.name)
+        && alike(left.name.as_str(), right.name.as_str())
+        && same_attributes(left.attrs, right.attrs)
 }
 
 /// Whether nodes with these joints join.

@@ -3,6 +3,7 @@
 //! `specs/Markdown.antt`); `tree_to_markdown` gives it. `htmd` is built on it, with a converter that reads HTML too.
 #![tactic(auto)]
 
+mod block_tags;
 mod dom_walker;
 pub mod element_handler;
 mod group;

@@ -12,8 +12,8 @@ ghost use Rattle.htmd_walk.specs.Groups.{only_text, children_at};
 ghost use Rattle.htmd_walk.specs.Children.{is_block_tree, trims_first};
 ghost use Rattle.htmd_walk.specs.Rendering.{is_text, inside_of};
 
+use crate::block_tags::is_block_name;
 use htmd_nodes::{NodeData, NodeId, Tree};
-use htmd_text::is_block_element;
 
 /// Whether a node is `pre` or `code`.
 pub(crate) fn is_pre_or_code(tree: &Tree, node: NodeId) -> bool
@@ -100,7 +100,7 @@ pub(crate) fn is_block(tree: &Tree, node: NodeId) -> bool
     ensures { result ≡ is_block_tree (tree_of tree.now node) }
 {
     match tree.data(node) {
-        NodeData::Element { name, .. } => is_block_element(name.as_str()),
+        NodeData::Element { name, .. } => is_block_name(name),
         _ => false,
     }
 }
@@ -114,9 +114,11 @@ pub(crate) fn trims_first(tree: &Tree, node: NodeId, preformatted: bool) -> bool
     if preformatted {
         return false;
     }
-    match tree.tag_name(node) {
-        Some(tag) => is_block_element(tag),
-        None => false,
+    match tree.data(node) {
+        // its tag is html
+        NodeData::Document => true,
+        NodeData::Element { name, .. } => is_block_name(name),
+        _ => false,
     }
 }
 

@@ -1,7 +1,8 @@
 //! The attributes of a start tag, and what their values denote.
 ghost use Rattle.std.specs.Prelude.{◌≡◌, ◌<◌, suc, length, IfOk, MatchOption, option_map, Ok, Err, MatchResult};
 ghost use Rattle.htmd_grammar.specs.Tags.{decode_values};
-ghost use Rattle.htmd_tree.specs.TagParts.{part_of, all_spelled_of, attribute_part, read_attributes};
+ghost use Rattle.htmd_scanning.specs.TagParts.{part_of};
+ghost use Rattle.htmd_tree.specs.TagParts.{all_spelled_of, attribute_part, read_attributes};
 ghost use Rattle.htmd_lexical.specs.Attributes.{pairs_of};
 ghost use Rattle.std.specs.List.{list_any};
 ghost use Rattle.htmd_grammar.specs.Rules.{named_characters};
@@ -13,52 +14,8 @@ use crate::reader::references;
 use crate::reader::scan::{Class, split_run};
 use htmd_grammar::FaultKind;
 use htmd_lexical::Attribute;
-use htmd_scanning::{are_distinct, strip_byte};
+use htmd_scanning::{Part, SpelledAttribute, TagForm, are_distinct, quoted_value, strip_byte};
 use std::alloc::{AllocError, Global};
-
-/// An attribute as it is spelled.
-#[derive(Clone, Copy, Drop)]
-pub(crate) struct SpelledAttribute<'a> {
-    pub(crate) name: &'a str,
-    pub(crate) value: &'a str,
-}
-
-/// What comes next in a start tag after its name.
-#[derive(Drop)]
-pub(crate) enum Part<'a> {
-    Malformed,
-    End {
-        slash: bool,
-        rest: &'a str,
-    },
-    Attribute {
-        spelled: SpelledAttribute<'a>,
-        rest: &'a str,
-    },
-}
-
-/// What follows the name of a start tag, and what follows the tag.
-#[derive(Drop)]
-pub(crate) struct TagForm<'a> {
-    pub(crate) attributes: Vec<SpelledAttribute<'a>>,
-    pub(crate) slash: bool,
-    pub(crate) rest: &'a str,
-}
-
-/// A value between quotes; the first one comes before the text.
-fn quoted_value<'a>(name: &'a str, text: &'a str, quote: u8) -> Part<'a>
-    requires { quote < 128 }
-    ensures { part_of result ≡ spec.quoted_value quote name.now text.now }
-{
-    let (value, behind) = split_run(text, Class::Other(quote));
-    match strip_byte(behind, quote) {
-        Some(rest) => Part::Attribute {
-            spelled: SpelledAttribute { name, value },
-            rest,
-        },
-        None => Part::Malformed,
-    }
-}
 
 fn unquoted_value<'a>(name: &'a str, text: &'a str) -> Part<'a>
     ensures { part_of result ≡ spec.unquoted_value name.now text.now }

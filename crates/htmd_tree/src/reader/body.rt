@@ -3,10 +3,10 @@ ghost use Rattle.std.specs.Prelude.{◌≡◌, suc, length, option_map};
 ghost use Rattle.htmd_lexical.specs.TagReading.{form_within};
 ghost use Rattle.htmd_tree.specs.Bodies as spec;
 
-use crate::reader::attributes::{Part, next_part};
+use crate::reader::attributes::next_part;
 use crate::reader::pieces::is_tag_name;
 use crate::reader::scan::{Class, split_run};
-use htmd_scanning::strip_byte;
+use htmd_scanning::{Part, strip_byte};
 
 /// What follows a start tag, given what follows its name.
 fn behind_form(text: &str) -> Option<&str>

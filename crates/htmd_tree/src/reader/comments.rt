@@ -7,9 +7,9 @@ ghost use Rattle.htmd_tree.specs.OpenNodes.{IsReading};
 ghost use Rattle.htmd_tree.specs.Advances.{rules_of, Steps};
 ghost use Rattle.htmd_grammar.specs.Comments as spec;
 
-use crate::reader::raw_text::normalized;
 use crate::reader::{NewNode, Reader, Stop};
 use htmd_grammar::FaultKind;
+use htmd_scanning::with_line_feeds;
 
 /// Whether `-->` begins here.
 fn begins_end(bytes: &[u8]) -> bool
@@ -84,7 +84,7 @@ impl<'a> Reader<'a> {
         }
         match split_comment(&behind[2..]) {
             Some((body, rest)) if is_comment_text(body.as_bytes()) => {
-                let text = normalized(self.alloc, body)?;
+                let text = with_line_feeds(self.alloc, body)?;
                 self.add_leaf(NewNode::Comment(text.as_str()), rest)
             }
             _ => Err(self.refused(FaultKind::MalformedComment)),

@@ -1,7 +1,11 @@
-//! The names that the rules of nesting tell apart, as numbers: each question of the rules compares a name only with
-//! names that begin like it, and then numbers.
+//! The names that the rules of nesting tell apart, as numbers: a name is looked up once, and each question of the rules
+//! compares numbers.
 ghost use Rattle.std.specs.Prelude.{◌≡◌, ◌<◌};
+ghost use Rattle.htmd_lexical.specs.CharacterClasses.{is_among};
+ghost use Rattle.htmd_nodes.specs.Tags.{tag_text};
 ghost use Rattle.htmd_tree.specs.KnownNames as spec;
+
+use htmd_nodes::Tag;
 
 /// What the rules of nesting know of a name. Names that they don't tell apart are one kind.
 #[derive(Clone, Copy, Drop)]
@@ -62,247 +66,102 @@ pub(crate) enum KnownName {
     Other,
 }
 
-/// What is known of a name that begins with `a`.
-#[tactic(auto, unfolding(crate::specs::KnownNames::of_a))]
-fn known_of_a(name: &str) -> KnownName
-    ensures { result ≡ spec.of_a name.now }
-{
-    match name {
-        "a" => KnownName::A,
-        "article" | "aside" | "address" => KnownName::Block,
-        _ => KnownName::Other,
-    }
-}
-
-/// What is known of a name that begins with `b`.
-#[tactic(auto, unfolding(crate::specs::KnownNames::of_b))]
-fn known_of_b(name: &str) -> KnownName
-    ensures { result ≡ spec.of_b name.now }
-{
-    match name {
-        "blockquote" => KnownName::Block,
-        "button" => KnownName::Button,
-        "body" => KnownName::Outside,
-        _ => KnownName::Other,
-    }
-}
-
-/// What is known of a name that begins with `c`.
-#[tactic(auto, unfolding(crate::specs::KnownNames::of_c))]
-fn known_of_c(name: &str) -> KnownName
-    ensures { result ≡ spec.of_c name.now }
-{
-    match name {
-        "col" => KnownName::Col,
-        "colgroup" => KnownName::ColGroup,
-        "caption" => KnownName::Caption,
-        "center" => KnownName::Block,
-        _ => KnownName::Other,
-    }
-}
-
-/// What is known of a name that begins with `d`.
-#[tactic(auto, unfolding(crate::specs::KnownNames::of_d))]
-fn known_of_d(name: &str) -> KnownName
-    ensures { result ≡ spec.of_d name.now }
-{
-    match name {
-        "div" | "details" | "dialog" => KnownName::Block,
-        "dd" | "dt" => KnownName::Description,
-        "dl" => KnownName::Dl,
-        "dir" => KnownName::ItemList,
-        _ => KnownName::Other,
-    }
-}
-
-/// What is known of a name that begins with `f`.
-#[tactic(auto, unfolding(crate::specs::KnownNames::of_f))]
-fn known_of_f(name: &str) -> KnownName
-    ensures { result ≡ spec.of_f name.now }
-{
-    match name {
-        "form" => KnownName::Form,
-        "figure" | "figcaption" | "footer" | "fieldset" => KnownName::Block,
-        "frame" | "frameset" => KnownName::Outside,
-        _ => KnownName::Other,
-    }
-}
-
-/// What is known of a name that begins with `h`.
-#[tactic(auto, unfolding(crate::specs::KnownNames::of_h))]
-fn known_of_h(name: &str) -> KnownName
-    ensures { result ≡ spec.of_h name.now }
-{
-    match name {
-        "h1" | "h2" | "h3" | "h4" | "h5" | "h6" => KnownName::Heading,
-        "hr" | "header" | "hgroup" => KnownName::Block,
-        "html" | "head" => KnownName::Outside,
-        _ => KnownName::Other,
-    }
-}
-
-/// What is known of a name that begins with `i`.
-#[tactic(auto, unfolding(crate::specs::KnownNames::of_i))]
-fn known_of_i(name: &str) -> KnownName
-    ensures { result ≡ spec.of_i name.now }
-{
-    match name {
-        "iframe" => KnownName::RawText,
-        "image" => KnownName::Outside,
-        _ => KnownName::Other,
-    }
-}
-
-/// What is known of a name that begins with `l`.
-#[tactic(auto, unfolding(crate::specs::KnownNames::of_l))]
-fn known_of_l(name: &str) -> KnownName
-    ensures { result ≡ spec.of_l name.now }
-{
-    match name {
-        "li" => KnownName::Li,
-        "listing" => KnownName::Outside,
-        _ => KnownName::Other,
-    }
-}
-
-/// What is known of a name that begins with `m`.
-#[tactic(auto, unfolding(crate::specs::KnownNames::of_m))]
-fn known_of_m(name: &str) -> KnownName
-    ensures { result ≡ spec.of_m name.now }
-{
-    match name {
-        "main" => KnownName::Block,
-        "menu" => KnownName::ItemList,
-        _ => KnownName::Other,
-    }
-}
-
-/// What is known of a name that begins with `n`.
-#[tactic(auto, unfolding(crate::specs::KnownNames::of_n))]
-fn known_of_n(name: &str) -> KnownName
-    ensures { result ≡ spec.of_n name.now }
-{
-    match name {
-        "nav" => KnownName::Block,
-        "nobr" => KnownName::NoBr,
-        "noscript" => KnownName::NoScript,
-        "noembed" | "noframes" => KnownName::RawText,
-        _ => KnownName::Other,
-    }
-}
-
-/// What is known of a name that begins with `o`.
-#[tactic(auto, unfolding(crate::specs::KnownNames::of_o))]
-fn known_of_o(name: &str) -> KnownName
-    ensures { result ≡ spec.of_o name.now }
-{
-    match name {
-        "ol" => KnownName::ItemList,
-        "option" => KnownName::OptionTag,
-        "optgroup" => KnownName::OptGroup,
-        _ => KnownName::Other,
-    }
-}
-
-/// What is known of a name that begins with `p`.
-#[tactic(auto, unfolding(crate::specs::KnownNames::of_p))]
-fn known_of_p(name: &str) -> KnownName
-    ensures { result ≡ spec.of_p name.now }
-{
-    match name {
-        "p" => KnownName::P,
-        "pre" => KnownName::Block,
-        "plaintext" => KnownName::Outside,
-        _ => KnownName::Other,
-    }
-}
-
-/// What is known of a name that begins with `s`.
-#[tactic(auto, unfolding(crate::specs::KnownNames::of_s))]
-fn known_of_s(name: &str) -> KnownName
-    ensures { result ≡ spec.of_s name.now }
-{
-    match name {
-        "select" => KnownName::Select,
-        "section" | "summary" | "search" => KnownName::Block,
-        "script" | "style" => KnownName::RawText,
-        _ => KnownName::Other,
-    }
-}
-
-/// What is known of a name that begins with `t`.
-#[tactic(auto, unfolding(crate::specs::KnownNames::of_t))]
-fn known_of_t(name: &str) -> KnownName
-    ensures { result ≡ spec.of_t name.now }
-{
-    match name {
-        "tr" => KnownName::Row,
-        "td" | "th" => KnownName::Cell,
-        "table" => KnownName::Table,
-        "thead" | "tbody" | "tfoot" => KnownName::Rows,
-        "title" | "textarea" => KnownName::Text,
-        "template" => KnownName::Outside,
-        _ => KnownName::Other,
-    }
-}
-
-/// What is known of a name that begins with `u`.
-#[tactic(auto, unfolding(crate::specs::KnownNames::of_u))]
-fn known_of_u(name: &str) -> KnownName
-    ensures { result ≡ spec.of_u name.now }
-{
-    match name {
-        "ul" => KnownName::ItemList,
-        _ => KnownName::Other,
-    }
-}
-
-/// What is known of a name that begins with `x`.
-#[tactic(auto, unfolding(crate::specs::KnownNames::of_x))]
-fn known_of_x(name: &str) -> KnownName
-    ensures { result ≡ spec.of_x name.now }
-{
-    match name {
-        "xmp" => KnownName::Xmp,
-        _ => KnownName::Other,
-    }
-}
-
-/// What is known of a name that begins with this byte.
-#[tactic(auto, unfolding(crate::specs::KnownNames::beginning))]
-fn known_beginning(first: u8, name: &str) -> KnownName
-    ensures { result ≡ spec.beginning first name.now }
-{
-    match first {
-        b'a' => known_of_a(name),
-        b'b' => known_of_b(name),
-        b'c' => known_of_c(name),
-        b'd' => known_of_d(name),
-        b'f' => known_of_f(name),
-        b'h' => known_of_h(name),
-        b'i' => known_of_i(name),
-        b'l' => known_of_l(name),
-        b'm' => known_of_m(name),
-        b'n' => known_of_n(name),
-        b'o' => known_of_o(name),
-        b'p' => known_of_p(name),
-        b's' => known_of_s(name),
-        b't' => known_of_t(name),
-        b'u' => known_of_u(name),
-        b'x' => known_of_x(name),
-        _ => KnownName::Other,
-    }
-}
-
-/// What is known of a name, which is only compared with names that begin like it.
-#[tactic(auto, unfolding(crate::specs::KnownNames::known_name))]
+/// What the rules of nesting know of a name.
+#[tactic(auto, using(crate::proofs::KnownNamesLemmas::unknown_name))]
 pub(crate) fn known_name(name: &str) -> KnownName
     ensures { result ≡ spec.known_name name.now }
 {
-    match name.as_bytes() {
-        [first, ..] => known_beginning(*first, name),
-        [] => KnownName::Other,
+    match Tag::with_text(name) {
+        Some(tag) => known_tag(tag),
+        None => KnownName::Other,
     }
+}
+
+/// The same of a tag.
+#[tactic(auto, unfolding(crate::specs::KnownNames::known_name))]
+fn known_tag(tag: Tag) -> KnownName
+    ensures { result ≡ spec.known_name (tag_text tag) }
+{
+    match tag {
+        Tag::Html | Tag::Head | Tag::Body | Tag::Frameset | Tag::Frame => KnownName::Outside,
+        Tag::Template | Tag::Plaintext | Tag::Listing | Tag::Image => KnownName::Outside,
+        Tag::Script | Tag::Style | Tag::Iframe | Tag::Noembed | Tag::Noframes => KnownName::RawText,
+        Tag::Xmp => KnownName::Xmp,
+        Tag::Noscript => KnownName::NoScript,
+        Tag::Title | Tag::Textarea => KnownName::Text,
+        _ => known_in_table(tag),
+    }
+}
+
+/// The same of a tag that is none of those above.
+#[tactic(auto, unfolding(crate::specs::KnownNames::known_in_table))]
+fn known_in_table(tag: Tag) -> KnownName
+    ensures { result ≡ spec.known_in_table (tag_text tag) }
+{
+    match tag {
+        Tag::Table => KnownName::Table,
+        Tag::Caption => KnownName::Caption,
+        Tag::Colgroup => KnownName::ColGroup,
+        Tag::Thead | Tag::Tbody | Tag::Tfoot => KnownName::Rows,
+        Tag::Tr => KnownName::Row,
+        Tag::Td | Tag::Th => KnownName::Cell,
+        Tag::Col => KnownName::Col,
+        _ => known_by_itself(tag),
+    }
+}
+
+/// The same of a tag that is none of those above.
+#[tactic(auto, unfolding(crate::specs::KnownNames::known_by_itself))]
+fn known_by_itself(tag: Tag) -> KnownName
+    ensures { result ≡ spec.known_by_itself (tag_text tag) }
+{
+    match tag {
+        Tag::H1 | Tag::H2 | Tag::H3 | Tag::H4 | Tag::H5 | Tag::H6 => KnownName::Heading,
+        Tag::P => KnownName::P,
+        Tag::A => KnownName::A,
+        Tag::Button => KnownName::Button,
+        Tag::Form => KnownName::Form,
+        Tag::Nobr => KnownName::NoBr,
+        Tag::Li => KnownName::Li,
+        Tag::Ul | Tag::Ol | Tag::Menu | Tag::Dir => KnownName::ItemList,
+        Tag::Dd | Tag::Dt => KnownName::Description,
+        Tag::Dl => KnownName::Dl,
+        Tag::Select => KnownName::Select,
+        Tag::Optgroup => KnownName::OptGroup,
+        Tag::Option => KnownName::OptionTag,
+        _ if is_block(tag) => KnownName::Block,
+        _ => KnownName::Other,
+    }
+}
+
+/// Whether it is the tag of a block that no rule tells from other blocks.
+fn is_block(tag: Tag) -> bool
+    ensures { result ≡ is_among spec.block_names (tag_text tag) }
+{
+    matches!(
+        tag,
+        Tag::Address
+            | Tag::Article
+            | Tag::Aside
+            | Tag::Blockquote
+            | Tag::Center
+            | Tag::Details
+            | Tag::Dialog
+            | Tag::Div
+            | Tag::Fieldset
+            | Tag::Figcaption
+            | Tag::Figure
+            | Tag::Footer
+            | Tag::Header
+            | Tag::Hgroup
+            | Tag::Hr
+            | Tag::Main
+            | Tag::Nav
+            | Tag::Pre
+            | Tag::Search
+            | Tag::Section
+            | Tag::Summary
+    )
 }
 
 impl KnownName {

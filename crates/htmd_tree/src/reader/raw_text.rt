@@ -1,21 +1,18 @@
 //! Content of elements that hold only text (HTML Standard, 13.1.2): text without references, up to the element's own
 //! end tag.
-ghost use Rattle.std.specs.Prelude.{◌≡◌, codes, ◌++◌, ◌∷◌, IfOk, OnOk, string_bytes, true};
+ghost use Rattle.std.specs.Prelude.{◌≡◌, codes, OnOk, true};
 ghost use Rattle.std.specs.Prelude.{false};
 ghost use Rattle.htmd_lexical.specs.CharacterClasses.{begins_with, up_to, is_empty, onward};
-ghost use Rattle.htmd_lexical.specs.Characters.{carriage_return};
 ghost use Rattle.htmd_grammar.specs.HtmlDocuments.{above_body};
 ghost use Rattle.htmd_grammar.specs.RawContent.{ends_text, holds_raw_text, text_of};
 ghost use Rattle.htmd_grammar.specs.ReaderSteps.{raw_text_step};
 ghost use Rattle.htmd_tree.specs.OpenNodes.{IsReading, innermost_name, WhateverIsOpen};
 ghost use Rattle.htmd_tree.specs.Advances.{Follows, rules_of};
 ghost use Rattle.htmd_grammar.specs.RawContent as spec;
-ghost use Rattle.htmd_lexical.specs.LineEnds as comments;
 
 use crate::reader::{NewNode, Reader, Stop};
 use htmd_grammar::FaultKind;
-use htmd_scanning::{begins_in_any_case, first_is, raw_content_len};
-use std::alloc::{AllocError, Global};
+use htmd_scanning::{begins_in_any_case, raw_content_len, with_line_feeds};
 
 /// Whether the text begins with `<!--`.
 fn begins_comment(bytes: &[u8]) -> bool
@@ -40,33 +37,6 @@ pub(crate) fn has_script_escape(bytes: &[u8]) -> bool
     false
 }
 
-/// Appends the line end of a CR to lines: none if it is part of CR LF.
-fn push_line_end(lines: &mut String, behind: &str) -> Result<(), AllocError>
-    ensures { OnOk result (string_bytes lines.new ++ comments.normalized behind.now
-        ≡ string_bytes lines.old ++ comments.normalized (carriage_return ∷ behind.now)) }
-{
-    if first_is(behind.as_bytes(), b'\n') {
-        Ok(())
-    } else {
-        lines.push('\n')
-    }
-}
-
-/// The text with a line feed for each CR LF and each lone CR.
-pub(crate) fn normalized(alloc: Global, text: &str) -> Result<String, AllocError>
-    ensures { IfOk result (λ t. string_bytes t ≡ comments.normalized text.now) }
-{
-    let mut lines = String::new(alloc);
-    let mut rest = text;
-    while let Some((line, behind)) = rest.split_once('\r') {
-        lines.push_str(line)?;
-        push_line_end(&mut lines, behind)?;
-        rest = behind;
-    }
-    lines.push_str(rest)?;
-    Ok(lines)
-}
-
 impl<'a> Reader<'a> {
     /// Reads text without references, up to what ends it.
     pub(super) fn read_raw_text(&mut self) -> Result<(), Stop>
@@ -86,7 +56,7 @@ impl<'a> Reader<'a> {
         if name == "script" && has_script_escape(content.as_bytes()) {
             return Err(self.refused(FaultKind::ScriptEscape));
         }
-        let text = normalized(self.alloc, content)?;
+        let text = with_line_feeds(self.alloc, content)?;
         self.add_leaf(NewNode::OwnedText(text), rest)
     }
 }

@@ -5,7 +5,7 @@ ghost use Rattle.htmd_lexical.specs.CharacterClasses.{leading_run, behind_run};
 ghost use Rattle.htmd_tree.specs.Classes.{is_in, is_ascii};
 ghost use Rattle.htmd_grammar.specs.RawContent as raw;
 
-use htmd_scanning::{ByteClass, run_len};
+use htmd_scanning::ByteClass;
 
 /// Whether markup begins here: `<` before a letter, `/`, `!` or `?`.
 pub(crate) fn begins_markup(bytes: &[u8]) -> bool
@@ -61,7 +61,7 @@ pub(crate) fn split_run(text: &str, class: Class) -> (&str, &str)
     ensures run { result.0.now ≡ leading_run (is_in class) text.now }
     ensures rest { result.1.now ≡ behind_run (is_in class) text.now }
 {
-    text.split_at(run_len(text.as_bytes(), class))
+    htmd_scanning::split_run(text, class)
 }
 
 #[tactic(auto, using(std::proofs::lemmas::Str::lead_after_ascii))]

@@ -16,6 +16,7 @@ use super::{
     thematic_break,
 };
 use htmd_markdown::Emphasis;
+use htmd_nodes::Tag;
 use std::alloc::{AllocError, Global};
 
 /// A built-in handler.
@@ -45,29 +46,32 @@ pub(crate) enum BuiltIn {
 }
 
 /// The built-in handlers in order of registration, each with the tags that it is registered for.
-pub(crate) const HANDLERS_AND_TAGS: &[(BuiltIn, &[&str])] = &[
-    (BuiltIn::Image, &["img"]),
-    (BuiltIn::Anchor, &["a"]),
-    (BuiltIn::ListElement, &["ol", "ul"]),
-    (BuiltIn::ListItem, &["li"]),
-    (BuiltIn::BlockQuote, &["blockquote"]),
-    (BuiltIn::Code, &["code"]),
-    (BuiltIn::Strong, &["strong", "b"]),
-    (BuiltIn::Emphasis, &["i", "em"]),
-    (BuiltIn::Heading, &["h1", "h2", "h3", "h4", "h5", "h6"]),
-    (BuiltIn::LineBreak, &["br"]),
-    (BuiltIn::ThematicBreak, &["hr"]),
-    (BuiltIn::Table, &["table"]),
-    (BuiltIn::TableCell, &["td", "th"]),
-    (BuiltIn::TableRow, &["tr"]),
-    (BuiltIn::TablePart, &["tbody"]),
-    (BuiltIn::TablePart, &["thead"]),
-    (BuiltIn::TablePart, &["caption"]),
-    (BuiltIn::Paragraph, &["p"]),
-    (BuiltIn::Preformatted, &["pre"]),
-    (BuiltIn::PagePart, &["head", "body"]),
-    (BuiltIn::Page, &["html"]),
-    (BuiltIn::Span, &["span"]),
+pub(crate) const HANDLERS_AND_TAGS: &[(BuiltIn, &[Tag])] = &[
+    (BuiltIn::Image, &[Tag::Img]),
+    (BuiltIn::Anchor, &[Tag::A]),
+    (BuiltIn::ListElement, &[Tag::Ol, Tag::Ul]),
+    (BuiltIn::ListItem, &[Tag::Li]),
+    (BuiltIn::BlockQuote, &[Tag::Blockquote]),
+    (BuiltIn::Code, &[Tag::Code]),
+    (BuiltIn::Strong, &[Tag::Strong, Tag::B]),
+    (BuiltIn::Emphasis, &[Tag::I, Tag::Em]),
+    (
+        BuiltIn::Heading,
+        &[Tag::H1, Tag::H2, Tag::H3, Tag::H4, Tag::H5, Tag::H6],
+    ),
+    (BuiltIn::LineBreak, &[Tag::Br]),
+    (BuiltIn::ThematicBreak, &[Tag::Hr]),
+    (BuiltIn::Table, &[Tag::Table]),
+    (BuiltIn::TableCell, &[Tag::Td, Tag::Th]),
+    (BuiltIn::TableRow, &[Tag::Tr]),
+    (BuiltIn::TablePart, &[Tag::Tbody]),
+    (BuiltIn::TablePart, &[Tag::Thead]),
+    (BuiltIn::TablePart, &[Tag::Caption]),
+    (BuiltIn::Paragraph, &[Tag::P]),
+    (BuiltIn::Preformatted, &[Tag::Pre]),
+    (BuiltIn::PagePart, &[Tag::Head, Tag::Body]),
+    (BuiltIn::Page, &[Tag::Html]),
+    (BuiltIn::Span, &[Tag::Span]),
     (BuiltIn::OtherBlock, &TAGS),
 ];
 

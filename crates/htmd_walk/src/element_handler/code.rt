@@ -12,7 +12,7 @@ use super::{Element, HandlerResult, Plan};
 use crate::node_util::is_text;
 use crate::options::CodeBlockStyle;
 use htmd_markdown::{write_fence, write_indented_code, write_span};
-use htmd_nodes::{Attribute, NodeData, NodeId, Tree};
+use htmd_nodes::{Attribute, NodeData, NodeId, Tree, value_of};
 use std::alloc::{AllocError, Global};
 
 /// The language that a class names.
@@ -26,12 +26,7 @@ fn language_of_class(class: &str) -> Option<&str>
 fn language_of(attrs: &[Attribute]) -> Option<&str>
     ensures { option_copied result ≡ spec.language_of (pairs_of attrs.now) }
 {
-    for attribute in attrs {
-        if attribute.name.as_str() == "class" {
-            return first_language(attribute.value.as_str());
-        }
-    }
-    None
+    first_language(value_of(attrs, "class")?)
 }
 
 /// The language of the first of these classes that names one.

@@ -2,6 +2,7 @@
 
 ghost use Rattle.std.specs.Prelude.{◌≡◌, ◌+◌, ◌<◌, IfOk, IfErr, OnOk, OnErr, All, map, length, slice_get, ◌++◌};
 ghost use Rattle.std.specs.Prelude.{string_bytes, IsTrue};
+ghost use Rattle.htmd_nodes.specs.Tags.{tag_text};
 ghost use Rattle.htmd_walk.specs.Choice.{with_handler};
 ghost use Rattle.htmd_walk.specs.Handling.{of_functions, IsProper};
 ghost use Rattle.htmd_walk.specs.Views.{plan_view, element_view, result_view, optional_result, optional_text};
@@ -16,7 +17,7 @@ use super::registry::{Outcome, Registry, Request};
 use super::{Element, ElementHandler, HandlerResult, Links, Plan};
 use crate::dom_walker::{HandlerCall, handle_element};
 use crate::options::Options;
-use htmd_nodes::{NodeId, Tree};
+use htmd_nodes::{NodeId, Tag, Tree};
 use std::alloc::{AllocError, Global};
 
 /// A handler, as it is registered.
@@ -41,6 +42,17 @@ pub struct ElementHandlers {
 #[derive(Drop)]
 pub struct HandlerRefused {
     pub handler: Box<dyn ElementHandler>,
+}
+
+/// The texts of these tags.
+fn texts_of(alloc: Global, tags: &[Tag]) -> Result<Vec<&'static str>, AllocError>
+    ensures { IfOk result (λ texts. map (λ t. t.now) texts.items ≡ map tag_text tags.now) }
+{
+    let mut texts = Vec::with_capacity(alloc, tags.len())?;
+    for tag in tags {
+        texts.push(tag.text())?;
+    }
+    Ok(texts)
 }
 
 /// What a handler of your own needs.
@@ -146,7 +158,7 @@ impl ElementHandlers {
     }
 
     /// Registers these handlers in order, each for its tags.
-    fn add_rows(&mut self, rows: &[(BuiltIn, &[&str])]) -> Result<(), AllocError>
+    fn add_rows(&mut self, rows: &[(BuiltIn, &[Tag])]) -> Result<(), AllocError>
         ensures { let config = ⟦<ElementHandlers as Registry>⟧.config in
             OnOk result (config self.new ≡ with_rows (map row_of rows.now) (config self.old)) }
     {
@@ -157,15 +169,17 @@ impl ElementHandlers {
     }
 
     /// Calls a built-in handler first for these tags from now on.
-    fn add_built_in(&mut self, tags: &[&str], handler: BuiltIn) -> Result<(), AllocError>
+    fn add_built_in(&mut self, tags: &[Tag], handler: BuiltIn) -> Result<(), AllocError>
         ensures ok { let config = ⟦<ElementHandlers as Registry>⟧.config in
             OnOk result (config self.new
-            ≡ with_handler (config self.old) (map (λ t. t.now) tags.now) (meaning_of handler)) }
+            ≡ with_handler (config self.old) (map tag_text tags.now) (meaning_of handler)) }
         ensures err { let config = ⟦<ElementHandlers as Registry>⟧.config in
             OnErr result (config self.new ≡ config self.old) }
     {
+        let texts = texts_of(self.alloc, tags)?;
         self.handlers.reserve(1)?;
-        self.registered.add(self.alloc, tags, self.handlers.len())?;
+        self.registered
+            .add(self.alloc, texts.as_slice(), self.handlers.len())?;
         self.handlers.push(Handler::BuiltIn(handler))?;
         Ok(())
     }

@@ -10,11 +10,11 @@ ghost use Rattle.htmd_walk.specs.Lists as spec;
 ghost use Rattle.htmd_walk.specs.Views.{element_view, result_view, results_view, optional_result};
 ghost use Rattle.htmd_walk.specs.Walking.{request_view};
 
-use super::plans::{are_markdown, find_value, is_markdown_alone, parent_tag, raw_block_result};
+use super::plans::{are_markdown, is_markdown_alone, parent_tag, raw_block_result};
 use super::registry::{Descendants, Request};
 use super::{Element, HandlerResult, Plan};
 use htmd_markdown::{ListBlock, first_number, write_list_block, write_ordered_list};
-use htmd_nodes::{Attribute, NodeId, Tree};
+use htmd_nodes::{Attribute, NodeId, Tree, value_of};
 use std::alloc::{AllocError, Global};
 
 /// How many attributes a list may have: `start`, if it comes first.
@@ -136,7 +136,7 @@ fn list_blocks(
 fn number_of_first(element: &Element) -> u32
     ensures { result ≡ spec.first_number_of (element_view element.now) }
 {
-    first_number(find_value(element.attrs, "start"))
+    first_number(value_of(element.attrs, "start"))
 }
 
 /// The items after their numbers, and the other children's contents.

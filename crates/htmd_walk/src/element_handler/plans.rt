@@ -2,7 +2,6 @@
 
 ghost use Rattle.std.specs.Prelude.{◌≡◌, ◌&&◌, ◌||◌, not, IfOk, length};
 ghost use Rattle.std.specs.Option.{option_copied};
-ghost use Rattle.htmd_lexical.specs.Attributes.{pairs_of};
 ghost use Rattle.htmd_walk.specs.ElementPlans as spec;
 ghost use Rattle.htmd_walk.specs.Outputs.{is_markdown_alone};
 ghost use Rattle.htmd_walk.specs.ElementPlans.{wrapped_result};
@@ -10,7 +9,7 @@ ghost use Rattle.htmd_walk.specs.Views.{plan_view, element_view, result_view, re
 
 use super::{Element, HandlerResult, Plan};
 use crate::options::{Options, TranslationMode};
-use htmd_nodes::{Attribute, raw_block};
+use htmd_nodes::raw_block;
 use htmd_text::{surround_with_blank_lines, trim_newlines};
 use std::alloc::{AllocError, Global};
 
@@ -102,18 +101,6 @@ pub(crate) fn wrap(
     trim_newlines(&mut text);
     surround_with_blank_lines(&mut text)?;
     Ok(Some(HandlerResult::from_string(text)))
-}
-
-/// The value of the first attribute with this name.
-pub(crate) fn find_value<'e>(attrs: &'e [Attribute], name: &str) -> Option<&'e str>
-    ensures { option_copied result ≡ spec.value_of_first name.now (pairs_of attrs.now) }
-{
-    for attribute in attrs {
-        if attribute.name.as_str() == name {
-            return Some(attribute.value.as_str());
-        }
-    }
-    None
 }
 
 /// Whether all of these are Markdown.

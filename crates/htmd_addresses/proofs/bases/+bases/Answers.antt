@@ -7,7 +7,8 @@ use Rattle.htmd_nodes.specs.NumberedTrees.{tree_of, forest_of, value_forest}
 use Rattle.htmd_nodes.specs.Views.{data_of}
 use Rattle.htmd_nodes.proofs.ItemsLemmas.{child_read}
 use Rattle.htmd_addresses.specs.Bases.{base_in, first_base, own_base}
-use Rattle.htmd_addresses.proofs.BasesLemmas.{value-node, base-other, own-some, own-none}
+use Rattle.htmd_nodes.proofs.SearchLemmas.{value-node, own-some, own-none}
+use Rattle.htmd_addresses.proofs.BasesLemmas.{base-other}
 use Rattle.htmd_addresses.proofs.bases.+bases.Goals as goal
 
 pub first_base-base_in-found-requires : goal.first_base-base_in-found-requires

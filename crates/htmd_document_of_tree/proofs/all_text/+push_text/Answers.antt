@@ -55,7 +55,7 @@ push_text_of-returns-then-is_line_break t c =
     (quoted (all_text_among (children_of (shown_at c.args.sight.now c.args.node))))
     (all_text_among (children_of (shown_at c.args.sight.now c.args.node))))))
     (sym (c.is_line_break.ensures ∙ ap is_line_break
-    (c.role_of-role.ensures ∙ ap role_of c.as_str-in-Element.ensures)) ∙ c.if-is_line_break.true) in
+    c.role_of-role.ensures) ∙ c.if-is_line_break.true) in
     pushed c.push.result (string_bytes c.push.new.self) (string_bytes c.args.out.now ++ encode_utf8 10)
     (string_bytes c.args.out.now) c.push.ensures.bytes
     (ap (λ (l : List ℕ). string_bytes c.args.out.now ++ l) (c.push.ensures.ascii (lit< tt) ∙ sym said))
@@ -72,13 +72,12 @@ push_text_of-returns-then-is_image t c =
     (quoted (all_text_among (children_of (shown_at c.args.sight.now c.args.node))))
     (all_text_among (children_of (shown_at c.args.sight.now c.args.node))))))
     (sym (c.is_line_break.ensures ∙ ap is_line_break
-    (c.role_of-role.ensures ∙ ap role_of c.as_str-in-Element.ensures)) ∙ c.if-is_line_break.false)
+    c.role_of-role.ensures) ∙ c.if-is_line_break.false)
     ∙ ap (λ (y : Bool). cond y (shown_text (text_of (codes "alt") (pairs_of c.in-Element.attrs.items)))
     (cond (is_quotation (role_of c.in-Element.name))
     (quoted (all_text_among (children_of (shown_at c.args.sight.now c.args.node))))
     (all_text_among (children_of (shown_at c.args.sight.now c.args.node)))))
-    (sym (c.is_image.ensures ∙ ap is_image (c.role_of-role.ensures ∙ ap role_of
-    c.as_str-in-Element.ensures)) ∙ c.if-is_image.true) in
+    (sym (c.is_image.ensures ∙ ap is_image c.role_of-role.ensures) ∙ c.if-is_image.true) in
     subst (λ (x : List ℕ). OnOk c.push_shown-then-is_image.result
     (string_bytes c.push_shown-then-is_image.new.out ≡ string_bytes c.args.out.now ++ x))
     (ap shown_text (c.text_of.ensures ∙ ap (λ xs. text_of (codes "alt") (pairs_of xs)) c.as_slice.ensures.value)
@@ -96,17 +95,15 @@ push_text_of-returns-then-is_quotation t c =
     (quoted (all_text_among (children_of (shown_at c.args.sight.now c.args.node))))
     (all_text_among (children_of (shown_at c.args.sight.now c.args.node))))))
     (sym (c.is_line_break.ensures ∙ ap is_line_break
-    (c.role_of-role.ensures ∙ ap role_of c.as_str-in-Element.ensures)) ∙ c.if-is_line_break.false)
+    c.role_of-role.ensures) ∙ c.if-is_line_break.false)
     ∙ ap (λ (y : Bool). cond y (shown_text (text_of (codes "alt") (pairs_of c.in-Element.attrs.items)))
     (cond (is_quotation (role_of c.in-Element.name))
     (quoted (all_text_among (children_of (shown_at c.args.sight.now c.args.node))))
     (all_text_among (children_of (shown_at c.args.sight.now c.args.node)))))
-    (sym (c.is_image.ensures ∙ ap is_image (c.role_of-role.ensures ∙ ap role_of
-    c.as_str-in-Element.ensures)) ∙ c.if-is_image.false)
+    (sym (c.is_image.ensures ∙ ap is_image c.role_of-role.ensures) ∙ c.if-is_image.false)
     ∙ ap (λ (y : Bool). cond y (quoted (all_text_among (children_of (shown_at c.args.sight.now c.args.node))))
     (all_text_among (children_of (shown_at c.args.sight.now c.args.node))))
-    (sym (c.is_quotation.ensures ∙ ap is_quotation (c.role_of-role.ensures ∙ ap role_of
-    c.as_str-in-Element.ensures)) ∙ c.if-is_quotation.true) in
+    (sym (c.is_quotation.ensures ∙ ap is_quotation c.role_of-role.ensures) ∙ c.if-is_quotation.true) in
     subst (λ (x : List ℕ). OnOk c.push_quoted.result
     (string_bytes c.push_quoted.new.out ≡ string_bytes c.args.out.now ++ x)) (sym said) c.push_quoted.ensures
 
@@ -122,16 +119,14 @@ push_text_of-returns-else-is_quotation t c =
     (quoted (all_text_among (children_of (shown_at c.args.sight.now c.args.node))))
     (all_text_among (children_of (shown_at c.args.sight.now c.args.node))))))
     (sym (c.is_line_break.ensures ∙ ap is_line_break
-    (c.role_of-role.ensures ∙ ap role_of c.as_str-in-Element.ensures)) ∙ c.if-is_line_break.false)
+    c.role_of-role.ensures) ∙ c.if-is_line_break.false)
     ∙ ap (λ (y : Bool). cond y (shown_text (text_of (codes "alt") (pairs_of c.in-Element.attrs.items)))
     (cond (is_quotation (role_of c.in-Element.name))
     (quoted (all_text_among (children_of (shown_at c.args.sight.now c.args.node))))
     (all_text_among (children_of (shown_at c.args.sight.now c.args.node)))))
-    (sym (c.is_image.ensures ∙ ap is_image (c.role_of-role.ensures ∙ ap role_of
-    c.as_str-in-Element.ensures)) ∙ c.if-is_image.false)
+    (sym (c.is_image.ensures ∙ ap is_image c.role_of-role.ensures) ∙ c.if-is_image.false)
     ∙ ap (λ (y : Bool). cond y (quoted (all_text_among (children_of (shown_at c.args.sight.now c.args.node))))
     (all_text_among (children_of (shown_at c.args.sight.now c.args.node))))
-    (sym (c.is_quotation.ensures ∙ ap is_quotation (c.role_of-role.ensures ∙ ap role_of
-    c.as_str-in-Element.ensures)) ∙ c.if-is_quotation.false) in
+    (sym (c.is_quotation.ensures ∙ ap is_quotation c.role_of-role.ensures) ∙ c.if-is_quotation.false) in
     subst (λ (x : List ℕ). OnOk c.push_text_below.result
     (string_bytes c.push_text_below.new.out ≡ string_bytes c.args.out.now ++ x)) (sym said) c.push_text_below.ensures

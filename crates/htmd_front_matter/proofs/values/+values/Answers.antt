@@ -8,7 +8,8 @@ use Rattle.htmd_nodes.specs.NumberedTrees.{tree_of, forest_of, value_forest}
 use Rattle.htmd_nodes.specs.Views.{data_of}
 use Rattle.htmd_nodes.proofs.ItemsLemmas.{child_read}
 use Rattle.htmd_front_matter.specs.Values.{value_in, first_value, own_value}
-use Rattle.htmd_front_matter.proofs.ValuesLemmas.{value-node, value-other, own-some, own-none}
+use Rattle.htmd_nodes.proofs.SearchLemmas.{value-node, own-some, own-none}
+use Rattle.htmd_front_matter.proofs.ValuesLemmas.{value-other}
 use Rattle.htmd_front_matter.proofs.values.+values.Goals as goal
 
 pub first_value-value_in-found-requires : goal.first_value-value_in-found-requires

@@ -3,7 +3,8 @@ use Rattle.htmd_nodes.specs.Items.{text_node, children_of}
 use Rattle.htmd_nodes.specs.NumberedTrees.{tree_of, forest_of}
 use Rattle.htmd_nodes.specs.Views.{data_of}
 use Rattle.htmd_front_matter.specs.Values.{text_of}
-use Rattle.htmd_front_matter.proofs.ValuesLemmas.{value-node, text-other}
+use Rattle.htmd_nodes.proofs.SearchLemmas.{value-node}
+use Rattle.htmd_front_matter.proofs.ValuesLemmas.{text-other}
 use Rattle.htmd_front_matter.proofs.values.text_of.Goals as goal
 
 pub returns-in-Text : goal.returns-in-Text

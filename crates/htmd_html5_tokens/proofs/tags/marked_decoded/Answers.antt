@@ -5,7 +5,7 @@ use Rattle.htmd_lexical.specs.AttributePairs.{AttributePair}
 use Rattle.htmd_lexical.specs.Attributes.{pairs_of}
 use Rattle.htmd_html5_tokens.specs.Tags.{attribute_of}
 use Rattle.htmd_html5_tokens.specs.TagViews.{all_spelled_of}
-use Rattle.htmd_html5_tokens.specs.declared.attributes.SpelledAttribute.{SpelledAttribute}
+use Rattle.htmd_scanning.specs.declared.tag_parts.SpelledAttribute.{SpelledAttribute}
 use Rattle.htmd_html5_tokens.proofs.FirstsLemmas.{no_marks, marked_more}
 use Rattle.htmd_html5_tokens.proofs.tags.marked_decoded.Goals as goal
 

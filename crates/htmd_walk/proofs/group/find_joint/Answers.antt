@@ -1,4 +1,4 @@
-use Rattle.std.proofs.Common.{List, ℕ, Option, Some, None, sym, ap, ◌∙◌}
+use Rattle.std.proofs.Common.{List, Option, Some, None, sym, ap, ◌∙◌}
 use Rattle.htmd_lexical.specs.AttributePairs.{AttributePair}
 use Rattle.htmd_lexical.specs.Attributes.{pairs_of}
 use Rattle.htmd_nodes.specs.Views.{data_of}
@@ -21,11 +21,9 @@ returns-in_err-text c =
 
 pub returns : goal.returns
 returns c =
-    let with_name : List ℕ → Option Joint =
-    λ n. Some (record { name = n; attributes = pairs_of c.as_slice.result.now; text = c.in_ok-text.text.now }) in
     let with_attributes : List AttributePair → Option Joint =
     λ a. Some (record { name = c.in-Element.name; attributes = a; text = c.in_ok-text.text.now }) in
-    ap with_name c.as_str.ensures ∙ ap with_attributes (ap pairs_of c.as_slice.ensures.value)
+    ap with_attributes (ap pairs_of c.as_slice.ensures.value)
     ∙ joint-element c.args.tree.now c.data.ensures.tree c.args.node c.requires c.in-Element.name
     (pairs_of c.in-Element.attrs.items) (Some c.in_ok-text.text.now)
     (sym (ap data_of c.in-Element.is) ∙ c.data.ensures.value) c.in_ok-text.ensures.value

@@ -47,7 +47,7 @@ returns-in-Document-clause-lower c =
 pub returns-then-is_void-clause-shown : goal.returns-then-is_void-clause-shown
 returns-then-is_void-clause-shown c =
     let void : is_void (role_of c.in-Element.name) ≡ true =
-    sym (c.is_void.ensures ∙ ap is_void (c.role_of.ensures ∙ ap role_of c.as_str.ensures)) ∙ c.if-is_void.true in
+    sym (c.is_void.ensures ∙ ap is_void c.role_of.ensures) ∙ c.if-is_void.true in
     sym ((by_data c.args.self.now.tree.now c.data.ensures.tree c.args.node c.requires
     (λ (t : NumberedTree). spec.children_of (shown (sight_of c.args.self.now) t))
     (element_node c.in-Element.name (pairs_of c.in-Element.attrs.items))
@@ -58,7 +58,7 @@ returns-then-is_void-clause-shown c =
 pub returns-else-is_void-clause-shown : goal.returns-else-is_void-clause-shown
 returns-else-is_void-clause-shown c =
     let void : is_void (role_of c.in-Element.name) ≡ false =
-    sym (c.is_void.ensures ∙ ap is_void (c.role_of.ensures ∙ ap role_of c.as_str.ensures)) ∙ c.if-is_void.false in
+    sym (c.is_void.ensures ∙ ap is_void c.role_of.ensures) ∙ c.if-is_void.false in
     ap (λ (ids : List ℕ). shown_all (sight_of c.args.self.now) (forest_of (tree_of c.args.self.now.tree.now) ids))
     c.children-else-is_void.ensures.value
     ∙ sym ((by_data c.args.self.now.tree.now c.data.ensures.tree c.args.node c.requires

@@ -39,7 +39,7 @@ returns-in-Comment c =
 
 pub returns-in-Element : goal.returns-in-Element
 returns-in-Element c =
-    c.is_header_cell.ensures ∙ ap roles.is_header_cell (c.role_of.ensures ∙ ap roles.role_of c.as_str.ensures) ∙
+    c.is_header_cell.ensures ∙ ap roles.is_header_cell c.role_of.ensures ∙
     sym (by_data c.args.self.now.tree.now c.data.ensures.tree c.args.node c.requires
     (λ (x : NumberedTree). has roles.is_header_cell (shown (sight_of c.args.self.now) x))
     (element_node c.in-Element.name (pairs_of c.in-Element.attrs.items))

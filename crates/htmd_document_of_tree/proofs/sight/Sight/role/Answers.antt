@@ -31,7 +31,7 @@ returns-in-Comment c = sym (by_data c.args.self.now.tree.now c.data.ensures.tree
 pub returns-then-is_hidden : goal.returns-then-is_hidden
 returns-then-is_hidden c =
     let hidden : is_hidden (sight_of c.args.self.now) c.in-Element.name ≡ true =
-    sym (c.is_hidden.ensures ∙ ap (is_hidden (sight_of c.args.self.now)) c.as_str.ensures) ∙ c.if-is_hidden.true
+    sym c.is_hidden.ensures ∙ c.if-is_hidden.true
     in
     refl
     ∙ sym ((by_data c.args.self.now.tree.now c.data.ensures.tree c.args.node c.requires
@@ -43,9 +43,8 @@ returns-then-is_hidden c =
 pub returns-else-is_hidden : goal.returns-else-is_hidden
 returns-else-is_hidden c =
     let hidden : is_hidden (sight_of c.args.self.now) c.in-Element.name ≡ false =
-    sym (c.is_hidden.ensures ∙ ap (is_hidden (sight_of c.args.self.now))
-    c.as_str.ensures) ∙ c.if-is_hidden.false in
-    ap Some (c.role_of.ensures ∙ ap role_of c.as_str-else-is_hidden.ensures)
+    sym c.is_hidden.ensures ∙ c.if-is_hidden.false in
+    ap Some c.role_of.ensures
     ∙ sym ((by_data c.args.self.now.tree.now c.data.ensures.tree c.args.node c.requires
     (shown_role (sight_of c.args.self.now)) (element_node c.in-Element.name
     (pairs_of c.in-Element.attrs.items))

@@ -29,7 +29,7 @@ returns-in-Comment c = sym (by_data c.args.self.now.tree.now c.data.ensures.tree
 
 pub returns-in-Element : goal.returns-in-Element
 returns-in-Element c =
-    ap not (c.is_hidden.ensures ∙ ap (is_hidden (sight_of c.args.self.now)) c.as_str.ensures)
+    ap not c.is_hidden.ensures
     ∙ sym (by_data c.args.self.now.tree.now c.data.ensures.tree c.args.node c.requires
     (shows (sight_of c.args.self.now)) (element_node c.in-Element.name
     (pairs_of c.in-Element.attrs.items))

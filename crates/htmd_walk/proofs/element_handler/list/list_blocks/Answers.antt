@@ -10,7 +10,8 @@ use Rattle.htmd_walk.specs.declared.element_handler.HandlerResult.{HandlerResult
 use Rattle.htmd_walk.specs.Handling.{ResultView}
 use Rattle.htmd_walk.specs.Lists.{block_of_child}
 use Rattle.htmd_walk.specs.Views.{result_view}
-use Rattle.htmd_walk.proofs.ChildListsLemmas.{zip-map, map_twice, zip_first_all}
+use Rattle.std.proofs.lemmas.Simd.{map-map}
+use Rattle.htmd_walk.proofs.ChildListsLemmas.{zip-map, zip_first_all}
 use Rattle.htmd_walk.proofs.element_handler.list.list_blocks.Goals as goal
 
 pub list_block-requires : goal.list_block-requires
@@ -44,6 +45,6 @@ returns c =
     (result_view p.1).content in
     let h : ℕ × ResultView → Block = λ p. block_of_child (tag_of (data_at c.args.tree.now p.0)) p.1.content in
     c.loop-child.invariant
-    ∙ sym (map_twice g (λ (p : Bor ℕ × HandlerResult). (p.0.now, p.1)) c.loop-child.yielded)
+    ∙ sym (map-map g (λ (p : Bor ℕ × HandlerResult). (p.0.now, p.1)) c.loop-child.yielded)
     ∙ ap (map g) all.0
     ∙ sym (zip-map h result_view c.args.children.now c.args.contents.items)

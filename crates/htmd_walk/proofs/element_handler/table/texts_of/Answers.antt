@@ -6,7 +6,8 @@ use Rattle.std.proofs.lemmas.List.{map_push, take_all}
 use Rattle.htmd_walk.specs.declared.element_handler.HandlerResult.{HandlerResult}
 use Rattle.htmd_walk.specs.Tables.{text_of_cell}
 use Rattle.htmd_walk.specs.Views.{result_view}
-use Rattle.htmd_walk.proofs.ChildListsLemmas.{map_twice, map_next}
+use Rattle.std.proofs.lemmas.Simd.{map-map}
+use Rattle.htmd_walk.proofs.ChildListsLemmas.{map_next}
 use Rattle.htmd_walk.proofs.element_handler.table.texts_of.Goals as goal
 
 abbrev bytes_of : String Global → List ℕ
@@ -29,4 +30,4 @@ pub returns : goal.returns
 returns c =
     c.loop-content.invariant
     ∙ ap (map text_at) (take_all c.loop-content.content-index c.args.contents.now c.loop-content-test.false)
-    ∙ sym (map_twice text_of_cell result_view c.args.contents.now)
+    ∙ sym (map-map text_of_cell result_view c.args.contents.now)

@@ -10,7 +10,7 @@ invariant_of-self-2 g c =
     let count = length c.args.self.now.handlers.items in
     let more = length c.push.new.self.items in
     let old = map tag_index c.args.self.now.registered.all.items in
-    let tags = map (λ t. t.now) c.args.tags.now in
+    let tags = map (λ t. t.now) c.as_slice.result.now in
     let kept : count ≤ more = first_of (omega arith, search rules, grind (arith, common_steps)) in
     let within : c.len.result < more = first_of (omega arith, search rules, grind (arith, common_steps)) in
     record {

@@ -1,8 +1,0 @@
-use Rattle.std.proofs.Common.{◌≡◌, drop}
-use Rattle.htmd_lexical.specs.Attributes.{pairs_of}
-use Rattle.htmd_document_of_tree.specs.Attributes.{value_of}
-use Rattle.htmd_document_of_tree.proofs.attributes.value_of.Given as goal
-
-abbrev pub invariant-loop-attribute : goal.invariant-loop-attribute
-invariant-loop-attribute l =
-    value_of l.name (pairs_of (drop l.attribute-index l.attrs)) ≡ value_of l.name (pairs_of l.attrs)
