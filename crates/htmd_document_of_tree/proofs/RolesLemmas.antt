@@ -29,10 +29,13 @@ none_among name h [] = refl
 none_among name h (t ∷ ts) =
     ap (λ b. b || is_among (map tag_text ts) name) (other_name name h t) ∙ none_among name h ts
 
+abbrev hidden_tags : List Tag
+hidden_tags =
+    tag.Script ∷ tag.Style ∷ tag.Title ∷ tag.Iframe ∷ tag.Noframes ∷ tag.Noembed ∷ tag.Template ∷
+    tag.Datalist ∷ tag.Annotation ∷ tag.AnnotationXml ∷ []
+
 pub shown_name : (name : List ℕ) → HasNoTag name → is_among hidden_names name ≡ false
-shown_name name h =
-    none_among name h (tag.Script ∷ tag.Style ∷ tag.Title ∷ tag.Iframe ∷ tag.Noframes ∷ tag.Noembed ∷ tag.Template ∷
-    tag.Datalist ∷ tag.Annotation ∷ tag.AnnotationXml ∷ [])
+shown_name name h = none_among name h hidden_tags
 
 inline_plain : (name : List ℕ) → HasNoTag name → inline_role name ≡ role.Plain
 unfolding inline_role
@@ -68,6 +71,13 @@ inline_plain name h = rw (
       tag.Input,
 ) refl
 
+abbrev block_tags : List Tag
+block_tags =
+    tag.Address ∷ tag.Article ∷ tag.Aside ∷ tag.Body ∷ tag.Center ∷ tag.Dd ∷ tag.Details ∷ tag.Dialog ∷
+    tag.Div ∷ tag.Dl ∷ tag.Dt ∷ tag.Fieldset ∷ tag.Figcaption ∷ tag.Figure ∷ tag.Footer ∷ tag.Form ∷
+    tag.Frameset ∷ tag.Header ∷ tag.Hgroup ∷ tag.Html ∷ tag.Legend ∷ tag.Main ∷ tag.Nav ∷ tag.Search ∷
+    tag.Section ∷ tag.Summary ∷ []
+
 block_plain : (name : List ℕ) → HasNoTag name → heading_or_block name ≡ role.Plain
 unfolding heading_or_block
 block_plain name h = rw (
@@ -77,10 +87,7 @@ block_plain name h = rw (
   h tag.H4,
   h tag.H5,
   h tag.H6,
-  none_among name h (tag.Address ∷ tag.Article ∷ tag.Aside ∷ tag.Body ∷ tag.Center ∷ tag.Dd ∷ tag.Details ∷ tag.Dialog ∷
-      tag.Div ∷ tag.Dl ∷ tag.Dt ∷ tag.Fieldset ∷ tag.Figcaption ∷ tag.Figure ∷ tag.Footer ∷ tag.Form ∷
-      tag.Frameset ∷ tag.Header ∷ tag.Hgroup ∷ tag.Html ∷ tag.Legend ∷ tag.Main ∷ tag.Nav ∷ tag.Search ∷
-      tag.Section ∷ tag.Summary ∷ []),
+  none_among name h block_tags,
 ) (inline_plain name h)
 
 table_plain : (name : List ℕ) → HasNoTag name → table_role name ≡ role.Plain

@@ -1,6 +1,6 @@
--- Encodings whose characters are of several bytes: the Encoding Standard, 4.1. A decoder's steps from the first byte of a
--- character to its answer are a sequence: the characters of the answer, and how many bytes after the first it has eaten.
--- Bytes that it gives back aren't among them. An error is U+FFFD.
+-- Encodings whose characters are of several bytes: the Encoding Standard, 4.1. A decoder's steps from the first byte
+-- of a character to its answer are a sequence: the characters of the answer, and how many bytes after the first it has
+-- eaten. Bytes that it gives back aren't among them. An error is U+FFFD.
 use Rattle.std.specs.Prelude.{ℕ, zero, suc, ◌&&◌, ◌==◌, if◌then◌else◌, List, [], ◌∷◌, ◌++◌, get_or}
 use Rattle.std.specs.Char.{is_ascii}
 use Rattle.htmd_encodings.specs.declared.sequences.Characters.{Characters}
@@ -30,7 +30,8 @@ pair c b = if (c == 0xFFFD) && is_ascii b then error 0 else reads c 1
 abbrev pub character_at : List ℕ → ℕ → ℕ
 character_at index pointer = get_or index pointer 0xFFFD
 
--- the characters of bytes by a decoder that begins each sequence in one state; the first `eaten` bytes are eaten already
+-- the characters of bytes by a decoder that begins each sequence in one state; the first `eaten` bytes are eaten
+-- already
 abbrev pub characters_after : (ℕ → List ℕ → Sequence) → ℕ → List ℕ → List ℕ
 characters_after sequence eaten [] = []
 characters_after sequence zero (b ∷ s) =

@@ -10,7 +10,8 @@ use Rattle.htmd_nodes.specs.TagLookup.{i_tags, k_tags, l_tags, m_tags, n_tags, o
 use Rattle.htmd_nodes.specs.TagLookup.{t_tags, u_tags, v_tags, w_tags, x_tags}
 
 found : (t : Tag) → tag_of (tag_text t) ≡ Some t
-unfolding tag_of tag_beginning a_tags b_tags c_tags d_tags e_tags f_tags h_tags i_tags k_tags l_tags m_tags n_tags o_tags p_tags q_tags r_tags s_tags t_tags u_tags v_tags w_tags x_tags
+unfolding tag_of tag_beginning a_tags b_tags c_tags d_tags e_tags f_tags h_tags i_tags k_tags l_tags m_tags n_tags
+    o_tags p_tags q_tags r_tags s_tags t_tags u_tags v_tags w_tags x_tags
 found tag.A = refl
 found tag.Abbr = refl
 found tag.Address = refl

@@ -12,34 +12,34 @@ one_of (t ∷ ts) text = if bytes_eq text (tag_text t) then Some t else one_of t
 
 unfoldable pub a_tags : List Tag
 a_tags =
-    tag.A ∷ tag.Abbr ∷ tag.Address ∷ tag.Annotation ∷ tag.AnnotationXml ∷ tag.Area ∷ tag.Article ∷ tag.Aside ∷
-    tag.Audio ∷ []
+    tag.A ∷ tag.Abbr ∷ tag.Address ∷ tag.Annotation ∷ tag.AnnotationXml ∷ tag.Area ∷ tag.Article ∷
+    tag.Aside ∷ tag.Audio ∷ []
 
 unfoldable pub b_tags : List Tag
 b_tags =
-    tag.B ∷ tag.Base ∷ tag.Basefont ∷ tag.Bdi ∷ tag.Bdo ∷ tag.Bgsound ∷ tag.Blockquote ∷ tag.Body ∷ tag.Br ∷
-    tag.Button ∷ []
+    tag.B ∷ tag.Base ∷ tag.Basefont ∷ tag.Bdi ∷ tag.Bdo ∷ tag.Bgsound ∷ tag.Blockquote ∷ tag.Body ∷
+    tag.Br ∷ tag.Button ∷ []
 
 unfoldable pub c_tags : List Tag
 c_tags = tag.Canvas ∷ tag.Caption ∷ tag.Center ∷ tag.Cite ∷ tag.Code ∷ tag.Col ∷ tag.Colgroup ∷ []
 
 unfoldable pub d_tags : List Tag
 d_tags =
-    tag.Datalist ∷ tag.Dd ∷ tag.Del ∷ tag.Details ∷ tag.Dfn ∷ tag.Dialog ∷ tag.Dir ∷ tag.Div ∷ tag.Dl ∷ tag.Dt
-    ∷ []
+    tag.Datalist ∷ tag.Dd ∷ tag.Del ∷ tag.Details ∷ tag.Dfn ∷ tag.Dialog ∷ tag.Dir ∷ tag.Div ∷
+    tag.Dl ∷ tag.Dt ∷ []
 
 unfoldable pub e_tags : List Tag
 e_tags = tag.Em ∷ tag.Embed ∷ []
 
 unfoldable pub f_tags : List Tag
 f_tags =
-    tag.Fieldset ∷ tag.Figcaption ∷ tag.Figure ∷ tag.Font ∷ tag.Footer ∷ tag.Form ∷ tag.Frame ∷ tag.Frameset ∷
-    []
+    tag.Fieldset ∷ tag.Figcaption ∷ tag.Figure ∷ tag.Font ∷ tag.Footer ∷ tag.Form ∷ tag.Frame ∷
+    tag.Frameset ∷ []
 
 unfoldable pub h_tags : List Tag
 h_tags =
-    tag.H1 ∷ tag.H2 ∷ tag.H3 ∷ tag.H4 ∷ tag.H5 ∷ tag.H6 ∷ tag.Head ∷ tag.Header ∷ tag.Hgroup ∷ tag.Hr ∷
-    tag.Html ∷ []
+    tag.H1 ∷ tag.H2 ∷ tag.H3 ∷ tag.H4 ∷ tag.H5 ∷ tag.H6 ∷ tag.Head ∷ tag.Header ∷ tag.Hgroup ∷
+    tag.Hr ∷ tag.Html ∷ []
 
 unfoldable pub i_tags : List Tag
 i_tags = tag.I ∷ tag.Iframe ∷ tag.Image ∷ tag.Img ∷ tag.Input ∷ tag.Ins ∷ []
@@ -52,8 +52,8 @@ l_tags = tag.Label ∷ tag.Legend ∷ tag.Li ∷ tag.Link ∷ tag.Listing ∷ []
 
 unfoldable pub m_tags : List Tag
 m_tags =
-    tag.Main ∷ tag.Map ∷ tag.Mark ∷ tag.Math ∷ tag.Menu ∷ tag.Menuitem ∷ tag.Meta ∷ tag.Meter ∷ tag.Mi ∷
-    tag.Mn ∷ tag.Mo ∷ tag.Mrow ∷ tag.Msub ∷ tag.Msubsup ∷ tag.Msup ∷ tag.Mtext ∷ []
+    tag.Main ∷ tag.Map ∷ tag.Mark ∷ tag.Math ∷ tag.Menu ∷ tag.Menuitem ∷ tag.Meta ∷ tag.Meter ∷
+    tag.Mi ∷ tag.Mn ∷ tag.Mo ∷ tag.Mrow ∷ tag.Msub ∷ tag.Msubsup ∷ tag.Msup ∷ tag.Mtext ∷ []
 
 unfoldable pub n_tags : List Tag
 n_tags = tag.Nav ∷ tag.Nobr ∷ tag.Noembed ∷ tag.Noframes ∷ tag.Noscript ∷ []
@@ -72,14 +72,14 @@ r_tags = tag.Rp ∷ tag.Rt ∷ tag.Ruby ∷ []
 
 unfoldable pub s_tags : List Tag
 s_tags =
-    tag.S ∷ tag.Samp ∷ tag.Script ∷ tag.Search ∷ tag.Section ∷ tag.Select ∷ tag.Semantics ∷ tag.Small ∷
-    tag.Source ∷ tag.Span ∷ tag.Strike ∷ tag.Strong ∷ tag.Style ∷ tag.Sub ∷ tag.Summary ∷ tag.Sup ∷ tag.Svg ∷
-    []
+    tag.S ∷ tag.Samp ∷ tag.Script ∷ tag.Search ∷ tag.Section ∷ tag.Select ∷ tag.Semantics ∷
+    tag.Small ∷ tag.Source ∷ tag.Span ∷ tag.Strike ∷ tag.Strong ∷ tag.Style ∷ tag.Sub ∷ tag.Summary ∷
+    tag.Sup ∷ tag.Svg ∷ []
 
 unfoldable pub t_tags : List Tag
 t_tags =
-    tag.Table ∷ tag.Tbody ∷ tag.Td ∷ tag.Template ∷ tag.Textarea ∷ tag.Tfoot ∷ tag.Th ∷ tag.Thead ∷ tag.Time ∷
-    tag.Title ∷ tag.Tr ∷ tag.Track ∷ tag.Tt ∷ []
+    tag.Table ∷ tag.Tbody ∷ tag.Td ∷ tag.Template ∷ tag.Textarea ∷ tag.Tfoot ∷ tag.Th ∷ tag.Thead ∷
+    tag.Time ∷ tag.Title ∷ tag.Tr ∷ tag.Track ∷ tag.Tt ∷ []
 
 unfoldable pub u_tags : List Tag
 u_tags = tag.U ∷ tag.Ul ∷ []

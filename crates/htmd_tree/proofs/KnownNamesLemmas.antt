@@ -8,7 +8,8 @@ use Rattle.htmd_nodes.specs.declared.tag.Tag.{Tag}
 use Rattle.htmd_nodes.specs.declared.tag.Tag.TheVariants as tag
 use Rattle.htmd_nodes.specs.Tags.{tag_text, HasNoTag}
 use Rattle.htmd_tree.specs.KnownNames.{known_name, known_in_table, known_by_itself, outside_names, block_names, is}
-use Rattle.htmd_tree.specs.KnownNames.{holds_raw_text, closes_paragraph, is_table_part, holds_parts, is_part_of_select}
+use Rattle.htmd_tree.specs.KnownNames.{heading_names, raw_text_names, holds_raw_text, closes_paragraph, is_table_part}
+use Rattle.htmd_tree.specs.KnownNames.{holds_parts, is_part_of_select}
 use Rattle.htmd_tree.specs.declared.reader.names.KnownName.{KnownName}
 use Rattle.htmd_tree.specs.declared.reader.names.KnownName.TheVariants.{Outside, NoScript, Text, Heading, P, A, Button}
 use Rattle.htmd_tree.specs.declared.reader.names.KnownName.TheVariants.{Form, NoBr, Li, ItemList, Description, Dl}
@@ -20,13 +21,14 @@ abbrev known_tags : List Tag
 known_tags =
     tag.A ∷ tag.Article ∷ tag.Aside ∷ tag.Address ∷ tag.Blockquote ∷ tag.Button ∷ tag.Body ∷ tag.Col ∷
     tag.Colgroup ∷ tag.Caption ∷ tag.Center ∷ tag.Div ∷ tag.Details ∷ tag.Dialog ∷ tag.Dd ∷ tag.Dt ∷
-    tag.Dl ∷ tag.Dir ∷ tag.Form ∷ tag.Figure ∷ tag.Figcaption ∷ tag.Footer ∷ tag.Fieldset ∷ tag.Frame ∷
-    tag.Frameset ∷ tag.H1 ∷ tag.H2 ∷ tag.H3 ∷ tag.H4 ∷ tag.H5 ∷ tag.H6 ∷ tag.Hr ∷ tag.Header ∷ tag.Hgroup ∷
-    tag.Html ∷ tag.Head ∷ tag.Iframe ∷ tag.Image ∷ tag.Li ∷ tag.Listing ∷ tag.Main ∷ tag.Menu ∷ tag.Nav ∷
-    tag.Nobr ∷ tag.Noscript ∷ tag.Noembed ∷ tag.Noframes ∷ tag.Ol ∷ tag.Option ∷ tag.Optgroup ∷ tag.P ∷
-    tag.Pre ∷ tag.Plaintext ∷ tag.Select ∷ tag.Section ∷ tag.Summary ∷ tag.Search ∷ tag.Script ∷
-    tag.Style ∷ tag.Tr ∷ tag.Td ∷ tag.Th ∷ tag.Table ∷ tag.Thead ∷ tag.Tbody ∷ tag.Tfoot ∷ tag.Title ∷
-    tag.Textarea ∷ tag.Template ∷ tag.Ul ∷ tag.Xmp ∷ []
+    tag.Dl ∷ tag.Dir ∷ tag.Form ∷ tag.Figure ∷ tag.Figcaption ∷ tag.Footer ∷ tag.Fieldset ∷
+    tag.Frame ∷ tag.Frameset ∷ tag.H1 ∷ tag.H2 ∷ tag.H3 ∷ tag.H4 ∷ tag.H5 ∷ tag.H6 ∷ tag.Hr ∷
+    tag.Header ∷ tag.Hgroup ∷ tag.Html ∷ tag.Head ∷ tag.Iframe ∷ tag.Image ∷ tag.Li ∷ tag.Listing ∷
+    tag.Main ∷ tag.Menu ∷ tag.Nav ∷ tag.Nobr ∷ tag.Noscript ∷ tag.Noembed ∷ tag.Noframes ∷ tag.Ol ∷
+    tag.Option ∷ tag.Optgroup ∷ tag.P ∷ tag.Pre ∷ tag.Plaintext ∷ tag.Select ∷ tag.Section ∷
+    tag.Summary ∷ tag.Search ∷ tag.Script ∷ tag.Style ∷ tag.Tr ∷ tag.Td ∷ tag.Th ∷ tag.Table ∷
+    tag.Thead ∷ tag.Tbody ∷ tag.Tfoot ∷ tag.Title ∷ tag.Textarea ∷ tag.Template ∷ tag.Ul ∷ tag.Xmp ∷
+    []
 
 -- all names that are known
 unfoldable names : List (List ℕ)
@@ -40,7 +42,7 @@ none_of some n h l =
 other : (n : List ℕ) → is_among names n ≡ false → known_by_itself n ≡ Other
 unfolding names known_by_itself
 other n h = rw (
-  none_of (codes "h1" ∷ codes "h2" ∷ codes "h3" ∷ codes "h4" ∷ codes "h5" ∷ codes "h6" ∷ []) n h refl,
+  none_of heading_names n h refl,
   none_of (codes "p" ∷ []) n h refl,
   none_of (codes "a" ∷ []) n h refl,
   none_of (codes "button" ∷ []) n h refl,
@@ -72,7 +74,7 @@ unknown : (n : List ℕ) → is_among names n ≡ false → known_name n ≡ Oth
 unfolding names known_name
 unknown n h = rw (
   none_of outside_names n h refl,
-  none_of (codes "script" ∷ codes "style" ∷ codes "iframe" ∷ codes "noembed" ∷ codes "noframes" ∷ []) n h refl,
+  none_of raw_text_names n h refl,
   none_of (codes "xmp" ∷ []) n h refl,
   none_of (codes "noscript" ∷ []) n h refl,
   none_of (codes "title" ∷ codes "textarea" ∷ []) n h refl,

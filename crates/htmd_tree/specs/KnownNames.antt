@@ -16,10 +16,13 @@ block_names =
     codes "figure" ∷ codes "footer" ∷ codes "header" ∷ codes "hgroup" ∷ codes "hr" ∷ codes "main" ∷
     codes "nav" ∷ codes "pre" ∷ codes "search" ∷ codes "section" ∷ codes "summary" ∷ []
 
+abbrev pub heading_names : List (List ℕ)
+heading_names = codes "h1" ∷ codes "h2" ∷ codes "h3" ∷ codes "h4" ∷ codes "h5" ∷ codes "h6" ∷ []
+
 -- a name that is neither of text alone nor of a table
 unfoldable pub known_by_itself : List ℕ → KnownName
 known_by_itself n =
-    if is_among (codes "h1" ∷ codes "h2" ∷ codes "h3" ∷ codes "h4" ∷ codes "h5" ∷ codes "h6" ∷ []) n then Heading
+    if is_among heading_names n then Heading
     else if is_among (codes "p" ∷ []) n then P
     else if is_among (codes "a" ∷ []) n then A
     else if is_among (codes "button" ∷ []) n then Button
@@ -53,11 +56,14 @@ outside_names =
     codes "html" ∷ codes "head" ∷ codes "body" ∷ codes "frameset" ∷ codes "frame" ∷ codes "template" ∷
     codes "plaintext" ∷ codes "listing" ∷ codes "image" ∷ []
 
+-- elements that hold text without references, with scripting on or off
+abbrev pub raw_text_names : List (List ℕ)
+raw_text_names = codes "script" ∷ codes "style" ∷ codes "iframe" ∷ codes "noembed" ∷ codes "noframes" ∷ []
+
 unfoldable pub known_name : List ℕ → KnownName
 known_name n =
     if is_among outside_names n then Outside
-    else if is_among (codes "script" ∷ codes "style" ∷ codes "iframe" ∷ codes "noembed" ∷ codes "noframes" ∷ []) n
-    then RawText
+    else if is_among raw_text_names n then RawText
     else if is_among (codes "xmp" ∷ []) n then Xmp
     else if is_among (codes "noscript" ∷ []) n then NoScript
     else if is_among (codes "title" ∷ codes "textarea" ∷ []) n then Text

@@ -19,11 +19,11 @@ block_tags =
     tag.Caption ∷ tag.Center ∷ tag.Col ∷ tag.Colgroup ∷ tag.Dd ∷ tag.Details ∷ tag.Dialog ∷ tag.Dir ∷
     tag.Div ∷ tag.Dl ∷ tag.Dt ∷ tag.Fieldset ∷ tag.Figcaption ∷ tag.Figure ∷ tag.Footer ∷ tag.Form ∷
     tag.Frame ∷ tag.Frameset ∷ tag.H1 ∷ tag.H2 ∷ tag.H3 ∷ tag.H4 ∷ tag.H5 ∷ tag.H6 ∷ tag.Head ∷
-    tag.Header ∷ tag.Hr ∷ tag.Html ∷ tag.Iframe ∷ tag.Legend ∷ tag.Li ∷ tag.Link ∷ tag.Main ∷ tag.Menu ∷
-    tag.Menuitem ∷ tag.Nav ∷ tag.Noframes ∷ tag.Ol ∷ tag.Optgroup ∷ tag.Option ∷ tag.P ∷ tag.Param ∷
-    tag.Pre ∷ tag.Script ∷ tag.Search ∷ tag.Section ∷ tag.Style ∷ tag.Summary ∷ tag.Table ∷ tag.Tbody ∷
-    tag.Td ∷ tag.Textarea ∷ tag.Tfoot ∷ tag.Th ∷ tag.Thead ∷ tag.Title ∷ tag.Tr ∷ tag.Track ∷ tag.Ul ∷
-    []
+    tag.Header ∷ tag.Hr ∷ tag.Html ∷ tag.Iframe ∷ tag.Legend ∷ tag.Li ∷ tag.Link ∷ tag.Main ∷
+    tag.Menu ∷ tag.Menuitem ∷ tag.Nav ∷ tag.Noframes ∷ tag.Ol ∷ tag.Optgroup ∷ tag.Option ∷ tag.P ∷
+    tag.Param ∷ tag.Pre ∷ tag.Script ∷ tag.Search ∷ tag.Section ∷ tag.Style ∷ tag.Summary ∷
+    tag.Table ∷ tag.Tbody ∷ tag.Td ∷ tag.Textarea ∷ tag.Tfoot ∷ tag.Th ∷ tag.Thead ∷ tag.Title ∷
+    tag.Tr ∷ tag.Track ∷ tag.Ul ∷ []
 
 pub no_block : (name : List ℕ) → HasNoTag name → is_block name ≡ false
 unfolding is_block

@@ -12,7 +12,8 @@ returns-then-preformatted c =
 pub returns-in-Document : goal.returns-in-Document
 returns-in-Document c =
     sym (trims_by c.args.tree.now c.args.node (sym c.requires.inside ∙ c.if-preformatted.false)
-    ∙ ap (λ d. is_block (ancestor_of d).tag) (sym c.data.ensures.value ∙ ap data_of c.in-Document.is) ∙ html_block)
+    ∙ ap (λ d. is_block (ancestor_of d).tag) (sym c.data.ensures.value ∙ ap data_of c.in-Document.is)
+    ∙ html_block)
 
 pub returns-in-Element : goal.returns-in-Element
 returns-in-Element c =
