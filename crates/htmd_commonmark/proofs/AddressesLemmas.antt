@@ -1,7 +1,7 @@
 -- Addresses and titles, written piece by piece.
 use Rattle.std.proofs.Common.{◌≡◌, ℕ, ◌+◌, ◌<◌, Bool, true, false, List, [], ◌∷◌, ◌++◌, length, get_or, drop, take}
 use Rattle.std.proofs.Common.{refl, sym, ap, ◌∙◌, arith, append_assoc, ⊎_elim}
-use Rattle.std.specs.Prelude.{◌==◌, ◌&&◌, slice_get, codes, Option}
+use Rattle.std.specs.Prelude.{◌==◌, ◌&&◌, slice_get, codes}
 use Rattle.std.specs.Char.{is_ascii}
 use Rattle.std.specs.List.{between, list_all}
 use Rattle.std.proofs.lemmas.Bool.{or_cases, and_parts}

@@ -1,13 +1,13 @@
 -- Blocks and items, one after the other.
-use Rattle.std.proofs.Common.{◌≡◌, ℕ, zero, suc, ◌+◌, ◌-◌, ◌*◌, ◌/◌, ◌%◌, ◌^◌, ◌<◌, ◌≤◌, Bool, true, false, cond, List}
+use Rattle.std.proofs.Common.{◌≡◌, ℕ, zero, suc, ◌+◌, ◌-◌, ◌*◌, ◌%◌, ◌^◌, ◌<◌, ◌≤◌, Bool, true, false, cond, List}
 use Rattle.std.proofs.Common.{[]}
 use Rattle.std.proofs.Common.{◌∷◌, ◌++◌, length, get_or, drop, map, refl, sym, ap, ◌∙◌, arith, append_assoc, codes}
 use Rattle.std.proofs.Common.{add-one}
-use Rattle.std.proofs.Common.{subst, drop-cons, string_bytes}
-use Rattle.std.specs.Prelude.{◌==◌, ◌||◌, Option, Some, None, Vec, Result, Ok, Err, OnOk, replicate, take}
+use Rattle.std.proofs.Common.{subst, drop-cons}
+use Rattle.std.specs.Prelude.{◌==◌, ◌||◌, Option, None, Vec, Result, Ok, Err, OnOk, replicate, take}
 use Rattle.std.specs.declared.alloc.Global.{Global}
 use Rattle.std.specs.Fmt.{decimal}
-use Rattle.std.specs.List.{flat_map, list_any}
+use Rattle.std.specs.List.{flat_map}
 use Rattle.std.proofs.lemmas.Bool.Decides.{nat_tests}
 use Rattle.std.proofs.lemmas.Fmt.{decimal_by_steps}
 use Rattle.std.proofs.lemmas.List.{append-nil, drop_all, length-take-le, take_more}
@@ -16,7 +16,7 @@ use Rattle.htmd_lexical.specs.Characters.{line_feed, number_sign}
 use Rattle.htmd_text.specs.Trims.{is_line_feed}
 use Rattle.htmd_document.specs.declared.document.Block.{Block}
 use Rattle.htmd_document.specs.declared.document.Block as source
-use Rattle.htmd_document.specs.declared.document.Block.{fold-roll-Block, roll-Block}
+use Rattle.htmd_document.specs.declared.document.Block.{fold-roll-Block}
 use Rattle.htmd_document.specs.declared.document.Block.TheVariants.{rolls-List}
 use Rattle.htmd_document.specs.declared.document.Inline.{Inline}
 use Rattle.htmd_document.specs.Documents as value

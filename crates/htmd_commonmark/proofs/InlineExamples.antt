@@ -7,9 +7,10 @@ use Rattle.unicode.proofs.CategoryComputing.{ucd_category}
 use Rattle.htmd_markdown.specs.declared.line_break.BrStyle.TheVariants.{TwoSpaces}
 use Rattle.htmd_markdown.specs.declared.link.LinkStyle.{LinkStyle}
 use Rattle.htmd_markdown.specs.declared.link.LinkStyle.TheVariants.{Inlined, InlinedPreferAutolinks, Referenced}
-use Rattle.htmd_document.specs.declared.document.Format.{Format}
-use Rattle.htmd_document.specs.declared.document.Format.TheVariants.{Emphasis, Strong, Deleted, Superscript, Subscript}
-use Rattle.htmd_document.specs.Documents.{Inline, text, code, formatted, link, image, line_break, task, inlines_of}
+use Rattle.htmd_document.specs.Formats.{Format}
+use Rattle.htmd_document.specs.Formats.{Emphasis, Strong, Deleted, Superscript, Subscript}
+use Rattle.htmd_document.specs.Documents.{Inline, text, code, formatted, link, image, anchor, line_break, task}
+use Rattle.htmd_document.specs.Documents.{inlines_of}
 use Rattle.htmd_commonmark.specs.declared.line.Line.{Line}
 use Rattle.htmd_commonmark.specs.declared.line.LineKind.{LineKind}
 use Rattle.htmd_commonmark.specs.declared.line.LineKind.TheVariants.{Paragraph, Heading, Cell}
@@ -56,6 +57,29 @@ pub always_tags :
     ≡ codes "x<sup>2</sup> H<sub>2</sub>O"
 unfolding chars encode ucd_category
 always_tags = refl
+
+pub raised_in_raised :
+    paragraph
+    (text (codes "x") ∷ in_format Superscript
+    (text (codes "y") ∷ in_format Superscript (text (codes "2") ∷ [])
+    ∷ in_format Subscript (text (codes "i") ∷ []) ∷ []) ∷ [])
+    ≡ codes "x<sup>y<sup>2</sup><sub>i</sub></sup>"
+unfolding chars encode ucd_category
+raised_in_raised = refl
+
+-- the value of an anchor's tag has character references, for the bar of a cell too
+pub anchors :
+    cell (anchor (codes "a|b") ∷ anchor (codes "<\"]&") ∷ text (codes "c") ∷ [])
+    ≡ codes "<a id=\"a&#124;b\"></a><a id=\"&lt;&quot;&#93;&amp;\"></a>c"
+unfolding chars encode ucd_category
+anchors = refl
+
+-- an anchor beside emphasis is as a tag
+pub anchor_before_emphasis :
+    paragraph (anchor (codes "x") ∷ in_format Emphasis (text (codes "a") ∷ []) ∷ [])
+    ≡ codes "<a id=\"x\"></a>*a*"
+unfolding chars encode ucd_category
+anchor_before_emphasis = refl
 
 pub strong_in_emphasis :
     paragraph

@@ -1,15 +1,23 @@
 -- Inlines that are written one after the other.
 use Rattle.std.proofs.Common.{◌≡◌, ℕ, ◌+◌, ◌<◌, ◌≤◌, false, List, [], ◌∷◌, length, drop, get_or}
 use Rattle.std.proofs.Common.{refl, sym, ap, ◌∙◌, arith}
-use Rattle.std.specs.Prelude.{◌||◌, nat_eq, Option}
+use Rattle.std.specs.Prelude.{◌||◌, nat_eq, Option, Vec}
+use Rattle.std.specs.declared.alloc.Global.{Global}
 use Rattle.std.specs.List.{starts_with}
 use Rattle.std.proofs.lemmas.List.{drop_more}
 use Rattle.htmd_document.specs.declared.document.Inline.{Inline}
+use Rattle.htmd_document.specs.declared.document.Inline.TheVariants.{Element}
+use Rattle.htmd_document.specs.declared.document.InlineElement.{InlineElement}
+use Rattle.htmd_document.specs.declared.document.InlineElement.TheVariants.{Superscript, Subscript}
+use Rattle.htmd_document.specs.Formats.{of_element}
+use Rattle.htmd_document.proofs.MdastLemmas.{inline-element}
 use Rattle.htmd_document.specs.DocumentViews.{inline_of, inlines_of}
 use Rattle.htmd_commonmark.specs.declared.inline_ends.Following.{Following}
 use Rattle.htmd_commonmark.specs.declared.line.Line.{Line}
 use Rattle.htmd_commonmark.specs.InlineEnds.{follows}
-use Rattle.htmd_commonmark.specs.InlineMarkdown.{written, with_inline, holds, is_text_alone}
+use Rattle.htmd_commonmark.specs.InlineMarkdown.{written, with_inline, between, sides_of, holds, is_text_alone}
+use Rattle.htmd_commonmark.specs.Marks.{tags_of, mark_for}
+use Rattle.htmd_commonmark.specs.declared.marks.Sides.{Sides}
 use Rattle.htmd_commonmark.specs.WrittenText.{Written}
 
 -- what is left after an inline is written with it
@@ -41,3 +49,17 @@ pub not_alone : (address : List ℕ) (xs : List Inline) → 2 ≤ length xs
 not_alone address [] two = absurd (omega arith)
 not_alone address (x ∷ []) two = absurd (omega arith)
 not_alone address (x ∷ y ∷ xs) two = refl
+
+-- what is written of an element
+
+tags_written : (e : InlineElement) (s : Sides) → mark_for (of_element e) s ≡ tags_of (of_element e)
+tags_written Superscript s = refl
+tags_written Subscript s = refl
+
+pub element_written : (line : Line) (w : Written) (f : Following) (e : InlineElement) (xs : Vec Inline Global)
+    → with_inline line w f (inline_of (Element e xs))
+    ≡ between line w (tags_of (of_element e)) (inlines_of xs.items)
+element_written line w f e xs =
+    let content = inlines_of xs.items in
+    ap (with_inline line w f) (inline-element e xs)
+    ∙ ap (λ m. between line w m content) (tags_written e (sides_of line w.text f content))

@@ -3,6 +3,7 @@ pub mod CharacterKindsLemmas
 pub mod TextEscapesLemmas
 pub mod AddressesLemmas
 pub mod PagesLemmas
+pub mod ColumnsLemmas
 pub mod TableLinesLemmas
 pub mod BlocksLemmas
 pub mod InlineEndsLemmas

@@ -2,7 +2,7 @@
 use Rattle.std.proofs.Common.{◌≡◌, ℕ, zero, suc, ◌+◌, ◌-◌, ◌<◌, ◌≤◌, Bool, true, false, cond, List, [], ◌∷◌, ◌++◌}
 use Rattle.std.proofs.Common.{length, get_or, take, drop, min, refl, sym, ap, ◌∙◌, arith, append_assoc, codes}
 use Rattle.std.proofs.Common.{length-append}
-use Rattle.std.specs.Prelude.{◌==◌, ◌||◌, ◌&&◌, not, nat_lt, replicate, reverse, map, Result, Ok, Err, OnOk}
+use Rattle.std.specs.Prelude.{◌==◌, not, nat_lt, replicate, map, Result, Ok, Err, OnOk}
 use Rattle.std.specs.Result.{is_ok}
 use Rattle.std.specs.Char.{is_ascii}
 use Rattle.std.specs.List.{flat_map, list_all, list_any, onto_first, prefix_len, suffix_len, slice_split}

@@ -1,25 +1,23 @@
 -- Rows of tables, cell by cell.
-use Rattle.std.proofs.Common.{◌≡◌, ℕ, zero, suc, ◌+◌, ◌-◌, ◌<◌, ◌≤◌, Bool, true, false, cond, List, [], ◌∷◌, ◌++◌}
-use Rattle.std.proofs.Common.{length, get_or, set, take, drop, max, refl, sym, ap, ◌∙◌, arith, append_assoc, codes}
+use Rattle.std.proofs.Common.{◌≡◌, ℕ, zero, suc, ◌+◌, ◌-◌, ◌<◌, ◌≤◌, Bool, true, false, List, [], ◌∷◌, ◌++◌}
+use Rattle.std.proofs.Common.{length, get_or, set, take, drop, max, refl, sym, ap, ◌∙◌, arith, append_assoc, codes, Result, Ok, Err, OnOk}
 use Rattle.std.proofs.Common.{add-one, drop-cons}
 use Rattle.std.specs.Prelude.{◌==◌, replicate, map, String, string_bytes, Vec}
 use Rattle.std.specs.declared.alloc.Global.{Global}
-use Rattle.std.specs.List.{flat_map, slice_split, onto_first, suffix_len, take-map}
-use Rattle.std.specs.Str.{chars}
-use Rattle.std.proofs.lemmas.Bool.Decides.{nat_tests}
-use Rattle.std.proofs.lemmas.List.{append-nil, drop_more, drop_all, length-map, take_all}
+use Rattle.std.specs.List.{flat_map, slice_split, onto_first, sum_by}
+use Rattle.std.proofs.lemmas.Str.{chars-nil}
+use Rattle.std.proofs.lemmas.List.{append-nil, drop_more, drop_all, take_all}
 use Rattle.std.proofs.lemmas.List.Splits.{slice_split-cons_yes, slice_split-cons_no}
 use Rattle.htmd_lexical.specs.Characters.{line_feed, space, vertical_bar}
 use Rattle.htmd_text.specs.Joins.{joined_texts}
-use Rattle.htmd_lexical.specs.CharacterClasses.{is_empty}
-use Rattle.htmd_markdown.specs.Tables.{padded_cell, barred_cells, line, texts}
+use Rattle.htmd_markdown.specs.Tables.{texts}
 use Rattle.htmd_document.specs.declared.document.Alignment.{Alignment}
 use Rattle.htmd_document.specs.declared.document.Inline.{Inline}
 use Rattle.htmd_document.specs.Documents.{Inlines}
 use Rattle.htmd_document.specs.DocumentViews.{inlines_of}
-use Rattle.htmd_commonmark.specs.TableLines.{with_escaped_bars, in_cell, widened, width_of, line_width, delimiters}
-use Rattle.htmd_commonmark.specs.TableLines.{dashes}
-use Rattle.htmd_commonmark.specs.TableLines.{without_empty_end, narrowest, rows_text, shown_cells}
+use Rattle.htmd_commonmark.specs.Columns.{columns_of, width_of}
+use Rattle.htmd_commonmark.specs.TableLines.{with_escaped_bars, widened, line_width, delimiters, dashes}
+use Rattle.htmd_commonmark.specs.TableLines.{padded_cell, barred_cells, line, narrowest, rows_text, shown_cells}
 use Rattle.htmd_commonmark.specs.declared.line.Line.{Line}
 use Rattle.htmd_commonmark.specs.BlockMarkdown.{written_cells, written_rows}
 use Rattle.htmd_commonmark.specs.BlockViews.{cells_of, rows_of}
@@ -171,24 +169,68 @@ widened_past (w ∷ old) (cell ∷ cells) (suc k) past =
     ap (λ n. widened (w ∷ old) (take n (cell ∷ cells))) more
     ∙ ap (λ l. max w (width_of cell) ∷ l) (widened_past old cells k (omega arith))
 
--- ---- cells that are shown
+-- ---- cells that a row lacks
 
-pub empty_if : (s : List ℕ) (t : Bool) → (length s == 0) ≡ t → is_empty s ≡ t
-empty_if [] t e = e
-empty_if (b ∷ s) t e = let none : (length (b ∷ s) == 0) ≡ false = grind (arith, nat_tests) in sym none ∙ e
+no_width : width_of [] ≡ 0
+no_width = ap (sum_by columns_of) chars-nil
 
-pub shown_told : {Z : Type 0} (cells rest : List (String Z)) (n : ℕ) → 0 < length cells → rest ≡ drop 1 cells
-    → n ≡ length rest - suffix_len is_empty (texts rest)
-    → texts (take (1 + n) cells) ≡ without_empty_end (texts cells)
-shown_told [] rest n some behind is = absurd (omega arith)
-shown_told (cell ∷ cells) rest n some behind is =
-    let more : 1 + n ≡ suc n = omega arith in
-    let size : length (texts cells) ≡ length cells = length-map cells (λ c. string_bytes c) in
-    let same : n ≡ length cells - suffix_len is_empty (texts cells) =
-    is ∙ ap (λ l. length l - suffix_len is_empty (texts l)) behind in
-    ap (λ k. texts (take k (cell ∷ cells))) more
-    ∙ ap (λ l. string_bytes cell ∷ l) (sym (take-map (λ c. string_bytes c) n cells)
-    ∙ ap (λ k. take k (texts cells)) (same ∙ ap (λ k. k - suffix_len is_empty (texts cells)) (sym size)))
+abbrev empties : ℕ → List (List ℕ)
+empties n = replicate n []
+
+length-empty : (n : ℕ) → length (empties n) ≡ n
+length-empty zero = refl
+length-empty (suc n) = ap (λ k. suc k) (length-empty n)
+
+empty-at : (n k : ℕ) → get_or (empties n) k [] ≡ []
+empty-at zero k = refl
+empty-at (suc n) zero = refl
+empty-at (suc n) (suc k) = empty-at n k
+
+-- the empty cells of the columns from one on
+abbrev pub empty_left : List ℕ → ℕ → List ℕ
+empty_left widths k = cells_left (empties (length widths)) widths k
+
+-- a row that is filled up is the row and then empty cells
+filled-cells : (cells : List (List ℕ)) (widths : List ℕ)
+    → barred_cells (shown_cells true (length widths) cells) widths
+    ≡ barred_cells cells widths ++ empty_left widths (length cells)
+filled-cells [] widths =
+    let all : length widths - 0 ≡ length widths = omega arith in
+    ap (λ n. barred_cells (replicate n []) widths) all
+filled-cells (cell ∷ cells) [] = refl
+filled-cells (cell ∷ cells) (width ∷ widths) =
+    let less : suc (length widths) - suc (length cells) ≡ length widths - length cells = omega arith in
+    let rest = empty_left widths (length cells) in
+    ap (λ n. padded_cell cell width ++ vertical_bar ∷ barred_cells (cells ++ replicate n []) widths) less
+    ∙ ap (λ l. padded_cell cell width ++ vertical_bar ∷ l) (filled-cells cells widths)
+    ∙ sym (append_assoc (padded_cell cell width) (vertical_bar ∷ barred_cells cells widths) rest)
+
+pub filled-line : (out : List ℕ) (cells : List (List ℕ)) (widths : List ℕ)
+    → (out ++ line cells widths) ++ empty_left widths (length cells)
+    ≡ out ++ line (shown_cells true (length widths) cells) widths
+filled-line out cells widths =
+    append_assoc out (line cells widths) (empty_left widths (length cells))
+    ∙ ap (λ l. out ++ vertical_bar ∷ l) (sym (filled-cells cells widths))
+
+-- one more empty cell
+pub empty-more : (out : List ℕ) (widths : List ℕ) (k : ℕ) → k < length widths
+    → (((out ++ codes " ") ++ replicate (get_or widths k 0) space) ++ codes " |") ++ empty_left widths (k + 1)
+    ≡ out ++ empty_left widths k
+empty-more out widths k within =
+    let cells = empties (length widths) in
+    let w = get_or widths k 0 in
+    let rest = empty_left widths (k + 1) in
+    let none : w ≡ w - width_of [] = omega (arith, no_width) in
+    ap (λ l. ((l ++ replicate w space) ++ codes " |") ++ rest) (sym (append-nil (out ++ codes " ")))
+    ∙ ap (λ n. ((((out ++ codes " ") ++ []) ++ replicate n space) ++ codes " |") ++ rest) none
+    ∙ ap (λ x. ((((out ++ codes " ") ++ x) ++ replicate (w - width_of x) space) ++ codes " |") ++ rest)
+    (sym (empty-at (length widths) k))
+    ∙ cells-more out cells widths k (omega (arith, within, length-empty (length widths))) within
+
+-- what a call that may fail leaves, told in another way
+pub told_as : {T E : Type 0} (r : Result T E) (x a b : List ℕ) → OnOk r (x ≡ a) → a ≡ b → OnOk r (x ≡ b)
+told_as (Ok v) x a b h e = h ∙ e
+told_as (Err v) x a b h e = tt
 
 -- ---- rows
 
@@ -200,9 +242,9 @@ flat_map_push f (y ∷ xs) x =
 
 pub rows_more : (is_padded : Bool) (widths : List ℕ) (rows : List (List (List ℕ))) (row : List (List ℕ))
     → rows_text is_padded widths (rows ++ row ∷ [])
-    ≡ rows_text is_padded widths rows ++ (line_feed ∷ line (shown_cells is_padded row) widths)
+    ≡ rows_text is_padded widths rows ++ (line_feed ∷ line (shown_cells is_padded (length widths) row) widths)
 rows_more is_padded widths rows row =
-    flat_map_push (λ cells. line_feed ∷ line (shown_cells is_padded cells) widths) rows row
+    flat_map_push (λ cells. line_feed ∷ line (shown_cells is_padded (length widths) cells) widths) rows row
 
 -- ---- the texts of cells
 

@@ -1,6 +1,6 @@
 -- What is written of blocks, one below the other (CommonMark 0.31.2, 4 and 5).
-use Rattle.std.specs.Prelude.{ℕ, zero, suc, ◌+◌, ◌-◌, Bool, true, false, not, ◌&&◌, ◌||◌, ◌==◌, nat_lt, min, max, List}
-use Rattle.std.specs.Prelude.{if◌then◌else◌, [], ◌∷◌, ◌++◌, length, map, replicate, Option, Some, None, codes}
+use Rattle.std.specs.Prelude.{ℕ, suc, ◌+◌, ◌-◌, Bool, true, false, not, ◌&&◌, ◌||◌, ◌==◌, nat_lt, min, max, List}
+use Rattle.std.specs.Prelude.{if◌then◌else◌, [], ◌∷◌, ◌++◌, length, replicate, Option, Some, None, codes}
 use Rattle.std.specs.Fmt.{decimal}
 use Rattle.std.specs.Str.{chars}
 use Rattle.htmd_lexical.specs.Characters.{line_feed, number_sign}
@@ -14,7 +14,8 @@ use Rattle.htmd_markdown.specs.Headings.{underline}
 use Rattle.htmd_markdown.specs.ListItems.{aligned_spaces}
 use Rattle.htmd_markdown.specs.ThematicBreaks as breaks
 use Rattle.htmd_document.specs.declared.document.Alignment.{Alignment}
-use Rattle.htmd_document.specs.Documents.{Inline, Inlines, text, code, formatted, link, image, line_break, task}
+use Rattle.htmd_document.specs.Documents.{Inline, Inlines, text, code, formatted, link, image, anchor}
+use Rattle.htmd_document.specs.Documents.{line_break, task}
 use Rattle.htmd_document.specs.Documents.{no_inlines, inline, Block, Blocks, Items, paragraph, heading, code_block}
 use Rattle.htmd_document.specs.Documents.{quote}
 use Rattle.htmd_document.specs.Documents.{thematic_break, list, table, no_blocks, block, no_items, item}
@@ -51,6 +52,7 @@ abbrev mutual
   is_or_has_break (text s) = false
   is_or_has_break (code s) = false
   is_or_has_break (image address title description) = false
+  is_or_has_break (anchor id) = false
   is_or_has_break (task is_checked) = false
 
 abbrev pub is_setext : HeadingStyle → Bool

@@ -1,5 +1,5 @@
 -- The Markdown of a document.
-use Rattle.std.specs.Prelude.{ℕ, Bool, true, false, List, [], ◌∷◌, ◌++◌, None, codes}
+use Rattle.std.specs.Prelude.{ℕ, false, List, [], ◌∷◌, ◌++◌, None, codes}
 use Rattle.std.specs.List.{flat_map}
 use Rattle.htmd_document.specs.Documents.{Blocks}
 use Rattle.htmd_commonmark.specs.declared.blocks.Place.{Place}

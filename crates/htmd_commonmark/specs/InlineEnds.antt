@@ -3,8 +3,9 @@ use Rattle.std.specs.Prelude.{ℕ, false, true, if◌then◌else◌, Option, Som
 use Rattle.htmd_lexical.specs.Characters.{asterisk, backslash, exclamation_mark, grave_accent, greater_than_sign}
 use Rattle.htmd_lexical.specs.Characters.{left_square_bracket, right_square_bracket, right_parenthesis, less_than_sign}
 use Rattle.htmd_lexical.specs.Characters.{line_feed, is_one_of}
-use Rattle.htmd_document.specs.declared.document.Format.{Format}
-use Rattle.htmd_document.specs.Documents.{Inline, text, code, formatted, link, image, line_break, task}
+use Rattle.htmd_document.specs.Formats.{Format}
+use Rattle.htmd_document.specs.Documents.{Inline, text, code, formatted, link, image, anchor}
+use Rattle.htmd_document.specs.Documents.{line_break, task}
 use Rattle.htmd_document.specs.Documents.{Inlines, no_inlines, inline}
 use Rattle.htmd_commonmark.specs.declared.line.LineKind.{LineKind}
 use Rattle.htmd_commonmark.specs.declared.inline_ends.Following.{Following}
@@ -33,6 +34,7 @@ first_of kind (code s) = Some grave_accent
 first_of kind (formatted format content) = Some (first_of_format format)
 first_of kind (link address title content) = Some left_square_bracket
 first_of kind (image address title description) = Some exclamation_mark
+first_of kind (anchor id) = Some less_than_sign
 first_of kind line_break = Some (first_of_break kind)
 first_of kind (task is_checked) = Some left_square_bracket
 
@@ -42,6 +44,7 @@ last_of (code s) = Some grave_accent
 last_of (formatted format content) = Some (last_of_format format)
 last_of (link address title content) = Some right_parenthesis
 last_of (image address title description) = Some right_parenthesis
+last_of (anchor id) = Some greater_than_sign
 last_of line_break = Some line_feed
 last_of (task is_checked) = Some right_square_bracket
 

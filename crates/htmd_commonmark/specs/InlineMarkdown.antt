@@ -10,15 +10,17 @@ use Rattle.htmd_lexical.specs.Characters.{right_square_bracket}
 use Rattle.htmd_markdown.specs.declared.link.LinkStyle.{LinkStyle}
 use Rattle.htmd_markdown.specs.declared.link.LinkStyle.TheVariants.{InlinedPreferAutolinks, Referenced}
 use Rattle.htmd_markdown.specs.LineBreaks as breaks
-use Rattle.htmd_document.specs.Documents.{Inline, text, code, formatted, link, image, line_break, task}
+use Rattle.htmd_document.specs.Documents.{Inline, text, code, formatted, link, image, anchor}
+use Rattle.htmd_document.specs.Documents.{line_break, task}
 use Rattle.htmd_document.specs.Documents.{Inlines, no_inlines, inline}
+use Rattle.htmd_document.specs.Tags as tags
 use Rattle.htmd_commonmark.specs.declared.line.Line.{Line}
 use Rattle.htmd_commonmark.specs.declared.inline_ends.Following.{Following}
 use Rattle.htmd_commonmark.specs.declared.marks.Sides.{Sides}
 use Rattle.htmd_commonmark.specs.Addresses.{destination, title, is_autolink}
 use Rattle.htmd_commonmark.specs.CodeSpans.{code_span}
 use Rattle.htmd_commonmark.specs.InlineEnds.{first_of_all, last_of_all, follows}
-use Rattle.htmd_commonmark.specs.Marks.{mark_for}
+use Rattle.htmd_commonmark.specs.Marks.{Mark, mark_for}
 use Rattle.htmd_commonmark.specs.TextEscapes.{Place, escaped}
 use Rattle.htmd_commonmark.specs.WrittenText.{Written, wrote, is_one_line, is_heading, is_cell, character_before}
 use Rattle.htmd_commonmark.specs.WrittenText.{begins_line, is_last_escaped}
@@ -191,8 +193,13 @@ abbrev mutual
       ended_link line w (written (in_link line) (wrote w (codes "[")) (Some right_square_bracket) content)
       address name content
   with_inline line w f (image address name description) = wrote w (written_image address name description)
+  with_inline line w f (anchor id) = wrote w (tags.anchor id)
   with_inline line w f line_break = wrote w (written_break line)
   with_inline line w f (task is_checked) = wrote w (written_task is_checked)
+
+-- what stands between two marks or tags
+abbrev pub between : Line → Written → Mark → Inlines → Written
+between line w mark content = wrote (written line (wrote w mark.opener) (Some mark.sign) content) mark.closer
 
 abbrev pub with_link : Line → Written → List ℕ → Option (List ℕ) → Inlines → Written
 with_link line w address name content =

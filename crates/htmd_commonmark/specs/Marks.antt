@@ -3,8 +3,7 @@
 use Rattle.std.specs.Prelude.{ℕ, Bool, false, true, not, ◌&&◌, ◌||◌, ◌==◌, if◌then◌else◌, List, Option, Some, None}
 use Rattle.std.specs.Prelude.{codes}
 use Rattle.htmd_lexical.specs.Characters.{asterisk, tilde, underscore, less_than_sign, is_one_of}
-use Rattle.htmd_document.specs.declared.document.Format.{Format}
-use Rattle.htmd_document.specs.declared.document.Format.TheVariants.{Emphasis, Strong, Deleted, Superscript, Subscript}
+use Rattle.htmd_document.specs.Formats.{Format, Emphasis, Strong, Deleted, Superscript, Subscript}
 use Rattle.htmd_commonmark.specs.declared.marks.Sides.{Sides}
 use Rattle.htmd_commonmark.specs.CharacterKinds.{is_space, is_word, is_apart}
 
@@ -72,16 +71,23 @@ is_always_tag Superscript = true
 is_always_tag Subscript = true
 is_always_tag format = false
 
+abbrev pub tags_of : Format → Mark
+tags_of Emphasis = tags (codes "<em>") (codes "</em>")
+tags_of Strong = tags (codes "<strong>") (codes "</strong>")
+tags_of Deleted = tags (codes "<del>") (codes "</del>")
+tags_of Superscript = tags (codes "<sup>") (codes "</sup>")
+tags_of Subscript = tags (codes "<sub>") (codes "</sub>")
+
 -- Asterisks or tildes where they fit, else underscores where those do, else tags.
 abbrev pub mark_for : Format → Sides → Mark
 mark_for Emphasis s =
     if fits asterisk s then row asterisk (codes "*")
     else if fits underscore s then row underscore (codes "_")
-    else tags (codes "<em>") (codes "</em>")
+    else tags_of Emphasis
 mark_for Strong s =
     if fits asterisk s then row asterisk (codes "**")
     else if fits underscore s then row underscore (codes "__")
-    else tags (codes "<strong>") (codes "</strong>")
-mark_for Deleted s = if fits tilde s then row tilde (codes "~~") else tags (codes "<del>") (codes "</del>")
-mark_for Superscript s = tags (codes "<sup>") (codes "</sup>")
-mark_for Subscript s = tags (codes "<sub>") (codes "</sub>")
+    else tags_of Strong
+mark_for Deleted s = if fits tilde s then row tilde (codes "~~") else tags_of Deleted
+mark_for Superscript s = tags_of Superscript
+mark_for Subscript s = tags_of Subscript

@@ -1,8 +1,8 @@
 -- The lines of a document, each after the prefix of the quotes and items that it stands in.
-use Rattle.std.specs.Prelude.{◌≡◌, ℕ, ◌≤◌, Bool, true, false, ◌==◌, nat_lt, min, if◌then◌else◌, List, [], ◌∷◌, ◌++◌}
+use Rattle.std.specs.Prelude.{◌≡◌, ℕ, ◌≤◌, true, false, ◌==◌, nat_lt, min, if◌then◌else◌, List, [], ◌∷◌, ◌++◌}
 use Rattle.std.specs.Prelude.{◌+◌, length, map, take}
 use Rattle.std.specs.Prelude.{drop, replicate, codes}
-use Rattle.std.specs.List.{list_all, list_any, slice_split, flat_map}
+use Rattle.std.specs.List.{list_all, list_any, slice_split}
 use Rattle.std.specs.Char.{is_ascii}
 use Rattle.htmd_lexical.specs.Characters.{line_feed, space}
 use Rattle.htmd_text.specs.Trims.{trimmed_end, is_line_feed, is_space}

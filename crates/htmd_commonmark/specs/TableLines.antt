@@ -1,13 +1,11 @@
 -- Tables (GitHub Flavored Markdown 0.29, 4.10).
 use Rattle.std.specs.Prelude.{ℕ, ◌+◌, ◌-◌, Bool, true, false, ◌==◌, nat_le, max, if◌then◌else◌, List, []}
-use Rattle.std.specs.Prelude.{◌∷◌, ◌++◌, fold, length, map, replicate, take, codes}
-use Rattle.std.specs.List.{flat_map, suffix_len}
-use Rattle.std.specs.Str.{chars}
-use Rattle.htmd_lexical.specs.Characters.{line_feed, hyphen, colon, vertical_bar}
-use Rattle.htmd_lexical.specs.CharacterClasses.{is_empty}
-use Rattle.htmd_markdown.specs.Tables.{line}
+use Rattle.std.specs.Prelude.{◌∷◌, ◌++◌, fold, length, map, replicate, codes}
+use Rattle.std.specs.List.{flat_map}
+use Rattle.htmd_lexical.specs.Characters.{line_feed, space, hyphen, colon, vertical_bar}
 use Rattle.htmd_document.specs.declared.document.Alignment.{Alignment}
 use Rattle.htmd_document.specs.declared.document.Alignment.TheVariants.{Left, Center, Right}
+use Rattle.htmd_commonmark.specs.Columns.{width_of}
 
 -- a cell's text with a backslash before each bar
 abbrev pub in_cell : ℕ → List ℕ
@@ -26,9 +24,6 @@ narrowest = 3
 abbrev pub longest_padded : ℕ
 longest_padded = 100
 
-abbrev pub width_of : List ℕ → ℕ
-width_of cell = length (chars cell)
-
 -- columns as wide as these and as the cells of one more row; cells beyond the columns don't count
 abbrev pub widened : List ℕ → List (List ℕ) → List ℕ
 widened [] cells = []
@@ -39,10 +34,26 @@ widened (width ∷ widths) (cell ∷ cells) = max width (width_of cell) ∷ wide
 abbrev pub column_widths : List (List ℕ) → List (List (List ℕ)) → List ℕ
 column_widths header rows = fold widened (map (λ cell. max narrowest (width_of cell)) header) rows
 
--- how many characters a line of these widths has: a bar at its front, and in each column two spaces and a bar more
+-- how many columns a line of these widths takes: a bar at its front, and in each column two spaces and a bar more
 abbrev pub line_width : List ℕ → ℕ
 line_width [] = 1
 line_width (width ∷ widths) = width + 3 + line_width widths
+
+-- ---- cells
+
+-- a cell between spaces: one on each side, and after the cell as many as are missing to the width
+abbrev pub padded_cell : List ℕ → ℕ → List ℕ
+padded_cell cell width = space ∷ (cell ++ (replicate (width - width_of cell) space ++ space ∷ []))
+
+-- the cells of a line, each with its column's width and a bar after it
+abbrev pub barred_cells : List (List ℕ) → List ℕ → List ℕ
+barred_cells [] widths = []
+barred_cells (cell ∷ cells) [] = []
+barred_cells (cell ∷ cells) (width ∷ widths) = padded_cell cell width ++ vertical_bar ∷ barred_cells cells widths
+
+-- a line of cells
+abbrev pub line : List (List ℕ) → List ℕ → List ℕ
+line cells widths = vertical_bar ∷ barred_cells cells widths
 
 -- ---- lines
 
@@ -69,16 +80,14 @@ delimiters (alignment ∷ alignments) [] = []
 delimiters (alignment ∷ alignments) (width ∷ widths) =
     (codes " " ++ dashes alignment width ++ codes " |") ++ delimiters alignments widths
 
--- the first cell, and of the others all but the empty ones at the row's end
-abbrev pub without_empty_end : List (List ℕ) → List (List ℕ)
-without_empty_end [] = []
-without_empty_end (cell ∷ cells) = cell ∷ take (length cells - suffix_len is_empty cells) cells
-
-abbrev pub shown_cells : Bool → List (List ℕ) → List (List ℕ)
-shown_cells is_padded cells = if is_padded then cells else without_empty_end cells
+-- the cells of a row as they are written: where lines are padded, with an empty one for each that the row lacks
+abbrev pub shown_cells : Bool → ℕ → List (List ℕ) → List (List ℕ)
+shown_cells is_padded columns cells =
+    if is_padded then cells ++ replicate (columns - length cells) [] else cells
 
 abbrev pub rows_text : Bool → List ℕ → List (List (List ℕ)) → List ℕ
-rows_text is_padded widths rows = flat_map (λ cells. line_feed ∷ line (shown_cells is_padded cells) widths) rows
+rows_text is_padded widths rows =
+    flat_map (λ cells. line_feed ∷ line (shown_cells is_padded (length widths) cells) widths) rows
 
 -- the lines of a table whose cells are padded to these widths, and whose columns have dashes for those
 abbrev pub lines_of : Bool → List ℕ → List ℕ → List Alignment → List (List ℕ) → List (List (List ℕ))
@@ -86,7 +95,7 @@ abbrev pub lines_of : Bool → List ℕ → List ℕ → List Alignment → List
 lines_of is_padded widths dashed alignments header rows =
     line header widths ++ (codes "\n|" ++ delimiters alignments dashed) ++ rows_text is_padded widths rows
 
--- Cells are padded to their columns where all lines stay short; else they aren't, and empty cells at a row's end go.
+-- Cells are padded to their columns, and short rows filled up, where all lines stay short.
 abbrev pub table_text : List Alignment → List (List ℕ) → List (List (List ℕ)) → List ℕ
 table_text alignments header rows =
     let widths = column_widths header rows in

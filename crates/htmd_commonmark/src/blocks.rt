@@ -415,7 +415,13 @@ fn is_or_has_break(inline: &Inline) -> bool
 {
     match inline {
         Inline::LineBreak => true,
-        Inline::Formatted(_, content) | Inline::Link { content, .. } => has_break(content),
-        Inline::Text(_) | Inline::Code(_) | Inline::Image { .. } | Inline::Task(_) => false,
+        Inline::Formatted(_, content)
+        | Inline::Element(_, content)
+        | Inline::Link { content, .. } => has_break(content),
+        Inline::Text(_)
+        | Inline::Code(_)
+        | Inline::Anchor(_)
+        | Inline::Image { .. }
+        | Inline::Task(_) => false,
     }
 }

@@ -6,8 +6,7 @@ ghost use Rattle.htmd_commonmark.specs.WrittenText as written;
 
 use crate::character_kind::{first_character, last_character};
 use crate::line::LineKind;
-use crate::marks::is_always_tag;
-use htmd_document::{Format, Inline};
+use htmd_document::Inline;
 use htmd_text::repeats::trailing_len;
 
 /// What follows an inline: the first character, none at the end of a block, and whether it closes what the inline is
@@ -46,20 +45,6 @@ fn escaped_first(first: Option<char>) -> Option<char>
     }
 }
 
-/// A format's first character: of a tag, or mostly a mark.
-fn first_of_format(format: Format) -> char
-    ensures { result ≡ spec.first_of_format format }
-{
-    if is_always_tag(format) { '<' } else { '*' }
-}
-
-/// A format's last character.
-fn last_of_format(format: Format) -> char
-    ensures { result ≡ spec.last_of_format format }
-{
-    if is_always_tag(format) { '>' } else { '*' }
-}
-
 /// The first character of a break.
 fn first_of_break(kind: LineKind) -> char
     ensures { result ≡ spec.first_of_break kind }
@@ -67,14 +52,16 @@ fn first_of_break(kind: LineKind) -> char
     if kind.is_one_line() { '<' } else { '\n' }
 }
 
-/// The first character that is written of the inline.
+/// The first character that is written of the inline; of a format it is mostly a mark.
+#[tactic(auto, using(crate::proofs::InlineEndsLemmas::format_first, crate::proofs::InlineEndsLemmas::element_first))]
 fn first_of(x: &Inline, kind: LineKind) -> Option<char>
     ensures { result ≡ spec.first_of kind (inline_of x.now) }
 {
     match x {
         Inline::Text(text) => escaped_first(first_character(text)),
         Inline::Code(_) => Some('`'),
-        Inline::Formatted(format, _) => Some(first_of_format(*format)),
+        Inline::Formatted(..) => Some('*'),
+        Inline::Element(..) | Inline::Anchor(_) => Some('<'),
         Inline::Link { .. } | Inline::Task(_) => Some('['),
         Inline::Image { .. } => Some('!'),
         Inline::LineBreak => Some(first_of_break(kind)),
@@ -82,13 +69,15 @@ fn first_of(x: &Inline, kind: LineKind) -> Option<char>
 }
 
 /// The last character that is written of the inline.
+#[tactic(auto, using(crate::proofs::InlineEndsLemmas::format_last, crate::proofs::InlineEndsLemmas::element_last))]
 fn last_of(x: &Inline) -> Option<char>
     ensures { result ≡ spec.last_of (inline_of x.now) }
 {
     match x {
         Inline::Text(text) => last_character(text),
         Inline::Code(_) => Some('`'),
-        Inline::Formatted(format, _) => Some(last_of_format(*format)),
+        Inline::Formatted(..) => Some('*'),
+        Inline::Element(..) | Inline::Anchor(_) => Some('>'),
         Inline::Link { .. } | Inline::Image { .. } => Some(')'),
         Inline::LineBreak => Some('\n'),
         Inline::Task(_) => Some(']'),

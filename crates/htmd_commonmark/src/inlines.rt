@@ -4,7 +4,10 @@ ghost use Rattle.std.specs.Fmt.{decimal};
 ghost use Rattle.std.specs.Option.{option_copied};
 ghost use Rattle.htmd_document.specs.DocumentViews.{inline_of, inlines_of};
 ghost use Rattle.htmd_document.specs.Documents as value;
+ghost use Rattle.htmd_document.specs.Formats.{of_format};
+ghost use Rattle.htmd_document.specs.Tags.{anchor};
 ghost use Rattle.htmd_commonmark.specs.InlineMarkdown as spec;
+ghost use Rattle.htmd_commonmark.specs.MarkViews.{mark_of};
 ghost use Rattle.htmd_commonmark.specs.WrittenText.{nothing_written, written_of, wrote};
 
 use crate::address::{is_autolink, push_destination, push_title};
@@ -13,9 +16,9 @@ use crate::inline_ends::{
     Following, character_before, first_of_all, follows, is_last_escaped, last_of_all,
 };
 use crate::line::{Line, LineKind};
-use crate::marks::{Sides, mark_for};
+use crate::marks::{Mark, Sides, mark_for, tags_of};
 use crate::text_escape::{Place, push_escaped};
-use htmd_document::{Format, Inline};
+use htmd_document::{END_OF_ANCHOR, Format, Inline, push_anchor};
 use htmd_markdown::{BrStyle, LinkStyle};
 use htmd_text::repeats::trailing_len;
 use std::alloc::{AllocError, Global};
@@ -198,6 +201,7 @@ impl InlineWriter {
 
     /// Writes an inline after the text so far.
     #[cycle(inlines)]
+    #[tactic(auto, using(crate::proofs::InlinesLemmas::element_written))]
     fn write_inline(&mut self, x: &Inline, line: Line, follows: Following) -> Result<(), AllocError>
         ensures { OnOk result (written_of self.new
             ≡ spec.with_inline line (written_of self.old) follows (inline_of x.now)) }
@@ -206,6 +210,8 @@ impl InlineWriter {
             Inline::Text(text) => self.write_text(text, line, follows),
             Inline::Code(code) => self.write_code(code, line),
             Inline::Formatted(format, xs) => self.write_format(xs, *format, line, follows),
+            Inline::Element(element, xs) => self.write_between(xs, tags_of(*element), line),
+            Inline::Anchor(id) => self.write_anchor(id),
             Inline::Link {
                 address,
                 title,
@@ -221,7 +227,7 @@ impl InlineWriter {
         }
     }
 
-    /// Writes a format: a mark or a tag, the content, and the same again.
+    /// Writes a format: marks or tags around the content.
     #[cycle(inlines)]
     fn write_format(
         &mut self,
@@ -231,7 +237,7 @@ impl InlineWriter {
         follows: Following,
     ) -> Result<(), AllocError>
         ensures { OnOk result (written_of self.new ≡ spec.with_inline line (written_of self.old) follows
-            (value.formatted format (inlines_of content.now))) }
+            (value.formatted (of_format format) (inlines_of content.now))) }
     {
         let sides = Sides {
             before: character_before(&self.text),
@@ -241,7 +247,20 @@ impl InlineWriter {
             after: follows.after,
             is_last: follows.is_last,
         };
-        let mark = mark_for(format, sides);
+        self.write_between(content, mark_for(format, sides), line)
+    }
+
+    /// Writes the content between marks or tags.
+    #[cycle(inlines)]
+    fn write_between(
+        &mut self,
+        content: &[Inline],
+        mark: Mark,
+        line: Line,
+    ) -> Result<(), AllocError>
+        ensures { OnOk result (written_of self.new
+            ≡ spec.between line (written_of self.old) (mark_of mark) (inlines_of content.now)) }
+    {
         self.text.push_str(mark.opener)?;
         self.write_inlines(content, line, Some(mark.sign))?;
         self.text.push_str(mark.closer)
@@ -327,6 +346,14 @@ impl InlineWriter {
         self.text.push_str("![")?;
         push_escaped(&mut self.text, description, &place)?;
         self.write_resource(address, title)
+    }
+
+    /// Writes an anchor.
+    fn write_anchor(&mut self, id: &str) -> Result<(), AllocError>
+        ensures { OnOk result (written_of self.new ≡ wrote (written_of self.old) (anchor id.now)) }
+    {
+        push_anchor(&mut self.text, id)?;
+        self.text.push_str(END_OF_ANCHOR)
     }
 
     /// Writes an address between `<` and `>`.

@@ -5,6 +5,7 @@ mod address;
 mod blocks;
 mod character_kind;
 mod code_span;
+mod columns;
 mod fence;
 mod inline_ends;
 mod inlines;

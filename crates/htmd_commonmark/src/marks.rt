@@ -1,10 +1,11 @@
 //! The marks of formats, and where each is written (CommonMark 0.31.2, 6.2, and GitHub's strikethrough).
 ghost use Rattle.std.specs.Prelude.{◌≡◌, ◌==◌, option_map};
+ghost use Rattle.htmd_document.specs.Formats.{of_format, of_element};
 ghost use Rattle.htmd_commonmark.specs.Marks as spec;
 ghost use Rattle.htmd_commonmark.specs.MarkViews.{mark_of};
 
 use crate::character_kind::{is_apart, is_space, is_word};
-use htmd_document::Format;
+use htmd_document::{Format, InlineElement};
 
 /// What is written before a format's content and after it, and the first character of both.
 #[derive(Clone, Copy)]
@@ -112,16 +113,9 @@ fn tags(opener: &'static str, closer: &'static str) -> Mark
     }
 }
 
-/// Whether a format has no marks, and is written by tags wherever it is.
-pub(crate) fn is_always_tag(format: Format) -> bool
-    ensures { result ≡ spec.is_always_tag format }
-{
-    matches!(format, Format::Superscript | Format::Subscript)
-}
-
 /// What a format is written by: asterisks or tildes where they fit, else underscores where those do, else tags.
 pub(crate) fn mark_for(format: Format, sides: Sides) -> Mark
-    ensures { mark_of result ≡ spec.mark_for format sides }
+    ensures { mark_of result ≡ spec.mark_for (of_format format) sides }
 {
     match format {
         Format::Emphasis if fits('*', sides) => row('*', "*"),
@@ -132,7 +126,15 @@ pub(crate) fn mark_for(format: Format, sides: Sides) -> Mark
         Format::Strong => tags("<strong>", "</strong>"),
         Format::Deleted if fits('~', sides) => row('~', "~~"),
         Format::Deleted => tags("<del>", "</del>"),
-        Format::Superscript => tags("<sup>", "</sup>"),
-        Format::Subscript => tags("<sub>", "</sub>"),
+    }
+}
+
+/// The tags of an element of HTML.
+pub(crate) fn tags_of(element: InlineElement) -> Mark
+    ensures { mark_of result ≡ spec.tags_of (of_element element) }
+{
+    match element {
+        InlineElement::Superscript => tags("<sup>", "</sup>"),
+        InlineElement::Subscript => tags("<sub>", "</sub>"),
     }
 }

@@ -1,15 +1,13 @@
 //! Tables (GitHub Flavored Markdown 0.29, 4.10).
 
-ghost use Rattle.std.specs.Prelude.{◌≡◌, ◌≤◌, ◌-◌, ◌++◌, IfOk, OnOk, length, map, min, replicate, codes, string_bytes};
-ghost use Rattle.std.specs.List.{suffix_len};
-ghost use Rattle.htmd_lexical.specs.CharacterClasses.{is_empty};
+ghost use Rattle.std.specs.Prelude.{◌≡◌, ◌++◌, [], IfOk, OnOk, drop, length, map, min, replicate, codes, string_bytes, false, true};
 ghost use Rattle.htmd_markdown.specs.Tables as tables;
 ghost use Rattle.htmd_commonmark.specs.BlockMarkdown.{written_cells, written_rows};
 ghost use Rattle.htmd_commonmark.specs.BlockViews.{cells_of, rows_of};
 ghost use Rattle.htmd_commonmark.specs.TableLines as spec;
 ghost use Rattle.htmd_commonmark.specs.WrittenText.{written_of};
 
-use crate::character_kind::character_count;
+use crate::columns::width_of;
 use crate::inlines::InlineWriter;
 use crate::line::Line;
 use htmd_document::{Alignment, CellContent, RowContent};
@@ -77,14 +75,14 @@ impl TableTexts {
         if line_width(&widths) <= LONGEST_PADDED {
             push_row(out, &self.header, &widths)?;
             push_delimiters(out, alignments, &widths)?;
-            return push_rows(out, &self.rows, &widths, true);
+            return push_padded_rows(out, &self.rows, &widths);
         }
         set_all(&mut widths, 0);
         push_row(out, &self.header, &widths)?;
         set_all(&mut widths, NARROWEST);
         push_delimiters(out, alignments, &widths)?;
         set_all(&mut widths, 0);
-        push_rows(out, &self.rows, &widths, false)
+        push_rows(out, &self.rows, &widths)
     }
 
     /// How wide each column is.
@@ -94,7 +92,7 @@ impl TableTexts {
     {
         let mut widths = Vec::with_capacity(alloc, self.header.len())?;
         for cell in &self.header {
-            widths.push(NARROWEST.max(character_count(cell)))?;
+            widths.push(NARROWEST.max(width_of(cell)))?;
         }
         for row in &self.rows {
             widen(&mut widths, row);
@@ -145,7 +143,7 @@ fn widen(widths: &mut [usize], cells: &[String])
 {
     for (i, cell) in cells.iter().enumerate() {
         if i < widths.len() {
-            widths[i] = widths[i].max(character_count(cell));
+            widths[i] = widths[i].max(width_of(cell));
         }
     }
 }
@@ -169,58 +167,66 @@ fn set_all(widths: &mut [usize], width: usize)
     }
 }
 
-/// The cells of a row that are written: where lines are not padded, not the empty ones at its end.
-fn shown(cells: &[String], is_padded: bool) -> &[String]
-    ensures { tables.texts result.now ≡ spec.shown_cells is_padded (tables.texts cells.now) }
-{
-    if is_padded {
-        return cells;
-    }
-    match cells {
-        [] => cells,
-        [_, rest @ ..] => &cells[..1 + filled_len(rest)],
-    }
-}
-
-/// How many cells there are up to the last one that isn't empty.
-fn filled_len(cells: &[String]) -> usize
-    ensures bound { result ≤ length cells.now }
-    ensures value { result ≡ length cells.now - suffix_len is_empty (tables.texts cells.now) }
-{
-    let mut len = cells.len();
-    while len > 0 && cells[len - 1].is_empty() {
-        len -= 1;
-    }
-    len
-}
-
 /// Appends the lines of the rows, each after a line feed.
-fn push_rows(
-    out: &mut String,
-    rows: &[Vec<String>],
-    widths: &[usize],
-    is_padded: bool,
-) -> Result<(), AllocError>
+fn push_rows(out: &mut String, rows: &[Vec<String>], widths: &[usize]) -> Result<(), AllocError>
     ensures { OnOk result (string_bytes out.new ≡ string_bytes out.old
-        ++ spec.rows_text is_padded widths.now (map tables.row_texts rows.now)) }
+        ++ spec.rows_text false widths.now (map tables.row_texts rows.now)) }
 {
     for row in rows {
         out.push('\n')?;
-        push_row(out, shown(row, is_padded), widths)?;
+        push_row(out, row, widths)?;
     }
     Ok(())
+}
+
+/// The same with an empty cell for each one that a row lacks.
+fn push_padded_rows(
+    out: &mut String,
+    rows: &[Vec<String>],
+    widths: &[usize],
+) -> Result<(), AllocError>
+    ensures { OnOk result (string_bytes out.new ≡ string_bytes out.old
+        ++ spec.rows_text true widths.now (map tables.row_texts rows.now)) }
+{
+    for row in rows {
+        out.push('\n')?;
+        push_padded_row(out, row, widths)?;
+    }
+    Ok(())
+}
+
+/// Appends the line of a row, filled up.
+fn push_padded_row(out: &mut String, cells: &[String], widths: &[usize]) -> Result<(), AllocError>
+    ensures { OnOk result (string_bytes out.new ≡ string_bytes out.old
+        ++ spec.line (spec.shown_cells true (length widths.now) (tables.texts cells.now)) widths.now) }
+{
+    push_row(out, cells, widths)?;
+    push_empty_cells(out, widths, cells.len())
 }
 
 /// Appends the line of a row.
 fn push_row(out: &mut String, cells: &[String], widths: &[usize]) -> Result<(), AllocError>
     ensures { OnOk result (string_bytes out.new
-        ≡ string_bytes out.old ++ tables.line (tables.texts cells.now) widths.now) }
+        ≡ string_bytes out.old ++ spec.line (tables.texts cells.now) widths.now) }
 {
     out.push('|')?;
     for (cell, width) in cells.iter().zip(widths) {
         out.push(' ')?;
         out.push_str(cell)?;
-        push_repeated(out, ' ', width.saturating_sub(character_count(cell)))?;
+        push_repeated(out, ' ', width.saturating_sub(width_of(cell)))?;
+        out.push_str(" |")?;
+    }
+    Ok(())
+}
+
+/// Appends an empty cell for each column from this one on.
+fn push_empty_cells(out: &mut String, widths: &[usize], from: usize) -> Result<(), AllocError>
+    ensures { OnOk result (string_bytes out.new ≡ string_bytes out.old
+        ++ spec.barred_cells (drop from (replicate (length widths.now) [])) (drop from widths.now)) }
+{
+    for i in from..widths.len() {
+        out.push(' ')?;
+        push_repeated(out, ' ', widths[i])?;
         out.push_str(" |")?;
     }
     Ok(())

@@ -4,7 +4,7 @@ use Rattle.std.specs.Str.{chars}
 use Rattle.ucd_table.specs.Rows.{value_in}
 use Rattle.ucd_category.specs.GeneralCategoryRows.{general_category_rows}
 use Rattle.unicode.specs.GeneralCategory.{general_category}
-use Rattle.htmd_document.specs.declared.document.Format.TheVariants.{Emphasis, Strong, Deleted}
+use Rattle.htmd_document.specs.Formats.{Emphasis, Strong, Deleted}
 use Rattle.htmd_commonmark_reading.specs.Markup.{Inlines, no_inlines, letters, formatted, code}
 use Rattle.htmd_commonmark_reading.specs.Brackets.{inlines}
 use Rattle.htmd_commonmark_reading.proofs.ExampleTexts.{plain}

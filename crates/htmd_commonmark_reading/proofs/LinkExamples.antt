@@ -1,7 +1,7 @@
 -- Worked rows of links and images (CommonMark 0.31.2, 6.3 and 6.4). Each holds by computing.
 use Rattle.std.proofs.Common.{◌≡◌, ℕ, refl, List, [], ◌∷◌, codes, None, Some}
 use Rattle.std.specs.Str.{chars}
-use Rattle.htmd_document.specs.declared.document.Format.TheVariants.{Emphasis}
+use Rattle.htmd_document.specs.Formats.{Emphasis}
 use Rattle.htmd_commonmark_reading.specs.LinkDefinitions.{Definition}
 use Rattle.htmd_commonmark_reading.specs.Markup.{Inlines, no_inlines, letters, formatted, link, image}
 use Rattle.htmd_commonmark_reading.specs.Brackets.{inlines}

@@ -1,7 +1,7 @@
 -- Worked rows of lists (CommonMark 0.31.2, 5.3) and tasks (GFM 0.29, 5.3). Each holds by computing.
 use Rattle.std.proofs.Common.{◌≡◌, refl, true, false, codes, None, Some}
 use Rattle.std.specs.Str.{chars}
-use Rattle.htmd_document.specs.declared.document.Format.TheVariants.{Emphasis}
+use Rattle.htmd_document.specs.Formats.{Emphasis}
 use Rattle.htmd_commonmark_reading.specs.Markup.{no_inlines, paragraph, thematic_break, list, block, item, no_items}
 use Rattle.htmd_commonmark_reading.specs.Markup.{task, formatted}
 use Rattle.htmd_commonmark_reading.specs.Reading.{read}

@@ -1,8 +1,9 @@
 -- Worked rows of texts as one sees them, and as documents. Each holds by computing.
-use Rattle.std.proofs.Common.{◌≡◌, ℕ, refl, true, List, [], codes, None, Some}
+use Rattle.std.proofs.Common.{◌≡◌, ℕ, refl, true, List, [], ◌∷◌, codes, None, Some}
 use Rattle.std.specs.Str.{chars}
+use Rattle.htmd_document.specs.declared.document.Alignment.{Alignment}
 use Rattle.htmd_document.specs.Documents as document
-use Rattle.htmd_document.specs.declared.document.Format.TheVariants.{Emphasis, Strong, Superscript, Subscript}
+use Rattle.htmd_document.specs.Formats.{Emphasis, Strong, Superscript, Subscript}
 use Rattle.htmd_commonmark_reading.specs.Markup.{Inlines, no_inlines, letters, joined, formatted, code, link, image}
 use Rattle.htmd_commonmark_reading.specs.Markup.{line_break, raw}
 use Rattle.htmd_commonmark_reading.specs.Brackets.{inlines}
@@ -72,6 +73,9 @@ pub description : seen (codes "![a <em>b</em> *c*](d)") ≡ image (codes "d") No
 unfolding chars
 description = refl
 
+abbrev one_text : List ℕ → document.Inlines
+one_text s = document.inline (document.text s) document.no_inlines
+
 pub document_of_text : reading.document (codes "*a* b<sup>c</sup>\n\n---\n")
     ≡ Some (document.block (document.paragraph
     (document.inline (document.formatted Emphasis (document.inline (document.text (codes "a")) document.no_inlines))
@@ -91,6 +95,43 @@ pub document_of_code : reading.document (codes "<code>a\\*b</code>\n") ≡ Some 
     (document.paragraph (document.inline (document.code (codes "a*b")) document.no_inlines)) document.no_blocks)
 unfolding chars
 document_of_code = refl
+
+-- raised in raised; anchors, whose ids have character references
+pub raised_in_raised : seen (codes "<sup>a<sup>b</sup><sub>c</sub></sup>")
+    ≡ formatted Superscript (letters (codes "a") (formatted Superscript (plain (codes "b"))
+    (formatted Subscript (plain (codes "c")) no_inlines))) no_inlines
+unfolding chars
+raised_in_raised = refl
+
+pub document_of_anchor : reading.document (codes "<a id=\"x\"></a><a id=\"&lt;y&amp;#93;&#93;\"></a>b\n") ≡ Some
+    (document.block (document.paragraph (document.inline (document.anchor (codes "x"))
+    (document.inline (document.anchor (codes "<y&#93;]"))
+    (document.inline (document.text (codes "b")) document.no_inlines))))
+    document.no_blocks)
+unfolding chars
+document_of_anchor = refl
+
+pub no_document_of_link : reading.document (codes "<a href=\"x\"></a>\n") ≡ None
+unfolding chars
+no_document_of_link = refl
+
+pub no_document_of_text : reading.document (codes "<a id=\"x\">b</a>\n") ≡ None
+unfolding chars
+no_document_of_text = refl
+
+pub no_document_of_sign : reading.document (codes "<a id=\"x|y\"></a>\n") ≡ None
+unfolding chars
+no_document_of_sign = refl
+
+-- rows without the empty cells at their end
+pub document_of_table : reading.document (codes "|a||c|\n|-|-|-|\n|b|\n||d||\n|||\n") ≡ Some (document.block
+    (document.table (Alignment.None ∷ Alignment.None ∷ Alignment.None ∷ [])
+    (one_text (codes "a") ∷ document.no_inlines ∷ one_text (codes "c") ∷ [])
+    ((one_text (codes "b") ∷ []) ∷ (document.no_inlines ∷ one_text (codes "d") ∷ [])
+    ∷ (document.no_inlines ∷ []) ∷ []))
+    document.no_blocks)
+unfolding chars
+document_of_table = refl
 
 pub no_document : reading.document (codes "a <b>\n") ≡ None
 no_document = refl

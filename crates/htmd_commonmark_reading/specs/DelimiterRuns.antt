@@ -2,8 +2,8 @@
 -- 6.5), whose runs are one or two tildes.
 use Rattle.std.specs.Prelude.{ℕ, zero, suc, ◌+◌, ◌-◌, ◌%◌, Bool, true, false, not, ◌&&◌, ◌||◌, ◌==◌, nat_lt}
 use Rattle.std.specs.Prelude.{min, if◌then◌else◌, List, [], ◌∷◌, Option, Some, None}
-use Rattle.htmd_document.specs.declared.document.Format.{Format}
-use Rattle.htmd_document.specs.declared.document.Format.TheVariants.{Emphasis, Strong, Deleted}
+use Rattle.htmd_document.specs.Formats.{Format}
+use Rattle.htmd_document.specs.Formats.{Emphasis, Strong, Deleted}
 use Rattle.htmd_lexical.specs.Characters.{underscore, tilde}
 use Rattle.htmd_lexical.specs.CharacterClasses.{behind_run}
 use Rattle.htmd_commonmark_reading.specs.Characters.{is_unicode_white, is_unicode_punctuation, first_character}

@@ -13,5 +13,6 @@ pub mod DelimiterRuns
 pub mod InlineTokens
 pub mod Brackets
 pub mod Lists
+pub mod Anchors
 pub mod SeenMarkup
 pub mod Reading

@@ -1,18 +1,20 @@
 -- A text as one sees it: where raw tags of inlines match within one list of inlines, they are formats or code, `<br>`
--- is a line break, and an image's description is plain text (CommonMark 0.31.2, 6.4 and 6.6). The document that it then
--- is.
-use Rattle.std.specs.Prelude.{ℕ, Bool, true, false, if◌then◌else◌, List, [], ◌∷◌, ◌++◌, codes}
+-- is a line break, and an image's description is plain text (CommonMark 0.31.2, 6.4 and 6.6); a row has no empty cells
+-- at its end. The document that it then is.
+use Rattle.std.specs.Prelude.{ℕ, Bool, true, false, ◌&&◌, if◌then◌else◌, List, [], ◌∷◌, ◌++◌, codes}
 use Rattle.std.specs.Prelude.{Option, Some, None}
 use Rattle.std.specs.Str.{bytes_eq}
-use Rattle.htmd_document.specs.declared.document.Format.{Format}
-use Rattle.htmd_document.specs.declared.document.Format.TheVariants.{Emphasis, Strong, Deleted, Superscript, Subscript}
+use Rattle.htmd_document.specs.Formats.{Format}
+use Rattle.htmd_document.specs.Formats.{Emphasis, Strong, Deleted, Superscript, Subscript}
 use Rattle.htmd_document.specs.Documents as document
+use Rattle.htmd_document.specs.Tags.{end_of_anchor}
 use Rattle.htmd_lexical.specs.Characters.{space}
 use Rattle.htmd_lexical.specs.CharacterClasses.{is_among}
 use Rattle.htmd_commonmark_reading.specs.Markup.{Inlines, no_inlines, letter, code, formatted, link, image, line_break}
 use Rattle.htmd_commonmark_reading.specs.Markup.{task, raw, Block, paragraph, heading, code_block, quote}
 use Rattle.htmd_commonmark_reading.specs.Markup.{thematic_break, list, table, html_block, Blocks, no_blocks, block}
 use Rattle.htmd_commonmark_reading.specs.Markup.{Items, no_items, item, joined, letters, plain_text}
+use Rattle.htmd_commonmark_reading.specs.Anchors.{anchor_id}
 
 -- ---- tags that are seen
 
@@ -124,9 +126,27 @@ abbrev pub seen_row : List Inlines → List Inlines
 seen_row [] = []
 seen_row (c ∷ cs) = seen_inlines c ∷ seen_row cs
 
+abbrev pub has_none : Inlines → Bool
+has_none no_inlines = true
+has_none xs = false
+
+abbrev pub has_no_cell : List Inlines → Bool
+has_no_cell [] = true
+has_no_cell (c ∷ cs) = false
+
+-- cells without the empty ones at their end
+abbrev pub filled_front : List Inlines → List Inlines
+filled_front [] = []
+filled_front (c ∷ cs) = if has_none c && has_no_cell (filled_front cs) then [] else c ∷ filled_front cs
+
+-- in a row the first cell is one in any case
+abbrev pub without_empty_end : List Inlines → List Inlines
+without_empty_end [] = []
+without_empty_end (c ∷ cs) = c ∷ filled_front cs
+
 abbrev pub seen_rows : List (List Inlines) → List (List Inlines)
 seen_rows [] = []
-seen_rows (r ∷ rs) = seen_row r ∷ seen_rows rs
+seen_rows (r ∷ rs) = without_empty_end (seen_row r) ∷ seen_rows rs
 
 abbrev mutual
   pub seen_block : Block → Block
@@ -165,7 +185,13 @@ abbrev pub with_content :
 with_content make None rest = None
 with_content make (Some content) rest = with_first (make content) rest
 
--- in a document a space stands behind the box of a task
+-- an anchor before inlines, where two raw tags are one
+abbrev pub with_anchor : Option (List ℕ) → List ℕ → Option document.Inlines → Option document.Inlines
+with_anchor None end xs = None
+with_anchor (Some id) end xs = if bytes_eq end end_of_anchor then with_first (document.anchor id) xs else None
+
+-- In a document a space stands behind the box of a task. Of raw tags only anchors can stand in one: a tag with an id,
+-- and right behind it the end tag.
 abbrev pub document_inlines : Inlines → Option document.Inlines
 document_inlines no_inlines = Some document.no_inlines
 document_inlines (letter c xs) = with_letter c (document_inlines xs)
@@ -177,6 +203,7 @@ document_inlines (link a t content xs) =
 document_inlines (image a t content xs) = with_first (document.image a t (plain_text content)) (document_inlines xs)
 document_inlines (line_break xs) = with_first document.line_break (document_inlines xs)
 document_inlines (task d xs) = with_first (document.task d) (with_letter space (document_inlines xs))
+document_inlines (raw tag (raw end xs)) = with_anchor (anchor_id tag) end (document_inlines xs)
 document_inlines (raw tag xs) = None
 
 -- both or none

@@ -1,9 +1,10 @@
 -- Lemmas on formats.
-use Rattle.std.proofs.Common.{◌≡◌, ℕ, true, ◌==◌, if◌then◌else◌, refl, sym, ◌∙◌, ap, arith}
+use Rattle.std.proofs.Common.{◌≡◌, ℕ, true, false, ◌==◌, List, if◌then◌else◌, refl, sym, ◌∙◌, ap, arith}
 use Rattle.std.proofs.lemmas.Bool.Decides.{nat_tests}
-use Rattle.htmd_document.specs.declared.document.Format.{Format}
-use Rattle.htmd_document.specs.declared.document.Format.TheVariants.{Emphasis, Strong, Deleted, Superscript, Subscript}
-use Rattle.htmd_document.specs.Formats.{number, is_same_format}
+use Rattle.htmd_document.specs.Formats.{Format}
+use Rattle.htmd_document.specs.Formats.{Emphasis, Strong, Deleted, Superscript, Subscript}
+use Rattle.htmd_document.specs.Formats.{number, is_same_format, is_raised}
+use Rattle.htmd_document.specs.NormalInlines.{is_around, is_barred}
 
 abbrev format_at : ℕ → Format
 format_at n =
@@ -37,3 +38,8 @@ numbers-turned m n = grind (arith, nat_tests)
 
 pub same-turned : (f g : Format) → is_same_format f g ≡ is_same_format g f
 same-turned f g = numbers-turned (number f) (number g)
+
+-- what isn't raised can't stand in itself
+pub barred-mark : (around : List Format) (f : Format) → is_raised f ≡ false
+    → is_barred around f ≡ is_around around f
+barred-mark around f plain = rw plain refl

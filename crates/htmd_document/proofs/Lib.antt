@@ -1,4 +1,5 @@
 -- Lemmas on documents.
+pub mod TagsLemmas
 pub mod ValuesLemmas
 pub mod FormatsLemmas
 pub mod MdastLemmas

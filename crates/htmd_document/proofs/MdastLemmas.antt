@@ -11,8 +11,10 @@ use Rattle.serde_json.specs.declared.value.Value as declared_value
 use Rattle.htmd_lexical.specs.Characters.{space}
 use Rattle.htmd_document.specs.Mdast.{without_space}
 use Rattle.htmd_document.specs.declared.document.Inline as declared_inline
+use Rattle.htmd_document.specs.Formats.{of_format, of_element}
 use Rattle.htmd_document.specs.declared.document.Format.{Format}
-use Rattle.htmd_document.specs.declared.document.Inline.TheVariants.{Formatted, rolls-Formatted}
+use Rattle.htmd_document.specs.declared.document.InlineElement.{InlineElement}
+use Rattle.htmd_document.specs.declared.document.Inline.TheVariants.{Formatted, rolls-Formatted, Element, rolls-Element}
 use Rattle.htmd_document.specs.declared.document.Inline.TheFolds.{fold-roll-Inline}
 use Rattle.htmd_document.specs.declared.document.Inline.TheOpen.{Inline-F}
 use Rattle.htmd_document.specs.declared.document.Block.TheVariants.{rolls-List}
@@ -21,7 +23,7 @@ use Rattle.htmd_document.specs.declared.document.Block.TheFolds.{fold-roll-Block
 use Rattle.htmd_document.specs.declared.document.Block.TheOpen.{Block-F}
 use Rattle.htmd_document.specs.declared.document.Block as declared_block
 use Rattle.htmd_document.specs.Documents as value
-use Rattle.htmd_document.specs.Documents.{Inline, Inlines, no_inlines, inline, Block, Blocks, no_blocks, block}
+use Rattle.htmd_document.specs.Documents.{Inline, Block, Blocks}
 use Rattle.htmd_document.specs.DocumentViews.{inline_step, inline_of, inlines_of, block_step, block_of, blocks_of}
 use Rattle.htmd_document.specs.Mdast.{beside, one_item, with_value, between, node_data, children_data, inlines_data}
 use Rattle.htmd_document.specs.Mdast.{block_data, within_data}
@@ -206,10 +208,16 @@ items-step is_tight items i bs old new checked made children h e k c m p q =
 -- ---- an inline by its variant
 
 pub inline-formatted : (format : Format) (xs : Vec declared_inline.Inline Global)
-    → inline_of (Formatted format xs) ≡ value.formatted format (inlines_of xs.items)
+    → inline_of (Formatted format xs) ≡ value.formatted (of_format format) (inlines_of xs.items)
 inline-formatted format xs =
     ap inline_of (sym (rolls-Formatted format xs))
     ∙ fold-roll-Inline Inline inline_step (Inline-F.Formatted format xs)
+
+pub inline-element : (element : InlineElement) (xs : Vec declared_inline.Inline Global)
+    → inline_of (Element element xs) ≡ value.formatted (of_element element) (inlines_of xs.items)
+inline-element element xs =
+    ap inline_of (sym (rolls-Element element xs))
+    ∙ fold-roll-Inline Inline inline_step (Inline-F.Element element xs)
 
 pub block-list : (start : Option ℕ) (tight : Bool) (items : Vec (Vec declared_block.Block Global) Global)
     → block_of (built_block.List start tight items)

@@ -9,9 +9,9 @@ use Rattle.htmd_document.specs.declared.document.Alignment.{Alignment}
 use Rattle.htmd_document.specs.declared.document.Alignment.TheVariants as aligned
 use Rattle.htmd_document.specs.Documents as value
 use Rattle.htmd_document.specs.Documents.{Inlines, no_inlines, inline, Inline, text, code, formatted, link, image}
-use Rattle.htmd_document.specs.declared.document.Format.{Format}
-use Rattle.htmd_document.specs.declared.document.Format.TheVariants.{Emphasis, Strong, Deleted, Superscript, Subscript}
-use Rattle.htmd_document.specs.Documents.{line_break, task, Blocks, no_blocks, block, Block, paragraph, heading}
+use Rattle.htmd_document.specs.Formats.{Format}
+use Rattle.htmd_document.specs.Formats.{Emphasis, Strong, Deleted, Superscript, Subscript}
+use Rattle.htmd_document.specs.Documents.{anchor, line_break, task, Blocks, no_blocks, block, Block, paragraph, heading}
 use Rattle.htmd_document.specs.Documents.{code_block, quote}
 use Rattle.htmd_document.specs.Documents.{thematic_break, table}
 use Rattle.htmd_document.specs.Mdast.{beside, parent, text_or_null, format_data, node_data, children_data, inlines_data}
@@ -60,6 +60,7 @@ node-plain (code s) cs h = refl
 node-plain (formatted format xs) cs h = format-plain format cs h
 node-plain (link address title xs) cs h = rw (h, title-plain title) refl
 node-plain (image address title description) cs h = rw (title-plain title) refl
+node-plain (anchor id) cs h = beside-plain cs _ h refl
 node-plain line_break cs h = refl
 node-plain (task is_checked) cs h = refl
 
@@ -70,6 +71,7 @@ mutual
   children-plain (formatted format xs) = inlines-plain xs
   children-plain (link address title xs) = inlines-plain xs
   children-plain (image address title description) = refl
+  children-plain (anchor id) = refl
   children-plain line_break = refl
   children-plain (task is_checked) = refl
 
@@ -116,6 +118,7 @@ first-plain (code s) xs bs = refl
 first-plain (formatted format ys) xs bs = refl
 first-plain (link address title ys) xs bs = refl
 first-plain (image address title description) xs bs = refl
+first-plain (anchor id) xs bs = refl
 first-plain line_break xs bs = refl
 first-plain (task is_checked) xs bs = refl
 

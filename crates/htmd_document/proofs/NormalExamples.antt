@@ -3,11 +3,13 @@ use Rattle.std.proofs.Common.{◌≡◌, ℕ, zero, suc, List, [], ◌∷◌, re
 use Rattle.std.proofs.Common.{None as none}
 use Rattle.std.specs.Str.{is_utf8, chars}
 use Rattle.htmd_document.specs.declared.document.Alignment.TheVariants.{None, Left}
-use Rattle.htmd_document.specs.declared.document.Format.TheVariants.{Emphasis, Strong}
-use Rattle.htmd_document.specs.Documents.{text, code, formatted, link, image, line_break, task}
+use Rattle.htmd_document.specs.Formats.{Emphasis, Strong, Superscript}
+use Rattle.htmd_document.specs.Documents.{text, code, formatted, link, image, anchor}
+use Rattle.htmd_document.specs.Documents.{line_break, task}
 use Rattle.htmd_document.specs.Documents.{Inlines, no_inlines, inline, Blocks, no_blocks, block, no_items, item}
 use Rattle.htmd_document.specs.Documents.{paragraph}
 use Rattle.htmd_document.specs.Documents.{quote, thematic_break, list}
+use Rattle.htmd_document.specs.AnchorIds.{has_unique_ids}
 use Rattle.htmd_document.specs.NormalInlines.{is_normal_line, is_normal_item}
 use Rattle.htmd_document.specs.NormalDocuments.{is_normal_paragraph, is_normal_heading, is_language, is_normal_code}
 use Rattle.htmd_document.specs.NormalDocuments.{are_short_numbers, has_filled_item, has_right_distance, is_normal_list}
@@ -107,10 +109,79 @@ pub break_ends_format : is_normal_line (inline (formatted Strong (inline (code (
 unfolding is_utf8 chars encode
 break_ends_format = refl
 
--- ---- leaves
+-- ---- anchors, and what is above the line
 
 abbrev words : Inlines
 words = inline (text (codes "a b")) no_inlines
+
+abbrev place : Inlines → Inlines
+place xs = inline (anchor (codes "x y")) xs
+
+pub before_a_word : is_normal_paragraph false (place (place (inline (text (codes "a "))
+    (place (inline (text (codes "b")) no_inlines)))))
+    ≡ true
+unfolding is_utf8 chars encode
+before_a_word = refl
+
+pub before_a_space : is_normal_paragraph false (inline (text (codes "a")) (place (inline (text (codes " b"))
+    no_inlines)))
+    ≡ false
+unfolding is_utf8 chars encode
+before_a_space = refl
+
+pub at_the_end : is_normal_paragraph false (inline (text (codes "a")) (place no_inlines)) ≡ false
+unfolding is_utf8 chars encode
+at_the_end = refl
+
+pub in_a_format : is_normal_paragraph false (inline (formatted Strong (place (inline (text (codes "a")) no_inlines)))
+    no_inlines)
+    ≡ false
+unfolding is_utf8 chars encode
+in_a_format = refl
+
+pub in_a_link : is_normal_line (inline (link (codes "c") none (place (inline (text (codes "a")) no_inlines)))
+    no_inlines)
+    ≡ false
+unfolding is_utf8 chars encode
+in_a_link = refl
+
+pub alone : is_normal_paragraph false (place (place no_inlines)) ≡ true
+unfolding is_utf8 chars encode
+alone = refl
+
+pub first_in_heading : is_normal_heading 1 (place (inline (text (codes "a")) no_inlines)) ≡ true
+unfolding is_utf8 chars encode
+first_in_heading = refl
+
+pub later_in_heading : is_normal_heading 1 (inline (text (codes "a ")) (place (inline (text (codes "b")) no_inlines)))
+    ≡ false
+unfolding is_utf8 chars encode
+later_in_heading = refl
+
+-- two of them with one id
+pub same_ids : has_unique_ids (block (paragraph (place words)) (block (quote (block (paragraph (place words))
+    no_blocks)) no_blocks)) ≡ false
+same_ids = refl
+
+pub unique_ids : has_unique_ids (block (paragraph (inline (formatted Strong words) (place words)))
+    (block (paragraph (inline (anchor (codes "x")) words)) no_blocks))
+    ≡ true
+unique_ids = refl
+
+-- so many in each other
+abbrev raised : ℕ → Inlines
+raised zero = inline (code (codes "a")) no_inlines
+raised (suc n) = inline (formatted Superscript (raised n)) no_inlines
+
+pub as_high_as_may_be : is_normal_line (raised 8) ≡ true
+unfolding is_utf8 chars encode
+as_high_as_may_be = refl
+
+pub too_high : is_normal_line (raised 9) ≡ false
+unfolding is_utf8 chars encode
+too_high = refl
+
+-- ---- leaves
 
 pub normal_paragraph : is_normal_paragraph false words ≡ true
 unfolding is_utf8 chars encode
@@ -207,10 +278,20 @@ pub normal_table : is_normal_table (Left ∷ None ∷ []) (words ∷ no_inlines 
 unfolding is_utf8 chars encode
 normal_table = refl
 
-pub row_too_short : is_normal_table (Left ∷ None ∷ []) (words ∷ no_inlines ∷ []) ((words ∷ []) ∷ [])
+pub short_row : is_normal_table (Left ∷ None ∷ []) (words ∷ words ∷ []) ((words ∷ []) ∷ []) ≡ true
+unfolding is_utf8 chars encode
+short_row = refl
+
+-- a row ends in an empty cell, and the header in one that no row needs
+pub empty_end : is_normal_table (Left ∷ None ∷ []) (words ∷ words ∷ []) ((words ∷ no_inlines ∷ []) ∷ [])
     ≡ false
 unfolding is_utf8 chars encode
-row_too_short = refl
+empty_end = refl
+
+pub header_too_long : is_normal_table (Left ∷ None ∷ []) (words ∷ no_inlines ∷ []) ((words ∷ []) ∷ [])
+    ≡ false
+unfolding is_utf8 chars encode
+header_too_long = refl
 
 pub no_columns : is_normal_table [] [] [] ≡ false
 no_columns = refl

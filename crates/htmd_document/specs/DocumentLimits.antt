@@ -7,3 +7,7 @@ greatest_start = 999999999
 -- lists and quotes in each other
 abbrev pub most_nested : ℕ
 most_nested = 32
+
+-- what stands above or below the line, in each other
+abbrev pub most_raised : ℕ
+most_raised = 8

@@ -1,6 +1,7 @@
 -- What the documents of the source stand for.
 use Rattle.std.specs.Prelude.{ℕ, List, map, Option, option_map, String, string_bytes}
 use Rattle.std.specs.declared.alloc.Global.{Global}
+use Rattle.htmd_document.specs.Formats.{of_format, of_element}
 use Rattle.htmd_document.specs.Documents as value
 use Rattle.htmd_document.specs.declared.document.Inline.{Inline, fold-Inline}
 use Rattle.htmd_document.specs.declared.document.Inline.TheOpen.{Inline-F}
@@ -15,7 +16,9 @@ bytes_of_title title = option_map string_bytes title
 abbrev pub inline_step : Inline-F value.Inline → value.Inline
 inline_step (Inline-F.Text s) = value.text (string_bytes s)
 inline_step (Inline-F.Code s) = value.code (string_bytes s)
-inline_step (Inline-F.Formatted format xs) = value.formatted format (value.inlines_of xs.items)
+inline_step (Inline-F.Formatted format xs) = value.formatted (of_format format) (value.inlines_of xs.items)
+inline_step (Inline-F.Element element xs) = value.formatted (of_element element) (value.inlines_of xs.items)
+inline_step (Inline-F.Anchor id) = value.anchor (string_bytes id)
 inline_step (Inline-F.Link address title xs) =
     value.link (string_bytes address) (bytes_of_title title) (value.inlines_of xs.items)
 inline_step (Inline-F.Image address title description) =

@@ -1,7 +1,7 @@
 -- Documents: what a reader sees of a page. A text is the list of its UTF-8 bytes.
 use Rattle.std.specs.Prelude.{ℕ, Bool, List, [], ◌∷◌, Option}
 use Rattle.htmd_document.specs.declared.document.Alignment.{Alignment}
-use Rattle.htmd_document.specs.declared.document.Format.{Format}
+use Rattle.htmd_document.specs.Formats.{Format}
 
 mutual
   -- a part of a line of text
@@ -11,6 +11,7 @@ mutual
     formatted : (format : Format) (content : Inlines) → Inline
     link : (address : List ℕ) (title : Option (List ℕ)) (content : Inlines) → Inline
     image : (address : List ℕ) (title : Option (List ℕ)) (description : List ℕ) → Inline
+    anchor : (id : List ℕ) → Inline
     line_break : Inline
     task : (is_checked : Bool) → Inline
 

@@ -1,4 +1,5 @@
 -- Documents: their values, their normal form, and their form in JSON.
+pub mod Tags
 pub mod Formats
 pub mod Documents
 pub mod DocumentViews
@@ -8,3 +9,4 @@ pub mod TightItems
 pub mod Mdast
 pub mod NormalInlines
 pub mod NormalDocuments
+pub mod AnchorIds

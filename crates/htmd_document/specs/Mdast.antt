@@ -8,8 +8,9 @@ use Rattle.serde_json.specs.Data.{Data, null, boolean, number, unsigned, string,
 use Rattle.htmd_lexical.specs.Characters.{space}
 use Rattle.htmd_document.specs.Documents as value
 use Rattle.htmd_document.specs.Documents.{Inlines, no_inlines, inline, Inline, text, code, formatted, link, image}
-use Rattle.htmd_document.specs.declared.document.Format.{Format}
-use Rattle.htmd_document.specs.declared.document.Format.TheVariants.{Emphasis, Strong, Deleted, Superscript, Subscript}
+use Rattle.htmd_document.specs.Documents.{anchor}
+use Rattle.htmd_document.specs.Formats.{Format, Emphasis, Strong, Deleted, Superscript, Subscript}
+use Rattle.htmd_document.specs.Tags.{anchor_tag, end_of_anchor}
 use Rattle.htmd_document.specs.Documents.{line_break, task, Blocks, no_blocks, block, Block, paragraph, heading}
 use Rattle.htmd_document.specs.Documents.{code_block, quote}
 use Rattle.htmd_document.specs.Documents.{thematic_break, table}
@@ -83,6 +84,10 @@ format_data Deleted children = one_item (parent (codes "delete") children)
 format_data Superscript children = between (codes "<sup>") children (codes "</sup>")
 format_data Subscript children = between (codes "<sub>") children (codes "</sub>")
 
+-- an anchor, by what stands in it
+abbrev pub anchor_data : List ℕ → json.Items → json.Items
+anchor_data id children = between (anchor_tag id) children end_of_anchor
+
 -- an inline, by what stands in it
 abbrev pub node_data : Inline → json.Items → json.Items
 node_data (text s) children = one_item (with_value (codes "text") s)
@@ -90,6 +95,7 @@ node_data (code s) children = one_item (with_value (codes "inlineCode") s)
 node_data (formatted format xs) children = format_data format children
 node_data (link address title xs) children = one_item (link_data address title children)
 node_data (image address title description) children = one_item (image_data address title description)
+node_data (anchor id) children = anchor_data id children
 node_data line_break children = one_item (bare (codes "break"))
 node_data (task is_checked) children = one_item (with_value (codes "text") (box_text is_checked))
 

@@ -1,31 +1,36 @@
 -- The normal form of documents: what the document of every tree is like, and what is read back.
 use Rattle.std.specs.Prelude.{◌≡◌, ℕ, suc, ◌+◌, ◌==◌, max, nat_le, Bool, true, false, not, ◌&&◌, ◌||◌, if◌then◌else◌}
 use Rattle.std.specs.Prelude.{List, [], ◌∷◌, length, Option, Some, None}
-use Rattle.std.specs.List.{list_all}
+use Rattle.std.specs.List.{list_all, list_any}
 use Rattle.htmd_lexical.specs.Characters.{null, carriage_return}
 use Rattle.htmd_lexical.specs.CharacterClasses.{is_empty}
 use Rattle.htmd_lexical.specs.WhiteSpace.{is_ascii_white_space}
 use Rattle.htmd_document.specs.declared.document.Alignment.{Alignment}
 use Rattle.htmd_document.specs.LanguageNames.{is_mark}
 use Rattle.htmd_document.specs.DocumentLimits.{most_nested}
-use Rattle.htmd_document.specs.Documents.{Inlines, inline, task, Block, paragraph, heading, code_block, quote}
+use Rattle.htmd_document.specs.Documents.{Inlines, Block, paragraph, heading, code_block, quote}
 use Rattle.htmd_document.specs.Documents.{thematic_break, list, table, Blocks, no_blocks, block, Items, no_items, item}
 use Rattle.htmd_document.specs.TightItems.{is_filled, is_tight_item, is_short}
 use Rattle.htmd_document.specs.DocumentLimits.{greatest_start}
-use Rattle.htmd_document.specs.NormalInlines.{has_none, first_passes, begins_with_space, is_normal_line, is_normal_item}
+use Rattle.htmd_document.specs.NormalInlines.{has_none, is_normal_line, is_normal_item, are_anchors}
+use Rattle.htmd_document.specs.NormalInlines.{anchors_stand_well, anchors_are_first}
 
 -- ---- leaves
 
--- the inlines of a paragraph: there are some, and in an item's first one a task may stand first
+-- the inlines of a paragraph: there are some, and in an item's first one a task may stand first; they may be anchors
+-- alone
 abbrev pub is_normal_paragraph : Bool → Inlines → Bool
 is_normal_paragraph in_item content =
     not (has_none content) && (if in_item then is_normal_item content else is_normal_line content)
+    && (are_anchors content || anchors_stand_well content)
 
 abbrev pub is_level : ℕ → Bool
 is_level level = nat_le 1 level && nat_le level 6
 
 abbrev pub is_normal_heading : ℕ → Inlines → Bool
-is_normal_heading level content = is_level level && not (has_none content) && is_normal_line content
+is_normal_heading level content =
+    is_level level && not (has_none content) && is_normal_line content
+    && anchors_stand_well content && anchors_are_first content
 
 -- in a word that a reader takes for a language: no white space, and no mark
 abbrev pub is_language_byte : ℕ → Bool
@@ -89,14 +94,28 @@ abbrev pub has_cell : List Inlines → Bool
 has_cell [] = false
 has_cell (content ∷ rest) = true
 
--- a row of as many cells as the header, each of one line
+-- the last of some cells isn't empty
+abbrev pub ends_filled : List Inlines → Bool
+ends_filled [] = false
+ends_filled (content ∷ []) = not (has_none content)
+ends_filled (content ∷ next ∷ rest) = ends_filled (next ∷ rest)
+
+-- each of one line
+abbrev pub are_normal_cells : List Inlines → Bool
+are_normal_cells cells = list_all is_normal_line cells && list_all anchors_stand_well cells
+
+-- a row of up to as many cells as the header, without empty ones at its end
 abbrev pub is_normal_row : ℕ → List Inlines → Bool
-is_normal_row columns cells = (length cells == columns) && list_all is_normal_line cells
+is_normal_row columns cells = nat_le (length cells) columns && ends_filled cells && are_normal_cells cells
+
+-- the header is as long as the longest of the rows and of itself without empty cells at its end
+abbrev pub has_right_length : List Inlines → List (List Inlines) → Bool
+has_right_length header rows = ends_filled header || list_any (λ cells. length cells == length header) rows
 
 abbrev pub is_normal_table : List Alignment → List Inlines → List (List Inlines) → Bool
 is_normal_table alignments header rows =
-    has_cell header && (length alignments == length header)
-    && is_normal_row (length header) header && list_all (is_normal_row (length header)) rows
+    has_cell header && (length alignments == length header) && are_normal_cells header
+    && list_all (is_normal_row (length header)) rows && has_right_length header rows
 
 -- ---- blocks
 

@@ -1,14 +1,15 @@
 -- The normal form of inlines: what the inlines of a page's document are like, and what is read back.
-use Rattle.std.specs.Prelude.{ℕ, Bool, true, false, not, ◌&&◌, ◌||◌, ◌==◌, List, [], ◌∷◌, reverse, Option, Some, None}
+use Rattle.std.specs.Prelude.{ℕ, Bool, true, false, not, ◌&&◌, ◌||◌, ◌==◌, nat_le, if◌then◌else◌, List, [], ◌∷◌, reverse}
+use Rattle.std.specs.Prelude.{Option, Some, None}
 use Rattle.std.specs.Prelude.{codes}
 use Rattle.std.specs.List.{list_all, list_any}
 use Rattle.std.specs.Str.{is_utf8}
 use Rattle.htmd_lexical.specs.Characters.{space, is_one_of}
 use Rattle.htmd_lexical.specs.CharacterClasses.{is_empty, first_is}
-use Rattle.htmd_document.specs.declared.document.Format.{Format}
-use Rattle.htmd_document.specs.Documents.{Inline, text, code, formatted, link, image, line_break, task}
+use Rattle.htmd_document.specs.DocumentLimits.{most_raised}
+use Rattle.htmd_document.specs.Documents.{Inline, text, code, formatted, link, image, anchor, line_break, task}
 use Rattle.htmd_document.specs.Documents.{Inlines, no_inlines, inline}
-use Rattle.htmd_document.specs.Formats.{is_same_format}
+use Rattle.htmd_document.specs.Formats.{Format, is_same_format, is_raised, raised_count}
 
 -- ---- texts
 
@@ -62,6 +63,7 @@ sort (code s) = words
 sort (formatted f content) = of_format f
 sort (link address title content) = others
 sort (image address title description) = others
+sort (anchor id) = others
 sort line_break = breaks
 sort (task is_checked) = others
 
@@ -128,20 +130,25 @@ abbrev pub is_around : List Format → Format → Bool
 is_around [] f = false
 is_around (g ∷ around) f = is_same_format g f || is_around around f
 
--- within these formats, in a link or not: no format stands in itself, no link in a link, and nothing is empty; no space
--- and no break is at the ends of a format
+-- a format can't stand in itself, but what is above or below the line can stand in that, up to so many
+abbrev pub is_barred : List Format → Format → Bool
+is_barred around f = if is_raised f then nat_le most_raised (raised_count around) else is_around around f
+
+-- within these formats, in a link or not: no format stands where it can't, no link and no anchor in a link, and nothing
+-- is empty; no space and no break is at the ends of a format
 abbrev mutual
   pub is_normal : Bool → List Format → Inline → Bool
   is_normal in_link around (text s) = is_text s
   is_normal in_link around (code s) = is_text s && is_trimmed s
   is_normal in_link around (formatted f content) =
-      not (is_around around f) && not (has_none content) && are_whole content
+      not (is_barred around f) && not (has_none content) && are_whole content
       && are_normal in_link (f ∷ around) content
   is_normal in_link around (link address title content) =
       not in_link && is_attribute address && is_title title && not (has_none content)
       && are_normal true around content
   is_normal in_link around (image address title description) =
       is_attribute address && is_title title && is_line description
+  is_normal in_link around (anchor id) = not in_link && is_text id && is_trimmed id
   is_normal in_link around line_break = true
   is_normal in_link around (task is_checked) = false
 
@@ -161,3 +168,49 @@ is_normal_item (inline (task is_checked) rest) =
     && not (last_passes is_break rest)
     && are_normal false [] rest
 is_normal_item xs = is_normal_line xs
+
+-- ---- where anchors stand
+
+abbrev pub is_anchor : Inline → Bool
+is_anchor (anchor id) = true
+is_anchor _ = false
+
+-- anchors and nothing else
+abbrev pub are_anchors : Inlines → Bool
+are_anchors no_inlines = true
+are_anchors (inline x rest) = is_anchor x && are_anchors rest
+
+-- a space or a break
+abbrev pub is_gap : Inline → Bool
+is_gap x = is_break x || begins_with_space x
+
+-- after an anchor something that shows, or another one
+abbrev pub shows_after : Inline → Inlines → Bool
+shows_after x rest = not (is_anchor x) || not (has_none rest) && not (first_passes is_gap rest)
+
+-- each anchor stands right before what shows, and none at the beginning of a format
+abbrev mutual
+  pub stands_well : Inline → Bool
+  stands_well (formatted f content) = not (first_passes is_anchor content) && anchors_stand_well content
+  stands_well x = true
+
+  pub anchors_stand_well : Inlines → Bool
+  anchors_stand_well no_inlines = true
+  anchors_stand_well (inline x rest) = stands_well x && shows_after x rest && anchors_stand_well rest
+
+-- an anchor is among these, at any depth
+abbrev mutual
+  pub has_anchor : Inline → Bool
+  has_anchor (anchor id) = true
+  has_anchor (formatted f content) = have_anchor content
+  has_anchor (link address title content) = have_anchor content
+  has_anchor x = false
+
+  pub have_anchor : Inlines → Bool
+  have_anchor no_inlines = false
+  have_anchor (inline x rest) = has_anchor x || have_anchor rest
+
+-- in a heading they stand before all that shows
+abbrev pub anchors_are_first : Inlines → Bool
+anchors_are_first no_inlines = true
+anchors_are_first (inline x rest) = if is_anchor x then anchors_are_first rest else not (have_anchor (inline x rest))

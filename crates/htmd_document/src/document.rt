@@ -32,7 +32,8 @@ pub enum Block {
         tight: bool,
         items: Vec<ItemContent>,
     },
-    /// A header and rows of cells, each with one cell for each column, and how the columns are aligned.
+    /// A header and rows of cells, and how the columns are aligned. The header has one cell for each column. A row ends
+    /// with its last cell that isn't empty.
     Table {
         alignments: Vec<Alignment>,
         header: RowContent,
@@ -55,6 +56,10 @@ pub enum Inline {
     Text(String),
     Code(String),
     Formatted(Format, Vec<Inline>),
+    /// What an element of HTML says of its content.
+    Element(InlineElement, Vec<Inline>),
+    /// A place that links with `#` and this id lead to.
+    Anchor(String),
     Link {
         address: String,
         title: Option<String>,
@@ -71,12 +76,17 @@ pub enum Inline {
     Task(bool),
 }
 
-/// What can be around inlines, links aside.
+/// What can be around inlines and has marks in Markdown.
 #[derive(Debug, Clone, Copy, PartialEq, Eq)]
 pub enum Format {
     Emphasis,
     Strong,
     Deleted,
+}
+
+/// What can be around inlines and has no marks in Markdown: an element of HTML.
+#[derive(Debug, Clone, Copy, PartialEq, Eq)]
+pub enum InlineElement {
     Superscript,
     Subscript,
 }

@@ -4,7 +4,9 @@
 
 mod document;
 mod mdast;
+mod tags;
 
 pub use document::{
-    Alignment, Block, CellContent, Document, Format, Inline, ItemContent, RowContent,
+    Alignment, Block, CellContent, Document, Format, Inline, InlineElement, ItemContent, RowContent,
 };
+pub use tags::{END_OF_ANCHOR, push_anchor};

@@ -5,9 +5,13 @@ ghost use Rattle.serde_json.specs.Written.{compact_text};
 ghost use Rattle.htmd_document.specs.DocumentViews.{inline_of, inlines_of, block_of, blocks_of, document_of};
 ghost use Rattle.htmd_document.specs.DocumentViews.{bytes_of_title};
 ghost use Rattle.htmd_document.specs.Documents as value;
+ghost use Rattle.htmd_document.specs.Formats.{of_format, of_element};
 ghost use Rattle.htmd_document.specs.Mdast as spec;
 
-use crate::document::{Alignment, Block, CellContent, Document, Format, Inline, RowContent};
+use crate::document::{
+    Alignment, Block, CellContent, Document, Format, Inline, InlineElement, RowContent,
+};
+use crate::tags::{END_OF_ANCHOR, push_anchor};
 use serde_json::{Value, json};
 use std::alloc::{AllocError, Global};
 
@@ -139,15 +143,46 @@ fn push_format(
     children: Vec<Value>,
 ) -> Result<(), AllocError>
     ensures { IfOk result (λ _. items_view out.new.items
-        ≡ spec.beside (items_view out.old.items) (spec.format_data format (items_view children.items))) }
+        ≡ spec.beside (items_view out.old.items)
+        (spec.format_data (of_format format) (items_view children.items))) }
 {
     match format {
         Format::Emphasis => push_value(out, parent(alloc, "emphasis", children)?),
         Format::Strong => push_value(out, parent(alloc, "strong", children)?),
         Format::Deleted => push_value(out, parent(alloc, "delete", children)?),
-        Format::Superscript => push_between(alloc, out, "<sup>", children, "</sup>"),
-        Format::Subscript => push_between(alloc, out, "<sub>", children, "</sub>"),
     }
+}
+
+/// Appends an element of HTML, by what is in it.
+fn push_element(
+    alloc: Global,
+    out: &mut Vec<Value>,
+    element: InlineElement,
+    children: Vec<Value>,
+) -> Result<(), AllocError>
+    ensures { IfOk result (λ _. items_view out.new.items
+        ≡ spec.beside (items_view out.old.items)
+        (spec.format_data (of_element element) (items_view children.items))) }
+{
+    match element {
+        InlineElement::Superscript => push_between(alloc, out, "<sup>", children, "</sup>"),
+        InlineElement::Subscript => push_between(alloc, out, "<sub>", children, "</sub>"),
+    }
+}
+
+/// Appends an anchor.
+fn push_anchor_node(
+    alloc: Global,
+    out: &mut Vec<Value>,
+    id: &str,
+    children: Vec<Value>,
+) -> Result<(), AllocError>
+    ensures { IfOk result (λ _. items_view out.new.items
+        ≡ spec.beside (items_view out.old.items) (spec.anchor_data id.now (items_view children.items))) }
+{
+    let mut tag = String::with_capacity(alloc, id.len().saturating_add(9))?;
+    push_anchor(&mut tag, id)?;
+    push_between(alloc, out, &tag, children, END_OF_ANCHOR)
 }
 
 /// Appends an inline, by what is in it.
@@ -165,6 +200,8 @@ fn push_node(
         Inline::Text(text) => push_value(out, with_value(alloc, "text", text)?),
         Inline::Code(text) => push_value(out, with_value(alloc, "inlineCode", text)?),
         Inline::Formatted(format, _) => push_format(alloc, out, *format, children),
+        Inline::Element(element, _) => push_element(alloc, out, *element, children),
+        Inline::Anchor(id) => push_anchor_node(alloc, out, id, children),
         Inline::Link { address, title, .. } => {
             push_value(out, link(alloc, address, title, children)?)
         }
@@ -186,9 +223,9 @@ fn children_of(alloc: Global, inline: &Inline) -> Result<Vec<Value>, AllocError>
     ensures { IfOk result (λ vs. items_view vs.items ≡ spec.children_data (inline_of inline.now)) }
 {
     match inline {
-        Inline::Formatted(_, content) | Inline::Link { content, .. } => {
-            inlines_values(alloc, content)
-        }
+        Inline::Formatted(_, content)
+        | Inline::Element(_, content)
+        | Inline::Link { content, .. } => inlines_values(alloc, content),
         _ => Ok(Vec::new(alloc)),
     }
 }

@@ -4,6 +4,7 @@ use Rattle.htmd_lexical.specs.AttributePairs.{AttributePair}
 use Rattle.htmd_nodes.specs.NumberedTrees.{NumberedForest}
 use Rattle.htmd_document_of_tree.specs.Contexts.{Context, apart}
 use Rattle.htmd_document.specs.declared.document.Format.{Format}
+use Rattle.htmd_document.specs.declared.document.InlineElement.{InlineElement}
 use Rattle.htmd_document_of_tree.specs.declared.role.Role.{Role}
 use Rattle.htmd_document_of_tree.specs.declared.role.Role.TheVariants as role
 use Rattle.htmd_document_of_tree.specs.Flows.{Node, Line, flow_all, parts_of}
@@ -11,6 +12,7 @@ use Rattle.htmd_document_of_tree.specs.Flows.{Node, Line, flow_all, parts_of}
 -- a role of which nothing is said but that it is a block
 pub record IsOther (r : Role) : Type 0 where
   pub format : (f : Format) → r ≡ role.Format f → ⊥
+  pub element : (e : InlineElement) → r ≡ role.Element e → ⊥
   pub code : r ≡ role.Code → ⊥
   pub anchor : r ≡ role.Anchor → ⊥
   pub quotation : r ≡ role.Quotation → ⊥
@@ -34,6 +36,7 @@ module _ (id : ℕ) (attributes : List AttributePair) (children : NumberedForest
   pub other_parts : (r : Role) → IsOther r
       → apart (flow_all nodes context) ≡ parts_of r id attributes children nodes lines context
   other_parts (role.Format f) o = absurd (o.format f refl)
+  other_parts (role.Element e) o = absurd (o.element e refl)
   other_parts role.Code o = absurd (o.code refl)
   other_parts role.Anchor o = absurd (o.anchor refl)
   other_parts role.Quotation o = absurd (o.quotation refl)

@@ -4,19 +4,22 @@ use Rattle.std.proofs.Common.{get_or, drop, map, refl}
 use Rattle.std.proofs.Common.{sym, ap, ◌∙◌, ◌-◌, arith, Vec, Global, replicate, take, sum, add-one, nat_lt}
 use Rattle.std.proofs.Common.{Option}
 use Rattle.std.specs.Prelude.{◌==◌}
-use Rattle.std.specs.List.{list_any, prefix_len, zip}
+use Rattle.std.specs.Prelude.{if◌then◌else◌, set, ◌&&◌}
+use Rattle.std.specs.List.{prefix_len, zip}
 use Rattle.std.proofs.Math.Seq.{take-add}
-use Rattle.std.proofs.lemmas.List.{drop_more, drop_all, drop-drop, drop_at, take_at, append_assoc}
+use Rattle.std.proofs.lemmas.List.{get_or-map, length-map, take-map, take_more, take_more_set, drop-set-lt}
+use Rattle.std.proofs.lemmas.List.{drop_more, drop-drop, drop_at, take_at, append_assoc}
 use Rattle.std.proofs.lemmas.List.{nil_from_length, length-append, length-take-le, length-replicate, map_push}
 use Rattle.std.proofs.lemmas.List.Sums.{sum_by_push}
 use Rattle.std.proofs.lemmas.Bool.Decides.{nat_tests}
 use Rattle.htmd_document.specs.declared.document.Inline.{Inline}
 use Rattle.htmd_document_of_tree.specs.declared.grid.Cell as code
 use Rattle.htmd_document_of_tree.specs.declared.grid.Row as codes
-use Rattle.htmd_document.specs.Documents.{Inlines, no_inlines}
+use Rattle.htmd_document.specs.Documents.{Inlines, no_inlines, inline}
 use Rattle.htmd_document.specs.DocumentViews.{inlines_of}
+use Rattle.htmd_document.specs.NormalDocuments.{has_cell}
 use Rattle.htmd_document_of_tree.specs.GridViews.{cell_of, row_of, line_of, lines_of}
-use Rattle.htmd_document_of_tree.specs.Grids.{is_empty_cell, is_filled_row, Cell, Row, Shape, laid, columns_before}
+use Rattle.htmd_document_of_tree.specs.Grids.{is_empty_cell, trimmed, Cell, Row, Shape, laid, columns_before}
 use Rattle.htmd_document_of_tree.specs.Grids.{end_of, shapes_from, taken_in}
 use Rattle.htmd_document_of_tree.specs.Grids.{total, filled, filled_all}
 
@@ -24,28 +27,90 @@ pub empty_is : (xs : List Inline) → is_empty_cell (inlines_of xs) ≡ (length 
 empty_is [] = refl
 empty_is (x ∷ xs) = grind (arith, nat_tests)
 
-pub filled_at : (cells : List (Vec Inline Global)) (i : ℕ) (x : Vec Inline Global) → i < length cells
-    → x ≡ get_or cells i x
-    → is_filled_row (line_of (drop i cells))
-    ≡ (not (is_empty_cell (inlines_of x.items)) || is_filled_row (line_of (drop (i + 1) cells)))
-filled_at cells i x l e =
-    ap (λ ys. is_filled_row (line_of ys)) (drop_more cells i x l ∙ ap (λ y. y ∷ drop (i + 1) cells) (sym e))
+-- ---- the empty cells at the ends of rows
 
-pub filled_end : (cells : List (Vec Inline Global)) (i : ℕ) → length cells ≤ i
-    → is_filled_row (line_of (drop i cells)) ≡ false
-filled_end cells i l = ap (λ ys. is_filled_row (line_of ys)) (drop_all i cells l)
+-- an empty cell at the end isn't any
+trimmed-empty : (cells : List Inlines) → trimmed (cells ++ no_inlines ∷ []) ≡ trimmed cells
+trimmed-empty [] = refl
+trimmed-empty (cell ∷ cells) =
+    ap (λ rest. if is_empty_cell cell && not (has_cell rest) then [] else cell ∷ rest) (trimmed-empty cells)
 
-pub lines_at : (lines : List (Vec (Vec Inline Global) Global)) (i : ℕ) (x : Vec (Vec Inline Global) Global)
-    → i < length lines → x ≡ get_or lines i x
-    → list_any is_filled_row (lines_of (drop i lines))
-    ≡ (is_filled_row (line_of x.items) || list_any is_filled_row (lines_of (drop (i + 1) lines)))
-lines_at lines i x l e =
-    ap (λ ys. list_any is_filled_row (lines_of ys))
-    (drop_more lines i x l ∙ ap (λ y. y ∷ drop (i + 1) lines) (sym e))
+kept-first : (cell : Inlines) (rest : List Inlines) → has_cell rest ≡ true
+    → (if is_empty_cell cell && not (has_cell rest) then [] else cell ∷ rest) ≡ cell ∷ rest
+kept-first no_inlines (next ∷ rest) h = refl
+kept-first (inline x xs) (next ∷ rest) h = refl
+kept-first cell [] h = cc
 
-pub lines_end : (lines : List (Vec (Vec Inline Global) Global)) (i : ℕ) → length lines ≤ i
-    → list_any is_filled_row (lines_of (drop i lines)) ≡ false
-lines_end lines i l = ap (λ ys. list_any is_filled_row (lines_of ys)) (drop_all i lines l)
+some-cell : (cells : List Inlines) (cell : Inlines) → has_cell (cells ++ cell ∷ []) ≡ true
+some-cell [] cell = refl
+some-cell (first ∷ cells) cell = refl
+
+-- cells before one in which something shows stay
+trimmed-filled : (cells : List Inlines) (last : Inlines) → is_empty_cell last ≡ false
+    → trimmed (cells ++ last ∷ []) ≡ cells ++ last ∷ []
+trimmed-filled [] no_inlines h = cc
+trimmed-filled [] (inline x xs) h = refl
+trimmed-filled (cell ∷ cells) last h =
+    ap (λ rest. if is_empty_cell cell && not (has_cell rest) then [] else cell ∷ rest) (trimmed-filled cells last h)
+    ∙ kept-first cell (cells ++ last ∷ []) (some-cell cells last)
+
+module _ (cells : List (Vec Inline Global)) (len : ℕ) (x : Vec Inline Global) (some : 0 < len)
+    (within : len ≤ length cells) (is : x ≡ get_or cells (len - 1) x) where
+  -- up to a cell and with it
+  one-more : take len (line_of cells) ≡ take (len - 1) (line_of cells) ++ inlines_of x.items ∷ []
+  one-more =
+      let read = λ (cell : Vec Inline Global). inlines_of cell.items in
+      let size : length (line_of cells) ≡ length cells = length-map cells read in
+      let last : len ≡ (len - 1) + 1 = omega arith in
+      ap (λ n. take n (line_of cells)) last
+      ∙ take_more (line_of cells) (len - 1) (read x) (omega (arith, size))
+      ∙ ap (λ y. take (len - 1) (line_of cells) ++ y ∷ [])
+      (get_or-map read cells (len - 1) x (read x) (omega arith) ∙ ap read (sym is))
+
+  pub trimmed_less : is_empty_cell (inlines_of x.items) ≡ true
+      → trimmed (take (len - 1) (line_of cells)) ≡ trimmed (take len (line_of cells))
+  trimmed_less h =
+      let front : List Inlines = take (len - 1) (line_of cells) in
+      sym (ap trimmed one-more ∙ ap (λ y. trimmed (front ++ y ∷ [])) (none (inlines_of x.items) h)
+      ∙ trimmed-empty front)
+    where
+      none : (y : Inlines) → is_empty_cell y ≡ true → y ≡ no_inlines
+      none no_inlines h = refl
+      none (inline z zs) h = cc
+
+  pub trimmed_whole : is_empty_cell (inlines_of x.items) ≡ false
+      → trimmed (take len (line_of cells)) ≡ take len (line_of cells)
+  trimmed_whole h =
+      ap trimmed one-more ∙ trimmed-filled (take (len - 1) (line_of cells)) (inlines_of x.items) h ∙ sym one-more
+
+-- ---- all rows without these
+
+-- a row is cut
+pub trim_row : (old new : List (Vec Inline Global)) (len : ℕ) → take len (line_of old) ≡ trimmed (line_of old)
+    → new ≡ take len old → line_of new ≡ trimmed (line_of old)
+trim_row old new len h e =
+    ap line_of e ∙ sym (take-map (λ (cell : Vec Inline Global). inlines_of cell.items) len old) ∙ h
+
+module _ (old now : List (Vec (Vec Inline Global) Global)) (i : ℕ) (x y : Vec (Vec Inline Global) Global)
+    (within : i < length now) where
+  pub trim_front : lines_of (take i now) ≡ map trimmed (lines_of (take i old)) → drop i now ≡ drop i old
+      → x ≡ get_or now i x → line_of y.items ≡ trimmed (line_of x.items)
+      → lines_of (take (i + 1) (set now i y)) ≡ map trimmed (lines_of (take (i + 1) old))
+  trim_front h rest is e =
+      let read = λ (cells : Vec (Vec Inline Global) Global). line_of cells.items in
+      let more : take (i + 1) old ≡ take i old ++ x ∷ [] =
+      take-add i 1 old
+      ∙ ap (λ xs. take i old ++ take 1 xs)
+      (sym rest ∙ drop_more now i x within ∙ ap (λ z. z ∷ drop (i + 1) now) (sym is)) in
+      ap lines_of (take_more_set now i y within) ∙ map_push read (take i now) y
+      ∙ ap (λ ls. ls ++ line_of y.items ∷ []) h
+      ∙ ap (λ l. map trimmed (lines_of (take i old)) ++ l ∷ []) e
+      ∙ sym (ap (λ ls. map trimmed (lines_of ls)) more ∙ ap (map trimmed) (map_push read (take i old) x)
+      ∙ map_push trimmed (lines_of (take i old)) (line_of x.items))
+
+  pub trim_rest : drop i now ≡ drop i old → drop (i + 1) (set now i y) ≡ drop (i + 1) old
+  trim_rest rest =
+      drop-set-lt (i + 1) now i y (omega arith) ∙ sym (drop-drop 1 i now) ∙ ap (drop 1) rest ∙ drop-drop 1 i old
 
 -- ---- the columns that cells take
 

@@ -6,7 +6,8 @@ use Rattle.std.proofs.lemmas.List.{length-map, length-drop, length-take, drop-ma
 use Rattle.std.proofs.Math.ListN.{get_or-map}
 use Rattle.htmd_document_of_tree.specs.declared.around.Around as declared_around
 use Rattle.htmd_document.specs.declared.document.Inline as declared_inline
-use Rattle.htmd_document.specs.declared.document.Inline.TheBlock.{Text, Code, Formatted', Link', Image, LineBreak, Task}
+use Rattle.htmd_document.specs.declared.document.Inline.TheBlock.{Text, Code, Formatted', Element', Anchor, Link'}
+use Rattle.htmd_document.specs.declared.document.Inline.TheBlock.{Image, LineBreak, Task}
 use Rattle.htmd_document.specs.declared.document.Inline.TheFolds.{fold_out-Inline}
 use Rattle.htmd_document_of_tree.specs.declared.nest.Frame as declared_frame
 use Rattle.htmd_document.specs.Documents.{Inlines, no_inlines, inline, Inline}
@@ -149,6 +150,8 @@ unfolding declared_inline.out-Inline denote.Hole.Carrier.out
 met-no_text (Text s) t h = absurd (h s refl)
 met-no_text (Code s) t h = rw (fold_out-Inline Inline inline_step (Code s)) refl
 met-no_text (Formatted' f n r) t h = rw (fold_out-Inline Inline inline_step (Formatted' f n r)) refl
+met-no_text (Element' e n r) t h = rw (fold_out-Inline Inline inline_step (Element' e n r)) refl
+met-no_text (Anchor i) t h = rw (fold_out-Inline Inline inline_step (Anchor i)) refl
 met-no_text (Link' a ti n r) t h = rw (fold_out-Inline Inline inline_step (Link' a ti n r)) refl
 met-no_text (Image a ti d) t h = rw (fold_out-Inline Inline inline_step (Image a ti d)) refl
 met-no_text LineBreak t h = rw (fold_out-Inline Inline inline_step LineBreak) refl
@@ -160,6 +163,8 @@ unfolding declared_inline.out-Inline denote.Hole.Carrier.out
 met-no_code (Text s) t h = rw (fold_out-Inline Inline inline_step (Text s)) refl
 met-no_code (Code s) t h = absurd (h s refl)
 met-no_code (Formatted' f n r) t h = rw (fold_out-Inline Inline inline_step (Formatted' f n r)) refl
+met-no_code (Element' e n r) t h = rw (fold_out-Inline Inline inline_step (Element' e n r)) refl
+met-no_code (Anchor i) t h = rw (fold_out-Inline Inline inline_step (Anchor i)) refl
 met-no_code (Link' a ti n r) t h = rw (fold_out-Inline Inline inline_step (Link' a ti n r)) refl
 met-no_code (Image a ti d) t h = rw (fold_out-Inline Inline inline_step (Image a ti d)) refl
 met-no_code LineBreak t h = rw (fold_out-Inline Inline inline_step LineBreak) refl

@@ -2,6 +2,7 @@
 use Rattle.std.proofs.Common.{◌≡◌, ℕ, zero, suc, ◌≤◌, Bool, true, false, List, [], ◌∷◌, ◌++◌, length, drop}
 use Rattle.std.proofs.Common.{refl, sym, ◌∙◌, ap, arith, append_assoc}
 use Rattle.htmd_document.specs.Documents.{Inline, text, code, image, line_break, task, link, Inlines, no_inlines}
+use Rattle.htmd_document.specs.Documents.{anchor}
 use Rattle.htmd_document.specs.Documents.{inline}
 use Rattle.htmd_document.specs.Documents as value
 use Rattle.htmd_document_of_tree.specs.Nesting.{wrapped_by, wrapped, one_inline, is_apart, met, joined, with_content}
@@ -26,6 +27,7 @@ met-apart (text s) (code t) h = cc
 met-apart (text s) (value.formatted f xs) h = refl
 met-apart (text s) (link a t xs) h = refl
 met-apart (text s) (image a t d) h = refl
+met-apart (text s) (anchor i) h = refl
 met-apart (text s) line_break h = refl
 met-apart (text s) (task b) h = refl
 met-apart (code s) (text t) h = cc
@@ -33,11 +35,13 @@ met-apart (code s) (code t) h = cc
 met-apart (code s) (value.formatted f xs) h = refl
 met-apart (code s) (link a t xs) h = refl
 met-apart (code s) (image a t d) h = refl
+met-apart (code s) (anchor i) h = refl
 met-apart (code s) line_break h = refl
 met-apart (code s) (task b) h = refl
 met-apart (value.formatted f xs) y h = refl
 met-apart (link a t xs) y h = refl
 met-apart (image a t d) y h = refl
+met-apart (anchor i) y h = refl
 met-apart line_break y h = refl
 met-apart (task b) y h = refl
 
@@ -70,6 +74,7 @@ with_content-twice f g h same (code s) = refl
 with_content-twice f g h same (value.formatted format xs) = ap (value.formatted format) (same xs)
 with_content-twice f g h same (link a t xs) = ap (link a t) (same xs)
 with_content-twice f g h same (image a t d) = refl
+with_content-twice f g h same (anchor i) = refl
 with_content-twice f g h same line_break = refl
 with_content-twice f g h same (task b) = refl
 
@@ -124,7 +129,9 @@ met-texts (value.formatted f xs) true s t = refl
 met-texts (link a ti xs) false s t = refl
 met-texts (link a ti xs) true s t = refl
 met-texts (image a ti d) false s t = refl
+met-texts (anchor i) false s t = refl
 met-texts (image a ti d) true s t = refl
+met-texts (anchor i) true s t = refl
 met-texts line_break false s t = refl
 met-texts line_break true s t = refl
 met-texts (task b) false s t = refl
@@ -141,7 +148,9 @@ met-skip x (value.formatted f xs) true s z = refl
 met-skip x (link a t xs) false s z = refl
 met-skip x (link a t xs) true s z = refl
 met-skip x (image a t d) false s z = refl
+met-skip x (anchor i) false s z = refl
 met-skip x (image a t d) true s z = refl
+met-skip x (anchor i) true s z = refl
 met-skip x line_break false s z = refl
 met-skip x line_break true s z = refl
 met-skip x (task b) false s z = refl

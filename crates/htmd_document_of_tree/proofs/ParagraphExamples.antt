@@ -2,7 +2,7 @@
 use Rattle.std.proofs.Common.{◌≡◌, ℕ, refl, true, false, List, [], ◌∷◌, codes, None}
 use Rattle.std.specs.Str.{chars}
 use Rattle.htmd_lexical.specs.Characters.{space}
-use Rattle.htmd_document.specs.declared.document.Format.TheVariants.{Strong}
+use Rattle.htmd_document.specs.Formats.{Strong}
 use Rattle.htmd_document.specs.Documents.{Inlines, no_inlines, inline, text, code, formatted, link}
 use Rattle.htmd_document.specs.Documents.{line_break, task, Blocks, no_blocks, block, paragraph, thematic_break}
 use Rattle.htmd_document_of_tree.specs.Parts as part

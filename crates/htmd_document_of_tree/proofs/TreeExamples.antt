@@ -9,7 +9,7 @@ use Rattle.htmd_document_of_tree.specs.Attributes.{alignment}
 use Rattle.htmd_document.specs.declared.document.Alignment.TheVariants as align
 use Rattle.htmd_document.specs.Documents as value
 use Rattle.htmd_document_of_tree.specs.Flows.{node_of}
-use Rattle.htmd_document_of_tree.specs.Grids.{Cell, Row, shapes_of}
+use Rattle.htmd_document_of_tree.specs.Grids.{Cell, Row, shapes_of, trimmed, table_if_filled}
 use Rattle.htmd_document_of_tree.specs.Lists.{start_of}
 use Rattle.htmd_document_of_tree.specs.Roles.{role_of, table_role, heading_or_block, inline_role}
 use Rattle.htmd_document_of_tree.specs.TreeDocuments.{document_of_tree}
@@ -74,6 +74,23 @@ spanning =
 
 pub shapes_of-spanning : shapes_of spanning ≡ (true ∷ false ∷ []) ∷ (false ∷ false ∷ true ∷ []) ∷ []
 shapes_of-spanning = refl
+
+abbrev filled : value.Inlines
+filled = value.inline (value.text (codes "a")) value.no_inlines
+
+abbrev empty : value.Inlines
+empty = value.no_inlines
+
+pub trimmed-end : trimmed (empty ∷ filled ∷ empty ∷ []) ≡ empty ∷ filled ∷ []
+trimmed-end = refl
+
+-- the empty cells at the ends of rows go, and the header has as many as the longest row
+pub table_if_filled-rows :
+    table_if_filled [] true
+    ((filled ∷ []) ∷ (empty ∷ filled ∷ empty ∷ []) ∷ (empty ∷ []) ∷ (filled ∷ []) ∷ [])
+    ≡ Some (value.table (align.None ∷ align.None ∷ []) (filled ∷ empty ∷ [])
+    ((empty ∷ filled ∷ []) ∷ (filled ∷ []) ∷ []))
+table_if_filled-rows = refl
 
 -- ---- trees
 

@@ -1,7 +1,7 @@
 -- What stands around a node of a page.
 use Rattle.std.specs.Prelude.{ℕ, suc, Bool, true, false, ◌||◌, nat_le, if◌then◌else◌, List, [], ◌∷◌, ◌++◌, Option}
 use Rattle.std.specs.List.{list_any}
-use Rattle.htmd_document.specs.declared.document.Format.{Format}
+use Rattle.htmd_document.specs.Formats.{Format}
 use Rattle.htmd_document.specs.Formats.{is_same_format}
 use Rattle.htmd_document_of_tree.specs.Parts.{Around, formatted, linked, Part, run, edge}
 use Rattle.htmd_document.specs.DocumentLimits.{most_nested}

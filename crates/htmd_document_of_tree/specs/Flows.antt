@@ -10,6 +10,7 @@ use Rattle.htmd_nodes.specs.NumberedTrees.{NumberedTree, document, doctype, text
 use Rattle.htmd_nodes.specs.NumberedTrees.{none}
 use Rattle.htmd_nodes.specs.NumberedTrees.{more}
 use Rattle.htmd_document.specs.declared.document.Alignment.{Alignment}
+use Rattle.htmd_document.specs.Formats.{of_format, of_element}
 use Rattle.htmd_document_of_tree.specs.declared.role.Role.{Role}
 use Rattle.htmd_document_of_tree.specs.declared.role.Role.TheVariants as role
 use Rattle.htmd_document_of_tree.specs.AllTexts.{all_text_among, with_line_feeds, is_blank_text, lines_of}
@@ -334,7 +335,9 @@ start_of attributes = unwrap_or (number_at (codes "start") attributes) (pos 1)
 abbrev pub parts_of : Role → ℕ → List AttributePair → NumberedForest → List Node → List Line → Context
     → List Part
 parts_of (role.Format f) id attributes children nodes lines context =
-    flow_all nodes (inside_format f context)
+    flow_all nodes (inside_format (of_format f) context)
+parts_of (role.Element e) id attributes children nodes lines context =
+    flow_all nodes (inside_format (of_element e) context)
 parts_of role.Code id attributes children nodes lines context = flow_all nodes (in_code context)
 parts_of role.Anchor id attributes children nodes lines context =
     flow_all nodes (inside_anchor id attributes (value_of (codes "href") attributes) context)

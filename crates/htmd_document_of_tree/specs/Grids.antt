@@ -1,12 +1,13 @@
 -- The grid of a table whose cells may take more than one column and row (HTML, 4.9.12).
-use Rattle.std.specs.Prelude.{ℕ, suc, ◌+◌, ◌-◌, ◌*◌, ◌^◌, ◌==◌, Bool, true, false, not, nat_lt, nat_le, if◌then◌else◌}
-use Rattle.std.specs.Prelude.{min, max}
+use Rattle.std.specs.Prelude.{ℕ, suc, ◌+◌, ◌-◌, ◌*◌, ◌^◌, ◌==◌, Bool, true, false, not, ◌&&◌, nat_lt, nat_le}
+use Rattle.std.specs.Prelude.{min, max, if◌then◌else◌}
 use Rattle.std.specs.Prelude.{List, [], ◌∷◌, ◌++◌, length, take, drop, replicate, map, filter, sum, fold, Option, Some}
 use Rattle.std.specs.Prelude.{None}
-use Rattle.std.specs.List.{list_any, prefix_len}
+use Rattle.std.specs.List.{prefix_len}
 use Rattle.htmd_document.specs.declared.document.Alignment.{Alignment}
 use Rattle.htmd_document.specs.declared.document.Alignment.TheVariants as align
 use Rattle.htmd_document.specs.Documents.{Inlines, no_inlines, inline, Block, table}
+use Rattle.htmd_document.specs.NormalDocuments.{has_cell}
 
 -- a cell: what it holds, how many columns it takes, and how many rows (0: all further ones of its group)
 pub record Cell : Type 0 where
@@ -107,9 +108,10 @@ abbrev pub is_empty_cell : Inlines → Bool
 is_empty_cell no_inlines = true
 is_empty_cell (inline x xs) = false
 
--- something shows in a row
-abbrev pub is_filled_row : List Inlines → Bool
-is_filled_row cells = list_any (λ cell. not (is_empty_cell cell)) cells
+-- a row without the empty cells at its end
+abbrev pub trimmed : List Inlines → List Inlines
+trimmed [] = []
+trimmed (cell ∷ cells) = if is_empty_cell cell && not (has_cell (trimmed cells)) then [] else cell ∷ trimmed cells
 
 -- as many columns as the longest row has
 abbrev pub width : List (List Inlines) → ℕ
@@ -119,22 +121,20 @@ width rows = fold (λ n row. max n (length row)) 0 rows
 abbrev pub padded : ℕ → List Inlines → List Inlines
 padded columns cells = cells ++ replicate (columns - length cells) no_inlines
 
--- the rows below the header without those in which nothing shows
-abbrev pub body : ℕ → List (List Inlines) → List (List Inlines)
-body columns rows = map (padded columns) (filter is_filled_row rows)
-
 abbrev pub aligned : ℕ → List Alignment → List Alignment
 aligned columns alignments = take columns alignments ++ replicate (columns - length alignments) align.None
 
--- The table of these rows: without a header of its own it has an empty one.
+-- The table of these rows, in each of which the last cell isn't empty: without a header of its own it has an empty one,
+-- and rows in which nothing shows go.
 abbrev pub table_of : List Alignment → Bool → List (List Inlines) → Option Block
 table_of alignments has_header [] = None
 table_of alignments has_header (first ∷ rest) =
     let columns = width (first ∷ rest) in
     Some (table (aligned columns alignments) (padded columns (if has_header then first else []))
-    (body columns (if has_header then rest else first ∷ rest)))
+    (filter has_cell (if has_header then rest else first ∷ rest)))
 
 -- nothing of a table in which nothing shows
 abbrev pub table_if_filled : List Alignment → Bool → List (List Inlines) → Option Block
 table_if_filled alignments has_header lines =
-    if list_any is_filled_row lines then table_of alignments has_header lines else None
+    let rows = map trimmed lines in
+    if nat_lt 0 (width rows) then table_of alignments has_header rows else None

@@ -1,6 +1,6 @@
 -- Leaves with what stands around them, as inlines in each other.
 use Rattle.std.specs.Prelude.{ℕ, zero, suc, Bool, true, false, ◌==◌, if◌then◌else◌, List, [], ◌∷◌, ◌++◌}
-use Rattle.htmd_document.specs.declared.document.Format.{Format}
+use Rattle.htmd_document.specs.Formats.{Format}
 use Rattle.htmd_document.specs.Documents.{Inline, text, code, link, Inlines, no_inlines, inline}
 use Rattle.htmd_document.specs.Documents as value
 use Rattle.htmd_document.specs.Formats.{is_same_format}

@@ -1,6 +1,6 @@
 -- What a node gives in order: leaves with what stands around each, edges of blocks, and blocks.
 use Rattle.std.specs.Prelude.{ℕ, Bool, List, Option}
-use Rattle.htmd_document.specs.declared.document.Format.{Format}
+use Rattle.htmd_document.specs.Formats.{Format}
 use Rattle.htmd_document.specs.Documents.{Block}
 
 -- what stands around a leaf: a format, or a link with the number of its node

@@ -4,7 +4,8 @@ use Rattle.std.specs.List.{list_any}
 use Rattle.std.specs.Str.{bytes_eq}
 use Rattle.htmd_document_of_tree.specs.declared.role.Role.{Role}
 use Rattle.htmd_document_of_tree.specs.declared.role.Role.TheVariants as role
-use Rattle.htmd_document.specs.declared.document.Format.TheVariants.{Emphasis, Strong, Deleted, Superscript, Subscript}
+use Rattle.htmd_document.specs.declared.document.Format.TheVariants.{Emphasis, Strong, Deleted}
+use Rattle.htmd_document.specs.declared.document.InlineElement.TheVariants.{Superscript, Subscript}
 
 -- the name is one of these
 abbrev pub is_among : List (List ℕ) → List ℕ → Bool
@@ -50,8 +51,8 @@ inline_role name =
     if is_emphasis name then role.Format Emphasis
     else (if is_strong name then role.Format Strong
     else (if is_deleted name then role.Format Deleted
-    else (if bytes_eq name (codes "sup") then role.Format Superscript
-    else (if bytes_eq name (codes "sub") then role.Format Subscript
+    else (if bytes_eq name (codes "sup") then role.Element Superscript
+    else (if bytes_eq name (codes "sub") then role.Element Subscript
     else (if is_code name then role.Code
     else (if bytes_eq name (codes "a") then role.Anchor
     else (if bytes_eq name (codes "q") then role.Quotation

@@ -5,14 +5,15 @@ ghost use Rattle.htmd_document.specs.DocumentViews.{inline_of, inlines_of};
 ghost use Rattle.htmd_document_of_tree.specs.Nesting as spec;
 ghost use Rattle.htmd_document_of_tree.specs.PartViews.{around_of};
 
-use htmd_document::{Format, Inline};
+use htmd_document::{Format, Inline, InlineElement};
 use htmd_nodes::NodeId;
 use std::alloc::AllocError;
 
-/// What is around a leaf: a format, or a link with its node.
+/// What is around a leaf: a format, an element that stays one, or a link with its node.
 #[derive(Drop)]
 pub(crate) enum Around {
     Format(Format),
+    Element(InlineElement),
     Link {
         node: NodeId,
         address: String,
@@ -21,12 +22,13 @@ pub(crate) enum Around {
 }
 
 impl Around {
-    /// Whether it is the same format, or the same link.
+    /// Whether it is the same format or element, or the same link.
     pub(crate) fn is_same(&self, other: &Around) -> bool
         ensures { result ≡ spec.is_same (spec.wrapper_of (around_of self.now)) (spec.wrapper_of (around_of other.now)) }
     {
         match (self, other) {
             (Around::Format(this), Around::Format(that)) => *this == *that,
+            (Around::Element(this), Around::Element(that)) => *this == *that,
             (Around::Link { node: this, .. }, Around::Link { node: that, .. }) => *this == *that,
             _ => false,
         }
@@ -38,6 +40,7 @@ impl Around {
     {
         match self {
             Around::Format(format) => Ok(Around::Format(*format)),
+            Around::Element(element) => Ok(Around::Element(*element)),
             Around::Link {
                 node,
                 address,
@@ -50,12 +53,13 @@ impl Around {
         }
     }
 
-    /// The inlines in this format, or in this link.
+    /// The inlines in this format or element, or in this link.
     pub(crate) fn wrap(self, content: Vec<Inline>) -> Inline
         ensures { inline_of result ≡ spec.wrapped_by (around_of self) (inlines_of content.items) }
     {
         match self {
             Around::Format(format) => Inline::Formatted(format, content),
+            Around::Element(element) => Inline::Element(element, content),
             Around::Link { address, title, .. } => Inline::Link {
                 address,
                 title,

@@ -21,7 +21,7 @@ use crate::grid::{Cell, Row, grid, table};
 use crate::leaves::push_box;
 use crate::list::{ListItem, push_lists};
 use crate::paragraphs::Paragraphs;
-use crate::place::{Place, new_format};
+use crate::place::{Place, new_element, new_format};
 use crate::role::Role;
 use crate::sight::Sight;
 use crate::table_form::{
@@ -108,6 +108,10 @@ impl<'t> Flow<'t> {
             Role::Format(format) => {
                 let format = new_format(around, format);
                 self.inside(node, format, place, around, out)
+            }
+            Role::Element(element) => {
+                let element = new_element(around, element);
+                self.inside(node, element, place, around, out)
             }
             Role::Code => self.content(node, place.in_code(), around, out),
             Role::Anchor => {

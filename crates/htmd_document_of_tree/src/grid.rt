@@ -1,11 +1,12 @@
 //! The grid of a table whose cells may take more than one column and row (HTML, 4.9.12).
 ghost use Rattle.std.specs.Prelude.{◌≡◌, ◌≤◌, ◌<◌, ◌+◌, ◌-◌, ◌++◌, ◌∷◌, [], false, true, nat_lt, nat_le, if◌then◌else◌};
-ghost use Rattle.std.specs.Prelude.{IfOk, OnOk, length, map};
+ghost use Rattle.std.specs.Prelude.{IfOk, OnOk, length, map, filter};
 ghost use Rattle.std.specs.Prelude.{take, drop, replicate, get_or, Some, None};
-ghost use Rattle.std.specs.List.{prefix_len, list_any};
+ghost use Rattle.std.specs.List.{prefix_len};
 ghost use Rattle.std.specs.Option.{option_map};
 ghost use Rattle.std.specs.Vec.Iter.{into_iter_items};
 ghost use Rattle.htmd_document.specs.DocumentViews.{inlines_of, block_of};
+ghost use Rattle.htmd_document.specs.NormalDocuments.{has_cell};
 ghost use Rattle.htmd_document_of_tree.specs.GridViews.{cell_of, row_of, line_of, lines_of};
 ghost use Rattle.htmd_document_of_tree.specs.Grids as spec;
 
@@ -284,28 +285,26 @@ fn is_empty(content: &[Inline]) -> bool
     content.is_empty()
 }
 
-/// Whether something shows in a row.
-fn is_filled(cells: &[CellContent]) -> bool
-    ensures { result ≡ spec.is_filled_row (line_of cells.now) }
+/// How many cells come before the empty ones at the end.
+fn filled_len(cells: &[CellContent]) -> usize
+    ensures bound { result ≤ length cells.now }
+    ensures value { take result (line_of cells.now) ≡ spec.trimmed (line_of cells.now) }
 {
-    for cell in cells {
-        if !is_empty(cell.as_slice()) {
-            return true;
-        }
+    let mut len = cells.len();
+    while len > 0 && is_empty(cells[len - 1].as_slice()) {
+        len -= 1;
     }
-    false
+    len
 }
 
-/// Whether something shows in the rows.
-fn are_filled(lines: &[RowContent]) -> bool
-    ensures { result ≡ list_any spec.is_filled_row (lines_of lines.now) }
+/// Cuts the empty cells at the ends of the rows.
+fn trim(lines: &mut [RowContent])
+    ensures { lines_of lines.new ≡ map spec.trimmed (lines_of lines.old) }
 {
-    for cells in lines {
-        if is_filled(cells.as_slice()) {
-            return true;
-        }
+    for cells in lines.iter_mut() {
+        let len = filled_len(cells.as_slice());
+        cells.truncate(len);
     }
-    false
 }
 
 /// How many columns the longest row has.
@@ -343,17 +342,12 @@ fn align(alignments: &mut Vec<Alignment>, columns: usize) -> Result<(), AllocErr
 }
 
 /// The rows below the header, without those in which nothing shows.
-fn body(
-    alloc: Global,
-    lines: IntoIter<RowContent, Global>,
-    columns: usize,
-) -> Result<Vec<RowContent>, AllocError>
-    ensures { IfOk result (λ rows. lines_of rows.items ≡ spec.body columns (lines_of (into_iter_items lines))) }
+fn body(alloc: Global, lines: IntoIter<RowContent, Global>) -> Result<Vec<RowContent>, AllocError>
+    ensures { IfOk result (λ rows. lines_of rows.items ≡ filter has_cell (lines_of (into_iter_items lines))) }
 {
     let mut rows = Vec::new(alloc);
-    for mut cells in lines {
-        if is_filled(cells.as_slice()) {
-            pad(alloc, &mut cells, columns)?;
+    for cells in lines {
+        if !cells.is_empty() {
             rows.push(cells)?;
         }
     }
@@ -382,22 +376,23 @@ fn take_header(
 /// The table of these rows, whose first one is its header or not; none where nothing shows in it.
 pub(crate) fn table(
     alloc: Global,
-    lines: Vec<RowContent>,
+    mut lines: Vec<RowContent>,
     mut alignments: Vec<Alignment>,
     has_header: bool,
 ) -> Result<Option<Block>, AllocError>
     ensures { IfOk result (λ block. option_map block_of block
         ≡ spec.table_if_filled alignments.items has_header (lines_of lines.items)) }
 {
-    if !are_filled(lines.as_slice()) {
+    trim(lines.as_mut_slice());
+    let columns = width(lines.as_slice());
+    if columns == 0 {
         return Ok(None);
     }
-    let columns = width(lines.as_slice());
     align(&mut alignments, columns)?;
     let mut lines = lines.into_iter();
     let mut header = take_header(alloc, has_header, &mut lines);
     pad(alloc, &mut header, columns)?;
-    let rows = body(alloc, lines, columns)?;
+    let rows = body(alloc, lines)?;
     Ok(Some(Block::Table {
         alignments,
         header,

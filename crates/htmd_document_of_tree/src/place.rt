@@ -4,11 +4,12 @@ ghost use Rattle.std.specs.Prelude.{map};
 ghost use Rattle.std.specs.List.{list_any};
 ghost use Rattle.htmd_document_of_tree.specs.Contexts as contexts;
 ghost use Rattle.htmd_document.specs.DocumentLimits as limits;
+ghost use Rattle.htmd_document.specs.Formats.{of_format, of_element};
 ghost use Rattle.htmd_document_of_tree.specs.FlowViews as views;
 ghost use Rattle.htmd_document_of_tree.specs.PartViews.{around_of};
 
 use crate::around::Around;
-use htmd_document::Format;
+use htmd_document::{Format, InlineElement};
 
 /// Lists and quotes in each other.
 const MOST_NESTED: usize = 32;
@@ -68,11 +69,21 @@ impl Place {
 
 /// Whether it is this format.
 fn is_format(around: &Around, format: Format) -> bool
-    ensures { result ≡ contexts.is_format format (around_of around.now) }
+    ensures { result ≡ contexts.is_format (of_format format) (around_of around.now) }
 {
     match around {
         Around::Format(f) => *f == format,
-        Around::Link { .. } => false,
+        Around::Element(_) | Around::Link { .. } => false,
+    }
+}
+
+/// Whether it is this element.
+fn is_element(around: &Around, element: InlineElement) -> bool
+    ensures { result ≡ contexts.is_format (of_element element) (around_of around.now) }
+{
+    match around {
+        Around::Element(e) => *e == element,
+        Around::Format(_) | Around::Link { .. } => false,
     }
 }
 
@@ -85,20 +96,38 @@ fn is_link(around: &Around) -> bool
 
 /// Whether this format is around.
 fn holds_format(around: &[Around], format: Format) -> bool
-    ensures { result ≡ list_any (contexts.is_format format) (map around_of around.now) }
+    ensures { result ≡ list_any (contexts.is_format (of_format format)) (map around_of around.now) }
 {
     around.iter().any(|a| is_format(a, format))
+}
+
+/// Whether this element is around.
+fn holds_element(around: &[Around], element: InlineElement) -> bool
+    ensures { result ≡ list_any (contexts.is_format (of_element element)) (map around_of around.now) }
+{
+    around.iter().any(|a| is_element(a, element))
 }
 
 /// This format, if it isn't around yet.
 pub(crate) fn new_format(around: &[Around], format: Format) -> Option<Around>
     ensures { (place : Place) → views.with_option (views.context_in place around.now) result
-        ≡ contexts.inside_format format (views.context_in place around.now) }
+        ≡ contexts.inside_format (of_format format) (views.context_in place around.now) }
 {
     if holds_format(around, format) {
         return None;
     }
     Some(Around::Format(format))
+}
+
+/// This element, if it isn't around yet.
+pub(crate) fn new_element(around: &[Around], element: InlineElement) -> Option<Around>
+    ensures { (place : Place) → views.with_option (views.context_in place around.now) result
+        ≡ contexts.inside_format (of_element element) (views.context_in place around.now) }
+{
+    if holds_element(around, element) {
+        return None;
+    }
+    Some(Around::Element(element))
 }
 
 /// Whether a link is around.

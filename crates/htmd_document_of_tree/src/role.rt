@@ -3,13 +3,15 @@ ghost use Rattle.std.specs.Prelude.{◌≡◌, map};
 ghost use Rattle.htmd_document_of_tree.specs.Roles as spec;
 ghost use Rattle.htmd_nodes.specs.Tags.{tag_text};
 
-use htmd_document::Format;
+use htmd_document::{Format, InlineElement};
 use htmd_nodes::{Name, Tag};
 
 /// What an element is to the document.
 #[derive(Clone, Copy, PartialEq, Eq)]
 pub enum Role {
     Format(Format),
+    /// What stays an element.
+    Element(InlineElement),
     Code,
     Anchor,
     /// A quotation in a line.
@@ -147,8 +149,8 @@ fn inline_role(tag: Tag) -> Role
         Tag::Em | Tag::I | Tag::Cite | Tag::Dfn | Tag::Var => Role::Format(Format::Emphasis),
         Tag::Strong | Tag::B => Role::Format(Format::Strong),
         Tag::Del | Tag::S | Tag::Strike => Role::Format(Format::Deleted),
-        Tag::Sup => Role::Format(Format::Superscript),
-        Tag::Sub => Role::Format(Format::Subscript),
+        Tag::Sup => Role::Element(InlineElement::Superscript),
+        Tag::Sub => Role::Element(InlineElement::Subscript),
         Tag::Code | Tag::Tt | Tag::Kbd | Tag::Samp => Role::Code,
         Tag::A => Role::Anchor,
         Tag::Q => Role::Quotation,

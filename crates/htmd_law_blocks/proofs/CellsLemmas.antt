@@ -1,13 +1,13 @@
 -- The cells of a table's line are read as they are written.
 use Rattle.std.proofs.Common.{◌≡◌, ◌∙◌, refl, sym, ap, subst, ℕ, zero, suc, ◌≤◌, Bool, true, false, List, [], ◌∷◌, ◌-◌}
-use Rattle.std.proofs.Common.{◌++◌, length, map, append_assoc, arith}
+use Rattle.std.proofs.Common.{◌++◌, map, append_assoc, arith}
 use Rattle.std.proofs.lemmas.Bool.Decides.{nat_tests}
 use Rattle.std.proofs.lemmas.List.{append-nil, reverse-append, reverse-reverse}
 use Rattle.std.specs.Prelude.{◌==◌, ◌&&◌, if◌then◌else◌, replicate, reverse, Some, None}
-use Rattle.std.specs.Str.{chars}
 use Rattle.htmd_lexical.specs.Characters.{space, hyphen, colon}
 use Rattle.htmd_lexical.specs.CharacterClasses.{first_is, behind_run}
-use Rattle.htmd_markdown.specs.Tables as tables
+use Rattle.htmd_commonmark.specs.TableLines as tables
+use Rattle.htmd_commonmark.specs.Columns.{width_of}
 use Rattle.htmd_document.specs.declared.document.Alignment.{Alignment}
 use Rattle.htmd_commonmark.specs.TableLines.{in_cell, with_escaped_bars, colon_if, is_left, is_right, dashes}
 use Rattle.htmd_commonmark.specs.TableLines.{delimiters}
@@ -119,8 +119,8 @@ pads_turn : (k : ℕ) → replicate k space ++ (space ∷ []) ≡ space ∷ repl
 pads_turn zero = refl
 pads_turn (suc k) = ap (◌∷◌ space) (pads_turn k)
 
-padded_spaced : (c : List ℕ) (w : ℕ) → tables.padded_cell c w ≡ spaced c (w - length (chars c))
-padded_spaced c w = ap (λ (x : List ℕ). 32 ∷ (c ++ x)) (pads_turn (w - length (chars c)))
+padded_spaced : (c : List ℕ) (w : ℕ) → tables.padded_cell c w ≡ spaced c (w - width_of c)
+padded_spaced c w = ap (λ (x : List ℕ). 32 ∷ (c ++ x)) (pads_turn (w - width_of c))
 
 -- ---- texts without white space at their ends
 
@@ -212,7 +212,7 @@ abbrev spaced_cells : List (List ℕ) → List ℕ → List (List ℕ)
 spaced_cells [] ws = []
 spaced_cells (t ∷ ts) [] = []
 spaced_cells (t ∷ ts) (w ∷ ws) =
-    spaced (with_escaped_bars t) (w - length (chars (with_escaped_bars t))) ∷ spaced_cells ts ws
+    spaced (with_escaped_bars t) (w - width_of (with_escaped_bars t)) ∷ spaced_cells ts ws
 
 split_line : (ts : List (List ℕ)) (ws : List ℕ) (before : ℕ) → Fit ts ws
     → split_at_bars before (tables.barred_cells (escaped_cells ts) ws) ≡ spaced_cells ts ws ++ ([] ∷ [])
@@ -220,7 +220,7 @@ split_line [] ws before h = refl
 split_line (t ∷ ts) [] before h = absurd h
 split_line (t ∷ ts) (w ∷ ws) before h =
     let c = with_escaped_bars t in
-    let k = w - length (chars c) in
+    let k = w - width_of c in
     let more = tables.barred_cells (escaped_cells ts) ws in
     ap (λ (x : List ℕ). split_at_bars before (x ++ (124 ∷ more))) (padded_spaced c w)
     ∙ split_spaced t k before more
@@ -237,7 +237,7 @@ cells_back [] ws a f = refl
 cells_back (t ∷ ts) [] a f = absurd f
 cells_back (t ∷ ts) (w ∷ ws) a f =
     let c = with_escaped_bars t in
-    let k = w - length (chars c) in
+    let k = w - width_of c in
     ap (λ (x : List ℕ). with_bars x ∷ cell_texts (spaced_cells ts ws)) (strip_spaced c k (escaped_trimmed t a.0))
     ∙ ap (λ (x : List ℕ). x ∷ cell_texts (spaced_cells ts ws)) (bars_back t)
     ∙ ap (◌∷◌ t) (cells_back ts ws a.1 f)
@@ -405,7 +405,7 @@ delimiters_barred (a ∷ al) [] = refl
 delimiters_barred (a ∷ al) (w ∷ ws) =
     let d = dashes a w in
     let more = delimiters al ws in
-    let n : 0 - length (chars d) ≡ 0 = omega arith in
+    let n : 0 - width_of d ≡ 0 = omega arith in
     ap (λ (x : List ℕ). 32 ∷ x) (append_assoc d (32 ∷ 124 ∷ []) more ∙ sym
     (append_assoc d (32 ∷ []) (124 ∷ more)))
     ∙ ap (λ (k : ℕ). (32 ∷ (d ++ (replicate k 32 ++ (32 ∷ [])))) ++ (124 ∷ more)) (sym n)

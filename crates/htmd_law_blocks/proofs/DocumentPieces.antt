@@ -12,12 +12,12 @@ use Rattle.htmd_commonmark.specs.declared.options.DocumentOptions.{DocumentOptio
 use Rattle.htmd_commonmark.specs.Pages as pages
 use Rattle.htmd_commonmark.specs.BlockMarkdown.{marker, bounded, item_count, markers_of, separator, place_in_item}
 use Rattle.htmd_commonmark.specs.BlockMarkdown.{place_in_quote, behind_first, sign_of, written_blocks, further_blocks}
-use Rattle.htmd_commonmark.specs.BlockMarkdown.{written_block, written_items, further_items}
+use Rattle.htmd_commonmark.specs.BlockMarkdown.{written_block, further_items}
 use Rattle.htmd_commonmark.specs.BlockMarkdown as writing
 use Rattle.htmd_commonmark_reading.specs.Boxes.{quoting, listing, ClosedBlock, text, headed, code, rule, grid, boxed}
 use Rattle.htmd_commonmark_reading.specs.Boxes.{ClosedBlocks, no_closed_blocks, closed_block}
 use Rattle.htmd_law_blocks.specs.LineTexts.{lines_of}
-use Rattle.htmd_law_blocks.specs.DocumentParts.{paragraph_text, heading_text, cell_texts, after_cells, row_texts}
+use Rattle.htmd_law_blocks.specs.DocumentParts.{paragraph_text, heading_text, cell_texts, table_rows}
 use Rattle.htmd_law_blocks.specs.DocumentParts.{item_sign, item_number, item_columns, first_parts, further_parts}
 use Rattle.htmd_law_blocks.specs.DocumentParts.{block_parts, item_parts}
 use Rattle.htmd_law_blocks.specs.NormalBlocks.{HasItem, IsNormalBlock, AreNormalBlocks, AreNormalItems}
@@ -76,7 +76,7 @@ abbrev mutual
   block_pieces options place before definitions gap (table alignments header rows) rest =
       piece gap (flat_piece (written_block options place before definitions (table alignments header rows)).text
       (grid alignments (cell_texts options definitions header)
-      (row_texts options (after_cells options definitions header) rows))) rest
+      (table_rows options definitions header rows))) rest
 
   pub item_pieces : DocumentOptions → Markers → Bool → ℕ → List (List ℕ) → Bool → Items → Pieces →
       Pieces
@@ -181,7 +181,7 @@ mutual
   block_same o p before ds g (list start t items) rest rs h e =
       items_same o (markers_of o before p.outer start (item_count items)) t 0 ds g items rest rs h.2 e
   block_same o p before ds g (table alignments header rows) rest rs h e =
-      ap (closed_block g (grid alignments (cell_texts o ds header) (row_texts o (after_cells o ds header) rows))) e
+      ap (closed_block g (grid alignments (cell_texts o ds header) (table_rows o ds header rows))) e
 
   items_same : (o : DocumentOptions) (m : Markers) (t : Bool) (k : ℕ) (ds : List (List ℕ)) (g : Bool)
       (items : Items)
@@ -295,7 +295,7 @@ mutual
       ∙ sym (append_assoc s (further_items o m t 1 w.definitions others).text (further_text rest))
   block_written o p before ds g (table alignments header rows) rest h =
       flat_text g (written_block o p before ds (table alignments header rows)).text
-      (grid alignments (cell_texts o ds header) (row_texts o (after_cells o ds header) rows)) rest
+      (grid alignments (cell_texts o ds header) (table_rows o ds header rows)) rest
 
   more_written : (o : DocumentOptions) (m : Markers) (t : Bool) (k : ℕ) (ds : List (List ℕ)) (items : Items)
       (rest : Pieces) → AreNormalItems t items

@@ -16,7 +16,7 @@ use Rattle.htmd_commonmark.specs.declared.markers.Markers.TheVariants.{Bullets, 
 use Rattle.htmd_commonmark.specs.declared.options.DocumentOptions.{DocumentOptions}
 use Rattle.htmd_commonmark.specs.InlineMarkdown.{written_line}
 use Rattle.htmd_commonmark.specs.BlockMarkdown.{line_of, has_break, is_setext, is_underlined, underlined, number_signs}
-use Rattle.htmd_commonmark.specs.BlockMarkdown.{marker, item_count, markers_of, place_in_item, place_in_quote}
+use Rattle.htmd_commonmark.specs.BlockMarkdown.{item_count, markers_of, place_in_item, place_in_quote}
 use Rattle.htmd_commonmark.specs.BlockMarkdown.{behind_first, sign_of, written_blocks, written_block, written_heading}
 use Rattle.htmd_commonmark.specs.BlockMarkdown.{written_cells, written_rows, written_table}
 use Rattle.htmd_commonmark.specs.TableLines.{with_escaped_bars, table_text}
@@ -26,17 +26,17 @@ use Rattle.htmd_commonmark_reading.specs.Lines.{spaces}
 use Rattle.htmd_commonmark_reading.specs.Boxes.{ClosedBlock, text, headed, code, rule, grid}
 use Rattle.htmd_commonmark_reading.specs.BlockStarts.{under}
 use Rattle.htmd_law_blocks.specs.LineTexts.{IsBlack, IsNotOf, lines_of}
-use Rattle.htmd_law_blocks.specs.DocumentParts.{paragraph_text, heading_text, cell_texts, after_cells, row_texts}
+use Rattle.htmd_law_blocks.specs.DocumentParts.{paragraph_text, heading_text, cell_texts, after_cells, row_texts, table_rows}
 use Rattle.htmd_law_blocks.specs.DocumentParts.{item_sign, item_number}
-use Rattle.htmd_law_blocks.specs.NormalBlocks.{is_level, HasBlock, HasItem, HasCell, AreAsLong, may_be_tight, fits_list}
+use Rattle.htmd_law_blocks.specs.NormalBlocks.{is_level, HasBlock, HasItem, HasCell, FitColumns, may_be_tight, fits_list}
 use Rattle.htmd_law_blocks.specs.NormalBlocks.{IsNormalBlock, AreNormalBlocks, AreNormalItems}
 use Rattle.htmd_law_blocks.specs.DocumentTexts.{IsHeading, AreCellTexts, AreRowTexts, FirstTexts, FurtherTexts}
 use Rattle.htmd_law_blocks.specs.DocumentTexts.{BlockTexts, ItemTexts}
 use Rattle.htmd_law_blocks.proofs.ChainsLemmas.{First}
 use Rattle.htmd_law_blocks.proofs.PiecesLemmas.{Marker, Piece, Pieces, no_pieces, piece, each, quoted, item_lines}
-use Rattle.htmd_law_blocks.proofs.PiecesLemmas.{piece_lines, pieces_lines, further_lines, pieces_parts, IsMarker}
+use Rattle.htmd_law_blocks.proofs.PiecesLemmas.{piece_lines, pieces_lines}
 use Rattle.htmd_law_blocks.proofs.PiecesLemmas.{IsApart, Allowed, Follows, Strong, is_boxed, IsGood, IsContent}
-use Rattle.htmd_law_blocks.proofs.PiecesLemmas.{IsFilled, AreGood, piece_first, pieces_read_back}
+use Rattle.htmd_law_blocks.proofs.PiecesLemmas.{IsFilled, AreGood, piece_first}
 use Rattle.htmd_law_blocks.proofs.PiecesLemmas as pieces
 use Rattle.htmd_law_blocks.proofs.TextsLemmas.{AreClean}
 use Rattle.htmd_law_blocks.proofs.PieceTextsLemmas.{CleanPiece, CleanPieces}
@@ -143,15 +143,21 @@ cell_clean : (ts : List (List ℕ)) → AreCellTexts ts → AreClean ts
 cell_clean [] h = tt
 cell_clean (t ∷ ts) h = (one_clean t h.0.plain h.0.one_line, cell_clean ts h.1)
 
-rows_of : (o : DocumentOptions) (ds : List (List ℕ)) (n : ℕ) (rows : List (List Inlines)) → AreAsLong n rows
+some_texts : (o : DocumentOptions) (ds : List (List ℕ)) (xs : List Inlines) → HasCell xs → IsSomeCells
+    (cell_texts o ds xs)
+some_texts o ds [] h = absurd h
+some_texts o ds (x ∷ xs) h = tt
+
+rows_of : (o : DocumentOptions) (ds : List (List ℕ)) (n : ℕ) (rows : List (List Inlines)) → FitColumns n rows
     → AreRowTexts (row_texts o ds rows) → AreRowsOf n (row_texts o ds rows)
 rows_of o ds n [] h w = tt
 rows_of o ds n (row ∷ rows) h w =
     let ts = cell_texts o ds row in (
-      texts_length o ds row ∙ h.0,
+      omega (arith, texts_length o ds row, h.0),
+      some_texts o ds row h.1,
       cell_trimmed ts w.0,
       cell_clean ts w.0,
-      rows_of o (after_cells o ds row) n rows h.1
+      rows_of o (after_cells o ds row) n rows h.2
           w.1,
     )
 
@@ -161,13 +167,8 @@ table_by : (al : List Alignment) (hs : List (List ℕ)) (rows : List (List (List
 table_by al [] rows s a t c r = absurd s
 table_by al (h ∷ hs) rows s a t c r = table_lines al h hs rows a t c r
 
-some_texts : (o : DocumentOptions) (ds : List (List ℕ)) (xs : List Inlines) → HasCell xs → IsSomeCells
-    (cell_texts o ds xs)
-some_texts o ds [] h = absurd h
-some_texts o ds (x ∷ xs) h = tt
-
 table_good : (o : DocumentOptions) (ds : List (List ℕ)) (al : List Alignment) (header : List Inlines)
-    (rows : List (List Inlines)) → HasCell header → length al ≡ length header → AreAsLong (length header) rows
+    (rows : List (List Inlines)) → HasCell header → length al ≡ length header → FitColumns (length header) rows
     → AreCellTexts (cell_texts o ds header) → AreRowTexts (row_texts o (after_cells o ds header) rows)
     → TableLines al (cell_texts o ds header) (row_texts o (after_cells o ds header) rows)
     (written_table o ds al header rows).text
@@ -444,7 +445,7 @@ mutual
       (markers_are o before p.outer start (item_count items) h.1) h.0 h.2 w r
   block_good o p before ds g (table alignments header rows) rest h w r =
       let s = (written_block o p before ds (table alignments header rows)).text in
-      flat_first g s (grid alignments (cell_texts o ds header) (row_texts o (after_cells o ds header) rows)) rest
+      flat_first g s (grid alignments (cell_texts o ds header) (table_rows o ds header rows)) rest
       (table_flat alignments (cell_texts o ds header) (row_texts o (after_cells o ds header) rows) s
       (table_good o ds alignments header rows h.0 h.1 h.2 w.0 w.1) (h.1 ∙ sym (texts_length o ds header))
       (some_texts o ds header h.0)) r

@@ -1,6 +1,6 @@
 -- What is written of a flat block is read as it.
 use Rattle.std.proofs.Common.{◌≡◌, ◌∙◌, refl, sym, ap, subst, ℕ, zero, suc, ◌≤◌, Bool, true, false, List, [], ◌∷◌, ◌+◌}
-use Rattle.std.proofs.Common.{◌-◌, ◌++◌, length, append_assoc, arith}
+use Rattle.std.proofs.Common.{◌-◌, ◌++◌, length, map, append_assoc, arith}
 use Rattle.std.proofs.lemmas.Bool.Decides.{nat_tests}
 use Rattle.std.proofs.lemmas.List.{append-nil, length-replicate}
 use Rattle.std.proofs.lemmas.List.Splits.{slice_split-cons_yes, slice_split-cons_no}
@@ -28,7 +28,7 @@ use Rattle.htmd_commonmark_reading.specs.Boxes.{closed_block, leaf, fenced, fitt
 use Rattle.htmd_commonmark_reading.specs.Boxes.{language}
 use Rattle.htmd_commonmark_reading.specs.BlockStarts.{alone, under, started, first_line, no_start, is_same, fence_start}
 use Rattle.htmd_commonmark_reading.specs.BlockStarts.{fence_with, closes_fence}
-use Rattle.htmd_commonmark_reading.specs.Tables.{cells}
+use Rattle.htmd_commonmark_reading.specs.Tables.{cells, fitted}
 use Rattle.htmd_commonmark_reading.specs.LeafBlocks.{underline_of, is_row, is_header}
 use Rattle.htmd_commonmark_reading.specs.LeafBlocks as reading
 use Rattle.htmd_law_blocks.proofs.LeavesLemmas as leaves
@@ -39,9 +39,9 @@ use Rattle.htmd_law_blocks.proofs.LinesLemmas.{black_indent}
 use Rattle.htmd_law_blocks.proofs.EndsLemmas.{stripped_end_black, stripped_black}
 use Rattle.htmd_law_blocks.proofs.ChainsLemmas.{First}
 use Rattle.htmd_law_blocks.proofs.PiecesLemmas.{FlatReads}
-use Rattle.htmd_law_blocks.proofs.LeavesLemmas.{StaysOpen, whole_reads, rule_line, asterisks_read, hyphens_read}
-use Rattle.htmd_law_blocks.proofs.LeavesLemmas.{underscores_read, heading_line, heading_reads, IsParagraph}
-use Rattle.htmd_law_blocks.proofs.LeavesLemmas.{paragraph_reads, IsHeadingLine, setext_reads, underline_sign, IsFence}
+use Rattle.htmd_law_blocks.proofs.LeavesLemmas.{StaysOpen, rule_line, asterisks_read, hyphens_read}
+use Rattle.htmd_law_blocks.proofs.LeavesLemmas.{underscores_read, heading_line, heading_reads}
+use Rattle.htmd_law_blocks.proofs.LeavesLemmas.{paragraph_reads, setext_reads, underline_sign, IsFence}
 use Rattle.htmd_law_blocks.proofs.LeavesLemmas.{fence_reads, IsTable, table_reads}
 use Rattle.htmd_law_blocks.proofs.RunsLemmas.{stays_open}
 use Rattle.htmd_law_blocks.proofs.TablesLemmas.{IsSomeCells, AreBarred, TableLines}
@@ -449,12 +449,13 @@ rows_full l [] b h = black_some l b
 rows_full l (r ∷ rs) b h = rows_full r rs (bar_first r h.0).black h.2
 
 pub table_flat : (al : List Alignment) (hs : List (List ℕ)) (rows : List (List (List ℕ))) (s : List ℕ)
-    → TableLines al hs rows s → length al ≡ length hs → IsSomeCells hs → Flat s (grid al hs rows)
+    → TableLines al hs rows s → length al ≡ length hs → IsSomeCells hs
+    → Flat s (grid al hs (map (fitted (length hs)) rows))
 table_flat al hs rows s t n some =
     let h = t.header in
     let d = t.under in
     let rs = t.below in
-    let same : grid al (cells h) (fitted_rows (length al) rs) ≡ grid al hs rows =
+    let same : grid al (cells h) (fitted_rows (length al) rs) ≡ grid al hs (map (fitted (length hs)) rows) =
     ap (λ (x : List (List ℕ)). grid al x (fitted_rows (length al) rs)) t.header_cells
     ∙ ap (grid al hs) t.below_cells in
     let under = bar_first d t.bars.1 in
@@ -467,7 +468,7 @@ table_flat al hs rows s t n some =
       fits = header_fits al hs h t.header_cells n some;
       rows = table_rows rs t.below_bars;
     } in
-    flat_by s (h ∷ d ∷ rs) (grid al hs rows) t.is
+    flat_by s (h ∷ d ∷ rs) (grid al hs (map (fitted (length hs)) rows)) t.is
     (subst (λ (x : ClosedBlock). FlatReads (h ∷ d ∷ rs) x no_closed_blocks) same (table_reads al h d rs is))
     t.clean (rows_full d rs under.black t.below_bars)
 

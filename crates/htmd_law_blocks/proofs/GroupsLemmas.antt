@@ -21,7 +21,7 @@ use Rattle.htmd_commonmark_reading.specs.Lists.{one_item, with_item, with_closed
 use Rattle.htmd_commonmark_reading.specs.Lists.{cell_inlines, row_inlines}
 use Rattle.htmd_commonmark_reading.specs.Markup.{Inlines, Blocks, Items, paragraph, heading, code_block, quote}
 use Rattle.htmd_commonmark_reading.specs.Markup.{thematic_break, table, block, no_items, item}
-use Rattle.htmd_law_blocks.specs.DocumentParts.{paragraph_text, heading_text, cell_texts, after_cells, row_texts}
+use Rattle.htmd_law_blocks.specs.DocumentParts.{paragraph_text, heading_text, cell_texts, table_rows}
 use Rattle.htmd_law_blocks.specs.DocumentParts.{sign_byte, item_sign, item_number, first_parts, further_parts}
 use Rattle.htmd_law_blocks.specs.DocumentParts.{block_parts, item_parts, document_parts}
 use Rattle.htmd_law_blocks.specs.DocumentBlocks.{first_read, further_read, block_read, items_read, document_read}
@@ -324,7 +324,7 @@ mutual
   block_grouped refs reads o p before ds g documents.thematic_break rs rest h e a = ap (shown g thematic_break) e
   block_grouped refs reads o p before ds g (documents.table alignments header rows) rs rest h e a =
       ap (shown g (table alignments (cell_inlines refs (cell_texts o ds header))
-      (row_inlines refs (row_texts o (after_cells o ds header) rows)))) e
+      (row_inlines refs (table_rows o ds header rows)))) e
   block_grouped refs reads o p before ds g (documents.list start t items) rs rest h e a =
       let n = item_count items in
       let m = markers_of o before p.outer start n in

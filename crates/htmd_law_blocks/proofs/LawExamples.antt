@@ -4,6 +4,8 @@ use Rattle.std.proofs.Common.{◌≡◌, ℕ, true, false, refl, codes, List, []
 use Rattle.std.specs.Fmt.{digits}
 use Rattle.std.specs.Str.{chars}
 use Rattle.unicode.proofs.CategoryComputing.{ucd_category}
+use Rattle.unicode.proofs.EastAsianComputing.{ucd_east_asian}
+use Rattle.unicode.proofs.NormalComputing.{ucd_normal}
 use Rattle.htmd_markdown.specs.declared.fence.CodeBlockFence.TheVariants.{Backticks}
 use Rattle.htmd_markdown.specs.declared.heading.HeadingStyle.TheVariants.{Atx, Setex}
 use Rattle.htmd_markdown.specs.declared.heading.HeadingStyle.{HeadingStyle}
@@ -76,10 +78,11 @@ abbrev flat : Blocks
 flat =
     block (heading 2 (letters (codes "a")))
     (block (table (Alignment.None ∷ Alignment.Right ∷ []) (letters (codes "b|c") ∷ no_inlines ∷ [])
-    ((letters (codes "d") ∷ letters (codes "e") ∷ []) ∷ [])) (one thematic_break))
+    ((letters (codes "d") ∷ letters (codes "e") ∷ []) ∷ (letters (codes "f") ∷ []) ∷ [])) (one thematic_break))
 
+-- the second row is filled up
 pub flat_blocks : parts (markdown_of (options Setex Inlined) flat) ≡ document_parts (options Setex Inlined) flat
-unfolding chars encode ucd_category digits
+unfolding chars encode ucd_category ucd_east_asian ucd_normal digits
 flat_blocks = refl
 
 abbrev linked : Blocks

@@ -2,13 +2,13 @@
 use Rattle.std.specs.Str.{chars}
 use Rattle.std.specs.Prelude.{◌==◌, length}
 use Rattle.htmd_commonmark_reading.specs.LinkDefinitions.{Definitions}
-use Rattle.std.proofs.Common.{◌≡◌, ℕ, true, false, refl, ap, codes, ◌∷◌, [], List, None, Some}
+use Rattle.std.proofs.Common.{arith, ◌≡◌, ℕ, true, false, refl, ap, codes, ◌∷◌, [], List, None, Some}
 use Rattle.htmd_document.specs.Documents.{Block, Blocks, text, inline, no_inlines, paragraph, quote, thematic_break}
 use Rattle.htmd_document.specs.Documents.{list, no_blocks, block, no_items, item}
 use Rattle.htmd_law_blocks.specs.LineTexts.{IsFirstLine, IsFurtherLine, IsWhole, IsLineText, IsHeadingText}
 use Rattle.htmd_law_blocks.specs.LineTexts.{IsUnderlinedText, IsCellText}
 use Rattle.htmd_law_blocks.specs.NormalBlocks.{is_level, IsLanguage, are_short_numbers, may_be_tight, fits_list}
-use Rattle.htmd_law_blocks.specs.NormalBlocks.{is_spread, AreAsLong, IsNormalBlock}
+use Rattle.htmd_law_blocks.specs.NormalBlocks.{is_spread, FitColumns, IsNormalBlock}
 use lib.Utf8.{encode}
 
 abbrev words : List ℕ → Block
@@ -123,11 +123,11 @@ empty_cell = record { plain = refl; one_line = refl; trimmed = tt }
 pub cell_with_space : IsCellText (codes "a ") → ⊥
 cell_with_space h = absurd (let e = h.trimmed.1 in cc)
 
-pub as_many_cells : AreAsLong 1 ((no_inlines ∷ []) ∷ [])
-as_many_cells = (refl, tt)
+pub as_many_cells : FitColumns 1 ((no_inlines ∷ []) ∷ [])
+as_many_cells = (omega arith, tt, tt)
 
-pub more_cells : AreAsLong 1 ((no_inlines ∷ no_inlines ∷ []) ∷ []) → ⊥
-more_cells h = absurd (let e = h.0 in cc)
+pub more_cells : FitColumns 1 ((no_inlines ∷ no_inlines ∷ []) ∷ []) → ⊥
+more_cells h = absurd (let e = h.0 in omega (arith, e))
 
 pub normal_list : IsNormalBlock (list None true (item (one (words (codes "a"))) no_items))
 normal_list = (tt, refl, (refl, (tt, tt), tt), refl)

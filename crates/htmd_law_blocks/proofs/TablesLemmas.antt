@@ -1,18 +1,16 @@
 -- The lines of a table, by the texts of its cells.
 use Rattle.std.proofs.Common.{◌≡◌, ◌∙◌, refl, sym, ap, subst, ℕ, zero, suc, ◌≤◌, Bool, true, false, List, [], ◌∷◌, ◌-◌}
-use Rattle.std.proofs.Common.{◌++◌, length, map, take, append_assoc, arith}
-use Rattle.std.proofs.lemmas.List.{append-nil, length-take, length-replicate}
+use Rattle.std.proofs.Common.{◌++◌, length, map, append_assoc, arith}
+use Rattle.std.proofs.lemmas.List.{append-nil, length-replicate}
 use Rattle.std.specs.Prelude.{◌==◌, nat_le, max, fold, if◌then◌else◌, replicate, Some}
-use Rattle.std.specs.List.{suffix_len}
-use Rattle.std.specs.Str.{chars}
 use Rattle.htmd_lexical.specs.Characters.{hyphen}
-use Rattle.htmd_lexical.specs.CharacterClasses.{first_is, is_empty}
-use Rattle.htmd_markdown.specs.Tables as tables
+use Rattle.htmd_lexical.specs.CharacterClasses.{first_is}
+use Rattle.htmd_commonmark.specs.TableLines as tables
+use Rattle.htmd_commonmark.specs.Columns.{width_of}
 use Rattle.htmd_document.specs.declared.document.Alignment.{Alignment}
-use Rattle.htmd_commonmark.specs.TableLines.{in_cell, with_escaped_bars, width_of, narrowest, widened, column_widths}
-use Rattle.htmd_commonmark.specs.TableLines.{line_width, longest_padded, colon_if, is_left, is_right, dashes}
+use Rattle.htmd_commonmark.specs.TableLines.{with_escaped_bars, narrowest, widened, column_widths}
+use Rattle.htmd_commonmark.specs.TableLines.{line_width, longest_padded, colon_if, is_left, is_right}
 use Rattle.htmd_commonmark.specs.TableLines.{delimiters, shown_cells, rows_text, table_text}
-use Rattle.htmd_commonmark.specs.TableLines as writing
 use Rattle.htmd_commonmark_reading.specs.Characters.{stripped, stripped_end, is_space_or_tab}
 use Rattle.htmd_commonmark_reading.specs.Lines.{line}
 use Rattle.htmd_commonmark_reading.specs.Tables.{cells, fitted, delimiter_row}
@@ -23,7 +21,8 @@ use Rattle.htmd_law_blocks.proofs.TextsLemmas.{IsClean, AreClean, clean_append, 
 use Rattle.htmd_law_blocks.proofs.CellsLemmas.{run, AreTrimmed, Fit, Aligned, AreWide, escaped_cells, escaped_bar}
 use Rattle.htmd_law_blocks.proofs.CellsLemmas.{escaped_other, line_cells, delimiter_line, delimiter_ends, ends_strip}
 use Rattle.htmd_law_blocks.proofs.CellsLemmas.{dash_cells, zeros, delimiters_barred}
-use Rattle.htmd_law_blocks.proofs.RowsLemmas.{escaped_length, shown_texts, shown_back, shown_escaped, shown_trimmed}
+use Rattle.htmd_law_blocks.proofs.RowsLemmas.{escaped_length, shown_texts, shown_back, shown_short, shown_escaped}
+use Rattle.htmd_law_blocks.proofs.RowsLemmas.{shown_trimmed}
 
 -- ---- widths
 
@@ -88,12 +87,12 @@ run_clean c (suc n) h = (h.0, h.1, h.2, run_clean c n h)
 
 padded_clean : (c : List ℕ) (w : ℕ) → IsClean c → IsClean (tables.padded_cell c w)
 padded_clean c w h =
-    let pads = replicate (w - length (chars c)) 32 in (
+    let pads = replicate (w - width_of c) 32 in (
       refl,
       refl,
       refl,
       clean_append c (pads ++ (32 ∷ [])) h
-          (clean_append pads (32 ∷ []) (run_clean 32 (w - length (chars c)) (refl, refl, refl, tt))
+          (clean_append pads (32 ∷ []) (run_clean 32 (w - width_of c) (refl, refl, refl, tt))
           (refl, refl, refl, tt)),
     )
 
@@ -125,63 +124,67 @@ delimiters_clean : (al : List Alignment) (ws : List ℕ) → IsClean (delimiters
 delimiters_clean al ws =
     subst IsClean (sym (delimiters_barred al ws)) (barred_clean (dash_cells al ws) (zeros ws) (dash_cells_clean al ws))
 
-taken_clean : (n : ℕ) (ts : List (List ℕ)) → AreClean ts → AreClean (take n ts)
-taken_clean zero ts h = tt
-taken_clean (suc n) [] h = tt
-taken_clean (suc n) (t ∷ ts) h = (h.0, taken_clean n ts h.1)
+none_clean : (k : ℕ) → AreClean (replicate k [])
+none_clean zero = tt
+none_clean (suc k) = (tt, none_clean k)
 
-shown_clean : (b : Bool) (ts : List (List ℕ)) → AreClean ts → AreClean (shown_texts b ts)
-shown_clean true ts h = h
-shown_clean false [] h = h
-shown_clean false (t ∷ ts) h = (h.0, taken_clean (length ts - suffix_len is_empty ts) ts h.1)
+both_clean : (xs ys : List (List ℕ)) → AreClean xs → AreClean ys → AreClean (xs ++ ys)
+both_clean [] ys h k = k
+both_clean (x ∷ xs) ys h k = (h.0, both_clean xs ys h.1 k)
+
+shown_clean : (b : Bool) (n : ℕ) (ts : List (List ℕ)) → AreClean ts → AreClean (shown_texts b n ts)
+shown_clean true n ts h = both_clean ts (replicate (n - length ts) []) h (none_clean (n - length ts))
+shown_clean false n ts h = h
 
 -- ---- rows
 
--- rows of so many cells, which are clean and trimmed
+abbrev pub IsSomeCells : List (List ℕ) → Type 0
+IsSomeCells [] = ⊥
+IsSomeCells (c ∷ cs) = Unit {0}
+
+-- rows of up to so many cells, which are clean and trimmed
 abbrev pub AreRowsOf : ℕ → List (List (List ℕ)) → Type 0
 AreRowsOf n [] = Unit {0}
-AreRowsOf n (r ∷ rows) = (length r ≡ n) × AreTrimmed r × AreClean r × AreRowsOf n rows
+AreRowsOf n (r ∷ rows) = (length r ≤ n) × IsSomeCells r × AreTrimmed r × AreClean r × AreRowsOf n rows
 
 abbrev row_line : Bool → List ℕ → List (List ℕ) → List ℕ
-row_line b ws r = tables.line (shown_cells b (escaped_cells r)) ws
+row_line b ws r = tables.line (shown_cells b (length ws) (escaped_cells r)) ws
 
 abbrev row_lines : Bool → List ℕ → List (List (List ℕ)) → List (List ℕ)
 row_lines b ws [] = []
 row_lines b ws (r ∷ rows) = row_line b ws r ∷ row_lines b ws rows
 
-shown_short : (b : Bool) (ts : List (List ℕ)) → length (shown_texts b ts) ≤ length ts
-shown_short true ts = omega arith
-shown_short false [] = omega arith
-shown_short false (t ∷ ts) =
-    let h : length (take (length ts - suffix_len is_empty ts) ts) ≤ length ts = grind (arith, length-take) in
-    omega (arith, h)
-
-row_cells : (b : Bool) (ws : List ℕ) (r : List (List ℕ)) → length r ≡ length ws → AreTrimmed r
-    → cells (row_line b ws r) ≡ shown_texts b r
+row_cells : (b : Bool) (ws : List ℕ) (r : List (List ℕ)) → length r ≤ length ws → AreTrimmed r
+    → cells (row_line b ws r) ≡ shown_texts b (length ws) r
 row_cells b ws r n a =
-    let s = shown_short b r in
-    ap (λ (x : List (List ℕ)). cells (tables.line x ws)) (shown_escaped b r)
-    ∙ line_cells (shown_texts b r) ws (shown_trimmed b r a) (fit_by (shown_texts b r) ws (omega (arith, s, n)))
+    let ts = shown_texts b (length ws) r in
+    ap (λ (x : List (List ℕ)). cells (tables.line x ws)) (shown_escaped b (length ws) r)
+    ∙ line_cells ts ws (shown_trimmed b (length ws) r a) (fit_by ts ws (shown_short b (length ws) r n))
 
 row_clean : (b : Bool) (ws : List ℕ) (r : List (List ℕ)) → AreClean r → IsClean (row_line b ws r)
 row_clean b ws r h =
-    subst (λ (x : List (List ℕ)). IsClean (tables.line x ws)) (sym (shown_escaped b r))
-    (refl, refl, refl, barred_clean (shown_texts b r) ws (shown_clean b r h))
+    let ts = shown_texts b (length ws) r in
+    subst (λ (x : List (List ℕ)). IsClean (tables.line x ws)) (sym (shown_escaped b (length ws) r))
+    (refl, refl, refl, barred_clean ts ws (shown_clean b (length ws) r h))
 
 rows_clean : (b : Bool) (ws : List ℕ) (n : ℕ) (rows : List (List (List ℕ))) → AreRowsOf n rows → AreClean
     (row_lines b ws rows)
 rows_clean b ws n [] h = tt
-rows_clean b ws n (r ∷ rows) h = (row_clean b ws r h.2, rows_clean b ws n rows h.3)
+rows_clean b ws n (r ∷ rows) h = (row_clean b ws r h.3, rows_clean b ws n rows h.4)
+
+short_row : (n : ℕ) (ws : List ℕ) (r : List (List ℕ)) → n ≡ length ws → length r ≤ n
+    → length r ≤ length ws
+short_row n ws r e h = omega (arith, e, h)
 
 rows_fitted : (b : Bool) (ws : List ℕ) (n : ℕ) (rows : List (List (List ℕ))) → n ≡ length ws → AreRowsOf n
     rows
-    → fitted_rows n (row_lines b ws rows) ≡ rows
+    → fitted_rows n (row_lines b ws rows) ≡ map (fitted n) rows
 rows_fitted b ws n [] e h = refl
 rows_fitted b ws n (r ∷ rows) e h =
-    ap (λ (x : List (List ℕ)). fitted n x ∷ fitted_rows n (row_lines b ws rows)) (row_cells b ws r (h.0 ∙ e) h.1)
-    ∙ ap (λ (m : ℕ). fitted m (shown_texts b r) ∷ fitted_rows n (row_lines b ws rows)) (sym h.0)
-    ∙ ap (λ (x : List (List ℕ)). x ∷ fitted_rows n (row_lines b ws rows)) (shown_back b r)
-    ∙ ap (◌∷◌ r) (rows_fitted b ws n rows e h.3)
+    ap (λ (x : List (List ℕ)). fitted n x ∷ fitted_rows n (row_lines b ws rows))
+    (row_cells b ws r (short_row n ws r e h.0) h.2 ∙ ap (λ (m : ℕ). shown_texts b m r) (sym e))
+    ∙ ap (λ (x : List (List ℕ)). x ∷ fitted_rows n (row_lines b ws rows)) (shown_back b n r)
+    ∙ ap (◌∷◌ (fitted n r)) (rows_fitted b ws n rows e h.4)
 
 rows_joined : (b : Bool) (ws : List ℕ) (rows : List (List (List ℕ)))
     → rows_text b ws (map escaped_cells rows) ≡ end_line (row_lines b ws rows) (joined_lines (row_lines b ws rows))
@@ -192,17 +195,13 @@ rows_joined b ws (r ∷ rows) = ap (λ (x : List ℕ). 10 ∷ (row_line b ws r +
 
 all_joined : (b : Bool) (ws dashed : List ℕ) (al : List Alignment) (hs : List (List ℕ))
     (rows : List (List (List ℕ)))
-    → writing.lines_of b ws dashed al (escaped_cells hs) (map escaped_cells rows)
+    → tables.lines_of b ws dashed al (escaped_cells hs) (map escaped_cells rows)
     ≡ joined_lines (tables.line (escaped_cells hs) ws ∷ (124 ∷ delimiters al dashed) ∷ row_lines b ws rows)
 all_joined b ws dashed al hs rows =
     let h = tables.line (escaped_cells hs) ws in
     let d = 124 ∷ delimiters al dashed in
     append_assoc h (10 ∷ d) (rows_text b ws (map escaped_cells rows))
     ∙ ap (λ (x : List ℕ). h ++ (10 ∷ (d ++ x))) (rows_joined b ws rows)
-
-abbrev pub IsSomeCells : List (List ℕ) → Type 0
-IsSomeCells [] = ⊥
-IsSomeCells (c ∷ cs) = Unit {0}
 
 abbrev pub AreBarred : List (List ℕ) → Type 0
 AreBarred [] = Unit {0}
@@ -220,7 +219,7 @@ pub record TableLines (al : List Alignment) (hs : List (List ℕ)) (rows : List 
     pub bars : (first_is 124 header ≡ true) × (first_is 124 under ≡ true)
     pub delimiters_are : (k : ℕ) → delimiter_row_of (line k under) ≡ Some al
     pub header_cells : cells header ≡ hs
-    pub below_cells : fitted_rows (length al) below ≡ rows
+    pub below_cells : fitted_rows (length al) below ≡ map (fitted (length hs)) rows
     pub below_bars : AreBarred below
 
 delimiter_at : (al : List Alignment) (ws : List ℕ) (k : ℕ) → Aligned al ws → AreWide ws
@@ -235,11 +234,14 @@ rows_barred : (b : Bool) (ws : List ℕ) (n : ℕ) (rows : List (List (List ℕ)
     → AreRowsOf (suc n) rows
     → AreBarred (row_lines b ws rows)
 rows_barred b ws n [] e h = tt
-rows_barred b ws n (r ∷ rows) e h =
-    (refl, subst IsSomeCells (sym (row_cells b ws r (h.0 ∙ e) h.1)) (some b r h.0), rows_barred b ws n rows e h.3)
+rows_barred b ws n (r ∷ rows) e h = (
+  refl,
+  subst IsSomeCells (sym (row_cells b ws r (short_row (suc n) ws r e h.0) h.2)) (some b r h.1),
+  rows_barred b ws n rows e h.4,
+)
   where
-    some : (b : Bool) (r : List (List ℕ)) → length r ≡ suc n → IsSomeCells (shown_texts b r)
-    some b [] l = absurd (let e : 1 ≤ 0 = omega arith in omega (arith, e))
+    some : (b : Bool) (r : List (List ℕ)) → IsSomeCells r → IsSomeCells (shown_texts b (length ws) r)
+    some b [] l = absurd l
     some true (c ∷ cs) l = tt
     some false (c ∷ cs) l = tt
 
@@ -248,7 +250,7 @@ lines_by : (b : Bool) (ws dashed : List ℕ) (al : List Alignment) (h : List ℕ
     dashed
     → length al ≡ length (h ∷ hs) → AreTrimmed (h ∷ hs) → AreClean (h ∷ hs)
     → AreRowsOf (length (h ∷ hs)) rows
-    → TableLines al (h ∷ hs) rows (writing.lines_of b ws dashed al (escaped_cells (h ∷ hs))
+    → TableLines al (h ∷ hs) rows (tables.lines_of b ws dashed al (escaped_cells (h ∷ hs))
     (map escaped_cells rows))
 lines_by b ws dashed al h hs rows n m w a t c r = record {
   header = tables.line (escaped_cells (h ∷ hs)) ws;
@@ -301,8 +303,8 @@ table_lines al h hs rows a t c r = go (nat_le (line_width ws) longest_padded)
     narrow = length-replicate (length ws) 0 ∙ sym (length-replicate (length ws) narrowest)
 
     go : (b : Bool) → TableLines al (h ∷ hs) rows
-        (if b then writing.lines_of true ws ws al (escaped_cells (h ∷ hs)) (map escaped_cells rows)
-        else writing.lines_of false (replicate (length ws) 0) (replicate (length ws) narrowest) al
+        (if b then tables.lines_of true ws ws al (escaped_cells (h ∷ hs)) (map escaped_cells rows)
+        else tables.lines_of false (replicate (length ws) 0) (replicate (length ws) narrowest) al
         (escaped_cells (h ∷ hs))
         (map escaped_cells rows))
     go true = lines_by true ws ws al h hs rows n refl w.0 a t c r

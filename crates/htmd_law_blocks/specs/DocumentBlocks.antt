@@ -12,7 +12,7 @@ use Rattle.htmd_commonmark_reading.specs.Brackets.{References, inlines}
 use Rattle.htmd_commonmark_reading.specs.Lists.{item_text, cell_inlines, row_inlines}
 use Rattle.htmd_commonmark_reading.specs.Markup.{Inlines, Block, Blocks, Items, paragraph, heading, code_block, quote}
 use Rattle.htmd_commonmark_reading.specs.Markup.{thematic_break, list, table, no_blocks, block, no_items, item}
-use Rattle.htmd_law_blocks.specs.DocumentParts.{paragraph_text, heading_text, cell_texts, after_cells, row_texts}
+use Rattle.htmd_law_blocks.specs.DocumentParts.{paragraph_text, heading_text, cell_texts, table_rows}
 
 -- `refs`: the definitions that a reader knows; `reads`: what it takes the first paragraph's text for, which in an item
 -- may begin with a task
@@ -50,7 +50,7 @@ abbrev mutual
       items)
   block_read refs reads options place before definitions (documents.table alignments header rows) =
       table alignments (cell_inlines refs (cell_texts options definitions header))
-      (row_inlines refs (row_texts options (after_cells options definitions header) rows))
+      (row_inlines refs (table_rows options definitions header rows))
 
   pub items_read : References → DocumentOptions → Markers → Bool → List (List ℕ) → documents.Items → Items
   items_read refs options markers is_tight definitions documents.no_items = no_items

@@ -1,5 +1,5 @@
 -- The closed blocks that a document is: the same tree, with what is written of its inlines in their place.
-use Rattle.std.specs.Prelude.{ℕ, suc, ◌+◌, Bool, false, not, if◌then◌else◌, List, [], ◌∷◌, length, Option, Some, None}
+use Rattle.std.specs.Prelude.{ℕ, suc, ◌+◌, Bool, false, not, if◌then◌else◌, List, [], ◌∷◌, length, map, Option, Some, None}
 use Rattle.htmd_document.specs.Documents.{Inlines, Block, Blocks, Items, paragraph, heading, code_block, quote}
 use Rattle.htmd_document.specs.Documents.{thematic_break, list, table, no_blocks, block, no_items, item}
 use Rattle.htmd_commonmark.specs.declared.blocks.Place.{Place}
@@ -13,6 +13,7 @@ use Rattle.htmd_commonmark.specs.BlockMarkdown.{line_of, is_underlined, marker, 
 use Rattle.htmd_commonmark.specs.BlockMarkdown.{place_in_item, place_in_quote, behind_first, sign_of, written_blocks}
 use Rattle.htmd_commonmark.specs.BlockMarkdown.{written_block}
 use Rattle.htmd_commonmark.specs.DocumentMarkdown.{outermost}
+use Rattle.htmd_commonmark_reading.specs.Tables.{fitted}
 use Rattle.htmd_commonmark_reading.specs.Boxes.{quoting, listing, text, headed, code, rule, grid, boxed, ClosedBlocks}
 use Rattle.htmd_commonmark_reading.specs.Boxes.{no_closed_blocks, closed_block}
 
@@ -45,6 +46,17 @@ abbrev pub row_texts : DocumentOptions → List (List ℕ) → List (List Inline
 row_texts options definitions [] = []
 row_texts options definitions (row ∷ rest) =
     cell_texts options definitions row ∷ row_texts options (after_cells options definitions row) rest
+
+-- rows as a reader takes them: each with as many cells as the header, the last ones empty
+abbrev pub filled_rows : ℕ → List (List (List ℕ)) → List (List (List ℕ))
+filled_rows columns rows = map (fitted columns) rows
+
+-- the rows of a table under its header
+abbrev pub table_rows : DocumentOptions → List (List ℕ) → List Inlines → List (List Inlines)
+    → List (List (List ℕ))
+table_rows options definitions header rows =
+    filled_rows (length (cell_texts options definitions header))
+    (row_texts options (after_cells options definitions header) rows)
 
 -- ---- items
 
@@ -106,7 +118,7 @@ abbrev mutual
   block_parts options place before definitions gap (table alignments header rows) rest =
       closed_block gap
       (grid alignments (cell_texts options definitions header)
-      (row_texts options (after_cells options definitions header) rows)) rest
+      (table_rows options definitions header rows)) rest
 
   -- items, the first at this place
   pub item_parts : DocumentOptions → Markers → Bool → ℕ → List (List ℕ) → Bool → Items → ClosedBlocks

@@ -1,5 +1,5 @@
 -- The normal form of documents, as far as their blocks need it.
-use Rattle.std.specs.Prelude.{◌≡◌, ℕ, ◌+◌, Bool, true, false, not, ◌&&◌, ◌||◌, nat_le, List, [], ◌∷◌, length, Option}
+use Rattle.std.specs.Prelude.{◌≡◌, ◌≤◌, ℕ, ◌+◌, Bool, true, false, not, ◌&&◌, ◌||◌, nat_le, List, [], ◌∷◌, length, Option}
 use Rattle.std.specs.Prelude.{Some, None}
 use Rattle.std.specs.List.{list_all}
 use Rattle.htmd_lexical.specs.Characters.{grave_accent, tilde}
@@ -57,10 +57,10 @@ abbrev pub HasCell : List Inlines → Type 0
 HasCell [] = ⊥
 HasCell (content ∷ rest) = Unit {0}
 
--- every row has as many cells as the header
-abbrev pub AreAsLong : ℕ → List (List Inlines) → Type 0
-AreAsLong n [] = Unit {0}
-AreAsLong n (row ∷ rows) = (length row ≡ n) × AreAsLong n rows
+-- every row has a cell, and up to as many as the header
+abbrev pub FitColumns : ℕ → List (List Inlines) → Type 0
+FitColumns n [] = Unit {0}
+FitColumns n (row ∷ rows) = (length row ≤ n) × HasCell row × FitColumns n rows
 
 -- two items or two blocks of one, where a reader can see whether a blank line stands between them (5.3)
 abbrev pub is_spread : Items → Bool
@@ -79,7 +79,7 @@ abbrev mutual
       HasItem items × (are_short_numbers start (item_count items) ≡ true) × AreNormalItems is_tight items
       × ((is_tight || is_spread items) ≡ true)
   IsNormalBlock (table alignments header rows) =
-      HasCell header × (length alignments ≡ length header) × AreAsLong (length header) rows
+      HasCell header × (length alignments ≡ length header) × FitColumns (length header) rows
 
   pub AreNormalBlocks : Blocks → Type 0
   AreNormalBlocks no_blocks = Unit {0}

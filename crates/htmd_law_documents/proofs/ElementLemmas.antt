@@ -51,6 +51,7 @@ text-shows name attributes children inner =
       heading_6 = λ g h. h;
       block = λ g h. h;
       format = λ f g h. h;
+      element = λ x g h. h;
       code = λ g h. h;
       anchor = λ g h. h;
       quotation = λ g h. shows-append (quotation_mark ∷ inner) (quotation_mark ∷ [])

@@ -4,7 +4,7 @@ use Rattle.std.specs.Prelude.{codes, encode_utf8_all}
 use Rattle.std.specs.Str.{chars, is_utf8}
 use Rattle.htmd_lexical.specs.AttributePairs.{AttributePair}
 use Rattle.htmd_nodes.specs.NumberedTrees.{NumberedTree, NumberedForest, document, text, element, none, more}
-use Rattle.htmd_document.specs.declared.document.Format.TheVariants.{Strong}
+use Rattle.htmd_document.specs.Formats.{Strong}
 use Rattle.htmd_document.specs.Documents as value
 use Rattle.htmd_document.specs.Documents.{Blocks}
 use Rattle.htmd_document_of_tree.specs.Flows.{node_of}

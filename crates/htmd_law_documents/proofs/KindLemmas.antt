@@ -3,7 +3,9 @@ use Rattle.std.proofs.Common.{ℕ, Bool, true, false, cond, List}
 use Rattle.std.specs.Prelude.{codes}
 use Rattle.std.specs.Str.{bytes_eq}
 use Rattle.htmd_document.specs.declared.document.Format.{Format}
-use Rattle.htmd_document.specs.declared.document.Format.TheVariants.{Emphasis, Strong, Deleted, Superscript, Subscript}
+use Rattle.htmd_document.specs.declared.document.Format.TheVariants.{Emphasis, Strong, Deleted}
+use Rattle.htmd_document.specs.declared.document.InlineElement.{InlineElement}
+use Rattle.htmd_document.specs.declared.document.InlineElement.TheVariants.{Superscript, Subscript}
 use Rattle.htmd_document_of_tree.specs.declared.role.Role.TheVariants as role
 use Rattle.htmd_document_of_tree.specs.Roles.{is_among, is_emphasis, is_strong, is_deleted, is_code, is_apart}
 use Rattle.htmd_document_of_tree.specs.Roles.{inline_role}
@@ -17,7 +19,7 @@ result {A} {B} f = B
 abbrev pub Kind : Type 0
 Kind = result role_of
 
--- the kinds, each by a name, and each format
+-- the kinds, each by a name, and each format and element
 pub record EachKind (P : Kind → Type 0) : Type 0 where
   pub paragraph : P (role_of (codes "p"))
   pub item : P (role_of (codes "li"))
@@ -41,6 +43,7 @@ pub record EachKind (P : Kind → Type 0) : Type 0 where
   pub heading_6 : P (role_of (codes "h6"))
   pub block : P (role_of (codes "div"))
   pub format : (f : Format) → P (role.Format f)
+  pub element : (e : InlineElement) → P (role.Element e)
   pub code : P (role_of (codes "code"))
   pub anchor : P (role_of (codes "a"))
   pub quotation : P (role_of (codes "q"))
@@ -60,8 +63,8 @@ inline-kind P name e =
     either P (is_emphasis name) _ _ (e.format Emphasis)
     (either P (is_strong name) _ _ (e.format Strong)
     (either P (is_deleted name) _ _ (e.format Deleted)
-    (either P (bytes_eq name (codes "sup")) _ _ (e.format Superscript)
-    (either P (bytes_eq name (codes "sub")) _ _ (e.format Subscript)
+    (either P (bytes_eq name (codes "sup")) _ _ (e.element Superscript)
+    (either P (bytes_eq name (codes "sub")) _ _ (e.element Subscript)
     (either P (is_code name) _ _ e.code
     (either P (bytes_eq name (codes "a")) _ _ e.anchor
     (either P (bytes_eq name (codes "q")) _ _ e.quotation

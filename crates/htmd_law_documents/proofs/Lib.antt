@@ -27,6 +27,7 @@ pub mod WrapperMain
 pub mod TextReader
 pub mod Main
 pub mod NormalTextLemmas
+pub mod BareLemmas
 pub mod NormalLineLemmas
 pub mod NormalLeafLemmas
 pub mod NormalPutLemmas

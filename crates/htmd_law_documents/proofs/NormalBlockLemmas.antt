@@ -5,19 +5,21 @@ use Rattle.std.specs.Prelude.{nat_le}
 use Rattle.std.proofs.lemmas.Bool.Decides.{nat_tests}
 use Rattle.htmd_document.specs.DocumentLimits.{most_nested}
 use Rattle.htmd_document.specs.Documents.{Inlines, no_inlines, inline, text, code, image, line_break, task, link}
+use Rattle.htmd_document.specs.Documents.{anchor}
 use Rattle.htmd_document.specs.Documents.{Block, paragraph, heading, code_block, quote, thematic_break, list, table}
 use Rattle.htmd_document.specs.Documents.{Blocks, no_blocks, block, Items, no_items, item, blocks_of}
 use Rattle.htmd_document.specs.Documents as value
 use Rattle.htmd_document.specs.TightItems.{is_filled}
 use Rattle.htmd_document.specs.NormalInlines.{begins_with_space, has_none, first_passes}
 use Rattle.htmd_document.specs.NormalInlines.{are_whole, are_normal, is_normal_line}
-use Rattle.htmd_document.specs.NormalInlines.{is_normal_item}
+use Rattle.htmd_document.specs.NormalInlines.{is_normal_item, have_anchor}
 use Rattle.htmd_document.specs.NormalDocuments.{is_normal_paragraph, is_normal_heading, is_normal_code, is_normal_list}
 use Rattle.htmd_document.specs.NormalDocuments.{is_normal_table, is_normal_block, are_normal_blocks, are_normal_items}
 use Rattle.htmd_document.specs.NormalDocuments.{depth_of, depth_among, IsNormal}
 use Rattle.htmd_law_documents.proofs.VisibleLemmas.{both-true}
 use Rattle.htmd_law_documents.proofs.NormalTextLemmas.{and-true, not-false, false-true}
 use Rattle.htmd_law_documents.proofs.NormalLineLemmas.{IsWhole}
+use Rattle.htmd_law_documents.proofs.BareLemmas.{IsBareLine, bare-paragraph}
 
 -- a task, and what stands after it
 pub record IsTaskLine (content : Inlines) : Type 0 where
@@ -26,11 +28,12 @@ pub record IsTaskLine (content : Inlines) : Type 0 where
   pub is : content ≡ inline (task is_checked) rest
   pub begins : first_passes begins_with_space rest ≡ true
   pub whole : IsWhole false [] rest
+  pub bare : have_anchor rest ≡ false
 
 -- a line, or a task in an item
 abbrev pub IsParagraph : Bool → Inlines → Type 0
 IsParagraph in_item content =
-    ((is_normal_line content ≡ true) × (has_none content ≡ false)) ⊎ ((in_item ≡ true) × IsTaskLine content)
+    (IsBareLine content × (has_none content ≡ false)) ⊎ ((in_item ≡ true) × IsTaskLine content)
 
 abbrev mutual
   pub Nearly : Bool → Block → Type 0
@@ -61,6 +64,7 @@ line-no_task true (inline (code s) xs) h = h
 line-no_task true (inline (value.formatted f ys) xs) h = h
 line-no_task true (inline (link a t ys) xs) h = h
 line-no_task true (inline (image a t d) xs) h = h
+line-no_task true (inline (anchor i) xs) h = h
 line-no_task true (inline line_break xs) h = h
 line-no_task true (inline (task b) xs) h =
     let parts = both-true (are_whole (inline (task b) xs)) (are_normal false [] (inline (task b) xs)) h in
@@ -69,11 +73,14 @@ line-no_task true (inline (task b) xs) h =
 task-line : (content : Inlines) → IsTaskLine content → is_normal_paragraph true content ≡ true
 task-line content h =
     ap (is_normal_paragraph true) h.is
-    ∙ and-true (and-true (and-true h.begins (not-false h.whole.no_space)) (not-false h.whole.no_break)) h.whole.normal
+    ∙ and-true
+    (and-true (and-true (and-true h.begins (not-false h.whole.no_space)) (not-false h.whole.no_break)) h.whole.normal)
+    (bare-paragraph (inline (task h.is_checked) h.rest) h.bare)
 
 mutual
   nearly-normal : (b : Block) (in_item : Bool) → Nearly in_item b → is_normal_block in_item b ≡ true
-  nearly-normal (paragraph content) in_item (inl h) = and-true (not-false h.1) (line-no_task in_item content h.0)
+  nearly-normal (paragraph content) in_item (inl h) =
+      and-true (and-true (not-false h.1) (line-no_task in_item content h.0.0)) (bare-paragraph content h.0.1)
   nearly-normal (paragraph content) in_item (inr h) =
       subst (λ (i : Bool). is_normal_paragraph i content ≡ true) (sym h.0) (task-line content h.1)
   nearly-normal (heading level content) in_item h = h

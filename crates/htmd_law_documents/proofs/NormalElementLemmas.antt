@@ -1,7 +1,8 @@
 -- What each kind of element gives in normal documents.
 use Rattle.std.proofs.Common.{◌≡◌, ℕ, suc, ◌≤◌, Bool, true, false, cond, List, [], ◌∷◌, ◌++◌, refl}
-use Rattle.std.proofs.Common.{◌∙◌, subst, Option, Some, None, arith}
-use Rattle.std.specs.Prelude.{codes, if◌then◌else◌}
+use Rattle.std.proofs.Common.{◌∙◌, ap, ◌+◌, subst, Option, Some, None, arith}
+use Rattle.std.proofs.lemmas.Bool.Decides.{nat_tests}
+use Rattle.std.specs.Prelude.{codes, nat_le, if◌then◌else◌}
 use Rattle.std.specs.List.{list_any}
 use Rattle.std.specs.Option.{option_or}
 use Rattle.std.specs.Str.{IsUtf8, chars}
@@ -16,7 +17,9 @@ use Rattle.htmd_document_of_tree.specs.Attributes.{is_any_case}
 use Rattle.htmd_document_of_tree.specs.Attributes.{is_filled, language_of}
 use Rattle.htmd_document_of_tree.specs.Contexts.{Context, inside_format, in_code, in_one_line, deeper, is_lined, run_in}
 use Rattle.htmd_document_of_tree.specs.Contexts.{apart, with_around, is_format, is_link}
-use Rattle.htmd_document.specs.declared.document.Format.{Format}
+use Rattle.htmd_document.specs.DocumentLimits.{most_raised}
+use Rattle.htmd_document.specs.Formats.{Format, Emphasis, Strong, Deleted, Superscript, Subscript}
+use Rattle.htmd_document.specs.Formats.{of_format, of_element, is_raised, raised_count}
 use Rattle.htmd_document.specs.Documents.{Inlines, no_inlines, inline, code_block}
 use Rattle.htmd_document.specs.Documents.{Blocks, no_blocks, block}
 use Rattle.htmd_document_of_tree.specs.Flows.{Node, Line, blocks_of, line_of, flow_all, image_parts, box_parts}
@@ -28,11 +31,12 @@ use Rattle.htmd_document_of_tree.specs.Nesting.{wrapper_of}
 use Rattle.htmd_document_of_tree.specs.Parts.{Around, formatted, linked, Part, box, edge, whole}
 use Rattle.htmd_document_of_tree.specs.Roles.{role_of, table_role, heading_or_block, inline_role}
 use Rattle.htmd_document.proofs.FormatsLemmas.{same-turned}
-use Rattle.htmd_document.specs.NormalInlines.{is_around, is_normal_line}
+use Rattle.htmd_document.specs.NormalInlines.{is_around, is_barred}
 use Rattle.htmd_document.specs.NormalDocuments.{has_language, is_normal_code, is_level, depth_among}
 use Rattle.htmd_law_documents.proofs.KindLemmas.{Kind, any-kind}
 use Rattle.htmd_law_documents.proofs.NormalTextLemmas.{and-true, or-false, neither, true-false}
 use Rattle.htmd_law_documents.proofs.NormalLineLemmas.{in_link, formats_in, Fits, FitAll}
+use Rattle.htmd_law_documents.proofs.BareLemmas.{IsBareLine, bare-well, bare-first}
 use Rattle.htmd_law_documents.proofs.NormalBlockLemmas.{FineBlocks}
 use Rattle.htmd_law_documents.proofs.NormalPartsLemmas.{FineParts, IsRun, fine-append, fine-apart, fine-either}
 use Rattle.htmd_law_documents.proofs.NormalPartsLemmas.{blocks-of}
@@ -76,12 +80,59 @@ no-link l [] h e = h
 no-link l (formatted g ∷ around) h e = no-link l around h e
 no-link l (linked n address title ∷ around) h e = true-false e
 
+-- what is raised is one of two
+abbrev one-if : Bool → ℕ
+one-if b = if b then 1 else 0
+
+abbrev Few : List Format → Type 0
+Few r = raised_count r ≤ one-if (is_around r Superscript) + one-if (is_around r Subscript)
+
+few-more : (f : Format) (r : List Format) → is_around r f ≡ false → Few r → Few (f ∷ r)
+few-more Emphasis r e h = h
+few-more Strong r e h = h
+few-more Deleted r e h = h
+few-more Superscript r e h =
+    add (raised_count r) (one-if (is_around r Superscript)) (one-if (is_around r Subscript)) (ap one-if e) h
+  where
+    add : (n a b : ℕ) → a ≡ 0 → n ≤ a + b → suc n ≤ 1 + b
+    add n a b e h = omega arith
+few-more Subscript r e h =
+    add (raised_count r) (one-if (is_around r Superscript)) (one-if (is_around r Subscript)) (ap one-if e) h
+  where
+    add : (n a b : ℕ) → b ≡ 0 → n ≤ a + b → suc n ≤ a + 1
+    add n a b e h = omega arith
+
+few-after : (l : Bool) (r : List Format) (around : List Around) → FitAll l r around → Few r
+    → Few (formats_after r around)
+few-after l r [] f h = h
+few-after l r (formatted g ∷ around) f h = few-after l (g ∷ r) around f.1 (few-more g r f.0.0 h)
+few-after l r (linked n address title ∷ around) f h = few-after true r around f.1 h
+
+few-open : (r : List Format) → Few r → nat_le most_raised (raised_count r) ≡ false
+few-open r h = at (raised_count r) (is_around r Superscript) (is_around r Subscript) h
+  where
+    at : (n : ℕ) (a b : Bool) → n ≤ one-if a + one-if b → nat_le most_raised n ≡ false
+    at n true true h = grind (arith, nat_tests)
+    at n true false h = grind (arith, nat_tests)
+    at n false true h = grind (arith, nat_tests)
+    at n false false h = grind (arith, nat_tests)
+
+not-barred : (f : Format) (r : List Format) → is_around r f ≡ false → Few r → is_barred r f ≡ false
+not-barred f r e h = either (is_raised f)
+  where
+    either : (b : Bool) → cond b (nat_le most_raised (raised_count r)) (is_around r f) ≡ false
+    either true = few-open r h
+    either false = e
+
 pub format-fits : (f : Format) (c : Context) → FitsIn c → FitsIn (inside_format f c)
 format-fits f c h = either (list_any (is_format f) c.around) refl
   where
     either : (b : Bool) → list_any (is_format f) c.around ≡ b → FitsIn (cond b c (with_around c (formatted f)))
     either true e = h
-    either false e = fit-more false [] c.around (formatted f) h (no-format f [] c.around refl e)
+    either false e =
+        let new : is_around (formats_after [] c.around) f ≡ false = no-format f [] c.around refl e in
+        fit-more false [] c.around (formatted f) h
+        (new, not-barred f (formats_after [] c.around) new (few-after false [] c.around h (omega arith)))
 
 format-bound : (f : Format) (c : Context) → bound (inside_format f c) ≡ bound c
 format-bound f c = either (list_any (is_format f) c.around)
@@ -157,10 +208,13 @@ box-fine n attributes =
 
 -- ---- blocks
 
-heading-fine : (n level : ℕ) (xs : Inlines) → is_level level ≡ true → is_normal_line xs ≡ true
+heading-fine : (n level : ℕ) (xs : Inlines) → is_level level ≡ true → IsBareLine xs
     → FineParts n (heading_of level xs)
 heading-fine n level no_inlines e h = tt
-heading-fine n level (inline x xs) e h = ((and-true (and-true e refl) h, omega arith), tt)
+heading-fine n level (inline x xs) e h =
+    let line = and-true (and-true e refl) h.0 in
+    let anchors = bare-first (inline x xs) h.1 in
+    ((and-true (and-true line (bare-well (inline x xs) h.1)) anchors, omega arith), tt)
 
 heading-parts-fine : (level : ℕ) (nodes : List Node) → is_level level ≡ true → FineNodes nodes
     → Gives (heading_parts level nodes)
@@ -261,7 +315,8 @@ module _ (id : ℕ) (attributes : List AttributePair) (children : NumberedForest
         heading_5 = heading-parts-fine 5 nodes refl all c f;
         heading_6 = heading-parts-fine 6 nodes refl all c f;
         block = blocks;
-        format = formats;
+        format = λ g. formats (of_format g);
+        element = λ e. formats (of_element e);
         code = flow-fine nodes all (in_code c) f;
         anchor = links;
         quotation = between-fine (quotation_mark ∷ []) nodes all wrapper-run c f;

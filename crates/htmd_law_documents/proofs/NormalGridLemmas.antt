@@ -1,28 +1,31 @@
 -- Tables of normal documents.
 use Rattle.std.proofs.Common.{◌≡◌, ℕ, zero, suc, ◌+◌, ◌-◌, ◌≤◌, Bool, true, false, cond, ◌&&◌, ◌||◌, List, [], ◌∷◌}
-use Rattle.std.proofs.Common.{◌++◌}
-use Rattle.std.proofs.Common.{map, filter, refl, sym, ap, ◌∙◌, arith, subst, length, fold, max, min, take, replicate}
+use Rattle.std.proofs.Common.{◌++◌, not, ◌⊎◌, inl, inr}
+use Rattle.std.proofs.Common.{map, filter, refl, sym, ap, ◌∙◌, arith, length, fold, max, min, take, replicate}
 use Rattle.std.proofs.Common.{Option, Some, None}
-use Rattle.std.specs.Prelude.{◌==◌}
+use Rattle.std.specs.Prelude.{◌==◌, nat_le, nat_lt}
 use Rattle.std.specs.List.{list_any, list_all}
 use Rattle.std.proofs.lemmas.Bool.Decides.{nat_tests}
-use Rattle.std.proofs.lemmas.List.{length-append, length-replicate, length-take}
+use Rattle.std.proofs.lemmas.List.{append-nil, length-append, length-replicate, length-take}
 use Rattle.htmd_lexical.proofs.Cases.{test}
 use Rattle.htmd_document.specs.declared.document.Alignment.{Alignment}
 use Rattle.htmd_document.specs.declared.document.Alignment.TheVariants as align
-use Rattle.htmd_document.specs.Documents.{Inlines, no_inlines, Block}
+use Rattle.htmd_document.specs.Documents.{Inlines, no_inlines, inline, Block}
 use Rattle.htmd_document_of_tree.specs.Grids.{Cell, Row, filled, filled_all, shapes_of, contents_of, is_too_large, grid}
-use Rattle.htmd_document_of_tree.specs.Grids.{is_filled_row, width, padded, body, aligned, table_of, table_if_filled}
-use Rattle.htmd_document.specs.NormalInlines.{is_normal_line}
-use Rattle.htmd_document.specs.NormalDocuments.{has_cell, is_normal_row, is_normal_table}
-use Rattle.htmd_law_documents.proofs.VisibleLemmas.{both-true}
+use Rattle.htmd_document_of_tree.specs.Grids.{is_empty_cell, trimmed, width, padded, aligned, table_of}
+use Rattle.htmd_document_of_tree.specs.Grids.{table_if_filled}
+use Rattle.htmd_document.specs.NormalInlines.{is_normal_line, anchors_stand_well}
+use Rattle.htmd_document.specs.NormalDocuments.{has_cell, ends_filled, are_normal_cells, is_normal_row}
+use Rattle.htmd_document.specs.NormalDocuments.{has_right_length, is_normal_table}
+use Rattle.htmd_law_documents.proofs.BareLemmas.{IsBareLine, bare-well}
 use Rattle.htmd_law_documents.proofs.NormalTextLemmas.{and-true, false-true}
 use Rattle.htmd_law_documents.proofs.NormalBlockLemmas.{Fine}
 
 -- ---- cells
 
 abbrev pub AreLines : List Inlines → Type 0
-AreLines cells = list_all is_normal_line cells ≡ true
+AreLines [] = Unit {0}
+AreLines (cell ∷ cells) = IsBareLine cell × AreLines cells
 
 abbrev pub AllLines : List (List Inlines) → Type 0
 AllLines [] = Unit {0}
@@ -30,17 +33,20 @@ AllLines (row ∷ rows) = AreLines row × AllLines rows
 
 abbrev pub FineCells : List Cell → Type 0
 FineCells [] = Unit {0}
-FineCells (c ∷ cells) = (is_normal_line c.content ≡ true) × FineCells cells
+FineCells (c ∷ cells) = IsBareLine c.content × FineCells cells
 
 abbrev pub FineRows : List Row → Type 0
 FineRows [] = Unit {0}
 FineRows (row ∷ rows) = FineCells row.cells × FineRows rows
 
+empty-line : IsBareLine no_inlines
+empty-line = (refl, refl)
+
 filled-lines : (begins : List Bool) (cells : List Cell) → FineCells cells → AreLines (filled begins cells)
-filled-lines [] cells h = refl
-filled-lines (true ∷ begins) (c ∷ cells) h = and-true h.0 (filled-lines begins cells h.1)
-filled-lines (true ∷ begins) [] h = filled-lines begins [] h
-filled-lines (false ∷ begins) cells h = filled-lines begins cells h
+filled-lines [] cells h = tt
+filled-lines (true ∷ begins) (c ∷ cells) h = (h.0, filled-lines begins cells h.1)
+filled-lines (true ∷ begins) [] h = (empty-line, filled-lines begins [] h)
+filled-lines (false ∷ begins) cells h = (empty-line, filled-lines begins cells h)
 
 all-filled : (shapes : List (List Bool)) (rows : List Row) → FineRows rows → AllLines (filled_all shapes rows)
 all-filled [] rows h = tt
@@ -48,8 +54,8 @@ all-filled (begins ∷ shapes) [] h = tt
 all-filled (begins ∷ shapes) (row ∷ rows) h = (filled-lines begins row.cells h.0, all-filled shapes rows h.1)
 
 contents-lines : (cells : List Cell) → FineCells cells → AreLines (map (λ (c : Cell). c.content) cells)
-contents-lines [] h = refl
-contents-lines (c ∷ cells) h = and-true h.0 (contents-lines cells h.1)
+contents-lines [] h = tt
+contents-lines (c ∷ cells) h = (h.0, contents-lines cells h.1)
 
 all-contents : (rows : List Row) → FineRows rows → AllLines (map contents_of rows)
 all-contents [] h = tt
@@ -62,10 +68,47 @@ grid-lines rows h = either (is_too_large rows)
     either true = all-contents rows h
     either false = all-filled (shapes_of rows) rows h
 
+lines-normal : (cells : List Inlines) → AreLines cells → are_normal_cells cells ≡ true
+lines-normal cells h = and-true (normal cells h) (well cells h)
+  where
+    normal : (cells : List Inlines) → AreLines cells → list_all is_normal_line cells ≡ true
+    normal [] h = refl
+    normal (cell ∷ cells) h = and-true h.0.0 (normal cells h.1)
+
+    well : (cells : List Inlines) → AreLines cells → list_all anchors_stand_well cells ≡ true
+    well [] h = refl
+    well (cell ∷ cells) h = and-true (bare-well cell h.0.1) (well cells h.1)
+
+-- ---- rows without the empty cells at their ends
+
+-- the last cell isn't empty
+record IsTrimmed (cells : List Inlines) : Type 0 where
+  lines : AreLines cells
+  ends : has_cell cells ≡ true → ends_filled cells ≡ true
+
+abbrev AllTrimmed : List (List Inlines) → Type 0
+AllTrimmed [] = Unit {0}
+AllTrimmed (row ∷ rows) = IsTrimmed row × AllTrimmed rows
+
+trimmed-row : (cells : List Inlines) → AreLines cells → IsTrimmed (trimmed cells)
+trimmed-row [] h = record { lines = tt; ends = λ e. false-true e }
+trimmed-row (cell ∷ cells) h = at cell (trimmed cells) h.0 (trimmed-row cells h.1)
+  where
+    at : (cell : Inlines) (rest : List Inlines) → IsBareLine cell → IsTrimmed rest
+        → IsTrimmed (cond (is_empty_cell cell && not (has_cell rest)) [] (cell ∷ rest))
+    at no_inlines [] l t = record { lines = tt; ends = λ e. false-true e }
+    at (inline x xs) [] l t = record { lines = (l, tt); ends = λ e. refl }
+    at no_inlines (next ∷ rest) l t = record { lines = (l, t.lines); ends = λ e. t.ends refl }
+    at (inline x xs) (next ∷ rest) l t = record { lines = (l, t.lines); ends = λ e. t.ends refl }
+
+all-trimmed : (rows : List (List Inlines)) → AllLines rows → AllTrimmed (map trimmed rows)
+all-trimmed [] h = tt
+all-trimmed (row ∷ rows) h = (trimmed-row row h.0, all-trimmed rows h.1)
+
 -- ---- as many columns as the longest row has
 
 -- no row is longer
-abbrev AreWithin : ℕ → List (List Inlines) → Type 0
+abbrev pub AreWithin : ℕ → List (List Inlines) → Type 0
 AreWithin n [] = Unit {0}
 AreWithin n (row ∷ rows) = (length row ≤ n) × AreWithin n rows
 
@@ -80,7 +123,7 @@ wider-least (row ∷ rows) n = more n (length row) (wider (max n (length row)) r
     more : (n k w : ℕ) → max n k ≤ w → n ≤ w
     more n k w h = omega arith
 
-wider-within : (rows : List (List Inlines)) (n : ℕ) → AreWithin (wider n rows) rows
+pub wider-within : (rows : List (List Inlines)) (n : ℕ) → AreWithin (wider n rows) rows
 wider-within [] n = tt
 wider-within (row ∷ rows) n = (
   more n (length row) (wider (max n (length row)) rows) (wider-least rows (max n (length row))),
@@ -90,30 +133,43 @@ wider-within (row ∷ rows) n = (
     more : (n k w : ℕ) → max n k ≤ w → k ≤ w
     more n k w h = omega arith
 
--- a row in which something shows has a cell
-filled-some : (cells : List Inlines) → is_filled_row cells ≡ true → 1 ≤ length cells
-filled-some [] e = false-true e
-filled-some (x ∷ cells) e = omega arith
+later : (a : Bool) {b : Bool} → b ≡ true → (a || b) ≡ true
+later true h = refl
+later false h = h
 
-some-column : (rows : List (List Inlines)) (n : ℕ) → list_any is_filled_row rows ≡ true → 1 ≤ wider n rows
-some-column [] n e = false-true e
-some-column (row ∷ rows) n e = test (is_filled_row row)
-    (λ f. more n (length row) (wider (max n (length row)) rows) (filled-some row f)
-    (wider-least rows (max n (length row))))
-    (λ f. some-column rows (max n (length row)) (sym (ap (λ b. b || list_any is_filled_row rows) f) ∙ e))
+equal : (m n : ℕ) → m ≡ n → (m == n) ≡ true
+equal m n e = grind (arith, nat_tests)
+
+-- and one is as long
+abbrev IsReached : ℕ → List (List Inlines) → Type 0
+IsReached n rows = list_any (λ row. length row == n) rows ≡ true
+
+wider-reached : (rows : List (List Inlines)) (n : ℕ) → (wider n rows ≡ n) ⊎ IsReached (wider n rows) rows
+wider-reached [] n = inl refl
+wider-reached (row ∷ rows) n = first (wider-reached rows (max n (length row))) (more n (length row))
   where
-    more : (n k w : ℕ) → 1 ≤ k → max n k ≤ w → 1 ≤ w
-    more n k w g h = omega arith
+    more : (n k : ℕ) → (max n k ≡ n) ⊎ (max n k ≡ k)
+    more n k = test (nat_le n k) (λ e. inr (grind (arith, nat_tests))) (λ e. inl (grind (arith, nat_tests)))
+
+    first : (wider (max n (length row)) rows ≡ max n (length row))
+        ⊎ IsReached (wider (max n (length row)) rows) rows
+        → (max n (length row) ≡ n) ⊎ (max n (length row) ≡ length row)
+        → (wider n (row ∷ rows) ≡ n) ⊎ IsReached (wider n (row ∷ rows)) (row ∷ rows)
+    first (inr h) e = inr (later (length row == wider (max n (length row)) rows) h)
+    first (inl h) (inl e) = inl (h ∙ e)
+    first (inl h) (inr e) =
+        inr (ap (λ b. b || list_any (λ r. length r == wider (max n (length row)) rows) rows)
+        (equal (length row) (wider (max n (length row)) rows) (sym (h ∙ e))))
+
+-- ---- the table
 
 lines-append : (xs ys : List Inlines) → AreLines xs → AreLines ys → AreLines (xs ++ ys)
 lines-append [] ys g h = h
-lines-append (x ∷ xs) ys g h =
-    let parts = both-true (is_normal_line x) (list_all is_normal_line xs) g in
-    and-true parts.0 (lines-append xs ys parts.1 h)
+lines-append (x ∷ xs) ys g h = (g.0, lines-append xs ys g.1 h)
 
 empty-lines : (n : ℕ) → AreLines (replicate n no_inlines)
-empty-lines zero = refl
-empty-lines (suc n) = empty-lines n
+empty-lines zero = tt
+empty-lines (suc n) = (empty-line, empty-lines n)
 
 padded-length : (n : ℕ) (cells : List Inlines) → length cells ≤ n → length (padded n cells) ≡ n
 padded-length n cells l = whole (length (padded n cells)) (length cells) n
@@ -123,25 +179,41 @@ padded-length n cells l = whole (length (padded n cells)) (length cells) n
     whole : (w k n : ℕ) → w ≡ k + (n - k) → k ≤ n → w ≡ n
     whole w k n e l = omega arith
 
-equal : (m n : ℕ) → m ≡ n → (m == n) ≡ true
-equal m n e = grind (arith, nat_tests)
+-- a row that is as long as the longest is the header as it stands
+padded-whole : (n : ℕ) (cells : List Inlines) → length cells ≡ n → padded n cells ≡ cells
+padded-whole n cells e =
+    ap (λ k. cells ++ replicate k no_inlines) (none (length cells) n e) ∙ append-nil cells
+  where
+    none : (k n : ℕ) → k ≡ n → n - k ≡ 0
+    none k n e = omega arith
 
-padded-row : (n : ℕ) (cells : List Inlines) → length cells ≤ n → AreLines cells
-    → is_normal_row n (padded n cells) ≡ true
-padded-row n cells l h =
-    and-true (equal (length (padded n cells)) n (padded-length n cells l))
-    (lines-append cells (replicate (n - length cells) no_inlines) h (empty-lines (n - length cells)))
-
-body-rows : (n : ℕ) (rows : List (List Inlines)) → AreWithin n rows → AllLines rows
-    → list_all (is_normal_row n) (body n rows) ≡ true
+body-rows : (n : ℕ) (rows : List (List Inlines)) → AreWithin n rows → AllTrimmed rows
+    → list_all (is_normal_row n) (filter has_cell rows) ≡ true
 body-rows n [] w h = refl
-body-rows n (row ∷ rows) w h = test (is_filled_row row)
-    (λ e. subst (λ (b : Bool). list_all (is_normal_row n)
-    (map (padded n) (cond b (row ∷ filter is_filled_row rows) (filter is_filled_row rows))) ≡ true) (sym e)
-    (and-true (padded-row n row w.0 h.0) (body-rows n rows w.1 h.1)))
-    (λ e. subst (λ (b : Bool). list_all (is_normal_row n)
-    (map (padded n) (cond b (row ∷ filter is_filled_row rows) (filter is_filled_row rows))) ≡ true) (sym e)
-    (body-rows n rows w.1 h.1))
+body-rows n ([] ∷ rows) w h = body-rows n rows w.1 h.1
+body-rows n ((cell ∷ cells) ∷ rows) w h =
+    and-true (and-true (and-true (within (length (cell ∷ cells)) n w.0) (h.0.ends refl))
+    (lines-normal (cell ∷ cells) h.0.lines))
+    (body-rows n rows w.1 h.1)
+  where
+    within : (k n : ℕ) → k ≤ n → nat_le k n ≡ true
+    within k n l = grind (arith, nat_tests)
+
+-- the longest row stays, as it isn't empty
+reached-stays : (n : ℕ) (rows : List (List Inlines)) → 1 ≤ n → IsReached n rows
+    → IsReached n (filter has_cell rows)
+reached-stays n [] l h = false-true h
+reached-stays n ([] ∷ rows) l h = reached-stays n rows l (sym (ap (λ b. b || longer) (short n l)) ∙ h)
+  where
+    longer : Bool
+    longer = list_any (λ row. length row == n) rows
+
+    short : (n : ℕ) → 1 ≤ n → (0 == n) ≡ false
+    short n l = grind (arith, nat_tests)
+reached-stays n ((cell ∷ cells) ∷ rows) l h = test (length (cell ∷ cells) == n)
+    (λ e. ap (λ b. b || list_any (λ row. length row == n) (filter has_cell rows)) e)
+    (λ e. ap (λ b. b || list_any (λ row. length row == n) (filter has_cell rows)) e
+    ∙ reached-stays n rows l (sym (ap (λ b. b || list_any (λ row. length row == n) rows) e) ∙ h))
 
 aligned-length : (n : ℕ) (alignments : List Alignment) → length (aligned n alignments) ≡ n
 aligned-length n alignments =
@@ -157,16 +229,37 @@ has-some : (cells : List Inlines) → 1 ≤ length cells → has_cell cells ≡ 
 has-some [] l = absurd (omega arith)
 has-some (x ∷ cells) l = refl
 
+-- the header ends with a cell in which something shows, or a row is as long
+abbrev IsAsLong : ℕ → List Inlines → List (List Inlines) → Type 0
+IsAsLong n header rows = (length header ≡ n) ⊎ IsReached n rows
+
+right-length : (n : ℕ) (header : List Inlines) (rows : List (List Inlines)) → 1 ≤ n → length header ≤ n
+    → IsTrimmed header → IsAsLong n header rows
+    → has_right_length (padded n header) (filter has_cell rows) ≡ true
+right-length n header rows l m h (inl e) =
+    ap (λ cells. has_right_length cells (filter has_cell rows)) (padded-whole n header e)
+    ∙ ap (λ b. b || list_any (λ cells. length cells == length header) (filter has_cell rows))
+    (h.ends (has-some header (least n (length header) e l)))
+  where
+    least : (n k : ℕ) → k ≡ n → 1 ≤ n → 1 ≤ k
+    least n k e l = omega arith
+right-length n header rows l m h (inr e) =
+    later (ends_filled (padded n header))
+    (ap (λ k. list_any (λ cells. length cells == k) (filter has_cell rows)) (padded-length n header m)
+    ∙ reached-stays n rows l e)
+
 table-made : (n : ℕ) (alignments : List Alignment) (header : List Inlines) (rows : List (List Inlines)) → 1 ≤ n
-    → length header ≤ n → AreLines header → AreWithin n rows → AllLines rows
-    → is_normal_table (aligned n alignments) (padded n header) (body n rows) ≡ true
-table-made n alignments header rows l m h w a =
+    → length header ≤ n → IsTrimmed header → AreWithin n rows → AllTrimmed rows → IsAsLong n header rows
+    → is_normal_table (aligned n alignments) (padded n header) (filter has_cell rows) ≡ true
+table-made n alignments header rows l m h w a r =
     let columns : length (padded n header) ≡ n = padded-length n header m in
-    subst (λ (k : ℕ). (has_cell (padded n header) && (length (aligned n alignments) == k)
-    && is_normal_row k (padded n header) && list_all (is_normal_row k) (body n rows)) ≡ true) (sym columns)
-    (and-true (and-true (and-true (has-some (padded n header) (least n (length (padded n header)) columns l))
-    (equal (length (aligned n alignments)) n (aligned-length n alignments)))
-    (padded-row n header m h)) (body-rows n rows w a))
+    let lines : AreLines (padded n header) =
+    lines-append header (replicate (n - length header) no_inlines) h.lines (empty-lines (n - length header)) in
+    and-true (and-true (and-true (and-true (has-some (padded n header) (least n (length (padded n header)) columns l))
+    (equal (length (aligned n alignments)) (length (padded n header)) (aligned-length n alignments ∙ sym columns)))
+    (lines-normal (padded n header) lines))
+    (ap (λ k. list_all (is_normal_row k) (filter has_cell rows)) columns ∙ body-rows n rows w a))
+    (right-length n header rows l m h r)
   where
     least : (n k : ℕ) → k ≡ n → 1 ≤ n → 1 ≤ k
     least n k e l = omega arith
@@ -176,19 +269,52 @@ abbrev pub FineOption : ℕ → Option Block → Type 0
 FineOption n None = Unit {0}
 FineOption n (Some b) = Fine n false b
 
-table-of : (n : ℕ) (alignments : List Alignment) (has_header : Bool) (rows : List (List Inlines)) → AllLines rows
+-- the width is that of the first row, or of a later one
+first-or-later : (n : ℕ) (first : List Inlines) (rest : List (List Inlines)) → IsReached n (first ∷ rest)
+    → IsAsLong n first rest
+first-or-later n first rest h = test (length first == n)
+    (λ e. inl (same (length first) n e))
+    (λ e. inr (sym (ap (λ b. b || list_any (λ row. length row == n) rest) e) ∙ h))
+  where
+    same : (m n : ℕ) → (m == n) ≡ true → m ≡ n
+    same m n e = grind (arith, nat_tests)
+
+width-reached : (rows : List (List Inlines)) → 1 ≤ width rows → IsReached (width rows) rows
+width-reached rows l = at (wider-reached rows 0)
+  where
+    none : (k : ℕ) → k ≡ 0 → 1 ≤ k → ⊥
+    none k e l = omega arith
+
+    at : (wider 0 rows ≡ 0) ⊎ IsReached (width rows) rows → IsReached (width rows) rows
+    at (inl e) = absurd (none (width rows) e l)
+    at (inr h) = h
+
+table-of : (n : ℕ) (alignments : List Alignment) (has_header : Bool) (rows : List (List Inlines)) → AllTrimmed rows
     → 1 ≤ width rows → FineOption n (table_of alignments has_header rows)
 table-of n alignments has_header [] h l = tt
 table-of n alignments true (first ∷ rest) h l =
     let within : AreWithin (width (first ∷ rest)) (first ∷ rest) = wider-within (first ∷ rest) 0 in
-    (table-made (width (first ∷ rest)) alignments first rest l within.0 h.0 within.1 h.1, omega arith)
+    let long = first-or-later (width (first ∷ rest)) first rest (width-reached (first ∷ rest) l) in
+    (table-made (width (first ∷ rest)) alignments first rest l within.0 h.0 within.1 h.1 long, omega arith)
 table-of n alignments false (first ∷ rest) h l =
     let within : AreWithin (width (first ∷ rest)) (first ∷ rest) = wider-within (first ∷ rest) 0 in
-    (table-made (width (first ∷ rest)) alignments [] (first ∷ rest) l (omega arith) refl within h, omega arith)
+    let none : IsTrimmed [] = record { lines = tt; ends = λ e. false-true e } in (
+      table-made (width (first ∷ rest)) alignments [] (first ∷ rest) l (omega arith) none within h
+          (inr (width-reached (first ∷ rest) l)),
+      omega arith,
+    )
 
 pub table-fine : (n : ℕ) (alignments : List Alignment) (has_header : Bool) (rows : List Row) → FineRows rows
     → FineOption n (table_if_filled alignments has_header (grid rows))
-table-fine n alignments has_header rows h = test (list_any is_filled_row (grid rows))
-    (λ e. subst (λ (b : Bool). FineOption n (cond b (table_of alignments has_header (grid rows)) None)) (sym e)
-    (table-of n alignments has_header (grid rows) (grid-lines rows h) (some-column (grid rows) 0 e)))
-    (λ e. subst (λ (b : Bool). FineOption n (cond b (table_of alignments has_header (grid rows)) None)) (sym e) tt)
+table-fine n alignments has_header rows h =
+    let lines : List (List Inlines) = map trimmed (grid rows) in
+    either (nat_lt 0 (width lines)) (λ e. table-of n alignments has_header lines
+    (all-trimmed (grid rows) (grid-lines rows h)) (some (width lines) e))
+  where
+    some : (k : ℕ) → nat_lt 0 k ≡ true → 1 ≤ k
+    some k e = grind (arith, nat_tests)
+
+    either : (b : Bool) → (b ≡ true → FineOption n (table_of alignments has_header (map trimmed (grid rows))))
+        → FineOption n (cond b (table_of alignments has_header (map trimmed (grid rows))) None)
+    either true f = f refl
+    either false f = tt

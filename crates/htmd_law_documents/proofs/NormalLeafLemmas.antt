@@ -3,8 +3,9 @@ use Rattle.std.proofs.Common.{◌≡◌, ℕ, Bool, true, false, not, ◌&&◌, 
 use Rattle.std.proofs.Common.{map, refl, sym, ap, ◌∙◌, Option, Some, None}
 use Rattle.htmd_lexical.specs.Characters.{space}
 use Rattle.htmd_lexical.specs.CharacterClasses.{first_is}
-use Rattle.htmd_document.specs.declared.document.Format.{Format}
+use Rattle.htmd_document.specs.Formats.{Format}
 use Rattle.htmd_document.specs.Documents.{Inline, text, code, image, line_break, task, link, Inlines, no_inlines}
+use Rattle.htmd_document.specs.Documents.{anchor}
 use Rattle.htmd_document.specs.Documents.{inline}
 use Rattle.htmd_document.specs.Documents as value
 use Rattle.htmd_document_of_tree.specs.Nesting.{Wrapper, wrapper_of, wrapped_by, wrapped, one_inline, is_apart, met}
@@ -52,6 +53,7 @@ pub leaf-begins : (k : Bool) (y : Inline) → IsLeaf k y → begins_with_space y
 leaf-begins k (text s) h = h.1.begins
 leaf-begins k (code s) h = refl
 leaf-begins k (image address title description) h = refl
+leaf-begins k (anchor i) h = refl
 leaf-begins k (value.formatted f xs) h = absurd h
 leaf-begins k (link address title xs) h = absurd h
 leaf-begins k line_break h = absurd h
@@ -76,6 +78,7 @@ leaf-last k (image address title description) h = record {
   no_space = refl;
   kind = sym h.0;
 }
+leaf-last k (anchor i) h = absurd h
 leaf-last k (value.formatted f xs) h = absurd h
 leaf-last k (link address title xs) h = absurd h
 leaf-last k line_break h = absurd h
@@ -124,6 +127,8 @@ module _ (l : Bool) (r : List Format) (xs : Inlines) where
   )
   text-after (image a ti d) e n t h p q =
       (t, beside (image a ti d) (text t) e n refl (may-meet (image a ti d) (text t) refl refl refl), h, refl)
+  text-after (anchor i) e n t h p q =
+      (t, beside (anchor i) (text t) e n refl (may-meet (anchor i) (text t) refl refl refl), h, refl)
   text-after (value.formatted f ys) e n t h p q = (
     t,
     beside (value.formatted f ys) (text t) e n refl (may-meet (value.formatted f ys) (text t) refl refl refl),
@@ -159,6 +164,11 @@ module _ (l : Bool) (r : List Format) (xs : Inlines) where
   code-after (image a ti d) e n t h p q = (
     t,
     beside (image a ti d) (code t) e n refl (may-meet (image a ti d) (code t) refl refl refl),
+    record { text = h; begins = q refl; ends = p },
+  )
+  code-after (anchor i) e n t h p q = (
+    t,
+    beside (anchor i) (code t) e n refl (may-meet (anchor i) (code t) refl refl refl),
     record { text = h; begins = q refl; ends = p },
   )
   code-after (value.formatted f ys) e n t h p q = (
@@ -200,6 +210,7 @@ break-no_clash : (x : Inline) → is_break x ≡ false → is_clash x line_break
 break-no_clash (text s) e = refl
 break-no_clash (code s) e = refl
 break-no_clash (image a t d) e = refl
+break-no_clash (anchor i) e = refl
 break-no_clash (value.formatted f xs) e = refl
 break-no_clash (link a t xs) e = refl
 break-no_clash line_break e = true-false e
@@ -267,6 +278,7 @@ leaf-after k l r xs x (code t) e n h =
     (code after.0, after.1, leaf-last k (code after.0) (h.0, after.2))
 leaf-after k l r xs x (image a t d) e n h =
     (image a t d, apart-after l r xs x (image a t d) e n refl (before-image x a t d), leaf-last k (image a t d) h)
+leaf-after k l r xs x (anchor i) e n h = absurd h
 leaf-after k l r xs x (value.formatted f ys) e n h = absurd h
 leaf-after k l r xs x (link a t ys) e n h = absurd h
 leaf-after k l r xs x line_break e n h = absurd h
@@ -340,6 +352,7 @@ gap-put k h l r ms xs around (Some (code s)) y held f g leaf d = absurd g
 gap-put k h l r ms xs around (Some (value.formatted f' ys)) y held f g leaf d = absurd g
 gap-put k h l r ms xs around (Some (link a t ys)) y held f g leaf d = absurd g
 gap-put k h l r ms xs around (Some (image a t e)) y held f g leaf d = absurd g
+gap-put k h l r ms xs around (Some (anchor i)) y held f g leaf d = absurd g
 gap-put k h l r ms xs around (Some (task b)) y held f g leaf d = absurd g
 
 -- white space between two codes with the same around them is code

@@ -2,8 +2,9 @@
 use Rattle.std.proofs.Common.{◌≡◌, ℕ, Bool, true, false, not, ◌&&◌, List, [], ◌∷◌, ◌++◌}
 use Rattle.std.proofs.Common.{refl, sym, ap, ◌∙◌, subst}
 use Rattle.htmd_lexical.specs.CharacterClasses.{is_empty}
-use Rattle.htmd_document.specs.declared.document.Format.{Format}
+use Rattle.htmd_document.specs.Formats.{Format}
 use Rattle.htmd_document.specs.Documents.{Inline, text, code, image, line_break, task, link, Inlines, no_inlines}
+use Rattle.htmd_document.specs.Documents.{anchor}
 use Rattle.htmd_document.specs.Documents.{inline}
 use Rattle.htmd_document.specs.Documents as value
 use Rattle.htmd_document_of_tree.specs.Nesting.{Wrapper, of_format, of_link, wrapper_of, is_same, shared, wrapped_by}
@@ -15,7 +16,8 @@ use Rattle.htmd_document_of_tree.specs.Parts.{Around, formatted, linked}
 use Rattle.htmd_document.specs.NormalInlines.{is_attribute, is_title}
 use Rattle.htmd_document.specs.NormalInlines.{sort, is_same_sort, is_code, is_break}
 use Rattle.htmd_document.specs.NormalInlines.{begins_with_space, ends_with_space, may_meet, has_none}
-use Rattle.htmd_document.specs.NormalInlines.{first_passes, last_passes, is_around, is_normal, are_normal}
+use Rattle.htmd_document.specs.NormalInlines.{first_passes, last_passes, is_around, is_barred, is_normal}
+use Rattle.htmd_document.specs.NormalInlines.{are_normal}
 use Rattle.htmd_law_documents.proofs.VisibleLemmas.{both-true}
 use Rattle.htmd_law_documents.proofs.NormalTextLemmas.{and-true, not-false, false-true}
 use Rattle.htmd_law_documents.proofs.NormalTextLemmas.{first-append}
@@ -142,7 +144,7 @@ formats_in r (of_link node) = r
 
 -- a format that isn't there yet, or a link where none is
 abbrev pub Fits : Bool → List Format → Around → Type 0
-Fits l r (formatted f) = is_around r f ≡ false
+Fits l r (formatted f) = (is_around r f ≡ false) × (is_barred r f ≡ false)
 Fits l r (linked node address title) = (l ≡ false) × (is_attribute address ≡ true) × (is_title title ≡ true)
 
 abbrev pub FitAll : Bool → List Format → List Around → Type 0
@@ -158,7 +160,7 @@ pub wrapped-normal : (l : Bool) (r : List Format) (a : Around) (content : Inline
 wrapped-normal l r (formatted f) content g n b c e d h =
     let trimmed = and-true (not-false b) (not-false e) in
     let whole = and-true (and-true trimmed (not-false c)) (not-false d) in
-    and-true (and-true (and-true (not-false g) (not-false n)) whole) h
+    and-true (and-true (and-true (not-false g.1) (not-false n)) whole) h
 wrapped-normal l r (linked node address title) content g n b c e d h =
     and-true (and-true (and-true (and-true (not-false g.0) g.1) g.2) (not-false n)) h
 
@@ -190,6 +192,7 @@ abbrev pub is_leaf : Inline → Bool
 is_leaf (text s) = true
 is_leaf (code s) = true
 is_leaf (image address title description) = true
+is_leaf (anchor i) = true
 is_leaf _ = false
 
 -- the last leaf
@@ -211,6 +214,7 @@ pub leaf-no_break : (x : Inline) → is_leaf x ≡ true → is_break x ≡ false
 leaf-no_break (text s) e = refl
 leaf-no_break (code s) e = refl
 leaf-no_break (image address title description) e = refl
+leaf-no_break (anchor i) e = refl
 leaf-no_break (value.formatted f xs) e = refl
 leaf-no_break (link address title xs) e = refl
 leaf-no_break line_break e = false-true e
@@ -223,7 +227,9 @@ leaf-no_clash (text s) (linked n address title) xs e = refl
 leaf-no_clash (code s) (formatted f) xs e = refl
 leaf-no_clash (code s) (linked n address title) xs e = refl
 leaf-no_clash (image address title description) (formatted f) xs e = refl
+leaf-no_clash (anchor i) (formatted f) xs e = refl
 leaf-no_clash (image address title description) (linked n address' title') xs e = refl
+leaf-no_clash (anchor i) (linked n address' title') xs e = refl
 leaf-no_clash (value.formatted f ys) a xs e = false-true e
 leaf-no_clash (link address title ys) a xs e = false-true e
 leaf-no_clash line_break a xs e = false-true e

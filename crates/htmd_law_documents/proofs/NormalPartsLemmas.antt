@@ -8,8 +8,9 @@ use Rattle.htmd_document.specs.Documents.{image}
 use Rattle.htmd_document_of_tree.specs.Flows.{blocks_of, line_of}
 use Rattle.htmd_document_of_tree.specs.Paragraphs.{Writing, begun, ended_by, broken_off, ended, parted, fed, fed_all}
 use Rattle.htmd_document_of_tree.specs.Parts.{Part, run, picture, break, box, edge, whole}
-use Rattle.htmd_document.specs.NormalInlines.{is_attribute, is_title, is_line, is_normal_line}
+use Rattle.htmd_document.specs.NormalInlines.{is_attribute, is_title, is_line}
 use Rattle.htmd_law_documents.proofs.NormalLineLemmas.{FitAll}
+use Rattle.htmd_law_documents.proofs.BareLemmas.{IsBareLine}
 use Rattle.htmd_law_documents.proofs.NormalBlockLemmas.{Fine, FineBlocks}
 use Rattle.htmd_law_documents.proofs.NormalWritingLemmas.{IsNormalWriting, nothing-normal, ended_by-normal}
 use Rattle.htmd_law_documents.proofs.NormalWritingLemmas.{ended-normal}
@@ -89,7 +90,7 @@ blocks-of n in_item ps f =
     blocks-normal n in_item (fed_all (begun in_item false) ps)
     (parts-fed n in_item ps (begun in_item false) f (nothing-normal n in_item false))
 
-pub line-of : (n : ℕ) (ps : List Part) → FineParts n ps → is_normal_line (line_of ps) ≡ true
+pub line-of : (n : ℕ) (ps : List Part) → FineParts n ps → IsBareLine (line_of ps)
 line-of n ps f =
     line-in-normal n (fed_all (begun false true) ps)
     (parts-fed n false ps (begun false true) f (nothing-normal n false true))

@@ -3,8 +3,9 @@ use Rattle.std.proofs.Common.{◌≡◌, ℕ, zero, suc, Bool, true, false, not,
 use Rattle.std.proofs.Common.{map, take, refl, sym, ap, ◌∙◌, subst, Option, Some, None}
 use Rattle.htmd_lexical.specs.CharacterClasses.{is_empty}
 use Rattle.htmd_lexical.proofs.Cases.{test}
-use Rattle.htmd_document.specs.declared.document.Format.{Format}
+use Rattle.htmd_document.specs.Formats.{Format}
 use Rattle.htmd_document.specs.Documents.{Inline, text, code, image, line_break, task, link, Inlines, no_inlines}
+use Rattle.htmd_document.specs.Documents.{anchor}
 use Rattle.htmd_document.specs.Documents.{inline}
 use Rattle.htmd_document.specs.Documents as value
 use Rattle.htmd_document_of_tree.specs.Nesting.{Wrapper, wrapper_of, is_same, shared, wrapped_by, wrapped, one_inline}
@@ -47,6 +48,7 @@ like : (x : Inline) (xs ys : Inlines) → is_begun (inline x xs) ≡ true → Be
 like (text s) xs ys h = record { begun = h; space = refl; break = refl }
 like (code s) xs ys h = record { begun = refl; space = refl; break = refl }
 like (image a t d) xs ys h = record { begun = refl; space = refl; break = refl }
+like (anchor i) xs ys h = record { begun = refl; space = refl; break = refl }
 like (value.formatted f zs) xs ys h = record { begun = refl; space = refl; break = refl }
 like (link a t zs) xs ys h = record { begun = refl; space = refl; break = refl }
 like line_break xs ys h = record { begun = refl; space = refl; break = refl }
@@ -60,6 +62,7 @@ met-begins (text s) (text t) h = record {
 }
 met-begins (text s) (code t) h = record { begun = h; space = refl; break = refl }
 met-begins (text s) (image a t d) h = record { begun = h; space = refl; break = refl }
+met-begins (text s) (anchor i) h = record { begun = h; space = refl; break = refl }
 met-begins (text s) (value.formatted f xs) h = record { begun = h; space = refl; break = refl }
 met-begins (text s) (link a t xs) h = record { begun = h; space = refl; break = refl }
 met-begins (text s) line_break h = record { begun = h; space = refl; break = refl }
@@ -67,11 +70,13 @@ met-begins (text s) (task b) h = record { begun = h; space = refl; break = refl 
 met-begins (code s) (text t) h = record { begun = refl; space = refl; break = refl }
 met-begins (code s) (code t) h = record { begun = refl; space = refl; break = refl }
 met-begins (code s) (image a t d) h = record { begun = refl; space = refl; break = refl }
+met-begins (code s) (anchor i) h = record { begun = refl; space = refl; break = refl }
 met-begins (code s) (value.formatted f xs) h = record { begun = refl; space = refl; break = refl }
 met-begins (code s) (link a t xs) h = record { begun = refl; space = refl; break = refl }
 met-begins (code s) line_break h = record { begun = refl; space = refl; break = refl }
 met-begins (code s) (task b) h = record { begun = refl; space = refl; break = refl }
 met-begins (image a t d) y h = record { begun = refl; space = refl; break = refl }
+met-begins (anchor i) y h = record { begun = refl; space = refl; break = refl }
 met-begins (value.formatted f xs) y h = record { begun = refl; space = refl; break = refl }
 met-begins (link a t xs) y h = record { begun = refl; space = refl; break = refl }
 met-begins line_break y h = record { begun = refl; space = refl; break = refl }
@@ -87,6 +92,7 @@ changed-begins : (change : Inlines → Inlines) (x : Inline) → is_begun (one_i
 changed-begins change (text s) h = record { begun = h; space = refl; break = refl }
 changed-begins change (code s) h = record { begun = refl; space = refl; break = refl }
 changed-begins change (image a t d) h = record { begun = refl; space = refl; break = refl }
+changed-begins change (anchor i) h = record { begun = refl; space = refl; break = refl }
 changed-begins change (value.formatted f xs) h = record { begun = refl; space = refl; break = refl }
 changed-begins change (link a t xs) h = record { begun = refl; space = refl; break = refl }
 changed-begins change line_break h = record { begun = refl; space = refl; break = refl }
@@ -112,6 +118,7 @@ normal-begun l r (inline (text s) xs) h e =
     not-false (from-text s (both-true (is_text s) (meets (text s) xs) parts.0).0).some
 normal-begun l r (inline (code s) xs) h e = refl
 normal-begun l r (inline (image a t d) xs) h e = refl
+normal-begun l r (inline (anchor i) xs) h e = refl
 normal-begun l r (inline (value.formatted f ys) xs) h e = refl
 normal-begun l r (inline (link a t ys) xs) h e = refl
 normal-begun l r (inline line_break xs) h e = refl

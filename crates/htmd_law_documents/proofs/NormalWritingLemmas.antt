@@ -8,6 +8,7 @@ use Rattle.std.proofs.lemmas.Bool.Decides.{nat_tests}
 use Rattle.htmd_lexical.specs.Characters.{null}
 use Rattle.htmd_lexical.proofs.Cases.{test}
 use Rattle.htmd_document.specs.Documents.{Inline, text, code, image, line_break, task, link, Inlines, no_inlines}
+use Rattle.htmd_document.specs.Documents.{anchor}
 use Rattle.htmd_document.specs.Documents.{inline}
 use Rattle.htmd_document.specs.Documents.{Block, paragraph, blocks_of}
 use Rattle.htmd_document.specs.Documents as value
@@ -23,12 +24,13 @@ use Rattle.htmd_document_of_tree.specs.Parts.{Around}
 use Rattle.htmd_document_of_tree.specs.Spaces.{no_gap, is_white}
 use Rattle.htmd_document_of_tree.proofs.ParagraphsLemmas.{same-wrapper}
 use Rattle.htmd_document.specs.NormalInlines.{is_text, is_break, begins_with_space, has_none}
-use Rattle.htmd_document.specs.NormalInlines.{first_passes, is_normal_line}
+use Rattle.htmd_document.specs.NormalInlines.{first_passes, is_normal_line, has_anchor, have_anchor}
 use Rattle.htmd_law_documents.proofs.VisibleLemmas.{both-true}
 use Rattle.htmd_law_documents.proofs.NormalTextLemmas.{from-text}
 use Rattle.htmd_law_documents.proofs.NormalTextLemmas.{and-true, not-false, from-not, true-false, false-true}
 use Rattle.htmd_law_documents.proofs.NormalLineLemmas.{FitAll, Held, IsWhole, held-whole}
 use Rattle.htmd_law_documents.proofs.NormalLineLemmas.{leaf-no_break}
+use Rattle.htmd_law_documents.proofs.BareLemmas.{IsBareLine, joined-bare, wrapped-bare, behind-bare}
 use Rattle.htmd_law_documents.proofs.NormalLeafLemmas.{IsLeaf, IsGap, leaf-begins, leaf-last, one-ends}
 use Rattle.htmd_law_documents.proofs.NormalLeafLemmas.{wrapped-first, wrapped-first-break, wrapped-held, put-after}
 use Rattle.htmd_law_documents.proofs.NormalLeafLemmas.{leaf-differs}
@@ -47,6 +49,7 @@ pub record IsLine (k : Bool) (ms : List Wrapper) (xs : Inlines) : Type 0 where
   pub held : Held k false [] ms xs
   pub no_space : first_passes begins_with_space xs ≡ false
   pub no_break : first_passes is_break xs ≡ false
+  pub bare : have_anchor xs ≡ false
 
 -- a task with what stands after it so far
 pub record IsTasked (k : Bool) (ms : List Wrapper) (xs : Inlines) : Type 0 where
@@ -55,6 +58,7 @@ pub record IsTasked (k : Bool) (ms : List Wrapper) (xs : Inlines) : Type 0 where
   pub is : xs ≡ inline (task is_checked) rest
   pub begins : first_passes begins_with_space rest ≡ true
   pub held : Held k false [] ms rest
+  pub bare : have_anchor rest ≡ false
 
 -- an item's first block is begun
 pub record IsFirst (w : Writing) : Type 0 where
@@ -113,11 +117,14 @@ state-kept v w s (in_task k e f h) =
 
 -- a line that is whole
 line-normal : (k : Bool) (ms : List Wrapper) (xs : Inlines) → IsLine k ms xs
-    → (is_normal_line xs ≡ true) × (has_none xs ≡ false)
+    → IsBareLine xs × (has_none xs ≡ false)
 line-normal k ms xs h =
     let w : IsWhole false [] xs = held-whole k false [] ms xs h.held in (
-      and-true (and-true (and-true (and-true (not-false h.no_space) (not-false w.no_space)) (not-false h.no_break))
-          (not-false w.no_break)) w.normal,
+      (
+        and-true (and-true (and-true (and-true (not-false h.no_space) (not-false w.no_space)) (not-false h.no_break))
+            (not-false w.no_break)) w.normal,
+        h.bare,
+      ),
       w.some,
     )
 
@@ -128,6 +135,7 @@ task-whole k ms xs h = record {
   is = h.is;
   begins = h.begins;
   whole = held-whole k false [] ms h.rest h.held;
+  bare = h.bare;
 }
 
 leaf-opens : (n : ℕ) (in_item k : Bool) (xs : Inlines) → IsParagraph in_item xs
@@ -227,6 +235,38 @@ gap-put w around k = at (shared w.around (map wrapper_of around)) (k
     at n c true = refl
     at n c false = white-put n w.content around c w.gap.white
 
+-- ---- neither a leaf nor a gap has an anchor
+
+leaf-bare : (k : Bool) (y : Inline) → IsLeaf k y → has_anchor y ≡ false
+leaf-bare k (text s) h = refl
+leaf-bare k (code s) h = refl
+leaf-bare k (image address title description) h = refl
+leaf-bare k (anchor i) h = absurd h
+leaf-bare k (value.formatted f xs) h = absurd h
+leaf-bare k (link address title xs) h = absurd h
+leaf-bare k line_break h = absurd h
+leaf-bare k (task b) h = absurd h
+
+abbrev IsBareGap : Option Inline → Type 0
+IsBareGap None = Unit {0}
+IsBareGap (Some g) = has_anchor g ≡ false
+
+gap-bare : (w : Writing) (around : List Around) (k : Bool) → IsBareGap (gap_of w around k)
+gap-bare w around k = at w.gap.has_break (k && is_code_gap w (map wrapper_of around)) w.gap.white
+  where
+    at : (b c : Bool) (s : List ℕ) → IsBareGap (cond b (Some line_break) (white_gap c s))
+    at true c s = refl
+    at false c [] = tt
+    at false true (b ∷ s) = refl
+    at false false (b ∷ s) = refl
+
+put-bare : (n : ℕ) (xs : Inlines) (around : List Around) (g : Option Inline) → have_anchor xs ≡ false
+    → IsBareGap g → have_anchor (put n xs around g) ≡ false
+put-bare n xs around None e h = e
+put-bare n xs around (Some g) e h = behind-bare n xs (take n around) g e h
+
+-- ---- codes beside each other
+
 -- all wrappers are shared if as many are
 alike : (ms ns : List Wrapper) → (shared ms ns == length ms) ≡ true → (shared ms ns == length ns) ≡ true
     → AreAlike ms ns
@@ -271,6 +311,7 @@ module _ (w : Writing) (j k : Bool) (around : List Around) (y : Inline) (xs : In
       (subst (λ (b : Bool). Held b false [] w.around xs) e held) fits a i h.1
   as-code s (text t) h e a i = true-false h.0
   as-code s (image p q d) h e a i = true-false h.0
+  as-code s (anchor p) h e a i = absurd h
   as-code s (value.formatted f ys) h e a i = absurd h
   as-code s (link p q ys) h e a i = absurd h
   as-code s line_break h e a i = absurd h
@@ -346,6 +387,7 @@ module _ (n : ℕ) (in_item : Bool) (w : Writing) (h : IsNormalWriting n in_item
     held = wrapped-held k false [] around y fits leaf;
     no_space = wrapped-first around y (leaf-begins k y leaf);
     no_break = wrapped-first-break around y (leaf-no_break y (leaf-last k y leaf).leaf);
+    bare = behind-bare 0 no_inlines around y refl (leaf-bare k y leaf);
   })
 
   task-text : (s : List ℕ) → is_text s ≡ true
@@ -367,7 +409,15 @@ module _ (n : ℕ) (in_item : Bool) (w : Writing) (h : IsNormalWriting n in_item
         begins = (behind-begins 0 (one_inline (text s)) around y (not-false (from-text s here.text).some)).space
             ∙ here.begins;
         held = task-text s here.text;
+        bare =
+            joined-bare (one_inline (text s)) (wrapped around y) refl (wrapped-bare around y (leaf-bare k y leaf));
       })
+
+  after-bare : (m : ℕ) (xs : Inlines) → have_anchor xs ≡ false
+      → have_anchor (behind m (put m xs around (gap_of w around k)) around y) ≡ false
+  after-bare m xs e =
+      behind-bare m (put m xs around (gap_of w around k)) around y
+      (put-bare m xs around (gap_of w around k) e (gap-bare w around k)) (leaf-bare k y leaf)
 
   next-leaf : (j : Bool) → w.latest ≡ latest_of j → IsLine j w.around w.content
       → IsLine k (map wrapper_of around)
@@ -383,6 +433,7 @@ module _ (n : ℕ) (in_item : Bool) (w : Writing) (h : IsNormalWriting n in_item
         held = goes-on w j k around y w.content e l.held h.gap fits leaf;
         no_space = begins.space ∙ l.no_space;
         no_break = begins.break ∙ l.no_break;
+        bare = after-bare m w.content l.bare;
       })
 
   next-tasked : (j : Bool) → w.latest ≡ latest_of j → IsTasked j w.around w.content
@@ -401,6 +452,7 @@ module _ (n : ℕ) (in_item : Bool) (w : Writing) (h : IsNormalWriting n in_item
             ∙ task-put m l.is_checked l.rest around g y begun;
         begins = (put-begins m l.rest around g y begun).space ∙ l.begins;
         held = goes-on w j k around y l.rest e l.held h.gap fits leaf;
+        bare = after-bare m l.rest l.bare;
       })
 
   leaf-state : State w → State new
@@ -522,14 +574,11 @@ pub blocks-normal : (n : ℕ) (in_item : Bool) (w : Writing) → IsNormalWriting
 blocks-normal n in_item w h = blocks-fine n in_item (ended w).done (ended-normal n in_item w h).done
 
 pub line-in-normal : (n : ℕ) (w : Writing) → IsNormalWriting n false w
-    → is_normal_line (line_in w) ≡ true
+    → IsBareLine (line_in w)
 line-in-normal n w h = at h.state
   where
-    none : is_normal_line no_inlines ≡ true
-    none = refl
-
-    at : State w → is_normal_line w.content ≡ true
-    at (at_nothing e f) = ap is_normal_line f ∙ none
+    at : State w → IsBareLine w.content
+    at (at_nothing e f) = (ap is_normal_line f, ap have_anchor f)
     at (at_task b e f g) = true-false (sym f.in_item ∙ h.item)
     at (at_leaf k e f) = (line-normal k w.around w.content f).0
     at (in_task k e f g) = true-false (sym f.in_item ∙ h.item)

@@ -13,8 +13,9 @@ use Rattle.htmd_document_of_tree.specs.declared.role.Role.TheVariants as role
 use Rattle.htmd_document_of_tree.specs.AllTexts.{all_text_among}
 use Rattle.htmd_document_of_tree.specs.Attributes.{text_of, has_attribute}
 use Rattle.htmd_document_of_tree.specs.Contexts.{Context}
-use Rattle.htmd_document.specs.declared.document.Format.{Format}
+use Rattle.htmd_document.specs.Formats.{Format}
 use Rattle.htmd_document.specs.Documents.{Inline, text, code, formatted, link, image, line_break, task}
+use Rattle.htmd_document.specs.Documents.{anchor}
 use Rattle.htmd_document.specs.Documents.{Inlines, no_inlines, inline, Block, paragraph, heading, code_block, quote}
 use Rattle.htmd_document.specs.Documents.{thematic_break, list, table, Blocks, no_blocks, block, Items, no_items, item}
 use Rattle.htmd_document_of_tree.specs.Flows.{is_grid, lines_of_table}
@@ -54,6 +55,7 @@ module _ (R : Reader) where
     read_inline wrappers (formatted format content) = read_line (wrappers ++ R.as_format format ∷ []) content
     read_inline wrappers (link address title content) = read_line (wrappers ++ R.as_link address ∷ []) content
     read_inline wrappers (image address title description) = R.read wrappers false description
+    read_inline wrappers (anchor id) = []
     read_inline wrappers line_break = []
     read_inline wrappers (task is_checked) = []
 

@@ -80,6 +80,7 @@ plain-as attributes inner name =
       heading_6 = λ e. refl;
       block = λ e. refl;
       format = λ f e. refl;
+      element = λ x e. refl;
       code = λ e. refl;
       anchor = λ e. refl;
       quotation = λ e. absurd (clash e);

@@ -17,6 +17,7 @@ use Rattle.htmd_document_of_tree.specs.AllTexts.{all_text_among}
 use Rattle.htmd_document_of_tree.specs.Attributes.{text_of}
 use Rattle.htmd_document_of_tree.specs.Contexts.{Context}
 use Rattle.htmd_document.specs.Documents.{Inline, text, code, formatted, link, image, line_break, task, Inlines}
+use Rattle.htmd_document.specs.Documents.{anchor}
 use Rattle.htmd_document.specs.Documents.{no_inlines, inline, Block, paragraph, heading, code_block, quote}
 use Rattle.htmd_document.specs.Documents.{thematic_break, list, table, Blocks, no_blocks, block, Items, no_items, item}
 use Rattle.htmd_document_of_tree.specs.Flows.{is_grid, lines_of_table}
@@ -107,6 +108,7 @@ mutual
   inline-shows wrappers (formatted format content) h = line-shows (wrappers ++ tt ∷ []) content h
   inline-shows wrappers (link address title content) h = line-shows (wrappers ++ tt ∷ []) content h
   inline-shows wrappers (image address title description) h = taken-shows description h
+  inline-shows wrappers (anchor id) h = shows-nil
   inline-shows wrappers line_break h = shows-nil
   inline-shows wrappers (task is_checked) h = shows-nil
 
@@ -211,6 +213,7 @@ module _ (id : ℕ) (attributes : List AttributePair) (children : NumberedForest
         heading_6 = λ g. e _ _;
         block = λ g. e _ _;
         format = λ f g. e _ _;
+        element = λ x g. e _ _;
         code = λ g. e _ _;
         anchor = λ g. e _ _;
         quotation = λ g. quotes-taken (inner c false) (seen_all children) (e c false);

@@ -116,6 +116,7 @@ facts name = any-kind RowFacts name (record {
   heading_6 = record { same = refl; apart = λ e. refl };
   block = record { same = refl; apart = λ e. refl };
   format = λ f. record { same = refl; apart = λ e. refl };
+  element = λ x. record { same = refl; apart = λ e. refl };
   code = record { same = refl; apart = λ e. refl };
   anchor = record { same = refl; apart = λ e. refl };
   quotation = record { same = refl; apart = λ e. refl };

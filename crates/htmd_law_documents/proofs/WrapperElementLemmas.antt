@@ -17,7 +17,7 @@ use Rattle.htmd_document_of_tree.specs.Attributes.{is_any_case}
 use Rattle.htmd_document_of_tree.specs.Attributes.{is_filled}
 use Rattle.htmd_document_of_tree.specs.Contexts.{Context, inside_format, in_code, in_one_line, deeper, is_lined, run_in}
 use Rattle.htmd_document_of_tree.specs.Contexts.{apart, with_around, is_format, is_link}
-use Rattle.htmd_document.specs.declared.document.Format.{Format}
+use Rattle.htmd_document.specs.Formats.{Format, of_format, of_element}
 use Rattle.htmd_document.specs.Documents.{Inlines, no_inlines, inline, heading, code_block, quote, thematic_break}
 use Rattle.htmd_document.specs.Documents.{Blocks, no_blocks, block}
 use Rattle.htmd_document_of_tree.specs.Flows.{Node, Line, blocks_of, line_of, flow_all, image_parts, box_parts}
@@ -411,7 +411,8 @@ module _ (R : Reader) where
             heading_5 = heads 5;
             heading_6 = heads 6;
             block = blocks;
-            format = formats;
+            format = λ f. formats (of_format f);
+            element = λ e. formats (of_element e);
             code = flow (in_code c) (in_code (shallow c)) refl refl a;
             anchor = links;
             quotation = wrappers-around (quotation_mark ∷ []) wrapper-shows.utf8;

@@ -4,7 +4,7 @@ use Rattle.std.specs.Prelude.{codes}
 use Rattle.std.specs.Str.{chars}
 use Rattle.htmd_nodes.specs.NumberedTrees.{NumberedTree, NumberedForest, document, text, element, none, more}
 use Rattle.htmd_document_of_tree.specs.Contexts.{bare}
-use Rattle.htmd_document.specs.declared.document.Format.TheVariants.{Emphasis, Strong}
+use Rattle.htmd_document.specs.Formats.{Emphasis, Strong}
 use Rattle.htmd_document_of_tree.specs.Flows.{node_of}
 use Rattle.htmd_document_of_tree.specs.Roles.{role_of, table_role, heading_or_block, inline_role}
 use Rattle.htmd_document_of_tree.specs.Shown.{Sight}

@@ -1,18 +1,19 @@
 -- The grid of a table keeps the wrappers of its cells, in order.
 use Rattle.std.proofs.Common.{◌≡◌, ℕ, zero, suc, ◌-◌, Bool, true, false, cond, List, [], ◌∷◌, ◌++◌, length, map}
-use Rattle.std.proofs.Common.{refl, sym, ◌∙◌, ap, append_assoc, filter, ◌||◌, Option, Some, None}
+use Rattle.std.proofs.Common.{refl, sym, ◌∙◌, ap, subst, arith, append_assoc, filter, not, ◌&&◌, Option, Some, None}
+use Rattle.std.proofs.lemmas.Bool.Decides.{nat_tests}
 use Rattle.std.specs.Prelude.{replicate, drop, nat_lt}
-use Rattle.std.specs.List.{flat_map, list_any, prefix_len}
+use Rattle.std.specs.List.{flat_map, prefix_len}
 use Rattle.std.proofs.lemmas.List.{append-nil}
 use Rattle.std.proofs.lemmas.Grind.{flat_map-append}
-use Rattle.htmd_lexical.proofs.Cases.{test}
 use Rattle.htmd_document.specs.declared.document.Alignment.{Alignment}
 use Rattle.htmd_document.specs.Documents.{Inlines, no_inlines, inline, Block}
 use Rattle.htmd_document_of_tree.specs.Grids.{Cell, Row, columns_before, laid, taken_in, shapes_from, shapes_of, filled}
 use Rattle.htmd_document_of_tree.specs.Grids.{filled_all}
-use Rattle.htmd_document_of_tree.specs.Grids.{contents_of, is_too_large, grid, is_filled_row, width, padded, body}
-use Rattle.htmd_document_of_tree.specs.Grids.{table_of}
-use Rattle.htmd_document_of_tree.specs.Grids.{table_if_filled}
+use Rattle.htmd_document_of_tree.specs.Grids.{contents_of, is_too_large, grid, is_empty_cell, trimmed, width, padded}
+use Rattle.htmd_document_of_tree.specs.Grids.{table_of, table_if_filled}
+use Rattle.htmd_document.specs.NormalDocuments.{has_cell}
+use Rattle.htmd_law_documents.proofs.NormalGridLemmas.{AreWithin, wider-within}
 use Rattle.htmd_law_documents.proofs.Readers.{Reader, read_line, read_cells, read_block}
 
 module _ (R : Reader) where
@@ -78,42 +79,43 @@ module _ (R : Reader) where
       ∙ (ap (λ t. read_cells R cells ++ t) (empty-wrappers (n - length cells))
       ∙ append-nil (read_cells R cells))
 
-  all-padded : (n : ℕ) (rows : List (List Inlines)) → wrappers_of_rows (map (padded n) rows)
-      ≡ wrappers_of_rows rows
-  all-padded n [] = refl
-  all-padded n (row ∷ rows) =
-      ap (λ t. t ++ wrappers_of_rows (map (padded n) rows)) (padded-wrappers n row)
-      ∙ ap (λ t. read_cells R row ++ t) (all-padded n rows)
-
-  unfilled-wrappers : (cells : List Inlines) → is_filled_row cells ≡ false → read_cells R cells ≡ []
-  unfilled-wrappers [] e = refl
-  unfilled-wrappers (no_inlines ∷ cells) e = unfilled-wrappers cells e
-  unfilled-wrappers (inline x xs ∷ cells) e = absurd (clash e)
+  -- the empty cells at the end of a row have none
+  trimmed-wrappers : (cells : List Inlines) → read_cells R (trimmed cells) ≡ read_cells R cells
+  trimmed-wrappers [] = refl
+  trimmed-wrappers (cell ∷ cells) =
+      at cell (trimmed cells) ∙ ap (λ t. read_line R [] cell ++ t) (trimmed-wrappers cells)
     where
-      clash : true ≡ false → ⊥
-      clash p = (cc)
+      at : (cell : Inlines) (rest : List Inlines)
+          → read_cells R (cond (is_empty_cell cell && not (has_cell rest)) [] (cell ∷ rest))
+          ≡ read_line R [] cell ++ read_cells R rest
+      at no_inlines [] = refl
+      at no_inlines (next ∷ rest) = refl
+      at (inline x xs) [] = refl
+      at (inline x xs) (next ∷ rest) = refl
 
-  filtered-wrappers : (rows : List (List Inlines)) → wrappers_of_rows (filter is_filled_row rows)
-      ≡ wrappers_of_rows rows
-  filtered-wrappers [] = refl
-  filtered-wrappers (row ∷ rows) = test (is_filled_row row)
-      (λ e. ap (λ b. wrappers_of_rows (cond b (row ∷ filter is_filled_row rows) (filter is_filled_row rows))) e
-      ∙ ap (λ t. read_cells R row ++ t) (filtered-wrappers rows))
-      (λ e. ap (λ b. wrappers_of_rows (cond b (row ∷ filter is_filled_row rows) (filter is_filled_row rows))) e
-      ∙ (filtered-wrappers rows ∙ ap (λ t. t ++ wrappers_of_rows rows) (sym (unfilled-wrappers row e))))
+  all-trimmed : (rows : List (List Inlines)) → wrappers_of_rows (map trimmed rows) ≡ wrappers_of_rows rows
+  all-trimmed [] = refl
+  all-trimmed (row ∷ rows) =
+      ap (λ t. t ++ wrappers_of_rows (map trimmed rows)) (trimmed-wrappers row)
+      ∙ ap (λ t. read_cells R row ++ t) (all-trimmed rows)
 
-  body-wrappers : (n : ℕ) (rows : List (List Inlines)) → wrappers_of_rows (body n rows) ≡ wrappers_of_rows rows
-  body-wrappers n rows = all-padded n (filter is_filled_row rows) ∙ filtered-wrappers rows
+  body-wrappers : (rows : List (List Inlines)) → wrappers_of_rows (filter has_cell rows) ≡ wrappers_of_rows rows
+  body-wrappers [] = refl
+  body-wrappers ([] ∷ rows) = body-wrappers rows
+  body-wrappers ((cell ∷ cells) ∷ rows) = ap (λ t. read_cells R (cell ∷ cells) ++ t) (body-wrappers rows)
 
-  none-filled : (rows : List (List Inlines)) → list_any is_filled_row rows ≡ false → wrappers_of_rows rows ≡ []
-  none-filled [] e = refl
-  none-filled (row ∷ rows) e = test (is_filled_row row)
-      (λ h. absurd (clash (sym (ap (λ b. b || list_any is_filled_row rows) h) ∙ e)))
-      (λ h. ap (λ t. t ++ wrappers_of_rows rows) (unfilled-wrappers row h)
-      ∙ none-filled rows (sym (ap (λ b. b || list_any is_filled_row rows) h) ∙ e))
+  none-within : (rows : List (List Inlines)) → AreWithin 0 rows → wrappers_of_rows rows ≡ []
+  none-within [] w = refl
+  none-within ([] ∷ rows) w = none-within rows w.1
+  none-within ((cell ∷ cells) ∷ rows) w = absurd (omega (arith, w.0))
+
+  -- rows without columns have none
+  no-columns : (rows : List (List Inlines)) → nat_lt 0 (width rows) ≡ false → wrappers_of_rows rows ≡ []
+  no-columns rows e =
+      none-within rows (subst (λ (n : ℕ). AreWithin n rows) (none (width rows) e) (wider-within rows 0))
     where
-      clash : true ≡ false → ⊥
-      clash p = (cc)
+      none : (n : ℕ) → nat_lt 0 n ≡ false → n ≡ 0
+      none n e = grind (arith, nat_tests)
 
   -- ---- the table
 
@@ -125,18 +127,19 @@ module _ (R : Reader) where
       → wrappers_of_option (table_of alignments has_header rows) ≡ wrappers_of_rows rows
   table_of-wrappers alignments has_header [] = refl
   table_of-wrappers alignments true (first ∷ rest) =
-      let n : ℕ = width (first ∷ rest) in
-      ap (λ t. t ++ wrappers_of_rows (body n rest)) (padded-wrappers n first)
-      ∙ ap (λ t. read_cells R first ++ t) (body-wrappers n rest)
+      ap (λ t. t ++ wrappers_of_rows (filter has_cell rest)) (padded-wrappers (width (first ∷ rest)) first)
+      ∙ ap (λ t. read_cells R first ++ t) (body-wrappers rest)
   table_of-wrappers alignments false (first ∷ rest) =
-      let n : ℕ = width (first ∷ rest) in
-      ap (λ t. t ++ wrappers_of_rows (body n (first ∷ rest))) (padded-wrappers n [])
-      ∙ body-wrappers n (first ∷ rest)
+      ap (λ t. t ++ wrappers_of_rows (filter has_cell (first ∷ rest))) (padded-wrappers (width (first ∷ rest)) [])
+      ∙ body-wrappers (first ∷ rest)
 
   pub table-wrappers : (alignments : List Alignment) (has_header : Bool) (rows : List (List Inlines))
       → wrappers_of_option (table_if_filled alignments has_header rows) ≡ wrappers_of_rows rows
-  table-wrappers alignments has_header rows = test (list_any is_filled_row rows)
-      (λ e. ap (λ b. wrappers_of_option (cond b (table_of alignments has_header rows) None)) e
-      ∙ table_of-wrappers alignments has_header rows)
-      (λ e. ap (λ b. wrappers_of_option (cond b (table_of alignments has_header rows) None)) e
-      ∙ sym (none-filled rows e))
+  table-wrappers alignments has_header rows =
+      either (nat_lt 0 (width (map trimmed rows))) (λ e. no-columns (map trimmed rows) e) ∙ all-trimmed rows
+    where
+      either : (b : Bool) → (b ≡ false → wrappers_of_rows (map trimmed rows) ≡ [])
+          → wrappers_of_option (cond b (table_of alignments has_header (map trimmed rows)) None)
+          ≡ wrappers_of_rows (map trimmed rows)
+      either true h = table_of-wrappers alignments has_header (map trimmed rows)
+      either false h = sym (h refl)

@@ -204,6 +204,14 @@ module _ (R : Reader) where
             cell = λ e. false-true e;
             blank = λ e v h. h _ _;
           };
+          element = λ x. record {
+            item = λ e. false-true e;
+            caption = λ e. false-true e;
+            part = λ e. false-true e;
+            row = λ e. false-true e;
+            cell = λ e. false-true e;
+            blank = λ e v h. h _ _;
+          };
           code = record {
             item = λ e. false-true e;
             caption = λ e. false-true e;

@@ -5,6 +5,7 @@ use Rattle.std.specs.Str.{IsUtf8}
 use Rattle.std.proofs.lemmas.List.{append-nil}
 use Rattle.std.proofs.lemmas.Str.{IsUtf8-append}
 use Rattle.htmd_document.specs.Documents.{Inline, text, code, image, line_break, task, link, Inlines, no_inlines}
+use Rattle.htmd_document.specs.Documents.{anchor}
 use Rattle.htmd_document.specs.Documents.{inline}
 use Rattle.htmd_document.specs.Documents as value
 use Rattle.htmd_document_of_tree.specs.Nesting.{wrapped_by, wrapped, one_inline, met, joined, in_last, behind}
@@ -24,6 +25,7 @@ abbrev mutual
   IsTextInline (value.formatted format content) = AreTextInlines content
   IsTextInline (link address title content) = AreTextInlines content
   IsTextInline (image address title description) = IsUtf8 description
+  IsTextInline (anchor id) = Unit {0}
   IsTextInline line_break = Unit {0}
   IsTextInline (task is_checked) = Unit {0}
 
@@ -51,6 +53,7 @@ module _ (R : Reader) where
   met-wrappers wrappers (text s) (value.formatted f xs) u v = two-wrappers wrappers (text s) (value.formatted f xs)
   met-wrappers wrappers (text s) (link a t xs) u v = two-wrappers wrappers (text s) (link a t xs)
   met-wrappers wrappers (text s) (image a t d) u v = two-wrappers wrappers (text s) (image a t d)
+  met-wrappers wrappers (text s) (anchor i) u v = two-wrappers wrappers (text s) (anchor i)
   met-wrappers wrappers (text s) line_break u v = two-wrappers wrappers (text s) line_break
   met-wrappers wrappers (text s) (task b) u v = two-wrappers wrappers (text s) (task b)
   met-wrappers wrappers (code s) (text t) u v = two-wrappers wrappers (code s) (text t)
@@ -59,11 +62,13 @@ module _ (R : Reader) where
   met-wrappers wrappers (code s) (value.formatted f xs) u v = two-wrappers wrappers (code s) (value.formatted f xs)
   met-wrappers wrappers (code s) (link a t xs) u v = two-wrappers wrappers (code s) (link a t xs)
   met-wrappers wrappers (code s) (image a t d) u v = two-wrappers wrappers (code s) (image a t d)
+  met-wrappers wrappers (code s) (anchor i) u v = two-wrappers wrappers (code s) (anchor i)
   met-wrappers wrappers (code s) line_break u v = two-wrappers wrappers (code s) line_break
   met-wrappers wrappers (code s) (task b) u v = two-wrappers wrappers (code s) (task b)
   met-wrappers wrappers (value.formatted f xs) y u v = two-wrappers wrappers (value.formatted f xs) y
   met-wrappers wrappers (link a t xs) y u v = two-wrappers wrappers (link a t xs) y
   met-wrappers wrappers (image a t d) y u v = two-wrappers wrappers (image a t d) y
+  met-wrappers wrappers (anchor i) y u v = two-wrappers wrappers (anchor i) y
   met-wrappers wrappers line_break y u v = two-wrappers wrappers line_break y
   met-wrappers wrappers (task b) y u v = two-wrappers wrappers (task b) y
 
@@ -73,6 +78,7 @@ module _ (R : Reader) where
   met-texts (text s) (value.formatted f xs) u v = (u, (v, tt))
   met-texts (text s) (link a t xs) u v = (u, (v, tt))
   met-texts (text s) (image a t d) u v = (u, (v, tt))
+  met-texts (text s) (anchor i) u v = (u, (v, tt))
   met-texts (text s) line_break u v = (u, (v, tt))
   met-texts (text s) (task b) u v = (u, (v, tt))
   met-texts (code s) (text t) u v = (u, (v, tt))
@@ -80,11 +86,13 @@ module _ (R : Reader) where
   met-texts (code s) (value.formatted f xs) u v = (u, (v, tt))
   met-texts (code s) (link a t xs) u v = (u, (v, tt))
   met-texts (code s) (image a t d) u v = (u, (v, tt))
+  met-texts (code s) (anchor i) u v = (u, (v, tt))
   met-texts (code s) line_break u v = (u, (v, tt))
   met-texts (code s) (task b) u v = (u, (v, tt))
   met-texts (value.formatted f xs) y u v = (u, (v, tt))
   met-texts (link a t xs) y u v = (u, (v, tt))
   met-texts (image a t d) y u v = (u, (v, tt))
+  met-texts (anchor i) y u v = (u, (v, tt))
   met-texts line_break y u v = (u, (v, tt))
   met-texts (task b) y u v = (u, (v, tt))
 

@@ -12,6 +12,7 @@ use Rattle.htmd_document_of_tree.specs.AllTexts.{all_text_among}
 use Rattle.htmd_document_of_tree.specs.Attributes.{text_of, has_attribute}
 use Rattle.htmd_document_of_tree.specs.Contexts.{Context}
 use Rattle.htmd_document.specs.Documents.{Inline, text, code, formatted, link, image, line_break, task, Inlines}
+use Rattle.htmd_document.specs.Documents.{anchor}
 use Rattle.htmd_document.specs.Documents.{no_inlines, inline, Block, paragraph, heading, code_block, quote}
 use Rattle.htmd_document.specs.Documents.{thematic_break, list, table, Blocks, no_blocks, block, Items, no_items, item}
 use Rattle.htmd_document_of_tree.specs.Flows.{is_grid, lines_of_table}
@@ -61,6 +62,7 @@ mutual
   inline-wrappers wrappers (formatted format content) = line-wrappers (wrappers ++ of_format format ∷ []) content
   inline-wrappers wrappers (link address title content) = line-wrappers (wrappers ++ of_link address ∷ []) content
   inline-wrappers wrappers (image address title description) = refl
+  inline-wrappers wrappers (anchor i) = refl
   inline-wrappers wrappers line_break = refl
   inline-wrappers wrappers (task is_checked) = refl
 
@@ -163,6 +165,7 @@ by-wrappers id attributes all holds_grid f g e c b name =
       heading_6 = e _ _;
       block = e _ _;
       format = λ f. e _ _;
+      element = λ x. e _ _;
       code = e _ _;
       anchor = e _ _;
       quotation = quotes-wrappers c (f c false) (g c false) (e c false);

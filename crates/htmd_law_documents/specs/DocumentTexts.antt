@@ -2,7 +2,7 @@
 use Rattle.std.specs.Prelude.{ℕ, Bool, not, ◌&&◌, List, [], ◌++◌, filter}
 use Rattle.std.specs.List.{flat_map}
 use Rattle.std.specs.Str.{chars}
-use Rattle.htmd_document.specs.Documents.{Inline, text, code, formatted, link, image, line_break, task}
+use Rattle.htmd_document.specs.Documents.{Inline, text, code, formatted, link, image, anchor, line_break, task}
 use Rattle.htmd_document.specs.Documents.{Inlines, no_inlines, inline, Block, paragraph, heading, code_block, quote}
 use Rattle.htmd_document.specs.Documents.{thematic_break, list, table, Blocks, no_blocks, block, Items, no_items, item}
 use Rattle.htmd_document_of_tree.specs.ShownTexts.{is_shown}
@@ -16,6 +16,7 @@ abbrev mutual
   text_of_inline (formatted format content) = text_of_line content
   text_of_inline (link address title content) = text_of_line content
   text_of_inline (image address title description) = description
+  text_of_inline (anchor id) = []
   text_of_inline line_break = []
   text_of_inline (task is_checked) = []
 

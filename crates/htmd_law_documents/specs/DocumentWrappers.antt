@@ -1,8 +1,8 @@
 -- The visible characters of a document, each with what stands around it.
 use Rattle.std.specs.Prelude.{ℕ, Bool, true, false, List, [], ◌∷◌, ◌++◌, map}
 use Rattle.std.specs.List.{flat_map}
-use Rattle.htmd_document.specs.declared.document.Format.{Format}
-use Rattle.htmd_document.specs.Documents.{Inline, text, code, formatted, link, image, line_break, task}
+use Rattle.htmd_document.specs.Formats.{Format}
+use Rattle.htmd_document.specs.Documents.{Inline, text, code, formatted, link, image, anchor, line_break, task}
 use Rattle.htmd_document.specs.Documents.{Inlines, no_inlines, inline, Block, paragraph, heading, code_block, quote}
 use Rattle.htmd_document.specs.Documents.{thematic_break, list, table, Blocks, no_blocks, block, Items, no_items, item}
 use Rattle.htmd_law_documents.specs.DocumentTexts.{visible}
@@ -32,6 +32,7 @@ abbrev mutual
   wrappers_of_inline wrappers (link address title content) = wrappers_of_line (wrappers ++ of_link address
       ∷ []) content
   wrappers_of_inline wrappers (image address title description) = in_wrappers wrappers false description
+  wrappers_of_inline wrappers (anchor id) = []
   wrappers_of_inline wrappers line_break = []
   wrappers_of_inline wrappers (task is_checked) = []
 

@@ -13,6 +13,7 @@ use Rattle.htmd_document_of_tree.specs.Contexts.{Context, inside_format, in_code
 use Rattle.htmd_document_of_tree.specs.Flows.{inside_anchor, is_grid, lines_of_table}
 use Rattle.htmd_document_of_tree.specs.Parts as part
 use Rattle.htmd_document_of_tree.specs.Roles.{role_of}
+use Rattle.htmd_document.specs.Formats as formats
 use Rattle.htmd_law_documents.specs.DocumentWrappers.{Wrapper, of_format, of_link, Wrapped, in_wrappers}
 
 abbrev pub wrapper_of : part.Around → Wrapper
@@ -27,7 +28,8 @@ wrapped_in context s = in_wrappers (map wrapper_of context.around) context.is_co
 
 -- a format, code, a link, and a heading, which is one line
 abbrev pub inside : Role → ℕ → List AttributePair → Context → Context
-inside (role.Format f) id attributes context = inside_format f context
+inside (role.Format f) id attributes context = inside_format (formats.of_format f) context
+inside (role.Element e) id attributes context = inside_format (formats.of_element e) context
 inside role.Code id attributes context = in_code context
 inside role.Anchor id attributes context = inside_anchor id attributes (value_of (codes "href") attributes) context
 inside (role.Heading level) id attributes context = in_one_line context

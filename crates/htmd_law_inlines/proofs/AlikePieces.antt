@@ -6,9 +6,10 @@ use Rattle.std.proofs.lemmas.List.{append_assoc, append-nil}
 use Rattle.htmd_lexical.specs.Characters.{is_one_of}
 use Rattle.htmd_markdown.specs.declared.link.LinkStyle.{LinkStyle}
 use Rattle.htmd_markdown.specs.declared.link.LinkStyle.TheVariants.{Inlined, InlinedPreferAutolinks, Referenced}
-use Rattle.htmd_document.specs.declared.document.Format.{Format}
-use Rattle.htmd_document.specs.declared.document.Format.TheVariants.{Emphasis, Strong, Deleted, Superscript, Subscript}
-use Rattle.htmd_document.specs.Documents.{Inline, text, code, formatted, link, image, line_break, task}
+use Rattle.htmd_document.specs.Formats.{Format}
+use Rattle.htmd_document.specs.Formats.{Emphasis, Strong, Deleted, Superscript, Subscript}
+use Rattle.htmd_document.specs.Documents.{Inline, text, code, formatted, link, image, anchor, line_break, task}
+use Rattle.htmd_document.specs.Tags as html
 use Rattle.htmd_document.specs.Documents.{Inlines, no_inlines, inline}
 use Rattle.htmd_commonmark.specs.declared.line.Line.{Line}
 use Rattle.htmd_commonmark.specs.declared.inline_ends.Following.{Following}
@@ -280,5 +281,6 @@ mutual
       (then_alike w v next other after last (piece_alike w v (codes "[") e) inner)
       (address_alike line.link_style after last b t inner.definitions)))
   alike_one line w v f (image b t s) a c e = piece_alike w v (written_image b t s) e
+  alike_one line w v f (anchor id) a c e = piece_alike w v (html.anchor id) e
   alike_one line w v f line_break a c e = piece_alike w v (written_break line) e
   alike_one line w v f (task d) a c e = piece_alike w v (written_task d) e

@@ -15,8 +15,9 @@ use Rattle.htmd_markdown.specs.declared.link.LinkStyle.TheVariants.{Inlined, Inl
 use Rattle.htmd_markdown.specs.declared.line_break.BrStyle.{BrStyle}
 use Rattle.htmd_markdown.specs.declared.line_break.BrStyle.TheVariants.{TwoSpaces, Backslash}
 use Rattle.htmd_markdown.specs.LineBreaks as breaks
-use Rattle.htmd_document.specs.declared.document.Format.{Format}
+use Rattle.htmd_document.specs.Formats.{Format}
 use Rattle.htmd_document.specs.Documents.{Inline, text, code, formatted, link, image, line_break, task}
+use Rattle.htmd_document.specs.Documents.{anchor}
 use Rattle.htmd_document.specs.Documents.{Inlines, no_inlines, inline}
 use Rattle.htmd_commonmark.specs.declared.line.Line.{Line}
 use Rattle.htmd_commonmark.specs.declared.inline_ends.Following.{Following}
@@ -133,6 +134,8 @@ signed line around w f (link b t content) i j k =
     }))
 signed line around w f (image b t s) i j k = record
     { head = 33; rest = _; is = refl; is_sign = refl; no_bracket = λ q. refl }
+signed line around w f (anchor id) i j k = record
+    { head = 60; rest = _; is = refl; is_sign = refl; no_bracket = λ q. refl }
 signed line around w f line_break i j k = absurd (cc)
 signed line around w f (task d) i j k = absurd (cc)
 
@@ -280,6 +283,7 @@ other_after line around w z rest i n =
     begun (formatted f content) b = absurd (cc)
     begun (link a t content) b = absurd (cc)
     begun (image a t s) b = absurd (cc)
+    begun (anchor i) b = absurd (cc)
     begun line_break b = break_begun line w
     begun (task d) b = absurd (cc)
 
@@ -339,6 +343,8 @@ content_no_box line around w (inline (link a t content) rest) i h n =
     other_content line around w (link a t content) rest refl refl (first_normal line around (link a t content) rest n)
 content_no_box line around w (inline (image a t s) rest) i h n =
     other_content line around w (image a t s) rest refl refl (first_normal line around (image a t s) rest n)
+content_no_box line around w (inline (anchor id) rest) i h n =
+    other_content line around w (anchor id) rest refl refl (first_normal line around (anchor id) rest n)
 content_no_box line around w (inline (task d) rest) i h n =
     let x = first_normal line around (task d) rest n in absurd (cc)
 
@@ -434,6 +440,8 @@ line_no_task line before (inline (link a t content) rest) n b =
     (first_normal line [] (link a t content) rest n) (more_of line (with_inline line w f (link a t content)) None rest)
 line_no_task line before (inline (image a t s) rest) n b =
     other_task line before (image a t s) rest refl refl refl n
+line_no_task line before (inline (anchor id) rest) n b =
+    other_task line before (anchor id) rest refl refl refl n
 line_no_task line before (inline line_break rest) n b = absurd (cc)
 line_no_task line before (inline (task d) rest) n b =
     let x = first_normal line [] (task d) rest n in absurd (cc)

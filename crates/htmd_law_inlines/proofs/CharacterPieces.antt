@@ -4,8 +4,8 @@ use Rattle.std.specs.Prelude.{not, ◌||◌, ◌==◌, nat_lt, nat_le, slice_get
 use Rattle.std.specs.List.{list_all}
 use Rattle.std.specs.Str.{chars}
 use Rattle.std.specs.Char.{is_ascii_punctuation, is_ascii_whitespace}
-use Rattle.std.proofs.lemmas.Bool.{eqb-true, eq-eqb, and_parts, not-true, or_parts, ltb-true, ltb-false, le-leb, lt-leb}
-use Rattle.std.proofs.lemmas.Bool.{lt-ltb, le-ltb, and_from, leb-true}
+use Rattle.std.proofs.lemmas.Bool.{eqb-true, and_parts, not-true, or_parts, ltb-true, le-leb, lt-leb}
+use Rattle.std.proofs.lemmas.Bool.{and_from, leb-true}
 use Rattle.std.proofs.lemmas.List.{append-nil, reverse-append, reverse-reverse}
 use Rattle.std.proofs.lemmas.Str.{chars-encodes}
 use Rattle.unicode.specs.GeneralCategory.{general_category}

@@ -11,8 +11,8 @@ use Rattle.std.proofs.lemmas.List.{append_assoc, length-append}
 use Rattle.std.proofs.lemmas.Fmt.{decimal_injective}
 use Rattle.htmd_markdown.specs.declared.link.LinkStyle.{LinkStyle}
 use Rattle.htmd_markdown.specs.declared.link.LinkStyle.TheVariants.{Inlined, InlinedPreferAutolinks, Referenced}
-use Rattle.htmd_document.specs.declared.document.Format.{Format}
-use Rattle.htmd_document.specs.Documents.{Inline, text, code, formatted, link, image, line_break, task}
+use Rattle.htmd_document.specs.Formats.{Format}
+use Rattle.htmd_document.specs.Documents.{Inline, text, code, formatted, link, image, anchor, line_break, task}
 use Rattle.htmd_document.specs.Documents.{Inlines, no_inlines, inline}
 use Rattle.htmd_commonmark.specs.declared.line.Line.{Line}
 use Rattle.htmd_commonmark.specs.declared.inline_ends.Following.{Following}
@@ -28,7 +28,7 @@ use Rattle.htmd_commonmark_reading.specs.LinkDefinitions.{Defined, definition, l
 use Rattle.htmd_commonmark_reading.specs.LinkDefinitions.{after_destination, destination, past_white, with_title}
 use Rattle.htmd_commonmark_reading.specs.LinkDefinitions.{defined_with, past_line, title_after}
 use Rattle.htmd_commonmark_reading.specs.Brackets.{References, target_of}
-use Rattle.htmd_document.specs.NormalInlines.{is_normal, are_normal, meets, is_around, has_none, are_whole}
+use Rattle.htmd_document.specs.NormalInlines.{is_normal, are_normal, meets, is_barred, has_none, are_whole}
 use Rattle.htmd_document.specs.NormalInlines.{is_attribute, is_title, is_kept}
 use Rattle.htmd_law_inlines.specs.ReadBack.{of_defined, references, is_number, are_numbered}
 use Rattle.htmd_law_inlines.proofs.TextPieces.{test}
@@ -131,7 +131,7 @@ mutual
   numbered_one line around w f (formatted g content) n h =
       let m = mark_for g (sides_of line w.text f content) in
       numbered_all line (g ∷ around) (wrote w m.opener) (Some m.sign) content
-      (and_parts (not (is_around around g) && not (has_none content) && are_whole content)
+      (and_parts (not (is_barred around g) && not (has_none content) && are_whole content)
       (are_normal line.in_link (g ∷ around) content) n).1 h
   numbered_one line around w f (link a t content) n h =
       let p = and_parts (not line.in_link && is_attribute a && is_title t && not (has_none content))
@@ -145,6 +145,7 @@ mutual
       (λ e. rw e (numbered_address line.link_style after a t b
       (numbered_all (in_link line) around (wrote w (codes "[")) (Some 93) content p.1 h)))
   numbered_one line around w f (image a t s) n h = h
+  numbered_one line around w f (anchor id) n h = h
   numbered_one line around w f line_break n h = h
   numbered_one line around w f (task d) n h = h
 

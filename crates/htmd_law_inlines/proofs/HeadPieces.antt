@@ -16,8 +16,9 @@ use Rattle.htmd_markdown.specs.CodeSpans.{delimited_text, meets_delimiter, small
 use Rattle.htmd_markdown.specs.declared.line_break.BrStyle.{BrStyle}
 use Rattle.htmd_markdown.specs.declared.line_break.BrStyle.TheVariants.{TwoSpaces, Backslash}
 use Rattle.htmd_markdown.specs.LineBreaks as breaks
-use Rattle.htmd_document.specs.declared.document.Format.{Format}
+use Rattle.htmd_document.specs.Formats.{Format}
 use Rattle.htmd_document.specs.Documents.{Inline, text, code, formatted, link, image, line_break, task}
+use Rattle.htmd_document.specs.Documents.{anchor}
 use Rattle.htmd_document.specs.Documents.{Inlines, no_inlines, inline}
 use Rattle.htmd_commonmark.specs.declared.line.Line.{Line}
 use Rattle.htmd_commonmark.specs.declared.marks.Sides.{Sides}
@@ -35,7 +36,7 @@ use Rattle.htmd_commonmark_reading.specs.DelimiterRuns.{may_open, may_close}
 use Rattle.htmd_commonmark_reading.specs.Brackets.{kind, Kind}
 use Rattle.htmd_document.specs.Formats.{is_same_format}
 use Rattle.htmd_document.proofs.FormatsLemmas.{same-itself}
-use Rattle.htmd_document.specs.NormalInlines.{is_code, is_break, is_around, last_passes}
+use Rattle.htmd_document.specs.NormalInlines.{is_code, is_break, is_around, is_barred, last_passes}
 use Rattle.htmd_law_inlines.proofs.Pieces.{pushed, pushed_append}
 use Rattle.htmd_law_inlines.proofs.TextPieces.{test, differs}
 use Rattle.htmd_law_inlines.proofs.ReferencePieces.{one_of, is_small}
@@ -98,6 +99,12 @@ pub image_begins : (line : Line) (so_far a : List ℕ) (t : Option (List ℕ)) (
 image_begins line so_far a t s rest =
     head_begins line so_far (image a t s) 33 33 rest refl
     (plain_head line so_far (image a t s) 33 33 refl (refl, refl, λ x. absurd (cc), λ x. absurd (cc)) refl
+    (λ x. absurd (cc)) (λ x. refl) (λ x. refl))
+
+pub anchor_begins : (line : Line) (so_far id rest : List ℕ) → Begins line so_far (anchor id) (60 ∷ rest)
+anchor_begins line so_far id rest =
+    head_begins line so_far (anchor id) 60 60 rest refl
+    (plain_head line so_far (anchor id) 60 60 refl (refl, refl, λ x. absurd (cc), λ x. absurd (cc)) refl
     (λ x. absurd (cc)) (λ x. refl) (λ x. refl))
 
 pub link_begins : (line : Line) (so_far a : List ℕ) (t : Option (List ℕ)) (content : Inlines) (rest : List ℕ)
@@ -263,6 +270,7 @@ last_format (inline (code s) no_inlines) g h e = absurd (cc)
 last_format (inline (formatted f content) no_inlines) g h e = format_last f g e
 last_format (inline (link a t content) no_inlines) g h e = absurd (cc)
 last_format (inline (image a t d) no_inlines) g h e = absurd (cc)
+last_format (inline (anchor i) no_inlines) g h e = absurd (cc)
 last_format (inline line_break no_inlines) g h e = absurd (cc)
 last_format (inline (task d) no_inlines) g h e = absurd (cc)
 last_format (inline x (inline y rest)) g h e = last_format (inline y rest) g h e
@@ -366,3 +374,10 @@ none_around (g ∷ rows) formats r h n = (
       absurd (cc),
   none_around rows formats r h.1 n,
 )
+
+-- a format of rows can't stand in itself alone
+pub row_barred : (formats : List Format) (r : RowFormat) → is_barred formats (row_format r)
+    ≡ is_around formats (row_format r)
+row_barred formats one = refl
+row_barred formats two = refl
+row_barred formats tildes = refl

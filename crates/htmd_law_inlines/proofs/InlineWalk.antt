@@ -13,9 +13,11 @@ use Rattle.htmd_lexical.specs.CharacterClasses.{first_is}
 use Rattle.htmd_text.specs.EscapedPlaces.{with_backslashes}
 use Rattle.htmd_markdown.specs.declared.link.LinkStyle.{LinkStyle}
 use Rattle.htmd_markdown.specs.declared.link.LinkStyle.TheVariants.{Inlined, InlinedPreferAutolinks, Referenced}
-use Rattle.htmd_document.specs.declared.document.Format.{Format}
+use Rattle.htmd_document.specs.Formats.{Format}
 use Rattle.htmd_document.specs.Documents.{Inline, text, code, formatted, link, image, line_break, task}
+use Rattle.htmd_document.specs.Documents.{anchor}
 use Rattle.htmd_document.specs.Documents.{Inlines, no_inlines, inline}
+use Rattle.htmd_document.specs.Tags as html
 use Rattle.htmd_commonmark.specs.declared.line.Line.{Line}
 use Rattle.htmd_commonmark.specs.declared.inline_ends.Following.{Following}
 use Rattle.htmd_commonmark.specs.WrittenText.{Written, wrote}
@@ -33,7 +35,7 @@ use Rattle.htmd_commonmark_reading.specs.LinkDefinitions.{label_key}
 use Rattle.htmd_commonmark_reading.specs.Brackets.{References, Brackets, bracket, scanned, and_tokens, without_links}
 use Rattle.htmd_commonmark_reading.specs.Brackets.{target_of}
 use Rattle.htmd_commonmark_reading.specs.DelimiterRuns.{Token, finished, processed, may_open, may_close}
-use Rattle.htmd_document.specs.NormalInlines.{is_normal, are_normal, meets, is_around, has_none, are_whole, is_text}
+use Rattle.htmd_document.specs.NormalInlines.{is_normal, are_normal, meets, is_barred, has_none, are_whole, is_text}
 use Rattle.htmd_document.specs.NormalInlines.{is_line, is_line_byte, is_trimmed, is_attribute, is_title, is_kept}
 use Rattle.htmd_document.specs.NormalInlines.{last_passes, ends_in_space}
 use Rattle.htmd_law_inlines.proofs.Pieces.{pushed, pushed_append}
@@ -60,6 +62,8 @@ use Rattle.htmd_law_inlines.proofs.Flanking.{IsInner}
 use Rattle.htmd_law_inlines.proofs.LastPieces.{fitting, last_inner}
 use Rattle.htmd_law_inlines.proofs.HeadPieces.{code_begins, image_begins, link_begins, autolink_begins, break_begins}
 use Rattle.htmd_law_inlines.proofs.HeadPieces.{tags_begin, row_begins, row_opens, row_closes, row_is_before, beside_is}
+use Rattle.htmd_law_inlines.proofs.AnchorPieces.{anchor_shown}
+use Rattle.htmd_law_inlines.proofs.HeadPieces.{anchor_begins, row_barred}
 use Rattle.htmd_law_inlines.proofs.HeadPieces.{AreAround, more_around, row_around, none_around, sign_is, row_ends}
 
 -- ---- what is read of inlines
@@ -103,6 +107,7 @@ meant_first (code s) ys = refl
 meant_first (formatted f content) ys = refl
 meant_first (link a t content) ys = refl
 meant_first (image a t d) ys = refl
+meant_first (anchor i) ys = refl
 meant_first line_break ys = refl
 meant_first (task d) ys = refl
 
@@ -175,6 +180,7 @@ mutual
       (λ e. rw e (prefix_prefix w.definitions after.definitions (with_address line.link_style after a t).definitions
       (grows (in_link line) (wrote w (codes "[")) (Some 93) content) (address_grows line.link_style after a t)))
   grows_one line w f (image a t s) = same_prefix w.definitions
+  grows_one line w f (anchor id) = same_prefix w.definitions
   grows_one line w f line_break = same_prefix w.definitions
   grows_one line w f (task d) = same_prefix w.definitions
 
@@ -353,6 +359,7 @@ text_alone a (inline (code s) no_inlines) h = absurd (cc)
 text_alone a (inline (formatted f content) no_inlines) h = absurd (cc)
 text_alone a (inline (link b t content) no_inlines) h = absurd (cc)
 text_alone a (inline (image b t d) no_inlines) h = absurd (cc)
+text_alone a (inline (anchor i) no_inlines) h = absurd (cc)
 text_alone a (inline line_break no_inlines) h = absurd (cc)
 text_alone a (inline (task d) no_inlines) h = absurd (cc)
 text_alone a (inline x (inline y rest)) h = absurd (cc)
@@ -479,10 +486,10 @@ mutual
       let shape = λ (m : Mark). wrote (written line (wrote w m.opener) (Some m.sign) content) m.closer in
       let x = formatted g content in
       let s = sides_of line w.text f content in
-      let n1 = and_parts (not (is_around formats g) && not (has_none content) && are_whole content)
+      let n1 = and_parts (not (is_barred formats g) && not (has_none content) && are_whole content)
       (are_normal line.in_link (g ∷ formats) content) n in
-      let n2 = and_parts (not (is_around formats g) && not (has_none content)) (are_whole content) n1.0 in
-      let n3 = and_parts (not (is_around formats g)) (not (has_none content)) n2.0 in
+      let n2 = and_parts (not (is_barred formats g) && not (has_none content)) (are_whole content) n1.0 in
+      let n3 = and_parts (not (is_barred formats g)) (not (has_none content)) n2.0 in
       mark_cases g s
       (λ r. let row = row_text r.row r.sign in
       let start = wrote w row in
@@ -503,7 +510,8 @@ mutual
       (not-true (has_none content) n3.1) r.is_sign h c.begins in
       subst (λ (m : Mark). ReadsOne rows refs line w (shape m) x ks) (sym r.is)
       (row_shown rows refs line w f g content ks r h
-      (none_around rows formats r.row a (ap (is_around formats) r.means ∙ not-true (is_around formats g) n3.0)) c
+      (none_around rows formats r.row a (sym (row_barred formats r.row) ∙ ap (is_barred formats) r.means
+      ∙ not-true (is_barred formats g) n3.0)) c
       inside.0 beside.0
       (row_opens r.sign line w f content (beside_after r.sign (c.text ++ (row ++ ks))) h fit inside.1)
       (row_closes r.sign line w f content (beside_before r.sign (pushed after.text [])) (beside_after r.sign ks) fit
@@ -544,6 +552,12 @@ mutual
         image_shown rows refs line.in_link (pushed w.text []) ks b t s
         (and_parts (is_utf8 b) (list_all is_kept b) r.0).1 (IsUtf8-from_is_utf8 s l.0) l.1;
     begins = image_begins line w.text b t s _;
+  }
+  walk_one rows formats refs all finds line w f (anchor id) ks n a h p d = record {
+    text = html.anchor id;
+    is = refl;
+    shown = anchor_shown rows refs line.in_link (pushed w.text []) ks id;
+    begins = anchor_begins line w.text id _;
   }
   walk_one rows formats refs all finds line w f line_break ks n a h p d = record {
     text = written_break line;

@@ -10,6 +10,7 @@ use Rattle.std.proofs.lemmas.Str.{IsUtf8-past_char, encode_ascii}
 use Rattle.htmd_lexical.specs.CharacterClasses.{first_is, behind_run}
 use Rattle.htmd_text.specs.EscapedPlaces.{with_backslashes}
 use Rattle.htmd_document.specs.Documents.{Inline, text, code, formatted, link, image, line_break, task}
+use Rattle.htmd_document.specs.Documents.{anchor}
 use Rattle.htmd_document.specs.Documents.{Inlines, no_inlines, inline}
 use Rattle.htmd_commonmark.specs.declared.line.Line.{Line}
 use Rattle.htmd_commonmark.specs.declared.inline_ends.Following.{Following}
@@ -86,6 +87,7 @@ begins_bare line so_far y ks w b e =
     no_space_first (formatted f content) h = refl
     no_space_first (link a t content) h = refl
     no_space_first (image a t s) h = refl
+    no_space_first (anchor i) h = refl
     no_space_first line_break h = refl
     no_space_first (task d) h = refl
 
@@ -351,6 +353,7 @@ items_read_back line before after (inline (task d) (inline (code s) more)) l db 
 items_read_back line before after (inline (task d) (inline (formatted f content) more)) l db n few = absurd (cc)
 items_read_back line before after (inline (task d) (inline (link a t content) more)) l db n few = absurd (cc)
 items_read_back line before after (inline (task d) (inline (image a t s) more)) l db n few = absurd (cc)
+items_read_back line before after (inline (task d) (inline (anchor i) more)) l db n few = absurd (cc)
 items_read_back line before after (inline (task d) (inline line_break more)) l db n few = absurd (cc)
 items_read_back line before after (inline (task d) (inline (task e) more)) l db n few = absurd (cc)
 items_read_back line before after no_inlines l db n few = other_item line before after no_inlines l db n few
@@ -364,5 +367,7 @@ items_read_back line before after (inline (link a t content) rest) l db n few =
     other_item line before after (inline (link a t content) rest) l db n few
 items_read_back line before after (inline (image a t s) rest) l db n few =
     other_item line before after (inline (image a t s) rest) l db n few
+items_read_back line before after (inline (anchor id) rest) l db n few =
+    other_item line before after (inline (anchor id) rest) l db n few
 items_read_back line before after (inline line_break rest) l db n few =
     other_item line before after (inline line_break rest) l db n few

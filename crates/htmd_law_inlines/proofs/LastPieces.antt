@@ -15,8 +15,10 @@ use Rattle.htmd_markdown.specs.declared.link.LinkStyle.TheVariants.{Inlined, Inl
 use Rattle.htmd_markdown.specs.declared.line_break.BrStyle.{BrStyle}
 use Rattle.htmd_markdown.specs.declared.line_break.BrStyle.TheVariants.{TwoSpaces, Backslash}
 use Rattle.htmd_markdown.specs.LineBreaks as breaks
-use Rattle.htmd_document.specs.declared.document.Format.{Format}
-use Rattle.htmd_document.specs.Documents.{Inline, text, code, formatted, link, image, line_break, task}
+use Rattle.htmd_document.specs.Formats.{Format}
+use Rattle.htmd_document.specs.Documents.{Inline, text, code, formatted, link, image, anchor, line_break, task}
+use Rattle.htmd_document.specs.Tags as html
+use Rattle.htmd_law_inlines.proofs.AnchorPieces.{anchor_end}
 use Rattle.htmd_document.specs.Documents.{Inlines, no_inlines, inline}
 use Rattle.htmd_commonmark.specs.declared.line.Line.{Line}
 use Rattle.htmd_commonmark.specs.declared.inline_ends.Following.{Following}
@@ -264,6 +266,9 @@ last_one line around w f (image b t s) sign g n i a l =
     mark_inner sign g 41 (w.text ++ written_image b t s) (guess_is 41 g l refl)
     (then_end 41 w.text (written_image b t s)
     (then_end 41 (codes "![" ++ escaped place_of_description s) (written_resource b t) (resource_end b t))) refl
+last_one line around w f (anchor id) sign g n i a l =
+    mark_inner sign g 62 (w.text ++ html.anchor id) (guess_is 62 g l refl)
+    (then_end 62 w.text (html.anchor id) (anchor_end id)) refl
 last_one line around w f line_break sign g n i a l =
     subst (λ (o : Option ℕ). IsInner (in_some o)
     (beside_before sign (pushed (with_inline line w f line_break).text [])))
@@ -337,5 +342,6 @@ ends_one line around w f (image b t s) n i = (
   then_end 41 w.text (written_image b t s)
       (then_end 41 (codes "![" ++ escaped place_of_description s) (written_resource b t) (resource_end b t)),
 )
+ends_one line around w f (anchor id) n i = (62, then_end 62 w.text (html.anchor id) (anchor_end id))
 ends_one line around w f line_break n i = let v = break_end line in (v.0, then_end v.0 w.text (written_break line) v.1)
 ends_one line around w f (task d) n i = absurd (cc)

@@ -17,6 +17,7 @@ pub mod SpanPieces
 pub mod Flanking
 pub mod NumberPieces
 pub mod TextLaws
+pub mod AnchorValues
 pub mod SeenPieces
 pub mod WalkPieces
 pub mod LeafPieces
@@ -24,6 +25,7 @@ pub mod Utf8Pieces
 pub mod Beside
 pub mod TextWritten
 pub mod SoundPieces
+pub mod AnchorPieces
 pub mod WrittenPieces
 pub mod NextPieces
 pub mod LastPieces

@@ -2,8 +2,8 @@
 use Rattle.std.proofs.Common.{◌≡◌, refl, ℕ, Bool, true, List, ◌∷◌, ◌++◌, codes}
 use Rattle.std.specs.Str.{IsUtf8}
 use Rattle.htmd_lexical.specs.Characters.{is_one_of}
-use Rattle.htmd_document.specs.declared.document.Format.{Format}
-use Rattle.htmd_document.specs.declared.document.Format.TheVariants.{Emphasis, Strong, Deleted, Superscript, Subscript}
+use Rattle.htmd_document.specs.Formats.{Format}
+use Rattle.htmd_document.specs.Formats.{Emphasis, Strong, Deleted, Superscript, Subscript}
 use Rattle.htmd_commonmark.specs.declared.marks.Sides.{Sides}
 use Rattle.htmd_commonmark.specs.Marks.{Mark, fits, mark_for, tags}
 use Rattle.htmd_commonmark.specs.Marks as writer

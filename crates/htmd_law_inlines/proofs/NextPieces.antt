@@ -12,11 +12,12 @@ use Rattle.htmd_lexical.specs.Characters.{is_one_of}
 use Rattle.htmd_lexical.specs.CharacterClasses.{first_is, leading_run}
 use Rattle.htmd_text.specs.EscapedPlaces.{with_backslashes}
 use Rattle.htmd_document.specs.Documents.{Inline, text, code, formatted, link, image, line_break, task}
+use Rattle.htmd_document.specs.Documents.{anchor}
 use Rattle.htmd_document.specs.Documents.{Inlines, no_inlines, inline}
 use Rattle.htmd_commonmark.specs.declared.line.Line.{Line}
 use Rattle.htmd_commonmark.specs.declared.line.LineKind.{LineKind}
 use Rattle.htmd_commonmark.specs.declared.text_escape.Place.{Place}
-use Rattle.htmd_commonmark.specs.CharacterKinds.{is_space, is_word}
+use Rattle.htmd_commonmark.specs.CharacterKinds.{is_word}
 use Rattle.htmd_commonmark.specs.CharacterKinds as writer
 use Rattle.htmd_commonmark.specs.TextEscapes.{is_of_word, may_be_escaped, may_be_in_tag}
 use Rattle.htmd_commonmark.specs.declared.inline_ends.Following.{Following}
@@ -454,6 +455,7 @@ code_after (text s) y m h = absurd (cc)
 code_after (formatted f content) y m h = absurd (cc)
 code_after (link a t content) y m h = absurd (cc)
 code_after (image a t d) y m h = absurd (cc)
+code_after (anchor i) y m h = absurd (cc)
 code_after line_break y m h = absurd (cc)
 code_after (task d) y m h = absurd (cc)
 code_after (code s) (text t) m h = refl
@@ -461,6 +463,7 @@ code_after (code s) (code t) m h = absurd (cc)
 code_after (code s) (formatted f content) m h = refl
 code_after (code s) (link a t content) m h = refl
 code_after (code s) (image a t d) m h = refl
+code_after (code s) (anchor i) m h = refl
 code_after (code s) line_break m h = refl
 code_after (code s) (task d) m h = refl
 
@@ -471,12 +474,14 @@ break_after (code s) y m h = absurd (cc)
 break_after (formatted f content) y m h = absurd (cc)
 break_after (link a t content) y m h = absurd (cc)
 break_after (image a t d) y m h = absurd (cc)
+break_after (anchor i) y m h = absurd (cc)
 break_after (task d) y m h = absurd (cc)
 break_after line_break (text s) m h = (refl, not-true (begins_with_space (text s)) m)
 break_after line_break (code s) m h = (refl, refl)
 break_after line_break (formatted f content) m h = (refl, refl)
 break_after line_break (link a t content) m h = (refl, refl)
 break_after line_break (image a t d) m h = (refl, refl)
+break_after line_break (anchor i) m h = (refl, refl)
 break_after line_break line_break m h = absurd (cc)
 break_after line_break (task d) m h = (refl, refl)
 
@@ -486,6 +491,7 @@ text_after (code s) y m h = absurd (cc)
 text_after (formatted f content) y m h = absurd (cc)
 text_after (link a t content) y m h = absurd (cc)
 text_after (image a t d) y m h = absurd (cc)
+text_after (anchor i) y m h = absurd (cc)
 text_after line_break y m h = absurd (cc)
 text_after (task d) y m h = absurd (cc)
 
@@ -495,6 +501,7 @@ words_with_space (code s) h = absurd (cc)
 words_with_space (formatted f content) h = absurd (cc)
 words_with_space (link a t content) h = absurd (cc)
 words_with_space (image a t d) h = absurd (cc)
+words_with_space (anchor i) h = absurd (cc)
 words_with_space line_break h = absurd (cc)
 words_with_space (task d) h = absurd (cc)
 

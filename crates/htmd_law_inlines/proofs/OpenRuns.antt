@@ -2,8 +2,8 @@
 use Rattle.std.proofs.Common.{◌≡◌, ◌≢◌, ◌∙◌, ℕ, Bool, true, false, List, [], ◌∷◌, refl, ap, sym, None, Some}
 use Rattle.std.specs.Prelude.{◌==◌, ◌+◌, ◌%◌, if◌then◌else◌}
 use Rattle.std.proofs.lemmas.Bool.{eq-eqb, eqb-true, and_left, and_right, and_from}
-use Rattle.htmd_document.specs.declared.document.Format.{Format}
-use Rattle.htmd_document.specs.declared.document.Format.TheVariants.{Emphasis, Strong, Deleted}
+use Rattle.htmd_document.specs.Formats.{Format}
+use Rattle.htmd_document.specs.Formats.{Emphasis, Strong, Deleted}
 use Rattle.htmd_commonmark_reading.specs.Markup.{Inlines, no_inlines, formatted, joined}
 use Rattle.htmd_commonmark_reading.specs.DelimiterRuns.{Run, Stack, base, opener, with_items, with_run, with_token, run}
 use Rattle.htmd_commonmark_reading.specs.DelimiterRuns.{is_closed_by, nearest, fits_by_three, Match, unused_signs}

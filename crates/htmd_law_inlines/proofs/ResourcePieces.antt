@@ -7,7 +7,7 @@ use Rattle.std.specs.Option.{option_or}
 use Rattle.std.proofs.lemmas.Bool.{and_parts, or_parts}
 use Rattle.std.proofs.lemmas.List.{append_assoc, length-append}
 use Rattle.htmd_lexical.specs.CharacterClasses.{is_empty, first_is, lacks}
-use Rattle.htmd_commonmark.specs.Addresses.{escaped_in, is_escaped, may_escape, needs_brackets, is_space_or_control}
+use Rattle.htmd_commonmark.specs.Addresses.{escaped_in, needs_brackets, is_space_or_control}
 use Rattle.htmd_commonmark.specs.Addresses as writer
 use Rattle.htmd_commonmark.specs.InlineMarkdown.{written_resource}
 use Rattle.htmd_commonmark_reading.specs.Characters.{is_white, unescaped}

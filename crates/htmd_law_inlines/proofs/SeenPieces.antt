@@ -3,17 +3,19 @@ use Rattle.std.proofs.Common.{◌≡◌, ◌∙◌, refl, ap, sym, ℕ, Bool, tr
 use Rattle.std.specs.Prelude.{not, ◌&&◌, if◌then◌else◌}
 use Rattle.std.proofs.lemmas.Bool.{and_parts, not-true}
 use Rattle.htmd_lexical.specs.CharacterClasses.{is_empty}
-use Rattle.htmd_document.specs.declared.document.Format.{Format}
-use Rattle.htmd_document.specs.declared.document.Format.TheVariants.{Emphasis, Strong, Deleted, Superscript, Subscript}
+use Rattle.htmd_document.specs.Formats.{Format}
+use Rattle.htmd_document.specs.Formats.{Emphasis, Strong, Deleted, Superscript, Subscript}
 use Rattle.htmd_document.specs.Documents as document
+use Rattle.htmd_document.specs.Tags.{anchor_tag, end_of_anchor}
 use Rattle.htmd_commonmark_reading.specs.Markup.{Inlines, no_inlines, letter, code, formatted, link, image, line_break}
 use Rattle.htmd_commonmark_reading.specs.Markup.{task, raw, joined, letters, plain_text}
 use Rattle.htmd_commonmark_reading.specs.SeenMarkup.{Tag, code_pair, Tags, outside, inside, with_seen, all_seen}
 use Rattle.htmd_commonmark_reading.specs.SeenMarkup.{is_text_alone, paired, seen, seen_inlines, document_inlines}
-use Rattle.htmd_commonmark_reading.specs.SeenMarkup.{with_letter, with_first, with_content}
+use Rattle.htmd_commonmark_reading.specs.SeenMarkup.{with_letter, with_first, with_content, with_anchor}
 use Rattle.htmd_document.specs.NormalInlines.{is_normal, are_normal, meets, is_text, is_line, has_double_space}
-use Rattle.htmd_document.specs.NormalInlines.{is_around, has_none, are_whole, is_attribute, is_title}
+use Rattle.htmd_document.specs.NormalInlines.{is_barred, has_none, are_whole, is_attribute, is_title}
 use Rattle.htmd_law_inlines.proofs.Pieces.{joined_joined, joined_none}
+use Rattle.htmd_law_inlines.proofs.AnchorValues.{id_of}
 
 -- ---- seen pieces
 
@@ -84,6 +86,12 @@ image_seen a t s b =
     ap (λ x. with_seen b (image a t (letters (plain_text x) no_inlines) no_inlines))
     (content_seen (letters s no_inlines) (letters s no_inlines) (letters_seen s))
     ∙ ap (λ x. with_seen b (image a t (letters x no_inlines) no_inlines)) (plain_letters s)
+
+-- the tags of an anchor stay
+pub anchor_seen : (id : List ℕ)
+    → AreSeen (raw (anchor_tag id) (raw end_of_anchor no_inlines))
+    (raw (anchor_tag id) (raw end_of_anchor no_inlines))
+anchor_seen id b = seen_twice b (raw (anchor_tag id) no_inlines) (raw end_of_anchor no_inlines)
 
 -- ---- pairs of tags
 
@@ -159,6 +167,7 @@ abbrev mutual
   meant_inline (document.formatted f content) rest = formatted f (meant content) rest
   meant_inline (document.link a t content) rest = link a t (meant content) rest
   meant_inline (document.image a t s) rest = image a t (letters s no_inlines) rest
+  meant_inline (document.anchor id) rest = raw (anchor_tag id) (raw end_of_anchor rest)
   meant_inline document.line_break rest = line_break rest
   meant_inline (document.task d) rest = task d rest
 
@@ -174,6 +183,7 @@ no_text (document.inline (document.code s) rest) = Unit {0}
 no_text (document.inline (document.formatted f content) rest) = Unit {0}
 no_text (document.inline (document.link a t content) rest) = Unit {0}
 no_text (document.inline (document.image a t s) rest) = Unit {0}
+no_text (document.inline (document.anchor i) rest) = Unit {0}
 no_text (document.inline document.line_break rest) = Unit {0}
 no_text (document.inline (document.task d) rest) = Unit {0}
 
@@ -185,6 +195,7 @@ last_letter c (document.inline (document.code s) rest) h = refl
 last_letter c (document.inline (document.formatted f content) rest) h = refl
 last_letter c (document.inline (document.link a t content) rest) h = refl
 last_letter c (document.inline (document.image a t s) rest) h = refl
+last_letter c (document.inline (document.anchor i) rest) h = refl
 last_letter c (document.inline document.line_break rest) h = refl
 last_letter c (document.inline (document.task d) rest) h = refl
 
@@ -202,6 +213,7 @@ no_text_meets s (document.inline (document.code u) rest) h = tt
 no_text_meets s (document.inline (document.formatted f content) rest) h = tt
 no_text_meets s (document.inline (document.link a t content) rest) h = tt
 no_text_meets s (document.inline (document.image a t u) rest) h = tt
+no_text_meets s (document.inline (document.anchor i) rest) h = tt
 no_text_meets s (document.inline document.line_break rest) h = tt
 no_text_meets s (document.inline (document.task d) rest) h = tt
 
@@ -230,7 +242,7 @@ mutual
   first_document in_link around (document.code s) rest n m e = ap (with_first (document.code s)) e
   first_document in_link around (document.formatted f content) rest n m e =
       let d = document_of in_link (f ∷ around) content
-      (and_parts (not (is_around around f) && not (has_none content) && are_whole content)
+      (and_parts (not (is_barred around f) && not (has_none content) && are_whole content)
       (are_normal in_link (f ∷ around) content) n).1 in
       ap (λ o. with_content (document.formatted f) o (document_inlines (meant rest))) d
       ∙ ap (with_first (document.formatted f content)) e
@@ -243,6 +255,9 @@ mutual
   first_document in_link around (document.image a t s) rest n m e =
       ap (λ u. with_first (document.image a t u) (document_inlines (meant rest))) (plain_letters s)
       ∙ ap (with_first (document.image a t s)) e
+  first_document in_link around (document.anchor id) rest n m e =
+      ap (λ o. with_anchor o end_of_anchor (document_inlines (meant rest))) (id_of id)
+      ∙ ap (with_first (document.anchor id)) e
   first_document in_link around document.line_break rest n m e = ap (with_first document.line_break) e
   first_document in_link around (document.task d) rest n m e = absurd (cc)
 

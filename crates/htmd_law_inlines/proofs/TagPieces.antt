@@ -13,10 +13,10 @@ use Rattle.htmd_law_inlines.proofs.TextPieces.{skips}
 -- ---- tags
 
 -- a tag of these characters after its `<`
-abbrev IsTag : List ℕ → Type 0
+abbrev pub IsTag : List ℕ → Type 0
 IsTag t = (ks : List ℕ) → angle (t ++ ks) ≡ record { content = raw (60 ∷ t) no_inlines; following = length t }
 
-tag_read : (refs : References) (in_link : Bool) (before t ks : List ℕ) → IsTag t
+pub tag_read : (refs : References) (in_link : Bool) (before t ks : List ℕ) → IsTag t
     → IsRead refs in_link before (60 ∷ t) ks (raw (60 ∷ t) no_inlines)
 tag_read refs in_link before t ks h = record {
   tokens = finished (raw (60 ∷ t) no_inlines) ∷ [];

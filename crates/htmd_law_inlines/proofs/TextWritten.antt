@@ -10,7 +10,7 @@ use Rattle.htmd_lexical.specs.CharacterClasses.{is_empty}
 use Rattle.htmd_text.specs.EscapedPlaces.{with_backslashes}
 use Rattle.htmd_commonmark.specs.declared.line.Line.{Line}
 use Rattle.htmd_commonmark.specs.declared.text_escape.Place.{Place}
-use Rattle.htmd_commonmark.specs.TextEscapes.{is_of_word, is_marked}
+use Rattle.htmd_commonmark.specs.TextEscapes.{is_marked}
 use Rattle.htmd_commonmark.specs.TextEscapes as text
 use Rattle.htmd_commonmark.specs.InlineMarkdown.{place_of, is_number_sign, ends_in_closing_signs, with_last_escaped}
 use Rattle.htmd_commonmark.specs.InlineMarkdown.{with_text, is_end_of_heading}

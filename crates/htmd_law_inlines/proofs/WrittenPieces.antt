@@ -14,9 +14,12 @@ use Rattle.htmd_markdown.specs.declared.link.LinkStyle.TheVariants.{Inlined, Inl
 use Rattle.htmd_markdown.specs.declared.line_break.BrStyle.{BrStyle}
 use Rattle.htmd_markdown.specs.declared.line_break.BrStyle.TheVariants.{TwoSpaces, Backslash}
 use Rattle.htmd_markdown.specs.LineBreaks as breaks
-use Rattle.htmd_document.specs.declared.document.Format.{Format}
+use Rattle.htmd_document.specs.Formats.{Format}
 use Rattle.htmd_document.specs.Documents.{Inline, text, code, formatted, link, image, line_break, task}
+use Rattle.htmd_document.specs.Documents.{anchor}
 use Rattle.htmd_document.specs.Documents.{Inlines, no_inlines, inline}
+use Rattle.htmd_document.specs.Tags as html
+use Rattle.htmd_law_inlines.proofs.AnchorPieces.{anchor_end, anchor_utf8}
 use Rattle.htmd_commonmark.specs.declared.line.Line.{Line}
 use Rattle.htmd_commonmark.specs.declared.line.LineKind.{LineKind}
 use Rattle.htmd_commonmark.specs.declared.inline_ends.Following.{Following}
@@ -28,7 +31,7 @@ use Rattle.htmd_commonmark.specs.InlineEnds.{first_of, follows}
 use Rattle.htmd_commonmark.specs.InlineMarkdown.{written, with_inline, written_image, written_resource, written_code}
 use Rattle.htmd_commonmark.specs.InlineMarkdown.{place_of_description, is_autolinked, autolink, with_address, in_link}
 use Rattle.htmd_commonmark.specs.InlineMarkdown.{sides_of, reference_number}
-use Rattle.htmd_document.specs.NormalInlines.{is_normal, are_normal, meets, may_meet, is_around, has_none, are_whole}
+use Rattle.htmd_document.specs.NormalInlines.{is_normal, are_normal, meets, may_meet, is_barred, has_none, are_whole}
 use Rattle.htmd_document.specs.NormalInlines.{is_text, is_line, is_line_byte, has_double_space, is_trimmed}
 use Rattle.htmd_document.specs.NormalInlines.{is_attribute, is_title, is_kept}
 use Rattle.htmd_law_inlines.proofs.TextPieces.{test, differs}
@@ -89,6 +92,7 @@ no_two_texts s (code t) h = refl
 no_two_texts s (formatted f content) h = refl
 no_two_texts s (link a t content) h = refl
 no_two_texts s (image a t d) h = refl
+no_two_texts s (anchor i) h = refl
 no_two_texts s line_break h = refl
 no_two_texts s (task d) h = refl
 
@@ -106,6 +110,7 @@ mark_first kind (code t) h = refl
 mark_first kind (formatted f content) h = format_mark kind f content
 mark_first kind (link a t content) h = refl
 mark_first kind (image a t d) h = refl
+mark_first kind (anchor i) h = refl
 mark_first kind line_break h = test (is_one_line kind) (λ e. rw e refl) (λ e. rw e refl)
 mark_first kind (task d) h = refl
 
@@ -118,6 +123,7 @@ mark_follows kind closing (code s) (inline y rest) m c i = absurd (cc)
 mark_follows kind closing (formatted f content) (inline y rest) m c i = absurd (cc)
 mark_follows kind closing (link a t content) (inline y rest) m c i = absurd (cc)
 mark_follows kind closing (image a t d) (inline y rest) m c i = absurd (cc)
+mark_follows kind closing (anchor id) (inline y rest) m c i = absurd (cc)
 mark_follows kind closing line_break (inline y rest) m c i = absurd (cc)
 mark_follows kind closing (task d) (inline y rest) m c i = absurd (cc)
 
@@ -244,7 +250,7 @@ mutual
       sound_end w.text (written_code line s) v.last h v.utf8 v.ends
       (differs (is_one_of (codes "`>)]")) v.last 92 v.is_mark refl)
   sound_one line around w f (formatted g content) n c h =
-      let p = and_parts (not (is_around around g) && not (has_none content) && are_whole content)
+      let p = and_parts (not (is_barred around g) && not (has_none content) && are_whole content)
       (are_normal line.in_link (g ∷ around) content) n in
       let s = sides_of line w.text f content in
       mark_cases g s
@@ -283,6 +289,10 @@ mutual
       (resource_utf8 a t (IsUtf8-from_is_utf8 a (and_parts (is_utf8 a) (list_all is_kept a) q.0).0)
       (title_utf8 t q.1)))
       (then_end 41 (codes "![" ++ escaped place_of_description s) (written_resource a t) (resource_end a t)) refl
+  sound_one line around w f (anchor id) n c h =
+      let p = and_parts (not line.in_link && is_text id) (is_trimmed id) n in
+      let t = textual id (and_parts (not line.in_link) (is_text id) p.0).1 in
+      sound_end w.text (html.anchor id) 62 h (anchor_utf8 id t.utf8) (anchor_end id) refl
   sound_one line around w f line_break n c h =
       test (is_one_line line.kind)
       (λ e. rw e (sound_end w.text (codes "<br>") 62 h short_utf8.6 (codes "<br", refl) refl))

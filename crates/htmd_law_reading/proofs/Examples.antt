@@ -9,7 +9,7 @@ use Rattle.htmd_markdown.specs.declared.line_break.BrStyle.TheVariants.{TwoSpace
 use Rattle.htmd_markdown.specs.declared.link.LinkStyle.TheVariants.{Referenced}
 use Rattle.htmd_markdown.specs.declared.list.BulletListMarker.TheVariants.{Dash}
 use Rattle.htmd_markdown.specs.declared.thematic_break.HrStyle.TheVariants.{Dashes}
-use Rattle.htmd_document.specs.declared.document.Format.TheVariants.{Strong, Superscript}
+use Rattle.htmd_document.specs.Formats.{Strong, Superscript}
 use Rattle.htmd_document.specs.Documents.{Inlines, Block, Blocks, text, code, formatted, link, line_break, task}
 use Rattle.htmd_document.specs.Documents.{inline, no_inlines, paragraph, heading, list, no_blocks, block, no_items}
 use Rattle.htmd_document.specs.Documents.{item}

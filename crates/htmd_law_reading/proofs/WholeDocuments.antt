@@ -1,9 +1,10 @@
 -- What is read of the blocks that are written, with the inlines in them, is what was written.
-use Rattle.std.proofs.Common.{◌≡◌, ◌∙◌, refl, ap, sym, ℕ, suc, Bool, true, false, List, [], ◌∷◌, ◌++◌, Option, Some}
+use Rattle.std.proofs.Common.{◌≡◌, ◌∙◌, ◌≤◌, refl, ap, sym, ℕ, zero, suc, Bool, true, false, List, [], ◌∷◌, ◌++◌, Option}
+use Rattle.std.proofs.Common.{Some}
 use Rattle.std.proofs.Common.{None, append_assoc, arith}
-use Rattle.std.specs.Prelude.{length, if◌then◌else◌}
+use Rattle.std.specs.Prelude.{length, ◌&&◌, if◌then◌else◌}
 use Rattle.std.specs.List.{list_all}
-use Rattle.std.proofs.lemmas.Bool.{and_parts}
+use Rattle.std.proofs.lemmas.Bool.{and_parts, and_right, not-true}
 use Rattle.std.proofs.lemmas.List.{length-append}
 use Rattle.htmd_document.specs.Documents.{Inlines, Block, Blocks, Items, paragraph, heading, code_block, quote}
 use Rattle.htmd_document.specs.Documents.{thematic_break, list, table, no_blocks, block, no_items, item}
@@ -24,15 +25,21 @@ use Rattle.htmd_commonmark_reading.specs.Markup as markup
 use Rattle.htmd_commonmark_reading.specs.SeenMarkup.{seen_block, seen_blocks, seen_items, seen_row, seen_rows}
 use Rattle.htmd_commonmark_reading.specs.SeenMarkup.{document_block, document_blocks, document_items, document_row}
 use Rattle.htmd_commonmark_reading.specs.SeenMarkup.{document_rows, and_list, option_of, option_of_both}
+use Rattle.htmd_commonmark_reading.specs.SeenMarkup.{document_inlines, seen_inlines, filled_front, has_no_cell}
+use Rattle.htmd_commonmark_reading.specs.SeenMarkup.{without_empty_end}
+use Rattle.htmd_commonmark_reading.specs.SeenMarkup as seen
+use Rattle.htmd_commonmark_reading.specs.Tables.{fitted}
 use Rattle.htmd_law_blocks.specs.DocumentBlocks.{first_read, further_read, block_read, items_read}
-use Rattle.htmd_law_blocks.specs.DocumentParts.{cell_texts, after_cells, row_texts, heading_text}
-use Rattle.htmd_document.specs.NormalInlines.{is_normal_line, is_normal_item}
-use Rattle.htmd_document.specs.NormalDocuments.{is_normal_block, are_normal_blocks, are_normal_items}
+use Rattle.htmd_law_blocks.specs.DocumentParts.{cell_texts, after_cells, row_texts, filled_rows, heading_text}
+use Rattle.htmd_document.specs.NormalInlines.{has_none, is_normal_line, is_normal_item}
+use Rattle.htmd_document.specs.NormalDocuments.{is_normal_block, are_normal_blocks, are_normal_items, ends_filled}
+use Rattle.htmd_document.specs.NormalDocuments.{is_normal_row}
 use Rattle.htmd_law_inlines.specs.ReadBack.{seen_document, references, AreFew}
 use Rattle.htmd_law_inlines.proofs.InlineLaws.{inlines_read_back}
 use Rattle.htmd_law_inlines.proofs.ItemLaws.{items_read_back}
 use Rattle.htmd_law_inlines.proofs.TextPieces.{test}
 use Rattle.htmd_law_texts.proofs.NormalForm.{paragraph_parts, heading_parts, quote_parts, list_parts, table_parts}
+use Rattle.htmd_law_texts.proofs.NormalForm.{table_rows_are, row_parts}
 use Rattle.htmd_law_texts.proofs.Growth.{Grown, Numbered, numbers_are, grown_numbered, line_grown, cells_grown}
 use Rattle.htmd_law_texts.proofs.Growth.{rows_grown, blocks_grown, further_grown, block_grown, further_items_grown}
 
@@ -117,22 +124,108 @@ cells_seen options all ds after (xs ∷ cells) h d n e =
     (rest_of_all w.definitions (written_cells (line_of options Cell) w.definitions cells).definitions after all g e))
     (cells_seen options all w.definitions after cells h d' p.1 e)
 
-rows_seen : (options : DocumentOptions) (all ds after : List (List ℕ)) (rows : List (List Inlines)) → AreFew all
-    → Numbered 1 ds → list_all (list_all is_normal_line) rows ≡ true
+-- what isn't nothing is seen as something
+abbrev is_no_document : Option Inlines → Bool
+is_no_document None = true
+is_no_document (Some xs) = has_none xs
+
+something_seen : (xs : markup.Inlines) (ys : Inlines) → document_inlines xs ≡ Some ys → has_none ys ≡ false
+    → seen.has_none xs ≡ false
+something_seen markup.no_inlines ys e h = let z = ap is_no_document e ∙ h in absurd (cc)
+something_seen (markup.letter c xs) ys e h = refl
+something_seen (markup.code s xs) ys e h = refl
+something_seen (markup.formatted f content xs) ys e h = refl
+something_seen (markup.link a t content xs) ys e h = refl
+something_seen (markup.image a t content xs) ys e h = refl
+something_seen (markup.line_break xs) ys e h = refl
+something_seen (markup.task d xs) ys e h = refl
+something_seen (markup.raw tag xs) ys e h = refl
+
+-- the cells that a row lacks are taken away
+lacking_gone : (options : DocumentOptions) (all : List (List ℕ)) (n : ℕ)
+    → filled_front (seen_row (cell_inlines (references all) (fitted n []))) ≡ []
+lacking_gone options all zero = refl
+lacking_gone options all (suc n) = rw (lacking_gone options all n) refl
+
+last_kept : (x : markup.Inlines) (rest : List markup.Inlines) → seen.has_none x ≡ false → filled_front rest ≡ []
+    → filled_front (x ∷ rest) ≡ x ∷ []
+last_kept x rest h e = rw (h, e) refl
+
+next_kept : (x y : markup.Inlines) (rest ys : List markup.Inlines) → filled_front rest ≡ y ∷ ys
+    → filled_front (x ∷ rest) ≡ x ∷ y ∷ ys
+next_kept x y rest ys e =
+    ap (λ l. if seen.has_none x && has_no_cell l then [] else x ∷ l) e
+    ∙ ap (λ b. if b then [] else x ∷ y ∷ ys) (and_right (seen.has_none x) false refl)
+
+cells_kept : (options : DocumentOptions) (all ds after : List (List ℕ)) (n : ℕ) (cells : List Inlines) → AreFew all
+    → Numbered 1 ds → list_all is_normal_line cells ≡ true
+    → (written_cells (line_of options Cell) ds cells).definitions ++ after ≡ all
+    → length cells ≤ n → ends_filled cells ≡ true
+    → filled_front (seen_row (cell_inlines (references all) (fitted n (cell_texts options ds cells))))
+    ≡ seen_row (cell_inlines (references all) (cell_texts options ds cells))
+cells_kept options all ds after n [] h d p e l f = absurd (cc)
+cells_kept options all ds after zero (xs ∷ cells) h d p e l f = absurd (omega arith)
+cells_kept options all ds after (suc n) (xs ∷ []) h d p e l f =
+    let w = written_line (line_of options Cell) ds xs in
+    let x = seen_inlines (inlines (references all) w.text) in
+    let q = and_parts (is_normal_line xs) true p in
+    last_kept x (seen_row (cell_inlines (references all) (fitted n [])))
+    (something_seen x xs (line_seen options Cell all ds after xs h d q.0 e) (not-true (has_none xs) f))
+    (lacking_gone options all n)
+cells_kept options all ds after (suc n) (xs ∷ ys ∷ cells) h d p e l f =
+    let q = and_parts (is_normal_line xs) (list_all is_normal_line (ys ∷ cells)) p in
+    let w = written_line (line_of options Cell) ds xs in
+    let v = written_line (line_of options Cell) w.definitions ys in
+    let d' = grown_numbered ds w.definitions (line_grown options Cell ds xs q.0) d in
+    next_kept (seen_inlines (inlines (references all) w.text)) (seen_inlines (inlines (references all) v.text))
+    (seen_row (cell_inlines (references all) (fitted n (cell_texts options w.definitions (ys ∷ cells)))))
+    (seen_row (cell_inlines (references all) (cell_texts options v.definitions cells)))
+    (cells_kept options all w.definitions after n (ys ∷ cells) h d' q.1 e (omega (arith, l)) f)
+
+row_kept : (options : DocumentOptions) (all ds after : List (List ℕ)) (n : ℕ) (cells : List Inlines) → AreFew all
+    → Numbered 1 ds → list_all is_normal_line cells ≡ true
+    → (written_cells (line_of options Cell) ds cells).definitions ++ after ≡ all
+    → length cells ≤ n → ends_filled cells ≡ true
+    → without_empty_end (seen_row (cell_inlines (references all) (fitted n (cell_texts options ds cells))))
+    ≡ seen_row (cell_inlines (references all) (cell_texts options ds cells))
+row_kept options all ds after n [] h d p e l f = absurd (cc)
+row_kept options all ds after zero (xs ∷ cells) h d p e l f = absurd (omega arith)
+row_kept options all ds after (suc n) (xs ∷ []) h d p e l f =
+    let w = written_line (line_of options Cell) ds xs in
+    ap (λ r. seen_inlines (inlines (references all) w.text) ∷ r) (lacking_gone options all n)
+row_kept options all ds after (suc n) (xs ∷ ys ∷ cells) h d p e l f =
+    let q = and_parts (is_normal_line xs) (list_all is_normal_line (ys ∷ cells)) p in
+    let w = written_line (line_of options Cell) ds xs in
+    let d' = grown_numbered ds w.definitions (line_grown options Cell ds xs q.0) d in
+    ap (λ r. seen_inlines (inlines (references all) w.text) ∷ r)
+    (cells_kept options all w.definitions after n (ys ∷ cells) h d' q.1 e (omega (arith, l)) f)
+
+rows_seen : (options : DocumentOptions) (all ds after : List (List ℕ)) (n : ℕ) (rows : List (List Inlines))
+    → AreFew all → Numbered 1 ds → list_all (list_all is_normal_line) rows ≡ true
+    → list_all (is_normal_row n) rows ≡ true
     → (written_rows (line_of options Cell) ds rows).definitions ++ after ≡ all
-    → document_rows (seen_rows (row_inlines (references all) (row_texts options ds rows))) ≡ Some rows
-rows_seen options all ds after [] h d n e = refl
-rows_seen options all ds after (cells ∷ rows) h d n e =
-    let p = and_parts (list_all is_normal_line cells) (list_all (list_all is_normal_line) rows) n in
+    → document_rows (seen_rows (row_inlines (references all) (filled_rows n (row_texts options ds rows)))) ≡ Some rows
+rows_seen options all ds after n [] h d p r e = refl
+rows_seen options all ds after n (cells ∷ rows) h d p r e =
+    let q = and_parts (list_all is_normal_line cells) (list_all (list_all is_normal_line) rows) p in
+    let s = and_parts (is_normal_row n cells) (list_all (is_normal_row n) rows) r in
+    let c = row_parts n cells s.0 in
     let es = (written_cells (line_of options Cell) ds cells).definitions in
-    let g = rows_grown options es rows p.1 in
-    let d' = grown_numbered ds es (cells_grown options ds cells p.0) d in
+    let g = rows_grown options es rows q.1 in
+    let d' = grown_numbered ds es (cells_grown options ds cells q.0) d in
+    let e' = rest_of_all es (written_rows (line_of options Cell) es rows).definitions after all g e in
     both_some cells rows _ _
-    (cells_seen options all ds (g.more ++ after) cells h d p.0
-    (rest_of_all es (written_rows (line_of options Cell) es rows).definitions after all g e))
-    (ap (λ y. document_rows (seen_rows (row_inlines (references all) (row_texts options y rows))))
+    (ap document_row (row_kept options all ds (g.more ++ after) n cells h d q.0 e' c.0 c.1)
+    ∙ cells_seen options all ds (g.more ++ after) cells h d q.0 e')
+    (ap (λ y. document_rows (seen_rows (row_inlines (references all) (filled_rows n (row_texts options y rows)))))
     (after_is options ds cells)
-    ∙ rows_seen options all es after rows h d' p.1 e)
+    ∙ rows_seen options all es after n rows h d' q.1 s.1 e)
+
+texts_count : (options : DocumentOptions) (ds : List (List ℕ)) (cells : List Inlines)
+    → length (cell_texts options ds cells) ≡ length cells
+texts_count options ds [] = refl
+texts_count options ds (xs ∷ cells) =
+    ap suc (texts_count options (written_line (line_of options Cell) ds xs).definitions cells)
 
 -- ---- blocks
 
@@ -202,8 +295,11 @@ mutual
       both_are (table alignments) header rows _ _
       (cells_seen options all ds (g.more ++ after) header h d p.0
       (rest_of_all es (written_rows (line_of options Cell) es rows).definitions after all g e))
-      (ap (λ y. document_rows (seen_rows (row_inlines (references all) (row_texts options y rows))))
-      (after_is options ds header) ∙ rows_seen options all es after rows h d' p.1 e)
+      (ap (λ m. document_rows (seen_rows (row_inlines (references all) (filled_rows m
+      (row_texts options (after_cells options ds header) rows))))) (texts_count options ds header)
+      ∙ ap (λ y. document_rows (seen_rows (row_inlines (references all)
+      (filled_rows (length header) (row_texts options y rows))))) (after_is options ds header)
+      ∙ rows_seen options all es after (length header) rows h d' p.1 (table_rows_are alignments header rows n) e)
 
   all_items : (options : DocumentOptions) (markers : Markers) (is_tight : Bool) (all ds after : List (List ℕ))
       (items : Items) → AreFew all → Numbered 1 ds → are_normal_items items ≡ true

@@ -4,8 +4,8 @@ use Rattle.std.proofs.Common.{length, arith}
 use Rattle.std.specs.Prelude.{◌||◌, if◌then◌else◌, Option}
 use Rattle.std.specs.List.{list_any}
 use Rattle.htmd_document_of_tree.specs.Contexts.{Context, bare, is_format, is_link, inside_format, inside_link}
-use Rattle.htmd_document.specs.declared.document.Format.{Format}
-use Rattle.htmd_document.specs.declared.document.Format.TheVariants.{Emphasis, Strong, Deleted, Superscript, Subscript}
+use Rattle.htmd_document.specs.Formats.{Format}
+use Rattle.htmd_document.specs.Formats.{Emphasis, Strong, Deleted, Superscript, Subscript}
 use Rattle.htmd_document.specs.Formats.{is_same_format}
 use Rattle.htmd_document_of_tree.specs.Parts.{Around, formatted, linked}
 use Rattle.htmd_document.proofs.FormatsLemmas.{same-format}

@@ -1,16 +1,16 @@
 -- How big a table is.
 use Rattle.std.proofs.Common.{◌≡◌, refl, ap, ℕ, zero, suc, ◌+◌, ◌*◌, ◌-◌, ◌≤◌, Bool, true, false, List, [], ◌∷◌, ◌++◌}
-use Rattle.std.proofs.Common.{length, map, suc-mul, mul-le-mul_right, arith}
+use Rattle.std.proofs.Common.{length, map, not, ◌&&◌, suc-mul, mul-le-mul_right, arith}
 use Rattle.std.proofs.lemmas.Bool.Decides.{nat_tests}
 use Rattle.std.proofs.lemmas.List.{length-append, length-replicate}
 use Rattle.std.specs.Prelude.{max, nat_lt, filter, fold, replicate, if◌then◌else◌, None}
-use Rattle.std.specs.List.{list_any}
 use Rattle.htmd_document.specs.declared.document.Alignment.{Alignment}
 use Rattle.htmd_document.specs.Documents.{Inlines, no_inlines}
+use Rattle.htmd_document.specs.NormalDocuments.{has_cell}
 use Rattle.htmd_document_of_tree.specs.Flows.{block_part}
 use Rattle.htmd_document_of_tree.specs.Grids.{Cell, Row, filled, filled_all, contents_of, shapes_of, most_counted}
-use Rattle.htmd_document_of_tree.specs.Grids.{with_count, count_of, is_too_large, grid, is_filled_row, width, padded}
-use Rattle.htmd_document_of_tree.specs.Grids.{body, aligned, table_of, table_if_filled}
+use Rattle.htmd_document_of_tree.specs.Grids.{with_count, count_of, is_too_large, grid, is_empty_cell, trimmed, width}
+use Rattle.htmd_document_of_tree.specs.Grids.{padded, aligned, table_of, table_if_filled}
 use Rattle.htmd_document_of_tree.specs.Grids as grids
 use Rattle.htmd_law_sizes.specs.DocumentSizes.{size_of_inlines, size_of_cells, size_of_rows}
 use Rattle.htmd_law_sizes.proofs.PartCosts.{costs}
@@ -132,6 +132,40 @@ grid_is rows = go (is_too_large rows) refl
         let s = places_are (shapes_of rows) in
         record { inside = i.inside; many = i.many; wide = omega (arith, i.wide, h, c, s) }
 
+-- ---- rows without the empty cells at their ends
+
+trimmed_le : (cells : List Inlines)
+    → (in_row (trimmed cells) ≤ in_row cells) × (length (trimmed cells) ≤ length cells)
+trimmed_le [] = (omega arith, omega arith)
+trimmed_le (cell ∷ cells) =
+    let i = trimmed_le cells in
+    go (is_empty_cell cell && not (has_cell (trimmed cells))) i.0 i.1
+  where
+    go : (b : Bool) → in_row (trimmed cells) ≤ in_row cells → length (trimmed cells) ≤ length cells
+        → (in_row (if b then [] else cell ∷ trimmed cells) ≤ in_row (cell ∷ cells))
+        × (length (if b then [] else cell ∷ trimmed cells) ≤ length (cell ∷ cells))
+    go true h i = (omega arith, omega arith)
+    go false h i = (omega (arith, h), omega (arith, i))
+
+trimmed_rows : (g : List (List Inlines))
+    → (in_rows (map trimmed g) ≤ in_rows g) × (length (map trimmed g) ≡ length g)
+    × (lengths (map trimmed g) ≤ lengths g)
+trimmed_rows [] = (omega arith, refl, omega arith)
+trimmed_rows (cells ∷ g) =
+    let i = trimmed_rows g in
+    let c = trimmed_le cells in
+    (omega (arith, i.0, c.0), ap suc i.1, omega (arith, i.2, c.1))
+
+trimmed_grid : (g : List (List Inlines)) (rows : List Row) (places : ℕ) → IsGrid g rows places
+    → IsGrid (map trimmed g) rows places
+trimmed_grid g rows places h =
+    let i = trimmed_rows g in
+    record {
+      inside = omega (arith, i.0, h.inside);
+      many = omega (arith, i.1, h.many);
+      wide = omega (arith, i.2, h.wide);
+    }
+
 -- ---- the table
 
 width_le : (rows : List (List Inlines)) (k : ℕ)
@@ -163,19 +197,19 @@ padded_size columns w cells h i =
       i,
     )
 
-body_size : (columns w : ℕ) (rows : List (List Inlines)) → columns ≤ w → lengths rows ≤ w
-    → size_of_rows (body columns rows) ≤ length rows * suc w + in_rows rows
-body_size columns w [] h i = omega arith
-body_size columns w (cells ∷ rows) h i =
-    go (is_filled_row cells) (body_size columns w rows h (omega (arith, i)))
-  where
-    go : (t : Bool) → size_of_rows (body columns rows) ≤ length rows * suc w + in_rows rows
-        → size_of_rows
-        (map (padded columns) (if t then cells ∷ filter is_filled_row rows else filter is_filled_row rows))
-        ≤ suc (length rows) * suc w + (in_row cells + in_rows rows)
-    go true j =
-        omega (arith, j, padded_size columns w cells h (omega (arith, i)), suc-mul (length rows) (suc w))
-    go false j = omega (arith, j, suc-mul (length rows) (suc w))
+-- each is shorter than all of them together
+body_size : (w : ℕ) (rows : List (List Inlines)) → lengths rows ≤ w
+    → size_of_rows (filter has_cell rows) ≤ length rows * suc w + in_rows rows
+body_size w [] i = omega arith
+body_size w ([] ∷ rows) i = omega (arith, body_size w rows (omega (arith, i)), suc-mul (length rows) (suc w))
+body_size w ((content ∷ cells) ∷ rows) i =
+    omega (
+      arith,
+      body_size w rows (omega (arith, i)),
+      cells_size (content ∷ cells),
+      i,
+      suc-mul (length rows) (suc w),
+    )
 
 times_le : (a b k : ℕ) → a ≤ b → a * k ≤ b * k
 times_le a b k h = mul-le-mul_right k h
@@ -191,7 +225,7 @@ rows_cost al true (first ∷ rest) n w h i =
     omega (
       arith,
       padded_size columns w first c (omega (arith, i)),
-      body_size columns w rest c (omega (arith, i)),
+      body_size w rest (omega (arith, i)),
       h,
       times_le (length rest) n (suc w) (omega (arith, h)),
       suc-mul n (suc w),
@@ -202,7 +236,7 @@ rows_cost al false (first ∷ rest) n w h i =
     omega (
       arith,
       padded_size columns w [] c (omega arith),
-      body_size columns w (first ∷ rest) c i,
+      body_size w (first ∷ rest) i,
       h,
       times_le (suc (length rest)) n (suc w) h,
       suc-mul n (suc w),
@@ -211,14 +245,14 @@ rows_cost al false (first ∷ rest) n w h i =
 pub table_cost : (al : List Alignment) (t : Bool) (rows : List Row)
     → costs (block_part (table_if_filled al t (grid rows)))
     ≤ 2 + suc (length rows) * (8 * cell_count rows + 65) + in_all rows
-table_cost al t rows = go (list_any is_filled_row (grid rows))
+table_cost al t rows = go (nat_lt 0 (width (map trimmed (grid rows))))
   where
     go : (b : Bool)
-        → costs (block_part (if b then table_of al t (grid rows) else None))
+        → costs (block_part (if b then table_of al t (map trimmed (grid rows)) else None))
         ≤ 2 + suc (length rows) * (8 * cell_count rows + 65) + in_all rows
     go true =
-        let g = grid_is rows in
-        let c = rows_cost al t (grid rows) (length rows) (8 * cell_count rows + 64) g.many g.wide in
+        let g = trimmed_grid (grid rows) rows (8 * cell_count rows + 64) (grid_is rows) in
+        let c = rows_cost al t (map trimmed (grid rows)) (length rows) (8 * cell_count rows + 64) g.many g.wide in
         let e : suc (length rows) * suc (8 * cell_count rows + 64) ≡ suc (length rows) * (8 * cell_count rows + 65) =
         ap (λ (x : ℕ). suc (length rows) * x) (omega arith) in
         omega (arith, c, e, g.inside)

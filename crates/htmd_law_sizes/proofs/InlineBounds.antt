@@ -5,11 +5,13 @@ use Rattle.std.specs.Prelude.{◌&&◌, if◌then◌else◌, codes, Option, Some
 use Rattle.htmd_lexical.specs.Characters.{asterisk, tilde, underscore, right_square_bracket}
 use Rattle.htmd_markdown.specs.declared.link.LinkStyle.{LinkStyle}
 use Rattle.htmd_markdown.specs.declared.link.LinkStyle.TheVariants.{Inlined, InlinedPreferAutolinks, Referenced}
-use Rattle.htmd_document.specs.declared.document.Format.{Format}
-use Rattle.htmd_document.specs.declared.document.Format.TheVariants.{Emphasis, Strong, Deleted, Superscript, Subscript}
+use Rattle.htmd_document.specs.Formats.{Format}
+use Rattle.htmd_document.specs.Formats.{Emphasis, Strong, Deleted, Superscript, Subscript}
 use Rattle.htmd_document.specs.Documents.{Inline, Inlines, text, code, formatted, link, image, line_break, task}
 use Rattle.htmd_document.specs.Documents.{no_inlines, inline}
 use Rattle.htmd_commonmark.specs.declared.inline_ends.Following.{Following}
+use Rattle.htmd_document.specs.Documents.{anchor}
+use Rattle.htmd_document.specs.Tags as html
 use Rattle.htmd_commonmark.specs.declared.line.Line.{Line}
 use Rattle.htmd_commonmark.specs.declared.marks.Sides.{Sides}
 use Rattle.htmd_commonmark.specs.InlineEnds.{follows}
@@ -23,7 +25,7 @@ use Rattle.htmd_commonmark.specs.WrittenText.{Written, wrote}
 use Rattle.htmd_law_sizes.specs.DocumentSizes.{size_of_option, size_of_inline, size_of_inlines}
 use Rattle.htmd_law_sizes.proofs.CountsLemmas.{tally, is_break, Cost, tally_append, fixed, within}
 use Rattle.htmd_law_sizes.proofs.PieceBounds.{escaped_cost, ended_cost, code_cost, break_cost, task_cost, resource_cost}
-use Rattle.htmd_law_sizes.proofs.PieceBounds.{image_cost, autolink_cost, reference_cost, definition_cost}
+use Rattle.htmd_law_sizes.proofs.PieceBounds.{anchor_cost, image_cost, autolink_cost, reference_cost, definition_cost}
 
 -- ---- what was written, and more of it
 
@@ -189,6 +191,8 @@ mutual
   inline_grown line w f (image address name description) =
       up_to (wrote_grown w (written_image address name description) (image_cost address name description))
       (omega arith) (omega arith) (omega arith)
+  inline_grown line w f (anchor id) =
+      up_to (wrote_grown w (html.anchor id) (anchor_cost id)) (omega arith) (omega arith) (omega arith)
   inline_grown line w f line_break =
       up_to (wrote_grown w (written_break line) (break_cost line)) (omega arith) (omega arith) (omega arith)
   inline_grown line w f (task t) =

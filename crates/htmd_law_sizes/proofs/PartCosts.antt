@@ -12,6 +12,7 @@ use Rattle.htmd_lexical.specs.WhiteSpace.{is_ascii_white_space}
 use Rattle.htmd_document_of_tree.specs.declared.paragraphs.Latest.{Latest}
 use Rattle.htmd_document_of_tree.specs.declared.paragraphs.Latest.TheVariants.{Nothing, Task, Plain, Code}
 use Rattle.htmd_document.specs.Documents.{Inline, text, code, formatted, link, image, line_break, task, Inlines}
+use Rattle.htmd_document.specs.Documents.{anchor}
 use Rattle.htmd_document.specs.Documents.{no_inlines, inline, Block, Blocks, paragraph}
 use Rattle.htmd_document.specs.Documents as documents
 use Rattle.htmd_document_of_tree.specs.Flows.{blocks_of, line_of}
@@ -53,6 +54,7 @@ met_le (text s) (code t) = omega arith
 met_le (text s) (formatted format content) = omega arith
 met_le (text s) (link address title content) = omega arith
 met_le (text s) (image address title description) = omega arith
+met_le (text s) (anchor id) = omega arith
 met_le (text s) line_break = omega arith
 met_le (text s) (task is_checked) = omega arith
 met_le (code s) (text t) = omega arith
@@ -60,11 +62,13 @@ met_le (code s) (code t) = omega (arith, length-append s t)
 met_le (code s) (formatted format content) = omega arith
 met_le (code s) (link address title content) = omega arith
 met_le (code s) (image address title description) = omega arith
+met_le (code s) (anchor id) = omega arith
 met_le (code s) line_break = omega arith
 met_le (code s) (task is_checked) = omega arith
 met_le (formatted format content) y = omega arith
 met_le (link address title content) y = omega arith
 met_le (image address title description) y = omega arith
+met_le (anchor id) y = omega arith
 met_le line_break y = omega arith
 met_le (task is_checked) y = omega arith
 
@@ -81,6 +85,7 @@ content_le change k h (code s) = omega arith
 content_le change k h (formatted format content) = omega (arith, h content)
 content_le change k h (link address title content) = omega (arith, h content)
 content_le change k h (image address title description) = omega arith
+content_le change k h (anchor id) = omega arith
 content_le change k h line_break = omega arith
 content_le change k h (task is_checked) = omega arith
 

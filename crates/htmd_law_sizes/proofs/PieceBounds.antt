@@ -14,6 +14,7 @@ use Rattle.htmd_markdown.specs.LineBreaks as breaks
 use Rattle.htmd_markdown.specs.declared.line_break.BrStyle.{BrStyle}
 use Rattle.htmd_markdown.specs.declared.line_break.BrStyle.TheVariants.{TwoSpaces, Backslash}
 use Rattle.htmd_markdown.proofs.RunsLemmas.{longest_run-le-length}
+use Rattle.htmd_document.specs.Tags as html
 use Rattle.htmd_commonmark.specs.declared.line.Line.{Line}
 use Rattle.htmd_commonmark.specs.Addresses.{is_escaped, piece, escaped_in, needs_brackets, destination, title}
 use Rattle.htmd_commonmark.specs.CodeSpans.{code_span}
@@ -224,4 +225,29 @@ definition_cost n address name =
     (fixed is_break (codes "]: ") 3 refl refl))
     (destination_cost address))
     (title_cost name))
+    (omega arith) (omega arith)
+
+-- ---- anchors
+
+byte_cost : (b : ℕ) → Cost is_break (html.in_value b) 6 1
+byte_cost b =
+    either (b == 38) (within (fixed is_break (codes "&amp;") 5 refl refl) (omega arith) (omega arith))
+    (either (b == 60) (within (fixed is_break (codes "&lt;") 4 refl refl) (omega arith) (omega arith))
+    (either (b == 62) (within (fixed is_break (codes "&gt;") 4 refl refl) (omega arith) (omega arith))
+    (either (b == 34) (within (fixed is_break (codes "&quot;") 6 refl refl) (omega arith) (omega arith))
+    (either (b == 124) (within (fixed is_break (codes "&#124;") 6 refl refl) (omega arith) (omega arith))
+    (either (b == 93) (within (fixed is_break (codes "&#93;") 5 refl refl) (omega arith) (omega arith))
+    (within (cost_cons b (empty is_break)) (omega arith) (omega arith)))))))
+
+value_cost : (s : List ℕ) → Cost is_break (html.escaped_value s) (6 * length s) (length s)
+value_cost [] = within (empty is_break) (omega arith) (omega arith)
+value_cost (b ∷ s) = within (cost_append (byte_cost b) (value_cost s)) (omega arith) (omega arith)
+
+pub anchor_cost : (id : List ℕ) → Cost is_break (html.anchor id) (6 * length id + 13) (length id)
+anchor_cost id =
+    within
+    (cost_append
+    (cost_append (cost_append (fixed is_break (codes "<a id=\"") 7 refl refl) (value_cost id))
+    (fixed is_break (codes "\">") 2 refl refl))
+    (fixed is_break (codes "</a>") 4 refl refl))
     (omega arith) (omega arith)

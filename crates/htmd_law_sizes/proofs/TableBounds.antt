@@ -1,21 +1,19 @@
 -- How long the lines of a table are at most.
 use Rattle.std.proofs.Common.{◌≡◌, ◌∙◌, refl, sym, ap, ℕ, zero, suc, ◌+◌, ◌*◌, ◌-◌, ◌≤◌, Bool, true, false, List, []}
-use Rattle.std.proofs.Common.{◌∷◌, ◌++◌, length, take, mul-zero, mul-suc, arith}
+use Rattle.std.proofs.Common.{◌∷◌, ◌++◌, length, mul-zero, mul-suc, arith}
 use Rattle.std.proofs.lemmas.Bool.Decides.{nat_tests}
-use Rattle.std.proofs.lemmas.List.{length-replicate}
+use Rattle.std.proofs.lemmas.List.{length-append, length-replicate}
 use Rattle.std.specs.Prelude.{◌||◌, ◌==◌, nat_le, max, fold, map, if◌then◌else◌, replicate, codes}
-use Rattle.std.specs.List.{suffix_len}
-use Rattle.std.specs.Str.{chars}
 use Rattle.htmd_lexical.specs.Characters.{line_feed, space, hyphen, colon, vertical_bar}
-use Rattle.htmd_lexical.specs.CharacterClasses.{is_empty}
 use Rattle.htmd_text.specs.Trims.{is_line_feed}
-use Rattle.htmd_markdown.specs.Tables.{padded_cell, barred_cells, line}
 use Rattle.htmd_document.specs.declared.document.Alignment.{Alignment}
 use Rattle.htmd_document.specs.Documents.{Inlines}
 use Rattle.htmd_commonmark.specs.declared.line.Line.{Line}
 use Rattle.htmd_commonmark.specs.BlockMarkdown.{written_cells, written_rows}
 use Rattle.htmd_commonmark.specs.InlineMarkdown.{written_line}
-use Rattle.htmd_commonmark.specs.TableLines.{with_escaped_bars, narrowest, longest_padded, width_of, widened}
+use Rattle.htmd_commonmark.specs.TableLines.{with_escaped_bars, narrowest, longest_padded, widened}
+use Rattle.htmd_commonmark.specs.TableLines.{padded_cell, barred_cells, line}
+use Rattle.htmd_commonmark.specs.Columns.{width_of}
 use Rattle.htmd_commonmark.specs.TableLines.{column_widths, line_width, is_left, is_right, colon_if, dashes, delimiters}
 use Rattle.htmd_commonmark.specs.TableLines.{shown_cells, rows_text, lines_of, table_text}
 use Rattle.htmd_law_sizes.specs.DocumentSizes.{size_of_cells, size_of_rows}
@@ -132,7 +130,7 @@ padded_cost cell w =
     within
     (plain_cons space refl
     (cost_append (own cell)
-    (cost_append (repeated is_line_feed space refl (w - length (chars cell)))
+    (cost_append (repeated is_line_feed space refl (w - width_of cell))
     (plain_cons space refl (empty is_line_feed)))))
     (omega arith) (omega arith)
 
@@ -173,31 +171,57 @@ delimiters_cost (a ∷ al) (w ∷ ws) =
 
 -- ---- the cells that are shown
 
-record Fewer (shown cells : List (List ℕ)) : Type 0 where
-  long : total shown + 3 * length shown ≤ total cells + 3 * length cells
+total_more : (cells more : List (List ℕ)) → total (cells ++ more) ≡ total cells + total more
+total_more [] more = omega arith
+total_more (cell ∷ cells) more = omega (arith, total_more cells more)
+
+feeds_more : (cells more : List (List ℕ)) → feeds (cells ++ more) ≡ feeds cells + feeds more
+feeds_more [] more = omega arith
+feeds_more (cell ∷ cells) more = omega (arith, feeds_more cells more)
+
+total_none : (k : ℕ) → total (replicate k []) ≡ 0
+total_none zero = refl
+total_none (suc k) = omega (arith, total_none k)
+
+feeds_none : (k : ℕ) → feeds (replicate k []) ≡ 0
+feeds_none zero = refl
+feeds_none (suc k) = omega (arith, feeds_none k)
+
+-- what empty cells can add to a row
+abbrev filling : Bool → ℕ → ℕ
+filling t columns = if t then 3 * columns else 0
+
+record Shown (t : Bool) (columns : ℕ) (shown cells : List (List ℕ)) : Type 0 where
+  long : total shown + 3 * length shown ≤ total cells + 3 * length cells + filling t columns
   fed : feeds shown ≤ feeds cells
 
-taken : (k : ℕ) (cells : List (List ℕ)) → Fewer (take k cells) cells
-taken zero cells = record { long = omega arith; fed = omega arith }
-taken (suc k) [] = record { long = omega arith; fed = omega arith }
-taken (suc k) (cell ∷ cells) =
-    let i = taken k cells in
-    record { long = omega (arith, i.long); fed = omega (arith, i.fed) }
+shown_cost : (t : Bool) (columns : ℕ) (cells : List (List ℕ))
+    → Shown t columns (shown_cells t columns cells) cells
+shown_cost true columns cells =
+    let k = columns - length cells in
+    let more : List (List ℕ) = replicate k [] in
+    record {
+      long =
+          omega (
+            arith,
+            total_more cells more,
+            total_none k,
+            length-append cells more,
+            length-replicate {A = List ℕ} k [],
+          );
+      fed = omega (arith, feeds_more cells more, feeds_none k);
+    }
+shown_cost false columns cells = record { long = omega arith; fed = omega arith }
 
-shown_fewer : (t : Bool) (cells : List (List ℕ)) → Fewer (shown_cells t cells) cells
-shown_fewer true cells = record { long = omega arith; fed = omega arith }
-shown_fewer false [] = record { long = omega arith; fed = omega arith }
-shown_fewer false (cell ∷ cells) =
-    let i = taken (length cells - suffix_len is_empty cells) cells in
-    record { long = omega (arith, i.long); fed = omega (arith, i.fed) }
-
-rows_text_cost : (t : Bool) (ws : List ℕ) (rows : List (List (List ℕ))) → all_of ws ≤ 100
+rows_text_cost : (t : Bool) (ws : List ℕ) (rows : List (List (List ℕ)))
+    → all_of ws + filling t (length ws) ≤ 100
     → Cost is_line_feed (rows_text t ws rows) (rows_total rows) (rows_feeds rows)
 rows_text_cost t ws [] h = within (empty is_line_feed) (omega arith) (omega arith)
 rows_text_cost t ws (cells ∷ rows) h =
-    let f = shown_fewer t cells in
-    let g = line_of_cells (shown_cells t cells) ws in
-    let l : Cost is_line_feed (line_feed ∷ line (shown_cells t cells) ws) (102 + (total cells + 3 * length cells))
+    let shown = shown_cells t (length ws) cells in
+    let f = shown_cost t (length ws) cells in
+    let g = line_of_cells shown ws in
+    let l : Cost is_line_feed (line_feed ∷ line shown ws) (102 + (total cells + 3 * length cells))
     (suc (feeds cells)) = within (cost_cons line_feed g) (omega (arith, f.long, h)) (omega (arith, f.fed)) in
     within (cost_append l (rows_text_cost t ws rows h)) (omega arith) (omega arith)
 
@@ -205,13 +229,14 @@ rows_text_cost t ws (cells ∷ rows) h =
 
 lines_cost : (t : Bool) (ws dashed : List ℕ) (al : List Alignment) (header : List (List ℕ))
     (rows : List (List (List ℕ)))
-    → all_of ws ≤ 100 → all_of dashed + 5 * length dashed ≤ 100 + 8 * length header
+    → all_of ws + filling t (length ws) ≤ 100 → all_of dashed + 5 * length dashed ≤ 100 + 8 * length header
     → Cost is_line_feed (lines_of t ws dashed al header rows)
     (203 + total header + 11 * length header + rows_total rows) (1 + feeds header + rows_feeds rows)
 lines_cost t ws dashed al header rows h i =
     let first = line_of_cells header ws in
     let second = cost_append (bar_below) (delimiters_cost al dashed) in
-    within (cost_append (cost_append first second) (rows_text_cost t ws rows h)) (omega (arith, h, i)) (omega arith)
+    let k : all_of ws ≤ 100 = omega (arith, h) in
+    within (cost_append (cost_append first second) (rows_text_cost t ws rows h)) (omega (arith, k, i)) (omega arith)
   where
     bar_below : Cost is_line_feed (codes "\n|") 2 1
     bar_below = record { long = omega arith; passing = omega arith }

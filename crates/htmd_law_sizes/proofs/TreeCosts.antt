@@ -25,6 +25,7 @@ use Rattle.htmd_document_of_tree.specs.TreeDocuments.{document_of_tree}
 use Rattle.htmd_law_sizes.specs.SizeLaws.{DocumentIsBounded}
 use Rattle.htmd_law_sizes.specs.TreeSizes.{size_of_values, size_of_tree, size_of_forest}
 use Rattle.htmd_law_sizes.proofs.BlockBounds.{characters_le}
+use Rattle.htmd_document.specs.Formats.{of_format, of_element}
 use Rattle.htmd_law_sizes.proofs.ContextRooms.{Within, bare_within, within_format}
 use Rattle.htmd_law_sizes.proofs.ElementCosts.{Prices, price_suc, text_cost, one_cost, anchor_within, image_cost}
 use Rattle.htmd_law_sizes.proofs.ElementCosts.{box_cost, heading_cost, quote_cost, verbatim_cost}
@@ -138,8 +139,12 @@ element_le : (p r m a f : ℕ) (x : Role) (id : ℕ) (attributes : List Attribut
     → costs (parts_of x id attributes children nodes lines c) + 4 ≤ p * suc (a + f)
 element_le p r m a f (role.Format g) id attributes children nodes lines c l e w =
     around_flow p r m a f 0 attributes children nodes lines
-    (parts_of (role.Format g) id attributes children nodes lines c) (inside_format g c) e
-    (within_format r g c w) (omega arith) (omega arith)
+    (parts_of (role.Format g) id attributes children nodes lines c) (inside_format (of_format g) c) e
+    (within_format r (of_format g) c w) (omega arith) (omega arith)
+element_le p r m a f (role.Element x) id attributes children nodes lines c l e w =
+    around_flow p r m a f 0 attributes children nodes lines
+    (parts_of (role.Element x) id attributes children nodes lines c) (inside_format (of_element x) c) e
+    (within_format r (of_element x) c w) (omega arith) (omega arith)
 element_le p r m a f role.Code id attributes children nodes lines c l e w =
     around_flow p r m a f 0 attributes children nodes lines
     (parts_of role.Code id attributes children nodes lines c) (in_code c) e w (omega arith) (omega arith)

@@ -2,7 +2,7 @@
 use Rattle.std.proofs.Common.{◌≡◌, refl, ℕ, zero, suc, ◌+◌, ◌*◌, ◌-◌, ◌<◌, ◌≤◌, Bool, true, false, List, [], ◌∷◌, ◌++◌}
 use Rattle.std.proofs.Common.{length, map, take, drop, arith}
 use Rattle.std.proofs.lemmas.Bool.Decides.{nat_tests}
-use Rattle.std.specs.Prelude.{◌&&◌, ◌||◌, max, nat_le, not, fold, if◌then◌else◌, codes, Option, Some, None, ℤ}
+use Rattle.std.specs.Prelude.{◌&&◌, ◌||◌, max, nat_le, nat_lt, not, fold, if◌then◌else◌, codes, Option, Some, None, ℤ}
 use Rattle.std.specs.List.{list_any}
 use Rattle.std.specs.Char.{encode_utf8}
 use Rattle.std.specs.Str.{chars}
@@ -19,7 +19,7 @@ use Rattle.htmd_document_of_tree.specs.Attributes.{value_of, has_attribute, text
 use Rattle.htmd_document_of_tree.specs.Attributes.{is_any_case, is_filled}
 use Rattle.htmd_document_of_tree.specs.Contexts.{Context, bare, is_lined, is_format, is_link, inside_format}
 use Rattle.htmd_document_of_tree.specs.Contexts.{inside_link, in_code, in_one_line, deeper, run_in, apart}
-use Rattle.htmd_document.specs.declared.document.Format.{Format}
+use Rattle.htmd_document.specs.Formats.{Format, of_format, of_element}
 use Rattle.htmd_document.specs.Documents.{Inlines, no_inlines, inline, Block, Blocks, no_blocks, block, paragraph}
 use Rattle.htmd_document.specs.Documents.{heading, code_block, quote, thematic_break}
 use Rattle.htmd_document.specs.Documents as documents
@@ -496,10 +496,10 @@ grid_width al t (first ∷ rest) = refl
 
 filled_grid_width : (al : List Alignment) (t : Bool) (g : List (List Inlines))
     → widest (block_part (grids.table_if_filled al t g)) ≡ 0
-filled_grid_width al t g = go (list_any grids.is_filled_row g)
+filled_grid_width al t g = go (nat_lt 0 (grids.width (map grids.trimmed g)))
   where
-    go : (b : Bool) → widest (block_part (if b then grids.table_of al t g else None)) ≡ 0
-    go true = grid_width al t g
+    go : (b : Bool) → widest (block_part (if b then grids.table_of al t (map grids.trimmed g) else None)) ≡ 0
+    go true = grid_width al t (map grids.trimmed g)
     go false = refl
 
 rows_width : (rows : List Row) (contents : List grids.Row) → widest (block_part (block_of_rows rows contents)) ≡ 0
@@ -539,7 +539,9 @@ element_width : (x : Role) (id : ℕ) (attributes : List AttributePair) (childre
     (lines : List Line) (c : Context) → AllNarrow nodes → AllLines lines
     → widest (parts_of x id attributes children nodes lines c) ≤ deep c
 element_width (role.Format g) id attributes children nodes lines c f l =
-    flow_inside nodes c (inside_format g c) f (format_nested g c)
+    flow_inside nodes c (inside_format (of_format g) c) f (format_nested (of_format g) c)
+element_width (role.Element x) id attributes children nodes lines c f l =
+    flow_inside nodes c (inside_format (of_element x) c) f (format_nested (of_element x) c)
 element_width role.Code id attributes children nodes lines c f l = flow_inside nodes c (in_code c) f refl
 element_width role.Anchor id attributes children nodes lines c f l =
     let o = value_of (codes "href") attributes in

@@ -1,7 +1,7 @@
 -- How big a document is, and how wide what its quotes and items put before a line.
 use Rattle.std.specs.Prelude.{ℕ, suc, ◌+◌, max, List, [], ◌∷◌, length, Option, Some, None}
 use Rattle.std.specs.Fmt.{decimal}
-use Rattle.htmd_document.specs.Documents.{Inline, Inlines, text, code, formatted, link, image, line_break, task}
+use Rattle.htmd_document.specs.Documents.{Inline, Inlines, text, code, formatted, link, image, anchor, line_break, task}
 use Rattle.htmd_document.specs.Documents.{no_inlines, inline, Block, Blocks, Items, paragraph, heading, code_block}
 use Rattle.htmd_document.specs.Documents.{quote}
 use Rattle.htmd_document.specs.Documents.{thematic_break, list, table, no_blocks, block, no_items, item}
@@ -26,6 +26,7 @@ abbrev mutual
   size_of_inline (link address title content) =
       suc (length address + size_of_option title + size_of_inlines content)
   size_of_inline (image address title description) = suc (length address + size_of_option title + length description)
+  size_of_inline (anchor id) = suc (length id)
   size_of_inline line_break = 1
   size_of_inline (task is_checked) = 1
 

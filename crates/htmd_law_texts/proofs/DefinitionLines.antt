@@ -1,5 +1,5 @@
 -- The lines of link definitions are read as those.
-use Rattle.std.proofs.Common.{◌≡◌, ◌∙◌, refl, ap, sym, subst, ℕ, ◌+◌, ◌-◌, ◌<◌, true, false, List, []}
+use Rattle.std.proofs.Common.{◌≡◌, ◌∙◌, refl, ap, sym, subst, ℕ, ◌-◌, true, false, List, []}
 use Rattle.std.proofs.Common.{◌∷◌, ◌++◌, Option, Some, None, codes, append_assoc, arith}
 use Rattle.std.specs.Prelude.{length, ◌==◌, ◌&&◌, if◌then◌else◌, not, slice_get}
 use Rattle.std.specs.List.{list_all, list_any}
@@ -9,7 +9,7 @@ use Rattle.std.proofs.lemmas.Bool.{or_parts, eqb-true}
 use Rattle.std.proofs.lemmas.List.{append-nil, length-append}
 use Rattle.htmd_lexical.specs.Characters.{is_one_of}
 use Rattle.htmd_lexical.specs.CharacterClasses.{first_is}
-use Rattle.htmd_commonmark.specs.Addresses.{escaped_in, needs_brackets, is_space_or_control, is_escaped, may_escape}
+use Rattle.htmd_commonmark.specs.Addresses.{escaped_in, needs_brackets, is_space_or_control, may_escape}
 use Rattle.htmd_commonmark.specs.Addresses as writer
 use Rattle.htmd_commonmark.specs.InlineMarkdown as writing
 use Rattle.htmd_commonmark_reading.specs.Characters.{unescaped}

@@ -5,13 +5,14 @@ use Rattle.std.specs.Prelude.{length, ◌&&◌, if◌then◌else◌}
 use Rattle.std.specs.List.{list_all}
 use Rattle.std.specs.Str.{is_utf8}
 use Rattle.std.proofs.lemmas.Bool.{and_parts}
-use Rattle.htmd_document.specs.declared.document.Format.{Format}
+use Rattle.htmd_document.specs.Formats.{Format}
 use Rattle.htmd_document.specs.Documents.{Inline, text, code, formatted, link, image, line_break, task}
 use Rattle.htmd_document.specs.Documents.{Inlines, no_inlines, inline, Block, Blocks, Items, paragraph, heading}
 use Rattle.htmd_document.specs.Documents.{code_block, quote}
 use Rattle.htmd_document.specs.Documents.{thematic_break, list, table, no_blocks, block, no_items, item}
 use Rattle.htmd_markdown.specs.declared.link.LinkStyle.{LinkStyle}
 use Rattle.htmd_markdown.specs.declared.link.LinkStyle.TheVariants.{Inlined, InlinedPreferAutolinks, Referenced}
+use Rattle.htmd_document.specs.Documents.{anchor}
 use Rattle.htmd_commonmark.specs.declared.blocks.Place.{Place}
 use Rattle.htmd_commonmark.specs.declared.line.Line.{Line}
 use Rattle.htmd_commonmark.specs.declared.line.LineKind.{LineKind}
@@ -159,6 +160,7 @@ mutual
       (all_grown (in_link line) (wrote w (codes "[")) (Some 93) around content q.4)
       (address_grown line.link_style after a t (and_parts (is_utf8 a) (list_all is_kept a) q.1).1 q.2)))
   one_grown line w f around (image a t description) h = grown_same w.definitions
+  one_grown line w f around (anchor id) h = grown_same w.definitions
   one_grown line w f around line_break h = grown_same w.definitions
   one_grown line w f around (task is_checked) h = absurd (cc)
 
@@ -185,6 +187,8 @@ item_grown options definitions (inline (link a t content) rest) h =
     line_grown options Paragraph definitions (inline (link a t content) rest) h
 item_grown options definitions (inline (image a t e) rest) h =
     line_grown options Paragraph definitions (inline (image a t e) rest) h
+item_grown options definitions (inline (anchor id) rest) h =
+    line_grown options Paragraph definitions (inline (anchor id) rest) h
 item_grown options definitions (inline line_break rest) h =
     line_grown options Paragraph definitions (inline line_break rest) h
 

@@ -1,6 +1,6 @@
 -- Codes, marks, tags, links and images at the beginning of a line begin no block.
 use Rattle.std.proofs.Common.{◌≡◌, ◌∙◌, refl, ap, sym, subst, ℕ, zero, suc, ◌+◌, Bool, true, false, List, [], ◌∷◌, ◌++◌}
-use Rattle.std.proofs.Common.{None, codes, append_assoc, arith}
+use Rattle.std.proofs.Common.{None, Some, codes, append_assoc, arith, drop}
 use Rattle.std.specs.Prelude.{length, ◌==◌, ◌&&◌, ◌||◌, if◌then◌else◌, not, nat_le, slice_index, replicate, ◌-◌}
 use Rattle.std.specs.List.{list_all, prefix_len}
 use Rattle.std.specs.Char.{is_ascii_alphanumeric, is_ascii_alphabetic}
@@ -17,7 +17,10 @@ use Rattle.htmd_commonmark_reading.specs.RawTags.{tag_rest, in_tag_name, open_ta
 use Rattle.htmd_commonmark_reading.specs.BlockStarts.{After, alone, under, no_start, started, is_same}
 use Rattle.htmd_commonmark_reading.specs.BlockStarts.{is_empty_or_blank, fence_start, block_ends, is_text_block}
 use Rattle.htmd_commonmark_reading.specs.BlockStarts.{is_block_tag, is_lone_tag, ends_name, block_name_rest}
-use Rattle.htmd_commonmark_reading.specs.BlockStarts.{without_slash, is_alone}
+use Rattle.htmd_commonmark_reading.specs.BlockStarts.{without_slash, is_alone, is_of_text, fills}
+use Rattle.htmd_document.specs.Tags as html
+use Rattle.htmd_law_inlines.proofs.AnchorValues.{unquoted}
+use Rattle.htmd_law_inlines.proofs.AnchorPieces.{quoted}
 use Rattle.htmd_law_blocks.specs.LineTexts.{IsFirstLine, IsFurtherLine}
 use Rattle.htmd_law_inlines.proofs.TextPieces.{test, differs}
 use Rattle.htmd_law_inlines.proofs.ReferencePieces.{one_of}
@@ -316,3 +319,48 @@ autolink_line (c ∷ s) m h =
     let t = (c ∷ s) ++ (62 ∷ m) in
     both_by 60 t angle_lead refl
     (λ a k. black_start a k 60 t refl ∙ rw (autolink_ends a c s (62 ∷ m) l w) refl)
+
+-- ---- anchors
+
+-- an anchor's first tag and what follows it, without the angle bracket
+abbrev anchor_start : List ℕ → List ℕ → List ℕ
+anchor_start id u = codes "a id=\"" ++ (html.escaped_value id ++ (34 ∷ 62 ∷ u))
+
+tag_opens : (id u : List ℕ) → open_tag (anchor_start id u) ≡ Some (anchor_start id [])
+tag_opens id u = rw (quoted (html.escaped_value id) u (unquoted id)) refl
+
+drop_front : (s u : List ℕ) → drop (length s) (s ++ u) ≡ u
+drop_front [] u = refl
+drop_front (c ∷ s) u = drop_front s u
+
+-- the end tag follows it in its line
+not_alone : (id m : List ℕ) → is_lone_tag (anchor_start id (codes "</a>" ++ m)) ≡ false
+not_alone id m =
+    let u = codes "</a>" ++ m in
+    let t = anchor_start id u in
+    let tag = anchor_start id [] in
+    let split : t ≡ tag ++ u =
+    ap (λ l. codes "a id=\"" ++ l) (sym (append_assoc (html.escaped_value id) (34 ∷ 62 ∷ []) u)) in
+    let text : is_blank_text (drop (length tag) t) ≡ false =
+    ap is_blank_text (ap (drop (length tag)) split ∙ drop_front tag u) in
+    and_right (not (is_of_text (without_slash t))) (fills t (open_tag t) || fills t (closing_tag t))
+    (ap (λ o. fills t o || fills t (closing_tag t)) (tag_opens id u)
+    ∙ ap (λ b. b || fills t (closing_tag t)) text)
+
+anchor_ends : (a : After) (id m : List ℕ) → block_ends a (anchor_start id (codes "</a>" ++ m)) ≡ None
+anchor_ends a id m =
+    let t = anchor_start id (codes "</a>" ++ m) in
+    let last : (false || is_alone a && is_lone_tag t) ≡ false =
+    ap (λ b. false || is_alone a && b) (not_alone id m) ∙ and_right (is_alone a) false refl in
+    ap (λ b. if b then Some [] else None) last
+
+pub anchor_line : (id m : List ℕ) → Both (html.anchor id ++ m)
+anchor_line id m =
+    let v = html.escaped_value id in
+    let u = codes "</a>" ++ m in
+    let t = anchor_start id u in
+    let is : html.anchor id ++ m ≡ 60 ∷ t =
+    append_assoc (html.anchor_tag id) html.end_of_anchor m ∙ append_assoc (codes "<a id=\"" ++ v) (codes "\">") u
+    ∙ append_assoc (codes "<a id=\"") v (34 ∷ 62 ∷ u) in
+    subst Both (sym is)
+    (both_by 60 t angle_lead refl (λ a k. black_start a k 60 t refl ∙ rw (anchor_ends a id m) refl))

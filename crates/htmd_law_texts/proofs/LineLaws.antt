@@ -9,7 +9,9 @@ use Rattle.std.proofs.lemmas.List.{append-nil}
 use Rattle.std.proofs.lemmas.Str.{chars-nil, IsUtf8-nil}
 use Rattle.htmd_lexical.specs.CharacterClasses.{first_is}
 use Rattle.htmd_document.specs.Documents.{Inline, text, code, formatted, link, image, line_break, task}
+use Rattle.htmd_document.specs.Documents.{anchor}
 use Rattle.htmd_document.specs.Documents.{Inlines, no_inlines, inline}
+use Rattle.htmd_law_texts.proofs.NormalForm.{paragraph_parts, heading_parts}
 use Rattle.htmd_commonmark.specs.declared.line.LineKind.{LineKind}
 use Rattle.htmd_commonmark.specs.declared.line.LineKind.TheVariants.{Paragraph, Heading, Cell}
 use Rattle.htmd_commonmark.specs.declared.options.DocumentOptions.{DocumentOptions}
@@ -22,9 +24,9 @@ use Rattle.htmd_law_blocks.specs.LineTexts.{is_line_character, lines_of, AreText
 use Rattle.htmd_law_blocks.specs.LineTexts.{IsHeadingText, IsUnderlinedText, IsCellText}
 use Rattle.htmd_law_blocks.specs.DocumentParts.{paragraph_text, heading_text}
 use Rattle.htmd_law_blocks.specs.DocumentTexts.{IsHeading}
-use Rattle.htmd_document.specs.NormalDocuments.{is_level, is_normal_paragraph, is_normal_heading}
+use Rattle.htmd_document.specs.NormalDocuments.{is_normal_paragraph, is_normal_heading}
 use Rattle.htmd_document.specs.NormalInlines.{is_normal, are_normal, is_normal_line, is_normal_item, are_whole}
-use Rattle.htmd_document.specs.NormalInlines.{are_trimmed, has_none, first_passes, last_passes, is_break}
+use Rattle.htmd_document.specs.NormalInlines.{are_trimmed, first_passes, last_passes, is_break}
 use Rattle.htmd_document.specs.NormalInlines.{begins_with_space, ends_with_space, meets}
 use Rattle.htmd_law_inlines.proofs.TextPieces.{test}
 use Rattle.htmd_law_texts.proofs.WrittenPieces.{pieces, text_is}
@@ -103,6 +105,7 @@ no_lead (code s) h = refl
 no_lead (formatted g content) h = (format_parts false [] g content h).4
 no_lead (link a t content) h = refl
 no_lead (image a t d) h = refl
+no_lead (anchor i) h = refl
 no_lead line_break h = refl
 no_lead (task c) h = refl
 
@@ -172,6 +175,7 @@ after_task options w (inline (code s) rest) h = absurd (cc)
 after_task options w (inline (formatted g content) rest) h = absurd (cc)
 after_task options w (inline (link a t content) rest) h = absurd (cc)
 after_task options w (inline (image a t d) rest) h = absurd (cc)
+after_task options w (inline (anchor i) rest) h = absurd (cc)
 after_task options w (inline line_break rest) h = absurd (cc)
 after_task options w (inline (task c) rest) h = absurd (cc)
 
@@ -225,6 +229,7 @@ is_item (code s) rest h = inr h
 is_item (formatted g content) rest h = inr h
 is_item (link a t content) rest h = inr h
 is_item (image a t d) rest h = inr h
+is_item (anchor id) rest h = inr h
 is_item line_break rest h = inr h
 
 some_text : (options : DocumentOptions) (definitions : List (List ℕ)) (begins_item : Bool) (x : Inline)
@@ -248,10 +253,8 @@ pub paragraph_is_text : (options : DocumentOptions) (definitions : List (List �
     → IsLineText (paragraph_text options definitions xs)
 paragraph_is_text options definitions b no_inlines h = absurd (cc)
 paragraph_is_text options definitions b (inline x rest) h =
-    let p = and_parts (not (has_none (inline x rest)))
-    (if b then is_normal_item (inline x rest) else is_normal_line (inline x rest)) h in
     subst IsLineText (sym (line_is options definitions Paragraph (inline x rest)))
-    (some_text options definitions b x rest p.1)
+    (some_text options definitions b x rest (paragraph_parts b (inline x rest) h))
 
 -- ---- headings
 
@@ -295,10 +298,10 @@ pub heading_is_text : (options : DocumentOptions) (definitions : List (List ℕ)
     → is_normal_heading level xs ≡ true
     → IsHeading (is_underlined options level xs) (heading_text options definitions level xs)
 heading_is_text options definitions level no_inlines h =
-    let x = (and_parts (is_level level) false (and_parts (is_level level && false) true h).0).1 in absurd (cc)
+    let x : true ≡ false = (heading_parts level no_inlines h).1 in absurd (cc)
 heading_is_text options definitions level (inline x rest) h =
     let xs = inline x rest in
-    let p = (and_parts (is_level level && not (has_none xs)) (is_normal_line xs) h).1 in
+    let p = (heading_parts level xs h).2 in
     test (is_underlined options level xs)
     (λ e. rw e (subst IsUnderlinedText (sym (line_is options definitions Paragraph xs))
     (underlined_text options definitions x rest p

@@ -9,8 +9,9 @@ use Rattle.std.proofs.lemmas.Bool.{and_parts, or_parts, eqb-true, not-true}
 use Rattle.htmd_lexical.specs.Characters.{grave_accent, is_one_of}
 use Rattle.htmd_lexical.specs.CharacterClasses.{first_is}
 use Rattle.htmd_text.specs.EscapedPlaces.{with_backslashes}
-use Rattle.htmd_document.specs.declared.document.Format.{Format}
+use Rattle.htmd_document.specs.Formats.{Format}
 use Rattle.htmd_document.specs.Documents.{Inline, text, code, formatted, link, image, line_break, task}
+use Rattle.htmd_document.specs.Documents.{anchor}
 use Rattle.htmd_document.specs.Documents.{Inlines, no_inlines, inline}
 use Rattle.htmd_markdown.specs.declared.line_break.BrStyle.{BrStyle}
 use Rattle.htmd_markdown.specs.declared.line_break.BrStyle.TheVariants.{TwoSpaces, Backslash}
@@ -298,6 +299,9 @@ mutual
       let q = (link_parts line.in_link around a t content h).0 in
       let x : true ≡ false = sym b ∙ q in absurd (cc)
   fine_piece line p w g around (image a t d) k b h n f = refl
+  fine_piece line p w g around (anchor id) k b h n f =
+      let q = (and_parts (not line.in_link) (is_text id) (and_parts (not line.in_link && is_text id) _ h).0).0 in
+      let x : true ≡ false = sym b ∙ not-true line.in_link q in absurd (cc)
   fine_piece line p w g around line_break k b h n f = fine_break line p k f
   fine_piece line p w g around (task c) k b h n f = absurd (cc)
 
@@ -357,6 +361,7 @@ undefined_first line p w g around (link a name content) k b h =
     (fine_pieces (in_link line) p' v (Some 93) around content (e ++ k) refl q.4
     (subst (λ l. IsNext (Some 93) (l ++ k)) (sym d.1) (end_next d.0 k)) (fine_end line.link_style n a name k)))))
 undefined_first line p w g around (image a t d) k b h = refl
+undefined_first line p w g around (anchor i) k b h = refl
 undefined_first line p w g around line_break k b h = absurd (cc)
 undefined_first line p w g around (task c) k b h = absurd (cc)
 

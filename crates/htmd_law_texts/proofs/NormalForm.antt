@@ -1,6 +1,6 @@
 -- What the normal form of a document says of its parts, and its blocks as their laws ask for them.
 use Rattle.std.proofs.Common.{◌≡◌, ◌∙◌, refl, ap, sym, ℕ, suc, Bool, true, false, List, [], ◌∷◌, ◌++◌, Option, Some}
-use Rattle.std.proofs.Common.{None, arith}
+use Rattle.std.proofs.Common.{None, arith, ◌≤◌}
 use Rattle.std.specs.Prelude.{◌==◌, ◌&&◌, ◌||◌, if◌then◌else◌, not, length, reverse, nat_le}
 use Rattle.std.specs.List.{list_all}
 use Rattle.std.proofs.lemmas.Bool.{and_parts, not-true}
@@ -13,18 +13,20 @@ use Rattle.htmd_document.specs.Documents.{Inlines, Block, Blocks, Items, paragra
 use Rattle.htmd_document.specs.Documents.{thematic_break, list, table, no_blocks, block, no_items, item}
 use Rattle.htmd_document.specs.DocumentLimits.{most_nested}
 use Rattle.htmd_document.specs.TightItems.{is_filled}
-use Rattle.htmd_document.specs.NormalInlines.{has_none, is_normal_line, is_normal_item}
+use Rattle.htmd_document.specs.NormalInlines.{has_none, is_normal_line, is_normal_item, are_anchors}
+use Rattle.htmd_document.specs.NormalInlines.{anchors_stand_well, anchors_are_first}
 use Rattle.htmd_document.specs.NormalDocuments as form
 use Rattle.htmd_document.specs.NormalDocuments.{is_normal_paragraph, is_level, is_normal_heading, is_language_byte}
 use Rattle.htmd_document.specs.NormalDocuments.{is_language, has_language, is_code_byte, is_normal_list}
-use Rattle.htmd_document.specs.NormalDocuments.{has_filled_item, has_right_distance, are_tight, is_normal_row}
+use Rattle.htmd_document.specs.NormalDocuments.{has_filled_item, has_right_distance, are_tight, is_normal_row, ends_filled}
+use Rattle.htmd_document.specs.NormalDocuments.{are_normal_cells, has_right_length}
 use Rattle.htmd_document.specs.NormalDocuments.{is_normal_table, has_cell, is_normal_block, are_normal_blocks}
 use Rattle.htmd_document.specs.NormalDocuments.{are_normal_items, depth_among, IsNormal}
 use Rattle.htmd_commonmark.specs.BlockMarkdown.{item_count}
 use Rattle.htmd_commonmark_reading.specs.Boxes.{is_end_of_word, nonempty}
 use Rattle.htmd_commonmark_reading.specs.Characters.{is_space_or_tab, escaped, unescaped, resolved, itself, Piece}
 use Rattle.htmd_law_blocks.specs.LineTexts.{is_line_character}
-use Rattle.htmd_law_blocks.specs.NormalBlocks.{IsLanguage, HasLanguage, HasBlock, HasItem, HasCell, AreAsLong}
+use Rattle.htmd_law_blocks.specs.NormalBlocks.{IsLanguage, HasLanguage, HasBlock, HasItem, HasCell, FitColumns}
 use Rattle.htmd_law_blocks.specs.NormalBlocks.{are_short_numbers, is_spread, IsNormalBlock, AreNormalBlocks}
 use Rattle.htmd_law_blocks.specs.NormalBlocks.{AreNormalItems}
 use Rattle.htmd_law_inlines.proofs.NumberPieces.{all_reverse}
@@ -38,12 +40,18 @@ document_parts d h = (and_parts (are_normal_blocks false d) (nat_le (depth_among
 
 pub paragraph_parts : (b : Bool) (xs : Inlines) → is_normal_paragraph b xs ≡ true
     → (if b then is_normal_item xs else is_normal_line xs) ≡ true
-paragraph_parts b xs h = (and_parts (not (has_none xs)) (if b then is_normal_item xs else is_normal_line xs) h).1
+paragraph_parts b xs h =
+    let line = if b then is_normal_item xs else is_normal_line xs in
+    let p = and_parts (not (has_none xs) && line) (are_anchors xs || anchors_stand_well xs) h in
+    (and_parts (not (has_none xs)) line p.0).1
 
 pub heading_parts : (level : ℕ) (xs : Inlines) → is_normal_heading level xs ≡ true
     → (is_level level ≡ true) × (has_none xs ≡ false) × (is_normal_line xs ≡ true)
 heading_parts level xs h =
-    let p = and_parts (is_level level && not (has_none xs)) (is_normal_line xs) h in
+    let x = is_level level && not (has_none xs) in
+    let v = and_parts (x && is_normal_line xs && anchors_stand_well xs) (anchors_are_first xs) h in
+    let w = and_parts (x && is_normal_line xs) (anchors_stand_well xs) v.0 in
+    let p = and_parts x (is_normal_line xs) w.0 in
     let q = and_parts (is_level level) (not (has_none xs)) p.0 in
     (q.0, not-true (has_none xs) q.1, p.1)
 
@@ -56,9 +64,13 @@ pub list_parts : (b : Bool) (start : Option ℕ) (is_tight : Bool) (items : Item
     → (is_normal_list start is_tight items ≡ true) × (are_normal_items items ≡ true)
 list_parts b start is_tight items h = and_parts (is_normal_list start is_tight items) (are_normal_items items) h
 
+cells_lines : (cells : List Inlines) → are_normal_cells cells ≡ true → list_all is_normal_line cells ≡ true
+cells_lines cells h = (and_parts (list_all is_normal_line cells) (list_all anchors_stand_well cells) h).0
+
 row_lines : (n : ℕ) (cells : List Inlines) → is_normal_row n cells ≡ true → list_all is_normal_line cells
     ≡ true
-row_lines n cells h = (and_parts (length cells == n) (list_all is_normal_line cells) h).1
+row_lines n cells h =
+    cells_lines cells (and_parts (nat_le (length cells) n && ends_filled cells) (are_normal_cells cells) h).1
 
 rows_lines : (n : ℕ) (rows : List (List Inlines)) → list_all (is_normal_row n) rows ≡ true
     → list_all (list_all is_normal_line) rows ≡ true
@@ -70,7 +82,7 @@ rows_lines n (cells ∷ rows) h =
 record IsTable (alignments : List Alignment) (header : List Inlines) (rows : List (List Inlines)) : Type 0 where
   some : has_cell header ≡ true
   aligned : (length alignments == length header) ≡ true
-  header_row : is_normal_row (length header) header ≡ true
+  header_row : are_normal_cells header ≡ true
   other_rows : list_all (is_normal_row (length header)) rows ≡ true
 
 is_table : (alignments : List Alignment) (header : List Inlines) (rows : List (List Inlines))
@@ -78,8 +90,10 @@ is_table : (alignments : List Alignment) (header : List Inlines) (rows : List (L
 is_table alignments header rows h =
     let x0 = has_cell header in
     let x1 = length alignments == length header in
-    let x2 = is_normal_row (length header) header in
-    let p = and_parts (x0 && x1 && x2) (list_all (is_normal_row (length header)) rows) h in
+    let x2 = are_normal_cells header in
+    let x3 = list_all (is_normal_row (length header)) rows in
+    let v = and_parts (x0 && x1 && x2 && x3) (has_right_length header rows) h in
+    let p = and_parts (x0 && x1 && x2) x3 v.0 in
     let q = and_parts (x0 && x1) x2 p.0 in
     let r = and_parts x0 x1 q.0 in
     record { some = r.0; aligned = r.1; header_row = q.1; other_rows = p.1 }
@@ -89,7 +103,21 @@ pub table_parts : (alignments : List Alignment) (header : List Inlines) (rows : 
     → (list_all is_normal_line header ≡ true) × (list_all (list_all is_normal_line) rows ≡ true)
 table_parts alignments header rows h =
     let t = is_table alignments header rows h in
-    (row_lines (length header) header t.header_row, rows_lines (length header) rows t.other_rows)
+    (cells_lines header t.header_row, rows_lines (length header) rows t.other_rows)
+
+pub table_rows_are : (alignments : List Alignment) (header : List Inlines) (rows : List (List Inlines))
+    → is_normal_table alignments header rows ≡ true → list_all (is_normal_row (length header)) rows ≡ true
+table_rows_are alignments header rows h = (is_table alignments header rows h).other_rows
+
+small_number : (m n : ℕ) → nat_le m n ≡ true → m ≤ n
+small_number m n e = grind (arith, nat_tests)
+
+pub row_parts : (n : ℕ) (cells : List Inlines) → is_normal_row n cells ≡ true
+    → (length cells ≤ n) × (ends_filled cells ≡ true)
+row_parts n cells h =
+    let q = and_parts (nat_le (length cells) n && ends_filled cells) (are_normal_cells cells) h in
+    let l = and_parts (nat_le (length cells) n) (ends_filled cells) q.0 in
+    (small_number (length cells) n l.0, l.1)
 
 -- ---- languages
 
@@ -185,12 +213,16 @@ has_one_cell (xs ∷ cells) e = tt
 same_number : (m n : ℕ) → (m == n) ≡ true → m ≡ n
 same_number m n e = grind (arith, nat_tests)
 
-as_long : (n : ℕ) (rows : List (List Inlines)) → list_all (is_normal_row n) rows ≡ true → AreAsLong n rows
-as_long n [] h = tt
-as_long n (cells ∷ rows) h =
+filled_cell : (cells : List Inlines) → ends_filled cells ≡ true → HasCell cells
+filled_cell [] h = absurd (cc)
+filled_cell (xs ∷ cells) h = tt
+
+fit_columns : (n : ℕ) (rows : List (List Inlines)) → list_all (is_normal_row n) rows ≡ true → FitColumns n rows
+fit_columns n [] h = tt
+fit_columns n (cells ∷ rows) h =
     let p = and_parts (is_normal_row n cells) (list_all (is_normal_row n) rows) h in
-    let l = (and_parts (length cells == n) (list_all is_normal_line cells) p.0).0 in
-    (same_number (length cells) n l, as_long n rows p.1)
+    let q = row_parts n cells p.0 in
+    (q.0, filled_cell cells q.1, fit_columns n rows p.1)
 
 same_spread : (items : Items) → form.is_spread items ≡ is_spread items
 same_spread no_items = refl
@@ -246,7 +278,7 @@ mutual
       let t = is_table alignments header rows h in (
         has_one_cell header t.some,
         same_number (length alignments) (length header) t.aligned,
-        as_long (length header) rows t.other_rows,
+        fit_columns (length header) rows t.other_rows,
       )
 
   blocks_are : (b : Bool) (bs : Blocks) → are_normal_blocks b bs ≡ true → AreNormalBlocks bs

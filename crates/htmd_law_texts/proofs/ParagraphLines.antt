@@ -6,8 +6,9 @@ use Rattle.std.specs.List.{list_all}
 use Rattle.std.specs.Str.{IsUtf8, is_utf8}
 use Rattle.std.proofs.lemmas.Bool.{and_parts, not-true}
 use Rattle.std.proofs.lemmas.Str.{IsUtf8-append}
-use Rattle.htmd_document.specs.declared.document.Format.{Format}
+use Rattle.htmd_document.specs.Formats.{Format}
 use Rattle.htmd_document.specs.Documents.{Inline, text, code, formatted, link, image, line_break, task}
+use Rattle.htmd_document.specs.Documents.{anchor}
 use Rattle.htmd_document.specs.Documents.{Inlines, no_inlines, inline}
 use Rattle.htmd_markdown.specs.declared.line_break.BrStyle.{BrStyle}
 use Rattle.htmd_markdown.specs.declared.line_break.BrStyle.TheVariants.{TwoSpaces, Backslash}
@@ -21,9 +22,9 @@ use Rattle.htmd_commonmark.specs.InlineMarkdown.{written, with_inline, sides_of,
 use Rattle.htmd_commonmark.specs.WrittenText.{Written, wrote, begins_line}
 use Rattle.htmd_law_blocks.specs.LineTexts.{IsFurtherLine}
 use Rattle.htmd_document.specs.NormalInlines as normal
-use Rattle.htmd_document.specs.NormalInlines.{is_normal, are_normal, has_none, first_passes, is_break}
-use Rattle.htmd_document.specs.NormalInlines.{begins_with_space, ends_with_space, sort, is_same_sort, is_code, meets}
-use Rattle.htmd_document.specs.NormalInlines.{may_meet, is_text, is_attribute, is_title, is_kept}
+use Rattle.htmd_document.specs.NormalInlines.{is_normal, are_normal, first_passes, is_break}
+use Rattle.htmd_document.specs.NormalInlines.{begins_with_space, sort, is_same_sort, is_code, meets}
+use Rattle.htmd_document.specs.NormalInlines.{may_meet, is_kept}
 use Rattle.htmd_law_inlines.proofs.TextPieces.{test}
 use Rattle.htmd_law_texts.proofs.WrittenPieces.{pieces, piece, link_end, one_text, Row, row_sign, row_signs, star}
 use Rattle.htmd_law_texts.proofs.WrittenPieces.{stars, score, scores, tildes, Tag, opener, closer, em_tag, strong_tag}
@@ -99,6 +100,7 @@ after_break (inline x rest) m =
     no_break (formatted g content) h = refl
     no_break (link a t content) h = refl
     no_break (image a t d) h = refl
+    no_break (anchor i) h = refl
     no_break line_break h = absurd (cc)
     no_break (task c) h = refl
 
@@ -120,6 +122,7 @@ ready_after line p w f (code s) rest u m e = absurd (cc)
 ready_after line p w f (formatted g content) rest u m e = absurd (cc)
 ready_after line p w f (link a t content) rest u m e = absurd (cc)
 ready_after line p w f (image a t d) rest u m e = absurd (cc)
+ready_after line p w f (anchor i) rest u m e = absurd (cc)
 ready_after line p w f (task c) rest u m e = absurd (cc)
 
 -- ---- all inlines
@@ -197,5 +200,7 @@ mutual
       ))
   begun_piece line p w f around (image a t d) k u h s =
       begun_append (piece line w f (image a t d)) k (clean_piece line p w f around (image a t d) h refl) s.1
+  begun_piece line p w f around (anchor id) k u h s =
+      begun_append (piece line w f (anchor id)) k (clean_piece line p w f around (anchor id) h refl) s.1
   begun_piece line p w f around line_break k u h s = (break_starts line p false k refl s).1
   begun_piece line p w f around (task c) k u h s = absurd (cc)

@@ -9,12 +9,14 @@ use Rattle.std.proofs.lemmas.List.{append-nil}
 use Rattle.htmd_lexical.specs.Characters.{grave_accent, is_one_of}
 use Rattle.htmd_lexical.specs.CharacterClasses.{first_is}
 use Rattle.htmd_text.specs.EscapedPlaces.{with_backslashes}
-use Rattle.htmd_document.specs.declared.document.Format.{Format}
+use Rattle.htmd_document.specs.Formats.{Format}
 use Rattle.htmd_document.specs.Documents.{Inline, text, code, formatted, link, image, line_break, task}
 use Rattle.htmd_document.specs.Documents.{Inlines, no_inlines, inline}
 use Rattle.htmd_markdown.specs.CodeSpans.{meets_delimiter, smallest_unused_len, space_if}
 use Rattle.htmd_markdown.specs.declared.link.LinkStyle.{LinkStyle}
 use Rattle.htmd_markdown.specs.declared.link.LinkStyle.TheVariants.{Inlined, InlinedPreferAutolinks, Referenced}
+use Rattle.htmd_document.specs.Tags as html
+use Rattle.htmd_document.specs.Documents.{anchor}
 use Rattle.htmd_commonmark.specs.declared.line.Line.{Line}
 use Rattle.htmd_commonmark.specs.declared.inline_ends.Following.{Following}
 use Rattle.htmd_commonmark.specs.Addresses.{destination, title}
@@ -27,8 +29,8 @@ use Rattle.htmd_commonmark.specs.WrittenText.{Written, wrote}
 use Rattle.htmd_commonmark_reading.specs.Characters.{is_space_or_tab, is_white, stripped_end}
 use Rattle.htmd_law_blocks.specs.LineTexts.{IsBlack, EndsBlack, IsTrimmed}
 use Rattle.htmd_document.specs.NormalInlines as normal
-use Rattle.htmd_document.specs.NormalInlines.{is_normal, are_normal, has_none, first_passes, last_passes, is_break}
-use Rattle.htmd_document.specs.NormalInlines.{begins_with_space, ends_with_space, ends_in_space, is_text}
+use Rattle.htmd_document.specs.NormalInlines.{is_normal, are_normal, has_none, last_passes, is_break}
+use Rattle.htmd_document.specs.NormalInlines.{ends_with_space, ends_in_space, is_text}
 use Rattle.htmd_law_inlines.proofs.TextPieces.{test, differs}
 use Rattle.htmd_law_texts.proofs.WrittenPieces.{pieces, piece, text_piece, link_end, Row, row_signs, star, stars, score}
 use Rattle.htmd_law_texts.proofs.WrittenPieces.{scores, tildes, Tag, opener, closer, em_tag, strong_tag, del_tag}
@@ -194,6 +196,8 @@ piece_ends P o line w f around (link a name content) h n t =
 piece_ends P o line w f around (image a name d) h n t =
     o.append (codes "![" ++ escaped place_of_description d) (written_resource a name)
     (o.append ((codes "](" ++ destination a) ++ title name) (codes ")") (o.closers 41 refl))
+piece_ends P o line w f around (anchor id) h n t =
+    o.append (html.anchor_tag id) html.end_of_anchor (o.append (codes "</a") (codes ">") (o.closers 62 refl))
 piece_ends P o line w f around line_break h n t = absurd (cc)
 piece_ends P o line w f around (task c) h n t = absurd (cc)
 

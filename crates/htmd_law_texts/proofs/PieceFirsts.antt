@@ -10,9 +10,10 @@ use Rattle.std.proofs.lemmas.Str.{chars-nil, IsUtf8-append}
 use Rattle.htmd_lexical.specs.Characters.{asterisk, less_than_sign, is_one_of}
 use Rattle.htmd_lexical.specs.CharacterClasses.{is_empty}
 use Rattle.htmd_text.specs.EscapedPlaces.{with_backslashes}
-use Rattle.htmd_document.specs.declared.document.Format.{Format}
-use Rattle.htmd_document.specs.declared.document.Format.TheVariants.{Deleted}
+use Rattle.htmd_document.specs.Formats.{Format}
+use Rattle.htmd_document.specs.Formats.{Deleted}
 use Rattle.htmd_document.specs.Documents.{Inline, text, code, formatted, link, image, line_break, task}
+use Rattle.htmd_document.specs.Documents.{anchor}
 use Rattle.htmd_document.specs.Documents.{Inlines, no_inlines, inline}
 use Rattle.htmd_markdown.specs.declared.line_break.BrStyle.{BrStyle}
 use Rattle.htmd_markdown.specs.declared.line_break.BrStyle.TheVariants.{TwoSpaces, Backslash}
@@ -33,7 +34,7 @@ use Rattle.htmd_commonmark.specs.TextEscapes.{is_marked, is_of_word, character_b
 use Rattle.htmd_commonmark.specs.WrittenText as written_text
 use Rattle.htmd_commonmark.specs.WrittenText.{Written, wrote, is_one_line, is_heading, is_cell, in_line}
 use Rattle.htmd_document.specs.NormalInlines as normal
-use Rattle.htmd_document.specs.NormalInlines.{are_whole, last_passes, is_normal, are_normal, is_around, are_trimmed}
+use Rattle.htmd_document.specs.NormalInlines.{are_whole, last_passes, is_normal, are_normal, is_around, is_barred, are_trimmed}
 use Rattle.htmd_document.specs.NormalInlines.{has_none, first_passes, is_break, begins_with_space, meets, may_meet}
 use Rattle.htmd_document.specs.NormalInlines.{is_text}
 use Rattle.htmd_law_inlines.proofs.CharacterPieces.{no_punctuation}
@@ -77,6 +78,7 @@ fits_first line k sign so_far f (inline (code s) rest) h = refl
 fits_first line k sign so_far f (inline (formatted g content) rest) h = refl
 fits_first line k sign so_far f (inline (link a t content) rest) h = refl
 fits_first line k sign so_far f (inline (image a t d) rest) h = refl
+fits_first line k sign so_far f (inline (anchor i) rest) h = refl
 fits_first line k sign so_far f (inline (task c) rest) h = refl
 
 -- a break is the last of the inlines, or of those before where there are none
@@ -91,6 +93,7 @@ break_last (code s) h = absurd (cc)
 break_last (formatted g content) h = absurd (cc)
 break_last (link a t content) h = absurd (cc)
 break_last (image a t d) h = absurd (cc)
+break_last (anchor i) h = absurd (cc)
 break_last (task c) h = absurd (cc)
 
 ends_last : (so_far : Option ℕ) (b : Bool) (xs : Inlines) → (b ≡ true → so_far ≡ Some 10) → ends_at b xs
@@ -275,6 +278,7 @@ next_is line p w closing around s k (inline x rest) m h n =
         link_first line w f a t content k' (Guessed 91) (λ u. guessed 91 60 u refl refl refl)
         (λ u. guessed 91 91 u refl refl refl)
     first (image a t d) k' m h = (refl, λ e. absurd (cc), λ e. refl)
+    first (anchor id) k' m h = (refl, λ e. absurd (cc), λ e. refl)
     first line_break k' m h =
         let e : 10 ≡ first_of_break line.kind = rw p.no_one_line refl in
         subst (λ g. Guessed g (written_break line ++ k')) e (break_next line p k')
@@ -319,10 +323,10 @@ trimmed_first xs h = not-true (first_passes begins_with_space xs)
 
 pub format_parts : (in_link : Bool) (around : List Format) (g : Format) (content : Inlines)
     → is_normal in_link around (formatted g content) ≡ true
-    → (is_around around g ≡ false) × (has_none content ≡ false) × (are_trimmed content ≡ true)
+    → (is_barred around g ≡ false) × (has_none content ≡ false) × (are_trimmed content ≡ true)
     × (are_normal in_link (g ∷ around) content ≡ true) × (first_passes is_break content ≡ false)
 format_parts in_link around g content h =
-    let x0 = not (is_around around g) in
+    let x0 = not (is_barred around g) in
     let x1 = not (has_none content) in
     let x2 = not (first_passes is_break content) in
     let p = and_parts (x0 && x1 && are_whole content) (are_normal in_link (g ∷ around) content) h in
@@ -330,7 +334,7 @@ format_parts in_link around g content h =
     let r = and_parts x0 x1 q.0 in
     let s = (and_parts (are_trimmed content && x2) (not (last_passes is_break content)) q.1).0 in
     let t = and_parts (are_trimmed content) x2 s in (
-      not-true (is_around around g) r.0,
+      not-true (is_barred around g) r.0,
       not-true (has_none content) r.1,
       t.0,
       p.1,
@@ -380,6 +384,7 @@ mutual
   solid_piece line p w f around (link a t content) k u b n s h =
       link_first line w f a t content k IsSolid (λ u. refl) (λ u. refl)
   solid_piece line p w f around (image a t d) k u b n s h = refl
+  solid_piece line p w f around (anchor i) k u b n s h = refl
   solid_piece line p w f around line_break k u b n s h = absurd (cc)
   solid_piece line p w f around (task c) k u b n s h = absurd (cc)
 
@@ -415,14 +420,14 @@ no_tilde_pieces line p w closing around (inline x rest) k d n f h =
     one f (code t) k n h =
         code_first line t k NoTilde (and_parts (is_text t) _ h).0 (λ u. refl) (λ u. refl)
     one f (formatted g content) k n h =
-        mark_cases (λ g' m. is_around around g' ≡ false
+        mark_cases (λ g' m. is_barred around g' ≡ false
         → NoTilde ((m.opener ++ (pieces line (wrote w m.opener) (Some m.sign) content ++ m.closer)) ++ k))
         g (sides_of line w.text f content)
         (λ r e a. let o = row_signs r in
         let y = pieces line (wrote w o) (Some (row_sign r)) content ++ o in
         subst NoTilde (sym (append_assoc o y k))
         (row_first r (y ++ k) NoTilde (λ u. refl) (λ u. refl)
-        (λ u z. let v : true ≡ false = sym d ∙ ap (λ r. is_around around (row_format r)) (sym z)
+        (λ u z. let v : true ≡ false = sym d ∙ ap (λ r. is_barred around (row_format r)) (sym z)
         ∙ a in absurd (cc))))
         (λ r a. let o = opener r in
         let y = pieces line (wrote w o) (Some 60) content ++ closer r in
@@ -430,5 +435,6 @@ no_tilde_pieces line p w closing around (inline x rest) k d n f h =
         (format_parts line.in_link around g content h).0
     one f (link a t content) k n h = link_first line w f a t content k NoTilde (λ u. refl) (λ u. refl)
     one f (image a t d) k n h = refl
+    one f (anchor i) k n h = refl
     one f line_break k n h = absurd (cc)
     one f (task c) k n h = absurd (cc)

@@ -1,6 +1,6 @@
 -- What is written of normal inlines has no character that ends a line but where a break is, and is UTF-8.
 use Rattle.std.proofs.Common.{◌≡◌, refl, ℕ, zero, suc, ◌+◌, Bool, true, false, List, [], ◌∷◌, ◌++◌, Option, Some, None}
-use Rattle.std.proofs.Common.{codes, arith}
+use Rattle.std.proofs.Common.{codes, arith, ap, ◌∙◌}
 use Rattle.std.specs.Prelude.{length, not, ◌-◌, ◌&&◌, ◌||◌, ◌==◌, ◌/◌, ◌%◌, replicate, nat_lt, take}
 use Rattle.std.specs.List.{list_all}
 use Rattle.std.specs.Str.{is_utf8}
@@ -9,7 +9,7 @@ use Rattle.std.specs.Fmt.{decimal, digits, digits_onto, digit_glyph}
 use Rattle.std.proofs.lemmas.Bool.{and_parts, and_from}
 use Rattle.std.proofs.lemmas.Bool.Decides.{nat_tests}
 use Rattle.htmd_text.specs.EscapedPlaces.{with_backslashes}
-use Rattle.htmd_document.specs.declared.document.Format.{Format}
+use Rattle.htmd_document.specs.Formats.{Format}
 use Rattle.htmd_document.specs.Documents.{Inline, text, code, formatted, link, image, line_break, task}
 use Rattle.htmd_document.specs.Documents.{Inlines, no_inlines, inline}
 use Rattle.htmd_markdown.specs.declared.link.LinkStyle.{LinkStyle}
@@ -18,6 +18,8 @@ use Rattle.htmd_markdown.specs.declared.line_break.BrStyle.{BrStyle}
 use Rattle.htmd_markdown.specs.declared.line_break.BrStyle.TheVariants.{TwoSpaces, Backslash}
 use Rattle.htmd_markdown.specs.LineBreaks as breaks
 use Rattle.htmd_markdown.specs.CodeSpans.{meets_delimiter, smallest_unused_len, space_if}
+use Rattle.htmd_document.specs.Tags as html
+use Rattle.htmd_document.specs.Documents.{anchor}
 use Rattle.htmd_commonmark.specs.declared.line.Line.{Line}
 use Rattle.htmd_commonmark.specs.declared.inline_ends.Following.{Following}
 use Rattle.htmd_commonmark.specs.declared.text_escape.Place.{Place}
@@ -34,6 +36,7 @@ use Rattle.htmd_commonmark.specs.WrittenText.{Written, wrote, is_one_line}
 use Rattle.htmd_law_blocks.specs.LineTexts as texts
 use Rattle.htmd_document.specs.NormalInlines as normal
 use Rattle.htmd_document.specs.NormalInlines.{is_normal, are_normal, is_text, is_line, is_attribute, is_title, is_kept}
+use Rattle.htmd_law_inlines.proofs.AnchorValues.{plain_byte}
 use Rattle.htmd_law_inlines.proofs.TextPieces.{test, differs}
 use Rattle.htmd_law_inlines.proofs.AddressPieces.{bare_signs, piece_cases}
 use Rattle.htmd_law_texts.proofs.WrittenPieces.{pieces, piece, text_piece, link_end, Row, row_sign, row_signs, star}
@@ -278,6 +281,25 @@ closer_all b sub_tag = refl
 pub text_plain : (s : List ℕ) → is_text s ≡ true → list_all normal.is_line_byte s ≡ true
 text_plain s h = (and_parts _ _ (and_parts _ _ (and_parts _ _ h).0).0).1
 
+-- the value of an anchor
+byte_all : (b : Bool) (c : ℕ) → normal.is_line_byte c ≡ true
+    → list_all (is_allowed b) (html.in_value c) ≡ true
+byte_all b c h =
+    test (c == 38) (λ e. rw e refl)
+    (λ n1. test (c == 60) (λ e. rw (n1, e) refl)
+    (λ n2. test (c == 62) (λ e. rw (n1, n2, e) refl)
+    (λ n3. test (c == 34) (λ e. rw (n1, n2, n3, e) refl)
+    (λ n4. test (c == 124) (λ e. rw (n1, n2, n3, n4, e) refl)
+    (λ n5. test (c == 93) (λ e. rw (n1, n2, n3, n4, n5, e) refl)
+    (λ n6. ap (list_all (is_allowed b)) (plain_byte c n1 n2 n3 n4 n5 n6) ∙ rw (plain_allowed b c h) refl))))))
+
+value_all : (b : Bool) (s : List ℕ) → list_all normal.is_line_byte s ≡ true
+    → list_all (is_allowed b) (html.escaped_value s) ≡ true
+value_all b [] h = refl
+value_all b (c ∷ s) h =
+    let p = and_parts (normal.is_line_byte c) (list_all normal.is_line_byte s) h in
+    all_append (is_allowed b) (html.in_value c) (html.escaped_value s) (byte_all b c p.0) (value_all b s p.1)
+
 mutual
   pub pieces_all : (b : Bool) (line : Line) (w : Written) (closing : Option ℕ) (around : List Format) (xs : Inlines)
       → are_normal line.in_link around xs ≡ true → allows b line (has_break xs) ≡ true
@@ -330,5 +352,11 @@ mutual
       all_append (is_allowed b) (codes "![" ++ d) (written_resource address name)
       (text_all b place_of_description description (and_parts (is_utf8 description) _ p.1).1)
       (resource_all b address name (and_parts (is_utf8 address) (list_all is_kept address) q.0).1 q.1)
+  piece_in b line w f around (anchor id) h a =
+      let p = and_parts (not line.in_link && is_text id) _ h in
+      let v = value_all b id (text_plain id (and_parts (not line.in_link) (is_text id) p.0).1) in
+      all_append (is_allowed b) (html.anchor_tag id) html.end_of_anchor
+      (all_append (is_allowed b) (codes "<a id=\"" ++ html.escaped_value id) (codes "\">")
+      (all_append (is_allowed b) (codes "<a id=\"") (html.escaped_value id) refl v) refl) refl
   piece_in b line w f around line_break h a = break_all b line (allows_break b line a)
   piece_in b line w f around (task is_checked) h a = absurd (cc)

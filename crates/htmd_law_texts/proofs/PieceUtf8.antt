@@ -1,7 +1,7 @@
 -- What is written of normal inlines is UTF-8, and the last character of what was written is what stands before.
 use Rattle.std.proofs.Common.{◌≡◌, ◌∙◌, refl, ap, sym, subst, ℕ, suc, ◌<◌, Bool, true, false, List, [], ◌∷◌, ◌++◌}
 use Rattle.std.proofs.Common.{Option, Some, None, codes, arith}
-use Rattle.std.specs.Prelude.{length, nat_lt, replicate}
+use Rattle.std.specs.Prelude.{length, nat_lt, replicate, not, ◌&&◌}
 use Rattle.std.specs.List.{list_all}
 use Rattle.std.specs.Str.{IsUtf8, is_utf8}
 use Rattle.std.specs.Char.{is_ascii_digit}
@@ -11,7 +11,7 @@ use Rattle.std.proofs.lemmas.Bool.Decides.{nat_tests}
 use Rattle.std.proofs.lemmas.List.{append-nil}
 use Rattle.std.proofs.lemmas.Str.{IsUtf8-append, IsUtf8-from_is_utf8, IsUtf8-nil, encodes-append, encode_ascii}
 use Rattle.htmd_text.specs.EscapedPlaces.{with_backslashes}
-use Rattle.htmd_document.specs.declared.document.Format.{Format}
+use Rattle.htmd_document.specs.Formats.{Format}
 use Rattle.htmd_document.specs.Documents.{Inline, text, code, formatted, link, image, line_break, task}
 use Rattle.htmd_document.specs.Documents.{Inlines, no_inlines, inline}
 use Rattle.htmd_markdown.specs.declared.link.LinkStyle.{LinkStyle}
@@ -20,6 +20,8 @@ use Rattle.htmd_markdown.specs.declared.line_break.BrStyle.{BrStyle}
 use Rattle.htmd_markdown.specs.declared.line_break.BrStyle.TheVariants.{TwoSpaces, Backslash}
 use Rattle.htmd_markdown.specs.LineBreaks as breaks
 use Rattle.htmd_markdown.specs.CodeSpans.{meets_delimiter, smallest_unused_len, space_if}
+use Rattle.htmd_law_inlines.proofs.AnchorPieces.{anchor_utf8}
+use Rattle.htmd_document.specs.Documents.{anchor}
 use Rattle.htmd_commonmark.specs.declared.line.Line.{Line}
 use Rattle.htmd_commonmark.specs.declared.inline_ends.Following.{Following}
 use Rattle.htmd_commonmark.specs.declared.text_escape.Place.{Place}
@@ -228,5 +230,8 @@ mutual
       (resource_utf8 address name
       (IsUtf8-from_is_utf8 address (and_parts (is_utf8 address) (list_all is_kept address) q.0).0)
       (title_utf8 name q.1))
+  inline_utf8 line w f around (anchor id) k h =
+      let p = and_parts (not line.in_link && is_text id) _ h in
+      anchor_utf8 id (text_is_utf8 id (and_parts (not line.in_link) (is_text id) p.0).1)
   inline_utf8 line w f around line_break k h = break_utf8 line
   inline_utf8 line w f around (task is_checked) k h = absurd (cc)

@@ -12,10 +12,9 @@ use Rattle.htmd_commonmark.specs.declared.text_escape.Place.{Place}
 use Rattle.htmd_commonmark.specs.LineMarks.{line_mark, number_mark, begins_block, ends_marker, is_bullet, is_dashes}
 use Rattle.htmd_commonmark.specs.LineMarks.{is_heading_marker}
 use Rattle.htmd_commonmark.specs.TextEscapes.{is_inline_mark, is_marked}
-use Rattle.htmd_commonmark_reading.specs.BlockStarts.{After, alone, under, lazy, Start, no_start, no_sign, sign, digit}
-use Rattle.htmd_commonmark_reading.specs.BlockStarts.{started, is_same, is_empty_or_blank, heading_start, heading_with}
-use Rattle.htmd_commonmark_reading.specs.BlockStarts.{html_start, html_with, block_ends, unless_rule, is_rule}
-use Rattle.htmd_commonmark_reading.specs.BlockStarts.{item_start, if_numbered, digits, delimiter}
+use Rattle.htmd_commonmark_reading.specs.BlockStarts.{After, no_start, no_sign, sign, digit}
+use Rattle.htmd_commonmark_reading.specs.BlockStarts.{is_empty_or_blank, heading_start, heading_with}
+use Rattle.htmd_commonmark_reading.specs.BlockStarts.{digits, delimiter}
 use Rattle.htmd_commonmark_reading.specs.BlockStarts as starts
 use Rattle.htmd_document.specs.NormalInlines as normal
 use Rattle.htmd_law_inlines.proofs.TextPieces.{test, differs}

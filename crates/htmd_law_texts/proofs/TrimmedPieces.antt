@@ -7,8 +7,9 @@ use Rattle.std.proofs.lemmas.Bool.{and_parts, lt-ltb, or_parts, eqb-true, eq-eqb
 use Rattle.std.proofs.lemmas.List.{reverse-append, reverse-reverse, length-append}
 use Rattle.htmd_lexical.specs.CharacterClasses.{behind_run}
 use Rattle.htmd_text.specs.EscapedPlaces.{with_backslashes}
-use Rattle.htmd_document.specs.declared.document.Format.{Format}
+use Rattle.htmd_document.specs.Formats.{Format}
 use Rattle.htmd_document.specs.Documents.{Inline, text, code, formatted, link, image, line_break, task}
+use Rattle.htmd_document.specs.Documents.{anchor}
 use Rattle.htmd_document.specs.Documents.{Inlines, no_inlines, inline}
 use Rattle.htmd_commonmark.specs.declared.line.Line.{Line}
 use Rattle.htmd_commonmark.specs.declared.inline_ends.Following.{Following}
@@ -274,5 +275,6 @@ begins_black line w closing around (inline x rest) n b e h =
         (λ r. opener_black r (pieces line (wrote w (opener r)) (Some 60) content ++ closer r))
     one f (link a t content) b e h = test (is_autolinked line a t content) (λ y. rw y refl) (λ y. rw y refl)
     one f (image a t d) b e h = refl
+    one f (anchor i) b e h = refl
     one f line_break b e h = absurd (cc)
     one f (task c) b e h = absurd (cc)

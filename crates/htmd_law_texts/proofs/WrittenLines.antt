@@ -10,10 +10,13 @@ use Rattle.std.proofs.lemmas.Str.{IsUtf8-append}
 use Rattle.std.proofs.lemmas.List.Splits.{slice_split-cons_yes, slice_split-cons_no}
 use Rattle.htmd_lexical.specs.Characters.{is_one_of}
 use Rattle.htmd_text.specs.Trims.{is_line_feed}
-use Rattle.htmd_document.specs.declared.document.Format.{Format}
-use Rattle.htmd_document.specs.declared.document.Format.TheVariants.{Deleted}
+use Rattle.htmd_document.specs.Formats.{Format}
+use Rattle.htmd_document.specs.Formats.{Deleted}
 use Rattle.htmd_document.specs.Documents.{Inline, text, code, formatted, link, image, line_break, task}
 use Rattle.htmd_document.specs.Documents.{Inlines}
+use Rattle.htmd_law_texts.proofs.InlineStarts.{anchor_line}
+use Rattle.htmd_document.specs.Tags as html
+use Rattle.htmd_document.specs.Documents.{anchor}
 use Rattle.htmd_commonmark.specs.declared.line.Line.{Line}
 use Rattle.htmd_commonmark.specs.declared.inline_ends.Following.{Following}
 use Rattle.htmd_commonmark.specs.Addresses.{is_autolink}
@@ -22,9 +25,9 @@ use Rattle.htmd_commonmark.specs.InlineMarkdown.{sides_of, place_of, written_cod
 use Rattle.htmd_commonmark.specs.InlineMarkdown.{is_text_alone, prefers_autolinks, in_link}
 use Rattle.htmd_commonmark.specs.TextEscapes.{escaped}
 use Rattle.htmd_commonmark.specs.WrittenText as written_text
-use Rattle.htmd_commonmark.specs.WrittenText.{Written, wrote, is_one_line, is_heading, is_cell, begins_line}
+use Rattle.htmd_commonmark.specs.WrittenText.{Written, wrote, is_cell, begins_line}
 use Rattle.htmd_law_blocks.specs.LineTexts.{IsFirstLine, IsFurtherLine, AreFurtherLines, is_line_character, lines_of}
-use Rattle.htmd_document.specs.NormalInlines.{is_normal, are_normal, has_none, is_around, first_passes, is_break}
+use Rattle.htmd_document.specs.NormalInlines.{is_normal, are_normal, has_none, is_around, is_barred, first_passes, is_break}
 use Rattle.htmd_document.specs.NormalInlines.{begins_with_space, is_text, is_attribute, is_title, is_kept}
 use Rattle.htmd_law_inlines.proofs.TextPieces.{test}
 use Rattle.htmd_law_texts.proofs.WrittenPieces.{pieces, piece, text_piece, row_sign, row_signs, row_format, opener}
@@ -235,7 +238,7 @@ inline_begins line p w f around (code s) k u b n sp h x =
 inline_begins line p w f around (formatted g content) k u b n sp h x =
     let q = format_parts line.in_link around g content h in
     let y = first_passes is_break content in
-    mark_cases (λ g' m. is_around around g' ≡ false → are_normal line.in_link (g' ∷ around) content ≡ true
+    mark_cases (λ g' m. is_barred around g' ≡ false → are_normal line.in_link (g' ∷ around) content ≡ true
     → Begins (line.in_link || y)
     (first_line ((m.opener ++ (pieces line (wrote w m.opener) (Some m.sign) content ++ m.closer)) ++ k)))
     g (sides_of line w.text f content)
@@ -281,5 +284,9 @@ inline_begins line p w f around (link a t content) k u b n sp h x =
     (λ e. rw e (both_begin (line.in_link || false) _ (bracket_line _)))
 inline_begins line p w f around (image a t d) k u b n sp h x =
     both_begin (line.in_link || false) _ (image_line _)
+inline_begins line p w f around (anchor id) k u b n sp h x =
+    let t = html.anchor id in
+    subst (Begins (line.in_link || false)) (sym (line_append t k (clean_piece line p w f around (anchor id) h refl)))
+    (both_begin (line.in_link || false) (t ++ first_line k) (anchor_line id (first_line k)))
 inline_begins line p w f around line_break k u b n sp h x = absurd (cc)
 inline_begins line p w f around (task m) k u b n sp h x = absurd (cc)

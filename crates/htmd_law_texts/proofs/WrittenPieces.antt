@@ -3,12 +3,14 @@ use Rattle.std.proofs.Common.{◌≡◌, ◌∙◌, refl, ap, sym, ℕ, suc, tru
 use Rattle.std.proofs.Common.{append_assoc}
 use Rattle.std.specs.Prelude.{length, ◌&&◌, if◌then◌else◌}
 use Rattle.std.proofs.lemmas.List.{append-nil}
-use Rattle.htmd_document.specs.declared.document.Format.{Format}
-use Rattle.htmd_document.specs.declared.document.Format.TheVariants.{Emphasis, Strong, Deleted, Superscript, Subscript}
+use Rattle.htmd_document.specs.Formats.{Format}
+use Rattle.htmd_document.specs.Formats.{Emphasis, Strong, Deleted, Superscript, Subscript}
 use Rattle.htmd_document.specs.Documents.{Inline, text, code, formatted, link, image, line_break, task}
+use Rattle.htmd_document.specs.Documents.{anchor}
 use Rattle.htmd_document.specs.Documents.{Inlines, no_inlines, inline}
 use Rattle.htmd_markdown.specs.declared.link.LinkStyle.{LinkStyle}
 use Rattle.htmd_markdown.specs.declared.link.LinkStyle.TheVariants.{Inlined, InlinedPreferAutolinks, Referenced}
+use Rattle.htmd_document.specs.Tags as html
 use Rattle.htmd_commonmark.specs.declared.line.Line.{Line}
 use Rattle.htmd_commonmark.specs.declared.inline_ends.Following.{Following}
 use Rattle.htmd_commonmark.specs.declared.marks.Sides.{Sides}
@@ -55,6 +57,7 @@ abbrev mutual
       ++ link_end line.link_style (length (written (in_link line) (wrote w (codes "[")) (Some 93) content).definitions)
       address name)
   piece line w f (image address name description) = written_image address name description
+  piece line w f (anchor id) = html.anchor id
   piece line w f line_break = written_break line
   piece line w f (task is_checked) = written_task is_checked
 
@@ -95,6 +98,7 @@ mutual
       ∙ ap (λ l. l ++ e) (text_is (in_link line) (wrote w (codes "[")) (Some 93) content)
       ∙ append_assoc (w.text ++ codes "[") t e ∙ append_assoc w.text (codes "[") (t ++ e)))
   one_text line w f (image address name description) = refl
+  one_text line w f (anchor i) = refl
   one_text line w f line_break = refl
   one_text line w f (task is_checked) = refl
 

@@ -1,14 +1,15 @@
 //! What no clause says: that documents are written if there is memory.
 
 use htmd_commonmark::{DocumentOptions, to_markdown};
-use htmd_document::{Alignment, Block, Document, Format, Inline};
+use htmd_document::{Alignment, Block, Document, Format, Inline, InlineElement};
 use htmd_markdown::{BrStyle, BulletListMarker, CodeBlockFence, HeadingStyle, HrStyle, LinkStyle};
 use htmd_test_expected::expect_text;
 use std::alloc::{AllocError, Global};
 use std::test::Fail;
 
 const MARKDOWN: &str =
-    "## a\n\n**b** [c](/x)\n\n*   [x] d\n*   e\n\n| f   |\n| --- |\n| g   |\n\n> ```rust\n> h\n> ```";
+    "## <a id=\"i\"></a>a\n\n**b** [c](/x)<sup>2</sup>\n\n*   [x] d\n*   e\n\n| f   | 中  |\n| --- | --- |\n| g   |     |\n\n\
+     > ```rust\n> h\n> ```";
 
 const JSON: &str = "{\"children\":[{\"type\":\"thematicBreak\"},{\"children\":[\
      {\"type\":\"text\",\"value\":\"a\"}],\"type\":\"paragraph\"}],\"type\":\"root\"}";
@@ -34,7 +35,7 @@ fn line(alloc: Global, s: &str) -> Result<Vec<Inline>, AllocError> {
     Ok(line)
 }
 
-/// Strong text, a space and a link.
+/// Strong text, a space, a link and a superscript.
 fn formats(alloc: Global) -> Result<Block, AllocError> {
     let mut line_of_all = Vec::new(alloc);
     line_of_all.push(Inline::Formatted(Format::Strong, line(alloc, "b")?))?;
@@ -44,6 +45,7 @@ fn formats(alloc: Global) -> Result<Block, AllocError> {
         title: None,
         content: line(alloc, "c")?,
     })?;
+    line_of_all.push(Inline::Element(InlineElement::Superscript, line(alloc, "2")?))?;
     Ok(Block::Paragraph(line_of_all))
 }
 
@@ -69,12 +71,14 @@ fn list(alloc: Global) -> Result<Block, AllocError> {
     })
 }
 
-/// A table of one column.
+/// A table of two columns, with a row of one cell.
 fn table(alloc: Global) -> Result<Block, AllocError> {
     let mut alignments = Vec::new(alloc);
     alignments.push(Alignment::None)?;
+    alignments.push(Alignment::None)?;
     let mut header = Vec::new(alloc);
     header.push(line(alloc, "f")?)?;
+    header.push(line(alloc, "中")?)?;
     let mut row = Vec::new(alloc);
     row.push(line(alloc, "g")?)?;
     let mut rows = Vec::new(alloc);
@@ -96,12 +100,17 @@ fn quote(alloc: Global) -> Result<Block, AllocError> {
     Ok(Block::Quote(blocks))
 }
 
+/// A heading with an anchor before its text.
+fn heading(alloc: Global) -> Result<Block, AllocError> {
+    let mut content = Vec::new(alloc);
+    content.push(Inline::Anchor(String::from_str(alloc, "i")?))?;
+    content.push(text(alloc, "a")?)?;
+    Ok(Block::Heading { level: 2, content })
+}
+
 fn everything(alloc: Global) -> Result<Document, AllocError> {
     let mut blocks = Vec::new(alloc);
-    blocks.push(Block::Heading {
-        level: 2,
-        content: line(alloc, "a")?,
-    })?;
+    blocks.push(heading(alloc)?)?;
     blocks.push(formats(alloc)?)?;
     blocks.push(list(alloc)?)?;
     blocks.push(table(alloc)?)?;

@@ -1,5 +1,5 @@
 -- One more byte, escaped or not.
-use Rattle.std.proofs.Common.{◌≡◌, ◌++◌, ◌∷◌, [], ◌+◌, true, false, length, drop, lit<, ap, sym, ◌∙◌, arith, get_or}
+use Rattle.std.proofs.Common.{◌≡◌, ◌++◌, ◌∷◌, [], ◌+◌, length, drop, lit<, ap, sym, ◌∙◌, arith, get_or}
 use Rattle.std.proofs.Common.{codes}
 use Rattle.std.proofs.Common.{List, ℕ, refl}
 use Rattle.std.proofs.lemmas.Bool.Decides.{nat_tests}

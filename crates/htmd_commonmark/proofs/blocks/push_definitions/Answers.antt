@@ -1,5 +1,5 @@
 -- One more definition.
-use Rattle.std.proofs.Common.{◌≡◌, [], true, false, cond, codes, length, get_or, take, sym, ap, ◌∙◌, arith}
+use Rattle.std.proofs.Common.{◌≡◌, true, false, cond, codes, length, get_or, sym, ap, ◌∙◌, arith}
 use Rattle.std.proofs.Common.{string_bytes}
 use Rattle.std.specs.Prelude.{◌==◌}
 use Rattle.std.proofs.lemmas.Bool.Decides.{nat_tests}

@@ -1,5 +1,5 @@
 -- One more cell.
-use Rattle.std.proofs.Common.{◌≡◌, ◌∷◌, [], ◌+◌, ◌++◌, drop, sym, ap, ◌∙◌, arith, string_bytes}
+use Rattle.std.proofs.Common.{◌+◌, ◌++◌, drop, sym, ap, ◌∙◌, string_bytes}
 use Rattle.std.proofs.lemmas.List.{append-nil, drop_all, map_push}
 use Rattle.htmd_document.specs.DocumentViews.{inlines_of}
 use Rattle.htmd_markdown.specs.Tables.{texts}

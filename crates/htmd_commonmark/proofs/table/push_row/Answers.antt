@@ -7,7 +7,7 @@ use Rattle.std.proofs.lemmas.List.{append-nil, length_push, length-map, get_or-m
 use Rattle.std.proofs.lemmas.Slice.Zip.{zip_turn, zip_end}
 use Rattle.htmd_lexical.specs.Characters.{space}
 use Rattle.htmd_markdown.specs.Tables.{texts}
-use Rattle.htmd_commonmark.specs.TableLines.{width_of}
+use Rattle.htmd_commonmark.specs.Columns.{width_of}
 use Rattle.htmd_commonmark.proofs.TableLinesLemmas.{cells_left, cells-more, cells-end, columns-end}
 use Rattle.htmd_commonmark.proofs.table.push_row.Goals as goal
 
@@ -27,7 +27,7 @@ loop-cell-preserved c =
     ap (λ s. string_bytes s) (turn.2 cell) ∙ sym (get_or-map (λ s. string_bytes s) cells n cell [] turn.0) in
     let pad : c.saturating_sub.result ≡ get_or widths n 0 - width_of (get_or words n []) =
     c.saturating_sub.ensures
-    ∙ ap (λ k. c.in-Some.width.now - k) (c.character_count.ensures
+    ∙ ap (λ k. c.in-Some.width.now - k) (c.width_of.ensures
     ∙ ap width_of (c.deref-in-loop-cell.ensures ∙ text))
     ∙ ap (λ w. w - width_of (get_or words n [])) (turn.3 0) in
     let written : string_bytes c.push_str-in-loop-cell.new.self

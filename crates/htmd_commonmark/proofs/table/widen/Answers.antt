@@ -1,8 +1,9 @@
 -- One more cell.
-use Rattle.std.proofs.Common.{◌≡◌, ◌<◌, [], length, get_or, set, take, max, refl, sym, ap, ◌∙◌, arith, string_bytes}
+use Rattle.std.proofs.Common.{◌≡◌, [], length, get_or, set, max, refl, sym, ap, ◌∙◌, arith, string_bytes}
 use Rattle.std.proofs.lemmas.List.{length-map, get_or-map, take_all}
 use Rattle.htmd_markdown.specs.Tables.{texts}
-use Rattle.htmd_commonmark.specs.TableLines.{widened, width_of}
+use Rattle.htmd_commonmark.specs.Columns.{width_of}
+use Rattle.htmd_commonmark.specs.TableLines.{widened}
 use Rattle.htmd_commonmark.proofs.TableLinesLemmas.{widened_start, widened_set, widened_past}
 use Rattle.htmd_commonmark.proofs.table.widen.Goals as goal
 use Rattle.htmd_commonmark.proofs.table.widen.Goals.{then-i-widths, else-i-widths}
@@ -24,8 +25,8 @@ loop-i-preserved c =
       widened =
           elim c.if-i-widths.branch [
             | then-i-widths w ↦
-                let cell : w.character_count.result ≡ width_of (get_or words i []) =
-                w.character_count.ensures
+                let cell : w.width_of.result ≡ width_of (get_or words i []) =
+                w.width_of.ensures
                 ∙ ap width_of (w.deref.ensures ∙ ap (λ s. string_bytes s) c.index-cells-i.is
                 ∙ sym (get_or-map (λ s. string_bytes s) cells i c.index-cells-i.result [] c.loop-i-test.true)) in
                 w.widths-is ∙ ap (set ws i) (w.max.ensures ∙ ap (max (get_or ws i 0)) cell)

@@ -5,13 +5,18 @@ use Rattle.serde_json.specs.View.{items_view}
 use Rattle.htmd_document.specs.DocumentViews.{inline_of}
 use Rattle.htmd_document.specs.Mdast.{beside, one_item, node_data, with_value}
 use Rattle.htmd_document.proofs.ValuesLemmas.{inline-code}
-use Rattle.htmd_document.proofs.MdastLemmas.{inline-formatted}
+use Rattle.htmd_document.proofs.MdastLemmas.{inline-formatted, inline-element}
 use Rattle.htmd_document.proofs.mdast.push_node.Goals as goal
 
 pub returns-in-Formatted : goal.returns-in-Formatted
 returns-in-Formatted c = IfOk-equal c.push_format.result _ _ _ c.push_format.ensures
     (sym (ap (λ x. beside (items_view c.args.out.now.items) (node_data x (items_view c.args.children.items)))
     (ap inline_of c.in-Formatted.is ∙ inline-formatted _ c.in-Formatted.field-1)))
+
+pub returns-in-Element : goal.returns-in-Element
+returns-in-Element c = IfOk-equal c.push_element.result _ _ _ c.push_element.ensures
+    (sym (ap (λ x. beside (items_view c.args.out.now.items) (node_data x (items_view c.args.children.items)))
+    (ap inline_of c.in-Element.is ∙ inline-element _ c.in-Element.field-1)))
 
 pub returns-in_ok-with_value-in-Code : goal.returns-in_ok-with_value-in-Code
 returns-in_ok-with_value-in-Code c = IfOk-equal c.push_value-in-Code.result _ _ _ c.push_value-in-Code.ensures

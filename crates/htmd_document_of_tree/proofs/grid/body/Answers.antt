@@ -1,10 +1,10 @@
-use Rattle.std.proofs.Common.{◌∙◌, sym, ap}
+use Rattle.std.proofs.Common.{◌∙◌, sym, ap, filter}
 use Rattle.std.proofs.lemmas.List.{map-id}
 use Rattle.std.proofs.lemmas.Iterator.Adapters.{YieldsList-from_vec}
 use Rattle.std.proofs.lemmas.Iterator.Consumers.{YieldsList-end}
 use Rattle.std.specs.Vec.Iter.{into_iter_items, into_iter_len}
+use Rattle.htmd_document.specs.NormalDocuments.{has_cell}
 use Rattle.htmd_document_of_tree.specs.GridViews.{lines_of}
-use Rattle.htmd_document_of_tree.specs.Grids as spec
 use Rattle.htmd_document_of_tree.proofs.grid.body.Goals as goal
 
 pub returns : goal.returns
@@ -15,4 +15,4 @@ returns c =
     let e = YieldsList-end all c.loop-cells.yielded c.loop-cells.cells-iterator c.loop-cells.yielded_by c.next.result
     c.next.new.self c.in-None.is c.next.ensures.steps in
     c.loop-cells.invariant
-    ∙ ap (λ ls. spec.body c.args.columns (lines_of ls)) (sym (map-id c.loop-cells.yielded) ∙ e.0)
+    ∙ ap (λ ls. filter has_cell (lines_of ls)) (sym (map-id c.loop-cells.yielded) ∙ e.0)

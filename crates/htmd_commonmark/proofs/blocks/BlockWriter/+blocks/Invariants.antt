@@ -1,5 +1,5 @@
 -- With the blocks or items to come, what is written so far is all of it.
-use Rattle.std.proofs.Common.{◌≡◌, ℕ, ◌+◌, ◌*◌, drop}
+use Rattle.std.proofs.Common.{◌≡◌, ◌+◌, ◌*◌, drop}
 use Rattle.std.specs.Prelude.{◌==◌, true, None}
 use Rattle.htmd_document.specs.DocumentViews.{blocks_of}
 use Rattle.htmd_commonmark.specs.BlockViews.{output_of, all_items_of}

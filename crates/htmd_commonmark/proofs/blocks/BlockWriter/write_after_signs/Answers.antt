@@ -1,5 +1,5 @@
 -- The signs, a space and the text.
-use Rattle.std.proofs.Common.{◌≡◌, ap, ◌∙◌}
+use Rattle.std.proofs.Common.{ap, ◌∙◌}
 use Rattle.htmd_document.specs.DocumentViews.{inlines_of}
 use Rattle.htmd_commonmark.specs.declared.line.LineKind.TheVariants.{Heading}
 use Rattle.htmd_commonmark.specs.BlockMarkdown.{line_of}

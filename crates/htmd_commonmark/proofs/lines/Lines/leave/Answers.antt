@@ -1,5 +1,5 @@
 -- The prefix is a part of what it was.
-use Rattle.std.proofs.Common.{◌≡◌, length, arith, take, ap, ◌∙◌, string_bytes}
+use Rattle.std.proofs.Common.{length, arith, ap, ◌∙◌, string_bytes}
 use Rattle.std.specs.Char.{is_ascii}
 use Rattle.std.specs.List.{list_all}
 use Rattle.std.proofs.lemmas.List.{length-take-le}

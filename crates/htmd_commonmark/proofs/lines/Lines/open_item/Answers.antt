@@ -1,6 +1,5 @@
 -- The prefix grows by spaces.
-use Rattle.std.proofs.Common.{◌≡◌, ◌++◌, length, replicate, ap, ◌∙◌, arith, rules, string_bytes, string_len}
-use Rattle.htmd_lexical.specs.Characters.{space}
+use Rattle.std.proofs.Common.{◌≡◌, length, ap, ◌∙◌, arith, rules, string_bytes, string_len}
 use Rattle.htmd_commonmark.proofs.PagesLemmas.{prefix_grows, wrote-prefix}
 use Rattle.htmd_commonmark.proofs.lines.Lines.open_item.Goals as goal
 

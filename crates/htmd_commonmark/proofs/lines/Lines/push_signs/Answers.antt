@@ -1,5 +1,5 @@
 -- One more sign.
-use Rattle.std.proofs.Common.{◌≡◌, ◌∷◌, [], ap, ◌∙◌}
+use Rattle.std.proofs.Common.{◌∷◌, [], ap, ◌∙◌}
 use Rattle.htmd_lexical.specs.Characters.{number_sign}
 use Rattle.htmd_commonmark.specs.Pages.{wrote}
 use Rattle.htmd_commonmark.proofs.PagesLemmas.{signs-more}

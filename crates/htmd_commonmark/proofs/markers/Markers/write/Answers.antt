@@ -1,5 +1,5 @@
 -- A number and its delimiter are one line.
-use Rattle.std.proofs.Common.{◌≡◌, ◌+◌, arith, subst, sym}
+use Rattle.std.proofs.Common.{◌+◌, arith, subst, sym}
 use Rattle.htmd_commonmark.specs.declared.markers.Markers.{Markers}
 use Rattle.htmd_commonmark.specs.BlockMarkdown.{marker}
 use Rattle.htmd_commonmark.specs.Pages.{IsMarker}

@@ -1,6 +1,6 @@
 -- One more row.
-use Rattle.std.proofs.Common.{◌≡◌, ◌∷◌, [], ◌+◌, ◌++◌, drop, map, sym, ap, ◌∙◌, arith}
-use Rattle.std.proofs.lemmas.List.{append-nil, drop_all, map_push}
+use Rattle.std.proofs.Common.{◌+◌, ◌++◌, drop, map, sym, ap, ◌∙◌}
+use Rattle.std.proofs.lemmas.List.{map_push}
 use Rattle.htmd_markdown.specs.Tables.{texts, row_texts}
 use Rattle.htmd_commonmark.specs.BlockMarkdown.{written_cells, written_rows}
 use Rattle.htmd_commonmark.specs.BlockViews.{cells_of, rows_of}

@@ -1,10 +1,10 @@
 -- One more column, and one more row.
 use Rattle.std.proofs.Common.{◌≡◌, ◌∷◌, [], ◌++◌, length, get_or, map, max, take, fold, sym, ap, ◌∙◌, arith, rules}
-use Rattle.std.proofs.Common.{string_bytes}
 use Rattle.std.proofs.lemmas.List.{map_more, take_all}
 use Rattle.std.proofs.lemmas.List.Sums.{fold_push}
 use Rattle.htmd_markdown.specs.Tables.{texts, row_texts}
-use Rattle.htmd_commonmark.specs.TableLines.{narrowest, widened, width_of}
+use Rattle.htmd_commonmark.specs.Columns.{width_of}
+use Rattle.htmd_commonmark.specs.TableLines.{narrowest, widened}
 use Rattle.htmd_commonmark.proofs.TableLinesLemmas.{header_width, header_widths, length_widened, written_back}
 use Rattle.htmd_commonmark.proofs.table.TableTexts.widths.Goals as goal
 
@@ -14,7 +14,7 @@ loop-cell-preserved c =
     let i = c.loop-cell.cell-index in
     let cell = c.cell-item.result in
     let width : c.max.result ≡ header_width (get_or cells i cell) =
-    c.max.ensures ∙ ap (max narrowest) (c.character_count.ensures ∙ ap width_of c.deref.ensures)
+    c.max.ensures ∙ ap (max narrowest) (c.width_of.ensures ∙ ap width_of c.deref.ensures)
     ∙ ap header_width (c.cell-item.is ∙ ap (λ l. get_or l i cell) c.deref-cell-items.ensures.value) in
     c.in_ok-push.ensures.items ∙ ap (λ l. l ++ c.max.result ∷ []) c.loop-cell.invariant
     ∙ ap (λ n. map header_width (take i cells) ++ n ∷ []) width

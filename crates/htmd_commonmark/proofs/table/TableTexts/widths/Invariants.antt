@@ -1,7 +1,8 @@
 -- The columns so far, and as wide as the rows so far ask for.
 use Rattle.std.proofs.Common.{◌≡◌, map, max, take, fold}
 use Rattle.htmd_markdown.specs.Tables.{texts, row_texts}
-use Rattle.htmd_commonmark.specs.TableLines.{narrowest, widened, width_of}
+use Rattle.htmd_commonmark.specs.Columns.{width_of}
+use Rattle.htmd_commonmark.specs.TableLines.{narrowest, widened}
 use Rattle.htmd_commonmark.proofs.TableLinesLemmas.{header_width}
 use Rattle.htmd_commonmark.proofs.table.TableTexts.widths.Given as goal
 

@@ -9,6 +9,7 @@ use Rattle.htmd_lexical.specs.Characters.{quotation_mark, space}
 use Rattle.htmd_nodes.specs.Items.{element_node}
 use Rattle.htmd_nodes.specs.Views.{data_of}
 use Rattle.htmd_document_of_tree.specs.declared.role.Role.TheVariants as role
+use Rattle.htmd_document.specs.Formats.{of_format, of_element}
 use Rattle.htmd_document_of_tree.specs.Contexts.{apart, deeper, inside_format, in_code, in_one_line, run_in}
 use Rattle.htmd_nodes.specs.NumberedTrees.{NumberedTree, forest_of, tree_of, height, tallest}
 use Rattle.htmd_document_of_tree.specs.Flows as spec
@@ -254,13 +255,25 @@ pub element-returns-in-Format-clause-out : goal.element-returns-in-Format-clause
 element-returns-in-Format-clause-out t c = on_ok c.inside.result c.inside.ensures.out (λ e. e
     ∙ ap (fed_all (writing_in c.args.out.now)) (ap (content_at c.args.self.now.sight c.args.node)
     (subst (λ a. with_option (context_in c.args.place a) c.new_format-format.result
-    ≡ inside_format c.in-Format.format (context_in c.args.place a)) c.deref.ensures.value
+    ≡ inside_format (of_format c.in-Format.format) (context_in c.args.place a)) c.deref.ensures.value
     (c.new_format-format.ensures c.args.place))
     ∙ content_open (shown_at c.args.self.now.sight c.args.node)
-    (inside_format c.in-Format.format (context_in c.args.place c.args.around.now.items))
+    (inside_format (of_format c.in-Format.format) (context_in c.args.place c.args.around.now.items))
     ∙ (by_role_at c.args.self.now.sight c.args.node c.requires.within
     (context_in c.args.place c.args.around.now.items) (role.Format c.in-Format.format)
     (ap Some (sym c.in-Format.is) ∙ c.requires.role))))
+
+pub element-returns-in-Element-clause-out : goal.element-returns-in-Element-clause-out
+element-returns-in-Element-clause-out t c = on_ok c.inside-in-Element.result c.inside-in-Element.ensures.out (λ e. e
+    ∙ ap (fed_all (writing_in c.args.out.now)) (ap (content_at c.args.self.now.sight c.args.node)
+    (subst (λ a. with_option (context_in c.args.place a) c.new_element-element.result
+    ≡ inside_format (of_element c.in-Element.element) (context_in c.args.place a)) c.deref-in-Element.ensures.value
+    (c.new_element-element.ensures c.args.place))
+    ∙ content_open (shown_at c.args.self.now.sight c.args.node)
+    (inside_format (of_element c.in-Element.element) (context_in c.args.place c.args.around.now.items))
+    ∙ (by_role_at c.args.self.now.sight c.args.node c.requires.within
+    (context_in c.args.place c.args.around.now.items) (role.Element c.in-Element.element)
+    (ap Some (sym c.in-Element.is) ∙ c.requires.role))))
 
 pub element-returns-in-Quotation-clause-out : goal.element-returns-in-Quotation-clause-out
 element-returns-in-Quotation-clause-out t c = on_ok c.between.result c.between.ensures.out (λ e. e
@@ -628,6 +641,7 @@ element-returns-in_default-clause-out t c =
     ∙ other_parts c.args.node (attributes_of (shown_at s c.args.node)) children (spec.nodes_of children)
     (spec.lines_of_table children) context c.args.role (record {
       format = c.in_default.not-Format;
+      element = c.in_default.not-Element;
       code = c.in_default.not-Code;
       anchor = c.in_default.not-Anchor;
       quotation = c.in_default.not-Quotation;
