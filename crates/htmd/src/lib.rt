@@ -35,8 +35,7 @@ pub use documents::document_options;
 pub use htmd_addresses::{Page, Pages, RunPage};
 pub use htmd_commonmark::{DocumentOptions, to_markdown};
 pub use htmd_document::{
-    Alignment, Block, CellContent, Document, Format, Inline, InlineElement, ItemContent,
-    RowContent,
+    Alignment, Block, CellContent, Document, Format, Inline, InlineElement, ItemContent, RowContent,
 };
 pub use htmd_document_of_tree::OfTree;
 pub use htmd_encodings::{Encoding, encoding_named};

@@ -112,7 +112,7 @@ fn write_columns<W: Write>(out: &mut W, text: &str, most: usize) -> fmt::Result 
 }
 
 /// Writes the line of a place, and a mark under the place.
-fn write_mark<W: Write>(out: &mut W, input: &str, place: usize) -> fmt::Result {
+pub(crate) fn write_mark<W: Write>(out: &mut W, input: &str, place: usize) -> fmt::Result {
     let (front, rest) = line_at(input, place);
     let front = if columns(front) < COLUMNS {
         front

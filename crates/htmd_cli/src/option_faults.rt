@@ -1,7 +1,9 @@
 //! The messages about options that aren't known, and about values that have no effect.
+use crate::explanations::write_mark;
 use crate::options::{OPTIONS, OptionRow, Setting, Valued};
 use crate::reports::Lines;
 use crate::requests::{OptionFault, Request};
+use htmd_selectors::SelectorError;
 use htmd_streams::Sink;
 use std::fmt;
 use std::fmt::Write;
@@ -84,14 +86,22 @@ fn write_unknown<W: Write>(out: &mut W, given: &str) -> fmt::Result {
     }
 }
 
-/// Says why options aren't taken: of one that isn't known in two lines, else in one.
+/// Writes why a value isn't a selector, and a mark under the place.
+fn write_selector<W: Write>(out: &mut W, given: &str, error: &SelectorError) -> fmt::Result {
+    let (name, value) = given.split_once('=').unwrap_or((given, ""));
+    writeln!(out, "htmd: {name}: {error}")?;
+    match error.place() {
+        Some(place) => write_mark(out, value, place),
+        None => Ok(()),
+    }
+}
+
+/// Says why options aren't taken: of one that isn't known in two lines, of a selector with a mark under the place.
 pub fn say_fault<E: Sink>(errors: &mut E, fault: &OptionFault<'_>) {
     let mut lines = Lines { sink: errors };
     let _ = match fault {
         OptionFault::Unknown(given) => write_unknown(&mut lines, given),
-        OptionFault::Selector { option, error } => {
-            writeln!(lines, "htmd: {}: {error}", name_part(option))
-        }
+        OptionFault::Selector { option, error } => write_selector(&mut lines, option, error),
         OptionFault::Memory => writeln!(lines, "htmd: out of memory"),
     };
 }

@@ -7,7 +7,7 @@ use Rattle.htmd_lexical.specs.Characters.{comma}
 use Rattle.htmd_selectors.specs.declared.selectors.SelectorError.{SelectorError}
 use Rattle.htmd_selectors.specs.declared.selectors.SelectorError.TheVariants.{Memory, NoSelector, NoName, Unclosed}
 use Rattle.htmd_selectors.specs.declared.selectors.SelectorError.TheVariants.{Unsupported}
-use Rattle.htmd_selectors.specs.Reading.{Reading, read, read_all, nothing_read, steps_read, finished, steps_of_text}
+use Rattle.htmd_selectors.specs.Reading.{Reading, read, read_all, nothing_read, steps_read, finished_in, steps_of_text}
 use Rattle.htmd_selectors.specs.ReaderViews.{IsFault}
 
 read_all-err : (place : ℕ) (s : List ℕ) (e : SelectorError) → read_all place s (Err e) ≡ Err e
@@ -62,6 +62,6 @@ IsFault-at_end s place r e is so_far h =
     (IsFault-read_all (length s) (length s) [] (read (length s) comma r) e h)
 
 pub finished-at_end : (s : List ℕ) (place : ℕ) (r after : Reading) → place ≡ length s → IsRead s place r
-    → read (length s) comma r ≡ Ok after → finished after.position (length s) after.steps ≡ steps_of_text s
+    → read (length s) comma r ≡ Ok after → finished_in after.group after.position (length s) after.steps ≡ steps_of_text s
 finished-at_end s place r after is so_far h =
     ap (steps_read (length s)) (sym h) ∙ ap (steps_read (length s)) (read_all-end s place r is so_far)

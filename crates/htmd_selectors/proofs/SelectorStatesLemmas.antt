@@ -11,7 +11,7 @@ use Rattle.htmd_selectors.specs.declared.selectors.Relation.{Relation}
 use Rattle.htmd_selectors.specs.declared.selectors.Relation.TheVariants as relation
 use Rattle.htmd_selectors.specs.declared.matching.StepState.{StepState}
 use Rattle.htmd_selectors.specs.SelectorSteps.{Step}
-use Rattle.htmd_selectors.specs.Matching.{Element, meets, matches, first_passes, some_passes, is_named_after, starts}
+use Rattle.htmd_selectors.specs.Matching.{Element, passes, matches, first_passes, some_passes, is_named_after, starts}
 use Rattle.htmd_selectors.specs.Matching as match
 use Rattle.htmd_selectors.specs.SelectorStates.{state_of, states_after, states, no_state, is_reached, next_state}
 use Rattle.htmd_selectors.specs.SelectorStates.{next_states, states_below}
@@ -31,7 +31,7 @@ next_state-is : (before : List Step) (step : Step) (e : Element) (around : List 
     → next_state (matches before e around) (state_of before around) e step (state_of (step ∷ before) around)
     ≡ state_of (step ∷ before) (e ∷ around)
 next_state-is before step e around =
-    ap (λ b. let here = b && meets e step.condition in
+    ap (λ b. let here = b && passes e step.test in
     let state : StepState = record {
       here = here;
       within = here

@@ -5,7 +5,7 @@ use Rattle.htmd_selectors.specs.declared.selectors.Relation.{Relation}
 use Rattle.htmd_selectors.specs.declared.selectors.Relation.TheVariants as relation
 use Rattle.htmd_selectors.specs.declared.matching.StepState.{StepState}
 use Rattle.htmd_selectors.specs.SelectorSteps.{Step}
-use Rattle.htmd_selectors.specs.Matching.{Element, meets, matches, starts, first_passes, some_passes}
+use Rattle.htmd_selectors.specs.Matching.{Element, passes, matches, starts, first_passes, some_passes}
 use Rattle.htmd_selectors.specs.Rewriting.{Rule, unchanged, joined}
 
 -- for these steps, last step first: they name the innermost of these elements; they name one of them
@@ -35,7 +35,7 @@ is_reached relation.Below same parent = parent.within
 -- the state of an element at a step, by that of its parent
 abbrev pub next_state : Bool → StepState → Element → Step → StepState → StepState
 next_state same above e step state =
-    let here = is_reached step.relation same above && meets e step.condition in
+    let here = is_reached step.relation same above && passes e step.test in
     record { here = here; within = here || state.within }
 
 -- the states of an element, by those of its parent

@@ -1,17 +1,25 @@
 -- Selectors as their simple selectors in order, each with its relation to the one before it: `main > p.note, nav` is
 -- `main`, then `p` of a child, then `.note` of the same element, then `nav`, which begins a selector of its own.
-use Rattle.std.specs.Prelude.{ℕ, List}
+use Rattle.std.specs.Prelude.{ℕ, Bool, List}
+use Rattle.htmd_selectors.specs.declared.selectors.Comparison.{Comparison}
 use Rattle.htmd_selectors.specs.declared.selectors.Relation.{Relation}
 
 -- what a simple selector asks of an element (Selectors Level 4, 5 and 6)
 pub data Condition : Type 0 where
+  is_any : Condition
   is_type : (name : List ℕ) → Condition
   has_class : (class : List ℕ) → Condition
   has_id : (id : List ℕ) → Condition
   has_attribute : (name : List ℕ) → Condition
-  has_value : (name value : List ℕ) → Condition
+  has_value : (name : List ℕ) (comparison : Comparison) (value : List ℕ) → Condition
+
+-- what a step asks of an element: a condition; or that one of these compounds matches, each of which is conditions that
+-- all have to be met, or that none of them does (`:is()` and `:not()`, Selectors Level 4, 4.2 and 4.3)
+pub data Test : Type 0 where
+  asks : (condition : Condition) → Test
+  among : (negated : Bool) (compounds : List (List Condition)) → Test
 
 -- a simple selector, and how it stands to the one before it
 pub record Step : Type 0 where
   pub relation : Relation
-  pub condition : Condition
+  pub test : Test

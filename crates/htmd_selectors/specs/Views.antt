@@ -1,20 +1,35 @@
 -- What selectors that are kept stand for.
 use Rattle.std.specs.Prelude.{List, map}
 use Rattle.htmd_selectors.specs.declared.selectors.Condition.{Condition}
-use Rattle.htmd_selectors.specs.declared.selectors.Condition.TheVariants.{Tag, Class, Id, Attribute, Value}
+use Rattle.htmd_selectors.specs.declared.selectors.Condition.TheVariants.{Any, Tag, Class, Id, Attribute}
+use Rattle.htmd_selectors.specs.declared.selectors.Condition.TheVariants.{Value}
+use Rattle.htmd_selectors.specs.declared.selectors.Compound.{Compound}
+use Rattle.htmd_selectors.specs.declared.selectors.Test.{Test}
+use Rattle.htmd_selectors.specs.declared.selectors.Test.TheVariants.{Asks, Among}
 use Rattle.htmd_selectors.specs.declared.selectors.Step.{Step}
 use Rattle.htmd_selectors.specs.declared.selectors.Selectors.{Selectors}
 use Rattle.htmd_selectors.specs.SelectorSteps as spec
 
 abbrev pub condition_of : Condition → spec.Condition
+condition_of Any = spec.is_any
 condition_of (Tag name) = spec.is_type name.items
 condition_of (Class class) = spec.has_class class.items
 condition_of (Id id) = spec.has_id id.items
 condition_of (Attribute name) = spec.has_attribute name.items
-condition_of (Value name value) = spec.has_value name.items value.items
+condition_of (Value name comparison value) = spec.has_value name.items comparison value.items
+
+abbrev pub compound_of : Compound → List spec.Condition
+compound_of compound = map condition_of compound.conditions.items
+
+abbrev pub compounds_of : List Compound → List (List spec.Condition)
+compounds_of compounds = map compound_of compounds
+
+abbrev pub test_of : Test → spec.Test
+test_of (Asks condition) = spec.asks (condition_of condition)
+test_of (Among negated compounds) = spec.among negated (compounds_of compounds.items)
 
 abbrev pub step_of : Step → spec.Step
-step_of step = record { relation = step.relation; condition = condition_of step.condition }
+step_of step = record { relation = step.relation; test = test_of step.test }
 
 abbrev pub steps_of : List Step → List spec.Step
 steps_of steps = map step_of steps

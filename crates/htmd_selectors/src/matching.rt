@@ -1,17 +1,17 @@
 //! Which elements a selector names.
-ghost use Rattle.std.specs.Prelude.{◌≡◌, ◌&&◌, length, codes, true, false, vec_len, IfOk};
-ghost use Rattle.std.specs.Str.{bytes_eq};
+ghost use Rattle.std.specs.Prelude.{◌≡◌, ◌&&◌, length, map, codes, true, false, vec_len, IfOk};
 ghost use Rattle.htmd_lexical.specs.Attributes.{pairs_of};
 ghost use Rattle.htmd_selectors.specs.Matching as spec;
+ghost use Rattle.htmd_selectors.specs.declared.selectors.Operator.TheVariants as spec_operator;
 ghost use Rattle.htmd_selectors.specs.SelectorStates as spec_states;
-ghost use Rattle.htmd_selectors.specs.Views.{condition_of, steps_of};
+ghost use Rattle.htmd_selectors.specs.Views.{condition_of, compounds_of, test_of, steps_of};
 
-use crate::selectors::{Condition, Relation, Step};
+use crate::selectors::{Comparison, Compound, Condition, Operator, Relation, Step, Test};
 use htmd_nodes::Attribute;
 use std::alloc::{AllocError, Global};
 
 /// Whether two names are the same, ASCII letters in either case.
-fn is_same_name(a: &[u8], b: &[u8]) -> bool
+pub(crate) fn is_same_name(a: &[u8], b: &[u8]) -> bool
     ensures { result ≡ spec.same_name a.now b.now }
 {
     a.eq_ignore_ascii_case(b)
@@ -28,11 +28,36 @@ fn has_attribute(attrs: &[Attribute], name: &[u8]) -> bool
     false
 }
 
-fn has_value(attrs: &[Attribute], name: &[u8], value: &[u8]) -> bool
-    ensures { result ≡ spec.has_such name.now (λ x. bytes_eq x value.now) (pairs_of attrs.now) }
+/// Whether two values are the same, or are so with ASCII letters in either case.
+fn is_same_value(caseless: bool, a: &[u8], b: &[u8]) -> bool
+    ensures { result ≡ spec.same_value caseless a.now b.now }
 {
-    for attribute in attrs {
-        if is_same_name(attribute.name.as_bytes(), name) && attribute.value.as_bytes() == value {
+    if caseless {
+        return is_same_name(a, b);
+    }
+    a == b
+}
+
+fn begins_with(caseless: bool, wanted: &[u8], value: &[u8]) -> bool
+    ensures { result ≡ spec.begins_with caseless wanted.now value.now }
+{
+    let len = wanted.len();
+    len <= value.len() && is_same_value(caseless, &value[..len], wanted)
+}
+
+fn ends_with(caseless: bool, wanted: &[u8], value: &[u8]) -> bool
+    ensures { result ≡ spec.ends_with caseless wanted.now value.now }
+{
+    let len = wanted.len();
+    len <= value.len() && is_same_value(caseless, &value[value.len() - len..], wanted)
+}
+
+/// Whether a value has a text somewhere.
+fn contains(caseless: bool, wanted: &[u8], value: &[u8]) -> bool
+    ensures { result ≡ spec.contains caseless wanted.now value.now }
+{
+    for place in 0..value.len() {
+        if begins_with(caseless, wanted, &value[place..]) {
             return true;
         }
     }
@@ -40,19 +65,59 @@ fn has_value(attrs: &[Attribute], name: &[u8], value: &[u8]) -> bool
 }
 
 /// Whether a word is between ASCII white space.
-fn has_word(text: &[u8], word: &[u8]) -> bool
-    ensures { result ≡ spec.has_word word.now text.now }
+fn has_word(caseless: bool, word: &[u8], value: &[u8]) -> bool
+    ensures { result ≡ spec.has_word caseless word.now value.now }
 {
-    text.split(|b| b.is_ascii_whitespace())
-        .any(|part| part == word)
+    value
+        .split(|b| b.is_ascii_whitespace())
+        .any(|part| is_same_value(caseless, part, word))
 }
 
-fn has_class(attrs: &[Attribute], class: &[u8]) -> bool
-    ensures { result ≡ spec.has_such (codes "class") (spec.has_word class.now) (pairs_of attrs.now) }
+/// Whether a value begins with a text, and then ends or goes on with a hyphen.
+fn begins_subtag(caseless: bool, wanted: &[u8], value: &[u8]) -> bool
+    ensures { result ≡ spec.compares spec_operator.Dash caseless wanted.now value.now }
+{
+    if !begins_with(caseless, wanted, value) {
+        return false;
+    }
+    match value[wanted.len()..].first() {
+        Some(b) => *b == b'-',
+        None => true,
+    }
+}
+
+/// Whether a value is to the wanted one what the operator says.
+fn is_such(comparison: Comparison, wanted: &[u8], value: &[u8]) -> bool
+    ensures { result ≡ spec.is_such comparison wanted.now value.now }
+{
+    let caseless = comparison.caseless;
+    match comparison.operator {
+        Operator::Equals => is_same_value(caseless, value, wanted),
+        Operator::Includes => !wanted.is_empty() && has_word(caseless, wanted, value),
+        Operator::Dash => begins_subtag(caseless, wanted, value),
+        Operator::Prefix => !wanted.is_empty() && begins_with(caseless, wanted, value),
+        Operator::Suffix => !wanted.is_empty() && ends_with(caseless, wanted, value),
+        Operator::Substring => !wanted.is_empty() && contains(caseless, wanted, value),
+    }
+}
+
+/// The case counts.
+fn exactly(operator: Operator) -> Comparison
+    ensures { result ≡ spec.exactly operator }
+{
+    Comparison {
+        operator,
+        caseless: false,
+    }
+}
+
+/// Whether an attribute with this name has a value that compares so to the wanted one.
+fn has_value(attrs: &[Attribute], name: &[u8], comparison: Comparison, wanted: &[u8]) -> bool
+    ensures { result ≡ spec.has_such name.now (spec.is_such comparison wanted.now) (pairs_of attrs.now) }
 {
     for attribute in attrs {
-        if is_same_name(attribute.name.as_bytes(), b"class")
-            && has_word(attribute.value.as_bytes(), class)
+        if is_same_name(attribute.name.as_bytes(), name)
+            && is_such(comparison, wanted, attribute.value.as_bytes())
         {
             return true;
         }
@@ -66,11 +131,62 @@ fn meets(name: &str, attrs: &[Attribute], condition: &Condition) -> bool
         (condition_of condition.now) }
 {
     match condition {
+        Condition::Any => true,
         Condition::Tag(wanted) => is_same_name(name.as_bytes(), wanted.as_slice()),
-        Condition::Class(class) => has_class(attrs, class.as_slice()),
-        Condition::Id(id) => has_value(attrs, b"id", id.as_slice()),
+        Condition::Class(class) => {
+            has_value(
+                attrs,
+                b"class",
+                exactly(Operator::Includes),
+                class.as_slice(),
+            )
+        }
+        Condition::Id(id) => has_value(attrs, b"id", exactly(Operator::Equals), id.as_slice()),
         Condition::Attribute(name) => has_attribute(attrs, name.as_slice()),
-        Condition::Value { name, value } => has_value(attrs, name.as_slice(), value.as_slice()),
+        Condition::Value {
+            name,
+            comparison,
+            value,
+        } => has_value(attrs, name.as_slice(), *comparison, value.as_slice()),
+    }
+}
+
+fn meets_all(name: &str, attrs: &[Attribute], conditions: &[Condition]) -> bool
+    ensures { result ≡ spec.meets_all (record { name = name.now; attributes = pairs_of attrs.now })
+        (map condition_of conditions.now) }
+{
+    for condition in conditions {
+        if !meets(name, attrs, condition) {
+            return false;
+        }
+    }
+    true
+}
+
+/// Whether an element meets all conditions of one of the compounds.
+fn meets_any(name: &str, attrs: &[Attribute], compounds: &[Compound]) -> bool
+    ensures { result ≡ spec.meets_any (record { name = name.now; attributes = pairs_of attrs.now })
+        (compounds_of compounds.now) }
+{
+    for compound in compounds {
+        if meets_all(name, attrs, compound.conditions.as_slice()) {
+            return true;
+        }
+    }
+    false
+}
+
+/// Whether an element passes what a step asks.
+fn passes(name: &str, attrs: &[Attribute], test: &Test) -> bool
+    ensures { result ≡ spec.passes (record { name = name.now; attributes = pairs_of attrs.now })
+        (test_of test.now) }
+{
+    match test {
+        Test::Asks(condition) => meets(name, attrs, condition),
+        Test::Among { negated, compounds } => {
+            let found = meets_any(name, attrs, compounds.as_slice());
+            if *negated { !found } else { found }
+        }
     }
 }
 
@@ -119,7 +235,7 @@ pub(crate) fn states_of(
     let mut above = NO_MARK;
     for (i, step) in steps.iter().enumerate() {
         let state = parent[i];
-        let here = is_reached(step.relation, same, above) && meets(name, attrs, &step.condition);
+        let here = is_reached(step.relation, same, above) && passes(name, attrs, &step.test);
         let within = here || state.within;
         states.push(StepState { here, within })?;
         same = here;

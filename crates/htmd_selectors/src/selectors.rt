@@ -8,6 +8,8 @@ use thiserror::Error;
 /// What a simple selector requires of an element.
 #[derive(Drop)]
 pub(crate) enum Condition {
+    /// `*`: nothing.
+    Any,
     /// `main`: this name.
     Tag(Vec<u8>),
     /// `.note`: this word in its `class`.
@@ -16,8 +18,37 @@ pub(crate) enum Condition {
     Id(Vec<u8>),
     /// `[href]`: an attribute with this name.
     Attribute(Vec<u8>),
-    /// `[rel=nofollow]`: an attribute with this name and this value.
-    Value { name: Vec<u8>, value: Vec<u8> },
+    /// `[rel~=nofollow]`: an attribute with this name whose value compares so to this one.
+    Value {
+        name: Vec<u8>,
+        comparison: Comparison,
+        value: Vec<u8>,
+    },
+}
+
+/// What a value is to the one that is written.
+#[derive(Clone, Copy, PartialEq, Eq)]
+pub(crate) enum Operator {
+    /// `=`: the same.
+    Equals,
+    /// `~=`: one of its words, between ASCII white space, is the same.
+    Includes,
+    /// `|=`: the same, or it goes on with a hyphen.
+    Dash,
+    /// `^=`: it begins with it.
+    Prefix,
+    /// `$=`: it ends with it.
+    Suffix,
+    /// `*=`: it has it somewhere.
+    Substring,
+}
+
+/// How values are compared.
+#[derive(Clone, Copy)]
+pub(crate) struct Comparison {
+    pub(crate) operator: Operator,
+    /// ASCII letters are the same in either case.
+    pub(crate) caseless: bool,
 }
 
 /// How a simple selector relates to the one before it.
@@ -33,11 +64,28 @@ pub(crate) enum Relation {
     Below,
 }
 
+/// Conditions that all have to be met.
+#[derive(Drop)]
+pub(crate) struct Compound {
+    pub(crate) conditions: Vec<Condition>,
+}
+
+/// What a step asks of an element.
+#[derive(Drop)]
+pub(crate) enum Test {
+    Asks(Condition),
+    /// `:is(a, .b)`: one of these matches; negated as by `:not(a, .b)`: none does.
+    Among {
+        negated: bool,
+        compounds: Vec<Compound>,
+    },
+}
+
 /// A simple selector, and how it relates to the one before it.
 #[derive(Drop)]
 pub(crate) struct Step {
     pub(crate) relation: Relation,
-    pub(crate) condition: Condition,
+    pub(crate) test: Test,
 }
 
 /// Selectors, by their simple selectors in order. `parse_selectors` reads them from a text.
@@ -87,12 +135,29 @@ pub enum SelectorError {
     /// There is no name after `.`, `#`, `[` or `=`, or a name begins with a digit.
     #[error("a name is missing at byte {place}")]
     NoName { place: usize },
-    /// A bracket or a quotation mark isn't closed.
-    #[error("`]` or a quotation mark is missing at byte {place}")]
+    /// A bracket, a parenthesis or a quotation mark isn't closed, or nothing follows a backslash.
+    #[error("`]`, `)` or a quotation mark is missing at byte {place}")]
     Unclosed { place: usize },
     /// A sign that means nothing there.
     #[error("the sign at byte {place} isn't supported")]
     Unsupported { place: usize },
+}
+
+impl SelectorError {
+    ghost use Rattle.htmd_selectors.specs.ReaderViews.{place_of};
+
+    /// The place, in bytes from 0; none if memory ran out.
+    pub fn place(&self) -> Option<usize>
+        ensures { result ≡ place_of self.now }
+    {
+        match self {
+            SelectorError::Memory => None,
+            SelectorError::NoSelector { place }
+            | SelectorError::NoName { place }
+            | SelectorError::Unclosed { place }
+            | SelectorError::Unsupported { place } => Some(*place),
+        }
+    }
 }
 
 impl From<AllocError> for SelectorError {

@@ -84,6 +84,28 @@ fn refuses_options(rt: HostRuntime) -> Result<(), Fail> {
     Ok(())
 }
 
+// A text that is no selector is shown with a mark under the place, and nothing is read.
+#[test]
+fn refuses_selectors(rt: HostRuntime) -> Result<(), Fail> {
+    const ROWS: &[(&str, &str)] = &[
+        (
+            "--select=a > > b",
+            "htmd: --select: a selector is missing at byte 4\na > > b\n    ^\n",
+        ),
+        (
+            "--drop=\u{e9}\n.a,[b",
+            "htmd: --drop: `]`, `)` or a quotation mark is missing at byte 8\n.a,[b\n     ^\n",
+        ),
+    ];
+    for (option, said) in ROWS {
+        let answer = called(rt.alloc(), &[option, "--text"], b"<p>")?;
+        expect_that(option, answer.status == 2)?;
+        expect_text(option, answer.stderr.as_str(), said)?;
+        expect_number(option, answer.unread, 3)?;
+    }
+    Ok(())
+}
+
 // How many lines describe an option, each with what it is for. No line is longer than a terminal is wide.
 fn options_in(help: &str) -> Result<usize, Fail> {
     let mut count: usize = 0;
