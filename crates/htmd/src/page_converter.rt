@@ -42,7 +42,8 @@ pub fn convert_page(
 impl<'a, 'b, R: Registrar + Drop> PageConverter<'a, 'b, R> {
     ghost use Rattle.htmd.specs.PageConverters.{IsReady, settings_of};
 
-    /// A converter by these settings, of a new builder, as `HtmlToMarkdown::builder` gives it. `Err` means out of memory.
+    /// A converter by these settings, of a new builder, as `HtmlToMarkdown::builder` gives it. `Err` means out of
+    /// memory.
     pub fn new(
         builder: HtmlToMarkdownBuilder<R>,
         settings: &'a PageSettings<'b>,

@@ -52,8 +52,8 @@ pub struct PageInRun<'a> {
 }
 
 impl<'a> PageSettings<'a> {
-    /// The settings that convert as `convert` does: the input is HTML of the strict grammar, its Markdown is that of the
-    /// Rust crate by the default options, scripting is on, and no element is skipped.
+    /// The settings that convert as `convert` does: the input is HTML of the strict grammar, its Markdown is that of
+    /// the Rust crate by the default options, scripting is on, and no element is skipped.
     pub fn new(alloc: Global) -> PageSettings<'a>
         ensures { settings_in result ≡ default_settings }
     {

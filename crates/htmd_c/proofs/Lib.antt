@@ -1,2 +1,2 @@
-pub mod CallResultsLemmas
+pub mod CallLemmas
 mod Examples

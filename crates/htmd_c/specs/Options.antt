@@ -80,7 +80,8 @@ are_lines_known given =
     nat_lt given.heading_style 2 && nat_lt given.hr_style 3 && nat_lt given.br_style 2
     && nat_lt given.link_style 3 && nat_lt given.link_reference_style 3
 
--- the styles of code and of lists, the output and what is written before it have numbers that are known; a spacing is any number
+-- the styles of code and of lists, the output and what is written before it have numbers that are known; a spacing
+-- is any number
 abbrev pub are_blocks_known : HtmdOptions → Bool
 are_blocks_known given =
     nat_lt given.code_block_style 2 && nat_lt given.code_block_fence 2 && nat_lt given.bullet_list_marker 2

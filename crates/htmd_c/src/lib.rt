@@ -168,8 +168,8 @@ pub extern "C" fn htmd_convert(
 }
 
 /// Writes what the bytes of a page become by the options to the front of the buffer, as `convert_page` of `htmd` makes
-/// it. `NOTHING_SELECTED` is a page of which no element is selected, and the statuses from `BAD_SELECT` say which text of
-/// the options isn't what it has to be.
+/// it. `NOTHING_SELECTED` is a page of which no element is selected, and the statuses from `BAD_SELECT` say which text
+/// of the options isn't what it has to be.
 #[unsafe(no_mangle)]
 pub extern "C" fn htmd_convert_page(
     alloc: Global,

@@ -11,7 +11,7 @@ use htmd::{PageError, convert_page};
 use std::alloc::Global;
 
 /// What bytes in UTF-8 become. The options are checked first, and then whether the bytes are UTF-8.
-#[tactic(auto, using(crate::proofs::CallResultsLemmas::text_fault))]
+#[tactic(auto, using(crate::proofs::CallLemmas::text_fault))]
 pub(crate) fn output_of(
     alloc: Global,
     html: &[u8],
@@ -33,7 +33,7 @@ pub(crate) fn output_of(
 }
 
 /// What the bytes of a page become. The options are checked first.
-#[tactic(auto, using(crate::proofs::CallResultsLemmas::page_fault))]
+#[tactic(auto, using(crate::proofs::CallLemmas::page_fault))]
 pub(crate) fn page_output_of(
     alloc: Global,
     page: &[u8],

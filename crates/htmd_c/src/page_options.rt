@@ -51,7 +51,7 @@ pub(crate) fn default_page_struct<'a>() -> HtmdPageOptions<'a>
 }
 
 /// Adds the selectors of a text. It is false if they are none.
-#[tactic(auto, using(crate::proofs::CallResultsLemmas::selectors_untold, crate::proofs::CallResultsLemmas::selectors_told))]
+#[tactic(auto, using(crate::proofs::CallLemmas::selectors_untold, crate::proofs::CallLemmas::selectors_told))]
 fn read_selectors(alloc: Global, selectors: &mut Selectors, text: &[u8]) -> Result<bool, AllocError>
     requires { steps_in selectors.old ≡ [] }
     ensures { IfOk result (λ is_read. MatchBool is_read
@@ -71,7 +71,7 @@ fn read_selectors(alloc: Global, selectors: &mut Selectors, text: &[u8]) -> Resu
 }
 
 /// Adds the names of a text. It is false if one is empty.
-#[tactic(auto, using(crate::proofs::CallResultsLemmas::names_untold, crate::proofs::CallResultsLemmas::names_told))]
+#[tactic(auto, using(crate::proofs::CallLemmas::names_untold, crate::proofs::CallLemmas::names_told))]
 fn read_names<'a>(names: &mut Vec<&'a str>, text: &'a [u8]) -> Result<bool, AllocError>
     requires { names.old.items ≡ [] }
     ensures { IfOk result (λ is_read. MatchBool is_read
@@ -91,7 +91,7 @@ fn read_names<'a>(names: &mut Vec<&'a str>, text: &'a [u8]) -> Result<bool, Allo
 }
 
 /// Sets the URL that a text is. It is false if the text is none.
-#[tactic(auto, using(crate::proofs::CallResultsLemmas::base_untold, crate::proofs::CallResultsLemmas::base_told))]
+#[tactic(auto, using(crate::proofs::CallLemmas::base_untold, crate::proofs::CallLemmas::base_told))]
 fn read_base(alloc: Global, base: &mut Option<Url>, text: &[u8]) -> Result<bool, AllocError>
     requires { base.old ≡ None }
     ensures { IfOk result (λ is_read. MatchBool is_read
@@ -111,7 +111,7 @@ fn read_base(alloc: Global, base: &mut Option<Url>, text: &[u8]) -> Result<bool,
 }
 
 /// Sets the encoding that a text names. It is false if that isn't supported.
-#[tactic(auto, using(crate::proofs::CallResultsLemmas::encoding_untold, crate::proofs::CallResultsLemmas::encoding_told))]
+#[tactic(auto, using(crate::proofs::CallLemmas::encoding_untold, crate::proofs::CallLemmas::encoding_told))]
 fn read_encoding(encoding: &mut Option<Encoding>, text: &[u8]) -> bool
     requires { encoding.old ≡ None }
     ensures { MatchBool result (spec.IsEncoding text.now encoding.new) (spec.IsNoEncoding text.now) }

@@ -66,7 +66,8 @@ controls = document 0 (
     tag (codes "p") []
     (tag (codes "a") (with_value (codes "href") (codes "/a\0b") ∷ with_value (codes "title") (codes "c\0") ∷ [])
     (leaf (codes "d") none) none)
-    (tag (codes "pre") (with_value (codes "class") (codes "lang-e" ++ 0x0B ∷ []) ∷ []) (leaf (codes "f") none) none))
+    (tag (codes "pre") (with_value (codes "class") (codes "lang-e" ++ 0x0B ∷ []) ∷ [])
+    (leaf (codes "f") none) none))
 
 pub controls-normal : IsNormal (document_of_tree true [] controls)
 unfolding chars encode is_utf8 document_of_tree node_of role_of table_role heading_or_block inline_role

@@ -157,8 +157,8 @@ next_kept x y rest ys e =
     ap (λ l. if seen.has_none x && has_no_cell l then [] else x ∷ l) e
     ∙ ap (λ b. if b then [] else x ∷ y ∷ ys) (and_right (seen.has_none x) false refl)
 
-cells_kept : (options : DocumentOptions) (all ds after : List (List ℕ)) (n : ℕ) (cells : List Inlines) → AreFew all
-    → Numbered 1 ds → list_all is_normal_line cells ≡ true
+cells_kept : (options : DocumentOptions) (all ds after : List (List ℕ)) (n : ℕ) (cells : List Inlines)
+    → AreFew all → Numbered 1 ds → list_all is_normal_line cells ≡ true
     → (written_cells (line_of options Cell) ds cells).definitions ++ after ≡ all
     → length cells ≤ n → ends_filled cells ≡ true
     → filled_front (seen_row (cell_inlines (references all) (fitted n (cell_texts options ds cells))))
@@ -204,7 +204,8 @@ rows_seen : (options : DocumentOptions) (all ds after : List (List ℕ)) (n : �
     → AreFew all → Numbered 1 ds → list_all (list_all is_normal_line) rows ≡ true
     → list_all (is_normal_row n) rows ≡ true
     → (written_rows (line_of options Cell) ds rows).definitions ++ after ≡ all
-    → document_rows (seen_rows (row_inlines (references all) (filled_rows n (row_texts options ds rows)))) ≡ Some rows
+    → document_rows (seen_rows (row_inlines (references all) (filled_rows n (row_texts options ds rows))))
+    ≡ Some rows
 rows_seen options all ds after n [] h d p r e = refl
 rows_seen options all ds after n (cells ∷ rows) h d p r e =
     let q = and_parts (list_all is_normal_line cells) (list_all (list_all is_normal_line) rows) p in

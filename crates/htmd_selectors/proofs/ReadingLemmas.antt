@@ -62,6 +62,7 @@ IsFault-at_end s place r e is so_far h =
     (IsFault-read_all (length s) (length s) [] (read (length s) comma r) e h)
 
 pub finished-at_end : (s : List ℕ) (place : ℕ) (r after : Reading) → place ≡ length s → IsRead s place r
-    → read (length s) comma r ≡ Ok after → finished_in after.group after.position (length s) after.steps ≡ steps_of_text s
+    → read (length s) comma r ≡ Ok after
+    → finished_in after.group after.position (length s) after.steps ≡ steps_of_text s
 finished-at_end s place r after is so_far h =
     ap (steps_read (length s)) (sym h) ∙ ap (steps_read (length s)) (read_all-end s place r is so_far)

@@ -3,11 +3,13 @@
 //! rules.
 #![tactic(auto)]
 
+mod caseless_names;
 mod copying;
 mod matching;
 mod reader;
 mod selection;
 mod selectors;
+mod signs;
 
 pub use copying::{Rewrite, rewritten};
 pub use reader::parse_selectors;

@@ -1,16 +1,16 @@
 //! Selectors that are read from a text, byte by byte.
 ghost use Rattle.std.specs.Prelude.{◌≡◌, ◌-◌, ◌==◌, [], true, false, length, if◌then◌else◌, IfOk, IfErr, OnOk, OnErr};
-ghost use Rattle.std.specs.List.{list_any};
-ghost use Rattle.htmd_selectors.specs.Matching.{same_name};
 ghost use Rattle.htmd_selectors.specs.Reading as spec;
 ghost use Rattle.htmd_selectors.specs.ReaderViews.{reading_of, IsFault};
 ghost use Rattle.htmd_selectors.specs.Views.{condition_of, test_of, steps_in, steps_of};
 
-use crate::matching::is_same_name;
+use crate::caseless_names::is_caseless_name;
 use crate::selectors::{
     Comparison, Compound, Condition, Operator, Relation, SelectorError, Selectors, Step, Test,
 };
-use htmd_scanning::number;
+use crate::signs::{
+    ends_part, escaped_character, extends_name, group_named, is_line_end, is_no_name, operator_of,
+};
 use std::alloc::Global;
 use std::mem;
 
@@ -77,150 +77,6 @@ pub(crate) struct Reader {
     compound: Vec<Condition>,
     position: Position,
     alloc: Global,
-}
-
-/// Whether a name may hold this byte; all bytes of a character that isn't ASCII are.
-fn is_name_byte(b: u8) -> bool
-    ensures { result ≡ spec.is_name_byte b }
-{
-    b.is_ascii_alphanumeric() || b == b'-' || b == b'_' || b >= 0x80
-}
-
-/// Whether a name goes on with this byte, which may begin an escape.
-fn extends_name(b: u8) -> bool
-    ensures { result ≡ spec.extends_name b }
-{
-    is_name_byte(b) || b == b'\\'
-}
-
-/// Whether what was read is no name: nothing, or a hyphen that no escape stands for.
-fn is_no_name(escaped: bool, word: &[u8]) -> bool
-    ensures { result ≡ spec.is_no_name escaped word.now }
-{
-    match word {
-        [] => true,
-        [b] => *b == b'-' && !escaped,
-        _ => false,
-    }
-}
-
-fn is_line_end(b: u8) -> bool
-    ensures { result ≡ spec.is_line_end b }
-{
-    b == b'\n' || b == b'\r' || b == 0x0C
-}
-
-/// The character that hexadecimal digits stand for, U+FFFD where there is none.
-fn escaped_character(digits: &[u8]) -> char
-    ensures { result ≡ spec.escaped_character digits.now }
-{
-    let code = number(digits, 16);
-    if code == 0 {
-        return char::REPLACEMENT_CHARACTER;
-    }
-    match char::from_u32(code) {
-        Some(character) => character,
-        None => char::REPLACEMENT_CHARACTER,
-    }
-}
-
-/// The pseudo-class with parentheses that has this name.
-fn group_named(name: &[u8]) -> Group
-    ensures { result ≡ spec.group_named name.now }
-{
-    if is_same_name(name, b"not") {
-        return Group::Not;
-    }
-    if is_same_name(name, b"is") || is_same_name(name, b"where") {
-        return Group::Is;
-    }
-    Group::Outside
-}
-
-/// Whether a compound in parentheses ends before this byte.
-fn ends_part(b: u8) -> bool
-    ensures { result ≡ spec.ends_part b }
-{
-    b == b')' || b == b',' || b.is_ascii_whitespace()
-}
-
-/// The operator with this sign before its `=`.
-fn operator_of(b: u8) -> Option<Operator>
-    ensures { result ≡ spec.operator_of b }
-{
-    match b {
-        b'~' => Some(Operator::Includes),
-        b'|' => Some(Operator::Dash),
-        b'^' => Some(Operator::Prefix),
-        b'$' => Some(Operator::Suffix),
-        b'*' => Some(Operator::Substring),
-        _ => None,
-    }
-}
-
-/// The attributes whose values are the same with ASCII letters in either case, where no flag says otherwise.
-const CASELESS: [&str; 46] = [
-    "accept",
-    "accept-charset",
-    "align",
-    "alink",
-    "axis",
-    "bgcolor",
-    "charset",
-    "checked",
-    "clear",
-    "codetype",
-    "color",
-    "compact",
-    "declare",
-    "defer",
-    "dir",
-    "direction",
-    "disabled",
-    "enctype",
-    "face",
-    "frame",
-    "hreflang",
-    "http-equiv",
-    "lang",
-    "language",
-    "link",
-    "media",
-    "method",
-    "multiple",
-    "nohref",
-    "noresize",
-    "noshade",
-    "nowrap",
-    "readonly",
-    "rel",
-    "rev",
-    "rules",
-    "scope",
-    "scrolling",
-    "selected",
-    "shape",
-    "target",
-    "text",
-    "type",
-    "valign",
-    "valuetype",
-    "vlink",
-];
-
-/// Whether a name is one of these, ASCII letters in either case.
-fn is_among(name: &[u8], names: &[&str]) -> bool
-    ensures { result ≡ list_any (λ known. same_name known.now name.now) names.now }
-{
-    names
-        .iter()
-        .any(|known| is_same_name(known.as_bytes(), name))
-}
-
-fn is_caseless_name(name: &[u8]) -> bool
-    ensures { result ≡ spec.is_caseless_name name.now }
-{
-    is_among(name, &CASELESS)
 }
 
 impl Reader {

@@ -8,8 +8,8 @@ use std::alloc::{AllocError, Global};
 use std::test::Fail;
 
 const MARKDOWN: &str =
-    "## <a id=\"i\"></a>a\n\n**b** [c](/x)<sup>2</sup>\n\n*   [x] d\n*   e\n\n| f   | 中  |\n| --- | --- |\n| g   |     |\n\n\
-     > ```rust\n> h\n> ```";
+    "## <a id=\"i\"></a>a\n\n**b** [c](/x)<sup>2</sup>\n\n*   [x] d\n*   e\n\n| f   | 中  |\n| --- | --- |\n\
+     | g   |     |\n\n> ```rust\n> h\n> ```";
 
 const JSON: &str = "{\"children\":[{\"type\":\"thematicBreak\"},{\"children\":[\
      {\"type\":\"text\",\"value\":\"a\"}],\"type\":\"paragraph\"}],\"type\":\"root\"}";

@@ -1,5 +1,5 @@
-//! The text in encodings with characters of several bytes, by the Encoding Standard: the ends of each range of bytes and
-//! of pointers, each error with what is given back, and bytes that end in the midst of a character.
+//! The text in encodings with characters of several bytes, by the Encoding Standard: the ends of each range of bytes
+//! and of pointers, each error with what is given back, and bytes that end in the midst of a character.
 use htmd_encodings::{encoding_named, page_text};
 use htmd_test_expected::{expect_text, expect_that};
 use std::test::Fail;

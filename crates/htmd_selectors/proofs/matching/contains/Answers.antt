@@ -10,7 +10,8 @@ contains-next : (caseless : Bool) (wanted s : List ℕ) (place : ℕ) → place 
 contains-next caseless wanted s place l off =
     let more : drop place s ≡ get_or s place 0 ∷ drop (place + 1) s = drop_more s place 0 l in
     sym (ap (contains caseless wanted) more
-    ∙ ap (λ b. b || contains caseless wanted (drop (place + 1) s)) (sym (ap (begins_with caseless wanted) more) ∙ off))
+    ∙ ap (λ b. b || contains caseless wanted (drop (place + 1) s))
+    (sym (ap (begins_with caseless wanted) more) ∙ off))
 
 pub loop-place-preserved : goal.loop-place-preserved
 loop-place-preserved c =

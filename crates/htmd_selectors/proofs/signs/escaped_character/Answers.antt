@@ -3,7 +3,7 @@ use Rattle.std.proofs.Common.{◌≡◌, ℕ, true, false, refl, ap, ◌∙◌, 
 use Rattle.std.proofs.lemmas.Bool.Decides.{nat_tests}
 use Rattle.std.specs.Char.{InScalarRange, OutOfScalarRange}
 use Rattle.htmd_selectors.specs.Reading.{is_no_character, character_numbered, escaped_character}
-use Rattle.htmd_selectors.proofs.reader.escaped_character.Goals as goal
+use Rattle.htmd_selectors.proofs.signs.escaped_character.Goals as goal
 
 numbered_zero : (n : ℕ) → n ≡ 0 → 0xFFFD ≡ character_numbered n
 numbered_zero n e = rw e refl
@@ -20,7 +20,8 @@ numbered_none n o =
 
 pub returns-then-code-eq0 : goal.returns-then-code-eq0
 unfolding escaped_character
-returns-then-code-eq0 c = numbered_zero c.number-code.result c.if-code-eq0.true ∙ ap character_numbered c.number-code.ensures
+returns-then-code-eq0 c =
+    numbered_zero c.number-code.result c.if-code-eq0.true ∙ ap character_numbered c.number-code.ensures
 
 pub returns-in-Some : goal.returns-in-Some
 unfolding escaped_character
@@ -31,4 +32,5 @@ returns-in-Some c =
 
 pub returns-in-None : goal.returns-in-None
 unfolding escaped_character
-returns-in-None c = numbered_none c.number-code.result c.in-None.ensures.cases ∙ ap character_numbered c.number-code.ensures
+returns-in-None c =
+    numbered_none c.number-code.result c.in-None.ensures.cases ∙ ap character_numbered c.number-code.ensures
