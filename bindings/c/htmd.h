@@ -67,6 +67,13 @@ enum {
     HTMD_MDAST = 1     /* what a reader sees, as JSON in the form of mdast; mode and styles have no effect then */
 };
 
+/* anchors: which places of links the document has that a reader sees */
+enum {
+    HTMD_ANCHORS_LINKED = 0, /* those that links of the page lead to */
+    HTMD_ANCHORS_ALL = 1,    /* all: links of other pages may lead there */
+    HTMD_ANCHORS_NONE = 2    /* none */
+};
+
 enum { HTMD_HEADING_ATX = 0, HTMD_HEADING_SETEXT = 1 };
 enum { HTMD_HR_ASTERISKS = 0, HTMD_HR_DASHES = 1, HTMD_HR_UNDERSCORES = 2 };
 enum { HTMD_BR_TWO_SPACES = 0, HTMD_BR_BACKSLASH = 1 };
@@ -95,7 +102,8 @@ typedef struct htmd_options {
     uint8_t preformatted_code; /* 1: the white space of a code span is kept; 0: it is not */
     uint8_t output;
     uint8_t front_matter;      /* 1: what the head of the page says about it is written first; 0: it is not */
-    uint8_t reserved[15];      /* 0 */
+    uint8_t anchors;
+    uint8_t reserved[14];      /* 0 */
 } htmd_options;
 
 /* A text, and the number of its bytes. With none it says nothing; the pointer isn't null even then. */

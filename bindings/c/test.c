@@ -81,7 +81,8 @@ static void test_struct(void) {
     CHECK(offsetof(htmd_options, ul_bullet_spacing) == 12);
     CHECK(offsetof(htmd_options, output) == 15);
     CHECK(offsetof(htmd_options, front_matter) == 16);
-    CHECK(offsetof(htmd_options, reserved) == 17);
+    CHECK(offsetof(htmd_options, anchors) == 17);
+    CHECK(offsetof(htmd_options, reserved) == 18);
 }
 
 /* A call for a page, into a buffer that is large enough. */
@@ -253,14 +254,29 @@ static void test_modes(void) {
                        "{\"type\":\"text\",\"value\":\"b\"}],\"type\":\"paragraph\"}],\"type\":\"root\"}"));
 }
 
+static void test_anchors(void) {
+    const char *html = "<p id=x>a<p id=y>b<a href=#y>c</a>";
+    htmd_options options = defaults();
+    options.reader = HTMD_HTML5;
+    options.mode = HTMD_GUARDED;
+    struct answer linked = call(html, strlen(html), &options, ROOM);
+    CHECK(says(&linked, "a\n\n<a id=\"y\"></a>b[c](#y)"));
+    options.anchors = HTMD_ANCHORS_ALL;
+    struct answer all = call(html, strlen(html), &options, ROOM);
+    CHECK(says(&all, "<a id=\"x\"></a>a\n\n<a id=\"y\"></a>b[c](#y)"));
+    options.anchors = HTMD_ANCHORS_NONE;
+    struct answer none = call(html, strlen(html), &options, ROOM);
+    CHECK(says(&none, "a\n\nb[c](#y)"));
+}
+
 /* Each number of each byte of the struct: all but the good ones answer the status for them, and write nothing. */
 static void test_numbers(void) {
-    const int counts[32] = {0, 3, 3, 2, 2, 3, 2, 3, 3, 2, 2, 2, 256, 256, 2, 2, 2};
+    const int counts[32] = {0, 3, 3, 2, 2, 3, 2, 3, 3, 2, 2, 2, 256, 256, 2, 2, 2, 3};
     for (int at = 0; at < 32; at++) {
         for (int number = 0; number < 256; number++) {
             htmd_options options = defaults();
             memcpy((uint8_t *)&options + at, &(uint8_t){(uint8_t)number}, 1);
-            int is_good = at == 0 ? number == HTMD_OPTIONS_VERSION : at > 16 ? number == 0 : number < counts[at];
+            int is_good = at == 0 ? number == HTMD_OPTIONS_VERSION : at > 17 ? number == 0 : number < counts[at];
             if (at == offsetof(htmd_options, output) && number == HTMD_MDAST)
                 continue; /* JSON, which test_modes asks for */
             struct answer answer = call("<p>a</p>", 8, &options, 8);
@@ -426,6 +442,7 @@ int main(void) {
     test_readers();
     test_options();
     test_modes();
+    test_anchors();
     test_numbers();
     test_utf8();
     test_places();

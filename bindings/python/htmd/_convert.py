@@ -17,6 +17,7 @@ LinkReferenceStyle = Literal["full", "collapsed", "shortcut"]
 CodeBlockStyle = Literal["fenced", "indented"]
 CodeBlockFence = Literal["backticks", "tildes"]
 BulletListMarker = Literal["asterisk", "dash"]
+Anchors = Literal["linked", "all", "none"]
 
 #: The values of each option, and their numbers in the struct.
 VALUES: Mapping[str, Mapping[str, int]] = {
@@ -31,6 +32,7 @@ VALUES: Mapping[str, Mapping[str, int]] = {
     "code_block_fence": {"backticks": 0, "tildes": 1},
     "bullet_list_marker": {"asterisk": 0, "dash": 1},
     "output": {"markdown": 0, "mdast": 1},
+    "anchors": {"linked": 0, "all": 1, "none": 2},
 }
 
 # The bytes of the buffer beyond those of the page. What doesn't fit is converted a second time.
@@ -79,6 +81,7 @@ def convert(
     base: str = "",
     front_matter: bool = False,
     encoding: Optional[str] = None,
+    anchors: Anchors = "linked",
 ) -> str:
     """Converts a page, a text or its bytes, to Markdown.
 
@@ -105,6 +108,8 @@ def convert(
     front_matter: whether what the head of the page says about it is written first
     encoding: the label of the encoding of bytes without a byte order mark, if it is known; without it, "html5" takes
         bytes that are UTF-8 as such, and others by what the page says about itself. A `str` needs none
+    anchors: which places of links "guarded" keeps: "linked" those that links of the page lead to, "all" also those that
+        links of other pages may lead to, "none" none
 
     "guarded" ignores link_reference_style, code_block_style and preformatted_code: references are full, code blocks
     fenced, and the white space of code spans is squeezed.
@@ -130,6 +135,7 @@ def convert(
         code_block_style=code_block_style,
         code_block_fence=code_block_fence,
         bullet_list_marker=bullet_list_marker,
+        anchors=anchors,
     )
     return _written(html, options, _texts(select, drop, skip, base, encoding))
 
@@ -144,6 +150,7 @@ def document(
     skip: str = "",
     base: str = "",
     encoding: Optional[str] = None,
+    anchors: Anchors = "linked",
 ) -> Dict[str, Any]:
     """What a reader sees of a page, a text or its bytes, in the form of mdast 4: dicts and lists.
 
@@ -153,7 +160,7 @@ def document(
 
     Raises what `convert` raises.
     """
-    options = _options(scripting, 3, 2, False, False, output="mdast", reader=reader, mode="guarded")
+    options = _options(scripting, 3, 2, False, False, output="mdast", reader=reader, mode="guarded", anchors=anchors)
     return json.loads(_written(html, options, _texts(select, drop, skip, base, encoding)))
 
 

@@ -60,7 +60,8 @@ class Options(ctypes.Structure):
         ("preformatted_code", ctypes.c_uint8),
         ("output", ctypes.c_uint8),
         ("front_matter", ctypes.c_uint8),
-        ("reserved", ctypes.c_uint8 * 15),
+        ("anchors", ctypes.c_uint8),
+        ("reserved", ctypes.c_uint8 * 14),
     ]
 
 

@@ -107,6 +107,12 @@ class Documents(unittest.TestCase):
         self.assertEqual(htmd.document(PAGE.encode(), reader="page"), htmd.document(PAGE))
         self.assertEqual(htmd.document(""), {"type": "root", "children": []})
 
+    def test_anchors(self):
+        html = "<p id=x>a<p id=y>b<a href=#y>c</a>"
+        self.assertEqual(htmd.convert(html), 'a\n\n<a id="y"></a>b[c](#y)')
+        self.assertEqual(htmd.convert(html, anchors="all"), '<a id="x"></a>a\n\n<a id="y"></a>b[c](#y)')
+        self.assertEqual(htmd.convert(html, anchors="none"), "a\n\nb[c](#y)")
+
     def test_scripting(self):
         html = "a<noscript>b</noscript>"
         self.assertEqual(htmd.document(html)["children"][0]["children"], [{"type": "text", "value": "a"}])
@@ -261,6 +267,7 @@ class Header(unittest.TestCase):
             "code_block_fence": "FENCE_",
             "bullet_list_marker": "BULLET_",
             "output": "",
+            "anchors": "ANCHORS_",
         }
         for name, values in _convert.VALUES.items():
             for value, number in values.items():

@@ -2,23 +2,16 @@
 use Rattle.std.proofs.Common.{◌≡◌, ◌∙◌, ap, sym, subst, ℕ, Bool, true, false, List, [], ◌∷◌, ◌++◌, length, map, eqb}
 use Rattle.std.proofs.Common.{MatchBool, arith, codes, refl}
 use Rattle.std.proofs.lemmas.Bool.Decides.{nat_tests}
-use Rattle.std.proofs.Common.{Option, Some, None, option_map}
-use Rattle.std.specs.Prelude.{if◌then◌else◌}
 use Rattle.std.specs.Borrow.{Bor}
 use Rattle.std.specs.Str.{IsUtf8}
 use Rattle.htmd_walk.specs.Choice.{Config, no_handler, with_handler}
-use Rattle.htmd_grammar.specs.declared.fault.FaultKind.{FaultKind}
 use Rattle.htmd_nodes.specs.Items.{Item, document_item, new_item, element_node, text_node}
 use Rattle.htmd_lexical.specs.AttributePairs.{AttributePair}
-use Rattle.htmd.specs.declared.convert_error.ConvertError.{ConvertError}
-use Rattle.htmd.specs.declared.convert_error.ConvertError.TheVariants as conversion
 use Rattle.htmd_encodings.specs.Decoding.{page_text}
-use Rattle.htmd.specs.PageFailures.{conversion_fault}
 use Rattle.htmd.specs.PageSettings.{PageInRun, Settings, alone, settings_for}
-use Rattle.htmd.specs.PageChanges.{selected_of, without_dropped}
 use Rattle.htmd.specs.declared.page_error.PageError.{PageError}
-use Rattle.htmd.specs.declared.page_error.PageError.TheVariants.{NotUtf8, Refused, NothingSelected, Memory}
-use Rattle.htmd.specs.PageOutputs.{skipping, IsFaultOf, IsOutputBy, IsOutputOf, IsReadable, IsRefusedBy, IsUnselected}
+use Rattle.htmd.specs.declared.page_error.PageError.TheVariants.{Memory}
+use Rattle.htmd.specs.PageOutputs.{skipping, IsFaultOf, IsOutputBy, IsOutputOf, IsReadable, IsUnselected}
 use Rattle.htmd.specs.PageOutputs.{SelectsNothing, reads_any, text_in, empty_paragraph, paragraph}
 use Rattle.htmd.specs.PageOutputs.{tree_markdown, tree_output}
 
@@ -95,14 +88,11 @@ readable_utf8 settings any input text a f u e =
     (match_false _ _ (reads_any settings) strict u, rw strict e)
 
 -- or there is no memory for it
-pub out_of_memory : (settings : Settings) (input : List ℕ) (e : PageError) → e ≡ Memory → IsFaultOf settings input e
+pub out_of_memory : (settings : Settings) (input : List ℕ) (e : PageError) → e ≡ Memory
+    → IsFaultOf settings input e
 out_of_memory settings input e m = subst (IsFaultOf settings input) (sym m) tt
 
 -- ---- what the text becomes
-
-of_strict : (P Q : Type 0) (b : Bool) → b ≡ false → MatchBool b P Q → Q
-of_strict P Q true e p = absurd (cc)
-of_strict P Q false e p = p
 
 -- its tree, and what is written of it
 pub of_readable : (settings : Settings) (input text found output : List ℕ)
@@ -116,24 +106,6 @@ pub of_unselected : (settings : Settings) (input text found : List ℕ)
     → SelectsNothing settings found → IsUnselected settings input
 of_unselected settings input text found (r, t) f n = (r, subst (SelectsNothing settings) (f ∙ t) n)
 
--- it is refused, and so is the input
-pub of_refused : (settings : Settings) (input text found : List ℕ) (e : ConvertError)
-    → IsReadable settings input × (text ≡ text_in settings input) → found ≡ text
-    → ((place : ℕ) (kind : FaultKind) → e ≡ conversion.Refused place kind → settings.text ≡ false)
-    → ((place : ℕ) (kind : FaultKind) → e ≡ conversion.Refused place kind → settings.html5 ≡ false)
-    → ((place : ℕ) (kind : FaultKind) → e ≡ conversion.Refused place kind
-    → IsRefusedBy settings found place kind)
-    → IsFaultOf settings input (conversion_fault e)
-of_refused settings input text found (conversion.Refused place kind) (r, t) f x h g =
-    let strict : reads_any settings ≡ false = rw (h place kind refl) refl in
-    let whole : text_in settings input ≡ input = rw strict refl in (
-      x place kind refl,
-      h place kind refl,
-      of_strict _ _ (reads_any settings) strict r,
-      subst (λ s. IsRefusedBy settings s place kind) (f ∙ (t ∙ whole)) (g place kind refl),
-    )
-of_refused settings input text found conversion.Memory (r, t) f x h g = tt
-
 -- ---- a page of a run
 
 -- what a run adds changes only addresses
@@ -141,28 +113,6 @@ pub same_output : (page : PageInRun) (settings : Settings) (head : List ℕ) (pa
     → tree_output settings head part ≡ tree_output (settings_for page settings) head part
 unfolding tree_output tree_markdown
 same_output page settings head part = refl
-
-none_either_way : {A : Type 0} (b : Bool) (f g : A → A) (x : A) (chosen : Option A)
-    → (if b then Some x else option_map f chosen) ≡ None → (if b then Some x else option_map g chosen) ≡ None
-none_either_way true f g x chosen e = absurd (cc)
-none_either_way false f g x None e = refl
-none_either_way false f g x (Some y) e = absurd (cc)
-
--- nor does it change why a page becomes nothing
-pub fault_for : (page : PageInRun) (settings : Settings) (bytes : List ℕ) (e : PageError)
-    → IsFaultOf settings bytes e → IsFaultOf (settings_for page settings) bytes e
-fault_for page settings bytes NotUtf8 f = f
-fault_for page settings bytes (Refused place kind) f = f
-fault_for page settings bytes NothingSelected (readable, (tree, by, none)) = (
-  readable,
-  (
-    tree,
-    by,
-    none_either_way settings.text _ _ tree
-        (selected_of settings (without_dropped settings tree)) none,
-  ),
-)
-fault_for page settings bytes Memory f = tt
 
 -- a page by itself has nothing added
 pub alone_adds_nothing : (page : PageInRun) (settings : Settings) → page ≡ alone

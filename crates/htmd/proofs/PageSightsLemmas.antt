@@ -15,10 +15,10 @@ use Rattle.htmd.specs.PageSettings.{Settings}
 pub seen_in : (settings : Settings) (tree : List Item) (markdown : List ℕ) → HoldTexts tree
     → markdown ≡ markdown_of (document_options settings.options) (document_in settings tree)
     → length markdown < 2 ^ 64
-    → IsSeenIn (sight_in settings) tree markdown
+    → IsSeenIn settings.anchors (sight_in settings) tree markdown
 seen_in settings tree markdown texts is fits =
-    subst (IsSeenIn (sight_in settings) tree) (sym is)
-    (answers_are_seen (sight_in settings) tree (document_options settings.options) texts
+    subst (IsSeenIn settings.anchors (sight_in settings) tree) (sym is)
+    (answers_are_seen settings.anchors (sight_in settings) tree (document_options settings.options) texts
     (subst (λ (s : List ℕ). length s < 2 ^ 64) is fits))
 
 -- what is written of the part of the tree that the bytes' text has, after what its head says

@@ -1,5 +1,7 @@
--- What a converter and a builder hold: their handlers, whether scripting is on, and the tags that are skipped.
+-- What a converter and a builder hold: their handlers, whether scripting is on, which places of links documents have,
+-- and the tags that are skipped.
 use Rattle.std.specs.Prelude.{ℕ, Bool, List, map, string_bytes}
+use Rattle.htmd_document_of_tree.specs.declared.anchors.Anchors.{Anchors}
 use Rattle.htmd.specs.declared.converter.HtmlToMarkdown.{HtmlToMarkdown}
 use Rattle.htmd.specs.declared.converter.HtmlToMarkdownBuilder.{HtmlToMarkdownBuilder}
 use Rattle.htmd.specs.declared.skipped_tags.SkippedTags.{SkippedTags}
@@ -15,6 +17,12 @@ scripting_of converter = converter.scripting
 
 abbrev pub scripting_built : {R : Type 0} → HtmlToMarkdownBuilder R → Bool
 scripting_built builder = builder.scripting
+
+abbrev pub anchors_of : {R : Type 0} → HtmlToMarkdown R → Anchors
+anchors_of converter = converter.anchors
+
+abbrev pub anchors_built : {R : Type 0} → HtmlToMarkdownBuilder R → Anchors
+anchors_built builder = builder.anchors
 
 abbrev pub names_in : SkippedTags → List (List ℕ)
 names_in tags = map string_bytes tags.names.items

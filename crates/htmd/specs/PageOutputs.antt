@@ -16,7 +16,7 @@ use Rattle.htmd.specs.PageDocuments.{document_of_items, document_options}
 use Rattle.htmd_document.specs.Documents.{Blocks}
 use Rattle.htmd_document.specs.Mdast.{mdast_of, mdast_with_front_matter}
 use Rattle.htmd_commonmark.specs.DocumentMarkdown.{markdown_of}
-use Rattle.htmd.specs.Converters.{handlers_of, scripting_of, skipped_of}
+use Rattle.htmd.specs.Converters.{anchors_of, handlers_of, scripting_of, skipped_of}
 use Rattle.htmd.specs.declared.converter.HtmlToMarkdown.{HtmlToMarkdown}
 use Rattle.htmd_encodings.specs.Decoding.{page_text}
 use Rattle.htmd_html5.specs.Html5Documents.{html5_document}
@@ -65,7 +65,7 @@ text_in settings bytes = if reads_any settings then page_text settings.encoding 
 
 -- what a reader sees of a tree
 abbrev pub document_in : Settings → List Item → Blocks
-document_in settings tree = document_of_items settings.scripting settings.skipped tree
+document_in settings tree = document_of_items settings.scripting settings.skipped settings.anchors tree
 
 -- what of an input the strict reader reads
 abbrev pub strict_part : Settings → List ℕ → List ℕ
@@ -151,3 +151,4 @@ abbrev pub GoesBy : {H : Type 0} → (H → Type 0) → (H → Config) → HtmlT
 GoesBy ready config converter settings =
     ready (handlers_of converter) × (config (handlers_of converter) ≡ config_of settings)
     × (scripting_of converter ≡ settings.scripting) × (skipped_of converter ≡ settings.skipped)
+    × (anchors_of converter ≡ settings.anchors)

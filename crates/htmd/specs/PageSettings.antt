@@ -1,6 +1,8 @@
 -- How a page is read, and how it is converted; and what a run over several pages adds to that.
 use Rattle.std.specs.Prelude.{Bool, true, false, List, [], ℕ, map, Option, None, option_map}
 use Rattle.std.specs.Option.{option_or}
+use Rattle.htmd_document_of_tree.specs.declared.anchors.Anchors.{Anchors}
+use Rattle.htmd_document_of_tree.specs.declared.anchors.Anchors.TheVariants as which
 use Rattle.htmd_encodings.specs.declared.encodings.Encoding.{Encoding}
 use Rattle.htmd_walk.specs.declared.options.Options.{Options}
 use Rattle.htmd_walk.specs.Defaults.{default_options}
@@ -25,6 +27,8 @@ pub record Settings : Type 0 where
   pub guarded : Bool
   -- that is written as JSON, in the form of mdast
   pub mdast : Bool
+  -- which places of links the document has that a reader sees
+  pub anchors : Anchors
   pub scripting : Bool
   pub options : Options
   -- elements with these names give nothing
@@ -49,6 +53,7 @@ settings_in settings = record {
   encoding = settings.encoding;
   guarded = settings.guarded;
   mdast = settings.mdast;
+  anchors = settings.anchors;
   scripting = settings.scripting;
   options = settings.options;
   skipped = map (λ name. name.now) settings.skipped.items;
@@ -68,6 +73,7 @@ default_settings = record {
   encoding = None;
   guarded = false;
   mdast = false;
+  anchors = which.Linked;
   scripting = true;
   options = default_options;
   skipped = [];

@@ -1,7 +1,7 @@
 -- What a reader of CommonMark sees of what a page becomes.
 use Rattle.std.specs.Prelude.{◌≡◌, ℕ, true, false, List, Some}
 use Rattle.htmd_nodes.specs.Items.{Item}
-use Rattle.htmd_document_of_tree.specs.Shown.{Sight}
+use Rattle.htmd_shown.specs.Shown.{Sight}
 use Rattle.htmd_law_reading.specs.ReadingLaws.{IsSeenIn}
 use Rattle.htmd.specs.PageChanges.{head_of, part_of}
 use Rattle.htmd.specs.PageOutputs.{IsTreeBy, after_head, text_in}
@@ -15,7 +15,8 @@ sight_in settings = record { scripting = settings.scripting; skip = settings.ski
 -- with a line feed, a reader sees the document of this tree, with each visible character of the tree.
 abbrev pub IsSeenAfter : Settings → List ℕ → List Item → List ℕ → Type 0
 IsSeenAfter settings head tree output = settings.guarded ≡ true → settings.mdast ≡ false
-    → (markdown : List ℕ) × (output ≡ after_head head markdown) × IsSeenIn (sight_in settings) tree markdown
+    → (markdown : List ℕ) × (output ≡ after_head head markdown)
+    × IsSeenIn settings.anchors (sight_in settings) tree markdown
 
 -- So a reader sees the part of a page that is converted, in what the bytes of the page become.
 abbrev pub IsSeen : Settings → List ℕ → List ℕ → Type 0

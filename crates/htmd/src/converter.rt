@@ -3,6 +3,7 @@
 ghost use Rattle.std.specs.Prelude.{◌≡◌, ◌<◌, ◌++◌, [], ℕ, true, None, Err, IfOk, IfErr, MatchResult, map, length};
 ghost use Rattle.std.specs.Prelude.{string_bytes};
 ghost use Rattle.htmd_document.specs.DocumentViews.{document_of};
+ghost use Rattle.htmd_document_of_tree.specs.declared.anchors.Anchors.TheVariants.{Linked};
 ghost use Rattle.htmd_tree.specs.Bodies.{body_part};
 ghost use Rattle.htmd_grammar.specs.declared.fault.FaultKind.{FaultKind};
 ghost use Rattle.htmd_walk.specs.BuiltIn.{built_in};
@@ -21,7 +22,7 @@ use crate::documents::document_options;
 use crate::skipped_tags::SkippedTags;
 use htmd_commonmark::DocumentOptions;
 use htmd_document::Document;
-use htmd_document_of_tree::OfTree;
+use htmd_document_of_tree::{Anchors, OfTree};
 use htmd_html5::parse_html5;
 use htmd_nodes::{NodeId, Tree};
 use htmd_tree::{body_of, read_html};
@@ -36,6 +37,7 @@ use std::alloc::{AllocError, Global};
 pub struct HtmlToMarkdown<R = ElementHandlers> {
     handlers: R,
     scripting: bool,
+    anchors: Anchors,
     skipped: SkippedTags,
 }
 
@@ -44,6 +46,7 @@ pub struct HtmlToMarkdown<R = ElementHandlers> {
 pub struct HtmlToMarkdownBuilder<R = ElementHandlers> {
     handlers: R,
     scripting: bool,
+    anchors: Anchors,
     skipped: SkippedTags,
 }
 
@@ -82,11 +85,12 @@ pub fn convert(alloc: Global, html: &str) -> Result<String, ConvertError>
 
 impl HtmlToMarkdown {
     ghost use Rattle.htmd.specs.Converters.{handlers_of, handlers_built, scripting_of, scripting_built};
-    ghost use Rattle.htmd.specs.Converters.{skipped_of, skipped_built};
+    ghost use Rattle.htmd.specs.Converters.{anchors_of, anchors_built, skipped_of, skipped_built};
 
     /// A converter with the built-in handlers, the default options and scripting on. `Err` means out of memory.
     pub fn new(alloc: Global) -> Result<HtmlToMarkdown, AllocError>
         ensures scripting { IfOk result (λ converter. scripting_of converter ≡ true) }
+        ensures anchors { IfOk result (λ converter. anchors_of converter ≡ Linked) }
         ensures skipped { IfOk result (λ converter. skipped_of converter ≡ []) }
         ensures handlers { let config = ⟦<ElementHandlers as Registry>⟧.config in
             IfOk result (λ converter. config (handlers_of converter) ≡ built_in default_options) }
@@ -95,6 +99,7 @@ impl HtmlToMarkdown {
         Ok(HtmlToMarkdown {
             handlers,
             scripting: true,
+            anchors: Anchors::Linked,
             skipped: SkippedTags::new(alloc),
         })
     }
@@ -102,6 +107,7 @@ impl HtmlToMarkdown {
     /// A builder with the built-in handlers, the default options and scripting on. `Err` means out of memory.
     pub fn builder(alloc: Global) -> Result<HtmlToMarkdownBuilder, AllocError>
         ensures scripting { IfOk result (λ builder. scripting_built builder ≡ true) }
+        ensures anchors { IfOk result (λ builder. anchors_built builder ≡ Linked) }
         ensures skipped { IfOk result (λ builder. skipped_built builder ≡ []) }
         ensures handlers { let config = ⟦<ElementHandlers as Registry>⟧.config in
             IfOk result (λ builder. config (handlers_built builder) ≡ built_in default_options) }
@@ -111,7 +117,7 @@ impl HtmlToMarkdown {
 }
 
 impl<R: Registry> HtmlToMarkdown<R> {
-    ghost use Rattle.htmd.specs.Converters.{handlers_of, scripting_of, skipped_of};
+    ghost use Rattle.htmd.specs.Converters.{anchors_of, handlers_of, scripting_of, skipped_of};
 
     /// The tree of a text of HTML, by the strict grammar. `Refused` for each text outside the grammar, with the byte
     /// place and the kind of its first fault; `Memory` when out of memory.
@@ -201,7 +207,7 @@ impl<R: Registry> HtmlToMarkdown<R> {
     /// aren't asked. No page is refused; `Err` means out of memory.
     pub fn document(&self, alloc: Global, html: &str) -> Result<Document, AllocError>
         ensures ok { IfOk result (λ document. document_of document
-            ≡ html5_page_document (scripting_of self.now) (skipped_of self.now) html.now) }
+            ≡ html5_page_document (scripting_of self.now) (skipped_of self.now) (anchors_of self.now) html.now) }
     {
         let page = parse_html5(alloc, html, self.scripting)?;
         self.tree_to_document(alloc, &page)
@@ -211,10 +217,16 @@ impl<R: Registry> HtmlToMarkdown<R> {
     /// means out of memory.
     pub fn tree_to_document(&self, alloc: Global, tree: &Tree) -> Result<Document, AllocError>
         ensures ok { IfOk result (λ document. document_of document
-            ≡ document_of_items (scripting_of self.now) (skipped_of self.now) tree.now) }
+            ≡ document_of_items (scripting_of self.now) (skipped_of self.now) (anchors_of self.now) tree.now) }
     {
         let skipped = self.skipped.names(alloc)?;
-        Document::of_tree(alloc, tree, self.scripting, skipped.as_slice())
+        Document::of_tree(
+            alloc,
+            tree,
+            self.scripting,
+            skipped.as_slice(),
+            self.anchors,
+        )
     }
 
     /// The options that count for a document.
@@ -227,11 +239,12 @@ impl<R: Registry> HtmlToMarkdown<R> {
 
 impl HtmlToMarkdownBuilder {
     ghost use Rattle.htmd.specs.Converters.{handlers_of, handlers_built, scripting_of, scripting_built};
-    ghost use Rattle.htmd.specs.Converters.{skipped_of, skipped_built};
+    ghost use Rattle.htmd.specs.Converters.{anchors_of, anchors_built, skipped_of, skipped_built};
 
     /// A builder with the built-in handlers, the default options and scripting on. `Err` means out of memory.
     pub fn new(alloc: Global) -> Result<HtmlToMarkdownBuilder, AllocError>
         ensures scripting { IfOk result (λ builder. scripting_built builder ≡ true) }
+        ensures anchors { IfOk result (λ builder. anchors_built builder ≡ Linked) }
         ensures skipped { IfOk result (λ builder. skipped_built builder ≡ []) }
         ensures handlers { let config = ⟦<ElementHandlers as Registry>⟧.config in
             IfOk result (λ builder. config (handlers_built builder) ≡ built_in default_options) }
@@ -240,6 +253,7 @@ impl HtmlToMarkdownBuilder {
         Ok(HtmlToMarkdownBuilder {
             handlers,
             scripting: true,
+            anchors: Anchors::Linked,
             skipped: SkippedTags::new(alloc),
         })
     }
@@ -260,6 +274,8 @@ impl HtmlToMarkdownBuilder {
             IfErr result (λ refused. config (handlers_built refused.builder) ≡ config (handlers_built self)) }
         ensures scripting { MatchResult result (λ builder. scripting_built builder ≡ scripting_built self)
             (λ refused. scripting_built refused.builder ≡ scripting_built self) }
+        ensures anchors { MatchResult result (λ builder. anchors_built builder ≡ anchors_built self)
+            (λ refused. anchors_built refused.builder ≡ anchors_built self) }
         ensures skipped { MatchResult result (λ builder. skipped_built builder ≡ skipped_built self)
             (λ refused. skipped_built refused.builder ≡ skipped_built self) }
         ensures handler { IfErr result (λ refused. refused.handler ≡ handler) }
@@ -275,7 +291,7 @@ impl HtmlToMarkdownBuilder {
 }
 
 impl<R: Registrar> HtmlToMarkdownBuilder<R> {
-    ghost use Rattle.htmd.specs.Converters.{handlers_of, handlers_built, scripting_built, skipped_built};
+    ghost use Rattle.htmd.specs.Converters.{anchors_built, handlers_of, handlers_built, scripting_built, skipped_built};
 
     /// The same builder with these options.
     pub fn options(mut self, options: Options) -> Self
@@ -283,6 +299,7 @@ impl<R: Registrar> HtmlToMarkdownBuilder<R> {
         ensures config { R.config (handlers_built result) ≡ with_options (R.config (handlers_built self)) options }
         ensures ready { R.ready (handlers_built result) }
         ensures scripting { scripting_built result ≡ scripting_built self }
+        ensures anchors { anchors_built result ≡ anchors_built self }
         ensures skipped { skipped_built result ≡ skipped_built self }
     {
         self.handlers.take_options(options);
@@ -302,6 +319,8 @@ impl<R: Registrar> HtmlToMarkdownBuilder<R> {
         ensures builder_ready { IfErr result (λ refused. R.ready (handlers_built refused.builder)) }
         ensures scripting { MatchResult result (λ builder. scripting_built builder ≡ scripting_built self)
             (λ refused. scripting_built refused.builder ≡ scripting_built self) }
+        ensures anchors { MatchResult result (λ builder. anchors_built builder ≡ anchors_built self)
+            (λ refused. anchors_built refused.builder ≡ anchors_built self) }
         ensures skipped { MatchResult result
             (λ builder. skipped_built builder ≡ skipped_built self ++ map (λ t. t.now) tags.now)
             (λ refused. skipped_built refused.builder ≡ skipped_built self) }
@@ -341,6 +360,8 @@ impl<R: Registrar> HtmlToMarkdownBuilder<R> {
         ensures builder_ready { IfErr result (λ refused. R.ready (handlers_built refused.builder)) }
         ensures scripting { MatchResult result (λ builder. scripting_built builder ≡ scripting_built self)
             (λ refused. scripting_built refused.builder ≡ scripting_built self) }
+        ensures anchors { MatchResult result (λ builder. anchors_built builder ≡ anchors_built self)
+            (λ refused. anchors_built refused.builder ≡ anchors_built self) }
         ensures skipped { MatchResult result (λ builder. skipped_built builder ≡ skipped_built self)
             (λ refused. skipped_built refused.builder ≡ skipped_built self) }
     {
@@ -348,6 +369,7 @@ impl<R: Registrar> HtmlToMarkdownBuilder<R> {
             Ok(index) => Ok(HtmlToMarkdownBuilder {
                 handlers: Layered::new(self.handlers, index, handler),
                 scripting: self.scripting,
+                anchors: self.anchors,
                 skipped: self.skipped,
             }),
             Err(_) => Err(AddFnRefused {
@@ -360,7 +382,7 @@ impl<R: Registrar> HtmlToMarkdownBuilder<R> {
 
 impl<R: Registry> HtmlToMarkdownBuilder<R> {
     ghost use Rattle.htmd.specs.Converters.{handlers_of, handlers_built, scripting_of, scripting_built};
-    ghost use Rattle.htmd.specs.Converters.{skipped_of, skipped_built};
+    ghost use Rattle.htmd.specs.Converters.{anchors_of, anchors_built, skipped_of, skipped_built};
 
     /// The same builder with scripting on or off: if it is on, the content of `noscript` is one text, else it is nodes.
     pub fn scripting_enabled(mut self, scripting: bool) -> Self
@@ -368,9 +390,23 @@ impl<R: Registry> HtmlToMarkdownBuilder<R> {
         ensures config { R.config (handlers_built result) ≡ R.config (handlers_built self) }
         ensures ready { R.ready (handlers_built result) }
         ensures scripting { scripting_built result ≡ scripting }
+        ensures anchors { anchors_built result ≡ anchors_built self }
         ensures skipped { skipped_built result ≡ skipped_built self }
     {
         self.scripting = scripting;
+        self
+    }
+
+    /// The same builder, but documents have these places of links.
+    pub fn anchors(mut self, anchors: Anchors) -> Self
+        requires ready { R.ready (handlers_built self) }
+        ensures config { R.config (handlers_built result) ≡ R.config (handlers_built self) }
+        ensures ready { R.ready (handlers_built result) }
+        ensures scripting { scripting_built result ≡ scripting_built self }
+        ensures skipped { skipped_built result ≡ skipped_built self }
+        ensures anchors { anchors_built result ≡ anchors }
+    {
+        self.anchors = anchors;
         self
     }
 
@@ -381,10 +417,12 @@ impl<R: Registry> HtmlToMarkdownBuilder<R> {
         ensures ready { R.ready (handlers_of result) }
         ensures scripting { scripting_of result ≡ scripting_built self }
         ensures skipped { skipped_of result ≡ skipped_built self }
+        ensures anchors { anchors_of result ≡ anchors_built self }
     {
         HtmlToMarkdown {
             handlers: self.handlers,
             scripting: self.scripting,
+            anchors: self.anchors,
             skipped: self.skipped,
         }
     }

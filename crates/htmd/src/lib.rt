@@ -37,7 +37,7 @@ pub use htmd_commonmark::{DocumentOptions, to_markdown};
 pub use htmd_document::{
     Alignment, Block, CellContent, Document, Format, Inline, InlineElement, ItemContent, RowContent,
 };
-pub use htmd_document_of_tree::OfTree;
+pub use htmd_document_of_tree::{Anchors, OfTree};
 pub use htmd_encodings::{Encoding, encoding_named};
 pub use htmd_nodes::{Attribute, Name, NodeData, NodeId, Tag, Tree, TreeError};
 pub use htmd_selectors::{SelectorError, Selectors, parse_selectors};

@@ -44,7 +44,8 @@ pub(crate) fn converter_by<H: Registrar + Drop>(
     let options = Options { ..settings.options };
     let mut builder = builder
         .options(options)
-        .scripting_enabled(settings.scripting);
+        .scripting_enabled(settings.scripting)
+        .anchors(settings.anchors);
     let skipped = settings.skipped.as_slice();
     if !skipped.is_empty() {
         builder = match builder.skip_tags(skipped) {
@@ -155,7 +156,8 @@ fn tree_markdown<H: Registry>(
     ensures ok { IfOk result
         (λ markdown. string_bytes markdown ≡ spec.tree_markdown (settings_in settings.now) tree.now) }
     ensures seen { settings.now.guarded ≡ true → IfOk result
-        (λ markdown. IsSeenIn (sight_in (settings_in settings.now)) tree.now (string_bytes markdown)) }
+        (λ markdown. IsSeenIn (settings_in settings.now).anchors (sight_in (settings_in settings.now)) tree.now
+        (string_bytes markdown)) }
 {
     if settings.guarded {
         let document = converter.tree_to_document(alloc, tree)?;

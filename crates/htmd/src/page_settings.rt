@@ -4,6 +4,7 @@ ghost use Rattle.std.specs.Prelude.{◌≡◌};
 ghost use Rattle.htmd.specs.PageSettings.{alone, default_settings, page_in, settings_in};
 
 use htmd_addresses::RunPage;
+use htmd_document_of_tree::Anchors;
 use htmd_encodings::Encoding;
 use htmd_selectors::Selectors;
 use htmd_walk::options::Options;
@@ -27,6 +28,8 @@ pub struct PageSettings<'a> {
     pub guarded: bool,
     /// What a reader sees of the page is written as JSON, in the form of mdast. Then `guarded` has no effect.
     pub mdast: bool,
+    /// Which places of links the document has that a reader sees.
+    pub anchors: Anchors,
     /// The content of `noscript` is one text, else it is nodes.
     pub scripting: bool,
     pub options: Options,
@@ -64,6 +67,7 @@ impl<'a> PageSettings<'a> {
             encoding: None,
             guarded: false,
             mdast: false,
+            anchors: Anchors::Linked,
             scripting: true,
             options: Options::default(),
             skipped: Vec::new(alloc),

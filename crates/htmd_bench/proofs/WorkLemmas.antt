@@ -5,6 +5,8 @@ use Rattle.htmd.specs.BuiltIn.{built_in}
 use Rattle.htmd.specs.Choice.{Config}
 use Rattle.htmd.specs.Conversions.{IsTreeOf}
 use Rattle.htmd.specs.Defaults.{default_options}
+use Rattle.htmd.specs.DocumentAnchors.{Anchors}
+use Rattle.htmd.specs.DocumentAnchors.TheVariants.{Linked}
 use Rattle.htmd.specs.Documents.{Blocks}
 use Rattle.htmd.specs.DocumentMarkdown.{markdown_of}
 use Rattle.htmd.specs.Markdown.{markdown}
@@ -26,18 +28,19 @@ markdown_of_tree config scripting page text tree node built on is_tree root is_m
 )
 
 -- what is written of the page's document, by the options of the built-in handlers, has the length of its Markdown
-pub document_of_page : (config : Config) (scripting : Bool) (skipped : List (List ℕ)) (page text : List ℕ)
-    (tree : List Item) (document : Blocks) → config ≡ built_in default_options → scripting ≡ true → skipped
-    ≡ []
-    → IsTreeOf scripting page tree → document ≡ document_of_items scripting skipped tree
+pub document_of_page : (config : Config) (scripting : Bool) (skipped : List (List ℕ)) (anchors : Anchors)
+    (page text : List ℕ) (tree : List Item) (document : Blocks)
+    → config ≡ built_in default_options → scripting ≡ true → skipped ≡ [] → anchors ≡ Linked
+    → IsTreeOf scripting page tree → document ≡ document_of_items scripting skipped anchors tree
     → text ≡ markdown_of (document_options config.options) document → HasDocumentLength page (length text)
-document_of_page config scripting skipped page text tree document built on none is_tree seen is_text = (
+document_of_page config scripting skipped anchors page text tree document built on none linked is_tree seen is_text = (
   document,
   (
     tree,
     subst (λ b. IsTreeOf b page tree) on is_tree,
-    subst (λ names. document ≡ document_of_items true names tree) none
-        (subst (λ b. document ≡ document_of_items b skipped tree) on seen),
+    subst (λ which. document ≡ document_of_items true [] which tree) linked
+        (subst (λ names. document ≡ document_of_items true names anchors tree) none
+        (subst (λ b. document ≡ document_of_items b skipped anchors tree) on seen)),
   ),
   ap length (is_text ∙ ap (λ (c : Config). markdown_of (document_options c.options) document) built),
 )

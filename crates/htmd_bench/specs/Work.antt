@@ -6,6 +6,7 @@ use Rattle.htmd_nodes.specs.Items.{Item, children_of}
 use Rattle.htmd.specs.BuiltIn.{built_in}
 use Rattle.htmd.specs.Conversions.{IsTreeOf, IsMarkdownOf}
 use Rattle.htmd.specs.Defaults.{default_options}
+use Rattle.htmd.specs.DocumentAnchors.TheVariants.{Linked}
 use Rattle.htmd.specs.Documents.{Blocks}
 use Rattle.htmd.specs.DocumentMarkdown.{markdown_of}
 use Rattle.htmd.specs.PageDocuments.{IsDocumentOf, document_options}
@@ -22,7 +23,7 @@ HasMarkdownLength page len =
 -- what a reader sees of the page has this length, as Markdown
 abbrev pub HasDocumentLength : List ℕ → ℕ → Type 0
 HasDocumentLength page len =
-    (document : Blocks) × IsDocumentOf true [] page document
+    (document : Blocks) × IsDocumentOf true [] Linked page document
     × (len ≡ length (markdown_of (document_options default_options) document))
 
 -- this is the length of the answer: in bytes, and of a tree how many nodes stand right under the Document

@@ -44,7 +44,8 @@ encoding_untold (b ∷ t) encoding e s = absurd (grind (arith, nat_tests))
 -- ---- a text with bytes
 
 pub selectors_told : (text found : List ℕ) (before steps : List Step) → eqb (length text) 0 ≡ false
-    → IsUtf8 text → found ≡ text → before ≡ [] → AddsSelectors before steps found → AreSelectors text steps
+    → IsUtf8 text → found ≡ text → before ≡ [] → AddsSelectors before steps found
+    → AreSelectors text steps
 selectors_told [] found before steps e u f n a = absurd (grind (arith, nat_tests))
 selectors_told (b ∷ t) found before steps e u f n (more, is, added) =
     (u, subst (λ s. selectors s ≡ Some steps) f (is ∙ ap Some (sym (added ∙ ap (λ l. l ++ more) n))))

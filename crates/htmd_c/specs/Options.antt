@@ -18,6 +18,8 @@ use Rattle.htmd.specs.LinkStyle.{LinkStyle}
 use Rattle.htmd.specs.LinkStyle.TheVariants.{Inlined, InlinedPreferAutolinks, Referenced}
 use Rattle.htmd.specs.CodeBlockStyle.{CodeBlockStyle}
 use Rattle.htmd.specs.CodeBlockStyle.TheVariants.{Fenced, Indented}
+use Rattle.htmd.specs.DocumentAnchors.{Anchors}
+use Rattle.htmd.specs.DocumentAnchors.TheVariants as places
 use Rattle.htmd.specs.TranslationMode.{TranslationMode}
 use Rattle.htmd.specs.TranslationMode.TheVariants.{Pure, Faithful}
 use Rattle.htmd.specs.Options.{Options}
@@ -66,7 +68,8 @@ default_struct = record {
   preformatted_code = 0;
   output = 0;
   front_matter = 0;
-  reserved = replicate 15 0;
+  anchors = 0;
+  reserved = replicate 14 0;
 }
 
 -- what a text is read as, and what becomes of what Markdown has no form for, have numbers that are known
@@ -80,12 +83,13 @@ are_lines_known given =
     nat_lt given.heading_style 2 && nat_lt given.hr_style 3 && nat_lt given.br_style 2
     && nat_lt given.link_style 3 && nat_lt given.link_reference_style 3
 
--- the styles of code and of lists, the output and what is written before it have numbers that are known; a spacing
--- is any number
+-- the styles of code and of lists, the output, what is written before it and which places of links there are have
+-- numbers that are known; a spacing is any number
 abbrev pub are_blocks_known : HtmdOptions → Bool
 are_blocks_known given =
     nat_lt given.code_block_style 2 && nat_lt given.code_block_fence 2 && nat_lt given.bullet_list_marker 2
     && nat_lt given.preformatted_code 2 && nat_lt given.output 2 && nat_lt given.front_matter 2
+    && nat_lt given.anchors 3
 
 -- the version is known, each number is one of its field's, and what is reserved is 0
 abbrev pub is_good : HtmdOptions → Bool
@@ -119,6 +123,9 @@ code_block_fence n = if n == 1 then Tildes else Backticks
 abbrev pub bullet_list_marker : ℕ → BulletListMarker
 bullet_list_marker n = if n == 1 then Dash else Asterisk
 
+abbrev pub anchors : ℕ → Anchors
+anchors n = if n == 1 then places.All else if n == 2 then places.None else places.Linked
+
 -- the options that a good struct stands for
 abbrev pub options_of : HtmdOptions → Options
 options_of given = record {
@@ -149,6 +156,7 @@ settings_of given = record {
   encoding = Some Utf8;
   guarded = given.mode == guarded;
   mdast = given.output == mdast;
+  anchors = anchors given.anchors;
   scripting = is_scripting given;
   options = options_of given;
   skipped = [];

@@ -4,11 +4,11 @@ ghost use Rattle.std.specs.List.{list_all};
 ghost use Rattle.htmd.specs.PageSettings.{settings_in};
 ghost use Rattle.htmd_c.specs.Options as spec;
 
-use htmd::PageSettings;
 use htmd::options::{
     BrStyle, BulletListMarker, CodeBlockFence, CodeBlockStyle, HeadingStyle, HrStyle,
     LinkReferenceStyle, LinkStyle, Options, TranslationMode,
 };
+use htmd::{Anchors, PageSettings};
 use htmd_encodings::Encoding;
 use std::alloc::Global;
 
@@ -52,7 +52,8 @@ pub struct HtmdOptions {
     pub preformatted_code: u8,
     pub output: u8,
     pub front_matter: u8,
-    pub reserved: [u8; 15],
+    pub anchors: u8,
+    pub reserved: [u8; 14],
 }
 
 /// The struct for the options of `convert`.
@@ -77,7 +78,8 @@ pub(crate) fn default_struct() -> HtmdOptions
         preformatted_code: 0,
         output: 0,
         front_matter: 0,
-        reserved: [0; 15],
+        anchors: 0,
+        reserved: [0; 14],
     }
 }
 
@@ -106,6 +108,7 @@ fn are_blocks_known(given: &HtmdOptions) -> bool
         && given.preformatted_code < 2
         && given.output < 2
         && given.front_matter < 2
+        && given.anchors < 3
 }
 
 fn are_zero(bytes: &[u8]) -> bool
@@ -208,6 +211,16 @@ fn bullet_list_marker(number: u8) -> BulletListMarker
     }
 }
 
+fn anchors(number: u8) -> Anchors
+    ensures { result ≡ spec.anchors number }
+{
+    match number {
+        1 => Anchors::All,
+        2 => Anchors::None,
+        _ => Anchors::Linked,
+    }
+}
+
 /// The options that a good struct stands for.
 fn options_of(given: &HtmdOptions) -> Options
     ensures { result ≡ spec.options_of given.now }
@@ -238,6 +251,7 @@ pub(crate) fn settings_of<'a>(alloc: Global, given: &HtmdOptions) -> PageSetting
     settings.encoding = Some(Encoding::Utf8);
     settings.guarded = given.mode == GUARDED;
     settings.mdast = given.output == MDAST;
+    settings.anchors = anchors(given.anchors);
     settings.scripting = given.scripting == 1;
     settings.options = options_of(given);
     settings.front_matter = given.front_matter == 1;

@@ -26,7 +26,8 @@ use Rattle.htmd.specs.PageOutputs.{paragraph, paragraph_markdown}
 
 -- the built-in handlers take the options
 pub takes_options : (config before : Config) (options : Options) (faithful : Bool)
-    → config ≡ with_options before options → before ≡ built_in default_options → options ≡ options_of faithful
+    → config ≡ with_options before options → before ≡ built_in default_options
+    → options ≡ options_of faithful
     → config ≡ handlers_by faithful
 takes_options config before options faithful c b o =
     c ∙ (ap (λ k. with_options k options) b ∙ ap (with_options (built_in default_options)) o)

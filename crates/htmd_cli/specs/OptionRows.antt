@@ -71,6 +71,7 @@ effect_of setting.Faithful value = Some takes_faithful
 effect_of setting.Guarded value = Some (sets (λ settings. record settings { guarded = true }))
 effect_of setting.Mdast value = Some (sets (λ settings. record settings { mdast = true }))
 effect_of setting.NoScripting value = Some (sets (λ settings. record settings { scripting = false }))
+effect_of (setting.Anchors anchors) value = Some (sets (λ settings. record settings { anchors = anchors }))
 effect_of setting.FrontMatter value = Some (sets (λ settings. record settings { front_matter = true }))
 effect_of (setting.Style chosen) value = Some (sets_option (styled chosen))
 effect_of setting.PreformattedCode value = Some (sets_option (λ options. record options { preformatted_code = true }))

@@ -15,6 +15,7 @@ use Rattle.htmd.specs.BrStyle.TheVariants as line_break
 use Rattle.htmd.specs.LinkReferenceStyle.TheVariants as reference
 use Rattle.htmd.specs.CodeBlockFence.TheVariants as fence
 use Rattle.htmd.specs.BulletListMarker.TheVariants as marker
+use Rattle.htmd.specs.DocumentAnchors.TheVariants as anchors
 use Rattle.htmd.specs.LinkStyle.TheVariants as link
 use Rattle.htmd.specs.CodeBlockStyle.TheVariants as code_block
 use Rattle.htmd.specs.TranslationMode.TheVariants as translation
@@ -164,6 +165,9 @@ known_options =
     ∷ plain (codes "--guarded") (sets (λ settings. record settings { guarded = true }))
     ∷ plain (codes "--faithful") takes_faithful
     ∷ plain (codes "--mdast") (sets (λ settings. record settings { mdast = true }))
+    ∷ plain (codes "--anchors=linked") (sets (λ settings. record settings { anchors = anchors.Linked }))
+    ∷ plain (codes "--anchors=all") (sets (λ settings. record settings { anchors = anchors.All }))
+    ∷ plain (codes "--anchors=none") (sets (λ settings. record settings { anchors = anchors.None }))
     ∷ plain (codes "--front-matter") (sets (λ settings. record settings { front_matter = true }))
     ∷ selecting (codes "--select=") selects
     ∷ selecting (codes "--drop=") drops

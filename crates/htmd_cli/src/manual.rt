@@ -6,7 +6,7 @@ use crate::options::{FILE_OPTIONS, FileOption, Group, OPTIONS, OptionRow};
 use htmd_streams::{Failed, Sink, write_all};
 
 /// What comes before the options.
-const HEAD: &str = r#".TH HTMD 1 2026-11-27 "htmd 0.6.0" "User Commands"
+const HEAD: &str = r#".TH HTMD 1 2026-11-28 "htmd 0.6.0" "User Commands"
 .SH NAME
 htmd \- convert HTML to Markdown
 .SH SYNOPSIS

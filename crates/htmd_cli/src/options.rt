@@ -1,4 +1,5 @@
 //! The table of the program's options.
+use htmd::Anchors;
 use htmd::options::{
     BrStyle, BulletListMarker, CodeBlockFence, CodeBlockStyle, HeadingStyle, HrStyle,
     LinkReferenceStyle, LinkStyle,
@@ -68,6 +69,7 @@ pub(crate) enum Setting {
     Guarded,
     Mdast,
     NoScripting,
+    Anchors(Anchors),
     FrontMatter,
     Style(Style),
     PreformattedCode,
@@ -91,7 +93,7 @@ pub(crate) struct OptionRow {
 }
 
 /// The options that are known, by their groups.
-pub(crate) const OPTIONS: [OptionRow; 44] = [
+pub(crate) const OPTIONS: [OptionRow; 47] = [
     OptionRow {
         group: Group::Input,
         name: "--web",
@@ -179,6 +181,30 @@ pub(crate) const OPTIONS: [OptionRow; 44] = [
         setting: Setting::Mdast,
         line: "writes JSON, in the form of mdast, not Markdown",
         help: "writes what people see of the page as JSON, in the form of mdast, instead of Markdown",
+    },
+    OptionRow {
+        group: Group::Written,
+        name: "--anchors=linked",
+        value: "",
+        setting: Setting::Anchors(Anchors::Linked),
+        line: "linked (default), all, none: places that links lead to",
+        help: "with --guarded or --mdast: keeps the places in the page that its own links lead to (default)",
+    },
+    OptionRow {
+        group: Group::Written,
+        name: "--anchors=all",
+        value: "",
+        setting: Setting::Anchors(Anchors::All),
+        line: "",
+        help: "with --guarded or --mdast: keeps all places that links can lead to, also from other pages",
+    },
+    OptionRow {
+        group: Group::Written,
+        name: "--anchors=none",
+        value: "",
+        setting: Setting::Anchors(Anchors::None),
+        line: "",
+        help: "with --guarded or --mdast: keeps no places that links lead to",
     },
     OptionRow {
         group: Group::Written,
@@ -472,7 +498,7 @@ pub(crate) const FILE_OPTIONS: [FileOption; 4] = [
         name: "--links=md",
         value: "",
         line: "lets pages of the run link to each other's Markdown",
-        help: "points links from page to page of the same run at their Markdown",
+        help: "points links from page to page of the same run at their Markdown; parts of other pages want --anchors=all",
     },
     FileOption {
         short: "",

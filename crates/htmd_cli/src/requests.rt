@@ -255,6 +255,7 @@ impl<'a> Request<'a> {
             Setting::Guarded => settings.guarded = true,
             Setting::Mdast => settings.mdast = true,
             Setting::NoScripting => settings.scripting = false,
+            Setting::Anchors(anchors) => settings.anchors = anchors,
             Setting::FrontMatter => settings.front_matter = true,
             Setting::Style(style) => set_style(&mut settings.options, style),
             Setting::PreformattedCode => settings.options.preformatted_code = true,

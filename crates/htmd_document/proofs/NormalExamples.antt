@@ -153,11 +153,6 @@ pub first_in_heading : is_normal_heading 1 (place (inline (text (codes "a")) no_
 unfolding is_utf8 chars encode
 first_in_heading = refl
 
-pub later_in_heading : is_normal_heading 1 (inline (text (codes "a ")) (place (inline (text (codes "b")) no_inlines)))
-    ≡ false
-unfolding is_utf8 chars encode
-later_in_heading = refl
-
 -- two of them with one id
 pub same_ids : has_unique_ids (block (paragraph (place words)) (block (quote (block (paragraph (place words))
     no_blocks)) no_blocks)) ≡ false

@@ -13,7 +13,7 @@ use Rattle.htmd_document.specs.Documents.{thematic_break, list, table, Blocks, n
 use Rattle.htmd_document.specs.TightItems.{is_filled, is_tight_item, is_short}
 use Rattle.htmd_document.specs.DocumentLimits.{greatest_start}
 use Rattle.htmd_document.specs.NormalInlines.{has_none, is_normal_line, is_normal_item, are_anchors}
-use Rattle.htmd_document.specs.NormalInlines.{anchors_stand_well, anchors_are_first}
+use Rattle.htmd_document.specs.NormalInlines.{anchors_stand_well}
 
 -- ---- leaves
 
@@ -29,8 +29,7 @@ is_level level = nat_le 1 level && nat_le level 6
 
 abbrev pub is_normal_heading : ℕ → Inlines → Bool
 is_normal_heading level content =
-    is_level level && not (has_none content) && is_normal_line content
-    && anchors_stand_well content && anchors_are_first content
+    is_level level && not (has_none content) && is_normal_line content && anchors_stand_well content
 
 -- in a word that a reader takes for a language: no white space, and no mark
 abbrev pub is_language_byte : ℕ → Bool

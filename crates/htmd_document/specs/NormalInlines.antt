@@ -197,20 +197,3 @@ abbrev mutual
   pub anchors_stand_well : Inlines → Bool
   anchors_stand_well no_inlines = true
   anchors_stand_well (inline x rest) = stands_well x && shows_after x rest && anchors_stand_well rest
-
--- an anchor is among these, at any depth
-abbrev mutual
-  pub has_anchor : Inline → Bool
-  has_anchor (anchor id) = true
-  has_anchor (formatted f content) = have_anchor content
-  has_anchor (link address title content) = have_anchor content
-  has_anchor x = false
-
-  pub have_anchor : Inlines → Bool
-  have_anchor no_inlines = false
-  have_anchor (inline x rest) = has_anchor x || have_anchor rest
-
--- in a heading they stand before all that shows
-abbrev pub anchors_are_first : Inlines → Bool
-anchors_are_first no_inlines = true
-anchors_are_first (inline x rest) = if is_anchor x then anchors_are_first rest else not (have_anchor (inline x rest))

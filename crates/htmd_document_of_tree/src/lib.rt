@@ -1,22 +1,16 @@
 //! The document that a reader sees of a tree.
 #![tactic(auto)]
 
-mod all_text;
-mod around;
-mod attributes;
-mod flow;
-mod grid;
-mod items;
-mod leaves;
-mod list;
-mod nest;
-mod paragraphs;
-mod place;
-mod role;
-mod shown_text;
-mod sight;
-mod spaces;
-mod table_form;
+mod anchors;
+mod first_pieces;
+mod inserted;
+mod leadings;
+mod limits;
+mod pieces;
+mod placing;
+mod seen;
+mod targets;
 mod tree_document;
 
+pub use anchors::Anchors;
 pub use tree_document::OfTree;

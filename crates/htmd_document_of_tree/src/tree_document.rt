@@ -4,8 +4,9 @@ ghost use Rattle.htmd_nodes.specs.NumberedTrees.{tree_of};
 ghost use Rattle.htmd_document.specs.DocumentViews.{document_of};
 ghost use Rattle.htmd_document_of_tree.specs.TreeDocuments.{document_of_tree};
 
-use crate::flow::Flow;
-use crate::sight::Sight;
+use crate::anchors::{Anchors, put_anchors};
+use crate::first_pieces::piece;
+use crate::limits::limit;
 use htmd_document::Document;
 use htmd_nodes::Tree;
 use std::alloc::{AllocError, Global};
@@ -13,34 +14,36 @@ use std::alloc::{AllocError, Global};
 /// What makes a document of a tree.
 pub trait OfTree: Sized {
     /// What a reader sees of a tree. `skip` names elements that give nothing, with all in them; where scripts run,
-    /// `noscript` gives nothing either. `Err` means out of memory.
+    /// `noscript` gives nothing either. Of the places that links can lead to the document has those that `anchors`
+    /// says. `Err` means out of memory.
     fn of_tree(
         alloc: Global,
         tree: &Tree,
         scripting: bool,
         skip: &[&str],
+        anchors: Anchors,
     ) -> Result<Self, AllocError>;
 }
 
 impl OfTree for Document {
     /// What a reader sees of a tree. `skip` names elements that give nothing, with all in them; where scripts run,
-    /// `noscript` gives nothing either. `Err` means out of memory.
+    /// `noscript` gives nothing either. Of the places that links can lead to the document has those that `anchors`
+    /// says. `Err` means out of memory.
     fn of_tree(
         alloc: Global,
         tree: &Tree,
         scripting: bool,
         skip: &[&str],
+        anchors: Anchors,
     ) -> Result<Document, AllocError>
         ensures ok { IfOk result (λ d. document_of d
-            ≡ document_of_tree scripting (map (λ name. name.now) skip.now) (tree_of tree.now 0)) }
+            ≡ document_of_tree anchors scripting (map (λ name. name.now) skip.now) (tree_of tree.now 0)) }
     {
-        let _root = tree.root();
-        let sight = Sight {
-            tree,
-            scripting,
-            skip,
-        };
-        let blocks = Flow::new(alloc, sight).document()?;
+        let mut trees = htmd_shown::shown(alloc, tree, scripting, skip)?;
+        limit(alloc, &mut trees)?;
+        put_anchors(alloc, tree.root(), anchors, &mut trees)?;
+        piece(alloc, tree.root(), &mut trees)?;
+        let blocks = htmd_flow::document_of(alloc, &trees)?;
         Ok(Document { blocks })
     }
 }

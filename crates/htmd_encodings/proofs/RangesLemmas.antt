@@ -4,7 +4,7 @@ use Rattle.std.proofs.Common.{List, [], ◌∷◌, nat_le, nat_lt, arith}
 use Rattle.std.proofs.lemmas.Bool.{and_parts, or_cases, leb-true, ltb-true, ltb-false, eqb-true, true≢false}
 use Rattle.std.specs.Char.{InScalarRange}
 use Rattle.htmd_lexical.proofs.Cases.{test}
-use Rattle.htmd_encodings.specs.declared.indexes.gb18030.TheConstants.{GB18030_RANGES}
+use Rattle.htmd_encodings.specs.declared.indexes.gb18030_ranges.TheConstants.{GB18030_RANGES}
 use Rattle.htmd_encodings.specs.Gb18030.{in_range, range_of}
 
 -- what comes before this pointer in a range are characters
@@ -47,7 +47,8 @@ last-scalar next pointer f s u =
     let high : pointer ≤ 1237575 = ⊎_elim (λ low. omega arith) (λ used. used.1) u in
     (s, inr (omega arith, omega arith))
 
-ranges-scalar : (range : ℕ × ℕ) (ranges : List (ℕ × ℕ)) (pointer : ℕ) → are_characters range ranges ≡ true
+ranges-scalar : (range : ℕ × ℕ) (ranges : List (ℕ × ℕ)) (pointer : ℕ)
+    → are_characters range ranges ≡ true
     → range.0 ≤ pointer → IsUsed pointer → IsInScalars (range_of range ranges pointer) pointer
 ranges-scalar range [] pointer a s u = absurd (true≢false (sym a))
 ranges-scalar range (next ∷ []) pointer a s u =

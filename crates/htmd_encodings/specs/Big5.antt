@@ -1,8 +1,9 @@
 -- Big5: the Encoding Standard, 11.1.1, "Big5 decoder".
-use Rattle.std.specs.Prelude.{ℕ, ◌+◌, ◌-◌, ◌*◌, nat_lt, ◌||◌, ◌==◌, if◌then◌else◌, List, [], ◌∷◌}
+use Rattle.std.specs.Prelude.{ℕ, ◌+◌, ◌-◌, ◌*◌, nat_lt, ◌||◌, ◌==◌, if◌then◌else◌, List, [], ◌∷◌, ◌++◌}
 use Rattle.std.specs.Char.{is_ascii}
 use Rattle.htmd_lexical.specs.Numbers.{is_between}
-use Rattle.htmd_encodings.specs.declared.indexes.big5.TheConstants.{BIG5}
+use Rattle.htmd_encodings.specs.declared.indexes.big5_first.TheConstants.{BIG5_FIRST}
+use Rattle.htmd_encodings.specs.declared.indexes.big5_rest.TheConstants.{BIG5_REST}
 use Rattle.htmd_encodings.specs.declared.sequences.Sequence.{Sequence}
 use Rattle.htmd_encodings.specs.Sequences.{character_at, error, pair, reads, reads_two}
 
@@ -17,7 +18,7 @@ by_pointer pointer b =
     else if pointer == 1135 then reads_two 0xCA 0x30C 1
     else if pointer == 1164 then reads_two 0xEA 0x304 1
     else if pointer == 1166 then reads_two 0xEA 0x30C 1
-    else pair (character_at BIG5 pointer) b
+    else pair (character_at (BIG5_FIRST ++ BIG5_REST) pointer) b
 
 -- after a lead byte
 abbrev pub after_lead : ℕ → List ℕ → Sequence

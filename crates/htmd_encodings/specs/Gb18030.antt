@@ -1,8 +1,10 @@
 -- gb18030, and gbk, which has the same decoder: the Encoding Standard, 10.2.1, "gb18030 decoder".
-use Rattle.std.specs.Prelude.{ℕ, ◌+◌, ◌-◌, ◌*◌, nat_lt, Bool, ◌&&◌, ◌||◌, ◌==◌, if◌then◌else◌, List, [], ◌∷◌}
+use Rattle.std.specs.Prelude.{ℕ, ◌+◌, ◌-◌, ◌*◌, nat_lt, Bool, ◌&&◌, ◌||◌, ◌==◌, if◌then◌else◌, List, [], ◌∷◌, ◌++◌}
 use Rattle.std.specs.Char.{is_ascii}
 use Rattle.htmd_lexical.specs.Numbers.{is_between}
-use Rattle.htmd_encodings.specs.declared.indexes.gb18030.TheConstants.{GB18030, GB18030_RANGES}
+use Rattle.htmd_encodings.specs.declared.indexes.gb18030_first.TheConstants.{GB18030_FIRST}
+use Rattle.htmd_encodings.specs.declared.indexes.gb18030_ranges.TheConstants.{GB18030_RANGES}
+use Rattle.htmd_encodings.specs.declared.indexes.gb18030_rest.TheConstants.{GB18030_REST}
 use Rattle.htmd_encodings.specs.declared.sequences.Sequence.{Sequence}
 use Rattle.htmd_encodings.specs.Sequences.{character_at, error, pair, reads}
 
@@ -12,7 +14,8 @@ use Rattle.htmd_encodings.specs.Sequences.{character_at, error, pair, reads}
 abbrev pub character : ℕ → ℕ → ℕ
 character lead b =
     if is_between 0x40 0x7E b || is_between 0x80 0xFE b
-    then character_at GB18030 ((lead - 0x81) * 190 + (b - (if nat_lt b 0x7F then 0x40 else 0x41)))
+    then character_at (GB18030_FIRST ++ GB18030_REST)
+    ((lead - 0x81) * 190 + (b - (if nat_lt b 0x7F then 0x40 else 0x41)))
     else 0xFFFD
 
 -- ---- four bytes

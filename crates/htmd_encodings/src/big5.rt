@@ -2,8 +2,9 @@
 ghost use Rattle.std.specs.Prelude.{◌≡◌, ◌≤◌, ◌<◌, ◌⊎◌};
 ghost use Rattle.htmd_encodings.specs.Big5 as spec;
 
-use crate::indexes::big5::BIG5;
-use crate::sequences::{Sequence, character_at, error, is_between, pair, reads, reads_two};
+use crate::indexes::big5_first::BIG5_FIRST;
+use crate::indexes::big5_rest::BIG5_REST;
+use crate::sequences::{Sequence, character_in_halves, error, is_between, pair, reads, reads_two};
 
 /// What the decoder makes of a byte and of those after it.
 pub(crate) fn sequence_of(first: u8, rest: &[u8]) -> Sequence
@@ -50,6 +51,6 @@ fn by_pointer(pointer: usize, byte: u8) -> Sequence
         1135 => reads_two('\u{ca}', '\u{30c}', 1),
         1164 => reads_two('\u{ea}', '\u{304}', 1),
         1166 => reads_two('\u{ea}', '\u{30c}', 1),
-        _ => pair(character_at(&BIG5, pointer), byte),
+        _ => pair(character_in_halves(&BIG5_FIRST, &BIG5_REST, pointer), byte),
     }
 }

@@ -96,7 +96,8 @@ fn said_or_default(said: Option<Encoding>) -> Encoding
 // The text of bytes that are UTF-8, unless what the page says in its first bytes outweighs that.
 #[tactic(auto, using(crate::proofs::DecodingLemmas::believed_other, crate::proofs::DecodingLemmas::believed_said))]
 fn as_utf8(bytes: &[u8], said: Option<Encoding>) -> Option<&str>
-    ensures { MatchOption result (spec.believed said bytes.now ≡ spec.said_or_default (spec.said_anywhere said bytes.now))
+    ensures { MatchOption result
+        (spec.believed said bytes.now ≡ spec.said_or_default (spec.said_anywhere said bytes.now))
         (λ text. (spec.believed said bytes.now ≡ held.Utf8) × (text.now ≡ bytes.now)
         × (utf8_lossy bytes.now ≡ bytes.now)) }
 {

@@ -2,8 +2,9 @@
 ghost use Rattle.std.specs.Prelude.{◌≡◌, ◌≤◌};
 ghost use Rattle.htmd_encodings.specs.EucKr as spec;
 
-use crate::indexes::euc_kr::EUC_KR;
-use crate::sequences::{Sequence, character_at, error, is_between, pair, reads};
+use crate::indexes::euc_kr_first::EUC_KR_FIRST;
+use crate::indexes::euc_kr_rest::EUC_KR_REST;
+use crate::sequences::{Sequence, character_in_halves, error, is_between, pair, reads};
 
 /// What the decoder makes of a byte and of those after it.
 pub(crate) fn sequence_of(first: u8, rest: &[u8]) -> Sequence
@@ -37,5 +38,5 @@ fn character(lead: u8, byte: u8) -> char
         return char::REPLACEMENT_CHARACTER;
     }
     let pointer = usize::from(lead - 0x81) * 190 + usize::from(byte - 0x41);
-    character_at(&EUC_KR, pointer)
+    character_in_halves(&EUC_KR_FIRST, &EUC_KR_REST, pointer)
 }

@@ -2,8 +2,12 @@
 ghost use Rattle.std.specs.Prelude.{◌≡◌, ◌≤◌, ◌<◌, ◌⊎◌, MatchBool};
 ghost use Rattle.htmd_encodings.specs.Gb18030 as spec;
 
-use crate::indexes::gb18030::{GB18030, GB18030_RANGES};
-use crate::sequences::{Sequence, character_at, character_of, error, is_between, pair, reads};
+use crate::indexes::gb18030_first::GB18030_FIRST;
+use crate::indexes::gb18030_ranges::GB18030_RANGES;
+use crate::indexes::gb18030_rest::GB18030_REST;
+use crate::sequences::{
+    Sequence, character_in_halves, character_of, error, is_between, pair, reads,
+};
 
 /// What the decoder makes of a byte and of those after it.
 pub(crate) fn sequence_of(first: u8, rest: &[u8]) -> Sequence
@@ -42,7 +46,7 @@ fn character(lead: u8, byte: u8) -> char
     if is_between(0x40, 0x7E, byte) || is_between(0x80, 0xFE, byte) {
         let offset = if byte < 0x7F { 0x40 } else { 0x41 };
         let pointer = usize::from(lead - 0x81) * 190 + usize::from(byte - offset);
-        return character_at(&GB18030, pointer);
+        return character_in_halves(&GB18030_FIRST, &GB18030_REST, pointer);
     }
     char::REPLACEMENT_CHARACTER
 }

@@ -1,12 +1,16 @@
-//! The indexes of the encodings, made from the Encoding Standard's. Those of the single-byte encodings have the characters
-//! of the bytes 80 to FF; a byte without a character is U+FFFD. Those of the encodings with characters of several bytes
-//! are in modules of their own.
+//! The indexes of the encodings, made from the Encoding Standard's. Those of the single-byte encodings have the
+//! characters of the bytes 80 to FF; a byte without a character is U+FFFD. Those of the encodings with characters of
+//! several bytes are in modules of their own, the three large ones in halves.
 ghost use Rattle.std.specs.Prelude.{◌≡◌};
 ghost use Rattle.htmd_encodings.specs.Indexes as spec;
 
-pub(crate) mod big5;
-pub(crate) mod euc_kr;
-pub(crate) mod gb18030;
+pub(crate) mod big5_first;
+pub(crate) mod big5_rest;
+pub(crate) mod euc_kr_first;
+pub(crate) mod euc_kr_rest;
+pub(crate) mod gb18030_first;
+pub(crate) mod gb18030_ranges;
+pub(crate) mod gb18030_rest;
 pub(crate) mod jis0208;
 pub(crate) mod jis0212;
 

@@ -9,8 +9,8 @@ use crate::encodings::{ByteOrder, Encoding, MultiByte, SingleByte};
 /// A label in lower case, and what it names.
 type Label = (&'static str, Encoding);
 
-/// The encoding that a label names, in any ASCII case and whatever ASCII white space is around it. `None` if nothing has
-/// this label.
+/// The encoding that a label names, in any ASCII case and whatever ASCII white space is around it. `None` if nothing
+/// has this label.
 pub fn encoding_named(label: &[u8]) -> Option<Encoding>
     ensures { result ≡ spec.encoding_named label.now }
 {

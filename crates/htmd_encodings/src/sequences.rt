@@ -81,6 +81,16 @@ pub(crate) fn character_at(index: &[char], pointer: usize) -> char
     }
 }
 
+/// The character of a pointer in an index whose two halves are arrays of their own.
+pub(crate) fn character_in_halves(first: &[char], rest: &[char], pointer: usize) -> char
+    ensures { result ≡ spec.character_at (first.now ++ rest.now) pointer }
+{
+    if pointer < first.len() {
+        return character_at(first, pointer);
+    }
+    character_at(rest, pointer - first.len())
+}
+
 /// The character with a number that is one.
 pub(crate) fn character_of(number: u32) -> char
     requires { InScalarRange number }

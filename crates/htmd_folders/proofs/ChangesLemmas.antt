@@ -276,7 +276,8 @@ moments_by page past now (inr (partial, made, inr (inr (written, place, e)))) = 
 
 -- ---- moments of two runs of changes
 
-pub moments_map : (P Q : List Change → Type 0) (changes past : List Change) → ((now : List Change) → P now → Q now)
+pub moments_map : (P Q : List Change → Type 0) (changes past : List Change)
+    → ((now : List Change) → P now → Q now)
     → AtEachMoment P changes past → AtEachMoment Q changes past
 moments_map P Q [] past f a = f past a
 moments_map P Q (c ∷ cs) past f (p, a) = (f (c ∷ (cs ++ past)) p, moments_map P Q cs past f a)

@@ -78,7 +78,8 @@ abbrev flat : Blocks
 flat =
     block (heading 2 (letters (codes "a")))
     (block (table (Alignment.None ∷ Alignment.Right ∷ []) (letters (codes "b|c") ∷ no_inlines ∷ [])
-    ((letters (codes "d") ∷ letters (codes "e") ∷ []) ∷ (letters (codes "f") ∷ []) ∷ [])) (one thematic_break))
+    ((letters (codes "d") ∷ letters (codes "e") ∷ []) ∷ (letters (codes "f") ∷ []) ∷ []))
+    (one thematic_break))
 
 -- the second row is filled up
 pub flat_blocks : parts (markdown_of (options Setex Inlined) flat) ≡ document_parts (options Setex Inlined) flat

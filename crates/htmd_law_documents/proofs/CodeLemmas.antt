@@ -14,9 +14,9 @@ use Rattle.std.proofs.lemmas.Str.{scalars-chars}
 use Rattle.htmd_lexical.specs.Characters.{line_feed, carriage_return}
 use Rattle.htmd_lexical.proofs.Cases.{test}
 use Rattle.htmd_text.specs.Trims.{trimmed_start, trimmed_end, trimmed_text, is_line_feed}
-use Rattle.htmd_document_of_tree.specs.AllTexts.{Lines, no_lines, with_character, written_for, with_line_feeds}
-use Rattle.htmd_document_of_tree.specs.AllTexts.{without_last_line_feed, is_blank_text}
-use Rattle.htmd_document_of_tree.specs.Spaces.{is_white}
+use Rattle.htmd_shown.specs.AllTexts.{Lines, no_lines, with_character, written_for, with_line_feeds}
+use Rattle.htmd_shown.specs.AllTexts.{without_last_line_feed}
+use Rattle.htmd_shown.specs.Spaces.{is_white, is_blank_text}
 use Rattle.htmd_law_documents.specs.DocumentTexts.{is_visible, visible}
 use Rattle.htmd_law_documents.proofs.VisibleLemmas.{Shows, text-same, seen-same, white-unseen}
 use Rattle.htmd_law_documents.proofs.VisibleLemmas.{shows-encodes, both-true}

@@ -1,5 +1,5 @@
 -- Blocks that are normal, as facts.
-use Rattle.std.proofs.Common.{◌≡◌, ℕ, ◌≤◌, Bool, true, false, cond, List, [], ◌∷◌, ◌++◌, refl, sym, ap, ◌∙◌}
+use Rattle.std.proofs.Common.{◌≡◌, ℕ, ◌≤◌, Bool, true, false, cond, List, [], ◌∷◌, ◌++◌, refl, sym, ap, ◌∙◌, ◌||◌}
 use Rattle.std.proofs.Common.{arith, subst, ◌⊎◌, inl, inr, max}
 use Rattle.std.specs.Prelude.{nat_le}
 use Rattle.std.proofs.lemmas.Bool.Decides.{nat_tests}
@@ -12,14 +12,18 @@ use Rattle.htmd_document.specs.Documents as value
 use Rattle.htmd_document.specs.TightItems.{is_filled}
 use Rattle.htmd_document.specs.NormalInlines.{begins_with_space, has_none, first_passes}
 use Rattle.htmd_document.specs.NormalInlines.{are_whole, are_normal, is_normal_line}
-use Rattle.htmd_document.specs.NormalInlines.{is_normal_item, have_anchor}
+use Rattle.htmd_document.specs.NormalInlines.{is_normal_item, are_anchors, anchors_stand_well}
 use Rattle.htmd_document.specs.NormalDocuments.{is_normal_paragraph, is_normal_heading, is_normal_code, is_normal_list}
 use Rattle.htmd_document.specs.NormalDocuments.{is_normal_table, is_normal_block, are_normal_blocks, are_normal_items}
 use Rattle.htmd_document.specs.NormalDocuments.{depth_of, depth_among, IsNormal}
 use Rattle.htmd_law_documents.proofs.VisibleLemmas.{both-true}
 use Rattle.htmd_law_documents.proofs.NormalTextLemmas.{and-true, not-false, false-true}
 use Rattle.htmd_law_documents.proofs.NormalLineLemmas.{IsWhole}
-use Rattle.htmd_law_documents.proofs.BareLemmas.{IsBareLine, bare-paragraph}
+use Rattle.htmd_law_documents.proofs.NormalStandLemmas.{Stands, stand-well}
+
+-- inlines of one line, in which anchors stand before what shows
+abbrev pub IsLineWell : Inlines → Type 0
+IsLineWell content = (is_normal_line content ≡ true) × Stands false content
 
 -- a task, and what stands after it
 pub record IsTaskLine (content : Inlines) : Type 0 where
@@ -28,12 +32,17 @@ pub record IsTaskLine (content : Inlines) : Type 0 where
   pub is : content ≡ inline (task is_checked) rest
   pub begins : first_passes begins_with_space rest ≡ true
   pub whole : IsWhole false [] rest
-  pub bare : have_anchor rest ≡ false
+  pub stands : Stands false rest
+
+-- a line that isn't empty, in which anchors stand alone or before what shows
+abbrev pub IsLineParagraph : Inlines → Type 0
+IsLineParagraph content =
+    (is_normal_line content ≡ true) × (has_none content ≡ false)
+    × ((are_anchors content || anchors_stand_well content) ≡ true)
 
 -- a line, or a task in an item
 abbrev pub IsParagraph : Bool → Inlines → Type 0
-IsParagraph in_item content =
-    (IsBareLine content × (has_none content ≡ false)) ⊎ ((in_item ≡ true) × IsTaskLine content)
+IsParagraph in_item content = IsLineParagraph content ⊎ ((in_item ≡ true) × IsTaskLine content)
 
 abbrev mutual
   pub Nearly : Bool → Block → Type 0
@@ -75,12 +84,12 @@ task-line content h =
     ap (is_normal_paragraph true) h.is
     ∙ and-true
     (and-true (and-true (and-true h.begins (not-false h.whole.no_space)) (not-false h.whole.no_break)) h.whole.normal)
-    (bare-paragraph (inline (task h.is_checked) h.rest) h.bare)
+    (stand-well h.rest h.stands)
 
 mutual
   nearly-normal : (b : Block) (in_item : Bool) → Nearly in_item b → is_normal_block in_item b ≡ true
   nearly-normal (paragraph content) in_item (inl h) =
-      and-true (and-true (not-false h.1) (line-no_task in_item content h.0.0)) (bare-paragraph content h.0.1)
+      and-true (and-true (not-false h.1) (line-no_task in_item content h.0)) h.2
   nearly-normal (paragraph content) in_item (inr h) =
       subst (λ (i : Bool). is_normal_paragraph i content ≡ true) (sym h.0) (task-line content h.1)
   nearly-normal (heading level content) in_item h = h

@@ -12,12 +12,10 @@ use Rattle.htmd_lexical.specs.Characters.{space, null}
 use Rattle.htmd_lexical.specs.CharacterClasses.{first_is, is_empty}
 use Rattle.htmd_lexical.specs.WhiteSpace.{is_ascii_white_space}
 use Rattle.htmd_lexical.proofs.Cases.{test}
-use Rattle.htmd_document_of_tree.specs.Nesting.{text_or_code}
-use Rattle.htmd_document_of_tree.specs.Paragraphs.{after_task}
-use Rattle.htmd_document_of_tree.specs.Spaces.{Gap, is_white, is_wide_space, shown_white, ends_with_space, spaced}
+use Rattle.htmd_flow.specs.Nesting.{text_or_code}
+use Rattle.htmd_shown.specs.Spaces.{Gap, is_white, is_wide_space, shown_white, ends_with_space, spaced}
 use Rattle.htmd_document.specs.NormalInlines.{is_line_byte, is_line, has_double_space, is_text}
 use Rattle.htmd_law_documents.proofs.VisibleLemmas.{both-true}
-use Rattle.htmd_law_documents.proofs.NormalTextLemmas.{false-true}
 use Rattle.htmd_law_documents.proofs.NormalTextLemmas.{and-true, and-false, or-false, from-not}
 use Rattle.htmd_law_documents.proofs.NormalTextLemmas.{encode-passes, line-append, double-append}
 use Rattle.htmd_law_documents.proofs.NormalTextLemmas.{to-text}
@@ -25,7 +23,7 @@ use Rattle.htmd_law_documents.proofs.NormalLeafLemmas.{IsWord, IsLeaf}
 use lib.Utf8.{encode}
 
 -- neither a space nor what a text can't hold
-abbrev is_solid : ℕ → Bool
+abbrev pub is_solid : ℕ → Bool
 is_solid b = is_line_byte b && not (b == space)
 
 solid-wide : (b : ℕ) → 128 ≤ b → is_solid b ≡ true
@@ -62,17 +60,17 @@ solid-plain (b ∷ s) h =
 solid-no_space : (b : ℕ) → is_solid b ≡ true → (b == space) ≡ false
 solid-no_space b h = from-not (b == space) (both-true (is_line_byte b) (not (b == space)) h).1
 
-solid-single : (s : List ℕ) → list_all is_solid s ≡ true → has_double_space s ≡ false
+pub solid-single : (s : List ℕ) → list_all is_solid s ≡ true → has_double_space s ≡ false
 solid-single [] h = refl
 solid-single (b ∷ s) h =
     let parts = both-true (is_solid b) (list_all is_solid s) h in
     or-false (ap (λ c. c && first_is space s) (solid-no_space b parts.0)) (solid-single s parts.1)
 
-solid-begins : (s : List ℕ) → list_all is_solid s ≡ true → first_is space s ≡ false
+pub solid-begins : (s : List ℕ) → list_all is_solid s ≡ true → first_is space s ≡ false
 solid-begins [] h = refl
 solid-begins (b ∷ s) h = solid-no_space b (both-true (is_solid b) (list_all is_solid s) h).0
 
-solid-ends : (s : List ℕ) → list_all is_solid s ≡ true → ends_with_space s ≡ false
+pub solid-ends : (s : List ℕ) → list_all is_solid s ≡ true → ends_with_space s ≡ false
 solid-ends [] h = refl
 solid-ends (b ∷ []) h = solid-no_space b (both-true (is_solid b) true h).0
 solid-ends (b ∷ c ∷ s) h = solid-ends (c ∷ s) (both-true (is_solid b) (list_all is_solid (c ∷ s)) h).1
@@ -155,19 +153,6 @@ white-spaced g c k h u w =
     (subst (λ (b : Bool). IsWhite (g.white ++ encode_utf8 (cond b space c))) (sym a)
     (wide-append g.white c h u (sym (ap (λ b. b || is_wide_space c) a) ∙ w))))
 
--- what follows a task begins with a space
-pub record IsAfterTask (s : List ℕ) : Type 0 where
-  pub text : is_text s ≡ true
-  pub begins : first_is space s ≡ true
-
-pub after_task-text : (s : List ℕ) → IsWhite s → IsAfterTask (after_task s)
-after_task-text s h = test (first_is space s)
-    (λ e. subst (λ (b : Bool). IsAfterTask (cond b s (space ∷ s))) (sym e) (spaced s h e))
-    (λ e. subst (λ (b : Bool). IsAfterTask (cond b s (space ∷ s))) (sym e) (record {
-      text = white-text space s (white-append (space ∷ []) s space-white h.line h.single (ap (λ b. true && b) e));
-      begins = refl;
-    }))
-  where
-    spaced : (s : List ℕ) → IsWhite s → first_is space s ≡ true → IsAfterTask s
-    spaced [] h e = false-true e
-    spaced (b ∷ s) h e = record { text = white-text b s h; begins = e }
+-- a task is followed by one space
+pub space-text : is_text (space ∷ []) ≡ true
+space-text = white-text space [] space-white

@@ -9,11 +9,11 @@ use Rattle.htmd_lexical.specs.Characters.{line_feed, carriage_return}
 use Rattle.htmd_lexical.proofs.Cases.{test}
 use Rattle.htmd_text.specs.Trims.{trimmed_text, is_line_feed}
 use Rattle.htmd_text.proofs.TrimsLemmas.{line_feed_of_ascii}
-use Rattle.htmd_document_of_tree.specs.AllTexts.{Lines, no_lines, with_character, written_for, with_line_feeds}
-use Rattle.htmd_document_of_tree.specs.AllTexts.{lines_of}
-use Rattle.htmd_document_of_tree.specs.AllTexts.{without_last_line_feed}
-use Rattle.htmd_document_of_tree.specs.Flows.{code_parts}
-use Rattle.htmd_document_of_tree.specs.Parts.{Around}
+use Rattle.htmd_shown.specs.AllTexts.{Lines, no_lines, with_character, written_for, with_line_feeds}
+use Rattle.htmd_shown.specs.AllTexts.{lines_of}
+use Rattle.htmd_shown.specs.AllTexts.{without_last_line_feed}
+use Rattle.htmd_flow.specs.Flows.{code_parts}
+use Rattle.htmd_flow.specs.Parts.{Around, run, edge}
 use Rattle.htmd_document.specs.NormalDocuments.{is_code_byte}
 use Rattle.htmd_law_documents.specs.DocumentTexts.{visible}
 use Rattle.htmd_law_documents.proofs.VisibleLemmas.{both-true, shows-itself}
@@ -21,8 +21,8 @@ use Rattle.htmd_law_documents.proofs.PiecesLemmas.{line_feed-white, AreUtf8, pie
 use Rattle.htmd_law_documents.proofs.CodeLemmas.{feeds-show}
 use Rattle.htmd_law_documents.proofs.NormalTextLemmas.{and-true, all-append, PassesWide}
 use Rattle.htmd_law_documents.proofs.NormalLineLemmas.{FitAll}
-use Rattle.htmd_law_documents.proofs.NormalWritingLemmas.{is_text_character}
-use Rattle.htmd_law_documents.proofs.NormalPartsLemmas.{FineParts}
+use Rattle.htmd_law_documents.proofs.NormalPartsLemmas.{is_text_character, IsRun, FineParts, fine-append, fine-nil}
+use Rattle.htmd_law_documents.proofs.NormalPartsLemmas.{fine-edges, fine-run}
 use Rattle.htmd_law_documents.proofs.NormalValueLemmas.{IsClean, clean-run, clean-trimmed, all-less, encodes-pass}
 use Rattle.htmd_law_documents.proofs.NormalValueLemmas.{chars-pass, AllPieces, pieces-pass}
 
@@ -90,26 +90,25 @@ without-code (b ∷ c ∷ s) h =
 last-true : (a b : Bool) → (a && b) ≡ true → b ≡ true
 last-true a b e = (both-true a b e).1
 
-code-lines : (n : ℕ) (pieces : List (List ℕ)) (around : List Around) → AreUtf8 pieces
+pub code-lines : (flat : Bool) (n : ℕ) (pieces : List (List ℕ)) (around : List Around) → AreUtf8 pieces
     → AllPieces (λ b. not (is_line_feed b) && is_text_character b) pieces → FitAll false [] around
-    → FineParts n (code_parts pieces around)
-code-lines n [] around u h f = tt
-code-lines n (s ∷ pieces) around u h f = (
-  (
-    clean-run s (record {
+    → FineParts flat n (code_parts pieces around)
+code-lines flat n [] around u h f = fine-nil flat n
+code-lines flat n (s ∷ pieces) around u h f =
+    let line : IsRun s = clean-run s (record {
       utf8 = u.0;
       seen = all-less (λ b. not (is_line_feed b) && is_text_character b) is_text_character
           (λ b e. last-true (not (is_line_feed b)) (is_text_character b) e) s h.0;
-    }),
-    f,
-  ),
-  (tt, code-lines n pieces around u.1 h.1 f),
-)
+    }) in
+    fine-append flat n (run s around true ∷ edge ∷ []) (code_parts pieces around)
+    (fine-append flat n (run s around true ∷ []) (edge ∷ []) (fine-run flat n s around true line f)
+    (fine-edges flat n))
+    (code-lines flat n pieces around u.1 h.1 f)
 
-pub lines-fine : (n : ℕ) (s : List ℕ) (around : List Around) → IsClean s → FitAll false [] around
-    → FineParts n (code_parts (lines_of s) around)
-lines-fine n s around h f =
+pub lines-fine : (flat : Bool) (n : ℕ) (s : List ℕ) (around : List Around) → IsClean s → FitAll false [] around
+    → FineParts flat n (code_parts (lines_of s) around)
+lines-fine flat n s around h f =
     let t : List ℕ = trimmed_text is_line_feed s in
     let clean : IsClean t = clean-trimmed is_line_feed line_feed_of_ascii s h in
-    code-lines n (lines_of s) around (pieces-show is_line_feed line_feed-white t clean.utf8).texts
+    code-lines flat n (lines_of s) around (pieces-show is_line_feed line_feed-white t clean.utf8).texts
     (pieces-pass is_line_feed is_text_character t clean.seen) f

@@ -1,329 +1,314 @@
--- What each kind of element gives in normal documents.
-use Rattle.std.proofs.Common.{◌≡◌, ℕ, suc, ◌≤◌, Bool, true, false, cond, List, [], ◌∷◌, ◌++◌, refl}
-use Rattle.std.proofs.Common.{◌∙◌, ap, ◌+◌, subst, Option, Some, None, arith}
-use Rattle.std.proofs.lemmas.Bool.Decides.{nat_tests}
-use Rattle.std.specs.Prelude.{codes, nat_le, if◌then◌else◌}
-use Rattle.std.specs.List.{list_any}
-use Rattle.std.specs.Option.{option_or}
+-- What leaves and each kind of element give in normal documents.
+use Rattle.std.proofs.Common.{◌≡◌, ℕ, suc, ◌≤◌, Bool, true, false, cond, not, ◌&&◌, List, [], ◌∷◌, ◌++◌, refl}
+use Rattle.std.proofs.Common.{Option, Some, None, arith, map, length}
+use Rattle.std.specs.Prelude.{codes, if◌then◌else◌, ◌-◌}
+use Rattle.std.specs.List.{list_all, prefix_len, suffix_len}
 use Rattle.std.specs.Str.{IsUtf8, chars}
-use Rattle.htmd_lexical.specs.Characters.{quotation_mark, space}
+use Rattle.htmd_lexical.specs.Characters.{space}
 use Rattle.htmd_lexical.specs.AttributePairs.{AttributePair}
-use Rattle.htmd_nodes.specs.NumberedTrees.{NumberedForest}
-use Rattle.htmd_document_of_tree.specs.AllTexts.{all_text_among, with_line_feeds, is_blank_text, lines_of}
-use Rattle.htmd_document_of_tree.specs.AllTexts.{without_last_line_feed}
-use Rattle.htmd_document_of_tree.specs.AllTexts.{language_of_block, language_of_only, only_one, elements_among}
-use Rattle.htmd_document_of_tree.specs.Attributes.{value_of, text_of, title_of, description_of, address, has_attribute}
-use Rattle.htmd_document_of_tree.specs.Attributes.{is_any_case}
-use Rattle.htmd_document_of_tree.specs.Attributes.{is_filled, language_of}
-use Rattle.htmd_document_of_tree.specs.Contexts.{Context, inside_format, in_code, in_one_line, deeper, is_lined, run_in}
-use Rattle.htmd_document_of_tree.specs.Contexts.{apart, with_around, is_format, is_link}
-use Rattle.htmd_document.specs.DocumentLimits.{most_raised}
-use Rattle.htmd_document.specs.Formats.{Format, Emphasis, Strong, Deleted, Superscript, Subscript}
-use Rattle.htmd_document.specs.Formats.{of_format, of_element, is_raised, raised_count}
-use Rattle.htmd_document.specs.Documents.{Inlines, no_inlines, inline, code_block}
-use Rattle.htmd_document.specs.Documents.{Blocks, no_blocks, block}
-use Rattle.htmd_document_of_tree.specs.Flows.{Node, Line, blocks_of, line_of, flow_all, image_parts, box_parts}
-use Rattle.htmd_document_of_tree.specs.Flows.{inside_anchor}
-use Rattle.htmd_document_of_tree.specs.Flows.{between, heading_of, heading_parts, quote_of, quote_parts, code_parts}
-use Rattle.htmd_document_of_tree.specs.Flows.{verbatim_parts, start_of, parts_of}
-use Rattle.htmd_document.specs.Formats.{is_same_format}
-use Rattle.htmd_document_of_tree.specs.Nesting.{wrapper_of}
-use Rattle.htmd_document_of_tree.specs.Parts.{Around, formatted, linked, Part, box, edge, whole}
-use Rattle.htmd_document_of_tree.specs.Roles.{role_of, table_role, heading_or_block, inline_role}
-use Rattle.htmd_document.proofs.FormatsLemmas.{same-turned}
-use Rattle.htmd_document.specs.NormalInlines.{is_around, is_barred}
-use Rattle.htmd_document.specs.NormalDocuments.{has_language, is_normal_code, is_level, depth_among}
-use Rattle.htmd_law_documents.proofs.KindLemmas.{Kind, any-kind}
-use Rattle.htmd_law_documents.proofs.NormalTextLemmas.{and-true, or-false, neither, true-false}
-use Rattle.htmd_law_documents.proofs.NormalLineLemmas.{in_link, formats_in, Fits, FitAll}
-use Rattle.htmd_law_documents.proofs.BareLemmas.{IsBareLine, bare-well, bare-first}
-use Rattle.htmd_law_documents.proofs.NormalBlockLemmas.{FineBlocks}
-use Rattle.htmd_law_documents.proofs.NormalPartsLemmas.{FineParts, IsRun, fine-append, fine-apart, fine-either}
-use Rattle.htmd_law_documents.proofs.NormalPartsLemmas.{blocks-of}
-use Rattle.htmd_law_documents.proofs.NormalPartsLemmas.{line-of}
+use Rattle.htmd_lexical.specs.WhiteSpace.{is_ascii_white_space}
+use Rattle.htmd_text.specs.Trims.{trimmed_start}
+use Rattle.htmd_document.specs.Documents.{Inlines, no_inlines, inline, code_block, heading, thematic_break}
+use Rattle.htmd_document.specs.Documents.{Blocks, no_blocks, block, quote}
+use Rattle.htmd_document.specs.Formats.{of_format, of_element}
+use Rattle.htmd_document.specs.NormalInlines.{is_attribute}
+use Rattle.htmd_document.specs.NormalDocuments.{is_normal_code, is_code_byte, is_level, depth_among}
+use Rattle.htmd_shown.specs.declared.facts.Facts.{Facts}
+use Rattle.htmd_shown.specs.declared.role.Role.{Role}
+use Rattle.htmd_shown.specs.declared.role.Role.TheVariants as role
+use Rattle.htmd_shown.specs.AllTexts.{all_text_among, with_line_feeds, lines_of, without_last_line_feed, dollar_sign}
+use Rattle.htmd_shown.specs.Attributes.{text_of, title_of, description_of, address, in_line, trimmed, has_attribute}
+use Rattle.htmd_shown.specs.Attributes.{is_any_case, is_filled}
+use Rattle.htmd_shown.specs.SimpleTrees.{Simples}
+use Rattle.htmd_shown.specs.Spaces.{is_blank_text}
+use Rattle.htmd_flow.specs.Contexts.{Context, is_lined, in_code, unlinked, in_one_line, deeper, run_in, apart}
+use Rattle.htmd_flow.specs.Contexts.{beside_code, inside_link, is_linked_to_part}
+use Rattle.htmd_flow.specs.Flows.{Node, Row, TermPart, Element, blocks_of, line_of, flow_all, image_parts, math_block}
+use Rattle.htmd_flow.specs.Flows.{math_in_line, formula_parts, embed_parts, box_parts, between, heading_of}
+use Rattle.htmd_flow.specs.Flows.{heading_parts, around_heading, quote_of, quote_parts, code_parts, verbatim_parts}
+use Rattle.htmd_flow.specs.Flows.{start_of, near_parts, parts_of, linked_by}
+use Rattle.htmd_flow.specs.Languages.{language_of_block}
+use Rattle.htmd_flow.specs.Levels.{list_of}
+use Rattle.htmd_flow.specs.Parts.{Part, break, place, box, edge, whole}
+use Rattle.htmd_law_documents.proofs.NormalTextLemmas.{and-true}
+use Rattle.htmd_law_documents.proofs.NormalStandLemmas.{stand-well}
+use Rattle.htmd_law_documents.proofs.NormalLeafLemmas.{AllIds}
+use Rattle.htmd_law_documents.proofs.NormalBlockLemmas.{IsLineWell, FineBlocks}
+use Rattle.htmd_law_documents.proofs.NormalPartsLemmas.{FineParts, FineFrom, alone, good, waiting, IsRun, fine-from}
+use Rattle.htmd_law_documents.proofs.NormalPartsLemmas.{fine-append, fine-alone, fine-nil, fine-edge, fine-edges}
+use Rattle.htmd_law_documents.proofs.NormalPartsLemmas.{fine-run, fine-whole, fine-apart, fine-either, fine-as}
+use Rattle.htmd_law_documents.proofs.NormalPartsLemmas.{shown-run, blocks-of, line-of}
 use Rattle.htmd_law_documents.proofs.NormalValueLemmas.{IsClean, clean-run, address-fine, in_line-line, in_line-clean}
-use Rattle.htmd_law_documents.proofs.NormalValueLemmas.{AreTexts, value-text, language-fine, title_of-fine}
+use Rattle.htmd_law_documents.proofs.NormalValueLemmas.{AreTexts, value-text, language-fine, title_of-fine, all-take}
+use Rattle.htmd_law_documents.proofs.NormalValueLemmas.{all-drop}
 use Rattle.htmd_law_documents.proofs.NormalCodeLemmas.{feeds-code, feeds-clean, without-code, lines-fine}
-use Rattle.htmd_law_documents.proofs.NormalNodesLemmas.{bound, FitsIn, Gives, FineNodes, deeper-bound, list-parts-fine}
-use Rattle.htmd_law_documents.proofs.NormalNodesLemmas.{flow-fine}
-use Rattle.htmd_law_documents.proofs.NormalTableLemmas.{FineLines, table-parts-fine}
+use Rattle.htmd_law_documents.proofs.NormalNodesLemmas.{bound, FitsIn, Gives, FineNodes, not-flat}
+use Rattle.htmd_law_documents.proofs.NormalNodesLemmas.{deeper-fine, list-parts-fine, flow-fine}
+use Rattle.htmd_law_documents.proofs.NormalTermLemmas.{FineTerms, term-parts-fine}
+use Rattle.htmd_law_documents.proofs.NormalTableLemmas.{RowNodes, table-parts-fine}
+use Rattle.htmd_law_documents.proofs.NormalAroundLemmas.{fit-without, format-gives, link-gives, unlinked-gives}
+use Rattle.htmd_law_documents.proofs.NormalAroundLemmas.{near-gives}
 use lib.Utf8.{encode}
 
--- ---- contexts
-
--- what stands around all that stands in these
-abbrev link_after : Bool → List Around → Bool
-link_after l [] = l
-link_after l (a ∷ around) = link_after (in_link l (wrapper_of a)) around
-
-abbrev formats_after : List Format → List Around → List Format
-formats_after r [] = r
-formats_after r (a ∷ around) = formats_after (formats_in r (wrapper_of a)) around
-
-fit-more : (l : Bool) (r : List Format) (around : List Around) (a : Around) → FitAll l r around
-    → Fits (link_after l around) (formats_after r around) a → FitAll l r (around ++ a ∷ [])
-fit-more l r [] a h f = (f, tt)
-fit-more l r (b ∷ around) a h f =
-    (h.0, fit-more (in_link l (wrapper_of b)) (formats_in r (wrapper_of b)) around a h.1 f)
-
-no-format : (f : Format) (r : List Format) (around : List Around) → is_around r f ≡ false
-    → list_any (is_format f) around ≡ false → is_around (formats_after r around) f ≡ false
-no-format f r [] h e = h
-no-format f r (formatted g ∷ around) h e =
-    let parts = neither (is_same_format f g) (list_any (is_format f) around) e in
-    no-format f (g ∷ r) around (or-false (same-turned g f ∙ parts.0) h) parts.1
-no-format f r (linked n address title ∷ around) h e = no-format f r around h e
-
-no-link : (l : Bool) (around : List Around) → l ≡ false → list_any is_link around ≡ false
-    → link_after l around ≡ false
-no-link l [] h e = h
-no-link l (formatted g ∷ around) h e = no-link l around h e
-no-link l (linked n address title ∷ around) h e = true-false e
-
--- what is raised is one of two
-abbrev one-if : Bool → ℕ
-one-if b = if b then 1 else 0
-
-abbrev Few : List Format → Type 0
-Few r = raised_count r ≤ one-if (is_around r Superscript) + one-if (is_around r Subscript)
-
-few-more : (f : Format) (r : List Format) → is_around r f ≡ false → Few r → Few (f ∷ r)
-few-more Emphasis r e h = h
-few-more Strong r e h = h
-few-more Deleted r e h = h
-few-more Superscript r e h =
-    add (raised_count r) (one-if (is_around r Superscript)) (one-if (is_around r Subscript)) (ap one-if e) h
-  where
-    add : (n a b : ℕ) → a ≡ 0 → n ≤ a + b → suc n ≤ 1 + b
-    add n a b e h = omega arith
-few-more Subscript r e h =
-    add (raised_count r) (one-if (is_around r Superscript)) (one-if (is_around r Subscript)) (ap one-if e) h
-  where
-    add : (n a b : ℕ) → b ≡ 0 → n ≤ a + b → suc n ≤ a + 1
-    add n a b e h = omega arith
-
-few-after : (l : Bool) (r : List Format) (around : List Around) → FitAll l r around → Few r
-    → Few (formats_after r around)
-few-after l r [] f h = h
-few-after l r (formatted g ∷ around) f h = few-after l (g ∷ r) around f.1 (few-more g r f.0.0 h)
-few-after l r (linked n address title ∷ around) f h = few-after true r around f.1 h
-
-few-open : (r : List Format) → Few r → nat_le most_raised (raised_count r) ≡ false
-few-open r h = at (raised_count r) (is_around r Superscript) (is_around r Subscript) h
-  where
-    at : (n : ℕ) (a b : Bool) → n ≤ one-if a + one-if b → nat_le most_raised n ≡ false
-    at n true true h = grind (arith, nat_tests)
-    at n true false h = grind (arith, nat_tests)
-    at n false true h = grind (arith, nat_tests)
-    at n false false h = grind (arith, nat_tests)
-
-not-barred : (f : Format) (r : List Format) → is_around r f ≡ false → Few r → is_barred r f ≡ false
-not-barred f r e h = either (is_raised f)
-  where
-    either : (b : Bool) → cond b (nat_le most_raised (raised_count r)) (is_around r f) ≡ false
-    either true = few-open r h
-    either false = e
-
-pub format-fits : (f : Format) (c : Context) → FitsIn c → FitsIn (inside_format f c)
-format-fits f c h = either (list_any (is_format f) c.around) refl
-  where
-    either : (b : Bool) → list_any (is_format f) c.around ≡ b → FitsIn (cond b c (with_around c (formatted f)))
-    either true e = h
-    either false e =
-        let new : is_around (formats_after [] c.around) f ≡ false = no-format f [] c.around refl e in
-        fit-more false [] c.around (formatted f) h
-        (new, not-barred f (formats_after [] c.around) new (few-after false [] c.around h (omega arith)))
-
-format-bound : (f : Format) (c : Context) → bound (inside_format f c) ≡ bound c
-format-bound f c = either (list_any (is_format f) c.around)
-  where
-    either : (b : Bool) → bound (cond b c (with_around c (formatted f))) ≡ bound c
-    either true = refl
-    either false = refl
-
-anchor-fits : (id : ℕ) (attributes : List AttributePair) (o : Option (List ℕ)) (c : Context) → FitsIn c
-    → AreTexts attributes → ((s : List ℕ) → o ≡ Some s → IsUtf8 s)
-    → FitsIn (inside_anchor id attributes o c)
-anchor-fits id attributes None c h a o = h
-anchor-fits id attributes (Some s) c h a o = either (list_any is_link c.around) refl
-  where
-    either : (b : Bool) → list_any is_link c.around ≡ b
-        → FitsIn (cond b c (with_around c (linked id (address s) (title_of attributes))))
-    either true e = h
-    either false e =
-        fit-more false [] c.around (linked id (address s) (title_of attributes)) h
-        (no-link false c.around refl e, address-fine s (o s refl), title_of-fine attributes a)
-
-anchor-bound : (id : ℕ) (attributes : List AttributePair) (o : Option (List ℕ)) (c : Context)
-    → bound (inside_anchor id attributes o c) ≡ bound c
-anchor-bound id attributes None c = refl
-anchor-bound id attributes (Some s) c = either (list_any is_link c.around)
-  where
-    either : (b : Bool) → bound (cond b c (with_around c (linked id (address s) (title_of attributes)))) ≡ bound c
-    either true = refl
-    either false = refl
-
 -- ---- leaves
-
-wrapper-run : IsRun (quotation_mark ∷ [])
-unfolding chars encode
-wrapper-run = record { scalar = refl; seen = refl }
 
 space-run : IsRun (space ∷ [])
 unfolding chars encode
 space-run = record { scalar = refl; seen = refl }
 
+pub dollar-run : IsRun (dollar_sign ∷ [])
+unfolding chars encode
+dollar-run = record { scalar = refl; seen = refl }
+
+pub run-fine : (s : List ℕ) → IsRun s → Gives (λ c. run_in c s ∷ [])
+run-fine s r c f = fine-run c.is_flat (bound c) s c.around c.is_code r f
+
 between-fine : (s : List ℕ) (nodes : List Node) → FineNodes nodes → IsRun s → Gives (between s nodes)
 between-fine s nodes h r c f =
-    fine-append (bound c) (run_in c s ∷ flow_all nodes c) (run_in c s ∷ []) ((r, f), flow-fine nodes h c f)
-    ((r, f), tt)
+    fine-append c.is_flat (bound c) (run_in c s ∷ flow_all nodes c) (run_in c s ∷ [])
+    (fine-append c.is_flat (bound c) (run_in c s ∷ []) (flow_all nodes c) (run-fine s r c f) (flow-fine nodes h c f))
+    (run-fine s r c f)
 
-image-fine : (attributes : List AttributePair) (o : Option (List ℕ)) → AreTexts attributes
-    → ((s : List ℕ) → o ≡ Some s → IsUtf8 s) → Gives (image_parts attributes o)
-image-fine attributes (Some s) a o c f = (
+-- the address of an image
+abbrev pub IsSource : Option (List ℕ) → Type 0
+IsSource None = Unit {0}
+IsSource (Some s) = IsUtf8 s
+
+pub image-fine : (o : Option (List ℕ)) (attributes : List AttributePair) → AreTexts attributes → IsSource o
+    → Gives (image_parts o attributes)
+image-fine (Some s) attributes a o c f = (
   (
-    address-fine s (o s refl),
+    address-fine s o,
     title_of-fine attributes a,
     in_line-line (text_of (codes "alt") attributes) (value-text attributes (codes "alt") a),
     f,
   ),
   tt,
+  fine-nil c.is_flat (bound c),
 )
-image-fine attributes None a o c f =
-    fine-either (bound c) (is_filled (description_of attributes)) (run_in c (description_of attributes) ∷ []) []
-    (λ e. (
-      (
-        clean-run (description_of attributes)
-            (in_line-clean (text_of (codes "alt") attributes) (value-text attributes (codes "alt") a)),
-        f,
-      ),
-      tt,
-    ))
-    (λ e. tt)
+image-fine None attributes a o c f =
+    fine-either c.is_flat (bound c) (is_filled (description_of attributes))
+    (run_in c (description_of attributes) ∷ [])
+    []
+    (λ e. run-fine (description_of attributes) (clean-run (description_of attributes)
+    (in_line-clean (text_of (codes "alt") attributes) (value-text attributes (codes "alt") a))) c f)
+    (λ e. fine-nil c.is_flat (bound c))
 
-box-fine : (n : ℕ) (attributes : List AttributePair) → FineParts n (box_parts attributes)
-box-fine n attributes =
-    fine-either n (is_any_case (codes "checkbox") (text_of (codes "type") attributes))
-    (box (has_attribute (codes "checked") attributes) ∷ []) [] (λ e. (tt, tt)) (λ e. tt)
+trimmed-code : (s : List ℕ) → list_all is_code_byte s ≡ true → list_all is_code_byte (trimmed s) ≡ true
+trimmed-code s h =
+    let start : List ℕ = trimmed_start is_ascii_white_space s in
+    all-take is_code_byte (length start - suffix_len is_ascii_white_space start) start
+    (all-drop is_code_byte (prefix_len is_ascii_white_space s) s h)
+
+pub formula-fine : (tex : List ℕ) (is_alone : Bool) → IsClean tex → Gives (formula_parts tex is_alone)
+formula-fine tex is_alone h c f =
+    let flat : Bool = c.is_flat in
+    let n : ℕ = bound c in
+    let code : is_normal_code (Some (codes "math")) (trimmed (with_line_feeds tex)) ≡ true =
+    and-true refl (trimmed-code (with_line_feeds tex) (feeds-code tex h)) in
+    fine-either flat n (is_alone && not c.is_flat) (apart (whole (math_block tex) ∷ [])) (math_in_line tex c)
+    (λ e. fine-apart flat n (whole (math_block tex) ∷ []) (fine-whole flat n (math_block tex) (code, omega arith)))
+    (λ e. fine-append flat n (run_in c (dollar_sign ∷ []) ∷ run_in (in_code c) (in_line tex) ∷ [])
+    (run_in c (dollar_sign ∷ []) ∷ [])
+    (fine-append flat n (run_in c (dollar_sign ∷ []) ∷ []) (run_in (in_code c) (in_line tex) ∷ [])
+    (run-fine (dollar_sign ∷ []) dollar-run c f)
+    (run-fine (in_line tex) (clean-run (in_line tex) (in_line-clean tex h.utf8)) (in_code c) f))
+    (run-fine (dollar_sign ∷ []) dollar-run c f))
+
+-- ---- anchors
+
+-- anchors, and then what shows
+pub places-wait : (flat : Bool) (n : ℕ) (ids : List (List ℕ)) (ps : List Part) → AllIds ids
+    → FineFrom flat n waiting ps → FineFrom flat n waiting (map place ids ++ ps)
+places-wait flat n [] ps a h = h
+places-wait flat n (id ∷ ids) ps a h = (a.0, tt, places-wait flat n ids ps a.1 h)
+
+-- where nothing shows they may stand alone
+pub places-alone : (n : ℕ) (ids : List (List ℕ)) (ps : List Part) → AllIds ids
+    → FineFrom false n alone ps → FineFrom false n alone (map place ids ++ ps)
+places-alone n [] ps a h = h
+places-alone n (id ∷ ids) ps a h = (a.0, tt, places-alone n ids ps a.1 h)
+
+pub places-first : (flat : Bool) (n : ℕ) (ids : List (List ℕ)) (ps : List Part) → AllIds ids
+    → FineFrom flat n good ps → FineFrom flat n waiting ps → FineParts flat n (map place ids ++ ps)
+places-first flat n [] ps a g h = g
+places-first flat n (id ∷ ids) ps a g h = (a.0, tt, places-wait flat n ids ps a.1 h)
+
+module _ (ids : List (List ℕ)) (a : AllIds ids) (c : Context) (f : FitsIn c) where
+  embed-by : (flat : Bool) (n : ℕ) (p : Part) → FineFrom flat n good (p ∷ [])
+      → FineFrom flat n waiting (p ∷ [])
+      → FineParts flat n ((cond flat (run_in c (space ∷ [])) edge ∷ map place ids)
+      ++ p ∷ cond flat (run_in c (space ∷ [])) edge ∷ [])
+  embed-by true n p g h =
+      let end : FineParts true n (run_in c (space ∷ []) ∷ []) =
+      fine-run true n (space ∷ []) c.around c.is_code space-run f in
+      let rest : List Part = p ∷ run_in c (space ∷ []) ∷ [] in
+      fine-append true n (run_in c (space ∷ []) ∷ []) (map place ids ++ rest) end
+      (places-first true n ids rest a (fine-from true n good (p ∷ []) (run_in c (space ∷ []) ∷ []) g end)
+      (fine-from true n waiting (p ∷ []) (run_in c (space ∷ []) ∷ []) h end))
+  embed-by false n p g h =
+      let rest : List Part = p ∷ edge ∷ [] in (
+        tt,
+        tt,
+        places-alone n ids rest a
+            (fine-alone n good rest (fine-append false n (p ∷ []) (edge ∷ []) g (fine-edges false n))),
+      )
+
+pub embed-fine : (id : ℕ) (s title : List ℕ) (ids : List (List ℕ)) → is_attribute s ≡ true → IsClean title
+    → is_blank_text title ≡ false → AllIds ids → Gives (embed_parts id s title ids)
+embed-fine id s title ids a t some all c f =
+    embed-by ids all c f c.is_flat (bound c) (run_in (inside_link id s None c) title)
+    (link-gives good id s None (λ d. run_in d title ∷ []) a refl (run-fine title (clean-run title t)) c f)
+    (link-gives waiting id s None (λ d. run_in d title ∷ []) a refl
+    (λ d g. shown-run d.is_flat (bound d) title d.around d.is_code (clean-run title t) g some) c f)
+
+box-fine : (flat : Bool) (n : ℕ) (attributes : List AttributePair) → FineParts flat n (box_parts attributes)
+box-fine flat n attributes =
+    fine-either flat n (is_any_case (codes "checkbox") (text_of (codes "type") attributes))
+    (box (has_attribute (codes "checked") attributes) ∷ []) [] (λ e. one flat) (λ e. fine-nil flat n)
+  where
+    one : (flat : Bool) → FineParts flat n (box (has_attribute (codes "checked") attributes) ∷ [])
+    one true = (tt, tt, tt)
+    one false = (tt, tt, tt)
 
 -- ---- blocks
 
-heading-fine : (n level : ℕ) (xs : Inlines) → is_level level ≡ true → IsBareLine xs
-    → FineParts n (heading_of level xs)
-heading-fine n level no_inlines e h = tt
-heading-fine n level (inline x xs) e h =
-    let line = and-true (and-true e refl) h.0 in
-    let anchors = bare-first (inline x xs) h.1 in
-    ((and-true (and-true line (bare-well (inline x xs) h.1)) anchors, omega arith), tt)
+heading-fine : (flat : Bool) (n level : ℕ) (xs : Inlines) → is_level level ≡ true → IsLineWell xs
+    → FineParts flat n (heading_of level xs)
+heading-fine flat n level no_inlines e h = fine-nil flat n
+heading-fine flat n level (inline x xs) e h =
+    fine-whole flat n (heading level (inline x xs))
+    (and-true (and-true (and-true e refl) h.0) (stand-well (inline x xs) h.1), omega arith)
 
-heading-parts-fine : (level : ℕ) (nodes : List Node) → is_level level ≡ true → FineNodes nodes
-    → Gives (heading_parts level nodes)
-heading-parts-fine level nodes e h c f =
-    let xs : Inlines = line_of (flow_all nodes (in_one_line c)) in
-    fine-apart (bound c) (if c.is_flat then flow_all nodes c else heading_of level xs)
-    (fine-either (bound c) c.is_flat (flow_all nodes c) (heading_of level xs) (λ d. flow-fine nodes h c f)
-    (λ d. heading-fine (bound c) level xs e
-    (line-of (bound c) (flow_all nodes (in_one_line c)) (flow-fine nodes h (in_one_line c) f))))
+around-fits : (facts : Facts) (c : Context) → FitsIn c → FitsIn (in_one_line (around_heading facts c))
+around-fits facts c f = either (facts.shows_sign && is_linked_to_part c)
+  where
+    either : (b : Bool) → FitsIn (in_one_line (cond b (unlinked c) c))
+    either true = fit-without [] c.around f
+    either false = f
 
-quote-fine : (n : ℕ) (bs : Blocks) → FineBlocks n false bs → FineParts (suc n) (quote_of bs)
+heading-parts-fine : (level : ℕ) (facts : Facts) (nodes : List Node) → is_level level ≡ true
+    → FineNodes nodes → Gives (heading_parts level facts nodes)
+heading-parts-fine level facts nodes e h c f =
+    let d : Context = in_one_line (around_heading facts c) in
+    let fits : FitsIn d = around-fits facts c f in
+    let xs : Inlines = line_of (flow_all nodes d) in
+    fine-apart c.is_flat (bound c) (if c.is_flat then flow_all nodes c else heading_of level xs)
+    (fine-either c.is_flat (bound c) c.is_flat (flow_all nodes c) (heading_of level xs) (λ i. flow-fine nodes h c f)
+    (λ i. heading-fine c.is_flat (bound c) level xs e
+    (line-of (bound d) (flow_all nodes d) (flow-fine nodes h d fits))))
+
+quote-fine : (n : ℕ) (bs : Blocks) → FineBlocks n false bs → FineParts false (suc n) (quote_of bs)
 quote-fine n no_blocks h = tt
-quote-fine n (block b bs) h = (((refl, h.nearly), more (depth_among (block b bs)) n h.depth), tt)
+quote-fine n (block b bs) h =
+    fine-whole false (suc n) (quote (block b bs))
+    ((refl, h.nearly), more (depth_among (block b bs)) n h.depth)
   where
     more : (d n : ℕ) → d ≤ n → suc d ≤ suc n
     more d n l = omega arith
 
 quote-parts-fine : (nodes : List Node) → FineNodes nodes → Gives (quote_parts nodes)
 quote-parts-fine nodes h c f =
-    let bs : Blocks = blocks_of false (flow_all nodes (deeper c)) in
-    fine-apart (bound c) (if is_lined c then flow_all nodes c else quote_of bs)
-    (fine-either (bound c) (is_lined c) (flow_all nodes c) (quote_of bs) (λ e. flow-fine nodes h c f)
-    (λ e. subst (λ (n : ℕ). FineParts n (quote_of bs)) (deeper-bound c e)
-    (quote-fine (bound (deeper c)) bs
-    (blocks-of (bound (deeper c)) false (flow_all nodes (deeper c)) (flow-fine nodes h (deeper c) f)))))
+    let d : Context = deeper c in
+    let bs : Blocks = blocks_of false (flow_all nodes d) in
+    fine-apart c.is_flat (bound c) (if is_lined c then flow_all nodes c else quote_of bs)
+    (fine-either c.is_flat (bound c) (is_lined c) (flow_all nodes c) (quote_of bs) (λ e. flow-fine nodes h c f)
+    (λ e. deeper-fine c (quote_of bs) e
+    (quote-fine (bound d) bs
+    (blocks-of (bound d) false (flow_all nodes d)
+    (fine-as c.is_flat false (bound d) (flow_all nodes d) (not-flat c e) (flow-fine nodes h d f))))))
 
-either-language : (a b : Option (List ℕ)) → has_language a ≡ true → has_language b ≡ true
-    → has_language (option_or a b) ≡ true
-either-language None b g h = h
-either-language (Some s) b g h = g
-
--- what the content of an element is
-pub record IsFineContent (children : NumberedForest) : Type 0 where
-  pub text : IsClean (all_text_among children)
-  pub language : has_language (language_of_only (only_one (elements_among children))) ≡ true
-
-verbatim-fine : (attributes : List AttributePair) (children : NumberedForest) → IsFineContent children
-    → Gives (verbatim_parts attributes children)
-verbatim-fine attributes children h c f =
-    let s : List ℕ = with_line_feeds (all_text_among children) in
+verbatim-fine : (attributes : List AttributePair) (content : Simples) → IsClean (all_text_among content)
+    → Gives (verbatim_parts attributes content)
+verbatim-fine attributes content h c f =
+    let flat : Bool = c.is_flat in
+    let n : ℕ = bound c in
+    let s : List ℕ = with_line_feeds (all_text_among content) in
     let t : List ℕ = without_last_line_feed s in
-    let language : Option (List ℕ) = language_of_block attributes children in
+    let language : Option (List ℕ) = language_of_block attributes (list_of content) c.near in
     let body : List Part = apart (whole (code_block language t) ∷ []) in
     let lines : List Part = edge ∷ code_parts (lines_of s) c.around in
-    let code : is_normal_code language t ≡ true = and-true
-    (either-language (language_of_only (only_one (elements_among children))) (language_of attributes) h.language
-    (language-fine attributes)) (without-code s (feeds-code (all_text_among children) h.text)) in
-    fine-either (bound c) (is_blank_text s) (edge ∷ []) (if c.is_flat then lines else body)
-    (λ e. (tt, tt))
-    (λ e. fine-either (bound c) c.is_flat lines body
-    (λ d. (tt, lines-fine (bound c) s c.around (feeds-clean (all_text_among children) h.text) f))
-    (λ d. fine-apart (bound c) (whole (code_block language t) ∷ []) ((code, omega arith), tt)))
+    let code : is_normal_code language t ≡ true =
+    and-true (language-fine attributes (list_of content) c.near)
+    (without-code s (feeds-code (all_text_among content) h)) in
+    fine-either flat n (is_blank_text s) (edge ∷ []) (if c.is_flat then lines else body)
+    (λ e. fine-edges flat n)
+    (λ e. fine-either flat n c.is_flat lines body
+    (λ d. fine-edge flat n (code_parts (lines_of s) c.around)
+    (lines-fine flat n s c.around (feeds-clean (all_text_among content) h) f))
+    (λ d. fine-apart flat n (whole (code_block language t) ∷ [])
+    (fine-whole flat n (code_block language t) (code, omega arith))))
 
 -- ---- each kind
 
-module _ (id : ℕ) (attributes : List AttributePair) (children : NumberedForest) (nodes : List Node)
-    (lines : List Line)
-    (texts : AreTexts attributes) (fine : IsFineContent children) (all : FineNodes nodes) (table : FineLines lines)
-    (c : Context) (f : FitsIn c) where
-  blocks : FineParts (bound c) (apart (flow_all nodes c))
-  blocks = fine-apart (bound c) (flow_all nodes c) (flow-fine nodes all c f)
+-- a heading has a level, and nothing is for anchors
+abbrev pub IsLevel : Role → Type 0
+IsLevel (role.Heading level) = is_level level ≡ true
+IsLevel role.Anchors = ⊥
+IsLevel _ = Unit {0}
 
-  formats : (g : Format) → FineParts (bound c) (flow_all nodes (inside_format g c))
-  formats g = subst (λ (n : ℕ). FineParts n (flow_all nodes (inside_format g c))) (format-bound g c)
-      (flow-fine nodes all (inside_format g c) (format-fits g c f))
+module _ (id : ℕ) (facts : Facts) (attributes : List AttributePair) (content : Simples) (nodes : List Node)
+    (rows : List Row) (terms : List TermPart) (texts : AreTexts attributes) (text : IsClean (all_text_among content))
+    (all : FineNodes nodes) (table : RowNodes rows) (parts : FineTerms terms) (c : Context) (f : FitsIn c) where
+  abbrev pub here-element : Element
+  here-element = record {
+    id = id;
+    facts = facts;
+    attributes = attributes;
+    content = content;
+    nodes = nodes;
+    rows = rows;
+    terms = terms;
+  }
 
-  links : FineParts (bound c) (flow_all nodes (inside_anchor id attributes (value_of (codes "href") attributes) c))
+  here : FineParts c.is_flat (bound c) (flow_all nodes c)
+  here = flow-fine nodes all c f
+
+  blocks : FineParts c.is_flat (bound c) (apart (flow_all nodes c))
+  blocks = fine-apart c.is_flat (bound c) (flow_all nodes c) here
+
+  near : FineParts c.is_flat (bound c) (near_parts here-element c)
+  near =
+      fine-apart c.is_flat (bound c) (flow_all nodes (beside_code facts.pres attributes c))
+      (near-gives good facts.pres attributes (flow_all nodes) (flow-fine nodes all) c f)
+
+  links : FineParts c.is_flat (bound c) (flow_all nodes (linked_by id attributes c))
   links =
-      let o : Option (List ℕ) = value_of (codes "href") attributes in
-      subst (λ (n : ℕ). FineParts n (flow_all nodes (inside_anchor id attributes o c)))
-      (anchor-bound id attributes o c)
-      (flow-fine nodes all (inside_anchor id attributes o c)
-      (anchor-fits id attributes o c f texts (texts (codes "href"))))
+      let s : List ℕ = text_of (codes "href") attributes in
+      link-gives good id (address s) (title_of attributes) (flow_all nodes)
+      (address-fine s (value-text attributes (codes "href") texts)) (title_of-fine attributes texts)
+      (flow-fine nodes all) c f
 
-  pub element-fine : (name : List ℕ) → FineParts (bound c)
-      (parts_of (role_of name) id attributes children nodes lines c)
-  unfolding role_of table_role heading_or_block inline_role
-  element-fine name =
-      any-kind (λ (r : Kind). FineParts (bound c) (parts_of r id attributes children nodes lines c)) name (record {
-        paragraph = blocks;
-        item = blocks;
-        bullet_list = list-parts-fine None nodes all c f;
-        numbered_list = list-parts-fine (Some (start_of attributes)) nodes all c f;
-        verbatim = verbatim-fine attributes children fine c f;
-        block_quote = quote-parts-fine nodes all c f;
-        thematic_break = ((tt, omega arith), tt);
-        table = table-parts-fine children nodes lines all table c f;
-        caption = blocks;
-        table_head = blocks;
-        table_body = blocks;
-        row = blocks;
-        cell = blocks;
-        header_cell = blocks;
-        heading_1 = heading-parts-fine 1 nodes refl all c f;
-        heading_2 = heading-parts-fine 2 nodes refl all c f;
-        heading_3 = heading-parts-fine 3 nodes refl all c f;
-        heading_4 = heading-parts-fine 4 nodes refl all c f;
-        heading_5 = heading-parts-fine 5 nodes refl all c f;
-        heading_6 = heading-parts-fine 6 nodes refl all c f;
-        block = blocks;
-        format = λ g. formats (of_format g);
-        element = λ e. formats (of_element e);
-        code = flow-fine nodes all (in_code c) f;
-        anchor = links;
-        quotation = between-fine (quotation_mark ∷ []) nodes all wrapper-run c f;
-        apart = between-fine (space ∷ []) nodes all space-run c f;
-        line_break = (tt, tt);
-        image = image-fine attributes (value_of (codes "src") attributes) texts (texts (codes "src")) c f;
-        input = fine-append (bound c) (box_parts attributes) (flow_all nodes c) (box-fine (bound c) attributes)
-            (flow-fine nodes all c f);
-        plain = flow-fine nodes all c f;
-      })
+  pub element-fine : (r : Role) → IsLevel r → FineParts c.is_flat (bound c) (parts_of r here-element c)
+  element-fine (role.Format g) k = format-gives good (of_format g) (flow_all nodes) (flow-fine nodes all) c f
+  element-fine (role.Element g) k = format-gives good (of_element g) (flow_all nodes) (flow-fine nodes all) c f
+  element-fine role.Code k = flow-fine nodes all (in_code c) f
+  element-fine role.Typed k = flow-fine nodes all (in_code c) f
+  element-fine role.Link k = links
+  element-fine role.Unlinked k = unlinked-gives good (flow_all nodes) (flow-fine nodes all) c f
+  element-fine role.Target k = here
+  element-fine role.Plain k = here
+  element-fine role.Apart k = between-fine (space ∷ []) nodes all space-run c f
+  element-fine role.LineBreak k = break-fine c.is_flat
+    where
+      break-fine : (flat : Bool) → FineParts flat (bound c) (break ∷ [])
+      break-fine true = (tt, tt, tt)
+      break-fine false = (tt, tt, tt)
+  element-fine role.Input k =
+      fine-append c.is_flat (bound c) (box_parts attributes) (flow_all nodes c)
+      (box-fine c.is_flat (bound c) attributes) here
+  element-fine role.Anchors k = absurd k
+  element-fine (role.Heading level) k = heading-parts-fine level facts nodes k all c f
+  element-fine role.Preformatted k = verbatim-fine attributes content text c f
+  element-fine role.Verbatim k = verbatim-fine attributes content text c f
+  element-fine role.BlockQuote k = quote-parts-fine nodes all c f
+  element-fine role.ThematicBreak k =
+      fine-whole c.is_flat (bound c) thematic_break (tt, omega arith)
+  element-fine role.BulletList k = list-parts-fine None nodes all c f
+  element-fine role.NumberedList k = list-parts-fine (Some (start_of attributes)) nodes all c f
+  element-fine role.Terms k = term-parts-fine terms nodes parts all c f
+  element-fine role.Table k = table-parts-fine (list_of content) nodes rows all table c f
+  element-fine role.Division k = near
+  element-fine role.Figure k = near
+  element-fine role.Cell k = near
+  element-fine r k = blocks

@@ -1,7 +1,7 @@
 -- Tables of normal documents.
-use Rattle.std.proofs.Common.{◌≡◌, ℕ, zero, suc, ◌+◌, ◌-◌, ◌≤◌, Bool, true, false, cond, ◌&&◌, ◌||◌, List, [], ◌∷◌}
-use Rattle.std.proofs.Common.{◌++◌, not, ◌⊎◌, inl, inr}
-use Rattle.std.proofs.Common.{map, filter, refl, sym, ap, ◌∙◌, arith, length, fold, max, min, take, replicate}
+use Rattle.std.proofs.Common.{◌≡◌, ℕ, zero, suc, ◌+◌, ◌-◌, ◌≤◌, Bool, true, false, cond, ◌||◌, List, [], ◌∷◌}
+use Rattle.std.proofs.Common.{◌++◌, ◌⊎◌, inl, inr}
+use Rattle.std.proofs.Common.{map, refl, sym, ap, ◌∙◌, arith, length, fold, max, min, take, replicate}
 use Rattle.std.proofs.Common.{Option, Some, None}
 use Rattle.std.specs.Prelude.{◌==◌, nat_le, nat_lt}
 use Rattle.std.specs.List.{list_any, list_all}
@@ -11,21 +11,21 @@ use Rattle.htmd_lexical.proofs.Cases.{test}
 use Rattle.htmd_document.specs.declared.document.Alignment.{Alignment}
 use Rattle.htmd_document.specs.declared.document.Alignment.TheVariants as align
 use Rattle.htmd_document.specs.Documents.{Inlines, no_inlines, inline, Block}
-use Rattle.htmd_document_of_tree.specs.Grids.{Cell, Row, filled, filled_all, shapes_of, contents_of, is_too_large, grid}
-use Rattle.htmd_document_of_tree.specs.Grids.{is_empty_cell, trimmed, width, padded, aligned, table_of}
-use Rattle.htmd_document_of_tree.specs.Grids.{table_if_filled}
+use Rattle.htmd_flow.specs.Grids.{Cell, Row, filled, filled_all, shapes_of, contents_of, is_too_large, grid}
+use Rattle.htmd_flow.specs.Grids.{with_cell, trimmed_row, width, padded, body, aligned, table_in}
+use Rattle.htmd_flow.specs.Grids.{table_of_all, table_of_rows, alignments_of, begins_with_header}
 use Rattle.htmd_document.specs.NormalInlines.{is_normal_line, anchors_stand_well}
 use Rattle.htmd_document.specs.NormalDocuments.{has_cell, ends_filled, are_normal_cells, is_normal_row}
 use Rattle.htmd_document.specs.NormalDocuments.{has_right_length, is_normal_table}
-use Rattle.htmd_law_documents.proofs.BareLemmas.{IsBareLine, bare-well}
+use Rattle.htmd_law_documents.proofs.NormalStandLemmas.{stand-well}
 use Rattle.htmd_law_documents.proofs.NormalTextLemmas.{and-true, false-true}
-use Rattle.htmd_law_documents.proofs.NormalBlockLemmas.{Fine}
+use Rattle.htmd_law_documents.proofs.NormalBlockLemmas.{IsLineWell, Fine}
 
 -- ---- cells
 
 abbrev pub AreLines : List Inlines → Type 0
 AreLines [] = Unit {0}
-AreLines (cell ∷ cells) = IsBareLine cell × AreLines cells
+AreLines (cell ∷ cells) = IsLineWell cell × AreLines cells
 
 abbrev pub AllLines : List (List Inlines) → Type 0
 AllLines [] = Unit {0}
@@ -33,14 +33,14 @@ AllLines (row ∷ rows) = AreLines row × AllLines rows
 
 abbrev pub FineCells : List Cell → Type 0
 FineCells [] = Unit {0}
-FineCells (c ∷ cells) = IsBareLine c.content × FineCells cells
+FineCells (c ∷ cells) = IsLineWell c.content × FineCells cells
 
 abbrev pub FineRows : List Row → Type 0
 FineRows [] = Unit {0}
 FineRows (row ∷ rows) = FineCells row.cells × FineRows rows
 
-empty-line : IsBareLine no_inlines
-empty-line = (refl, refl)
+empty-line : IsLineWell no_inlines
+empty-line = (refl, tt)
 
 filled-lines : (begins : List Bool) (cells : List Cell) → FineCells cells → AreLines (filled begins cells)
 filled-lines [] cells h = tt
@@ -77,7 +77,7 @@ lines-normal cells h = and-true (normal cells h) (well cells h)
 
     well : (cells : List Inlines) → AreLines cells → list_all anchors_stand_well cells ≡ true
     well [] h = refl
-    well (cell ∷ cells) h = and-true (bare-well cell h.0.1) (well cells h.1)
+    well (cell ∷ cells) h = and-true (stand-well cell h.0.1) (well cells h.1)
 
 -- ---- rows without the empty cells at their ends
 
@@ -90,18 +90,18 @@ abbrev AllTrimmed : List (List Inlines) → Type 0
 AllTrimmed [] = Unit {0}
 AllTrimmed (row ∷ rows) = IsTrimmed row × AllTrimmed rows
 
-trimmed-row : (cells : List Inlines) → AreLines cells → IsTrimmed (trimmed cells)
+trimmed-row : (cells : List Inlines) → AreLines cells → IsTrimmed (trimmed_row cells)
 trimmed-row [] h = record { lines = tt; ends = λ e. false-true e }
-trimmed-row (cell ∷ cells) h = at cell (trimmed cells) h.0 (trimmed-row cells h.1)
+trimmed-row (cell ∷ cells) h = at cell (trimmed_row cells) h.0 (trimmed-row cells h.1)
   where
-    at : (cell : Inlines) (rest : List Inlines) → IsBareLine cell → IsTrimmed rest
-        → IsTrimmed (cond (is_empty_cell cell && not (has_cell rest)) [] (cell ∷ rest))
+    at : (cell : Inlines) (rest : List Inlines) → IsLineWell cell → IsTrimmed rest
+        → IsTrimmed (with_cell cell rest)
     at no_inlines [] l t = record { lines = tt; ends = λ e. false-true e }
     at (inline x xs) [] l t = record { lines = (l, tt); ends = λ e. refl }
     at no_inlines (next ∷ rest) l t = record { lines = (l, t.lines); ends = λ e. t.ends refl }
     at (inline x xs) (next ∷ rest) l t = record { lines = (l, t.lines); ends = λ e. t.ends refl }
 
-all-trimmed : (rows : List (List Inlines)) → AllLines rows → AllTrimmed (map trimmed rows)
+all-trimmed : (rows : List (List Inlines)) → AllLines rows → AllTrimmed (map trimmed_row rows)
 all-trimmed [] h = tt
 all-trimmed (row ∷ rows) h = (trimmed-row row h.0, all-trimmed rows h.1)
 
@@ -187,12 +187,28 @@ padded-whole n cells e =
     none : (k n : ℕ) → k ≡ n → n - k ≡ 0
     none k n e = omega arith
 
+-- an empty row is left out, and no other
+body-empty : (rows : List (List Inlines)) → body ([] ∷ rows) ≡ body rows
+body-empty rows = ap (λ b. cond b ([] ∷ body rows) (body rows)) none
+  where
+    none : nat_lt 0 0 ≡ false
+    none = grind (arith, nat_tests)
+
+body-filled : (cell : Inlines) (cells : List Inlines) (rows : List (List Inlines))
+    → body ((cell ∷ cells) ∷ rows) ≡ (cell ∷ cells) ∷ body rows
+body-filled cell cells rows =
+    ap (λ b. cond b ((cell ∷ cells) ∷ body rows) (body rows)) (some (length cells))
+  where
+    some : (n : ℕ) → nat_lt 0 (suc n) ≡ true
+    some n = grind (arith, nat_tests)
+
 body-rows : (n : ℕ) (rows : List (List Inlines)) → AreWithin n rows → AllTrimmed rows
-    → list_all (is_normal_row n) (filter has_cell rows) ≡ true
+    → list_all (is_normal_row n) (body rows) ≡ true
 body-rows n [] w h = refl
-body-rows n ([] ∷ rows) w h = body-rows n rows w.1 h.1
+body-rows n ([] ∷ rows) w h = ap (list_all (is_normal_row n)) (body-empty rows) ∙ body-rows n rows w.1 h.1
 body-rows n ((cell ∷ cells) ∷ rows) w h =
-    and-true (and-true (and-true (within (length (cell ∷ cells)) n w.0) (h.0.ends refl))
+    ap (list_all (is_normal_row n)) (body-filled cell cells rows)
+    ∙ and-true (and-true (and-true (within (length (cell ∷ cells)) n w.0) (h.0.ends refl))
     (lines-normal (cell ∷ cells) h.0.lines))
     (body-rows n rows w.1 h.1)
   where
@@ -201,18 +217,22 @@ body-rows n ((cell ∷ cells) ∷ rows) w h =
 
 -- the longest row stays, as it isn't empty
 reached-stays : (n : ℕ) (rows : List (List Inlines)) → 1 ≤ n → IsReached n rows
-    → IsReached n (filter has_cell rows)
+    → IsReached n (body rows)
 reached-stays n [] l h = false-true h
-reached-stays n ([] ∷ rows) l h = reached-stays n rows l (sym (ap (λ b. b || longer) (short n l)) ∙ h)
+reached-stays n ([] ∷ rows) l h =
+    ap (list_any (λ row. length row == n)) (body-empty rows)
+    ∙ reached-stays n rows l (sym (ap (λ b. b || longer) (short n l)) ∙ h)
   where
     longer : Bool
     longer = list_any (λ row. length row == n) rows
 
     short : (n : ℕ) → 1 ≤ n → (0 == n) ≡ false
     short n l = grind (arith, nat_tests)
-reached-stays n ((cell ∷ cells) ∷ rows) l h = test (length (cell ∷ cells) == n)
-    (λ e. ap (λ b. b || list_any (λ row. length row == n) (filter has_cell rows)) e)
-    (λ e. ap (λ b. b || list_any (λ row. length row == n) (filter has_cell rows)) e
+reached-stays n ((cell ∷ cells) ∷ rows) l h =
+    ap (list_any (λ row. length row == n)) (body-filled cell cells rows)
+    ∙ test (length (cell ∷ cells) == n)
+    (λ e. ap (λ b. b || list_any (λ row. length row == n) (body rows)) e)
+    (λ e. ap (λ b. b || list_any (λ row. length row == n) (body rows)) e
     ∙ reached-stays n rows l (sym (ap (λ b. b || list_any (λ row. length row == n) rows) e) ∙ h))
 
 aligned-length : (n : ℕ) (alignments : List Alignment) → length (aligned n alignments) ≡ n
@@ -235,22 +255,22 @@ IsAsLong n header rows = (length header ≡ n) ⊎ IsReached n rows
 
 right-length : (n : ℕ) (header : List Inlines) (rows : List (List Inlines)) → 1 ≤ n → length header ≤ n
     → IsTrimmed header → IsAsLong n header rows
-    → has_right_length (padded n header) (filter has_cell rows) ≡ true
+    → has_right_length (padded n header) (body rows) ≡ true
 right-length n header rows l m h (inl e) =
-    ap (λ cells. has_right_length cells (filter has_cell rows)) (padded-whole n header e)
-    ∙ ap (λ b. b || list_any (λ cells. length cells == length header) (filter has_cell rows))
+    ap (λ cells. has_right_length cells (body rows)) (padded-whole n header e)
+    ∙ ap (λ b. b || list_any (λ cells. length cells == length header) (body rows))
     (h.ends (has-some header (least n (length header) e l)))
   where
     least : (n k : ℕ) → k ≡ n → 1 ≤ n → 1 ≤ k
     least n k e l = omega arith
 right-length n header rows l m h (inr e) =
     later (ends_filled (padded n header))
-    (ap (λ k. list_any (λ cells. length cells == k) (filter has_cell rows)) (padded-length n header m)
+    (ap (λ k. list_any (λ cells. length cells == k) (body rows)) (padded-length n header m)
     ∙ reached-stays n rows l e)
 
 table-made : (n : ℕ) (alignments : List Alignment) (header : List Inlines) (rows : List (List Inlines)) → 1 ≤ n
     → length header ≤ n → IsTrimmed header → AreWithin n rows → AllTrimmed rows → IsAsLong n header rows
-    → is_normal_table (aligned n alignments) (padded n header) (filter has_cell rows) ≡ true
+    → is_normal_table (aligned n alignments) (padded n header) (body rows) ≡ true
 table-made n alignments header rows l m h w a r =
     let columns : length (padded n header) ≡ n = padded-length n header m in
     let lines : AreLines (padded n header) =
@@ -258,7 +278,7 @@ table-made n alignments header rows l m h w a r =
     and-true (and-true (and-true (and-true (has-some (padded n header) (least n (length (padded n header)) columns l))
     (equal (length (aligned n alignments)) (length (padded n header)) (aligned-length n alignments ∙ sym columns)))
     (lines-normal (padded n header) lines))
-    (ap (λ k. list_all (is_normal_row k) (filter has_cell rows)) columns ∙ body-rows n rows w a))
+    (ap (λ k. list_all (is_normal_row k) (body rows)) columns ∙ body-rows n rows w a))
     (right-length n header rows l m h r)
   where
     least : (n k : ℕ) → k ≡ n → 1 ≤ n → 1 ≤ k
@@ -290,8 +310,11 @@ width-reached rows l = at (wider-reached rows 0)
     at (inr h) = h
 
 table-of : (n : ℕ) (alignments : List Alignment) (has_header : Bool) (rows : List (List Inlines)) → AllTrimmed rows
-    → 1 ≤ width rows → FineOption n (table_of alignments has_header rows)
-table-of n alignments has_header [] h l = tt
+    → 1 ≤ width rows → Fine n false (table_in (width rows) alignments has_header rows)
+table-of n alignments has_header [] h l = absurd (none l)
+  where
+    none : 1 ≤ 0 → ⊥
+    none l = omega arith
 table-of n alignments true (first ∷ rest) h l =
     let within : AreWithin (width (first ∷ rest)) (first ∷ rest) = wider-within (first ∷ rest) 0 in
     let long = first-or-later (width (first ∷ rest)) first rest (width-reached (first ∷ rest) l) in
@@ -304,17 +327,24 @@ table-of n alignments false (first ∷ rest) h l =
       omega arith,
     )
 
-pub table-fine : (n : ℕ) (alignments : List Alignment) (has_header : Bool) (rows : List Row) → FineRows rows
-    → FineOption n (table_if_filled alignments has_header (grid rows))
-table-fine n alignments has_header rows h =
-    let lines : List (List Inlines) = map trimmed (grid rows) in
-    either (nat_lt 0 (width lines)) (λ e. table-of n alignments has_header lines
-    (all-trimmed (grid rows) (grid-lines rows h)) (some (width lines) e))
+table-all-fine : (n : ℕ) (alignments : List Alignment) (has_header : Bool) (rows : List (List Inlines))
+    → AllLines rows → FineOption n (table_of_all alignments has_header rows)
+table-all-fine n alignments has_header rows h =
+    let lines : List (List Inlines) = map trimmed_row rows in
+    either (width lines == 0) (λ e. table-of n alignments has_header lines (all-trimmed rows h) (some (width lines) e))
   where
-    some : (k : ℕ) → nat_lt 0 k ≡ true → 1 ≤ k
+    some : (k : ℕ) → (k == 0) ≡ false → 1 ≤ k
     some k e = grind (arith, nat_tests)
 
-    either : (b : Bool) → (b ≡ true → FineOption n (table_of alignments has_header (map trimmed (grid rows))))
-        → FineOption n (cond b (table_of alignments has_header (map trimmed (grid rows))) None)
-    either true f = f refl
-    either false f = tt
+    made : Block
+    made = table_in (width (map trimmed_row rows)) alignments has_header (map trimmed_row rows)
+
+    either : (b : Bool) → (b ≡ false → Fine n false made) → FineOption n (cond b None (Some made))
+    either true f = tt
+    either false f = f refl
+
+pub table-fine : (n : ℕ) (rows : List Row) → FineRows rows → FineOption n (table_of_rows rows)
+table-fine n [] h = tt
+table-fine n (first ∷ rows) h =
+    table-all-fine n (alignments_of first) (begins_with_header first) (grid (first ∷ rows))
+    (grid-lines (first ∷ rows) h)

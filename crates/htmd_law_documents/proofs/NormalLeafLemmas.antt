@@ -1,6 +1,6 @@
 -- Inlines of normal documents: one more leaf, and what stands before it.
 use Rattle.std.proofs.Common.{◌≡◌, ℕ, Bool, true, false, not, ◌&&◌, List, [], ◌∷◌, ◌++◌}
-use Rattle.std.proofs.Common.{map, refl, sym, ap, ◌∙◌, Option, Some, None}
+use Rattle.std.proofs.Common.{map, fold, refl, sym, ap, ◌∙◌, Option, Some, None}
 use Rattle.htmd_lexical.specs.Characters.{space}
 use Rattle.htmd_lexical.specs.CharacterClasses.{first_is}
 use Rattle.htmd_document.specs.Formats.{Format}
@@ -8,27 +8,29 @@ use Rattle.htmd_document.specs.Documents.{Inline, text, code, image, line_break,
 use Rattle.htmd_document.specs.Documents.{anchor}
 use Rattle.htmd_document.specs.Documents.{inline}
 use Rattle.htmd_document.specs.Documents as value
-use Rattle.htmd_document_of_tree.specs.Nesting.{Wrapper, wrapper_of, wrapped_by, wrapped, one_inline, is_apart, met}
-use Rattle.htmd_document_of_tree.specs.Nesting.{joined}
-use Rattle.htmd_document_of_tree.specs.NestViews.{followed}
-use Rattle.htmd_document_of_tree.specs.Parts.{Around, formatted, linked}
-use Rattle.htmd_document_of_tree.specs.Spaces as spaces
-use Rattle.htmd_document_of_tree.proofs.NestingLemmas.{joined-apart, apart-wrapped}
-use Rattle.htmd_document_of_tree.proofs.NestingLemmas.{followed-assoc, joined-texts}
+use Rattle.htmd_flow.specs.Nesting.{Wrapper, wrapper_of, wrapped_by, wrapped, one_inline, is_apart, met}
+use Rattle.htmd_flow.specs.Nesting.{joined}
+use Rattle.htmd_flow.specs.NestViews.{followed}
+use Rattle.htmd_flow.specs.Parts.{Around, formatted, linked}
+use Rattle.htmd_shown.specs.Spaces as spaces
+use Rattle.htmd_flow.proofs.NestingLemmas.{joined-apart, apart-wrapped}
+use Rattle.htmd_flow.proofs.NestingLemmas.{followed-assoc, joined-texts}
 use Rattle.htmd_document.specs.NormalInlines.{is_attribute, is_title, is_line, is_text, is_trimmed, Sort, words}
 use Rattle.htmd_document.specs.NormalInlines.{of_format, breaks, others, sort, is_same_sort, is_code, is_break}
-use Rattle.htmd_document.specs.NormalInlines.{begins_with_space, ends_with_space, may_meet}
+use Rattle.htmd_document.specs.NormalInlines.{begins_with_space, ends_with_space, may_meet, is_anchor}
 use Rattle.htmd_document.specs.NormalInlines.{is_normal}
 use Rattle.htmd_law_documents.proofs.VisibleLemmas.{both-true}
-use Rattle.htmd_law_documents.proofs.NormalTextLemmas.{and-true, and-false, true-false, false-true}
+use Rattle.htmd_law_documents.proofs.NormalTextLemmas.{and-true, and-false, or-false, not-false, true-false, false-true}
 use Rattle.htmd_law_documents.proofs.NormalTextLemmas.{ends-same, ends-more, first-append}
 use Rattle.htmd_law_documents.proofs.NormalTextLemmas.{from-text, text-append, trimmed-text, from-trimmed}
 use Rattle.htmd_law_documents.proofs.NormalLineLemmas.{is_clash, may-meet, Ends, ends-other, ends-as}
-use Rattle.htmd_document_of_tree.proofs.NestLemmas.{joined-last}
+use Rattle.htmd_flow.proofs.NestLemmas.{joined-last}
 use Rattle.htmd_law_documents.proofs.NormalLineLemmas.{ends-more as ends-beside, text-like, in_link}
 use Rattle.htmd_law_documents.proofs.NormalLineLemmas.{formats_in, FitAll, Apart, is_leaf, IsLast, Held}
-use Rattle.htmd_law_documents.proofs.NormalLineLemmas.{IsStop, held-stop, wrapped-begins, wrapped-no_break}
+use Rattle.htmd_law_documents.proofs.NormalLineLemmas.{IsStop, held-stop, IsShut, wrapped-begins, wrapped-no_break}
 use Rattle.htmd_law_documents.proofs.NormalLineLemmas.{leaf-no_break, leaf-no_clash}
+use Rattle.htmd_law_documents.proofs.NormalStandLemmas.{IsSolid, StandsOne, Stands, ShowsNext, joined-stands}
+use Rattle.htmd_law_documents.proofs.NormalStandLemmas.{wrapped-plain, wrapped-solid, wrapped-one}
 
 -- ---- leaves
 
@@ -46,7 +48,7 @@ IsLeaf k (image address title description) =
     (k ≡ false) × (is_attribute address ≡ true) × (is_title title ≡ true) × (is_line description ≡ true)
 IsLeaf k _ = ⊥
 
-word-code : (s : List ℕ) → IsWord s → (is_text s && is_trimmed s) ≡ true
+pub word-code : (s : List ℕ) → IsWord s → (is_text s && is_trimmed s) ≡ true
 word-code s h = and-true h.text (trimmed-text s h.begins h.ends)
 
 pub leaf-begins : (k : Bool) (y : Inline) → IsLeaf k y → begins_with_space y ≡ false
@@ -369,3 +371,147 @@ code-put l r xs s t held e h =
           (joined-texts xs true s t) after.1,
       leaf-last true (code after.0) (refl, after.2),
     )
+
+-- ---- anchors
+
+-- an id in one line
+abbrev pub IsId : List ℕ → Type 0
+IsId id = (is_text id && is_trimmed id) ≡ true
+
+abbrev pub AllIds : List (List ℕ) → Type 0
+AllIds [] = Unit {0}
+AllIds (id ∷ ids) = IsId id × AllIds ids
+
+-- inlines, and then anchors
+abbrev pub with_ids : Inlines → List (List ℕ) → Inlines
+with_ids xs ids = fold (λ ys id. joined ys (anchor id)) xs ids
+
+before-anchor : (x : Inline) (id : List ℕ) → may_meet x (anchor id) ≡ true
+before-anchor x id = may-meet x (anchor id)
+    (ap (λ b. b && not (is_code x && true) && not (false && not (is_code x))) (no-others (sort x)))
+    (and-false (ends_with_space x) refl) (and-false (is_break x) refl)
+
+module _ (r : List Format) where
+  ids-end : (ids : List (List ℕ)) (xs : Inlines) (i : List ℕ) → Ends false r xs (anchor i) → IsId i
+      → AllIds ids
+      → (j : List ℕ) × Ends false r (with_ids xs ids) (anchor j) × IsId j
+  ids-end [] xs i e h all = (i, e, h)
+  ids-end (id ∷ ids) xs i e h all =
+      ids-end ids (joined xs (anchor id)) id
+      (apart-after false r xs (anchor i) (anchor id) e h refl (before-anchor (anchor i) id)) all.0 all.1
+
+  -- after what there is
+  ids-after : (id : List ℕ) (ids : List (List ℕ)) (xs : Inlines) (x : Inline) → Ends false r xs x
+      → is_normal false r x ≡ true → AllIds (id ∷ ids)
+      → (j : List ℕ) × Ends false r (with_ids xs (id ∷ ids)) (anchor j) × IsId j
+  ids-after id ids xs x e n all =
+      ids-end ids (joined xs (anchor id)) id
+      (apart-after false r xs x (anchor id) e n refl (before-anchor x id)) all.0 all.1
+
+  -- first
+  pub ids-first : (id : List ℕ) (ids : List (List ℕ)) → AllIds (id ∷ ids)
+      → (j : List ℕ) × Ends false r (with_ids no_inlines (id ∷ ids)) (anchor j) × IsId j
+  ids-first id ids all = ids-end ids (one_inline (anchor id)) id (one-ends false r (anchor id)) all.0 all.1
+
+  -- a leaf right after anchors
+  pub anchor-put : (h : Bool) (xs : Inlines) (around : List Around) (y : Inline) (j : List ℕ)
+      → Ends false r xs (anchor j) → IsId j → FitAll false r around → IsLeaf h y
+      → Held h false r (map wrapper_of around) (joined xs (wrapped around y))
+  anchor-put h xs around y j e i f leaf =
+      put-after h false r xs (anchor j) around y e i f leaf (leaf-differs (anchor j) around refl)
+
+  pub ids-put : (h : Bool) (xs : Inlines) (x : Inline) (around : List Around) (id : List ℕ) (ids : List (List ℕ))
+      (y : Inline) → Ends false r xs x → is_normal false r x ≡ true → FitAll false r around
+      → AllIds (id ∷ ids)
+      → IsLeaf h y
+      → Held h false r (map wrapper_of around) (joined (with_ids xs (id ∷ ids)) (wrapped around y))
+  ids-put h xs x around id ids y e n f all leaf =
+      let last = ids-after id ids xs x e n all in
+      anchor-put h (with_ids xs (id ∷ ids)) around y last.0 last.1 last.2 f leaf
+
+  -- a gap, anchors and a leaf
+  pub wait-put : (h : Bool) (xs : Inlines) (x : Inline) (around : List Around) (g : Option Inline) (id : List ℕ)
+      (ids : List (List ℕ)) (y : Inline) → Ends false r xs x → IsShut false r x → FitAll false r around
+      → IsGap g
+      → AllIds (id ∷ ids) → IsLeaf h y
+      → Held h false r (map wrapper_of around) (joined (with_ids (gapped xs g) (id ∷ ids)) (wrapped around y))
+  wait-put h xs x around None id ids y e s f g all leaf = ids-put h xs x around id ids y e s.normal f all leaf
+  wait-put h xs x around (Some (text t)) id ids y e s f g all leaf =
+      let after = text-after false r xs x e s.normal t g (ap (λ b. b && first_is space t) s.no_space)
+      (ap (λ b. b && first_is space t) s.no_break) in
+      ids-put h (joined xs (text t)) (text after.0) around id ids y after.1 after.2 f all leaf
+  wait-put h xs x around (Some line_break) id ids y e s f g all leaf =
+      ids-put h (joined xs line_break) line_break around id ids y
+      (apart-after false r xs x line_break e s.normal refl (before-break x s.no_space s.no_break)) refl f all leaf
+  wait-put h xs x around (Some (code t)) id ids y e s f g all leaf = absurd g
+  wait-put h xs x around (Some (value.formatted f' ys)) id ids y e s f g all leaf = absurd g
+  wait-put h xs x around (Some (link a t ys)) id ids y e s f g all leaf = absurd g
+  wait-put h xs x around (Some (image a t d)) id ids y e s f g all leaf = absurd g
+  wait-put h xs x around (Some (anchor i)) id ids y e s f g all leaf = absurd g
+  wait-put h xs x around (Some (task b)) id ids y e s f g all leaf = absurd g
+
+-- ---- where anchors stand
+
+-- what a leaf is like after an anchor
+pub record IsShown (y : Inline) : Type 0 where
+  pub plain : is_anchor y ≡ false
+  pub one : StandsOne y
+  pub solid : IsSolid y
+
+pub leaf-shown : (k : Bool) (y : Inline) → IsLeaf k y → IsShown y
+leaf-shown k (text s) h = record {
+  plain = refl;
+  one = tt;
+  solid = (or-false refl h.1.begins, not-false (from-text s h.1.text).some);
+}
+leaf-shown k (code s) h = record { plain = refl; one = tt; solid = (refl, refl) }
+leaf-shown k (image a t d) h = record { plain = refl; one = tt; solid = (refl, refl) }
+leaf-shown k (anchor i) h = absurd h
+leaf-shown k (value.formatted f xs) h = absurd h
+leaf-shown k (link a t xs) h = absurd h
+leaf-shown k line_break h = absurd h
+leaf-shown k (task b) h = absurd h
+
+-- what goes between has no anchor in it
+abbrev pub IsBetween : Option Inline → Type 0
+IsBetween None = Unit {0}
+IsBetween (Some g) = (is_anchor g ≡ false) × StandsOne g
+
+pub gap-between : (g : Option Inline) → IsGap g → IsBetween g
+gap-between None h = tt
+gap-between (Some (text s)) h = (refl, tt)
+gap-between (Some line_break) h = (refl, tt)
+gap-between (Some (code s)) h = absurd h
+gap-between (Some (value.formatted f xs)) h = absurd h
+gap-between (Some (link a t xs)) h = absurd h
+gap-between (Some (image a t d)) h = absurd h
+gap-between (Some (anchor i)) h = absurd h
+gap-between (Some (task b)) h = absurd h
+
+gapped-stands : (xs : Inlines) (g : Option Inline) → Stands false xs → IsBetween g → Stands false (gapped xs g)
+gapped-stands xs None h b = h
+gapped-stands xs (Some g) h b =
+    joined-stands false false xs g h b.1 (λ e. false-true e) (λ a. true-false (sym a ∙ b.0))
+
+stands-weak : (xs : Inlines) → Stands false xs → Stands true xs
+stands-weak no_inlines h = tt
+stands-weak (inline x rest) h = (h.0, λ a. weak rest (h.1 a), stands-weak rest h.2)
+  where
+    weak : (rest : Inlines) → ShowsNext false rest → ShowsNext true rest
+    weak no_inlines h = refl
+    weak (inline y ys) h = h
+
+ids-stand : (ids : List (List ℕ)) (xs : Inlines) → Stands true xs → Stands true (with_ids xs ids)
+ids-stand [] xs h = h
+ids-stand (id ∷ ids) xs h =
+    ids-stand ids (joined xs (anchor id))
+    (joined-stands true true xs (anchor id) h tt (λ e. (refl, refl)) (λ a. refl))
+
+pub put-stands : (xs : Inlines) (around : List Around) (g : Option Inline) (ids : List (List ℕ)) (y : Inline)
+    → IsBetween g → IsShown y → Stands false xs
+    → Stands false (joined (with_ids (gapped xs g) ids) (wrapped around y))
+put-stands xs around g ids y b s h =
+    joined-stands true false (with_ids (gapped xs g) ids) (wrapped around y)
+    (ids-stand ids (gapped xs g) (stands-weak (gapped xs g) (gapped-stands xs g h b)))
+    (wrapped-one around y s.plain s.one) (λ e. wrapped-solid around y s.solid)
+    (λ a. true-false (sym a ∙ wrapped-plain around y s.plain))

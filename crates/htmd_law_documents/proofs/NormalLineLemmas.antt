@@ -7,16 +7,14 @@ use Rattle.htmd_document.specs.Documents.{Inline, text, code, image, line_break,
 use Rattle.htmd_document.specs.Documents.{anchor}
 use Rattle.htmd_document.specs.Documents.{inline}
 use Rattle.htmd_document.specs.Documents as value
-use Rattle.htmd_document_of_tree.specs.Nesting.{Wrapper, of_format, of_link, wrapper_of, is_same, shared, wrapped_by}
-use Rattle.htmd_document_of_tree.specs.Nesting.{wrapped}
-use Rattle.htmd_document_of_tree.specs.Nesting.{one_inline, is_apart, in_last, with_content, behind}
-use Rattle.htmd_document_of_tree.specs.Nesting.{text_or_code}
-use Rattle.htmd_document_of_tree.specs.NestViews.{followed}
-use Rattle.htmd_document_of_tree.specs.Parts.{Around, formatted, linked}
+use Rattle.htmd_flow.specs.Nesting.{Wrapper, of_format, of_link, wrapper_of, is_same, wrapped_by}
+use Rattle.htmd_flow.specs.Nesting.{one_inline, before_link}
+use Rattle.htmd_flow.specs.NestViews.{followed}
+use Rattle.htmd_flow.specs.Parts.{Around, formatted, linked}
 use Rattle.htmd_document.specs.NormalInlines.{is_attribute, is_title}
 use Rattle.htmd_document.specs.NormalInlines.{sort, is_same_sort, is_code, is_break}
 use Rattle.htmd_document.specs.NormalInlines.{begins_with_space, ends_with_space, may_meet, has_none}
-use Rattle.htmd_document.specs.NormalInlines.{first_passes, last_passes, is_around, is_barred, is_normal}
+use Rattle.htmd_document.specs.NormalInlines.{first_passes, last_passes, is_barred, is_normal}
 use Rattle.htmd_document.specs.NormalInlines.{are_normal}
 use Rattle.htmd_law_documents.proofs.VisibleLemmas.{both-true}
 use Rattle.htmd_law_documents.proofs.NormalTextLemmas.{and-true, not-false, false-true}
@@ -128,9 +126,6 @@ pub text-like : (s t : List ℕ) → is_empty s ≡ false → (z : Inline) → m
 text-like s t e z h = subst (λ (b : Bool). not (is_clash z (text s)) && not (ends_with_space z && false)
     && not (is_break z && b) ≡ true) (sym (first-append s t e)) h
 
-code-like : (s t : List ℕ) (z : Inline) → may_meet z (code s) ≡ true → may_meet z (code t) ≡ true
-code-like s t z h = h
-
 -- ---- what stands around
 
 -- whether a link stands around what is in it, and which formats do
@@ -142,9 +137,9 @@ abbrev pub formats_in : List Format → Wrapper → List Format
 formats_in r (of_format f) = f ∷ r
 formats_in r (of_link node) = r
 
--- a format that isn't there yet, or a link where none is
+-- a format that may stand there, or a link where none is
 abbrev pub Fits : Bool → List Format → Around → Type 0
-Fits l r (formatted f) = (is_around r f ≡ false) × (is_barred r f ≡ false)
+Fits l r (formatted f) = is_barred r f ≡ false
 Fits l r (linked node address title) = (l ≡ false) × (is_attribute address ≡ true) × (is_title title ≡ true)
 
 abbrev pub FitAll : Bool → List Format → List Around → Type 0
@@ -160,7 +155,7 @@ pub wrapped-normal : (l : Bool) (r : List Format) (a : Around) (content : Inline
 wrapped-normal l r (formatted f) content g n b c e d h =
     let trimmed = and-true (not-false b) (not-false e) in
     let whole = and-true (and-true trimmed (not-false c)) (not-false d) in
-    and-true (and-true (and-true (not-false g.1) (not-false n)) whole) h
+    and-true (and-true (and-true (not-false g) (not-false n)) whole) h
 wrapped-normal l r (linked node address title) content g n b c e d h =
     and-true (and-true (and-true (and-true (not-false g.0) g.1) g.2) (not-false n)) h
 
@@ -202,13 +197,32 @@ pub record IsLast (k : Bool) (x : Inline) : Type 0 where
   pub no_space : ends_with_space x ≡ false
   pub kind : is_code x ≡ k
 
+-- the last inline, after which anything may stand that doesn't melt into it
+pub record IsShut (l : Bool) (r : List Format) (x : Inline) : Type 0 where
+  pub normal : is_normal l r x ≡ true
+  pub no_space : ends_with_space x ≡ false
+  pub no_break : is_break x ≡ false
+
 -- The inlines are normal, and their last one is in these wrappers from the outermost in: where the next leaf may go.
-abbrev pub Held : Bool → Bool → List Format → List Wrapper → Inlines → Type 0
-Held k l r [] xs = (x : Inline) × Ends l r xs x × IsLast k x
-Held k l r (m ∷ ms) xs =
+-- B: what the innermost last one is like.
+abbrev pub HeldBy : (Bool → List Format → Inline → Type 0) → Bool → List Format → List Wrapper → Inlines
+    → Type 0
+HeldBy B l r [] xs = (x : Inline) × Ends l r xs x × B l r x
+HeldBy B l r (m ∷ ms) xs =
     (a : Around) × (content : Inlines) × Ends l r xs (wrapped_by a content) × (wrapper_of a ≡ m) × Fits l r a
     × (first_passes begins_with_space content ≡ false) × (first_passes is_break content ≡ false)
-    × Held k (in_link l m) (formats_in r m) ms content
+    × HeldBy B (in_link l m) (formats_in r m) ms content
+
+-- it is a leaf
+abbrev pub Held : Bool → Bool → List Format → List Wrapper → Inlines → Type 0
+Held k = HeldBy (λ l r x. IsLast k x)
+
+-- it is anything
+abbrev pub Open : Bool → List Format → List Wrapper → Inlines → Type 0
+Open = HeldBy IsShut
+
+abbrev pub ShutsAll : (Bool → List Format → Inline → Type 0) → Type 0
+ShutsAll B = (l : Bool) (r : List Format) (x : Inline) → B l r x → IsShut l r x
 
 pub leaf-no_break : (x : Inline) → is_leaf x ≡ true → is_break x ≡ false
 leaf-no_break (text s) e = refl
@@ -261,24 +275,67 @@ held-inner : (l : Bool) (r : List Format) (m : Wrapper) (a : Around) (content : 
 held-inner l r m a content e f b c h = wrapped-normal l r a content f h.some b c h.no_space h.no_break
     (subst (λ (n : Wrapper). are_normal (in_link l n) (formats_in r n) content ≡ true) (sym e) h.normal)
 
-pub held-whole : (k l : Bool) (r : List Format) (ms : List Wrapper) (xs : Inlines) → Held k l r ms xs
-    → IsWhole l r xs
-held-whole k l r [] xs h = record {
-  normal = ends-normal l r xs h.0 h.1 (h.2.normal l r);
-  some = ends-some l r xs h.0 h.1;
-  no_space = ends-last l r ends_with_space xs h.0 h.1 ∙ h.2.no_space;
-  no_break = ends-last l r is_break xs h.0 h.1 ∙ leaf-no_break h.0 h.2.leaf;
-}
-held-whole k l r (m ∷ ms) xs h =
-    let x : Inline = wrapped_by h.0 h.1 in
-    let here : is_normal l r x ≡ true = held-inner l r m h.0 h.1 h.3 h.4 h.5 h.6
-    (held-whole k (in_link l m) (formats_in r m) ms h.1 h.7) in
+pub leaf-shuts : (k : Bool) → ShutsAll (λ l r x. IsLast k x)
+leaf-shuts k l r x h = record { normal = h.normal l r; no_space = h.no_space; no_break = leaf-no_break x h.leaf }
+
+pub any-shuts : ShutsAll IsShut
+any-shuts l r x h = h
+
+module _ (B : Bool → List Format → Inline → Type 0) (shuts : ShutsAll B) where
+  pub held-whole : (l : Bool) (r : List Format) (ms : List Wrapper) (xs : Inlines) → HeldBy B l r ms xs
+      → IsWhole l r xs
+  held-whole l r [] xs h =
+      let shut : IsShut l r h.0 = shuts l r h.0 h.2 in
+      record {
+        normal = ends-normal l r xs h.0 h.1 shut.normal;
+        some = ends-some l r xs h.0 h.1;
+        no_space = ends-last l r ends_with_space xs h.0 h.1 ∙ shut.no_space;
+        no_break = ends-last l r is_break xs h.0 h.1 ∙ shut.no_break;
+      }
+  held-whole l r (m ∷ ms) xs h =
+      let x : Inline = wrapped_by h.0 h.1 in
+      let here : is_normal l r x ≡ true = held-inner l r m h.0 h.1 h.3 h.4 h.5 h.6
+      (held-whole (in_link l m) (formats_in r m) ms h.1 h.7) in
+      record {
+        normal = ends-normal l r xs x h.2 here;
+        some = ends-some l r xs x h.2;
+        no_space = ends-last l r ends_with_space xs x h.2 ∙ wrapped-ends h.0 h.1;
+        no_break = ends-last l r is_break xs x h.2 ∙ wrapped-no_break h.0 h.1;
+      }
+
+  -- the last one, whatever is open
+  pub held-last : (l : Bool) (r : List Format) (ms : List Wrapper) (xs : Inlines) → HeldBy B l r ms xs
+      → (x : Inline) × Ends l r xs x × IsShut l r x
+  held-last l r [] xs h = (h.0, h.1, shuts l r h.0 h.2)
+  held-last l r (m ∷ ms) xs h = (
+    wrapped_by h.0 h.1,
+    h.2,
     record {
-      normal = ends-normal l r xs x h.2 here;
-      some = ends-some l r xs x h.2;
-      no_space = ends-last l r ends_with_space xs x h.2 ∙ wrapped-ends h.0 h.1;
-      no_break = ends-last l r is_break xs x h.2 ∙ wrapped-no_break h.0 h.1;
-    }
+      normal = held-inner l r m h.0 h.1 h.3 h.4 h.5 h.6
+          (held-whole (in_link l m) (formats_in r m) ms h.1 h.7);
+      no_space = wrapped-ends h.0 h.1;
+      no_break = wrapped-no_break h.0 h.1;
+    },
+  )
+
+  -- what is open but for a link
+  pub held-open : (l : Bool) (r : List Format) (ms : List Wrapper) (xs : Inlines) → HeldBy B l r ms xs
+      → Open l r (before_link ms) xs
+  held-open l r [] xs h = held-last l r [] xs h
+  held-open l r (of_format f ∷ ms) xs h =
+      (h.0, h.1, h.2, h.3, h.4, h.5, h.6, held-open l (f ∷ r) ms h.1 h.7)
+  held-open l r (of_link node ∷ ms) xs h = held-last l r (of_link node ∷ ms) xs h
+
+-- no link is open
+abbrev pub NoLinks : List Wrapper → Type 0
+NoLinks [] = Unit {0}
+NoLinks (of_format f ∷ ms) = NoLinks ms
+NoLinks (of_link node ∷ ms) = ⊥
+
+pub before-links : (ms : List Wrapper) → NoLinks (before_link ms)
+before-links [] = tt
+before-links (of_format f ∷ ms) = before-links ms
+before-links (of_link node ∷ ms) = tt
 
 -- the last inline, and what can come after it
 pub record IsStop (l : Bool) (r : List Format) (ms : List Wrapper) (xs : Inlines) (x : Inline) : Type 0 where
@@ -306,7 +363,7 @@ held-stop k l r (m ∷ ms) xs h = (
   record {
     ends = h.2;
     normal = held-inner l r m h.0 h.1 h.3 h.4 h.5 h.6
-        (held-whole k (in_link l m) (formats_in r m) ms h.1 h.7);
+        (held-whole (λ l' r' x. IsLast k x) (leaf-shuts k) (in_link l m) (formats_in r m) ms h.1 h.7);
     no_space = wrapped-ends h.0 h.1;
     no_break = wrapped-no_break h.0 h.1;
     apart = λ a content e. wrapped-no_clash h.0 h.1 a content (ap (λ n. is_same n (wrapper_of a)) h.3 ∙ e);

@@ -5,20 +5,21 @@ use Rattle.std.specs.Prelude.{ℤ, pos, negsuc, nat_le}
 use Rattle.std.specs.List.{list_all}
 use Rattle.std.proofs.lemmas.Bool.Decides.{nat_tests}
 use Rattle.htmd_lexical.proofs.Cases.{test}
-use Rattle.htmd_document.specs.Documents.{Items, items_of}
-use Rattle.htmd_document_of_tree.specs.Lists.{ListItem, are_filled, is_tight, is_close, is_lone}
+use Rattle.htmd_document.specs.Documents.{Items, items_of, list}
+use Rattle.htmd_flow.specs.Lists.{ListItem, are_filled, is_tight, is_close, is_lone}
 use Rattle.htmd_document.specs.TightItems.{is_filled, is_tight_item, is_short}
-use Rattle.htmd_document_of_tree.specs.Lists.{list_of, numbered, new_number, Groups, groups_at, with_number, with_item}
-use Rattle.htmd_document_of_tree.specs.Lists.{numbered_lists, lists_of, lists_if_filled, from_one, start_of}
+use Rattle.htmd_flow.specs.Lists.{list_of, numbered, new_number, Groups, groups_at, with_number, with_item}
+use Rattle.htmd_flow.specs.Lists.{numbered_lists, lists_of, lists_if_filled, from_one, start_of, greatest_in}
+use Rattle.htmd_flow.specs.Lists.{most_numbered}
 use Rattle.htmd_document.specs.DocumentLimits.{greatest_start}
-use Rattle.htmd_document_of_tree.specs.Parts.{Part}
+use Rattle.htmd_flow.specs.Parts.{Part}
 use Rattle.htmd_document.specs.NormalDocuments.{item_count, are_short_numbers, has_filled_item, are_tight}
 use Rattle.htmd_document.specs.NormalDocuments.{is_spread, has_right_distance, depth_of_items}
 use Rattle.htmd_document.specs.NormalDocuments.{depth_among}
 use Rattle.htmd_law_documents.proofs.VisibleLemmas.{both-true}
 use Rattle.htmd_law_documents.proofs.NormalTextLemmas.{and-true, not-false, false-true}
 use Rattle.htmd_law_documents.proofs.NormalBlockLemmas.{NearlyItems, FineBlocks}
-use Rattle.htmd_law_documents.proofs.NormalPartsLemmas.{FineParts, fine-append}
+use Rattle.htmd_law_documents.proofs.NormalPartsLemmas.{FineParts, fine-append, fine-whole}
 
 -- ---- items
 
@@ -97,41 +98,50 @@ from_one-short count = test (nat_le count greatest_start)
     one : (count : ℕ) → nat_le count greatest_start ≡ true → nat_le (1 + count) (greatest_start + 1) ≡ true
     one count l = grind (arith, nat_tests)
 
-start-short : (z : ℤ) (count : ℕ) → are_short_numbers (start_of z count) count ≡ true
-start-short (pos n) count = test (nat_le (n + count) (greatest_start + 1))
-    (λ e. ap (λ b. are_short_numbers (cond b (Some n) (from_one count)) count) e ∙ e)
+start-short : (nested : ℕ) (z : ℤ) (count : ℕ) → are_short_numbers (start_of nested z count) count ≡ true
+start-short nested (pos n) count = test (nat_le (n + count) (greatest_in nested + 1))
+    (λ e. ap (λ b. are_short_numbers (cond b (Some n) (from_one count)) count) e ∙ less nested (n + count) e)
     (λ e. ap (λ b. are_short_numbers (cond b (Some n) (from_one count)) count) e ∙ from_one-short count)
-start-short (negsuc n) count = from_one-short count
+  where
+    small : (k : ℕ) → nat_le k (99 + 1) ≡ true → nat_le k (greatest_start + 1) ≡ true
+    small k l = grind (arith, nat_tests)
+
+    at : (b : Bool) (k : ℕ) → nat_le k (cond b 99 greatest_start + 1) ≡ true
+        → nat_le k (greatest_start + 1) ≡ true
+    at true k l = small k l
+    at false k l = l
+
+    less : (nested k : ℕ) → nat_le k (greatest_in nested + 1) ≡ true → nat_le k (greatest_start + 1) ≡ true
+    less nested k l = at (nat_le most_numbered nested) k l
+start-short nested (negsuc n) count = from_one-short count
 
 list-fine : (n : ℕ) (start : Option ℕ) (items : List ListItem) → FineItems n items → are_filled items ≡ true
-    → are_short_numbers start (length items) ≡ true → FineParts (suc n) (list_of start items ∷ [])
+    → are_short_numbers start (length items) ≡ true → FineParts false (suc n) (list_of start items ∷ [])
 list-fine n start items h f s =
     let numbers : are_short_numbers start (item_count (inner items)) ≡ true =
-    ap (are_short_numbers start) (inner-count items) ∙ s in (
-      (
-        (and-true (and-true (inner-filled items ∙ f) numbers) (distance items f), inner-nearly n items h),
-        deeper (depth_of_items (inner items)) n (inner-depth n items h),
-      ),
-      tt,
+    ap (are_short_numbers start) (inner-count items) ∙ s in
+    fine-whole false (suc n) (list start (is_tight items) (inner items)) (
+      (and-true (and-true (inner-filled items ∙ f) numbers) (distance items f), inner-nearly n items h),
+      deeper (depth_of_items (inner items)) n (inner-depth n items h),
     )
   where
     deeper : (d n : ℕ) → d ≤ n → suc d ≤ suc n
     deeper d n l = omega arith
 
-numbered-fine : (n : ℕ) (start : ℤ) (items : List ListItem) → FineItems n items
-    → FineParts (suc n) (numbered start items)
-numbered-fine n start items h = test (are_filled items)
-    (λ e. subst (λ (b : Bool). FineParts (suc n) (cond b made [])) (sym e)
-    (list-fine n (start_of start (length items)) items h e (start-short start (length items))))
-    (λ e. subst (λ (b : Bool). FineParts (suc n) (cond b made [])) (sym e) tt)
+numbered-fine : (n nested : ℕ) (start : ℤ) (items : List ListItem) → FineItems n items
+    → FineParts false (suc n) (numbered nested start items)
+numbered-fine n nested start items h = test (are_filled items)
+    (λ e. subst (λ (b : Bool). FineParts false (suc n) (cond b made [])) (sym e)
+    (list-fine n (start_of nested start (length items)) items h e (start-short nested start (length items))))
+    (λ e. subst (λ (b : Bool). FineParts false (suc n) (cond b made [])) (sym e) tt)
   where
     made : List Part
-    made = list_of (start_of start (length items)) items ∷ []
+    made = list_of (start_of nested start (length items)) items ∷ []
 
 -- ---- groups
 
 record GroupsFine (n : ℕ) (g : Groups) : Type 0 where
-  done : FineParts (suc n) g.done
+  done : FineParts false (suc n) g.done
   group : FineItems n g.group
 
 number-fine : (o : Option ℤ) (n : ℕ) (g : Groups) (i : ListItem) → GroupsFine n g → FineBlocks n true i.blocks
@@ -141,7 +151,8 @@ number-fine None n g i h f = record {
   group = items-append n g.group (i ∷ []) h.group (f, tt);
 }
 number-fine (Some v) n g i h f = record {
-  done = fine-append (suc n) g.done (numbered g.start g.group) h.done (numbered-fine n g.start g.group h.group);
+  done = fine-append false (suc n) g.done (numbered g.nested g.start g.group) h.done
+      (numbered-fine n g.nested g.start g.group h.group);
   group = (f, tt);
 }
 
@@ -151,21 +162,22 @@ groups-fine [] n g h f = h
 groups-fine (i ∷ items) n g h f =
     groups-fine items n (with_item g i) (number-fine (new_number g.next i.value) n g i h f.0) f.1
 
-numbered_lists-fine : (n : ℕ) (start : ℤ) (items : List ListItem) → FineItems n items
-    → FineParts (suc n) (numbered_lists start items)
-numbered_lists-fine n start items h =
-    let g : Groups = fold with_item (groups_at start) items in
-    let all : GroupsFine n g = groups-fine items n (groups_at start) (record { done = tt; group = tt }) h in
-    fine-append (suc n) g.done (numbered g.start g.group) all.done (numbered-fine n g.start g.group all.group)
+numbered_lists-fine : (n nested : ℕ) (start : ℤ) (items : List ListItem) → FineItems n items
+    → FineParts false (suc n) (numbered_lists nested start items)
+numbered_lists-fine n nested start items h =
+    let g : Groups = fold with_item (groups_at nested start) items in
+    let all : GroupsFine n g = groups-fine items n (groups_at nested start) (record { done = tt; group = tt }) h in
+    fine-append false (suc n) g.done (numbered g.nested g.start g.group) all.done
+    (numbered-fine n g.nested g.start g.group all.group)
 
-lists_of-fine : (n : ℕ) (start : Option ℤ) (items : List ListItem) → FineItems n items
-    → are_filled items ≡ true → FineParts (suc n) (lists_of start items)
-lists_of-fine n None items h e = list-fine n None items h e refl
-lists_of-fine n (Some start) items h e = numbered_lists-fine n start items h
+lists_of-fine : (n nested : ℕ) (start : Option ℤ) (items : List ListItem) → FineItems n items
+    → are_filled items ≡ true → FineParts false (suc n) (lists_of nested start items)
+lists_of-fine n nested None items h e = list-fine n None items h e refl
+lists_of-fine n nested (Some start) items h e = numbered_lists-fine n nested start items h
 
-pub lists-fine : (n : ℕ) (start : Option ℤ) (items : List ListItem) → FineItems n items
-    → FineParts (suc n) (lists_if_filled start items)
-lists-fine n start items h = test (are_filled items)
-    (λ e. subst (λ (b : Bool). FineParts (suc n) (cond b (lists_of start items) [])) (sym e)
-    (lists_of-fine n start items h e))
-    (λ e. subst (λ (b : Bool). FineParts (suc n) (cond b (lists_of start items) [])) (sym e) tt)
+pub lists-fine : (n nested : ℕ) (start : Option ℤ) (items : List ListItem) → FineItems n items
+    → FineParts false (suc n) (lists_if_filled nested start items)
+lists-fine n nested start items h = test (are_filled items)
+    (λ e. subst (λ (b : Bool). FineParts false (suc n) (cond b (lists_of nested start items) [])) (sym e)
+    (lists_of-fine n nested start items h e))
+    (λ e. subst (λ (b : Bool). FineParts false (suc n) (cond b (lists_of nested start items) [])) (sym e) tt)

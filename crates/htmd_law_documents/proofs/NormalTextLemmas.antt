@@ -10,11 +10,10 @@ use Rattle.std.proofs.lemmas.Str.{IsUtf8-append, IsUtf8-from_is_utf8, is_utf8-fr
 use Rattle.htmd_lexical.specs.Characters.{space}
 use Rattle.htmd_lexical.specs.CharacterClasses.{first_is, is_empty}
 use Rattle.htmd_lexical.proofs.Cases.{test}
-use Rattle.htmd_document_of_tree.specs.Spaces.{ends_with_space}
+use Rattle.htmd_shown.specs.Spaces.{ends_with_space}
 use Rattle.htmd_document.specs.NormalInlines.{is_line_byte, is_line, has_double_space, is_text, ends_in_space}
 use Rattle.htmd_document.specs.NormalInlines.{is_trimmed}
 use Rattle.htmd_law_documents.proofs.VisibleLemmas.{both-true}
-use lib.Utf8.{encode}
 
 -- ---- tests
 

@@ -1,37 +1,42 @@
 -- Values of attributes in normal documents: addresses, titles, descriptions and languages.
 use Rattle.std.proofs.Common.{◌≡◌, ℕ, suc, ◌-◌, Bool, true, false, cond, not, ◌&&◌, ◌||◌, List, [], ◌∷◌, ◌++◌}
 use Rattle.std.proofs.Common.{filter, take, drop, length, refl, sym, ap, ◌∙◌, arith, subst, Option, Some, None, zero}
-use Rattle.std.specs.Prelude.{encode_utf8, encode_utf8_all, ◌==◌, nat_lt, codes}
-use Rattle.std.specs.List.{list_any, list_all, flat_map, prefix_len, suffix_len, slice_split, onto_first, starts_with}
+use Rattle.std.specs.Prelude.{encode_utf8, encode_utf8_all, ◌==◌, nat_lt, nat_le, codes}
+use Rattle.std.specs.List.{list_any, list_all, flat_map, prefix_len, suffix_len, slice_split, onto_first}
 use Rattle.std.specs.Option.{option_or, unwrap_or}
 use Rattle.std.specs.Str.{IsUtf8, is_utf8, chars, bytes_eq}
 use Rattle.std.proofs.lemmas.Bool.Decides.{nat_tests}
 use Rattle.std.proofs.lemmas.Str.{IsUtf8-from_is_utf8, is_utf8-from_IsUtf8, IsUtf8-take, IsUtf8-drop, IsUtf8-nil}
 use Rattle.std.proofs.lemmas.Str.{scalars-chars, encodes-chars, encode_ascii}
+use Rattle.std.proofs.lemmas.List.{append-nil}
 use Rattle.htmd_lexical.specs.Characters.{space}
+use Rattle.htmd_lexical.specs.CharacterClasses.{first_is, is_empty}
+use Rattle.htmd_shown.specs.Spaces.{ends_with_space}
 use Rattle.htmd_lexical.specs.AttributePairs.{AttributePair}
 use Rattle.htmd_lexical.specs.WhiteSpace.{is_ascii_white_space}
 use Rattle.htmd_lexical.proofs.Cases.{test}
 use Rattle.htmd_text.specs.Joins.{joined_texts}
 use Rattle.htmd_text.specs.Trims.{trimmed_start, trimmed_text}
 use Rattle.htmd_text.proofs.TrimsLemmas.{OfAscii, start_boundary, end_boundary}
-use Rattle.htmd_document_of_tree.specs.Attributes.{value_of, text_of, is_filled, words, in_line, title_of_value}
-use Rattle.htmd_document_of_tree.specs.Attributes.{title_of}
-use Rattle.htmd_document_of_tree.specs.Attributes.{is_space_or_control, is_in_address, address, is_in_name}
-use Rattle.htmd_document_of_tree.specs.Attributes.{after_beginning, if_filled, named_language, language_of_word}
-use Rattle.htmd_document_of_tree.specs.Attributes.{first_language}
-use Rattle.htmd_document_of_tree.specs.Attributes.{language_of}
-use Rattle.htmd_document_of_tree.specs.ShownTexts.{is_shown, shown_text}
+use Rattle.htmd_shown.specs.Attributes.{value_of, text_of, is_filled, words, in_line, title_of_value}
+use Rattle.htmd_shown.specs.Attributes.{title_of}
+use Rattle.htmd_shown.specs.Attributes.{is_space_or_control, is_in_address, address, is_in_name}
+use Rattle.htmd_shown.specs.SimpleTrees.{Simple}
+use Rattle.htmd_flow.specs.Languages.{longest_name, is_name, is_none, name_if, first_name, language_named, only_code}
+use Rattle.htmd_flow.specs.Languages.{found_languages, language_of_block}
+use Rattle.htmd_shown.specs.ShownTexts.{is_shown, shown_text}
 use Rattle.htmd_document.specs.NormalInlines.{is_line_byte, is_line, is_kept, is_attribute, is_title}
-use Rattle.htmd_document.specs.NormalDocuments.{is_language_byte, has_language}
+use Rattle.htmd_document.specs.NormalInlines.{has_double_space}
+use Rattle.htmd_document.specs.NormalDocuments.{is_language_byte, is_language, has_language}
 use Rattle.htmd_law_documents.specs.TreeForms.{is_text_value}
 use Rattle.htmd_law_documents.proofs.VisibleLemmas.{both-true, scalars-filter, shown-shows}
 use Rattle.htmd_law_documents.proofs.PiecesLemmas.{in_line-shows}
-use Rattle.htmd_law_documents.proofs.NormalTextLemmas.{and-true, not-false, false-true}
-use Rattle.htmd_law_documents.proofs.NormalTextLemmas.{all-append, PassesWide, encode-passes}
-use Rattle.htmd_law_documents.proofs.NormalWritingLemmas.{is_text_character}
-use Rattle.htmd_law_documents.proofs.NormalPartsLemmas.{IsRun}
-use lib.Utf8.{encode}
+use Rattle.htmd_law_documents.proofs.NormalTextLemmas.{and-true, or-false, not-false, false-true, true-false}
+use Rattle.htmd_law_documents.proofs.NormalTextLemmas.{all-append, PassesWide, encode-passes, ends-append, first-append}
+use Rattle.htmd_law_documents.proofs.NormalTextLemmas.{filled-append, double-append, to-text}
+use Rattle.htmd_law_documents.proofs.NormalLeafLemmas.{IsWord, word-code, IsId}
+use Rattle.htmd_law_documents.proofs.NormalCharacterLemmas.{is_solid, solid-single, solid-begins, solid-ends}
+use Rattle.htmd_law_documents.proofs.NormalPartsLemmas.{is_text_character, IsRun}
 
 -- ---- bytes and characters
 
@@ -270,6 +275,77 @@ in_line-clean s u =
       seen = all-less is_line_byte is_text_character plain-text (in_line s) parts.1;
     }
 
+-- ---- words in one line
+
+filled-some : (s : List ℕ) → is_filled s ≡ true → is_empty s ≡ false
+filled-some [] e = absurd (none e)
+  where
+    none : is_filled [] ≡ true → ⊥
+    none e = grind (arith, nat_tests)
+filled-some (b ∷ s) e = refl
+
+word-solid : (b : ℕ) → is_word_byte is_text_character b ≡ true → is_solid b ≡ true
+word-solid b e = and-true (plain-word b e) (word-no_space b e)
+
+solid-of : (w : List ℕ) → list_all (is_word_byte is_text_character) w ≡ true → list_all is_solid w ≡ true
+solid-of w h = all-less (is_word_byte is_text_character) is_solid word-solid w h
+
+abbrev more_words : List (List ℕ) → List ℕ
+more_words ws = flat_map (λ next. (space ∷ []) ++ next) ws
+
+-- single spaces between words, and none at the end
+record IsRest (t : List ℕ) : Type 0 where
+  single : has_double_space t ≡ false
+  ends : ends_with_space t ≡ false
+
+word-rest : (w t : List ℕ) → list_all is_solid w ≡ true → is_empty w ≡ false → IsRest t → IsRest (w ++ t)
+word-rest w t h some r = record {
+  single = double-append w t (solid-single w h) r.single (ap (λ b. b && first_is space t) (solid-ends w h));
+  ends = last t r;
+}
+  where
+    last : (t : List ℕ) → IsRest t → ends_with_space (w ++ t) ≡ false
+    last [] r = ap ends_with_space (append-nil w) ∙ solid-ends w h
+    last (b ∷ t) r = ends-append w b t ∙ r.ends
+
+space-rest : (t : List ℕ) → is_empty t ≡ false → first_is space t ≡ false → IsRest t
+    → IsRest (space ∷ t)
+space-rest [] some f r = true-false some
+space-rest (b ∷ t) some f r = record { single = or-false f r.single; ends = r.ends }
+
+words-rest : (ws : List (List ℕ)) → AllWords (is_word_byte is_text_character) ws → IsRest (more_words ws)
+words-rest [] h = record { single = refl; ends = refl }
+words-rest (w ∷ ws) h =
+    let solid : list_all is_solid w ≡ true = solid-of w h.0 in
+    let some : is_empty w ≡ false = filled-some w h.1 in
+    space-rest (w ++ more_words ws) (filled-append w (more_words ws) some)
+    (first-append w (more_words ws) some ∙ solid-begins w solid)
+    (word-rest w (more_words ws) solid some (words-rest ws h.2))
+
+joined-word : (ws : List (List ℕ)) → AllWords (is_word_byte is_text_character) ws
+    → is_line (joined_texts (space ∷ []) ws) ≡ true → is_filled (joined_texts (space ∷ []) ws) ≡ true
+    → IsWord (joined_texts (space ∷ []) ws)
+joined-word [] h l e = true-false (sym (ap not (filled-some [] e)))
+joined-word (w ∷ ws) h l e =
+    let solid : list_all is_solid w ≡ true = solid-of w h.0 in
+    let some : is_empty w ≡ false = filled-some w h.1 in
+    let rest : IsRest (w ++ more_words ws) = word-rest w (more_words ws) solid some (words-rest ws h.2) in
+    record {
+      text = to-text (w ++ more_words ws)
+          (record { line = l; some = filled-append w (more_words ws) some; single = rest.single });
+      begins = first-append w (more_words ws) some ∙ solid-begins w solid;
+      ends = rest.ends;
+    }
+
+pub in_line-word : (s : List ℕ) → IsUtf8 s → is_filled (in_line s) ≡ true → IsWord (in_line s)
+in_line-word s u e =
+    let t : List ℕ = shown_text s in
+    joined-word (words t) (words-fine is_text_character t (shown-clean s u).seen) (in_line-line s u) e
+
+-- an id that is in one line
+pub in_line-id : (s : List ℕ) → IsUtf8 s → is_filled (in_line s) ≡ true → IsId (in_line s)
+in_line-id s u e = word-code (in_line s) (in_line-word s u e)
+
 -- ---- titles
 
 record IsSeen (s : List ℕ) : Type 0 where
@@ -306,46 +382,43 @@ title-fine (Some s) h =
     seen.black))
     (λ e. subst (λ (c : Bool). is_title (cond c (Some (in_line s)) None) ≡ true) (sym e) refl)
 
--- ---- languages
+-- ---- names of languages
+
+name-byte : (b : ℕ) → is_in_name b ≡ true → is_language_byte b ≡ true
+name-byte b e = grind (arith, nat_tests)
+
+name-fine : (s : List ℕ) → has_language (name_if s) ≡ true
+name-fine s = either (is_name s) (λ e.
+    let parts = both-true (is_filled s && nat_le (length s) longest_name) (list_all is_in_name s) e in
+    let filled = both-true (is_filled s) (nat_le (length s) longest_name) parts.0 in
+    and-true (not-false (filled-some s filled.0)) (all-less is_in_name is_language_byte name-byte s parts.1))
+  where
+    either : (b : Bool) → (b ≡ true → is_language s ≡ true) → has_language (cond b (Some s) None) ≡ true
+    either true f = f refl
+    either false f = refl
 
 either-language : (a b : Option (List ℕ)) → has_language a ≡ true → has_language b ≡ true
     → has_language (option_or a b) ≡ true
 either-language None b g h = h
 either-language (Some s) b g h = g
 
-filled-language : (s : List ℕ) → list_all is_language_byte s ≡ true → has_language (if_filled (Some s)) ≡ true
-filled-language [] h = refl
-filled-language (b ∷ s) h = test (is_filled (b ∷ s))
-    (λ e. subst (λ (c : Bool). has_language (cond c (Some (b ∷ s)) None) ≡ true) (sym e) (and-true refl h))
-    (λ e. subst (λ (c : Bool). has_language (cond c (Some (b ∷ s)) None) ≡ true) (sym e) refl)
+first-name : (found : List (List ℕ)) → has_language (first_name found) ≡ true
+first-name [] = refl
+first-name (s ∷ found) = either-language (name_if s) (first_name found) (name-fine s) (first-name found)
 
-after-language : (beginning word : List ℕ) → list_all is_language_byte word ≡ true
-    → has_language (if_filled (after_beginning beginning word)) ≡ true
-after-language beginning word h = either (starts_with (λ a b. a == b) word beginning)
+named-fine : (o : Option (List ℕ)) → has_language o ≡ true → has_language (language_named o) ≡ true
+named-fine None h = refl
+named-fine (Some s) h = either (is_none s)
   where
-    either : (c : Bool) → has_language (if_filled (cond c (Some (drop (length beginning) word)) None)) ≡ true
-    either true = filled-language (drop (length beginning) word) (all-drop is_language_byte (length beginning) word h)
-    either false = refl
+    either : (b : Bool) → has_language (cond b None (Some s)) ≡ true
+    either true = refl
+    either false = h
 
-name-byte : (b : ℕ) → is_in_name b ≡ true → is_language_byte b ≡ true
-name-byte b e = grind (arith, nat_tests)
-
-word-language : (w : List ℕ) → has_language (language_of_word w) ≡ true
-word-language w = test (list_all is_in_name w)
-    (λ e.
-    let all : list_all is_language_byte w ≡ true = all-less is_in_name is_language_byte name-byte w e in
-    subst (λ (c : Bool). has_language (cond c (named_language w) None) ≡ true) (sym e)
-    (either-language (if_filled (after_beginning (codes "language-") w)) (if_filled (after_beginning (codes "lang-") w))
-    (after-language (codes "language-") w all) (after-language (codes "lang-") w all)))
-    (λ e. subst (λ (c : Bool). has_language (cond c (named_language w) None) ≡ true) (sym e) refl)
-
-words-language : (ws : List (List ℕ)) → has_language (first_language ws) ≡ true
-words-language [] = refl
-words-language (w ∷ ws) =
-    either-language (language_of_word w) (first_language ws) (word-language w) (words-language ws)
-
-pub language-fine : (attributes : List AttributePair) → has_language (language_of attributes) ≡ true
-language-fine attributes = words-language (words (text_of (codes "class") attributes))
+pub language-fine : (attributes : List AttributePair) (trees : List Simple) (near : List (List AttributePair))
+    → has_language (language_of_block attributes trees near) ≡ true
+language-fine attributes trees near =
+    let found : List (List ℕ) = found_languages (only_code trees ++ attributes ∷ []) near in
+    named-fine (first_name found) (first-name found)
 
 -- ---- the values of an element
 

@@ -1,64 +1,84 @@
 -- What is begun is normal, whatever is fed into it.
-use Rattle.std.proofs.Common.{◌≡◌, ℕ, zero, suc, Bool, true, false, cond, not, ◌&&◌, List, [], ◌∷◌, ◌++◌, length}
-use Rattle.std.proofs.Common.{refl, sym, ◌∙◌, ap, arith, subst, map, take, fold, Option, Some, None, inl, inr}
-use Rattle.std.specs.Prelude.{encode_utf8, nat_le, ◌==◌}
-use Rattle.std.specs.List.{list_all}
-use Rattle.std.proofs.Math.Utf8.{scalars, scalar}
+use Rattle.std.proofs.Common.{◌≡◌, ℕ, zero, suc, Bool, true, false, cond, ◌&&◌, ◌||◌, List, [], ◌∷◌, ◌++◌, length}
+use Rattle.std.proofs.Common.{refl, sym, ◌∙◌, ap, arith, subst, map, take, Option, Some, None, inl, inr, ◌⊎◌}
+use Rattle.std.specs.Prelude.{◌==◌}
+use Rattle.std.proofs.Math.Utf8.{scalar}
 use Rattle.std.proofs.lemmas.Bool.Decides.{nat_tests}
-use Rattle.htmd_lexical.specs.Characters.{null}
+use Rattle.htmd_lexical.specs.Characters.{space}
 use Rattle.htmd_lexical.proofs.Cases.{test}
-use Rattle.htmd_document.specs.Documents.{Inline, text, code, image, line_break, task, link, Inlines, no_inlines}
-use Rattle.htmd_document.specs.Documents.{anchor}
-use Rattle.htmd_document.specs.Documents.{inline}
-use Rattle.htmd_document.specs.Documents.{Block, paragraph, blocks_of}
+use Rattle.htmd_document.specs.Documents.{Inline, text, code, image, line_break, task, link, anchor, Inlines}
+use Rattle.htmd_document.specs.Documents.{no_inlines, inline, Block}
 use Rattle.htmd_document.specs.Documents as value
-use Rattle.htmd_document_of_tree.specs.Nesting.{Wrapper, wrapper_of, is_same, shared, behind, wrapped, text_or_code}
-use Rattle.htmd_document_of_tree.specs.Nesting.{one_inline, joined}
-use Rattle.htmd_document_of_tree.specs.Paragraphs.{Writing, begun, is_leaf, is_code_leaf, open_paragraph, ended_by}
-use Rattle.htmd_document_of_tree.specs.Paragraphs.{ended, parted}
-use Rattle.htmd_document_of_tree.specs.Paragraphs.{broken_off, spaced_out, white_behind, after_task, is_code_gap}
-use Rattle.htmd_document_of_tree.specs.Paragraphs.{gap_after_task}
-use Rattle.htmd_document_of_tree.specs.Paragraphs.{gap_before, gap_behind, latest_of, shown, after_leaf}
-use Rattle.htmd_document_of_tree.specs.Paragraphs.{is_task_here, tasked, after_character, blocks_in, line_in}
-use Rattle.htmd_document_of_tree.specs.Parts.{Around}
-use Rattle.htmd_document_of_tree.specs.Spaces.{no_gap, is_white}
-use Rattle.htmd_document_of_tree.proofs.ParagraphsLemmas.{same-wrapper}
-use Rattle.htmd_document.specs.NormalInlines.{is_text, is_break, begins_with_space, has_none}
-use Rattle.htmd_document.specs.NormalInlines.{first_passes, is_normal_line, has_anchor, have_anchor}
+use Rattle.htmd_flow.specs.Nesting.{Wrapper, wrapper_of, is_same, shared, before_link, behind, text_or_code}
+use Rattle.htmd_flow.specs.Nesting.{one_inline, joined}
+use Rattle.htmd_flow.specs.Paragraphs.{Writing, begun, is_leaf, is_code_leaf, anchored, shown_content, whole_content}
+use Rattle.htmd_flow.specs.Paragraphs.{paragraph_of, open_paragraph, ended, broken_off, spaced_out}
+use Rattle.htmd_flow.specs.Paragraphs.{white_behind, is_code_gap, gap_after_task, gap_before, gap_behind, latest_of}
+use Rattle.htmd_flow.specs.Paragraphs.{shown, is_task_here, with_box, boxed, with_task}
+use Rattle.htmd_flow.specs.Paragraphs.{tasked, with_anchor}
+use Rattle.htmd_flow.specs.declared.paragraphs.Met.{Met}
+use Rattle.htmd_flow.specs.declared.paragraphs.Met.TheVariants as met
+use Rattle.htmd_flow.specs.Parts.{Around}
+use Rattle.htmd_shown.specs.Spaces.{is_white}
+use Rattle.htmd_flow.proofs.ParagraphsLemmas.{same-wrapper}
+use Rattle.htmd_document.specs.NormalInlines.{is_text, is_break, begins_with_space, ends_with_space, has_none}
+use Rattle.htmd_document.specs.NormalInlines.{first_passes, is_normal_line, are_anchors}
+use Rattle.htmd_document.specs.NormalInlines.{anchors_stand_well}
 use Rattle.htmd_law_documents.proofs.VisibleLemmas.{both-true}
-use Rattle.htmd_law_documents.proofs.NormalTextLemmas.{from-text}
-use Rattle.htmd_law_documents.proofs.NormalTextLemmas.{and-true, not-false, from-not, true-false, false-true}
-use Rattle.htmd_law_documents.proofs.NormalLineLemmas.{FitAll, Held, IsWhole, held-whole}
-use Rattle.htmd_law_documents.proofs.NormalLineLemmas.{leaf-no_break}
-use Rattle.htmd_law_documents.proofs.BareLemmas.{IsBareLine, joined-bare, wrapped-bare, behind-bare}
-use Rattle.htmd_law_documents.proofs.NormalLeafLemmas.{IsLeaf, IsGap, leaf-begins, leaf-last, one-ends}
+use Rattle.htmd_law_documents.proofs.NormalTextLemmas.{and-true, not-false, true-false, false-true}
+use Rattle.htmd_law_documents.proofs.NormalLineLemmas.{Ends, ends-normal, ends-last, ends-some, FitAll, Held, Open}
+use Rattle.htmd_law_documents.proofs.NormalLineLemmas.{IsLast, IsShut, IsWhole, held-whole, leaf-shuts, any-shuts}
+use Rattle.htmd_law_documents.proofs.NormalLineLemmas.{held-open, NoLinks, before-links, leaf-no_break}
+use Rattle.htmd_law_documents.proofs.NormalBeginLemmas.{is_begun, BeginsAs, behind-begins, normal-begun}
+use Rattle.htmd_law_documents.proofs.NormalStandLemmas.{Stands, stand-well}
+use Rattle.htmd_law_documents.proofs.NormalLeafLemmas.{IsLeaf, IsGap, leaf-begins, leaf-last, one-ends, IsId, AllIds}
 use Rattle.htmd_law_documents.proofs.NormalLeafLemmas.{wrapped-first, wrapped-first-break, wrapped-held, put-after}
-use Rattle.htmd_law_documents.proofs.NormalLeafLemmas.{leaf-differs}
-use Rattle.htmd_law_documents.proofs.NormalPutLemmas.{BeginsAs, put, put-begins, normal-begun, leaf-held, AreAlike}
-use Rattle.htmd_law_documents.proofs.NormalPutLemmas.{code-held, is_begun, behind-begins}
-use Rattle.htmd_law_documents.proofs.NormalCharacterLemmas.{IsWhite, white-none, white-text, white-spaced, IsAfterTask}
-use Rattle.htmd_law_documents.proofs.NormalCharacterLemmas.{after_task-text}
-use Rattle.htmd_law_documents.proofs.NormalCharacterLemmas.{character-word, word-leaf}
-use Rattle.htmd_law_documents.proofs.NormalBlockLemmas.{IsTaskLine, IsParagraph, AllFine, fine-more}
-use Rattle.htmd_law_documents.proofs.NormalBlockLemmas.{fine-first, FineBlocks, blocks-fine}
+use Rattle.htmd_law_documents.proofs.NormalLeafLemmas.{leaf-differs, with_ids, ids-first, anchor-put, ids-put}
+use Rattle.htmd_law_documents.proofs.NormalLeafLemmas.{leaf-shown, put-stands}
+use Rattle.htmd_law_documents.proofs.NormalPutLemmas.{put, put_gap, put-begins, leaf-put, AreAlike, code-held}
+use Rattle.htmd_law_documents.proofs.NormalPutLemmas.{wait-held, IsPut}
+use Rattle.htmd_law_documents.proofs.NormalCharacterLemmas.{IsWhite, white-none, white-text, white-spaced, space-text}
+use Rattle.htmd_law_documents.proofs.NormalBlockLemmas.{IsLineWell, IsTaskLine, IsLineParagraph, IsParagraph, AllFine}
+use Rattle.htmd_law_documents.proofs.NormalBlockLemmas.{fine-more, fine-first}
 
 -- ---- what is begun
 
+-- where the next leaf may go, with these anchors before it
+abbrev pub HeldFor : List (List ℕ) → Bool → List Wrapper → Inlines → Type 0
+HeldFor [] k ms xs = Held k false [] ms xs
+HeldFor (id ∷ ids) k ms xs = Open false [] ms xs × NoLinks ms
+
+for-whole : (ids : List (List ℕ)) (k : Bool) (ms : List Wrapper) (xs : Inlines) → HeldFor ids k ms xs
+    → IsWhole false [] xs
+for-whole [] k ms xs h = held-whole (λ l r x. IsLast k x) (leaf-shuts k) false [] ms xs h
+for-whole (id ∷ ids) k ms xs h = held-whole IsShut any-shuts false [] ms xs h.0
+
+-- with one more
+for-open : (ids : List (List ℕ)) (k : Bool) (ms : List Wrapper) (xs : Inlines) → HeldFor ids k ms xs
+    → Open false [] (before_link ms) xs
+for-open [] k ms xs h = held-open (λ l r x. IsLast k x) (leaf-shuts k) false [] ms xs h
+for-open (id ∷ ids) k ms xs h = held-open IsShut any-shuts false [] ms xs h.0
+
+for-more : (ids : List (List ℕ)) (id : List ℕ) (k : Bool) (ms : List Wrapper) (xs : Inlines) → Open false [] ms xs
+    → NoLinks ms → HeldFor (ids ++ id ∷ []) k ms xs
+for-more [] id k ms xs o n = (o, n)
+for-more (i ∷ ids) id k ms xs o n = (o, n)
+
 -- a line that is begun, where the next leaf may go
-pub record IsLine (k : Bool) (ms : List Wrapper) (xs : Inlines) : Type 0 where
-  pub held : Held k false [] ms xs
+pub record IsLine (ids : List (List ℕ)) (k : Bool) (ms : List Wrapper) (xs : Inlines) : Type 0 where
+  pub held : HeldFor ids k ms xs
   pub no_space : first_passes begins_with_space xs ≡ false
   pub no_break : first_passes is_break xs ≡ false
-  pub bare : have_anchor xs ≡ false
+  pub stands : Stands false xs
 
 -- a task with what stands after it so far
-pub record IsTasked (k : Bool) (ms : List Wrapper) (xs : Inlines) : Type 0 where
+pub record IsTasked (ids : List (List ℕ)) (k : Bool) (ms : List Wrapper) (xs : Inlines) : Type 0 where
   pub is_checked : Bool
   pub rest : Inlines
   pub is : xs ≡ inline (task is_checked) rest
   pub begins : first_passes begins_with_space rest ≡ true
-  pub held : Held k false [] ms rest
-  pub bare : have_anchor rest ≡ false
+  pub held : HeldFor ids k ms rest
+  pub stands : Stands false rest
 
 -- an item's first block is begun
 pub record IsFirst (w : Writing) : Type 0 where
@@ -68,146 +88,350 @@ pub record IsFirst (w : Writing) : Type 0 where
 -- what showed last in the paragraph
 pub data State (w : Writing) : Type 0 where
   at_nothing : w.latest ≡ (begun false false).latest → w.content ≡ no_inlines → State w
-  at_task : (is_checked : Bool) → w.latest ≡ (tasked (begun true false) false).latest → IsFirst w
+  at_task : (is_checked : Bool) → w.latest ≡ (with_task (begun true false) false).latest → IsFirst w
       → w.content ≡ one_inline (task is_checked) → State w
-  at_leaf : (k : Bool) → w.latest ≡ latest_of k → IsLine k w.around w.content → State w
-  in_task : (k : Bool) → w.latest ≡ latest_of k → IsFirst w → IsTasked k w.around w.content → State w
+  at_leaf : (k : Bool) → w.latest ≡ latest_of k → IsLine w.anchors k w.around w.content → State w
+  in_task : (k : Bool) → w.latest ≡ latest_of k → IsFirst w → IsTasked w.anchors k w.around w.content
+      → State w
+
+-- nothing but a box was met since the last edge
+abbrev pub is_fresh : Met → Bool
+is_fresh met.Nothing = true
+is_fresh met.Box = true
+is_fresh met.More = false
 
 pub record IsNormalWriting (n : ℕ) (in_item : Bool) (w : Writing) : Type 0 where
   pub item : w.in_item ≡ in_item
   pub done : AllFine n in_item w.done
   pub gap : IsWhite w.gap.white
+  pub ids : AllIds w.anchors
+  pub fresh : is_fresh w.met ≡ true → is_leaf w.latest ≡ false
   pub state : State w
 
+-- it may end here
+abbrev pub IsSettled : Writing → Type 0
+IsSettled w = (w.anchors ≡ []) ⊎ (is_leaf w.latest ≡ false)
+
 pub nothing-normal : (n : ℕ) (in_item flat : Bool) → IsNormalWriting n in_item (begun in_item flat)
-nothing-normal n in_item flat =
-    record { item = refl; done = tt; gap = white-none; state = at_nothing refl refl }
+nothing-normal n in_item flat = record {
+  item = refl;
+  done = tt;
+  gap = white-none;
+  ids = tt;
+  fresh = λ e. refl;
+  state = at_nothing refl refl;
+}
 
 first-kept : (v w : Writing) → v.in_item ≡ w.in_item → v.done ≡ w.done → IsFirst w → IsFirst v
 first-kept v w e f h = record { in_item = e ∙ h.in_item; alone = f ∙ h.alone }
 
-line-kept : (k : Bool) (ms ns : List Wrapper) (xs ys : Inlines) → ms ≡ ns → xs ≡ ys → IsLine k ns ys
-    → IsLine k ms xs
-line-kept k ms ns xs ys e f h =
-    subst (λ (ls : List Wrapper). IsLine k ls xs) (sym e) (subst (λ (zs : Inlines). IsLine k ns zs) (sym f) h)
+module _ (v w : Writing) (item : v.in_item ≡ w.in_item) (done : v.done ≡ w.done) (latest : v.latest ≡ w.latest)
+    (content : v.content ≡ w.content) (around : v.around ≡ w.around) (anchors : v.anchors ≡ w.anchors) where
+  line-kept : (k : Bool) → IsLine w.anchors k w.around w.content → IsLine v.anchors k v.around v.content
+  line-kept k h =
+      subst (λ (ids : List (List ℕ)). IsLine ids k v.around v.content) (sym anchors)
+      (subst (λ (ms : List Wrapper). IsLine w.anchors k ms v.content) (sym around)
+      (subst (λ (xs : Inlines). IsLine w.anchors k w.around xs) (sym content) h))
 
-tasked-kept : (k : Bool) (ms ns : List Wrapper) (xs ys : Inlines) → ms ≡ ns → xs ≡ ys → IsTasked k ns ys
-    → IsTasked k ms xs
-tasked-kept k ms ns xs ys e f h =
-    subst (λ (ls : List Wrapper). IsTasked k ls xs) (sym e) (subst (λ (zs : Inlines). IsTasked k ns zs) (sym f) h)
+  tasked-kept : (k : Bool) → IsTasked w.anchors k w.around w.content → IsTasked v.anchors k v.around v.content
+  tasked-kept k h =
+      subst (λ (ids : List (List ℕ)). IsTasked ids k v.around v.content) (sym anchors)
+      (subst (λ (ms : List Wrapper). IsTasked w.anchors k ms v.content) (sym around)
+      (subst (λ (xs : Inlines). IsTasked w.anchors k w.around xs) (sym content) h))
 
--- nothing of a state changes but the gap
-record IsSame (v w : Writing) : Type 0 where
-  item : v.in_item ≡ w.in_item
-  done : v.done ≡ w.done
-  latest : v.latest ≡ w.latest
-  content : v.content ≡ w.content
-  around : v.around ≡ w.around
+  state-kept : State w → State v
+  state-kept (at_nothing e h) = at_nothing (latest ∙ e) (content ∙ h)
+  state-kept (at_task b e f h) = at_task b (latest ∙ e) (first-kept v w item done f) (content ∙ h)
+  state-kept (at_leaf k e h) = at_leaf k (latest ∙ e) (line-kept k h)
+  state-kept (in_task k e f h) = in_task k (latest ∙ e) (first-kept v w item done f) (tasked-kept k h)
 
-state-kept : (v w : Writing) → IsSame v w → State w → State v
-state-kept v w s (at_nothing e h) = at_nothing (s.latest ∙ e) (s.content ∙ h)
-state-kept v w s (at_task b e f h) = at_task b (s.latest ∙ e) (first-kept v w s.item s.done f) (s.content ∙ h)
-state-kept v w s (at_leaf k e h) =
-    at_leaf k (s.latest ∙ e) (line-kept k v.around w.around v.content w.content s.around s.content h)
-state-kept v w s (in_task k e f h) =
-    in_task k (s.latest ∙ e) (first-kept v w s.item s.done f)
-    (tasked-kept k v.around w.around v.content w.content s.around s.content h)
+-- ---- lines
 
--- ---- where paragraphs end
+whole-line : (xs : Inlines) → IsWhole false [] xs → first_passes begins_with_space xs ≡ false
+    → first_passes is_break xs ≡ false → is_normal_line xs ≡ true
+whole-line xs w s b =
+    and-true (and-true (and-true (and-true (not-false s) (not-false w.no_space)) (not-false b)) (not-false w.no_break))
+    w.normal
 
--- a line that is whole
-line-normal : (k : Bool) (ms : List Wrapper) (xs : Inlines) → IsLine k ms xs
-    → IsBareLine xs × (has_none xs ≡ false)
-line-normal k ms xs h =
-    let w : IsWhole false [] xs = held-whole k false [] ms xs h.held in (
-      (
-        and-true (and-true (and-true (and-true (not-false h.no_space) (not-false w.no_space)) (not-false h.no_break))
-            (not-false w.no_break)) w.normal,
-        h.bare,
-      ),
-      w.some,
-    )
+line-normal : (ids : List (List ℕ)) (k : Bool) (ms : List Wrapper) (xs : Inlines) → IsLine ids k ms xs
+    → is_normal_line xs ≡ true
+line-normal ids k ms xs h = whole-line xs (for-whole ids k ms xs h.held) h.no_space h.no_break
 
-task-whole : (k : Bool) (ms : List Wrapper) (xs : Inlines) → IsTasked k ms xs → IsTaskLine xs
-task-whole k ms xs h = record {
+line-paragraph : (ids : List (List ℕ)) (k : Bool) (ms : List Wrapper) (xs : Inlines) → IsLine ids k ms xs
+    → IsLineParagraph xs
+line-paragraph ids k ms xs h =
+    (line-normal ids k ms xs h, (for-whole ids k ms xs h.held).some, later (are_anchors xs) (stand-well xs h.stands))
+  where
+    later : (a : Bool) {b : Bool} → b ≡ true → (a || b) ≡ true
+    later true e = refl
+    later false e = e
+
+task-whole : (ids : List (List ℕ)) (k : Bool) (ms : List Wrapper) (xs : Inlines) → IsTasked ids k ms xs
+    → IsTaskLine xs
+task-whole ids k ms xs h = record {
   is_checked = h.is_checked;
   rest = h.rest;
   is = h.is;
   begins = h.begins;
-  whole = held-whole k false [] ms h.rest h.held;
-  bare = h.bare;
+  whole = for-whole ids k ms h.rest h.held;
+  stands = h.stands;
 }
 
-leaf-opens : (n : ℕ) (in_item k : Bool) (xs : Inlines) → IsParagraph in_item xs
-    → AllFine n in_item (cond (is_leaf (latest_of k)) (paragraph xs ∷ []) [])
-leaf-opens n in_item true xs h = ((h, omega arith), tt)
-leaf-opens n in_item false xs h = ((h, omega arith), tt)
+-- ---- anchors alone
 
--- the paragraph that is begun, if it is one, after the blocks so far
-open-fine : (n : ℕ) (in_item : Bool) (w : Writing) → IsNormalWriting n in_item w
-    → AllFine n in_item (w.done ++ open_paragraph w)
-open-fine n in_item w h = at h.state
-  where
-    at : State w → AllFine n in_item (w.done ++ open_paragraph w)
-    at (at_nothing e f) =
-        subst (λ l. AllFine n in_item (w.done ++ cond (is_leaf l) (paragraph w.content ∷ []) [])) (sym e)
-        (fine-more n in_item w.done [] h.done tt)
-    at (at_task b e f g) =
-        subst (λ l. AllFine n in_item (w.done ++ cond (is_leaf l) (paragraph w.content ∷ []) [])) (sym e)
-        (fine-more n in_item w.done [] h.done tt)
-    at (at_leaf k e f) =
-        subst (λ l. AllFine n in_item (w.done ++ cond (is_leaf l) (paragraph w.content ∷ []) [])) (sym e)
-        (fine-more n in_item w.done (cond (is_leaf (latest_of k)) (paragraph w.content ∷ []) []) h.done
-        (leaf-opens n false k w.content (inl (line-normal k w.around w.content f))))
-    at (in_task k e f g) =
-        subst (λ l. AllFine n in_item (w.done ++ cond (is_leaf l) (paragraph w.content ∷ []) [])) (sym e)
-        (fine-first n in_item w.done (cond (is_leaf (latest_of k)) (paragraph w.content ∷ []) []) f.alone
-        (leaf-opens n in_item k w.content (inr (sym h.item ∙ f.in_item, task-whole k w.around w.content g))))
+joined-anchors : (xs : Inlines) (id : List ℕ) → are_anchors xs ≡ true
+    → are_anchors (joined xs (anchor id)) ≡ true
+joined-anchors no_inlines id h = refl
+joined-anchors (inline (anchor i) no_inlines) id h = refl
+joined-anchors (inline (anchor i) (inline x xs)) id h = joined-anchors (inline x xs) id h
+joined-anchors (inline (text s) xs) id h = false-true h
+joined-anchors (inline (code s) xs) id h = false-true h
+joined-anchors (inline (value.formatted f ys) xs) id h = false-true h
+joined-anchors (inline (link a t ys) xs) id h = false-true h
+joined-anchors (inline (image a t d) xs) id h = false-true h
+joined-anchors (inline line_break xs) id h = false-true h
+joined-anchors (inline (task b) xs) id h = false-true h
 
-pub ended_by-normal : (n : ℕ) (in_item : Bool) (w : Writing) (bs : List Block) → IsNormalWriting n in_item w
-    → AllFine n false bs → IsNormalWriting n in_item (ended_by w bs)
-ended_by-normal n in_item w bs h b = record {
-  item = h.item;
-  done = fine-more n in_item (w.done ++ open_paragraph w) bs (open-fine n in_item w h) b;
-  gap = white-none;
-  state = at_nothing refl refl;
-}
+all-anchors : (ids : List (List ℕ)) (xs : Inlines) → are_anchors xs ≡ true
+    → are_anchors (with_ids xs ids) ≡ true
+all-anchors [] xs h = h
+all-anchors (id ∷ ids) xs h = all-anchors ids (joined xs (anchor id)) (joined-anchors xs id h)
 
-pub ended-normal : (n : ℕ) (in_item : Bool) (w : Writing) → IsNormalWriting n in_item w
-    → IsNormalWriting n in_item (ended w)
-ended-normal n in_item w h = ended_by-normal n in_item w [] h tt
+-- what they begin with
+record AnchorsBegin (xs : Inlines) : Type 0 where
+  begun : is_begun xs ≡ true
+  no_space : first_passes begins_with_space xs ≡ false
+  no_break : first_passes is_break xs ≡ false
 
-either-normal : (n : ℕ) (in_item : Bool) (b : Bool) (v w : Writing) → IsNormalWriting n in_item v
-    → IsNormalWriting n in_item w → IsNormalWriting n in_item (cond b v w)
-either-normal n in_item true v w g h = g
-either-normal n in_item false v w g h = h
+anchors-begin : (xs : Inlines) → are_anchors xs ≡ true → has_none xs ≡ false → AnchorsBegin xs
+anchors-begin no_inlines h e = true-false e
+anchors-begin (inline (anchor i) xs) h e = record { begun = refl; no_space = refl; no_break = refl }
+anchors-begin (inline (text s) xs) h e = false-true h
+anchors-begin (inline (code s) xs) h e = false-true h
+anchors-begin (inline (value.formatted f ys) xs) h e = false-true h
+anchors-begin (inline (link a t ys) xs) h e = false-true h
+anchors-begin (inline (image a t d) xs) h e = false-true h
+anchors-begin (inline line_break xs) h e = false-true h
+anchors-begin (inline (task b) xs) h e = false-true h
 
-pub parted-normal : (n : ℕ) (in_item : Bool) (w : Writing) → IsNormalWriting n in_item w
-    → IsNormalWriting n in_item (parted w)
-parted-normal n in_item w h =
-    either-normal n in_item (not w.is_flat && nat_le 2 w.breaks) (ended w) w (ended-normal n in_item w h) h
+record AreAnchors (xs : Inlines) : Type 0 where
+  last : List ℕ
+  ends : Ends false [] xs (anchor last)
+  id : IsId last
+  all : are_anchors xs ≡ true
+  begin : AnchorsBegin xs
 
--- ---- white space and breaks
+some-anchors : (id : List ℕ) (ids : List (List ℕ)) → AllIds (id ∷ ids)
+    → AreAnchors (with_ids no_inlines (id ∷ ids))
+some-anchors id ids all =
+    let xs : Inlines = with_ids no_inlines (id ∷ ids) in
+    let end = ids-first [] id ids all in
+    let are : are_anchors xs ≡ true = all-anchors (id ∷ ids) no_inlines refl in
+    record {
+      last = end.0;
+      ends = end.1;
+      id = end.2;
+      all = are;
+      begin = anchors-begin xs are (ends-some false [] xs (anchor end.0) end.1);
+    }
 
-pub broken_off-normal : (n : ℕ) (in_item : Bool) (w : Writing) → IsNormalWriting n in_item w
-    → IsNormalWriting n in_item (broken_off w)
-broken_off-normal n in_item w h = record {
-  item = h.item;
-  done = h.done;
-  gap = white-none;
-  state = state-kept (broken_off w) w
-      (record { item = refl; done = refl; latest = refl; content = refl; around = refl }) h.state;
-}
+anchors-paragraph : (xs : Inlines) → AreAnchors xs → IsLineParagraph xs
+anchors-paragraph xs h =
+    let i : Inline = anchor h.last in
+    let whole : IsWhole false [] xs = record {
+      normal = ends-normal false [] xs i h.ends h.id;
+      some = ends-some false [] xs i h.ends;
+      no_space = ends-last false [] ends_with_space xs i h.ends;
+      no_break = ends-last false [] is_break xs i h.ends;
+    } in
+    (whole-line xs whole h.begin.no_space h.begin.no_break, whole.some, ap (λ b. b || anchors_stand_well xs) h.all)
 
-pub spaced_out-normal : (n : ℕ) (in_item : Bool) (w : Writing) (c : ℕ) (k : Bool) → IsNormalWriting n in_item w
-    → scalar c ≡ true → is_white c ≡ true → IsNormalWriting n in_item (spaced_out w c k)
-spaced_out-normal n in_item w c k h s white = record {
-  item = h.item;
-  done = h.done;
-  gap = white-spaced w.gap c k h.gap s white;
-  state = state-kept (spaced_out w c k) w
-      (record { item = refl; done = refl; latest = refl; content = refl; around = refl }) h.state;
-}
+-- ---- where paragraphs end
+
+opened : (n : ℕ) (in_item : Bool) (xs : Inlines) → (has_none xs ≡ false → IsParagraph in_item xs)
+    → AllFine n in_item (paragraph_of xs)
+opened n in_item no_inlines h = tt
+opened n in_item (inline x xs) h = ((h refl, omega arith), tt)
+
+ids-open : (n : ℕ) (in_item : Bool) (ids : List (List ℕ)) → AllIds ids
+    → AllFine n in_item (paragraph_of (anchored 0 no_inlines [] ids))
+ids-open n in_item [] h = tt
+ids-open n in_item (id ∷ ids) h =
+    let xs : Inlines = with_ids no_inlines (id ∷ ids) in
+    opened n in_item xs (λ e. inl (anchors-paragraph xs (some-anchors id ids h)))
+
+module _ (n : ℕ) (in_item : Bool) (w : Writing) (h : IsNormalWriting n in_item w) where
+  abbrev Opens : Inlines → List (List ℕ) → Type 0
+  Opens xs ids = AllFine n in_item (w.done ++ paragraph_of (anchored 0 xs [] ids))
+
+  -- nothing shows, or anchors alone
+  open-unshown : is_leaf w.latest ≡ false → Opens (shown_content w) w.anchors
+  open-unshown e =
+      subst (λ (b : Bool). Opens (cond b w.content no_inlines) w.anchors) (sym e)
+      (fine-more n in_item w.done (paragraph_of (anchored 0 no_inlines [] w.anchors)) h.done
+      (ids-open n false w.anchors h.ids))
+
+  latest-leaf : (k : Bool) → is_leaf (latest_of k) ≡ true
+  latest-leaf true = refl
+  latest-leaf false = refl
+
+  open-shown : (k : Bool) → w.latest ≡ latest_of k → AllFine n in_item (w.done ++ paragraph_of w.content)
+      → Opens (shown_content w) []
+  open-shown k e a =
+      subst (λ (b : Bool). Opens (cond b w.content no_inlines) []) (sym (ap is_leaf e ∙ latest-leaf k)) a
+
+  open-state : State w → Opens (shown_content w) []
+  open-state (at_nothing e f) =
+      subst (λ (b : Bool). Opens (cond b w.content no_inlines) []) (sym (ap is_leaf e))
+      (fine-more n in_item w.done [] h.done tt)
+  open-state (at_task b e f g) =
+      subst (λ (c : Bool). Opens (cond c w.content no_inlines) []) (sym (ap is_leaf e))
+      (fine-more n in_item w.done [] h.done tt)
+  open-state (at_leaf k e f) =
+      open-shown k e (fine-more n in_item w.done (paragraph_of w.content) h.done
+      (opened n false w.content (λ s. inl (line-paragraph w.anchors k w.around w.content f))))
+  open-state (in_task k e f g) =
+      open-shown k e (fine-first n in_item w.done (paragraph_of w.content) f.alone
+      (opened n in_item w.content (λ s. inr (sym h.item ∙ f.in_item, task-whole w.anchors k w.around w.content g))))
+
+  -- the paragraph that is begun, if it is one, after the blocks so far
+  open-fine : IsSettled w → AllFine n in_item (w.done ++ open_paragraph w)
+  open-fine (inl e) =
+      subst (λ (ids : List (List ℕ)). Opens (shown_content w) ids) (sym e) (open-state h.state)
+  open-fine (inr e) = open-unshown e
+
+  pub ended-normal : IsSettled w → IsNormalWriting n in_item (ended w)
+  ended-normal s = record {
+    item = h.item;
+    done = open-fine s;
+    gap = white-none;
+    ids = tt;
+    fresh = λ e. refl;
+    state = at_nothing refl refl;
+  }
+
+  -- after a block more
+  pub block-normal : IsSettled w → (bs : List Block) → AllFine n false bs
+      → IsNormalWriting n in_item (record (ended w) { done = (ended w).done ++ bs; met = met.Nothing })
+  block-normal s bs b = record {
+    item = h.item;
+    done = fine-more n in_item (w.done ++ open_paragraph w) bs (open-fine s) b;
+    gap = white-none;
+    ids = tt;
+    fresh = λ e. refl;
+    state = at_nothing refl refl;
+  }
+
+  pub edge-normal : IsSettled w → IsNormalWriting n in_item (record (ended w) { met = met.Nothing })
+  edge-normal s = record {
+    item = h.item;
+    done = open-fine s;
+    gap = white-none;
+    ids = tt;
+    fresh = λ e. refl;
+    state = at_nothing refl refl;
+  }
+
+  -- ---- white space, breaks and boxes
+
+  pub broken_off-normal : IsNormalWriting n in_item (broken_off w)
+  broken_off-normal = record {
+    item = h.item;
+    done = h.done;
+    gap = white-none;
+    ids = h.ids;
+    fresh = h.fresh;
+    state = state-kept (broken_off w) w refl refl refl refl refl refl h.state;
+  }
+
+  pub spaced_out-normal : (c : ℕ) (k : Bool) → scalar c ≡ true → is_white c ≡ true
+      → IsNormalWriting n in_item (spaced_out w c k)
+  spaced_out-normal c k s white = record {
+    item = h.item;
+    done = h.done;
+    gap = white-spaced w.gap c k h.gap s white;
+    ids = h.ids;
+    fresh = h.fresh;
+    state = state-kept (spaced_out w c k) w refl refl refl refl refl refl h.state;
+  }
+
+  box-fresh : (m : Met) → is_fresh (with_box m) ≡ true → is_fresh m ≡ true
+  box-fresh met.Nothing e = refl
+  box-fresh met.Box e = refl
+  box-fresh met.More e = e
+
+  boxed-normal : IsNormalWriting n in_item (boxed w)
+  boxed-normal = record {
+    item = h.item;
+    done = h.done;
+    gap = h.gap;
+    ids = h.ids;
+    fresh = λ e. h.fresh (box-fresh w.met e);
+    state = state-kept (boxed w) w refl refl refl refl refl refl h.state;
+  }
+
+  here-normal : (b : Bool) → is_task_here w ≡ true → IsNormalWriting n in_item (with_task (boxed w) b)
+  here-normal b e =
+      let two = both-true (w.in_item && (length w.done == 0)) w.is_blank e in
+      let one = both-true w.in_item (length w.done == 0) two.0 in
+      record {
+        item = h.item;
+        done = h.done;
+        gap = white-none;
+        ids = h.ids;
+        fresh = λ f. refl;
+        state = at_task b refl (record { in_item = one.0; alone = none w.done one.1 }) refl;
+      }
+    where
+      none : (bs : List Block) → (length bs == 0) ≡ true → bs ≡ []
+      none [] e = refl
+      none (c ∷ bs) e = absurd (grind (arith, nat_tests))
+
+  pub tasked-normal : (b : Bool) → IsNormalWriting n in_item (tasked w b)
+  tasked-normal b = test (is_task_here w)
+      (λ e. subst (λ (c : Bool). IsNormalWriting n in_item (cond c (with_task (boxed w) b) (boxed w))) (sym e)
+      (here-normal b e))
+      (λ e. subst (λ (c : Bool). IsNormalWriting n in_item (cond c (with_task (boxed w) b) (boxed w))) (sym e)
+      boxed-normal)
+
+  -- ---- anchors
+
+  ids-more : (ids : List (List ℕ)) (id : List ℕ) → AllIds ids → IsId id → AllIds (ids ++ id ∷ [])
+  ids-more [] id a i = (i, tt)
+  ids-more (j ∷ ids) id a i = (a.0, ids-more ids id a.1 i)
+
+  anchor-state : (id : List ℕ) → State w → State (with_anchor w id)
+  anchor-state id (at_nothing e f) = at_nothing e f
+  anchor-state id (at_task b e f g) =
+      at_task b e (record { in_item = f.in_item; alone = f.alone }) g
+  anchor-state id (at_leaf k e l) =
+      at_leaf k e (record {
+        held = for-more w.anchors id k (before_link w.around) w.content
+            (for-open w.anchors k w.around w.content l.held) (before-links w.around);
+        no_space = l.no_space;
+        no_break = l.no_break;
+        stands = l.stands;
+      })
+  anchor-state id (in_task k e f t) =
+      in_task k e (record { in_item = f.in_item; alone = f.alone }) (record {
+        is_checked = t.is_checked;
+        rest = t.rest;
+        is = t.is;
+        begins = t.begins;
+        held = for-more w.anchors id k (before_link w.around) t.rest
+            (for-open w.anchors k w.around t.rest t.held) (before-links w.around);
+        stands = t.stands;
+      })
+
+  pub anchor-normal : (id : List ℕ) → IsId id → IsNormalWriting n in_item (with_anchor w id)
+  anchor-normal id i = record {
+    item = h.item;
+    done = h.done;
+    gap = h.gap;
+    ids = ids-more w.anchors id h.ids i;
+    fresh = h.fresh;
+    state = anchor-state id h.state;
+  }
 
 -- ---- the gap before a leaf
 
@@ -220,63 +444,34 @@ gap_of w around k =
     cond w.gap.has_break (Some line_break) (white_gap (k && is_code_gap w (map wrapper_of around)) w.gap.white)
 
 white-put : (n : ℕ) (xs : Inlines) (around : List Around) (c : Bool) (s : List ℕ)
-    → white_behind n xs around c s ≡ put n xs around (white_gap c s)
+    → white_behind n xs around c s ≡ put_gap n xs around (white_gap c s)
 white-put n xs around c [] = refl
 white-put n xs around c (b ∷ s) = refl
 
 gap-put : (w : Writing) (around : List Around) (k : Bool)
-    → gap_before w around k ≡ put (shared w.around (map wrapper_of around)) w.content around (gap_of w around k)
-gap-put w around k = at (shared w.around (map wrapper_of around)) (k
-    && is_code_gap w (map wrapper_of around)) w.gap.has_break
+    → gap_before w around k ≡ put_gap (shared w.around (map wrapper_of around)) w.content around (gap_of w around k)
+gap-put w around k =
+    at (shared w.around (map wrapper_of around)) (k && is_code_gap w (map wrapper_of around)) w.gap.has_break
   where
     at : (n : ℕ) (c b : Bool)
         → cond b (behind n w.content (take n around) line_break) (white_behind n w.content around c w.gap.white)
-        ≡ put n w.content around (cond b (Some line_break) (white_gap c w.gap.white))
+        ≡ put_gap n w.content around (cond b (Some line_break) (white_gap c w.gap.white))
     at n c true = refl
     at n c false = white-put n w.content around c w.gap.white
-
--- ---- neither a leaf nor a gap has an anchor
-
-leaf-bare : (k : Bool) (y : Inline) → IsLeaf k y → has_anchor y ≡ false
-leaf-bare k (text s) h = refl
-leaf-bare k (code s) h = refl
-leaf-bare k (image address title description) h = refl
-leaf-bare k (anchor i) h = absurd h
-leaf-bare k (value.formatted f xs) h = absurd h
-leaf-bare k (link address title xs) h = absurd h
-leaf-bare k line_break h = absurd h
-leaf-bare k (task b) h = absurd h
-
-abbrev IsBareGap : Option Inline → Type 0
-IsBareGap None = Unit {0}
-IsBareGap (Some g) = has_anchor g ≡ false
-
-gap-bare : (w : Writing) (around : List Around) (k : Bool) → IsBareGap (gap_of w around k)
-gap-bare w around k = at w.gap.has_break (k && is_code_gap w (map wrapper_of around)) w.gap.white
-  where
-    at : (b c : Bool) (s : List ℕ) → IsBareGap (cond b (Some line_break) (white_gap c s))
-    at true c s = refl
-    at false c [] = tt
-    at false true (b ∷ s) = refl
-    at false false (b ∷ s) = refl
-
-put-bare : (n : ℕ) (xs : Inlines) (around : List Around) (g : Option Inline) → have_anchor xs ≡ false
-    → IsBareGap g → have_anchor (put n xs around g) ≡ false
-put-bare n xs around None e h = e
-put-bare n xs around (Some g) e h = behind-bare n xs (take n around) g e h
 
 -- ---- codes beside each other
 
 -- all wrappers are shared if as many are
-alike : (ms ns : List Wrapper) → (shared ms ns == length ms) ≡ true → (shared ms ns == length ns) ≡ true
-    → AreAlike ms ns
-alike [] [] e f = tt
-alike [] (n ∷ ns) e f = absurd (grind (arith, nat_tests))
-alike (m ∷ ms) [] e f = absurd (grind (arith, nat_tests))
-alike (m ∷ ms) (n ∷ ns) e f = test (is_same m n)
+alike : (l : Bool) (ms ns : List Wrapper) → (shared ms ns == length ms) ≡ true
+    → (shared ms ns == length ns) ≡ true
+    → AreAlike l ms ns
+alike l [] [] e f = tt
+alike l [] (n ∷ ns) e f = absurd (grind (arith, nat_tests))
+alike l (m ∷ ms) [] e f = absurd (grind (arith, nat_tests))
+alike l (m ∷ ms) (n ∷ ns) e f = test (is_same m n)
     (λ s. (
       same-wrapper m n s,
-      alike ms ns
+      alike _ ms ns
           (less (shared ms ns) (length ms) (sym (ap (λ b. cond b (suc (shared ms ns)) 0 == suc (length ms)) s) ∙ e))
           (less (shared ms ns) (length ns) (sym (ap (λ b. cond b (suc (shared ms ns)) 0 == suc (length ns)) s) ∙ f)),
     ))
@@ -293,61 +488,106 @@ latest-code true = refl
 latest-code false = refl
 
 module _ (w : Writing) (j k : Bool) (around : List Around) (y : Inline) (xs : Inlines)
-    (latest : w.latest ≡ latest_of j) (held : Held j false [] w.around xs) (gap : IsWhite w.gap.white)
-    (fits : FitAll false [] around) (leaf : IsLeaf k y) where
+    (latest : w.latest ≡ latest_of j) (gap : IsWhite w.gap.white) (fits : FitAll false [] around)
+    (leaf : IsLeaf k y) where
   abbrev wrappers : List Wrapper
   wrappers = map wrapper_of around
 
   abbrev n : ℕ
   n = shared w.around wrappers
 
-  abbrev Goes : Option Inline → Type 0
-  Goes g = Held k false [] wrappers (behind n (put n xs around g) around y)
+  abbrev Goes : List (List ℕ) → Option Inline → Type 0
+  Goes ids g = IsPut k false [] wrappers xs (behind n (put n xs around g ids) around y)
 
-  as-code : (s : List ℕ) (y' : Inline) → IsLeaf true y' → j ≡ true → AreAlike w.around wrappers → is_text s
-      ≡ true
-      → Held true false [] wrappers (behind n (put n xs around (Some (code s))) around y')
-  as-code s (code t) h e a i = code-held false [] w.around xs around s t
-      (subst (λ (b : Bool). Held b false [] w.around xs) e held) fits a i h.1
-  as-code s (text t) h e a i = true-false h.0
-  as-code s (image p q d) h e a i = true-false h.0
-  as-code s (anchor p) h e a i = absurd h
-  as-code s (value.formatted f ys) h e a i = absurd h
-  as-code s (link p q ys) h e a i = absurd h
-  as-code s line_break h e a i = absurd h
-  as-code s (task b) h e a i = absurd h
+  -- where code comes after code, without anchors between
+  record IsBetweenCodes : Type 0 where
+    was : j ≡ true
+    none : (length w.anchors == 0) ≡ true
+    same : AreAlike false w.around wrappers
 
-  plain : (g : Option Inline) → IsGap g → Goes g
-  plain g h = leaf-held j k false [] w.around xs around g y held fits h leaf
-
-  code-gap : (s : List ℕ) → k ≡ true → is_code_gap w wrappers ≡ true → is_text s ≡ true
-      → Goes (Some (code s))
-  code-gap s e c i =
-      let four = both-true (is_code_leaf w.latest && w.gap.is_code && (shared w.around wrappers == length w.around))
-      (shared w.around wrappers == length wrappers) c in
-      let three = both-true (is_code_leaf w.latest && w.gap.is_code) (shared w.around wrappers == length w.around)
-      four.0 in
+  between-codes : is_code_gap w wrappers ≡ true → IsBetweenCodes
+  between-codes c =
+      let five = both-true (is_code_leaf w.latest && w.gap.is_code && (length w.anchors == 0)
+      && (n == length w.around)) (n == length wrappers) c in
+      let four = both-true (is_code_leaf w.latest && w.gap.is_code && (length w.anchors == 0)) (n == length w.around)
+      five.0 in
+      let three = both-true (is_code_leaf w.latest && w.gap.is_code) (length w.anchors == 0) four.0 in
       let two = both-true (is_code_leaf w.latest) w.gap.is_code three.0 in
-      let was : j ≡ true = sym (latest-code j) ∙ (sym (ap is_code_leaf latest) ∙ two.0) in
-      subst (λ (b : Bool). Held b false [] wrappers (behind n (put n xs around (Some (code s))) around y)) (sym e)
-      (as-code s y (subst (λ (b : Bool). IsLeaf b y) e leaf) was
-      (alike w.around wrappers three.1 four.1) i)
+      record {
+        was = sym (latest-code j) ∙ (sym (ap is_code_leaf latest) ∙ two.0);
+        none = three.1;
+        same = alike false w.around wrappers four.1 five.1;
+      }
 
-  white-goes : (c : Bool) (s : List ℕ) → (k && is_code_gap w wrappers) ≡ c → IsWhite s → Goes (white_gap c s)
-  white-goes c [] e h = plain None tt
-  white-goes false (b ∷ s) e h = plain (Some (text (b ∷ s))) (white-text b s h)
-  white-goes true (b ∷ s) e h =
-      let parts = both-true k (is_code_gap w wrappers) e in
-      code-gap (b ∷ s) parts.0 parts.1 (white-text b s h)
+  module _ (held : Held j false [] w.around xs) where
+    as-code : (s : List ℕ) (y' : Inline) → IsLeaf true y' → j ≡ true → AreAlike false w.around wrappers
+        → is_text s ≡ true
+        → IsPut true false [] wrappers xs (behind n (put n xs around (Some (code s)) []) around y')
+    as-code s (code t) h e a i = code-held false [] w.around xs around s t
+        (subst (λ (b : Bool). Held b false [] w.around xs) e held) fits a i h.1
+    as-code s (text t) h e a i = true-false h.0
+    as-code s (image p q d) h e a i = true-false h.0
+    as-code s (anchor p) h e a i = absurd h
+    as-code s (value.formatted f ys) h e a i = absurd h
+    as-code s (link p q ys) h e a i = absurd h
+    as-code s line_break h e a i = absurd h
+    as-code s (task b) h e a i = absurd h
 
-  gap-goes : (b : Bool) → Goes (cond b (Some line_break) (white_gap (k && is_code_gap w wrappers) w.gap.white))
-  gap-goes true = plain (Some line_break) tt
-  gap-goes false = white-goes (k && is_code_gap w wrappers) w.gap.white refl gap
+    plain : (g : Option Inline) → IsGap g → Goes [] g
+    plain g h = leaf-put j k false [] w.around xs around g y held fits h leaf
 
-  pub goes-on : Goes (gap_of w around k)
-  goes-on = gap-goes w.gap.has_break
+    code-gap : (s : List ℕ) → k ≡ true → is_code_gap w wrappers ≡ true → is_text s ≡ true
+        → Goes [] (Some (code s))
+    code-gap s e c i =
+        let b : IsBetweenCodes = between-codes c in
+        subst (λ (b : Bool). IsPut b false [] wrappers xs (behind n (put n xs around (Some (code s)) []) around y))
+        (sym e) (as-code s y (subst (λ (b : Bool). IsLeaf b y) e leaf) b.was b.same i)
 
--- a task stays before what follows it
+    white-goes : (c : Bool) (s : List ℕ) → (k && is_code_gap w wrappers) ≡ c → IsWhite s
+        → Goes [] (white_gap c s)
+    white-goes c [] e h = plain None tt
+    white-goes false (b ∷ s) e h = plain (Some (text (b ∷ s))) (white-text b s h)
+    white-goes true (b ∷ s) e h =
+        let parts = both-true k (is_code_gap w wrappers) e in
+        code-gap (b ∷ s) parts.0 parts.1 (white-text b s h)
+
+    gap-goes : (b : Bool) → Goes [] (cond b (Some line_break) (white_gap (k && is_code_gap w wrappers) w.gap.white))
+    gap-goes true = plain (Some line_break) tt
+    gap-goes false = white-goes (k && is_code_gap w wrappers) w.gap.white refl gap
+
+  module _ (id : List ℕ) (ids : List (List ℕ)) (held : HeldFor (id ∷ ids) j w.around xs)
+      (all : AllIds (id ∷ ids))
+      (some : w.anchors ≡ id ∷ ids) where
+    waits : (g : Option Inline) → IsGap g → Goes (id ∷ ids) g
+    waits g h = wait-held k w.around xs around g id ids y held.0 held.1 fits h all leaf
+
+    no-codes : {A : Type 0} → is_code_gap w wrappers ≡ true → A
+    no-codes c = absurd (clash (sym (ap (λ is. length is == 0) some) ∙ (between-codes c).none))
+      where
+        clash : (length (id ∷ ids) == 0) ≡ true → ⊥
+        clash e = grind (arith, nat_tests)
+
+    white-waits : (c : Bool) (s : List ℕ) → (k && is_code_gap w wrappers) ≡ c → IsWhite s
+        → Goes (id ∷ ids) (white_gap c s)
+    white-waits c [] e h = waits None tt
+    white-waits false (b ∷ s) e h = waits (Some (text (b ∷ s))) (white-text b s h)
+    white-waits true (b ∷ s) e h = no-codes (both-true k (is_code_gap w wrappers) e).1
+
+    gap-waits : (b : Bool)
+        → Goes (id ∷ ids) (cond b (Some line_break) (white_gap (k && is_code_gap w wrappers) w.gap.white))
+    gap-waits true = waits (Some line_break) tt
+    gap-waits false = white-waits (k && is_code_gap w wrappers) w.gap.white refl gap
+
+  goes-by : (ids : List (List ℕ)) → w.anchors ≡ ids → HeldFor ids j w.around xs → AllIds ids
+      → Goes ids (gap_of w around k)
+  goes-by [] e held all = gap-goes held w.gap.has_break
+  goes-by (id ∷ ids) e held all = gap-waits id ids held all e w.gap.has_break
+
+  pub goes-on : HeldFor w.anchors j w.around xs → AllIds w.anchors → Goes w.anchors (gap_of w around k)
+  goes-on held all = goes-by w.anchors refl held all
+
+-- ---- a task stays before what follows it
+
 behind-task : (n : ℕ) (b : Bool) (xs : Inlines) (around : List Around) (y : Inline) → is_begun xs ≡ true
     → behind n (inline (task b) xs) around y ≡ inline (task b) (behind n xs around y)
 behind-task n b no_inlines around y e = false-true e
@@ -355,230 +595,185 @@ behind-task zero b (inline x xs) around y e = refl
 behind-task (suc n) b (inline x xs) [] y e = refl
 behind-task (suc n) b (inline x xs) (a ∷ around) y e = refl
 
-task-put : (n : ℕ) (b : Bool) (xs : Inlines) (around : List Around) (g : Option Inline) (y : Inline)
+ids-task : (n : ℕ) (b : Bool) (ids : List (List ℕ)) (xs : Inlines) (around : List Around) (y : Inline)
     → is_begun xs ≡ true
-    → behind n (put n (inline (task b) xs) around g) around y
-    ≡ inline (task b) (behind n (put n xs around g) around y)
-task-put n b xs around None y e = behind-task n b xs around y e
-task-put n b xs around (Some g) y e =
-    ap (λ zs. behind n zs around y) (behind-task n b xs (take n around) g e)
-    ∙ behind-task n b (behind n xs (take n around) g) around y (behind-begins n xs (take n around) g e).begun
+    → behind n (anchored n (inline (task b) xs) around ids) around y
+    ≡ inline (task b) (behind n (anchored n xs around ids) around y)
+ids-task n b [] xs around y e = behind-task n b xs around y e
+ids-task n b (id ∷ ids) xs around y e =
+    let ys : Inlines = behind n xs (take n around) (anchor id) in
+    ap (λ zs. behind n (anchored n zs around ids) around y) (behind-task n b xs (take n around) (anchor id) e)
+    ∙ ids-task n b ids ys around y (behind-begins n xs (take n around) (anchor id) e).begun
+
+task-put : (n : ℕ) (b : Bool) (xs : Inlines) (around : List Around) (g : Option Inline) (ids : List (List ℕ))
+    (y : Inline) → is_begun xs ≡ true
+    → behind n (put n (inline (task b) xs) around g ids) around y
+    ≡ inline (task b) (behind n (put n xs around g ids) around y)
+task-put n b xs around None ids y e = ids-task n b ids xs around y e
+task-put n b xs around (Some g) ids y e =
+    ap (λ zs. behind n (anchored n zs around ids) around y) (behind-task n b xs (take n around) g e)
+    ∙ ids-task n b ids (behind n xs (take n around) g) around y (behind-begins n xs (take n around) g e).begun
 
 -- ---- what shows
 
-abbrev result : {A B : Type 0} → (A → B) → Type 0
-result {A} {B} f = B
-
--- what showed last in a paragraph
-abbrev Shown : Type 0
-Shown = result latest_of
-
 module _ (n : ℕ) (in_item : Bool) (w : Writing) (h : IsNormalWriting n in_item w) (around : List Around)
     (k : Bool) (y : Inline) (fits : FitAll false [] around) (leaf : IsLeaf k y) where
-  -- the inlines after a leaf more, by what showed last
-  abbrev after : Shown → Inlines
-  after l = behind (cond (is_leaf l) (shared w.around (map wrapper_of around)) 0) (gap_behind l w around k) around y
+  abbrev ns : List Wrapper
+  ns = map wrapper_of around
 
   abbrev new : Writing
   new = shown w around k y
 
-  first-leaf : w.content ≡ no_inlines → IsLine k (map wrapper_of around) (behind 0 w.content around y)
-  first-leaf e = subst (λ (xs : Inlines). IsLine k (map wrapper_of around) (behind 0 xs around y)) (sym e) (record {
+  -- the inlines after a leaf more, with so many wrappers shared, by what stands before it
+  abbrev after : ℕ → Inlines → Inlines
+  after m xs = behind m (anchored m xs around w.anchors) around y
+
+  -- the first leaf, with anchors before it
+  first-line : (ids : List (List ℕ)) → AllIds ids
+      → IsLine [] k ns (behind 0 (anchored 0 no_inlines around ids) around y)
+  first-line [] all = record {
     held = wrapped-held k false [] around y fits leaf;
     no_space = wrapped-first around y (leaf-begins k y leaf);
     no_break = wrapped-first-break around y (leaf-no_break y (leaf-last k y leaf).leaf);
-    bare = behind-bare 0 no_inlines around y refl (leaf-bare k y leaf);
-  })
+    stands = put-stands no_inlines around None [] y tt (leaf-shown k y leaf) tt;
+  }
+  first-line (id ∷ ids) all =
+      let xs : Inlines = with_ids no_inlines (id ∷ ids) in
+      let are : AreAnchors xs = some-anchors id ids all in
+      let begins : BeginsAs xs (behind 0 xs around y) = behind-begins 0 xs around y are.begin.begun in
+      record {
+        held = anchor-put [] k xs around y are.last are.ends are.id fits leaf;
+        no_space = begins.space ∙ are.begin.no_space;
+        no_break = begins.break ∙ are.begin.no_break;
+        stands = put-stands no_inlines around None (id ∷ ids) y tt (leaf-shown k y leaf) tt;
+      }
 
-  task-text : (s : List ℕ) → is_text s ≡ true
-      → Held k false [] (map wrapper_of around) (joined (one_inline (text s)) (wrapped around y))
-  task-text s e = put-after k false [] (one_inline (text s)) (text s) around y (one-ends false [] (text s)) e fits leaf
-      (leaf-differs (text s) around refl)
+  first-leaf : w.content ≡ no_inlines → IsLine [] k ns (after 0 w.content)
+  first-leaf e = subst (λ (xs : Inlines). IsLine [] k ns (after 0 xs)) (sym e) (first-line w.anchors h.ids)
 
-  task-leaf : (b : Bool) → w.content ≡ one_inline (task b)
-      → IsTasked k (map wrapper_of around) (behind 0 (gap_after_task w) around y)
+  -- after a task a space, and then anchors
+  abbrev gap_text : Inlines
+  gap_text = one_inline (text (space ∷ []))
+
+  space-held : (ids : List (List ℕ)) → AllIds ids
+      → Held k false [] ns (behind 0 (anchored 0 gap_text around ids) around y)
+  space-held [] all =
+      put-after k false [] gap_text (text (space ∷ [])) around y (one-ends false [] (text (space ∷ []))) space-text
+      fits
+      leaf (leaf-differs (text (space ∷ [])) around refl)
+  space-held (id ∷ ids) all =
+      ids-put [] k gap_text (text (space ∷ [])) around id ids y (one-ends false [] (text (space ∷ []))) space-text
+      fits
+      all leaf
+
+  task-leaf : (b : Bool) → w.content ≡ one_inline (task b) → IsTasked [] k ns (after 0 (gap_after_task w))
   task-leaf b e =
-      let s : List ℕ = after_task w.gap.white in
-      let here : IsAfterTask s = after_task-text w.gap.white h.gap in
-      subst (λ (xs : Inlines). IsTasked k (map wrapper_of around) (behind 0 (behind 0 xs [] (text s)) around y))
-      (sym e)
+      subst (λ (xs : Inlines). IsTasked [] k ns (after 0 (behind 0 xs [] (text (space ∷ []))))) (sym e)
       (record {
         is_checked = b;
-        rest = joined (one_inline (text s)) (wrapped around y);
-        is = refl;
-        begins = (behind-begins 0 (one_inline (text s)) around y (not-false (from-text s here.text).some)).space
-            ∙ here.begins;
-        held = task-text s here.text;
-        bare =
-            joined-bare (one_inline (text s)) (wrapped around y) refl (wrapped-bare around y (leaf-bare k y leaf));
+        rest = after 0 gap_text;
+        is = ids-task 0 b w.anchors gap_text around y refl;
+        begins = (put-begins 0 gap_text around None w.anchors y refl).space;
+        held = space-held w.anchors h.ids;
+        stands = put-stands gap_text around None w.anchors y tt (leaf-shown k y leaf)
+            (tt, λ a. false-true a, tt);
       })
 
-  after-bare : (m : ℕ) (xs : Inlines) → have_anchor xs ≡ false
-      → have_anchor (behind m (put m xs around (gap_of w around k)) around y) ≡ false
-  after-bare m xs e =
-      behind-bare m (put m xs around (gap_of w around k)) around y
-      (put-bare m xs around (gap_of w around k) e (gap-bare w around k)) (leaf-bare k y leaf)
-
-  next-leaf : (j : Bool) → w.latest ≡ latest_of j → IsLine j w.around w.content
-      → IsLine k (map wrapper_of around)
-      (behind (shared w.around (map wrapper_of around)) (gap_before w around k) around y)
+  next-leaf : (j : Bool) → w.latest ≡ latest_of j → IsLine w.anchors j w.around w.content
+      → IsLine [] k ns (after (shared w.around ns) (gap_before w around k))
   next-leaf j e l =
-      let m : ℕ = shared w.around (map wrapper_of around) in
+      let m : ℕ = shared w.around ns in
       let g : Option Inline = gap_of w around k in
-      let whole : IsWhole false [] w.content = held-whole j false [] w.around w.content l.held in
-      let begins : BeginsAs w.content (behind m (put m w.content around g) around y) =
-      put-begins m w.content around g y (normal-begun false [] w.content whole.normal whole.some) in
-      subst (λ (xs : Inlines). IsLine k (map wrapper_of around) (behind m xs around y)) (sym (gap-put w around k))
+      let whole : IsWhole false [] w.content = for-whole w.anchors j w.around w.content l.held in
+      let begins : BeginsAs w.content (behind m (put m w.content around g w.anchors) around y) =
+      put-begins m w.content around g w.anchors y (normal-begun false [] w.content whole.normal whole.some) in
+      let goes : IsPut k false [] ns w.content (behind m (put m w.content around g w.anchors) around y) =
+      goes-on w j k around y w.content e h.gap fits leaf l.held h.ids in
+      subst (λ (xs : Inlines). IsLine [] k ns (after m xs)) (sym (gap-put w around k))
       (record {
-        held = goes-on w j k around y w.content e l.held h.gap fits leaf;
+        held = goes.held;
         no_space = begins.space ∙ l.no_space;
         no_break = begins.break ∙ l.no_break;
-        bare = after-bare m w.content l.bare;
+        stands = goes.stands l.stands;
       })
 
-  next-tasked : (j : Bool) → w.latest ≡ latest_of j → IsTasked j w.around w.content
-      → IsTasked k (map wrapper_of around) (behind (shared w.around (map wrapper_of around)) (gap_before w around k)
-      around y)
+  next-tasked : (j : Bool) → w.latest ≡ latest_of j → IsTasked w.anchors j w.around w.content
+      → IsTasked [] k ns (after (shared w.around ns) (gap_before w around k))
   next-tasked j e l =
-      let m : ℕ = shared w.around (map wrapper_of around) in
+      let m : ℕ = shared w.around ns in
       let g : Option Inline = gap_of w around k in
-      let whole : IsWhole false [] l.rest = held-whole j false [] w.around l.rest l.held in
+      let whole : IsWhole false [] l.rest = for-whole w.anchors j w.around l.rest l.held in
       let begun : is_begun l.rest ≡ true = normal-begun false [] l.rest whole.normal whole.some in
-      subst (λ (xs : Inlines). IsTasked k (map wrapper_of around) (behind m xs around y)) (sym (gap-put w around k))
+      let goes : IsPut k false [] ns l.rest (behind m (put m l.rest around g w.anchors) around y) =
+      goes-on w j k around y l.rest e h.gap fits leaf l.held h.ids in
+      subst (λ (xs : Inlines). IsTasked [] k ns (after m xs)) (sym (gap-put w around k))
       (record {
         is_checked = l.is_checked;
-        rest = behind m (put m l.rest around g) around y;
-        is = ap (λ xs. behind m (put m xs around g) around y) l.is
-            ∙ task-put m l.is_checked l.rest around g y begun;
-        begins = (put-begins m l.rest around g y begun).space ∙ l.begins;
-        held = goes-on w j k around y l.rest e l.held h.gap fits leaf;
-        bare = after-bare m l.rest l.bare;
+        rest = behind m (put m l.rest around g w.anchors) around y;
+        is = ap (λ xs. behind m (put m xs around g w.anchors) around y) l.is
+            ∙ task-put m l.is_checked l.rest around g w.anchors y begun;
+        begins = (put-begins m l.rest around g w.anchors y begun).space ∙ l.begins;
+        held = goes.held;
+        stands = goes.stands l.stands;
       })
 
   leaf-state : State w → State new
   leaf-state (at_nothing e f) =
-      at_leaf k refl (subst (λ l. IsLine k (map wrapper_of around) (after l)) (sym e) (first-leaf f))
+      at_leaf k refl
+      (subst (λ l. IsLine [] k ns (after (cond (is_leaf l) (shared w.around ns) 0) (gap_behind l w around k))) (sym e)
+      (first-leaf f))
   leaf-state (at_task b e f g) =
       in_task k refl (record { in_item = f.in_item; alone = f.alone })
-      (subst (λ l. IsTasked k (map wrapper_of around) (after l)) (sym e) (task-leaf b g))
+      (subst (λ l. IsTasked [] k ns (after (cond (is_leaf l) (shared w.around ns) 0) (gap_behind l w around k)))
+      (sym e)
+      (task-leaf b g))
   leaf-state (at_leaf true e f) =
-      at_leaf k refl (subst (λ l. IsLine k (map wrapper_of around) (after l)) (sym e) (next-leaf true e f))
+      at_leaf k refl
+      (subst (λ l. IsLine [] k ns (after (cond (is_leaf l) (shared w.around ns) 0) (gap_behind l w around k))) (sym e)
+      (next-leaf true e f))
   leaf-state (at_leaf false e f) =
-      at_leaf k refl (subst (λ l. IsLine k (map wrapper_of around) (after l)) (sym e) (next-leaf false e f))
+      at_leaf k refl
+      (subst (λ l. IsLine [] k ns (after (cond (is_leaf l) (shared w.around ns) 0) (gap_behind l w around k))) (sym e)
+      (next-leaf false e f))
   leaf-state (in_task true e f g) =
       in_task k refl (record { in_item = f.in_item; alone = f.alone })
-      (subst (λ l. IsTasked k (map wrapper_of around) (after l)) (sym e) (next-tasked true e g))
+      (subst (λ l. IsTasked [] k ns (after (cond (is_leaf l) (shared w.around ns) 0) (gap_behind l w around k)))
+      (sym e)
+      (next-tasked true e g))
   leaf-state (in_task false e f g) =
       in_task k refl (record { in_item = f.in_item; alone = f.alone })
-      (subst (λ l. IsTasked k (map wrapper_of around) (after l)) (sym e) (next-tasked false e g))
+      (subst (λ l. IsTasked [] k ns (after (cond (is_leaf l) (shared w.around ns) 0) (gap_behind l w around k)))
+      (sym e)
+      (next-tasked false e g))
 
   pub shown-normal : IsNormalWriting n in_item new
   shown-normal = record {
     item = h.item;
     done = h.done;
     gap = white-none;
+    ids = tt;
+    fresh = λ e. false-true e;
     state = leaf-state h.state;
   }
 
-pub leaf-normal : (n : ℕ) (in_item : Bool) (w : Writing) (around : List Around) (k : Bool) (y : Inline)
-    → IsNormalWriting n in_item w → FitAll false [] around → IsLeaf k y
-    → IsNormalWriting n in_item (after_leaf w around k y)
-leaf-normal n in_item w around k y h fits leaf =
-    shown-normal n in_item (parted w) (parted-normal n in_item w h) around k y fits leaf
+-- ---- the one line
 
--- ---- tasks
-
-here-normal : (n : ℕ) (in_item : Bool) (w : Writing) (b : Bool) → IsNormalWriting n in_item w
-    → is_task_here w ≡ true → IsNormalWriting n in_item (record w {
-      content = one_inline (task b);
-      latest = (tasked (begun true false) false).latest;
-      around = [];
-      gap = no_gap;
-      is_blank = false;
-      breaks = 0;
-    })
-here-normal n in_item w b h e =
-    let two = both-true (w.in_item && (length w.done == 0)) w.is_blank e in
-    let one = both-true w.in_item (length w.done == 0) two.0 in
-    record {
-      item = h.item;
-      done = h.done;
-      gap = white-none;
-      state = at_task b refl (record { in_item = one.0; alone = none w.done one.1 }) refl;
-    }
+pub line-normal-in : (n : ℕ) (w : Writing) → IsNormalWriting n false w → w.anchors ≡ []
+    → IsLineWell (whole_content w)
+line-normal-in n w h e =
+    subst (λ (ids : List (List ℕ)). IsLineWell (anchored 0 (shown_content w) [] ids)) (sym e) (at h.state)
   where
-    none : (bs : List Block) → (length bs == 0) ≡ true → bs ≡ []
-    none [] e = refl
-    none (c ∷ bs) e = absurd (grind (arith, nat_tests))
+    leaf : (k : Bool) → is_leaf (latest_of k) ≡ true
+    leaf true = refl
+    leaf false = refl
 
-kept-normal : (n : ℕ) (in_item : Bool) (w : Writing) → IsNormalWriting n in_item w
-    → IsNormalWriting n in_item (record w { breaks = 0 })
-kept-normal n in_item w h = record {
-  item = h.item;
-  done = h.done;
-  gap = h.gap;
-  state = state-kept (record w { breaks = 0 }) w
-      (record { item = refl; done = refl; latest = refl; content = refl; around = refl }) h.state;
-}
+    none : is_leaf w.latest ≡ false → IsLineWell (shown_content w)
+    none l = subst (λ (b : Bool). IsLineWell (cond b w.content no_inlines)) (sym l) (refl, tt)
 
-pub tasked-normal : (n : ℕ) (in_item : Bool) (w : Writing) (b : Bool) → IsNormalWriting n in_item w
-    → IsNormalWriting n in_item (tasked w b)
-tasked-normal n in_item w b h = test (is_task_here w)
-    (λ e. subst (λ (c : Bool). IsNormalWriting n in_item (cond c here (record w { breaks = 0 }))) (sym e)
-    (here-normal n in_item w b h e))
-    (λ e. subst (λ (c : Bool). IsNormalWriting n in_item (cond c here (record w { breaks = 0 }))) (sym e)
-    (kept-normal n in_item w h))
-  where
-    here : Writing
-    here = record w {
-      content = one_inline (task b);
-      latest = (tasked (begun true false) false).latest;
-      around = [];
-      gap = no_gap;
-      is_blank = false;
-      breaks = 0;
-    }
-
--- ---- characters
-
--- characters that are no U+0000
-abbrev pub is_text_character : ℕ → Bool
-is_text_character c = not (c == null)
-
-pub character-normal : (n : ℕ) (in_item : Bool) (w : Writing) (around : List Around) (k : Bool) (c : ℕ)
-    → IsNormalWriting n in_item w → FitAll false [] around → scalar c ≡ true → is_text_character c ≡ true
-    → IsNormalWriting n in_item (after_character w around k c)
-character-normal n in_item w around k c h fits s t = test (is_white c)
-    (λ e. subst (λ (b : Bool). IsNormalWriting n in_item (cond b (spaced_out w c k) (after_leaf w around k
-    (text_or_code k (encode_utf8 c))))) (sym e) (spaced_out-normal n in_item w c k h s e))
-    (λ e. subst (λ (b : Bool). IsNormalWriting n in_item (cond b (spaced_out w c k) (after_leaf w around k
-    (text_or_code k (encode_utf8 c))))) (sym e)
-    (leaf-normal n in_item w around k (text_or_code k (encode_utf8 c)) h fits
-    (word-leaf k (encode_utf8 c) (character-word c s e (from-not (c == null) t)))))
-
-pub characters-normal : (n : ℕ) (in_item : Bool) (cs : List ℕ) (w : Writing) (around : List Around) (k : Bool)
-    → IsNormalWriting n in_item w → FitAll false [] around → scalars cs ≡ true
-    → list_all is_text_character cs ≡ true
-    → IsNormalWriting n in_item (fold (λ v c. after_character v around k c) w cs)
-characters-normal n in_item [] w around k h fits s t = h
-characters-normal n in_item (c ∷ cs) w around k h fits s t =
-    let good = both-true (scalar c) (scalars cs) s in
-    let seen = both-true (is_text_character c) (list_all is_text_character cs) t in
-    characters-normal n in_item cs (after_character w around k c) around k
-    (character-normal n in_item w around k c h fits good.0 seen.0) fits good.1 seen.1
-
--- ---- the blocks, and the one line
-
-pub blocks-normal : (n : ℕ) (in_item : Bool) (w : Writing) → IsNormalWriting n in_item w
-    → FineBlocks n in_item (blocks_in w)
-blocks-normal n in_item w h = blocks-fine n in_item (ended w).done (ended-normal n in_item w h).done
-
-pub line-in-normal : (n : ℕ) (w : Writing) → IsNormalWriting n false w
-    → IsBareLine (line_in w)
-line-in-normal n w h = at h.state
-  where
-    at : State w → IsBareLine w.content
-    at (at_nothing e f) = (ap is_normal_line f, ap have_anchor f)
-    at (at_task b e f g) = true-false (sym f.in_item ∙ h.item)
-    at (at_leaf k e f) = (line-normal k w.around w.content f).0
-    at (in_task k e f g) = true-false (sym f.in_item ∙ h.item)
+    at : State w → IsLineWell (shown_content w)
+    at (at_nothing l f) = none (ap is_leaf l)
+    at (at_task b l f g) = none (ap is_leaf l)
+    at (at_leaf k l f) =
+        subst (λ (b : Bool). IsLineWell (cond b w.content no_inlines)) (sym (ap is_leaf l ∙ leaf k))
+        (line-normal w.anchors k w.around w.content f, f.stands)
+    at (in_task k l f g) = true-false (sym f.in_item ∙ h.item)

@@ -15,9 +15,9 @@ use Rattle.htmd_lexical.proofs.Cases.{test}
 use Rattle.htmd_text.proofs.PlainTextLemmas.{chars_ascii}
 use Rattle.htmd_text.specs.Joins.{joined_texts}
 use Rattle.htmd_text.specs.Trims.{trimmed_start, is_line_feed}
-use Rattle.htmd_document_of_tree.specs.Attributes.{is_filled, words, in_line}
-use Rattle.htmd_document_of_tree.specs.ShownTexts.{shown_text}
-use Rattle.htmd_document_of_tree.specs.Spaces.{is_white, is_wide_space}
+use Rattle.htmd_shown.specs.Attributes.{is_filled, words, in_line}
+use Rattle.htmd_shown.specs.ShownTexts.{shown_text}
+use Rattle.htmd_shown.specs.Spaces.{is_white, is_wide_space}
 use Rattle.htmd_law_documents.specs.DocumentTexts.{is_visible, visible}
 use Rattle.htmd_law_documents.proofs.VisibleLemmas.{Shows, shows-itself, shows-nil, shows-append, text-same, seen-same}
 use Rattle.htmd_law_documents.proofs.VisibleLemmas.{visible-append, white-unseen, shown-shows}

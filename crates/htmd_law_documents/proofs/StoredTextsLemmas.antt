@@ -1,69 +1,21 @@
 -- The trees of the source hold texts in UTF-8.
 use Rattle.std.proofs.Common.{◌≡◌, ℕ, zero, suc, Bool, true, false, cond, ◌&&◌, List, [], ◌∷◌, refl, ap, ◌∙◌}
-use Rattle.std.proofs.Common.{All, Some}
-use Rattle.std.specs.Prelude.{codes}
+use Rattle.std.proofs.Common.{All}
 use Rattle.std.specs.List.{list_all}
-use Rattle.std.specs.Option.{unwrap_or}
-use Rattle.std.specs.Str.{IsUtf8, bytes_eq}
+use Rattle.std.specs.Str.{IsUtf8}
 use Rattle.std.proofs.lemmas.List.Elements.{All-head, All-tail}
-use Rattle.std.proofs.lemmas.Str.{is_utf8-from_IsUtf8, IsUtf8-nil}
+use Rattle.std.proofs.lemmas.Str.{is_utf8-from_IsUtf8}
 use Rattle.htmd_lexical.specs.AttributePairs.{AttributePair}
 use Rattle.htmd_nodes.specs.Items.{Item, Data, document_node, doctype_node, text_node, comment_node, element_node}
 use Rattle.htmd_nodes.specs.Items.{HoldsText, HoldTexts, is_child, data_at}
 use Rattle.htmd_nodes.specs.NumberedTrees.{NumberedForest, more, with_children, forest_from, tree_of}
-use Rattle.htmd_document_of_tree.specs.Attributes.{value_of, text_of}
-use Rattle.htmd_law_documents.specs.TreeTexts.{holds_texts, hold_texts}
 use Rattle.htmd_law_documents.specs.TreeForms.{is_text_value, is_text_tree, are_text_trees}
-
-value-text : (name : List ℕ) (attributes : List AttributePair)
-    → All (λ (a : AttributePair). IsUtf8 a.value) attributes
-    → IsUtf8 (text_of name attributes)
-value-text name [] h = IsUtf8-nil
-value-text name (a ∷ attributes) h =
-    either (bytes_eq a.name name) (All-head (λ (x : AttributePair). IsUtf8 x.value) a attributes h)
-    (value-text name attributes (All-tail (λ (x : AttributePair). IsUtf8 x.value) a attributes h))
-  where
-    either : (b : Bool) → IsUtf8 a.value → IsUtf8 (unwrap_or (value_of name attributes) [])
-        → IsUtf8 (unwrap_or (cond b (Some a.value) (value_of name attributes)) [])
-    either true g f = g
-    either false g f = f
-
-node-holds : (id : ℕ) (d : Data) (children : NumberedForest) → HoldsText d → hold_texts children ≡ true
-    → holds_texts (with_children id d children) ≡ true
-node-holds id document_node children h e = e
-node-holds id doctype_node children h e = refl
-node-holds id (text_node s) children h e = is_utf8-from_IsUtf8 s h
-node-holds id (comment_node s) children h e = refl
-node-holds id (element_node name attributes) children h e =
-    let alt : List ℕ = text_of (codes "alt") attributes in
-    ap (λ b. b && hold_texts children) (is_utf8-from_IsUtf8 alt (value-text (codes "alt") attributes h)) ∙ e
-
-forest-holds : (items : List Item) (b p : ℕ) → HoldTexts items → hold_texts (forest_from b items p) ≡ true
-unfolding forest_from
-forest-holds [] b p h = refl
-forest-holds (item ∷ items) b p h =
-    let here : HoldsText item.node_data = All-head (λ (i : Item). HoldsText i.node_data) item items h in
-    let rest : HoldTexts items = All-tail (λ (i : Item). HoldsText i.node_data) item items h in
-    either (is_child p item.parent) (with_children b item.node_data (forest_from (suc b) items b))
-    (forest_from (suc b) items p)
-    (node-holds b item.node_data (forest_from (suc b) items b) here (forest-holds items (suc b) b rest))
-    (forest-holds items (suc b) p rest)
-  where
-    either : (c : Bool) (t : _) (ts : NumberedForest) → holds_texts t ≡ true → hold_texts ts ≡ true
-        → hold_texts (cond c (more t ts) ts) ≡ true
-    either true t ts g f = ap (λ x. x && hold_texts ts) g ∙ f
-    either false t ts g f = f
 
 data-holds : (items : List Item) (id : ℕ) → HoldTexts items → HoldsText (data_at items id)
 data-holds [] id h = tt
 data-holds (item ∷ items) zero h = All-head (λ (i : Item). HoldsText i.node_data) item items h
 data-holds (item ∷ items) (suc id) h =
     data-holds items id (All-tail (λ (i : Item). HoldsText i.node_data) item items h)
-
-pub tree-holds : (items : List Item) (id : ℕ) → HoldTexts items → holds_texts (tree_of items id) ≡ true
-unfolding tree_of
-tree-holds items id h = node-holds id (data_at items id) (forest_from 0 items id) (data-holds items id h)
-    (forest-holds items 0 id h)
 
 -- ---- all values
 

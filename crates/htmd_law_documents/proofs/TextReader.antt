@@ -1,38 +1,41 @@
 -- The reader that takes the visible characters alone, and whether texts are UTF-8.
 use Rattle.std.proofs.Common.{◌≡◌, ℕ, Bool, true, false, cond, List, [], ◌∷◌, ◌++◌, map, refl, sym, ap, ◌∙◌}
 use Rattle.std.proofs.Common.{Option, Some, None}
-use Rattle.std.specs.Prelude.{if◌then◌else◌, is_some, codes}
+use Rattle.std.specs.Prelude.{if◌then◌else◌, is_some, codes, not, ◌&&◌}
 use Rattle.std.specs.List.{flat_map, list_all}
 use Rattle.std.specs.Str.{is_utf8, IsUtf8}
 use Rattle.std.proofs.lemmas.List.{map-append}
 use Rattle.std.proofs.lemmas.List.Folds.{list_all-append}
 use Rattle.std.proofs.lemmas.Grind.{flat_map-append}
 use Rattle.std.proofs.lemmas.Str.{IsUtf8-append, IsUtf8-nil, IsUtf8-from_is_utf8, is_utf8-from_IsUtf8}
-use Rattle.htmd_lexical.specs.Characters.{quotation_mark}
 use Rattle.htmd_lexical.specs.AttributePairs.{AttributePair}
 use Rattle.htmd_lexical.proofs.Cases.{test}
-use Rattle.htmd_nodes.specs.NumberedTrees as node
-use Rattle.htmd_nodes.specs.NumberedTrees.{NumberedTree, NumberedForest, none, more}
-use Rattle.htmd_document_of_tree.specs.AllTexts.{all_text_among}
-use Rattle.htmd_document_of_tree.specs.Attributes.{text_of}
-use Rattle.htmd_document_of_tree.specs.Contexts.{Context}
+use Rattle.htmd_document.specs.Formats.{of_format, of_element}
 use Rattle.htmd_document.specs.Documents.{Inline, text, code, formatted, link, image, line_break, task, Inlines}
 use Rattle.htmd_document.specs.Documents.{anchor}
 use Rattle.htmd_document.specs.Documents.{no_inlines, inline, Block, paragraph, heading, code_block, quote}
 use Rattle.htmd_document.specs.Documents.{thematic_break, list, table, Blocks, no_blocks, block, Items, no_items, item}
-use Rattle.htmd_document_of_tree.specs.Flows.{is_grid, lines_of_table}
-use Rattle.htmd_document_of_tree.specs.Roles.{role_of, table_role, heading_or_block, inline_role}
+use Rattle.htmd_shown.specs.declared.facts.Facts.{Facts}
+use Rattle.htmd_shown.specs.declared.role.Role.{Role}
+use Rattle.htmd_shown.specs.declared.role.Role.TheVariants as role
+use Rattle.htmd_shown.specs.AllTexts.{all_text_among, dollar_sign}
+use Rattle.htmd_shown.specs.Attributes.{text_of, title_of, address}
+use Rattle.htmd_shown.specs.Roles.{is_void}
+use Rattle.htmd_shown.specs.SimpleTrees as simple
+use Rattle.htmd_shown.specs.SimpleTrees.{Simple, Simples, none, more}
+use Rattle.htmd_flow.specs.Contexts.{Context, inside_format, in_one_line}
+use Rattle.htmd_flow.specs.Flows.{linked_by, around_heading, is_grid_of}
 use Rattle.htmd_law_documents.specs.DocumentTexts.{text_of_inline, text_of_line, text_of_cells, text_of_rows}
 use Rattle.htmd_law_documents.specs.DocumentTexts.{text_of_block, text_of_blocks, text_of_items, visible}
+use Rattle.htmd_law_documents.specs.SimpleForms.{IsSound, AreSound}
+use Rattle.htmd_law_documents.specs.SimpleTexts.{formula_said, flat_in, grid_in, text_of_simple, text_of_simples}
+use Rattle.htmd_law_documents.specs.TreeWrappers.{inside_heading}
 use Rattle.htmd_law_documents.proofs.VisibleLemmas.{Shows, shows-nil, shows-append, seen-same, visible-append}
 use Rattle.htmd_law_documents.proofs.VisibleLemmas.{both-true}
-use Rattle.htmd_law_documents.proofs.KindLemmas.{Kind, any-kind}
-use Rattle.htmd_law_documents.proofs.SeenLemmas.{seen_as, seen, seen_all, IsGoodElement, IsGood, AreGood}
-use Rattle.htmd_law_documents.proofs.ElementLemmas.{wrapper-shows}
-use Rattle.htmd_law_documents.proofs.TreeLemmas.{all-texts-show}
-use Rattle.htmd_law_documents.proofs.NormalTextLemmas.{false-true}
+use Rattle.htmd_law_documents.proofs.ElementLemmas.{false-true, dollar-shows, all-texts-show, simple-utf8, simples-utf8}
 use Rattle.htmd_law_documents.proofs.Readers.{Reader, read_inline, read_line, read_cells, read_block, read_blocks}
-use Rattle.htmd_law_documents.proofs.Readers.{read_items, read_by, read_tree, read_trees}
+use Rattle.htmd_law_documents.proofs.Readers.{read_items, read_formula, read_by, read_tree, read_trees, no-marks}
+use Rattle.htmd_law_documents.proofs.WrapperElementLemmas.{format-change, link-change}
 
 -- the visible characters of a text, or none where it isn't UTF-8
 abbrev pub taken : List ℕ → List (Option ℕ)
@@ -56,6 +59,7 @@ texts = record {
   as_format = λ format. tt;
   as_link = λ address. tt;
   read = λ wrappers is_code s. taken s;
+  mark = λ id. [];
   nothing = λ wrappers is_code. taken-good [] IsUtf8-nil ∙ ap (map Some) shows-nil.is;
   joins = λ wrappers is_code s t u v. taken-append s t u v;
   same = λ wrappers is_code s t u v e. taken-good s u ∙ (ap (map Some) e ∙ sym (taken-good t v));
@@ -166,79 +170,87 @@ blocks-say bs cs e =
     seen-same (text_of_blocks bs) (all_given (read_blocks texts bs)) cs (ap all_given e ∙ some-given cs)
     (blocks-show bs (ap (list_all is_some) e ∙ some-all cs))
 
--- ---- trees
+-- ---- the simpler tree
 
-quotes-taken : (inner : List (Option ℕ)) (cs : List ℕ) → inner ≡ map Some cs
-    → (taken (quotation_mark ∷ []) ++ inner) ++ taken (quotation_mark ∷ [])
-    ≡ map Some ((quotation_mark ∷ cs) ++ quotation_mark ∷ [])
-quotes-taken inner cs e =
-    let one : taken (quotation_mark ∷ []) ≡ Some quotation_mark ∷ [] =
-    taken-good (quotation_mark ∷ []) wrapper-shows.utf8 ∙ ap (map Some) wrapper-shows.is in
-    ap (λ t. (t ++ inner) ++ t) one
-    ∙ (ap (λ t. (Some quotation_mark ∷ t) ++ Some quotation_mark ∷ []) e
-    ∙ sym (map-append Some (quotation_mark ∷ cs) (quotation_mark ∷ [])))
+-- in a context all is one line as it is said of an element
+module _ (id : ℕ) (facts : Facts) (attributes : List AttributePair) (content : Simples) (holds_grid : Bool)
+    (inner : Context → Bool → List (Option ℕ))
+    (e : (c : Context) (g : Bool) → inner c g ≡ taken (text_of_simples c.is_flat g content))
+    (s : Shows (all_text_among content) (visible (text_of_simples true false content)))
+    (u : IsUtf8 (text_of_simples true false content)) (c : Context) where
+  abbrev by : Role → Bool → List (Option ℕ)
+  by r g = read_by texts r id facts attributes (all_text_among content) holds_grid inner c g
 
-module _ (id : ℕ) (attributes : List AttributePair) (children : NumberedForest) (all : List ℕ) (holds_grid : Bool)
-    (inner : Context → Bool → List (Option ℕ)) (e : (c : Context) (b : Bool) → inner c b ≡ map Some
-    (seen_all children))
-    (s : Shows all (seen_all children)) (c : Context) (b : Bool) where
-  by-taken : (name : List ℕ) → IsGoodElement (role_of name) attributes children
-      → read_by texts (role_of name) id attributes all holds_grid inner c b
-      ≡ map Some (seen_as (role_of name) attributes (seen_all children))
-  unfolding role_of table_role heading_or_block inline_role
-  by-taken name =
-      any-kind (λ (r : Kind). IsGoodElement r attributes children
-      → read_by texts r id attributes all holds_grid inner c b ≡ map Some
-      (seen_as r attributes (seen_all children)))
-      name (record {
-        paragraph = λ g. e _ _;
-        item = λ g. e _ _;
-        bullet_list = λ g. e _ _;
-        numbered_list = λ g. e _ _;
-        verbatim = λ g. taken-good all s.utf8 ∙ ap (map Some) s.is;
-        block_quote = λ g. e _ _;
-        thematic_break = λ g. refl;
-        table = λ g. e _ _;
-        caption = λ g. e _ _;
-        table_head = λ g. e _ _;
-        table_body = λ g. e _ _;
-        row = λ g. e _ _;
-        cell = λ g. e _ _;
-        header_cell = λ g. e _ _;
-        heading_1 = λ g. e _ _;
-        heading_2 = λ g. e _ _;
-        heading_3 = λ g. e _ _;
-        heading_4 = λ g. e _ _;
-        heading_5 = λ g. e _ _;
-        heading_6 = λ g. e _ _;
-        block = λ g. e _ _;
-        format = λ f g. e _ _;
-        element = λ x g. e _ _;
-        code = λ g. e _ _;
-        anchor = λ g. e _ _;
-        quotation = λ g. quotes-taken (inner c false) (seen_all children) (e c false);
-        apart = λ g. e _ _;
-        line_break = λ g. refl;
-        image = λ g. taken-good (text_of (codes "alt") attributes) g.value;
-        input = λ g. e _ _;
-        plain = λ g. e _ _;
-      })
+  abbrev said : Role → Bool → List ℕ
+  said r g = cond (is_void r) [] (text_of_simples (flat_in r c.is_flat g) (grid_in r holds_grid g) content)
+
+  -- in another context in which as much is one line
+  as-flat : (d : Context) (flat : Bool) → d.is_flat ≡ flat
+      → inner d false ≡ taken (text_of_simples flat false content)
+  as-flat d flat f = e d false ∙ ap (λ b. taken (text_of_simples b false content)) f
+
+  all-taken : taken (all_text_among content) ≡ taken (text_of_simples true false content)
+  all-taken = taken-good (all_text_among content) s.utf8 ∙ (ap (map Some) s.is
+      ∙ sym (taken-good (text_of_simples true false content) u))
+
+  heading-flat : (b : Bool) → c.is_flat ≡ b
+      → (cond b c (in_one_line (around_heading facts c))).is_flat ≡ true
+  heading-flat true f = f
+  heading-flat false f = refl
+
+  by-taken : (r : Role) (g : Bool) → by r g ≡ taken (said r g)
+  by-taken role.LineBreak g = sym (taken-good [] IsUtf8-nil ∙ ap (map Some) shows-nil.is)
+  by-taken role.ThematicBreak g = sym (taken-good [] IsUtf8-nil ∙ ap (map Some) shows-nil.is)
+  by-taken role.Preformatted g = all-taken
+  by-taken role.Verbatim g = all-taken
+  by-taken (role.Heading level) g =
+      as-flat (inside_heading facts c) true (heading-flat c.is_flat refl)
+  by-taken (role.Format f) g =
+      as-flat (inside_format (of_format f) c) c.is_flat (format-change (of_format f) c).flat
+  by-taken (role.Element f) g =
+      as-flat (inside_format (of_element f) c) c.is_flat (format-change (of_element f) c).flat
+  by-taken role.Link g =
+      as-flat (linked_by id attributes c) c.is_flat
+      (link-change id (address (text_of (codes "href") attributes)) (title_of attributes) c).flat
+  by-taken role.Cell true = e _ _
+  by-taken role.Cell false = e _ _
+  by-taken role.HeaderCell true = e _ _
+  by-taken role.HeaderCell false = e _ _
+  by-taken r g = e _ _
+
+-- a formula
+formula-taken : (tex : List ℕ) → IsUtf8 tex → (is_alone : Bool) (c : Context)
+    → read_formula texts c is_alone tex ≡ taken (formula_said (is_alone && not c.is_flat) tex)
+formula-taken tex u is_alone c = either (is_alone && not c.is_flat)
+  where
+    mark : List ℕ
+    mark = dollar_sign ∷ []
+
+    either : (b : Bool)
+        → cond b (taken tex) ((taken mark ++ taken tex) ++ taken mark) ≡ taken (formula_said b tex)
+    either true = refl
+    either false =
+        sym (taken-append (dollar_sign ∷ tex) mark (IsUtf8-append mark tex dollar-shows.utf8 u) dollar-shows.utf8
+        ∙ ap (λ x. x ++ taken mark) (taken-append mark tex dollar-shows.utf8 u))
 
 mutual
-  pub tree-taken : (t : NumberedTree) → IsGood t → (c : Context) (b : Bool)
-      → read_tree texts t c b ≡ map Some (seen t)
-  tree-taken (node.document id children) g c b = trees-taken children g c false
-  tree-taken (node.doctype id) g c b = refl
-  tree-taken (node.text id s) g c b = taken-good s g
-  tree-taken (node.comment id s) g c b = refl
-  tree-taken (node.element id name attributes children) g c b =
-      by-taken id attributes children (all_text_among children) (is_grid children (lines_of_table children))
-      (read_trees texts children) (trees-taken children g.1) (all-texts-show children g.1) c b name g.0
+  pub tree-taken : (t : Simple) → IsSound t → (c : Context) (g : Bool)
+      → read_tree texts t c g ≡ taken (text_of_simple c.is_flat g t)
+  tree-taken (simple.text s) u c g = refl
+  tree-taken (simple.image address attributes) u c g = refl
+  tree-taken (simple.formula tex is_alone attributes) u c g = formula-taken tex u is_alone c
+  tree-taken (simple.embedded id address title attributes anchors) u c g =
+      ap (λ xs. xs ++ taken title) (no-marks texts (λ i. refl) anchors)
+  tree-taken (simple.anchor id) u c g = sym (taken-good [] IsUtf8-nil ∙ ap (map Some) shows-nil.is)
+  tree-taken (simple.element id r facts attributes content) u c g =
+      by-taken id facts attributes content (is_grid_of content) (read_trees texts content) (trees-taken content u.1)
+      (all-texts-show content u.1 false) (simples-utf8 content u.1 true false) c r g
 
-  trees-taken : (ts : NumberedForest) → AreGood ts → (c : Context) (b : Bool)
-      → read_trees texts ts c b ≡ map Some (seen_all ts)
-  trees-taken none g c b = refl
-  trees-taken (more t ts) g c b =
-      ap (λ xs. xs ++ read_trees texts ts c b) (tree-taken t g.0 c b)
-      ∙ (ap (λ xs. map Some (seen t) ++ xs) (trees-taken ts g.1 c b)
-      ∙ sym (map-append Some (seen t) (seen_all ts)))
+  pub trees-taken : (ts : Simples) → AreSound ts → (c : Context) (g : Bool)
+      → read_trees texts ts c g ≡ taken (text_of_simples c.is_flat g ts)
+  trees-taken none u c g = sym (taken-good [] IsUtf8-nil ∙ ap (map Some) shows-nil.is)
+  trees-taken (more t ts) u c g =
+      ap (λ xs. xs ++ read_trees texts ts c g) (tree-taken t u.0 c g)
+      ∙ (ap (λ xs. taken (text_of_simple c.is_flat g t) ++ xs) (trees-taken ts u.1 c g)
+      ∙ sym (taken-append (text_of_simple c.is_flat g t) (text_of_simples c.is_flat g ts)
+      (simple-utf8 t u.0 c.is_flat g) (simples-utf8 ts u.1 c.is_flat g)))

@@ -9,8 +9,8 @@ use Rattle.std.proofs.lemmas.List.{append-nil}
 use Rattle.std.proofs.lemmas.List.Elements.{filter-append}
 use Rattle.std.proofs.lemmas.Str.{chars-nil, chars-append, chars-encodes, scalars-chars, IsUtf8-append, IsUtf8-nil}
 use Rattle.htmd_lexical.proofs.Cases.{test}
-use Rattle.htmd_document_of_tree.specs.ShownTexts.{is_shown, shown_text}
-use Rattle.htmd_document_of_tree.specs.Spaces.{is_white}
+use Rattle.htmd_shown.specs.ShownTexts.{is_shown, shown_text}
+use Rattle.htmd_shown.specs.Spaces.{is_white}
 use Rattle.htmd_law_documents.specs.DocumentTexts.{is_visible, visible}
 
 -- a text and its visible characters

@@ -1,88 +1,107 @@
 -- What each kind of element gives keeps the wrappers of what is in it.
-use Rattle.std.proofs.Common.{◌≡◌, ℕ, Bool, true, false, cond, not, ◌&&◌, List, [], ◌∷◌, ◌++◌, map, refl, sym, ap, ◌∙◌}
-use Rattle.std.proofs.Common.{Option, Some, None}
-use Rattle.std.specs.Prelude.{if◌then◌else◌, codes, is_some, ℤ}
+use Rattle.std.proofs.Common.{◌≡◌, ℕ, zero, suc, Bool, true, false, cond, not, ◌&&◌, List, [], ◌∷◌, ◌++◌, map, refl}
+use Rattle.std.proofs.Common.{sym, ap, ◌∙◌, Option, Some, None}
+use Rattle.std.specs.Prelude.{if◌then◌else◌, codes, ℤ}
 use Rattle.std.specs.List.{list_any, flat_map}
 use Rattle.std.specs.Str.{IsUtf8}
 use Rattle.std.proofs.lemmas.List.{append-nil}
-use Rattle.htmd_lexical.specs.Characters.{quotation_mark, space}
+use Rattle.htmd_lexical.specs.Characters.{space}
+use Rattle.htmd_lexical.specs.WhiteSpace.{is_ascii_white_space}
 use Rattle.htmd_lexical.specs.AttributePairs.{AttributePair}
-use Rattle.htmd_nodes.specs.NumberedTrees.{NumberedForest}
 use Rattle.htmd_text.specs.Trims.{trimmed_text, is_line_feed}
-use Rattle.htmd_document_of_tree.specs.AllTexts.{all_text_among, with_line_feeds, is_blank_text, lines_of}
-use Rattle.htmd_document_of_tree.specs.AllTexts.{without_last_line_feed}
-use Rattle.htmd_document_of_tree.specs.AllTexts.{language_of_block}
-use Rattle.htmd_document_of_tree.specs.Attributes.{value_of, text_of, title_of, description_of, address, has_attribute}
-use Rattle.htmd_document_of_tree.specs.Attributes.{is_any_case}
-use Rattle.htmd_document_of_tree.specs.Attributes.{is_filled}
-use Rattle.htmd_document_of_tree.specs.Contexts.{Context, inside_format, in_code, in_one_line, deeper, is_lined, run_in}
-use Rattle.htmd_document_of_tree.specs.Contexts.{apart, with_around, is_format, is_link}
+use Rattle.htmd_shown.specs.declared.facts.Facts.{Facts}
+use Rattle.htmd_shown.specs.declared.role.Role.{Role}
+use Rattle.htmd_shown.specs.declared.role.Role.TheVariants as role
+use Rattle.htmd_shown.specs.AllTexts.{all_text_among, with_line_feeds, lines_of, without_last_line_feed, dollar_sign}
+use Rattle.htmd_shown.specs.Attributes.{text_of, title_of, description_of, address, has_attribute, in_line, is_any_case}
+use Rattle.htmd_shown.specs.Attributes.{is_filled, trimmed}
+use Rattle.htmd_shown.specs.Roles as roles
+use Rattle.htmd_shown.specs.SimpleTrees.{Simples}
+use Rattle.htmd_shown.specs.Spaces.{is_blank_text}
 use Rattle.htmd_document.specs.Formats.{Format, of_format, of_element}
 use Rattle.htmd_document.specs.Documents.{Inlines, no_inlines, inline, heading, code_block, quote, thematic_break}
 use Rattle.htmd_document.specs.Documents.{Blocks, no_blocks, block}
-use Rattle.htmd_document_of_tree.specs.Flows.{Node, Line, blocks_of, line_of, flow_all, image_parts, box_parts}
-use Rattle.htmd_document_of_tree.specs.Flows.{inside_anchor}
-use Rattle.htmd_document_of_tree.specs.Flows.{between, heading_of, heading_parts, quote_of, quote_parts, code_parts}
-use Rattle.htmd_document_of_tree.specs.Flows.{text_in_lines, start_of, parts_of, is_grid, list_parts}
-use Rattle.htmd_document_of_tree.specs.Parts.{Around, formatted, linked, Part, box, edge, whole}
-use Rattle.htmd_document_of_tree.specs.Roles.{role_of, table_role, heading_or_block, inline_role}
-use Rattle.htmd_document_of_tree.specs.Tables.{has_captions_around, holds_table_alone}
+use Rattle.htmd_flow.specs.Contexts.{Context, is_lined, is_enough, inside_format, inside_link, with_around, is_link}
+use Rattle.htmd_flow.specs.Contexts.{without_link, unlinked, is_linked_to_part, beside_code, in_code, in_one_line}
+use Rattle.htmd_flow.specs.Contexts.{deeper, run_in, apart}
+use Rattle.htmd_flow.specs.Flows.{Node, Row, TermPart, Element, blocks_of, line_of, flow_all, list_parts, term_parts}
+use Rattle.htmd_flow.specs.Flows.{table_parts, image_parts, math_block, math_in_line, formula_parts, embed_edge}
+use Rattle.htmd_flow.specs.Flows.{embed_parts, box_parts, linked_by, between, heading_of, around_heading, heading_parts}
+use Rattle.htmd_flow.specs.Flows.{quote_of, quote_parts, code_parts, text_in_lines, verbatim_parts, start_of}
+use Rattle.htmd_flow.specs.Flows.{anchors_apart, near_parts, parts_of, is_grid_of}
+use Rattle.htmd_flow.specs.Languages.{language_of_block}
+use Rattle.htmd_flow.specs.Levels.{list_of}
+use Rattle.htmd_flow.specs.Parts.{Around, formatted, linked, Part, place, box, edge, whole}
 use Rattle.htmd_law_documents.specs.DocumentTexts.{visible}
-use Rattle.htmd_law_documents.specs.TreeWrappers.{inside_verbatim}
+use Rattle.htmd_law_documents.specs.TreeWrappers.{inside_heading, inside_verbatim}
 use Rattle.htmd_law_documents.proofs.VisibleLemmas.{Shows, shows-nil, shows-itself, shows-append}
-use Rattle.htmd_law_documents.proofs.PiecesLemmas.{AreUtf8, PiecesShow, pieces_seen, line_feed-white, pieces-show}
-use Rattle.htmd_law_documents.proofs.PiecesLemmas.{space-shows, in_line-shows, unfilled}
+use Rattle.htmd_law_documents.proofs.PiecesLemmas.{AreUtf8, PiecesShow, pieces_seen, line_feed-white, ascii-white}
+use Rattle.htmd_law_documents.proofs.PiecesLemmas.{pieces-show, space-shows, in_line-shows, unfilled}
 use Rattle.htmd_law_documents.proofs.CodeLemmas.{trimmed-shows, without-shows, feeds-show, blank-seen}
-use Rattle.htmd_law_documents.proofs.KindLemmas.{Kind, any-kind}
-use Rattle.htmd_law_documents.proofs.ElementLemmas.{wrapper-shows}
+use Rattle.htmd_law_documents.proofs.ElementLemmas.{dollar-shows}
 use Rattle.htmd_law_documents.proofs.NormalTextLemmas.{and-false}
-use Rattle.htmd_law_documents.proofs.Readers.{Reader, unseen, read_line, read_blocks, read_around, read_in, read_by}
-use Rattle.htmd_law_documents.proofs.Readers.{read_trees}
+use Rattle.htmd_law_documents.proofs.Readers.{Reader, unseen, read_line, read_blocks, read_around, read_in}
+use Rattle.htmd_law_documents.proofs.Readers.{read_in_line, read_formula, read_image, read_by, read_trees, is_of_table}
 use Rattle.htmd_law_documents.proofs.WrapperWritingLemmas.{AllAgree, Agrees}
-use Rattle.htmd_law_documents.proofs.WrapperPartsLemmas.{Keep, keep-nil, keep-append, keep-same, keep-edge, keep-edges}
-use Rattle.htmd_law_documents.proofs.WrapperPartsLemmas.{keep-apart, keep-run, keep-whole, blocks-keep, line-keeps}
+use Rattle.htmd_law_documents.proofs.WrapperPartsLemmas.{Keep, keep-nil, keep-append, keep-same, keep-edge}
+use Rattle.htmd_law_documents.proofs.WrapperPartsLemmas.{keep-edges, keep-after, keep-apart, keep-run, keep-whole}
+use Rattle.htmd_law_documents.proofs.WrapperPartsLemmas.{blocks-keep, line-keeps}
 use Rattle.htmd_law_documents.proofs.WrapperNodesLemmas.{shallow, nodes_wrapped, not-flat, Agree, NodesKeep}
-use Rattle.htmd_law_documents.proofs.WrapperNodesLemmas.{keep-either, keep-in}
-use Rattle.htmd_law_documents.proofs.WrapperNodesLemmas.{list-parts-keep, flow-keeps}
-use Rattle.htmd_law_documents.proofs.WrapperTableLemmas.{are_ordered, flat-same, LinesKeep, table-keeps}
+use Rattle.htmd_law_documents.proofs.WrapperNodesLemmas.{keep-either, keep-in, list-parts-keep, flow-keeps}
+use Rattle.htmd_law_documents.proofs.WrapperTermLemmas.{terms_wrapped, TermsKeep, term-parts-keep}
 
 -- ---- contexts
 
-format-flat : (f : Format) (c : Context) → (inside_format f c).is_flat ≡ c.is_flat
-format-flat f c = either (list_any (is_format f) c.around)
-  where
-    either : (b : Bool) → (cond b c (with_around c (formatted f))).is_flat ≡ c.is_flat
-    either true = refl
-    either false = refl
+-- a change of a context that leaves whether all is one line, and that doesn't depend on how deep it is
+pub record IsChange (change : Context → Context) (c : Context) : Type 0 where
+  pub flat : (change c).is_flat ≡ c.is_flat
+  pub alike : shallow (change c) ≡ change (shallow c)
 
-format-shallow : (f : Format) (c : Context) → shallow (inside_format f c) ≡ inside_format f (shallow c)
-format-shallow f c = either (list_any (is_format f) c.around)
+pub format-change : (f : Format) (c : Context) → IsChange (inside_format f) c
+format-change f c = record { flat = flat (is_enough f c.around); alike = alike (is_enough f c.around) }
   where
-    either : (b : Bool)
+    flat : (b : Bool) → (cond b c (with_around c (formatted f))).is_flat ≡ c.is_flat
+    flat true = refl
+    flat false = refl
+
+    alike : (b : Bool)
         → shallow (cond b c (with_around c (formatted f)))
         ≡ cond b (shallow c) (with_around (shallow c) (formatted f))
-    either true = refl
-    either false = refl
+    alike true = refl
+    alike false = refl
 
-anchor-flat : (id : ℕ) (attributes : List AttributePair) (o : Option (List ℕ)) (c : Context)
-    → (inside_anchor id attributes o c).is_flat ≡ c.is_flat
-anchor-flat id attributes None c = refl
-anchor-flat id attributes (Some s) c = either (list_any is_link c.around)
+pub link-change : (id : ℕ) (s : List ℕ) (title : Option (List ℕ)) (c : Context)
+    → IsChange (inside_link id s title) c
+link-change id s title c = record { flat = flat (list_any is_link c.around); alike = alike (list_any is_link c.around) }
   where
-    either : (b : Bool) → (cond b c (with_around c (linked id (address s) (title_of attributes)))).is_flat
-        ≡ c.is_flat
-    either true = refl
-    either false = refl
+    flat : (b : Bool) → (cond b c (with_around c (linked id s title))).is_flat ≡ c.is_flat
+    flat true = refl
+    flat false = refl
 
-anchor-shallow : (id : ℕ) (attributes : List AttributePair) (o : Option (List ℕ)) (c : Context)
-    → shallow (inside_anchor id attributes o c) ≡ inside_anchor id attributes o (shallow c)
-anchor-shallow id attributes None c = refl
-anchor-shallow id attributes (Some s) c = either (list_any is_link c.around)
+    alike : (b : Bool) → shallow (cond b c (with_around c (linked id s title)))
+        ≡ cond b (shallow c) (with_around (shallow c) (linked id s title))
+    alike true = refl
+    alike false = refl
+
+near-change : (n : ℕ) (attributes : List AttributePair) (c : Context)
+    → ((beside_code n attributes c).is_flat ≡ c.is_flat) × (shallow (beside_code n attributes c) ≡ shallow c)
+near-change zero attributes c = (refl, refl)
+near-change (suc zero) attributes c = (refl, refl)
+near-change (suc (suc n)) attributes c = (refl, refl)
+
+sign-change : (facts : Facts) (c : Context) → IsChange (around_heading facts) c
+sign-change facts c = record {
+  flat = flat (facts.shows_sign && is_linked_to_part c);
+  alike = alike (facts.shows_sign && is_linked_to_part c);
+}
   where
-    either : (b : Bool) → shallow (cond b c (with_around c (linked id (address s) (title_of attributes))))
-        ≡ cond b (shallow c) (with_around (shallow c) (linked id (address s) (title_of attributes)))
-    either true = refl
-    either false = refl
+    flat : (b : Bool) → (cond b (unlinked c) c).is_flat ≡ c.is_flat
+    flat true = refl
+    flat false = refl
+
+    alike : (b : Bool) → shallow (cond b (unlinked c) c) ≡ cond b (unlinked (shallow c)) (shallow c)
+    alike true = refl
+    alike false = refl
 
 -- ---- texts in pieces
 
@@ -111,27 +130,49 @@ module _ (R : Reader) where
     agree-more (b ∷ around) a h e = (h.0, agree-more around a h.1 e)
 
     format-agrees : (f : Format) (c : Context) → Agree R addr c → Agree R addr (inside_format f c)
-    format-agrees f c h = either (list_any (is_format f) c.around)
+    format-agrees f c h = either (is_enough f c.around)
       where
         either : (b : Bool) → Agree R addr (cond b c (with_around c (formatted f)))
         either true = h
         either false = agree-more c.around (formatted f) h tt
 
+    link-agrees : (id : ℕ) (s : List ℕ) (title : Option (List ℕ)) (c : Context) → Agree R addr c
+        → R.as_link s ≡ addr id → Agree R addr (inside_link id s title c)
+    link-agrees id s title c h e = either (list_any is_link c.around)
+      where
+        either : (b : Bool) → Agree R addr (cond b c (with_around c (linked id s title)))
+        either true = h
+        either false = agree-more c.around (linked id s title) h e
+
+    either-link : (k : Bool) (b : Around) (around rest : List Around) → AllAgree R addr (b ∷ around)
+        → AllAgree R addr rest → AllAgree R addr (cond k around (b ∷ rest))
+    either-link true b around rest h r = h.1
+    either-link false b around rest h r = (h.0, r)
+
+    without-agree : (around : List Around) → AllAgree R addr around → AllAgree R addr (without_link around)
+    without-agree [] h = tt
+    without-agree (b ∷ around) h =
+        either-link (is_link b) b around (without_link around) h (without-agree around h.1)
+
+    unlinked-agrees : (c : Context) → Agree R addr c → Agree R addr (unlinked c)
+    unlinked-agrees c h = without-agree c.around h
+
+    sign-agrees : (facts : Facts) (c : Context) → Agree R addr c → Agree R addr (around_heading facts c)
+    sign-agrees facts c h = either (facts.shows_sign && is_linked_to_part c)
+      where
+        either : (b : Bool) → Agree R addr (cond b (unlinked c) c)
+        either true = unlinked-agrees c h
+        either false = h
+
+    near-agrees : (n : ℕ) (attributes : List AttributePair) (c : Context) → Agree R addr c
+        → Agree R addr (beside_code n attributes c)
+    near-agrees zero attributes c h = h
+    near-agrees (suc zero) attributes c h = h
+    near-agrees (suc (suc n)) attributes c h = h
+
     -- the link of an element has its address
     abbrev pub HasAddress : ℕ → List AttributePair → Type 0
-    HasAddress id attributes = (s : List ℕ) → value_of (codes "href") attributes ≡ Some s → R.as_link
-        (address s) ≡ addr id
-
-    anchor-agrees : (id : ℕ) (attributes : List AttributePair) (o : Option (List ℕ)) (c : Context)
-        → Agree R addr c
-        → ((s : List ℕ) → o ≡ Some s → R.as_link (address s) ≡ addr id) → Agree R addr
-        (inside_anchor id attributes o c)
-    anchor-agrees id attributes None c h a = h
-    anchor-agrees id attributes (Some s) c h a = either (list_any is_link c.around)
-      where
-        either : (b : Bool) → Agree R addr (cond b c (with_around c (linked id (address s) (title_of attributes))))
-        either true = h
-        either false = agree-more c.around (linked id (address s) (title_of attributes)) h (a s refl)
+    HasAddress id attributes = R.as_link (address (text_of (codes "href") attributes)) ≡ addr id
 
     -- ---- leaves
 
@@ -151,11 +192,10 @@ module _ (R : Reader) where
         (flow-keeps R addr nodes h c a))
         (run-keeps s c a u)
 
-    image-keeps : (attributes : List AttributePair) (o : Option (List ℕ)) (c : Context) → Agree R addr c
+    pub image-keeps : (o : Option (List ℕ)) (attributes : List AttributePair) (c : Context) → Agree R addr c
         → IsUtf8 (text_of (codes "alt") attributes)
-        → Keep R addr c.is_flat (image_parts attributes o c)
-        (R.read (map (read_around R) c.around) (c.is_code && not (is_some o)) (text_of (codes "alt") attributes))
-    image-keeps attributes (Some s) c a u =
+        → Keep R addr c.is_flat (image_parts o attributes c) (read_image R (shallow c) o attributes)
+    image-keeps (Some s) attributes c a u =
         let alt : List ℕ = text_of (codes "alt") attributes in
         let h : Shows (description_of attributes) (visible alt) = in_line-shows alt u in
         record {
@@ -164,11 +204,11 @@ module _ (R : Reader) where
               ∙ (R.same (map (read_around R) c.around) false (description_of attributes) alt h.utf8 u h.is
               ∙ ap (λ k. R.read (map (read_around R) c.around) k alt) (sym (and-false c.is_code refl)));
         }
-    image-keeps attributes None c a u =
+    image-keeps None attributes c a u =
         let alt : List ℕ = text_of (codes "alt") attributes in
         let s : List ℕ = description_of attributes in
         let h : Shows s (visible alt) = in_line-shows alt u in
-        keep-same R addr c.is_flat (image_parts attributes None c)
+        keep-same R addr c.is_flat (image_parts None attributes c)
         (R.read (map (read_around R) c.around) c.is_code alt) _
         (ap (λ k. R.read (map (read_around R) c.around) k alt) (sym (and-true c.is_code)))
         (keep-either R addr (is_filled s) c.is_flat (run_in c s
@@ -185,6 +225,93 @@ module _ (R : Reader) where
         and-true true = refl
         and-true false = refl
 
+    -- a formula in a line
+    math-keeps : (tex : List ℕ) (c : Context) → Agree R addr c → IsUtf8 tex
+        → Keep R addr c.is_flat (math_in_line tex c) (read_in_line R (shallow c) tex)
+    math-keeps tex c a u =
+        let h : Shows (in_line tex) (visible tex) = in_line-shows tex u in
+        let mark : Part = run_in c (dollar_sign ∷ []) in
+        let inner : Part = run_in (in_code c) (in_line tex) in
+        let cs : List R.Seen = read_in R (shallow c) (dollar_sign ∷ []) in
+        let ds : List R.Seen = read_in R (in_code (shallow c)) tex in
+        keep-append R addr c.is_flat (mark ∷ inner ∷ []) (mark ∷ []) (cs ++ ds) cs
+        (keep-append R addr c.is_flat (mark ∷ []) (inner ∷ []) cs ds
+        (run-keeps (dollar_sign ∷ []) c a dollar-shows.utf8)
+        (keep-same R addr c.is_flat (inner ∷ []) (read_in R (in_code (shallow c)) (in_line tex)) ds
+        (R.same (map (read_around R) c.around) true (in_line tex) tex h.utf8 u h.is)
+        (run-keeps (in_line tex) (in_code c) a h.utf8)))
+        (run-keeps (dollar_sign ∷ []) c a dollar-shows.utf8)
+
+    flat-false : (b f : Bool) → (b && not f) ≡ true → f ≡ false
+    flat-false true true e = absurd (clash e)
+      where
+        clash : false ≡ true → ⊥
+        clash p = (cc)
+    flat-false true false e = refl
+    flat-false false f e = absurd (clash e)
+      where
+        clash : false ≡ true → ⊥
+        clash p = (cc)
+
+    pub formula-keeps : (tex : List ℕ) (is_alone : Bool) (c : Context) → Agree R addr c → IsUtf8 tex
+        → Keep R addr c.is_flat (formula_parts tex is_alone c) (read_formula R (shallow c) is_alone tex)
+    formula-keeps tex is_alone c a u =
+        let feeds : Shows (with_line_feeds tex) (visible tex) =
+        feeds-show tex (visible tex) (shows-itself tex u) in
+        let held : Shows (trimmed (with_line_feeds tex)) (visible (with_line_feeds tex)) =
+        trimmed-shows is_ascii_white_space ascii-white (with_line_feeds tex) feeds.utf8 in
+        choice (is_alone && not c.is_flat) (apart (whole (math_block tex) ∷ [])) (math_in_line tex c)
+        (λ b. cond b (R.read [] true tex) (read_in_line R (shallow c) tex))
+        (λ e. keep-in R addr c.is_flat false (apart (whole (math_block tex) ∷ [])) (R.read [] true tex)
+        (flat-false is_alone c.is_flat e)
+        (keep-apart R addr false (whole (math_block tex) ∷ []) (R.read [] true tex)
+        (keep-whole R addr (math_block tex) (R.read [] true tex)
+        (R.same [] true (trimmed (with_line_feeds tex)) tex held.utf8 u (held.is ∙ feeds.is)))))
+        (λ e. math-keeps tex c a u)
+      where
+        choice : (b : Bool) (ps qs : List Part) (cs : Bool → List R.Seen)
+            → (b ≡ true → Keep R addr c.is_flat ps (cs true))
+            → (b ≡ false → Keep R addr c.is_flat qs (cs false)) → Keep R addr c.is_flat (cond b ps qs) (cs b)
+        choice true ps qs cs g h = g refl
+        choice false ps qs cs g h = h refl
+
+    -- anchors
+    places-keep : (in_line : Bool) (ids : List (List ℕ)) → Keep R addr in_line (map place ids) (flat_map R.mark ids)
+    places-keep in_line [] = keep-nil R addr in_line
+    places-keep in_line (id ∷ ids) =
+        let rest : Keep R addr in_line (map place ids) (flat_map R.mark ids) = places-keep in_line ids in
+        record { linked = (tt, rest.linked); is = ap (λ t. R.mark id ++ t) rest.is }
+
+    edge-keeps : (c : Context) → Agree R addr c → Keep R addr c.is_flat (embed_edge c ∷ []) []
+    edge-keeps c a = either c.is_flat
+      where
+        either : (b : Bool) → Keep R addr c.is_flat (cond b (run_in c (space ∷ [])) edge ∷ []) []
+        either true = keep-same R addr c.is_flat (run_in c (space ∷ []) ∷ []) (read_in R (shallow c) (space ∷ []))
+            []
+            (unseen R (map (read_around R) c.around) c.is_code (space ∷ []) space-shows)
+            (run-keeps (space ∷ []) c a space-shows.utf8)
+        either false = keep-edges R addr c.is_flat
+
+    pub embed-keeps : (id : ℕ) (s title : List ℕ) (anchors : List (List ℕ)) (c : Context) → Agree R addr c
+        → IsUtf8 title → R.as_link s ≡ addr id
+        → Keep R addr c.is_flat (embed_parts id s title anchors c)
+        (flat_map R.mark anchors ++ read_in R (inside_link id s None (shallow c)) title)
+    embed-keeps id s title anchors c a u e =
+        let d : Context = inside_link id s None c in
+        let change : IsChange (inside_link id s None) c = link-change id s None c in
+        let cs : List R.Seen = read_in R (inside_link id s None (shallow c)) title in
+        let here : Keep R addr c.is_flat (run_in d title ∷ []) cs =
+        keep-same R addr c.is_flat (run_in d title ∷ []) (read_in R (shallow d) title) cs
+        (ap (λ x. read_in R x title) change.alike)
+        (keep-in R addr c.is_flat d.is_flat (run_in d title ∷ []) (read_in R (shallow d) title) (sym change.flat)
+        (run-keeps title d (link-agrees id s None c a e) u)) in
+        let marks : List R.Seen = flat_map R.mark anchors in
+        keep-append R addr c.is_flat (embed_edge c ∷ map place anchors) (run_in d title ∷ embed_edge c ∷ []) marks
+        cs
+        (keep-append R addr c.is_flat (embed_edge c ∷ []) (map place anchors) [] marks (edge-keeps c a)
+        (places-keep c.is_flat anchors))
+        (keep-after R addr c.is_flat (run_in d title ∷ []) (embed_edge c ∷ []) cs here (edge-keeps c a))
+
     box-keeps : (in_line : Bool) (attributes : List AttributePair) → Keep R addr in_line (box_parts attributes) []
     box-keeps in_line attributes =
         keep-either R addr (is_any_case (codes "checkbox") (text_of (codes "type") attributes)) in_line
@@ -198,19 +325,33 @@ module _ (R : Reader) where
     heading-keeps level no_inlines cs h = keep-same R addr false [] [] cs h (keep-nil R addr false)
     heading-keeps level (inline x xs) cs h = keep-whole R addr (heading level (inline x xs)) cs h
 
-    heading-parts-keep : (level : ℕ) (nodes : List Node) → NodesKeep R addr nodes → (c : Context)
+    heading-parts-keep : (level : ℕ) (facts : Facts) (nodes : List Node) → NodesKeep R addr nodes → (c : Context)
         → Agree R addr c
-        → Keep R addr c.is_flat (heading_parts level nodes c) (nodes_wrapped R nodes (in_one_line (shallow c)))
-    heading-parts-keep level nodes h c a =
-        let xs : Inlines = line_of (flow_all nodes (in_one_line c)) in
-        let cs : List R.Seen = nodes_wrapped R nodes (in_one_line (shallow c)) in
-        keep-apart R addr c.is_flat (if c.is_flat then flow_all nodes c else heading_of level xs) cs
-        (keep-either R addr c.is_flat c.is_flat (flow_all nodes c) (heading_of level xs) cs
-        (λ e. keep-same R addr c.is_flat (flow_all nodes c) (nodes_wrapped R nodes (shallow c)) cs
-        (ap (nodes_wrapped R nodes) (sym (flat-same (shallow c) e))) (flow-keeps R addr nodes h c a))
-        (λ e. keep-in R addr c.is_flat false (heading_of level xs) cs e
-        (heading-keeps level xs cs
-        (line-keeps R addr (flow_all nodes (in_one_line c)) cs (flow-keeps R addr nodes h (in_one_line c) a)))))
+        → Keep R addr c.is_flat (heading_parts level facts nodes c)
+        (nodes_wrapped R nodes (inside_heading facts (shallow c)))
+    heading-parts-keep level facts nodes h c a =
+        let d : Context = in_one_line (around_heading facts c) in
+        let xs : Inlines = line_of (flow_all nodes d) in
+        let s : Context = shallow c in
+        keep-apart R addr c.is_flat (if c.is_flat then flow_all nodes c else heading_of level xs)
+        (nodes_wrapped R nodes (inside_heading facts s))
+        (choice c.is_flat (flow_all nodes c) (heading_of level xs)
+        (λ b. nodes_wrapped R nodes (cond b s (in_one_line (around_heading facts s))))
+        (λ e. flow-keeps R addr nodes h c a)
+        (λ e. keep-in R addr c.is_flat false (heading_of level xs)
+        (nodes_wrapped R nodes (in_one_line (around_heading facts s))) e
+        (heading-keeps level xs (nodes_wrapped R nodes (in_one_line (around_heading facts s)))
+        (line-keeps R addr (flow_all nodes d) (nodes_wrapped R nodes (in_one_line (around_heading facts s)))
+        (keep-same R addr true (flow_all nodes d) (nodes_wrapped R nodes (shallow d))
+        (nodes_wrapped R nodes (in_one_line (around_heading facts s)))
+        (ap (λ x. nodes_wrapped R nodes (in_one_line x)) (sign-change facts c).alike)
+        (flow-keeps R addr nodes h d (sign-agrees facts c a)))))))
+      where
+        choice : (b : Bool) (ps qs : List Part) (cs : Bool → List R.Seen)
+            → (b ≡ true → Keep R addr c.is_flat ps (cs true))
+            → (b ≡ false → Keep R addr c.is_flat qs (cs false)) → Keep R addr c.is_flat (cond b ps qs) (cs b)
+        choice true ps qs cs g h = g refl
+        choice false ps qs cs g h = h refl
 
     quote-keeps : (bs : Blocks) (cs : List R.Seen) → read_blocks R bs ≡ cs → Keep R addr false (quote_of bs) cs
     quote-keeps no_blocks cs h = keep-same R addr false [] [] cs h (keep-nil R addr false)
@@ -273,13 +414,14 @@ module _ (R : Reader) where
     keep-choice true in_line ps qs cs g h = g refl
     keep-choice false in_line ps qs cs g h = h refl
 
-    verbatim-keeps : (attributes : List AttributePair) (children : NumberedForest) (s t : List ℕ) (c : Context)
+    verbatim-keeps : (attributes : List AttributePair) (content : Simples) (s t : List ℕ) (c : Context)
         → Agree R addr c → Shows s (visible t) → IsUtf8 t
-        → Keep R addr c.is_flat (text_in_lines attributes children s c) (verbatim_wrapped c.is_flat (shallow c) t)
-    verbatim-keeps attributes children s t c a h u =
+        → Keep R addr c.is_flat (text_in_lines attributes content s c) (verbatim_wrapped c.is_flat (shallow c) t)
+    verbatim-keeps attributes content s t c a h u =
         let held : List ℕ = without_last_line_feed s in
         let kept : Shows held (visible t) = without-shows s (visible t) h in
-        let body : List Part = apart (whole (code_block (language_of_block attributes children) held) ∷ []) in
+        let body : List Part = apart (whole (code_block (language_of_block attributes (list_of content) c.near) held)
+        ∷ []) in
         let lines : List Part = edge ∷ code_parts (lines_of s) c.around in
         keep-either R addr (is_blank_text s) c.is_flat (edge ∷ []) (if c.is_flat then lines else body)
         (verbatim_wrapped c.is_flat (shallow c) t)
@@ -291,9 +433,10 @@ module _ (R : Reader) where
         (λ f. keep-edge R addr c.is_flat (code_parts (lines_of s) c.around) (verbatim_wrapped true (shallow c) t)
         (lines-keep c.is_flat s c.around t h u a))
         (λ f. keep-in R addr c.is_flat false body (verbatim_wrapped false (shallow c) t) f
-        (keep-apart R addr false (whole (code_block (language_of_block attributes children) held) ∷ [])
+        (keep-apart R addr false (whole (code_block (language_of_block attributes (list_of content) c.near) held)
+        ∷ [])
         (verbatim_wrapped false (shallow c) t)
-        (keep-whole R addr (code_block (language_of_block attributes children) held)
+        (keep-whole R addr (code_block (language_of_block attributes (list_of content) c.near) held)
         (verbatim_wrapped false (shallow c) t) (R.same [] true held t kept.utf8 u kept.is)))))
 
     rule-keeps : (in_line : Bool) → Keep R addr in_line (whole thematic_break ∷ []) []
@@ -302,16 +445,25 @@ module _ (R : Reader) where
 
     -- ---- each kind
 
-    module _ (id : ℕ) (attributes : List AttributePair) (children : NumberedForest) (nodes : List Node)
-        (lines : List Line) (all : NodesKeep R addr nodes)
-        (same : (c : Context) → nodes_wrapped R nodes c ≡ read_trees R children c false)
-        (alt : IsUtf8 (text_of (codes "alt") attributes)) (text : IsUtf8 (all_text_among children))
-        (has_address : HasAddress id attributes) (c : Context) (a : Agree R addr c)
-        (table : holds_table_alone children ≡ true
-        → LinesKeep R addr c a lines (read_trees R children (shallow c) true))
-        (order : has_captions_around children ≡ true → are_ordered lines ≡ true) where
+    module _ (id : ℕ) (facts : Facts) (attributes : List AttributePair) (content : Simples) (nodes : List Node)
+        (rows : List Row) (terms : List TermPart) (all : NodesKeep R addr nodes)
+        (same : (c : Context) → nodes_wrapped R nodes c ≡ read_trees R content c false)
+        (text : IsUtf8 (all_text_among content)) (c : Context) (a : Agree R addr c)
+        (term-nodes : TermsKeep R addr terms)
+        (term-says : terms_wrapped R terms (shallow c) ≡ read_trees R content (shallow c) false) where
       abbrev inner : Context → List R.Seen
-      inner d = read_trees R children d false
+      inner d = read_trees R content d false
+
+      abbrev pub here-element : Element
+      here-element = record {
+        id = id;
+        facts = facts;
+        attributes = attributes;
+        content = content;
+        nodes = nodes;
+        rows = rows;
+        terms = terms;
+      }
 
       flow : (d : Context) (s : Context) → d.is_flat ≡ c.is_flat → shallow d ≡ s → Agree R addr d
           → Keep R addr c.is_flat (flow_all nodes d) (inner s)
@@ -321,105 +473,109 @@ module _ (R : Reader) where
           (keep-in R addr c.is_flat d.is_flat (flow_all nodes d) (nodes_wrapped R nodes (shallow d)) (sym e)
           (flow-keeps R addr nodes all d b))
 
+      changed : (change : Context → Context) → IsChange change c → Agree R addr (change c)
+          → Keep R addr c.is_flat (flow_all nodes (change c)) (inner (change (shallow c)))
+      changed change k b = flow (change c) (change (shallow c)) k.flat k.alike b
+
       here : Keep R addr c.is_flat (flow_all nodes c) (inner (shallow c))
       here = flow c (shallow c) refl refl a
 
       blocks : Keep R addr c.is_flat (apart (flow_all nodes c)) (inner (shallow c))
       blocks = keep-apart R addr c.is_flat (flow_all nodes c) (inner (shallow c)) here
 
+      near : Keep R addr c.is_flat (near_parts here-element c) (inner (shallow c))
+      near =
+          let d : Context = beside_code facts.pres attributes c in
+          let change = near-change facts.pres attributes c in
+          keep-apart R addr c.is_flat (flow_all nodes d) (inner (shallow c))
+          (flow d (shallow c) change.0 change.1 (near-agrees facts.pres attributes c a))
+
       lists : (start : Option ℤ) → Keep R addr c.is_flat (list_parts start nodes c) (inner (shallow c))
       lists start = keep-same R addr c.is_flat _ (nodes_wrapped R nodes (shallow c)) (inner (shallow c))
           (same (shallow c))
           (list-parts-keep R addr start nodes all c a)
 
-      heads : (level : ℕ) → Keep R addr c.is_flat (heading_parts level nodes c) (inner (in_one_line (shallow c)))
-      heads level = keep-same R addr c.is_flat (heading_parts level nodes c)
-          (nodes_wrapped R nodes (in_one_line (shallow c)))
-          (inner (in_one_line (shallow c))) (same (in_one_line (shallow c))) (heading-parts-keep level nodes all c a)
+      list-of-terms : Keep R addr c.is_flat (term_parts terms nodes c) (inner (shallow c))
+      list-of-terms = term-parts-keep R addr terms nodes c (inner (shallow c)) term-nodes all a term-says
+          (same (shallow c))
 
-      formats : (f : Format) → Keep R addr c.is_flat (flow_all nodes (inside_format f c))
-          (inner (inside_format f (shallow c)))
-      formats f = flow (inside_format f c) (inside_format f (shallow c)) (format-flat f c) (format-shallow f c)
-          (format-agrees f c a)
-
-      links : Keep R addr c.is_flat (flow_all nodes (inside_anchor id attributes
-          (value_of (codes "href") attributes) c))
-          (inner (inside_anchor id attributes (value_of (codes "href") attributes) (shallow c)))
-      links =
-          let o : Option (List ℕ) = value_of (codes "href") attributes in
-          flow (inside_anchor id attributes o c) (inside_anchor id attributes o (shallow c))
-          (anchor-flat id attributes o c) (anchor-shallow id attributes o c)
-          (anchor-agrees id attributes o c a has_address)
+      heads : (level : ℕ) → Keep R addr c.is_flat (heading_parts level facts nodes c)
+          (inner (inside_heading facts (shallow c)))
+      heads level = keep-same R addr c.is_flat (heading_parts level facts nodes c)
+          (nodes_wrapped R nodes (inside_heading facts (shallow c)))
+          (inner (inside_heading facts (shallow c))) (same (inside_heading facts (shallow c)))
+          (heading-parts-keep level facts nodes all c a)
 
       quotes : Keep R addr c.is_flat (quote_parts nodes c) (inner (shallow c))
       quotes = keep-same R addr c.is_flat (quote_parts nodes c) (nodes_wrapped R nodes (shallow c)) (inner (shallow c))
           (same (shallow c)) (quote-parts-keep nodes all c a)
-
-      wrappers-around : (s : List ℕ) → IsUtf8 s → Keep R addr c.is_flat (between s nodes c)
-          ((read_in R (shallow c) s ++ inner (shallow c)) ++ read_in R (shallow c) s)
-      wrappers-around s u = keep-same R addr c.is_flat (between s nodes c)
-          ((read_in R (shallow c) s ++ nodes_wrapped R nodes (shallow c)) ++ read_in R (shallow c) s)
-          ((read_in R (shallow c) s ++ inner (shallow c)) ++ read_in R (shallow c) s)
-          (ap (λ t. (read_in R (shallow c) s ++ t) ++ read_in R (shallow c) s) (same (shallow c)))
-          (between-keeps s nodes all u c a)
 
       spaces-around : Keep R addr c.is_flat (between (space ∷ []) nodes c) (inner (shallow c))
       spaces-around =
           let none : read_in R (shallow c) (space ∷ []) ≡ [] =
           unseen R (map (read_around R) c.around) c.is_code (space ∷ []) space-shows in
           keep-same R addr c.is_flat (between (space ∷ []) nodes c)
-          ((read_in R (shallow c) (space ∷ []) ++ inner (shallow c)) ++ read_in R (shallow c) (space ∷ []))
+          ((read_in R (shallow c) (space ∷ []) ++ nodes_wrapped R nodes (shallow c))
+          ++ read_in R (shallow c) (space ∷ []))
           (inner (shallow c))
-          (ap (λ t. (t ++ inner (shallow c)) ++ t) none ∙ append-nil (inner (shallow c)))
-          (wrappers-around (space ∷ []) space-shows.utf8)
+          (ap (λ t. (t ++ nodes_wrapped R nodes (shallow c)) ++ t) none
+          ∙ (append-nil (nodes_wrapped R nodes (shallow c)) ∙ same (shallow c)))
+          (between-keeps (space ∷ []) nodes all space-shows.utf8 c a)
 
-      codes-kept : Keep R addr c.is_flat (text_in_lines attributes children
-          (with_line_feeds (all_text_among children)) c)
-          (read_in R (inside_verbatim (shallow c)) (all_text_among children))
-      codes-kept = verbatim-keeps attributes children (with_line_feeds (all_text_among children))
-          (all_text_among children) c a
-          (feeds-show (all_text_among children) (visible (all_text_among children))
-          (shows-itself (all_text_among children) text)) text
+      codes-kept : Keep R addr c.is_flat (verbatim_parts attributes content c)
+          (read_in R (inside_verbatim (shallow c)) (all_text_among content))
+      codes-kept = verbatim-keeps attributes content (with_line_feeds (all_text_among content))
+          (all_text_among content) c a
+          (feeds-show (all_text_among content) (visible (all_text_among content))
+          (shows-itself (all_text_among content) text)) text
 
-      pub element-keeps : (name : List ℕ)
-          → Keep R addr c.is_flat (parts_of (role_of name) id attributes children nodes lines c)
-          (read_by R (role_of name) id attributes (all_text_among children) (is_grid children lines)
-          (read_trees R children) (shallow c) false)
-      unfolding role_of table_role heading_or_block inline_role
-      element-keeps name =
-          any-kind (λ (r : Kind). Keep R addr c.is_flat (parts_of r id attributes children nodes lines c)
-          (read_by R r id attributes (all_text_among children) (is_grid children lines) (read_trees R children)
-          (shallow c) false)) name (record {
-            paragraph = blocks;
-            item = blocks;
-            bullet_list = lists None;
-            numbered_list = lists (Some (start_of attributes));
-            verbatim = codes-kept;
-            block_quote = quotes;
-            thematic_break = rule-keeps c.is_flat;
-            table = table-keeps R addr c a children nodes lines all (same (shallow c)) table order;
-            caption = blocks;
-            table_head = blocks;
-            table_body = blocks;
-            row = blocks;
-            cell = blocks;
-            header_cell = blocks;
-            heading_1 = heads 1;
-            heading_2 = heads 2;
-            heading_3 = heads 3;
-            heading_4 = heads 4;
-            heading_5 = heads 5;
-            heading_6 = heads 6;
-            block = blocks;
-            format = λ f. formats (of_format f);
-            element = λ e. formats (of_element e);
-            code = flow (in_code c) (in_code (shallow c)) refl refl a;
-            anchor = links;
-            quotation = wrappers-around (quotation_mark ∷ []) wrapper-shows.utf8;
-            apart = spaces-around;
-            line_break = record { linked = (tt, tt); is = refl };
-            image = image-keeps attributes (value_of (codes "src") attributes) c a alt;
-            input = keep-append R addr c.is_flat (box_parts attributes) (flow_all nodes c) [] (inner (shallow c))
-                (box-keeps c.is_flat attributes) here;
-            plain = here;
-          })
+      anchored : Keep R addr c.is_flat (anchors_apart nodes c) (inner (shallow c))
+      anchored = keep-either R addr c.is_flat c.is_flat (flow_all nodes c) (apart (flow_all nodes c))
+          (inner (shallow c))
+          (λ e. here) (λ e. blocks)
+
+      unlinked-kept : Keep R addr c.is_flat (flow_all nodes (unlinked c)) (inner (unlinked (shallow c)))
+      unlinked-kept = changed unlinked (record { flat = refl; alike = refl }) (unlinked-agrees c a)
+
+      -- a table keeps what is in it
+      abbrev TableKeeps : Type 0
+      TableKeeps = Keep R addr c.is_flat (table_parts (list_of content) nodes rows c)
+          (read_trees R content (shallow c) (is_grid_of content))
+
+      pub element-keeps : (r : Role) → (roles.is_link r ≡ true → HasAddress id attributes)
+          → (is_of_table r ≡ true → TableKeeps)
+          → Keep R addr c.is_flat (parts_of r here-element c)
+          (read_by R r id facts attributes (all_text_among content) (is_grid_of content) (read_trees R content)
+          (shallow c) false)
+      element-keeps (role.Format f) l k =
+          changed (inside_format (of_format f)) (format-change (of_format f) c) (format-agrees (of_format f) c a)
+      element-keeps (role.Element f) l k =
+          changed (inside_format (of_element f)) (format-change (of_element f) c) (format-agrees (of_element f) c a)
+      element-keeps role.Code l k = changed in_code (record { flat = refl; alike = refl }) a
+      element-keeps role.Typed l k = changed in_code (record { flat = refl; alike = refl }) a
+      element-keeps role.Link l k =
+          let s : List ℕ = address (text_of (codes "href") attributes) in
+          changed (linked_by id attributes) (link-change id s (title_of attributes) c)
+          (link-agrees id s (title_of attributes) c a (l refl))
+      element-keeps role.Unlinked l k = unlinked-kept
+      element-keeps role.Target l k = here
+      element-keeps role.Plain l k = here
+      element-keeps role.Apart l k = spaces-around
+      element-keeps role.LineBreak l k = record { linked = (tt, tt); is = refl }
+      element-keeps role.Input l k =
+          keep-append R addr c.is_flat (box_parts attributes) (flow_all nodes c) [] (inner (shallow c))
+          (box-keeps c.is_flat attributes) here
+      element-keeps role.Anchors l k = anchored
+      element-keeps (role.Heading level) l k = heads level
+      element-keeps role.Preformatted l k = codes-kept
+      element-keeps role.Verbatim l k = codes-kept
+      element-keeps role.BlockQuote l k = quotes
+      element-keeps role.ThematicBreak l k = rule-keeps c.is_flat
+      element-keeps role.BulletList l k = lists None
+      element-keeps role.NumberedList l k = lists (Some (start_of attributes))
+      element-keeps role.Terms l k = list-of-terms
+      element-keeps role.Table l k = k refl
+      element-keeps role.Division l k = near
+      element-keeps role.Figure l k = near
+      element-keeps role.Cell l k = near
+      element-keeps r l k = blocks

@@ -1,20 +1,46 @@
 -- The grid of a table keeps the wrappers of its cells, in order.
 use Rattle.std.proofs.Common.{◌≡◌, ℕ, zero, suc, ◌-◌, Bool, true, false, cond, List, [], ◌∷◌, ◌++◌, length, map}
-use Rattle.std.proofs.Common.{refl, sym, ◌∙◌, ap, subst, arith, append_assoc, filter, not, ◌&&◌, Option, Some, None}
+use Rattle.std.proofs.Common.{refl, sym, ◌∙◌, ap, subst, arith, append_assoc, Option, Some, None, ◌≤◌, fold, max}
 use Rattle.std.proofs.lemmas.Bool.Decides.{nat_tests}
-use Rattle.std.specs.Prelude.{replicate, drop, nat_lt}
+use Rattle.std.specs.Prelude.{replicate, drop, nat_lt, ◌==◌}
 use Rattle.std.specs.List.{flat_map, prefix_len}
 use Rattle.std.proofs.lemmas.List.{append-nil}
 use Rattle.std.proofs.lemmas.Grind.{flat_map-append}
 use Rattle.htmd_document.specs.declared.document.Alignment.{Alignment}
 use Rattle.htmd_document.specs.Documents.{Inlines, no_inlines, inline, Block}
-use Rattle.htmd_document_of_tree.specs.Grids.{Cell, Row, columns_before, laid, taken_in, shapes_from, shapes_of, filled}
-use Rattle.htmd_document_of_tree.specs.Grids.{filled_all}
-use Rattle.htmd_document_of_tree.specs.Grids.{contents_of, is_too_large, grid, is_empty_cell, trimmed, width, padded}
-use Rattle.htmd_document_of_tree.specs.Grids.{table_of, table_if_filled}
-use Rattle.htmd_document.specs.NormalDocuments.{has_cell}
-use Rattle.htmd_law_documents.proofs.NormalGridLemmas.{AreWithin, wider-within}
+use Rattle.htmd_flow.specs.Grids.{Cell, Row, columns_before, laid, taken_in, shapes_from, shapes_of, filled}
+use Rattle.htmd_flow.specs.Grids.{filled_all}
+use Rattle.htmd_flow.specs.Grids.{contents_of, is_too_large, grid, with_cell, width, trimmed_row, padded}
+use Rattle.htmd_flow.specs.Grids.{body, table_in, table_of_all}
 use Rattle.htmd_law_documents.proofs.Readers.{Reader, read_line, read_cells, read_block}
+
+-- ---- as many columns as the longest row has
+
+-- no row is longer
+abbrev pub AreWithin : ℕ → List (List Inlines) → Type 0
+AreWithin n [] = Unit {0}
+AreWithin n (row ∷ rows) = (length row ≤ n) × AreWithin n rows
+
+abbrev wider : ℕ → List (List Inlines) → ℕ
+wider n rows = fold (λ n row. max n (length row)) n rows
+
+wider-least : (rows : List (List Inlines)) (n : ℕ) → n ≤ wider n rows
+wider-least [] n = omega arith
+wider-least (row ∷ rows) n = more n (length row) (wider (max n (length row)) rows)
+    (wider-least rows (max n (length row)))
+  where
+    more : (n k w : ℕ) → max n k ≤ w → n ≤ w
+    more n k w h = omega arith
+
+pub wider-within : (rows : List (List Inlines)) (n : ℕ) → AreWithin (wider n rows) rows
+wider-within [] n = tt
+wider-within (row ∷ rows) n = (
+  more n (length row) (wider (max n (length row)) rows) (wider-least rows (max n (length row))),
+  wider-within rows (max n (length row)),
+)
+  where
+    more : (n k w : ℕ) → max n k ≤ w → k ≤ w
+    more n k w h = omega arith
 
 module _ (R : Reader) where
   abbrev pub wrappers_of_rows : List (List Inlines) → List R.Seen
@@ -80,29 +106,37 @@ module _ (R : Reader) where
       ∙ append-nil (read_cells R cells))
 
   -- the empty cells at the end of a row have none
-  trimmed-wrappers : (cells : List Inlines) → read_cells R (trimmed cells) ≡ read_cells R cells
+  trimmed-wrappers : (cells : List Inlines) → read_cells R (trimmed_row cells) ≡ read_cells R cells
   trimmed-wrappers [] = refl
   trimmed-wrappers (cell ∷ cells) =
-      at cell (trimmed cells) ∙ ap (λ t. read_line R [] cell ++ t) (trimmed-wrappers cells)
+      at cell (trimmed_row cells) ∙ ap (λ t. read_line R [] cell ++ t) (trimmed-wrappers cells)
     where
       at : (cell : Inlines) (rest : List Inlines)
-          → read_cells R (cond (is_empty_cell cell && not (has_cell rest)) [] (cell ∷ rest))
-          ≡ read_line R [] cell ++ read_cells R rest
+          → read_cells R (with_cell cell rest) ≡ read_line R [] cell ++ read_cells R rest
       at no_inlines [] = refl
       at no_inlines (next ∷ rest) = refl
       at (inline x xs) [] = refl
       at (inline x xs) (next ∷ rest) = refl
 
-  all-trimmed : (rows : List (List Inlines)) → wrappers_of_rows (map trimmed rows) ≡ wrappers_of_rows rows
+  all-trimmed : (rows : List (List Inlines)) → wrappers_of_rows (map trimmed_row rows) ≡ wrappers_of_rows rows
   all-trimmed [] = refl
   all-trimmed (row ∷ rows) =
-      ap (λ t. t ++ wrappers_of_rows (map trimmed rows)) (trimmed-wrappers row)
+      ap (λ t. t ++ wrappers_of_rows (map trimmed_row rows)) (trimmed-wrappers row)
       ∙ ap (λ t. read_cells R row ++ t) (all-trimmed rows)
 
-  body-wrappers : (rows : List (List Inlines)) → wrappers_of_rows (filter has_cell rows) ≡ wrappers_of_rows rows
+  body-wrappers : (rows : List (List Inlines)) → wrappers_of_rows (body rows) ≡ wrappers_of_rows rows
   body-wrappers [] = refl
-  body-wrappers ([] ∷ rows) = body-wrappers rows
-  body-wrappers ((cell ∷ cells) ∷ rows) = ap (λ t. read_cells R (cell ∷ cells) ++ t) (body-wrappers rows)
+  body-wrappers ([] ∷ rows) =
+      ap (λ b. wrappers_of_rows (cond b ([] ∷ body rows) (body rows))) nothing ∙ body-wrappers rows
+    where
+      nothing : nat_lt 0 0 ≡ false
+      nothing = grind (arith, nat_tests)
+  body-wrappers ((cell ∷ cells) ∷ rows) =
+      ap (λ b. wrappers_of_rows (cond b ((cell ∷ cells) ∷ body rows) (body rows))) (some (length cells))
+      ∙ ap (λ t. read_cells R (cell ∷ cells) ++ t) (body-wrappers rows)
+    where
+      some : (n : ℕ) → nat_lt 0 (suc n) ≡ true
+      some n = grind (arith, nat_tests)
 
   none-within : (rows : List (List Inlines)) → AreWithin 0 rows → wrappers_of_rows rows ≡ []
   none-within [] w = refl
@@ -110,11 +144,11 @@ module _ (R : Reader) where
   none-within ((cell ∷ cells) ∷ rows) w = absurd (omega (arith, w.0))
 
   -- rows without columns have none
-  no-columns : (rows : List (List Inlines)) → nat_lt 0 (width rows) ≡ false → wrappers_of_rows rows ≡ []
+  no-columns : (rows : List (List Inlines)) → (width rows == 0) ≡ true → wrappers_of_rows rows ≡ []
   no-columns rows e =
       none-within rows (subst (λ (n : ℕ). AreWithin n rows) (none (width rows) e) (wider-within rows 0))
     where
-      none : (n : ℕ) → nat_lt 0 n ≡ false → n ≡ 0
+      none : (n : ℕ) → (n == 0) ≡ true → n ≡ 0
       none n e = grind (arith, nat_tests)
 
   -- ---- the table
@@ -123,23 +157,25 @@ module _ (R : Reader) where
   wrappers_of_option None = []
   wrappers_of_option (Some b) = read_block R b
 
-  table_of-wrappers : (alignments : List Alignment) (has_header : Bool) (rows : List (List Inlines))
-      → wrappers_of_option (table_of alignments has_header rows) ≡ wrappers_of_rows rows
-  table_of-wrappers alignments has_header [] = refl
-  table_of-wrappers alignments true (first ∷ rest) =
-      ap (λ t. t ++ wrappers_of_rows (filter has_cell rest)) (padded-wrappers (width (first ∷ rest)) first)
+  table_in-wrappers : (n : ℕ) (alignments : List Alignment) (has_header : Bool) (rows : List (List Inlines))
+      → read_block R (table_in n alignments has_header rows) ≡ wrappers_of_rows rows
+  table_in-wrappers n alignments true [] = ap (λ t. t ++ []) (padded-wrappers n [])
+  table_in-wrappers n alignments true (first ∷ rest) =
+      ap (λ t. t ++ wrappers_of_rows (body rest)) (padded-wrappers n first)
       ∙ ap (λ t. read_cells R first ++ t) (body-wrappers rest)
-  table_of-wrappers alignments false (first ∷ rest) =
-      ap (λ t. t ++ wrappers_of_rows (filter has_cell (first ∷ rest))) (padded-wrappers (width (first ∷ rest)) [])
-      ∙ body-wrappers (first ∷ rest)
+  table_in-wrappers n alignments false rows =
+      ap (λ t. t ++ wrappers_of_rows (body rows)) (padded-wrappers n []) ∙ body-wrappers rows
 
   pub table-wrappers : (alignments : List Alignment) (has_header : Bool) (rows : List (List Inlines))
-      → wrappers_of_option (table_if_filled alignments has_header rows) ≡ wrappers_of_rows rows
+      → wrappers_of_option (table_of_all alignments has_header rows) ≡ wrappers_of_rows rows
   table-wrappers alignments has_header rows =
-      either (nat_lt 0 (width (map trimmed rows))) (λ e. no-columns (map trimmed rows) e) ∙ all-trimmed rows
+      either (width lines == 0) (λ e. no-columns lines e) ∙ all-trimmed rows
     where
-      either : (b : Bool) → (b ≡ false → wrappers_of_rows (map trimmed rows) ≡ [])
-          → wrappers_of_option (cond b (table_of alignments has_header (map trimmed rows)) None)
-          ≡ wrappers_of_rows (map trimmed rows)
-      either true h = table_of-wrappers alignments has_header (map trimmed rows)
-      either false h = sym (h refl)
+      lines : List (List Inlines)
+      lines = map trimmed_row rows
+
+      either : (b : Bool) → (b ≡ true → wrappers_of_rows lines ≡ [])
+          → wrappers_of_option (cond b None (Some (table_in (width lines) alignments has_header lines)))
+          ≡ wrappers_of_rows lines
+      either true h = sym (h refl)
+      either false h = table_in-wrappers (width lines) alignments has_header lines

@@ -8,11 +8,11 @@ use Rattle.htmd_document.specs.Documents.{Inline, text, code, image, line_break,
 use Rattle.htmd_document.specs.Documents.{anchor}
 use Rattle.htmd_document.specs.Documents.{inline}
 use Rattle.htmd_document.specs.Documents as value
-use Rattle.htmd_document_of_tree.specs.Nesting.{wrapped_by, wrapped, one_inline, met, joined, in_last, behind}
-use Rattle.htmd_document_of_tree.specs.NestViews.{followed}
-use Rattle.htmd_document_of_tree.specs.Parts.{Around, formatted, linked}
-use Rattle.htmd_document_of_tree.proofs.NestingLemmas.{joined-apart, apart-wrapped, in_last-followed}
-use Rattle.htmd_document_of_tree.proofs.NestingLemmas.{with_content-wrapped}
+use Rattle.htmd_flow.specs.Nesting.{wrapped_by, wrapped, one_inline, met, joined, in_last, behind}
+use Rattle.htmd_flow.specs.NestViews.{followed}
+use Rattle.htmd_flow.specs.Parts.{Around, formatted, linked}
+use Rattle.htmd_flow.proofs.NestingLemmas.{joined-apart, apart-wrapped, in_last-followed}
+use Rattle.htmd_flow.proofs.NestingLemmas.{with_content-wrapped}
 use Rattle.htmd_law_documents.proofs.Readers.{Reader, read_inline, read_line, read_around}
 
 -- ---- texts

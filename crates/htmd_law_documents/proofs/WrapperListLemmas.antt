@@ -8,12 +8,12 @@ use Rattle.std.proofs.lemmas.List.{append-nil}
 use Rattle.std.proofs.lemmas.Grind.{flat_map-append}
 use Rattle.htmd_lexical.proofs.Cases.{test}
 use Rattle.htmd_document.specs.Documents.{Blocks, no_blocks, block, items_of, list}
-use Rattle.htmd_document_of_tree.specs.Lists.{ListItem, are_filled, is_tight, list_of, numbered, new_number, Groups}
+use Rattle.htmd_flow.specs.Lists.{ListItem, are_filled, is_tight, list_of, numbered, new_number, Groups}
 use Rattle.htmd_document.specs.TightItems.{is_filled}
-use Rattle.htmd_document_of_tree.specs.Lists.{groups_at, with_number, with_item, ended, numbered_lists, lists_of}
-use Rattle.htmd_document_of_tree.specs.Lists.{lists_if_filled}
-use Rattle.htmd_document_of_tree.specs.Lists.{start_of}
-use Rattle.htmd_document_of_tree.specs.Parts.{Part}
+use Rattle.htmd_flow.specs.Lists.{groups_at, with_number, with_item, ended, numbered_lists, lists_of}
+use Rattle.htmd_flow.specs.Lists.{lists_if_filled}
+use Rattle.htmd_flow.specs.Lists.{start_of}
+use Rattle.htmd_flow.specs.Parts.{Part}
 use Rattle.htmd_law_documents.proofs.Readers.{Reader, read_blocks, read_items}
 use Rattle.htmd_law_documents.proofs.WrapperPartsLemmas.{Keep, keep-nil, keep-append, keep-same, keep-whole}
 
@@ -64,11 +64,11 @@ module _ (R : Reader) where
     if-filled false items ps e h =
         keep-same R addr false [] [] (items_wrapped items) (sym (empty-items items e)) (keep-nil R addr false)
 
-    numbered-keeps : (start : ℤ) (items : List ListItem)
-        → Keep R addr false (numbered start items) (items_wrapped items)
-    numbered-keeps start items =
-        if-filled (are_filled items) items (list_of (start_of start (length items)) items ∷ []) refl
-        (list-keeps (start_of start (length items)) items)
+    numbered-keeps : (nested : ℕ) (start : ℤ) (items : List ListItem)
+        → Keep R addr false (numbered nested start items) (items_wrapped items)
+    numbered-keeps nested start items =
+        if-filled (are_filled items) items (list_of (start_of nested start (length items)) items ∷ []) refl
+        (list-keeps (start_of nested start (length items)) items)
 
     record GroupsKeep (g : Groups) (cs : List R.Seen) : Type 0 where
       before : List R.Seen
@@ -86,8 +86,8 @@ module _ (R : Reader) where
     }
     number-keeps (Some v) g i cs h = record {
       before = h.before ++ items_wrapped g.group;
-      done = keep-append R addr false g.done (numbered g.start g.group) h.before (items_wrapped g.group) h.done
-          (numbered-keeps g.start g.group);
+      done = keep-append R addr false g.done (numbered g.nested g.start g.group) h.before
+          (items_wrapped g.group) h.done (numbered-keeps g.nested g.start g.group);
       is = ap (λ t. t ++ item_wrapped i) h.is
           ∙ ap (λ t. (h.before ++ items_wrapped g.group) ++ t) (sym (append-nil (item_wrapped i)));
     }
@@ -104,22 +104,23 @@ module _ (R : Reader) where
           is = sym (append_assoc cs (item_wrapped i) (items_wrapped items)) ∙ next.is;
         }
 
-    numbered_lists-keep : (start : ℤ) (items : List ListItem)
-        → Keep R addr false (numbered_lists start items) (items_wrapped items)
-    numbered_lists-keep start items =
-        let empty : GroupsKeep (groups_at start) [] = record { before = []; done = keep-nil R addr false; is = refl } in
-        let g : Groups = fold with_item (groups_at start) items in
-        let all : GroupsKeep g (items_wrapped items) = groups-keep items (groups_at start) [] empty in
+    numbered_lists-keep : (nested : ℕ) (start : ℤ) (items : List ListItem)
+        → Keep R addr false (numbered_lists nested start items) (items_wrapped items)
+    numbered_lists-keep nested start items =
+        let empty : GroupsKeep (groups_at nested start) [] =
+        record { before = []; done = keep-nil R addr false; is = refl } in
+        let g : Groups = fold with_item (groups_at nested start) items in
+        let all : GroupsKeep g (items_wrapped items) = groups-keep items (groups_at nested start) [] empty in
         keep-same R addr false (ended g) (all.before ++ items_wrapped g.group) (items_wrapped items) (sym all.is)
-        (keep-append R addr false g.done (numbered g.start g.group) all.before (items_wrapped g.group) all.done
-        (numbered-keeps g.start g.group))
+        (keep-append R addr false g.done (numbered g.nested g.start g.group) all.before (items_wrapped g.group) all.done
+        (numbered-keeps g.nested g.start g.group))
 
-    lists_of-keep : (start : Option ℤ) (items : List ListItem)
-        → Keep R addr false (lists_of start items) (items_wrapped items)
-    lists_of-keep None items = list-keeps None items
-    lists_of-keep (Some start) items = numbered_lists-keep start items
+    lists_of-keep : (nested : ℕ) (start : Option ℤ) (items : List ListItem)
+        → Keep R addr false (lists_of nested start items) (items_wrapped items)
+    lists_of-keep nested None items = list-keeps None items
+    lists_of-keep nested (Some start) items = numbered_lists-keep nested start items
 
-    pub lists-keep : (start : Option ℤ) (items : List ListItem)
-        → Keep R addr false (lists_if_filled start items) (items_wrapped items)
-    lists-keep start items =
-        if-filled (are_filled items) items (lists_of start items) refl (lists_of-keep start items)
+    pub lists-keep : (nested : ℕ) (start : Option ℤ) (items : List ListItem)
+        → Keep R addr false (lists_if_filled nested start items) (items_wrapped items)
+    lists-keep nested start items =
+        if-filled (are_filled items) items (lists_of nested start items) refl (lists_of-keep nested start items)

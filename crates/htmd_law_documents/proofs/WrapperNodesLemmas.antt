@@ -4,38 +4,37 @@ use Rattle.std.proofs.Common.{append_assoc, subst, Option, None}
 use Rattle.std.specs.Prelude.{ℤ, if◌then◌else◌, nat_le}
 use Rattle.std.specs.List.{flat_map}
 use Rattle.htmd_lexical.proofs.Cases.{test}
-use Rattle.htmd_nodes.specs.NumberedTrees.{NumberedTree, document, doctype, text, comment, element}
-use Rattle.htmd_document_of_tree.specs.AllTexts.{all_text_among}
-use Rattle.htmd_document_of_tree.specs.Contexts.{Context, is_lined, deeper, apart}
+use Rattle.htmd_shown.specs.AllTexts.{all_text_among}
+use Rattle.htmd_shown.specs.Kinds.{has, content_of}
+use Rattle.htmd_shown.specs.SimpleTrees.{Simple, text, image, formula, embedded, anchor, element}
+use Rattle.htmd_flow.specs.Contexts.{Context, is_lined, deeper, apart}
 use Rattle.htmd_document.specs.DocumentLimits.{most_nested}
-use Rattle.htmd_document_of_tree.specs.Flows.{Node, is_item, blocks_of, before_items, behind_item, item_of, items_of}
-use Rattle.htmd_document_of_tree.specs.Flows.{each_whole}
-use Rattle.htmd_document_of_tree.specs.Flows.{list_parts, goes_on, items_in_a_row, flow_all, flow_after, is_grid}
-use Rattle.htmd_document_of_tree.specs.Flows.{lines_of_table}
-use Rattle.htmd_document_of_tree.specs.Lists.{ListItem, lists_if_filled}
-use Rattle.htmd_document_of_tree.specs.Parts.{Part, edge}
-use Rattle.htmd_document_of_tree.specs.Roles as roles
-use Rattle.htmd_document_of_tree.specs.Roles.{role_of}
-use Rattle.htmd_document_of_tree.specs.Shown.{children_of}
-use Rattle.htmd_document_of_tree.specs.Tables.{has}
+use Rattle.htmd_flow.specs.Flows.{Node, is_item, blocks_of, before_items, behind_item, item_of, items_of}
+use Rattle.htmd_flow.specs.Flows.{each_whole}
+use Rattle.htmd_flow.specs.Flows.{list_parts, goes_on, items_in_a_row, flow_all, flow_after}
+use Rattle.htmd_flow.specs.Flows.{is_grid_of}
+use Rattle.htmd_flow.specs.Lists.{ListItem, lists_if_filled}
+use Rattle.htmd_flow.specs.Parts.{Part, edge}
+use Rattle.htmd_shown.specs.declared.role.Role.{Role}
+use Rattle.htmd_shown.specs.Roles as roles
 use Rattle.htmd_law_documents.proofs.NormalTextLemmas.{neither, false-true}
 use Rattle.htmd_law_documents.proofs.Readers.{Reader, read_blocks, read_tree, read_trees}
 use Rattle.htmd_law_documents.proofs.WrapperWritingLemmas.{AllAgree}
 use Rattle.htmd_law_documents.proofs.WrapperPartsLemmas.{Keep, keep-nil, keep-append, keep-same, keep-edge, keep-edges}
 use Rattle.htmd_law_documents.proofs.WrapperPartsLemmas.{keep-after, keep-apart, blocks-keep}
 use Rattle.htmd_law_documents.proofs.WrapperListLemmas.{items_wrapped, lists-keep}
-use Rattle.htmd_law_documents.proofs.WrapperKindLemmas.{kind-wrappers}
+use Rattle.htmd_law_documents.proofs.WrapperKindLemmas.{IsInner, item-inner}
 
--- marks don't depend on how many lists and quotes there are
+-- marks don't depend on how many lists and quotes there are, and what elements are near
 abbrev pub shallow : Context → Context
-shallow c = record c { nested = 0 }
+shallow c = record c { nested = 0; near = [] }
 
 pub not-flat : (c : Context) → is_lined c ≡ false → c.is_flat ≡ false
 not-flat c e = (neither c.is_flat (nat_le most_nested c.nested) e).0
 
 module _ (R : Reader) where
-  abbrev pub wrappers_in : NumberedTree → Context → List R.Seen
-  wrappers_in t c = read_trees R (children_of t) c false
+  abbrev pub wrappers_in : Simple → Context → List R.Seen
+  wrappers_in t c = read_trees R (content_of t) c false
 
   abbrev pub node_wrapped : Context → Node → List R.Seen
   node_wrapped c n = read_tree R n.tree c false
@@ -43,15 +42,21 @@ module _ (R : Reader) where
   abbrev pub nodes_wrapped : List Node → Context → List R.Seen
   nodes_wrapped nodes c = flat_map (node_wrapped c) nodes
 
-  item-wrappers : (t : NumberedTree) (c : Context) → has roles.is_item t ≡ true → read_tree R t c false
+  -- a node of a kind says what is in it
+  pub inner-wrappers : (kind : Role → Bool)
+      → ((r : Role) → kind r ≡ true → IsInner R r) → (t : Simple) (c : Context) → has kind t ≡ true
+      → read_tree R t c false ≡ wrappers_in t c
+  inner-wrappers kind inner (text s) c e = false-true e
+  inner-wrappers kind inner (image address attributes) c e = false-true e
+  inner-wrappers kind inner (formula tex is_alone attributes) c e = false-true e
+  inner-wrappers kind inner (embedded id address title attributes anchors) c e = false-true e
+  inner-wrappers kind inner (anchor id) c e = false-true e
+  inner-wrappers kind inner (element id r facts attributes content) c e =
+      inner r e id facts attributes (all_text_among content) (is_grid_of content) (read_trees R content) c false
+
+  pub item-wrappers : (t : Simple) (c : Context) → has roles.is_item t ≡ true → read_tree R t c false
       ≡ wrappers_in t c
-  item-wrappers (document id children) c e = refl
-  item-wrappers (doctype id) c e = refl
-  item-wrappers (text id s) c e = false-true e
-  item-wrappers (comment id s) c e = refl
-  item-wrappers (element id name attributes children) c e =
-      (kind-wrappers R id attributes (all_text_among children) (is_grid children (lines_of_table children))
-      (read_trees R children) c false name).item e
+  item-wrappers t c e = inner-wrappers roles.is_item (item-inner R) t c e
 
   -- from the first item on
   abbrev from_item : List Node → List Node
@@ -189,7 +194,7 @@ module _ (R : Reader) where
     list-parts-keep start nodes h c a =
         let s : Context = shallow c in
         let items : List ListItem = items_of nodes (deeper c) in
-        let lists : List Part = lists_if_filled start items in
+        let lists : List Part = lists_if_filled c.nested start items in
         let front : List Part = edge ∷ before_items nodes c in
         let cs : List R.Seen = wrapped_before nodes s in
         let ds : List R.Seen = nodes_wrapped (from_item nodes) s in
@@ -206,7 +211,7 @@ module _ (R : Reader) where
         (keep-edge R addr c.is_flat (before_items nodes c) cs (before-keeps nodes h c a))
         (keep-edge R addr c.is_flat lists ds
         (keep-in c.is_flat false lists ds flat
-        (keep-same R addr false lists (items_wrapped R items) ds all (lists-keep R addr start items)))))
+        (keep-same R addr false lists (items_wrapped R items) ds all (lists-keep R addr c.nested start items)))))
         (keep-edges R addr c.is_flat)))
 
     -- ---- what follows each other

@@ -1,5 +1,5 @@
 -- The wrappers of parts, and that blocks and lines of them keep these.
-use Rattle.std.proofs.Common.{◌≡◌, ℕ, Bool, true, false, cond, List, [], ◌∷◌, ◌++◌, refl, sym, ◌∙◌, ap, append_assoc}
+use Rattle.std.proofs.Common.{◌≡◌, ℕ, Bool, true, false, List, [], ◌∷◌, ◌++◌, refl, sym, ◌∙◌, ap, append_assoc}
 use Rattle.std.proofs.Common.{map}
 use Rattle.std.specs.Prelude.{if◌then◌else◌, encode_utf8_all}
 use Rattle.std.specs.List.{flat_map}
@@ -7,18 +7,18 @@ use Rattle.std.specs.Str.{chars, IsUtf8}
 use Rattle.std.proofs.lemmas.List.{append-nil}
 use Rattle.std.proofs.lemmas.Grind.{flat_map-append}
 use Rattle.std.proofs.lemmas.Str.{scalars-chars}
-use Rattle.htmd_document_of_tree.specs.Contexts.{apart}
+use Rattle.htmd_flow.specs.Contexts.{apart}
 use Rattle.htmd_document.specs.Documents.{image, Block}
-use Rattle.htmd_document_of_tree.specs.Flows.{blocks_of, line_of}
-use Rattle.htmd_document_of_tree.specs.Paragraphs.{Writing, begun, ended_by, broken_off, ended, fed, fed_all}
-use Rattle.htmd_document_of_tree.specs.Parts.{Around, Part, run, picture, break, box, edge, whole}
+use Rattle.htmd_flow.specs.Flows.{blocks_of, line_of}
+use Rattle.htmd_flow.specs.Paragraphs.{Writing, begun, fed, fed_all}
+use Rattle.htmd_flow.specs.Parts.{Around, Part, run, picture, break, place, box, edge, whole}
 use Rattle.htmd_law_documents.specs.DocumentTexts.{visible}
 use Rattle.htmd_law_documents.proofs.VisibleLemmas.{Shows, shows-encodes}
 use Rattle.htmd_law_documents.proofs.Readers.{Reader, read_line, read_block, read_blocks, read_around}
-use Rattle.htmd_law_documents.proofs.WrapperWritingLemmas.{false-true, AllAgree, Wrote, wrote-same, wrote-nothing}
-use Rattle.htmd_law_documents.proofs.WrapperWritingLemmas.{ended_by-wrote, ended-wrote, broken_off-wrote, leaf-wrote}
-use Rattle.htmd_law_documents.proofs.WrapperWritingLemmas.{box-wrote, characters-wrote, blocks-in_wrappers}
-use Rattle.htmd_law_documents.proofs.WrapperWritingLemmas.{line-in_wrappers, wrappers_of_all}
+use Rattle.htmd_law_documents.proofs.WrapperWritingLemmas.{AllAgree, Wrote, wrote-same, wrote-nothing}
+use Rattle.htmd_law_documents.proofs.WrapperWritingLemmas.{broken_off-wrote, leaf-wrote, box-wrote, place-wrote}
+use Rattle.htmd_law_documents.proofs.WrapperWritingLemmas.{edge-wrote, whole-wrote, characters-wrote}
+use Rattle.htmd_law_documents.proofs.WrapperWritingLemmas.{blocks-in_wrappers, line-in_wrappers}
 
 module _ (R : Reader) where
   -- the characters in wrappers of a part; a block gives none where all is one line
@@ -27,6 +27,7 @@ module _ (R : Reader) where
   part_wrapped in_line (picture address title description around) = R.read
       (map (read_around R) around) false description
   part_wrapped in_line break = []
+  part_wrapped in_line (place id) = R.mark id
   part_wrapped in_line (box is_checked) = []
   part_wrapped in_line edge = []
   part_wrapped in_line (whole b) = if in_line then [] else read_block R b
@@ -40,6 +41,7 @@ module _ (R : Reader) where
     IsLinked (run s around is_code) = IsUtf8 s × AllAgree R addr around
     IsLinked (picture address title description around) = IsUtf8 description × AllAgree R addr around
     IsLinked break = Unit {0}
+    IsLinked (place id) = Unit {0}
     IsLinked (box is_checked) = Unit {0}
     IsLinked edge = Unit {0}
     IsLinked (whole b) = Unit {0}
@@ -106,24 +108,6 @@ module _ (R : Reader) where
         → Wrote R addr w in_line (cs ++ [])
     same-end w in_line cs h = wrote-same R addr w in_line cs (cs ++ []) (sym (append-nil cs)) h
 
-    edge-wrote : (b : Bool) (w : Writing) (in_line : Bool) (cs : List R.Seen) → w.is_flat ≡ b
-        → Wrote R addr w in_line cs
-        → Wrote R addr (cond b (broken_off w) (ended w)) in_line cs
-    edge-wrote true w in_line cs e h = broken_off-wrote R addr w in_line cs h
-    edge-wrote false w false cs e h = ended-wrote R addr w cs h
-    edge-wrote false w true cs e h = false-true (sym e ∙ h.flat)
-
-    whole-wrote : (c : Bool) (w : Writing) (b : Block) (in_line : Bool) (cs : List R.Seen) → w.is_flat ≡ c
-        → Wrote R addr w in_line cs
-        → Wrote R addr (cond c (broken_off w) (ended_by w (b ∷ []))) in_line (cs
-        ++ cond in_line [] (read_block R b))
-    whole-wrote true w b true cs e h = same-end (broken_off w) true cs (broken_off-wrote R addr w true cs h)
-    whole-wrote true w b false cs e h = false-true (sym h.flat ∙ e)
-    whole-wrote false w b true cs e h = false-true (sym e ∙ h.flat)
-    whole-wrote false w b false cs e h =
-        wrote-same R addr (ended_by w (b ∷ [])) false (cs ++ wrappers_of_all R (b ∷ [])) (cs ++ read_block R b)
-        (ap (λ t. cs ++ t) (append-nil (read_block R b))) (ended_by-wrote R addr w (b ∷ []) cs h)
-
     part-wrote : (p : Part) (w : Writing) (in_line : Bool) (cs : List R.Seen) → IsLinked p
         → Wrote R addr w in_line cs
         → Wrote R addr (fed w p) in_line (cs ++ part_wrapped in_line p)
@@ -140,10 +124,11 @@ module _ (R : Reader) where
     part-wrote break w in_line cs u h = same-end (fed w break) in_line cs (broken_off-wrote R addr w in_line cs h)
     part-wrote (box is_checked) w in_line cs u h =
         same-end (fed w (box is_checked)) in_line cs (box-wrote R addr w in_line cs is_checked h)
-    part-wrote edge w in_line cs u h = same-end (fed w edge) in_line cs (edge-wrote w.is_flat w in_line cs refl h)
-    part-wrote (whole b) w in_line cs u h = whole-wrote w.is_flat w b in_line cs refl h
+    part-wrote (place id) w in_line cs u h = place-wrote R addr w in_line cs id h
+    part-wrote edge w in_line cs u h = same-end (fed w edge) in_line cs (edge-wrote R addr w in_line cs h)
+    part-wrote (whole b) w in_line cs u h = whole-wrote R addr w b in_line cs h
 
-    parts-wrote : (ps : List Part) (w : Writing) (in_line : Bool) (cs : List R.Seen) → AreLinked ps
+    pub parts-wrote : (ps : List Part) (w : Writing) (in_line : Bool) (cs : List R.Seen) → AreLinked ps
         → Wrote R addr w in_line cs → Wrote R addr (fed_all w ps) in_line (cs ++ parts_wrapped in_line ps)
     parts-wrote [] w in_line cs u h = same-end w in_line cs h
     parts-wrote (p ∷ ps) w in_line cs u h =

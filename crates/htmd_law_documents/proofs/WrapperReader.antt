@@ -1,35 +1,36 @@
 -- The reader that takes the visible characters, each with what stands around it.
 use Rattle.std.proofs.Common.{◌≡◌, ℕ, Bool, true, false, List, [], ◌∷◌, ◌++◌, map, refl, ap, ◌∙◌}
-use Rattle.std.specs.Prelude.{not, ◌&&◌, codes}
+use Rattle.std.proofs.Common.{cond}
+use Rattle.std.specs.Prelude.{not, ◌&&◌, codes, None, is_some}
 use Rattle.std.specs.List.{flat_map}
 use Rattle.std.specs.Str.{IsUtf8}
 use Rattle.std.proofs.lemmas.List.{map-append}
-use Rattle.htmd_lexical.specs.Characters.{quotation_mark}
 use Rattle.htmd_lexical.specs.AttributePairs.{AttributePair}
-use Rattle.htmd_nodes.specs.NumberedTrees as node
-use Rattle.htmd_nodes.specs.NumberedTrees.{NumberedTree, NumberedForest, none, more}
-use Rattle.htmd_document_of_tree.specs.AllTexts.{all_text_among}
-use Rattle.htmd_document_of_tree.specs.Attributes.{text_of, has_attribute}
-use Rattle.htmd_document_of_tree.specs.Contexts.{Context}
 use Rattle.htmd_document.specs.Documents.{Inline, text, code, formatted, link, image, line_break, task, Inlines}
 use Rattle.htmd_document.specs.Documents.{anchor}
 use Rattle.htmd_document.specs.Documents.{no_inlines, inline, Block, paragraph, heading, code_block, quote}
 use Rattle.htmd_document.specs.Documents.{thematic_break, list, table, Blocks, no_blocks, block, Items, no_items, item}
-use Rattle.htmd_document_of_tree.specs.Flows.{is_grid, lines_of_table}
-use Rattle.htmd_document_of_tree.specs.Parts as part
-use Rattle.htmd_document_of_tree.specs.Roles.{role_of, table_role, heading_or_block, inline_role}
+use Rattle.htmd_shown.specs.declared.facts.Facts.{Facts}
+use Rattle.htmd_shown.specs.declared.role.Role.{Role}
+use Rattle.htmd_shown.specs.declared.role.Role.TheVariants as role
+use Rattle.htmd_shown.specs.AllTexts.{all_text_among, dollar_sign}
+use Rattle.htmd_shown.specs.Attributes.{text_of}
+use Rattle.htmd_shown.specs.SimpleTrees as simple
+use Rattle.htmd_shown.specs.SimpleTrees.{Simple, Simples, none, more}
+use Rattle.htmd_flow.specs.Contexts.{Context, inside_link, in_code}
+use Rattle.htmd_flow.specs.Flows.{is_grid_of}
+use Rattle.htmd_flow.specs.Parts as part
 use Rattle.htmd_law_documents.specs.DocumentTexts.{visible}
 use Rattle.htmd_law_documents.specs.DocumentWrappers.{Wrapper, of_format, of_link, Wrapped, in_wrappers}
 use Rattle.htmd_law_documents.specs.DocumentWrappers.{wrappers_of_inline}
 use Rattle.htmd_law_documents.specs.DocumentWrappers.{wrappers_of_line, wrappers_of_cells, wrappers_of_block}
 use Rattle.htmd_law_documents.specs.DocumentWrappers.{wrappers_of_blocks, wrappers_of_items}
-use Rattle.htmd_law_documents.specs.TreeWrappers.{wrapper_of, wrapped_in, inside_verbatim, wrappers_by}
-use Rattle.htmd_law_documents.specs.TreeWrappers.{wrappers_of_tree}
-use Rattle.htmd_law_documents.specs.TreeWrappers.{wrappers_of_trees}
+use Rattle.htmd_law_documents.specs.TreeWrappers.{wrapper_of, wrapped_in, wrapped_formula, inside_verbatim, wrappers_by}
+use Rattle.htmd_law_documents.specs.TreeWrappers.{wrappers_of_tree, wrappers_of_trees}
 use Rattle.htmd_law_documents.proofs.VisibleLemmas.{shows-nil, visible-append}
-use Rattle.htmd_law_documents.proofs.KindLemmas.{Kind, any-kind}
 use Rattle.htmd_law_documents.proofs.Readers.{Reader, read_inline, read_line, read_cells, read_block, read_blocks}
-use Rattle.htmd_law_documents.proofs.Readers.{read_items, read_around, read_in, read_by, read_tree, read_trees}
+use Rattle.htmd_law_documents.proofs.Readers.{read_items, read_around, read_in, read_in_line, read_formula, read_by}
+use Rattle.htmd_law_documents.proofs.Readers.{read_tree, read_trees, no-marks}
 
 abbrev pub as_wrapped : List Wrapper → Bool → ℕ → Wrapped
 as_wrapped wrappers is_code c = record { character = c; wrappers = wrappers; is_code = is_code }
@@ -47,6 +48,7 @@ wrapped = record {
   as_format = of_format;
   as_link = of_link;
   read = in_wrappers;
+  mark = λ id. [];
   nothing = λ wrappers is_code. ap (map (as_wrapped wrappers is_code)) shows-nil.is;
   joins = in_wrappers-append;
   same = λ wrappers is_code s t u v e. ap (map (as_wrapped wrappers is_code)) e;
@@ -110,7 +112,7 @@ mutual
       ap (λ t. t ++ read_items wrapped items) (blocks-wrappers bs)
       ∙ ap (λ t. wrappers_of_blocks bs ++ t) (items-wrappers items)
 
--- ---- trees
+-- ---- the simpler tree
 
 around-wrapper : (a : part.Around) → read_around wrapped a ≡ wrapper_of a
 around-wrapper (part.formatted format) = refl
@@ -126,68 +128,49 @@ same-around : (around : List part.Around) (is_code : Bool) (s : List ℕ)
     → in_wrappers (map (read_around wrapped) around) is_code s ≡ in_wrappers (map wrapper_of around) is_code s
 same-around around is_code s = ap (λ ms. in_wrappers ms is_code s) (around-wrappers around)
 
-quotes-wrappers : (c : Context) (xs ys : List Wrapped) → xs ≡ ys
-    → (read_in wrapped c (quotation_mark ∷ []) ++ xs) ++ read_in wrapped c (quotation_mark ∷ [])
-    ≡ (wrapped_in c (quotation_mark ∷ []) ++ ys) ++ wrapped_in c (quotation_mark ∷ [])
-quotes-wrappers c xs ys e =
-    ap (λ s. (s ++ xs) ++ s) (same-around c.around c.is_code (quotation_mark ∷ []))
-    ∙ ap (λ t. (wrapped_in c (quotation_mark ∷ []) ++ t) ++ wrapped_in c (quotation_mark ∷ [])) e
+formula-wrappers : (c : Context) (is_alone : Bool) (tex : List ℕ)
+    → read_formula wrapped c is_alone tex ≡ wrapped_formula c is_alone tex
+formula-wrappers c is_alone tex = either (is_alone && not c.is_flat)
+  where
+    mark : List ℕ
+    mark = dollar_sign ∷ []
 
-by-wrappers : (id : ℕ) (attributes : List AttributePair) (all : List ℕ) (holds_grid : Bool)
+    either : (b : Bool) → cond b (in_wrappers [] true tex) (read_in_line wrapped c tex)
+        ≡ cond b (in_wrappers [] true tex)
+        ((wrapped_in c mark ++ wrapped_in (in_code c) tex) ++ wrapped_in c mark)
+    either true = refl
+    either false =
+        ap (λ s. (s ++ read_in wrapped (in_code c) tex) ++ s) (same-around c.around c.is_code mark)
+        ∙ ap (λ s. (wrapped_in c mark ++ s) ++ wrapped_in c mark) (same-around c.around true tex)
+
+by-wrappers : (id : ℕ) (facts : Facts) (attributes : List AttributePair) (all : List ℕ) (holds_grid : Bool)
     (f g : Context → Bool → List Wrapped) → ((c : Context) (b : Bool) → f c b ≡ g c b) → (c : Context)
-    (b : Bool)
-    → (name : List ℕ)
-    → read_by wrapped (role_of name) id attributes all holds_grid f c b
-    ≡ wrappers_by (role_of name) id attributes all holds_grid g c b
-unfolding role_of table_role heading_or_block inline_role
-by-wrappers id attributes all holds_grid f g e c b name =
-    any-kind (λ (r : Kind). read_by wrapped r id attributes all holds_grid f c b
-    ≡ wrappers_by r id attributes all holds_grid g c b) name (record {
-      paragraph = e _ _;
-      item = e _ _;
-      bullet_list = e _ _;
-      numbered_list = e _ _;
-      verbatim = same-around (inside_verbatim c).around true all;
-      block_quote = e _ _;
-      thematic_break = refl;
-      table = e _ _;
-      caption = e _ _;
-      table_head = e _ _;
-      table_body = e _ _;
-      row = e _ _;
-      cell = e _ _;
-      header_cell = e _ _;
-      heading_1 = e _ _;
-      heading_2 = e _ _;
-      heading_3 = e _ _;
-      heading_4 = e _ _;
-      heading_5 = e _ _;
-      heading_6 = e _ _;
-      block = e _ _;
-      format = λ f. e _ _;
-      element = λ x. e _ _;
-      code = e _ _;
-      anchor = e _ _;
-      quotation = quotes-wrappers c (f c false) (g c false) (e c false);
-      apart = e _ _;
-      line_break = refl;
-      image = same-around c.around (c.is_code && not (has_attribute (codes "src") attributes))
-          (text_of (codes "alt") attributes);
-      input = e _ _;
-      plain = e _ _;
-    })
+    (b : Bool) (r : Role)
+    → read_by wrapped r id facts attributes all holds_grid f c b
+    ≡ wrappers_by r id facts attributes all holds_grid g c b
+by-wrappers id facts attributes all holds_grid f g e c b role.LineBreak = refl
+by-wrappers id facts attributes all holds_grid f g e c b role.ThematicBreak = refl
+by-wrappers id facts attributes all holds_grid f g e c b role.Preformatted =
+    same-around (inside_verbatim c).around true all
+by-wrappers id facts attributes all holds_grid f g e c b role.Verbatim =
+    same-around (inside_verbatim c).around true all
+by-wrappers id facts attributes all holds_grid f g e c b r = e _ _
 
 mutual
-  pub tree-wrappers : (t : NumberedTree) (c : Context) (b : Bool) → read_tree wrapped t c b ≡ wrappers_of_tree t c b
-  tree-wrappers (node.document id children) c b = trees-wrappers children c false
-  tree-wrappers (node.doctype id) c b = refl
-  tree-wrappers (node.text id s) c b = same-around c.around c.is_code s
-  tree-wrappers (node.comment id s) c b = refl
-  tree-wrappers (node.element id name attributes children) c b =
-      by-wrappers id attributes (all_text_among children) (is_grid children (lines_of_table children))
-      (read_trees wrapped children) (wrappers_of_trees children) (trees-wrappers children) c b name
+  tree-wrappers : (t : Simple) (c : Context) (b : Bool) → read_tree wrapped t c b ≡ wrappers_of_tree t c b
+  tree-wrappers (simple.text s) c b = same-around c.around c.is_code s
+  tree-wrappers (simple.image address attributes) c b =
+      same-around c.around (c.is_code && not (is_some address)) (text_of (codes "alt") attributes)
+  tree-wrappers (simple.formula tex is_alone attributes) c b = formula-wrappers c is_alone tex
+  tree-wrappers (simple.embedded id address title attributes anchors) c b =
+      ap (λ xs. xs ++ read_in wrapped (inside_link id address None c) title) (no-marks wrapped (λ i. refl) anchors)
+      ∙ same-around (inside_link id address None c).around (inside_link id address None c).is_code title
+  tree-wrappers (simple.anchor id) c b = refl
+  tree-wrappers (simple.element id r facts attributes content) c b =
+      by-wrappers id facts attributes (all_text_among content) (is_grid_of content) (read_trees wrapped content)
+      (wrappers_of_trees content) (trees-wrappers content) c b r
 
-  trees-wrappers : (ts : NumberedForest) (c : Context) (b : Bool)
+  pub trees-wrappers : (ts : Simples) (c : Context) (b : Bool)
       → read_trees wrapped ts c b ≡ wrappers_of_trees ts c b
   trees-wrappers none c b = refl
   trees-wrappers (more t ts) c b =

@@ -8,24 +8,23 @@ use Rattle.std.proofs.Math.Utf8.{scalars, scalar}
 use Rattle.std.proofs.lemmas.List.{append-nil, length-map, length-take-le}
 use Rattle.std.proofs.lemmas.Grind.{flat_map-append}
 use Rattle.htmd_lexical.specs.Characters.{space}
-use Rattle.htmd_lexical.specs.CharacterClasses.{first_is}
 use Rattle.htmd_lexical.specs.WhiteSpace.{is_ascii_white_space}
 use Rattle.htmd_lexical.proofs.Cases.{test}
-use Rattle.htmd_document.specs.Documents.{Inline, text, line_break, task, Inlines, Block, paragraph}
+use Rattle.htmd_document.specs.Documents.{Inline, text, line_break, anchor, Inlines, no_inlines, inline, Block}
 use Rattle.htmd_document.specs.Documents.{blocks_of}
-use Rattle.htmd_document_of_tree.specs.Nesting.{shared, behind, text_or_code, one_inline}
-use Rattle.htmd_document_of_tree.specs.Nesting as nest
-use Rattle.htmd_document_of_tree.specs.Paragraphs.{Writing, begun, is_leaf, open_paragraph, ended_by, ended, parted}
-use Rattle.htmd_document_of_tree.specs.Paragraphs.{broken_off}
-use Rattle.htmd_document_of_tree.specs.Paragraphs.{spaced_out, white_behind, after_task, is_code_gap, gap_after_task}
-use Rattle.htmd_document_of_tree.specs.Paragraphs.{gap_before}
-use Rattle.htmd_document_of_tree.specs.Paragraphs.{gap_behind, latest_of, shared_wrappers, shown, after_leaf}
-use Rattle.htmd_document_of_tree.specs.Paragraphs.{is_task_here, tasked}
-use Rattle.htmd_document_of_tree.specs.Paragraphs.{after_character, blocks_in, line_in}
-use Rattle.htmd_document_of_tree.specs.Parts.{Around, formatted, linked}
-use Rattle.htmd_document_of_tree.specs.Spaces.{Gap, no_gap, shown_white, is_white, ends_with_space}
-use Rattle.htmd_document_of_tree.proofs.ParagraphsLemmas.{shared-le-other, shared-prefix}
-use Rattle.htmd_law_documents.proofs.VisibleLemmas.{Shows, shows-append, shows-nil, text-same, shows-blank, both-true}
+use Rattle.htmd_flow.specs.Nesting.{shared, behind, text_or_code}
+use Rattle.htmd_flow.specs.Nesting as nest
+use Rattle.htmd_flow.specs.Paragraphs.{Writing, begun, is_leaf, anchored, shown_content, whole_content, paragraph_of}
+use Rattle.htmd_flow.specs.Paragraphs.{open_paragraph, ended, parted, broken_off, spaced_out, white_behind, is_code_gap}
+use Rattle.htmd_flow.specs.Paragraphs.{gap_after_task, gap_before, gap_behind, latest_of, shared_wrappers, put_before}
+use Rattle.htmd_flow.specs.Paragraphs.{shown, after_leaf, is_task_here, boxed, with_task, tasked, with_anchor}
+use Rattle.htmd_flow.specs.Paragraphs.{is_boxed_item, edged, blocked, after_character, blocks_in, line_in}
+use Rattle.htmd_flow.specs.declared.paragraphs.Met.{Met}
+use Rattle.htmd_flow.specs.Parts.{Around, formatted, linked}
+use Rattle.htmd_shown.specs.Spaces.{Gap, shown_white, is_white, ends_with_space}
+use Rattle.htmd_flow.proofs.NestingLemmas.{before-front}
+use Rattle.htmd_flow.proofs.ParagraphsLemmas.{shared-le-other, shared-prefix}
+use Rattle.htmd_law_documents.proofs.VisibleLemmas.{Shows, shows-nil, text-same, shows-blank, both-true}
 use Rattle.htmd_law_documents.proofs.VisibleLemmas.{shows-character, shows-encodes, shows-white}
 use Rattle.htmd_law_documents.proofs.Readers.{Reader, unseen, read_inline, read_line, read_block, read_blocks}
 use Rattle.htmd_law_documents.proofs.Readers.{read_around}
@@ -60,13 +59,6 @@ spaced-shows false g c is_code s h w =
 space-shows : Shows (space ∷ []) []
 unfolding encode
 space-shows = shows-white space refl refl
-
-pub after_task-shows : (s : List ℕ) → Shows s [] → Shows (after_task s) []
-after_task-shows s h = either (first_is space s)
-  where
-    either : (b : Bool) → Shows (cond b s (space ∷ s)) []
-    either true = h
-    either false = shows-append (space ∷ []) s [] [] space-shows h
 
 module _ (R : Reader) where
   -- ---- blocks in a row
@@ -126,10 +118,17 @@ module _ (R : Reader) where
       at_leaf : (is_code : Bool) → w.latest ≡ latest_of is_code → Opens R (map wrapper_at w.around) w.content
           → State w
 
+    abbrev pub marks_of : List (List ℕ) → List R.Seen
+    marks_of ids = flat_map R.mark ids
+
+    -- what is taken of its paragraph
+    abbrev pub open_wrapped : Writing → List R.Seen
+    open_wrapped w = read_line R [] w.content ++ marks_of w.anchors
+
     -- these characters in wrappers are in it
     pub record Wrote (w : Writing) (in_line : Bool) (cs : List R.Seen) : Type 0 where
       pub flat : w.is_flat ≡ in_line
-      pub says : wrappers_of_all w.done ++ read_line R [] w.content ≡ cs
+      pub says : wrappers_of_all w.done ++ open_wrapped w ≡ cs
       pub texts : AreTextInlines w.content
       pub gap : Shows w.gap.white []
       pub blank : w.is_blank ≡ true → read_line R [] w.content ≡ []
@@ -160,35 +159,118 @@ module _ (R : Reader) where
         (subst (λ (ms : List nest.Wrapper). Opens R (map wrapper_at ms) v.content) (sym c)
         (subst (λ (xs : Inlines). Opens R (map wrapper_at w.around) xs) (sym b) o))
 
+    -- ---- what goes between
+
+    -- inlines that say this, with so many wrappers open
+    record IsGap (cs : List R.Seen) (around : List Around) (xs : Inlines) (n : ℕ) : Type 0 where
+      says : read_line R [] xs ≡ cs
+      texts : AreTextInlines xs
+      fits : n ≤ length around
+      opens : Opens R (take n (map (read_around R) around)) xs
+
+    no-gap : (base : Inlines) (around : List Around) → AreTextInlines base
+        → IsGap (read_line R [] base) around base 0
+    no-gap base around u = record { says = refl; texts = u; fits = omega arith; opens = tt }
+
+    either-blank : (wrappers : List R.Wrap) (is_code : Bool) (s : List ℕ) → Shows s []
+        → read_inline R wrappers (text_or_code is_code s) ≡ []
+    either-blank wrappers true s h = unseen R wrappers true s h
+    either-blank wrappers false s h = unseen R wrappers false s h
+
+    either-text : (is_code : Bool) (s : List ℕ) → IsUtf8 s → IsTextInline (text_or_code is_code s)
+    either-text true s u = u
+    either-text false s u = u
+
+    -- an inline that says the same in all wrappers goes in all that is shared
+    put-inline : (base : Inlines) (around : List Around) (n : ℕ) (y : Inline) (cs : List R.Seen)
+        → ((wrappers : List R.Wrap) → read_inline R wrappers y ≡ cs)
+        → IsTextInline y → n ≤ length around → Opens R (take n (map (read_around R) around)) base
+        → AreTextInlines base
+        → IsGap (read_line R [] base ++ cs) around (behind n base (take n around) y) n
+    put-inline base around n y cs same v l o u =
+        let count : length (take n around) ≡ n = length-take-le n around l in
+        let b : IsBehind R [] base (behind n base (take n around) y) (take n around) y =
+        behind-wrappers R n [] base (take n around) y (omega (arith, count))
+        (subst (λ (ms : List R.Wrap). Opens R ms base) (sym (front-twice (read_around R) n around)) o) u v in
+        record {
+          says = b.says ∙ ap (λ t. read_line R [] base ++ t) (same (map (read_around R) (take n around)));
+          texts = b.texts;
+          fits = l;
+          opens = subst (λ (ms : List R.Wrap). Opens R ms (behind n base (take n around) y))
+              (sym (take-map (read_around R) n around)) b.opens;
+        }
+
+    gap-same : (cs ds : List R.Seen) (around : List Around) (xs : Inlines) (n : ℕ) → cs ≡ ds
+        → IsGap cs around xs n
+        → IsGap ds around xs n
+    gap-same cs ds around xs n e h =
+        record { says = h.says ∙ e; texts = h.texts; fits = h.fits; opens = h.opens }
+
+    -- nothing visible
+    put-gap : (base : Inlines) (around : List Around) (n : ℕ) (y : Inline)
+        → ((wrappers : List R.Wrap) → read_inline R wrappers y ≡ [])
+        → IsTextInline y → n ≤ length around → Opens R (take n (map (read_around R) around)) base
+        → AreTextInlines base
+        → IsGap (read_line R [] base) around (behind n base (take n around) y) n
+    put-gap base around n y none v l o u =
+        gap-same (read_line R [] base ++ []) (read_line R [] base) around (behind n base (take n around) y) n
+        (append-nil (read_line R [] base)) (put-inline base around n y [] none v l o u)
+
+    -- anchors say what is taken of each
+    anchors-gap : (ids : List (List ℕ)) (cs : List R.Seen) (xs : Inlines) (around : List Around) (n : ℕ)
+        → IsGap cs around xs n → IsGap (cs ++ marks_of ids) around (anchored n xs around ids) n
+    anchors-gap [] cs xs around n h = gap-same cs (cs ++ []) around xs n (sym (append-nil cs)) h
+    anchors-gap (id ∷ ids) cs xs around n h =
+        let ys : Inlines = behind n xs (take n around) (anchor id) in
+        let step : IsGap (read_line R [] xs ++ R.mark id) around ys n =
+        put-inline xs around n (anchor id) (R.mark id) (λ wrappers. refl) tt h.fits h.opens h.texts in
+        gap-same ((cs ++ R.mark id) ++ marks_of ids) (cs ++ (R.mark id ++ marks_of ids)) around
+        (anchored n ys around ids) n (append_assoc cs (R.mark id) (marks_of ids))
+        (anchors-gap ids (cs ++ R.mark id) ys around n
+        (gap-same (read_line R [] xs ++ R.mark id) (cs ++ R.mark id) around ys n
+        (ap (λ t. t ++ R.mark id) h.says) step))
+
     -- ---- where paragraphs end
 
-    leaf-wrappers : (is_code : Bool) (xs : Inlines)
-        → wrappers_of_all (cond (is_leaf (latest_of is_code)) (paragraph xs ∷ []) []) ≡ read_line R [] xs
-    leaf-wrappers true xs = append-nil (read_line R [] xs)
-    leaf-wrappers false xs = append-nil (read_line R [] xs)
+    either-shown : (b : Bool) (xs : Inlines) → AreTextInlines xs → AreTextInlines (cond b xs no_inlines)
+    either-shown true xs u = u
+    either-shown false xs u = tt
 
-    open-wrappers : (w : Writing) → State w → wrappers_of_all (open_paragraph w) ≡ read_line R [] w.content
-    open-wrappers w (at_nothing e h) =
-        ap (λ l. wrappers_of_all (cond (is_leaf l) (paragraph w.content ∷ []) [])) e ∙ sym h
-    open-wrappers w (at_task e h) =
-        ap (λ l. wrappers_of_all (cond (is_leaf l) (paragraph w.content ∷ []) [])) e ∙ sym h
-    open-wrappers w (at_leaf k e o) =
-        ap (λ l. wrappers_of_all (cond (is_leaf l) (paragraph w.content ∷ []) [])) e ∙ leaf-wrappers k w.content
+    leaf-shown : (k : Bool) (xs : Inlines)
+        → read_line R [] (cond (is_leaf (latest_of k)) xs no_inlines) ≡ read_line R [] xs
+    leaf-shown true xs = refl
+    leaf-shown false xs = refl
 
-    ended-wrappers : (w : Writing) (bs : List Block) → State w
-        → wrappers_of_all ((w.done ++ open_paragraph w) ++ bs) ++ []
-        ≡ (wrappers_of_all w.done ++ read_line R [] w.content) ++ wrappers_of_all bs
-    ended-wrappers w bs s =
-        append-nil (wrappers_of_all ((w.done ++ open_paragraph w) ++ bs))
-        ∙ (flat_map-append (read_block R) (w.done ++ open_paragraph w) bs
-        ∙ ap (λ t. t ++ wrappers_of_all bs) (flat_map-append (read_block R) w.done (open_paragraph w)
-        ∙ ap (λ t. wrappers_of_all w.done ++ t) (open-wrappers w s)))
+    shown-says : (w : Writing) → State w → read_line R [] (shown_content w) ≡ read_line R [] w.content
+    shown-says w (at_nothing e h) = ap (λ l. read_line R [] (cond (is_leaf l) w.content no_inlines)) e ∙ sym h
+    shown-says w (at_task e h) = ap (λ l. read_line R [] (cond (is_leaf l) w.content no_inlines)) e ∙ sym h
+    shown-says w (at_leaf k e o) =
+        ap (λ l. read_line R [] (cond (is_leaf l) w.content no_inlines)) e ∙ leaf-shown k w.content
 
-    pub ended_by-wrote : (w : Writing) (bs : List Block) (cs : List R.Seen) → Wrote w false cs
-        → Wrote (ended_by w bs) false (cs ++ wrappers_of_all bs)
-    ended_by-wrote w bs cs h = record {
+    whole-says : (w : Writing) → State w → AreTextInlines w.content
+        → read_line R [] (whole_content w) ≡ open_wrapped w
+    whole-says w s u =
+        let xs : Inlines = shown_content w in
+        let g : IsGap (read_line R [] xs ++ marks_of w.anchors) [] (anchored 0 xs [] w.anchors) 0 =
+        anchors-gap w.anchors (read_line R [] xs) xs [] 0
+        (no-gap xs [] (either-shown (is_leaf w.latest) w.content u)) in
+        g.says ∙ ap (λ t. t ++ marks_of w.anchors) (shown-says w s)
+
+    paragraph-wrappers : (xs : Inlines) → wrappers_of_all (paragraph_of xs) ≡ read_line R [] xs
+    paragraph-wrappers no_inlines = refl
+    paragraph-wrappers (inline x xs) = append-nil (read_line R [] (inline x xs))
+
+    ended-wrappers : (w : Writing) → State w → AreTextInlines w.content
+        → wrappers_of_all (w.done ++ open_paragraph w) ≡ wrappers_of_all w.done ++ open_wrapped w
+    ended-wrappers w s u =
+        flat_map-append (read_block R) w.done (open_paragraph w)
+        ∙ ap (λ t. wrappers_of_all w.done ++ t) (paragraph-wrappers (whole_content w) ∙ whole-says w s u)
+
+    pub ended-wrote : (w : Writing) (cs : List R.Seen) → Wrote w false cs → Wrote (ended w) false cs
+    ended-wrote w cs h = record {
       flat = h.flat;
-      says = ended-wrappers w bs h.state ∙ ap (λ t. t ++ wrappers_of_all bs) h.says;
+      says = append-nil (wrappers_of_all (w.done ++ open_paragraph w))
+          ∙ (ended-wrappers w h.state h.texts ∙ h.says);
       texts = tt;
       gap = shows-nil;
       blank = λ e. refl;
@@ -196,8 +278,33 @@ module _ (R : Reader) where
       state = at_nothing refl refl;
     }
 
-    pub ended-wrote : (w : Writing) (cs : List R.Seen) → Wrote w false cs → Wrote (ended w) false cs
-    ended-wrote w cs h = wrote-same (ended w) false (cs ++ []) cs (append-nil cs) (ended_by-wrote w [] cs h)
+    met-wrote : (w : Writing) (m : Met) (in_line : Bool) (cs : List R.Seen) → Wrote w in_line cs
+        → Wrote (record w { met = m }) in_line cs
+    met-wrote w m in_line cs h = record {
+      flat = h.flat;
+      says = h.says;
+      texts = h.texts;
+      gap = h.gap;
+      blank = h.blank;
+      line = h.line;
+      state = state-kept (record w { met = m }) w refl refl refl h.state;
+    }
+
+    -- a block after it
+    block-wrote : (w : Writing) (b : Block) (m : Met) (cs : List R.Seen) → Wrote w false cs
+        → Wrote (record (ended w) { done = (ended w).done ++ b ∷ []; met = m }) false (cs ++ read_block R b)
+    block-wrote w b m cs h = record {
+      flat = h.flat;
+      says = append-nil (wrappers_of_all ((w.done ++ open_paragraph w) ++ b ∷ []))
+          ∙ (flat_map-append (read_block R) (w.done ++ open_paragraph w) (b ∷ [])
+          ∙ (ap (λ t. t ++ wrappers_of_all (b ∷ [])) (ended-wrappers w h.state h.texts ∙ h.says)
+          ∙ ap (λ t. cs ++ t) (append-nil (read_block R b))));
+      texts = tt;
+      gap = shows-nil;
+      blank = λ e. refl;
+      line = λ e. false-true e;
+      state = at_nothing refl refl;
+    }
 
     either-wrote : (b : Bool) (v w : Writing) (in_line : Bool) (cs : List R.Seen) →
         (b ≡ true → Wrote v in_line cs)
@@ -242,53 +349,13 @@ module _ (R : Reader) where
 
     -- ---- the gap before a leaf
 
-    record IsGap (w : Writing) (around : List Around) (xs : Inlines) (n : ℕ) : Type 0 where
-      says : read_line R [] xs ≡ read_line R [] w.content
-      texts : AreTextInlines xs
-      fits : n ≤ length around
-      opens : Opens R (take n (map (read_around R) around)) xs
-
-    no-gap : (w : Writing) (around : List Around) → AreTextInlines w.content → IsGap w around w.content 0
-    no-gap w around u = record { says = refl; texts = u; fits = omega arith; opens = tt }
-
-    either-blank : (wrappers : List R.Wrap) (is_code : Bool) (s : List ℕ) → Shows s []
-        → read_inline R wrappers (text_or_code is_code s) ≡ []
-    either-blank wrappers true s h = unseen R wrappers true s h
-    either-blank wrappers false s h = unseen R wrappers false s h
-
-    either-text : (is_code : Bool) (s : List ℕ) → IsUtf8 s → IsTextInline (text_or_code is_code s)
-    either-text true s u = u
-    either-text false s u = u
-
-    -- nothing visible goes in all that is shared
-    put-gap : (w : Writing) (around : List Around) (n : ℕ) (y : Inline)
-        → ((wrappers : List R.Wrap) → read_inline R wrappers y ≡ [])
-        → IsTextInline y → n ≤ length around → Opens R (take n (map (read_around R) around)) w.content
-        → AreTextInlines w.content
-        → IsGap w around (behind n w.content (take n around) y) n
-    put-gap w around n y none v l o u =
-        let count : length (take n around) ≡ n = length-take-le n around l in
-        let b : IsBehind R [] w.content (behind n w.content (take n around) y) (take n around) y =
-        behind-wrappers R n [] w.content (take n around) y (omega (arith, count))
-        (subst (λ (ms : List R.Wrap). Opens R ms w.content) (sym (front-twice (read_around R) n around)) o) u v in
+    task-gap : (w : Writing) (around : List Around) → AreTextInlines w.content
+        → IsGap (read_line R [] w.content) around (gap_after_task w) 0
+    task-gap w around u =
+        let b : IsBehind R [] w.content (behind 0 w.content [] (text (space ∷ []))) [] (text (space ∷ [])) =
+        behind-wrappers R 0 [] w.content [] (text (space ∷ [])) (omega arith) tt u space-shows.utf8 in
         record {
-          says = b.says ∙ (ap (λ t. read_line R [] w.content ++ t) (none (map (read_around R) (take n around)))
-              ∙ append-nil (read_line R [] w.content));
-          texts = b.texts;
-          fits = l;
-          opens = subst (λ (ms : List R.Wrap). Opens R ms (behind n w.content (take n around) y))
-              (sym (take-map (read_around R) n around)) b.opens;
-        }
-
-    task-gap : (w : Writing) (around : List Around) → Shows w.gap.white [] → AreTextInlines w.content
-        → IsGap w around (gap_after_task w) 0
-    task-gap w around h u =
-        let s : List ℕ = after_task w.gap.white in
-        let blank : Shows s [] = after_task-shows w.gap.white h in
-        let b : IsBehind R [] w.content (behind 0 w.content [] (text s)) [] (text s) =
-        behind-wrappers R 0 [] w.content [] (text s) (omega arith) tt u blank.utf8 in
-        record {
-          says = b.says ∙ (ap (λ t. read_line R [] w.content ++ t) (either-blank [] false s blank)
+          says = b.says ∙ (ap (λ t. read_line R [] w.content ++ t) (either-blank [] false (space ∷ []) space-shows)
               ∙ append-nil (read_line R [] w.content));
           texts = b.texts;
           fits = omega arith;
@@ -297,20 +364,23 @@ module _ (R : Reader) where
 
     white-gap : (w : Writing) (around : List Around) (n : ℕ) (is_code : Bool) (s : List ℕ) → Shows s []
         → n ≤ length around → Opens R (take n (map (read_around R) around)) w.content → AreTextInlines w.content
-        → IsGap w around (white_behind n w.content around is_code s) n
+        → IsGap (read_line R [] w.content) around (white_behind n w.content around is_code s) n
     white-gap w around n is_code [] h l o u = record { says = refl; texts = u; fits = l; opens = o }
     white-gap w around n is_code (b ∷ s) h l o u =
-        put-gap w around n (text_or_code is_code (b ∷ s)) (λ wrappers. either-blank wrappers is_code (b ∷ s) h)
+        put-gap w.content around n (text_or_code is_code (b ∷ s))
+        (λ wrappers. either-blank wrappers is_code (b ∷ s) h)
         (either-text is_code (b ∷ s) h.utf8) l o u
 
-    either-gap : (b : Bool) (w : Writing) (around : List Around) (n : ℕ) (xs ys : Inlines) → IsGap w around xs n
-        → IsGap w around ys n → IsGap w around (cond b xs ys) n
+    either-gap : (b : Bool) (w : Writing) (around : List Around) (n : ℕ) (xs ys : Inlines)
+        → IsGap (read_line R [] w.content) around xs n → IsGap (read_line R [] w.content) around ys n
+        → IsGap (read_line R [] w.content) around (cond b xs ys) n
     either-gap true w around n xs ys g h = g
     either-gap false w around n xs ys g h = h
 
     leaf-gap : (w : Writing) (around : List Around) (is_code : Bool) → AllAgree around → Shows w.gap.white []
         → AreTextInlines w.content → Opens R (map wrapper_at w.around) w.content
-        → IsGap w around (gap_before w around is_code) (shared w.around (map nest.wrapper_of around))
+        → IsGap (read_line R [] w.content) around (gap_before w around is_code)
+        (shared w.around (map nest.wrapper_of around))
     leaf-gap w around is_code a h u o =
         let ns : List nest.Wrapper = map nest.wrapper_of around in
         let n : ℕ = shared w.around ns in
@@ -328,27 +398,28 @@ module _ (R : Reader) where
         (opens-front R n (map wrapper_at w.around) w.content o) in
         either-gap w.gap.has_break w around n (behind n w.content (take n around) line_break)
         (white_behind n w.content around (is_code && is_code_gap w ns) w.gap.white)
-        (put-gap w around n line_break (λ wrappers. refl) tt fits opens u)
+        (put-gap w.content around n line_break (λ wrappers. refl) tt fits opens u)
         (white-gap w around n (is_code && is_code_gap w ns) w.gap.white h fits opens u)
 
     either-leaf : (k : Bool) (w : Writing) (around : List Around) (is_code : Bool) → AllAgree around
         → Shows w.gap.white [] → AreTextInlines w.content → Opens R (map wrapper_at w.around) w.content
-        → IsGap w around (gap_behind (latest_of k) w around is_code)
+        → IsGap (read_line R [] w.content) around (gap_behind (latest_of k) w around is_code)
         (cond (is_leaf (latest_of k)) (shared w.around (map nest.wrapper_of around)) 0)
     either-leaf true w around is_code a h u o = leaf-gap w around is_code a h u o
     either-leaf false w around is_code a h u o = leaf-gap w around is_code a h u o
 
     any-gap : (w : Writing) (around : List Around) (is_code : Bool) → AllAgree around → Shows w.gap.white []
         → AreTextInlines w.content → State w
-        → IsGap w around (gap_behind w.latest w around is_code) (shared_wrappers w (map nest.wrapper_of around))
+        → IsGap (read_line R [] w.content) around (gap_behind w.latest w around is_code)
+        (shared_wrappers w (map nest.wrapper_of around))
     any-gap w around is_code a h u (at_nothing e t) =
-        subst (λ l. IsGap w around (gap_behind l w around is_code)
-        (cond (is_leaf l) (shared w.around (map nest.wrapper_of around)) 0)) (sym e) (no-gap w around u)
+        subst (λ l. IsGap (read_line R [] w.content) around (gap_behind l w around is_code)
+        (cond (is_leaf l) (shared w.around (map nest.wrapper_of around)) 0)) (sym e) (no-gap w.content around u)
     any-gap w around is_code a h u (at_task e t) =
-        subst (λ l. IsGap w around (gap_behind l w around is_code)
-        (cond (is_leaf l) (shared w.around (map nest.wrapper_of around)) 0)) (sym e) (task-gap w around h u)
+        subst (λ l. IsGap (read_line R [] w.content) around (gap_behind l w around is_code)
+        (cond (is_leaf l) (shared w.around (map nest.wrapper_of around)) 0)) (sym e) (task-gap w around u)
     any-gap w around is_code a h u (at_leaf k e o) =
-        subst (λ l. IsGap w around (gap_behind l w around is_code)
+        subst (λ l. IsGap (read_line R [] w.content) around (gap_behind l w around is_code)
         (cond (is_leaf l) (shared w.around (map nest.wrapper_of around)) 0)) (sym e)
         (either-leaf k w around is_code a h u o)
 
@@ -359,15 +430,18 @@ module _ (R : Reader) where
         → Wrote (shown w around is_code y) in_line (cs ++ read_inline R (map (read_around R) around) y)
     shown-wrote w in_line cs around is_code y a h v =
         let n : ℕ = shared_wrappers w (map nest.wrapper_of around) in
-        let xs : Inlines = gap_behind w.latest w around is_code in
-        let g : IsGap w around xs n = any-gap w around is_code a h.gap h.texts h.state in
+        let xs : Inlines = put_before w around is_code in
+        let g : IsGap (open_wrapped w) around xs n =
+        anchors-gap w.anchors (read_line R [] w.content) (gap_behind w.latest w around is_code) around n
+        (any-gap w around is_code a h.gap h.texts h.state) in
         let b : IsBehind R [] xs (behind n xs around y) around y =
         behind-wrappers R n [] xs around y g.fits g.opens g.texts v in
         let says : List R.Seen = read_inline R (map (read_around R) around) y in
         record {
           flat = h.flat;
-          says = ap (λ t. wrappers_of_all w.done ++ t) (b.says ∙ ap (λ t. t ++ says) g.says)
-              ∙ (sym (append_assoc (wrappers_of_all w.done) (read_line R [] w.content) says)
+          says = ap (λ t. wrappers_of_all w.done ++ t)
+              (append-nil (read_line R [] (behind n xs around y)) ∙ (b.says ∙ ap (λ t. t ++ says) g.says))
+              ∙ (sym (append_assoc (wrappers_of_all w.done) (open_wrapped w) says)
               ∙ ap (λ t. t ++ says) h.says);
           texts = b.texts;
           gap = shows-nil;
@@ -384,19 +458,23 @@ module _ (R : Reader) where
     leaf-wrote w in_line cs around is_code y a h v =
         shown-wrote (parted w) in_line cs around is_code y a (parted-wrote w in_line cs h) v
 
+    boxed-wrote : (w : Writing) (in_line : Bool) (cs : List R.Seen) → Wrote w in_line cs
+        → Wrote (boxed w) in_line cs
+    boxed-wrote w in_line cs h = record {
+      flat = h.flat;
+      says = h.says;
+      texts = h.texts;
+      gap = h.gap;
+      blank = h.blank;
+      line = h.line;
+      state = state-kept (boxed w) w refl refl refl h.state;
+    }
+
     here-wrote : (w : Writing) (in_line : Bool) (cs : List R.Seen) (is_checked : Bool) → Wrote w in_line cs
-        → w.is_blank ≡ true
-        → Wrote (record w {
-          content = one_inline (task is_checked);
-          latest = (tasked (begun true false) false).latest;
-          around = [];
-          gap = no_gap;
-          is_blank = false;
-          breaks = 0;
-        }) in_line cs
+        → w.is_blank ≡ true → Wrote (with_task w is_checked) in_line cs
     here-wrote w in_line cs is_checked h e = record {
       flat = h.flat;
-      says = ap (λ t. wrappers_of_all w.done ++ t) (sym (h.blank e)) ∙ h.says;
+      says = ap (λ t. wrappers_of_all w.done ++ (t ++ marks_of w.anchors)) (sym (h.blank e)) ∙ h.says;
       texts = (tt, tt);
       gap = shows-nil;
       blank = λ e. false-true e;
@@ -404,31 +482,82 @@ module _ (R : Reader) where
       state = at_task refl refl;
     }
 
-    kept-wrote : (w : Writing) (in_line : Bool) (cs : List R.Seen) → Wrote w in_line cs
-        → Wrote (record w { breaks = 0 }) in_line cs
-    kept-wrote w in_line cs h = record {
-      flat = h.flat;
-      says = h.says;
-      texts = h.texts;
-      gap = h.gap;
-      blank = h.blank;
-      line = h.line;
-      state = state-kept (record w { breaks = 0 }) w refl refl refl h.state;
-    }
-
     tasked-wrote : (w : Writing) (in_line : Bool) (cs : List R.Seen) (is_checked : Bool) → Wrote w in_line cs
         → Wrote (tasked w is_checked) in_line cs
     tasked-wrote w in_line cs is_checked h =
-        either-wrote (is_task_here w) (record w {
-          content = one_inline (task is_checked);
-          latest = (tasked (begun true false) false).latest;
-          around = [];
-          gap = no_gap;
-          is_blank = false;
-          breaks = 0;
-        }) (record w { breaks = 0 }) in_line cs
-        (λ e. here-wrote w in_line cs is_checked h (both-true (w.in_item && (length w.done == 0)) w.is_blank e).1)
-        (kept-wrote w in_line cs h)
+        let b : Wrote (boxed w) in_line cs = boxed-wrote w in_line cs h in
+        either-wrote (is_task_here w) (with_task (boxed w) is_checked) (boxed w) in_line cs
+        (λ e. here-wrote (boxed w) in_line cs is_checked b
+        (both-true (w.in_item && (length w.done == 0)) w.is_blank e).1)
+        b
+
+    -- fewer wrappers are open
+    front-state : (w : Writing) (n : ℕ) → State w → State (record w { around = take n w.around })
+    front-state w n (at_nothing e h) = at_nothing e h
+    front-state w n (at_task e h) = at_task e h
+    front-state w n (at_leaf k e o) =
+        at_leaf k e
+        (subst (λ (ms : List R.Wrap). Opens R ms w.content) (take-map wrapper_at n w.around)
+        (opens-front R n (map wrapper_at w.around) w.content o))
+
+    more-marks : (front line : List R.Seen) (ids : List (List ℕ)) (id : List ℕ)
+        → front ++ (line ++ marks_of (ids ++ id ∷ [])) ≡ (front ++ (line ++ marks_of ids)) ++ R.mark id
+    more-marks front line ids id =
+        ap (λ t. front ++ (line ++ t))
+        (flat_map-append R.mark ids (id ∷ []) ∙ ap (λ t. marks_of ids ++ t) (append-nil (R.mark id)))
+        ∙ (ap (λ t. front ++ t) (sym (append_assoc line (marks_of ids) (R.mark id)))
+        ∙ sym (append_assoc front (line ++ marks_of ids) (R.mark id)))
+
+    pub place-wrote : (w : Writing) (in_line : Bool) (cs : List R.Seen) (id : List ℕ) → Wrote w in_line cs
+        → Wrote (with_anchor (parted w) id) in_line (cs ++ R.mark id)
+    place-wrote w in_line cs id h =
+        let v : Writing = parted w in
+        let p : Wrote v in_line cs = parted-wrote w in_line cs h in
+        let front = before-front v.around in
+        record {
+          flat = p.flat;
+          says = more-marks (wrappers_of_all v.done) (read_line R [] v.content) v.anchors id
+              ∙ ap (λ t. t ++ R.mark id) p.says;
+          texts = p.texts;
+          gap = p.gap;
+          blank = p.blank;
+          line = p.line;
+          state = state-kept (with_anchor (parted w) id)
+              (record (parted w) { around = take front.0 (parted w).around }) refl refl front.1
+              (front-state (parted w) front.0 p.state);
+        }
+
+    either-flat : (b : Bool) (v w : Writing) (in_line : Bool) (cs : List R.Seen) → (b ≡ true → Wrote v in_line cs)
+        → (b ≡ false → Wrote w in_line cs) → Wrote (cond b v w) in_line cs
+    either-flat true v w in_line cs g h = g refl
+    either-flat false v w in_line cs g h = h refl
+
+    pub edge-wrote : (w : Writing) (in_line : Bool) (cs : List R.Seen) → Wrote w in_line cs
+        → Wrote (edged w) in_line cs
+    edge-wrote w true cs h =
+        either-flat w.is_flat (broken_off w)
+        (cond (is_boxed_item w) w (record (ended w) { met = (begun false false).met })) true cs
+        (λ e. broken_off-wrote w true cs h) (λ e. false-true (sym e ∙ h.flat))
+    edge-wrote w false cs h =
+        either-flat w.is_flat (broken_off w)
+        (cond (is_boxed_item w) w (record (ended w) { met = (begun false false).met })) false cs
+        (λ e. broken_off-wrote w false cs h)
+        (λ e. either-wrote (is_boxed_item w) w (record (ended w) { met = (begun false false).met }) false cs (λ k. h)
+        (met-wrote (ended w) (begun false false).met false cs (ended-wrote w cs h)))
+
+    pub whole-wrote : (w : Writing) (b : Block) (in_line : Bool) (cs : List R.Seen) → Wrote w in_line cs
+        → Wrote (blocked w b) in_line (cs ++ cond in_line [] (read_block R b))
+    whole-wrote w b true cs h =
+        either-flat w.is_flat (broken_off w)
+        (record (ended w) { done = (ended w).done ++ b ∷ []; met = (begun false false).met }) true (cs ++ [])
+        (λ e. wrote-same (broken_off w) true cs (cs ++ []) (sym (append-nil cs)) (broken_off-wrote w true cs h))
+        (λ e. false-true (sym e ∙ h.flat))
+    whole-wrote w b false cs h =
+        either-flat w.is_flat (broken_off w)
+        (record (ended w) { done = (ended w).done ++ b ∷ []; met = (begun false false).met }) false
+        (cs ++ read_block R b)
+        (λ e. false-true (sym h.flat ∙ e))
+        (λ e. block-wrote w b (begun false false).met cs h)
 
     pub box-wrote : (w : Writing) (in_line : Bool) (cs : List R.Seen) (is_checked : Bool) → Wrote w in_line cs
         → Wrote (tasked (parted w) is_checked) in_line cs
@@ -505,5 +634,6 @@ module _ (R : Reader) where
 
     pub line-in_wrappers : (w : Writing) (cs : List R.Seen) → Wrote w true cs → read_line R [] (line_in w)
         ≡ cs
-    line-in_wrappers w cs h = sym (ap (λ bs. wrappers_of_all bs ++ read_line R [] w.content) (h.line refl))
-        ∙ h.says
+    line-in_wrappers w cs h =
+        whole-says w h.state h.texts
+        ∙ (sym (ap (λ bs. wrappers_of_all bs ++ open_wrapped w) (h.line refl)) ∙ h.says)

@@ -5,8 +5,8 @@ use Rattle.std.specs.Str.{chars}
 use Rattle.htmd_document.specs.Documents.{Inline, text, code, formatted, link, image, anchor, line_break, task}
 use Rattle.htmd_document.specs.Documents.{Inlines, no_inlines, inline, Block, paragraph, heading, code_block, quote}
 use Rattle.htmd_document.specs.Documents.{thematic_break, list, table, Blocks, no_blocks, block, Items, no_items, item}
-use Rattle.htmd_document_of_tree.specs.ShownTexts.{is_shown}
-use Rattle.htmd_document_of_tree.specs.Spaces.{is_white}
+use Rattle.htmd_shown.specs.ShownTexts.{is_shown}
+use Rattle.htmd_shown.specs.Spaces.{is_white}
 
 abbrev mutual
   -- a break and a task say nothing

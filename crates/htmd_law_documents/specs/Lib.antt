@@ -1,8 +1,11 @@
 -- The laws of documents.
 pub mod DocumentTexts
-pub mod TreeTexts
-pub mod TextLaws
+pub mod SimpleTexts
+pub mod SimpleForms
 pub mod TreeForms
+pub mod SaidTexts
+pub mod PageTexts
+pub mod TextLaws
 pub mod DocumentWrappers
 pub mod TreeWrappers
 pub mod WrapperLaws

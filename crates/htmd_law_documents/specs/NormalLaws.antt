@@ -1,12 +1,13 @@
 -- The law of the normal form.
 use Rattle.std.specs.Prelude.{◌≡◌, true}
 use Rattle.htmd_nodes.specs.NumberedTrees.{NumberedTree}
-use Rattle.htmd_document_of_tree.specs.Shown.{Sight}
+use Rattle.htmd_shown.specs.Shown.{Sight}
+use Rattle.htmd_document_of_tree.specs.declared.anchors.Anchors.{Anchors}
 use Rattle.htmd_document_of_tree.specs.TreeDocuments.{document_of_tree}
 use Rattle.htmd_document.specs.NormalDocuments.{IsNormal}
 use Rattle.htmd_law_documents.specs.TreeForms.{is_text_tree}
 
--- the document of every tree of texts is normal
+-- the document of every tree of texts is normal, whichever anchors it has
 abbrev pub DocumentsAreNormal : Type 0
-DocumentsAreNormal = (sight : Sight) (tree : NumberedTree) → is_text_tree tree ≡ true
-    → IsNormal (document_of_tree sight.scripting sight.skip tree)
+DocumentsAreNormal = (which : Anchors) (sight : Sight) (tree : NumberedTree) → is_text_tree tree ≡ true
+    → IsNormal (document_of_tree which sight.scripting sight.skip tree)

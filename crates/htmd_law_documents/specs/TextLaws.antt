@@ -1,16 +1,40 @@
--- The law of texts.
-use Rattle.std.specs.Prelude.{◌≡◌, true}
+-- The laws of texts.
+use Rattle.std.specs.Prelude.{◌≡◌, true, false}
 use Rattle.htmd_nodes.specs.NumberedTrees.{NumberedTree}
-use Rattle.htmd_document_of_tree.specs.Shown.{Sight}
+use Rattle.htmd_flow.specs.Flows.{document_of}
+use Rattle.htmd_shown.specs.Shown.{Sight, shown_in}
+use Rattle.htmd_shown.specs.SimpleTrees.{Simples}
+use Rattle.htmd_document_of_tree.specs.declared.anchors.Anchors.{Anchors}
 use Rattle.htmd_document_of_tree.specs.TreeDocuments.{document_of_tree}
 use Rattle.htmd_law_documents.specs.DocumentTexts.{text_of_blocks, visible}
-use Rattle.htmd_law_documents.specs.TreeTexts.{text_of_tree, holds_texts}
+use Rattle.htmd_law_documents.specs.PageTexts.{is_whole_page, text_of_page}
+use Rattle.htmd_law_documents.specs.SaidTexts.{SayAll}
+use Rattle.htmd_law_documents.specs.SimpleForms.{AreSound}
+use Rattle.htmd_law_documents.specs.SimpleTexts.{text_of_simples}
+use Rattle.htmd_law_documents.specs.TreeForms.{is_text_tree}
 
--- Every visible character of a tree stands in its document, in order, and no other.
-abbrev pub KeepsText : Sight → NumberedTree → Type 0
-KeepsText sight tree =
-    visible (text_of_blocks (document_of_tree sight.scripting sight.skip tree)) ≡ visible (text_of_tree sight tree)
+-- Every visible character of these trees stands in their document, in order, and no other.
+abbrev pub KeepsText : Simples → Type 0
+KeepsText trees = visible (text_of_blocks (document_of trees)) ≡ visible (text_of_simples false false trees)
+
+-- So it is for all trees of texts that are made.
+abbrev pub TextOfDocument : Type 0
+TextOfDocument = (trees : Simples) → AreSound trees → KeepsText trees
+
+-- Every visible character of all that shows of a page stands in its document, in order, and no other: whichever anchors
+-- it has, and whether a table is one of rows and columns or not.
+abbrev pub KeepsTextOfTree : Anchors → Sight → NumberedTree → Type 0
+KeepsTextOfTree which sight tree =
+    SayAll false false (shown_in sight tree)
+    (visible (text_of_blocks (document_of_tree which sight.scripting sight.skip tree)))
 
 -- So it is for every tree of texts.
-abbrev pub TextOfDocument : Type 0
-TextOfDocument = (sight : Sight) (tree : NumberedTree) → holds_texts tree ≡ true → KeepsText sight tree
+abbrev pub TextOfTree : Type 0
+TextOfTree = (which : Anchors) (sight : Sight) (tree : NumberedTree) → is_text_tree tree ≡ true
+    → KeepsTextOfTree which sight tree
+
+-- Every visible character of a page shows, and no other, where nothing of it is a line number, a permalink or a second
+-- copy of a formula; formulas as in a line.
+abbrev pub ShowsAll : Type 0
+ShowsAll = (sight : Sight) (tree : NumberedTree) → is_text_tree tree ≡ true → is_whole_page sight tree ≡ true
+    → visible (text_of_simples true false (shown_in sight tree)) ≡ visible (text_of_page sight tree)

@@ -1,18 +1,16 @@
--- The visible characters of a tree of which all shows, each with what stands around it.
-use Rattle.std.specs.Prelude.{ℕ, Bool, false, not, ◌&&◌, if◌then◌else◌, List, [], ◌∷◌, ◌++◌, map, codes}
-use Rattle.htmd_lexical.specs.Characters.{quotation_mark}
+-- The visible characters of the simpler tree, each with what stands around it.
+use Rattle.std.specs.Prelude.{ℕ, Bool, true, false, not, ◌&&◌, if◌then◌else◌, List, [], ◌∷◌, ◌++◌, map, codes}
+use Rattle.std.specs.Prelude.{Option, None, is_some}
 use Rattle.htmd_lexical.specs.AttributePairs.{AttributePair}
-use Rattle.htmd_nodes.specs.NumberedTrees.{NumberedTree, document, doctype, text, comment, element, NumberedForest}
-use Rattle.htmd_nodes.specs.NumberedTrees.{none}
-use Rattle.htmd_nodes.specs.NumberedTrees.{more}
-use Rattle.htmd_document_of_tree.specs.declared.role.Role.{Role}
-use Rattle.htmd_document_of_tree.specs.declared.role.Role.TheVariants as role
-use Rattle.htmd_document_of_tree.specs.AllTexts.{all_text_among}
-use Rattle.htmd_document_of_tree.specs.Attributes.{text_of, value_of, has_attribute}
-use Rattle.htmd_document_of_tree.specs.Contexts.{Context, inside_format, in_code, in_one_line}
-use Rattle.htmd_document_of_tree.specs.Flows.{inside_anchor, is_grid, lines_of_table}
-use Rattle.htmd_document_of_tree.specs.Parts as part
-use Rattle.htmd_document_of_tree.specs.Roles.{role_of}
+use Rattle.htmd_shown.specs.declared.facts.Facts.{Facts}
+use Rattle.htmd_shown.specs.declared.role.Role.{Role}
+use Rattle.htmd_shown.specs.declared.role.Role.TheVariants as role
+use Rattle.htmd_shown.specs.AllTexts.{all_text_among, dollar_sign}
+use Rattle.htmd_shown.specs.Attributes.{text_of}
+use Rattle.htmd_shown.specs.SimpleTrees.{Simple, text, image, formula, embedded, anchor, element, Simples, none, more}
+use Rattle.htmd_flow.specs.Contexts.{Context, inside_format, inside_link, in_code, in_one_line, unlinked}
+use Rattle.htmd_flow.specs.Flows.{linked_by, around_heading, is_grid_of}
+use Rattle.htmd_flow.specs.Parts as part
 use Rattle.htmd_document.specs.Formats as formats
 use Rattle.htmd_law_documents.specs.DocumentWrappers.{Wrapper, of_format, of_link, Wrapped, in_wrappers}
 
@@ -26,63 +24,80 @@ wrapped_in context s = in_wrappers (map wrapper_of context.around) context.is_co
 
 -- ---- what an element puts around what is in it
 
--- a format, code, a link, and a heading, which is one line
-abbrev pub inside : Role → ℕ → List AttributePair → Context → Context
-inside (role.Format f) id attributes context = inside_format (formats.of_format f) context
-inside (role.Element e) id attributes context = inside_format (formats.of_element e) context
-inside role.Code id attributes context = in_code context
-inside role.Anchor id attributes context = inside_anchor id attributes (value_of (codes "href") attributes) context
-inside (role.Heading level) id attributes context = in_one_line context
-inside _ id attributes context = context
+-- a heading is one line, and a usual sign in it isn't linked to a part of the page from around it
+abbrev pub inside_heading : Facts → Context → Context
+inside_heading facts context = if context.is_flat then context else in_one_line (around_heading facts context)
+
+-- a format, code, a link or none, and a heading
+abbrev pub inside : Role → ℕ → Facts → List AttributePair → Context → Context
+inside (role.Format f) id facts attributes context = inside_format (formats.of_format f) context
+inside (role.Element e) id facts attributes context = inside_format (formats.of_element e) context
+inside role.Code id facts attributes context = in_code context
+inside role.Typed id facts attributes context = in_code context
+inside role.Link id facts attributes context = linked_by id attributes context
+inside role.Unlinked id facts attributes context = unlinked context
+inside (role.Heading level) id facts attributes context = inside_heading facts context
+inside _ id facts attributes context = context
 
 -- a text in which all lines count is code; only in one line formats stand around it
 abbrev pub inside_verbatim : Context → Context
 inside_verbatim context = in_code (if context.is_flat then context else record context { around = [] })
 
 -- the description of an image is code only where it stands for the image
-abbrev pub wrapped_image : Context → List AttributePair → List Wrapped
-wrapped_image context attributes =
-    in_wrappers (map wrapper_of context.around) (context.is_code && not (has_attribute (codes "src") attributes))
+abbrev pub wrapped_image : Context → Option (List ℕ) → List AttributePair → List Wrapped
+wrapped_image context address attributes =
+    in_wrappers (map wrapper_of context.around) (context.is_code && not (is_some address))
     (text_of (codes "alt") attributes)
+
+-- a formula is code, and in a line between dollar signs
+abbrev pub wrapped_formula : Context → Bool → List ℕ → List Wrapped
+wrapped_formula context is_alone tex =
+    if is_alone && not context.is_flat then in_wrappers [] true tex
+    else (wrapped_in context (dollar_sign ∷ []) ++ wrapped_in (in_code context) tex)
+    ++ wrapped_in context (dollar_sign ∷ [])
 
 -- a cell of a table of rows and columns is one line
 abbrev pub inside_cell : Bool → Context → Context
 inside_cell in_grid context = if in_grid then in_one_line context else context
 
 -- what an element says: all text in it, if it is a table whether of rows and columns, and what its children say there
-abbrev pub wrappers_by : Role → ℕ → List AttributePair → List ℕ → Bool
+abbrev pub wrappers_by : Role → ℕ → Facts → List AttributePair → List ℕ → Bool
     → (Context → Bool → List Wrapped)
     → Context → Bool
     → List Wrapped
-wrappers_by role.Image id attributes all holds_grid inner context in_grid = wrapped_image context attributes
-wrappers_by role.LineBreak id attributes all holds_grid inner context in_grid = []
-wrappers_by role.ThematicBreak id attributes all holds_grid inner context in_grid = []
-wrappers_by role.Quotation id attributes all holds_grid inner context in_grid =
-    (wrapped_in context (quotation_mark ∷ []) ++ inner context false) ++ wrapped_in context (quotation_mark ∷ [])
-wrappers_by role.Verbatim id attributes all holds_grid inner context in_grid = wrapped_in (inside_verbatim context) all
-wrappers_by role.Table id attributes all holds_grid inner context in_grid = inner context holds_grid
-wrappers_by role.TableHead id attributes all holds_grid inner context in_grid = inner context in_grid
-wrappers_by role.TableBody id attributes all holds_grid inner context in_grid = inner context in_grid
-wrappers_by role.Row id attributes all holds_grid inner context in_grid = inner context in_grid
-wrappers_by role.Cell id attributes all holds_grid inner context in_grid = inner (inside_cell in_grid context) false
-wrappers_by role.HeaderCell id attributes all holds_grid inner context in_grid = inner (inside_cell in_grid context)
-    false
-wrappers_by r id attributes all holds_grid inner context in_grid = inner (inside r id attributes context) false
+wrappers_by role.LineBreak id facts attributes all holds_grid inner context in_grid = []
+wrappers_by role.ThematicBreak id facts attributes all holds_grid inner context in_grid = []
+wrappers_by role.Preformatted id facts attributes all holds_grid inner context in_grid =
+    wrapped_in (inside_verbatim context) all
+wrappers_by role.Verbatim id facts attributes all holds_grid inner context in_grid =
+    wrapped_in (inside_verbatim context) all
+wrappers_by role.Table id facts attributes all holds_grid inner context in_grid = inner context holds_grid
+wrappers_by role.TableHead id facts attributes all holds_grid inner context in_grid = inner context in_grid
+wrappers_by role.TableBody id facts attributes all holds_grid inner context in_grid = inner context in_grid
+wrappers_by role.Row id facts attributes all holds_grid inner context in_grid = inner context in_grid
+wrappers_by role.Cell id facts attributes all holds_grid inner context in_grid =
+    inner (inside_cell in_grid context) false
+wrappers_by role.HeaderCell id facts attributes all holds_grid inner context in_grid =
+    inner (inside_cell in_grid context) false
+wrappers_by r id facts attributes all holds_grid inner context in_grid =
+    inner (inside r id facts attributes context) false
 
 -- ---- the tree
 
 abbrev mutual
   -- in a place, and whether that is in a table of rows and columns
-  pub wrappers_of_tree : NumberedTree → Context → Bool → List Wrapped
-  wrappers_of_tree (document id children) context in_grid = wrappers_of_trees children context false
-  wrappers_of_tree (doctype id) context in_grid = []
-  wrappers_of_tree (text id s) context in_grid = wrapped_in context s
-  wrappers_of_tree (comment id s) context in_grid = []
-  wrappers_of_tree (element id name attributes children) context in_grid =
-      wrappers_by (role_of name) id attributes (all_text_among children) (is_grid children (lines_of_table children))
-      (wrappers_of_trees children) context in_grid
+  pub wrappers_of_tree : Simple → Context → Bool → List Wrapped
+  wrappers_of_tree (text s) context in_grid = wrapped_in context s
+  wrappers_of_tree (image address attributes) context in_grid = wrapped_image context address attributes
+  wrappers_of_tree (formula tex is_alone attributes) context in_grid = wrapped_formula context is_alone tex
+  wrappers_of_tree (embedded id address title attributes anchors) context in_grid =
+      wrapped_in (inside_link id address None context) title
+  wrappers_of_tree (anchor id) context in_grid = []
+  wrappers_of_tree (element id r facts attributes content) context in_grid =
+      wrappers_by r id facts attributes (all_text_among content) (is_grid_of content)
+      (wrappers_of_trees content) context in_grid
 
-  pub wrappers_of_trees : NumberedForest → Context → Bool → List Wrapped
+  pub wrappers_of_trees : Simples → Context → Bool → List Wrapped
   wrappers_of_trees none context in_grid = []
   wrappers_of_trees (more tree trees) context in_grid =
       wrappers_of_tree tree context in_grid ++ wrappers_of_trees trees context in_grid

@@ -1,20 +1,21 @@
 //! The normal form of the document of a tree.
 ghost use Rattle.std.specs.Prelude.{map};
 ghost use Rattle.htmd_nodes.specs.NumberedTrees.{tree_of};
-ghost use Rattle.htmd_document_of_tree.specs.TreeDocuments.{document_of_tree};
 ghost use Rattle.htmd_document.specs.NormalDocuments.{IsNormal};
+ghost use Rattle.htmd_document_of_tree.specs.TreeDocuments.{document_of_tree};
 ghost use Rattle.htmd_law_documents.specs.NormalLaws.{DocumentsAreNormal};
 
+use htmd_document_of_tree::Anchors;
 use htmd_nodes::Tree;
 
-/// The document of a tree is in normal form.
+/// The document of a tree is in normal form, with whatever anchors.
 pub fn documents_are_normal()
     ensures { DocumentsAreNormal }
 {}
 
 /// So it is for every `Tree`, whether scripts run or not, and whatever names are skipped.
-pub fn this_document_is_normal(tree: &Tree, scripting: bool, skip: &[&str])
-    ensures { IsNormal (document_of_tree scripting (map (λ name. name.now) skip.now) (tree_of tree.now 0)) }
+pub fn this_document_is_normal(tree: &Tree, which: Anchors, scripting: bool, skip: &[&str])
+    ensures { IsNormal (document_of_tree which scripting (map (λ name. name.now) skip.now) (tree_of tree.now 0)) }
 {
     let _root = tree.root();
 }

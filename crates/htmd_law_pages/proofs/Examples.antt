@@ -7,12 +7,13 @@ use Rattle.htmd_html5.specs.BodyEnds.{text_end_rule}
 use Rattle.htmd_html5.specs.BodyStarts.{block_rule, formatting_rule, phrasing_rule}
 use Rattle.htmd_html5.specs.Html5Documents.{html5_document}
 use Rattle.htmd_law_html5.specs.PageLetters.{token_texts}
-use Rattle.htmd_document_of_tree.specs.Flows.{node_of}
-use Rattle.htmd_document_of_tree.specs.Roles.{role_of, table_role, heading_or_block, inline_role}
-use Rattle.htmd_document_of_tree.specs.Shown.{Sight}
-use Rattle.htmd_document_of_tree.specs.TreeDocuments.{document_of_tree}
+use Rattle.htmd_flow.specs.Flows.{node_of}
+use Rattle.htmd_shown.specs.Roles.{role_of, table_role, heading_or_block, block_role, inline_role}
+use Rattle.htmd_shown.specs.Shown.{Sight, shown}
+use Rattle.htmd_document_of_tree.specs.declared.anchors.Anchors.TheVariants as which
+use Rattle.htmd_document_of_tree.specs.TreeDocuments.{document_by, document_of_tree}
 use Rattle.htmd_law_documents.specs.DocumentTexts.{text_of_blocks}
-use Rattle.htmd_law_pages.specs.Pieces.{Piece, shown, hidden, said, texts_of_page, texts_of_document}
+use Rattle.htmd_law_pages.specs.Pieces.{Piece, shown as a_shown, hidden, said, texts_of_page, texts_of_document}
 use Rattle.htmd_law_pages.specs.Pieces.{hidden_texts, said_texts}
 use Rattle.htmd_law_pages.specs.PageTexts.{is_seen, seen_of, seen_in, page_pieces, page_document}
 use lib.Utf8.{encode}
@@ -24,6 +25,9 @@ a_is_seen = refl
 
 a_quotation_mark_is_seen : is_seen 0x22 ≡ true
 a_quotation_mark_is_seen = refl
+
+a_dollar_sign_is_not : is_seen 0x24 ≡ false
+a_dollar_sign_is_not = refl
 
 a_wide_space_is_not : is_seen 0xA0 ≡ false
 a_wide_space_is_not = refl
@@ -37,7 +41,7 @@ nor_is_the_byte_order_mark = refl
 -- ---- the pieces of a list
 
 abbrev some : List Piece
-some = shown (codes "a b") ∷ hidden (codes "c") ∷ said (codes "d") ∷ []
+some = a_shown (codes "a b") ∷ hidden (codes "c") ∷ said (codes "d") ∷ []
 
 in_the_page : texts_of_page some ≡ codes "a b" ∷ codes "c" ∷ []
 in_the_page = refl
@@ -64,28 +68,28 @@ abbrev without_scripts : Sight
 without_scripts = record { scripting = false; skip = codes "nav" ∷ [] }
 
 a_script_is_hidden : page_pieces with_scripts (codes "a<script>b</script>c")
-    ≡ shown (codes "a") ∷ hidden (codes "b") ∷ shown (codes "c") ∷ []
+    ≡ a_shown (codes "a") ∷ hidden (codes "b") ∷ a_shown (codes "c") ∷ []
 unfolding html5_document block_rule formatting_rule phrasing_rule text_end_rule move_last wrap_children forest_from
-    tree_of role_of table_role heading_or_block inline_role
+    tree_of role_of table_role heading_or_block block_role inline_role shown
 a_script_is_hidden = refl
 
 a_description_is_said : page_pieces with_scripts (codes "<q>a<img alt=b></q>")
-    ≡ said (codes "\"") ∷ shown (codes "a") ∷ said (codes "b") ∷ said (codes "\"") ∷ []
+    ≡ said (codes "\"") ∷ a_shown (codes "a") ∷ said (codes "b") ∷ said (codes "\"") ∷ []
 unfolding html5_document block_rule formatting_rule phrasing_rule text_end_rule move_last wrap_children forest_from
-    tree_of role_of table_role heading_or_block inline_role
+    tree_of role_of table_role heading_or_block block_role inline_role shown
 a_description_is_said = refl
 
 a_skipped_element_is_hidden : page_pieces without_scripts (codes "<nav>a</nav><noscript>b</noscript>")
-    ≡ hidden (codes "a") ∷ shown (codes "b") ∷ []
+    ≡ hidden (codes "a") ∷ a_shown (codes "b") ∷ []
 unfolding html5_document block_rule formatting_rule phrasing_rule text_end_rule move_last wrap_children forest_from
-    tree_of role_of table_role heading_or_block inline_role
+    tree_of role_of table_role heading_or_block block_role inline_role shown
 a_skipped_element_is_hidden = refl
 
 -- the texts of a table's page, in another order
 a_table_moves_text : page_pieces with_scripts (codes "<table><td>a</td>b")
-    ≡ shown (codes "b") ∷ shown (codes "a") ∷ []
+    ≡ a_shown (codes "b") ∷ a_shown (codes "a") ∷ []
 unfolding html5_document block_rule formatting_rule phrasing_rule text_end_rule move_last wrap_children forest_from
-    tree_of role_of table_role heading_or_block inline_role
+    tree_of role_of table_role heading_or_block block_role inline_role shown
 a_table_moves_text = refl
 
 its_tokens : token_texts true (codes "<table><td>a</td>b") ≡ codes "a" ∷ codes "b" ∷ []
@@ -95,7 +99,7 @@ its_tokens = refl
 -- frames drop text, so no piece has it
 frames_have_no_piece : page_pieces with_scripts (codes "<frameset>a") ≡ []
 unfolding html5_document block_rule formatting_rule phrasing_rule text_end_rule move_last wrap_children forest_from
-    tree_of role_of table_role heading_or_block inline_role
+    tree_of role_of table_role heading_or_block block_role inline_role shown
 frames_have_no_piece = refl
 
 -- ---- a whole page
@@ -104,8 +108,9 @@ its_letters : seen_in (token_texts true (codes "<q>a<script>b</script><img alt=c
 unfolding chars encode block_rule formatting_rule phrasing_rule text_end_rule
 its_letters = refl
 
-its_document : seen_of (text_of_blocks (page_document with_scripts (codes "<q>a<script>b</script><img alt=c></q>")))
-    ≡ codes "\"ac\""
+its_document : seen_of (text_of_blocks (page_document which.Linked with_scripts
+    (codes "<q>a<script>b</script><img alt=c></q>"))) ≡ codes "\"ac\""
 unfolding chars encode html5_document block_rule formatting_rule phrasing_rule text_end_rule move_last wrap_children
-    forest_from tree_of role_of table_role heading_or_block inline_role document_of_tree node_of
+    forest_from tree_of role_of table_role heading_or_block block_role inline_role shown document_by
+    document_of_tree node_of
 its_document = refl

@@ -12,20 +12,21 @@ use Rattle.htmd_html5.specs.Html5Documents.{state_after, html5_document}
 use Rattle.htmd_law_html5.specs.PageLetters.{is_letter, is_character, occurrences, occurrences_in, texts_of}
 use Rattle.htmd_law_html5.specs.PageLetters.{token_texts}
 use Rattle.htmd_law_html5.specs.LetterOrder.{letters_of, letters_in}
-use Rattle.htmd_law_html5.specs.TextKept.{all_characters}
 use Rattle.htmd_law_html5.proofs.UndroppedLettersLemmas.{harmless_letters_kept}
 use Rattle.htmd_law_html5.proofs.LetterOrderLemmas.{letters_in_order}
-use Rattle.htmd_document_of_tree.specs.Shown.{Sight}
-use Rattle.htmd_law_documents.specs.DocumentTexts.{text_of_blocks, is_visible}
-use Rattle.htmd_law_documents.specs.TreeTexts.{text_of_tree}
-use Rattle.htmd_law_documents.proofs.Main.{text_of_document}
-use Rattle.htmd_law_documents.proofs.StoredTextsLemmas.{tree-holds}
+use Rattle.htmd_shown.specs.Shown.{Sight, shown_in}
+use Rattle.htmd_document_of_tree.specs.declared.anchors.Anchors.{Anchors}
+use Rattle.htmd_law_documents.specs.DocumentTexts.{text_of_blocks, is_visible, visible}
+use Rattle.htmd_law_documents.proofs.Main.{text_of_tree}
+use Rattle.htmd_law_documents.proofs.ShownTreeLemmas.{page-sound}
+use Rattle.htmd_law_documents.proofs.StoredTextsLemmas.{tree-text}
 use Rattle.htmd_law_pages.specs.Pieces.{Piece, shown, hidden, said, texts_of_page, texts_of_document}
 use Rattle.htmd_law_pages.specs.Pieces.{hidden_texts, said_texts}
-use Rattle.htmd_law_pages.specs.PageTexts.{is_seen, seen_of, seen_in, page_tree, page_pieces, page_document, IsRead}
-use Rattle.htmd_law_pages.specs.PageTexts.{PageTextIsWritten, PageTextStandsInOrder, AllTextIsWritten}
+use Rattle.htmd_law_pages.specs.PageTexts.{is_no_dollar, visible_in, seen_of, seen_in, page_tree, page_pieces}
+use Rattle.htmd_law_pages.specs.PageTexts.{page_document, IsRead, PageTextIsWritten, PageTextStandsInOrder}
+use Rattle.htmd_law_pages.specs.PageTexts.{AllTextIsWritten}
 use Rattle.htmd_law_pages.proofs.LayoutOrder.{texts_laid}
-use Rattle.htmd_law_pages.proofs.PieceLemmas.{pieces_in_page, pieces_in_document, counted_pieces}
+use Rattle.htmd_law_pages.proofs.PieceLemmas.{pieces_in_page, page_reads, undollared, all_same, counted_pieces}
 
 -- ---- letters that can be seen
 
@@ -57,19 +58,31 @@ module _ (p q : ℕ → Bool) where
       either true false e rest = rest
       either false false e rest = rest
 
-seen_characters : (texts : List (List ℕ)) → seen_in texts ≡ filter is_seen (all_characters texts)
-seen_characters [] = refl
-seen_characters (s ∷ texts) =
-    ap (λ (x : List ℕ). seen_of s ++ x) (seen_characters texts)
-    ∙ sym (filter-append is_seen (chars s) (all_characters texts))
+-- no dollar sign, and visible
+abbrev is_other : ℕ → Bool
+is_other c = is_no_dollar c && is_visible c
 
-seen_letters : (texts : List (List ℕ)) → seen_in texts ≡ filter is_visible (letters_in texts)
+seen_letters : (texts : List (List ℕ)) → seen_in texts ≡ filter is_other (letters_in texts)
 unfolding letters_of
 seen_letters [] = refl
 seen_letters (s ∷ texts) =
-    ap (λ (x : List ℕ). x ++ seen_in texts) (filter_first is_letter is_visible (chars s))
-    ∙ (ap (λ (x : List ℕ). filter is_visible (letters_of s) ++ x) (seen_letters texts)
-    ∙ sym (filter-append is_visible (letters_of s) (letters_in texts)))
+    ap (λ (x : List ℕ). x ++ seen_in texts) (filter_first is_letter is_other (chars s))
+    ∙ (ap (λ (x : List ℕ). filter is_other (letters_of s) ++ x) (seen_letters texts)
+    ∙ sym (filter-append is_other (letters_of s) (letters_in texts)))
+
+-- of the visible characters these are the letters but dollar signs
+seen_visible : (s : List ℕ) → seen_of s ≡ filter is_letter (undollared (visible s))
+seen_visible s =
+    filter_second is_letter is_other (chars s)
+    ∙ ap (filter is_letter) (filter_second is_no_dollar is_visible (chars s))
+
+all_seen_visible : (texts : List (List ℕ)) → seen_in texts ≡ filter is_letter (undollared (visible_in texts))
+all_seen_visible [] = refl
+all_seen_visible (s ∷ texts) =
+    ap (λ (x : List ℕ). x ++ seen_in texts) (seen_visible s)
+    ∙ (ap (λ (x : List ℕ). filter is_letter (undollared (visible s)) ++ x) (all_seen_visible texts)
+    ∙ (sym (filter-append is_letter (undollared (visible s)) (undollared (visible_in texts)))
+    ∙ ap (filter is_letter) (sym (filter-append is_no_dollar (visible s) (visible_in texts)))))
 
 -- ---- the tree of a page
 
@@ -86,25 +99,32 @@ tokens_in_order : (sight : Sight) (page : List ℕ)
     → seen_in (token_texts sight.scripting page) ≡ seen_in (texts_of_page (page_pieces sight page))
 tokens_in_order sight page e =
     seen_letters (token_texts sight.scripting page)
-    ∙ (ap (filter is_visible) (sym e)
+    ∙ (ap (filter is_other) (sym e)
     ∙ (sym (seen_letters (texts_of (html5_document sight.scripting page)))
     ∙ ap seen_in (sym (tree_texts sight page))))
 
-said_in_order : (sight : Sight) (page : List ℕ) → IsRead sight page
-    → seen_of (text_of_blocks (page_document sight page)) ≡ seen_in (texts_of_document (page_pieces sight page))
-said_in_order sight page h =
-    let holds = tree-holds (html5_document sight.scripting page) 0 h.texts in
-    let said : List ℕ = text_of_tree sight (page_tree sight page) in
-    let reads = pieces_in_document sight (page_tree sight page) holds in
-    filter_second is_letter is_visible (chars (text_of_blocks (page_document sight page)))
-    ∙ (ap (filter is_letter) (text_of_document sight (page_tree sight page) holds)
-    ∙ (sym (filter_second is_letter is_visible (chars said))
-    ∙ (ap (filter is_seen) reads.same ∙ sym (seen_characters (texts_of_document (page_pieces sight page))))))
+-- what the document says, but dollar signs
+said_same : (which : Anchors) (sight : Sight) (page : List ℕ) → IsRead sight page
+    → undollared (visible (text_of_blocks (page_document which sight page)))
+    ≡ undollared (visible_in (texts_of_document (page_pieces sight page)))
+said_same which sight page h =
+    let tree = page_tree sight page in
+    let e = tree-text (html5_document sight.scripting page) 0 h.texts in
+    all_same (shown_in sight tree) false false (visible (text_of_blocks (page_document which sight page)))
+    (page-sound sight tree e) (text_of_tree which sight tree e) ∙ ap undollared (page_reads sight tree e)
+
+said_in_order : (which : Anchors) (sight : Sight) (page : List ℕ) → IsRead sight page
+    → seen_of (text_of_blocks (page_document which sight page))
+    ≡ seen_in (texts_of_document (page_pieces sight page))
+said_in_order which sight page h =
+    seen_visible (text_of_blocks (page_document which sight page))
+    ∙ (ap (filter is_letter) (said_same which sight page h)
+    ∙ sym (all_seen_visible (texts_of_document (page_pieces sight page))))
 
 pub page_text_stands_in_order : PageTextStandsInOrder
-page_text_stands_in_order sight page h e = record {
+page_text_stands_in_order which sight page h e = record {
   of_page = tokens_in_order sight page (letters_in_order sight.scripting page h.utf8 e);
-  of_document = said_in_order sight page h;
+  of_document = said_in_order which sight page h;
 }
 
 -- ---- nothing hidden, and nothing said
@@ -125,61 +145,67 @@ same_pieces (said s ∷ ps) e f =
     ap (λ (x : List ℕ). x ++ seen_in (texts_of_document ps)) parts.0 ∙ same_pieces ps e parts.1
 
 pub all_text_is_written : AllTextIsWritten
-all_text_is_written sight page h e f g =
-    said_in_order sight page h
+all_text_is_written which sight page h e f g =
+    said_in_order which sight page h
     ∙ (same_pieces (page_pieces sight page) f g
     ∙ sym (tokens_in_order sight page (letters_in_order sight.scripting page h.utf8 e)))
 
 -- ---- counted
 
-counted_characters : (c : ℕ) (texts : List (List ℕ))
-    → occurrences_in c texts ≡ count_by (is_character c) (all_characters texts)
-unfolding occurrences
-counted_characters c [] = refl
-counted_characters c (s ∷ texts) =
-    sum_by-cons (occurrences c) s texts
-    ∙ (ap (λ n. occurrences c s + n) (counted_characters c texts)
-    ∙ sym (sum_by-append (λ x. cond (is_character c x) 1 0) (chars s) (all_characters texts)))
-
--- a character that can be seen counts only there
-counted_visible : (c : ℕ) (xs : List ℕ) → is_visible c ≡ true
-    → count_by (is_character c) (filter is_visible xs) ≡ count_by (is_character c) xs
-counted_visible c [] v = refl
-counted_visible c (x ∷ xs) v =
-    let rest = counted_visible c xs v in
+-- what passes a test counts where the test is made
+counted_in : (p : ℕ → Bool) (c : ℕ) (xs : List ℕ) → p c ≡ true
+    → count_by (is_character c) (filter p xs) ≡ count_by (is_character c) xs
+counted_in p c [] v = refl
+counted_in p c (x ∷ xs) v =
+    let rest = counted_in p c xs v in
     let whole : count_by (is_character c) (x ∷ xs) ≡ cond (is_character c x) 1 0 + count_by (is_character c) xs =
     sum_by-cons (λ y. cond (is_character c y) 1 0) x xs in
-    test (is_visible x)
-    (λ e. ap (λ b. count_by (is_character c) (cond b (x ∷ filter is_visible xs) (filter is_visible xs))) e
-    ∙ (sum_by-cons (λ y. cond (is_character c y) 1 0) x (filter is_visible xs)
+    test (p x)
+    (λ e. ap (λ b. count_by (is_character c) (cond b (x ∷ filter p xs) (filter p xs))) e
+    ∙ (sum_by-cons (λ y. cond (is_character c y) 1 0) x (filter p xs)
     ∙ (ap (λ n. cond (is_character c x) 1 0 + n) rest ∙ sym whole)))
     (λ e.
     let none : (x == c) ≡ false = test (x == c)
-    (λ f. absurd (true≢false (sym v ∙ (ap is_visible (sym (eqb-true x c f)) ∙ e)))) (λ f. f) in
+    (λ f. absurd (true≢false (sym v ∙ (ap p (sym (eqb-true x c f)) ∙ e)))) (λ f. f) in
     let zero : cond {A = ℕ} (is_character c x) 1 0 ≡ 0 = ap (λ b. cond {A = ℕ} b 1 0) none in
     let same : count_by (is_character c) xs ≡ count_by (is_character c) (x ∷ xs) = omega arith in
-    ap (λ b. count_by (is_character c) (cond b (x ∷ filter is_visible xs) (filter is_visible xs))) e
+    ap (λ b. count_by (is_character c) (cond b (x ∷ filter p xs) (filter p xs))) e
     ∙ (rest ∙ same))
 
-counted_said : (sight : Sight) (page : List ℕ) (c : ℕ) → IsRead sight page → is_visible c ≡ true
-    → occurrences c (text_of_blocks (page_document sight page))
+-- and no others
+counted_visible : (c : ℕ) (s : List ℕ) → is_other c ≡ true
+    → count_by (is_character c) (undollared (visible s)) ≡ count_by (is_character c) (chars s)
+counted_visible c s v =
+    let parts = and_parts (is_no_dollar c) (is_visible c) v in
+    counted_in is_no_dollar c (visible s) parts.0 ∙ counted_in is_visible c (chars s) parts.1
+
+counted_texts : (c : ℕ) (texts : List (List ℕ)) → is_other c ≡ true
+    → occurrences_in c texts ≡ count_by (is_character c) (undollared (visible_in texts))
+unfolding occurrences
+counted_texts c [] v = refl
+counted_texts c (s ∷ texts) v =
+    sum_by-cons (occurrences c) s texts
+    ∙ (ap (λ n. occurrences c s + n) (counted_texts c texts v)
+    ∙ (ap (λ n. n + count_by (is_character c) (undollared (visible_in texts))) (sym (counted_visible c s v))
+    ∙ (sym (sum_by-append (λ x. cond (is_character c x) 1 0) (undollared (visible s))
+    (undollared (visible_in texts)))
+    ∙ ap (count_by (is_character c)) (sym (filter-append is_no_dollar (visible s) (visible_in texts))))))
+
+counted_said : (which : Anchors) (sight : Sight) (page : List ℕ) (c : ℕ) → IsRead sight page
+    → is_other c ≡ true
+    → occurrences c (text_of_blocks (page_document which sight page))
     ≡ occurrences_in c (texts_of_document (page_pieces sight page))
 unfolding occurrences
-counted_said sight page c h v =
-    let holds = tree-holds (html5_document sight.scripting page) 0 h.texts in
-    let said : List ℕ = text_of_tree sight (page_tree sight page) in
-    let reads = pieces_in_document sight (page_tree sight page) holds in
-    sym (counted_visible c (chars (text_of_blocks (page_document sight page))) v)
-    ∙ (ap (count_by (is_character c)) (text_of_document sight (page_tree sight page) holds)
-    ∙ (counted_visible c (chars said) v
-    ∙ (ap (count_by (is_character c)) reads.same
-    ∙ sym (counted_characters c (texts_of_document (page_pieces sight page))))))
+counted_said which sight page c h v =
+    sym (counted_visible c (text_of_blocks (page_document which sight page)) v)
+    ∙ (ap (count_by (is_character c)) (said_same which sight page h)
+    ∙ sym (counted_texts c (texts_of_document (page_pieces sight page)) v))
 
 pub page_text_is_written : PageTextIsWritten
-page_text_is_written sight page h c e seen =
-    let parts = and_parts (is_letter c) (is_visible c) seen in
+page_text_is_written which sight page h c e seen =
+    let parts = and_parts (is_letter c) (is_other c) seen in
     let pieces : List Piece = page_pieces sight page in
-    let a = counted_said sight page c h parts.1 in
+    let a = counted_said which sight page c h parts.1 in
     let b = counted_pieces c pieces in
     let d = harmless_letters_kept sight.scripting page c h.utf8 e parts.0 in
     let f : occurrences_in c (texts_of_page pieces)

@@ -1,20 +1,29 @@
 -- The texts of a page and of its document, one by one: those that stand in both, and those that stand in one of them.
-use Rattle.std.specs.Prelude.{ℕ, if◌then◌else◌, List, [], ◌∷◌, ◌++◌, map, codes}
+use Rattle.std.specs.Prelude.{ℕ, if◌then◌else◌, Bool, false, List, [], ◌∷◌, ◌++◌, map, codes, Option, Some, None}
+use Rattle.std.specs.Str.{bytes_eq}
 use Rattle.htmd_lexical.specs.Characters.{quotation_mark}
 use Rattle.htmd_lexical.specs.AttributePairs.{AttributePair}
 use Rattle.htmd_nodes.specs.NumberedTrees.{NumberedTree, document, doctype, text, comment, element, NumberedForest}
-use Rattle.htmd_nodes.specs.NumberedTrees.{none}
-use Rattle.htmd_nodes.specs.NumberedTrees.{more}
-use Rattle.htmd_document_of_tree.specs.Attributes.{text_of}
-use Rattle.htmd_document_of_tree.specs.Roles.{role_of, is_void, is_image, is_quotation}
-use Rattle.htmd_document_of_tree.specs.Shown.{Sight, shows}
+use Rattle.htmd_nodes.specs.NumberedTrees.{none, more}
+use Rattle.htmd_shown.specs.Attributes.{text_of}
+use Rattle.htmd_shown.specs.Embeds.{Embedding, embedding_of, embedding_names}
+use Rattle.htmd_shown.specs.Formulas.{tex_of}
+use Rattle.htmd_shown.specs.Images.{is_image}
+use Rattle.htmd_shown.specs.Kinds.{are_blank}
+use Rattle.htmd_shown.specs.Repeats.{is_repeat, last_element, leads_to_script}
+use Rattle.htmd_shown.specs.Roles.{is_among}
+use Rattle.htmd_shown.specs.Shown.{Sight, Surroundings, nowhere, inside, is_skipped, is_hidden, is_emptied}
+use Rattle.htmd_shown.specs.SimpleTrees.{Simples}
+use Rattle.htmd_law_documents.specs.PageTexts.{content_shown, is_sign_link}
+use Rattle.htmd_law_documents.specs.SimpleTexts.{formula_said}
 
 pub data Piece : Type 0 where
   -- a text of the page that shows
   shown : (s : List ℕ) → Piece
   -- a text of the page that doesn't
   hidden : (s : List ℕ) → Piece
-  -- no text of the page: the description of an image, and a mark of a quotation
+  -- no text of the page: the description of an image, a mark of a quotation, the TeX of a formula, and the title of
+  -- what is embedded
   said : (s : List ℕ) → Piece
 
 -- ---- the pieces of a tree
@@ -35,31 +44,70 @@ abbrev mutual
 abbrev pub all_hidden : List (List ℕ) → List Piece
 all_hidden texts = map hidden texts
 
-abbrev pub in_quotation_marks : List Piece → List Piece
-in_quotation_marks inner = (said (quotation_mark ∷ []) ∷ inner) ++ said (quotation_mark ∷ []) ∷ []
+abbrev pub in_quotation_marks : Bool → List Piece → List Piece
+in_quotation_marks is_quoted inner =
+    if is_quoted then (said (quotation_mark ∷ []) ∷ inner) ++ said (quotation_mark ∷ []) ∷ [] else inner
 
--- What an element says, by its name: an image its description, and a quotation its marks too. What is in an image, a
--- `br` or an `hr` doesn't show.
-abbrev pub pieces_by : List ℕ → List AttributePair → NumberedForest → List Piece → List Piece
-pieces_by name attributes children inner =
-    if is_image (role_of name) then said (text_of (codes "alt") attributes) ∷ all_hidden (texts_among children)
-    else (if is_void (role_of name) then all_hidden (texts_among children)
-    else (if is_quotation (role_of name) then in_quotation_marks inner else inner))
+-- said in place of the texts in an element
+abbrev pub instead : List ℕ → List (List ℕ) → List Piece
+instead s texts = said s ∷ all_hidden texts
+
+-- what is embedded says its title
+abbrev pub pieces_of_embedding : List (List ℕ) → Option Embedding → List Piece
+pieces_of_embedding texts None = all_hidden texts
+pieces_of_embedding texts (Some found) = instead found.title texts
+
+-- an object says what is in it, but what it embeds where nothing shows of that
+abbrev pub pieces_of_object : Bool → List (List ℕ) → List Piece → Option Embedding → List Piece
+pieces_of_object is_blank texts inner None = inner
+pieces_of_object is_blank texts inner (Some found) = if is_blank then instead found.title texts else inner
+
+-- An element that is no formula, by its name. Of what a browser hides, of line numbers in code and of a permalink
+-- nothing shows. content: what shows of its content; inner: the pieces of that.
+abbrev pub pieces_by_name : Surroundings → List ℕ → List AttributePair → NumberedForest → Simples
+    → List Piece
+    → List Piece
+pieces_by_name around name attributes children content inner =
+    if is_hidden around name attributes then all_hidden (texts_among children)
+    else (if is_image name attributes then instead (text_of (codes "alt") attributes) (texts_among children)
+    else (if is_among embedding_names name
+    then pieces_of_embedding (texts_among children) (embedding_of name attributes children)
+    else (if bytes_eq name (codes "object")
+    then pieces_of_object (are_blank content) (texts_among children) inner (embedding_of name attributes children)
+    else (if is_sign_link around name attributes content then all_hidden (texts_among children) else inner))))
+
+-- a formula says its TeX between dollar signs
+abbrev pub pieces_of_formula : List (List ℕ) → List Piece → Option (List ℕ) → List Piece
+pieces_of_formula texts other None = other
+pieces_of_formula texts other (Some tex) = instead (formula_said false tex) texts
 
 abbrev mutual
-  -- those of a tree that shows, in document order
-  pub pieces : Sight → NumberedTree → List Piece
-  pieces sight (document id children) = pieces_among sight children
-  pieces sight (doctype id) = []
-  pieces sight (text id s) = shown s ∷ []
-  pieces sight (comment id s) = []
-  pieces sight (element id name attributes children) =
-      pieces_by name attributes children (pieces_among sight children)
+  -- those of a node, in document order; what is in a `br`, an `hr` or a cell of line numbers doesn't show
+  pub pieces : Sight → Surroundings → NumberedTree → List Piece
+  pieces sight around (document id children) = all_hidden (texts_among children)
+  pieces sight around (doctype id) = []
+  pieces sight around (text id s) = shown s ∷ []
+  pieces sight around (comment id s) = []
+  pieces sight around (element id name attributes children) =
+      if is_skipped sight name then all_hidden (texts_among children)
+      else pieces_of_formula (texts_among children)
+      (pieces_by_name around name attributes children (content_shown sight around id name attributes children)
+      (if is_emptied around name attributes then all_hidden (texts_among children)
+      else in_quotation_marks (bytes_eq name (codes "q"))
+      (pieces_among sight (inside name children around) None children)))
+      (tex_of name attributes children)
 
-  pub pieces_among : Sight → NumberedForest → List Piece
-  pieces_among sight none = []
-  pieces_among sight (more tree trees) =
-      (if shows sight tree then pieces sight tree else all_hidden (texts_in tree)) ++ pieces_among sight trees
+  -- those of nodes beside each other; a second copy of a formula doesn't show; before: the last element's attributes
+  pub pieces_among : Sight → Surroundings → Option (List AttributePair) → NumberedForest → List Piece
+  pieces_among sight around before none = []
+  pieces_among sight around before (more tree trees) =
+      (if is_repeat before tree (leads_to_script sight.skip trees) then all_hidden (texts_in tree)
+      else pieces sight around tree) ++ pieces_among sight around (last_element before tree) trees
+
+-- those of a page
+abbrev pub pieces_in : Sight → NumberedTree → List Piece
+pieces_in sight (document id children) = pieces_among sight nowhere None children
+pieces_in sight tree = all_hidden (texts_in tree)
 
 -- ---- where they stand
 

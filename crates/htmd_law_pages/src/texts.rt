@@ -1,17 +1,23 @@
 //! From the texts of a page's tokens to its document.
 ghost use Rattle.std.specs.Prelude.{IfOk, map};
 ghost use Rattle.htmd_document.specs.DocumentViews.{document_of};
-ghost use Rattle.htmd_document_of_tree.specs.Shown.{Sight};
-ghost use Rattle.htmd_law_pages.specs.PageTexts.{PageTextIsWritten, PageTextStandsInOrder, AllTextIsWritten};
+ghost use Rattle.htmd_shown.specs.Shown.{Sight};
+ghost use Rattle.htmd_law_pages.specs.PageTexts.{PiecesShow, PageTextIsWritten, PageTextStandsInOrder};
+ghost use Rattle.htmd_law_pages.specs.PageTexts.{AllTextIsWritten};
 ghost use Rattle.htmd_law_pages.specs.PageTexts.{CountsLetters, KeepsOrder, HasAllText};
 
 use htmd_document::Document;
-use htmd_document_of_tree::OfTree;
+use htmd_document_of_tree::{Anchors, OfTree};
 use htmd_html5::parse_html5;
 use std::alloc::{AllocError, Global};
 
+/// Every text of a tree is a piece of it, shown or hidden by a rule, and what shows is what the pieces say.
+pub fn pieces_show()
+    ensures { PiecesShow }
+{}
+
 /// Each letter is in the document of a page as often as in the texts of the page's tokens, but for texts that are
-/// hidden, and for descriptions of images and marks of quotations, if no start tag is named `frameset` or `template`.
+/// hidden, and for what is said that is no text of the page, if no start tag is named `frameset` or `template`.
 pub fn page_text_is_written()
     ensures { PageTextIsWritten }
 {}
@@ -21,8 +27,8 @@ pub fn page_text_stands_in_order()
     ensures { PageTextStandsInOrder }
 {}
 
-/// And where no letter is hidden, and no description or mark of a quotation has one, they are those of the page's
-/// tokens, all and no others.
+/// And where no letter is hidden, and nothing that is said has one, they are those of the page's tokens, all and no
+/// others.
 pub fn all_text_is_written()
     ensures { AllTextIsWritten }
 {}
@@ -34,6 +40,7 @@ pub fn document_of_page(
     page: &str,
     scripting: bool,
     skip: &[&str],
+    anchors: Anchors,
 ) -> Result<Document, AllocError>
     ensures letters { IfOk result (λ d. CountsLetters
         (record { scripting = scripting; skip = map (λ name. name.now) skip.now }) page.now (document_of d)) }
@@ -44,5 +51,5 @@ pub fn document_of_page(
 {
     let tree = parse_html5(alloc, page, scripting)?;
     let _root = tree.root();
-    Document::of_tree(alloc, &tree, scripting, skip)
+    Document::of_tree(alloc, &tree, scripting, skip, anchors)
 }

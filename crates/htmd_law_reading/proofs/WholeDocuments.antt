@@ -1,6 +1,6 @@
 -- What is read of the blocks that are written, with the inlines in them, is what was written.
-use Rattle.std.proofs.Common.{◌≡◌, ◌∙◌, ◌≤◌, refl, ap, sym, ℕ, zero, suc, Bool, true, false, List, [], ◌∷◌, ◌++◌, Option}
-use Rattle.std.proofs.Common.{Some}
+use Rattle.std.proofs.Common.{◌≡◌, ◌∙◌, ◌≤◌, refl, ap, sym, ℕ, zero, suc, Bool, true, false, List, [], ◌∷◌, ◌++◌}
+use Rattle.std.proofs.Common.{Option, Some}
 use Rattle.std.proofs.Common.{None, append_assoc, arith}
 use Rattle.std.specs.Prelude.{length, ◌&&◌, if◌then◌else◌}
 use Rattle.std.specs.List.{list_all}

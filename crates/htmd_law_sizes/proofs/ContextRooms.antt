@@ -1,160 +1,198 @@
--- How much can stand around a leaf: each format once, and one link.
-use Rattle.std.proofs.Common.{◌≡◌, refl, sym, ap, subst, ℕ, suc, ◌+◌, ◌≤◌, Bool, true, false, List, [], ◌∷◌, ◌++◌}
+-- How much can stand around a leaf: three formats once, eight that raise or lower, and one link.
+use Rattle.std.proofs.Common.{◌≡◌, refl, ℕ, zero, suc, ◌+◌, ◌-◌, ◌≤◌, Bool, true, false, List, [], ◌∷◌, ◌++◌}
 use Rattle.std.proofs.Common.{length, arith}
-use Rattle.std.specs.Prelude.{◌||◌, if◌then◌else◌, Option}
+use Rattle.std.proofs.lemmas.Bool.Decides.{nat_tests}
+use Rattle.std.specs.Prelude.{◌||◌, nat_le, filter, if◌then◌else◌, Option}
 use Rattle.std.specs.List.{list_any}
-use Rattle.htmd_document_of_tree.specs.Contexts.{Context, bare, is_format, is_link, inside_format, inside_link}
-use Rattle.htmd_document.specs.Formats.{Format}
-use Rattle.htmd_document.specs.Formats.{Emphasis, Strong, Deleted, Superscript, Subscript}
-use Rattle.htmd_document.specs.Formats.{is_same_format}
-use Rattle.htmd_document_of_tree.specs.Parts.{Around, formatted, linked}
-use Rattle.htmd_document.proofs.FormatsLemmas.{same-format}
-use Rattle.htmd_law_sizes.specs.DocumentSizes.{size_of_option}
-use Rattle.htmd_law_sizes.proofs.PartCosts.{size_around}
+use Rattle.htmd_lexical.specs.AttributePairs.{AttributePair}
+use Rattle.htmd_document.specs.Formats.{Format, Emphasis, Strong, Deleted, Superscript, Subscript}
+use Rattle.htmd_flow.specs.Contexts.{Context, bare, is_format, is_link, is_raised_around, raised_around, is_enough}
+use Rattle.htmd_flow.specs.Contexts.{with_around, inside_format, inside_link, without_link, unlinked, beside_code}
+use Rattle.htmd_flow.specs.Parts.{Around, formatted, linked}
 
-abbrev miss : Bool → ℕ
-miss t = if t then 0 else 1
+abbrev pub most_around : ℕ
+most_around = 12
 
--- each format once
-abbrev all_formats : List Format
-all_formats = Emphasis ∷ Strong ∷ Deleted ∷ Superscript ∷ Subscript ∷ []
+-- ---- counts of what stands around
 
--- how many of these formats don't stand around yet
-abbrev missing : List Format → List Around → ℕ
-missing [] around = 0
-missing (g ∷ gs) around = miss (list_any (is_format g) around) + missing gs around
+abbrev count : (Around → Bool) → List Around → ℕ
+count p [] = 0
+count p (a ∷ around) = (if p a then 1 else 0) + count p around
 
-abbrev pub formats_left : List Around → ℕ
-formats_left around = missing all_formats around
+abbrev emphasis : Around → Bool
+emphasis = is_format Emphasis
 
--- a link of so many bytes, unless one stands around
-abbrev pub link_left : ℕ → List Around → ℕ
-link_left n around = if list_any is_link around then 0 else suc n
+abbrev strong : Around → Bool
+strong = is_format Strong
 
--- where no link has more than n bytes
-pub record Within (n : ℕ) (around : List Around) : Type 0 where
-  pub room : size_around around + formats_left around + link_left n around ≤ 6 + n
+abbrev deleted : Around → Bool
+deleted = is_format Deleted
 
-pub around_le : (n : ℕ) (around : List Around) → Within n around → size_around around ≤ 6 + n
-around_le n around w = omega (arith, w.room)
+-- each is a format that stands once, or raises or lowers, or a link
+one_kind : (a : Around)
+    → (if emphasis a then 1 else 0) + (if strong a then 1 else 0) + (if deleted a then 1 else 0)
+    + (if is_raised_around a then 1 else 0) + (if is_link a then 1 else 0) ≡ 1
+one_kind (formatted Emphasis) = refl
+one_kind (formatted Strong) = refl
+one_kind (formatted Deleted) = refl
+one_kind (formatted Superscript) = refl
+one_kind (formatted Subscript) = refl
+one_kind (linked node address title) = refl
 
-pub bare_within : (n : ℕ) → Within n bare.around
-bare_within n = record { room = omega arith }
+counted : (around : List Around)
+    → length around
+    ≡ count emphasis around + count strong around + count deleted around + count is_raised_around around
+    + count is_link around
+counted [] = refl
+counted (a ∷ around) = omega (arith, counted around, one_kind a)
 
-kept : (p : Around → Bool) (xs : List Around) (a : Around) → p a ≡ false
-    → list_any p (xs ++ a ∷ []) ≡ list_any p xs
-kept p [] a e = rw e refl
-kept p (x ∷ xs) a e = go (p x) (kept p xs a e)
+-- as much as can stand around
+pub record Within (around : List Around) : Type 0 where
+  pub first : count emphasis around ≤ 1
+  pub second : count strong around ≤ 1
+  pub third : count deleted around ≤ 1
+  pub raised : count is_raised_around around ≤ 8
+  pub links : count is_link around ≤ 1
+
+pub around_le : (around : List Around) → Within around → length around ≤ most_around
+around_le around w = omega (arith, counted around, w.first, w.second, w.third, w.raised, w.links)
+
+pub bare_within : Within bare.around
+bare_within = record {
+  first = omega arith;
+  second = omega arith;
+  third = omega arith;
+  raised = omega arith;
+  links = omega arith;
+}
+
+count_append : (p : Around → Bool) (xs ys : List Around) → count p (xs ++ ys) ≡ count p xs + count p ys
+count_append p [] ys = omega arith
+count_append p (x ∷ xs) ys = omega (arith, count_append p xs ys)
+
+none_any : (p : Around → Bool) (xs : List Around) → list_any p xs ≡ false → count p xs ≡ 0
+none_any p [] h = refl
+none_any p (x ∷ xs) h = go (p x) h (none_any p xs)
   where
-    go : (t : Bool) → list_any p (xs ++ a ∷ []) ≡ list_any p xs
-        → (t || list_any p (xs ++ a ∷ [])) ≡ (t || list_any p xs)
-    go true i = refl
-    go false i = i
+    go : (t : Bool) → (t || list_any p xs) ≡ false → (list_any p xs ≡ false → count p xs ≡ 0)
+        → (if t then 1 else 0) + count p xs ≡ 0
+    go true e i = absurd (cc)
+    go false e i = omega (arith, i e)
 
-gained : (p : Around → Bool) (xs : List Around) (a : Around) → p a ≡ true → list_any p (xs ++ a ∷ []) ≡ true
-gained p [] a e = rw e refl
-gained p (x ∷ xs) a e = go (p x) (gained p xs a e)
+raised_count : (xs : List Around) → raised_around xs ≡ count is_raised_around xs
+raised_count [] = refl
+raised_count (x ∷ xs) = go (is_raised_around x) (raised_count xs)
   where
-    go : (t : Bool) → list_any p (xs ++ a ∷ []) ≡ true → (t || list_any p (xs ++ a ∷ [])) ≡ true
-    go true i = refl
-    go false i = i
+    go : (t : Bool) → raised_around xs ≡ count is_raised_around xs
+        → length (if t then x ∷ filter is_raised_around xs else filter is_raised_around xs)
+        ≡ (if t then 1 else 0) + count is_raised_around xs
+    go true i = omega (arith, i)
+    go false i = omega (arith, i)
 
-around_append : (xs ys : List Around) → size_around (xs ++ ys) ≡ size_around xs + size_around ys
-around_append [] ys = omega arith
-around_append (formatted f ∷ xs) ys = omega (arith, around_append xs ys)
-around_append (linked node address title ∷ xs) ys = omega (arith, around_append xs ys)
+not_yet : (a b : ℕ) → nat_le a b ≡ false → b + 1 ≤ a
+not_yet a b h = grind (arith, nat_tests)
 
--- a format that is kept, or gained, by the format that comes in
-same : (g : Format) (xs : List Around) (a : Around) → is_format g a ≡ false
-    → miss (list_any (is_format g) (xs ++ a ∷ [])) ≡ miss (list_any (is_format g) xs)
-same g xs a e = ap miss (kept (is_format g) xs a e)
+-- ---- formats
 
-taken : (g : Format) (xs : List Around) (a : Around) → is_format g a ≡ true
-    → list_any (is_format g) xs ≡ false
-    → miss (list_any (is_format g) (xs ++ a ∷ [])) + 1 ≡ miss (list_any (is_format g) xs)
-taken g xs a e h =
-    omega (arith, ap miss (gained (is_format g) xs a e), ap miss h)
+added : (f : Format) (xs : List Around) → is_enough f xs ≡ false → Within xs → Within (xs ++ formatted f ∷ [])
+added Emphasis xs h w = record {
+  first = omega (arith, count_append emphasis xs (formatted Emphasis ∷ []), none_any emphasis xs h);
+  second = omega (arith, count_append strong xs (formatted Emphasis ∷ []), w.second);
+  third = omega (arith, count_append deleted xs (formatted Emphasis ∷ []), w.third);
+  raised = omega (arith, count_append is_raised_around xs (formatted Emphasis ∷ []), w.raised);
+  links = omega (arith, count_append is_link xs (formatted Emphasis ∷ []), w.links);
+}
+added Strong xs h w = record {
+  first = omega (arith, count_append emphasis xs (formatted Strong ∷ []), w.first);
+  second = omega (arith, count_append strong xs (formatted Strong ∷ []), none_any strong xs h);
+  third = omega (arith, count_append deleted xs (formatted Strong ∷ []), w.third);
+  raised = omega (arith, count_append is_raised_around xs (formatted Strong ∷ []), w.raised);
+  links = omega (arith, count_append is_link xs (formatted Strong ∷ []), w.links);
+}
+added Deleted xs h w = record {
+  first = omega (arith, count_append emphasis xs (formatted Deleted ∷ []), w.first);
+  second = omega (arith, count_append strong xs (formatted Deleted ∷ []), w.second);
+  third = omega (arith, count_append deleted xs (formatted Deleted ∷ []), none_any deleted xs h);
+  raised = omega (arith, count_append is_raised_around xs (formatted Deleted ∷ []), w.raised);
+  links = omega (arith, count_append is_link xs (formatted Deleted ∷ []), w.links);
+}
+added Superscript xs h w = record {
+  first = omega (arith, count_append emphasis xs (formatted Superscript ∷ []), w.first);
+  second = omega (arith, count_append strong xs (formatted Superscript ∷ []), w.second);
+  third = omega (arith, count_append deleted xs (formatted Superscript ∷ []), w.third);
+  raised = omega (
+    arith,
+    count_append is_raised_around xs (formatted Superscript ∷ []),
+    raised_count xs,
+    not_yet 8 (raised_around xs) h,
+  );
+  links = omega (arith, count_append is_link xs (formatted Superscript ∷ []), w.links);
+}
+added Subscript xs h w = record {
+  first = omega (arith, count_append emphasis xs (formatted Subscript ∷ []), w.first);
+  second = omega (arith, count_append strong xs (formatted Subscript ∷ []), w.second);
+  third = omega (arith, count_append deleted xs (formatted Subscript ∷ []), w.third);
+  raised = omega (
+    arith,
+    count_append is_raised_around xs (formatted Subscript ∷ []),
+    raised_count xs,
+    not_yet 8 (raised_around xs) h,
+  );
+  links = omega (arith, count_append is_link xs (formatted Subscript ∷ []), w.links);
+}
 
--- how often it is among these
-abbrev times : Format → List Format → ℕ
-times f [] = 0
-times f (g ∷ gs) = (if is_same_format g f then 1 else 0) + times f gs
-
-once : (f : Format) → times f all_formats ≡ 1
-once Emphasis = refl
-once Strong = refl
-once Deleted = refl
-once Superscript = refl
-once Subscript = refl
-
-missing_added : (gs : List Format) (f : Format) (xs : List Around) → list_any (is_format f) xs ≡ false
-    → missing gs (xs ++ formatted f ∷ []) + times f gs ≡ missing gs xs
-missing_added [] f xs h = omega arith
-missing_added (g ∷ gs) f xs h = go (is_same_format g f) refl (missing_added gs f xs h)
+pub within_format : (f : Format) (c : Context) → Within c.around → Within (inside_format f c).around
+within_format f c w = go (is_enough f c.around) refl
   where
-    go : (t : Bool) → is_same_format g f ≡ t
-        → missing gs (xs ++ formatted f ∷ []) + times f gs ≡ missing gs xs
-        → missing (g ∷ gs) (xs ++ formatted f ∷ []) + ((if t then 1 else 0) + times f gs)
-        ≡ missing (g ∷ gs) xs
-    go true e i =
-        let none = subst (λ (k : Format). list_any (is_format k) xs ≡ false) (sym (same-format g f e)) h in
-        omega (arith, taken g xs (formatted f) e none, i)
-    go false e i = omega (arith, same g xs (formatted f) e, i)
-
-missing_linked : (gs : List Format) (node : ℕ) (address : List ℕ) (title : Option (List ℕ)) (xs : List Around)
-    → missing gs (xs ++ linked node address title ∷ []) ≡ missing gs xs
-missing_linked [] node address title xs = refl
-missing_linked (g ∷ gs) node address title xs =
-    omega (arith, same g xs (linked node address title) refl, missing_linked gs node address title xs)
-
-format_added : (f : Format) (xs : List Around) → list_any (is_format f) xs ≡ false
-    → formats_left (xs ++ formatted f ∷ []) + 1 ≡ formats_left xs
-format_added f xs h = omega (arith, once f, missing_added all_formats f xs h)
-
-pub within_format : (n : ℕ) (f : Format) (c : Context) → Within n c.around → Within n (inside_format f c).around
-within_format n f c w = go (list_any (is_format f) c.around) refl
-  where
-    added : Context
-    added = record c { around = c.around ++ formatted f ∷ [] }
-
-    go : (t : Bool) → list_any (is_format f) c.around ≡ t → Within n (if t then c else added).around
+    go : (t : Bool) → is_enough f c.around ≡ t
+        → Within (if t then c else with_around c (formatted f)).around
     go true e = w
-    go false e =
-        let l = ap (λ (t : Bool). if t then 0 else suc n) (kept is_link c.around (formatted f) refl) in
-        record {
-          room = omega (
-            arith,
-            w.room,
-            format_added f c.around e,
-            around_append c.around (formatted f ∷ []),
-            l,
-          );
-        }
+    go false e = added f c.around e w
 
-pub within_link : (n node : ℕ) (address : List ℕ) (title : Option (List ℕ)) (c : Context)
-    → length address + size_of_option title ≤ n → Within n c.around
-    → Within n (inside_link node address title c).around
-within_link n node address title c h w = go (list_any is_link c.around) refl
+-- ---- links
+
+pub within_link : (node : ℕ) (address : List ℕ) (title : Option (List ℕ)) (c : Context) → Within c.around
+    → Within (inside_link node address title c).around
+within_link node address title c w = go (list_any is_link c.around) refl
   where
     a : Around
     a = linked node address title
 
-    added : Context
-    added = record c { around = c.around ++ a ∷ [] }
+    xs : List Around
+    xs = c.around
 
-    go : (t : Bool) → list_any is_link c.around ≡ t → Within n (if t then c else added).around
+    go : (t : Bool) → list_any is_link c.around ≡ t → Within (if t then c else with_around c a).around
     go true e = w
-    go false e =
-        let l = ap (λ (t : Bool). if t then 0 else suc n) (gained is_link c.around a refl) in
-        let k = ap (λ (t : Bool). if t then 0 else suc n) e in
-        record {
-          room = omega (
-            arith,
-            h,
-            w.room,
-            missing_linked all_formats node address title c.around,
-            around_append c.around (a ∷ []),
-            l,
-            k,
-          );
-        }
+    go false e = record {
+      first = omega (arith, count_append emphasis xs (a ∷ []), w.first);
+      second = omega (arith, count_append strong xs (a ∷ []), w.second);
+      third = omega (arith, count_append deleted xs (a ∷ []), w.third);
+      raised = omega (arith, count_append is_raised_around xs (a ∷ []), w.raised);
+      links = omega (arith, count_append is_link xs (a ∷ []), none_any is_link xs e);
+    }
+
+fewer : (p : Around → Bool) (xs : List Around) → count p (without_link xs) ≤ count p xs
+fewer p [] = omega arith
+fewer p (x ∷ xs) = go (is_link x) (fewer p xs)
+  where
+    go : (t : Bool) → count p (without_link xs) ≤ count p xs
+        → count p (if t then xs else x ∷ without_link xs) ≤ (if p x then 1 else 0) + count p xs
+    go true i = omega arith
+    go false i = omega (arith, i)
+
+pub within_unlinked : (c : Context) → Within c.around → Within (unlinked c).around
+within_unlinked c w = record {
+  first = omega (arith, fewer emphasis c.around, w.first);
+  second = omega (arith, fewer strong c.around, w.second);
+  third = omega (arith, fewer deleted c.around, w.third);
+  raised = omega (arith, fewer is_raised_around c.around, w.raised);
+  links = omega (arith, fewer is_link c.around, w.links);
+}
+
+-- ---- code
+
+pub within_near : (n : ℕ) (attributes : List AttributePair) (c : Context) → Within c.around
+    → Within (beside_code n attributes c).around
+within_near zero attributes c w = w
+within_near (suc zero) attributes c w = w
+within_near (suc (suc n)) attributes c w = w

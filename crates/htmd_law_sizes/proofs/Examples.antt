@@ -13,7 +13,11 @@ use Rattle.htmd_document.specs.Documents.{item}
 use Rattle.htmd_commonmark.specs.declared.options.DocumentOptions.{DocumentOptions}
 use Rattle.htmd_commonmark.specs.DocumentMarkdown.{markdown_of}
 use Rattle.htmd_nodes.specs.NumberedTrees.{text as text_node, comment, element, none, more}
-use Rattle.htmd_law_sizes.specs.DocumentSizes.{size_of, margin_of}
+use Rattle.htmd_shown.specs.Facts.{made}
+use Rattle.htmd_shown.specs.SimpleTrees as simple
+use Rattle.htmd_shown.specs.declared.role.Role.TheVariants as role
+use Rattle.htmd_law_sizes.specs.DocumentSizes.{size_of, lean, repeated, margin_of}
+use Rattle.htmd_law_sizes.specs.SimpleSizes.{size_of_simple}
 use Rattle.htmd_law_sizes.specs.TreeSizes.{size_of_tree}
 
 abbrev options : DocumentOptions
@@ -69,6 +73,24 @@ pub of_table :
     ≡ 1 + (1 + 3) + (1 + 1 + 3)
 of_table = refl
 
+-- ---- what is repeated
+
+-- a link's address and title
+pub of_address :
+    repeated (one (paragraph (inline (link (codes "/x") (Some (codes "t")) (letters (codes "a"))) no_inlines)))
+    ≡ 2 + 1
+of_address = refl
+
+-- a paragraph, a link, and its text
+pub of_rest :
+    lean (one (paragraph (inline (link (codes "/x") (Some (codes "t")) (letters (codes "a"))) no_inlines)))
+    ≡ 1 + 1 + 2
+of_rest = refl
+
+-- the language of code
+pub of_language : repeated (one (code_block (Some (codes "c")) (codes "x"))) ≡ 1
+of_language = refl
+
 -- ---- margins
 
 -- nothing stands before the lines of a paragraph
@@ -96,6 +118,14 @@ pub of_tree :
     (more (text_node 2 (codes "abc")) (more (comment 3 (codes "d")) none)))
     ≡ 1 + 2 + (1 + 3) + 1
 of_tree = refl
+
+-- a heading, its level, its id, and a text
+pub of_simple :
+    size_of_simple
+    (made 1 (role.Heading 3) (record { name = codes "id"; value = codes "x" } ∷ [])
+    (simple.more (simple.text (codes "ab")) simple.none))
+    ≡ 1 + 3 + 1 + (1 + 2)
+of_simple = refl
 
 -- ---- what is written
 

@@ -7,14 +7,29 @@ pub mod RoomLemmas
 pub mod BlockBounds
 pub mod MarginLemmas
 pub mod BoundsLemmas
-mod Examples
 pub mod PartCosts
 pub mod ContextRooms
 pub mod NodeCosts
+pub mod TermCosts
 pub mod TextCosts
 pub mod GridCosts
-pub mod ElementCosts
 pub mod TableCosts
-pub mod TreeCosts
-pub mod TreeMargins
+pub mod ElementCosts
+pub mod FlowCosts
+pub mod PartMargins
+pub mod FlowMargins
+pub mod ShownSizes
+pub mod PreparedSizes
+pub mod SizeParts
 pub mod PageLemmas
+mod Examples
+pub mod Debts
+pub mod DebtParts
+pub mod Leaves
+pub mod DebtNodes
+pub mod DebtTables
+pub mod DebtElements
+pub mod DebtFlows
+pub mod DebtLimits
+pub mod DebtShown
+pub mod LanguageLemmas

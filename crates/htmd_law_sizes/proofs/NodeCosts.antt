@@ -1,45 +1,44 @@
 -- How much nodes that follow each other give, and the lists that they make.
 use Rattle.std.proofs.Common.{◌≡◌, refl, ℕ, ◌+◌, ◌*◌, ◌≤◌, Bool, true, false, List, [], ◌∷◌, ◌++◌, length, map, arith}
 use Rattle.std.specs.Prelude.{fold, if◌then◌else◌, Option, Some, None, ℤ}
-use Rattle.htmd_document_of_tree.specs.Contexts.{Context, is_lined, deeper, apart}
-use Rattle.htmd_document.specs.Documents.{Blocks}
 use Rattle.htmd_document.specs.Documents as documents
-use Rattle.htmd_document_of_tree.specs.Flows.{Node, is_item, before_items, behind_item, item_of, items_of, each_whole}
-use Rattle.htmd_document_of_tree.specs.Flows.{list_parts, goes_on, items_in_a_row, flow_all, flow_after}
-use Rattle.htmd_document_of_tree.specs.Lists.{ListItem, are_filled, list_of, start_of, numbered, new_number, Groups}
-use Rattle.htmd_document_of_tree.specs.Lists.{groups_at, with_number, with_item, lists_of, lists_if_filled}
-use Rattle.htmd_document_of_tree.specs.Parts.{Part, edge}
-use Rattle.htmd_law_sizes.specs.DocumentSizes.{size_of, size_of_items}
-use Rattle.htmd_law_sizes.specs.TreeSizes.{size_of_tree}
+use Rattle.htmd_flow.specs.Contexts.{Context, is_lined, deeper, apart}
+use Rattle.htmd_flow.specs.Flows.{Node, is_item, before_items, behind_item, item_of, items_of, each_whole}
+use Rattle.htmd_flow.specs.Flows.{list_parts, goes_on, items_in_a_row, flow_all, flow_after}
+use Rattle.htmd_flow.specs.Lists.{ListItem, are_filled, list_of, start_of, numbered, new_number, Groups}
+use Rattle.htmd_flow.specs.Lists.{groups_at, with_number, with_item, lists_of, lists_if_filled}
+use Rattle.htmd_flow.specs.Parts.{Part, edge}
+use Rattle.htmd_law_sizes.specs.DocumentSizes.{lean, lean_items}
+use Rattle.htmd_law_sizes.specs.SimpleSizes.{size_of_simple}
 use Rattle.htmd_law_sizes.proofs.ContextRooms.{Within}
 use Rattle.htmd_law_sizes.proofs.PartCosts.{costs, costs_append, blocks_cost}
 
--- p for each unit of a tree's size, in contexts whose links have at most r bytes
-pub record Fit (p r : ℕ) (n : Node) : Type 0 where
-  pub outer : (c : Context) → Within r c.around → costs (n.whole c) + 4 ≤ p * size_of_tree n.tree
-  pub inner : (c : Context) → Within r c.around → costs (n.content c) + p ≤ p * size_of_tree n.tree
+-- 400 for each unit of a node's size
+pub record Fit (n : Node) : Type 0 where
+  pub outer : (c : Context) → Within c.around → costs (n.whole c) + 4 ≤ 400 * size_of_simple n.tree
+  pub inner : (c : Context) → Within c.around → costs (n.content c) + 400 ≤ 400 * size_of_simple n.tree
 
-abbrev pub AllFit : ℕ → ℕ → List Node → Type 0
-AllFit p r [] = Unit {0}
-AllFit p r (n ∷ nodes) = Fit p r n × AllFit p r nodes
+abbrev pub AllFit : List Node → Type 0
+AllFit [] = Unit {0}
+AllFit (n ∷ nodes) = Fit n × AllFit nodes
 
-abbrev pub worth : ℕ → List Node → ℕ
-worth p [] = 0
-worth p (n ∷ nodes) = p * size_of_tree n.tree + worth p nodes
+abbrev pub worth : List Node → ℕ
+worth [] = 0
+worth (n ∷ nodes) = 400 * size_of_simple n.tree + worth nodes
 
 -- ---- lists
 
 -- four more for each item
 abbrev pub items_size : List ListItem → ℕ
 items_size [] = 0
-items_size (i ∷ items) = 4 + size_of i.blocks + items_size items
+items_size (i ∷ items) = 4 + lean i.blocks + items_size items
 
 items_append : (a b : List ListItem) → items_size (a ++ b) ≡ items_size a + items_size b
 items_append [] b = omega arith
 items_append (i ∷ a) b = omega (arith, items_append a b)
 
 blocks_size : (items : List ListItem)
-    → size_of_items (documents.items_of (map (λ (i : ListItem). i.blocks) items)) + 3 * length items
+    → lean_items (documents.items_of (map (λ (i : ListItem). i.blocks) items)) + 3 * length items
     ≡ items_size items
 blocks_size [] = refl
 blocks_size (i ∷ items) = omega (arith, blocks_size items)
@@ -52,22 +51,22 @@ list_cost : (start : Option ℕ) (items : List ListItem) → are_filled items �
     → costs (list_of start items ∷ []) ≤ items_size items
 list_cost start items h = omega (arith, blocks_size items, some items h)
 
-numbered_cost : (start : ℤ) (items : List ListItem) → costs (numbered start items) ≤ items_size items
-numbered_cost start items = go (are_filled items) refl
+numbered_cost : (k : ℕ) (start : ℤ) (items : List ListItem) → costs (numbered k start items) ≤ items_size items
+numbered_cost k start items = go (are_filled items) refl
   where
     go : (t : Bool) → are_filled items ≡ t
-        → costs (if t then list_of (start_of start (length items)) items ∷ [] else []) ≤ items_size items
-    go true e = list_cost (start_of start (length items)) items e
+        → costs (if t then list_of (start_of k start (length items)) items ∷ [] else []) ≤ items_size items
+    go true e = list_cost (start_of k start (length items)) items e
     go false e = omega arith
 
 abbrev groups_cost : Groups → ℕ
 groups_cost g = costs g.done + items_size g.group
 
 number_cost : (g : Groups) (i : ListItem) (v : Option ℤ)
-    → groups_cost (with_number g i v) ≤ groups_cost g + (4 + size_of i.blocks)
+    → groups_cost (with_number g i v) ≤ groups_cost g + (4 + lean i.blocks)
 number_cost g i None = omega (arith, items_append g.group (i ∷ []))
 number_cost g i (Some v) =
-    omega (arith, costs_append g.done (numbered g.start g.group), numbered_cost g.start g.group)
+    omega (arith, costs_append g.done (numbered g.nested g.start g.group), numbered_cost g.nested g.start g.group)
 
 groups_le : (items : List ListItem) (g : Groups)
     → groups_cost (fold with_item g items) ≤ groups_cost g + items_size items
@@ -75,111 +74,110 @@ groups_le [] g = omega arith
 groups_le (i ∷ items) g =
     omega (arith, groups_le items (with_item g i), number_cost g i (new_number g.next i.value))
 
-lists_cost : (start : Option ℤ) (items : List ListItem) → are_filled items ≡ true
-    → costs (lists_of start items) ≤ items_size items
-lists_cost None items h = list_cost None items h
-lists_cost (Some start) items h =
-    let g = fold with_item (groups_at start) items in
+lists_cost : (k : ℕ) (start : Option ℤ) (items : List ListItem) → are_filled items ≡ true
+    → costs (lists_of k start items) ≤ items_size items
+lists_cost k None items h = list_cost None items h
+lists_cost k (Some start) items h =
+    let g = fold with_item (groups_at k start) items in
     omega (
       arith,
-      costs_append g.done (numbered g.start g.group),
-      numbered_cost g.start g.group,
-      groups_le items (groups_at start),
+      costs_append g.done (numbered g.nested g.start g.group),
+      numbered_cost g.nested g.start g.group,
+      groups_le items (groups_at k start),
     )
 
-filled_cost : (start : Option ℤ) (items : List ListItem) → costs (lists_if_filled start items) ≤ items_size items
-filled_cost start items = go (are_filled items) refl
+pub filled_cost : (k : ℕ) (start : Option ℤ) (items : List ListItem)
+    → costs (lists_if_filled k start items) ≤ items_size items
+filled_cost k start items = go (are_filled items) refl
   where
     go : (t : Bool) → are_filled items ≡ t
-        → costs (if t then lists_of start items else []) ≤ items_size items
-    go true e = lists_cost start items e
+        → costs (if t then lists_of k start items else []) ≤ items_size items
+    go true e = lists_cost k start items e
     go false e = omega arith
 
 -- ---- the items of a list
 
-behind_le : (p r : ℕ) (nodes : List Node) (c : Context) → 5 ≤ p → AllFit p r nodes → Within r c.around
-    → costs (behind_item nodes c) + items_size (items_of nodes c) ≤ worth p nodes
-behind_le p r [] c h f w = omega arith
-behind_le p r (n ∷ nodes) c h f w = go (is_item n) (behind_le p r nodes c h f.1 w)
+behind_le : (nodes : List Node) (c : Context) → AllFit nodes → Within c.around
+    → costs (behind_item nodes c) + items_size (items_of nodes c) ≤ worth nodes
+behind_le [] c f w = omega arith
+behind_le (n ∷ nodes) c f w = go (is_item n) (behind_le nodes c f.1 w)
   where
-    inner : costs (n.content c) + p ≤ p * size_of_tree n.tree
+    inner : costs (n.content c) + 400 ≤ 400 * size_of_simple n.tree
     inner = f.0.inner c w
 
-    outer : costs (n.whole c) + 4 ≤ p * size_of_tree n.tree
+    outer : costs (n.whole c) + 4 ≤ 400 * size_of_simple n.tree
     outer = f.0.outer c w
 
     parts : List Part
     parts = n.content c ++ behind_item nodes c
 
-    go : (t : Bool) → costs (behind_item nodes c) + items_size (items_of nodes c) ≤ worth p nodes
+    go : (t : Bool) → costs (behind_item nodes c) + items_size (items_of nodes c) ≤ worth nodes
         → costs (if t then [] else edge ∷ n.whole c ++ behind_item nodes c)
         + items_size (if t then item_of n parts ∷ items_of nodes c else items_of nodes c)
-        ≤ p * size_of_tree n.tree + worth p nodes
+        ≤ 400 * size_of_simple n.tree + worth nodes
     go true i =
-        omega (arith, i, inner, h, blocks_cost true parts, costs_append (n.content c) (behind_item nodes c))
+        omega (arith, i, inner, blocks_cost true parts, costs_append (n.content c) (behind_item nodes c))
     go false i = omega (arith, i, outer, costs_append (n.whole c) (behind_item nodes c))
 
 -- an item takes all that comes before the next one
-item_le : (p r : ℕ) (n : Node) (nodes : List Node) (c : Context) → 5 ≤ p → Fit p r n → AllFit p r nodes
-    → Within r c.around
-    → items_size (item_of n (n.content c ++ behind_item nodes c) ∷ items_of nodes c) + p
-    ≤ 5 + (p * size_of_tree n.tree + worth p nodes)
-item_le p r n nodes c h f g w =
+item_le : (n : Node) (nodes : List Node) (c : Context) → Fit n → AllFit nodes → Within c.around
+    → items_size (item_of n (n.content c ++ behind_item nodes c) ∷ items_of nodes c) + 400
+    ≤ 5 + (400 * size_of_simple n.tree + worth nodes)
+item_le n nodes c f g w =
     omega (
       arith,
-      behind_le p r nodes c h g w,
+      behind_le nodes c g w,
       f.inner c w,
       blocks_cost true (n.content c ++ behind_item nodes c),
       costs_append (n.content c) (behind_item nodes c),
     )
 
-before_le : (p r : ℕ) (nodes : List Node) (c d : Context) → 5 ≤ p → AllFit p r nodes → Within r c.around
-    → Within r d.around
-    → costs (before_items nodes c) + items_size (items_of nodes d) ≤ worth p nodes
-before_le p r [] c d h f w v = omega arith
-before_le p r (n ∷ nodes) c d h f w v = go (is_item n) (before_le p r nodes c d h f.1 w v)
+before_le : (nodes : List Node) (c d : Context) → AllFit nodes → Within c.around → Within d.around
+    → costs (before_items nodes c) + items_size (items_of nodes d) ≤ worth nodes
+before_le [] c d f w v = omega arith
+before_le (n ∷ nodes) c d f w v = go (is_item n) (before_le nodes c d f.1 w v)
   where
-    outer : costs (n.whole c) + 4 ≤ p * size_of_tree n.tree
+    outer : costs (n.whole c) + 4 ≤ 400 * size_of_simple n.tree
     outer = f.0.outer c w
 
-    first : items_size (item_of n (n.content d ++ behind_item nodes d) ∷ items_of nodes d) + p
-        ≤ 5 + (p * size_of_tree n.tree + worth p nodes)
-    first = item_le p r n nodes d h f.0 f.1 v
+    first : items_size (item_of n (n.content d ++ behind_item nodes d) ∷ items_of nodes d) + 400
+        ≤ 5 + (400 * size_of_simple n.tree + worth nodes)
+    first = item_le n nodes d f.0 f.1 v
 
-    go : (t : Bool) → costs (before_items nodes c) + items_size (items_of nodes d) ≤ worth p nodes
+    go : (t : Bool) → costs (before_items nodes c) + items_size (items_of nodes d) ≤ worth nodes
         → costs (if t then [] else n.whole c ++ before_items nodes c)
         + items_size
         (if t then item_of n (n.content d ++ behind_item nodes d) ∷ items_of nodes d else items_of nodes d)
-        ≤ p * size_of_tree n.tree + worth p nodes
-    go true i = omega (arith, first, h)
+        ≤ 400 * size_of_simple n.tree + worth nodes
+    go true i = omega (arith, first)
     go false i = omega (arith, i, outer, costs_append (n.whole c) (before_items nodes c))
 
-pub each_le : (p r : ℕ) (nodes : List Node) (c : Context) → AllFit p r nodes → Within r c.around
-    → costs (each_whole nodes c) ≤ worth p nodes
-each_le p r [] c f w = omega arith
-each_le p r (n ∷ nodes) c f w =
-    omega (arith, each_le p r nodes c f.1 w, f.0.outer c w, costs_append (n.whole c) (each_whole nodes c))
+pub each_le : (nodes : List Node) (c : Context) → AllFit nodes → Within c.around
+    → costs (each_whole nodes c) ≤ worth nodes
+each_le [] c f w = omega arith
+each_le (n ∷ nodes) c f w =
+    omega (arith, each_le nodes c f.1 w, f.0.outer c w, costs_append (n.whole c) (each_whole nodes c))
 
-pub list_le : (p r : ℕ) (start : Option ℤ) (nodes : List Node) (c : Context) → 5 ≤ p → AllFit p r nodes
-    → Within r c.around → costs (list_parts start nodes c) ≤ 3 + worth p nodes
-list_le p r start nodes c h f w = go (is_lined c)
+pub list_le : (start : Option ℤ) (nodes : List Node) (c : Context) → AllFit nodes → Within c.around
+    → costs (list_parts start nodes c) ≤ 3 + worth nodes
+list_le start nodes c f w = go (is_lined c)
   where
     go : (t : Bool)
         → costs
         (if t then apart (each_whole nodes c)
         else (edge ∷ before_items nodes c)
-        ++ edge ∷ lists_if_filled start (items_of nodes (deeper c)) ++ edge ∷ [])
-        ≤ 3 + worth p nodes
-    go true = simp costs_append (omega (arith, each_le p r nodes c f w))
+        ++ edge ∷ lists_if_filled c.nested start (items_of nodes (deeper c)) ++ edge ∷ [])
+        ≤ 3 + worth nodes
+    go true = simp costs_append (omega (arith, each_le nodes c f w))
     go false =
         simp costs_append
-        (omega (arith, before_le p r nodes c (deeper c) h f w w, filled_cost start (items_of nodes (deeper c))))
+        (omega (arith, before_le nodes c (deeper c) f w w, filled_cost c.nested start (items_of nodes (deeper c))))
 
 -- items that stand in no list
-loose_le : (p r : ℕ) (n : Node) (nodes : List Node) (c : Context) → 8 ≤ p → is_item n ≡ true → Fit p r n
-    → AllFit p r nodes
-    → Within r c.around → costs (list_parts None (n ∷ nodes) c) ≤ p * size_of_tree n.tree + worth p nodes
-loose_le p r n nodes c h e f g w = go (is_lined c) (is_item n) e
+loose_le : (n : Node) (nodes : List Node) (c : Context) → is_item n ≡ true → Fit n → AllFit nodes
+    → Within c.around
+    → costs (list_parts None (n ∷ nodes) c) ≤ 400 * size_of_simple n.tree + worth nodes
+loose_le n nodes c e f g w = go (is_lined c) (is_item n) e
   where
     d : Context
     d = deeper c
@@ -188,69 +186,68 @@ loose_le p r n nodes c h e f g w = go (is_lined c) (is_item n) e
         → costs
         (if t then apart (each_whole (n ∷ nodes) c)
         else (edge ∷ (if b then [] else n.whole c ++ before_items nodes c))
-        ++ edge ∷ lists_if_filled None
+        ++ edge ∷ lists_if_filled c.nested None
         (if b then item_of n (n.content d ++ behind_item nodes d) ∷ items_of nodes d else items_of nodes d)
         ++ edge ∷ [])
-        ≤ p * size_of_tree n.tree + worth p nodes
-    go true b i = simp costs_append (omega (arith, f.outer c w, each_le p r nodes c g w))
+        ≤ 400 * size_of_simple n.tree + worth nodes
+    go true b i = simp costs_append (omega (arith, f.outer c w, each_le nodes c g w))
     go false true i =
         simp costs_append
         (omega (
           arith,
-          item_le p r n nodes d (omega (arith, h)) f g w,
-          filled_cost None (item_of n (n.content d ++ behind_item nodes d) ∷ items_of nodes d),
-          h,
+          item_le n nodes d f g w,
+          filled_cost c.nested None (item_of n (n.content d ++ behind_item nodes d) ∷ items_of nodes d),
         ))
     go false false i = absurd (cc)
 
 -- ---- what follows each other
 
-row_fit : (p r : ℕ) (nodes : List Node) → AllFit p r nodes → AllFit p r (items_in_a_row nodes)
-row_fit p r [] f = tt
-row_fit p r (n ∷ nodes) f = go (goes_on n) (row_fit p r nodes f.1)
+row_fit : (nodes : List Node) → AllFit nodes → AllFit (items_in_a_row nodes)
+row_fit [] f = tt
+row_fit (n ∷ nodes) f = go (goes_on n) (row_fit nodes f.1)
   where
-    go : (t : Bool) → AllFit p r (items_in_a_row nodes) → AllFit p r (if t then n ∷ items_in_a_row nodes else [])
+    go : (t : Bool) → AllFit (items_in_a_row nodes) → AllFit (if t then n ∷ items_in_a_row nodes else [])
     go true i = (f.0, i)
     go false i = tt
 
-flow_step : (p r : ℕ) (n : Node) (nodes : List Node) (c : Context) (t : Bool) → is_item n ≡ t → 8 ≤ p
-    → AllFit p r (n ∷ nodes) → Within r c.around
-    → costs (flow_all nodes c) ≤ worth p nodes
-    → worth p (items_in_a_row nodes) + costs (flow_after nodes c) ≤ worth p nodes
+flow_step : (n : Node) (nodes : List Node) (c : Context) (t : Bool) → is_item n ≡ t → AllFit (n ∷ nodes)
+    → Within c.around
+    → costs (flow_all nodes c) ≤ worth nodes
+    → worth (items_in_a_row nodes) + costs (flow_after nodes c) ≤ worth nodes
     → costs
     (if t
     then list_parts None (n ∷ items_in_a_row nodes) c ++ flow_after nodes c
     else n.whole c ++ flow_all nodes c)
-    ≤ p * size_of_tree n.tree + worth p nodes
-flow_step p r n nodes c true e h f w i j =
+    ≤ 400 * size_of_simple n.tree + worth nodes
+flow_step n nodes c true e f w i j =
     omega (
       arith,
-      loose_le p r n (items_in_a_row nodes) c h e f.0 (row_fit p r nodes f.1) w,
+      loose_le n (items_in_a_row nodes) c e f.0 (row_fit nodes f.1) w,
       costs_append (list_parts None (n ∷ items_in_a_row nodes) c) (flow_after nodes c),
       j,
     )
-flow_step p r n nodes c false e h f w i j =
+flow_step n nodes c false e f w i j =
     omega (arith, f.0.outer c w, costs_append (n.whole c) (flow_all nodes c), i)
 
-after_step : (p r : ℕ) (n : Node) (nodes : List Node) (c : Context) (t : Bool)
-    → costs (n.whole c) + 4 ≤ p * size_of_tree n.tree
-    → costs (flow_all nodes c) ≤ worth p nodes
-    → worth p (items_in_a_row nodes) + costs (flow_after nodes c) ≤ worth p nodes
-    → worth p (if t then n ∷ items_in_a_row nodes else [])
+after_step : (n : Node) (nodes : List Node) (c : Context) (t : Bool)
+    → costs (n.whole c) + 4 ≤ 400 * size_of_simple n.tree
+    → costs (flow_all nodes c) ≤ worth nodes
+    → worth (items_in_a_row nodes) + costs (flow_after nodes c) ≤ worth nodes
+    → worth (if t then n ∷ items_in_a_row nodes else [])
     + costs (if t then flow_after nodes c else n.whole c ++ flow_all nodes c)
-    ≤ p * size_of_tree n.tree + worth p nodes
-after_step p r n nodes c true o i j = omega (arith, j)
-after_step p r n nodes c false o i j = omega (arith, o, i, costs_append (n.whole c) (flow_all nodes c))
+    ≤ 400 * size_of_simple n.tree + worth nodes
+after_step n nodes c true o i j = omega (arith, j)
+after_step n nodes c false o i j = omega (arith, o, i, costs_append (n.whole c) (flow_all nodes c))
 
 mutual
-  pub flow_le : (p r : ℕ) (nodes : List Node) (c : Context) → 8 ≤ p → AllFit p r nodes → Within r c.around
-      → costs (flow_all nodes c) ≤ worth p nodes
-  flow_le p r [] c h f w = omega arith
-  flow_le p r (n ∷ nodes) c h f w =
-      flow_step p r n nodes c (is_item n) refl h f w (flow_le p r nodes c h f.1 w) (after_le p r nodes c h f.1 w)
+  pub flow_le : (nodes : List Node) (c : Context) → AllFit nodes → Within c.around
+      → costs (flow_all nodes c) ≤ worth nodes
+  flow_le [] c f w = omega arith
+  flow_le (n ∷ nodes) c f w =
+      flow_step n nodes c (is_item n) refl f w (flow_le nodes c f.1 w) (after_le nodes c f.1 w)
 
-  after_le : (p r : ℕ) (nodes : List Node) (c : Context) → 8 ≤ p → AllFit p r nodes → Within r c.around
-      → worth p (items_in_a_row nodes) + costs (flow_after nodes c) ≤ worth p nodes
-  after_le p r [] c h f w = omega arith
-  after_le p r (n ∷ nodes) c h f w =
-      after_step p r n nodes c (goes_on n) (f.0.outer c w) (flow_le p r nodes c h f.1 w) (after_le p r nodes c h f.1 w)
+  after_le : (nodes : List Node) (c : Context) → AllFit nodes → Within c.around
+      → worth (items_in_a_row nodes) + costs (flow_after nodes c) ≤ worth nodes
+  after_le [] c f w = omega arith
+  after_le (n ∷ nodes) c f w =
+      after_step n nodes c (goes_on n) (f.0.outer c w) (flow_le nodes c f.1 w) (after_le nodes c f.1 w)

@@ -59,6 +59,93 @@ abbrev mutual
   size_of_items no_items = 0
   size_of_items (item first rest) = suc (size_of first) + size_of_items rest
 
+-- ---- what is repeated
+
+-- The bytes that a page can say once and a document many times: of the addresses and titles of links, and of the
+-- languages of code.
+abbrev mutual
+  pub repeated_inlines : Inlines → ℕ
+  repeated_inlines no_inlines = 0
+  repeated_inlines (inline x rest) = repeated_inline x + repeated_inlines rest
+
+  pub repeated_inline : Inline → ℕ
+  repeated_inline (text s) = 0
+  repeated_inline (code s) = 0
+  repeated_inline (formatted format content) = repeated_inlines content
+  repeated_inline (link address title content) = length address + size_of_option title + repeated_inlines content
+  repeated_inline (image address title description) = 0
+  repeated_inline (anchor id) = 0
+  repeated_inline line_break = 0
+  repeated_inline (task is_checked) = 0
+
+abbrev pub repeated_cells : List Inlines → ℕ
+repeated_cells [] = 0
+repeated_cells (content ∷ cells) = repeated_inlines content + repeated_cells cells
+
+abbrev pub repeated_rows : List (List Inlines) → ℕ
+repeated_rows [] = 0
+repeated_rows (cells ∷ rows) = repeated_cells cells + repeated_rows rows
+
+abbrev mutual
+  pub repeated : Blocks → ℕ
+  repeated no_blocks = 0
+  repeated (block first rest) = repeated_block first + repeated rest
+
+  pub repeated_block : Block → ℕ
+  repeated_block (paragraph content) = repeated_inlines content
+  repeated_block (heading level content) = repeated_inlines content
+  repeated_block (code_block language s) = size_of_option language
+  repeated_block (quote content) = repeated content
+  repeated_block thematic_break = 0
+  repeated_block (list start is_tight items) = repeated_items items
+  repeated_block (table alignments header rows) = repeated_rows (header ∷ rows)
+
+  pub repeated_items : Items → ℕ
+  repeated_items no_items = 0
+  repeated_items (item first rest) = repeated first + repeated_items rest
+
+-- The size without that.
+abbrev mutual
+  pub lean_inlines : Inlines → ℕ
+  lean_inlines no_inlines = 0
+  lean_inlines (inline x rest) = lean_inline x + lean_inlines rest
+
+  pub lean_inline : Inline → ℕ
+  lean_inline (text s) = suc (length s)
+  lean_inline (code s) = suc (length s)
+  lean_inline (formatted format content) = suc (lean_inlines content)
+  lean_inline (link address title content) = suc (lean_inlines content)
+  lean_inline (image address title description) = suc (length address + size_of_option title + length description)
+  lean_inline (anchor id) = suc (length id)
+  lean_inline line_break = 1
+  lean_inline (task is_checked) = 1
+
+abbrev pub lean_cells : List Inlines → ℕ
+lean_cells [] = 0
+lean_cells (content ∷ cells) = suc (lean_inlines content) + lean_cells cells
+
+abbrev pub lean_rows : List (List Inlines) → ℕ
+lean_rows [] = 0
+lean_rows (cells ∷ rows) = suc (lean_cells cells) + lean_rows rows
+
+abbrev mutual
+  pub lean : Blocks → ℕ
+  lean no_blocks = 0
+  lean (block first rest) = lean_block first + lean rest
+
+  pub lean_block : Block → ℕ
+  lean_block (paragraph content) = suc (lean_inlines content)
+  lean_block (heading level content) = suc (level + lean_inlines content)
+  lean_block (code_block language s) = suc (length s)
+  lean_block (quote content) = suc (lean content)
+  lean_block thematic_break = 1
+  lean_block (list start is_tight items) = suc (lean_items items)
+  lean_block (table alignments header rows) = suc (lean_rows (header ∷ rows))
+
+  pub lean_items : Items → ℕ
+  lean_items no_items = 0
+  lean_items (item first rest) = suc (lean first) + lean_items rest
+
 -- ---- margin
 
 -- an item's marker, the first at 0, with the four spaces that it has at most

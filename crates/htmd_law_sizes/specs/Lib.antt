@@ -2,3 +2,4 @@
 pub mod DocumentSizes
 pub mod TreeSizes
 pub mod SizeLaws
+pub mod SimpleSizes

@@ -14,7 +14,7 @@ use Rattle.htmd_document.specs.Documents.{thematic_break, list, table, no_blocks
 use Rattle.htmd_document.specs.DocumentLimits.{most_nested}
 use Rattle.htmd_document.specs.TightItems.{is_filled}
 use Rattle.htmd_document.specs.NormalInlines.{has_none, is_normal_line, is_normal_item, are_anchors}
-use Rattle.htmd_document.specs.NormalInlines.{anchors_stand_well, anchors_are_first}
+use Rattle.htmd_document.specs.NormalInlines.{anchors_stand_well}
 use Rattle.htmd_document.specs.NormalDocuments as form
 use Rattle.htmd_document.specs.NormalDocuments.{is_normal_paragraph, is_level, is_normal_heading, is_language_byte}
 use Rattle.htmd_document.specs.NormalDocuments.{is_language, has_language, is_code_byte, is_normal_list}
@@ -49,8 +49,7 @@ pub heading_parts : (level : ℕ) (xs : Inlines) → is_normal_heading level xs 
     → (is_level level ≡ true) × (has_none xs ≡ false) × (is_normal_line xs ≡ true)
 heading_parts level xs h =
     let x = is_level level && not (has_none xs) in
-    let v = and_parts (x && is_normal_line xs && anchors_stand_well xs) (anchors_are_first xs) h in
-    let w = and_parts (x && is_normal_line xs) (anchors_stand_well xs) v.0 in
+    let w = and_parts (x && is_normal_line xs) (anchors_stand_well xs) h in
     let p = and_parts x (is_normal_line xs) w.0 in
     let q = and_parts (is_level level) (not (has_none xs)) p.0 in
     (q.0, not-true (has_none xs) q.1, p.1)

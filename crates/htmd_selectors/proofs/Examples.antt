@@ -1,20 +1,30 @@
 -- Selectors that are read, elements that they name, and parts of a small page.
-use Rattle.std.proofs.Common.{◌≡◌, ℕ, true, false, Bool, List, [], ◌∷◌, Ok, Err, refl}
+use Rattle.std.proofs.Common.{◌≡◌, ℕ, true, false, Bool, List, [], ◌∷◌, Some, None, Ok, Err, refl}
 use Rattle.std.specs.Prelude.{codes}
-use Rattle.htmd_values.specs.ValueTrees.{ValueForest, text, element, none, more}
+use Rattle.htmd_values.specs.ValueTrees.{ValueForest, text, comment, element, none, more}
 use Rattle.htmd_selectors.specs.declared.selectors.Operator.{Operator}
-use Rattle.htmd_selectors.specs.declared.selectors.Operator.TheVariants.{Equals, Includes, Dash, Prefix, Suffix, Substring}
+use Rattle.htmd_selectors.specs.declared.selectors.Operator.TheVariants.{Equals, Includes, Dash, Prefix, Suffix}
+use Rattle.htmd_selectors.specs.declared.selectors.Operator.TheVariants.{Substring}
 use Rattle.htmd_selectors.specs.declared.selectors.Relation.{Relation}
-use Rattle.htmd_selectors.specs.declared.selectors.Relation.TheVariants.{Start, Same, Child, Below}
+use Rattle.htmd_selectors.specs.declared.selectors.Relation.TheVariants.{Start, Same, Child, Below, Next, After}
 use Rattle.htmd_selectors.specs.declared.selectors.SelectorError.TheVariants.{NoSelector, NoName, Unclosed, Unsupported}
+use Rattle.htmd_selectors.specs.declared.selectors.Side.TheVariants.{First, Last}
+use Rattle.htmd_selectors.specs.declared.series.Series.{Series}
 use Rattle.htmd_selectors.specs.SelectorSteps.{Condition, is_any, is_type, has_class, has_id, has_attribute}
-use Rattle.htmd_selectors.specs.SelectorSteps.{has_value, asks, among, Step}
+use Rattle.htmd_selectors.specs.SelectorSteps.{has_value, is_first, is_last, is_only, is_empty, is_root, asks, among}
+use Rattle.htmd_selectors.specs.SelectorSteps.{is_nth, Step}
+use Rattle.htmd_selectors.specs.Series.{has}
+use Rattle.htmd_selectors.specs.SeriesReading.{series_of}
 use Rattle.htmd_selectors.specs.Reading.{read, escaped_character, steps_of_text}
-use Rattle.htmd_selectors.specs.Matching.{Element, compares, meets, passes, is_named}
+use Rattle.htmd_selectors.specs.Matching.{Element, Place, Level, compares, meets, passes, is_named}
 use Rattle.htmd_selectors.specs.SelectedParts.{without, outermost}
 
 abbrev step : Relation → Condition → Step
 step relation condition = record { relation = relation; test = asks condition }
+
+abbrev series : ℕ → Bool → ℕ → Bool → Series
+series count falls offset is_below =
+    record { step = count; falls = falls; offset = offset; is_below = is_below }
 
 -- ---- selectors that are read
 
@@ -92,16 +102,110 @@ reads-combinator_in_group : steps_of_text (codes ":is(a b)") ≡ Err (Unsupporte
 unfolding read
 reads-combinator_in_group = refl
 
+reads-siblings : steps_of_text (codes "a+b ~ c") ≡ Ok (step Start (is_type (codes "a"))
+    ∷ step Next (is_type (codes "b")) ∷ step After (is_type (codes "c")) ∷ [])
+unfolding read
+reads-siblings = refl
+
+reads-double_sibling : steps_of_text (codes "a+~b") ≡ Err (NoSelector 2)
+unfolding read
+reads-double_sibling = refl
+
+reads-places : steps_of_text (codes "a:First-Child:only-child, :root") ≡ Ok (step Start (is_type (codes "a"))
+    ∷ step Same is_first ∷ step Same is_only ∷ step Start is_root ∷ [])
+unfolding read
+reads-places = refl
+
+reads-places_in_group : steps_of_text (codes ":not(a:last-child, :empty)") ≡ Ok ((record {
+  relation = Start;
+  test = among true ((is_type (codes "a") ∷ is_last ∷ []) ∷ (is_empty ∷ []) ∷ []);
+}) ∷ [])
+unfolding read
+reads-places_in_group = refl
+
+-- `:nth-child(2n + 1)`, which `odd` stands for, and `:nth-last-child(-n+3)`
+reads-series : steps_of_text (codes ":nth-child( 2N + 1 ):Nth-last-child(-n+3)") ≡ Ok (step Start (is_nth First
+    (series 2 false 1 false)) ∷ step Same (is_nth Last (series 1 true 3 false)) ∷ [])
+unfolding read
+reads-series = refl
+
+reads-no_series : steps_of_text (codes "a:nth-child(2 n)") ≡ Err (Unsupported 12)
+unfolding read
+reads-no_series = refl
+
+reads-series_of : steps_of_text (codes ":nth-child(1 of a)") ≡ Err (Unsupported 11)
+unfolding read
+reads-series_of = refl
+
+reads-open_series : steps_of_text (codes ":nth-child(1") ≡ Err (Unclosed 12)
+unfolding read
+reads-open_series = refl
+
 reads-colon : steps_of_text (codes "a:hover") ≡ Err (Unsupported 1)
 unfolding read
 reads-colon = refl
 
+-- ---- places in a row
+
+names-odd : series_of (codes "\tODD ") ≡ series_of (codes "2n+1")
+names-odd = refl
+
+names-even : series_of (codes "even") ≡ series_of (codes "2n")
+names-even = refl
+
+names-letter : series_of (codes "-n- 2") ≡ Some (series 1 true 2 true)
+names-letter = refl
+
+names-number : series_of (codes "-3") ≡ Some (series 0 false 3 true)
+names-number = refl
+
+names-great : series_of (codes "99999999999") ≡ Some (series 0 false 2147483647 false)
+names-great = refl
+
+names-space : series_of (codes "+ 2n") ≡ None
+names-space = refl
+
+names-two_signs : series_of (codes "2n+-1") ≡ None
+names-two_signs = refl
+
+names-no_number : series_of (codes "n+") ≡ None
+names-no_number = refl
+
+-- `2n+1` names 1, 3, 5 and so on
+has-odd : has (series 2 false 1 false) 5 ≡ true
+has-odd = refl
+
+has-not_even : has (series 2 false 1 false) 4 ≡ false
+has-not_even = refl
+
+-- `3n-1` names 2, 5, 8 and so on
+has-below : has (series 3 false 1 true) 5 ≡ true
+has-below = refl
+
+-- `-n+3` names 3, 2 and 1
+has-falling : has (series 1 true 3 false) 1 ≡ true
+has-falling = refl
+
+has-beyond : has (series 1 true 3 false) 4 ≡ false
+has-beyond = refl
+
+has-one : has (series 0 false 3 false) 3 ≡ true
+has-one = refl
+
+has-none : has (series 1 true 1 true) 1 ≡ false
+has-none = refl
+
 -- ---- elements that are named
+
+-- an element with text, so many elements before it and so many after it
+abbrev place : ℕ → ℕ → Place
+place before after = record { before = before; after = after; holds_nothing = false; has_no_parent = false }
 
 abbrev paragraph : Element
 paragraph = record {
   name = codes "p";
   attributes = record { name = codes "class"; value = codes " a\tbc" } ∷ [];
+  place = place 0 1;
 }
 
 meets-type : meets paragraph (is_type (codes "P")) ≡ true
@@ -118,6 +222,21 @@ meets-class_part = refl
 
 meets-attribute : meets paragraph (has_attribute (codes "CLASS")) ≡ true
 meets-attribute = refl
+
+meets-first : meets paragraph is_first ≡ true
+meets-first = refl
+
+meets-last : meets paragraph is_last ≡ false
+meets-last = refl
+
+meets-only : meets paragraph is_only ≡ false
+meets-only = refl
+
+meets-nth : meets paragraph (is_nth First (series 0 false 1 false)) ≡ true
+meets-nth = refl
+
+meets-nth_last : meets paragraph (is_nth Last (series 0 false 1 false)) ≡ false
+meets-nth_last = refl
 
 -- ---- values
 
@@ -158,17 +277,29 @@ passes-is : passes paragraph (among false ((is_type (codes "div") ∷ []) ∷ (i
 passes-is = refl
 
 abbrev plain : List ℕ → Element
-plain name = record { name = name; attributes = [] }
+plain name = record { name = name; attributes = []; place = place 0 0 }
 
--- `main > p` and `main p`, of a paragraph in a section of `main`
+abbrev level : List ℕ → Level
+level name = record { here = plain name; earlier = [] }
+
 abbrev relations : Relation → List Step
 relations relation = step Start (is_type (codes "main")) ∷ step relation (is_type (codes "p")) ∷ []
 
-named-child : is_named (relations Child) paragraph (plain (codes "section") ∷ plain (codes "main") ∷ []) ≡ false
+-- `main > p` and `main p`, of a paragraph in a section of `main`
+named-child : is_named (relations Child) paragraph [] (level (codes "section") ∷ level (codes "main") ∷ [])
+    ≡ false
 named-child = refl
 
-named-below : is_named (relations Below) paragraph (plain (codes "section") ∷ plain (codes "main") ∷ []) ≡ true
+named-below : is_named (relations Below) paragraph [] (level (codes "section") ∷ level (codes "main") ∷ [])
+    ≡ true
 named-below = refl
+
+-- `main + p` and `main ~ p`, of a paragraph after a section that is after `main`
+named-next : is_named (relations Next) paragraph (plain (codes "section") ∷ plain (codes "main") ∷ []) [] ≡ false
+named-next = refl
+
+named-after : is_named (relations After) paragraph (plain (codes "section") ∷ plain (codes "main") ∷ []) [] ≡ true
+named-after = refl
 
 -- ---- parts of `<main><p>a<p>b</p></p></main><p>c</p>`
 
@@ -187,13 +318,39 @@ page = more (element (codes "main") [] outer) last
 abbrev paragraphs : List Step
 paragraphs = step Start (is_type (codes "p")) ∷ []
 
-without-paragraphs : without paragraphs [] page ≡ more (element (codes "main") [] none) none
+without-paragraphs : without paragraphs [] [] page ≡ more (element (codes "main") [] none) none
 without-paragraphs = refl
 
-outermost-paragraphs : outermost paragraphs [] page
+outermost-paragraphs : outermost paragraphs [] [] page
     ≡ more (element (codes "p") [] (more (text (codes "a")) inner)) last
 outermost-paragraphs = refl
 
-outermost-inner : outermost (step Start (is_type (codes "p")) ∷ step Child (is_type (codes "p")) ∷ []) [] page
+outermost-inner : outermost (step Start (is_type (codes "p")) ∷ step Child (is_type (codes "p")) ∷ []) [] [] page
     ≡ inner
 outermost-inner = refl
+
+outermost-next : outermost (relations Next) [] [] page ≡ last
+outermost-next = refl
+
+-- `:root`: a page has one such element; of several each is one
+outermost-root : outermost (step Start is_root ∷ []) [] [] page ≡ page
+outermost-root = refl
+
+outermost-first : outermost (step Start (is_type (codes "p")) ∷ step Same is_first ∷ []) [] [] page ≡ outer
+outermost-first = refl
+
+outermost-last : outermost (step Start is_last ∷ []) [] [] page
+    ≡ more (element (codes "p") [] (more (text (codes "a")) inner)) last
+outermost-last = refl
+
+-- ---- `:empty` of `<p><!--a--></p><p> </p>`
+
+abbrev no_text : ValueForest
+no_text = more (element (codes "p") [] (more (comment (codes "a")) none)) none
+
+abbrev space : ValueForest
+space = more (element (codes "p") [] (more (text (codes " ")) none)) none
+
+outermost-empty : outermost (step Start is_empty ∷ []) [] []
+    (more (element (codes "p") [] (more (comment (codes "a")) none)) space) ≡ no_text
+outermost-empty = refl

@@ -10,35 +10,49 @@ use Rattle.htmd_nodes.specs.NumberedTrees.{tree_of, forest_of, value_forest}
 use Rattle.htmd_nodes.specs.NumberedTrees.{value_at}
 use Rattle.htmd_selectors.specs.declared.matching.StepState.{StepState}
 use Rattle.htmd_selectors.specs.declared.selectors.Step.{Step}
-use Rattle.htmd_selectors.specs.SelectorStates.{kept, outermost, no_state}
+use Rattle.htmd_selectors.specs.SelectorStates.{Known, first_known, kept, outermost, no_state}
+use Rattle.htmd_selectors.specs.SelectorSteps as spec_steps
 use Rattle.htmd_selectors.specs.Rewriting.{Rule, unchanged, rewritten, rewritten_page, children_of_document}
 use Rattle.htmd_selectors.specs.SelectedParts.{dropped, page_of, selected, one_document}
 use Rattle.htmd_selectors.specs.SelectedParts as spec
 use Rattle.htmd_selectors.specs.Views.{step_of, steps_of}
 use Rattle.htmd_selectors.proofs.SelectorStatesLemmas.{kept-page, without-none, outermost-page}
 
+-- no element is around the root
+root-outside : (items : List Item) (root : ℕ) → IsTree items → root ≡ 0 → eqb (depth_at items root) 0 ≡ true
+root-outside items root t first =
+    ap (λ n. eqb (depth_at items n) 0) first ∙ ap (λ (x : Item). eqb x.depth 0) t.first
+
+-- the trees below a node
+abbrev pub trees_below : List Item → ℕ → ValueForest
+trees_below items node = value_forest (forest_of (tree_of items) (children_of items node))
+
+-- what is known before the first of them
+abbrev pub known_before : List spec_steps.Step → List StepState → List Item → ℕ → Known
+known_before steps outside items node = first_known steps outside (eqb (depth_at items node) 0)
+
 -- a copy in a new tree is a page of what was kept
 copy-is : (items out new : List Item) (root under : ℕ) (kept-of : ValueForest → ValueForest)
     → out ≡ document_item ∷ [] → root ≡ 0 → under ≡ 0
-    → new ≡ out ++ forest_items (depth_at out under + 1) under (length out) (kept-of
-    (value_forest (forest_of (tree_of items) (children_of items root))))
-    → new ≡ document_items (kept-of (value_forest (forest_of (tree_of items) (children_of items 0))))
+    → new ≡ out ++ forest_items (depth_at out under + 1) under (length out) (kept-of (trees_below items root))
+    → new ≡ document_items (kept-of (trees_below items 0))
 copy-is items out new root under kept-of only first zeroth e =
-    e ∙ (ap (λ n. out ++ forest_items (depth_at out n + 1) n (length out) (kept-of
-    (value_forest (forest_of (tree_of items) (children_of items root))))) zeroth
-    ∙ (ap (λ (x : List Item). x ++ forest_items (depth_at x 0 + 1) 0 (length x) (kept-of
-    (value_forest (forest_of (tree_of items) (children_of items root))))) only
-    ∙ ap (λ n. document_items (kept-of (value_forest (forest_of (tree_of items) (children_of items n))))) first))
+    e ∙ (ap (λ n. out ++ forest_items (depth_at out n + 1) n (length out) (kept-of (trees_below items root))) zeroth
+    ∙ (ap (λ (x : List Item). x ++ forest_items (depth_at x 0 + 1) 0 (length x) (kept-of (trees_below items root)))
+    only
+    ∙ ap (λ n. document_items (kept-of (trees_below items n))) first))
 
 pub rewritten-is : (rule : Rule) (items out new : List Item) (root under : ℕ) → IsTree items
     → out ≡ document_item ∷ [] → root ≡ 0 → under ≡ 0
-    → new ≡ out ++ forest_items (depth_at out under + 1) under (length out) (kept rule [] []
-    (value_forest (forest_of (tree_of items) (children_of items root))))
+    → new ≡ out ++ forest_items (depth_at out under + 1) under (length out)
+    (kept rule [] (known_before [] [] items root) (trees_below items root))
     → new ≡ rewritten_page rule items
 rewritten-is rule items out new root under t only first zeroth e =
-    copy-is items out new root under (kept rule [] []) only first zeroth e
+    copy-is items out new root under (kept rule [] (known_before [] [] items root)) only first zeroth e
+    ∙ ap (λ b. document_items (kept rule [] (first_known [] [] b) (trees_below items 0)))
+    (root-outside items root t first)
     ∙ ap document_items (kept-page [] items t [] refl rule
-    ∙ ap (rewritten rule) (without-none [] (children_of_document (value_at items 0))))
+    ∙ ap (rewritten rule) (without-none [] [] (children_of_document (value_at items 0))))
 
 module _ (items : List Item) (steps : List Step) (outside : List StepState) (t : IsTree items)
     (is : outside ≡ replicate (length steps) no_state) (out new : List Item) (root : ℕ)
@@ -48,22 +62,29 @@ module _ (items : List Item) (steps : List Step) (outside : List StepState) (t :
 
   pub dropped-is : (under : ℕ) → under ≡ 0
       → new ≡ out ++ forest_items (depth_at out under + 1) under (length out)
-      (kept unchanged (steps_of steps) outside (value_forest (forest_of (tree_of items) (children_of items root))))
+      (kept unchanged (steps_of steps) (known_before (steps_of steps) outside items root) (trees_below items root))
       → new ≡ dropped (steps_of steps) items
   dropped-is under zeroth e =
-      copy-is items out new root under (kept unchanged (steps_of steps) outside) only first zeroth e
+      copy-is items out new root under
+      (kept unchanged (steps_of steps) (known_before (steps_of steps) outside items root)) only first zeroth e
+      ∙ ap (λ b. document_items
+      (kept unchanged (steps_of steps) (first_known (steps_of steps) outside b) (trees_below items 0)))
+      (root-outside items root t first)
       ∙ ap document_items (kept-page (steps_of steps) items t outside none_outside unchanged)
 
-  pub outermost-laid : new ≡ out ++ forest_items 1 0 (length out) (outermost (steps_of steps) outside
-      (value_forest (forest_of (tree_of items) (children_of items root))))
-      → new ≡ document_items (one_document (spec.outermost (steps_of steps) []
+  pub outermost-laid : new ≡ out ++ forest_items 1 0 (length out)
+      (outermost (steps_of steps) (known_before (steps_of steps) outside items root) (trees_below items root))
+      → new ≡ document_items (one_document (spec.outermost (steps_of steps) [] []
       (children_of_document (value_at items 0))))
   outermost-laid e =
-      e ∙ (ap (λ (x : List Item). x ++ forest_items 1 0 (length x) (outermost (steps_of steps) outside
-      (value_forest (forest_of (tree_of items) (children_of items root))))) only
-      ∙ (ap (λ n. document_items (outermost (steps_of steps) outside
-      (value_forest (forest_of (tree_of items) (children_of items n))))) first
-      ∙ ap document_items (outermost-page (steps_of steps) items t outside none_outside)))
+      e ∙ (ap (λ (x : List Item). x ++ forest_items 1 0 (length x)
+      (outermost (steps_of steps) (known_before (steps_of steps) outside items root) (trees_below items root))) only
+      ∙ (ap (λ n. document_items
+      (outermost (steps_of steps) (known_before (steps_of steps) outside items root) (trees_below items n))) first
+      ∙ (ap (λ b. document_items
+      (outermost (steps_of steps) (first_known (steps_of steps) outside b) (trees_below items 0)))
+      (root-outside items root t first)
+      ∙ ap document_items (outermost-page (steps_of steps) items t outside none_outside))))
 
 not_zero : (n : ℕ) → eqb (suc n) 0 ≡ true → ⊥
 not_zero n e = let none : suc n ≡ 0 = eqb-true (suc n) 0 e in absurd (omega arith)

@@ -1,6 +1,6 @@
 -- Parts of a page that are laid out one after the other.
-use Rattle.std.proofs.Common.{◌≡◌, ℕ, suc, ◌+◌, ◌<◌, List, [], ◌∷◌, ◌++◌, length, get_or, drop, refl, sym, ap, ◌∙◌}
-use Rattle.std.proofs.Common.{arith, add-zero, append_assoc, Vec, Global}
+use Rattle.std.proofs.Common.{◌≡◌, ℕ, suc, ◌+◌, ◌-◌, ◌<◌, List, [], ◌∷◌, ◌++◌, length, get_or, drop, refl, sym, ap, ◌∙◌}
+use Rattle.std.proofs.Common.{arith, add-zero, append_assoc, Vec, String, Global, true}
 use Rattle.std.proofs.lemmas.List.{drop_more, append-nil, length-append, length_push, get_or_push, get_or_append_left}
 use Rattle.htmd_lexical.specs.declared.attribute.Attribute.{Attribute}
 use Rattle.htmd_lexical.specs.AttributePairs.{AttributePair}
@@ -17,9 +17,9 @@ use Rattle.htmd_nodes.specs.declared.tree.NodeData.{NodeData}
 use Rattle.htmd_nodes.specs.declared.tree.NodeData.TheVariants.{Document, Doctype, Text, Comment, Element}
 use Rattle.htmd_nodes.proofs.LayoutLemmas.{length-forest_items}
 use Rattle.htmd_nodes.proofs.NumberedTreesLemmas.{tree-open}
-use Rattle.htmd_selectors.specs.declared.matching.StepState.{StepState}
 use Rattle.htmd_selectors.specs.Rewriting.{joined}
-use Rattle.htmd_selectors.specs.SelectorStates.{outermost_tree}
+use Rattle.htmd_selectors.specs.SelectedParts.{count, elements_in, is_nothing}
+use Rattle.htmd_selectors.specs.SelectorStates.{Known, next_known, outermost_tree}
 use Rattle.htmd_selectors.specs.SelectorSteps.{Step}
 
 forest_items-joined : (d p b : ℕ) (f g : ValueForest)
@@ -53,23 +53,38 @@ item_at-kept out new rest k e l =
 pub within-kept : (out new rest : List Item) (k : ℕ) → new ≡ out ++ rest → k < length out → k < length new
 within-kept out new rest k e l = omega (arith, ap length e, length-append out rest)
 
-module _ (tree_part : ValueTree → ValueForest) (part : ValueForest → ValueForest)
-    (step : (t : ValueTree) (ts : ValueForest) → part (more t ts) ≡ joined (tree_part t) (part ts))
-    (items : List Item) (ids : List ℕ) (i id : ℕ) where
-  -- one child more
-  pub laid-turn : (out new whole : List Item) (d p : ℕ) → i < length ids → id ≡ get_or ids i id
-      → out ++ forest_items d p (length out) (part (value_forest (forest_of (tree_of items) (drop i ids)))) ≡ whole
-      → new ≡ out ++ forest_items d p (length out) (tree_part (value_at items id))
-      → new ++ forest_items d p (length new) (part (value_forest (forest_of (tree_of items) (drop (i + 1) ids))))
-      ≡ whole
-  laid-turn out new whole d p l is rest e =
-      laid-next out new d p (tree_part (value_at items id))
-      (part (value_forest (forest_of (tree_of items) (drop (i + 1) ids)))) e
-      ∙ (ap (λ x. out ++ forest_items d p (length out) x)
-      (sym (step (value_at items id) (value_forest (forest_of (tree_of items) (drop (i + 1) ids))))
-      ∙ ap (λ (x : List ℕ). part (value_forest (forest_of (tree_of items) x)))
-      (sym (drop_more ids i id l ∙ ap (λ y. y ∷ drop (i + 1) ids) (sym is))))
-      ∙ rest)
+-- the trees of the nodes from a place on
+abbrev pub trees_from : List Item → ℕ → List ℕ → ValueForest
+trees_from items i ids = value_forest (forest_of (tree_of items) (drop i ids))
+
+trees_from-more : (items : List Item) (ids : List ℕ) (i id : ℕ) → i < length ids → id ≡ get_or ids i id
+    → trees_from items i ids ≡ more (value_at items id) (trees_from items (i + 1) ids)
+trees_from-more items ids i id l is =
+    ap (λ (x : List ℕ). value_forest (forest_of (tree_of items) x))
+    (drop_more ids i id l ∙ ap (λ y. y ∷ drop (i + 1) ids) (sym is))
+
+-- how many elements are after one child more
+pub elements-turn : (items : List Item) (ids : List ℕ) (i id left : ℕ) → i < length ids → id ≡ get_or ids i id
+    → left ≡ elements_in (trees_from items i ids)
+    → left - count (value_at items id) ≡ elements_in (trees_from items (i + 1) ids)
+elements-turn items ids i id left l is e =
+    let all : left ≡ count (value_at items id) + elements_in (trees_from items (i + 1) ids) =
+    e ∙ ap elements_in (trees_from-more items ids i id l is) in
+    omega (arith, all)
+
+-- one child more
+pub laid-turn : (tree_part : ValueTree → ValueForest) (part next : ValueForest → ValueForest) (items : List Item)
+    (ids : List ℕ) (i id : ℕ) (out new whole : List Item) (d p : ℕ) → i < length ids → id ≡ get_or ids i id
+    → part (more (value_at items id) (trees_from items (i + 1) ids))
+    ≡ joined (tree_part (value_at items id)) (next (trees_from items (i + 1) ids))
+    → out ++ forest_items d p (length out) (part (trees_from items i ids)) ≡ whole
+    → new ≡ out ++ forest_items d p (length out) (tree_part (value_at items id))
+    → new ++ forest_items d p (length new) (next (trees_from items (i + 1) ids)) ≡ whole
+laid-turn tree_part part next items ids i id out new whole d p l is step rest e =
+    laid-next out new d p (tree_part (value_at items id)) (next (trees_from items (i + 1) ids)) e
+    ∙ (ap (λ x. out ++ forest_items d p (length out) x)
+    (sym step ∙ ap part (sym (trees_from-more items ids i id l is)))
+    ∙ rest)
 
 -- an element, and then what it holds
 pub laid-element : (out mid new : List Item) (under id : ℕ) (name : List ℕ) (attributes : List AttributePair)
@@ -92,20 +107,48 @@ laid-element out mid new under id name attributes f is e g =
     (item ∷ forest_items (suc (depth_at out under + 1)) (length out) (suc (length out)) f))))))))
 
 -- a node is a tree by what it is
-pub part-node : (part : ValueTree → ValueForest) (items : List Item) (node : ℕ) (node_data : Data) → IsTree items
-    → node < length items → node_data ≡ data_at items node
+pub part-node : {A : Type 0} (part : ValueTree → A) (items : List Item) (node : ℕ) (node_data : Data)
+    → IsTree items → node < length items → node_data ≡ data_at items node
     → part (value_at items node)
     ≡ part (value_tree (with_children node node_data (forest_of (tree_of items) (children_of items node))))
 part-node part items node node_data t l e =
     ap (λ (x : NumberedTree). part (value_tree x)) (tree-open items node t l
     ∙ ap (λ (x : Data). with_children node x (forest_of (tree_of items) (children_of items node))) (sym e))
 
--- only an element is named, or has elements below it
-pub outermost-other : (steps : List Step) (states : List StepState) (id : ℕ) (d : NodeData) (f : NumberedForest)
+-- only an element is named, or has elements below it, or is one more
+pub outermost-other : (steps : List Step) (known : Known) (after id : ℕ) (d : NodeData) (f : NumberedForest)
     → ((name : List ℕ) (attributes : Vec Attribute Global) → d ≡ Element name attributes → ⊥)
-    → outermost_tree steps states (value_tree (with_children id (data_of d) f)) ≡ none
-outermost-other steps states id Document f h = refl
-outermost-other steps states id Doctype f h = refl
-outermost-other steps states id (Text s) f h = refl
-outermost-other steps states id (Comment s) f h = refl
-outermost-other steps states id (Element name attributes) f h = absurd (h name attributes refl)
+    → outermost_tree steps known after (value_tree (with_children id (data_of d) f)) ≡ none
+outermost-other steps known after id Document f h = refl
+outermost-other steps known after id Doctype f h = refl
+outermost-other steps known after id (Text s) f h = refl
+outermost-other steps known after id (Comment s) f h = refl
+outermost-other steps known after id (Element name attributes) f h = absurd (h name attributes refl)
+
+pub next_known-other : (steps : List Step) (known : Known) (after id : ℕ) (d : NodeData) (f : NumberedForest)
+    → ((name : List ℕ) (attributes : Vec Attribute Global) → d ≡ Element name attributes → ⊥)
+    → next_known steps known after (value_tree (with_children id (data_of d) f)) ≡ known
+next_known-other steps known after id Document f h = refl
+next_known-other steps known after id Doctype f h = refl
+next_known-other steps known after id (Text s) f h = refl
+next_known-other steps known after id (Comment s) f h = refl
+next_known-other steps known after id (Element name attributes) f h = absurd (h name attributes refl)
+
+pub count-other : (id : ℕ) (d : NodeData) (f : NumberedForest)
+    → ((name : List ℕ) (attributes : Vec Attribute Global) → d ≡ Element name attributes → ⊥)
+    → count (value_tree (with_children id (data_of d) f)) ≡ 0
+count-other id Document f h = refl
+count-other id Doctype f h = refl
+count-other id (Text s) f h = refl
+count-other id (Comment s) f h = refl
+count-other id (Element name attributes) f h = absurd (h name attributes refl)
+
+pub is_nothing-other : (id : ℕ) (d : NodeData) (f : NumberedForest)
+    → ((name : List ℕ) (attributes : Vec Attribute Global) → d ≡ Element name attributes → ⊥)
+    → ((s : String Global) → d ≡ Text s → ⊥)
+    → is_nothing (value_tree (with_children id (data_of d) f)) ≡ true
+is_nothing-other id Document f h k = refl
+is_nothing-other id Doctype f h k = refl
+is_nothing-other id (Text s) f h k = absurd (k s refl)
+is_nothing-other id (Comment s) f h k = refl
+is_nothing-other id (Element name attributes) f h k = absurd (h name attributes refl)

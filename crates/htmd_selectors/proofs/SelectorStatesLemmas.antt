@@ -1,6 +1,7 @@
--- The states of the open elements say what the steps name.
-use Rattle.std.proofs.Common.{◌≡◌, true, false, ◌&&◌, ◌||◌, cond, List, [], ◌∷◌, refl, sym, ap, ◌∙◌, length}
-use Rattle.std.proofs.Common.{replicate}
+-- The states of the elements around and before a place say what the steps name.
+use Rattle.std.proofs.Common.{◌≡◌, ℕ, ◌+◌, Bool, true, false, ◌&&◌, ◌||◌, cond, List, [], ◌∷◌, refl, sym, ap, ◌∙◌}
+use Rattle.std.proofs.Common.{length, replicate, add-one, suc, ◌<◌, ◌≤◌, arith, eqb, eqb-true, vec_len}
+use Rattle.std.proofs.lemmas.List.{length-map}
 use Rattle.htmd_lexical.proofs.Cases.{test}
 use Rattle.htmd_values.specs.ValueTrees.{ValueTree, document, doctype, text, comment, element, ValueForest, none, more}
 use Rattle.htmd_nodes.specs.Items.{Item, children_of, IsTree}
@@ -10,125 +11,286 @@ use Rattle.htmd_nodes.proofs.NumberedTreesLemmas.{tree-open}
 use Rattle.htmd_selectors.specs.declared.selectors.Relation.{Relation}
 use Rattle.htmd_selectors.specs.declared.selectors.Relation.TheVariants as relation
 use Rattle.htmd_selectors.specs.declared.matching.StepState.{StepState}
+use Rattle.htmd_selectors.specs.declared.matching.Known as code_known
+use Rattle.htmd_selectors.specs.declared.selectors.Step as code_step
+use Rattle.htmd_selectors.specs.ElementViews.{known_of}
 use Rattle.htmd_selectors.specs.SelectorSteps.{Step}
-use Rattle.htmd_selectors.specs.Matching.{Element, passes, matches, first_passes, some_passes, is_named_after, starts}
+use Rattle.htmd_selectors.specs.Views.{step_of, steps_of}
+use Rattle.htmd_selectors.specs.Matching.{Element, Level, passes, matches, parent_passes, some_passes, nearest_passes}
+use Rattle.htmd_selectors.specs.Matching.{earlier_passes, is_named_after, starts}
 use Rattle.htmd_selectors.specs.Matching as match
-use Rattle.htmd_selectors.specs.SelectorStates.{state_of, states_after, states, no_state, is_reached, next_state}
-use Rattle.htmd_selectors.specs.SelectorStates.{next_states, states_below}
-use Rattle.htmd_selectors.specs.SelectorStates.{is_named_by, names_by, kept, kept_tree, outermost, outermost_tree}
+use Rattle.htmd_selectors.specs.SelectorStates.{Known, state_around, state_beside, states_after, beside_after, no_state}
+use Rattle.htmd_selectors.specs.SelectorStates.{no_states, is_reached, named_steps, with_element, is_named_by}
+use Rattle.htmd_selectors.specs.SelectorStates.{known_element, named_at}
+use Rattle.htmd_selectors.specs.SelectorStates.{first_known, known_below, next_known, nothing_known, names_by, kept}
+use Rattle.htmd_selectors.specs.SelectorStates.{kept_tree, outermost, outermost_tree}
 use Rattle.htmd_selectors.specs.Rewriting.{Rule, unchanged, joined, rewritten, children_of_document}
-use Rattle.htmd_selectors.specs.SelectedParts.{names, without, without_below, one_document}
+use Rattle.htmd_selectors.specs.SelectedParts.{elements_in, this_element, inside, passed, is_outside, names, without}
+use Rattle.htmd_selectors.specs.SelectedParts.{without_below, one_document}
 use Rattle.htmd_selectors.specs.SelectedParts as spec
 
-reached : (r : Relation) (before : List Step) (e : Element) (around : List Element)
-    → match.is_reached r (matches before) e around ≡ is_reached r (matches before e around) (state_of before around)
-reached relation.Start before e around = refl
-reached relation.Same before e around = refl
-reached relation.Child before e around = refl
-reached relation.Below before e around = refl
+reached : (r : Relation) (before : List Step) (e : Element) (earlier : List Element) (around : List Level)
+    → match.is_reached r (matches before) e earlier around
+    ≡ is_reached r (matches before e earlier around) (state_around before around) (state_beside before earlier around)
+reached relation.Start before e earlier around = refl
+reached relation.Same before e earlier around = refl
+reached relation.Child before e earlier around = refl
+reached relation.Below before e earlier around = refl
+reached relation.Next before e earlier around = refl
+reached relation.After before e earlier around = refl
 
-next_state-is : (before : List Step) (step : Step) (e : Element) (around : List Element)
-    → next_state (matches before e around) (state_of before around) e step (state_of (step ∷ before) around)
-    ≡ state_of (step ∷ before) (e ∷ around)
-next_state-is before step e around =
-    ap (λ b. let here = b && passes e step.test in
-    let state : StepState = record {
-      here = here;
-      within = here
-          || (state_of (step ∷ before) around).within;
-    } in state)
-    (sym (reached step.relation before e around))
+-- which steps name an element
+abbrev named_after : List Step → List Step → Element → List Element → List Level → List Bool
+named_after before [] e earlier around = []
+named_after before (step ∷ steps) e earlier around =
+    matches (step ∷ before) e earlier around ∷ named_after (step ∷ before) steps e earlier around
 
-next_states-is : (before steps : List Step) (e : Element) (around : List Element)
-    → next_states (matches before e around) (state_of before around) e steps (states_after before steps around)
-    ≡ states_after before steps (e ∷ around)
-next_states-is before [] e around = refl
-next_states-is before (step ∷ steps) e around =
-    let state : StepState = state_of (step ∷ before) around in
-    ap (λ (n : StepState). n ∷ next_states n.here state e steps (states_after (step ∷ before) steps around))
-    (next_state-is before step e around)
-    ∙ ap (λ x. state_of (step ∷ before) (e ∷ around) ∷ x) (next_states-is (step ∷ before) steps e around)
+named_steps-is : (before steps : List Step) (e : Element) (earlier : List Element) (around : List Level)
+    → named_steps (matches before e earlier around) (state_around before around) (state_beside before earlier around)
+    e steps (states_after before steps around) (beside_after before steps earlier around)
+    ≡ named_after before steps e earlier around
+named_steps-is before [] e earlier around = refl
+named_steps-is before (step ∷ steps) e earlier around =
+    ap (λ b. let here = b && passes e step.test in here ∷ named_steps here (state_around (step ∷ before) around)
+    (state_beside (step ∷ before) earlier around) e steps (states_after (step ∷ before) steps around)
+    (beside_after (step ∷ before) steps earlier around)) (sym (reached step.relation before e earlier around))
+    ∙ ap (λ x. matches (step ∷ before) e earlier around ∷ x)
+    (named_steps-is (step ∷ before) steps e earlier around)
 
-no_state-is : (around : List Element) → state_of [] around ≡ no_state
-no_state-is around = rw (first-none around, some-none around) refl
+none_around : (around : List Level) → state_around [] around ≡ no_state
+none_around around = rw (first-none around, some-none around) refl
   where
-    first-none : (around : List Element) → first_passes (matches []) around ≡ false
+    first-none : (around : List Level) → parent_passes (matches []) around ≡ false
     first-none [] = refl
-    first-none (e ∷ around) = refl
+    first-none (level ∷ around) = refl
 
-    some-none : (around : List Element) → some_passes (matches []) around ≡ false
+    some-none : (around : List Level) → some_passes (matches []) around ≡ false
     some-none [] = refl
-    some-none (e ∷ around) = some-none around
+    some-none (level ∷ around) = some-none around
 
--- the states below an element
-pub states_below-is : (steps : List Step) (e : Element) (around : List Element)
-    → states_below steps (states steps around) e ≡ states steps (e ∷ around)
-states_below-is steps e around =
-    ap (λ m. next_states false m e steps (states steps around)) (sym (no_state-is around))
-    ∙ next_states-is [] steps e around
+none_beside : (earlier : List Element) (around : List Level) → state_beside [] earlier around ≡ no_state
+none_beside earlier around = rw (first-none earlier, some-none earlier) refl
+  where
+    first-none : (earlier : List Element) → nearest_passes (matches []) earlier around ≡ false
+    first-none [] = refl
+    first-none (e ∷ earlier) = refl
 
-is_named_by-after : (before steps : List Step) (e : Element) (around : List Element)
-    → is_named_by (matches before e around) steps (states_after before steps (e ∷ around))
-    ≡ is_named_after before steps e around
-is_named_by-after before [] e around = refl
-is_named_by-after before (step ∷ steps) e around =
-    ap (λ b. (starts step.relation && matches before e around) || b)
-    (is_named_by-after (step ∷ before) steps e around)
+    some-none : (earlier : List Element) → earlier_passes (matches []) earlier around ≡ false
+    some-none [] = refl
+    some-none (e ∷ earlier) = some-none earlier
 
-names_by-is : (steps : List Step) (around : List Element) (t : ValueTree)
-    → names_by steps (states steps around) t ≡ names steps around t
-names_by-is steps around (document children) = refl
-names_by-is steps around doctype = refl
-names_by-is steps around (text s) = refl
-names_by-is steps around (comment s) = refl
-names_by-is steps around (element name attributes children) =
-    let e : Element = record { name = name; attributes = attributes } in
-    ap (is_named_by false steps) (states_below-is steps e around) ∙ is_named_by-after [] steps e around
+-- what is known before a tree, after these elements and below those
+abbrev pub known_at : List Step → List Level → List Element → Known
+known_at steps around earlier = record {
+  parent = states_after [] steps around;
+  beside = beside_after [] steps earlier around;
+  before = length earlier;
+  has_no_parent = is_outside around;
+}
+
+named_at-is : (steps : List Step) (around : List Level) (earlier : List Element) (e : Element)
+    → named_at steps (known_at steps around earlier) e ≡ named_after [] steps e earlier around
+named_at-is steps around earlier e =
+    ap (λ m. named_steps false m no_state e steps (states_after [] steps around)
+    (beside_after [] steps earlier around))
+    (sym (none_around around))
+    ∙ (ap (λ m. named_steps false (state_around [] around) m e steps (states_after [] steps around)
+    (beside_after [] steps earlier around)) (sym (none_beside earlier around))
+    ∙ named_steps-is [] steps e earlier around)
+
+with_around : (before steps : List Step) (e : Element) (earlier : List Element) (around : List Level)
+    → with_element (named_after before steps e earlier around) (states_after before steps around)
+    ≡ states_after before steps ((record { here = e; earlier = earlier }) ∷ around)
+with_around before [] e earlier around = refl
+with_around before (step ∷ steps) e earlier around =
+    ap (λ x. state_around (step ∷ before) ((record { here = e; earlier = earlier }) ∷ around) ∷ x)
+    (with_around (step ∷ before) steps e earlier around)
+
+with_beside : (before steps : List Step) (e : Element) (earlier : List Element) (around : List Level)
+    → with_element (named_after before steps e earlier around) (beside_after before steps earlier around)
+    ≡ beside_after before steps (e ∷ earlier) around
+with_beside before [] e earlier around = refl
+with_beside before (step ∷ steps) e earlier around =
+    ap (λ x. state_beside (step ∷ before) (e ∷ earlier) around ∷ x)
+    (with_beside (step ∷ before) steps e earlier around)
+
+no_beside : (before steps : List Step) (around : List Level) → no_states steps ≡ beside_after before steps [] around
+no_beside before [] around = refl
+no_beside before (step ∷ steps) around = ap (λ x. no_state ∷ x) (no_beside (step ∷ before) steps around)
+
+no_around : (before steps : List Step) → no_states steps ≡ states_after before steps []
+no_around before [] = refl
+no_around before (step ∷ steps) = ap (λ x. no_state ∷ x) (no_around (step ∷ before) steps)
+
+-- what is known after a tree
+next_known-is : (steps : List Step) (around : List Level) (earlier : List Element) (after : ℕ) (t : ValueTree)
+    → next_known steps (known_at steps around earlier) after t
+    ≡ known_at steps around (passed around earlier after t)
+next_known-is steps around earlier after (document children) = refl
+next_known-is steps around earlier after doctype = refl
+next_known-is steps around earlier after (text s) = refl
+next_known-is steps around earlier after (comment s) = refl
+next_known-is steps around earlier after (element name attributes children) =
+    let e : Element = this_element around earlier after name attributes children in
+    let beside : with_element (named_at steps (known_at steps around earlier) e) (beside_after [] steps earlier around)
+    ≡ beside_after [] steps (e ∷ earlier) around =
+    ap (λ x. with_element x (beside_after [] steps earlier around)) (named_at-is steps around earlier e)
+    ∙ with_beside [] steps e earlier around in
+    rw (beside, add-one (length earlier)) refl
+
+-- and below an element
+known_below-is : (steps : List Step) (around : List Level) (earlier : List Element) (e : Element)
+    → known_below steps (known_at steps around earlier) e
+    ≡ known_at steps ((record { here = e; earlier = earlier }) ∷ around) []
+known_below-is steps around earlier e =
+    let parent : with_element (named_at steps (known_at steps around earlier) e) (states_after [] steps around)
+    ≡ states_after [] steps ((record { here = e; earlier = earlier }) ∷ around) =
+    ap (λ x. with_element x (states_after [] steps around)) (named_at-is steps around earlier e)
+    ∙ with_around [] steps e earlier around in
+    rw (parent, no_beside [] steps ((record { here = e; earlier = earlier }) ∷ around)) refl
+
+is_named_by-after : (before steps : List Step) (e : Element) (earlier : List Element) (around : List Level)
+    → is_named_by (matches before e earlier around) steps (named_after before steps e earlier around)
+    ≡ is_named_after before steps e earlier around
+is_named_by-after before [] e earlier around = refl
+is_named_by-after before (step ∷ steps) e earlier around =
+    ap (λ b. (starts step.relation && matches before e earlier around) || b)
+    (is_named_by-after (step ∷ before) steps e earlier around)
+
+names_by-is : (steps : List Step) (around : List Level) (earlier : List Element) (after : ℕ) (t : ValueTree)
+    → names_by steps (known_at steps around earlier) after t ≡ names steps around earlier after t
+names_by-is steps around earlier after (document children) = refl
+names_by-is steps around earlier after doctype = refl
+names_by-is steps around earlier after (text s) = refl
+names_by-is steps around earlier after (comment s) = refl
+names_by-is steps around earlier after (element name attributes children) =
+    let e : Element = this_element around earlier after name attributes children in
+    ap (is_named_by false steps) (named_at-is steps around earlier e) ∙ is_named_by-after [] steps e earlier around
+
+-- ---- how many states there are
+
+length-named_steps : (same : Bool) (above near : StepState) (e : Element) (steps : List Step)
+    (parent beside : List StepState) → length parent ≡ length steps → length beside ≡ length steps
+    → length (named_steps same above near e steps parent beside) ≡ length steps
+length-named_steps same above near e [] parent beside p b = refl
+length-named_steps same above near e (step ∷ steps) [] beside p b = absurd (omega (arith, p))
+length-named_steps same above near e (step ∷ steps) (x ∷ parent) [] p b = absurd (omega (arith, b))
+length-named_steps same above near e (step ∷ steps) (x ∷ parent) (y ∷ beside) p b =
+    ap suc (length-named_steps (is_reached step.relation same above near && passes e step.test) x y e steps parent
+    beside (omega (arith, p)) (omega (arith, b)))
+
+length-with_element : (named : List Bool) (states : List StepState) → length states ≡ length named
+    → length (with_element named states) ≡ length named
+length-with_element [] [] e = refl
+length-with_element [] (state ∷ states) e = absurd (omega (arith, e))
+length-with_element (here ∷ named) [] e = absurd (omega (arith, e))
+length-with_element (here ∷ named) (state ∷ states) e = ap suc (length-with_element named states (omega (arith, e)))
+
+-- those after a tree
+length-next_beside : (steps : List Step) (known : Known) (after : ℕ) (t : ValueTree)
+    → length known.parent ≡ length steps → length known.beside ≡ length steps
+    → length (next_known steps known after t).beside ≡ length steps
+length-next_beside steps known after (document children) p b = b
+length-next_beside steps known after doctype p b = b
+length-next_beside steps known after (text s) p b = b
+length-next_beside steps known after (comment s) p b = b
+length-next_beside steps known after (element name attributes children) p b =
+    let e : Element = known_element known after name attributes children in
+    let named : length (named_at steps known e) ≡ length steps =
+    length-named_steps false no_state no_state e steps known.parent known.beside p b in
+    length-with_element (named_at steps known e) known.beside (b ∙ sym named) ∙ named
+
+next_parent : (steps : List Step) (known : Known) (after : ℕ) (t : ValueTree)
+    → (next_known steps known after t).parent ≡ known.parent
+next_parent steps known after (document children) = refl
+next_parent steps known after doctype = refl
+next_parent steps known after (text s) = refl
+next_parent steps known after (comment s) = refl
+next_parent steps known after (element name attributes children) = refl
+
+next_before : (steps : List Step) (known : Known) (after : ℕ) (t : ValueTree)
+    → (next_known steps known after t).before ≤ known.before + 1
+next_before steps known after (document children) = omega arith
+next_before steps known after doctype = omega arith
+next_before steps known after (text s) = omega arith
+next_before steps known after (comment s) = omega arith
+next_before steps known after (element name attributes children) = omega arith
+
+-- what is known after a tree has as many states
+pub known-turn : (steps : List code_step.Step) (old new : code_known.Known) (after : ℕ) (t : ValueTree)
+    → known_of new ≡ next_known (steps_of steps) (known_of old) after t
+    → length old.parent.now ≡ length steps → vec_len old.beside ≡ length steps
+    → (length new.parent.now ≡ length steps) × (vec_len new.beside ≡ length steps)
+    × (new.before ≤ old.before + 1)
+known-turn steps old new after t e p b =
+    let same : length (steps_of steps) ≡ length steps = length-map steps step_of in
+    let beside : length (next_known (steps_of steps) (known_of old) after t).beside ≡ length (steps_of steps) =
+    length-next_beside (steps_of steps) (known_of old) after t (p ∙ sym same)
+    (sym old.beside.ok.0 ∙ b ∙ sym same) in
+    let before : new.before ≡ (next_known (steps_of steps) (known_of old) after t).before =
+    ap (λ (k : Known). k.before) e in (
+      ap (λ (k : Known). length k.parent) e
+          ∙ (ap length (next_parent (steps_of steps) (known_of old) after t) ∙ p),
+      new.beside.ok.0 ∙ (ap (λ (k : Known). length k.beside) e ∙ (beside ∙ same)),
+      omega (arith, before, next_before (steps_of steps) (known_of old) after t),
+    )
+
+-- only the root is at depth 0
+pub not_root : (above depth : ℕ) → above < depth → eqb depth 0 ≡ false
+not_root above depth l =
+    test (eqb depth 0) (λ y. let root : depth ≡ 0 = eqb-true depth 0 y in absurd (omega (arith, root, l))) (λ n. n)
 
 -- ---- what is kept
 
 mutual
-  pub kept-is : (rule : Rule) (steps : List Step) (around : List Element) (f : ValueForest)
-      → kept rule steps (states steps around) f ≡ rewritten rule (without steps around f)
-  kept-is rule steps around none = refl
-  kept-is rule steps around (more tree trees) =
-      kept_tree-is rule steps around tree (kept rule steps (states steps around) trees) (without steps around trees)
-      (kept-is rule steps around trees)
+  pub kept-is : (rule : Rule) (steps : List Step) (around : List Level) (earlier : List Element) (f : ValueForest)
+      → kept rule steps (known_at steps around earlier) f ≡ rewritten rule (without steps around earlier f)
+  kept-is rule steps around earlier none = refl
+  kept-is rule steps around earlier (more tree trees) =
+      let after = elements_in trees in
+      kept_tree-is rule steps around earlier after tree
+      (kept rule steps (next_known steps (known_at steps around earlier) after tree) trees)
+      (without steps around (passed around earlier after tree) trees)
+      (ap (λ k. kept rule steps k trees) (next_known-is steps around earlier after tree)
+      ∙ kept-is rule steps around (passed around earlier after tree) trees)
 
-  kept_tree-is : (rule : Rule) (steps : List Step) (around : List Element) (t : ValueTree) (g f : ValueForest)
-      → g ≡ rewritten rule f
-      → joined (kept_tree rule steps (states steps around) t) g
-      ≡ rewritten rule (cond (names steps around t) f (more (without_below steps around t) f))
-  kept_tree-is rule steps around (document children) g f e = e
-  kept_tree-is rule steps around doctype g f e = ap (more doctype) e
-  kept_tree-is rule steps around (text s) g f e = ap (more (text s)) e
-  kept_tree-is rule steps around (comment s) g f e = ap (more (comment s)) e
-  kept_tree-is rule steps around (element name attributes children) g f e =
+  kept_tree-is : (rule : Rule) (steps : List Step) (around : List Level) (earlier : List Element) (after : ℕ)
+      (t : ValueTree) (g f : ValueForest) → g ≡ rewritten rule f
+      → joined (kept_tree rule steps (known_at steps around earlier) after t) g
+      ≡ rewritten rule
+      (cond (names steps around earlier after t) f (more (without_below steps around earlier after t) f))
+  kept_tree-is rule steps around earlier after (document children) g f e = e
+  kept_tree-is rule steps around earlier after doctype g f e = ap (more doctype) e
+  kept_tree-is rule steps around earlier after (text s) g f e = ap (more (text s)) e
+  kept_tree-is rule steps around earlier after (comment s) g f e = ap (more (comment s)) e
+  kept_tree-is rule steps around earlier after (element name attributes children) g f e =
       let this : ValueTree = element name attributes children in
-      let at : Element = record { name = name; attributes = attributes } in
-      let same = names_by-is steps around this in
-      let inner : kept rule steps (states_below steps (states steps around) at) children
-      ≡ rewritten rule (without steps (at ∷ around) children) =
-      ap (λ m. kept rule steps m children) (states_below-is steps at around)
-      ∙ kept-is rule steps (at ∷ around) children in
-      test (names steps around this)
-      (λ y. let yes : names_by steps (states steps around) this ≡ true = same ∙ y in rw (yes, y) e)
-      (λ n. let no : names_by steps (states steps around) this ≡ false = same ∙ n in
-      rw (no, n, inner, e) refl)
+      let at : Element = this_element around earlier after name attributes children in
+      let known : Known = known_at steps around earlier in
+      let same = names_by-is steps around earlier after this in
+      let inner : kept rule steps (known_below steps known at) children
+      ≡ rewritten rule (without steps (inside around earlier after name attributes children) [] children) =
+      ap (λ k. kept rule steps k children) (known_below-is steps around earlier at)
+      ∙ kept-is rule steps (inside around earlier after name attributes children) [] children in
+      test (names steps around earlier after this)
+      (λ y. let yes : names_by steps known after this ≡ true = same ∙ y in rw (yes, y) e)
+      (λ n. let no : names_by steps known after this ≡ false = same ∙ n in rw (no, n, inner, e) refl)
 
+-- no step names anything
 mutual
-  -- no step names anything
-  pub without-none : (around : List Element) (f : ValueForest) → without [] around f ≡ f
-  without-none around none = refl
-  without-none around (more (document children) trees) =
-      rw (without-none around children, without-none around trees) refl
-  without-none around (more doctype trees) = ap (more doctype) (without-none around trees)
-  without-none around (more (text s) trees) = ap (more (text s)) (without-none around trees)
-  without-none around (more (comment s) trees) = ap (more (comment s)) (without-none around trees)
-  without-none around (more (element name attributes children) trees) =
+  pub without-none : (around : List Level) (earlier : List Element) (f : ValueForest)
+      → without [] around earlier f ≡ f
+  without-none around earlier none = refl
+  without-none around earlier (more (document children) trees) =
+      rw (without-none around [] children, without-none around earlier trees) refl
+  without-none around earlier (more doctype trees) = ap (more doctype) (without-none around earlier trees)
+  without-none around earlier (more (text s) trees) = ap (more (text s)) (without-none around earlier trees)
+  without-none around earlier (more (comment s) trees) = ap (more (comment s)) (without-none around earlier trees)
+  without-none around earlier (more (element name attributes children) trees) =
+      let after = elements_in trees in
       rw (
-        without-none (record { name = name; attributes = attributes } ∷ around) children,
-        without-none around trees,
+        without-none (inside around earlier after name attributes children) [] children,
+        without-none around (passed around earlier after (element name attributes children)) trees,
       ) refl
 
 rewritten-joined : (rule : Rule) (f g : ValueForest)
@@ -142,43 +304,44 @@ rewritten-joined rule (more (element name attributes children) f) g =
     ap (more (element name (rule name attributes) (rewritten rule children))) (rewritten-joined rule f g)
 
 mutual
-  pub outermost-is : (steps : List Step) (around : List Element) (f : ValueForest)
-      → outermost steps (states steps around) f ≡ one_document (spec.outermost steps around f)
-  outermost-is steps around none = refl
-  outermost-is steps around (more tree trees) =
-      outermost_tree-is steps around tree (outermost steps (states steps around) trees)
-      (spec.outermost steps around trees) (outermost-is steps around trees)
+  pub outermost-is : (steps : List Step) (around : List Level) (earlier : List Element) (f : ValueForest)
+      → outermost steps (known_at steps around earlier) f ≡ one_document (spec.outermost steps around earlier f)
+  outermost-is steps around earlier none = refl
+  outermost-is steps around earlier (more tree trees) =
+      let after = elements_in trees in
+      outermost_tree-is steps around earlier after tree
+      (outermost steps (next_known steps (known_at steps around earlier) after tree) trees)
+      (spec.outermost steps around (passed around earlier after tree) trees)
+      (ap (λ k. outermost steps k trees) (next_known-is steps around earlier after tree)
+      ∙ outermost-is steps around (passed around earlier after tree) trees)
 
-  outermost_tree-is : (steps : List Step) (around : List Element) (t : ValueTree) (g f : ValueForest)
-      → g ≡ one_document f
-      → joined (outermost_tree steps (states steps around) t) g
-      ≡ one_document (cond (names steps around t) (more t f) (joined (spec.outermost_below steps around t) f))
-  outermost_tree-is steps around (document children) g f e = e
-  outermost_tree-is steps around doctype g f e = e
-  outermost_tree-is steps around (text s) g f e = e
-  outermost_tree-is steps around (comment s) g f e = e
-  outermost_tree-is steps around (element name attributes children) g f e =
+  outermost_tree-is : (steps : List Step) (around : List Level) (earlier : List Element) (after : ℕ) (t : ValueTree)
+      (g f : ValueForest) → g ≡ one_document f
+      → joined (outermost_tree steps (known_at steps around earlier) after t) g
+      ≡ one_document (cond (names steps around earlier after t) (more t f)
+      (joined (spec.outermost_below steps around earlier after t) f))
+  outermost_tree-is steps around earlier after (document children) g f e = e
+  outermost_tree-is steps around earlier after doctype g f e = e
+  outermost_tree-is steps around earlier after (text s) g f e = e
+  outermost_tree-is steps around earlier after (comment s) g f e = e
+  outermost_tree-is steps around earlier after (element name attributes children) g f e =
       let this : ValueTree = element name attributes children in
-      let at : Element = record { name = name; attributes = attributes } in
-      let same = names_by-is steps around this in
-      let whole : joined (kept_tree unchanged [] [] this) g ≡ one_document (more this f) =
-      kept_tree-is unchanged [] [] this g f e
-      ∙ ap (λ x. one_document (more (element name attributes x) f)) (without-none (at ∷ []) children) in
-      let inner : joined (outermost steps (states_below steps (states steps around) at) children) g
-      ≡ one_document (joined (spec.outermost steps (at ∷ around) children) f) =
-      ap (λ m. joined (outermost steps m children) g) (states_below-is steps at around)
-      ∙ (rw (outermost-is steps (at ∷ around) children, e) refl
-      ∙ sym (rewritten-joined unchanged (spec.outermost steps (at ∷ around) children) f)) in
-      test (names steps around this)
-      (λ y. let yes : names_by steps (states steps around) this ≡ true = same ∙ y in rw (yes, y) whole)
-      (λ n. let no : names_by steps (states steps around) this ≡ false = same ∙ n in rw (no, n) inner)
-
--- ---- the whole page
-
--- nothing is known outside of all elements
-pub states-none : (before steps : List Step) → states_after before steps [] ≡ replicate (length steps) no_state
-states-none before [] = refl
-states-none before (step ∷ steps) = ap (λ x. no_state ∷ x) (states-none (step ∷ before) steps)
+      let at : Element = this_element around earlier after name attributes children in
+      let known : Known = known_at steps around earlier in
+      let same = names_by-is steps around earlier after this in
+      let whole : joined (kept_tree unchanged [] nothing_known 0 this) g ≡ one_document (more this f) =
+      kept_tree-is unchanged [] [] [] 0 this g f e
+      ∙ ap (λ x. one_document (more (element name attributes x) f))
+      (without-none (inside [] [] 0 name attributes children) [] children) in
+      let inner : joined (outermost steps (known_below steps known at) children) g ≡ one_document
+      (joined (spec.outermost steps (inside around earlier after name attributes children) [] children) f) =
+      ap (λ k. joined (outermost steps k children) g) (known_below-is steps around earlier at)
+      ∙ (rw (outermost-is steps (inside around earlier after name attributes children) [] children, e) refl
+      ∙ sym (rewritten-joined unchanged
+      (spec.outermost steps (inside around earlier after name attributes children) [] children) f)) in
+      test (names steps around earlier after this)
+      (λ y. let yes : names_by steps known after this ≡ true = same ∙ y in rw (yes, y) whole)
+      (λ n. let no : names_by steps known after this ≡ false = same ∙ n in rw (no, n) inner)
 
 pub children_of_document-at : (items : List Item) → IsTree items
     → children_of_document (value_at items 0) ≡ value_forest (forest_of (tree_of items) (children_of items 0))
@@ -188,20 +351,22 @@ children_of_document-at items t =
 
 module _ (steps : List Step) (items : List Item) (t : IsTree items) (outside : List StepState)
     (is : outside ≡ replicate (length steps) no_state) where
-  known : outside ≡ states steps []
-  known = is ∙ sym (states-none [] steps)
+  known : first_known steps outside true ≡ known_at steps [] []
+  known = rw (is ∙ no_around [] steps, no_beside [] steps []) refl
 
   pub kept-page : (rule : Rule)
-      → kept rule steps outside (value_forest (forest_of (tree_of items) (children_of items 0)))
-      ≡ rewritten rule (without steps [] (children_of_document (value_at items 0)))
+      → kept rule steps (first_known steps outside true)
+      (value_forest (forest_of (tree_of items) (children_of items 0)))
+      ≡ rewritten rule (without steps [] [] (children_of_document (value_at items 0)))
   kept-page rule =
-      ap (λ m. kept rule steps m (value_forest (forest_of (tree_of items) (children_of items 0)))) known
-      ∙ (kept-is rule steps [] (value_forest (forest_of (tree_of items) (children_of items 0)))
-      ∙ ap (λ f. rewritten rule (without steps [] f)) (sym (children_of_document-at items t)))
+      ap (λ k. kept rule steps k (value_forest (forest_of (tree_of items) (children_of items 0)))) known
+      ∙ (kept-is rule steps [] [] (value_forest (forest_of (tree_of items) (children_of items 0)))
+      ∙ ap (λ f. rewritten rule (without steps [] [] f)) (sym (children_of_document-at items t)))
 
-  pub outermost-page : outermost steps outside (value_forest (forest_of (tree_of items) (children_of items 0)))
-      ≡ one_document (spec.outermost steps [] (children_of_document (value_at items 0)))
+  pub outermost-page : outermost steps (first_known steps outside true)
+      (value_forest (forest_of (tree_of items) (children_of items 0)))
+      ≡ one_document (spec.outermost steps [] [] (children_of_document (value_at items 0)))
   outermost-page =
-      ap (λ m. outermost steps m (value_forest (forest_of (tree_of items) (children_of items 0)))) known
-      ∙ (outermost-is steps [] (value_forest (forest_of (tree_of items) (children_of items 0)))
-      ∙ ap (λ f. one_document (spec.outermost steps [] f)) (sym (children_of_document-at items t)))
+      ap (λ k. outermost steps k (value_forest (forest_of (tree_of items) (children_of items 0)))) known
+      ∙ (outermost-is steps [] [] (value_forest (forest_of (tree_of items) (children_of items 0)))
+      ∙ ap (λ f. one_document (spec.outermost steps [] [] f)) (sym (children_of_document-at items t)))

@@ -1,25 +1,43 @@
 -- Which elements selectors name.
-use Rattle.std.specs.Prelude.{ℕ, ◌-◌, Bool, true, false, not, ◌&&◌, ◌||◌, ◌==◌, nat_le, if◌then◌else◌, List, [], ◌∷◌}
-use Rattle.std.specs.Prelude.{length, take, drop, map, codes}
+use Rattle.std.specs.Prelude.{ℕ, ◌+◌, ◌-◌, Bool, true, false, not, ◌&&◌, ◌||◌, ◌==◌, nat_le, if◌then◌else◌}
+use Rattle.std.specs.Prelude.{List, [], ◌∷◌, length, take, drop, map, codes}
 use Rattle.std.specs.Char.{to_ascii_lowercase}
 use Rattle.std.specs.List.{list_any, slice_split}
 use Rattle.std.specs.Str.{bytes_eq}
 use Rattle.htmd_lexical.specs.AttributePairs.{AttributePair}
-use Rattle.htmd_lexical.specs.CharacterClasses.{is_empty}
+use Rattle.htmd_lexical.specs.CharacterClasses as text
 use Rattle.htmd_lexical.specs.Characters.{hyphen}
 use Rattle.htmd_lexical.specs.WhiteSpace.{is_ascii_white_space}
 use Rattle.htmd_selectors.specs.declared.selectors.Comparison.{Comparison}
+use Rattle.htmd_selectors.specs.declared.selectors.Side.{Side}
+use Rattle.htmd_selectors.specs.declared.selectors.Side.TheVariants as side
 use Rattle.htmd_selectors.specs.declared.selectors.Operator.{Operator}
 use Rattle.htmd_selectors.specs.declared.selectors.Operator.TheVariants as operator
 use Rattle.htmd_selectors.specs.declared.selectors.Relation.{Relation}
 use Rattle.htmd_selectors.specs.declared.selectors.Relation.TheVariants as relation
 use Rattle.htmd_selectors.specs.SelectorSteps.{Condition, is_any, is_type, has_class, has_id, has_attribute}
-use Rattle.htmd_selectors.specs.SelectorSteps.{has_value, Test, asks, among, Step}
+use Rattle.htmd_selectors.specs.SelectorSteps.{has_value, is_first, is_last, is_only, is_empty, is_root, is_nth}
+use Rattle.htmd_selectors.specs.SelectorSteps.{Test, asks, among, Step}
+use Rattle.htmd_selectors.specs.Series.{has}
+
+-- where an element is: how many elements of its parent are before it and after it, whether it holds neither an element
+-- nor a text, and whether no element is around it
+pub record Place : Type 0 where
+  pub before : ℕ
+  pub after : ℕ
+  pub holds_nothing : Bool
+  pub has_no_parent : Bool
 
 -- an element, as a selector sees it
 pub record Element : Type 0 where
   pub name : List ℕ
   pub attributes : List AttributePair
+  pub place : Place
+
+-- an element around others, and the elements of its parent before it, nearest first
+pub record Level : Type 0 where
+  pub here : Element
+  pub earlier : List Element
 
 -- names of elements and attributes are the same with ASCII letters in either case (HTML, 4.16.2)
 abbrev pub same_name : List ℕ → List ℕ → Bool
@@ -64,12 +82,12 @@ ends_or_hyphen (b ∷ s) = b == hyphen
 -- and 6.2)
 abbrev pub compares : Operator → Bool → List ℕ → List ℕ → Bool
 compares operator.Equals caseless wanted s = same_value caseless s wanted
-compares operator.Includes caseless wanted s = not (is_empty wanted) && has_word caseless wanted s
+compares operator.Includes caseless wanted s = not (text.is_empty wanted) && has_word caseless wanted s
 compares operator.Dash caseless wanted s =
     begins_with caseless wanted s && ends_or_hyphen (drop (length wanted) s)
-compares operator.Prefix caseless wanted s = not (is_empty wanted) && begins_with caseless wanted s
-compares operator.Suffix caseless wanted s = not (is_empty wanted) && ends_with caseless wanted s
-compares operator.Substring caseless wanted s = not (is_empty wanted) && contains caseless wanted s
+compares operator.Prefix caseless wanted s = not (text.is_empty wanted) && begins_with caseless wanted s
+compares operator.Suffix caseless wanted s = not (text.is_empty wanted) && ends_with caseless wanted s
+compares operator.Substring caseless wanted s = not (text.is_empty wanted) && contains caseless wanted s
 
 abbrev pub is_such : Comparison → List ℕ → List ℕ → Bool
 is_such comparison wanted s = compares comparison.operator comparison.caseless wanted s
@@ -80,7 +98,12 @@ exactly operator = record { operator = operator; caseless = false }
 
 -- ---- elements
 
--- an element meets a condition (Selectors Level 4, 5 and 6)
+-- how many elements are before a place, counted from this side
+abbrev pub count_from : Side → Place → ℕ
+count_from side.First place = place.before
+count_from side.Last place = place.after
+
+-- an element meets a condition (Selectors Level 4, 5, 6 and 14)
 abbrev pub meets : Element → Condition → Bool
 meets e is_any = true
 meets e (is_type name) = same_name e.name name
@@ -88,6 +111,12 @@ meets e (has_class class) = has_such (codes "class") (is_such (exactly operator.
 meets e (has_id id) = has_such (codes "id") (is_such (exactly operator.Equals) id) e.attributes
 meets e (has_attribute name) = has_such name (λ value. true) e.attributes
 meets e (has_value name comparison wanted) = has_such name (is_such comparison wanted) e.attributes
+meets e is_first = e.place.before == 0
+meets e is_last = e.place.after == 0
+meets e is_only = (e.place.before == 0) && (e.place.after == 0)
+meets e is_empty = e.place.holds_nothing
+meets e is_root = e.place.has_no_parent
+meets e (is_nth side series) = has series (count_from side e.place + 1)
 
 -- an element meets all conditions of a compound
 abbrev pub meets_all : Element → List Condition → Bool
@@ -104,27 +133,45 @@ abbrev pub passes : Element → Test → Bool
 passes e (asks condition) = meets e condition
 passes e (among negated compounds) = if negated then not (meets_any e compounds) else meets_any e compounds
 
--- one of these elements passes, each with the elements around it, innermost first
-abbrev pub some_passes : (Element → List Element → Bool) → List Element → Bool
-some_passes test [] = false
-some_passes test (e ∷ around) = test e around || some_passes test around
+-- what is asked of an element, the elements of its parent before it, nearest first, and those around it, innermost
+-- first
+abbrev pub Asked : Type 0
+Asked = Element → List Element → List Level → Bool
 
 -- the innermost of these elements passes
-abbrev pub first_passes : (Element → List Element → Bool) → List Element → Bool
-first_passes test [] = false
-first_passes test (e ∷ around) = test e around
+abbrev pub parent_passes : Asked → List Level → Bool
+parent_passes test [] = false
+parent_passes test (level ∷ around) = test level.here level.earlier around
+
+-- one of these elements passes
+abbrev pub some_passes : Asked → List Level → Bool
+some_passes test [] = false
+some_passes test (level ∷ around) = test level.here level.earlier around || some_passes test around
+
+-- the nearest of these elements of one parent passes
+abbrev pub nearest_passes : Asked → List Element → List Level → Bool
+nearest_passes test [] around = false
+nearest_passes test (e ∷ earlier) around = test e earlier around
+
+-- one of these elements of one parent passes
+abbrev pub earlier_passes : Asked → List Element → List Level → Bool
+earlier_passes test [] around = false
+earlier_passes test (e ∷ earlier) around = test e earlier around || earlier_passes test earlier around
 
 -- the steps before one, by its relation to them, name what it needs (Selectors Level 4, 15)
-abbrev pub is_reached : Relation → (Element → List Element → Bool) → Element → List Element → Bool
-is_reached relation.Start test e around = true
-is_reached relation.Same test e around = test e around
-is_reached relation.Child test e around = first_passes test around
-is_reached relation.Below test e around = some_passes test around
+abbrev pub is_reached : Relation → Asked → Asked
+is_reached relation.Start test e earlier around = true
+is_reached relation.Same test e earlier around = test e earlier around
+is_reached relation.Child test e earlier around = parent_passes test around
+is_reached relation.Below test e earlier around = some_passes test around
+is_reached relation.Next test e earlier around = nearest_passes test earlier around
+is_reached relation.After test e earlier around = earlier_passes test earlier around
 
 -- the last step names an element, and the steps before it what it needs; last step first
-abbrev pub matches : List Step → Element → List Element → Bool
-matches [] e around = false
-matches (step ∷ before) e around = is_reached step.relation (matches before) e around && passes e step.test
+abbrev pub matches : List Step → Asked
+matches [] e earlier around = false
+matches (step ∷ before) e earlier around =
+    is_reached step.relation (matches before) e earlier around && passes e step.test
 
 -- another selector begins
 abbrev pub starts : Relation → Bool
@@ -132,13 +179,16 @@ starts relation.Start = true
 starts relation.Same = false
 starts relation.Child = false
 starts relation.Below = false
+starts relation.Next = false
+starts relation.After = false
 
 -- one of the selectors names an element, `before` or one of those that follow it
-abbrev pub is_named_after : List Step → List Step → Element → List Element → Bool
-is_named_after before [] e around = matches before e around
-is_named_after before (step ∷ steps) e around =
-    (starts step.relation && matches before e around) || is_named_after (step ∷ before) steps e around
+abbrev pub is_named_after : List Step → List Step → Asked
+is_named_after before [] e earlier around = matches before e earlier around
+is_named_after before (step ∷ steps) e earlier around =
+    (starts step.relation && matches before e earlier around)
+    || is_named_after (step ∷ before) steps e earlier around
 
 -- one of the selectors names an element
-abbrev pub is_named : List Step → Element → List Element → Bool
-is_named steps e around = is_named_after [] steps e around
+abbrev pub is_named : List Step → Asked
+is_named steps e earlier around = is_named_after [] steps e earlier around

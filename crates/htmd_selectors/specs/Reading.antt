@@ -3,10 +3,10 @@ use Rattle.std.specs.Prelude.{ℕ, suc, ◌-◌, min, Bool, false, true, not, �
 use Rattle.std.specs.Prelude.{List, [], ◌∷◌, ◌++◌, length, codes, Option, Some, None, Result, Ok, Err}
 use Rattle.std.specs.Char.{encode_utf8, is_ascii_alphanumeric, is_ascii_digit, is_ascii_hexdigit, to_ascii_lowercase}
 use Rattle.std.specs.List.{list_any}
-use Rattle.htmd_lexical.specs.Characters.{line_feed, form_feed, carriage_return, quotation_mark, number_sign, apostrophe}
-use Rattle.htmd_lexical.specs.Characters.{asterisk, comma, hyphen, full_stop, equals_sign, greater_than_sign}
-use Rattle.htmd_lexical.specs.Characters.{left_square_bracket, backslash, right_square_bracket, underscore, vertical_bar}
-use Rattle.htmd_lexical.specs.Characters.{tilde, colon, left_parenthesis, right_parenthesis}
+use Rattle.htmd_lexical.specs.Characters.{line_feed, form_feed, carriage_return, quotation_mark, number_sign}
+use Rattle.htmd_lexical.specs.Characters.{asterisk, plus_sign, comma, hyphen, full_stop, equals_sign, greater_than_sign}
+use Rattle.htmd_lexical.specs.Characters.{left_square_bracket, backslash, right_square_bracket, underscore}
+use Rattle.htmd_lexical.specs.Characters.{apostrophe, vertical_bar, tilde, colon, left_parenthesis, right_parenthesis}
 use Rattle.htmd_lexical.specs.Numbers.{number, is_between}
 use Rattle.htmd_lexical.specs.WhiteSpace.{is_ascii_white_space}
 use Rattle.htmd_selectors.specs.declared.selectors.Operator.{Operator}
@@ -14,6 +14,9 @@ use Rattle.htmd_selectors.specs.declared.selectors.Operator.TheVariants as opera
 use Rattle.htmd_selectors.specs.declared.selectors.Relation.{Relation}
 use Rattle.htmd_selectors.specs.declared.selectors.Relation.TheVariants as relation
 use Rattle.htmd_selectors.specs.declared.selectors.SelectorError.{SelectorError}
+use Rattle.htmd_selectors.specs.declared.selectors.Side.{Side}
+use Rattle.htmd_selectors.specs.declared.selectors.Side.TheVariants as side
+use Rattle.htmd_selectors.specs.declared.series.Series.{Series}
 use Rattle.htmd_selectors.specs.declared.selectors.SelectorError.TheVariants.{NoSelector, NoName, Unclosed, Unsupported}
 use Rattle.htmd_selectors.specs.declared.reader.Escape.{Escape}
 use Rattle.htmd_selectors.specs.declared.reader.Escape.TheVariants as escape
@@ -25,7 +28,9 @@ use Rattle.htmd_selectors.specs.declared.reader.WordKind.{WordKind}
 use Rattle.htmd_selectors.specs.declared.reader.WordKind.TheVariants as part
 use Rattle.htmd_selectors.specs.Matching.{same_name}
 use Rattle.htmd_selectors.specs.SelectorSteps.{Condition, is_any, is_type, has_class, has_id, has_attribute, has_value}
+use Rattle.htmd_selectors.specs.SelectorSteps.{is_first, is_last, is_only, is_empty, is_root, is_nth}
 use Rattle.htmd_selectors.specs.SelectorSteps.{Test, asks, among, Step}
+use Rattle.htmd_selectors.specs.SeriesReading.{series_of}
 
 abbrev pub dollar_sign : ℕ
 dollar_sign = 0x24
@@ -142,6 +147,10 @@ named place r next = if is_no_name r.escaped r.word then Err (NoName (place - le
 
 -- ---- compounds
 
+-- `>`, `+` and `~` relate a compound to the one before it (Selectors Level 4, 15)
+abbrev pub begins_relation : ℕ → Bool
+begins_relation b = (b == greater_than_sign) || (b == plus_sign) || (b == tilde)
+
 -- `.`, `#`, `[` or `:` begins a simple selector
 abbrev pub begin_simple : ℕ → ℕ → Reading → Result Reading SelectorError
 begin_simple place b r =
@@ -149,7 +158,7 @@ begin_simple place b r =
     else (if b == number_sign then Ok (begin (position.InWord part.Id) r)
     else (if b == left_square_bracket then Ok (begin position.BeforeName r)
     else (if b == colon then Ok (begin position.InPseudo r)
-    else (if (b == greater_than_sign) || (b == comma) then Err (NoSelector place) else Err (Unsupported place)))))
+    else (if begins_relation b || (b == comma) then Err (NoSelector place) else Err (Unsupported place)))))
 
 -- a type too, where a compound begins
 abbrev pub begin_compound : ℕ → ℕ → Reading → Result Reading SelectorError
@@ -157,15 +166,20 @@ begin_compound place b r =
     if b == asterisk then Ok (add is_any r)
     else (if extends_name b then extend place b (begin (position.InWord part.Tag) r) else begin_simple place b r)
 
--- white space, `>` and a comma end a compound
+-- a relation, white space and a comma end a compound
 abbrev pub ends_compound : ℕ → Bool
-ends_compound b = (b == greater_than_sign) || (b == comma) || is_ascii_white_space b
+ends_compound b = begins_relation b || (b == comma) || is_ascii_white_space b
+
+abbrev pub before_next : Relation → Reading → Reading
+before_next next r = record r { relation = next; position = position.BeforeCompound }
 
 abbrev pub end_compound : ℕ → Reading → Reading
 end_compound b r =
-    if b == greater_than_sign then record r { relation = relation.Child; position = position.BeforeCompound }
-    else (if b == comma then record r { relation = relation.Start; position = position.BeforeCompound }
-    else in_mode position.AfterCompound r)
+    if b == greater_than_sign then before_next relation.Child r
+    else (if b == plus_sign then before_next relation.Next r
+    else (if b == tilde then before_next relation.After r
+    else (if b == comma then before_next relation.Start r
+    else in_mode position.AfterCompound r)))
 
 abbrev pub before_compound : ℕ → ℕ → Reading → Result Reading SelectorError
 before_compound place b r = if is_ascii_white_space b then Ok r else begin_compound place b r
@@ -192,7 +206,7 @@ end_part_by negated b r =
 abbrev pub after_simple_part : Bool → ℕ → ℕ → Reading → Result Reading SelectorError
 after_simple_part negated place b r =
     if ends_part b then Ok (end_part_by negated b r)
-    else (if b == greater_than_sign then Err (Unsupported place) else begin_simple place b r)
+    else (if begins_relation b then Err (Unsupported place) else begin_simple place b r)
 
 abbrev pub after_simple_in : Group → ℕ → ℕ → Reading → Result Reading SelectorError
 after_simple_in group.Outside place b r =
@@ -248,11 +262,43 @@ open_group start group.Outside group.Not r = Ok (begin_group group.Not r)
 open_group start group.Is inner r = Err (Unsupported start)
 open_group start group.Not inner r = Err (Unsupported start)
 
--- a pseudo-class without parentheses isn't known
+-- pseudo-classes without parentheses (Selectors Level 4, 14)
+abbrev pub pseudo_class : List ℕ → Option Condition
+pseudo_class name =
+    if same_name name (codes "first-child") then Some is_first
+    else (if same_name name (codes "last-child") then Some is_last
+    else (if same_name name (codes "only-child") then Some is_only
+    else (if same_name name (codes "empty") then Some is_empty
+    else (if same_name name (codes "root") then Some is_root else None))))
+
+abbrev pub after_pseudo_class : Option Condition → ℕ → ℕ → Reading → Result Reading SelectorError
+after_pseudo_class (Some condition) place b r = after_simple place b (add condition r)
+after_pseudo_class None place b r = Err (Unsupported (place - length r.word - 1))
+
+-- those of places in a row (Selectors Level 4, 14.3)
+abbrev pub side_named : List ℕ → Option Side
+side_named name =
+    if same_name name (codes "nth-child") then Some side.First
+    else (if same_name name (codes "nth-last-child") then Some side.Last else None)
+
+-- parentheses after a name
+abbrev pub open_by : Option Side → ℕ → Reading → Result Reading SelectorError
+open_by (Some from) start r = Ok (begin (position.InSeries from) r)
+open_by None start r = open_group start r.group (group_named r.word) r
+
+abbrev pub add_series : Side → Option Series → ℕ → Reading → Result Reading SelectorError
+add_series from (Some series) place r = Ok (add (is_nth from series) r)
+add_series from None place r = Err (Unsupported (place - length r.word))
+
+-- all up to `)` says which places
+abbrev pub in_series : Side → ℕ → ℕ → Reading → Result Reading SelectorError
+in_series from place b r =
+    if b == right_parenthesis then add_series from (series_of r.word) place r else Ok (push b r)
+
 abbrev pub after_pseudo : ℕ → ℕ → Reading → Result Reading SelectorError
 after_pseudo place b r =
-    if b == left_parenthesis then open_group (place - length r.word - 1) r.group (group_named r.word) r
-    else Err (Unsupported (place - length r.word - 1))
+    if b == left_parenthesis then open_by (side_named r.word) (place - length r.word - 1) r
+    else after_pseudo_class (pseudo_class r.word) place b r
 
 abbrev pub in_pseudo : ℕ → ℕ → Reading → Result Reading SelectorError
 in_pseudo place b r = if extends_name b then extend place b r else named place r (after_pseudo place b r)
@@ -354,6 +400,7 @@ abbrev pub read_by : Position → ℕ → ℕ → Reading → Result Reading Sel
 read_by position.BeforeCompound place b r = before_compound place b r
 read_by (position.InWord kind) place b r = in_word kind place b r
 read_by position.InPseudo place b r = in_pseudo place b r
+read_by (position.InSeries from) place b r = in_series from place b r
 read_by position.AfterSimple place b r = after_simple place b r
 read_by position.AfterCompound place b r = after_compound place b r
 read_by position.BeforeName place b r = before_name place b r
@@ -371,6 +418,7 @@ abbrev pub in_next_line : Position → ℕ → Reading → Result Reading Select
 in_next_line position.BeforeCompound place r = Err (Unsupported place)
 in_next_line (position.InWord kind) place r = Err (Unsupported place)
 in_next_line position.InPseudo place r = Err (Unsupported place)
+in_next_line (position.InSeries from) place r = Err (Unsupported place)
 in_next_line position.AfterSimple place r = Err (Unsupported place)
 in_next_line position.AfterCompound place r = Err (Unsupported place)
 in_next_line position.BeforeName place r = Err (Unsupported place)
@@ -442,6 +490,7 @@ abbrev pub finished : Position → ℕ → List Step → Result (List Step) Sele
 finished position.BeforeCompound place steps = Ok steps
 finished (position.InWord kind) place steps = Err (Unclosed place)
 finished position.InPseudo place steps = Err (Unclosed place)
+finished (position.InSeries from) place steps = Err (Unclosed place)
 finished position.AfterSimple place steps = Err (Unclosed place)
 finished position.AfterCompound place steps = Err (Unclosed place)
 finished position.BeforeName place steps = Err (Unclosed place)

@@ -1,61 +1,118 @@
 -- Parts of a page: the outermost elements that are named, and the page without all elements that are.
-use Rattle.std.specs.Prelude.{Bool, false, if◌then◌else◌, List, [], ◌∷◌, Option, Some, None}
+use Rattle.std.specs.Prelude.{ℕ, ◌+◌, Bool, true, false, ◌&&◌, if◌then◌else◌, List, [], ◌∷◌, length, Option, Some, None}
+use Rattle.htmd_lexical.specs.AttributePairs.{AttributePair}
+use Rattle.htmd_lexical.specs.CharacterClasses as characters
 use Rattle.htmd_values.specs.ValueTrees.{ValueTree, document, doctype, text, comment, element, ValueForest, none, more}
 use Rattle.htmd_nodes.specs.Items.{Item}
 use Rattle.htmd_nodes.specs.Layout.{document_items}
 use Rattle.htmd_nodes.specs.NumberedTrees.{value_at}
 use Rattle.htmd_selectors.specs.SelectorSteps.{Step}
-use Rattle.htmd_selectors.specs.Matching.{Element, is_named}
+use Rattle.htmd_selectors.specs.Matching.{Element, Level, is_named}
 use Rattle.htmd_selectors.specs.Rewriting.{unchanged, joined, rewritten, children_of_document}
 
--- a tree that is an element below others that is named
-abbrev pub names : List Step → List Element → ValueTree → Bool
-names steps around (document children) = false
-names steps around doctype = false
-names steps around (text s) = false
-names steps around (comment s) = false
-names steps around (element name attributes children) =
-    is_named steps (record { name = name; attributes = attributes }) around
+-- how many elements a tree is: one or none
+abbrev pub count : ValueTree → ℕ
+count (document children) = 0
+count doctype = 0
+count (text s) = 0
+count (comment s) = 0
+count (element name attributes children) = 1
 
--- the elements around the children of a tree, innermost first
-abbrev pub around_children : List Element → ValueTree → List Element
-around_children around (document children) = around
-around_children around doctype = around
-around_children around (text s) = around
-around_children around (comment s) = around
-around_children around (element name attributes children) = record { name = name; attributes = attributes } ∷ around
+-- how many of these trees are elements
+abbrev pub elements_in : ValueForest → ℕ
+elements_in none = 0
+elements_in (more tree trees) = count tree + elements_in trees
+
+-- a tree is neither an element nor a text, unless that is empty; white space is a text (Selectors Level 3,
+-- 6.6.5.12)
+abbrev pub is_nothing : ValueTree → Bool
+is_nothing (document children) = true
+is_nothing doctype = true
+is_nothing (text s) = characters.is_empty s
+is_nothing (comment s) = true
+is_nothing (element name attributes children) = false
+
+abbrev pub are_nothing : ValueForest → Bool
+are_nothing none = true
+are_nothing (more tree trees) = is_nothing tree && are_nothing trees
+
+abbrev pub is_outside : List Level → Bool
+is_outside [] = true
+is_outside (level ∷ around) = false
+
+-- an element, with the elements of its parent before it, nearest first, and how many are after it
+abbrev pub this_element : List Level → List Element → ℕ → List ℕ → List AttributePair → ValueForest
+    → Element
+this_element around earlier after name attributes children = record {
+  name = name;
+  attributes = attributes;
+  place = record {
+    before = length earlier;
+    after = after;
+    holds_nothing = are_nothing children;
+    has_no_parent = is_outside around;
+  };
+}
+
+-- a tree that is an element is named
+abbrev pub names : List Step → List Level → List Element → ℕ → ValueTree → Bool
+names steps around earlier after (document children) = false
+names steps around earlier after doctype = false
+names steps around earlier after (text s) = false
+names steps around earlier after (comment s) = false
+names steps around earlier after (element name attributes children) =
+    is_named steps (this_element around earlier after name attributes children) earlier around
+
+-- the elements before the next tree
+abbrev pub passed : List Level → List Element → ℕ → ValueTree → List Element
+passed around earlier after (document children) = earlier
+passed around earlier after doctype = earlier
+passed around earlier after (text s) = earlier
+passed around earlier after (comment s) = earlier
+passed around earlier after (element name attributes children) =
+    this_element around earlier after name attributes children ∷ earlier
+
+-- the elements around what is in an element
+abbrev pub inside : List Level → List Element → ℕ → List ℕ → List AttributePair → ValueForest
+    → List Level
+inside around earlier after name attributes children =
+    (record { here = this_element around earlier after name attributes children; earlier = earlier }) ∷ around
 
 abbrev mutual
   -- without the elements that are named, and what is below them
-  pub without : List Step → List Element → ValueForest → ValueForest
-  without steps around none = none
-  without steps around (more tree trees) =
-      if names steps around tree then without steps around trees
-      else more (without_below steps around tree) (without steps around trees)
+  pub without : List Step → List Level → List Element → ValueForest → ValueForest
+  without steps around earlier none = none
+  without steps around earlier (more tree trees) =
+      if names steps around earlier (elements_in trees) tree
+      then without steps around (passed around earlier (elements_in trees) tree) trees
+      else more (without_below steps around earlier (elements_in trees) tree)
+      (without steps around (passed around earlier (elements_in trees) tree) trees)
 
-  pub without_below : List Step → List Element → ValueTree → ValueTree
-  without_below steps around (document children) = document (without steps around children)
-  without_below steps around doctype = doctype
-  without_below steps around (text s) = text s
-  without_below steps around (comment s) = comment s
-  without_below steps around (element name attributes children) =
-      element name attributes (without steps (record { name = name; attributes = attributes } ∷ around) children)
+  pub without_below : List Step → List Level → List Element → ℕ → ValueTree → ValueTree
+  without_below steps around earlier after (document children) = document (without steps around [] children)
+  without_below steps around earlier after doctype = doctype
+  without_below steps around earlier after (text s) = text s
+  without_below steps around earlier after (comment s) = comment s
+  without_below steps around earlier after (element name attributes children) =
+      element name attributes (without steps (inside around earlier after name attributes children) [] children)
 
 abbrev mutual
   -- the elements that are named and not below one that is, in document order
-  pub outermost : List Step → List Element → ValueForest → ValueForest
-  outermost steps around none = none
-  outermost steps around (more tree trees) =
-      if names steps around tree then more tree (outermost steps around trees)
-      else joined (outermost_below steps around tree) (outermost steps around trees)
+  pub outermost : List Step → List Level → List Element → ValueForest → ValueForest
+  outermost steps around earlier none = none
+  outermost steps around earlier (more tree trees) =
+      if names steps around earlier (elements_in trees) tree
+      then more tree (outermost steps around (passed around earlier (elements_in trees) tree) trees)
+      else joined (outermost_below steps around earlier (elements_in trees) tree)
+      (outermost steps around (passed around earlier (elements_in trees) tree) trees)
 
-  pub outermost_below : List Step → List Element → ValueTree → ValueForest
-  outermost_below steps around (document children) = none
-  outermost_below steps around doctype = none
-  outermost_below steps around (text s) = none
-  outermost_below steps around (comment s) = none
-  outermost_below steps around (element name attributes children) =
-      outermost steps (record { name = name; attributes = attributes } ∷ around) children
+  pub outermost_below : List Step → List Level → List Element → ℕ → ValueTree → ValueForest
+  outermost_below steps around earlier after (document children) = none
+  outermost_below steps around earlier after doctype = none
+  outermost_below steps around earlier after (text s) = none
+  outermost_below steps around earlier after (comment s) = none
+  outermost_below steps around earlier after (element name attributes children) =
+      outermost steps (inside around earlier after name attributes children) [] children
 
 -- no Document is below another one: one that is isn't copied
 abbrev pub one_document : ValueForest → ValueForest
@@ -63,7 +120,7 @@ one_document trees = rewritten unchanged trees
 
 -- the page without the elements that are named
 abbrev pub dropped : List Step → List Item → List Item
-dropped steps items = document_items (one_document (without steps [] (children_of_document (value_at items 0))))
+dropped steps items = document_items (one_document (without steps [] [] (children_of_document (value_at items 0))))
 
 -- a page of these trees, unless there are none
 abbrev pub page_of : ValueForest → Option (List Item)
@@ -72,4 +129,4 @@ page_of (more tree trees) = Some (document_items (more tree trees))
 
 -- the outermost elements that are named, as a page
 abbrev pub selected : List Step → List Item → Option (List Item)
-selected steps items = page_of (one_document (outermost steps [] (children_of_document (value_at items 0))))
+selected steps items = page_of (one_document (outermost steps [] [] (children_of_document (value_at items 0))))

@@ -2,7 +2,7 @@
 use Rattle.std.specs.Prelude.{List, map}
 use Rattle.htmd_selectors.specs.declared.selectors.Condition.{Condition}
 use Rattle.htmd_selectors.specs.declared.selectors.Condition.TheVariants.{Any, Tag, Class, Id, Attribute}
-use Rattle.htmd_selectors.specs.declared.selectors.Condition.TheVariants.{Value}
+use Rattle.htmd_selectors.specs.declared.selectors.Condition.TheVariants.{Value, First, Last, Only, Empty, Root, Nth}
 use Rattle.htmd_selectors.specs.declared.selectors.Compound.{Compound}
 use Rattle.htmd_selectors.specs.declared.selectors.Test.{Test}
 use Rattle.htmd_selectors.specs.declared.selectors.Test.TheVariants.{Asks, Among}
@@ -17,6 +17,12 @@ condition_of (Class class) = spec.has_class class.items
 condition_of (Id id) = spec.has_id id.items
 condition_of (Attribute name) = spec.has_attribute name.items
 condition_of (Value name comparison value) = spec.has_value name.items comparison value.items
+condition_of First = spec.is_first
+condition_of Last = spec.is_last
+condition_of Only = spec.is_only
+condition_of Empty = spec.is_empty
+condition_of Root = spec.is_root
+condition_of (Nth side series) = spec.is_nth side series
 
 abbrev pub compound_of : Compound → List spec.Condition
 compound_of compound = map condition_of compound.conditions.items

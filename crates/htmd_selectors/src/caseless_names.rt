@@ -1,4 +1,5 @@
-//! Attributes whose values HTML compares with ASCII letters in either case (HTML standard, 'Case-sensitivity of selectors').
+//! Attributes whose values HTML compares with ASCII letters in either case (HTML standard, 'Case-sensitivity of
+//! selectors').
 ghost use Rattle.std.specs.Prelude.{◌≡◌};
 ghost use Rattle.std.specs.List.{list_any};
 ghost use Rattle.htmd_selectors.specs.Matching.{same_name};

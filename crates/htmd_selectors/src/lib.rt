@@ -9,6 +9,7 @@ mod matching;
 mod reader;
 mod selection;
 mod selectors;
+mod series;
 mod signs;
 
 pub use copying::{Rewrite, rewritten};

@@ -2,11 +2,12 @@
 ghost use Rattle.std.specs.Prelude.{◌≡◌, ◌&&◌, length, map, codes, true, false, vec_len, IfOk};
 ghost use Rattle.htmd_lexical.specs.Attributes.{pairs_of};
 ghost use Rattle.htmd_selectors.specs.Matching as spec;
+ghost use Rattle.htmd_selectors.specs.ElementViews.{element_of, place_of};
 ghost use Rattle.htmd_selectors.specs.declared.selectors.Operator.TheVariants as spec_operator;
 ghost use Rattle.htmd_selectors.specs.SelectorStates as spec_states;
 ghost use Rattle.htmd_selectors.specs.Views.{condition_of, compounds_of, test_of, steps_of};
 
-use crate::selectors::{Comparison, Compound, Condition, Operator, Relation, Step, Test};
+use crate::selectors::{Comparison, Compound, Condition, Operator, Relation, Side, Step, Test};
 use htmd_nodes::Attribute;
 use std::alloc::{AllocError, Global};
 
@@ -125,38 +126,73 @@ fn has_value(attrs: &[Attribute], name: &[u8], comparison: Comparison, wanted: &
     false
 }
 
+/// Where an element is.
+#[derive(Clone, Copy)]
+pub(crate) struct Place {
+    /// How many elements of its parent are before it.
+    pub(crate) before: usize,
+    /// How many are after it.
+    pub(crate) after: usize,
+    /// It holds neither an element nor a text.
+    pub(crate) holds_nothing: bool,
+    /// No element is around it.
+    pub(crate) has_no_parent: bool,
+}
+
+/// An element, as a selector sees it.
+#[derive(Clone, Copy)]
+pub(crate) struct Element<'a> {
+    pub(crate) name: &'a str,
+    pub(crate) attrs: &'a [Attribute],
+    pub(crate) place: Place,
+}
+
+/// How many elements are before a place, counted from this side.
+fn count_from(side: Side, place: Place) -> usize
+    ensures { result ≡ spec.count_from side (place_of place) }
+{
+    match side {
+        Side::First => place.before,
+        Side::Last => place.after,
+    }
+}
+
 /// Whether an element meets a condition.
-fn meets(name: &str, attrs: &[Attribute], condition: &Condition) -> bool
-    ensures { result ≡ spec.meets (record { name = name.now; attributes = pairs_of attrs.now })
-        (condition_of condition.now) }
+fn meets(e: &Element<'_>, condition: &Condition) -> bool
+    ensures { result ≡ spec.meets (element_of e.now) (condition_of condition.now) }
 {
     match condition {
         Condition::Any => true,
-        Condition::Tag(wanted) => is_same_name(name.as_bytes(), wanted.as_slice()),
+        Condition::Tag(wanted) => is_same_name(e.name.as_bytes(), wanted.as_slice()),
         Condition::Class(class) => {
             has_value(
-                attrs,
+                e.attrs,
                 b"class",
                 exactly(Operator::Includes),
                 class.as_slice(),
             )
         }
-        Condition::Id(id) => has_value(attrs, b"id", exactly(Operator::Equals), id.as_slice()),
-        Condition::Attribute(name) => has_attribute(attrs, name.as_slice()),
+        Condition::Id(id) => has_value(e.attrs, b"id", exactly(Operator::Equals), id.as_slice()),
+        Condition::Attribute(name) => has_attribute(e.attrs, name.as_slice()),
         Condition::Value {
             name,
             comparison,
             value,
-        } => has_value(attrs, name.as_slice(), *comparison, value.as_slice()),
+        } => has_value(e.attrs, name.as_slice(), *comparison, value.as_slice()),
+        Condition::First => e.place.before == 0,
+        Condition::Last => e.place.after == 0,
+        Condition::Only => e.place.before == 0 && e.place.after == 0,
+        Condition::Empty => e.place.holds_nothing,
+        Condition::Root => e.place.has_no_parent,
+        Condition::Nth { side, series } => series.has(count_from(*side, e.place)),
     }
 }
 
-fn meets_all(name: &str, attrs: &[Attribute], conditions: &[Condition]) -> bool
-    ensures { result ≡ spec.meets_all (record { name = name.now; attributes = pairs_of attrs.now })
-        (map condition_of conditions.now) }
+fn meets_all(e: &Element<'_>, conditions: &[Condition]) -> bool
+    ensures { result ≡ spec.meets_all (element_of e.now) (map condition_of conditions.now) }
 {
     for condition in conditions {
-        if !meets(name, attrs, condition) {
+        if !meets(e, condition) {
             return false;
         }
     }
@@ -164,12 +200,11 @@ fn meets_all(name: &str, attrs: &[Attribute], conditions: &[Condition]) -> bool
 }
 
 /// Whether an element meets all conditions of one of the compounds.
-fn meets_any(name: &str, attrs: &[Attribute], compounds: &[Compound]) -> bool
-    ensures { result ≡ spec.meets_any (record { name = name.now; attributes = pairs_of attrs.now })
-        (compounds_of compounds.now) }
+fn meets_any(e: &Element<'_>, compounds: &[Compound]) -> bool
+    ensures { result ≡ spec.meets_any (element_of e.now) (compounds_of compounds.now) }
 {
     for compound in compounds {
-        if meets_all(name, attrs, compound.conditions.as_slice()) {
+        if meets_all(e, compound.conditions.as_slice()) {
             return true;
         }
     }
@@ -177,84 +212,114 @@ fn meets_any(name: &str, attrs: &[Attribute], compounds: &[Compound]) -> bool
 }
 
 /// Whether an element passes what a step asks.
-fn passes(name: &str, attrs: &[Attribute], test: &Test) -> bool
-    ensures { result ≡ spec.passes (record { name = name.now; attributes = pairs_of attrs.now })
-        (test_of test.now) }
+fn passes(e: &Element<'_>, test: &Test) -> bool
+    ensures { result ≡ spec.passes (element_of e.now) (test_of test.now) }
 {
     match test {
-        Test::Asks(condition) => meets(name, attrs, condition),
+        Test::Asks(condition) => meets(e, condition),
         Test::Among { negated, compounds } => {
-            let found = meets_any(name, attrs, compounds.as_slice());
+            let found = meets_any(e, compounds.as_slice());
             if *negated { !found } else { found }
         }
     }
 }
 
-/// What is known of an open element at a step: that the steps up to it name this element, and that they name it or one
-/// around it.
+/// What is known at a step of elements in a row, those around a place or those before it: that the steps up to it name
+/// the nearest of them, and that they name one of them.
 #[derive(Clone, Copy, Drop)]
 pub(crate) struct StepState {
     here: bool,
     within: bool,
 }
 
-/// What is known outside of all elements.
+/// What is known of no elements.
 pub(crate) const NO_MARK: StepState = StepState {
     here: false,
     within: false,
 };
 
-/// Whether the steps before this one name what this one needs: `same` is said of the element itself, and `parent` of
-/// the one around it.
-fn is_reached(relation: Relation, same: bool, parent: StepState) -> bool
-    ensures { result ≡ spec_states.is_reached relation same parent }
+/// What is known before a node: the states of the elements around it, and of those of its parent before it; how many
+/// these are, and how many are still to come; and whether no element is around it.
+#[derive(Drop)]
+pub(crate) struct Known<'a> {
+    pub(crate) parent: &'a [StepState],
+    pub(crate) beside: Vec<StepState>,
+    pub(crate) before: usize,
+    pub(crate) left: usize,
+    pub(crate) has_no_parent: bool,
+}
+
+/// Whether the steps before this one name what this one needs: `same` is said of the element itself, `parent` of those
+/// around it, and `beside` of those before it.
+fn is_reached(relation: Relation, same: bool, parent: StepState, beside: StepState) -> bool
+    ensures { result ≡ spec_states.is_reached relation same parent beside }
 {
     match relation {
         Relation::Start => true,
         Relation::Same => same,
         Relation::Child => parent.here,
         Relation::Below => parent.within,
+        Relation::Next => beside.here,
+        Relation::After => beside.within,
     }
 }
 
-/// The states of an element, by those of its parent.
-pub(crate) fn states_of(
+/// Which steps name an element.
+pub(crate) fn named_steps(
     alloc: Global,
     steps: &[Step],
-    parent: &[StepState],
-    name: &str,
-    attrs: &[Attribute],
-) -> Result<Vec<StepState>, AllocError>
-    requires { length parent.now ≡ length steps.now }
-    ensures value { IfOk result (λ m. m.items ≡ spec_states.states_below (steps_of steps.now) parent.now
-        (record { name = name.now; attributes = pairs_of attrs.now })) }
+    known: &Known<'_>,
+    e: &Element<'_>,
+) -> Result<Vec<bool>, AllocError>
+    requires parent { length known.now.parent.now ≡ length steps.now }
+    requires beside { vec_len known.now.beside ≡ length steps.now }
+    ensures value { IfOk result (λ m. m.items ≡ spec_states.named_steps false spec_states.no_state
+        spec_states.no_state (element_of e.now) (steps_of steps.now) known.now.parent.now known.now.beside.items) }
     ensures count { IfOk result (λ m. vec_len m ≡ length steps.now) }
 {
-    let mut states = Vec::with_capacity(alloc, steps.len())?;
+    let mut named = Vec::with_capacity(alloc, steps.len())?;
     let mut same = false;
     let mut above = NO_MARK;
+    let mut near = NO_MARK;
     for (i, step) in steps.iter().enumerate() {
-        let state = parent[i];
-        let here = is_reached(step.relation, same, above) && passes(name, attrs, &step.test);
-        let within = here || state.within;
-        states.push(StepState { here, within })?;
-        same = here;
-        above = state;
+        same = is_reached(step.relation, same, above, near) && passes(e, &step.test);
+        named.push(same)?;
+        above = known.parent[i];
+        near = known.beside[i];
     }
-    Ok(states)
+    Ok(named)
 }
 
-/// Whether an element with these states is named.
-pub(crate) fn is_named(steps: &[Step], states: &[StepState]) -> bool
-    requires { length states.now ≡ length steps.now }
-    ensures { result ≡ spec_states.is_named_by false (steps_of steps.now) states.now }
+/// The states of elements and one more, which these steps name.
+pub(crate) fn with_element(
+    alloc: Global,
+    named: &[bool],
+    states: &[StepState],
+) -> Result<Vec<StepState>, AllocError>
+    requires { length states.now ≡ length named.now }
+    ensures value { IfOk result (λ m. m.items ≡ spec_states.with_element named.now states.now) }
+    ensures count { IfOk result (λ m. vec_len m ≡ length named.now) }
+{
+    let mut more = Vec::with_capacity(alloc, named.len())?;
+    for (i, here) in named.iter().enumerate() {
+        let here = *here;
+        let within = here || states[i].within;
+        more.push(StepState { here, within })?;
+    }
+    Ok(more)
+}
+
+/// Whether an element that these steps name is named by one of the selectors.
+pub(crate) fn is_named(steps: &[Step], named: &[bool]) -> bool
+    requires { length named.now ≡ length steps.now }
+    ensures { result ≡ spec_states.is_named_by false (steps_of steps.now) named.now }
 {
     let mut here = false;
     for (i, step) in steps.iter().enumerate() {
         if step.relation == Relation::Start && here {
             return true;
         }
-        here = states[i].here;
+        here = named[i];
     }
     here
 }

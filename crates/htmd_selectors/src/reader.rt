@@ -6,10 +6,12 @@ ghost use Rattle.htmd_selectors.specs.Views.{condition_of, test_of, steps_in, st
 
 use crate::caseless_names::is_caseless_name;
 use crate::selectors::{
-    Comparison, Compound, Condition, Operator, Relation, SelectorError, Selectors, Step, Test,
+    Comparison, Compound, Condition, Operator, Relation, SelectorError, Selectors, Side, Step, Test,
 };
+use crate::series::series_of;
 use crate::signs::{
-    ends_part, escaped_character, extends_name, group_named, is_line_end, is_no_name, operator_of,
+    begins_relation, ends_part, escaped_character, extends_name, group_named, is_line_end,
+    is_no_name, operator_of, pseudo_class, side_named,
 };
 use std::alloc::Global;
 use std::mem;
@@ -28,6 +30,7 @@ pub(crate) enum Position {
     BeforeCompound,
     InWord(WordKind),
     InPseudo,
+    InSeries(Side),
     AfterSimple,
     AfterCompound,
     BeforeName,
@@ -177,7 +180,7 @@ impl Reader {
             b'#' => self.begin(Position::InWord(WordKind::Id)),
             b'[' => self.begin(Position::BeforeName),
             b':' => self.begin(Position::InPseudo),
-            b'>' | b',' => return Err(SelectorError::NoSelector { place }),
+            b'>' | b'+' | b'~' | b',' => return Err(SelectorError::NoSelector { place }),
             _ => return Err(SelectorError::Unsupported { place }),
         }
         Ok(())
@@ -198,7 +201,7 @@ impl Reader {
         self.extend(place, b)
     }
 
-    /// A compound ends before this byte, if that is white space, `>` or a comma.
+    /// A compound ends before this byte, if that is white space, `>`, `+`, `~` or a comma.
     fn end_compound(&mut self, b: u8) -> bool
         ensures value { result ≡ spec.ends_compound b }
         ensures reading { reading_of self.new
@@ -207,6 +210,14 @@ impl Reader {
         match b {
             b'>' => {
                 self.relation = Relation::Child;
+                self.position = Position::BeforeCompound;
+            }
+            b'+' => {
+                self.relation = Relation::Next;
+                self.position = Position::BeforeCompound;
+            }
+            b'~' => {
+                self.relation = Relation::After;
                 self.position = Position::BeforeCompound;
             }
             b',' => {
@@ -283,7 +294,7 @@ impl Reader {
         if ends_part(b) {
             return self.end_part_by(negated, b);
         }
-        if b == b'>' {
+        if begins_relation(b) {
             return Err(SelectorError::Unsupported { place });
         }
         self.begin_simple(place, b)
@@ -359,17 +370,49 @@ impl Reader {
         Ok(())
     }
 
+    fn open_parentheses(&mut self, start: usize) -> Result<(), SelectorError>
+        ensures ok { OnOk result (spec.open_by (spec.side_named self.old.word.items) start (reading_of self.old)
+            ≡ Ok (reading_of self.new)) }
+        ensures err { IfErr result
+            (IsFault (spec.open_by (spec.side_named self.old.word.items) start (reading_of self.old))) }
+    {
+        if let Some(side) = side_named(self.word.as_slice()) {
+            self.begin(Position::InSeries(side));
+            return Ok(());
+        }
+        let inner = group_named(self.word.as_slice());
+        self.open_group(start, inner)
+    }
+
+    /// All up to `)` says which places.
+    fn in_series(&mut self, side: Side, place: usize, b: u8) -> Result<(), SelectorError>
+        ensures ok { OnOk result (spec.in_series side place b (reading_of self.old) ≡ Ok (reading_of self.new)) }
+        ensures err { IfErr result (IsFault (spec.in_series side place b (reading_of self.old))) }
+    {
+        if b != b')' {
+            return self.push(b);
+        }
+        let Some(series) = series_of(self.word.as_slice()) else {
+            let place = place.saturating_sub(self.word.len());
+            return Err(SelectorError::Unsupported { place });
+        };
+        self.add(Condition::Nth { side, series })
+    }
+
     /// After the name of a pseudo-class.
     fn after_pseudo(&mut self, place: usize, b: u8) -> Result<(), SelectorError>
         ensures ok { OnOk result (spec.after_pseudo place b (reading_of self.old) ≡ Ok (reading_of self.new)) }
         ensures err { IfErr result (IsFault (spec.after_pseudo place b (reading_of self.old))) }
     {
         let start = place.saturating_sub(self.word.len()).saturating_sub(1);
-        if b != b'(' {
-            return Err(SelectorError::Unsupported { place: start });
+        if b == b'(' {
+            return self.open_parentheses(start);
         }
-        let inner = group_named(self.word.as_slice());
-        self.open_group(start, inner)
+        let Some(condition) = pseudo_class(self.word.as_slice()) else {
+            return Err(SelectorError::Unsupported { place: start });
+        };
+        self.add(condition)?;
+        self.after_simple(place, b)
     }
 
     fn in_pseudo(&mut self, place: usize, b: u8) -> Result<(), SelectorError>
@@ -582,6 +625,7 @@ impl Reader {
             Position::BeforeCompound => self.before_compound(place, b),
             Position::InWord(part) => self.in_word(part, place, b),
             Position::InPseudo => self.in_pseudo(place, b),
+            Position::InSeries(side) => self.in_series(side, place, b),
             Position::AfterSimple => self.after_simple(place, b),
             Position::AfterCompound => self.after_compound(place, b),
             Position::BeforeName => self.before_name(place, b),

@@ -1,16 +1,21 @@
 //! Parts of a page, as trees of their own.
-ghost use Rattle.std.specs.Prelude.{◌≡◌, ◌<◌, ◌++◌, [], length, IfOk, OnOk};
+ghost use Rattle.std.specs.Prelude.{◌≡◌, ◌+◌, ◌-◌, ◌^◌, ◌<◌, ◌==◌, ◌++◌, [], length, vec_len, IfOk, OnOk};
 ghost use Rattle.htmd_nodes.specs.Items.{children_of, depth_at};
 ghost use Rattle.htmd_nodes.specs.Layout.{forest_items};
 ghost use Rattle.htmd_nodes.specs.NumberedTrees.{tree_of, forest_of, value_forest};
 ghost use Rattle.htmd_nodes.specs.NumberedTrees.{value_at};
 ghost use Rattle.htmd_selectors.specs.Rewriting.{unchanged};
-ghost use Rattle.htmd_selectors.specs.SelectorStates.{kept_tree, outermost, outermost_tree};
+ghost use Rattle.htmd_selectors.specs.SelectorStates.{kept_tree, nothing_known, outermost, outermost_tree};
+ghost use Rattle.htmd_selectors.specs.SelectorStates as states;
+ghost use Rattle.htmd_selectors.specs.ElementViews.{known_of};
+ghost use Rattle.htmd_selectors.specs.SelectedParts.{count};
 ghost use Rattle.htmd_selectors.specs.SelectedParts as spec;
 ghost use Rattle.htmd_selectors.specs.Views.{steps_of, steps_in};
 
-use crate::copying::{Page, Unchanged, new_tree, push_kept, push_kept_child};
-use crate::matching::{NO_MARK, StepState, is_named, states_of};
+use crate::copying::{
+    Page, Unchanged, known_below, name_element, new_tree, push_kept, push_kept_child,
+};
+use crate::matching::{Known, NO_MARK, StepState, is_named, with_element};
 use crate::selectors::Selectors;
 use htmd_nodes::{NodeData, NodeId, Tree};
 use std::alloc::{AllocError, Global};
@@ -21,16 +26,18 @@ fn push_outermost(
     out: &mut Tree,
     page: &Page<'_, Unchanged>,
     node: NodeId,
-    states: &[StepState],
+    parent: &[StepState],
 ) -> Result<(), AllocError>
     requires node { node < length page.now.tree.now }
-    requires states { length states.now ≡ length page.now.steps.now }
+    requires parent { length parent.now ≡ length page.now.steps.now }
     ensures { OnOk result (out.new ≡ out.old ++ forest_items 1 0 (length out.old)
-        (outermost (steps_of page.now.steps.now) states.now
+        (outermost (steps_of page.now.steps.now)
+        (states.first_known (steps_of page.now.steps.now) parent.now (depth_at page.now.tree.now node == 0))
         (value_forest (forest_of (tree_of page.now.tree.now) (children_of page.now.tree.now node))))) }
 {
+    let mut known = known_below(page, node, parent)?;
     for child in page.tree.children(node) {
-        push_outermost_child(out, page, *child, states)?;
+        push_outermost_child(out, page, *child, &mut known)?;
     }
     Ok(())
 }
@@ -40,22 +47,30 @@ fn push_outermost_child(
     out: &mut Tree,
     page: &Page<'_, Unchanged>,
     node: NodeId,
-    states: &[StepState],
+    known: &mut Known<'_>,
 ) -> Result<(), AllocError>
     requires node { node < length page.now.tree.now }
     requires below { 0 < depth_at page.now.tree.now node }
-    requires states { length states.now ≡ length page.now.steps.now }
-    ensures { OnOk result (out.new ≡ out.old ++ forest_items 1 0 (length out.old)
-        (outermost_tree (steps_of page.now.steps.now) states.now (value_at page.now.tree.now node))) }
+    requires parent { length known.old.parent.now ≡ length page.now.steps.now }
+    requires beside { vec_len known.old.beside ≡ length page.now.steps.now }
+    requires before { known.old.before + 1 < 2 ^ 64 }
+    ensures items { OnOk result (out.new ≡ out.old ++ forest_items 1 0 (length out.old)
+        (outermost_tree (steps_of page.now.steps.now) (known_of known.old)
+        (known.old.left - count (value_at page.now.tree.now node)) (value_at page.now.tree.now node))) }
+    ensures known { OnOk result (known_of known.new ≡ states.next_known (steps_of page.now.steps.now)
+        (known_of known.old) (known.old.left - count (value_at page.now.tree.now node))
+        (value_at page.now.tree.now node)) }
+    ensures left { OnOk result (known.new.left ≡ known.old.left - count (value_at page.now.tree.now node)) }
 {
     let NodeData::Element { name, attrs } = page.tree.data(node) else {
         return Ok(());
     };
     let (name, attrs) = (name.as_str(), attrs.as_slice());
-    let states = states_of(page.alloc, page.steps, states, name, attrs)?;
-    if is_named(page.steps, states.as_slice()) {
+    let named = name_element(page, node, name, attrs, known)?;
+    if is_named(page.steps, named.as_slice()) {
         return push_whole(out, page, node);
     }
+    let states = with_element(page.alloc, named.as_slice(), known.parent)?;
     push_outermost(out, page, node, states.as_slice())
 }
 
@@ -64,7 +79,7 @@ fn push_whole(out: &mut Tree, page: &Page<'_, Unchanged>, node: NodeId) -> Resul
     requires node { node < length page.now.tree.now }
     requires below { 0 < depth_at page.now.tree.now node }
     ensures { OnOk result (out.new ≡ out.old ++ forest_items 1 0 (length out.old)
-        (kept_tree unchanged [] [] (value_at page.now.tree.now node))) }
+        (kept_tree unchanged [] nothing_known 0 (value_at page.now.tree.now node))) }
 {
     let whole = Page {
         tree: page.tree,
@@ -72,7 +87,14 @@ fn push_whole(out: &mut Tree, page: &Page<'_, Unchanged>, node: NodeId) -> Resul
         rewrite: page.rewrite,
         alloc: page.alloc,
     };
-    push_kept_child(out, out.root(), &whole, node, &[])
+    let mut known = Known {
+        parent: &[],
+        beside: Vec::new(page.alloc),
+        before: 0,
+        left: 1,
+        has_no_parent: true,
+    };
+    push_kept_child(out, out.root(), &whole, node, &mut known)
 }
 
 /// The page without all elements that are named, and without what is below them. `Err` means out of memory.

@@ -2,6 +2,7 @@
 ghost use Rattle.std.specs.Prelude.{◌≡◌, ◌++◌, ◌==◌, [], length, OnOk, OnErr};
 ghost use Rattle.htmd_selectors.specs.declared.selectors.SelectorError.TheVariants.{Memory};
 
+use crate::series::Series;
 use std::alloc::{AllocError, AllocFailed, Global};
 use thiserror::Error;
 
@@ -24,6 +25,30 @@ pub(crate) enum Condition {
         comparison: Comparison,
         value: Vec<u8>,
     },
+    /// `:first-child`: no element of its parent is before it.
+    First,
+    /// `:last-child`: none is after it.
+    Last,
+    /// `:only-child`: its parent has no other element.
+    Only,
+    /// `:empty`: it holds neither an element nor a text.
+    Empty,
+    /// `:root`: no element is around it.
+    Root,
+    /// `:nth-child(2n+1)`: its place among the elements of its parent is one of these.
+    Nth {
+        side: Side,
+        series: Series,
+    },
+}
+
+/// From which side places are counted.
+#[derive(Clone, Copy)]
+pub(crate) enum Side {
+    /// As by `:nth-child()`.
+    First,
+    /// As by `:nth-last-child()`.
+    Last,
 }
 
 /// What a value is to the one that is written.
@@ -62,6 +87,10 @@ pub(crate) enum Relation {
     Child,
     /// It is about an element below that element.
     Below,
+    /// It is about the next element of the same parent.
+    Next,
+    /// It is about a later element of the same parent.
+    After,
 }
 
 /// Conditions that all have to be met.
@@ -129,7 +158,7 @@ pub enum SelectorError {
     /// Out of memory.
     #[error("out of memory")]
     Memory,
-    /// There is no selector before a comma, after `>` or at the end.
+    /// There is no selector before a comma, after `>`, `+` or `~`, or at the end.
     #[error("a selector is missing at byte {place}")]
     NoSelector { place: usize },
     /// There is no name after `.`, `#`, `[` or `=`, or a name begins with a digit.

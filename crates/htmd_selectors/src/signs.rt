@@ -1,10 +1,12 @@
 //! What single bytes, digits and short words of a selector mean.
 ghost use Rattle.std.specs.Prelude.{◌≡◌};
+ghost use Rattle.std.specs.Option.{option_map};
 ghost use Rattle.htmd_selectors.specs.Reading as spec;
+ghost use Rattle.htmd_selectors.specs.Views.{condition_of};
 
 use crate::matching::is_same_name;
 use crate::reader::Group;
-use crate::selectors::Operator;
+use crate::selectors::{Condition, Operator, Side};
 use htmd_scanning::number;
 
 /// Whether a name may hold this byte; all bytes of a character that isn't ASCII are.
@@ -63,6 +65,48 @@ pub(crate) fn group_named(name: &[u8]) -> Group
         return Group::Is;
     }
     Group::Outside
+}
+
+/// From which side the pseudo-class of this name counts the places in its parentheses.
+pub(crate) fn side_named(name: &[u8]) -> Option<Side>
+    ensures { result ≡ spec.side_named name.now }
+{
+    if is_same_name(name, b"nth-child") {
+        return Some(Side::First);
+    }
+    if is_same_name(name, b"nth-last-child") {
+        return Some(Side::Last);
+    }
+    None
+}
+
+/// Whether this byte relates a compound to the one before it.
+pub(crate) fn begins_relation(b: u8) -> bool
+    ensures { result ≡ spec.begins_relation b }
+{
+    b == b'>' || b == b'+' || b == b'~'
+}
+
+/// The condition that a pseudo-class without parentheses stands for.
+pub(crate) fn pseudo_class(name: &[u8]) -> Option<Condition>
+    ensures { option_map condition_of result ≡ spec.pseudo_class name.now }
+{
+    if is_same_name(name, b"first-child") {
+        return Some(Condition::First);
+    }
+    if is_same_name(name, b"last-child") {
+        return Some(Condition::Last);
+    }
+    if is_same_name(name, b"only-child") {
+        return Some(Condition::Only);
+    }
+    if is_same_name(name, b"empty") {
+        return Some(Condition::Empty);
+    }
+    if is_same_name(name, b"root") {
+        return Some(Condition::Root);
+    }
+    None
 }
 
 /// Whether a compound in parentheses ends before this byte.

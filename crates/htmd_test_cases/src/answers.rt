@@ -85,7 +85,8 @@ fn push_markdown(
     let tags = texts_of(alloc, &settings.skipped)?;
     let mut builder = HtmlToMarkdownBuilder::new(alloc)?
         .options(settings.options)
-        .scripting_enabled(settings.scripting);
+        .scripting_enabled(settings.scripting)
+        .anchors(settings.anchors);
     if !tags.is_empty() {
         builder = match builder.skip_tags(tags.as_slice()) {
             Ok(builder) => builder,

@@ -1,4 +1,5 @@
 //! The fields of the options, as a case names them.
+use htmd::Anchors;
 use htmd::options::{
     BrStyle, BulletListMarker, CodeBlockFence, CodeBlockStyle, HeadingStyle, HrStyle,
     LinkReferenceStyle, LinkStyle, Options, TranslationMode,
@@ -42,6 +43,16 @@ pub(crate) fn truth(value: &str) -> Option<bool> {
     match value {
         "true" => Some(true),
         "false" => Some(false),
+        _ => None,
+    }
+}
+
+/// What places of links are named by this.
+pub(crate) fn anchors(value: &str) -> Option<Anchors> {
+    match value {
+        "Linked" => Some(Anchors::Linked),
+        "All" => Some(Anchors::All),
+        "None" => Some(Anchors::None),
         _ => None,
     }
 }

@@ -1,6 +1,7 @@
 //! The settings of a case: what is asked, and how it is converted.
 use crate::faults::LineFault;
-use crate::options::{set_field, truth};
+use crate::options::{anchors, set_field, truth};
+use htmd::Anchors;
 use htmd::options::Options;
 use std::alloc::{AllocError, Global};
 
@@ -34,6 +35,8 @@ pub(crate) struct Settings {
     pub(crate) options: Options,
     /// whether the content of `noscript` is read as one text
     pub(crate) scripting: bool,
+    /// which places of links a document has
+    pub(crate) anchors: Anchors,
     /// the tags that are skipped, named in one call
     pub(crate) skipped: Vec<String>,
     /// the options of the program
@@ -47,6 +50,7 @@ impl Settings {
             question: Question::Convert,
             options: Options::default(),
             scripting: true,
+            anchors: Anchors::Linked,
             skipped: Vec::new(alloc),
             words: Vec::new(alloc),
         };
@@ -74,6 +78,7 @@ impl Settings {
         let (field, value) = word.split_once('=').unwrap_or((word, ""));
         let is_known = match field {
             "scripting" => self.set_scripting(value),
+            "anchors" => self.set_anchors(value),
             "skip_tags" => {
                 self.skipped = names_of(alloc, value)?;
                 !self.skipped.is_empty()
@@ -84,6 +89,15 @@ impl Settings {
             return Ok(());
         }
         Err(LineFault::UnknownSetting(String::from_str(alloc, word)?))
+    }
+
+    /// Sets the places of links, and answers whether the value is one.
+    fn set_anchors(&mut self, value: &str) -> bool {
+        let Some(anchors) = anchors(value) else {
+            return false;
+        };
+        self.anchors = anchors;
+        true
     }
 
     /// Sets the scripting, and answers whether the value is one.

@@ -1,7 +1,7 @@
 //! Pages of elements within elements.
 use crate::pages::{converted_page, expect_refusals};
+use htmd::FaultKind;
 use htmd::options::Options;
-use htmd::{FaultKind, HtmlToMarkdown, to_markdown};
 use htmd_test_expected::expect_text;
 use std::alloc::{AllocError, Global};
 use std::test::Fail;
@@ -40,24 +40,4 @@ fn refuses_deeper_pages(rt: HostRuntime) -> Result<(), Fail> {
         (row.as_str(), 5107, FaultKind::TooDeep),
     ];
     expect_refusals(rt.alloc(), &table)
-}
-
-// A reader sees at most 32 nested quotes.
-#[test]
-fn sees_quotes_to_a_bound(rt: HostRuntime) -> Result<(), Fail> {
-    let alloc = rt.alloc();
-    let mut html = String::new(alloc);
-    let mut seen = String::new(alloc);
-    for level in 0..1022 {
-        html.push_str("<blockquote>")?;
-        if level < 32 {
-            seen.push_str("> ")?;
-        }
-    }
-    html.push('x')?;
-    seen.push('x')?;
-    let converter = HtmlToMarkdown::new(alloc)?;
-    let document = converter.document(alloc, &html)?;
-    let markdown = to_markdown(alloc, &document, &converter.document_options())?;
-    expect_text("quotes", &markdown, &seen)
 }

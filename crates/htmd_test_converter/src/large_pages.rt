@@ -1,8 +1,8 @@
 //! Pages that no one writes by hand, as browsers read them. None is refused. No node is below level 1,024: what would
 //! be there follows the element at that level. And of the formatting elements that are open, a paragraph reopens the
 //! sixteen newest.
-use htmd::HtmlToMarkdown;
 use htmd::options::{Options, TranslationMode};
+use htmd::{HtmlToMarkdown, to_markdown};
 use htmd_test_expected::expect_text;
 use std::alloc::{AllocError, Global};
 use std::test::Fail;
@@ -103,4 +103,24 @@ fn keeps_a_thousand_attributes(rt: HostRuntime) -> Result<(), Fail> {
         html.as_str(),
         wanted.as_str(),
     )
+}
+
+// A reader sees at most 32 nested quotes.
+#[test]
+fn sees_quotes_to_a_bound(rt: HostRuntime) -> Result<(), Fail> {
+    let alloc = rt.alloc();
+    let mut html = String::new(alloc);
+    let mut seen = String::new(alloc);
+    for level in 0..1022 {
+        html.push_str("<blockquote>")?;
+        if level < 32 {
+            seen.push_str("> ")?;
+        }
+    }
+    html.push('x')?;
+    seen.push('x')?;
+    let converter = HtmlToMarkdown::new(alloc)?;
+    let document = converter.document(alloc, &html)?;
+    let markdown = to_markdown(alloc, &document, &converter.document_options())?;
+    expect_text("quotes", &markdown, &seen)
 }

@@ -74,6 +74,32 @@ const SELECTED: &[(&str, &str)] = &[
     ),
     ("body>:not(main)", "<nav class=\"a\tb\">N</nav>"),
     (":not(.aa):not(nav) > div:not(*)", "none"),
+    ("div + div", "<div>Q<div>R</div></div>"),
+    ("nav ~ main > div + div > :only-child", "<div>R</div>"),
+    ("main > :first-child", P),
+    ("main>:last-child>:empty, div ~ nav, a + *", "none"),
+    ("head:EMPTY", "<head></head>"),
+    ("main > :nth-child(2)", "<div>Q<div>R</div></div>"),
+    ("main>div:nth-last-child( 2N )", P),
+    ("main > *:Nth-Child(-n + 1)", P),
+    (
+        ":nth-child(n+3), body>:nth-child(even):not(:nth-last-child(odd))",
+        "none",
+    ),
+    ("nav+main>div~div", "<div>Q<div>R</div></div>"),
+    ("nav + div", "none"),
+    (
+        ":only-child:not(:root)",
+        "<a class=\"headerlink\" href=\"#\">#</a><div>R</div>",
+    ),
+    (
+        ":root:not(body) > body > nav:FIRST-child",
+        "<nav class=\"a\tb\">N</nav>",
+    ),
+    (
+        "body > main:not(:first-child, :root) > div:not(:last-child)",
+        P,
+    ),
 ];
 
 #[test]
@@ -102,6 +128,19 @@ const FAULTS: &[(&str, &str)] = &[
     ("a > > b", "a selector is missing at byte 4"),
     ("a, ", "a selector is missing at byte 3"),
     ("a:x", "the sign at byte 1 isn't supported"),
+    ("a + > b", "a selector is missing at byte 4"),
+    ("~ b", "a selector is missing at byte 0"),
+    ("a +", "a selector is missing at byte 3"),
+    ("a:not(+ b)", "a selector is missing at byte 6"),
+    ("a:not(b ~ c)", "the sign at byte 8 isn't supported"),
+    ("a:first-child(2)", "the sign at byte 1 isn't supported"),
+    ("a:nth-child", "the sign at byte 1 isn't supported"),
+    ("a:nth-child()", "the sign at byte 12 isn't supported"),
+    ("a:nth-child(2 of b)", "the sign at byte 12 isn't supported"),
+    (
+        "a:nth-child(1",
+        "`]`, `)` or a quotation mark is missing at byte 13",
+    ),
     ("b a:has(b)", "the sign at byte 3 isn't supported"),
     ("a:not(:is(b))", "the sign at byte 6 isn't supported"),
     ("a:not(b > c)", "the sign at byte 8 isn't supported"),

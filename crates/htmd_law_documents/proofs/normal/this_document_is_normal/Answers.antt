@@ -6,5 +6,7 @@ use Rattle.htmd_law_documents.proofs.normal.this_document_is_normal.Goals as goa
 
 pub returns : goal.returns
 returns c =
-    documents_are_normal (record { scripting = c.args.scripting; skip = map (λ name. name.now) c.args.skip.now })
-    (tree_of c.args.tree.now 0) (tree-text c.args.tree.now 0 c.root-root.ensures.texts)
+    documents_are_normal c.args.which
+    (record { scripting = c.args.scripting; skip = map (λ name. name.now) c.args.skip.now })
+    (tree_of c.args.tree.now 0)
+    (tree-text c.args.tree.now 0 c.root-root.ensures.texts)

@@ -1,4 +1,4 @@
-use Rattle.htmd_law_sizes.proofs.TreeCosts as laws
+use Rattle.htmd_law_sizes.proofs.PageLemmas as laws
 use Rattle.htmd_law_sizes.proofs.bounds.document_is_bounded.Goals as goal
 
 pub returns : goal.returns

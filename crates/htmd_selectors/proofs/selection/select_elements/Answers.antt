@@ -20,7 +20,7 @@ returns-then-is_empty c =
     (c.as_slice.ensures.value ∙ outside) c.in_ok-out.out c.push_outermost.new.out c.root.result
     c.in_ok-out.ensures c.root.ensures.value c.in_ok-push_outermost.ensures in
     let forest : ValueForest =
-    one_document (outermost (steps_of steps) [] (children_of_document (value_at c.args.tree.now 0))) in
+    one_document (outermost (steps_of steps) [] [] (children_of_document (value_at c.args.tree.now 0))) in
     let empty : eqb (length (children_of c.push_outermost.new.out 0)) 0 ≡ true = search rules in
     let none : eqb (length (children_of (document_items forest) 0)) 0 ≡ true =
     ap (λ (x : List Item). eqb (length (children_of x 0)) 0) (sym laid) ∙ empty in
@@ -39,7 +39,7 @@ returns c =
     (c.as_slice.ensures.value ∙ outside) c.in_ok-out.out c.push_outermost.new.out c.root.result
     c.in_ok-out.ensures c.root.ensures.value c.in_ok-push_outermost.ensures in
     let forest : ValueForest =
-    one_document (outermost (steps_of steps) [] (children_of_document (value_at c.args.tree.now 0))) in
+    one_document (outermost (steps_of steps) [] [] (children_of_document (value_at c.args.tree.now 0))) in
     let filled : eqb (length (children_of c.push_outermost.new.out 0)) 0 ≡ false = search rules in
     let some : eqb (length (children_of (document_items forest) 0)) 0 ≡ false =
     ap (λ (x : List Item). eqb (length (children_of x 0)) 0) (sym laid) ∙ filled in

@@ -13,7 +13,8 @@ returns-clause-done g c =
     let before = g.W.Sink.contents c.args.sink.now in
     let after = g.W.Sink.contents c.convert_page.new.sink in
     let rows : request.rows ≡ false =
-    ap (λ (r : Request). r.rows) (sym c.args.self.now.is_read) ∙ sym c.takes_rows.ensures ∙ c.if-takes_rows.false in
+    ap (λ (r : Request). r.rows) (sym c.args.self.now.is_read) ∙ sym c.takes_rows.ensures
+    ∙ c.if-takes_rows.false in
     on_ok_weaker c.convert_page.result (λ converts. converts_succeeds request input before after rows
     (alone_converts (page_in c.alone.result) request.settings input before after c.alone.ensures converts))
     c.convert_page.ensures.done

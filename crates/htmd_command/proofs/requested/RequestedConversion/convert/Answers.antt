@@ -24,7 +24,8 @@ returns-in-Ok g c =
     let request : Request = request_by c.args.self.now.options.now in
     let pages : Option (List PageValue) = pages_led c.args.self.now.pages in
     let rows : request.rows ≡ false =
-    ap (λ (r : Request). r.rows) (sym c.args.self.now.is_read) ∙ sym c.takes_rows.ensures ∙ c.if-takes_rows.false in
+    ap (λ (r : Request). r.rows) (sym c.args.self.now.is_read) ∙ sym c.takes_rows.ensures
+    ∙ c.if-takes_rows.false in
     on_ok_weaker c.convert_page.result (λ converts. page_becomes pages c.args.page.now request
     (page_in c.in-Ok.added) (g.R.Source.remaining c.args.source.now) (g.W.Sink.contents c.args.sink.now)
     (g.W.Sink.contents c.convert_page.new.sink) rows c.in-Ok.ensures converts) c.convert_page.ensures.done

@@ -1,8 +1,0 @@
--- What the loop of `holds_return` keeps.
-use Rattle.std.proofs.Common.{◌≡◌, take}
-use Rattle.std.specs.List.{list_any}
-use Rattle.htmd_document_of_tree.specs.TextViews.{is_return}
-use Rattle.htmd_document_of_tree.proofs.all_text.holds_return.Given as goal
-
-abbrev pub invariant-loop-b : goal.invariant-loop-b
-invariant-loop-b l = l.found ≡ list_any is_return (take l.b-index l.bytes)

@@ -1,6 +1,0 @@
-use Rattle.std.proofs.Common.{arith}
-use Rattle.htmd_document_of_tree.proofs.FlowLeavesLemmas.{at_most_more}
-use Rattle.htmd_document_of_tree.proofs.flow.is_paragraph_at_most.Goals as goal
-
-pub returns-in_default : goal.returns-in_default
-returns-in_default c = at_most_more c.args.blocks.now (omega arith)

@@ -1,5 +1,0 @@
-use Rattle.htmd_document_of_tree.proofs.ListBlocksLemmas.{block-list}
-use Rattle.htmd_document_of_tree.proofs.list.list_block.Goals as goal
-
-pub returns : goal.returns
-returns c = block-list c.args.start c.args.tight c.args.items

@@ -1,0 +1,17 @@
+use Rattle.std.proofs.Common.{◌≡◌, ◌++◌, map, length}
+use Rattle.htmd_shown.specs.SimpleTrees as simple
+use Rattle.htmd_shown.specs.SimpleViews.{simple_of}
+use Rattle.htmd_document_of_tree.specs.TargetViews.{ids_here, targets_here}
+use Rattle.htmd_document_of_tree.proofs.placing.Placing.anchors.Given as goal
+
+abbrev pub invariant-loop-id : goal.invariant-loop-id
+invariant-loop-id l = record {
+  root : l.self.root ≡ l.initial.self.root;
+  seen : l.self.seen ≡ l.initial.self.seen;
+  targets : targets_here l.self ≡ targets_here l.initial.self;
+  anchors : map simple_of l.anchors.items ++ map simple.anchor (ids_here l.self)
+      ≡ map simple.anchor (ids_here l.initial.self);
+}
+
+abbrev pub decreases-loop-id : goal.decreases-loop-id
+decreases-loop-id l = length l.self.targets.items

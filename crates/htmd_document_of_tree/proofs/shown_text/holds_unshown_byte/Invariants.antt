@@ -1,8 +1,0 @@
--- What the loop of `holds_unshown_byte` keeps.
-use Rattle.std.proofs.Common.{◌≡◌, take}
-use Rattle.std.specs.List.{list_any}
-use Rattle.htmd_document_of_tree.specs.TextViews.{is_unshown_byte}
-use Rattle.htmd_document_of_tree.proofs.shown_text.holds_unshown_byte.Given as goal
-
-abbrev pub invariant-loop-b : goal.invariant-loop-b
-invariant-loop-b l = l.found ≡ list_any is_unshown_byte (take l.b-index l.bytes)

@@ -1,0 +1,25 @@
+-- Lemmas on flow.
+pub mod AroundLemmas
+pub mod BlocksLemmas
+pub mod ElementsLemmas
+pub mod FeedLemmas
+pub mod FlowExamples
+pub mod GridsLemmas
+pub mod GroupsLemmas
+pub mod LanguagesLemmas
+pub mod LeavesLemmas
+pub mod LevelsLemmas
+pub mod ListBlocksLemmas
+pub mod ListsLemmas
+pub mod LoopsLemmas
+pub mod NestLemmas
+pub mod NestingLemmas
+pub mod NodesLemmas
+pub mod ParagraphExamples
+pub mod ParagraphsLemmas
+pub mod PartsLemmas
+pub mod PieceFeedLemmas
+pub mod PiecesLemmas
+pub mod RowsLemmas
+pub mod TableRowsLemmas
+pub mod TermsLemmas

@@ -1,0 +1,9 @@
+-- What is left to prove of `push_text`.
+use Rattle.std.proofs.Common.{◌∙◌, ap}
+use Rattle.htmd_document.specs.Documents as value
+use Rattle.htmd_flow.proofs.NestLemmas.{inlines-pushed, inline-text}
+use Rattle.htmd_flow.proofs.nest.push_text.Goals as goal
+
+pub returns : goal.returns
+returns c = inlines-pushed _ _ _ _ c.in_ok-push.ensures.items
+    (inline-text c.in_ok-from_str.field-0 ∙ ap value.text c.in_ok-from_str.ensures.ok)

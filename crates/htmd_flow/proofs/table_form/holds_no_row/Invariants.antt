@@ -1,0 +1,9 @@
+use Rattle.std.proofs.Common.{◌≡◌, drop, map}
+use Rattle.std.specs.List.{list_all}
+use Rattle.htmd_flow.specs.Tables.{is_no_row}
+use Rattle.htmd_shown.specs.SimpleViews.{simple_of}
+use Rattle.htmd_flow.proofs.table_form.holds_no_row.Given as goal
+
+abbrev pub invariant-loop-node : goal.invariant-loop-node
+invariant-loop-node l =
+    list_all is_no_row (map simple_of (drop l.node-index l.nodes)) ≡ list_all is_no_row (map simple_of l.nodes)

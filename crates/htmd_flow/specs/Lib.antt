@@ -1,0 +1,23 @@
+-- Definitions of flow.
+pub mod Contexts
+pub mod FlowViews
+pub mod Flows
+pub mod GridViews
+pub mod Grids
+pub mod GroupViews
+pub mod ItemViews
+pub mod LanguageViews
+pub mod Languages
+pub mod Levels
+pub mod ListViews
+pub mod Lists
+pub mod NestViews
+pub mod Nesting
+pub mod ParagraphViews
+pub mod Paragraphs
+pub mod PartViews
+pub mod Parts
+pub mod TableViews
+pub mod Tables
+pub mod TermViews
+pub mod Terms

@@ -1,0 +1,93 @@
+-- The law of anchors.
+use Rattle.std.specs.Prelude.{◌≡◌, ℕ, suc, true, false, List, [], ◌∷◌, ◌++◌, map, take, filter, All, None}
+use Rattle.std.specs.List.{flat_map, list_all, IsDistinct}
+use Rattle.std.specs.Str.{bytes_eq}
+use Rattle.htmd_nodes.specs.NumberedTrees.{NumberedTree}
+use Rattle.htmd_document.specs.Documents.{Blocks}
+use Rattle.htmd_shown.specs.Attributes.{is_filled}
+use Rattle.htmd_shown.specs.Roles.{is_among}
+use Rattle.htmd_shown.specs.Shown.{Sight, shown_in}
+use Rattle.htmd_shown.specs.SimpleTrees.{Simples}
+use Rattle.htmd_document_of_tree.specs.declared.anchors.Anchors.{Anchors}
+use Rattle.htmd_document_of_tree.specs.declared.anchors.Anchors.TheVariants as which
+use Rattle.htmd_document_of_tree.specs.Anchors.{targets_by, ids_up_to, targets_past, values_of}
+use Rattle.htmd_document_of_tree.specs.Leadings.{all_leadings, is_led_to}
+use Rattle.htmd_document_of_tree.specs.Limits.{limited}
+use Rattle.htmd_document_of_tree.specs.Targets.{Target, targets_among}
+use Rattle.htmd_document_of_tree.specs.TreeDocuments.{document_of_tree}
+use Rattle.htmd_law_anchors.specs.DocumentMarks.{Mark, letter, place, marks_of_blocks}
+use Rattle.htmd_law_anchors.specs.ShownThings.{ShowAll}
+use Rattle.htmd_law_documents.specs.TreeForms.{is_text_tree}
+
+-- ---- in order
+
+-- things to see, of which n were before, with the anchors that stand before each, and those that nothing follows
+abbrev pub with_places : ℕ → List Target → List (List ℕ) → List Mark
+with_places n targets [] = map place (values_of targets)
+with_places n targets (thing ∷ things) =
+    map place (ids_up_to n targets) ++ map letter thing ++ with_places (suc n) (targets_past n targets) things
+
+-- ---- each anchor
+
+-- the characters among marks, and the anchors
+abbrev pub character_of : Mark → List ℕ
+character_of (letter c) = c ∷ []
+character_of (place id) = []
+
+abbrev pub characters_of : List Mark → List ℕ
+characters_of marks = flat_map character_of marks
+
+abbrev pub id_of : Mark → List (List ℕ)
+id_of (letter c) = []
+id_of (place id) = id ∷ []
+
+abbrev pub ids_of : List Mark → List (List ℕ)
+ids_of marks = flat_map id_of marks
+
+-- what the first things say
+abbrev pub said_before : ℕ → List (List ℕ) → List ℕ
+said_before n things = flat_map (λ thing. thing) (take n things)
+
+-- the anchor of a target: before it is visible what the things to see before its place say, and no other character
+pub record Stands (things : List (List ℕ)) (marks : List Mark) (target : Target) : Type 0 where
+  pub front : List Mark
+  pub rest : List Mark
+  pub is : marks ≡ front ++ place target.value ∷ rest
+  pub before : characters_of front ≡ said_before target.seen things
+
+-- ---- the law
+
+-- A document of what shows, with these targets: it has their anchors and no other, in order; each once, and none empty;
+-- and each where the page has what links to it lead to.
+pub record HasAnchors (shown : Simples) (targets : List Target) (document : Blocks) : Type 0 where
+  -- what each thing to see says
+  pub things : List (List ℕ)
+  pub show : ShowAll false false shown things
+  pub in_order : marks_of_blocks document ≡ with_places 0 targets things
+  pub stand : All (Stands things (marks_of_blocks document)) targets
+  pub ids : ids_of (marks_of_blocks document) ≡ values_of targets
+  pub unique : IsDistinct bytes_eq (values_of targets)
+  pub filled : list_all is_filled (values_of targets) ≡ true
+
+-- The document of a tree: the targets are those of the nodes that it is made of, within the budget of their links.
+abbrev pub AnchorsOfTree : Anchors → Sight → NumberedTree → Type 0
+AnchorsOfTree anchors sight tree =
+    HasAnchors (shown_in sight tree) (targets_by anchors (limited (shown_in sight tree)))
+    (document_of_tree anchors sight.scripting sight.skip tree)
+
+-- So it is for every tree of texts, with whatever anchors.
+abbrev pub LinksLeadThere : Type 0
+LinksLeadThere = (anchors : Anchors) (sight : Sight) (tree : NumberedTree) → is_text_tree tree ≡ true
+    → AnchorsOfTree anchors sight tree
+
+-- By links the targets are those of all that a link leads to, and not only from the heading that their place is in.
+abbrev pub LinkedAreLedTo : Type 0
+LinkedAreLedTo = (trees : Simples)
+    → targets_by which.Linked trees
+    ≡ filter (λ (t : Target). is_led_to (all_leadings trees) t.value t.seen) (targets_by which.All trees)
+
+-- Each value of the page, an id or a name, is that of a target.
+abbrev pub EachValueHasTarget : Type 0
+EachValueHasTarget = (trees : Simples) (s : List ℕ)
+    → is_among (values_of (targets_among (λ value. true) None 0 trees)) s ≡ true
+    → is_among (values_of (targets_by which.All trees)) s ≡ true

@@ -1,0 +1,13 @@
+use Rattle.std.proofs.Common.{◌≡◌, ◌+◌, ◌≤◌, drop}
+use Rattle.htmd_nodes.specs.Items.{children_of}
+use Rattle.htmd_nodes.specs.NumberedTrees.{tree_of, forest_of, value_forest}
+use Rattle.htmd_selectors.specs.SelectedParts.{elements_in}
+use Rattle.htmd_selectors.proofs.copying.elements_in.Given as goal
+
+abbrev pub invariant-loop-child : goal.invariant-loop-child
+invariant-loop-child l = record {
+  items : l.child-items ≡ children_of l.tree l.fn.node;
+  bound : l.count ≤ l.child-index;
+  rest : l.count + elements_in (value_forest (forest_of (tree_of l.tree) (drop l.child-index l.child-items)))
+      ≡ elements_in (value_forest (forest_of (tree_of l.tree) l.child-items));
+}

@@ -1,0 +1,6 @@
+use Rattle.std.proofs.Common.{◌≡◌, ℕ, ◌<◌, get_or, true}
+use Rattle.std.specs.Char.{is_ascii_whitespace}
+use Rattle.htmd_shown.proofs.attributes.white_len.Given as goal
+
+abbrev pub invariant-loop-len : goal.invariant-loop-len
+invariant-loop-len l = (k : ℕ) → k < l.len → (is_ascii_whitespace) (get_or l.text k 0) ≡ true

@@ -1,0 +1,10 @@
+use Rattle.std.proofs.Common.{◌≡◌, drop}
+use Rattle.htmd_nodes.specs.NumberedTrees.{tree_of, forest_of}
+use Rattle.htmd_shown.specs.Formulas.{annotation}
+use Rattle.htmd_shown.proofs.formula.annotation.Given as goal
+
+-- the nodes to come decide
+abbrev pub invariant-loop-node : goal.invariant-loop-node
+invariant-loop-node l =
+    annotation (forest_of (tree_of l.tree) l.nodes)
+    ≡ annotation (forest_of (tree_of l.tree) (drop l.node-index l.nodes))

@@ -1,0 +1,10 @@
+use Rattle.std.proofs.Common.{◌≡◌, drop}
+use Rattle.htmd_nodes.specs.NumberedTrees.{tree_of, forest_of}
+use Rattle.htmd_shown.specs.Repeats.{has_script}
+use Rattle.htmd_shown.proofs.repeats.has_script.Given as goal
+
+-- the nodes to come decide
+abbrev pub invariant-loop-node : goal.invariant-loop-node
+invariant-loop-node l =
+    has_script (forest_of (tree_of l.tree) l.nodes)
+    ≡ has_script (forest_of (tree_of l.tree) (drop l.node-index l.nodes))

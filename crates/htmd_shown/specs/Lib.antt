@@ -1,0 +1,26 @@
+-- What shows of a page.
+pub mod AllTexts
+pub mod Attributes
+pub mod Belows
+pub mod ClassWords
+pub mod EmbedViews
+pub mod Embeds
+pub mod Facts
+pub mod Formulas
+pub mod Images
+pub mod Kinds
+pub mod LineNumbers
+pub mod Marks
+pub mod PageViews
+pub mod Permalinks
+pub mod Pieces
+pub mod Repeats
+pub mod Roles
+pub mod Shown
+pub mod ShownTexts
+pub mod SightViews
+pub mod SimpleTrees
+pub mod SimpleViews
+pub mod SpaceViews
+pub mod Spaces
+pub mod TextViews
