@@ -2,7 +2,8 @@
 
 `tools/NAME` writes its tables, and `tools/NAME --check` says which differ from what the repository holds; its last line
 is `N passed, M failed`. A table is found by the line that declares it, in any crate. White space doesn't count, so
-that `rt fmt` may lay a table out; run it after a table was written.
+that `rt fmt` may lay a table out; run it after a table was written. Those of many characters, which are marked with
+`rattlefmt::skip`, are laid out here.
 """
 import glob
 import os
@@ -22,10 +23,21 @@ class Table:
         self.text = text
 
 
-def code(name, what, items):
-    """A constant or static array of Rattle."""
+def rows(items):
+    """Items in lines of at most 120 bytes, for a table that `rt fmt` leaves as it is."""
+    lines = [""]
+    for item in items:
+        if len(f"  {lines[-1]} {item},".encode()) > 120:
+            lines.append("")
+        lines[-1] += f" {item}," if lines[-1] else f"{item},"
+    return lines
+
+
+def code(name, what, items, is_laid_out=False):
+    """A constant or static array of Rattle, an item a line, or in lines that are laid out."""
     begins = rf"(?:pub(?:\([^)]*\))? )?(?:static|const) {name}: \[.*?; \d+\] = \["
-    text = f"{name}: [{what}; {len(items)}] = [" + "".join(f"\n    {item}," for item in items) + "\n];"
+    lines = [f"  {row}" for row in rows(items)] if is_laid_out else [f"    {item}," for item in items]
+    text = f"{name}: [{what}; {len(items)}] = [" + "".join(f"\n{line}" for line in lines) + "\n];"
     return Table(name, begins, r"\];", text)
 
 
