@@ -2,13 +2,15 @@
 use Rattle.std.proofs.Common.{◌≡◌, ℕ, zero, suc, ◌+◌, ◌-◌, ◌<◌, ◌≤◌, Bool, true, false, cond, List, [], ◌∷◌, ◌++◌}
 use Rattle.std.proofs.Common.{length, get_or, take, drop, min, refl, sym, ap, ◌∙◌, arith, append_assoc, codes}
 use Rattle.std.proofs.Common.{length-append}
-use Rattle.std.specs.Prelude.{◌==◌, not, nat_lt, replicate, map, Result, Ok, Err, OnOk}
+use Rattle.std.specs.Prelude.{◌==◌, nat_lt, replicate, map, Result, Ok, Err, OnOk}
 use Rattle.std.specs.Result.{is_ok}
 use Rattle.std.specs.Char.{is_ascii}
-use Rattle.std.specs.List.{flat_map, list_all, list_any, onto_first, prefix_len, suffix_len, slice_split}
-use Rattle.std.proofs.lemmas.Bool.{and_parts, not-true, or_parts}
+use Rattle.std.specs.List.{between, flat_map, list_all, list_any, onto_first, prefix_len, suffix_len, slice_split}
+use Rattle.std.proofs.lemmas.Bool.{and_parts, or_parts}
 use Rattle.std.proofs.lemmas.Bool.Decides.{nat_tests}
-use Rattle.std.proofs.lemmas.List.{append-nil, drop_all, drop-append-le, reverse-append, take_all, take-append-le}
+use Rattle.std.proofs.lemmas.List.{append-nil, drop_all, drop_more, drop-append-le, drop-drop, reverse-append, take_all}
+use Rattle.std.proofs.lemmas.List.{take-append-drop, take-append-le}
+use Rattle.std.proofs.lemmas.List.Edits.{between_more}
 use Rattle.std.proofs.lemmas.List.Splits.{slice_split-cons_yes, slice_split-cons_no}
 use Rattle.std.proofs.lemmas.List.Sums.{suffix_len-le-length}
 use Rattle.std.proofs.lemmas.List.Folds.{list_any-append}
@@ -17,7 +19,6 @@ use Rattle.htmd_lexical.specs.Characters.{line_feed, space}
 use Rattle.htmd_text.specs.Indents.{indented_line, indented_lines, next_line}
 use Rattle.htmd_text.specs.Joins.{joined_texts}
 use Rattle.htmd_text.specs.Trims.{trimmed_end, is_line_feed, is_space}
-use Rattle.htmd_markdown.proofs.JoinedTextsLemmas.{joined_more, separator_unless}
 use Rattle.htmd_commonmark.specs.Pages.{Page, due, due_at_end, begun, with_byte, wrote, left, in_quote, behind_quote}
 use Rattle.htmd_commonmark.specs.Pages.{in_item, behind_item, quoted, quoted_line, gap, indented}
 
@@ -75,6 +76,25 @@ text_in_line page b s none =
     let first : with_byte page b ≡ begun page ((page.out ++ due page) ++ b ∷ []) = rw parts.0 refl in
     ap (λ p. wrote p s) first ∙ begun-text page ((page.out ++ due page) ++ b ∷ []) s parts.1
     ∙ ap (begun page) (append_assoc (page.out ++ due page) (b ∷ []) s)
+
+-- a line, its line feed, and what follows
+pub line_wrote : (page : Page) (s : List ℕ) (from i : ℕ) → from ≤ i → i < length s
+    → get_or s i 0 ≡ line_feed
+    → wrote page (drop from s) ≡ wrote (with_byte (wrote page (between from i s)) line_feed) (drop (i + 1) s)
+line_wrote page s from i le lt here =
+    let behind : drop (i - from) (drop from s) ≡ get_or s i 0 ∷ drop (i + 1) s =
+    drop-drop (i - from) from s ∙ ap (λ n. drop n s) (omega arith) ∙ drop_more s i 0 lt in
+    let parts : drop from s ≡ between from i s ++ line_feed ∷ drop (i + 1) s =
+    sym (take-append-drop (i - from) (drop from s))
+    ∙ ap (λ l. between from i s ++ l) (behind ∙ ap (λ b. b ∷ drop (i + 1) s) here) in
+    ap (wrote page) parts ∙ wrote-append page (between from i s) (line_feed ∷ drop (i + 1) s)
+
+-- one more byte of a line
+pub line_grown : (s : List ℕ) (from i : ℕ) → from ≤ i → i < length s → (get_or s i 0 == line_feed) ≡ false
+    → list_any is_line_feed (between from i s) ≡ false → list_any is_line_feed (between from (i + 1) s) ≡ false
+line_grown s from i le lt other none =
+    ap (list_any is_line_feed) (between_more s from i 0 le lt)
+    ∙ list_any-append is_line_feed (between from i s) (get_or s i 0 ∷ []) ∙ rw (none, other) refl
 
 -- ---- the spaces at the end of a prefix
 
@@ -485,60 +505,6 @@ in_item-wrote page b marker spaces s none =
     ∙ sym (wrote-append page (b ∷ marker) lines ∙ ap (λ p. wrote p lines) at)
     ∙ ap (wrote page) same
 
--- ---- lines of a text
-
-abbrev is_line : List ℕ → Bool
-is_line l = not (list_any is_line_feed l)
-
-lines_with : (b : ℕ) (ls : List (List ℕ)) → (b == line_feed) ≡ false → list_all is_line ls ≡ true
-    → list_all is_line (onto_first b ls) ≡ true
-lines_with b [] other all = rw other refl
-lines_with b (l ∷ ls) other all = rw other all
-
-split_byte : (b : ℕ) (s : List ℕ) → list_all is_line (slice_split is_line_feed s) ≡ true → (t : Bool)
-    → (b == line_feed) ≡ t → list_all is_line (slice_split is_line_feed (b ∷ s)) ≡ true
-split_byte b s all true here = ap (list_all is_line) (slice_split-cons_yes is_line_feed b s here) ∙ all
-split_byte b s all false other =
-    ap (list_all is_line) (slice_split-cons_no is_line_feed b s other)
-    ∙ lines_with b (slice_split is_line_feed s) other all
-
-split_lines : (s : List ℕ) → list_all is_line (slice_split is_line_feed s) ≡ true
-split_lines [] = refl
-split_lines (b ∷ s) = split_byte b s (split_lines s) (b == line_feed) refl
-
-line_among : (ls : List (List ℕ)) (k : ℕ) (d : List ℕ) → list_all is_line ls ≡ true → k < length ls
-    → list_any is_line_feed (get_or ls k d) ≡ false
-line_among [] k d all lt = absurd (omega arith)
-line_among (l ∷ ls) zero d all lt =
-    not-true (list_any is_line_feed l) (and_parts (is_line l) (list_all is_line ls) all).0
-line_among (l ∷ ls) (suc k) d all lt =
-    line_among ls k d (and_parts (is_line l) (list_all is_line ls) all).1 (omega arith)
-
--- a line of a text has no line feed
-pub line_at : (s l : List ℕ) (k : ℕ) → (k < length (slice_split is_line_feed s))
-    × (l ≡ get_or (slice_split is_line_feed s) k l) → list_any is_line_feed l ≡ false
-line_at s l k here =
-    ap (list_any is_line_feed) here.1 ∙ line_among (slice_split is_line_feed s) k l (split_lines s) here.0
-
--- one more line
-pub next_line-wrote : (first page next : Page) (ls : List (List ℕ)) (n : ℕ) (l : List ℕ) (is_first : Bool)
-    → (n < length ls) × (l ≡ get_or ls n l) → is_first ≡ (n == 0)
-    → page ≡ wrote first (joined_texts (line_feed ∷ []) (map (λ line. line) (take n ls)))
-    → next ≡ wrote (cond (not is_first) (with_byte page line_feed) page) l
-    → next ≡ wrote first (joined_texts (line_feed ∷ []) (map (λ line. line) (take (n + 1) ls)))
-next_line-wrote first page next ls n l is_first here begun was is =
-    let so_far = joined_texts (line_feed ∷ []) (map (λ line. line) (take n ls)) in
-    let more = joined_more (line_feed ∷ []) (λ line. line) ls n l [] is_first here begun in
-    is ∙ with_separator is_first
-    ∙ ap (λ p. wrote p (separator_unless is_first (line_feed ∷ []) ++ l)) was
-    ∙ sym (wrote-append first so_far (separator_unless is_first (line_feed ∷ []) ++ l))
-    ∙ ap (wrote first) (sym (append_assoc so_far (separator_unless is_first (line_feed ∷ [])) l) ∙ more)
-  where
-    with_separator : (t : Bool) → wrote (cond (not t) (with_byte page line_feed) page) l
-        ≡ wrote page (separator_unless t (line_feed ∷ []) ++ l)
-    with_separator true = refl
-    with_separator false = refl
-
 -- ---- what the code pushes
 
 pub text_pushed : (page : Page) (s : List ℕ) → (length s == 0) ≡ false → list_any is_line_feed s ≡ false
@@ -579,38 +545,6 @@ signs-more page n sign =
     replicate-push (suc n) sign =
         let same : suc (n + 1) ≡ suc n + 1 = omega arith in
         ap (λ l. sign ∷ l) (replicate-push n sign) ∙ ap (λ k. replicate k sign) same
-
--- ---- the lines, joined again
-
-record JoinedLines (s : List ℕ) : Type 0 where
-  pub first : List ℕ
-  pub others : List (List ℕ)
-  pub is : slice_split is_line_feed s ≡ first ∷ others
-  pub back : first ++ flat_map (λ next. line_feed ∷ [] ++ next) others ≡ s
-
-joined_byte : (b : ℕ) (s : List ℕ) → JoinedLines s → (t : Bool) → (b == line_feed) ≡ t
-    → JoinedLines (b ∷ s)
-joined_byte b s ls true here =
-    let same : line_feed ≡ b = grind (arith, nat_tests) in
-    record {
-      first = [];
-      others = ls.first ∷ ls.others;
-      is = slice_split-cons_yes is_line_feed b s here ∙ ap (λ l. [] ∷ l) ls.is;
-      back = ap (λ l. line_feed ∷ l) ls.back ∙ ap (λ c. c ∷ s) same;
-    }
-joined_byte b s ls false other = record {
-  first = b ∷ ls.first;
-  others = ls.others;
-  is = slice_split-cons_no is_line_feed b s other ∙ ap (onto_first b) ls.is;
-  back = ap (λ l. b ∷ l) ls.back;
-}
-
-joined : (s : List ℕ) → JoinedLines s
-joined [] = record { first = []; others = []; is = refl; back = refl }
-joined (b ∷ s) = joined_byte b s (joined s) (b == line_feed) refl
-
-pub joined_back : (s : List ℕ) → joined_texts (line_feed ∷ []) (slice_split is_line_feed s) ≡ s
-joined_back s = let ls = joined s in ap (joined_texts (line_feed ∷ [])) ls.is ∙ ls.back
 
 -- the prefix with more spaces
 pub prefix_grows : (prefix longer : List ℕ) (written n : ℕ) → longer ≡ prefix ++ replicate n space

@@ -3,6 +3,7 @@ ghost use Rattle.std.specs.Prelude.{◌≡◌, ◌++◌, IsTrue, OnOk, slice_get
 ghost use Rattle.std.specs.Char.{is_ascii};
 ghost use Rattle.std.specs.List.{list_all, list_any, prefix_len};
 ghost use Rattle.std.specs.Option.{option_copied};
+ghost use Rattle.htmd_lexical.specs.Characters.{is_one_of};
 ghost use Rattle.htmd_commonmark.specs.Addresses as spec;
 
 use crate::reference::{begins_reference, holds_reference};
@@ -75,7 +76,14 @@ fn push_escaped_in(out: &mut String, text: &str, signs: &[u8]) -> Result<(), All
 fn is_escaped(byte: u8, rest: &[u8], signs: &[u8]) -> bool
     ensures { result ≡ spec.is_escaped signs.now byte rest.now }
 {
-    signs.contains(&byte) || byte == b'\\' && may_escape(rest)
+    is_one_of(byte, signs) || byte == b'\\' && may_escape(rest)
+}
+
+/// Whether the byte is one of the signs.
+fn is_one_of(byte: u8, signs: &[u8]) -> bool
+    ensures { result ≡ is_one_of signs.now byte }
+{
+    signs.iter().any(|sign| byte == *sign)
 }
 
 /// Whether a backslash before these bytes escapes.

@@ -73,15 +73,16 @@ impl Lines {
     pub(crate) fn push(&mut self, text: &str) -> Result<(), AllocError>
         ensures { OnOk result (self.new ≡ page.wrote self.old text.now) }
     {
-        let mut is_first = true;
-        for line in text.split('\n') {
-            if !is_first {
+        let bytes = text.as_bytes();
+        let mut from = 0;
+        for i in 0..bytes.len() {
+            if bytes[i] == b'\n' {
+                self.push_in_line(&text[from..i])?;
                 self.end_line()?;
+                from = i + 1;
             }
-            self.push_in_line(line)?;
-            is_first = false;
         }
-        Ok(())
+        self.push_in_line(&text[from..])
     }
 
     /// Ends the line of a block; the next block of a loose text comes after an empty line.

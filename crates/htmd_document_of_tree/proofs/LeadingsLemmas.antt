@@ -1,8 +1,15 @@
 -- Lemmas on where links lead.
-use Rattle.std.proofs.Common.{◌≡◌, ℕ, ◌+◌, ◌<◌, ◌≤◌, Bool, true, false, cond, not, ◌||◌, ◌&&◌, nat_le, nat_lt, min, max}
+use Rattle.std.proofs.Common.{◌≡◌, ℕ, ◌+◌, ◌*◌, ◌<◌, ◌≤◌, Bool, true, false, cond, not, ◌||◌, ◌&&◌, nat_le, nat_lt, min, max}
 use Rattle.std.proofs.Common.{List, [], ◌∷◌, ◌++◌, length, map, drop, get_or, Option, Some, None, is_some, refl, ap, sym, ◌∙◌}
 use Rattle.std.proofs.Common.{add-one, arith}
+use Rattle.std.specs.Char.{digit_value, is_digit}
+use Rattle.std.specs.List.{list_any}
 use Rattle.std.specs.Option.{unwrap_or}
+use Rattle.std.specs.Str.{IsUtf8}
+use Rattle.std.specs.Str.Lossy.{utf8_lossy}
+use Rattle.std.proofs.lemmas.Bool.{or_parts}
+use Rattle.std.proofs.lemmas.Str.{utf8_lossy-IsUtf8}
+use Rattle.percent_encoding.specs.Percent.{percent_decode, percent_sign}
 use Rattle.std.proofs.lemmas.Bool.Decides.{nat_tests}
 use Rattle.htmd_lexical.proofs.BytesLemmas.{same_bytes}
 use Rattle.std.specs.Prelude.{◌≢◌, ◌==◌}
@@ -37,6 +44,57 @@ pub merged-append : (known : Option Span) (s : List ℕ) (xs ys : List Leading)
 merged-append known s [] ys = refl
 merged-append known s (l ∷ xs) ys =
     merged-append (cond (bytes_eq l.to s) (Some (in_both known (span_of l.heading))) known) s xs ys
+
+-- ---- a value that is led to twice
+
+abbrev made : ℕ → ℕ → Span
+made from until = record { from = from; until = until }
+
+both_twice : (known : Option Span) (span : Span) → in_both (Some (in_both known span)) span ≡ in_both known span
+both_twice None span =
+    let from : max span.from span.from ≡ span.from = omega arith in
+    let until : min span.until span.until ≡ span.until = omega arith in
+    ap (λ n. made n (min span.until span.until)) from ∙ ap (made span.from) until
+both_twice (Some known) span =
+    let from : max (max known.from span.from) span.from ≡ max known.from span.from = omega arith in
+    let until : min (min known.until span.until) span.until ≡ min known.until span.until = omega arith in
+    ap (λ n. made n (min (min known.until span.until) span.until)) from ∙ ap (made (max known.from span.from)) until
+
+pub merged-twice : (known : Option Span) (s : List ℕ) (heading : Option Span) (value : List ℕ)
+    → merged known s (leading_to heading value ++ leading_to heading value)
+    ≡ merged known s (leading_to heading value)
+merged-twice known s heading value = by (is_filled value)
+  where
+    led : Bool → List Leading
+    led filled = cond filled (record { to = value; heading = heading } ∷ []) []
+
+    twice : (is : Bool)
+        → cond is (Some (in_both (cond is (Some (in_both known (span_of heading))) known) (span_of heading)))
+        (cond is (Some (in_both known (span_of heading))) known)
+        ≡ cond is (Some (in_both known (span_of heading))) known
+    twice true = ap (λ span. Some span) (both_twice known (span_of heading))
+    twice false = refl
+
+    by : (filled : Bool) → merged known s (led filled ++ led filled) ≡ merged known s (led filled)
+    by true = twice (bytes_eq value s)
+    by false = refl
+
+-- what has no percent sign is decoded to itself
+decoded_bytes : (s : List ℕ) → list_any (λ b. b == percent_sign) s ≡ false → percent_decode s ≡ s
+unfolding percent_decode
+decoded_bytes [] none = refl
+decoded_bytes (b ∷ []) none = refl
+decoded_bytes (b ∷ c ∷ []) none = refl
+decoded_bytes (b ∷ high ∷ low ∷ rest) none =
+    let parts = or_parts (b == percent_sign) (list_any (λ c. c == percent_sign) (high ∷ low ∷ rest)) none in
+    ap (λ is. cond (is && is_digit high 16 && is_digit low 16)
+    ((16 * digit_value high + digit_value low) ∷ percent_decode rest) (b ∷ percent_decode (high ∷ low ∷ rest)))
+    parts.0
+    ∙ ap (λ l. b ∷ l) (decoded_bytes (high ∷ low ∷ rest) parts.1)
+
+pub decoded_plain : (s : List ℕ) → IsUtf8 s → list_any (λ b. b == percent_sign) s ≡ false
+    → utf8_lossy (percent_decode s) ≡ s
+decoded_plain s u none = ap utf8_lossy (decoded_bytes s none) ∙ utf8_lossy-IsUtf8 s u
 
 -- ---- from an element on
 

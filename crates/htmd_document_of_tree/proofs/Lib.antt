@@ -1,5 +1,6 @@
 -- Lemmas on documents of trees.
 mod AnchorsLemmas
+mod CoversLemmas
 mod Examples
 mod FirstPiecesLemmas
 mod LeadingsLemmas
@@ -8,4 +9,5 @@ mod SeenLemmas
 mod ShapesLemmas
 mod TargetsLemmas
 pub mod TextBytesLemmas
+pub mod TextLengths
 mod WalksLemmas

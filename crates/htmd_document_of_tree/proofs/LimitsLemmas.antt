@@ -10,7 +10,7 @@ use Rattle.htmd_shown.specs.Attributes.{address, is_in_address, is_space_or_cont
 use Rattle.htmd_text.specs.Trims.{trimmed_text}
 use Rattle.htmd_shown.specs.SimpleTrees.{Simple, text, image, formula, embedded, anchor, element, Simples, none, more, simples_of}
 use Rattle.htmd_document_of_tree.specs.Limits.{Written, written, written_all, paid, cost, left_after, left_after_all}
-use Rattle.htmd_document_of_tree.specs.Limits.{within, all_within, always_written, budget, limited, characters}
+use Rattle.htmd_document_of_tree.specs.Limits.{within, all_within, budget, limited, characters}
 use Rattle.htmd_document_of_tree.specs.Limits.{paid_for, is_too_dear, without_address, affordable}
 use Rattle.htmd_document_of_tree.specs.FirstPieces.{with_content}
 use Rattle.htmd_shown.specs.Kinds.{content_of}
@@ -151,9 +151,6 @@ enough ts n None l e h = cc
 enough ts n (Some m) l e h =
     let swap : budget ts ≡ n + (budget ts - n) = omega (arith, l) in
     sym (ap (λ k. all_within (Some k) ts) swap ∙ (all-kept ts n (budget ts - n) m (sym e)).same)
-
-pub always_least : (ts : Simples) → always_written ≤ budget ts
-always_least ts = omega arith
 
 -- ---- characters
 

@@ -53,6 +53,13 @@ one-more view xs i x count now whole l e bound h =
     subst (λ ts. gone added count ts ≤ whole) (drop-item view xs i x l e) h in
     rw add-one (omega (arith, step, gone-le now (added count (view x)) rest bound))
 
+-- the rest adds to it
+pub at-once : {X : Type 0} (view : X → Simple) (xs : List X) (i count start : ℕ)
+    → gone added count (drop i (map view xs)) ≤ gone added start (map view xs)
+    → count ≤ start + 4 * all_text_characters (simples_of (map view xs))
+at-once view xs i count start h =
+    omega (arith, h, gone-added start (map view xs), gone-added count (drop i (map view xs)))
+
 pub at-end : {X : Type 0} (view : X → Simple) (xs : List X) (i count start : ℕ) → length xs ≤ i
     → gone added count (drop i (map view xs)) ≤ gone added start (map view xs)
     → count ≤ start + 4 * all_text_characters (simples_of (map view xs))

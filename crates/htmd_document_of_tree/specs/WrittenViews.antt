@@ -1,5 +1,5 @@
 -- What the source has counted of a page.
-use Rattle.std.specs.Prelude.{◌≡◌, ℕ, ◌+◌, List}
+use Rattle.std.specs.Prelude.{◌≡◌, ℕ, ◌+◌, ◌-◌, ◌≤◌, List, Option, MatchOption}
 use Rattle.std.specs.HashSet.{contains_text}
 use Rattle.htmd_shown.specs.Roles.{is_among}
 use Rattle.htmd_shown.specs.SimpleTrees.{Simple, text, image, formula, embedded, anchor, element, Simples, none, more}
@@ -24,3 +24,13 @@ abbrev mutual
   pub all_text_characters : Simples → ℕ
   all_text_characters none = 0
   all_text_characters (more tree trees) = text_characters tree + all_text_characters trees
+
+-- at least so much is left
+abbrev pub HasLeft : ℕ → Option ℕ → Type 0
+HasLeft least left = MatchOption left ⊥ (λ n. least ≤ n)
+
+-- from `count` on, no more is paid than up to `most`: a budget of as much suffices
+abbrev pub Covers : ℕ → ℕ → (Option ℕ → Option ℕ) → Type 0
+Covers count most pay = (count ≤ most)
+    × ((budget : ℕ) (left : Option ℕ) → most ≤ budget → HasLeft (budget - count) left
+    → HasLeft (budget - most) (pay left))

@@ -1,6 +1,8 @@
 //! To which parts of the page its links lead.
-ghost use Rattle.std.specs.Prelude.{◌≡◌, ℕ, ◌+◌, true, not, ◌&&◌, ◌||◌, if◌then◌else◌, IfOk, OnOk, List, [], drop, Some, None};
+ghost use Rattle.std.specs.Prelude.{◌≡◌, ℕ, ◌+◌, true, not, ◌&&◌, ◌||◌, ◌==◌, if◌then◌else◌, IfOk, OnOk, List, [], drop, Some, None};
 ghost use Rattle.std.specs.Prelude.{is_some, string_bytes};
+ghost use Rattle.std.specs.List.{list_any};
+ghost use Rattle.percent_encoding.specs.Percent.{percent_sign};
 ghost use Rattle.htmd_lexical.specs.Attributes.{pairs_of};
 ghost use Rattle.htmd_shown.specs.Attributes as at;
 ghost use Rattle.htmd_shown.specs.Kinds.{content_of};
@@ -390,6 +392,9 @@ impl Leadings {
     {
         let value = in_line(self.alloc, part)?;
         self.note(value, heading)?;
+        if !has_percent_sign(part.as_bytes()) {
+            return Ok(());
+        }
         let decoded = percent_decode(part.as_bytes()).decode_utf8_lossy(self.alloc)?;
         let value = in_line(self.alloc, decoded.as_str())?;
         self.note(value, heading)
@@ -417,6 +422,13 @@ impl Leadings {
             None => heading,
         }
     }
+}
+
+/// Whether a percent sign is among the bytes, so that something can be decoded.
+fn has_percent_sign(bytes: &[u8]) -> bool
+    ensures { result ≡ list_any (λ b. b == percent_sign) bytes.now }
+{
+    bytes.iter().any(|b| *b == b'%')
 }
 
 /// The outermost heading around what is in an element.

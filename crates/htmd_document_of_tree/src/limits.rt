@@ -1,5 +1,5 @@
 //! Bounds of what is written for links: a parser may copy an `a` into every block that follows it.
-ghost use Rattle.std.specs.Prelude.{◌≡◌, ◌≤◌, ◌+◌, ◌*◌, if◌then◌else◌, IfOk, OnOk, Some, string_bytes};
+ghost use Rattle.std.specs.Prelude.{◌≡◌, ◌≤◌, ◌+◌, ◌*◌, if◌then◌else◌, true, IfOk, IfSome, OnOk, Some, string_bytes};
 ghost use Rattle.htmd_lexical.specs.Attributes.{pairs_of};
 ghost use Rattle.htmd_shown.specs.Attributes.{address};
 ghost use Rattle.htmd_shown.specs.Kinds as kinds;
@@ -7,7 +7,7 @@ ghost use Rattle.htmd_shown.specs.ShownTexts.{shown_text};
 ghost use Rattle.htmd_shown.specs.SimpleViews.{simple_of, simples_of};
 ghost use Rattle.htmd_document_of_tree.specs.FirstPieces.{with_content};
 ghost use Rattle.htmd_document_of_tree.specs.Limits as spec;
-ghost use Rattle.htmd_document_of_tree.specs.WrittenViews.{Counts, text_characters, all_text_characters};
+ghost use Rattle.htmd_document_of_tree.specs.WrittenViews.{Counts, Covers, text_characters, all_text_characters};
 
 use htmd_nodes::Attribute;
 use htmd_shown::attributes::{address, is_in_address, text_of, title_of, without_controls_around};
@@ -34,11 +34,8 @@ struct Written {
 pub(crate) fn limit(alloc: Global, trees: &mut [Simple]) -> Result<(), AllocError>
     ensures { OnOk result (simples_of trees.new ≡ spec.limited (simples_of trees.old)) }
 {
-    if left_after_all(alloc, Some(ALWAYS_WRITTEN), trees)?.is_some() {
-        return Ok(());
-    }
     // Few pages go past this, so that addresses seldom have to be compared.
-    if left_after_all(alloc, Some(least_budget(trees)), trees)?.is_some() {
+    if is_within_texts(trees) {
         return Ok(());
     }
     let budget = budget(alloc, trees)?;
@@ -142,54 +139,6 @@ fn paid_for_element(
     }
 }
 
-/// What is left of a budget after a node with all in it.
-#[cycle(left)]
-fn left_after(
-    alloc: Global,
-    left: Option<usize>,
-    tree: &Simple,
-) -> Result<Option<usize>, AllocError>
-    ensures { IfOk result (λ now. now ≡ spec.left_after left (simple_of tree.now)) }
-{
-    let left = paid(alloc, left, tree)?;
-    left_inside(alloc, left, tree)
-}
-
-/// What is left of a budget after all in a node.
-#[cycle(left)]
-fn left_inside(
-    alloc: Global,
-    left: Option<usize>,
-    tree: &Simple,
-) -> Result<Option<usize>, AllocError>
-    ensures { IfOk result (λ now. now ≡ spec.left_after_all left (kinds.content_of (simple_of tree.now))) }
-{
-    match tree {
-        Simple::Element { content, .. } => left_after_all(alloc, left, content),
-        Simple::Text(_) => Ok(left),
-        Simple::Image { .. } => Ok(left),
-        Simple::Formula { .. } => Ok(left),
-        Simple::Embedded(_) => Ok(left),
-        Simple::Anchor(_) => Ok(left),
-    }
-}
-
-/// What is left of a budget after nodes.
-#[cycle(left)]
-fn left_after_all(
-    alloc: Global,
-    left: Option<usize>,
-    trees: &[Simple],
-) -> Result<Option<usize>, AllocError>
-    ensures { IfOk result (λ now. now ≡ spec.left_after_all left (simples_of trees.now)) }
-{
-    let mut left = left;
-    for tree in trees {
-        left = left_after(alloc, left, tree)?;
-    }
-    Ok(left)
-}
-
 // ---- without what is too dear
 
 /// Whether a node is a link with an address or a title, and nothing is left.
@@ -279,37 +228,113 @@ fn keep_content(
     }
 }
 
-// ---- the budget
+// ---- bounds that are soon known
 
-/// What the budget is at least, by the bytes of texts alone: a character has at most four, and counts 16 times.
-fn least_budget(trees: &[Simple]) -> usize
+/// Whether links cost so little that what texts allow is enough for them.
+fn is_within_texts(trees: &[Simple]) -> bool
+    ensures { result ≡ true → simples_of trees.now ≡ spec.limited (simples_of trees.now) }
+{
+    match most_cost(0, trees) {
+        Some(cost) => cost <= least_budget(cost / 4, trees),
+        None => false,
+    }
+}
+
+/// So much, and what the links in nodes cost at most, if that is a number.
+#[cycle(cost)]
+fn most_cost(count: usize, trees: &[Simple]) -> Option<usize>
+    ensures { IfSome result (λ n. Covers count n (λ left. spec.left_after_all left (simples_of trees.now))) }
+{
+    let mut count = count;
+    for tree in trees {
+        count = most_cost_of(count, tree)?;
+    }
+    Some(count)
+}
+
+/// The same of a node.
+#[cycle(cost)]
+fn most_cost_of(count: usize, tree: &Simple) -> Option<usize>
+    ensures { IfSome result (λ n. Covers count n (λ left. spec.left_after left (simple_of tree.now))) }
+{
+    match tree {
+        Simple::Element {
+            role,
+            facts,
+            attrs,
+            content,
+            ..
+        } => {
+            let count = most_own_cost(count, role.is_link(), facts.leaves, attrs)?;
+            most_cost(count, content)
+        },
+        Simple::Text(_) => Some(count),
+        Simple::Image { .. } => Some(count),
+        Simple::Formula { .. } => Some(count),
+        Simple::Embedded(_) => Some(count),
+        Simple::Anchor(_) => Some(count),
+    }
+}
+
+/// The same of an element itself, which is a link around so many things that show, or none.
+#[tactic(auto, using(crate::proofs::CoversLemmas::nothing_paid, crate::proofs::CoversLemmas::link_paid))]
+fn most_own_cost(count: usize, is_link: bool, leaves: u32, attrs: &[Attribute]) -> Option<usize>
+    ensures { IfSome result (λ n. Covers count n (λ left. spec.paid left
+        (if is_link then spec.link_cost (spec.size (pairs_of attrs.now)) leaves else Some 0))) }
+{
+    if !is_link {
+        return Some(count);
+    }
+    if leaves == u32::MAX {
+        return None;
+    }
+    let cost = most_size(attrs)?.checked_mul(leaves as usize)?;
+    count.checked_add(cost)
+}
+
+/// How many characters the address and the title of a link have at most, by the bytes of its attributes.
+#[tactic(auto, using(crate::proofs::TextLengths::size_le))]
+fn most_size(attrs: &[Attribute]) -> Option<usize>
+    ensures { IfSome result (λ n. spec.size (pairs_of attrs.now) ≤ n) }
+{
+    let address = text_of(attrs, "href").len();
+    let title = text_of(attrs, "title").len();
+    address.checked_add(title)?.checked_mul(2)?.checked_add(1)
+}
+
+/// What the budget is at least, by the bytes of texts alone, of which so many are enough: a character has at most four,
+/// and counts 16 times.
+fn least_budget(enough: usize, trees: &[Simple]) -> usize
     ensures { result ≤ spec.budget (simples_of trees.now) }
 {
-    text_bytes(0, trees)
+    text_bytes(0, enough, trees)
         .saturating_mul(4)
         .saturating_add(ALWAYS_WRITTEN)
 }
 
-/// So many bytes, and those of the texts in nodes that show as they are.
+/// So many bytes, and those of the texts in nodes that show as they are, as far as they are needed.
 #[cycle(bytes)]
-fn text_bytes(count: usize, trees: &[Simple]) -> usize
+fn text_bytes(count: usize, enough: usize, trees: &[Simple]) -> usize
     ensures { result ≤ count + 4 * all_text_characters (simples_of trees.now) }
 {
     let mut count = count;
     for tree in trees {
-        count = text_bytes_of(count, tree);
+        if count >= enough {
+            return count;
+        }
+        count = text_bytes_of(count, enough, tree);
     }
     count
 }
 
 /// The same of a node.
 #[cycle(bytes)]
-fn text_bytes_of(count: usize, tree: &Simple) -> usize
+fn text_bytes_of(count: usize, enough: usize, tree: &Simple) -> usize
     ensures { result ≤ count + 4 * text_characters (simple_of tree.now) }
 {
     match tree {
         Simple::Text(text) => shown_bytes(count, text),
-        Simple::Element { content, .. } => text_bytes(count, content),
+        Simple::Element { content, .. } => text_bytes(count, enough, content),
         Simple::Image { .. } => count,
         Simple::Formula { .. } => count,
         Simple::Embedded(_) => count,
@@ -327,6 +352,8 @@ fn shown_bytes(count: usize, text: &str) -> usize
         count
     }
 }
+
+// ---- the budget
 
 /// How many characters may be written of all addresses and titles.
 fn budget(alloc: Global, trees: &[Simple]) -> Result<usize, AllocError>

@@ -1,20 +1,21 @@
 -- The law of anchors.
-use Rattle.std.specs.Prelude.{◌≡◌, ℕ, suc, true, false, List, [], ◌∷◌, ◌++◌, map, take, filter, All, None}
-use Rattle.std.specs.List.{flat_map, list_all, IsDistinct}
+use Rattle.std.specs.Prelude.{◌≡◌, ℕ, suc, Bool, true, false, not, ◌&&◌, List, [], ◌∷◌, ◌++◌, map, take, drop, filter, All, None}
+use Rattle.std.specs.List.{flat_map, list_any, list_all, IsDistinct}
 use Rattle.std.specs.Str.{bytes_eq}
 use Rattle.htmd_nodes.specs.NumberedTrees.{NumberedTree}
 use Rattle.htmd_document.specs.Documents.{Blocks}
-use Rattle.htmd_shown.specs.Attributes.{is_filled}
+use Rattle.htmd_shown.specs.Attributes.{is_filled, is_to_part}
 use Rattle.htmd_shown.specs.Roles.{is_among}
 use Rattle.htmd_shown.specs.Shown.{Sight, shown_in}
 use Rattle.htmd_shown.specs.SimpleTrees.{Simples}
 use Rattle.htmd_document_of_tree.specs.declared.anchors.Anchors.{Anchors}
 use Rattle.htmd_document_of_tree.specs.declared.anchors.Anchors.TheVariants as which
 use Rattle.htmd_document_of_tree.specs.Anchors.{targets_by, ids_up_to, targets_past, values_of}
-use Rattle.htmd_document_of_tree.specs.Leadings.{all_leadings, is_led_to}
+use Rattle.htmd_document_of_tree.specs.Leadings.{Leading, leadings_to, all_leadings, is_linked_to, is_in, is_led_to}
 use Rattle.htmd_document_of_tree.specs.Limits.{limited}
 use Rattle.htmd_document_of_tree.specs.Targets.{Target, targets_among}
 use Rattle.htmd_document_of_tree.specs.TreeDocuments.{document_of_tree}
+use Rattle.htmd_law_anchors.specs.DocumentLinks.{LinksInBlocks}
 use Rattle.htmd_law_anchors.specs.DocumentMarks.{Mark, letter, place, marks_of_blocks}
 use Rattle.htmd_law_anchors.specs.ShownThings.{ShowAll}
 use Rattle.htmd_law_documents.specs.TreeForms.{is_text_tree}
@@ -91,3 +92,49 @@ abbrev pub EachValueHasTarget : Type 0
 EachValueHasTarget = (trees : Simples) (s : List ℕ)
     → is_among (values_of (targets_among (λ value. true) None 0 trees)) s ≡ true
     → is_among (values_of (targets_by which.All trees)) s ≡ true
+
+-- ---- links
+
+-- each of them leads to what one of these leads to
+abbrev pub AreAmong : List Leading → List Leading → Type 0
+AreAmong leadings [] = Unit {0}
+AreAmong leadings (l ∷ ls) = (is_linked_to leadings l.to ≡ true) × AreAmong leadings ls
+
+-- if an address leads to a part of the page, one of these leads there: to what follows `#`, and to that percent-decoded
+abbrev pub LeadsAmong : List Leading → List ℕ → Type 0
+LeadsAmong leadings address = is_to_part address ≡ true → AreAmong leadings (leadings_to None (drop 1 address))
+
+-- Each link of the document of a tree to a part of its page is one of those that count, within their budget.
+abbrev pub LinksOfTree : Anchors → Sight → NumberedTree → Type 0
+LinksOfTree anchors sight tree =
+    LinksInBlocks (LeadsAmong (all_leadings (limited (shown_in sight tree))))
+    (document_of_tree anchors sight.scripting sight.skip tree)
+
+-- So it is for every tree of texts, with whatever anchors.
+abbrev pub LinksCount : Type 0
+LinksCount = (anchors : Anchors) (sight : Sight) (tree : NumberedTree) → is_text_tree tree ≡ true
+    → LinksOfTree anchors sight tree
+
+-- no heading with a link to a place holds that place
+abbrev pub is_outside : List Leading → Target → Bool
+is_outside leadings t = list_all (λ (l : Leading). not (bytes_eq l.to t.value && is_in l.heading t.seen)) leadings
+
+-- a place of the page has this value, and no such heading holds it
+abbrev pub has_place : Simples → List ℕ → Bool
+has_place trees s =
+    list_any (λ (t : Target). bytes_eq t.value s && is_outside (all_leadings trees) t) (targets_by which.All trees)
+
+-- for each value that they lead to there is an anchor, if the page has a place for it
+abbrev pub AreThere : Simples → List (List ℕ) → List Leading → Type 0
+AreThere trees ids [] = Unit {0}
+AreThere trees ids (l ∷ ls) = (has_place trees l.to ≡ true → is_among ids l.to ≡ true) × AreThere trees ids ls
+
+abbrev pub Reaches : Simples → List (List ℕ) → List ℕ → Type 0
+Reaches trees ids address = is_to_part address ≡ true → AreThere trees ids (leadings_to None (drop 1 address))
+
+-- So by links each link of the document to a part of the page for which the page has a place leads to an anchor of it.
+abbrev pub LinksReach : Type 0
+LinksReach = (sight : Sight) (tree : NumberedTree) → is_text_tree tree ≡ true
+    → LinksInBlocks (Reaches (limited (shown_in sight tree))
+    (ids_of (marks_of_blocks (document_of_tree which.Linked sight.scripting sight.skip tree))))
+    (document_of_tree which.Linked sight.scripting sight.skip tree)

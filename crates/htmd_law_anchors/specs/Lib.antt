@@ -1,4 +1,5 @@
 -- The law of anchors.
 pub mod DocumentMarks
+pub mod DocumentLinks
 pub mod ShownThings
 pub mod AnchorLaws

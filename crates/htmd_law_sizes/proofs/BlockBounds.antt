@@ -1,10 +1,10 @@
 -- How long what is written of blocks is at most.
-use Rattle.std.proofs.Common.{◌≡◌, refl, ℕ, zero, suc, ◌+◌, ◌*◌, ◌-◌, ◌≤◌, Bool, true, false, List, [], ◌∷◌, ◌++◌}
+use Rattle.std.proofs.Common.{◌≡◌, refl, ℕ, suc, ◌+◌, ◌*◌, ◌-◌, ◌≤◌, Bool, true, false, List, [], ◌∷◌, ◌++◌}
 use Rattle.std.proofs.Common.{length, arith}
 use Rattle.std.specs.Prelude.{if◌then◌else◌, ◌==◌, max, codes, Option, Some, None}
 use Rattle.std.proofs.lemmas.List.{length-append}
 use Rattle.std.specs.Fmt.{decimal}
-use Rattle.std.specs.Str.{chars, chars_after, continuation_len, lead_bits}
+use Rattle.std.specs.Str.{chars}
 use Rattle.htmd_lexical.specs.Characters.{line_feed, number_sign}
 use Rattle.htmd_text.specs.Trims.{is_line_feed}
 use Rattle.htmd_markdown.specs.declared.fence.CodeBlockFence.{CodeBlockFence}
@@ -32,6 +32,7 @@ use Rattle.htmd_commonmark.specs.BlockMarkdown.{written_cells, written_rows, wri
 use Rattle.htmd_commonmark.specs.BlockMarkdown.{delimiter_of, marker, spaces, item_count, markers_of, separator}
 use Rattle.htmd_commonmark.specs.BlockMarkdown.{place_in_item, place_in_quote, behind_first, sign_of, written_blocks}
 use Rattle.htmd_commonmark.specs.BlockMarkdown.{further_blocks, written_block, written_items, further_items}
+use Rattle.htmd_document_of_tree.proofs.TextLengths.{characters_le}
 use Rattle.htmd_law_sizes.specs.DocumentSizes.{size_of_option, size_of_inlines, size_of_rows, size_of, size_of_block}
 use Rattle.htmd_law_sizes.specs.DocumentSizes.{size_of_items, width_of_marker, margin_of, margin_of_block}
 use Rattle.htmd_law_sizes.specs.DocumentSizes.{margin_of_items}
@@ -66,18 +67,6 @@ flat definitions w g n c h i j = record {
   fed = omega (arith, c.passing, i);
   defined = j;
 }
-
--- a text has at most as many characters as bytes
-after_le : (k c : ℕ) (s : List ℕ) → length (chars_after k c s) ≤ suc (length s)
-after_le zero c [] = omega arith
-after_le (suc k) c [] = omega arith
-after_le zero c (b ∷ s) = omega (arith, after_le (continuation_len b) (lead_bits b) s)
-after_le (suc k) c (b ∷ s) = omega (arith, after_le k (c * 64 + (b - 128)) s)
-
-pub characters_le : (s : List ℕ) → length (chars s) ≤ length s
-unfolding chars
-characters_le [] = omega arith
-characters_le (b ∷ s) = after_le (continuation_len b) (lead_bits b) s
 
 underline_plain : (level : ℕ) → is_line_feed (underline level) ≡ false
 underline_plain level = go (level == 1)

@@ -15,7 +15,7 @@ use Rattle.htmd_shown.specs.AllTexts.{all_text_among, with_line_feeds, lines_of,
 use Rattle.htmd_shown.specs.Attributes.{has_attribute, text_of, title_of, description_of, address, in_line, is_any_case}
 use Rattle.htmd_shown.specs.Attributes.{is_filled}
 use Rattle.htmd_shown.specs.Roles as roles
-use Rattle.htmd_shown.specs.SimpleTrees.{element, Simples}
+use Rattle.htmd_shown.specs.SimpleTrees.{Simples}
 use Rattle.htmd_shown.specs.Spaces.{is_blank_text}
 use Rattle.htmd_flow.specs.Contexts.{Context, is_lined, is_link, is_enough, with_around, inside_format, inside_link}
 use Rattle.htmd_flow.specs.Contexts.{without_link, unlinked, is_linked_to_part, beside_code, in_code, in_one_line, deeper}
@@ -37,7 +37,7 @@ use Rattle.htmd_law_sizes.proofs.DebtParts.{code_cost, apart_cost, space_blank, 
 use Rattle.htmd_law_sizes.proofs.DebtTables.{RowsDue, rows_dues}
 use Rattle.htmd_law_sizes.proofs.DebtTables.{captions_dues, table_cost}
 use Rattle.htmd_law_sizes.proofs.LanguageLemmas.{language_le}
-use Rattle.htmd_law_sizes.proofs.Leaves.{leaves, leaves_among, said, own_among, due_among}
+use Rattle.htmd_law_sizes.proofs.Leaves.{leaves_among, said, own_among, due_among}
 use Rattle.htmd_law_sizes.proofs.Leaves.{among_grows}
 
 -- ---- contexts

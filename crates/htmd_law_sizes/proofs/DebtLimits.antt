@@ -29,10 +29,11 @@ use Rattle.htmd_document_of_tree.specs.Seen.{image_shows, code_shows}
 use Rattle.htmd_document_of_tree.specs.Targets.{Target}
 use Rattle.htmd_law_sizes.specs.SimpleSizes.{size_of_simple, size_of_simples}
 use Rattle.htmd_law_sizes.specs.TreeSizes.{size_of_values}
-use Rattle.htmd_law_sizes.proofs.BlockBounds.{characters_le}
+use Rattle.htmd_document_of_tree.proofs.TextLengths.{characters_le}
 use Rattle.htmd_law_sizes.proofs.Debts.{link_size}
 use Rattle.htmd_law_sizes.proofs.Leaves.{leaves, leaves_among, said, said_by, named_by, own, own_among}
-use Rattle.htmd_law_sizes.proofs.TextCosts.{address_le, title_le, text_le, option_le}
+use Rattle.htmd_document_of_tree.proofs.TextLengths.{address_le}
+use Rattle.htmd_law_sizes.proofs.TextCosts.{title_le, text_le, option_le}
 
 -- ---- links and the rest
 

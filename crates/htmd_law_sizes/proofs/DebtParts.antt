@@ -8,7 +8,7 @@ use Rattle.std.specs.List.{list_all}
 use Rattle.std.specs.Str.{chars}
 use Rattle.htmd_lexical.specs.Characters.{space}
 use Rattle.htmd_document.specs.Documents.{Inline, text, code, formatted, link, image, line_break, task, Inlines}
-use Rattle.htmd_document.specs.Documents.{anchor, no_inlines, inline, Block, paragraph}
+use Rattle.htmd_document.specs.Documents.{anchor, no_inlines, inline, Block}
 use Rattle.htmd_document.specs.Documents as documents
 use Rattle.htmd_flow.specs.declared.paragraphs.Latest.{Latest}
 use Rattle.htmd_flow.specs.declared.paragraphs.Latest.TheVariants.{Nothing, Task, Plain, Code}

@@ -31,10 +31,11 @@ use Rattle.htmd_law_sizes.proofs.ContextRooms.{Within, around_le, within_format,
 use Rattle.htmd_law_sizes.proofs.ContextRooms.{within_near}
 use Rattle.htmd_law_sizes.proofs.NodeCosts.{AllFit, worth, flow_le, list_le}
 use Rattle.htmd_law_sizes.proofs.PartCosts.{costs, costs_append, blocks_cost, line_cost}
-use Rattle.htmd_law_sizes.proofs.TableBounds.{total}
+use Rattle.htmd_document_of_tree.proofs.TextLengths.{total}
 use Rattle.htmd_law_sizes.proofs.TableCosts.{RowsFit, rows_worth, captions_worth, table_le}
 use Rattle.htmd_law_sizes.proofs.TermCosts.{TermsFit, terms_worth, terms_le}
-use Rattle.htmd_law_sizes.proofs.TextCosts.{address_le, title_le, description_le, line_le, trimmed_le, with_feeds_le}
+use Rattle.htmd_document_of_tree.proofs.TextLengths.{address_le, line_le, trimmed_le}
+use Rattle.htmd_law_sizes.proofs.TextCosts.{title_le, description_le, with_feeds_le}
 use Rattle.htmd_law_sizes.proofs.TextCosts.{code_text_le, without_last_le, lines_le}
 
 -- ---- leaves

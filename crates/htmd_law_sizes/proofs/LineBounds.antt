@@ -9,7 +9,8 @@ use Rattle.htmd_text.specs.Joins.{joined_texts}
 use Rattle.htmd_text.specs.Trims.{is_line_feed}
 use Rattle.htmd_commonmark.specs.Pages.{quoted_line, quoted, gap, indented}
 use Rattle.htmd_law_sizes.proofs.CountsLemmas.{tally, Cost, empty, cost_append, within, fixed, cost_cons, repeated}
-use Rattle.htmd_law_sizes.proofs.TableBounds.{total, feeds, own}
+use Rattle.htmd_document_of_tree.proofs.TextLengths.{total}
+use Rattle.htmd_law_sizes.proofs.TableBounds.{feeds, own}
 
 -- ---- the lines of a text
 

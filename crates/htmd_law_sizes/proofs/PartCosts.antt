@@ -28,7 +28,7 @@ use Rattle.htmd_document_of_tree.proofs.TextBytesLemmas.{encoded_le}
 use Rattle.htmd_shown.specs.Spaces.{Gap, spaced, shown_white, is_white, ends_with_space}
 use Rattle.htmd_law_sizes.specs.DocumentSizes.{size_of_option, lean_inline, lean_inlines, lean_block, lean}
 use Rattle.htmd_law_sizes.specs.SimpleSizes.{size_of_ids}
-use Rattle.htmd_law_sizes.proofs.BlockBounds.{characters_le}
+use Rattle.htmd_document_of_tree.proofs.TextLengths.{characters_le}
 
 -- ---- leaves in what stands around them
 

@@ -9,7 +9,6 @@ use Rattle.std.specs.Char.{encode_utf8}
 use Rattle.std.specs.Str.{chars}
 use Rattle.htmd_flow.specs.declared.paragraphs.Met.TheVariants as met
 use Rattle.htmd_document.specs.Documents.{Inlines, no_inlines, inline, Block}
-use Rattle.htmd_document.specs.Documents.{quote}
 use Rattle.htmd_document.specs.Documents as documents
 use Rattle.htmd_shown.specs.Attributes.{address}
 use Rattle.htmd_shown.specs.Kinds.{has}

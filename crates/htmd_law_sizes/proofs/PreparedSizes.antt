@@ -30,7 +30,8 @@ use Rattle.std.specs.Option.{unwrap_or}
 use Rattle.htmd_law_sizes.specs.SimpleSizes.{size_of_ids, level_of, size_of_simple, size_of_simples}
 use Rattle.htmd_law_sizes.specs.SizeLaws.{PreparedIsBounded}
 use Rattle.htmd_law_sizes.specs.TreeSizes.{size_of_values}
-use Rattle.htmd_law_sizes.proofs.TextCosts.{line_le, text_le}
+use Rattle.htmd_document_of_tree.proofs.TextLengths.{line_le}
+use Rattle.htmd_law_sizes.proofs.TextCosts.{text_le}
 
 -- ---- within a budget
 

@@ -43,8 +43,9 @@ use Rattle.htmd_law_sizes.specs.DocumentSizes.{size_of_option}
 use Rattle.htmd_law_sizes.specs.SimpleSizes.{level_of, size_of_simple, size_of_simples}
 use Rattle.htmd_law_sizes.specs.SizeLaws.{ShownIsBounded}
 use Rattle.htmd_law_sizes.specs.TreeSizes.{size_of_values, size_of_tree, size_of_forest}
-use Rattle.htmd_law_sizes.proofs.TableBounds.{total}
-use Rattle.htmd_law_sizes.proofs.TextCosts.{value_le, text_le, shown_le, words_le, line_le, trimmed_le, address_le}
+use Rattle.htmd_document_of_tree.proofs.TextLengths.{total}
+use Rattle.htmd_document_of_tree.proofs.TextLengths.{shown_le, words_le, line_le, trimmed_le, address_le}
+use Rattle.htmd_law_sizes.proofs.TextCosts.{value_le, text_le}
 
 -- ---- levels of headings
 

@@ -16,6 +16,7 @@ use Rattle.htmd_commonmark.specs.TableLines.{padded_cell, barred_cells, line}
 use Rattle.htmd_commonmark.specs.Columns.{width_of}
 use Rattle.htmd_commonmark.specs.TableLines.{column_widths, line_width, is_left, is_right, colon_if, dashes, delimiters}
 use Rattle.htmd_commonmark.specs.TableLines.{shown_cells, rows_text, lines_of, table_text}
+use Rattle.htmd_document_of_tree.proofs.TextLengths.{total}
 use Rattle.htmd_law_sizes.specs.DocumentSizes.{size_of_cells, size_of_rows}
 use Rattle.htmd_law_sizes.proofs.CountsLemmas.{tally, is_break, Cost, empty, cost_append, within, fixed, plain_cons}
 use Rattle.htmd_law_sizes.proofs.CountsLemmas.{repeated, feeds_le, tally_grows, tally_cons, cost_cons}
@@ -24,10 +25,6 @@ use Rattle.htmd_law_sizes.proofs.InlineBounds.{lines_size, line_cost}
 -- ---- cells and their texts
 
 -- the bytes of texts, and their line feeds
-abbrev pub total : List (List ℕ) → ℕ
-total [] = 0
-total (s ∷ texts) = length s + total texts
-
 abbrev pub feeds : List (List ℕ) → ℕ
 feeds [] = 0
 feeds (s ∷ texts) = tally is_line_feed s + feeds texts

@@ -1,35 +1,27 @@
 -- How long the texts are that a document takes from attributes and from the texts below an element.
-use Rattle.std.proofs.Common.{◌≡◌, refl, ap, ℕ, zero, suc, ◌+◌, ◌*◌, ◌-◌, ◌≤◌, Bool, true, false, List, [], ◌∷◌, ◌++◌}
+use Rattle.std.proofs.Common.{ℕ, suc, ◌+◌, ◌*◌, ◌-◌, ◌≤◌, Bool, true, false, List, [], ◌∷◌, ◌++◌}
 use Rattle.std.proofs.Common.{length, arith}
-use Rattle.std.proofs.lemmas.List.{length-append, length-take, length-drop}
-use Rattle.std.specs.Prelude.{◌==◌, ◌&&◌, nat_lt, cond, filter, fold, if◌then◌else◌, codes, Option, Some, None}
-use Rattle.std.specs.List.{slice_split, onto_first, flat_map, suffix_len, prefix_len}
+use Rattle.std.proofs.lemmas.List.{length-append}
+use Rattle.std.specs.Prelude.{◌==◌, ◌&&◌, filter, fold, if◌then◌else◌, codes, Option, Some, None}
 use Rattle.std.specs.Option.{unwrap_or}
-use Rattle.std.specs.Char.{encode_utf8}
-use Rattle.std.specs.Str.{bytes_eq, chars, chars_after, continuation_len, lead_bits, encode_utf8_all}
-use Rattle.std.proofs.lemmas.Bool.Decides.{nat_tests}
-use Rattle.std.proofs.lemmas.Str.{encode_ascii}
-use Rattle.htmd_lexical.specs.Characters.{space, line_feed, carriage_return}
+use Rattle.std.specs.Str.{bytes_eq, chars}
+use Rattle.htmd_lexical.specs.Characters.{line_feed, carriage_return}
 use Rattle.htmd_lexical.specs.AttributePairs.{AttributePair}
-use Rattle.htmd_lexical.specs.WhiteSpace.{is_ascii_white_space}
-use Rattle.htmd_text.specs.Joins.{joined_texts}
-use Rattle.htmd_text.specs.Trims.{trimmed_start, trimmed_text, is_line_feed}
+use Rattle.htmd_text.specs.Trims.{trimmed_text, is_line_feed}
 use Rattle.htmd_shown.specs.declared.role.Role.{Role}
 use Rattle.htmd_shown.specs.AllTexts.{dollar_sign, formula_text, image_text, ends_line, with_line_end, text_in, all_text}
 use Rattle.htmd_shown.specs.AllTexts.{all_text_among, Lines, written_for, with_character, no_lines, with_line_feeds}
 use Rattle.htmd_shown.specs.AllTexts.{lines_of, without_last_line_feed}
-use Rattle.htmd_shown.specs.Attributes.{value_of, text_of, is_filled, words, in_line, title_of_value}
-use Rattle.htmd_shown.specs.Attributes.{title_of, description_of, is_space_or_control, is_in_address, address}
-use Rattle.htmd_shown.specs.ShownTexts.{is_shown, shown_text}
+use Rattle.htmd_shown.specs.Attributes.{value_of, text_of, is_filled, in_line, title_of_value}
+use Rattle.htmd_shown.specs.Attributes.{title_of, description_of, address}
 use Rattle.htmd_shown.specs.Roles.{is_line_break, is_row}
 use Rattle.htmd_shown.specs.SimpleTrees.{Simple, text, image, formula, embedded, anchor, element, Simples, none, more}
 use Rattle.htmd_law_sizes.specs.DocumentSizes.{size_of_option}
 use Rattle.htmd_law_sizes.specs.SimpleSizes.{size_of_simple, size_of_simples}
 use Rattle.htmd_law_sizes.specs.TreeSizes.{size_of_values}
-use Rattle.htmd_law_sizes.proofs.BlockBounds.{characters_le}
-use Rattle.htmd_law_sizes.proofs.CountsLemmas.{tally}
-use Rattle.htmd_document_of_tree.proofs.TextBytesLemmas.{encoded_le, encodes_le}
-use Rattle.htmd_law_sizes.proofs.TableBounds.{total}
+use Rattle.htmd_document_of_tree.proofs.TextLengths.{characters_le}
+use Rattle.htmd_document_of_tree.proofs.TextBytesLemmas.{encodes_le}
+use Rattle.htmd_document_of_tree.proofs.TextLengths.{pieces_le, shown_le, line_le, trimmed_le, total}
 
 -- ---- values
 
@@ -63,108 +55,6 @@ passing_le p (c ∷ cs) = go (p c) (passing_le p cs)
     go true i = omega (arith, i)
     go false i = omega (arith, i)
 
--- what a character takes whose bytes are read, and at most what those take that began one
-abbrev begun : ℕ → ℕ → ℕ
-begun zero c = length (encode_utf8 c)
-begun (suc n) c = 2
-
-begins_le : (b : ℕ) → begun (continuation_len b) (lead_bits b) ≤ 2
-begins_le b = go (nat_lt b 128) refl (nat_lt b 224) (nat_lt b 240)
-  where
-    go : (x : Bool) → nat_lt b 128 ≡ x → (y z : Bool)
-        → begun (cond x 0 (cond y 1 (cond z 2 3))) (cond x b (cond y (b - 192) (cond z (b - 224) (b - 240)))) ≤ 2
-    go true e y z = omega (arith, ap length (encode_ascii b (grind (arith, nat_tests, e))))
-    go false e true z = omega arith
-    go false e false true = omega arith
-    go false e false false = omega arith
-
-first_kept : (p : ℕ → Bool) (c : ℕ) (cs : List ℕ)
-    → length (encode_utf8_all (filter p (c ∷ cs)))
-    ≤ length (encode_utf8 c) + length (encode_utf8_all (filter p cs))
-first_kept p c cs = go (p c)
-  where
-    go : (t : Bool) → length (encode_utf8_all (if t then c ∷ filter p cs else filter p cs))
-        ≤ length (encode_utf8 c) + length (encode_utf8_all (filter p cs))
-    go true = omega (arith, length-append (encode_utf8 c) (encode_utf8_all (filter p cs)))
-    go false = omega arith
-
-kept_after : (p : ℕ → Bool) (n c : ℕ) (bs : List ℕ)
-    → length (encode_utf8_all (filter p (chars_after n c bs))) ≤ begun n c + 2 * length bs
-kept_after p zero c [] = omega (arith, first_kept p c [])
-kept_after p zero c (b ∷ bs) =
-    omega (
-      arith,
-      first_kept p c (chars_after (continuation_len b) (lead_bits b) bs),
-      kept_after p (continuation_len b) (lead_bits b) bs,
-      begins_le b,
-    )
-kept_after p (suc n) c [] = omega arith
-kept_after p (suc zero) c (b ∷ bs) =
-    omega (arith, kept_after p zero (c * 64 + (b - 128)) bs, encoded_le (c * 64 + (b - 128)))
-kept_after p (suc (suc n)) c (b ∷ bs) = omega (arith, kept_after p (suc n) (c * 64 + (b - 128)) bs)
-
--- those of the characters of a text that are kept
-kept_le : (p : ℕ → Bool) (s : List ℕ) → length (encode_utf8_all (filter p (chars s))) ≤ 2 * length s
-unfolding chars
-kept_le p [] = omega arith
-kept_le p (b ∷ bs) = omega (arith, kept_after p (continuation_len b) (lead_bits b) bs, begins_le b)
-
-pub shown_le : (s : List ℕ) → length (shown_text s) ≤ 2 * length s
-shown_le s = kept_le is_shown s
-
--- ---- pieces between bytes
-
-record AreCut (p : ℕ → Bool) (s : List ℕ) (ls : List (List ℕ)) : Type 0 where
-  long : total ls + tally p s ≡ length s
-  many : length ls ≡ suc (tally p s)
-
-cut_at : (p : ℕ → Bool) (s : List ℕ) → AreCut p s (slice_split p s)
-cut_at p [] = record { long = refl; many = refl }
-cut_at p (b ∷ s) = go (p b) refl (slice_split p s) (cut_at p s)
-  where
-    go : (t : Bool) → p b ≡ t → (ls : List (List ℕ)) → AreCut p s ls
-        → AreCut p (b ∷ s) (if t then [] ∷ ls else onto_first b ls)
-    go true e ls i = record { long = rw e (omega (arith, i.long)); many = rw e (omega (arith, i.many)) }
-    go false e [] i = absurd (omega (arith, i.many))
-    go false e (l ∷ ls) i = record { long = rw e (omega (arith, i.long)); many = rw e (omega (arith, i.many)) }
-
-pub pieces_le : (p : ℕ → Bool) (s : List ℕ)
-    → total (slice_split p s) + length (slice_split p s) ≤ suc (length s)
-pieces_le p s = let c = cut_at p s in omega (arith, c.long, c.many)
-
-filtered_le : (p : List ℕ → Bool) (ls : List (List ℕ))
-    → total (filter p ls) + length (filter p ls) ≤ total ls + length ls
-filtered_le p [] = omega arith
-filtered_le p (l ∷ ls) = go (p l) (filtered_le p ls)
-  where
-    go : (t : Bool) → total (filter p ls) + length (filter p ls) ≤ total ls + length ls
-        → total (if t then l ∷ filter p ls else filter p ls) + length (if t then l ∷ filter p ls else filter p ls)
-        ≤ length l + total ls + suc (length ls)
-    go true i = omega (arith, i)
-    go false i = omega (arith, i)
-
-pub words_le : (s : List ℕ) → total (words s) + length (words s) ≤ suc (length s)
-words_le s =
-    omega (
-      arith,
-      filtered_le is_filled (slice_split is_ascii_white_space s),
-      pieces_le is_ascii_white_space s,
-    )
-
-after_spaces : (ls : List (List ℕ))
-    → length (flat_map (λ next. (space ∷ []) ++ next) ls) ≤ total ls + length ls
-after_spaces [] = omega arith
-after_spaces (l ∷ ls) =
-    omega (arith, after_spaces ls, length-append l (flat_map (λ next. (space ∷ []) ++ next) ls))
-
-joined_le : (ls : List (List ℕ)) → length (joined_texts (space ∷ []) ls) ≤ total ls + length ls
-joined_le [] = omega arith
-joined_le (l ∷ ls) =
-    omega (arith, after_spaces ls, length-append l (flat_map (λ next. (space ∷ []) ++ next) ls))
-
-pub line_le : (s : List ℕ) → length (in_line s) ≤ suc (2 * length s)
-line_le s = omega (arith, joined_le (words (shown_text s)), words_le (shown_text s), shown_le s)
-
 title_value_le : (o : Option (List ℕ)) → size_of_option (title_of_value o) ≤ suc (2 * size_of_option o)
 title_value_le None = omega arith
 title_value_le (Some s) = go (is_filled (in_line s))
@@ -183,16 +73,6 @@ pub description_le : (attributes : List AttributePair)
 description_le attributes = omega (arith, line_le (text_of (codes "alt") attributes), text_le (codes "alt") attributes)
 
 -- ---- addresses
-
-pub trimmed_le : (p : ℕ → Bool) (s : List ℕ) → length (trimmed_text p s) ≤ length s
-trimmed_le p s =
-    let t = trimmed_start p s in
-    omega (arith, length-take (length t - suffix_len p t) t, length-drop (prefix_len p s) s)
-
-pub address_le : (s : List ℕ) → length (address s) ≤ 2 * length s
-address_le s =
-    let t = trimmed_text is_space_or_control s in
-    omega (arith, kept_le is_in_address t, trimmed_le is_space_or_control s)
 
 -- ---- texts below an element
 

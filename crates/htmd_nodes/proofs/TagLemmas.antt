@@ -1,7 +1,9 @@
 -- Each tag is found by its text.
-use Rattle.std.proofs.Common.{◌≡◌, ℕ, List, Option, None, Some, IfNone, refl, sym, ap, ◌∙◌, bytes_eq}
-use Rattle.htmd_lexical.proofs.BytesLemmas.{same_bytes}
+use denote.Enum.Bare.{sameb, same_true, same_false}
+use Rattle.std.proofs.Common.{◌≡◌, ℕ, List, Option, None, Some, IfNone, true, refl, sym, ap, ◌∙◌, bytes_eq}
+use Rattle.htmd_lexical.proofs.BytesLemmas.{same_bytes, bytes_same}
 use Rattle.htmd_lexical.proofs.Cases.{test}
+use Rattle.htmd_nodes.specs.contracts.tag.Tag.{the_type}
 use Rattle.htmd_nodes.specs.declared.tag.Tag.{Tag}
 use Rattle.htmd_nodes.specs.declared.tag.Tag.TheVariants as tag
 use Rattle.htmd_nodes.specs.Tags.{tag_text, HasNoTag}
@@ -163,3 +165,18 @@ not_found text e t = test (bytes_eq text (tag_text t))
 pub no_tag : (text : List ℕ) (found : Option Tag) → found ≡ tag_of text → IfNone found (HasNoTag text)
 no_tag text None e = not_found text (sym e)
 no_tag text (Some t) e = tt
+
+-- tags are the same where their texts are
+pub same_tag : (one other : Tag) → sameb the_type one other ≡ bytes_eq (tag_text one) (tag_text other)
+same_tag one other = test (sameb the_type one other)
+    (λ same. let alike : one ≡ other = same_true the_type tt one other same in
+    same ∙ sym (ap (λ t. bytes_eq (tag_text one) (tag_text t)) (sym alike) ∙ bytes_same (tag_text one)))
+    (λ differ. differ ∙ sym (test (bytes_eq (tag_text one) (tag_text other))
+    (λ same. absurd (same_false the_type one other differ (by same)))
+    (λ not_same. not_same)))
+  where
+    by : bytes_eq (tag_text one) (tag_text other) ≡ true → one ≡ other
+    by same =
+        let both : Some one ≡ Some other =
+        sym (found one) ∙ ap tag_of (same_bytes (tag_text one) (tag_text other) same) ∙ found other in
+        cc

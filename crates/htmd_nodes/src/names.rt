@@ -1,5 +1,6 @@
 //! The name of an element, in little room.
 ghost use Rattle.std.specs.Prelude.{◌≡◌, IfNone, IfOk, IfSome};
+ghost use Rattle.std.specs.Str.{bytes_eq};
 ghost use Rattle.htmd_nodes.specs.Tags.{tag_text, HasNoTag};
 
 use crate::tag::Tag;
@@ -50,6 +51,16 @@ impl Name {
         match &self.kept {
             Kept::Frequent(tag) => tag.text(),
             Kept::Other(text) => text.as_str(),
+        }
+    }
+
+    /// Whether it is the name of a tag.
+    pub fn is(&self, tag: Tag) -> bool
+        ensures { result ≡ bytes_eq self.now (tag_text tag) }
+    {
+        match &self.kept {
+            Kept::Frequent(found) => *found == tag,
+            Kept::Other(_) => false,
         }
     }
 

@@ -1,9 +1,11 @@
 -- Texts of which nothing shows.
 use Rattle.std.proofs.Common.{◌≡◌, ℕ, Bool, true, false, cond, not, ◌&&◌, ◌||◌, List, [], ◌∷◌, filter, refl, sym, ap}
-use Rattle.std.proofs.Common.{◌∙◌}
+use Rattle.std.proofs.Common.{◌∙◌, ◌≤◌, nat_le, arith}
 use Rattle.std.proofs.Math.Utf8.{scalars, scalar}
 use Rattle.std.specs.List.{list_all}
 use Rattle.std.specs.Str.{chars, IsUtf8}
+use Rattle.std.proofs.lemmas.Bool.{and_parts}
+use Rattle.std.proofs.lemmas.Bool.Decides.{nat_tests}
 use Rattle.std.proofs.lemmas.Str.{chars-encodes, scalars-chars}
 use Rattle.htmd_lexical.proofs.Cases.{test}
 use Rattle.htmd_shown.specs.Spaces.{is_blank_text}
@@ -11,6 +13,8 @@ use Rattle.htmd_shown.specs.ShownTexts.{is_shown, shown_text, is_blank_character
 use Rattle.htmd_shown.specs.Belows.{is_nothing, sign_of}
 use Rattle.htmd_shown.specs.Marks.{is_seen, letters}
 use Rattle.htmd_shown.specs.Spaces.{is_white}
+use Rattle.htmd_shown.specs.TextViews.{begins_visibly}
+use Rattle.htmd_text.proofs.PlainTextLemmas.{chars_ascii}
 
 -- some of a text's characters are characters
 pub scalars-filter : (p : ℕ → Bool) (cs : List ℕ) → scalars cs ≡ true → scalars (filter p cs) ≡ true
@@ -51,6 +55,19 @@ blank_shown s u =
     ap (list_all is_white) (chars-encodes (filter is_shown (chars s))
     (scalars-filter is_shown (chars s) (scalars-chars s u)))
     ∙ white_shown (chars s)
+
+-- a text that begins with a visible ASCII character shows
+pub visible_shows : (s : List ℕ) → begins_visibly s ≡ true → list_all is_blank_character (chars s) ≡ false
+visible_shows [] visible = cc
+visible_shows (b ∷ s) visible =
+    let parts = and_parts (nat_le 33 b) (nat_le b 126) visible in
+    let from : 33 ≤ b = grind (arith, nat_tests, parts.0) in
+    let until : b ≤ 126 = grind (arith, nat_tests, parts.1) in
+    ap (list_all is_blank_character) (chars_ascii b s (omega (arith, until)))
+    ∙ ap (λ t. t && list_all is_blank_character (chars s)) (not_blank b from until)
+  where
+    not_blank : (c : ℕ) → 33 ≤ c → c ≤ 126 → is_blank_character c ≡ false
+    not_blank c from until = grind (arith, nat_tests, from, until)
 
 pub chars_shown : (s : List ℕ) → IsUtf8 s → chars (shown_text s) ≡ filter is_shown (chars s)
 chars_shown s u = chars-encodes (filter is_shown (chars s)) (scalars-filter is_shown (chars s) (scalars-chars s u))

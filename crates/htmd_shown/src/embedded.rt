@@ -12,7 +12,7 @@ use crate::attributes::{address, in_line, is_to_part, number_at, text_of};
 use crate::page::{Element, element_at};
 use crate::shown_text::is_blank_when_shown;
 use crate::spaces::is_blank_text;
-use htmd_nodes::{Attribute, NodeId, Tree, value_of};
+use htmd_nodes::{Attribute, Name, NodeId, Tag, Tree, value_of};
 use std::alloc::{AllocError, Global};
 
 /// Where something embedded is, and what is said of it.
@@ -94,7 +94,7 @@ fn source_place(alloc: Global, tree: &Tree, nodes: &[NodeId]) -> Result<Option<S
 {
     for node in nodes {
         if let Some(found) = element_at(tree, *node) {
-            if found.name.as_str() == "source" {
+            if found.name.is(Tag::Source) {
                 return place_of(alloc, text_of(found.attrs, "src"));
             }
         }
@@ -103,17 +103,17 @@ fn source_place(alloc: Global, tree: &Tree, nodes: &[NodeId]) -> Result<Option<S
 }
 
 /// The attribute that has the address of what an element with this name embeds.
-fn address_name(name: &str) -> &'static str
+fn address_name(name: &Name) -> &'static str
     ensures { result.now ≡ spec.address_name name.now }
 {
-    if name == "object" { "data" } else { "src" }
+    if name.is(Tag::Object) { "data" } else { "src" }
 }
 
 /// Whether an element with this name can have sources in it.
-fn has_sources(name: &str) -> bool
+fn has_sources(name: &Name) -> bool
     ensures { result ≡ spec.has_sources name.now }
 {
-    matches!(name, "video" | "audio")
+    name.is(Tag::Video) || name.is(Tag::Audio)
 }
 
 /// The address of what an element embeds: its own, or that of a source.
@@ -123,11 +123,10 @@ fn embedded_place(alloc: Global, tree: &Tree, found: &Element) -> Result<Option<
         ≡ spec.embedded_address found.now.name.now (pairs_of found.now.attrs.now)
         (forest_of (tree_of tree.now) found.now.children.now)) }
 {
-    let name = found.name.as_str();
-    match place_of(alloc, text_of(found.attrs, address_name(name)))? {
+    match place_of(alloc, text_of(found.attrs, address_name(found.name)))? {
         Some(place) => Ok(Some(place)),
         None => {
-            if has_sources(name) {
+            if has_sources(found.name) {
                 source_place(alloc, tree, found.children)
             } else {
                 Ok(None)
@@ -191,8 +190,8 @@ pub(crate) fn embedding_of(
 }
 
 /// Whether elements with this name embed something, but for `object`, which can have content of its own.
-pub(crate) fn is_embedding(name: &str) -> bool
+pub(crate) fn is_embedding(name: &Name) -> bool
     ensures { result ≡ roles.is_among spec.embedding_names name.now }
 {
-    matches!(name, "iframe" | "video" | "audio" | "embed")
+    name.is(Tag::Iframe) || has_sources(name) || name.is(Tag::Embed)
 }

@@ -10,7 +10,7 @@ use crate::attributes::{text_of, trimmed};
 use crate::page::{Element, element_at, text_at};
 use crate::shown_text::{is_all_shown, shown_text};
 use crate::spaces::is_blank_text;
-use htmd_nodes::{Attribute, NodeId, Tree};
+use htmd_nodes::{Attribute, Name, NodeId, Tag, Tree};
 use std::alloc::{AllocError, Global};
 
 // ---- texts
@@ -87,7 +87,7 @@ fn annotated(alloc: Global, tree: &Tree, node: NodeId) -> Result<Option<String>,
     let Some(found) = element_at(tree, node) else {
         return Ok(None);
     };
-    if found.name.as_str() == "annotation" && is_tex(found.attrs) {
+    if found.name.is(Tag::Annotation) && is_tex(found.attrs) {
         text_among(alloc, tree, found.children)
     } else {
         Ok(None)
@@ -128,7 +128,7 @@ fn annotated_in(alloc: Global, tree: &Tree, node: NodeId) -> Result<Option<Strin
     let Some(found) = element_at(tree, node) else {
         return Ok(None);
     };
-    if found.name.as_str() == "semantics" {
+    if found.name.is(Tag::Semantics) {
         annotated_among(alloc, tree, found.children)
     } else {
         Ok(None)
@@ -274,18 +274,20 @@ pub(crate) fn tex_of(
         ≡ spec.tex_of found.now.name.now (pairs_of found.now.attrs.now)
         (forest_of (tree_of tree.now) found.now.children.now)) }
 {
-    match found.name.as_str() {
-        "math" => tex_of_math(alloc, tree, found.attrs, found.children),
-        "script" => tex_of_script(alloc, tree, found.attrs, found.children),
-        _ => Ok(None),
+    if found.name.is(Tag::Math) {
+        tex_of_math(alloc, tree, found.attrs, found.children)
+    } else if found.name.is(Tag::Script) {
+        tex_of_script(alloc, tree, found.attrs, found.children)
+    } else {
+        Ok(None)
     }
 }
 
 /// Whether a formula stands alone.
-pub(crate) fn is_display(name: &str, attrs: &[Attribute]) -> bool
+pub(crate) fn is_display(name: &Name, attrs: &[Attribute]) -> bool
     ensures { result ≡ spec.is_display name.now (pairs_of attrs.now) }
 {
-    if name == "script" {
+    if name.is(Tag::Script) {
         is_displayed_type(text_of(attrs, "type"))
     } else {
         trimmed(text_of(attrs, "display")).eq_ignore_ascii_case("block")

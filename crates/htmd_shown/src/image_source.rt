@@ -8,7 +8,7 @@ ghost use Rattle.htmd_text.specs.Trims.{trimmed_text};
 
 use crate::attributes::{address, first_word, text_of};
 use crate::page::element_at;
-use htmd_nodes::{Attribute, NodeId, Tree, value_of};
+use htmd_nodes::{Attribute, Name, NodeId, Tag, Tree, value_of};
 use htmd_text::repeats::{leading_len, trailing_len};
 use std::alloc::{AllocError, Global};
 
@@ -101,7 +101,7 @@ fn first_source<'t>(tree: &'t Tree, nodes: &[NodeId]) -> Option<&'t str>
 {
     for node in nodes {
         if let Some(found) = element_at(tree, *node) {
-            if found.name.as_str() == "source" {
+            if found.name.is(Tag::Source) {
                 return source_of(found.attrs);
             }
         }
@@ -110,12 +110,16 @@ fn first_source<'t>(tree: &'t Tree, nodes: &[NodeId]) -> Option<&'t str>
 }
 
 /// What a `picture` gives the first `img` in it.
-pub(crate) fn picture_source<'t>(tree: &'t Tree, name: &str, children: &[NodeId]) -> Option<&'t str>
+pub(crate) fn picture_source<'t>(
+    tree: &'t Tree,
+    name: &Name,
+    children: &[NodeId],
+) -> Option<&'t str>
     requires { All (λ node. node < length tree.now) children.now }
     ensures { option_copied result
         ≡ spec.picture_source name.now (forest_of (tree_of tree.now) children.now) }
 {
-    if name == "picture" {
+    if name.is(Tag::Picture) {
         first_source(tree, children)
     } else {
         None
@@ -173,8 +177,8 @@ pub(crate) fn image_address<'t>(
 }
 
 /// Whether an element is an image: an `img`, or an `input` that is one.
-pub(crate) fn is_image(name: &str, attrs: &[Attribute]) -> bool
+pub(crate) fn is_image(name: &Name, attrs: &[Attribute]) -> bool
     ensures { result ≡ spec.is_image name.now (pairs_of attrs.now) }
 {
-    name == "img" || name == "input" && text_of(attrs, "type").eq_ignore_ascii_case("image")
+    name.is(Tag::Img) || name.is(Tag::Input) && text_of(attrs, "type").eq_ignore_ascii_case("image")
 }

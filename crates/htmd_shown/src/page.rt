@@ -8,7 +8,7 @@ ghost use Rattle.htmd_shown.specs.Shown.{is_img};
 ghost use Rattle.htmd_shown.specs.PageViews.{element_in, is_element, is_text};
 
 use crate::classes::is_of_numbers;
-use htmd_nodes::{Attribute, Name, NodeData, NodeId, Tree};
+use htmd_nodes::{Attribute, Name, NodeData, NodeId, Tag, Tree};
 
 /// An element of a page.
 #[derive(Clone, Copy)]
@@ -61,7 +61,7 @@ pub(crate) fn is_img(tree: &Tree, node: NodeId) -> bool
     ensures { result ≡ is_img (tree_of tree.now node) }
 {
     match element_at(tree, node) {
-        Some(found) => found.name.as_str() == "img",
+        Some(found) => found.name.is(Tag::Img),
         None => false,
     }
 }
@@ -70,28 +70,32 @@ pub(crate) fn is_img(tree: &Tree, node: NodeId) -> bool
 pub(crate) fn is_number_cell(name: &Name, attrs: &[Attribute]) -> bool
     ensures { result ≡ spec.is_number_cell name.now (pairs_of attrs.now) }
 {
-    is_cell_name(name.as_str()) && is_of_numbers(attrs)
+    is_cell_name(name) && is_of_numbers(attrs)
 }
 
 /// Whether a cell has this name.
-fn is_cell_name(name: &str) -> bool
+fn is_cell_name(name: &Name) -> bool
     ensures { result ≡ spec.is_cell_name name.now }
 {
-    matches!(name, "td" | "th")
+    name.is(Tag::Td) || name.is(Tag::Th)
 }
 
 /// Whether an element isn't code in a `pre`: line numbers.
 pub(crate) fn is_number_in_code(name: &Name, attrs: &[Attribute]) -> bool
     ensures { result ≡ spec.is_number_in_code name.now (pairs_of attrs.now) }
 {
-    is_numbered_name(name.as_str()) && is_of_numbers(attrs)
+    is_numbered_name(name) && is_of_numbers(attrs)
 }
 
 /// Whether line numbers can stand in an element with this name.
-fn is_numbered_name(name: &str) -> bool
+fn is_numbered_name(name: &Name) -> bool
     ensures { result ≡ roles.is_among spec.numbered_names name.now }
 {
-    matches!(name, "td" | "th" | "pre" | "span" | "div" | "a")
+    is_cell_name(name)
+        || name.is(Tag::Pre)
+        || name.is(Tag::Span)
+        || name.is(Tag::Div)
+        || name.is(Tag::A)
 }
 
 /// Whether a `pre` is among nodes, or below them.
@@ -115,7 +119,7 @@ fn holds_pre(tree: &Tree, node: NodeId) -> bool
     ensures { result ≡ spec.holds_pre (tree_of tree.now node) }
 {
     match element_at(tree, node) {
-        Some(found) => found.name.as_str() == "pre" || hold_pre(tree, found.children),
+        Some(found) => found.name.is(Tag::Pre) || hold_pre(tree, found.children),
         None => false,
     }
 }
@@ -138,7 +142,7 @@ fn is_code_cell(tree: &Tree, node: NodeId) -> bool
 {
     match element_at(tree, node) {
         Some(found) => {
-            is_cell_name(found.name.as_str())
+            is_cell_name(found.name)
                 && !is_of_numbers(found.attrs)
                 && hold_pre(tree, found.children)
         }
@@ -177,7 +181,7 @@ pub(crate) fn is_numbered_row(tree: &Tree, name: &Name, children: &[NodeId]) -> 
     requires { All (λ node. node < length tree.now) children.now }
     ensures { result ≡ spec.is_numbered_row name.now (forest_of (tree_of tree.now) children.now) }
 {
-    name.as_str() == "tr" && has_number_cell(tree, children) && has_code_cell(tree, children)
+    name.is(Tag::Tr) && has_number_cell(tree, children) && has_code_cell(tree, children)
 }
 
 /// Whether a node is a row with line numbers.
@@ -205,10 +209,10 @@ fn has_numbered(tree: &Tree, nodes: &[NodeId]) -> bool
 }
 
 /// Whether parts of tables that hold rows have this name.
-fn is_part_name(name: &str) -> bool
+fn is_part_name(name: &Name) -> bool
     ensures { result ≡ spec.is_part_name name.now }
 {
-    matches!(name, "thead" | "tbody" | "tfoot")
+    name.is(Tag::Thead) || name.is(Tag::Tbody) || name.is(Tag::Tfoot)
 }
 
 /// Whether a child of a table is a row with line numbers, or a part that has one.
@@ -219,7 +223,7 @@ fn holds_numbered(tree: &Tree, node: NodeId) -> bool
     match element_at(tree, node) {
         Some(found) => {
             is_numbered_row(tree, found.name, found.children)
-                || is_part_name(found.name.as_str()) && has_numbered(tree, found.children)
+                || is_part_name(found.name) && has_numbered(tree, found.children)
         }
         None => false,
     }

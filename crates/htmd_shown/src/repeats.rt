@@ -8,7 +8,7 @@ use crate::formula::tex_of_script;
 use crate::page::{element_at, text_at};
 use crate::role::is_among;
 use crate::spaces::is_blank_text;
-use htmd_nodes::{NodeId, Tree};
+use htmd_nodes::{NodeId, Tag, Tree};
 use std::alloc::{AllocError, Global};
 
 /// Whether a node says nothing of whether a script with TeX follows what is before it: a blank text, a comment, or what
@@ -18,7 +18,7 @@ pub(crate) fn is_passed(tree: &Tree, node: NodeId) -> bool
     ensures { result ≡ spec.is_passed (tree_of tree.now node) }
 {
     match element_at(tree, node) {
-        Some(found) => found.name.as_str() != "script" && is_of_mathjax(found.attrs),
+        Some(found) => !found.name.is(Tag::Script) && is_of_mathjax(found.attrs),
         None => match text_at(tree, node) {
             Some(text) => is_blank_text(text),
             None => true,
@@ -39,7 +39,7 @@ fn is_tex_script(
     let Some(found) = element_at(tree, node) else {
         return Ok(false);
     };
-    if found.name.as_str() != "script" || is_among("script", skip) {
+    if !found.name.is(Tag::Script) || is_among("script", skip) {
         return Ok(false);
     }
     let tex = tex_of_script(alloc, tree, found.attrs, found.children)?;
@@ -52,7 +52,7 @@ fn is_script(tree: &Tree, node: NodeId) -> bool
     ensures { result ≡ spec.is_script_element (tree_of tree.now node) }
 {
     match element_at(tree, node) {
-        Some(found) => found.name.as_str() == "script",
+        Some(found) => found.name.is(Tag::Script),
         None => false,
     }
 }

@@ -76,5 +76,15 @@ fn are_blank_characters(text: &str) -> bool
 pub fn is_blank_when_shown(text: &str) -> bool
     ensures { result ≡ is_blank_text (spec.shown_text text.now) }
 {
+    if begins_visibly(text.as_bytes()) {
+        return false;
+    }
     are_blank_characters(text)
+}
+
+/// Whether the first byte is a visible ASCII character.
+fn begins_visibly(bytes: &[u8]) -> bool
+    ensures { result ≡ views.begins_visibly bytes.now }
+{
+    matches!(bytes, [b'!'..=b'~', ..])
 }

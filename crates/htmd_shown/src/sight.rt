@@ -30,7 +30,7 @@ use crate::role::{Role, is_among, is_never_shown, role_of};
 use crate::sign::Sign;
 use crate::simple::{Embedded, Simple, is_text};
 use htmd_document::InlineElement;
-use htmd_nodes::{Attribute, Name, NodeId, Tree, value_of};
+use htmd_nodes::{Attribute, Name, NodeId, Tag, Tree, value_of};
 use std::alloc::{AllocError, Global};
 
 /// What shows of a page: of its tree, without the elements that `skip` names, and without `noscript` where scripts run.
@@ -292,18 +292,21 @@ impl<'t> Content<'t> {
 // ---- raised and lowered parts of formulas
 
 /// What the element children of a formula's part are put in: of `msup` the second is raised.
-fn raised_by(name: &str) -> &'static [Option<InlineElement>]
+fn raised_by(name: &Name) -> &'static [Option<InlineElement>]
     ensures { result.now ≡ spec.raised_by name.now }
 {
-    match name {
-        "msup" => &[None, Some(InlineElement::Superscript)],
-        "msub" => &[None, Some(InlineElement::Subscript)],
-        "msubsup" => &[
+    if name.is(Tag::Msup) {
+        &[None, Some(InlineElement::Superscript)]
+    } else if name.is(Tag::Msub) {
+        &[None, Some(InlineElement::Subscript)]
+    } else if name.is(Tag::Msubsup) {
+        &[
             None,
             Some(InlineElement::Subscript),
             Some(InlineElement::Superscript),
-        ],
-        _ => &[],
+        ]
+    } else {
+        &[]
     }
 }
 
@@ -506,7 +509,7 @@ impl<'t> Before<'t> {
     {
         match element_at(tree, node) {
             Some(found) => Before {
-                source: if self.source.is_some() && found.name.as_str() == "img" {
+                source: if self.source.is_some() && found.name.is(Tag::Img) {
                     None
                 } else {
                     self.source
@@ -525,7 +528,7 @@ impl<'t> Sight<'t> {
     fn is_skipped(&self, name: &Name) -> bool
         ensures { result ≡ spec.is_skipped (views.sight_of self.now) name.now }
     {
-        is_among(name.as_str(), self.skip) || name.as_str() == "noscript" && self.scripting
+        is_among(name.as_str(), self.skip) || name.is(Tag::Noscript) && self.scripting
     }
 
     /// What shows of a node, if something does.
@@ -572,7 +575,7 @@ impl<'t> Sight<'t> {
         }
         match tex_of(self.alloc, self.tree, found)? {
             Some(tex) => {
-                let is_alone = is_display(found.name.as_str(), found.attrs);
+                let is_alone = is_display(found.name, found.attrs);
                 Ok(Some(Seen::of_formula(tex, is_alone, found.attrs)))
             }
             None => self.other_element(found, around, source),
@@ -596,15 +599,15 @@ impl<'t> Sight<'t> {
         if around.is_hidden(found.name, found.attrs) {
             return Ok(None);
         }
-        if is_image(found.name.as_str(), found.attrs) {
+        if is_image(found.name, found.attrs) {
             let address = image_address(self.alloc, found.attrs, source)?;
             return Ok(Some(Seen::of_image(address, found.attrs)));
         }
-        if is_embedding(found.name.as_str()) {
+        if is_embedding(found.name) {
             return self.embedded(found);
         }
         let content = self.content(found, around)?;
-        if found.name.as_str() == "object" {
+        if found.name.is(Tag::Object) {
             self.object(found, content)
         } else {
             self.with_content(found, around.in_head, content)
@@ -670,7 +673,7 @@ impl<'t> Sight<'t> {
             (forest_of (tree_of self.now.tree.now) found.now.children.now) (views.nodes_of content.entry)) }
         ensures summed { IfOk result (λ seen. IfSome seen (λ s. views.IsSummed s)) }
     {
-        if found.name.as_str() == "a" && is_permalink(in_head, found.attrs, &content) {
+        if found.name.is(Tag::A) && is_permalink(in_head, found.attrs, &content) {
             return target(self.alloc, found.node, found.attrs);
         }
         let role = role_at(self.tree, found);
@@ -689,13 +692,12 @@ impl<'t> Sight<'t> {
         if around.is_emptied(found.name, found.attrs) {
             return Content::with_capacity(self.alloc, 0);
         }
-        let name = found.name.as_str();
         let inside = Inside {
             parent: found.node,
             around: around.inside(self.tree, found),
-            source: picture_source(self.tree, name, found.children),
-            formats: raised_by(name),
-            is_quoted: name == "q",
+            source: picture_source(self.tree, found.name, found.children),
+            formats: raised_by(found.name),
+            is_quoted: found.name.is(Tag::Q),
         };
         self.among(found.children, &inside)
     }

@@ -1,15 +1,15 @@
--- The lines so far are written.
-use Rattle.std.proofs.Common.{◌≡◌, [], ◌∷◌, length, map, take}
-use Rattle.std.specs.Prelude.{◌==◌}
-use Rattle.std.specs.List.{slice_split}
-use Rattle.htmd_lexical.specs.Characters.{line_feed}
-use Rattle.htmd_text.specs.Joins.{joined_texts}
+-- With the line and what follows, the whole is written.
+use Rattle.std.proofs.Common.{◌≡◌, ◌≤◌, false, drop}
+use Rattle.std.specs.List.{between, list_any}
+use Rattle.std.specs.Str.{IsCharBoundary}
+use Rattle.htmd_text.specs.Trims.{is_line_feed}
 use Rattle.htmd_commonmark.specs.Pages.{wrote}
 use Rattle.htmd_commonmark.proofs.lines.Lines.push.Given as goal
 
-abbrev pub invariant-loop-line : goal.invariant-loop-line
-invariant-loop-line l = record {
-  written : l.self ≡ wrote l.fn.self (joined_texts (line_feed ∷ [])
-      (map (λ line. line) (take (length l.yielded) (slice_split (λ b. b == line_feed) l.text))));
-  begun : l.is_first ≡ (length l.yielded == 0);
+abbrev pub invariant-loop-i : goal.invariant-loop-i
+invariant-loop-i l = record {
+  within : l.from ≤ l.i;
+  cut : IsCharBoundary l.text l.from;
+  line : list_any is_line_feed (between l.from l.i l.text) ≡ false;
+  written : wrote l.self (drop l.from l.text) ≡ wrote l.fn.self l.text;
 }
