@@ -491,14 +491,14 @@ pub(crate) const FILE_OPTIONS: [FileOption; 4] = [
         name: "--output=",
         value: "OUT",
         line: "writes to this file, or into this folder",
-        help: "writes into OUT if it is a folder or ends with a slash, or if several files or a folder are converted, and otherwise to the file OUT",
+        help: "writes to file OUT; into OUT if it is a folder, ends with a slash or takes several files or a folder",
     },
     FileOption {
         short: "",
         name: "--links=md",
         value: "",
         line: "lets pages of the run link to each other's Markdown",
-        help: "points links from page to page of the same run at their Markdown; parts of other pages want --anchors=all",
+        help: "points links from page to page of the run at their Markdown; parts of other pages want --anchors=all",
     },
     FileOption {
         short: "",
