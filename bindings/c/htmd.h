@@ -103,7 +103,9 @@ typedef struct htmd_options {
     uint8_t output;
     uint8_t front_matter;      /* 1: what the head of the page says about it is written first; 0: it is not */
     uint8_t anchors;
-    uint8_t reserved[14];      /* 0 */
+    uint8_t rich;              /* 1: the document also says what Markdown has no form for; 0: it doesn't */
+    uint8_t article;           /* 1: only the main content of the page is converted; 0: all of it */
+    uint8_t reserved[12];      /* 0 */
 } htmd_options;
 
 /* A text, and the number of its bytes. With none it says nothing; the pointer isn't null even then. */

@@ -82,7 +82,9 @@ static void test_struct(void) {
     CHECK(offsetof(htmd_options, output) == 15);
     CHECK(offsetof(htmd_options, front_matter) == 16);
     CHECK(offsetof(htmd_options, anchors) == 17);
-    CHECK(offsetof(htmd_options, reserved) == 18);
+    CHECK(offsetof(htmd_options, rich) == 18);
+    CHECK(offsetof(htmd_options, article) == 19);
+    CHECK(offsetof(htmd_options, reserved) == 20);
 }
 
 /* A call for a page, into a buffer that is large enough. */
@@ -126,6 +128,14 @@ static void test_pages(void) {
     options.drop = text_of(".note");
     struct answer answer = call_page(page, strlen(page), &options);
     CHECK(says(&answer, "a [b](b)"));
+    options.select = text_of("");
+    options.options.article = 1;
+    answer = call_page(page, strlen(page), &options);
+    CHECK(says(&answer, "a [b](b)"));
+    options.options.article = 2;
+    CHECK(status_of_page(page, &options) == HTMD_BAD_OPTIONS);
+    options.options.article = 0;
+    options.select = text_of("main");
     options.base = text_of("https://example.org/docs/");
     options.options.front_matter = 1;
     answer = call_page(page, strlen(page), &options);
@@ -269,14 +279,26 @@ static void test_anchors(void) {
     CHECK(says(&none, "a\n\nb[c](#y)"));
 }
 
+static void test_rich(void) {
+    const char *html = "<details><summary>a</summary>b</details>";
+    htmd_options options = defaults();
+    options.reader = HTMD_HTML5;
+    options.mode = HTMD_GUARDED;
+    struct answer plain = call(html, strlen(html), &options, ROOM);
+    CHECK(says(&plain, "a\n\nb"));
+    options.rich = 1;
+    struct answer rich = call(html, strlen(html), &options, ROOM);
+    CHECK(says(&rich, "<details>\n<summary>a</summary>\n\nb\n\n</details>"));
+}
+
 /* Each number of each byte of the struct: all but the good ones answer the status for them, and write nothing. */
 static void test_numbers(void) {
-    const int counts[32] = {0, 3, 3, 2, 2, 3, 2, 3, 3, 2, 2, 2, 256, 256, 2, 2, 2, 3};
+    const int counts[32] = {0, 3, 3, 2, 2, 3, 2, 3, 3, 2, 2, 2, 256, 256, 2, 2, 2, 3, 2, 2};
     for (int at = 0; at < 32; at++) {
         for (int number = 0; number < 256; number++) {
             htmd_options options = defaults();
             memcpy((uint8_t *)&options + at, &(uint8_t){(uint8_t)number}, 1);
-            int is_good = at == 0 ? number == HTMD_OPTIONS_VERSION : at > 17 ? number == 0 : number < counts[at];
+            int is_good = at == 0 ? number == HTMD_OPTIONS_VERSION : at > 19 ? number == 0 : number < counts[at];
             if (at == offsetof(htmd_options, output) && number == HTMD_MDAST)
                 continue; /* JSON, which test_modes asks for */
             struct answer answer = call("<p>a</p>", 8, &options, 8);
@@ -443,6 +465,7 @@ int main(void) {
     test_options();
     test_modes();
     test_anchors();
+    test_rich();
     test_numbers();
     test_utf8();
     test_places();

@@ -75,6 +75,7 @@ def convert(
     ul_bullet_spacing: int = 3,
     ol_number_spacing: int = 2,
     preformatted_code: bool = False,
+    article: bool = False,
     select: str = "",
     drop: str = "",
     skip: str = "",
@@ -82,6 +83,7 @@ def convert(
     front_matter: bool = False,
     encoding: Optional[str] = None,
     anchors: Anchors = "linked",
+    rich: bool = False,
 ) -> str:
     """Converts a page, a text or its bytes, to Markdown.
 
@@ -101,7 +103,9 @@ def convert(
     bullet_list_marker: "asterisk" or "dash"
     ul_bullet_spacing, ol_number_spacing: the spaces after a bullet and after a number, 0 to 255; in "guarded" 1 to 4
     preformatted_code: whether the white space of code spans is kept
-    select: selectors with commas between them, as "main,.note": only the outermost elements that they name are converted
+    article: whether only the main content of the page is converted, without menus and the like
+    select: selectors with commas between them, as "main,.note": only the outermost elements that they name are
+        converted
     drop: selectors of what is left out, before other elements are selected
     skip: names of elements that give nothing, with commas between them
     base: the URL of the page: addresses are made absolute
@@ -110,6 +114,8 @@ def convert(
         bytes that are UTF-8 as such, and others by what the page says about itself. A `str` needs none
     anchors: which places of links "guarded" keeps: "linked" those that links of the page lead to, "all" also those that
         links of other pages may lead to, "none" none
+    rich: whether "guarded" also writes, as HTML, what Markdown has no form for: details, captions, terms and what they
+        mean, marks, keys, tables with blocks in their cells
 
     "guarded" ignores link_reference_style, code_block_style and preformatted_code: references are full, code blocks
     fenced, and the white space of code spans is squeezed.
@@ -124,6 +130,8 @@ def convert(
         ol_number_spacing,
         preformatted_code,
         front_matter,
+        rich,
+        article,
         output="markdown",
         reader=reader,
         mode=mode,
@@ -145,12 +153,14 @@ def document(
     *,
     reader: Reader = "html5",
     scripting: bool = True,
+    article: bool = False,
     select: str = "",
     drop: str = "",
     skip: str = "",
     base: str = "",
     encoding: Optional[str] = None,
     anchors: Anchors = "linked",
+    rich: bool = False,
 ) -> Dict[str, Any]:
     """What a reader sees of a page, a text or its bytes, in the form of mdast 4: dicts and lists.
 
@@ -160,7 +170,9 @@ def document(
 
     Raises what `convert` raises.
     """
-    options = _options(scripting, 3, 2, False, False, output="mdast", reader=reader, mode="guarded", anchors=anchors)
+    options = _options(
+        scripting, 3, 2, False, False, rich, article, output="mdast", reader=reader, mode="guarded", anchors=anchors
+    )
     return json.loads(_written(html, options, _texts(select, drop, skip, base, encoding)))
 
 
@@ -203,6 +215,8 @@ def _options(
     ol_number_spacing: int,
     preformatted_code: bool,
     front_matter: bool,
+    rich: bool,
+    article: bool,
     **values: str,
 ) -> _library.Options:
     """The struct that says these options; it is never written again, so that threads may share it."""
@@ -214,6 +228,8 @@ def _options(
         ol_number_spacing=_spacing("ol_number_spacing", ol_number_spacing),
         preformatted_code=_flag("preformatted_code", preformatted_code),
         front_matter=_flag("front_matter", front_matter),
+        rich=_flag("rich", rich),
+        article=_flag("article", article),
         **numbers,
     )
 

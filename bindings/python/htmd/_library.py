@@ -61,7 +61,9 @@ class Options(ctypes.Structure):
         ("output", ctypes.c_uint8),
         ("front_matter", ctypes.c_uint8),
         ("anchors", ctypes.c_uint8),
-        ("reserved", ctypes.c_uint8 * 14),
+        ("rich", ctypes.c_uint8),
+        ("article", ctypes.c_uint8),
+        ("reserved", ctypes.c_uint8 * 12),
     ]
 
 

@@ -113,6 +113,15 @@ class Documents(unittest.TestCase):
         self.assertEqual(htmd.convert(html, anchors="all"), '<a id="x"></a>a\n\n<a id="y"></a>b[c](#y)')
         self.assertEqual(htmd.convert(html, anchors="none"), "a\n\nb[c](#y)")
 
+    def test_rich(self):
+        html = "<details><summary>a</summary>b</details>"
+        self.assertEqual(htmd.convert(html), "a\n\nb")
+        self.assertEqual(htmd.convert(html, rich=True), "<details>\n<summary>a</summary>\n\nb\n\n</details>")
+        tags = {"type": "html", "value": "<details>\n<summary>a</summary>"}
+        self.assertEqual(htmd.document(html, rich=True)["children"][0], tags)
+        with self.assertRaises(TypeError):
+            htmd.convert(html, rich=1)
+
     def test_scripting(self):
         html = "a<noscript>b</noscript>"
         self.assertEqual(htmd.document(html)["children"][0]["children"], [{"type": "text", "value": "a"}])
@@ -138,6 +147,12 @@ class Pages(unittest.TestCase):
         self.assertEqual(htmd.convert(self.PAGE, select="main", drop=".note"), "a [b](b)")
         self.assertEqual(htmd.convert(self.PAGE, drop="nav,.note", skip="a,aside"), "a")
         self.assertEqual(len(htmd.document(self.PAGE, select="main")["children"]), 2)
+
+    def test_main_content(self):
+        self.assertEqual(htmd.convert(self.PAGE, article=True), "a [b](b)\n\nc")
+        self.assertEqual(len(htmd.document(self.PAGE, article=True)["children"]), 2)
+        with self.assertRaises(TypeError):
+            htmd.convert(self.PAGE, article=1)
 
     def test_addresses_and_front_matter(self):
         markdown = htmd.convert(self.PAGE, select="main > p", base="https://example.org/docs/", front_matter=True)

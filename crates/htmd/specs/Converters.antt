@@ -1,5 +1,5 @@
 -- What a converter and a builder hold: their handlers, whether scripting is on, which places of links documents have,
--- and the tags that are skipped.
+-- whether they are rich, and the tags that are skipped.
 use Rattle.std.specs.Prelude.{ℕ, Bool, List, map, string_bytes}
 use Rattle.htmd_document_of_tree.specs.declared.anchors.Anchors.{Anchors}
 use Rattle.htmd.specs.declared.converter.HtmlToMarkdown.{HtmlToMarkdown}
@@ -23,6 +23,12 @@ anchors_of converter = converter.anchors
 
 abbrev pub anchors_built : {R : Type 0} → HtmlToMarkdownBuilder R → Anchors
 anchors_built builder = builder.anchors
+
+abbrev pub rich_of : {R : Type 0} → HtmlToMarkdown R → Bool
+rich_of converter = converter.rich
+
+abbrev pub rich_built : {R : Type 0} → HtmlToMarkdownBuilder R → Bool
+rich_built builder = builder.rich
 
 abbrev pub names_in : SkippedTags → List (List ℕ)
 names_in tags = map string_bytes tags.names.items

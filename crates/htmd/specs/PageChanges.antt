@@ -3,6 +3,7 @@ use Rattle.std.specs.Prelude.{◌≡◌, ◌⊎◌, ◌++◌, ℕ, Bool, true, f
 use Rattle.std.specs.Prelude.{Some, None, option_map}
 use Rattle.htmd_lexical.specs.Characters.{line_feed}
 use Rattle.htmd_nodes.specs.Items.{Item}
+use Rattle.htmd_article.specs.Articles.{article_page}
 use Rattle.htmd_selectors.specs.SelectorSteps.{Step}
 use Rattle.htmd_selectors.specs.SelectedParts.{dropped, selected}
 use Rattle.htmd_addresses.specs.Addresses.{absolute_page}
@@ -25,6 +26,10 @@ head_of settings page = if settings.front_matter && not settings.text then front
 abbrev pub AreLines : List ℕ → Type 0
 AreLines s = (s ≡ []) ⊎ ((front : List ℕ) × (s ≡ front ++ line_feed ∷ []))
 
+-- the main content of a page, if only that is converted
+abbrev pub main_content : Settings → List Item → List Item
+main_content settings page = if settings.article then article_page page else page
+
 -- a page without the elements that are left out
 abbrev pub without_dropped : Settings → List Item → List Item
 without_dropped settings page = if are_given settings.dropped then dropped settings.dropped page else page
@@ -45,10 +50,10 @@ with_addresses None None part = part
 with_addresses None (Some base) part = absolute_page base part
 with_addresses (Some page) base part = led_page page.pages page.own base part
 
--- the part of a page that is converted: what is selected of it, without what is left out, and with the addresses that
--- it is to have, by the base of the whole page; of a text all
+-- the part of a page that is converted: what is selected of its main content, if only that is converted, without what
+-- is left out, and with the addresses that it is to have, by the base of the whole page; of a text all
 abbrev pub part_of : Settings → List Item → Option (List Item)
 part_of settings page =
     if settings.text then Some page
     else option_map (with_addresses settings.run_page (base_of settings.base page))
-    (selected_of settings (without_dropped settings page))
+    (selected_of settings (without_dropped settings (main_content settings page)))

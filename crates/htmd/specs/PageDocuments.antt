@@ -6,24 +6,27 @@ use Rattle.htmd_html5.specs.Html5Documents.{html5_document}
 use Rattle.htmd_document.specs.Documents.{Blocks}
 use Rattle.htmd_document_of_tree.specs.declared.anchors.Anchors.{Anchors}
 use Rattle.htmd_document_of_tree.specs.TreeDocuments.{document_of_tree}
+use Rattle.htmd_shown.specs.Shown.{Sight}
 use Rattle.htmd_commonmark.specs.declared.options.DocumentOptions.{DocumentOptions}
 use Rattle.htmd_walk.specs.declared.options.Options.{Options}
 use Rattle.htmd.specs.Conversions.{IsTreeOf}
 
 -- what a reader sees of a tree, but of the tags that are skipped
-abbrev pub document_of_items : Bool → List (List ℕ) → Anchors → List Item → Blocks
-document_of_items scripting skipped anchors tree = document_of_tree anchors scripting skipped (tree_of tree 0)
+abbrev pub document_of_items : Bool → List (List ℕ) → Anchors → Bool → List Item → Blocks
+document_of_items scripting skipped anchors rich tree =
+    let sight : Sight = record { scripting = scripting; skip = skipped; is_rich = rich } in
+    document_of_tree anchors sight (tree_of tree 0)
 
 -- what a reader sees of any page, as the HTML Standard reads it
-abbrev pub html5_page_document : Bool → List (List ℕ) → Anchors → List ℕ → Blocks
-html5_page_document scripting skipped anchors html =
-    document_of_items scripting skipped anchors (html5_document scripting html)
+abbrev pub html5_page_document : Bool → List (List ℕ) → Anchors → Bool → List ℕ → Blocks
+html5_page_document scripting skipped anchors rich html =
+    document_of_items scripting skipped anchors rich (html5_document scripting html)
 
 -- the text denotes a tree, and this is what a reader sees of it
-abbrev pub IsDocumentOf : Bool → List (List ℕ) → Anchors → List ℕ → Blocks → Type 0
-IsDocumentOf scripting skipped anchors html document =
+abbrev pub IsDocumentOf : Bool → List (List ℕ) → Anchors → Bool → List ℕ → Blocks → Type 0
+IsDocumentOf scripting skipped anchors rich html document =
     (tree : List Item) × IsTreeOf scripting html tree
-    × (document ≡ document_of_items scripting skipped anchors tree)
+    × (document ≡ document_of_items scripting skipped anchors rich tree)
 
 -- the options that count for a document
 abbrev pub document_options : Options → DocumentOptions

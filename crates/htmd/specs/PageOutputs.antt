@@ -3,6 +3,9 @@ use Rattle.std.specs.Prelude.{◌≡◌, ◌&&◌, ◌||◌, ℕ, Bool, true, fa
 use Rattle.std.specs.Prelude.{MatchBool, ⊤}
 use Rattle.std.specs.Prelude.{length, take, Some, None, IsUtf8}
 use Rattle.htmd_nodes.specs.Items.{IsTree, HoldTexts}
+use Rattle.htmd_nodes.specs.NumberedTrees.{value_at}
+use Rattle.htmd_article.specs.Articles.{article_of, article_page}
+use Rattle.htmd_article.specs.declared.choices.Chosen.{Chosen}
 use Rattle.htmd_lexical.specs.Characters.{line_feed}
 use Rattle.htmd_grammar.specs.declared.fault.FaultKind.{FaultKind}
 use Rattle.htmd_nodes.specs.Items.{Item, document_item, new_item, element_node, text_node}
@@ -16,7 +19,7 @@ use Rattle.htmd.specs.PageDocuments.{document_of_items, document_options}
 use Rattle.htmd_document.specs.Documents.{Blocks}
 use Rattle.htmd_document.specs.Mdast.{mdast_of, mdast_with_front_matter}
 use Rattle.htmd_commonmark.specs.DocumentMarkdown.{markdown_of}
-use Rattle.htmd.specs.Converters.{anchors_of, handlers_of, scripting_of, skipped_of}
+use Rattle.htmd.specs.Converters.{anchors_of, handlers_of, rich_of, scripting_of, skipped_of}
 use Rattle.htmd.specs.declared.converter.HtmlToMarkdown.{HtmlToMarkdown}
 use Rattle.htmd_encodings.specs.Decoding.{page_text}
 use Rattle.htmd_html5.specs.Html5Documents.{html5_document}
@@ -65,7 +68,8 @@ text_in settings bytes = if reads_any settings then page_text settings.encoding 
 
 -- what a reader sees of a tree
 abbrev pub document_in : Settings → List Item → Blocks
-document_in settings tree = document_of_items settings.scripting settings.skipped settings.anchors tree
+document_in settings tree =
+    document_of_items settings.scripting settings.skipped settings.anchors settings.rich tree
 
 -- what of an input the strict reader reads
 abbrev pub strict_part : Settings → List ℕ → List ℕ
@@ -84,6 +88,12 @@ IsTreeBy settings input page =
     MatchBool settings.text (page ≡ paragraph input)
     (MatchBool settings.html5 (IsHtml5Tree settings.scripting input page)
     (IsTreeOf settings.scripting (strict_part settings input) page))
+
+-- the main content of the page that an input is, and the rule by which it was chosen
+abbrev pub IsMainContent : Settings → List ℕ → Chosen → List Item → Type 0
+IsMainContent settings input chosen content =
+    (page : List Item) × IsTreeBy settings input page
+    × (chosen ≡ (article_of (value_at page 0)).chosen) × (content ≡ article_page page)
 
 -- Markdown after what the head of its page says, which stands between two lines `---`, if it says anything
 abbrev pub after_head : List ℕ → List ℕ → List ℕ
@@ -151,4 +161,4 @@ abbrev pub GoesBy : {H : Type 0} → (H → Type 0) → (H → Config) → HtmlT
 GoesBy ready config converter settings =
     ready (handlers_of converter) × (config (handlers_of converter) ≡ config_of settings)
     × (scripting_of converter ≡ settings.scripting) × (skipped_of converter ≡ settings.skipped)
-    × (anchors_of converter ≡ settings.anchors)
+    × (anchors_of converter ≡ settings.anchors) × (rich_of converter ≡ settings.rich)

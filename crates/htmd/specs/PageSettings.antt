@@ -29,10 +29,14 @@ pub record Settings : Type 0 where
   pub mdast : Bool
   -- which places of links the document has that a reader sees
   pub anchors : Anchors
+  -- that document keeps elements that Markdown has no form for
+  pub rich : Bool
   pub scripting : Bool
   pub options : Options
   -- elements with these names give nothing
   pub skipped : List (List ℕ)
+  -- only the main content of the page is converted
+  pub article : Bool
   -- only the outermost elements that these selectors name are converted, if there are any selectors
   pub selected : List Step
   -- the elements that these selectors name are left out
@@ -54,9 +58,11 @@ settings_in settings = record {
   guarded = settings.guarded;
   mdast = settings.mdast;
   anchors = settings.anchors;
+  rich = settings.rich;
   scripting = settings.scripting;
   options = settings.options;
   skipped = map (λ name. name.now) settings.skipped.items;
+  article = settings.article;
   selected = steps_in settings.selected;
   dropped = steps_in settings.dropped;
   base = settings.base;
@@ -74,9 +80,11 @@ default_settings = record {
   guarded = false;
   mdast = false;
   anchors = which.Linked;
+  rich = false;
   scripting = true;
   options = default_options;
   skipped = [];
+  article = false;
   selected = [];
   dropped = [];
   base = None;

@@ -7,9 +7,9 @@ use Rattle.htmd.specs.PageChanges.{head_of, part_of}
 use Rattle.htmd.specs.PageOutputs.{IsTreeBy, after_head, text_in}
 use Rattle.htmd.specs.PageSettings.{Settings}
 
--- whether scripts run, and what is skipped
+-- whether scripts run, what is skipped, and whether the document is rich
 abbrev pub sight_in : Settings → Sight
-sight_in settings = record { scripting = settings.scripting; skip = settings.skipped }
+sight_in settings = record { scripting = settings.scripting; skip = settings.skipped; is_rich = settings.rich }
 
 -- Where what a person sees is written, and not as JSON: after what the head of its page says comes Markdown in which,
 -- with a line feed, a reader sees the document of this tree, with each visible character of the tree.

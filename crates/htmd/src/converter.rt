@@ -1,7 +1,7 @@
 //! The converter and its builder.
 
 ghost use Rattle.std.specs.Prelude.{◌≡◌, ◌<◌, ◌++◌, [], ℕ, true, None, Err, IfOk, IfErr, MatchResult, map, length};
-ghost use Rattle.std.specs.Prelude.{string_bytes};
+ghost use Rattle.std.specs.Prelude.{false, string_bytes};
 ghost use Rattle.htmd_document.specs.DocumentViews.{document_of};
 ghost use Rattle.htmd_document_of_tree.specs.declared.anchors.Anchors.TheVariants.{Linked};
 ghost use Rattle.htmd_tree.specs.Bodies.{body_part};
@@ -38,6 +38,7 @@ pub struct HtmlToMarkdown<R = ElementHandlers> {
     handlers: R,
     scripting: bool,
     anchors: Anchors,
+    rich: bool,
     skipped: SkippedTags,
 }
 
@@ -47,6 +48,7 @@ pub struct HtmlToMarkdownBuilder<R = ElementHandlers> {
     handlers: R,
     scripting: bool,
     anchors: Anchors,
+    rich: bool,
     skipped: SkippedTags,
 }
 
@@ -85,12 +87,13 @@ pub fn convert(alloc: Global, html: &str) -> Result<String, ConvertError>
 
 impl HtmlToMarkdown {
     ghost use Rattle.htmd.specs.Converters.{handlers_of, handlers_built, scripting_of, scripting_built};
-    ghost use Rattle.htmd.specs.Converters.{anchors_of, anchors_built, skipped_of, skipped_built};
+    ghost use Rattle.htmd.specs.Converters.{anchors_of, anchors_built, rich_of, rich_built, skipped_of, skipped_built};
 
     /// A converter with the built-in handlers, the default options and scripting on. `Err` means out of memory.
     pub fn new(alloc: Global) -> Result<HtmlToMarkdown, AllocError>
         ensures scripting { IfOk result (λ converter. scripting_of converter ≡ true) }
         ensures anchors { IfOk result (λ converter. anchors_of converter ≡ Linked) }
+        ensures rich { IfOk result (λ converter. rich_of converter ≡ false) }
         ensures skipped { IfOk result (λ converter. skipped_of converter ≡ []) }
         ensures handlers { let config = ⟦<ElementHandlers as Registry>⟧.config in
             IfOk result (λ converter. config (handlers_of converter) ≡ built_in default_options) }
@@ -100,6 +103,7 @@ impl HtmlToMarkdown {
             handlers,
             scripting: true,
             anchors: Anchors::Linked,
+            rich: false,
             skipped: SkippedTags::new(alloc),
         })
     }
@@ -108,6 +112,7 @@ impl HtmlToMarkdown {
     pub fn builder(alloc: Global) -> Result<HtmlToMarkdownBuilder, AllocError>
         ensures scripting { IfOk result (λ builder. scripting_built builder ≡ true) }
         ensures anchors { IfOk result (λ builder. anchors_built builder ≡ Linked) }
+        ensures rich { IfOk result (λ builder. rich_built builder ≡ false) }
         ensures skipped { IfOk result (λ builder. skipped_built builder ≡ []) }
         ensures handlers { let config = ⟦<ElementHandlers as Registry>⟧.config in
             IfOk result (λ builder. config (handlers_built builder) ≡ built_in default_options) }
@@ -117,7 +122,7 @@ impl HtmlToMarkdown {
 }
 
 impl<R: Registry> HtmlToMarkdown<R> {
-    ghost use Rattle.htmd.specs.Converters.{anchors_of, handlers_of, scripting_of, skipped_of};
+    ghost use Rattle.htmd.specs.Converters.{anchors_of, handlers_of, rich_of, scripting_of, skipped_of};
 
     /// The tree of a text of HTML, by the strict grammar. `Refused` for each text outside the grammar, with the byte
     /// place and the kind of its first fault; `Memory` when out of memory.
@@ -207,7 +212,8 @@ impl<R: Registry> HtmlToMarkdown<R> {
     /// aren't asked. No page is refused; `Err` means out of memory.
     pub fn document(&self, alloc: Global, html: &str) -> Result<Document, AllocError>
         ensures ok { IfOk result (λ document. document_of document
-            ≡ html5_page_document (scripting_of self.now) (skipped_of self.now) (anchors_of self.now) html.now) }
+            ≡ html5_page_document (scripting_of self.now) (skipped_of self.now) (anchors_of self.now)
+            (rich_of self.now) html.now) }
     {
         let page = parse_html5(alloc, html, self.scripting)?;
         self.tree_to_document(alloc, &page)
@@ -217,7 +223,8 @@ impl<R: Registry> HtmlToMarkdown<R> {
     /// means out of memory.
     pub fn tree_to_document(&self, alloc: Global, tree: &Tree) -> Result<Document, AllocError>
         ensures ok { IfOk result (λ document. document_of document
-            ≡ document_of_items (scripting_of self.now) (skipped_of self.now) (anchors_of self.now) tree.now) }
+            ≡ document_of_items (scripting_of self.now) (skipped_of self.now) (anchors_of self.now) (rich_of self.now)
+            tree.now) }
     {
         let skipped = self.skipped.names(alloc)?;
         Document::of_tree(
@@ -226,6 +233,7 @@ impl<R: Registry> HtmlToMarkdown<R> {
             self.scripting,
             skipped.as_slice(),
             self.anchors,
+            self.rich,
         )
     }
 
@@ -239,12 +247,13 @@ impl<R: Registry> HtmlToMarkdown<R> {
 
 impl HtmlToMarkdownBuilder {
     ghost use Rattle.htmd.specs.Converters.{handlers_of, handlers_built, scripting_of, scripting_built};
-    ghost use Rattle.htmd.specs.Converters.{anchors_of, anchors_built, skipped_of, skipped_built};
+    ghost use Rattle.htmd.specs.Converters.{anchors_of, anchors_built, rich_of, rich_built, skipped_of, skipped_built};
 
     /// A builder with the built-in handlers, the default options and scripting on. `Err` means out of memory.
     pub fn new(alloc: Global) -> Result<HtmlToMarkdownBuilder, AllocError>
         ensures scripting { IfOk result (λ builder. scripting_built builder ≡ true) }
         ensures anchors { IfOk result (λ builder. anchors_built builder ≡ Linked) }
+        ensures rich { IfOk result (λ builder. rich_built builder ≡ false) }
         ensures skipped { IfOk result (λ builder. skipped_built builder ≡ []) }
         ensures handlers { let config = ⟦<ElementHandlers as Registry>⟧.config in
             IfOk result (λ builder. config (handlers_built builder) ≡ built_in default_options) }
@@ -254,6 +263,7 @@ impl HtmlToMarkdownBuilder {
             handlers,
             scripting: true,
             anchors: Anchors::Linked,
+            rich: false,
             skipped: SkippedTags::new(alloc),
         })
     }
@@ -276,6 +286,8 @@ impl HtmlToMarkdownBuilder {
             (λ refused. scripting_built refused.builder ≡ scripting_built self) }
         ensures anchors { MatchResult result (λ builder. anchors_built builder ≡ anchors_built self)
             (λ refused. anchors_built refused.builder ≡ anchors_built self) }
+        ensures rich { MatchResult result (λ builder. rich_built builder ≡ rich_built self)
+            (λ refused. rich_built refused.builder ≡ rich_built self) }
         ensures skipped { MatchResult result (λ builder. skipped_built builder ≡ skipped_built self)
             (λ refused. skipped_built refused.builder ≡ skipped_built self) }
         ensures handler { IfErr result (λ refused. refused.handler ≡ handler) }
@@ -291,7 +303,8 @@ impl HtmlToMarkdownBuilder {
 }
 
 impl<R: Registrar> HtmlToMarkdownBuilder<R> {
-    ghost use Rattle.htmd.specs.Converters.{anchors_built, handlers_of, handlers_built, scripting_built, skipped_built};
+    ghost use Rattle.htmd.specs.Converters.{anchors_built, handlers_of, handlers_built, rich_built, scripting_built};
+    ghost use Rattle.htmd.specs.Converters.{skipped_built};
 
     /// The same builder with these options.
     pub fn options(mut self, options: Options) -> Self
@@ -300,6 +313,7 @@ impl<R: Registrar> HtmlToMarkdownBuilder<R> {
         ensures ready { R.ready (handlers_built result) }
         ensures scripting { scripting_built result ≡ scripting_built self }
         ensures anchors { anchors_built result ≡ anchors_built self }
+        ensures rich { rich_built result ≡ rich_built self }
         ensures skipped { skipped_built result ≡ skipped_built self }
     {
         self.handlers.take_options(options);
@@ -321,6 +335,8 @@ impl<R: Registrar> HtmlToMarkdownBuilder<R> {
             (λ refused. scripting_built refused.builder ≡ scripting_built self) }
         ensures anchors { MatchResult result (λ builder. anchors_built builder ≡ anchors_built self)
             (λ refused. anchors_built refused.builder ≡ anchors_built self) }
+        ensures rich { MatchResult result (λ builder. rich_built builder ≡ rich_built self)
+            (λ refused. rich_built refused.builder ≡ rich_built self) }
         ensures skipped { MatchResult result
             (λ builder. skipped_built builder ≡ skipped_built self ++ map (λ t. t.now) tags.now)
             (λ refused. skipped_built refused.builder ≡ skipped_built self) }
@@ -362,6 +378,8 @@ impl<R: Registrar> HtmlToMarkdownBuilder<R> {
             (λ refused. scripting_built refused.builder ≡ scripting_built self) }
         ensures anchors { MatchResult result (λ builder. anchors_built builder ≡ anchors_built self)
             (λ refused. anchors_built refused.builder ≡ anchors_built self) }
+        ensures rich { MatchResult result (λ builder. rich_built builder ≡ rich_built self)
+            (λ refused. rich_built refused.builder ≡ rich_built self) }
         ensures skipped { MatchResult result (λ builder. skipped_built builder ≡ skipped_built self)
             (λ refused. skipped_built refused.builder ≡ skipped_built self) }
     {
@@ -370,6 +388,7 @@ impl<R: Registrar> HtmlToMarkdownBuilder<R> {
                 handlers: Layered::new(self.handlers, index, handler),
                 scripting: self.scripting,
                 anchors: self.anchors,
+                rich: self.rich,
                 skipped: self.skipped,
             }),
             Err(_) => Err(AddFnRefused {
@@ -382,7 +401,7 @@ impl<R: Registrar> HtmlToMarkdownBuilder<R> {
 
 impl<R: Registry> HtmlToMarkdownBuilder<R> {
     ghost use Rattle.htmd.specs.Converters.{handlers_of, handlers_built, scripting_of, scripting_built};
-    ghost use Rattle.htmd.specs.Converters.{anchors_of, anchors_built, skipped_of, skipped_built};
+    ghost use Rattle.htmd.specs.Converters.{anchors_of, anchors_built, rich_of, rich_built, skipped_of, skipped_built};
 
     /// The same builder with scripting on or off: if it is on, the content of `noscript` is one text, else it is nodes.
     pub fn scripting_enabled(mut self, scripting: bool) -> Self
@@ -391,6 +410,7 @@ impl<R: Registry> HtmlToMarkdownBuilder<R> {
         ensures ready { R.ready (handlers_built result) }
         ensures scripting { scripting_built result ≡ scripting }
         ensures anchors { anchors_built result ≡ anchors_built self }
+        ensures rich { rich_built result ≡ rich_built self }
         ensures skipped { skipped_built result ≡ skipped_built self }
     {
         self.scripting = scripting;
@@ -405,8 +425,23 @@ impl<R: Registry> HtmlToMarkdownBuilder<R> {
         ensures scripting { scripting_built result ≡ scripting_built self }
         ensures skipped { skipped_built result ≡ skipped_built self }
         ensures anchors { anchors_built result ≡ anchors }
+        ensures rich { rich_built result ≡ rich_built self }
     {
         self.anchors = anchors;
+        self
+    }
+
+    /// The same builder, but documents are rich or not: rich ones keep elements that Markdown has no form for.
+    pub fn rich(mut self, rich: bool) -> Self
+        requires ready { R.ready (handlers_built self) }
+        ensures config { R.config (handlers_built result) ≡ R.config (handlers_built self) }
+        ensures ready { R.ready (handlers_built result) }
+        ensures scripting { scripting_built result ≡ scripting_built self }
+        ensures anchors { anchors_built result ≡ anchors_built self }
+        ensures skipped { skipped_built result ≡ skipped_built self }
+        ensures rich { rich_built result ≡ rich }
+    {
+        self.rich = rich;
         self
     }
 
@@ -418,11 +453,13 @@ impl<R: Registry> HtmlToMarkdownBuilder<R> {
         ensures scripting { scripting_of result ≡ scripting_built self }
         ensures skipped { skipped_of result ≡ skipped_built self }
         ensures anchors { anchors_of result ≡ anchors_built self }
+        ensures rich { rich_of result ≡ rich_built self }
     {
         HtmlToMarkdown {
             handlers: self.handlers,
             scripting: self.scripting,
             anchors: self.anchors,
+            rich: self.rich,
             skipped: self.skipped,
         }
     }

@@ -33,9 +33,11 @@ pub use converter::{
 };
 pub use documents::document_options;
 pub use htmd_addresses::{Page, Pages, RunPage};
+pub use htmd_article::{Article, Chosen};
 pub use htmd_commonmark::{DocumentOptions, to_markdown};
 pub use htmd_document::{
-    Alignment, Block, CellContent, Document, Format, Inline, InlineElement, ItemContent, RowContent,
+    Alignment, AttributeName, Block, BlockAttribute, BlockElement, CellContent, Document, Format,
+    Inline, InlineElement, ItemContent, RowContent,
 };
 pub use htmd_document_of_tree::{Anchors, OfTree};
 pub use htmd_encodings::{Encoding, encoding_named};
@@ -44,7 +46,7 @@ pub use htmd_selectors::{SelectorError, Selectors, parse_selectors};
 pub use htmd_tree::{FaultKind, ReadError, body_of, line_and_column};
 pub use htmd_walk::element_handler::Element;
 pub use htmd_walk::{element_handler, options};
-pub use page_converter::{PageConverter, convert_page};
+pub use page_converter::{PageConverter, convert_page, main_content};
 pub use page_error::PageError;
 pub use page_settings::{PageInRun, PageSettings};
 pub use paragraph::paragraph_of;

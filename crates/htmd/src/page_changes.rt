@@ -8,6 +8,7 @@ ghost use Rattle.htmd.specs.PageSettings.{page_in, settings_for, settings_in};
 
 use crate::page_settings::{PageInRun, PageSettings};
 use htmd_addresses::{RunPage, base_of, lead_to_pages, make_absolute};
+use htmd_article::article_of;
 use htmd_front_matter::front_matter;
 use htmd_nodes::Tree;
 use htmd_selectors::{Selectors, drop_elements, select_elements};
@@ -35,6 +36,18 @@ pub(crate) fn head_of(
         front_matter(alloc, page)
     } else {
         Ok(String::new(alloc))
+    }
+}
+
+/// The main content of the page, if only that is converted.
+fn main_content(alloc: Global, settings: &PageSettings<'_>, page: Tree) -> Result<Tree, AllocError>
+    ensures { IfOk result (λ tree. tree ≡ spec.main_content (settings_in settings.now) page) }
+{
+    if settings.article {
+        let article = article_of(alloc, &page)?;
+        Ok(article.tree)
+    } else {
+        Ok(page)
     }
 }
 
@@ -68,16 +81,18 @@ fn selected(
     }
 }
 
-/// What is selected of a page, without what is dropped.
+/// What is selected of a page, or of its main content, without what is dropped.
 fn chosen(
     alloc: Global,
     settings: &PageSettings<'_>,
     page: Tree,
 ) -> Result<Option<Tree>, AllocError>
     ensures { IfOk result (λ part. part ≡ spec.selected_of (settings_in settings.now)
-        (spec.without_dropped (settings_in settings.now) page)) }
+        (spec.without_dropped (settings_in settings.now)
+        (spec.main_content (settings_in settings.now) page))) }
 {
-    let kept = without_dropped(alloc, settings, page)?;
+    let content = main_content(alloc, settings, page)?;
+    let kept = without_dropped(alloc, settings, content)?;
     selected(alloc, settings, kept)
 }
 

@@ -4,14 +4,15 @@ ghost use Rattle.std.specs.Prelude.{◌≡◌, [], IfErr, IfOk, string_bytes};
 ghost use Rattle.htmd_walk.specs.BuiltIn.{built_in};
 ghost use Rattle.htmd_walk.specs.Defaults.{default_options};
 ghost use Rattle.htmd.specs.Converters.{handlers_built, skipped_built};
-ghost use Rattle.htmd.specs.PageOutputs.{IsFaultOf, IsOutputOf};
+ghost use Rattle.htmd.specs.PageOutputs.{IsFaultOf, IsMainContent, IsOutputOf, text_in};
 ghost use Rattle.htmd.specs.PageSettings.{page_in, settings_for, settings_in};
 ghost use Rattle.htmd.specs.PageSights.{IsSeen};
 
 use crate::converter::{HtmlToMarkdown, HtmlToMarkdownBuilder};
 use crate::page_error::PageError;
-use crate::page_output::{converter_by, output_of};
+use crate::page_output::{converter_by, main_content_of, output_of};
 use crate::page_settings::{PageInRun, PageSettings};
+use htmd_article::Article;
 use htmd_walk::element_handler::{ElementHandlers, Registrar, Registry};
 use std::alloc::{AllocError, Global};
 
@@ -37,6 +38,21 @@ pub fn convert_page(
 {
     let converter = PageConverter::new(HtmlToMarkdown::builder(alloc)?, settings)?;
     converter.convert_alone(alloc, bytes)
+}
+
+/// The main content of a page, and the rule by which it was chosen, whether or not the settings say that only that is
+/// converted. They say how the bytes are decoded and read. The errors are those of `convert_page`, but for
+/// `NothingSelected`.
+pub fn main_content(
+    alloc: Global,
+    bytes: &[u8],
+    settings: &PageSettings<'_>,
+) -> Result<Article, PageError>
+    ensures { IfOk result (λ article. IsMainContent (settings_in settings.now)
+        (text_in (settings_in settings.now) bytes.now) article.chosen article.tree) }
+{
+    let converter = converter_by(HtmlToMarkdown::builder(alloc)?, settings)?;
+    main_content_of(alloc, &converter, settings, bytes)
 }
 
 impl<'a, 'b, R: Registrar + Drop> PageConverter<'a, 'b, R> {

@@ -8,7 +8,7 @@ ghost use Rattle.htmd_document.specs.DocumentViews.{document_of};
 ghost use Rattle.htmd_walk.specs.Defaults.{default_options};
 ghost use Rattle.htmd_grammar.specs.declared.fault.FaultKind.{FaultKind};
 ghost use Rattle.htmd.specs.PageChanges.{AreLines};
-ghost use Rattle.htmd.specs.PageOutputs.{GoesBy, IsFaultOf, IsOutputOf, IsReadable, IsRefusedBy, IsTreeBy, text_in};
+ghost use Rattle.htmd.specs.PageOutputs.{GoesBy, IsFaultOf, IsMainContent, IsOutputOf, IsReadable, IsRefusedBy, IsTreeBy, text_in};
 ghost use Rattle.htmd.specs.PageOutputs as spec;
 ghost use Rattle.htmd.specs.PageSights.{IsSeen, IsSeenAfter, sight_in};
 ghost use Rattle.htmd.specs.PageSettings.{page_in, settings_for, settings_in};
@@ -21,6 +21,7 @@ use crate::page_changes::{head_of, part_of};
 use crate::page_error::PageError;
 use crate::page_settings::{PageInRun, PageSettings};
 use crate::paragraph::paragraph_of;
+use htmd_article::{Article, article_of};
 use htmd_commonmark::to_markdown;
 use htmd_document::Document;
 use htmd_encodings::page_text;
@@ -45,7 +46,8 @@ pub(crate) fn converter_by<H: Registrar + Drop>(
     let mut builder = builder
         .options(options)
         .scripting_enabled(settings.scripting)
-        .anchors(settings.anchors);
+        .anchors(settings.anchors)
+        .rich(settings.rich);
     let skipped = settings.skipped.as_slice();
     if !skipped.is_empty() {
         builder = match builder.skip_tags(skipped) {
@@ -191,6 +193,22 @@ fn tree_output<H: Registry>(
     }
     let markdown = tree_markdown(alloc, converter, settings, tree)?;
     after_head(alloc, head, markdown)
+}
+
+/// The main content of a page, and the rule by which it was chosen, whether or not only that is converted.
+pub(crate) fn main_content_of<H: Registry>(
+    alloc: Global,
+    converter: &HtmlToMarkdown<H>,
+    settings: &PageSettings<'_>,
+    input: &[u8],
+) -> Result<Article, PageError>
+    requires goes_by { GoesBy H.ready H.config converter.now (settings_in settings.now) }
+    ensures { IfOk result (λ article. IsMainContent (settings_in settings.now)
+        (text_in (settings_in settings.now) input.now) article.chosen article.tree) }
+{
+    let text = text_of(alloc, settings, input)?;
+    let page = tree_by(alloc, converter, settings, &text)?;
+    Ok(article_of(alloc, &page)?)
 }
 
 /// What the bytes of an input become, by a converter with these settings. In Markdown of what a person sees, a reader

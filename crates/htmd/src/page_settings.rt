@@ -30,11 +30,15 @@ pub struct PageSettings<'a> {
     pub mdast: bool,
     /// Which places of links the document has that a reader sees.
     pub anchors: Anchors,
+    /// That document keeps elements that Markdown has no form for, as HTML.
+    pub rich: bool,
     /// The content of `noscript` is one text, else it is nodes.
     pub scripting: bool,
     pub options: Options,
     /// Elements with these names give nothing. The names of elements are in lower case.
     pub skipped: Vec<&'a str>,
+    /// Only the main content of the page is converted.
+    pub article: bool,
     /// If there are any, only the outermost elements that these name are converted.
     pub selected: Selectors,
     /// The elements that these name are left out, before others are selected.
@@ -68,9 +72,11 @@ impl<'a> PageSettings<'a> {
             guarded: false,
             mdast: false,
             anchors: Anchors::Linked,
+            rich: false,
             scripting: true,
             options: Options::default(),
             skipped: Vec::new(alloc),
+            article: false,
             selected: Selectors::new(alloc),
             dropped: Selectors::new(alloc),
             base: None,

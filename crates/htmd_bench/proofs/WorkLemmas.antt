@@ -1,5 +1,5 @@
 -- Lemmas of specs/Work.antt.
-use Rattle.std.proofs.Common.{◌≡◌, ◌∙◌, ap, subst, refl, ℕ, Bool, List, [], true, length}
+use Rattle.std.proofs.Common.{◌≡◌, ◌∙◌, ap, subst, refl, ℕ, Bool, List, [], false, true, length}
 use Rattle.htmd_nodes.specs.Items.{Item}
 use Rattle.htmd.specs.BuiltIn.{built_in}
 use Rattle.htmd.specs.Choice.{Config}
@@ -28,19 +28,20 @@ markdown_of_tree config scripting page text tree node built on is_tree root is_m
 )
 
 -- what is written of the page's document, by the options of the built-in handlers, has the length of its Markdown
-pub document_of_page : (config : Config) (scripting : Bool) (skipped : List (List ℕ)) (anchors : Anchors)
+pub document_of_page : (config : Config) (scripting : Bool) (skipped : List (List ℕ)) (anchors : Anchors) (rich : Bool)
     (page text : List ℕ) (tree : List Item) (document : Blocks)
-    → config ≡ built_in default_options → scripting ≡ true → skipped ≡ [] → anchors ≡ Linked
-    → IsTreeOf scripting page tree → document ≡ document_of_items scripting skipped anchors tree
+    → config ≡ built_in default_options → scripting ≡ true → skipped ≡ [] → anchors ≡ Linked → rich ≡ false
+    → IsTreeOf scripting page tree → document ≡ document_of_items scripting skipped anchors rich tree
     → text ≡ markdown_of (document_options config.options) document → HasDocumentLength page (length text)
-document_of_page config scripting skipped anchors page text tree document built on none linked is_tree seen is_text = (
+document_of_page c s skipped anchors rich page text tree document built on none linked plain read seen told = (
   document,
   (
     tree,
-    subst (λ b. IsTreeOf b page tree) on is_tree,
-    subst (λ which. document ≡ document_of_items true [] which tree) linked
-        (subst (λ names. document ≡ document_of_items true names anchors tree) none
-        (subst (λ b. document ≡ document_of_items b skipped anchors tree) on seen)),
+    subst (λ b. IsTreeOf b page tree) on read,
+    subst (λ b. document ≡ document_of_items true [] Linked b tree) plain
+        (subst (λ which. document ≡ document_of_items true [] which rich tree) linked
+        (subst (λ names. document ≡ document_of_items true names anchors rich tree) none
+        (subst (λ b. document ≡ document_of_items b skipped anchors rich tree) on seen))),
   ),
-  ap length (is_text ∙ ap (λ (c : Config). markdown_of (document_options c.options) document) built),
+  ap length (told ∙ ap (λ (c : Config). markdown_of (document_options c.options) document) built),
 )

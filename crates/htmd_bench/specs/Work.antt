@@ -1,5 +1,5 @@
 -- How large the answers to an input are.
-use Rattle.std.specs.Prelude.{◌≡◌, ℕ, List, [], true, length}
+use Rattle.std.specs.Prelude.{◌≡◌, ℕ, List, [], false, true, length}
 use Rattle.htmd_text.specs.EscapedPlaces.{escaped_markdown}
 use Rattle.htmd_text.specs.SqueezedTexts.{squeezed_text}
 use Rattle.htmd_nodes.specs.Items.{Item, children_of}
@@ -23,7 +23,7 @@ HasMarkdownLength page len =
 -- what a reader sees of the page has this length, as Markdown
 abbrev pub HasDocumentLength : List ℕ → ℕ → Type 0
 HasDocumentLength page len =
-    (document : Blocks) × IsDocumentOf true [] Linked page document
+    (document : Blocks) × IsDocumentOf true [] Linked false page document
     × (len ≡ length (markdown_of (document_options default_options) document))
 
 -- this is the length of the answer: in bytes, and of a tree how many nodes stand right under the Document

@@ -69,7 +69,9 @@ default_struct = record {
   output = 0;
   front_matter = 0;
   anchors = 0;
-  reserved = replicate 14 0;
+  rich = 0;
+  article = 0;
+  reserved = replicate 12 0;
 }
 
 -- what a text is read as, and what becomes of what Markdown has no form for, have numbers that are known
@@ -83,13 +85,13 @@ are_lines_known given =
     nat_lt given.heading_style 2 && nat_lt given.hr_style 3 && nat_lt given.br_style 2
     && nat_lt given.link_style 3 && nat_lt given.link_reference_style 3
 
--- the styles of code and of lists, the output, what is written before it and which places of links there are have
--- numbers that are known; a spacing is any number
+-- the styles of code and of lists, the output, what is written before it, which places of links there are, whether the
+-- document is rich and whether it is of the main content have numbers that are known; a spacing is any number
 abbrev pub are_blocks_known : HtmdOptions → Bool
 are_blocks_known given =
     nat_lt given.code_block_style 2 && nat_lt given.code_block_fence 2 && nat_lt given.bullet_list_marker 2
     && nat_lt given.preformatted_code 2 && nat_lt given.output 2 && nat_lt given.front_matter 2
-    && nat_lt given.anchors 3
+    && nat_lt given.anchors 3 && nat_lt given.rich 2 && nat_lt given.article 2
 
 -- the version is known, each number is one of its field's, and what is reserved is 0
 abbrev pub is_good : HtmdOptions → Bool
@@ -157,9 +159,11 @@ settings_of given = record {
   guarded = given.mode == guarded;
   mdast = given.output == mdast;
   anchors = anchors given.anchors;
+  rich = given.rich == 1;
   scripting = is_scripting given;
   options = options_of given;
   skipped = [];
+  article = given.article == 1;
   selected = [];
   dropped = [];
   base = None;

@@ -53,7 +53,9 @@ pub struct HtmdOptions {
     pub output: u8,
     pub front_matter: u8,
     pub anchors: u8,
-    pub reserved: [u8; 14],
+    pub rich: u8,
+    pub article: u8,
+    pub reserved: [u8; 12],
 }
 
 /// The struct for the options of `convert`.
@@ -79,7 +81,9 @@ pub(crate) fn default_struct() -> HtmdOptions
         output: 0,
         front_matter: 0,
         anchors: 0,
-        reserved: [0; 14],
+        rich: 0,
+        article: 0,
+        reserved: [0; 12],
     }
 }
 
@@ -109,6 +113,8 @@ fn are_blocks_known(given: &HtmdOptions) -> bool
         && given.output < 2
         && given.front_matter < 2
         && given.anchors < 3
+        && given.rich < 2
+        && given.article < 2
 }
 
 fn are_zero(bytes: &[u8]) -> bool
@@ -252,8 +258,10 @@ pub(crate) fn settings_of<'a>(alloc: Global, given: &HtmdOptions) -> PageSetting
     settings.guarded = given.mode == GUARDED;
     settings.mdast = given.output == MDAST;
     settings.anchors = anchors(given.anchors);
+    settings.rich = given.rich == 1;
     settings.scripting = given.scripting == 1;
     settings.options = options_of(given);
     settings.front_matter = given.front_matter == 1;
+    settings.article = given.article == 1;
     settings
 }

@@ -168,7 +168,9 @@ known_options =
     ∷ plain (codes "--anchors=linked") (sets (λ settings. record settings { anchors = anchors.Linked }))
     ∷ plain (codes "--anchors=all") (sets (λ settings. record settings { anchors = anchors.All }))
     ∷ plain (codes "--anchors=none") (sets (λ settings. record settings { anchors = anchors.None }))
+    ∷ plain (codes "--rich") (sets (λ settings. record settings { rich = true }))
     ∷ plain (codes "--front-matter") (sets (λ settings. record settings { front_matter = true }))
+    ∷ plain (codes "--article") (sets (λ settings. record settings { article = true }))
     ∷ selecting (codes "--select=") selects
     ∷ selecting (codes "--drop=") drops
     ∷ named (codes "--skip=") skips

@@ -1,5 +1,5 @@
 //! What the program says about a refused input, apart from the line that it always writes.
-use htmd::{FaultKind, PageError, line_and_column};
+use htmd::{Article, Attribute, Chosen, FaultKind, NodeData, PageError, line_and_column};
 use std::fmt;
 use std::fmt::Write;
 use unicode::width::UnicodeWidthChar;
@@ -133,6 +133,41 @@ fn write_front<W: Write>(out: &mut W, front: &str) -> fmt::Result {
         out.write_char(shown(character).0)?;
     }
     Ok(())
+}
+
+/// How the main content of a page was found.
+fn rule(chosen: Chosen) -> &'static str {
+    match chosen {
+        Chosen::Main => "what the page says is its main part",
+        Chosen::ArticleBody => "what the page says is the body of its article",
+        Chosen::Article => "an article with most of the prose",
+        Chosen::Density => "the element with the most prose and few links",
+        Chosen::Body => "the whole page, as no part of it is better",
+    }
+}
+
+/// Writes the start tag of an element, of its attributes only the id and the class.
+fn write_tag<W: Write>(out: &mut W, name: &str, attrs: &[Attribute]) -> fmt::Result {
+    write!(out, " <{name}")?;
+    for attribute in attrs {
+        let (name, value) = (attribute.name.as_str(), attribute.value.as_str());
+        if matches!(name, "id" | "class") {
+            write!(out, " {name}={value:?}")?;
+        }
+    }
+    out.write_str(">")
+}
+
+/// Writes what the main content of a page is, and why.
+pub(crate) fn explain_main_content<W: Write>(out: &mut W, article: &Article) -> fmt::Result {
+    write!(out, "main content: {}:", rule(article.chosen))?;
+    let tree = &article.tree;
+    for node in tree.children(tree.root()) {
+        if let NodeData::Element { name, attrs } = tree.data(*node) {
+            write_tag(out, name.as_str(), attrs.as_slice())?;
+        }
+    }
+    out.write_str("\n")
 }
 
 /// Writes where and why an input is refused, or where it is not UTF-8; it writes nothing for any other error.

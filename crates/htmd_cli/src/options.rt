@@ -70,7 +70,9 @@ pub(crate) enum Setting {
     Mdast,
     NoScripting,
     Anchors(Anchors),
+    Rich,
     FrontMatter,
+    Article,
     Style(Style),
     PreformattedCode,
     Explain,
@@ -93,7 +95,7 @@ pub(crate) struct OptionRow {
 }
 
 /// The options that are known, by their groups.
-pub(crate) const OPTIONS: [OptionRow; 47] = [
+pub(crate) const OPTIONS: [OptionRow; 49] = [
     OptionRow {
         group: Group::Input,
         name: "--web",
@@ -156,7 +158,7 @@ pub(crate) const OPTIONS: [OptionRow; 47] = [
         value: "",
         setting: Setting::Explain,
         line: "shows where a page is rejected, and why",
-        help: "shows where a page is rejected, and what is wrong there",
+        help: "shows where a page is rejected, and what is wrong there; with --article, what is chosen and why",
     },
     OptionRow {
         group: Group::Written,
@@ -208,11 +210,27 @@ pub(crate) const OPTIONS: [OptionRow; 47] = [
     },
     OptionRow {
         group: Group::Written,
+        name: "--rich",
+        value: "",
+        setting: Setting::Rich,
+        line: "keeps details, captions, terms and the like as HTML",
+        help: "with --guarded or --mdast: keeps as HTML what Markdown has no form for, as details, captions or terms",
+    },
+    OptionRow {
+        group: Group::Written,
         name: "--front-matter",
         value: "",
         setting: Setting::FrontMatter,
         line: "puts title, language and the like first, as YAML",
         help: "with --html5: puts title, lang, description, author and others of the page's head first, as YAML",
+    },
+    OptionRow {
+        group: Group::Written,
+        name: "--article",
+        value: "",
+        setting: Setting::Article,
+        line: "converts only the main content, without menus",
+        help: "converts only the main content of the page, without menus and the like",
     },
     OptionRow {
         group: Group::Written,

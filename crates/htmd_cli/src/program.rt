@@ -10,7 +10,7 @@ use crate::faults::RunError;
 use crate::help::show;
 use crate::option_faults::{say_fault, say_warnings};
 use crate::pipeline::run_over;
-use crate::reports::{Lines, explain_stream};
+use crate::reports::{Lines, explain_article, explain_stream};
 use crate::requests::{OptionFault, Request, read_options};
 use crate::rows::run_rows;
 use htmd_streams::{Failed, Sink, Source};
@@ -20,8 +20,9 @@ use std::fmt::{Display, Write};
 /// The program: reads its options, converts the source into the sink, and returns the exit status. 0 is success, 1 a
 /// run that did not succeed and 2 an option that is not known, or not with its value. If the options request the help
 /// or the version, that is written to the sink in place of a conversion, and nothing is read. What went wrong is a line
-/// on the sink for errors; with `--explain`, if an input is refused or isn't UTF-8, that sink also gets where and why.
-/// Faults of that sink are ignored. The source and the sink must not have failed before.
+/// on the sink for errors; with `--explain`, if an input is refused or isn't UTF-8, that sink also gets where and why,
+/// and with `--article` what the main content is and why. Faults of that sink are ignored. The source and the sink must
+/// not have failed before.
 #[tactic(auto, using(std::proofs::lemmas::Grind::common_steps, crate::proofs::FailuresLemmas::is_unknown))]
 pub fn command<R: Source, W: Sink, E: Sink>(
     alloc: Global,
@@ -112,7 +113,12 @@ fn run_request<R: Source, W: Sink, E: Sink>(
         };
     }
     match run_over(alloc, source, sink, &settings) {
-        (Ok(()), _) => 0,
+        (Ok(()), input) => {
+            if explains && settings.article {
+                explain_article(alloc, errors, &settings, input.as_slice());
+            }
+            0
+        }
         (Err(error), input) => {
             let status = failed(errors, &error);
             if explains {

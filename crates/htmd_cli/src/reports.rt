@@ -2,10 +2,11 @@
 ghost use Rattle.std.specs.Prelude.{◌≡◌};
 ghost use Rattle.std.specs.Io.KnownBytes.{Appends};
 
-use crate::explanations::explain;
+use crate::explanations::{explain, explain_main_content};
 use crate::faults::StreamError;
-use htmd::PageError;
+use htmd::{PageError, PageSettings, main_content};
 use htmd_streams::{Sink, write_all};
+use std::alloc::Global;
 use std::fmt;
 use std::fmt::Write;
 
@@ -46,6 +47,18 @@ pub(crate) fn report<E: Sink>(
 pub(crate) fn explain_stream<E: Sink>(lines: &mut Lines<'_, E>, error: &StreamError, input: &[u8]) {
     if let StreamError::Page(error) = error {
         let _ = explain(lines, error, input);
+    }
+}
+
+/// Says what the main content of a page is, and why.
+pub(crate) fn explain_article<E: Sink>(
+    alloc: Global,
+    errors: &mut E,
+    settings: &PageSettings<'_>,
+    page: &[u8],
+) {
+    if let Ok(article) = main_content(alloc, page, settings) {
+        let _ = explain_main_content(&mut Lines { sink: errors }, &article);
     }
 }
 

@@ -21,6 +21,11 @@ use Rattle.htmd_document.specs.declared.document.Block.TheVariants.{rolls-List}
 use Rattle.htmd_document.specs.declared.document.Inline.{Inline}
 use Rattle.htmd_document.specs.Documents as value
 use Rattle.htmd_document.specs.DocumentViews.{block_step, block_of, blocks_of, inline_of, inlines_of}
+use Rattle.htmd_document.specs.FlatDocuments.{flattened, flat_items, flat_block}
+use Rattle.htmd_document.specs.FlatViews.{flat_of, flat_blocks_of}
+use Rattle.htmd_document.specs.NormalDocuments.{depth_of, depth_among, depth_of_items}
+use Rattle.htmd_document.proofs.FlatLemmas.{depth-at, depth-in-item}
+use Rattle.htmd_document.specs.declared.flat.FlatBlock.{FlatBlock}
 use Rattle.htmd_commonmark.specs.declared.blocks.Place.{Place}
 use Rattle.htmd_commonmark.specs.declared.markers.Markers.{Markers}
 use Rattle.htmd_commonmark.specs.declared.markers.Sign.{Sign}
@@ -36,7 +41,6 @@ use Rattle.htmd_commonmark.specs.Pages.{Page, IsMarker, nothing, with_byte, wrot
 use Rattle.htmd_commonmark.specs.Pages.{behind_quote, quoted, indented}
 use Rattle.htmd_commonmark.specs.WrittenText.{Written}
 use Rattle.htmd_commonmark.proofs.PagesLemmas.{wrote-append, in_item-wrote, in_quote-wrote}
-use denote.Param.Weighed.{most, at_most}
 
 -- ---- breaks
 
@@ -133,11 +137,11 @@ with_blocks true options place before o bs = put o (written_blocks options place
 with_blocks false options place before o bs =
     put o (further_blocks options (behind_first place) before o.definitions bs)
 
-pub block_split : (bs : List Block) (i : ℕ) (b : Block) → i < length bs → b ≡ get_or bs i b
-    → blocks_of (drop i bs) ≡ value.block (block_of b) (blocks_of (drop (i + 1) bs))
+pub block_split : (bs : List FlatBlock) (i : ℕ) (b : FlatBlock) → i < length bs → b ≡ get_or bs i b
+    → flat_blocks_of (drop i bs) ≡ value.block (flat_of b) (flat_blocks_of (drop (i + 1) bs))
 block_split bs i b within is =
-    ap blocks_of (drop-cons bs i b within ∙ ap (λ n. get_or bs i b ∷ drop n bs) (sym (add-one i)))
-    ∙ ap (λ y. value.block (block_of y) (blocks_of (drop (i + 1) bs))) (sym is)
+    ap flat_blocks_of (drop-cons bs i b within ∙ ap (λ n. get_or bs i b ∷ drop n bs) (sym (add-one i)))
+    ∙ ap (λ y. value.block (flat_of y) (flat_blocks_of (drop (i + 1) bs))) (sym is)
 
 pub first_block : (options : DocumentOptions) (place : Place) (o next : Output) (b : value.Block) (rest : value.Blocks)
     (sign : Option Sign) → next ≡ put o (written_block options place None o.definitions b)
@@ -165,12 +169,12 @@ later_block options place before sign o next b rest is signed =
     ∙ put-put o (separator place.tight ++ w.text) later.text w.definitions later.definitions
 
 pub no_more_blocks : (t : Bool) (options : DocumentOptions) (place : Place) (before : Option Sign) (o : Output)
-    (bs : List Block) (i : ℕ) → length bs ≤ i
-    → with_blocks t options place before o (blocks_of (drop i bs)) ≡ o
+    (bs : List FlatBlock) (i : ℕ) → length bs ≤ i
+    → with_blocks t options place before o (flat_blocks_of (drop i bs)) ≡ o
 no_more_blocks true options place before o bs i past =
-    ap (λ l. with_blocks true options place before o (blocks_of l)) (drop_all i bs past)
+    ap (λ l. with_blocks true options place before o (flat_blocks_of l)) (drop_all i bs past)
 no_more_blocks false options place before o bs i past =
-    ap (λ l. with_blocks false options place before o (blocks_of l)) (drop_all i bs past)
+    ap (λ l. with_blocks false options place before o (flat_blocks_of l)) (drop_all i bs past)
 
 -- ---- items
 
@@ -181,10 +185,12 @@ with_items (suc k) options markers is_tight o items =
 
 pub item_split : (items : List (Vec Block Global)) (i : ℕ) (b : Vec Block Global) → i < length items
     → b ≡ get_or items i b
-    → all_items_of (drop i items) ≡ value.item (blocks_of b.items) (all_items_of (drop (i + 1) items))
+    → flat_items (all_items_of (drop i items))
+    ≡ value.item (flattened (blocks_of b.items)) (flat_items (all_items_of (drop (i + 1) items)))
 item_split items i b within is =
-    ap all_items_of (drop-cons items i b within ∙ ap (λ n. get_or items i b ∷ drop n items) (sym (add-one i)))
-    ∙ ap (λ y. value.item (blocks_of y.items) (all_items_of (drop (i + 1) items))) (sym is)
+    ap (λ l. flat_items (all_items_of l))
+    (drop-cons items i b within ∙ ap (λ n. get_or items i b ∷ drop n items) (sym (add-one i)))
+    ∙ ap (λ y. value.item (flattened (blocks_of y.items)) (flat_items (all_items_of (drop (i + 1) items)))) (sym is)
 
 pub first_item : (options : DocumentOptions) (markers : Markers) (is_tight : Bool) (o next : Output) (bs : value.Blocks)
     (rest : value.Items)
@@ -215,13 +221,13 @@ later_item options markers is_tight k o next bs rest is =
 
 pub no_more_items : (n : ℕ) (options : DocumentOptions) (markers : Markers) (is_tight : Bool) (o : Output)
     (items : List (Vec Block Global)) (i : ℕ) → length items ≤ i
-    → with_items n options markers is_tight o (all_items_of (drop i items)) ≡ o
+    → with_items n options markers is_tight o (flat_items (all_items_of (drop i items))) ≡ o
 no_more_items zero options markers is_tight o items i past =
-    ap (λ l. with_items 0 options markers is_tight o (all_items_of l)) (drop_all i items past)
+    ap (λ l. with_items 0 options markers is_tight o (flat_items (all_items_of l))) (drop_all i items past)
 no_more_items (suc n) options markers is_tight o items i past =
-    ap (λ l. with_items (suc n) options markers is_tight o (all_items_of l)) (drop_all i items past)
+    ap (λ l. with_items (suc n) options markers is_tight o (flat_items (all_items_of l))) (drop_all i items past)
 
-pub counted : (items : List (Vec Block Global)) → item_count (all_items_of items) ≡ length items
+pub counted : (items : List (Vec Block Global)) → item_count (flat_items (all_items_of items)) ≡ length items
 counted [] = refl
 counted (bs ∷ items) = ap (λ n. suc n) (counted items)
 
@@ -389,14 +395,35 @@ list_shape start tight items =
     ∙ fold-roll-Block value.Block block_step (source.Block-F.List start tight items)
     ∙ ap (value.list start tight) (items_shape _ (λ v. refl) items.items)
 
--- ---- an item is no deeper than its list
+-- ---- how deep a call goes: a list is above its items, an item or a quote above its blocks
 
-pub item_less : {X : Type 0} (size : X → ℕ) (items : List (Vec X Global)) (i : ℕ) (item : Vec X Global)
-    (blocks : List X) (n : ℕ) → i < length items → item ≡ get_or items i item → blocks ≡ item.items
-    → most (λ v. most size v.items) items * 4 + 3 ≡ n → most size blocks * 4 + 2 < n
-item_less size items i item blocks n within is of_item measure =
-    let m : most size item.items ≤ most (λ w. most size w.items) items =
-    subst (λ v. most size v.items ≤ most (λ w. most size w.items) items) (sym is)
-    (at_most (λ w. most size w.items) items i item within) in
-    let same : most size blocks ≡ most size item.items = ap (most size) of_item in
-    omega (arith, m, same, measure)
+pub flat_less : (bs : List FlatBlock) (i : ℕ) (b : FlatBlock) (n : ℕ) → i < length bs → b ≡ get_or bs i b
+    → depth_among (flat_blocks_of bs) * 7 + 2 ≡ n → depth_of (flat_of b) * 7 + 1 < n
+flat_less bs i b n within is measure =
+    let h : depth_of (flat_of b) ≤ depth_among (flat_blocks_of bs) = depth-at flat_of bs i b within is in
+    omega (arith, h, measure)
+
+pub all_less : (bs : List FlatBlock) (cs : value.Blocks) (n : ℕ) → flat_blocks_of bs ≡ cs
+    → depth_among cs * 7 + 3 ≡ n → depth_among (flat_blocks_of bs) * 7 + 2 < n
+all_less bs cs n is measure =
+    let h : depth_among (flat_blocks_of bs) ≡ depth_among cs = ap depth_among is in omega (arith, h, measure)
+
+pub list_less : (items : List (Vec Block Global)) (ys : List (Vec Block Global)) (b : value.Block) (start : Option ℕ)
+    (is_tight : Bool) (n : ℕ) → b ≡ value.list start is_tight (all_items_of ys) → items ≡ ys
+    → depth_of (flat_block b) * 7 ≡ n → depth_of_items (flat_items (all_items_of items)) * 7 + 5 < n
+list_less items ys b start is_tight n shape is measure =
+    let h : depth_of (flat_block b) ≡ suc (depth_of_items (flat_items (all_items_of items))) =
+    ap (λ c. depth_of (flat_block c)) shape
+    ∙ ap (λ zs. suc (depth_of_items (flat_items (all_items_of zs)))) (sym is) in
+    omega (arith, h, measure)
+
+pub item_less : (items : List (Vec Block Global)) (i : ℕ) (item : Vec Block Global) (blocks : List Block) (n : ℕ)
+    → i < length items → item ≡ get_or items i item → blocks ≡ item.items
+    → depth_of_items (flat_items (all_items_of items)) * 7 + 5 ≡ n
+    → depth_among (flattened (blocks_of blocks)) * 7 + 4 < n
+item_less items i item blocks n within is of_item measure =
+    let h : depth_among (flattened (blocks_of item.items)) ≤ depth_of_items (flat_items (all_items_of items)) =
+    depth-in-item (λ v. blocks_of v.items) items i item within is in
+    let k : depth_among (flattened (blocks_of blocks)) ≡ depth_among (flattened (blocks_of item.items)) =
+    ap (λ l. depth_among (flattened (blocks_of l))) of_item in
+    omega (arith, h, k, measure)

@@ -1,16 +1,18 @@
 -- Inlines that are written one after the other.
 use Rattle.std.proofs.Common.{◌≡◌, ℕ, ◌+◌, ◌<◌, ◌≤◌, false, List, [], ◌∷◌, length, drop, get_or}
 use Rattle.std.proofs.Common.{refl, sym, ap, ◌∙◌, arith}
-use Rattle.std.specs.Prelude.{◌||◌, nat_eq, Option, Vec}
+use Rattle.std.specs.Prelude.{◌||◌, nat_eq, Option, Vec, String, string_bytes}
 use Rattle.std.specs.declared.alloc.Global.{Global}
 use Rattle.std.specs.List.{starts_with}
 use Rattle.std.proofs.lemmas.List.{drop_more}
 use Rattle.htmd_document.specs.declared.document.Inline.{Inline}
-use Rattle.htmd_document.specs.declared.document.Inline.TheVariants.{Element}
+use Rattle.htmd_document.specs.declared.document.Inline.TheVariants.{Element, Abbreviation}
 use Rattle.htmd_document.specs.declared.document.InlineElement.{InlineElement}
-use Rattle.htmd_document.specs.declared.document.InlineElement.TheVariants.{Superscript, Subscript}
+use Rattle.htmd_document.specs.declared.document.InlineElement.TheVariants.{Superscript, Subscript, Inserted}
+use Rattle.htmd_document.specs.declared.document.InlineElement.TheVariants.{Underlined, Marked, Small, Keyboard}
+use Rattle.htmd_document.specs.Formats as format
 use Rattle.htmd_document.specs.Formats.{of_element}
-use Rattle.htmd_document.proofs.MdastLemmas.{inline-element}
+use Rattle.htmd_document.proofs.MdastLemmas.{inline-element, inline-abbreviation}
 use Rattle.htmd_document.specs.DocumentViews.{inline_of, inlines_of}
 use Rattle.htmd_commonmark.specs.declared.inline_ends.Following.{Following}
 use Rattle.htmd_commonmark.specs.declared.line.Line.{Line}
@@ -55,6 +57,11 @@ not_alone address (x ∷ y ∷ xs) two = refl
 tags_written : (e : InlineElement) (s : Sides) → mark_for (of_element e) s ≡ tags_of (of_element e)
 tags_written Superscript s = refl
 tags_written Subscript s = refl
+tags_written Inserted s = refl
+tags_written Underlined s = refl
+tags_written Marked s = refl
+tags_written Small s = refl
+tags_written Keyboard s = refl
 
 pub element_written : (line : Line) (w : Written) (f : Following) (e : InlineElement) (xs : Vec Inline Global)
     → with_inline line w f (inline_of (Element e xs))
@@ -63,3 +70,8 @@ element_written line w f e xs =
     let content = inlines_of xs.items in
     ap (with_inline line w f) (inline-element e xs)
     ∙ ap (λ m. between line w m content) (tags_written e (sides_of line w.text f content))
+
+pub abbreviation_written : (line : Line) (w : Written) (f : Following) (title : String Global) (xs : Vec Inline Global)
+    → with_inline line w f (inline_of (Abbreviation title xs))
+    ≡ between line w (tags_of (format.Abbreviation (string_bytes title))) (inlines_of xs.items)
+abbreviation_written line w f title xs = ap (with_inline line w f) (inline-abbreviation title xs)

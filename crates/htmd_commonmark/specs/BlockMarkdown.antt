@@ -18,7 +18,7 @@ use Rattle.htmd_document.specs.Documents.{Inline, Inlines, text, code, formatted
 use Rattle.htmd_document.specs.Documents.{line_break, task}
 use Rattle.htmd_document.specs.Documents.{no_inlines, inline, Block, Blocks, Items, paragraph, heading, code_block}
 use Rattle.htmd_document.specs.Documents.{quote}
-use Rattle.htmd_document.specs.Documents.{thematic_break, list, table, no_blocks, block, no_items, item}
+use Rattle.htmd_document.specs.Documents.{thematic_break, list, table, element, tags, no_blocks, block, no_items, item}
 use Rattle.htmd_commonmark.specs.declared.blocks.Place.{Place}
 use Rattle.htmd_commonmark.specs.declared.line.Line.{Line}
 use Rattle.htmd_commonmark.specs.declared.line.LineKind.{LineKind}
@@ -219,8 +219,11 @@ sign_of options before outer (code_block language s) = None
 sign_of options before outer (quote content) = None
 sign_of options before outer thematic_break = None
 sign_of options before outer (table alignments header rows) = None
+sign_of options before outer (element name attributes content) = None
+sign_of options before outer (tags s) = None
 
--- `before`: the sign of the list that stands before; `definitions`: those of the links so far
+-- What is written of flat blocks, which have no elements. `before`: the sign of the list that stands before;
+-- `definitions`: those of the links so far.
 abbrev mutual
   -- the first block and then the others
   pub written_blocks : DocumentOptions → Place → List (List ℕ) → Blocks → Written
@@ -255,6 +258,9 @@ abbrev mutual
       written_items options (markers_of options before place.outer start (item_count items)) is_tight definitions items
   written_block options place before definitions (table alignments header rows) =
       written_table options definitions alignments header rows
+  written_block options place before definitions (element name attributes content) =
+      record { text = []; definitions = definitions }
+  written_block options place before definitions (tags s) = record { text = s; definitions = definitions }
 
   -- the first item and then the others
   pub written_items : DocumentOptions → Markers → Bool → List (List ℕ) → Items → Written

@@ -2,6 +2,7 @@
 use Rattle.std.specs.Prelude.{ℕ, false, List, [], ◌∷◌, ◌++◌, None, codes}
 use Rattle.std.specs.List.{flat_map}
 use Rattle.htmd_document.specs.Documents.{Blocks}
+use Rattle.htmd_document.specs.FlatDocuments.{flattened}
 use Rattle.htmd_commonmark.specs.declared.blocks.Place.{Place}
 use Rattle.htmd_commonmark.specs.declared.options.DocumentOptions.{DocumentOptions}
 use Rattle.htmd_commonmark.specs.BlockMarkdown.{written_blocks}
@@ -14,7 +15,11 @@ written_definitions (first ∷ rest) = codes "\n\n" ++ first ++ flat_map (λ def
 abbrev pub outermost : Place
 outermost = record { outer = None; in_item = false; tight = false }
 
--- the blocks, and the definitions of the links in them
-abbrev pub markdown_of : DocumentOptions → Blocks → List ℕ
-markdown_of options document =
+-- flat blocks, and the definitions of the links in them
+abbrev pub flat_markdown : DocumentOptions → Blocks → List ℕ
+flat_markdown options document =
     let w = written_blocks options outermost [] document in w.text ++ written_definitions w.definitions
+
+-- a document, with elements as tags around what stands in them
+abbrev pub markdown_of : DocumentOptions → Blocks → List ℕ
+markdown_of options document = flat_markdown options (flattened document)

@@ -3,7 +3,8 @@
 use Rattle.std.specs.Prelude.{ℕ, Bool, false, true, not, ◌&&◌, ◌||◌, ◌==◌, if◌then◌else◌, List, Option, Some, None}
 use Rattle.std.specs.Prelude.{codes}
 use Rattle.htmd_lexical.specs.Characters.{asterisk, tilde, underscore, less_than_sign, is_one_of}
-use Rattle.htmd_document.specs.Formats.{Format, Emphasis, Strong, Deleted, Superscript, Subscript}
+use Rattle.htmd_document.specs.Formats.{Format, Emphasis, Strong, Deleted}
+use Rattle.htmd_document.specs.Tags.{format_tag, end_of_format}
 use Rattle.htmd_commonmark.specs.declared.marks.Sides.{Sides}
 use Rattle.htmd_commonmark.specs.CharacterKinds.{is_space, is_word, is_apart}
 
@@ -67,16 +68,13 @@ tags opener closer = record { sign = less_than_sign; opener = opener; closer = c
 
 -- formats that have no marks
 abbrev pub is_always_tag : Format → Bool
-is_always_tag Superscript = true
-is_always_tag Subscript = true
-is_always_tag format = false
+is_always_tag Emphasis = false
+is_always_tag Strong = false
+is_always_tag Deleted = false
+is_always_tag format = true
 
 abbrev pub tags_of : Format → Mark
-tags_of Emphasis = tags (codes "<em>") (codes "</em>")
-tags_of Strong = tags (codes "<strong>") (codes "</strong>")
-tags_of Deleted = tags (codes "<del>") (codes "</del>")
-tags_of Superscript = tags (codes "<sup>") (codes "</sup>")
-tags_of Subscript = tags (codes "<sub>") (codes "</sub>")
+tags_of format = tags (format_tag format) (end_of_format format)
 
 -- Asterisks or tildes where they fit, else underscores where those do, else tags.
 abbrev pub mark_for : Format → Sides → Mark
@@ -89,5 +87,4 @@ mark_for Strong s =
     else if fits underscore s then row underscore (codes "__")
     else tags_of Strong
 mark_for Deleted s = if fits tilde s then row tilde (codes "~~") else tags_of Deleted
-mark_for Superscript s = tags_of Superscript
-mark_for Subscript s = tags_of Subscript
+mark_for format s = tags_of format

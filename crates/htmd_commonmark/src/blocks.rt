@@ -2,6 +2,8 @@
 ghost use Rattle.std.specs.Prelude.{◌≡◌, ◌<◌, ◌^◌, ◌++◌, IfOk, OnOk, length, string_bytes};
 ghost use Rattle.std.specs.Option.{option_copied};
 ghost use Rattle.htmd_document.specs.DocumentViews.{block_of, blocks_of, document_of, inline_of, inlines_of};
+ghost use Rattle.htmd_document.specs.FlatDocuments as flat;
+ghost use Rattle.htmd_document.specs.FlatViews.{flat_of, flat_blocks_of};
 ghost use Rattle.htmd_markdown.specs.Headings as headings;
 ghost use Rattle.htmd_markdown.specs.Tables.{texts};
 ghost use Rattle.htmd_commonmark.specs.BlockMarkdown as spec;
@@ -20,7 +22,9 @@ use crate::lines::Lines;
 use crate::markers::{Markers, Sign, list_sign};
 use crate::options::DocumentOptions;
 use crate::table::TableTexts;
-use htmd_document::{Alignment, Block, CellContent, Document, Inline, RowContent};
+use htmd_document::{
+    Alignment, Block, CellContent, Document, FlatBlock, Inline, RowContent, flattened,
+};
 use htmd_markdown::{HeadingStyle, HrStyle};
 use htmd_text::push_repeated;
 use std::alloc::{AllocError, Global};
@@ -94,7 +98,23 @@ impl BlockWriter {
     ) -> Result<(), AllocError>
         ensures { OnOk result (output_of self.new ≡ put (output_of self.old)
             (spec.written_blocks options.now place (output_of self.old).definitions
-            (blocks_of blocks.now))) }
+            (flat.flattened (blocks_of blocks.now)))) }
+    {
+        let blocks = flattened(self.alloc, blocks)?;
+        self.write_flat_blocks(&blocks, options, place)
+    }
+
+    /// Writes flat blocks one below the other.
+    #[cycle(blocks)]
+    fn write_flat_blocks(
+        &mut self,
+        blocks: &[FlatBlock],
+        options: &DocumentOptions,
+        place: Place,
+    ) -> Result<(), AllocError>
+        ensures { OnOk result (output_of self.new ≡ put (output_of self.old)
+            (spec.written_blocks options.now place (output_of self.old).definitions
+            (flat_blocks_of blocks.now))) }
     {
         let mut before = None;
         for (i, block) in blocks.iter().enumerate() {
@@ -102,13 +122,32 @@ impl BlockWriter {
                 self.lines.push_separator(place.tight)?;
             }
             let here = place.at(i);
-            self.write_block(block, options, here, before)?;
+            self.write_flat(block, options, here, before)?;
             before = sign_of(block, options, before, here.outer);
         }
         Ok(())
     }
 
-    /// Writes a block, after a list with this sign or another block.
+    /// Writes lines of tags, or a block after a list with this sign or another block.
+    #[cycle(blocks)]
+    fn write_flat(
+        &mut self,
+        block: &FlatBlock,
+        options: &DocumentOptions,
+        place: Place,
+        before: Option<Sign>,
+    ) -> Result<(), AllocError>
+        ensures { OnOk result (output_of self.new ≡ put (output_of self.old)
+            (spec.written_block options.now place before (output_of self.old).definitions
+            (flat_of block.now))) }
+    {
+        match block {
+            FlatBlock::Tags(text) => self.lines.push(text),
+            FlatBlock::Block(block) => self.write_block(block, options, place, before),
+        }
+    }
+
+    /// Writes a block that is no element.
     #[cycle(blocks)]
     fn write_block(
         &mut self,
@@ -119,7 +158,7 @@ impl BlockWriter {
     ) -> Result<(), AllocError>
         ensures { OnOk result (output_of self.new ≡ put (output_of self.old)
             (spec.written_block options.now place before (output_of self.old).definitions
-            (block_of block.now))) }
+            (flat.flat_block (block_of block.now)))) }
     {
         match block {
             Block::Paragraph(content) => self.write_paragraph(content, options),
@@ -144,6 +183,7 @@ impl BlockWriter {
                 header,
                 rows,
             } => self.write_table(alignments, header, rows, options),
+            Block::Element { .. } => Ok(()),
         }
     }
 
@@ -247,7 +287,7 @@ impl BlockWriter {
         in_item: bool,
     ) -> Result<(), AllocError>
         ensures { let w = spec.written_blocks options.now (spec.place_in_quote in_item)
-            (output_of self.old).definitions (blocks_of content.now) in
+            (output_of self.old).definitions (flat.flattened (blocks_of content.now)) in
             OnOk result (output_of self.new ≡ put_text (output_of self.old)
             (page.quoted w.text) w.definitions) }
     {
@@ -273,7 +313,7 @@ impl BlockWriter {
         requires { length items.now < 2 ^ 63 }
         ensures { OnOk result (output_of self.new ≡ put (output_of self.old)
             (spec.written_items options.now markers tight (output_of self.old).definitions
-            (all_items_of items.now))) }
+            (flat.flat_items (all_items_of items.now)))) }
     {
         for (i, item) in items.iter().enumerate() {
             if i > 0 {
@@ -296,7 +336,7 @@ impl BlockWriter {
     ) -> Result<(), AllocError>
         requires { i < 2 ^ 63 }
         ensures { let w = spec.written_blocks options.now (spec.place_in_item markers tight)
-            (output_of self.old).definitions (blocks_of blocks.now) in
+            (output_of self.old).definitions (flat.flattened (blocks_of blocks.now)) in
             OnOk result (output_of self.new ≡ put_text (output_of self.old)
             (page.indented (spec.marker markers i) (spec.spaces markers i) w.text) w.definitions) }
     {
@@ -346,12 +386,26 @@ fn push_definitions(lines: &mut Lines, definitions: &[String]) -> Result<(), All
 
 /// The sign of the block if it is a list.
 fn sign_of(
+    block: &FlatBlock,
+    options: &DocumentOptions,
+    before: Option<Sign>,
+    outer: Option<Sign>,
+) -> Option<Sign>
+    ensures { result ≡ spec.sign_of options.now before outer (flat_of block.now) }
+{
+    match block {
+        FlatBlock::Tags(_) => None,
+        FlatBlock::Block(block) => sign_of_block(block, options, before, outer),
+    }
+}
+
+fn sign_of_block(
     block: &Block,
     options: &DocumentOptions,
     before: Option<Sign>,
     outer: Option<Sign>,
 ) -> Option<Sign>
-    ensures { result ≡ spec.sign_of options.now before outer (block_of block.now) }
+    ensures { result ≡ spec.sign_of options.now before outer (flat.flat_block (block_of block.now)) }
 {
     match block {
         Block::List { start, .. } => Some(list_sign(options, *start, before, outer)),
@@ -417,6 +471,7 @@ fn is_or_has_break(inline: &Inline) -> bool
         Inline::LineBreak => true,
         Inline::Formatted(_, content)
         | Inline::Element(_, content)
+        | Inline::Abbreviation { content, .. }
         | Inline::Link { content, .. } => has_break(content),
         Inline::Text(_)
         | Inline::Code(_)

@@ -53,7 +53,7 @@ fn first_of_break(kind: LineKind) -> char
 }
 
 /// The first character that is written of the inline; of a format it is mostly a mark.
-#[tactic(auto, using(crate::proofs::InlineEndsLemmas::format_first, crate::proofs::InlineEndsLemmas::element_first))]
+#[tactic(auto, using(crate::proofs::InlineEndsLemmas::format_first, crate::proofs::InlineEndsLemmas::element_first, crate::proofs::InlineEndsLemmas::abbreviation_first))]
 fn first_of(x: &Inline, kind: LineKind) -> Option<char>
     ensures { result ≡ spec.first_of kind (inline_of x.now) }
 {
@@ -61,7 +61,7 @@ fn first_of(x: &Inline, kind: LineKind) -> Option<char>
         Inline::Text(text) => escaped_first(first_character(text)),
         Inline::Code(_) => Some('`'),
         Inline::Formatted(..) => Some('*'),
-        Inline::Element(..) | Inline::Anchor(_) => Some('<'),
+        Inline::Element(..) | Inline::Abbreviation { .. } | Inline::Anchor(_) => Some('<'),
         Inline::Link { .. } | Inline::Task(_) => Some('['),
         Inline::Image { .. } => Some('!'),
         Inline::LineBreak => Some(first_of_break(kind)),
@@ -69,7 +69,7 @@ fn first_of(x: &Inline, kind: LineKind) -> Option<char>
 }
 
 /// The last character that is written of the inline.
-#[tactic(auto, using(crate::proofs::InlineEndsLemmas::format_last, crate::proofs::InlineEndsLemmas::element_last))]
+#[tactic(auto, using(crate::proofs::InlineEndsLemmas::format_last, crate::proofs::InlineEndsLemmas::element_last, crate::proofs::InlineEndsLemmas::abbreviation_last))]
 fn last_of(x: &Inline) -> Option<char>
     ensures { result ≡ spec.last_of (inline_of x.now) }
 {
@@ -77,7 +77,7 @@ fn last_of(x: &Inline) -> Option<char>
         Inline::Text(text) => last_character(text),
         Inline::Code(_) => Some('`'),
         Inline::Formatted(..) => Some('*'),
-        Inline::Element(..) | Inline::Anchor(_) => Some('>'),
+        Inline::Element(..) | Inline::Abbreviation { .. } | Inline::Anchor(_) => Some('>'),
         Inline::Link { .. } | Inline::Image { .. } => Some(')'),
         Inline::LineBreak => Some('\n'),
         Inline::Task(_) => Some(']'),

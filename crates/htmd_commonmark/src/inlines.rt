@@ -4,9 +4,10 @@ ghost use Rattle.std.specs.Fmt.{decimal};
 ghost use Rattle.std.specs.Option.{option_copied};
 ghost use Rattle.htmd_document.specs.DocumentViews.{inline_of, inlines_of};
 ghost use Rattle.htmd_document.specs.Documents as value;
-ghost use Rattle.htmd_document.specs.Formats.{of_format};
+ghost use Rattle.htmd_document.specs.Formats.{of_format, Abbreviation};
 ghost use Rattle.htmd_document.specs.Tags.{anchor};
 ghost use Rattle.htmd_commonmark.specs.InlineMarkdown as spec;
+ghost use Rattle.htmd_commonmark.specs.Marks as marks;
 ghost use Rattle.htmd_commonmark.specs.MarkViews.{mark_of};
 ghost use Rattle.htmd_commonmark.specs.WrittenText.{nothing_written, written_of, wrote};
 
@@ -18,7 +19,9 @@ use crate::inline_ends::{
 use crate::line::{Line, LineKind};
 use crate::marks::{Mark, Sides, mark_for, tags_of};
 use crate::text_escape::{Place, push_escaped};
-use htmd_document::{END_OF_ANCHOR, Format, Inline, push_anchor};
+use htmd_document::{
+    END_OF_ABBREVIATION, END_OF_ANCHOR, Format, Inline, push_abbreviation, push_anchor,
+};
 use htmd_markdown::{BrStyle, LinkStyle};
 use htmd_text::repeats::trailing_len;
 use std::alloc::{AllocError, Global};
@@ -201,7 +204,7 @@ impl InlineWriter {
 
     /// Writes an inline after the text so far.
     #[cycle(inlines)]
-    #[tactic(auto, using(crate::proofs::InlinesLemmas::element_written))]
+    #[tactic(auto, using(crate::proofs::InlinesLemmas::element_written, crate::proofs::InlinesLemmas::abbreviation_written))]
     fn write_inline(&mut self, x: &Inline, line: Line, follows: Following) -> Result<(), AllocError>
         ensures { OnOk result (written_of self.new
             ≡ spec.with_inline line (written_of self.old) follows (inline_of x.now)) }
@@ -211,6 +214,9 @@ impl InlineWriter {
             Inline::Code(code) => self.write_code(code, line),
             Inline::Formatted(format, xs) => self.write_format(xs, *format, line, follows),
             Inline::Element(element, xs) => self.write_between(xs, tags_of(*element), line),
+            Inline::Abbreviation { title, content } => {
+                self.write_abbreviation(content, title, line)
+            }
             Inline::Anchor(id) => self.write_anchor(id),
             Inline::Link {
                 address,
@@ -264,6 +270,22 @@ impl InlineWriter {
         self.text.push_str(mark.opener)?;
         self.write_inlines(content, line, Some(mark.sign))?;
         self.text.push_str(mark.closer)
+    }
+
+    /// Writes the content between the tags of an abbreviation.
+    #[cycle(inlines)]
+    fn write_abbreviation(
+        &mut self,
+        content: &[Inline],
+        title: &str,
+        line: Line,
+    ) -> Result<(), AllocError>
+        ensures { OnOk result (written_of self.new ≡ spec.between line (written_of self.old)
+            (marks.tags_of (Abbreviation title.now)) (inlines_of content.now)) }
+    {
+        push_abbreviation(&mut self.text, title)?;
+        self.write_inlines(content, line, Some('<'))?;
+        self.text.push_str(END_OF_ABBREVIATION)
     }
 
     /// Writes a link.

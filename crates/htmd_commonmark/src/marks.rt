@@ -5,7 +5,7 @@ ghost use Rattle.htmd_commonmark.specs.Marks as spec;
 ghost use Rattle.htmd_commonmark.specs.MarkViews.{mark_of};
 
 use crate::character_kind::{is_apart, is_space, is_word};
-use htmd_document::{Format, InlineElement};
+use htmd_document::{Format, InlineElement, end_of_inline, inline_tag};
 
 /// What is written before a format's content and after it, and the first character of both.
 #[derive(Clone, Copy)]
@@ -133,8 +133,5 @@ pub(crate) fn mark_for(format: Format, sides: Sides) -> Mark
 pub(crate) fn tags_of(element: InlineElement) -> Mark
     ensures { mark_of result ≡ spec.tags_of (of_element element) }
 {
-    match element {
-        InlineElement::Superscript => tags("<sup>", "</sup>"),
-        InlineElement::Subscript => tags("<sub>", "</sub>"),
-    }
+    tags(inline_tag(element), end_of_inline(element))
 }

@@ -3,7 +3,9 @@ use Rattle.std.proofs.Common.{◌≡◌, ℕ, refl, true, List, [], ◌∷◌, c
 use Rattle.std.specs.Str.{chars}
 use Rattle.htmd_document.specs.declared.document.Alignment.{Alignment}
 use Rattle.htmd_document.specs.Documents as document
-use Rattle.htmd_document.specs.Formats.{Emphasis, Strong, Superscript, Subscript}
+use Rattle.htmd_document.specs.declared.document.AttributeName.TheVariants.{Open, ColumnSpan, Align}
+use Rattle.htmd_document.specs.declared.document.BlockElement.TheVariants.{Details, Summary, Table, Row, Cell}
+use Rattle.htmd_document.specs.Formats.{Emphasis, Strong, Superscript, Subscript, Keyboard, Abbreviation}
 use Rattle.htmd_commonmark_reading.specs.Markup.{Inlines, no_inlines, letters, joined, formatted, code, link, image}
 use Rattle.htmd_commonmark_reading.specs.Markup.{line_break, raw}
 use Rattle.htmd_commonmark_reading.specs.Brackets.{inlines}
@@ -139,3 +141,49 @@ no_document = refl
 pub no_document_of_code : reading.document (codes "<code>a<b>c</code>\n") ≡ None
 unfolding chars
 no_document_of_code = refl
+
+-- ---- elements
+
+pub abbreviations : seen (codes "<abbr title=\"x &quot;y&quot;\">a</abbr><abbr>b</abbr>")
+    ≡ formatted (Abbreviation (codes "x \"y\"")) (plain (codes "a"))
+    (raw (codes "<abbr>") (letters (codes "b") (raw (codes "</abbr>") no_inlines)))
+unfolding chars
+abbreviations = refl
+
+abbrev one_paragraph : document.Inlines → document.Blocks
+one_paragraph xs = document.block (document.paragraph xs) document.no_blocks
+
+pub document_of_details :
+    reading.document (codes "<details open=\"\">\n<summary>a &lt; \"b\"</summary>\n\n*   <kbd>c</kbd>\n\n</details>\n")
+    ≡ Some (document.block (document.element Details (record { name = Open; value = [] } ∷ [])
+    (document.block (document.element Summary [] (one_paragraph (one_text (codes "a < \"b\""))))
+    (document.block (document.list None true (document.item (one_paragraph
+    (document.inline (document.formatted Keyboard (one_text (codes "c"))) document.no_inlines)) document.no_items))
+    document.no_blocks)))
+    document.no_blocks)
+unfolding chars
+document_of_details = refl
+
+pub document_of_rich_table :
+    reading.document (codes
+    "> <table>\n> <tr>\n> <td colspan=\"2\" align=\"left\">open</td>\n> <td></td>\n> </tr>\n> </table>\n")
+    ≡ Some (document.block (document.quote (document.block (document.element Table [] (document.block
+    (document.element Row [] (document.block (document.element Cell
+    (record { name = ColumnSpan; value = codes "2" } ∷ record { name = Align; value = codes "left" } ∷ [])
+    (one_paragraph (one_text (codes "open")))) (document.block (document.element Cell [] document.no_blocks)
+    document.no_blocks))) document.no_blocks)) document.no_blocks)) document.no_blocks)
+unfolding chars
+document_of_rich_table = refl
+
+-- tags that don't pair, or are no tags of elements
+pub no_document_of_open_tag : reading.document (codes "<dl>\n<dt>a</dt>\n") ≡ None
+unfolding chars
+no_document_of_open_tag = refl
+
+pub no_document_of_other_tag : reading.document (codes "<tr>\n</td>\n") ≡ None
+unfolding chars
+no_document_of_other_tag = refl
+
+pub no_document_of_attribute : reading.document (codes "<td class=\"a\">b</td>\n") ≡ None
+unfolding chars
+no_document_of_attribute = refl

@@ -1,10 +1,10 @@
--- Anchors: raw tags that say where a link with `#` leads to.
+-- Tags with an attribute in lines: anchors, which say where a link with `#` leads to, and abbreviations.
 use Rattle.std.specs.Prelude.{ℕ, ◌==◌, if◌then◌else◌, List, [], ◌∷◌, codes, drop, Option, Some, None}
 use Rattle.std.specs.Str.{bytes_eq}
 use Rattle.htmd_lexical.specs.Characters.{ampersand, less_than_sign, greater_than_sign, quotation_mark, vertical_bar}
 use Rattle.htmd_lexical.specs.Characters.{right_square_bracket}
 use Rattle.htmd_lexical.specs.CharacterClasses.{begins_with}
-use Rattle.htmd_document.specs.Tags.{anchor_tag}
+use Rattle.htmd_document.specs.Tags.{anchor_tag, abbreviation_tag}
 
 -- what follows an ampersand, with the character that a reference stands for
 abbrev pub after_ampersand : List ℕ → List ℕ
@@ -28,3 +28,8 @@ value (c ∷ s) =
 -- the id of a tag that begins an anchor, which has no other attribute
 abbrev pub anchor_id : List ℕ → Option (List ℕ)
 anchor_id tag = let id = value (drop 7 tag) in if bytes_eq (anchor_tag id) tag then Some id else None
+
+-- the title of a tag that begins an abbreviation, which has no other attribute
+abbrev pub abbreviation_title : List ℕ → Option (List ℕ)
+abbreviation_title tag =
+    let title = value (drop 13 tag) in if bytes_eq (abbreviation_tag title) tag then Some title else None

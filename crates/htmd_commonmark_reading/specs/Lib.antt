@@ -15,4 +15,5 @@ pub mod Brackets
 pub mod Lists
 pub mod Anchors
 pub mod SeenMarkup
+pub mod Elements
 pub mod Reading

@@ -1,20 +1,21 @@
 -- A text as one sees it: where raw tags of inlines match within one list of inlines, they are formats or code, `<br>`
 -- is a line break, and an image's description is plain text (CommonMark 0.31.2, 6.4 and 6.6); a row has no empty cells
--- at its end. The document that it then is.
+-- at its end. The flat document that it then is.
 use Rattle.std.specs.Prelude.{ℕ, Bool, true, false, ◌&&◌, if◌then◌else◌, List, [], ◌∷◌, ◌++◌, codes}
 use Rattle.std.specs.Prelude.{Option, Some, None}
 use Rattle.std.specs.Str.{bytes_eq}
 use Rattle.htmd_document.specs.Formats.{Format}
-use Rattle.htmd_document.specs.Formats.{Emphasis, Strong, Deleted, Superscript, Subscript}
+use Rattle.htmd_document.specs.Formats.{Emphasis, Strong, Deleted, Superscript, Subscript, Inserted, Underlined, Marked}
+use Rattle.htmd_document.specs.Formats.{Small, Keyboard, Abbreviation}
 use Rattle.htmd_document.specs.Documents as document
-use Rattle.htmd_document.specs.Tags.{end_of_anchor}
+use Rattle.htmd_document.specs.Tags.{end_of_anchor, abbreviation_tag}
 use Rattle.htmd_lexical.specs.Characters.{space}
 use Rattle.htmd_lexical.specs.CharacterClasses.{is_among}
 use Rattle.htmd_commonmark_reading.specs.Markup.{Inlines, no_inlines, letter, code, formatted, link, image, line_break}
 use Rattle.htmd_commonmark_reading.specs.Markup.{task, raw, Block, paragraph, heading, code_block, quote}
 use Rattle.htmd_commonmark_reading.specs.Markup.{thematic_break, list, table, html_block, Blocks, no_blocks, block}
 use Rattle.htmd_commonmark_reading.specs.Markup.{Items, no_items, item, joined, letters, plain_text}
-use Rattle.htmd_commonmark_reading.specs.Anchors.{anchor_id}
+use Rattle.htmd_commonmark_reading.specs.Anchors.{anchor_id, abbreviation_title}
 
 -- ---- tags that are seen
 
@@ -25,20 +26,31 @@ pub data Pair : Type 0 where
 
 pub record Tag : Type 0 where
   pub name : List ℕ
+  pub open_tag : List ℕ
   pub pair : Pair
+
+-- one without attributes
+abbrev pub plain_tag : List ℕ → Pair → Tag
+plain_tag name pair = record { name = name; open_tag = codes "<" ++ name ++ codes ">"; pair = pair }
+
+abbrev pub abbreviation : List ℕ → Tag
+abbreviation title =
+    record { name = codes "abbr"; open_tag = abbreviation_tag title; pair = format_pair (Abbreviation title) }
 
 abbrev pub tags : List Tag
 tags =
-    record { name = codes "em"; pair = format_pair Emphasis }
-    ∷ record { name = codes "strong"; pair = format_pair Strong }
-    ∷ record { name = codes "del"; pair = format_pair Deleted }
-    ∷ record { name = codes "sup"; pair = format_pair Superscript }
-    ∷ record { name = codes "sub"; pair = format_pair Subscript }
-    ∷ record { name = codes "code"; pair = code_pair }
+    plain_tag (codes "em") (format_pair Emphasis)
+    ∷ plain_tag (codes "strong") (format_pair Strong)
+    ∷ plain_tag (codes "del") (format_pair Deleted)
+    ∷ plain_tag (codes "sup") (format_pair Superscript)
+    ∷ plain_tag (codes "sub") (format_pair Subscript)
+    ∷ plain_tag (codes "ins") (format_pair Inserted)
+    ∷ plain_tag (codes "u") (format_pair Underlined)
+    ∷ plain_tag (codes "mark") (format_pair Marked)
+    ∷ plain_tag (codes "small") (format_pair Small)
+    ∷ plain_tag (codes "kbd") (format_pair Keyboard)
+    ∷ plain_tag (codes "code") code_pair
     ∷ []
-
-abbrev pub open_tag : Tag → List ℕ
-open_tag t = codes "<" ++ t.name ++ codes ">"
 
 abbrev pub closing_tag : Tag → List ℕ
 closing_tag t = codes "</" ++ t.name ++ codes ">"
@@ -53,10 +65,16 @@ pub data Role : Type 0 where
 abbrev pub role_among : List Tag → List ℕ → Role
 role_among [] s = if is_among (codes "<br>" ∷ codes "<br/>" ∷ codes "<br />" ∷ []) s then breaks else stays
 role_among (t ∷ ts) s =
-    if bytes_eq (open_tag t) s then opens t else if bytes_eq (closing_tag t) s then closes t else role_among ts s
+    if bytes_eq t.open_tag s then opens t else if bytes_eq (closing_tag t) s then closes t else role_among ts s
+
+-- an abbreviation has a title
+abbrev pub role_by_title : Option (List ℕ) → List ℕ → Role
+role_by_title None s =
+    if bytes_eq (closing_tag (abbreviation [])) s then closes (abbreviation []) else role_among tags s
+role_by_title (Some title) s = opens (abbreviation title)
 
 abbrev pub role : List ℕ → Role
-role s = role_among tags s
+role s = role_by_title (abbreviation_title s) s
 
 -- ---- the stack of open tags
 
@@ -71,7 +89,7 @@ with_seen (inside t items below) xs = inside t (joined items xs) below
 -- open tags that nothing closes stay raw
 abbrev pub all_seen : Tags → Inlines → Inlines
 all_seen (outside items) xs = joined items xs
-all_seen (inside t items below) xs = all_seen below (raw (open_tag t) (joined items xs))
+all_seen (inside t items below) xs = all_seen below (raw t.open_tag (joined items xs))
 
 -- characters and nothing else, and at least one
 abbrev pub is_text_alone : Inlines → Bool
@@ -84,7 +102,7 @@ abbrev pub paired : Tag → Pair → Inlines → Inlines
 paired t (format_pair f) content = formatted f content no_inlines
 paired t code_pair content =
     if is_text_alone content then code (plain_text content) no_inlines
-    else raw (open_tag t) (joined content (raw (closing_tag t) no_inlines))
+    else raw t.open_tag (joined content (raw (closing_tag t) no_inlines))
 
 -- A closing tag matches the last open one of its name; those between the two stay raw. The second value is what there
 -- is if nothing matches.
@@ -92,8 +110,8 @@ abbrev pub closed_tag : Tag → Tags → Tags → Inlines → Tags
 closed_tag t whole (outside items) content = with_seen whole (raw (closing_tag t) no_inlines)
 closed_tag t whole (inside u items below) content =
     if bytes_eq u.name t.name
-    then with_seen below (paired t t.pair (joined items content))
-    else closed_tag t whole below (raw (open_tag u) (joined items content))
+    then with_seen below (paired u u.pair (joined items content))
+    else closed_tag t whole below (raw u.open_tag (joined items content))
 
 abbrev pub with_raw : Tags → List ℕ → Role → Tags
 with_raw b tag (opens t) = inside t no_inlines b
@@ -167,7 +185,7 @@ abbrev mutual
   seen_items no_items = no_items
   seen_items (item bs rest) = item (seen_blocks bs) (seen_items rest)
 
--- ---- the document that these are, if no raw HTML is left
+-- ---- the flat document that these are, if no other raw inlines are left
 
 abbrev pub with_first : document.Inline → Option document.Inlines → Option document.Inlines
 with_first x None = None
@@ -239,7 +257,7 @@ abbrev mutual
   document_block (list start is_tight items) = option_of (document.list start is_tight) (document_items items)
   document_block (table alignments header rows) =
       option_of_both (document.table alignments) (document_row header) (document_rows rows)
-  document_block (html_block s) = None
+  document_block (html_block s) = Some (document.tags s)
 
   pub document_blocks : Blocks → Option document.Blocks
   document_blocks no_blocks = Some document.no_blocks

@@ -1,11 +1,11 @@
 -- Lemmas on documents in the form of mdast.
 use Rattle.std.proofs.Common.{◌≡◌, ℕ, zero, suc, ◌+◌, ◌<◌, ◌&&◌, ◌==◌, Bool, true, false, List, [], ◌∷◌, ◌++◌, map}
-use Rattle.std.proofs.Common.{length}
-use Rattle.std.proofs.Common.{if◌then◌else◌, ◌≤◌, Option, Vec, Global, codes, take, get_or, refl, sym, ◌∙◌, ap, arith}
+use Rattle.std.proofs.Common.{length, String, string_bytes}
+use Rattle.std.proofs.Common.{if◌then◌else◌, ◌≤◌, Option, Some, None, Vec, Global, codes, take, get_or, refl, sym, ◌∙◌, ap, arith}
 use Rattle.std.proofs.lemmas.Bool.Decides.{nat_tests}
 use Rattle.std.proofs.lemmas.List.{length-map, length-take-le, take_all}
 use Rattle.serde_json.specs.Data as json
-use Rattle.serde_json.specs.Data.{Data}
+use Rattle.serde_json.specs.Data.{Data, null}
 use Rattle.serde_json.specs.View.{view, items_of, items_view}
 use Rattle.serde_json.specs.declared.value.Value as declared_value
 use Rattle.htmd_lexical.specs.Characters.{space}
@@ -15,6 +15,11 @@ use Rattle.htmd_document.specs.Formats.{of_format, of_element}
 use Rattle.htmd_document.specs.declared.document.Format.{Format}
 use Rattle.htmd_document.specs.declared.document.InlineElement.{InlineElement}
 use Rattle.htmd_document.specs.declared.document.Inline.TheVariants.{Formatted, rolls-Formatted, Element, rolls-Element}
+use Rattle.htmd_document.specs.declared.document.Inline.TheVariants.{Abbreviation, rolls-Abbreviation}
+use Rattle.htmd_document.specs.declared.document.BlockElement.{BlockElement}
+use Rattle.htmd_document.specs.FlatDocuments.{flattened, flat_all, flat_items, line_before, element_before, text_in_line}
+use Rattle.htmd_document.specs.Tags.{element_tag, end_of_element, element_line}
+use Rattle.htmd_document.specs.Formats as format
 use Rattle.htmd_document.specs.declared.document.Inline.TheFolds.{fold-roll-Inline}
 use Rattle.htmd_document.specs.declared.document.Inline.TheOpen.{Inline-F}
 use Rattle.htmd_document.specs.declared.document.Block.TheVariants.{rolls-List}
@@ -23,7 +28,7 @@ use Rattle.htmd_document.specs.declared.document.Block.TheFolds.{fold-roll-Block
 use Rattle.htmd_document.specs.declared.document.Block.TheOpen.{Block-F}
 use Rattle.htmd_document.specs.declared.document.Block as declared_block
 use Rattle.htmd_document.specs.Documents as value
-use Rattle.htmd_document.specs.Documents.{Inline, Block, Blocks}
+use Rattle.htmd_document.specs.Documents.{Inline, Inlines, Block, Blocks}
 use Rattle.htmd_document.specs.DocumentViews.{inline_step, inline_of, inlines_of, block_step, block_of, blocks_of}
 use Rattle.htmd_document.specs.Mdast.{beside, one_item, with_value, between, node_data, children_data, inlines_data}
 use Rattle.htmd_document.specs.Mdast.{block_data, within_data}
@@ -156,7 +161,7 @@ blocks-more true (c ∷ bs) b =
     (sym none)
 blocks-more false (c ∷ bs) b = ap (json.item (block_data false c (within_data c))) (later-blocks bs b)
 
-pub blocks-step : (in_item is_first : Bool) (bs : List declared_block.Block) (i : ℕ) (b : declared_block.Block)
+pub blocks-step : {A : Type 0} (block_of : A → Block) (in_item is_first : Bool) (bs : List A) (i : ℕ) (b : A)
     (old new children : json.Items) (made : Data)
     → i < length bs → b ≡ get_or bs i b → children ≡ within_data (block_of b)
     → is_first ≡ (in_item && (i == 0))
@@ -164,7 +169,7 @@ pub blocks-step : (in_item is_first : Bool) (bs : List declared_block.Block) (i 
     → old ≡ blocks_data in_item (value.blocks_of (take i (map block_of bs)))
     → new ≡ beside old (one_item made)
     → new ≡ blocks_data in_item (value.blocks_of (take (i + 1) (map block_of bs)))
-blocks-step in_item is_first bs i b old new children made h e c f m p q =
+blocks-step block_of in_item is_first bs i b old new children made h e c f m p q =
     let front : List Block = take i (map block_of bs) in
     let size : length front ≡ i = length-take-le i (map block_of bs) (rw (length-map bs block_of) (omega arith)) in
     let first : is_first ≡ (in_item && (length front == 0)) = f ∙ ap (λ n. in_item && (n == 0)) (sym size) in
@@ -178,31 +183,77 @@ blocks-step in_item is_first bs i b old new children made h e c f m p q =
 
 -- ---- one more item
 
+-- an item begins with a task if it does so when it is flat
+
+line-unchecked : (line : List ℕ) (rest : Blocks) → checked_data (line_before line rest) ≡ null
+line-unchecked line value.no_blocks = refl
+line-unchecked line (value.block (value.paragraph xs) bs) = refl
+line-unchecked line (value.block (value.heading level xs) bs) = refl
+line-unchecked line (value.block (value.code_block language s) bs) = refl
+line-unchecked line (value.block (value.quote cs) bs) = refl
+line-unchecked line (value.block value.thematic_break bs) = refl
+line-unchecked line (value.block (value.list start is_tight items) bs) = refl
+line-unchecked line (value.block (value.table alignments header rows) bs) = refl
+line-unchecked line (value.block (value.element name attributes cs) bs) = refl
+line-unchecked line (value.block (value.tags s) bs) = refl
+
+element-unchecked : (name : BlockElement) (attributes : List value.BlockAttribute) (s : Option (List ℕ))
+    (inner rest : Blocks) → checked_data (element_before name attributes s inner rest) ≡ null
+element-unchecked name attributes None inner rest = line-unchecked (element_tag name attributes) inner
+element-unchecked name attributes (Some s) inner rest = line-unchecked (element_line name attributes s) rest
+
+paragraph-checked : (xs : Inlines) (bs cs : Blocks) → checked_data (value.block (value.paragraph xs) bs)
+    ≡ checked_data (value.block (value.paragraph xs) cs)
+paragraph-checked value.no_inlines bs cs = refl
+paragraph-checked (value.inline (value.text s) xs) bs cs = refl
+paragraph-checked (value.inline (value.code s) xs) bs cs = refl
+paragraph-checked (value.inline (value.formatted f ys) xs) bs cs = refl
+paragraph-checked (value.inline (value.link a t ys) xs) bs cs = refl
+paragraph-checked (value.inline (value.image a t d) xs) bs cs = refl
+paragraph-checked (value.inline (value.anchor id) xs) bs cs = refl
+paragraph-checked (value.inline value.line_break xs) bs cs = refl
+paragraph-checked (value.inline (value.task d) xs) bs cs = refl
+
+flat-checked : (bs : Blocks) → checked_data (flattened bs) ≡ checked_data bs
+flat-checked value.no_blocks = refl
+flat-checked (value.block (value.paragraph xs) bs) = paragraph-checked xs (flat_all bs value.no_blocks) bs
+flat-checked (value.block (value.heading level xs) bs) = refl
+flat-checked (value.block (value.code_block language s) bs) = refl
+flat-checked (value.block (value.quote cs) bs) = refl
+flat-checked (value.block value.thematic_break bs) = refl
+flat-checked (value.block (value.list start is_tight items) bs) = refl
+flat-checked (value.block (value.table alignments header rows) bs) = refl
+flat-checked (value.block (value.element name attributes cs) bs) =
+    element-unchecked name attributes (text_in_line cs)
+    (flat_all cs (line_before (end_of_element name) (flat_all bs value.no_blocks))) (flat_all bs value.no_blocks)
+flat-checked (value.block (value.tags s) bs) = refl
+
 items-more : (is_tight : Bool) (items : List Blocks) (bs : Blocks) → items_data is_tight
-    (value.items_of (items ++ bs ∷ []))
-    ≡ beside (items_data is_tight (value.items_of items))
-    (one_item (item_data is_tight (checked_data bs) (blocks_data true bs)))
+    (flat_items (value.items_of (items ++ bs ∷ [])))
+    ≡ beside (items_data is_tight (flat_items (value.items_of items)))
+    (one_item (item_data is_tight (checked_data (flattened bs)) (blocks_data true (flattened bs))))
 items-more is_tight [] bs = refl
 items-more is_tight (cs ∷ items) bs =
-    ap (json.item (item_data is_tight (checked_data cs) (blocks_data true cs))) (items-more is_tight items bs)
+    ap (json.item (item_data is_tight (checked_data (flattened cs)) (blocks_data true (flattened cs))))
+    (items-more is_tight items bs)
 
 pub items-step : (is_tight : Bool) (items : List (Vec declared_block.Block Global)) (i : ℕ)
     (bs : Vec declared_block.Block Global) (old new : json.Items) (checked made : Data) (children : json.Items)
     → i < length items → bs ≡ get_or items i bs → checked ≡ checked_data (blocks_of bs.items)
-    → children ≡ blocks_data true (blocks_of bs.items) → made ≡ item_data is_tight checked children
-    → old ≡ items_data is_tight (value.items_of (take i (map (λ b. blocks_of b.items) items)))
+    → children ≡ blocks_data true (flattened (blocks_of bs.items)) → made ≡ item_data is_tight checked children
+    → old ≡ items_data is_tight (flat_items (value.items_of (take i (map (λ b. blocks_of b.items) items))))
     → new ≡ beside old (one_item made)
-    → new ≡ items_data is_tight (value.items_of (take (i + 1) (map (λ b. blocks_of b.items) items)))
+    → new ≡ items_data is_tight (flat_items (value.items_of (take (i + 1) (map (λ b. blocks_of b.items) items))))
 items-step is_tight items i bs old new checked made children h e k c m p q =
     let front : List Blocks = take i (map (λ b. blocks_of b.items) items) in
-    let whole : made ≡ item_data is_tight (checked_data (blocks_of bs.items))
-    (blocks_data true (blocks_of bs.items)) =
-    m ∙ (ap (λ d. item_data is_tight d children) k
-    ∙ ap (item_data is_tight (checked_data (blocks_of bs.items))) c) in
+    let flat : Blocks = flattened (blocks_of bs.items) in
+    let whole : made ≡ item_data is_tight (checked_data flat) (blocks_data true flat) =
+    m ∙ (ap (λ d. item_data is_tight d children) (k ∙ sym (flat-checked (blocks_of bs.items)))
+    ∙ ap (item_data is_tight (checked_data flat)) c) in
     q ∙ (ap (λ ds. beside ds (one_item made)) p
-    ∙ (ap (λ d. beside (items_data is_tight (value.items_of front)) (one_item d)) whole
+    ∙ (ap (λ d. beside (items_data is_tight (flat_items (value.items_of front))) (one_item d)) whole
     ∙ (sym (items-more is_tight front (blocks_of bs.items))
-    ∙ ap (λ cs. items_data is_tight (value.items_of cs))
+    ∙ ap (λ cs. items_data is_tight (flat_items (value.items_of cs)))
     (sym (take-step (λ b. blocks_of b.items) items i bs h e)))))
 
 -- ---- an inline by its variant
@@ -218,6 +269,13 @@ pub inline-element : (element : InlineElement) (xs : Vec declared_inline.Inline 
 inline-element element xs =
     ap inline_of (sym (rolls-Element element xs))
     ∙ fold-roll-Inline Inline inline_step (Inline-F.Element element xs)
+
+pub inline-abbreviation : (title : String Global) (xs : Vec declared_inline.Inline Global)
+    → inline_of (Abbreviation title xs)
+    ≡ value.formatted (format.Abbreviation (string_bytes title)) (inlines_of xs.items)
+inline-abbreviation title xs =
+    ap inline_of (sym (rolls-Abbreviation title xs))
+    ∙ fold-roll-Inline Inline inline_step (Inline-F.Abbreviation title xs)
 
 pub block-list : (start : Option ℕ) (tight : Bool) (items : Vec (Vec declared_block.Block Global) Global)
     → block_of (built_block.List start tight items)

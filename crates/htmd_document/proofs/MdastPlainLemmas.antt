@@ -10,10 +10,12 @@ use Rattle.htmd_document.specs.declared.document.Alignment.TheVariants as aligne
 use Rattle.htmd_document.specs.Documents as value
 use Rattle.htmd_document.specs.Documents.{Inlines, no_inlines, inline, Inline, text, code, formatted, link, image}
 use Rattle.htmd_document.specs.Formats.{Format}
-use Rattle.htmd_document.specs.Formats.{Emphasis, Strong, Deleted, Superscript, Subscript}
+use Rattle.htmd_document.specs.Formats.{Emphasis, Strong, Deleted, Superscript, Subscript, Inserted, Underlined, Marked}
+use Rattle.htmd_document.specs.Formats.{Small, Keyboard, Abbreviation}
+use Rattle.htmd_document.specs.FlatDocuments.{flattened}
 use Rattle.htmd_document.specs.Documents.{anchor, line_break, task, Blocks, no_blocks, block, Block, paragraph, heading}
 use Rattle.htmd_document.specs.Documents.{code_block, quote}
-use Rattle.htmd_document.specs.Documents.{thematic_break, table}
+use Rattle.htmd_document.specs.Documents.{thematic_break, table, element, tags}
 use Rattle.htmd_document.specs.Mdast.{beside, parent, text_or_null, format_data, node_data, children_data, inlines_data}
 use Rattle.htmd_document.specs.Mdast.{cell_data, row_data, alignment_data, without_box, checked_data}
 use Rattle.htmd_document.specs.Mdast.{block_data, within_data, blocks_data, items_data}
@@ -52,6 +54,12 @@ format-plain Strong cs h = rw h refl
 format-plain Deleted cs h = rw h refl
 format-plain Superscript cs h = beside-plain cs _ h refl
 format-plain Subscript cs h = beside-plain cs _ h refl
+format-plain Inserted cs h = beside-plain cs _ h refl
+format-plain Underlined cs h = beside-plain cs _ h refl
+format-plain Marked cs h = beside-plain cs _ h refl
+format-plain Small cs h = beside-plain cs _ h refl
+format-plain Keyboard cs h = beside-plain cs _ h refl
+format-plain (Abbreviation title) cs h = beside-plain cs _ h refl
 
 node-plain : (x : Inline) (cs : json.Items) → items_have_float cs ≡ false
     → items_have_float (node_data x cs) ≡ false
@@ -110,6 +118,8 @@ block-plain is_first (table alignments header rows) cs h =
       mapped-plain row_data row-plain
           rows,
     ) refl
+block-plain is_first (element name attributes bs) cs h = refl
+block-plain is_first (tags s) cs h = refl
 
 first-plain : (x : Inline) (xs : Inlines) (bs : Blocks)
     → has_float (checked_data (block (paragraph (inline x xs)) bs)) ≡ false
@@ -132,6 +142,8 @@ checked-plain (block (quote cs) bs) = refl
 checked-plain (block thematic_break bs) = refl
 checked-plain (block (value.list start is_tight items) bs) = refl
 checked-plain (block (table alignments header rows) bs) = refl
+checked-plain (block (element name attributes cs) bs) = refl
+checked-plain (block (tags s) bs) = refl
 
 mutual
   within-plain : (b : Block) → items_have_float (within_data b) ≡ false
@@ -142,6 +154,8 @@ mutual
   within-plain thematic_break = refl
   within-plain (value.list start is_tight items) = items-plain is_tight items
   within-plain (table alignments header rows) = refl
+  within-plain (element name attributes bs) = refl
+  within-plain (tags s) = refl
 
   blocks-plain : (in_item : Bool) (bs : Blocks) → items_have_float (blocks_data in_item bs) ≡ false
   blocks-plain in_item no_blocks = refl
@@ -155,7 +169,7 @@ mutual
       refl
 
 pub root-plain : (bs : Blocks) → has_float (root_data bs) ≡ false
-root-plain bs = rw (blocks-plain false bs) refl
+root-plain bs = rw (blocks-plain false (flattened bs)) refl
 
 pub root-with-plain : (yaml : List ℕ) (bs : Blocks) → has_float (root_data_with yaml bs) ≡ false
-root-with-plain yaml bs = rw (blocks-plain false bs) refl
+root-with-plain yaml bs = rw (blocks-plain false (flattened bs)) refl

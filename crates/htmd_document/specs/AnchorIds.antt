@@ -3,7 +3,7 @@ use Rattle.std.specs.Prelude.{ℕ, Bool, List, [], ◌∷◌, ◌++◌}
 use Rattle.std.specs.List.{flat_map}
 use Rattle.htmd_lexical.specs.CharacterClasses.{are_distinct}
 use Rattle.htmd_document.specs.Documents.{Inline, formatted, link, anchor}
-use Rattle.htmd_document.specs.Documents.{Inlines, no_inlines, inline, Block, paragraph, heading, quote}
+use Rattle.htmd_document.specs.Documents.{Inlines, no_inlines, inline, Block, paragraph, heading, quote, element}
 use Rattle.htmd_document.specs.Documents.{list, table, Blocks, no_blocks, block, Items, no_items, item}
 
 -- in order
@@ -28,6 +28,7 @@ abbrev mutual
   ids_of_block (quote content) = ids_of_blocks content
   ids_of_block (list start is_tight items) = ids_of_items items
   ids_of_block (table alignments header rows) = ids_of_cells header ++ flat_map ids_of_cells rows
+  ids_of_block (element name attributes content) = ids_of_blocks content
   ids_of_block b = []
 
   pub ids_of_blocks : Blocks → List (List ℕ)

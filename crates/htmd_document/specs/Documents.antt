@@ -1,6 +1,8 @@
 -- Documents: what a reader sees of a page. A text is the list of its UTF-8 bytes.
 use Rattle.std.specs.Prelude.{ℕ, Bool, List, [], ◌∷◌, Option}
 use Rattle.htmd_document.specs.declared.document.Alignment.{Alignment}
+use Rattle.htmd_document.specs.declared.document.AttributeName.{AttributeName}
+use Rattle.htmd_document.specs.declared.document.BlockElement.{BlockElement}
 use Rattle.htmd_document.specs.Formats.{Format}
 
 mutual
@@ -19,8 +21,13 @@ mutual
     no_inlines : Inlines
     inline : (first : Inline) (rest : Inlines) → Inlines
 
+-- an attribute of an element, and its value
+pub record BlockAttribute : Type 0 where
+  pub name : AttributeName
+  pub value : List ℕ
+
 mutual
-  -- a block; a list without a start has bullets
+  -- A block; a list without a start has bullets. Lines of tags stand for elements where they are written.
   pub data Block : Type 0 where
     paragraph : (content : Inlines) → Block
     heading : (level : ℕ) (content : Inlines) → Block
@@ -29,6 +36,8 @@ mutual
     thematic_break : Block
     list : (start : Option ℕ) (is_tight : Bool) (items : Items) → Block
     table : (alignments : List Alignment) (header : List Inlines) (rows : List (List Inlines)) → Block
+    element : (name : BlockElement) (attributes : List BlockAttribute) (content : Blocks) → Block
+    tags : (s : List ℕ) → Block
 
   pub data Blocks : Type 0 where
     no_blocks : Blocks

@@ -9,11 +9,12 @@ use Rattle.htmd_lexical.specs.Characters.{space}
 use Rattle.htmd_document.specs.Documents as value
 use Rattle.htmd_document.specs.Documents.{Inlines, no_inlines, inline, Inline, text, code, formatted, link, image}
 use Rattle.htmd_document.specs.Documents.{anchor}
-use Rattle.htmd_document.specs.Formats.{Format, Emphasis, Strong, Deleted, Superscript, Subscript}
-use Rattle.htmd_document.specs.Tags.{anchor_tag, end_of_anchor}
+use Rattle.htmd_document.specs.Formats.{Format, Emphasis, Strong, Deleted, Abbreviation}
+use Rattle.htmd_document.specs.Tags.{anchor_tag, end_of_anchor, format_tag, end_of_format}
+use Rattle.htmd_document.specs.FlatDocuments.{flattened}
 use Rattle.htmd_document.specs.Documents.{line_break, task, Blocks, no_blocks, block, Block, paragraph, heading}
 use Rattle.htmd_document.specs.Documents.{code_block, quote}
-use Rattle.htmd_document.specs.Documents.{thematic_break, table}
+use Rattle.htmd_document.specs.Documents.{thematic_break, table, element, tags}
 use Rattle.htmd_document.specs.declared.document.Alignment.{Alignment}
 use Rattle.htmd_document.specs.declared.document.Alignment.TheVariants as aligned
 
@@ -81,12 +82,15 @@ abbrev pub format_data : Format → json.Items → json.Items
 format_data Emphasis children = one_item (parent (codes "emphasis") children)
 format_data Strong children = one_item (parent (codes "strong") children)
 format_data Deleted children = one_item (parent (codes "delete") children)
-format_data Superscript children = between (codes "<sup>") children (codes "</sup>")
-format_data Subscript children = between (codes "<sub>") children (codes "</sub>")
+format_data f children = between (format_tag f) children (end_of_format f)
 
 -- an anchor, by what stands in it
 abbrev pub anchor_data : List ℕ → json.Items → json.Items
 anchor_data id children = between (anchor_tag id) children end_of_anchor
+
+-- an abbreviation, by what stands in it
+abbrev pub abbreviation_data : List ℕ → json.Items → json.Items
+abbreviation_data title children = format_data (Abbreviation title) children
 
 -- an inline, by what stands in it
 abbrev pub node_data : Inline → json.Items → json.Items
@@ -178,7 +182,7 @@ item_data is_tight checked children = object (json.member (codes "checked") chec
     (json.member (codes "children") (array children)
     (json.member (codes "spread") (boolean (not is_tight)) (kind_alone (codes "listItem")))))
 
--- a block, by what stands in it; the first block of an item has no box
+-- a block, by what stands in it; the first block of an item has no box; flat documents have no elements
 abbrev pub block_data : Bool → Block → json.Items → Data
 block_data is_first (paragraph xs) children =
     parent (codes "paragraph") (inlines_data (if is_first then without_box xs else xs))
@@ -188,6 +192,8 @@ block_data is_first (quote bs) children = parent (codes "blockquote") children
 block_data is_first thematic_break children = bare (codes "thematicBreak")
 block_data is_first (value.list start is_tight items) children = list_data start is_tight children
 block_data is_first (table alignments header rows) children = table_data alignments header rows
+block_data is_first (tags s) children = with_value (codes "html") s
+block_data is_first (element name attributes bs) children = null
 
 abbrev mutual
   -- what stands in a block
@@ -207,7 +213,7 @@ abbrev mutual
 
 -- the whole document
 abbrev pub root_data : Blocks → Data
-root_data bs = parent (codes "root") (blocks_data false bs)
+root_data bs = parent (codes "root") (blocks_data false (flattened bs))
 
 -- its JSON
 abbrev pub mdast_of : Blocks → List ℕ
@@ -219,7 +225,7 @@ after_yaml yaml nodes = json.item (with_value (codes "yaml") yaml) nodes
 
 -- the whole document after its front matter, which is YAML
 abbrev pub root_data_with : List ℕ → Blocks → Data
-root_data_with yaml bs = parent (codes "root") (after_yaml yaml (blocks_data false bs))
+root_data_with yaml bs = parent (codes "root") (after_yaml yaml (blocks_data false (flattened bs)))
 
 -- its JSON
 abbrev pub mdast_with_front_matter : List ℕ → Blocks → List ℕ

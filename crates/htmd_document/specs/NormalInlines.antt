@@ -9,7 +9,7 @@ use Rattle.htmd_lexical.specs.CharacterClasses.{is_empty, first_is}
 use Rattle.htmd_document.specs.DocumentLimits.{most_raised}
 use Rattle.htmd_document.specs.Documents.{Inline, text, code, formatted, link, image, anchor, line_break, task}
 use Rattle.htmd_document.specs.Documents.{Inlines, no_inlines, inline}
-use Rattle.htmd_document.specs.Formats.{Format, is_same_format, is_raised, raised_count}
+use Rattle.htmd_document.specs.Formats.{Format, Abbreviation, is_same_format, is_same_kind, is_raised, raised_count}
 
 -- ---- texts
 
@@ -128,11 +128,16 @@ are_whole xs = are_trimmed xs && not (first_passes is_break xs) && not (last_pas
 
 abbrev pub is_around : List Format → Format → Bool
 is_around [] f = false
-is_around (g ∷ around) f = is_same_format g f || is_around around f
+is_around (g ∷ around) f = is_same_kind g f || is_around around f
 
 -- a format can't stand in itself, but what is above or below the line can stand in that, up to so many
 abbrev pub is_barred : List Format → Format → Bool
 is_barred around f = if is_raised f then nat_le most_raised (raised_count around) else is_around around f
+
+-- the title of an abbreviation says something
+abbrev pub has_title : Format → Bool
+has_title (Abbreviation title) = is_text title && is_trimmed title
+has_title f = true
 
 -- within these formats, in a link or not: no format stands where it can't, no link and no anchor in a link, and nothing
 -- is empty; no space and no break is at the ends of a format
@@ -141,7 +146,7 @@ abbrev mutual
   is_normal in_link around (text s) = is_text s
   is_normal in_link around (code s) = is_text s && is_trimmed s
   is_normal in_link around (formatted f content) =
-      not (is_barred around f) && not (has_none content) && are_whole content
+      not (is_barred around f) && has_title f && not (has_none content) && are_whole content
       && are_normal in_link (f ∷ around) content
   is_normal in_link around (link address title content) =
       not in_link && is_attribute address && is_title title && not (has_none content)

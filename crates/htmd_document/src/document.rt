@@ -39,6 +39,63 @@ pub enum Block {
         header: RowContent,
         rows: Vec<RowContent>,
     },
+    /// What an element of HTML says of the blocks in it. Only rich documents have these.
+    Element {
+        name: BlockElement,
+        attributes: Vec<BlockAttribute>,
+        content: Vec<Block>,
+    },
+}
+
+/// An element of HTML that can be around blocks.
+#[derive(Debug, Clone, Copy, PartialEq, Eq)]
+pub enum BlockElement {
+    /// `details`
+    Details,
+    /// `summary`
+    Summary,
+    /// `dl`
+    Terms,
+    /// `dt`
+    Term,
+    /// `dd`
+    Meaning,
+    /// `figure`
+    Figure,
+    /// `figcaption`
+    FigureCaption,
+    /// `table`
+    Table,
+    /// `caption`
+    Caption,
+    /// `tr`
+    Row,
+    /// `td`
+    Cell,
+    /// `th`
+    HeaderCell,
+}
+
+/// An attribute of an element, and its value.
+#[derive(Drop)]
+pub struct BlockAttribute {
+    pub name: AttributeName,
+    pub value: String,
+}
+
+/// A name of an attribute, in the order in which an element has them.
+#[derive(Debug, Clone, Copy, PartialEq, Eq)]
+pub enum AttributeName {
+    /// `open`
+    Open,
+    /// `border`
+    Border,
+    /// `colspan`
+    ColumnSpan,
+    /// `rowspan`
+    RowSpan,
+    /// `align`
+    Align,
 }
 
 /// What is in an item of a list.
@@ -58,6 +115,11 @@ pub enum Inline {
     Formatted(Format, Vec<Inline>),
     /// What an element of HTML says of its content.
     Element(InlineElement, Vec<Inline>),
+    /// What a shorter form stands for is the title.
+    Abbreviation {
+        title: String,
+        content: Vec<Inline>,
+    },
     /// A place that links with `#` and this id lead to.
     Anchor(String),
     Link {
@@ -84,11 +146,24 @@ pub enum Format {
     Deleted,
 }
 
-/// What can be around inlines and has no marks in Markdown: an element of HTML.
+/// What can be around inlines and has no marks in Markdown: an element of HTML. Only rich documents have others than
+/// the first two.
 #[derive(Debug, Clone, Copy, PartialEq, Eq)]
 pub enum InlineElement {
+    /// `sup`
     Superscript,
+    /// `sub`
     Subscript,
+    /// `ins`
+    Inserted,
+    /// `u`
+    Underlined,
+    /// `mark`
+    Marked,
+    /// `small`
+    Small,
+    /// `kbd`
+    Keyboard,
 }
 
 /// How the cells of a column are aligned.

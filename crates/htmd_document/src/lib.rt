@@ -3,10 +3,15 @@
 #![tactic(auto)]
 
 mod document;
+mod flat;
 mod mdast;
 mod tags;
 
 pub use document::{
-    Alignment, Block, CellContent, Document, Format, Inline, InlineElement, ItemContent, RowContent,
+    Alignment, AttributeName, Block, BlockAttribute, BlockElement, CellContent, Document, Format,
+    Inline, InlineElement, ItemContent, RowContent,
 };
-pub use tags::{END_OF_ANCHOR, push_anchor};
+pub use flat::{FlatBlock, flattened, text_in_line};
+pub use tags::{
+    END_OF_ABBREVIATION, END_OF_ANCHOR, end_of_inline, inline_tag, push_abbreviation, push_anchor,
+};

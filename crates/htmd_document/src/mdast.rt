@@ -4,14 +4,18 @@ ghost use Rattle.serde_json.specs.View.{view, items_of, items_view};
 ghost use Rattle.serde_json.specs.Written.{compact_text};
 ghost use Rattle.htmd_document.specs.DocumentViews.{inline_of, inlines_of, block_of, blocks_of, document_of};
 ghost use Rattle.htmd_document.specs.DocumentViews.{bytes_of_title};
-ghost use Rattle.htmd_document.specs.Documents as value;
+ghost use Rattle.htmd_document.specs.FlatDocuments as flat;
+ghost use Rattle.htmd_document.specs.FlatViews.{flat_of};
 ghost use Rattle.htmd_document.specs.Formats.{of_format, of_element};
 ghost use Rattle.htmd_document.specs.Mdast as spec;
 
 use crate::document::{
     Alignment, Block, CellContent, Document, Format, Inline, InlineElement, RowContent,
 };
-use crate::tags::{END_OF_ANCHOR, push_anchor};
+use crate::flat::{FlatBlock, flattened};
+use crate::tags::{
+    END_OF_ABBREVIATION, END_OF_ANCHOR, end_of_inline, inline_tag, push_abbreviation, push_anchor,
+};
 use serde_json::{Value, json};
 use std::alloc::{AllocError, Global};
 
@@ -164,10 +168,28 @@ fn push_element(
         ≡ spec.beside (items_view out.old.items)
         (spec.format_data (of_element element) (items_view children.items))) }
 {
-    match element {
-        InlineElement::Superscript => push_between(alloc, out, "<sup>", children, "</sup>"),
-        InlineElement::Subscript => push_between(alloc, out, "<sub>", children, "</sub>"),
-    }
+    push_between(
+        alloc,
+        out,
+        inline_tag(element),
+        children,
+        end_of_inline(element),
+    )
+}
+
+/// Appends an abbreviation, by what is in it.
+fn push_abbreviation_node(
+    alloc: Global,
+    out: &mut Vec<Value>,
+    title: &str,
+    children: Vec<Value>,
+) -> Result<(), AllocError>
+    ensures { IfOk result (λ _. items_view out.new.items
+        ≡ spec.beside (items_view out.old.items) (spec.abbreviation_data title.now (items_view children.items))) }
+{
+    let mut tag = String::with_capacity(alloc, title.len().saturating_add(15))?;
+    push_abbreviation(&mut tag, title)?;
+    push_between(alloc, out, &tag, children, END_OF_ABBREVIATION)
 }
 
 /// Appends an anchor.
@@ -201,6 +223,7 @@ fn push_node(
         Inline::Code(text) => push_value(out, with_value(alloc, "inlineCode", text)?),
         Inline::Formatted(format, _) => push_format(alloc, out, *format, children),
         Inline::Element(element, _) => push_element(alloc, out, *element, children),
+        Inline::Abbreviation { title, .. } => push_abbreviation_node(alloc, out, title, children),
         Inline::Anchor(id) => push_anchor_node(alloc, out, id, children),
         Inline::Link { address, title, .. } => {
             push_value(out, link(alloc, address, title, children)?)
@@ -225,6 +248,7 @@ fn children_of(alloc: Global, inline: &Inline) -> Result<Vec<Value>, AllocError>
     match inline {
         Inline::Formatted(_, content)
         | Inline::Element(_, content)
+        | Inline::Abbreviation { content, .. }
         | Inline::Link { content, .. } => inlines_values(alloc, content),
         _ => Ok(Vec::new(alloc)),
     }
@@ -423,7 +447,7 @@ fn block_value(
     children: Vec<Value>,
 ) -> Result<Value, AllocError>
     ensures { IfOk result (λ v. view v
-        ≡ spec.block_data is_first (block_of block.now) (items_view children.items)) }
+        ≡ spec.block_data is_first (flat.flat_block (block_of block.now)) (items_view children.items)) }
 {
     match block {
         Block::Paragraph(content) => paragraph(alloc, content, is_first),
@@ -437,13 +461,30 @@ fn block_value(
             header,
             rows,
         } => table(alloc, alignments, header, rows),
+        Block::Element { .. } => Ok(Value::Null),
+    }
+}
+
+/// A block or lines of tags.
+fn flat_value(
+    alloc: Global,
+    block: &FlatBlock,
+    is_first: bool,
+    children: Vec<Value>,
+) -> Result<Value, AllocError>
+    ensures { IfOk result (λ v. view v
+        ≡ spec.block_data is_first (flat_of block.now) (items_view children.items)) }
+{
+    match block {
+        FlatBlock::Tags(text) => with_value(alloc, "html", text),
+        FlatBlock::Block(block) => block_value(alloc, block, is_first, children),
     }
 }
 
 /// What is in a block.
 #[cycle(blocks)]
 fn values_within(alloc: Global, block: &Block) -> Result<Vec<Value>, AllocError>
-    ensures { IfOk result (λ vs. items_view vs.items ≡ spec.within_data (block_of block.now)) }
+    ensures { IfOk result (λ vs. items_view vs.items ≡ spec.within_data (flat.flat_block (block_of block.now))) }
 {
     match block {
         Block::Quote(blocks) => blocks_values(alloc, blocks, false),
@@ -459,15 +500,28 @@ fn values_within(alloc: Global, block: &Block) -> Result<Vec<Value>, AllocError>
     }
 }
 
+/// What is in a block, or nothing in lines of tags.
+#[cycle(blocks)]
+fn values_in_flat(alloc: Global, block: &FlatBlock) -> Result<Vec<Value>, AllocError>
+    ensures { IfOk result (λ vs. items_view vs.items ≡ spec.within_data (flat_of block.now)) }
+{
+    match block {
+        FlatBlock::Tags(_) => Ok(Vec::new(alloc)),
+        FlatBlock::Block(block) => values_within(alloc, block),
+    }
+}
+
 #[cycle(blocks)]
 fn blocks_values(alloc: Global, blocks: &[Block], in_item: bool) -> Result<Vec<Value>, AllocError>
-    ensures { IfOk result (λ vs. items_view vs.items ≡ spec.blocks_data in_item (blocks_of blocks.now)) }
+    ensures { IfOk result (λ vs. items_view vs.items
+        ≡ spec.blocks_data in_item (flat.flattened (blocks_of blocks.now))) }
 {
-    let mut values = Vec::with_capacity(alloc, blocks.len())?;
-    for block in blocks {
-        let children = values_within(alloc, block)?;
+    let flat = flattened(alloc, blocks)?;
+    let mut values = Vec::with_capacity(alloc, flat.len())?;
+    for block in &flat {
+        let children = values_in_flat(alloc, block)?;
         let is_first = in_item & values.is_empty();
-        values.push(block_value(alloc, block, is_first, children)?)?;
+        values.push(flat_value(alloc, block, is_first, children)?)?;
     }
     Ok(values)
 }

@@ -36,7 +36,7 @@ use Rattle.std.proofs.lemmas.Bool.{true≢false}
 use Rattle.htmd_document_of_tree.specs.declared.targets.Target as held
 use Rattle.htmd_document_of_tree.specs.TargetViews.{begins_here, target_of}
 use Rattle.htmd_document_of_tree.specs.Targets.{Target}
-use Rattle.htmd_document_of_tree.specs.Seen.{code_shows, image_shows}
+use Rattle.htmd_shown.specs.Showings.{code_shows, image_shows}
 use Rattle.htmd_document_of_tree.proofs.WalksLemmas.{walk, gone}
 
 pub placing_after_all-gone : (p : Placing) (ts : List Simple)
@@ -276,12 +276,12 @@ filter-none p h (t ∷ targets) =
     ap (λ b. cond b (t ∷ filter p targets) (filter p targets)) (h t) ∙ filter-none p h targets
 
 -- those that links lead to
-pub linked-stay : (found : Bor Leadings) (trees : Simples)
-    → ((s : List ℕ) → span_to found.now s ≡ merged None s (all_leadings trees))
+pub linked-stay : (is_rich : Bool) (found : Bor Leadings) (trees : Simples)
+    → ((s : List ℕ) → span_to found.now s ≡ merged None s (all_leadings is_rich trees))
     → filter (stays (Some found)) (all_targets (counts_of (Some found)) trees)
-    ≡ linked_targets (all_leadings trees) trees
-linked-stay found trees h =
-    let leadings = all_leadings trees in
+    ≡ linked_targets (all_leadings is_rich trees) trees
+linked-stay is_rich found trees h =
+    let leadings = all_leadings is_rich trees in
     let counts : counts_of (Some found) ≡ is_linked_to leadings =
     λ i s. (ap is_some (h s) ∙ is-linked s leadings) i in
     let stay : stays (Some found) ≡ (λ (t : Target). is_led_to leadings t.value t.seen) =
@@ -290,11 +290,11 @@ linked-stay found trees h =
     ∙ ap (λ f. filter f (all_targets (is_linked_to leadings) trees)) stay
 
 -- none, where no link leads to a part of the page
-pub none-led : (found : Leadings) (trees : Simples)
-    → ((s : List ℕ) → span_to found s ≡ merged None s (all_leadings trees))
-    → ((s : List ℕ) → span_to found s ≡ None) → linked_targets (all_leadings trees) trees ≡ []
-none-led found trees h empty =
-    let leadings = all_leadings trees in
+pub none-led : (is_rich : Bool) (found : Leadings) (trees : Simples)
+    → ((s : List ℕ) → span_to found s ≡ merged None s (all_leadings is_rich trees))
+    → ((s : List ℕ) → span_to found s ≡ None) → linked_targets (all_leadings is_rich trees) trees ≡ []
+none-led is_rich found trees h empty =
+    let leadings = all_leadings is_rich trees in
     filter-none (λ t. is_led_to leadings t.value t.seen)
     (λ t. sym (is-led t.value t.seen leadings)
     ∙ ap (λ o. leads_elsewhere o t.seen) (sym (h t.value) ∙ empty t.value))
@@ -327,15 +327,18 @@ mutual
   leads-nowhere around flat (anchor id) e = refl
   leads-nowhere around flat (element id role facts attributes content) e =
       let parts = neither (is_link role && is_to_part (address_of attributes)) (lead_to_part content) e in
-      let written = is_written flat role attributes content in
+      let written = is_written around.is_rich flat role attributes content in
       let own = own_leadings around written role attributes content in
-      let rest = leadings_among (around_in around written role content) (layout_in flat role content) content in
+      let rest = leadings_among (around_in around flat written role content)
+      (layout_in around.is_rich flat role content) content in
       let no_own : own ≡ [] = if-none (not around.is_linked) written
       (heading_in around.heading around.seen role content) attributes
-      (not-both (is_link role) (shows_in_link (layout_in flat role content) attributes content)
+      (not-both (is_link role) (shows_in_link around.is_rich (layout_in around.is_rich flat role content) attributes
+      content)
       (is_to_part (address_of attributes)) parts.0) in
       let nothing : own ++ rest ≡ [] = ap (λ found. found ++ rest) no_own
-      ∙ lead-nowhere (around_in around written role content) (layout_in flat role content) content parts.1 in
+      ∙ lead-nowhere (around_in around flat written role content) (layout_in around.is_rich flat role content) content
+      parts.1 in
       test (is_verbatim role)
       (λ h. ap (λ b. cond b [] (own ++ rest)) h)
       (λ h. ap (λ b. cond b [] (own ++ rest)) h ∙ nothing)
@@ -349,9 +352,9 @@ mutual
       (leads-nowhere around (is_flat beside tree) tree parts.0)
       ∙ lead-nowhere (after around tree) beside trees parts.1
 
-pub none-linked : (trees : Simples) → lead_to_part trees ≡ false
-    → linked_targets (all_leadings trees) trees ≡ []
-none-linked trees e =
+pub none-linked : (is_rich : Bool) (trees : Simples) → lead_to_part trees ≡ false
+    → linked_targets (all_leadings is_rich trees) trees ≡ []
+none-linked is_rich trees e =
     ap (λ leadings. linked_targets leadings trees) (lead-nowhere _ _ trees e)
     ∙ filter-none (λ t. is_led_to [] t.value t.seen) (λ t. refl) (all_targets (is_linked_to []) trees)
 

@@ -58,7 +58,7 @@ unfolding chars encode
 seen-two = refl
 
 -- a link that shows nothing isn't written
-pub leads-nowhere : all_leadings (more (link (codes "#x") (said (codes " "))) none) ≡ []
+pub leads-nowhere : all_leadings false (more (link (codes "#x") (said (codes " "))) none) ≡ []
 unfolding chars encode
 leads-nowhere = refl
 
@@ -78,20 +78,20 @@ abbrev paragraph : List ℕ → Simples → Simple
 paragraph id content = made 2 role.Paragraph (by (codes "id") id) content
 
 -- before the first thing to see from there on
-pub anchored-all : anchored which.All (more (paragraph (codes "x") (said (codes "a"))) none)
+pub anchored-all : anchored which.All false (more (paragraph (codes "x") (said (codes "a"))) none)
     ≡ more (element 2 role.Paragraph (facts_of (said (codes "a"))) (by (codes "id") (codes "x"))
     (more (before (more (anchor (codes "x")) none) (text (codes "a"))) none)) none
 unfolding chars encode
 anchored-all = refl
 
 -- what nothing follows stands at the end
-pub anchored-last : anchored which.All (more (paragraph (codes "x") none) none)
+pub anchored-last : anchored which.All false (more (paragraph (codes "x") none) none)
     ≡ more (paragraph (codes "x") none) (more (apart (more (anchor (codes "x")) none)) none)
 unfolding chars encode
 anchored-last = refl
 
 -- no link leads there
-pub anchored-none : anchored which.Linked (more (paragraph (codes "x") (said (codes "a"))) none)
+pub anchored-none : anchored which.Linked false (more (paragraph (codes "x") (said (codes "a"))) none)
     ≡ more (paragraph (codes "x") (said (codes "a"))) none
 unfolding chars encode
 anchored-none = refl

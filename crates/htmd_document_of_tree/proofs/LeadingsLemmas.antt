@@ -22,10 +22,12 @@ use Rattle.htmd_lexical.specs.AttributePairs.{AttributePair}
 use Rattle.htmd_shown.specs.Roles.{is_link, is_verbatim}
 use Rattle.htmd_shown.specs.declared.facts.Facts.{Facts}
 use Rattle.htmd_shown.specs.declared.role.Role.{Role}
+use Rattle.htmd_shown.specs.declared.role.Role.TheVariants as role
 use Rattle.htmd_document_of_tree.specs.Leadings.{is_in, is_led_to, leading_to, leadings_to, around_in, heading_in, is_written}
 use Rattle.htmd_document_of_tree.specs.Leadings.{layout_in, leadings_if, leadings_inside, leadings_of_element, own_leadings}
-use Rattle.htmd_document_of_tree.specs.Leadings.{shows_in_link}
-use Rattle.htmd_document_of_tree.specs.Seen.{code_shows, leaf_shows}
+use Rattle.htmd_document_of_tree.specs.Leadings.{shows_in_link, is_linked_in}
+use Rattle.htmd_shown.specs.Showings.{code_shows}
+use Rattle.htmd_document_of_tree.specs.Seen.{leaf_shows}
 use Rattle.std.specs.Str.{bytes_eq, chars}
 use Rattle.htmd_lexical.proofs.Cases.{test}
 use Rattle.htmd_shown.specs.declared.simple.Simple as code
@@ -98,19 +100,22 @@ decoded_plain s u none = ap utf8_lossy (decoded_bytes s none) ∙ utf8_lossy-IsU
 
 -- ---- from an element on
 
-abbrev pub leaf-from : Bool → Layout → List code.Simple → ℕ → Bool
-leaf-from to_part beside zs i = have_leaf to_part beside (simples_of (drop i (map simple_of zs)))
+abbrev pub leaf-from : Bool → Bool → Layout → List code.Simple → ℕ → Bool
+leaf-from is_rich to_part beside zs i = have_leaf is_rich to_part beside (simples_of (drop i (map simple_of zs)))
 
-pub leaf-drop : (to_part : Bool) (beside : Layout) (zs : List code.Simple) (i : ℕ) (x : code.Simple) → i < length zs
+pub leaf-drop : (is_rich to_part : Bool) (beside : Layout) (zs : List code.Simple) (i : ℕ) (x : code.Simple)
+    → i < length zs
     → x ≡ get_or zs i x
-    → leaf-from to_part beside zs i
-    ≡ (has_leaf to_part (is_flat beside (simple_of x)) (simple_of x) || leaf-from to_part beside zs (i + 1))
-leaf-drop to_part beside zs i x h is =
-    rw add-one (ap (λ vs. have_leaf to_part beside (simples_of vs)) (drop-item simple_of zs i x h is))
+    → leaf-from is_rich to_part beside zs i
+    ≡ (has_leaf is_rich to_part (is_flat beside (simple_of x)) (simple_of x)
+    || leaf-from is_rich to_part beside zs (i + 1))
+leaf-drop is_rich to_part beside zs i x h is =
+    rw add-one (ap (λ vs. have_leaf is_rich to_part beside (simples_of vs)) (drop-item simple_of zs i x h is))
 
-pub leaf-end : (to_part : Bool) (beside : Layout) (zs : List code.Simple) (i : ℕ) → length zs ≤ i
-    → leaf-from to_part beside zs i ≡ false
-leaf-end to_part beside zs i h = ap (λ vs. have_leaf to_part beside (simples_of vs)) (drop-end simple_of zs i h)
+pub leaf-end : (is_rich to_part : Bool) (beside : Layout) (zs : List code.Simple) (i : ℕ) → length zs ≤ i
+    → leaf-from is_rich to_part beside zs i ≡ false
+leaf-end is_rich to_part beside zs i h =
+    ap (λ vs. have_leaf is_rich to_part beside (simples_of vs)) (drop-end simple_of zs i h)
 
 abbrev pub part-from : List code.Simple → ℕ → Bool
 part-from zs i = lead_to_part (simples_of (drop i (map simple_of zs)))
@@ -276,55 +281,81 @@ is-led s n (l ∷ found) =
 
 -- ---- an element
 
+-- a title is no link
+written-in : (around : Around) (flat : Bool) (role : Role) (content : Simples) (shows : Bool)
+    → (is_linked_in around flat role content || ((is_link role && not around.is_linked) && shows))
+    ≡ (is_linked_in around flat role content || (is_link role && shows))
+written-in around flat role.Link content shows =
+    ap (λ b. b || ((true && not around.is_linked) && shows)) (still around.is_linked flat)
+    ∙ (written-among around.is_linked true shows ∙ ap (λ b. b || shows) (sym (still around.is_linked flat)))
+  where
+    still : (linked flat : Bool) → (linked && (flat || true)) ≡ linked
+    still true true = refl
+    still true false = refl
+    still false flat = refl
+written-in around flat r content shows = refl
+
 module _ (around : Around) (flat : Bool) (role : Role) (attributes : List AttributePair) (content : Simples)
     (layout : Layout) (heading : Option Span) (written : Bool) (inner : Around)
-    (layout_is : layout ≡ layout_in flat role content)
+    (layout_is : layout ≡ layout_in around.is_rich flat role content)
     (heading_is : heading ≡ heading_in around.heading around.seen role content)
-    (written_is : written ≡ ((is_link role && not around.is_linked) && shows_in_link layout attributes content))
-    (inner_is : inner ≡ record { seen = around.seen; heading = heading; is_linked = around.is_linked || written })
+    (written_is : written ≡ ((is_link role && not around.is_linked) && shows_in_link around.is_rich layout attributes
+    content))
+    (inner_is : inner ≡ record {
+      seen = around.seen;
+      heading = heading;
+      is_linked = is_linked_in around flat role content || written;
+      is_rich = around.is_rich;
+    })
   where
-    own-led : leadings_if ((is_link role && not around.is_linked) && shows_in_link layout attributes content) heading
-        attributes ≡ own_leadings around (is_written flat role attributes content) role attributes content
+    own-led : leadings_if ((is_link role && not around.is_linked) && shows_in_link around.is_rich layout attributes
+        content) heading
+        attributes ≡ own_leadings around (is_written around.is_rich flat role attributes content) role attributes
+        content
     own-led =
         let linked = around.is_linked in
         let link = is_link role in
-        ap (λ b. leadings_if b heading attributes) (written-own linked link (shows_in_link layout attributes content))
-        ∙ (ap (λ h. leadings_if (not linked && (link && shows_in_link layout attributes content)) h attributes)
+        ap (λ b. leadings_if b heading attributes)
+        (written-own linked link (shows_in_link around.is_rich layout attributes content))
+        ∙ (ap (λ h. leadings_if (not linked && (link && shows_in_link around.is_rich layout attributes content)) h
+        attributes)
         heading_is
-        ∙ ap (λ l. leadings_if (not linked && (link && shows_in_link l attributes content))
+        ∙ ap (λ l. leadings_if (not linked && (link && shows_in_link around.is_rich l attributes content))
         (heading_in around.heading around.seen role content) attributes) layout_is)
 
     inner-led : leadings_among inner layout content
-        ≡ leadings_among (around_in around (is_written flat role attributes content) role content)
-        (layout_in flat role content) content
+        ≡ leadings_among (around_in around flat (is_written around.is_rich flat role attributes content) role content)
+        (layout_in around.is_rich flat role content) content
     inner-led =
-        let linked = around.is_linked in
+        let linked = is_linked_in around flat role content in
         let link = is_link role in
         let made : Option Span → Bool → Around =
-        λ h b. record { seen = around.seen; heading = h; is_linked = b } in
+        λ h b. record { seen = around.seen; heading = h; is_linked = b; is_rich = around.is_rich } in
         ap (λ a. leadings_among a layout content) (inner_is
         ∙ (ap (λ h. made h (linked || written)) heading_is
         ∙ ap (λ b. made (heading_in around.heading around.seen role content) b) (ap (λ b. linked || b) written_is
-        ∙ written-among linked link (shows_in_link layout attributes content))))
+        ∙ written-in around flat role content (shows_in_link around.is_rich layout attributes content))))
         ∙ ap (λ l. leadings_among (made (heading_in around.heading around.seen role content)
-        (linked || (link && shows_in_link l attributes content))) l content) layout_is
+        (linked || (link && shows_in_link around.is_rich l attributes content))) l content) layout_is
 
     pub element-led : (old mid new : Leadings)
         → ((s : List ℕ) → span_to mid s ≡ merged (span_to old s) s (leadings_if
-        ((is_link role && not around.is_linked) && shows_in_link layout attributes content) heading attributes))
+        ((is_link role && not around.is_linked) && shows_in_link around.is_rich layout attributes content) heading
+        attributes))
         → ((s : List ℕ) → span_to new s ≡ merged (span_to mid s) s (leadings_among inner layout content))
         → (s : List ℕ)
         → span_to new s ≡ merged (span_to old s) s (leadings_of_element around flat role attributes content)
     element-led old mid new own inside s =
         let one = leadings_if
-        ((is_link role && not around.is_linked) && shows_in_link layout attributes content) heading
+        ((is_link role && not around.is_linked) && shows_in_link around.is_rich layout attributes content) heading
         attributes in
         let two = leadings_among inner layout content in
         inside s ∙ (ap (λ k. merged k s two) (own s)
         ∙ (sym (merged-append (span_to old s) s one two)
         ∙ (ap (λ found. merged (span_to old s) s (found ++ two)) own-led
         ∙ ap (λ found. merged (span_to old s) s
-        (own_leadings around (is_written flat role attributes content) role attributes content ++ found)) inner-led)))
+        (own_leadings around (is_written around.is_rich flat role attributes content) role attributes content ++ found))
+        inner-led)))
 
 -- ---- a leaf, or what has its leaves in it
 

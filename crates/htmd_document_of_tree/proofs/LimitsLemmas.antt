@@ -14,7 +14,6 @@ use Rattle.htmd_document_of_tree.specs.Limits.{within, all_within, budget, limit
 use Rattle.htmd_document_of_tree.specs.Limits.{paid_for, is_too_dear, without_address, affordable}
 use Rattle.htmd_document_of_tree.specs.FirstPieces.{with_content}
 use Rattle.htmd_shown.specs.Kinds.{content_of}
-use Rattle.htmd_shown.specs.declared.role.Role.TheVariants.{Target}
 use Rattle.htmd_document_of_tree.proofs.WalksLemmas.{walk, gone}
 use Rattle.std.proofs.Common.{subst, ◌||◌}
 use Rattle.std.specs.HashSet.{HashSet, contains_text}
@@ -23,8 +22,9 @@ use Rattle.htmd_lexical.proofs.BytesLemmas.{same_bytes}
 use Rattle.std.specs.Str.{bytes_eq}
 use Rattle.htmd_lexical.specs.AttributePairs.{AttributePair}
 use Rattle.htmd_shown.specs.Roles.{is_among}
+use Rattle.htmd_shown.specs.declared.role.Role.{Role}
 use Rattle.htmd_document_of_tree.specs.declared.limits.Written as code
-use Rattle.htmd_document_of_tree.specs.Limits.{pair_of, size, with_pair}
+use Rattle.htmd_document_of_tree.specs.Limits.{emptied, pair_of, size, with_pair}
 use Rattle.htmd_document_of_tree.specs.WrittenViews.{Counts}
 
 pub left_after_all-gone : (s : Option ℕ) (ts : List Simple)
@@ -180,7 +180,7 @@ within_dear left now (formula tex is_alone attributes) e h = cc
 within_dear left now (embedded id address title attributes anchors) e h = cc
 within_dear left now (anchor id) e h = cc
 within_dear left now (element id role facts attributes content) e h =
-    ap (λ r. element id r facts attributes (all_within now content)) (sym (ap (λ b. cond b Target role) h))
+    ap (λ r. element id r facts attributes (all_within now content)) (sym (ap (λ b. cond b (emptied role) role) h))
     ∙ ap (λ s. element id (affordable s role attributes) facts attributes (all_within s content)) e
 
 pub within_kept : (left now : Option ℕ) (t : Simple) → now ≡ paid_for left t → is_too_dear now t ≡ false
@@ -191,18 +191,23 @@ within_kept left now (formula tex is_alone attributes) e h = refl
 within_kept left now (embedded id address title attributes anchors) e h = refl
 within_kept left now (anchor id) e h = refl
 within_kept left now (element id role facts attributes content) e h =
-    ap (λ r. element id r facts attributes (all_within now content)) (sym (ap (λ b. cond b Target role) h))
+    ap (λ r. element id r facts attributes (all_within now content)) (sym (ap (λ b. cond b (emptied role) role) h))
     ∙ ap (λ s. element id (affordable s role attributes) facts attributes (all_within s content)) e
 
 -- ---- pairs
 
+-- with a pair that is new
+abbrev with_new : Written → Role → List AttributePair → Written
+with_new w role attributes =
+    record { count = w.count + size role attributes; pairs = pair_of role attributes ∷ w.pairs }
+
 -- a pair that is known already
-pub counts-known : (old new : code.Written) (w : Written) (attributes : List AttributePair) → new.count ≡ old.count
-    → ((s : List ℕ) → contains_text new.pairs s ≡ contains_text old.pairs s)
-    → is_among w.pairs (pair_of attributes) ≡ true → Counts old w → Counts new (with_pair w attributes)
-counts-known old new w attributes count pairs among known =
-    let e : with_pair w attributes ≡ w =
-    ap (λ b. cond b w (record { count = w.count + size attributes; pairs = pair_of attributes ∷ w.pairs })) among in
+pub counts-known : (old new : code.Written) (w : Written) (role : Role) (attributes : List AttributePair)
+    → new.count ≡ old.count → ((s : List ℕ) → contains_text new.pairs s ≡ contains_text old.pairs s)
+    → is_among w.pairs (pair_of role attributes) ≡ true → Counts old w
+    → Counts new (with_pair w role attributes)
+counts-known old new w role attributes count pairs among known =
+    let e : with_pair w role attributes ≡ w = ap (λ b. cond b w (with_new w role attributes)) among in
     subst (λ (v : Written). Counts new v) (sym e)
     (record { count = count ∙ known.count; pairs = λ s. pairs s ∙ known.pairs s })
 
@@ -211,19 +216,19 @@ or-cond true b = refl
 or-cond false b = refl
 
 -- one that is new
-pub counts-new : (old new : code.Written) (w : Written) (attributes : List AttributePair)
-    → new.count ≡ old.count + size attributes
+pub counts-new : (old new : code.Written) (w : Written) (role : Role) (attributes : List AttributePair)
+    → new.count ≡ old.count + size role attributes
     → ((s : List ℕ) → contains_text new.pairs s
-    ≡ cond (bytes_eq (pair_of attributes) s) true (contains_text old.pairs s))
-    → is_among w.pairs (pair_of attributes) ≡ false → Counts old w → Counts new (with_pair w attributes)
-counts-new old new w attributes count pairs among known =
-    let e : with_pair w attributes
-    ≡ record { count = w.count + size attributes; pairs = pair_of attributes ∷ w.pairs } =
-    ap (λ b. cond b w (record { count = w.count + size attributes; pairs = pair_of attributes ∷ w.pairs })) among in
+    ≡ cond (bytes_eq (pair_of role attributes) s) true (contains_text old.pairs s))
+    → is_among w.pairs (pair_of role attributes) ≡ false → Counts old w
+    → Counts new (with_pair w role attributes)
+counts-new old new w role attributes count pairs among known =
+    let e : with_pair w role attributes ≡ with_new w role attributes =
+    ap (λ b. cond b w (with_new w role attributes)) among in
     subst (λ (v : Written). Counts new v) (sym e) (record {
-      count = count ∙ ap (λ n. n + size attributes) known.count;
-      pairs = λ s. pairs s ∙ (or-cond (bytes_eq (pair_of attributes) s) (contains_text old.pairs s)
-          ∙ ap (λ b. bytes_eq (pair_of attributes) s || b) (known.pairs s));
+      count = count ∙ ap (λ n. n + size role attributes) known.count;
+      pairs = λ s. pairs s ∙ (or-cond (bytes_eq (pair_of role attributes) s) (contains_text old.pairs s)
+          ∙ ap (λ b. bytes_eq (pair_of role attributes) s || b) (known.pairs s));
     })
 
 pub not-false : (b : Bool) → not b ≡ true → b ≡ false

@@ -1,5 +1,5 @@
 -- What a node of the source is.
-use Rattle.std.proofs.Common.{◌≡◌, ℕ, Bool, List, sym, ap, ◌∙◌, string_bytes}
+use Rattle.std.proofs.Common.{◌≡◌, ℕ, List, sym, ap, ◌∙◌, string_bytes}
 use Rattle.std.specs.Borrow.{Bor}
 use Rattle.std.specs.Prelude.{String, Vec}
 use Rattle.std.specs.declared.alloc.Global.{Global}
@@ -16,12 +16,6 @@ use Rattle.htmd_shown.specs.SimpleViews.{simple_of, simple_step, simples_of}
 
 pub text-made : (s : Bor (List ℕ)) → simple_of (source.Text s) ≡ value.text (shown_text s.now)
 text-made s = ap simple_of (sym (source.rolls-Text s)) ∙ fold-roll-Simple value.Simple simple_step (Simple-F.Text s)
-
-pub formula-made : (tex : String Global) (is_alone : Bool) (attrs : Bor (List Attribute))
-    → simple_of (source.Formula tex is_alone attrs) ≡ value.formula (string_bytes tex) is_alone (pairs_of attrs.now)
-formula-made tex is_alone attrs =
-    ap simple_of (sym (source.rolls-Formula tex is_alone attrs))
-    ∙ fold-roll-Simple value.Simple simple_step (Simple-F.Formula tex is_alone attrs)
 
 pub anchor-made : (id : String Global) → simple_of (source.Anchor id) ≡ value.anchor (string_bytes id)
 anchor-made id =

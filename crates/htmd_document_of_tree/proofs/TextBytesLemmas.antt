@@ -6,10 +6,11 @@ use Rattle.std.specs.Str.{chars, IsUtf8}
 use Rattle.std.proofs.lemmas.List.{length-append}
 use Rattle.std.proofs.lemmas.Str.{encodes-chars, len_utf8_bounds, length-encode}
 use Rattle.htmd_lexical.specs.AttributePairs.{AttributePair}
-use Rattle.htmd_shown.specs.Roles.{is_among, is_link}
+use Rattle.htmd_shown.specs.Roles.{is_among}
+use Rattle.htmd_shown.specs.declared.role.Role.{Role}
 use Rattle.htmd_shown.specs.SimpleTrees.{Simple, text, image, formula, embedded, anchor, element, Simples, none, more, simples_of}
 use Rattle.htmd_document_of_tree.specs.Limits.{Written, written, written_all, with_pair, with_element, nothing_written}
-use Rattle.htmd_document_of_tree.specs.Limits.{pair_of, size, budget, always_written, characters}
+use Rattle.htmd_document_of_tree.specs.Limits.{pair_of, is_carrying, size, budget, always_written, characters}
 use Rattle.htmd_document_of_tree.specs.WrittenViews.{text_characters, all_text_characters}
 use Rattle.htmd_document_of_tree.proofs.WalksLemmas.{gone, drop-item, drop-end}
 
@@ -70,19 +71,25 @@ at-end view xs i count start l h =
 
 -- ---- the budget
 
-pair-more : (w : Written) (attributes : List AttributePair) → w.count ≤ (with_pair w attributes).count
-pair-more w attributes = by (is_among w.pairs (pair_of attributes))
+pair-more : (w : Written) (role : Role) (attributes : List AttributePair)
+    → w.count ≤ (with_pair w role attributes).count
+pair-more w role attributes = by (is_among w.pairs (pair_of role attributes))
   where
     by : (b : Bool)
-        → w.count
-        ≤ (cond b w (record { count = w.count + size attributes; pairs = pair_of attributes ∷ w.pairs })).count
+        → w.count ≤ (cond b w (record {
+          count = w.count + size role attributes;
+          pairs = pair_of role attributes ∷ w.pairs;
+        })).count
     by true = omega arith
     by false = omega arith
 
-link-more : (b : Bool) (w : Written) (attributes : List AttributePair)
-    → w.count ≤ (cond b (with_pair w attributes) w).count
-link-more true w attributes = pair-more w attributes
-link-more false w attributes = omega arith
+element-more : (w : Written) (role : Role) (attributes : List AttributePair)
+    → w.count ≤ (with_element w role attributes).count
+element-more w role attributes = by (is_carrying role)
+  where
+    by : (b : Bool) → w.count ≤ (cond b (with_pair w role attributes) w).count
+    by true = pair-more w role attributes
+    by false = omega arith
 
 mutual
   written-more : (w : Written) (t : Simple) → w.count + text_characters t ≤ (written w t).count
@@ -92,7 +99,7 @@ mutual
   written-more w (embedded id address title attributes anchors) = omega arith
   written-more w (anchor id) = omega arith
   written-more w (element id role facts attributes content) =
-      omega (arith, all-written-more (with_element w role attributes) content, link-more (is_link role) w attributes)
+      omega (arith, all-written-more (with_element w role attributes) content, element-more w role attributes)
 
   all-written-more : (w : Written) (ts : Simples) → w.count + all_text_characters ts ≤ (written_all w ts).count
   all-written-more w none = omega arith

@@ -17,7 +17,9 @@ use Rattle.htmd_text.specs.Trims.{trimmed_start, trimmed_text}
 use Rattle.htmd_shown.specs.Attributes.{is_filled, words, in_line, title_of_value, text_of, value_of}
 use Rattle.htmd_shown.specs.Attributes.{is_space_or_control, is_in_address, address}
 use Rattle.htmd_shown.specs.ShownTexts.{is_shown, shown_text}
-use Rattle.htmd_document_of_tree.specs.Limits.{size, title_text}
+use Rattle.htmd_shown.specs.Roles.{is_link}
+use Rattle.htmd_shown.specs.declared.role.Role.{Role}
+use Rattle.htmd_document_of_tree.specs.Limits.{address_in, address_of, characters, size, title_text}
 use Rattle.htmd_document_of_tree.proofs.TextBytesLemmas.{encoded_le}
 
 -- ---- characters of a text
@@ -150,13 +152,23 @@ address_le s =
     let t = trimmed_text is_space_or_control s in
     omega (arith, kept_le is_in_address t, trimmed_le is_space_or_control s)
 
-pub size_le : (attributes : List AttributePair)
-    → size attributes ≤ 2 * (length (text_of (codes "href") attributes) + length
+in_le : (role : Role) (attributes : List AttributePair)
+    → characters (address_in role attributes) ≤ 2 * length (text_of (codes "href") attributes)
+in_le role attributes = go (is_link role)
+  where
+    go : (t : Bool) → characters (if t then address_of attributes else [])
+        ≤ 2 * length (text_of (codes "href") attributes)
+    go true =
+        let href = text_of (codes "href") attributes in
+        omega (arith, characters_le (address href), address_le href)
+    go false = omega (arith, characters_le [])
+
+pub size_le : (role : Role) (attributes : List AttributePair)
+    → size role attributes ≤ 2 * (length (text_of (codes "href") attributes) + length
     (text_of (codes "title") attributes)) + 1
-size_le attributes = omega (
+size_le role attributes = omega (
   arith,
-  characters_le (address (text_of (codes "href") attributes)),
-  address_le (text_of (codes "href") attributes),
+  in_le role attributes,
   characters_le (title_text attributes),
   by (value_of (codes "title") attributes),
 )

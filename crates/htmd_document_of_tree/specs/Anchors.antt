@@ -10,7 +10,7 @@ use Rattle.htmd_shown.specs.Spaces.{is_blank_text}
 use Rattle.htmd_document_of_tree.specs.declared.anchors.Anchors.{Anchors}
 use Rattle.htmd_document_of_tree.specs.declared.anchors.Anchors.TheVariants as which
 use Rattle.htmd_document_of_tree.specs.Leadings.{Leading, all_leadings, is_linked_to, is_led_to}
-use Rattle.htmd_document_of_tree.specs.Seen.{image_shows, code_shows}
+use Rattle.htmd_shown.specs.Showings.{image_shows, code_shows}
 use Rattle.htmd_document_of_tree.specs.Targets.{Target, all_targets}
 
 -- ---- which anchors
@@ -20,10 +20,10 @@ abbrev pub linked_targets : List Leading → Simples → List Target
 linked_targets leadings trees =
     filter (λ (t : Target). is_led_to leadings t.value t.seen) (all_targets (is_linked_to leadings) trees)
 
-abbrev pub targets_by : Anchors → Simples → List Target
-targets_by which.Linked trees = linked_targets (all_leadings trees) trees
-targets_by which.All trees = all_targets (λ s. true) trees
-targets_by which.None trees = []
+abbrev pub targets_by : Anchors → Bool → Simples → List Target
+targets_by which.Linked is_rich trees = linked_targets (all_leadings is_rich trees) trees
+targets_by which.All is_rich trees = all_targets (λ s. true) trees
+targets_by which.None is_rich trees = []
 
 -- ---- anchors before a leaf
 
@@ -138,5 +138,5 @@ with_targets p trees = followed_by (all_placed p trees) (last_anchors (placing_a
 
 -- the nodes with an anchor before the first thing to see from each element on that links lead to; what nothing follows
 -- stands at the end
-abbrev pub anchored : Anchors → Simples → Simples
-anchored which trees = with_targets (record { seen = 0; targets = targets_by which trees }) trees
+abbrev pub anchored : Anchors → Bool → Simples → Simples
+anchored which is_rich trees = with_targets (record { seen = 0; targets = targets_by which is_rich trees }) trees

@@ -12,7 +12,7 @@ use Rattle.htmd_shown.specs.declared.facts.Facts.{Facts}
 use Rattle.htmd_shown.specs.declared.role.Role.{Role}
 use Rattle.htmd_shown.specs.declared.role.Role.TheVariants.{Table}
 use Rattle.htmd_shown.specs.Kinds.{has}
-use Rattle.htmd_shown.specs.Roles.{is_caption, is_heading, is_link, is_verbatim}
+use Rattle.htmd_shown.specs.Roles.{is_caption, is_heading, is_link, is_title, is_verbatim}
 use Rattle.htmd_shown.specs.SimpleTrees.{Simple, text, image, formula, embedded, anchor, element, Simples, none, more}
 use Rattle.htmd_shown.specs.Spaces.{is_blank_text}
 use Rattle.htmd_document_of_tree.specs.declared.leadings.Around.{Around}
@@ -20,7 +20,8 @@ use Rattle.htmd_document_of_tree.specs.declared.leadings.Layout.{Layout}
 use Rattle.htmd_document_of_tree.specs.declared.leadings.Layout.TheVariants as layout
 use Rattle.htmd_document_of_tree.specs.declared.leadings.Span.{Span}
 use Rattle.htmd_document_of_tree.specs.Limits.{address_of}
-use Rattle.htmd_document_of_tree.specs.Seen.{image_shows, code_shows, seen, all_seen}
+use Rattle.htmd_shown.specs.Showings.{image_shows, code_shows, show_usual_sign}
+use Rattle.htmd_document_of_tree.specs.Seen.{seen, all_seen}
 
 -- ---- what stands in a line
 
@@ -35,43 +36,51 @@ is_grid_at Table content = is_grid_of content
 is_grid_at _ content = false
 
 -- what is in an element, which stands in one line itself or not
-abbrev pub layout_in : Bool → Role → Simples → Layout
-layout_in flat role content =
+abbrev pub layout_in : Bool → Bool → Role → Simples → Layout
+layout_in is_rich flat role content =
     if flat || is_heading role then layout.OneLine
-    else (if is_grid_at role content then layout.Cells else layout.Blocks)
+    else (if not is_rich && is_grid_at role content then layout.Cells else layout.Blocks)
 
 -- ---- what a link shows
 
--- a usual sign in a heading isn't linked to a part of the page
-abbrev pub is_sign_alone : Bool → Bool → Role → Facts → Bool
-is_sign_alone to_part flat role facts = is_heading role && not flat && to_part && facts.shows_sign
+-- a usual sign alone in a heading isn't linked to a part of the page, nor is a title of a rich document with one in it
+abbrev pub is_signed_title : Bool → Role → Simples → Bool
+is_signed_title is_rich role content = is_title role && is_rich && show_usual_sign content
+
+abbrev pub is_signed : Bool → Role → Facts → Simples → Bool
+is_signed is_rich role facts content =
+    (is_heading role && facts.shows_sign) || is_signed_title is_rich role content
+
+abbrev pub is_unlinked : Bool → Bool → Bool → Role → Facts → Simples → Bool
+is_unlinked is_rich to_part flat role facts content = not flat && to_part && is_signed is_rich role facts content
 
 abbrev mutual
   -- something in a node stands in a line, and in the link around it; to_part: that leads to a part of the page
-  pub has_leaf : Bool → Bool → Simple → Bool
-  has_leaf to_part flat (text s) = not (is_blank_text s)
-  has_leaf to_part flat (image address attributes) = image_shows address attributes
-  has_leaf to_part flat (formula tex is_alone attributes) = flat || not is_alone
-  has_leaf to_part flat (embedded id address title attributes anchors) = true
-  has_leaf to_part flat (anchor id) = false
-  has_leaf to_part flat (element id role facts attributes content) =
+  pub has_leaf : Bool → Bool → Bool → Simple → Bool
+  has_leaf is_rich to_part flat (text s) = not (is_blank_text s)
+  has_leaf is_rich to_part flat (image address attributes) = image_shows address attributes
+  has_leaf is_rich to_part flat (formula tex is_alone attributes) = flat || not is_alone
+  has_leaf is_rich to_part flat (embedded id address title attributes anchors) = true
+  has_leaf is_rich to_part flat (anchor id) = false
+  has_leaf is_rich to_part flat (element id role facts attributes content) =
       if is_verbatim role then flat && code_shows content
-      else (if is_sign_alone to_part flat role facts then false
-      else have_leaf to_part (layout_in flat role content) content)
+      else (if is_unlinked is_rich to_part flat role facts content then false
+      else have_leaf is_rich to_part (layout_in is_rich flat role content) content)
 
-  pub have_leaf : Bool → Layout → Simples → Bool
-  have_leaf to_part beside none = false
-  have_leaf to_part beside (more tree trees) =
-      has_leaf to_part (is_flat beside tree) tree || have_leaf to_part beside trees
+  pub have_leaf : Bool → Bool → Layout → Simples → Bool
+  have_leaf is_rich to_part beside none = false
+  have_leaf is_rich to_part beside (more tree trees) =
+      has_leaf is_rich to_part (is_flat beside tree) tree || have_leaf is_rich to_part beside trees
 
 -- something of what is in a link stands in a line, and in that link
-abbrev pub shows_in_link : Layout → List AttributePair → Simples → Bool
-shows_in_link beside attributes content = have_leaf (is_to_part (address_of attributes)) beside content
+abbrev pub shows_in_link : Bool → Layout → List AttributePair → Simples → Bool
+shows_in_link is_rich beside attributes content =
+    have_leaf is_rich (is_to_part (address_of attributes)) beside content
 
 -- the link is written
-abbrev pub is_written : Bool → Role → List AttributePair → Simples → Bool
-is_written flat role attributes content =
-    is_link role && shows_in_link (layout_in flat role content) attributes content
+abbrev pub is_written : Bool → Bool → Role → List AttributePair → Simples → Bool
+is_written is_rich flat role attributes content =
+    is_link role && shows_in_link is_rich (layout_in is_rich flat role content) attributes content
 
 -- ---- where links lead
 
@@ -98,17 +107,22 @@ heading_in (Some span) n role content = Some span
 heading_in None n role content =
     if is_heading role then Some (record { from = n; until = n + all_seen content }) else None
 
-abbrev pub nowhere : Around
-nowhere = record { seen = 0; heading = None; is_linked = false }
+abbrev pub nowhere : Bool → Around
+nowhere is_rich = record { seen = 0; heading = None; is_linked = false; is_rich = is_rich }
 
 abbrev pub after : Around → Simple → Around
 after around tree = record around { seen = around.seen + seen tree }
 
+-- a link around an element is one around what is in it; in a title with a usual sign links count by themselves
+abbrev pub is_linked_in : Around → Bool → Role → Simples → Bool
+is_linked_in around flat role content =
+    around.is_linked && (flat || not (is_signed_title around.is_rich role content))
+
 -- around what is in an element; written: which is a link that is written
-abbrev pub around_in : Around → Bool → Role → Simples → Around
-around_in around written role content = record around {
+abbrev pub around_in : Around → Bool → Bool → Role → Simples → Around
+around_in around flat written role content = record around {
   heading = heading_in around.heading around.seen role content;
-  is_linked = around.is_linked || written;
+  is_linked = is_linked_in around flat role content || written;
 }
 
 -- of a link in no other
@@ -126,9 +140,9 @@ abbrev mutual
   leadings around flat (anchor id) = []
   leadings around flat (element id role facts attributes content) =
       if is_verbatim role then []
-      else own_leadings around (is_written flat role attributes content) role attributes content
-      ++ leadings_among (around_in around (is_written flat role attributes content) role content)
-      (layout_in flat role content) content
+      else own_leadings around (is_written around.is_rich flat role attributes content) role attributes content
+      ++ leadings_among (around_in around flat (is_written around.is_rich flat role attributes content) role content)
+      (layout_in around.is_rich flat role content) content
 
   pub leadings_among : Around → Layout → Simples → List Leading
   leadings_among around beside none = []
@@ -138,12 +152,12 @@ abbrev mutual
 -- the same of an element that is no code block
 abbrev pub leadings_of_element : Around → Bool → Role → List AttributePair → Simples → List Leading
 leadings_of_element around flat role attributes content =
-    own_leadings around (is_written flat role attributes content) role attributes content
-    ++ leadings_among (around_in around (is_written flat role attributes content) role content)
-    (layout_in flat role content) content
+    own_leadings around (is_written around.is_rich flat role attributes content) role attributes content
+    ++ leadings_among (around_in around flat (is_written around.is_rich flat role attributes content) role content)
+    (layout_in around.is_rich flat role content) content
 
-abbrev pub all_leadings : Simples → List Leading
-all_leadings trees = leadings_among nowhere layout.Blocks trees
+abbrev pub all_leadings : Bool → Simples → List Leading
+all_leadings is_rich trees = leadings_among (nowhere is_rich) layout.Blocks trees
 
 -- ---- which values links lead to
 

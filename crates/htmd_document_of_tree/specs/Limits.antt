@@ -1,5 +1,5 @@
--- Links past a budget are their content: a parser copies an `a` into every block that follows it.
-use Rattle.std.specs.Prelude.{ℕ, ◌+◌, ◌-◌, ◌*◌, Bool, false, not, ◌&&◌, nat_le, nat_lt, if◌then◌else◌}
+-- Links past a budget are their content: a parser copies an `a` into every block that follows it. So are abbreviations.
+use Rattle.std.specs.Prelude.{ℕ, ◌+◌, ◌-◌, ◌*◌, Bool, false, not, ◌||◌, ◌&&◌, nat_le, nat_lt, if◌then◌else◌}
 use Rattle.std.specs.Prelude.{List, [], ◌∷◌, ◌++◌, codes, length, Option, Some, None, is_some}
 use Rattle.std.specs.Option.{unwrap_or}
 use Rattle.std.specs.Str.{chars}
@@ -8,9 +8,9 @@ use Rattle.htmd_lexical.specs.Characters.{null}
 use Rattle.htmd_shown.specs.Attributes.{text_of, title_of, address}
 use Rattle.htmd_shown.specs.declared.facts.Facts.{Facts}
 use Rattle.htmd_shown.specs.declared.role.Role.{Role}
-use Rattle.htmd_shown.specs.declared.role.Role.TheVariants.{Target}
+use Rattle.htmd_shown.specs.declared.role.Role.TheVariants.{Target, Plain}
 use Rattle.htmd_shown.specs.Pieces.{greatest_count}
-use Rattle.htmd_shown.specs.Roles.{is_among, is_link}
+use Rattle.htmd_shown.specs.Roles.{is_abbreviation, is_among, is_link}
 use Rattle.htmd_shown.specs.SimpleTrees.{Simple, text, image, formula, embedded, anchor, element, Simples, none, more}
 
 abbrev pub characters : List ℕ → ℕ
@@ -23,16 +23,23 @@ address_of attributes = address (text_of (codes "href") attributes)
 abbrev pub title_text : List AttributePair → List ℕ
 title_text attributes = unwrap_or (title_of attributes) []
 
-abbrev pub size : List AttributePair → ℕ
-size attributes = characters (address_of attributes) + characters (title_text attributes)
+-- with each piece of an abbreviation its title is written
+abbrev pub is_carrying : Role → Bool
+is_carrying role = is_link role || is_abbreviation role
+
+abbrev pub address_in : Role → List AttributePair → List ℕ
+address_in role attributes = if is_link role then address_of attributes else []
+
+abbrev pub size : Role → List AttributePair → ℕ
+size role attributes = characters (address_in role attributes) + characters (title_text attributes)
 
 -- ---- the budget
 
 -- the two with U+0000 between, which neither of them has
-abbrev pub pair_of : List AttributePair → List ℕ
-pair_of attributes = address_of attributes ++ null ∷ title_text attributes
+abbrev pub pair_of : Role → List AttributePair → List ℕ
+pair_of role attributes = address_in role attributes ++ null ∷ title_text attributes
 
--- the characters of texts so far and of the pairs that links have, each pair once
+-- the characters of texts so far and of the pairs that links and abbreviations have, each pair once
 pub record Written : Type 0 where
   pub count : ℕ
   pub pairs : List (List ℕ)
@@ -43,13 +50,13 @@ nothing_written = record { count = 0; pairs = [] }
 abbrev pub with_text : Written → List ℕ → Written
 with_text w s = record w { count = w.count + characters s }
 
-abbrev pub with_pair : Written → List AttributePair → Written
-with_pair w attributes =
-    if is_among w.pairs (pair_of attributes) then w
-    else record { count = w.count + size attributes; pairs = pair_of attributes ∷ w.pairs }
+abbrev pub with_pair : Written → Role → List AttributePair → Written
+with_pair w role attributes =
+    if is_among w.pairs (pair_of role attributes) then w
+    else record { count = w.count + size role attributes; pairs = pair_of role attributes ∷ w.pairs }
 
 abbrev pub with_element : Written → Role → List AttributePair → Written
-with_element w role attributes = if is_link role then with_pair w attributes else w
+with_element w role attributes = if is_carrying role then with_pair w role attributes else w
 
 abbrev mutual
   pub written : Written → Simple → Written
@@ -72,12 +79,13 @@ budget trees = 16 * (written_all nothing_written trees).count + always_written
 
 -- ---- what links cost
 
--- what a link costs: its address and title with each thing in it that shows, if these can be counted
+-- what a link or an abbreviation costs: its address and title with each thing in it that shows, if these can be counted
 abbrev pub link_cost : ℕ → ℕ → Option ℕ
 link_cost size leaves = if nat_lt leaves greatest_count then Some (size * leaves) else None
 
 abbrev pub cost : Role → Facts → List AttributePair → Option ℕ
-cost role facts attributes = if is_link role then link_cost (size attributes) facts.leaves else Some 0
+cost role facts attributes =
+    if is_carrying role then link_cost (size role attributes) facts.leaves else Some 0
 
 -- what is left of a budget; nothing once it doesn't suffice
 abbrev pub paid : Option ℕ → Option ℕ → Option ℕ
@@ -107,20 +115,25 @@ abbrev mutual
 
 -- ---- without what is too dear
 
--- a link with an address or a title, where nothing is left
+-- a link or an abbreviation with an address or a title, where nothing is left
 abbrev pub is_too_dear : Option ℕ → Simple → Bool
 is_too_dear left (element id role facts attributes content) =
-    not (is_some left) && is_link role && nat_lt 0 (size attributes)
+    not (is_some left) && is_carrying role && nat_lt 0 (size role attributes)
 is_too_dear left _ = false
 
+-- what it then is
+abbrev pub emptied : Role → Role
+emptied role = if is_link role then Target else Plain
+
 abbrev pub without_address : Simple → Simple
-without_address (element id role facts attributes content) = element id Target facts attributes content
+without_address (element id role facts attributes content) = element id (emptied role) facts attributes content
 without_address tree = tree
 
--- what an element then is
+-- what an element is where so much is left
 abbrev pub affordable : Option ℕ → Role → List AttributePair → Role
 affordable left role attributes =
-    if not (is_some left) && is_link role && nat_lt 0 (size attributes) then Target else role
+    if not (is_some left) && is_carrying role && nat_lt 0 (size role attributes) then emptied role
+    else role
 
 abbrev mutual
   pub within : Option ℕ → Simple → Simple

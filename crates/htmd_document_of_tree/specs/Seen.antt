@@ -1,20 +1,9 @@
 -- What there is to see in nodes, one thing after the other.
-use Rattle.std.specs.Prelude.{ℕ, ◌+◌, Bool, true, false, not, ◌||◌, if◌then◌else◌, List, Option, Some, None, is_some}
-use Rattle.htmd_lexical.specs.AttributePairs.{AttributePair}
-use Rattle.htmd_shown.specs.AllTexts.{image_text}
-use Rattle.htmd_shown.specs.Attributes.{is_filled}
-use Rattle.htmd_shown.specs.Marks.{letters_among}
+use Rattle.std.specs.Prelude.{ℕ, ◌+◌, Bool, true, false, not, if◌then◌else◌, Option, Some, None}
 use Rattle.htmd_shown.specs.Roles.{is_verbatim}
+use Rattle.htmd_shown.specs.Showings.{image_shows, code_shows}
 use Rattle.htmd_shown.specs.SimpleTrees.{Simple, text, image, formula, embedded, anchor, element, Simples, none, more}
 use Rattle.htmd_shown.specs.Spaces.{is_blank_text}
-
--- an image with an address, or that says something
-abbrev pub image_shows : Option (List ℕ) → List AttributePair → Bool
-image_shows address attributes = is_some address || not (is_blank_text (image_text attributes))
-
--- something of all text in a code block is no white space
-abbrev pub code_shows : Simples → Bool
-code_shows content = is_filled (letters_among content)
 
 abbrev pub one_if : Bool → ℕ
 one_if true = 1

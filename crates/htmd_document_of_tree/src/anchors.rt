@@ -30,12 +30,13 @@ pub(crate) fn put_anchors(
     alloc: Global,
     root: NodeId,
     anchors: Anchors,
+    is_rich: bool,
     trees: &mut Vec<Simple>,
 ) -> Result<(), AllocError>
     requires { root ≡ 0 }
-    ensures { OnOk result (simples_of trees.new.items ≡ spec.anchored anchors (simples_of trees.old.items)) }
+    ensures { OnOk result (simples_of trees.new.items ≡ spec.anchored anchors is_rich (simples_of trees.old.items)) }
 {
-    let targets = targets_by(alloc, anchors, trees)?;
+    let targets = targets_by(alloc, anchors, is_rich, trees)?;
     if targets.is_empty() {
         return Ok(());
     }
@@ -46,26 +47,32 @@ pub(crate) fn put_anchors(
 fn targets_by(
     alloc: Global,
     anchors: Anchors,
+    is_rich: bool,
     trees: &[Simple],
 ) -> Result<VecDeque<Target>, AllocError>
-    ensures { IfOk result (λ found. map target_of found.items ≡ spec.targets_by anchors (simples_of trees.now)) }
+    ensures { IfOk result (λ found. map target_of found.items
+        ≡ spec.targets_by anchors is_rich (simples_of trees.now)) }
 {
     match anchors {
         Anchors::None => Ok(VecDeque::new(alloc)),
         Anchors::All => targets_of(alloc, None, trees),
-        Anchors::Linked => linked_targets(alloc, trees),
+        Anchors::Linked => linked_targets(alloc, is_rich, trees),
     }
 }
 
 /// The targets that links lead to, and not only from the heading that they stand in.
-fn linked_targets(alloc: Global, trees: &[Simple]) -> Result<VecDeque<Target>, AllocError>
+fn linked_targets(
+    alloc: Global,
+    is_rich: bool,
+    trees: &[Simple],
+) -> Result<VecDeque<Target>, AllocError>
     ensures { IfOk result (λ found. map target_of found.items
-        ≡ spec.linked_targets (all_leadings (simples_of trees.now)) (simples_of trees.now)) }
+        ≡ spec.linked_targets (all_leadings is_rich (simples_of trees.now)) (simples_of trees.now)) }
 {
     if !lead_to_part(trees) {
         return Ok(VecDeque::new(alloc));
     }
-    let leadings = Leadings::of(alloc, trees)?;
+    let leadings = Leadings::of(alloc, is_rich, trees)?;
     if leadings.is_empty() {
         return Ok(VecDeque::new(alloc));
     }

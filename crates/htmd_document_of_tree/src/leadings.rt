@@ -11,12 +11,14 @@ ghost use Rattle.htmd_shown.specs.SimpleViews.{simple_of, simples_of};
 ghost use Rattle.htmd_document_of_tree.specs.LeadingViews as views;
 ghost use Rattle.htmd_document_of_tree.specs.Leadings as spec;
 ghost use Rattle.htmd_document_of_tree.specs.Limits.{address_of};
-ghost use Rattle.htmd_document_of_tree.specs.Seen.{code_shows, seen, all_seen};
+ghost use Rattle.htmd_shown.specs.Showings.{code_shows};
+ghost use Rattle.htmd_document_of_tree.specs.Seen.{seen, all_seen};
 
-use crate::seen::{all_seen, have_letter, image_shows, leaf_shows, one_more};
+use crate::seen::{all_seen, leaf_shows, one_more};
 use htmd_flow::is_grid;
 use htmd_nodes::{Attribute, value_of};
 use htmd_shown::attributes::{address, in_line, leads_to_part, text_of};
+use htmd_shown::showing::{code_shows, image_shows, show_usual_sign};
 use htmd_shown::shown_text::is_blank_when_shown;
 use htmd_shown::simple::is_caption;
 use htmd_shown::{Facts, Role, Simple};
@@ -47,6 +49,8 @@ pub struct Around {
     /// What there is to see in the outermost heading.
     pub heading: Option<Span>,
     pub is_linked: bool,
+    /// Whether the document is rich.
+    pub is_rich: bool,
 }
 
 /// The values that links lead to, each with what there is to see in all headings around those links.
@@ -79,14 +83,37 @@ impl Around {
         role.is_link() && !self.is_linked
     }
 
+    /// What of it stands around what is in an element: no link, if that is a title with a usual sign.
+    fn around_content(self, is_flat: bool, role: Role, content: &[Simple]) -> Around
+        ensures { result ≡ record {
+          seen = self.seen;
+          heading = self.heading;
+          is_linked = spec.is_linked_in self is_flat role (simples_of content.now);
+          is_rich = self.is_rich;
+        } }
+    {
+        Around {
+            seen: self.seen,
+            heading: self.heading,
+            is_linked: self.is_linked && (is_flat || !is_signed_title(self.is_rich, role, content)),
+            is_rich: self.is_rich,
+        }
+    }
+
     /// What stands around what is in an element, which is a link that is written or not.
     fn inside(self, heading: Option<Span>, is_written: bool) -> Around
-        ensures { result ≡ record { seen = self.seen; heading = heading; is_linked = self.is_linked || is_written } }
+        ensures { result ≡ record {
+          seen = self.seen;
+          heading = heading;
+          is_linked = self.is_linked || is_written;
+          is_rich = self.is_rich;
+        } }
     {
         Around {
             seen: self.seen,
             heading,
             is_linked: self.is_linked || is_written,
+            is_rich: self.is_rich,
         }
     }
 }
@@ -106,16 +133,17 @@ impl Layout {
     /// How what is in an element stands, which stands in one line itself or not.
     fn within(
         alloc: Global,
+        is_rich: bool,
         is_flat: bool,
         role: Role,
         content: &[Simple],
     ) -> Result<Layout, AllocError>
-        ensures { IfOk result (λ layout. layout ≡ spec.layout_in is_flat role (simples_of content.now)) }
+        ensures { IfOk result (λ layout. layout ≡ spec.layout_in is_rich is_flat role (simples_of content.now)) }
     {
         if is_flat || role.is_heading() {
             return Ok(Layout::OneLine);
         }
-        if is_grid_at(alloc, role, content)? {
+        if !is_rich && is_grid_at(alloc, role, content)? {
             return Ok(Layout::Cells);
         }
         Ok(Layout::Blocks)
@@ -138,14 +166,15 @@ fn is_grid_at(alloc: Global, role: Role, content: &[Simple]) -> Result<bool, All
 #[cycle(leaves)]
 fn have_leaf(
     alloc: Global,
+    is_rich: bool,
     to_part: bool,
     layout: Layout,
     trees: &[Simple],
 ) -> Result<bool, AllocError>
-    ensures { IfOk result (λ b. b ≡ spec.have_leaf to_part layout (simples_of trees.now)) }
+    ensures { IfOk result (λ b. b ≡ spec.have_leaf is_rich to_part layout (simples_of trees.now)) }
 {
     for tree in trees {
-        if has_leaf(alloc, to_part, layout.is_flat(tree), tree)? {
+        if has_leaf(alloc, is_rich, to_part, layout.is_flat(tree), tree)? {
             return Ok(true);
         }
     }
@@ -154,8 +183,14 @@ fn have_leaf(
 
 /// The same of a node, which stands in one line or not.
 #[cycle(leaves)]
-fn has_leaf(alloc: Global, to_part: bool, is_flat: bool, tree: &Simple) -> Result<bool, AllocError>
-    ensures { IfOk result (λ b. b ≡ spec.has_leaf to_part is_flat (simple_of tree.now)) }
+fn has_leaf(
+    alloc: Global,
+    is_rich: bool,
+    to_part: bool,
+    is_flat: bool,
+    tree: &Simple,
+) -> Result<bool, AllocError>
+    ensures { IfOk result (λ b. b ≡ spec.has_leaf is_rich to_part is_flat (simple_of tree.now)) }
 {
     match tree {
         Simple::Formula { is_alone, .. } => Ok(is_flat || !*is_alone),
@@ -168,11 +203,11 @@ fn has_leaf(alloc: Global, to_part: bool, is_flat: bool, tree: &Simple) -> Resul
             if role.is_verbatim() {
                 return Ok(code_has_leaf(is_flat, content));
             }
-            if is_sign_alone(to_part, is_flat, *role, *facts) {
+            if !is_flat && to_part && is_signed(is_rich, *role, *facts, content) {
                 return Ok(false);
             }
-            let layout = Layout::within(alloc, is_flat, *role, content)?;
-            have_leaf(alloc, to_part, layout, content)
+            let layout = Layout::within(alloc, is_rich, is_flat, *role, content)?;
+            have_leaf(alloc, is_rich, to_part, layout, content)
         },
         Simple::Text(text) => Ok(!is_blank_when_shown(text)),
         Simple::Image { address, attrs } => Ok(image_shows(*address, attrs)),
@@ -185,23 +220,30 @@ fn has_leaf(alloc: Global, to_part: bool, is_flat: bool, tree: &Simple) -> Resul
 fn code_has_leaf(is_flat: bool, content: &[Simple]) -> bool
     ensures { result ≡ (is_flat && code_shows (simples_of content.now)) }
 {
-    is_flat && have_letter(content)
+    is_flat && code_shows(content)
 }
 
-/// Whether an element is a heading with a usual sign, which isn't linked to a part of the page.
-fn is_sign_alone(to_part: bool, is_flat: bool, role: Role, facts: Facts) -> bool
-    ensures { result ≡ spec.is_sign_alone to_part is_flat role facts }
+/// Whether an element is a heading of one usual sign, or a title of a rich document with one in it.
+fn is_signed(is_rich: bool, role: Role, facts: Facts, content: &[Simple]) -> bool
+    ensures { result ≡ spec.is_signed is_rich role facts (simples_of content.now) }
 {
-    role.is_heading() && !is_flat && to_part && facts.shows_sign
+    role.is_heading() && facts.shows_sign || is_signed_title(is_rich, role, content)
+}
+
+/// Whether an element is a title of a rich document with a usual sign in it.
+fn is_signed_title(is_rich: bool, role: Role, content: &[Simple]) -> bool
+    ensures { result ≡ spec.is_signed_title is_rich role (simples_of content.now) }
+{
+    role.is_title() && is_rich && show_usual_sign(content)
 }
 
 // ---- where links lead
 
 impl Leadings {
     /// Where the links in nodes lead.
-    pub(crate) fn of(alloc: Global, trees: &[Simple]) -> Result<Leadings, AllocError>
+    pub(crate) fn of(alloc: Global, is_rich: bool, trees: &[Simple]) -> Result<Leadings, AllocError>
         ensures { IfOk result (λ found. (s : List ℕ)
-            → views.span_to found s ≡ views.merged None s (spec.all_leadings (simples_of trees.now))) }
+            → views.span_to found s ≡ views.merged None s (spec.all_leadings is_rich (simples_of trees.now))) }
     {
         let mut leadings = Leadings {
             alloc,
@@ -211,6 +253,7 @@ impl Leadings {
             seen: 0,
             heading: None,
             is_linked: false,
+            is_rich,
         };
         leadings.among(around, Layout::Blocks, trees)?;
         Ok(leadings)
@@ -308,49 +351,53 @@ impl Leadings {
         ensures spans { OnOk result (views.Learns self.old self.new
             (spec.leadings_of_element around is_flat role (pairs_of attrs.now) (simples_of content.now))) }
     {
-        let layout = Layout::within(self.alloc, is_flat, role, content)?;
+        let layout = Layout::within(self.alloc, around.is_rich, is_flat, role, content)?;
         let heading = heading_in(around, role, content)?;
         let may_lead = around.may_lead(role);
-        let is_written = self.link_if(may_lead, heading, layout, attrs, content)?;
-        self.among(around.inside(heading, is_written), layout, content)
+        let is_written = self.link_if(may_lead, around.is_rich, heading, layout, attrs, content)?;
+        let outer = around.around_content(is_flat, role, content);
+        self.among(outer.inside(heading, is_written), layout, content)
     }
 
     /// Notes where an element leads, if it is a link in no other, and is written; whether it is both.
     fn link_if(
         &mut self,
         is_link: bool,
+        is_rich: bool,
         heading: Option<Span>,
         layout: Layout,
         attrs: &[Attribute],
         content: &[Simple],
     ) -> Result<bool, AllocError>
         ensures written { IfOk result (λ b. b
-            ≡ (is_link && spec.shows_in_link layout (pairs_of attrs.now) (simples_of content.now))) }
+            ≡ (is_link && spec.shows_in_link is_rich layout (pairs_of attrs.now) (simples_of content.now))) }
         ensures spans { OnOk result (views.Learns self.old self.new (spec.leadings_if
-            (is_link && spec.shows_in_link layout (pairs_of attrs.now) (simples_of content.now)) heading
+            (is_link && spec.shows_in_link is_rich layout (pairs_of attrs.now) (simples_of content.now)) heading
             (pairs_of attrs.now))) }
     {
         if !is_link {
             return Ok(false);
         }
-        self.link(heading, layout, attrs, content)
+        self.link(is_rich, heading, layout, attrs, content)
     }
 
     /// Notes where a link leads, if it is written; whether it is.
     fn link(
         &mut self,
+        is_rich: bool,
         heading: Option<Span>,
         layout: Layout,
         attrs: &[Attribute],
         content: &[Simple],
     ) -> Result<bool, AllocError>
         ensures written { IfOk result (λ b. b
-            ≡ spec.shows_in_link layout (pairs_of attrs.now) (simples_of content.now)) }
+            ≡ spec.shows_in_link is_rich layout (pairs_of attrs.now) (simples_of content.now)) }
         ensures spans { OnOk result (views.Learns self.old self.new (spec.leadings_if
-            (spec.shows_in_link layout (pairs_of attrs.now) (simples_of content.now)) heading (pairs_of attrs.now))) }
+            (spec.shows_in_link is_rich layout (pairs_of attrs.now) (simples_of content.now)) heading
+            (pairs_of attrs.now))) }
     {
         let to_part = is_link_to_part(true, attrs);
-        if !have_leaf(self.alloc, to_part, layout, content)? {
+        if !have_leaf(self.alloc, is_rich, to_part, layout, content)? {
             return Ok(false);
         }
         self.lead_if(to_part, attrs, heading)?;

@@ -1,4 +1,4 @@
-//! Bounds of what is written for links: a parser may copy an `a` into every block that follows it.
+//! Bounds of what is written for links and abbreviations: a parser may copy an `a` into every block that follows it.
 ghost use Rattle.std.specs.Prelude.{◌≡◌, ◌≤◌, ◌+◌, ◌*◌, if◌then◌else◌, true, IfOk, IfSome, OnOk, Some, string_bytes};
 ghost use Rattle.htmd_lexical.specs.Attributes.{pairs_of};
 ghost use Rattle.htmd_shown.specs.Attributes.{address};
@@ -22,7 +22,8 @@ const ALWAYS_WRITTEN: usize = 65_536;
 /// So many times the characters of all texts, and of all different addresses and titles, are allowed as well.
 const MOST_WRITTEN: usize = 16;
 
-/// What is counted of a page: the characters of texts, and of addresses and titles of links, each pair once.
+/// What is counted of a page: the characters of texts, and of addresses and titles of links and abbreviations, each
+/// pair once.
 #[derive(Drop)]
 struct Written {
     alloc: Global,
@@ -65,12 +66,30 @@ fn title_len(alloc: Global, attrs: &[Attribute]) -> Result<usize, AllocError>
     }
 }
 
-/// How many characters the address and the title of a link have.
-fn size(alloc: Global, attrs: &[Attribute]) -> Result<usize, AllocError>
-    ensures { IfOk result (λ n. n ≡ spec.size (pairs_of attrs.now)) }
+/// How many characters are written with each piece of a link or an abbreviation: of its address and its title.
+fn size(alloc: Global, role: Role, attrs: &[Attribute]) -> Result<usize, AllocError>
+    ensures { IfOk result (λ n. n ≡ spec.size role (pairs_of attrs.now)) }
 {
     let title = title_len(alloc, attrs)?;
-    sum(address_len(text_of(attrs, "href")), title)
+    sum(address_len(address_in(role, attrs)), title)
+}
+
+/// The address of a link, as the page has it; an abbreviation has none.
+fn address_in<'t>(role: Role, attrs: &'t [Attribute]) -> &'t str
+    ensures { address result.now ≡ spec.address_in role (pairs_of attrs.now) }
+{
+    if role.is_link() {
+        text_of(attrs, "href")
+    } else {
+        ""
+    }
+}
+
+/// Whether something is written with each piece of an element.
+fn is_carrying(role: Role) -> bool
+    ensures { result ≡ spec.is_carrying role }
+{
+    role.is_link() || role.is_abbreviation()
 }
 
 /// The sum. `Err` where that is no number.
@@ -107,7 +126,7 @@ fn paid(alloc: Global, left: Option<usize>, tree: &Simple) -> Result<Option<usiz
             facts,
             attrs,
             ..
-        } => paid_for_element(alloc, left, role.is_link(), facts.leaves, attrs),
+        } => paid_for_element(alloc, left, *role, facts.leaves, attrs),
         Simple::Text(_) => Ok(left),
         Simple::Image { .. } => Ok(left),
         Simple::Formula { .. } => Ok(left),
@@ -116,23 +135,24 @@ fn paid(alloc: Global, left: Option<usize>, tree: &Simple) -> Result<Option<usiz
     }
 }
 
-/// The same after an element, which is a link around so many things that show, or none.
+/// The same after an element around so many things that show.
 fn paid_for_element(
     alloc: Global,
     left: Option<usize>,
-    is_link: bool,
+    role: Role,
     leaves: u32,
     attrs: &[Attribute],
 ) -> Result<Option<usize>, AllocError>
     ensures { IfOk result (λ now. now
-        ≡ spec.paid left (if is_link then spec.link_cost (spec.size (pairs_of attrs.now)) leaves else Some 0)) }
+        ≡ spec.paid left (if spec.is_carrying role then spec.link_cost (spec.size role (pairs_of attrs.now)) leaves
+        else Some 0)) }
 {
     match left {
         Some(left) => {
-            if !is_link {
+            if !is_carrying(role) {
                 return Ok(Some(left));
             }
-            let size = size(alloc, attrs)?;
+            let size = size(alloc, role, attrs)?;
             Ok(after_link(left, size, leaves))
         },
         None => Ok(None),
@@ -141,13 +161,13 @@ fn paid_for_element(
 
 // ---- without what is too dear
 
-/// Whether a node is a link with an address or a title, and nothing is left.
+/// Whether a node is a link or an abbreviation with an address or a title, and nothing is left.
 fn is_too_dear(alloc: Global, left: Option<usize>, tree: &Simple) -> Result<bool, AllocError>
     ensures { IfOk result (λ b. b ≡ spec.is_too_dear left (simple_of tree.now)) }
 {
     match tree {
         Simple::Element { role, attrs, .. } => {
-            Ok(left.is_none() && role.is_link() && size(alloc, attrs)? > 0)
+            Ok(left.is_none() && is_carrying(*role) && size(alloc, *role, attrs)? > 0)
         },
         Simple::Text(_) => Ok(false),
         Simple::Image { .. } => Ok(false),
@@ -157,12 +177,23 @@ fn is_too_dear(alloc: Global, left: Option<usize>, tree: &Simple) -> Result<bool
     }
 }
 
-/// Makes a link its content.
+/// What a link or an abbreviation is that is its content alone.
+fn emptied(role: Role) -> Role
+    ensures { result ≡ spec.emptied role }
+{
+    if role.is_link() {
+        Role::Target
+    } else {
+        Role::Plain
+    }
+}
+
+/// Makes a link or an abbreviation its content.
 fn lose_address(tree: &mut Simple)
     ensures { simple_of tree.new ≡ spec.without_address (simple_of tree.old) }
 {
     match tree {
-        Simple::Element { role, .. } => *role = Role::Target,
+        Simple::Element { role, .. } => *role = emptied(*role),
         Simple::Text(_) => {}
         Simple::Image { .. } => {}
         Simple::Formula { .. } => {}
@@ -265,7 +296,7 @@ fn most_cost_of(count: usize, tree: &Simple) -> Option<usize>
             content,
             ..
         } => {
-            let count = most_own_cost(count, role.is_link(), facts.leaves, attrs)?;
+            let count = most_own_cost(count, *role, facts.leaves, attrs)?;
             most_cost(count, content)
         },
         Simple::Text(_) => Some(count),
@@ -276,26 +307,27 @@ fn most_cost_of(count: usize, tree: &Simple) -> Option<usize>
     }
 }
 
-/// The same of an element itself, which is a link around so many things that show, or none.
+/// The same of an element itself, around so many things that show.
 #[tactic(auto, using(crate::proofs::CoversLemmas::nothing_paid, crate::proofs::CoversLemmas::link_paid))]
-fn most_own_cost(count: usize, is_link: bool, leaves: u32, attrs: &[Attribute]) -> Option<usize>
+fn most_own_cost(count: usize, role: Role, leaves: u32, attrs: &[Attribute]) -> Option<usize>
     ensures { IfSome result (λ n. Covers count n (λ left. spec.paid left
-        (if is_link then spec.link_cost (spec.size (pairs_of attrs.now)) leaves else Some 0))) }
+        (if spec.is_carrying role then spec.link_cost (spec.size role (pairs_of attrs.now)) leaves else Some 0))) }
 {
-    if !is_link {
+    if !is_carrying(role) {
         return Some(count);
     }
     if leaves == u32::MAX {
         return None;
     }
-    let cost = most_size(attrs)?.checked_mul(leaves as usize)?;
+    let cost = most_size(role, attrs)?.checked_mul(leaves as usize)?;
     count.checked_add(cost)
 }
 
-/// How many characters the address and the title of a link have at most, by the bytes of its attributes.
+/// How many characters are written with each piece of a link or an abbreviation at most, by the bytes of its
+/// attributes.
 #[tactic(auto, using(crate::proofs::TextLengths::size_le))]
-fn most_size(attrs: &[Attribute]) -> Option<usize>
-    ensures { IfSome result (λ n. spec.size (pairs_of attrs.now) ≤ n) }
+fn most_size(role: Role, attrs: &[Attribute]) -> Option<usize>
+    ensures { IfSome result (λ n. spec.size role (pairs_of attrs.now) ≤ n) }
 {
     let address = text_of(attrs, "href").len();
     let title = text_of(attrs, "title").len();
@@ -401,7 +433,7 @@ impl Written {
                 content,
                 ..
             } => {
-                self.note_element(role.is_link(), attrs)?;
+                self.note_element(*role, attrs)?;
                 self.note_all(content)
             },
             Simple::Image { .. } => Ok(()),
@@ -411,27 +443,27 @@ impl Written {
         }
     }
 
-    /// Counts what an element itself has, which is a link or not.
-    fn note_element(&mut self, is_link: bool, attrs: &[Attribute]) -> Result<(), AllocError>
+    /// Counts what an element itself has, which is a link, an abbreviation or neither.
+    fn note_element(&mut self, role: Role, attrs: &[Attribute]) -> Result<(), AllocError>
         ensures { OnOk result ((w : spec.Written) → Counts self.old w
-            → Counts self.new (if is_link then spec.with_pair w (pairs_of attrs.now) else w)) }
+            → Counts self.new (spec.with_element w role (pairs_of attrs.now))) }
     {
-        if !is_link {
+        if !is_carrying(role) {
             return Ok(());
         }
-        self.note_link(attrs)
+        self.note_pair(role, attrs)
     }
 
-    /// Counts the address and the title of a link, if they are new.
-    fn note_link(&mut self, attrs: &[Attribute]) -> Result<(), AllocError>
+    /// Counts the address and the title of a link or an abbreviation, if they are new.
+    fn note_pair(&mut self, role: Role, attrs: &[Attribute]) -> Result<(), AllocError>
         ensures { OnOk result ((w : spec.Written) → Counts self.old w
-            → Counts self.new (spec.with_pair w (pairs_of attrs.now))) }
+            → Counts self.new (spec.with_pair w role (pairs_of attrs.now))) }
     {
-        let is_new = self.pairs.insert(pair_of(self.alloc, attrs)?)?;
+        let is_new = self.pairs.insert(pair_of(self.alloc, role, attrs)?)?;
         if !is_new {
             return Ok(());
         }
-        self.count = sum(self.count, size(self.alloc, attrs)?)?;
+        self.count = sum(self.count, size(self.alloc, role, attrs)?)?;
         Ok(())
     }
 }
@@ -443,11 +475,11 @@ fn shown_len(text: &str) -> usize
     text.chars().filter(|c| is_shown(*c)).count()
 }
 
-/// The address and the title of a link with U+0000 between, which neither of them has.
-fn pair_of(alloc: Global, attrs: &[Attribute]) -> Result<String, AllocError>
-    ensures { IfOk result (λ s. string_bytes s ≡ spec.pair_of (pairs_of attrs.now)) }
+/// The address and the title with U+0000 between, which neither of them has.
+fn pair_of(alloc: Global, role: Role, attrs: &[Attribute]) -> Result<String, AllocError>
+    ensures { IfOk result (λ s. string_bytes s ≡ spec.pair_of role (pairs_of attrs.now)) }
 {
-    let mut pair = address(alloc, text_of(attrs, "href"))?;
+    let mut pair = address(alloc, address_in(role, attrs))?;
     pair.push('\0')?;
     if let Some(title) = title_of(alloc, attrs)? {
         pair.push_str(title.as_str())?;

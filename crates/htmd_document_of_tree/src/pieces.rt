@@ -4,7 +4,7 @@ ghost use Rattle.htmd_shown.specs.Pieces as spec;
 ghost use Rattle.htmd_shown.specs.SimpleViews.{simple_of};
 ghost use Rattle.htmd_document_of_tree.specs.PieceViews.{pieces_of};
 
-use crate::seen::image_shows;
+use htmd_shown::showing::image_shows;
 use htmd_shown::shown_text::is_blank_when_shown;
 use htmd_shown::{Role, Simple};
 

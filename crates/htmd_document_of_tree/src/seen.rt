@@ -1,61 +1,13 @@
 //! What there is to see in nodes, one thing after the other.
-ghost use Rattle.std.specs.Prelude.{◌≡◌, ◌+◌, IfOk, option_map};
-ghost use Rattle.htmd_lexical.specs.Attributes.{pairs_of};
-ghost use Rattle.htmd_shown.specs.Attributes.{is_filled};
+ghost use Rattle.std.specs.Prelude.{◌≡◌, ◌+◌, IfOk};
 ghost use Rattle.htmd_shown.specs.Kinds.{content_of};
-ghost use Rattle.htmd_shown.specs.Marks.{letters, letters_of};
-ghost use Rattle.htmd_shown.specs.ShownTexts.{shown_text};
 ghost use Rattle.htmd_shown.specs.SimpleViews.{simple_of, simples_of};
 ghost use Rattle.htmd_document_of_tree.specs.Seen as spec;
 
-use htmd_nodes::Attribute;
 use htmd_shown::Simple;
-use htmd_shown::attributes::text_of;
+use htmd_shown::showing::{code_shows, image_shows};
 use htmd_shown::shown_text::is_blank_when_shown;
 use std::alloc::AllocError;
-
-/// Whether an image shows: by its address, or by what it says.
-pub(crate) fn image_shows(address: Option<&str>, attrs: &[Attribute]) -> bool
-    ensures { result ≡ spec.image_shows (option_map (λ s. s.now) address.entry) (pairs_of attrs.now) }
-{
-    address.is_some() || !is_blank_when_shown(text_of(attrs, "alt"))
-}
-
-/// Whether something of a text is no white space.
-fn has_letters(text: &str) -> bool
-    ensures whole { result ≡ is_filled (letters text.now) }
-    ensures shown { result ≡ is_filled (letters (shown_text text.now)) }
-{
-    !is_blank_when_shown(text)
-}
-
-/// Whether something of the text of a node is no white space.
-#[cycle(letters)]
-fn has_letter(tree: &Simple) -> bool
-    ensures { result ≡ is_filled (letters_of (simple_of tree.now)) }
-{
-    match tree {
-        Simple::Text(text) => has_letters(text),
-        Simple::Image { attrs, .. } => has_letters(text_of(attrs, "alt")),
-        Simple::Formula { .. } => true,
-        Simple::Embedded(found) => has_letters(found.title.as_str()),
-        Simple::Anchor(_) => false,
-        Simple::Element { content, .. } => have_letter(content),
-    }
-}
-
-/// Whether something of the text of nodes is no white space.
-#[cycle(letters)]
-pub(crate) fn have_letter(trees: &[Simple]) -> bool
-    ensures { result ≡ spec.code_shows (simples_of trees.now) }
-{
-    for tree in trees {
-        if has_letter(tree) {
-            return true;
-        }
-    }
-    false
-}
 
 /// Whether there is something to see of a leaf; none of what has its leaves in it.
 pub(crate) fn leaf_shows(tree: &Simple) -> Option<bool>
@@ -68,7 +20,7 @@ pub(crate) fn leaf_shows(tree: &Simple) -> Option<bool>
         Simple::Anchor(_) => None,
         Simple::Element { role, content, .. } => {
             if role.is_verbatim() {
-                Some(have_letter(content))
+                Some(code_shows(content))
             } else {
                 None
             }

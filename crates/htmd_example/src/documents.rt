@@ -1,5 +1,5 @@
 //! What a reader sees of a page: it is written as it is, and with one more paragraph.
-ghost use Rattle.std.specs.Prelude.{◌≡◌, [], IfOk, true, string_bytes};
+ghost use Rattle.std.specs.Prelude.{◌≡◌, [], IfOk, false, true, string_bytes};
 ghost use Rattle.htmd.specs.DocumentAnchors.TheVariants.{Linked};
 ghost use Rattle.htmd.specs.Defaults.{default_options};
 ghost use Rattle.htmd.specs.DocumentMarkdown.{markdown_of};
@@ -11,7 +11,8 @@ use std::alloc::{AllocError, Global};
 /// What a reader sees of any page.
 pub(crate) fn what_shows(alloc: Global, html: &str) -> Result<String, AllocError>
     ensures { IfOk result (λ text. string_bytes text
-        ≡ markdown_of (spec.document_options default_options) (spec.html5_page_document true [] Linked html.now)) }
+        ≡ markdown_of (spec.document_options default_options)
+        (spec.html5_page_document true [] Linked false html.now)) }
 {
     let converter = HtmlToMarkdown::new(alloc)?;
     let document = converter.document(alloc, html)?;

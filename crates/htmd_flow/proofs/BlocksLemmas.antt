@@ -1,12 +1,15 @@
 -- Headings, quotes and other blocks as parts.
-use Rattle.std.proofs.Common.{◌≡◌, ℕ, ◌<◌, Bool, false, List, [], ◌∷◌, length, refl, sym, ap, ◌∙◌, arith}
+use Rattle.std.proofs.Common.{◌≡◌, ℕ, ◌<◌, Bool, false, List, [], ◌∷◌, length, map, refl, sym, ap, ◌∙◌, arith}
 use Rattle.std.specs.Prelude.{Vec}
 use Rattle.std.specs.declared.alloc.Global.{Global}
 use Rattle.htmd_document.specs.declared.document.Block as source
 use Rattle.htmd_document.specs.declared.document.Block.{Block, fold-roll-Block}
 use Rattle.htmd_document.specs.declared.document.Block.TheVariants.{rolls-Heading, rolls-Paragraph, rolls-Quote, rolls-ThematicBreak}
+use Rattle.htmd_document.specs.declared.document.Block.TheVariants.{rolls-Element}
+use Rattle.htmd_document.specs.declared.document.BlockAttribute as attribute
+use Rattle.htmd_document.specs.declared.document.BlockElement.{BlockElement}
 use Rattle.htmd_document.specs.declared.document.Inline.{Inline}
-use Rattle.htmd_document.specs.DocumentViews.{block_step, block_of, blocks_of, inlines_of}
+use Rattle.htmd_document.specs.DocumentViews.{attribute_of, block_step, block_of, blocks_of, inlines_of}
 use Rattle.htmd_document.specs.Documents as documents
 use Rattle.htmd_flow.specs.Flows as spec
 use Rattle.htmd_flow.specs.Paragraphs.{paragraph_of}
@@ -68,3 +71,26 @@ quote_some bs n = ap (λ b. whole b ∷ []) (block-quote bs) ∙ filled bs.items
         → whole (documents.quote (blocks_of ys)) ∷ [] ≡ spec.quote_of (blocks_of ys)
     filled [] n = absurd (omega (arith, n))
     filled (y ∷ ys) n = refl
+
+pub block-element : (n : BlockElement) (attributes : Vec attribute.BlockAttribute Global) (bs : Vec Block Global)
+    → block_of (source.Element n attributes bs)
+    ≡ documents.element n (map attribute_of attributes.items) (blocks_of bs.items)
+block-element n attributes bs = ap block_of (sym (rolls-Element n attributes bs))
+    ∙ fold-roll-Block documents.Block block_step (source.Block-F.Element n attributes bs)
+
+pub element_none : (n : BlockElement) (attributes : List documents.BlockAttribute) (bs : List Block) → length bs ≡ 0
+    → spec.element_part n attributes (blocks_of bs) ≡ []
+element_none n attributes [] e = refl
+element_none n attributes (b ∷ bs) e = absurd (omega (arith, e))
+
+pub element_some : (n : BlockElement) (attributes : Vec attribute.BlockAttribute Global) (bs : Vec Block Global)
+    → 0 < length bs.items
+    → whole (block_of (source.Element n attributes bs)) ∷ []
+    ≡ spec.element_part n (map attribute_of attributes.items) (blocks_of bs.items)
+element_some n attributes bs l = ap (λ b. whole b ∷ []) (block-element n attributes bs) ∙ filled bs.items l
+  where
+    filled : (ys : List Block) → 0 < length ys
+        → whole (documents.element n (map attribute_of attributes.items) (blocks_of ys)) ∷ []
+        ≡ spec.element_part n (map attribute_of attributes.items) (blocks_of ys)
+    filled [] m = absurd (omega (arith, m))
+    filled (y ∷ ys) m = refl

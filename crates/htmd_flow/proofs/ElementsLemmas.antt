@@ -11,6 +11,7 @@ use Rattle.htmd_flow.specs.Flows.{Element, flow_all, parts_of, block_parts}
 pub record IsBlock (r : Role) : Type 0 where
   pub format : (f : formats.Format) → r ≡ role.Format f → ⊥
   pub element : (f : elements.InlineElement) → r ≡ role.Element f → ⊥
+  pub abbreviation : r ≡ role.Abbreviation → ⊥
   pub code : r ≡ role.Code → ⊥
   pub typed : r ≡ role.Typed → ⊥
   pub link : r ≡ role.Link → ⊥
@@ -34,13 +35,19 @@ pub record IsOther (r : Role) : Type 0 where
   pub terms : r ≡ role.Terms → ⊥
   pub table : r ≡ role.Table → ⊥
   pub division : r ≡ role.Division → ⊥
+  pub details : r ≡ role.Details → ⊥
   pub figure : r ≡ role.Figure → ⊥
+  pub term : r ≡ role.Term → ⊥
+  pub caption : r ≡ role.Caption → ⊥
+  pub figure_caption : r ≡ role.FigureCaption → ⊥
+  pub summary : r ≡ role.Summary → ⊥
   pub cell : r ≡ role.Cell → ⊥
 
 module _ (e : Element) (context : Context) where
   pub parts_of_block : (r : Role) → IsBlock r → block_parts r e context ≡ parts_of r e context
   parts_of_block (role.Format f) o = absurd (o.format f refl)
   parts_of_block (role.Element f) o = absurd (o.element f refl)
+  parts_of_block role.Abbreviation o = absurd (o.abbreviation refl)
   parts_of_block role.Code o = absurd (o.code refl)
   parts_of_block role.Typed o = absurd (o.typed refl)
   parts_of_block role.Link o = absurd (o.link refl)
@@ -61,6 +68,7 @@ module _ (e : Element) (context : Context) where
   parts_of_block role.Terms o = refl
   parts_of_block role.Table o = refl
   parts_of_block role.Division o = refl
+  parts_of_block role.Details o = refl
   parts_of_block role.Figure o = refl
   parts_of_block role.Cell o = refl
   parts_of_block role.Paragraph o = refl
@@ -82,6 +90,7 @@ module _ (e : Element) (context : Context) where
   pub other_parts : (r : Role) → IsOther r → apart (flow_all e.nodes context) ≡ block_parts r e context
   other_parts (role.Format f) o = refl
   other_parts (role.Element f) o = refl
+  other_parts role.Abbreviation o = refl
   other_parts role.Code o = refl
   other_parts role.Typed o = refl
   other_parts role.Link o = refl
@@ -102,19 +111,20 @@ module _ (e : Element) (context : Context) where
   other_parts role.Terms o = absurd (o.terms refl)
   other_parts role.Table o = absurd (o.table refl)
   other_parts role.Division o = absurd (o.division refl)
+  other_parts role.Details o = absurd (o.details refl)
   other_parts role.Figure o = absurd (o.figure refl)
   other_parts role.Cell o = absurd (o.cell refl)
   other_parts role.Paragraph o = refl
   other_parts role.Item o = refl
-  other_parts role.Term o = refl
+  other_parts role.Term o = absurd (o.term refl)
   other_parts role.Meaning o = refl
   other_parts role.LayoutTable o = refl
-  other_parts role.Caption o = refl
+  other_parts role.Caption o = absurd (o.caption refl)
   other_parts role.TableHead o = refl
   other_parts role.TableBody o = refl
   other_parts role.Row o = refl
   other_parts role.HeaderCell o = refl
-  other_parts role.FigureCaption o = refl
-  other_parts role.Summary o = refl
+  other_parts role.FigureCaption o = absurd (o.figure_caption refl)
+  other_parts role.Summary o = absurd (o.summary refl)
   other_parts role.Legend o = refl
   other_parts role.Block o = refl

@@ -48,19 +48,20 @@ paragraph s = one (value.paragraph (plain s))
 -- ---- paragraphs and headings
 
 -- `<p>a</p>`
-pub document-paragraph : document_of (more (tag role.Paragraph (letter (codes "a"))) none) ≡ paragraph (codes "a")
+pub document-paragraph : document_of false (more (tag role.Paragraph (letter (codes "a"))) none)
+    ≡ paragraph (codes "a")
 unfolding chars encode node_of nodes_of
 document-paragraph = refl
 
 -- `<h2>a</h2>`, and an empty heading is none
-pub document-heading : document_of (more (tag (role.Heading 2) (letter (codes "a")))
+pub document-heading : document_of false (more (tag (role.Heading 2) (letter (codes "a")))
     (more (tag (role.Heading 1) none) none))
     ≡ one (value.heading 2 (plain (codes "a")))
 unfolding chars encode node_of nodes_of
 document-heading = refl
 
 -- `<blockquote>a</blockquote>`, and an empty quote is none
-pub document-quote : document_of (more (tag role.BlockQuote (letter (codes "a")))
+pub document-quote : document_of false (more (tag role.BlockQuote (letter (codes "a")))
     (more (tag role.BlockQuote none) none))
     ≡ one (value.quote (paragraph (codes "a")))
 unfolding chars encode node_of nodes_of
@@ -69,7 +70,7 @@ document-quote = refl
 -- ---- lists
 
 -- items outside a list, with white space between, are a list
-pub document-items : document_of (more (tag role.Item (letter (codes "a"))) (more (text (codes " "))
+pub document-items : document_of false (more (tag role.Item (letter (codes "a"))) (more (text (codes " "))
     (more (tag role.Item (letter (codes "b"))) none)))
     ≡ one (value.list None true (value.item (paragraph (codes "a"))
     (value.item (paragraph (codes "b")) value.no_items)))
@@ -77,7 +78,7 @@ unfolding chars encode node_of nodes_of
 document-items = refl
 
 -- where an item says another number than the next, a list begins anew
-pub document-numbers : document_of (more (element 1 role.NumberedList known []
+pub document-numbers : document_of false (more (element 1 role.NumberedList known []
     (more (tag role.Item (letter (codes "a")))
     (more (element 2 role.Item known (pair (codes "value") (codes "5") ∷ []) (letter (codes "b"))) none))) none)
     ≡ block (value.list (Some 1) true (value.item (paragraph (codes "a")) value.no_items))
@@ -96,7 +97,7 @@ pub start-too_many : start_of 0 (pos 1) 1000000000 ≡ None
 start-too_many = refl
 
 -- `<dl><dt>a<dd>b</dl>` is a list whose item has both
-pub document-terms : document_of (more (tag role.Terms (more (tag role.Term (letter (codes "a")))
+pub document-terms : document_of false (more (tag role.Terms (more (tag role.Term (letter (codes "a")))
     (more (tag role.Meaning (letter (codes "b"))) none))) none)
     ≡ one (value.list None false (value.item (block (value.paragraph (plain (codes "a"))) (paragraph (codes "b")))
     value.no_items))
@@ -112,7 +113,7 @@ abbrev row : Simple
 row = tag role.Row (more (tag role.Cell (letter (codes "b"))) none)
 
 -- a table with a header cell has rows and columns
-pub document-table : document_of (more (tag role.Table (more header_row (more row none))) none)
+pub document-table : document_of false (more (tag role.Table (more header_row (more row none))) none)
     ≡ one (value.table (align.None ∷ []) (plain (codes "a") ∷ []) ((plain (codes "b") ∷ []) ∷ []))
 unfolding chars encode node_of nodes_of rows_among rows_at
 document-table = refl
@@ -129,20 +130,21 @@ grid-column = refl
 -- ---- leaves
 
 -- a formula alone is a block of code
-pub document-formula : document_of (more (formula (codes " x ") true []) none)
+pub document-formula : document_of false (more (formula (codes " x ") true []) none)
     ≡ one (value.code_block (Some (codes "math")) (codes "x"))
 unfolding chars encode node_of nodes_of
 document-formula = refl
 
 -- what is embedded is a paragraph that is a link
-pub document-embedded : document_of (more (text (codes "a")) (more (embedded 3 (codes "/") (codes "b") [] []) none))
+pub document-embedded : document_of false
+    (more (text (codes "a")) (more (embedded 3 (codes "/") (codes "b") [] []) none))
     ≡ block (value.paragraph (plain (codes "a")))
     (one (value.paragraph (inline (value.link (codes "/") None (plain (codes "b"))) no_inlines)))
 unfolding chars encode node_of nodes_of
 document-embedded = refl
 
 -- the lines of a code block are as they are, and its class names the language
-pub document-code : document_of (more (element 1 role.Preformatted known
+pub document-code : document_of false (more (element 1 role.Preformatted known
     (pair (codes "class") (codes "x language-rust") ∷ []) (letter (codes "a  b\n"))) none)
     ≡ one (value.code_block (Some (codes "rust")) (codes "a  b"))
 unfolding chars encode node_of nodes_of

@@ -1,8 +1,11 @@
 -- Lemmas on flow.
 pub mod AroundLemmas
 pub mod BlocksLemmas
+pub mod CutsLemmas
+pub mod DescriptionsLemmas
 pub mod ElementsLemmas
 pub mod FeedLemmas
+pub mod FlatItemsLemmas
 pub mod FlowExamples
 pub mod GridsLemmas
 pub mod GroupsLemmas
@@ -20,6 +23,9 @@ pub mod ParagraphsLemmas
 pub mod PartsLemmas
 pub mod PieceFeedLemmas
 pub mod PiecesLemmas
+pub mod RichTablesLemmas
 pub mod RowsLemmas
+pub mod TablePieceLemmas
 pub mod TableRowsLemmas
 pub mod TermsLemmas
+pub mod TitlesLemmas

@@ -9,9 +9,8 @@ use Rattle.htmd_document.specs.declared.document.Block.{Block}
 use Rattle.htmd_flow.specs.declared.list.ListItem as code
 use Rattle.htmd_document.specs.DocumentViews.{block_of, blocks_of}
 use Rattle.htmd_flow.specs.ListViews.{item_of}
-use Rattle.std.specs.Prelude.{nat_lt}
 use Rattle.htmd_flow.specs.Lists.{are_filled, holds_paragraph, is_close}
-use Rattle.htmd_document.specs.TightItems.{is_filled, is_short, is_tight_item, is_paragraph}
+use Rattle.htmd_document.specs.TightItems.{is_filled, is_paragraph}
 
 -- one element more
 pub map_at : {A B : Type 0} (f : A → B) (xs : List A) (i : ℕ) (x : A) → i < length xs → x ≡ get_or xs i x
@@ -24,17 +23,6 @@ map_end f xs i l = ap (map f) (drop_all i xs l)
 pub filled_is : (bs : List Block) → is_filled (blocks_of bs) ≡ not (length bs == 0)
 filled_is [] = refl
 filled_is (b ∷ bs) = grind (arith, nat_tests)
-
-pub short_is : (bs : List Block) → is_short (blocks_of bs) ≡ nat_lt (length bs) 2
-short_is [] = refl
-short_is (b ∷ []) = refl
-short_is (b ∷ c ∷ bs) = grind (arith, nat_tests)
-
-pub many_not_tight : (bs : List Block) → 2 < length bs → is_tight_item (blocks_of bs) ≡ false
-many_not_tight [] l = absurd (omega arith)
-many_not_tight (b ∷ []) l = absurd (omega arith)
-many_not_tight (b ∷ c ∷ []) l = absurd (omega arith)
-many_not_tight (b ∷ c ∷ d ∷ bs) l = refl
 
 -- something shows in this item, or it is looked for in the others
 pub filled_at : (items : List code.ListItem) (i : ℕ) (x : code.ListItem) → i < length items

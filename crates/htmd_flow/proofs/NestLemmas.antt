@@ -157,6 +157,8 @@ met-no_text (Text s) t h = absurd (h s refl)
 met-no_text (Code s) t h = rw (fold_out-Inline Inline inline_step (Code s)) refl
 met-no_text (Formatted' f n r) t h = rw (fold_out-Inline Inline inline_step (Formatted' f n r)) refl
 met-no_text (Element' e n r) t h = rw (fold_out-Inline Inline inline_step (Element' e n r)) refl
+met-no_text (declared_inline.Abbreviation' ti n r) t h =
+    rw (fold_out-Inline Inline inline_step (declared_inline.Abbreviation' ti n r)) refl
 met-no_text (Anchor i) t h = rw (fold_out-Inline Inline inline_step (Anchor i)) refl
 met-no_text (Link' a ti n r) t h = rw (fold_out-Inline Inline inline_step (Link' a ti n r)) refl
 met-no_text (Image a ti d) t h = rw (fold_out-Inline Inline inline_step (Image a ti d)) refl
@@ -170,6 +172,8 @@ met-no_code (Text s) t h = rw (fold_out-Inline Inline inline_step (Text s)) refl
 met-no_code (Code s) t h = absurd (h s refl)
 met-no_code (Formatted' f n r) t h = rw (fold_out-Inline Inline inline_step (Formatted' f n r)) refl
 met-no_code (Element' e n r) t h = rw (fold_out-Inline Inline inline_step (Element' e n r)) refl
+met-no_code (declared_inline.Abbreviation' ti n r) t h =
+    rw (fold_out-Inline Inline inline_step (declared_inline.Abbreviation' ti n r)) refl
 met-no_code (Anchor i) t h = rw (fold_out-Inline Inline inline_step (Anchor i)) refl
 met-no_code (Link' a ti n r) t h = rw (fold_out-Inline Inline inline_step (Link' a ti n r)) refl
 met-no_code (Image a ti d) t h = rw (fold_out-Inline Inline inline_step (Image a ti d)) refl

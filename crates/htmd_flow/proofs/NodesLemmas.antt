@@ -19,7 +19,7 @@ use Rattle.htmd_shown.specs.SimpleTrees as value
 use Rattle.htmd_shown.specs.SimpleViews.{simple_step, simple_of, simples_of}
 use Rattle.htmd_lexical.specs.AttributePairs.{AttributePair}
 use Rattle.htmd_flow.specs.Contexts.{Context, run_in}
-use Rattle.htmd_flow.specs.Flows.{Node, Element, node_of, nodes_of, nodes_below, flow_all, rows_of_table, terms_of}
+use Rattle.htmd_flow.specs.Flows.{Node, Element, node_of, nodes_of, nodes_below, flow_all, rows_of_table, pieces_of, terms_of}
 use Rattle.htmd_flow.specs.Flows.{parts_of, image_parts, formula_parts}
 use Rattle.htmd_flow.specs.FlowViews.{node_at, nodes_at, embedded_parts}
 use Rattle.htmd_flow.specs.Levels.{list_of, height, height_among, highest}
@@ -183,6 +183,7 @@ element_with id facts attributes content nodes = record {
   content = simples_of content;
   nodes = nodes;
   rows = rows_of_table (simples_of content);
+  pieces = pieces_of (simples_of content);
   terms = terms_of (simples_of content);
 }
 

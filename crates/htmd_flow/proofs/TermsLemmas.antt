@@ -79,7 +79,7 @@ one_kind k t a b e f =
 
 -- ---- the parts of a child
 
-parts_shape : (tree : value.Simple) → parts_at tree ≡ parts_of_child (node_of tree) (nodes_below tree)
+pub parts_shape : (tree : value.Simple) → parts_at tree ≡ parts_of_child (node_of tree) (nodes_below tree)
 unfolding terms_of
 parts_shape tree = append-nil (parts_of_child (node_of tree) (nodes_below tree))
 

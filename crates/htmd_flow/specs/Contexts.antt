@@ -1,31 +1,40 @@
 -- What stands around a node of a page.
-use Rattle.std.specs.Prelude.{ℕ, zero, suc, Bool, true, false, ◌||◌, nat_le, if◌then◌else◌, List, [], ◌∷◌, ◌++◌, Option}
-use Rattle.std.specs.Prelude.{length, filter, take}
+use Rattle.std.specs.Prelude.{ℕ, zero, suc, Bool, true, false, not, ◌&&◌, ◌||◌, nat_le, if◌then◌else◌}
+use Rattle.std.specs.Prelude.{List, [], ◌∷◌, ◌++◌, Option, Some, None, length, filter, take}
 use Rattle.std.specs.List.{list_any}
-use Rattle.htmd_document.specs.Formats.{Format, is_same_format, is_raised}
+use Rattle.htmd_document.specs.Formats.{Format, Abbreviation, is_same_kind, is_raised}
 use Rattle.htmd_flow.specs.Parts.{Around, formatted, linked, Part, run, edge}
 use Rattle.htmd_document.specs.DocumentLimits.{most_nested, most_raised}
 use Rattle.htmd_lexical.specs.AttributePairs.{AttributePair}
 use Rattle.htmd_shown.specs.Attributes.{is_to_part}
 
--- Formats and links from the outermost in, whether all is code and one line, how many lists and quotes; and the
--- attributes of the elements near, from the inside out: those that hold one `pre`.
+-- Formats and links from the outermost in, whether all is code and one line, and the document rich, how many lists and
+-- quotes; and the attributes of the elements near, from the inside out: those that hold one `pre`.
 pub record Context : Type 0 where
   pub around : List Around
   pub is_code : Bool
   pub is_flat : Bool
+  pub is_rich : Bool
   pub nested : ℕ
   pub near : List (List AttributePair)
 
 abbrev pub bare : Context
-bare = record { around = []; is_code = false; is_flat = false; nested = 0; near = [] }
+bare = record { around = []; is_code = false; is_flat = false; is_rich = false; nested = 0; near = [] }
+
+-- of a document that is rich or not
+abbrev pub bare_in : Bool → Context
+bare_in is_rich = record bare { is_rich = is_rich }
+
+-- blocks can be elements: in a rich document, and in no line
+abbrev pub has_elements : Context → Bool
+has_elements context = context.is_rich && not context.is_flat
 
 -- no block stands in it, or no list and no quote
 abbrev pub is_lined : Context → Bool
 is_lined context = context.is_flat || nat_le most_nested context.nested
 
 abbrev pub is_format : Format → Around → Bool
-is_format format (formatted f) = is_same_format format f
+is_format format (formatted f) = is_same_kind format f
 is_format format (linked node address title) = false
 
 abbrev pub is_link : Around → Bool
@@ -56,6 +65,11 @@ inside_format format context =
 abbrev pub inside_link : ℕ → List ℕ → Option (List ℕ) → Context → Context
 inside_link node address title context =
     if list_any is_link context.around then context else with_around context (linked node address title)
+
+-- an abbreviation with a title stands around
+abbrev pub inside_title : Option (List ℕ) → Context → Context
+inside_title None context = context
+inside_title (Some title) context = inside_format (Abbreviation title) context
 
 -- without the link; there is one at most
 abbrev pub without_link : List Around → List Around

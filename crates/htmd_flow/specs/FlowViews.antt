@@ -12,7 +12,7 @@ use Rattle.htmd_flow.specs.declared.place.Near.TheVariants as near
 use Rattle.htmd_flow.specs.declared.place.Place as places
 use Rattle.htmd_flow.specs.declared.place.Taken.{Taken}
 use Rattle.htmd_flow.specs.Contexts.{Context, with_around, is_link, inside_link, run_in}
-use Rattle.htmd_flow.specs.Flows.{Node, Element, node_of, rows_of_table, terms_of, embed_parts}
+use Rattle.htmd_flow.specs.Flows.{Node, Element, node_of, rows_of_table, pieces_of, terms_of, embed_parts}
 use Rattle.htmd_flow.specs.Parts.{Part}
 use Rattle.htmd_flow.specs.PartViews.{around_of}
 
@@ -27,6 +27,7 @@ context_in place around = record {
   around = map around_of around;
   is_code = place.is_code;
   is_flat = place.is_flat;
+  is_rich = place.is_rich;
   nested = place.nested;
   near = near_in place.near;
 }
@@ -45,6 +46,7 @@ element_in e = record {
   content = simples_of e.content.now;
   nodes = nodes_at e.content.now;
   rows = rows_of_table (simples_of e.content.now);
+  pieces = pieces_of (simples_of e.content.now);
   terms = terms_of (simples_of e.content.now);
 }
 

@@ -5,137 +5,52 @@ use Rattle.std.specs.List.{list_any, list_all, flat_map, prefix_len}
 use Rattle.std.specs.Option.{unwrap_or}
 use Rattle.htmd_lexical.specs.Characters.{space}
 use Rattle.htmd_lexical.specs.AttributePairs.{AttributePair}
-use Rattle.htmd_lexical.specs.WhiteSpace.{is_ascii_white_space}
 use Rattle.htmd_document.specs.Documents.{Inlines, no_inlines, inline, heading, code_block, quote, thematic_break}
 use Rattle.htmd_document.specs.Documents.{Block, Blocks, no_blocks, block}
 use Rattle.htmd_document.specs.Formats.{of_format, of_element}
-use Rattle.htmd_document.specs.TightItems as tight
 use Rattle.htmd_shown.specs.declared.facts.Facts.{Facts}
 use Rattle.htmd_shown.specs.declared.role.Role.{Role}
 use Rattle.htmd_shown.specs.declared.role.Role.TheVariants as role
 use Rattle.htmd_shown.specs.AllTexts.{all_text_among, with_line_feeds, lines_of, without_last_line_feed, dollar_sign}
 use Rattle.htmd_shown.specs.Attributes.{has_attribute, text_of, title_of, description_of, address, in_line, trimmed}
-use Rattle.htmd_shown.specs.Attributes.{number_at, column_span, row_span, is_any_case, alignment, is_filled}
-use Rattle.htmd_shown.specs.Kinds.{has, content_of}
+use Rattle.htmd_shown.specs.Attributes.{number_at, column_span, row_span, is_any_case, alignment}
+use Rattle.htmd_shown.specs.Attributes.{is_filled}
+use Rattle.htmd_shown.specs.Kinds.{has}
 use Rattle.htmd_shown.specs.Roles as roles
+use Rattle.htmd_shown.specs.Showings.{shows}
 use Rattle.htmd_shown.specs.SimpleTrees.{Simple, text, image, formula, embedded, anchor, element, Simples, none, more}
 use Rattle.htmd_shown.specs.Spaces.{is_blank_text}
-use Rattle.htmd_flow.specs.Contexts.{Context, bare, is_lined, inside_format, inside_link, in_code, unlinked}
-use Rattle.htmd_flow.specs.Contexts.{is_linked_to_part, beside_code, in_one_line, deeper, run_in, apart}
+use Rattle.htmd_flow.specs.Contexts.{Context, bare, bare_in, has_elements, is_lined, inside_format}
+use Rattle.htmd_flow.specs.Contexts.{inside_title, inside_link, in_code, unlinked, is_linked_to_part, beside_code}
+use Rattle.htmd_flow.specs.Contexts.{in_one_line, deeper, run_in, apart}
 use Rattle.htmd_flow.specs.Grids as grid
 use Rattle.htmd_flow.specs.Languages.{language_of_block}
 use Rattle.htmd_flow.specs.Levels.{list_of}
 use Rattle.htmd_flow.specs.Lists as lists
-use Rattle.htmd_flow.specs.Paragraphs.{Writing, begun, fed_all, blocks_in, line_in}
+use Rattle.htmd_flow.specs.Paragraphs.{Writing, begun, fed_all, blocks_in}
 use Rattle.htmd_flow.specs.Parts.{Around, Part, run, picture, break, place, box, edge, whole}
+pub use Rattle.htmd_flow.specs.TableElements.{is_paragraph_at_most}
 use Rattle.htmd_flow.specs.Tables as tables
 use Rattle.htmd_flow.specs.declared.table_form.Layout.{Layout}
 use Rattle.htmd_flow.specs.declared.table_form.Layout.TheVariants as layout
 use Rattle.htmd_flow.specs.declared.table_form.TablePart.{TablePart}
 use Rattle.htmd_flow.specs.Terms.{is_group}
-
--- ---- nodes with what they give
-
--- a node with what it gives, and what its content gives, in any context
-pub record Node : Type 0 where
-  pub tree : Simple
-  pub whole : Context → List Part
-  pub content : Context → List Part
-
--- the cells of a row, the number of the part that it stands in, and whether that is the head
-pub record Row : Type 0 where
-  pub part : Option ℕ
-  pub is_in_head : Bool
-  pub cells : List Node
-
--- a part of a list of terms; a gap is an end of a group
-pub data TermPart : Type 0 where
-  gap : TermPart
-  of_node : (node : Node) → TermPart
-
--- the attributes of an element
-abbrev pub attributes_of : Simple → List AttributePair
-attributes_of (element id role facts attributes content) = attributes
-attributes_of _ = []
-
-abbrev pub is_item : Node → Bool
-is_item n = has roles.is_item n.tree
-
--- parts as blocks, and as one line
-abbrev pub blocks_of : Bool → List Part → Blocks
-blocks_of in_item parts = blocks_in (fed_all (begun in_item false) parts)
-
-abbrev pub line_of : List Part → Inlines
-line_of parts = line_in (fed_all (begun false true) parts)
-
--- ---- lists
-
--- what stands before the first item comes before the list
-abbrev pub before_items : List Node → Context → List Part
-before_items [] context = []
-before_items (n ∷ nodes) context =
-    if is_item n then [] else n.whole context ++ before_items nodes context
-
--- what stands between items belongs to the one before, as a block of its own
-abbrev pub behind_item : List Node → Context → List Part
-behind_item [] context = []
-behind_item (n ∷ nodes) context =
-    if is_item n then [] else edge ∷ n.whole context ++ behind_item nodes context
-
-abbrev pub item_of : Node → List Part → lists.ListItem
-item_of n parts = record {
-  value = number_at (codes "value") (attributes_of n.tree);
-  has_paragraph = list_any (has roles.is_paragraph) (list_of (content_of n.tree));
-  blocks = blocks_of true parts;
-}
-
-abbrev pub items_of : List Node → Context → List lists.ListItem
-items_of [] context = []
-items_of (n ∷ nodes) context =
-    if is_item n
-    then item_of n (n.content context ++ behind_item nodes context) ∷ items_of nodes context
-    else items_of nodes context
-
--- all of each node; an item is a block
-abbrev pub each_whole : List Node → Context → List Part
-each_whole nodes context = flat_map (λ (n : Node). n.whole context) nodes
-
--- in one line, or too deep, a list is its items
-abbrev pub list_parts : Option ℤ → List Node → Context → List Part
-list_parts start nodes context =
-    if is_lined context then apart (each_whole nodes context)
-    else (edge ∷ before_items nodes context)
-    ++ edge ∷ lists.lists_if_filled context.nested start (items_of nodes (deeper context)) ++ edge ∷ []
-
--- ---- what follows each other
-
--- a text of white space alone
-abbrev pub is_spaces : Simple → Bool
-is_spaces (text s) = list_all is_ascii_white_space s
-is_spaces _ = false
-
-abbrev pub goes_on : Node → Bool
-goes_on n = is_item n || is_spaces n.tree
-
--- the items that follow each other, with white space between
-abbrev pub items_in_a_row : List Node → List Node
-items_in_a_row [] = []
-items_in_a_row (n ∷ nodes) = if goes_on n then n ∷ items_in_a_row nodes else []
-
-abbrev mutual
-  -- Items that stand in no list, with white space between, are a list.
-  pub flow_all : List Node → Context → List Part
-  flow_all [] context = []
-  flow_all (n ∷ nodes) context =
-      if is_item n
-      then list_parts None (n ∷ items_in_a_row nodes) context ++ flow_after nodes context
-      else n.whole context ++ flow_all nodes context
-
-  -- after the items that began before
-  pub flow_after : List Node → Context → List Part
-  flow_after [] context = []
-  flow_after (n ∷ nodes) context =
-      if goes_on n then flow_after nodes context else n.whole context ++ flow_all nodes context
+pub use Rattle.htmd_flow.specs.Nodes.{Node, Row, TablePiece, TermPart}
+pub use Rattle.htmd_flow.specs.Nodes.{attributes_of, is_item, blocks_of, line_of, block_part, before_items}
+pub use Rattle.htmd_flow.specs.Nodes.{behind_item, item_of, items_of, each_whole, list_parts, is_spaces, goes_on}
+pub use Rattle.htmd_flow.specs.Nodes.{items_in_a_row, flow_all, flow_after, of_caption, of_row, gap, of_node}
+pub use Rattle.htmd_flow.specs.RichNodes.{element_part, around_title, around_node, within, blocks_within, is_title_of}
+pub use Rattle.htmd_flow.specs.RichNodes.{title_element, as_title, titled, open_attribute, details_parts}
+pub use Rattle.htmd_flow.specs.RichNodes.{shows_title, figure_by, captioned, figure_parts}
+pub use Rattle.htmd_flow.specs.RichNodes.{Description, Descriptions, no_descriptions}
+pub use Rattle.htmd_flow.specs.RichNodes.{description_with, onto_last_description, ends_with_term, before_more}
+pub use Rattle.htmd_flow.specs.RichNodes.{with_between, with_described, with_description, description_element}
+pub use Rattle.htmd_flow.specs.RichNodes.{is_filled_description, element_of_descriptions, parts_of_descriptions}
+pub use Rattle.htmd_flow.specs.RichNodes.{described_parts, rows_in, has_cell, may_span, follows_in_part}
+pub use Rattle.htmd_flow.specs.RichNodes.{have_row_spans, content_shows, stays, kept_pieces, is_header, has_header}
+pub use Rattle.htmd_flow.specs.RichNodes.{is_zero, has_border, heads, is_headed, is_wide, holds_table, may_be_grid}
+pub use Rattle.htmd_flow.specs.RichNodes.{is_for_page, in_cell, cell_with_blocks, piece_with_blocks}
+pub use Rattle.htmd_flow.specs.RichNodes.{pieces_with_blocks, table_with_blocks, kept_table_parts, rich_table_parts}
 
 -- ---- terms and what they mean
 
@@ -219,12 +134,6 @@ term_parts parts nodes context =
 
 -- ---- tables
 
--- a paragraph at most
-abbrev pub is_paragraph_at_most : Blocks → Bool
-is_paragraph_at_most no_blocks = true
-is_paragraph_at_most (block b no_blocks) = tight.is_paragraph b
-is_paragraph_at_most (block b (block c bs)) = false
-
 abbrev pub is_paragraph : Node → Bool
 is_paragraph cell = is_paragraph_at_most (blocks_of false (cell.content bare))
 
@@ -252,7 +161,7 @@ abbrev pub cell_in_one_line : Context → Node → List Part
 cell_in_one_line context n = n.content context ++ run (space ∷ []) context.around false ∷ []
 
 abbrev pub row_in_one_line : Context → Row → List Part
-row_in_one_line context row = flat_map (cell_in_one_line context) row.cells ++ edge ∷ []
+row_in_one_line context r = flat_map (cell_in_one_line context) r.cells ++ edge ∷ []
 
 abbrev pub rows_in_one_line : List Row → Context → List Part
 rows_in_one_line rows context = flat_map (row_in_one_line context) rows
@@ -284,20 +193,15 @@ cell_of context n = record {
 }
 
 abbrev pub row_of : Context → Row → grid.Row
-row_of context row = record {
-  part = row.part;
-  is_in_head = row.is_in_head;
-  cells = map (cell_of context) row.cells;
+row_of context r = record {
+  part = r.part;
+  is_in_head = r.is_in_head;
+  cells = map (cell_of context) r.cells;
 }
 
 -- the rows that have cells
 abbrev pub filled_rows : List grid.Row → List grid.Row
 filled_rows rows = filter (λ (r : grid.Row). nat_lt 0 (length r.cells)) rows
-
--- a block, if there is one
-abbrev pub block_part : Option Block → List Part
-block_part None = []
-block_part (Some b) = whole b ∷ []
 
 abbrev pub table_block : List Row → Context → Option Block
 table_block rows context = grid.table_of_rows (filled_rows (map (row_of context) rows))
@@ -417,7 +321,7 @@ anchors_apart nodes context = if context.is_flat then flow_all nodes context els
 
 -- ---- elements
 
--- an element, with what is in it as nodes, as rows of a table, and as parts of a list of terms
+-- an element, with what is in it as nodes, as rows and pieces of a table, and as parts of a list of terms
 pub record Element : Type 0 where
   pub id : ℕ
   pub facts : Facts
@@ -425,11 +329,32 @@ pub record Element : Type 0 where
   pub content : Simples
   pub nodes : List Node
   pub rows : List Row
+  pub pieces : List TablePiece
   pub terms : List TermPart
 
 -- a block that can say the language of the code in it
 abbrev pub near_parts : Element → Context → List Part
 near_parts e context = apart (flow_all e.nodes (beside_code e.facts.pres e.attributes context))
+
+-- what is in a rich document an element
+abbrev pub terms_by : List TermPart → List Node → Context → List Part
+terms_by parts nodes context =
+    if has_elements context then described_parts parts context else term_parts parts nodes context
+
+abbrev pub rich_table_at : Element → Context → List Part
+rich_table_at e context = rich_table_parts (list_of e.content) e.attributes e.pieces e.nodes context
+
+abbrev pub table_at : Element → Context → List Part
+table_at e context =
+    if has_elements context then rich_table_at e context
+    else table_parts (list_of e.content) e.nodes e.rows context
+
+abbrev pub figure_at : Element → Context → List Part
+figure_at e context = figure_parts e.nodes (beside_code e.facts.pres e.attributes context)
+
+-- a title that stands elsewhere
+abbrev pub title_parts : Element → Context → List Part
+title_parts e context = apart (flow_all e.nodes (around_title e.content context))
 
 -- what a block gives, by its role
 abbrev pub block_parts : Role → Element → Context → List Part
@@ -440,10 +365,15 @@ block_parts role.BlockQuote e context = quote_parts e.nodes context
 block_parts role.ThematicBreak e context = whole thematic_break ∷ []
 block_parts role.BulletList e context = list_parts None e.nodes context
 block_parts role.NumberedList e context = list_parts (Some (start_of e.attributes)) e.nodes context
-block_parts role.Terms e context = term_parts e.terms e.nodes context
-block_parts role.Table e context = table_parts (list_of e.content) e.nodes e.rows context
+block_parts role.Terms e context = terms_by e.terms e.nodes context
+block_parts role.Table e context = table_at e context
+block_parts role.Details e context = details_parts e.attributes e.nodes context
+block_parts role.Figure e context = figure_at e context
+block_parts role.Term e context = title_parts e context
+block_parts role.Caption e context = title_parts e context
+block_parts role.FigureCaption e context = title_parts e context
+block_parts role.Summary e context = title_parts e context
 block_parts role.Division e context = near_parts e context
-block_parts role.Figure e context = near_parts e context
 block_parts role.Cell e context = near_parts e context
 block_parts _ e context = apart (flow_all e.nodes context)
 
@@ -451,6 +381,7 @@ block_parts _ e context = apart (flow_all e.nodes context)
 abbrev pub parts_of : Role → Element → Context → List Part
 parts_of (role.Format f) e context = flow_all e.nodes (inside_format (of_format f) context)
 parts_of (role.Element f) e context = flow_all e.nodes (inside_format (of_element f) context)
+parts_of role.Abbreviation e context = flow_all e.nodes (inside_title (title_of e.attributes) context)
 parts_of role.Code e context = flow_all e.nodes (in_code context)
 parts_of role.Typed e context = flow_all e.nodes (in_code context)
 parts_of role.Link e context = flow_all e.nodes (linked_by e.id e.attributes context)
@@ -497,6 +428,10 @@ abbrev pub rows_if : TablePart → Simple → List Node → List Row → List Ro
 rows_if p tree nodes within =
     if has roles.is_row tree then row_with p nodes else (if leads_to p tree then within else [])
 
+-- a caption, or the rows that a node of a table is
+abbrev pub pieces_at : Node → List Row → List TablePiece
+pieces_at n rows = if has roles.is_caption n.tree then of_caption n ∷ [] else map of_row rows
+
 unfoldable mutual
   pub node_of : Simple → Node
   node_of (text s) = leaf (text s) (λ context. run_in context s ∷ [])
@@ -515,6 +450,7 @@ unfoldable mutual
       content = content;
       nodes = nodes_of content;
       rows = rows_among no_part content;
+      pieces = pieces_of content;
       terms = terms_of content;
     });
     content = flow_all (nodes_of content);
@@ -553,9 +489,14 @@ unfoldable mutual
   rows_at p (embedded id address title attributes anchors) = []
   rows_at p (anchor id) = []
 
+  -- captions and rows of a table
+  pub pieces_of : Simples → List TablePiece
+  pieces_of none = []
+  pieces_of (more tree trees) = pieces_at (node_of tree) (rows_at no_part tree) ++ pieces_of trees
+
 -- the blocks of these nodes
-abbrev pub document_of : Simples → Blocks
-document_of trees = blocks_of false (flow_all (nodes_of trees) bare)
+abbrev pub document_of : Bool → Simples → Blocks
+document_of is_rich trees = blocks_of false (flow_all (nodes_of trees) (bare_in is_rich))
 
 abbrev pub rows_of_table : Simples → List Row
 rows_of_table content = rows_among no_part content

@@ -1,5 +1,7 @@
 -- Definitions of flow.
 pub mod Contexts
+pub mod DescriptionViews
+pub mod ElementViews
 pub mod FlowViews
 pub mod Flows
 pub mod GridViews
@@ -13,11 +15,16 @@ pub mod ListViews
 pub mod Lists
 pub mod NestViews
 pub mod Nesting
+pub mod Nodes
 pub mod ParagraphViews
 pub mod Paragraphs
 pub mod PartViews
 pub mod Parts
+pub mod PieceViews
+pub mod RichNodes
+pub mod TableElements
 pub mod TableViews
 pub mod Tables
 pub mod TermViews
 pub mod Terms
+pub mod TitleViews

@@ -5,6 +5,7 @@ use Rattle.std.specs.List.{list_any, list_all}
 use Rattle.std.specs.Ordering.{int_eq}
 use Rattle.htmd_shown.specs.Attributes.{greatest_number}
 use Rattle.htmd_document.specs.Documents.{list, Blocks, no_blocks, block, items_of}
+use Rattle.htmd_document.specs.FlatDocuments.{flattened}
 use Rattle.htmd_flow.specs.Parts.{Part, whole}
 use Rattle.htmd_document.specs.TightItems.{is_filled, is_paragraph, is_tight_item, is_short}
 use Rattle.htmd_document.specs.DocumentLimits.{greatest_start}
@@ -27,11 +28,11 @@ holds_paragraph (block b bs) = is_paragraph b || holds_paragraph bs
 
 -- a paragraph that stands right in an item, and shows, makes the list loose
 abbrev pub is_close : ListItem → Bool
-is_close i = not (i.has_paragraph && holds_paragraph i.blocks) && is_tight_item i.blocks
+is_close i = not (i.has_paragraph && holds_paragraph i.blocks) && is_tight_item (flattened i.blocks)
 
 abbrev pub is_lone : List ListItem → Bool
 is_lone [] = false
-is_lone (i ∷ []) = is_short i.blocks
+is_lone (i ∷ []) = is_short (flattened i.blocks)
 is_lone (i ∷ j ∷ items) = false
 
 -- a list that a reader can't see to be loose is tight

@@ -3,6 +3,7 @@ use Rattle.std.specs.Prelude.{ℕ, Bool, true, false, not, ◌&&◌, ◌||◌, n
 use Rattle.std.specs.List.{list_any, list_all, prefix_len}
 use Rattle.htmd_shown.specs.Kinds.{has, holds, content_of, is_blank}
 use Rattle.htmd_shown.specs.Roles.{is_caption, is_head, is_part, is_row, is_row_or_part, is_cell, is_header_cell}
+use Rattle.htmd_shown.specs.Showings.{shows}
 use Rattle.htmd_shown.specs.SimpleTrees.{Simple}
 use Rattle.htmd_flow.specs.Levels.{list_of}
 use Rattle.htmd_flow.specs.declared.table_form.Cells.{Cells}
@@ -11,22 +12,28 @@ use Rattle.htmd_flow.specs.declared.table_form.Layout.TheVariants as layout
 
 -- ---- nothing shows beside captions and cells
 
-abbrev pub is_cell_or_blank : Simple → Bool
-is_cell_or_blank tree = has is_cell tree || is_blank tree
+-- nothing shows of it; in a rich document breaks and images without anything to see are nothing
+abbrev pub is_nothing : Bool → Simple → Bool
+is_nothing is_rich tree = if is_rich then not (shows false tree) else is_blank tree
+
+abbrev pub is_cell_or_nothing : Bool → Simple → Bool
+is_cell_or_nothing is_rich tree = has is_cell tree || is_nothing is_rich tree
 
 -- a row of cells alone, or nothing that shows
-abbrev pub is_row_or_blank : Simple → Bool
-is_row_or_blank tree =
-    if has is_row tree then list_all is_cell_or_blank (list_of (content_of tree)) else is_blank tree
+abbrev pub is_row_or_nothing : Bool → Simple → Bool
+is_row_or_nothing is_rich tree =
+    if has is_row tree then list_all (is_cell_or_nothing is_rich) (list_of (content_of tree))
+    else is_nothing is_rich tree
 
 -- a caption, a part that holds rows alone, a row of cells alone, or nothing that shows
-abbrev pub is_table_child : Simple → Bool
-is_table_child tree =
+abbrev pub is_table_child : Bool → Simple → Bool
+is_table_child is_rich tree =
     if has is_caption tree then true
-    else (if has is_part tree then list_all is_row_or_blank (list_of (content_of tree)) else is_row_or_blank tree)
+    else (if has is_part tree then list_all (is_row_or_nothing is_rich) (list_of (content_of tree))
+    else is_row_or_nothing is_rich tree)
 
-abbrev pub holds_table_alone : List Simple → Bool
-holds_table_alone trees = list_all is_table_child trees
+abbrev pub holds_table_alone : Bool → List Simple → Bool
+holds_table_alone is_rich trees = list_all (is_table_child is_rich) trees
 
 -- ---- captions
 
@@ -110,5 +117,5 @@ layout_by_cells has_head c =
 
 abbrev pub layout_of : List Simple → Layout
 layout_of trees =
-    if has_captions_around trees && holds_table_alone trees then layout_by_cells (has_head trees) (cells_in trees)
+    if has_captions_around trees && holds_table_alone false trees then layout_by_cells (has_head trees) (cells_in trees)
     else layout.Page

@@ -9,11 +9,13 @@ use htmd_document::{Format, Inline, InlineElement};
 use htmd_nodes::NodeId;
 use std::alloc::AllocError;
 
-/// What is around a leaf: a format, an element that stays one, or a link with its node.
+/// What is around a leaf: a format, an element that stays one, an abbreviation, or a link with its node.
 #[derive(Drop)]
 pub(crate) enum Around {
     Format(Format),
     Element(InlineElement),
+    /// An abbreviation with this title.
+    Abbreviation(String),
     Link {
         node: NodeId,
         address: String,
@@ -30,6 +32,7 @@ impl Around {
         match (self, other) {
             (Around::Format(this), Around::Format(that)) => *this == *that,
             (Around::Element(this), Around::Element(that)) => *this == *that,
+            (Around::Abbreviation(this), Around::Abbreviation(that)) => *this == *that,
             (Around::Link { node: this, .. }, Around::Link { node: that, .. }) => *this == *that,
             _ => false,
         }
@@ -42,6 +45,7 @@ impl Around {
         match self {
             Around::Format(format) => Ok(Around::Format(*format)),
             Around::Element(element) => Ok(Around::Element(*element)),
+            Around::Abbreviation(title) => Ok(Around::Abbreviation(title.clone()?)),
             Around::Link {
                 node,
                 address,
@@ -61,6 +65,7 @@ impl Around {
         match self {
             Around::Format(format) => Inline::Formatted(format, content),
             Around::Element(element) => Inline::Element(element, content),
+            Around::Abbreviation(title) => Inline::Abbreviation { title, content },
             Around::Link { address, title, .. } => Inline::Link {
                 address,
                 title,

@@ -1,6 +1,7 @@
-//! Blocks of what is in them: headings, quotes and tables.
-ghost use Rattle.std.specs.Prelude.{◌≡◌, OnOk, map};
-ghost use Rattle.htmd_document.specs.DocumentViews.{blocks_of, inlines_of};
+//! Blocks of what is in them: headings, quotes, elements and tables.
+ghost use Rattle.std.specs.Prelude.{◌≡◌, IfOk, OnOk, map};
+ghost use Rattle.htmd_document.specs.DocumentViews.{attribute_of, blocks_of, inlines_of};
+ghost use Rattle.htmd_lexical.specs.Attributes.{pairs_of};
 ghost use Rattle.htmd_flow.specs.Flows as spec;
 ghost use Rattle.htmd_flow.specs.Grids as grids;
 ghost use Rattle.htmd_flow.specs.GridViews.{row_of};
@@ -9,7 +10,8 @@ ghost use Rattle.htmd_flow.specs.Paragraphs.{fed_all};
 
 use crate::grid::{Row, table_of_rows};
 use crate::paragraphs::Paragraphs;
-use htmd_document::{Block, Inline};
+use htmd_document::{AttributeName, Block, BlockAttribute, BlockElement, Inline};
+use htmd_nodes::{Attribute, value_of};
 use std::alloc::{AllocError, Global};
 
 /// Adds a heading, if something is in it.
@@ -36,6 +38,44 @@ pub(crate) fn push_quote(out: &mut Paragraphs, content: Vec<Block>) -> Result<()
         return Ok(());
     }
     out.block(Block::Quote(content))
+}
+
+/// Adds an element, if something is in it.
+pub(crate) fn push_element(
+    out: &mut Paragraphs,
+    name: BlockElement,
+    attributes: Vec<BlockAttribute>,
+    content: Vec<Block>,
+) -> Result<(), AllocError>
+    ensures { OnOk result (writing_in out.new ≡ fed_all (writing_in out.old)
+        (spec.element_part name (map attribute_of attributes.items) (blocks_of content.items))) }
+{
+    if content.is_empty() {
+        return Ok(());
+    }
+    out.block(Block::Element {
+        name,
+        attributes,
+        content,
+    })
+}
+
+/// The attribute of `details` that are open.
+pub(crate) fn open_attribute(
+    alloc: Global,
+    attrs: &[Attribute],
+) -> Result<Vec<BlockAttribute>, AllocError>
+    ensures { IfOk result (λ attributes. map attribute_of attributes.items
+        ≡ spec.open_attribute (pairs_of attrs.now)) }
+{
+    let mut attributes = Vec::new(alloc);
+    if value_of(attrs, "open").is_some() {
+        attributes.push(BlockAttribute {
+            name: AttributeName::Open,
+            value: String::new(alloc),
+        })?;
+    }
+    Ok(attributes)
 }
 
 /// Whether the blocks are a paragraph at most.

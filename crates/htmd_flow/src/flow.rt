@@ -1,8 +1,11 @@
 //! What nodes give: leaves with what is around each, edges of blocks, and blocks, in order.
 #![tactic(auto, using(crate::proofs::NodesLemmas::content_lower, crate::proofs::LevelsLemmas::highest_at, crate::proofs::LevelsLemmas::highest_slice, crate::proofs::LevelsLemmas::highest_take))]
 
+mod of_descriptions;
 mod of_lists;
+mod of_rich_tables;
 mod of_tables;
+mod of_titles;
 
 ghost use Rattle.std.specs.Prelude.{◌≡◌, IfOk, OnOk};
 ghost use Rattle.htmd_document.specs.DocumentViews.{blocks_of, inlines_of};
@@ -18,21 +21,23 @@ use crate::blocks::{push_heading, push_quote};
 use crate::items::row_len;
 use crate::leaves::{push_box, push_embedded, push_formula, push_image, push_verbatim};
 use crate::paragraphs::Paragraphs;
-use crate::place::{Place, is_unlinked, new_element, new_format, new_link, put_back, take_link};
+use crate::place::{
+    Place, is_unlinked, new_abbreviation, new_element, new_format, new_link, put_back, take_link,
+};
 use htmd_document::{Block, Inline};
 use htmd_nodes::{Attribute, NodeId};
 use htmd_shown::attributes::number_at;
 use htmd_shown::{Facts, Role, Simple, is_item};
 use std::alloc::{AllocError, Global};
 
-/// The blocks of nodes. `Err` means out of memory.
-pub fn document_of(alloc: Global, trees: &[Simple]) -> Result<Vec<Block>, AllocError>
-    ensures { IfOk result (λ blocks. blocks_of blocks.items ≡ spec.document_of (simples_of trees.now)) }
+/// The blocks of nodes in a document that is rich or not. `Err` means out of memory.
+pub fn document_of(alloc: Global, is_rich: bool, trees: &[Simple]) -> Result<Vec<Block>, AllocError>
+    ensures { IfOk result (λ blocks. blocks_of blocks.items ≡ spec.document_of is_rich (simples_of trees.now)) }
 {
     let flow = Flow { alloc };
     let mut around = Vec::new(alloc);
     let mut out = Paragraphs::new(alloc, false, false);
-    flow.among(trees, &Place::bare(), &mut around, &mut out)?;
+    flow.among(trees, &Place::bare(is_rich), &mut around, &mut out)?;
     out.finish()
 }
 
@@ -129,6 +134,10 @@ impl Flow {
                 let kind = new_element(around, kind);
                 self.inside(content, kind, place, around, out)
             }
+            Role::Abbreviation => {
+                let title = new_abbreviation(self.alloc, element.attrs, around)?;
+                self.inside(content, title, place, around, out)
+            }
             Role::Link => {
                 let link = new_link(self.alloc, element.node, element.attrs, around)?;
                 self.inside(content, link, place, around, out)
@@ -183,13 +192,57 @@ impl Flow {
                 let start = number_at(element.attrs, "start").unwrap_or(1);
                 self.list(content, Some(start), place, around, out)
             }
-            Role::Terms => self.terms(content, place, around, out),
-            Role::Table => self.table(content, place, around, out),
+            Role::Terms => self.terms_at(content, place, around, out),
+            Role::Table => self.table_at(element, place, around, out),
+            Role::Details => self.details(element, place, around, out),
+            Role::Figure => self.figure(element, place, around, out),
+            Role::Term => self.title(content, place, around, out),
+            Role::Caption => self.title(content, place, around, out),
+            Role::FigureCaption => self.title(content, place, around, out),
+            Role::Summary => self.title(content, place, around, out),
             Role::Division => self.near(element, place, around, out),
-            Role::Figure => self.near(element, place, around, out),
             Role::Cell => self.near(element, place, around, out),
             _ => self.apart(content, place, around, out),
         }
+    }
+
+    /// A list of terms: an element where blocks can be elements.
+    #[cycle(flow)]
+    fn terms_at<'t>(
+        &self,
+        content: &[Simple<'t>],
+        place: &Place<'t>,
+        around: &mut Vec<Around>,
+        out: &mut Paragraphs,
+    ) -> Result<(), AllocError>
+        ensures out { OnOk result (writing_in out.new ≡ fed_all (writing_in out.old)
+            (spec.terms_by (spec.terms_of (simples_of content.now)) (views.nodes_at content.now)
+            (views.context_in place.now around.old.items))) }
+        ensures around { OnOk result (around.new.items ≡ around.old.items) }
+    {
+        if place.has_elements() {
+            return self.described(content, place, around, out);
+        }
+        self.terms(content, place, around, out)
+    }
+
+    /// A table, which is rich where blocks can be elements.
+    #[cycle(flow)]
+    fn table_at<'t>(
+        &self,
+        element: &Element<'_, 't>,
+        place: &Place<'t>,
+        around: &mut Vec<Around>,
+        out: &mut Paragraphs,
+    ) -> Result<(), AllocError>
+        ensures out { OnOk result (writing_in out.new ≡ fed_all (writing_in out.old)
+            (spec.table_at (views.element_in element.now) (views.context_in place.now around.old.items))) }
+        ensures around { OnOk result (around.new.items ≡ around.old.items) }
+    {
+        if place.has_elements() {
+            return self.rich_table(element, place, around, out);
+        }
+        self.table(element.content, place, around, out)
     }
 
     /// What a block gives that can say the language of the code in it.

@@ -407,7 +407,7 @@ fn take_header(
 }
 
 /// The table of these rows, whose first one is its header or not; none where nothing shows in it.
-fn table(
+pub(crate) fn table(
     alloc: Global,
     mut lines: Vec<RowContent>,
     mut alignments: Vec<Alignment>,

@@ -3,6 +3,7 @@
 
 mod around;
 mod blocks;
+mod descriptions;
 mod flow;
 mod grid;
 mod items;
@@ -13,7 +14,10 @@ mod nest;
 mod node;
 mod paragraphs;
 mod place;
+mod table_element;
 mod table_form;
+mod table_pieces;
 mod terms;
+mod titles;
 
 pub use flow::{document_of, is_grid};

@@ -3,7 +3,9 @@ ghost use Rattle.std.specs.Prelude.{◌≡◌, [], ◌∷◌, ◌++◌, IfOk, On
 ghost use Rattle.std.specs.List.{list_all};
 ghost use Rattle.htmd_document.specs.Documents as documents;
 ghost use Rattle.htmd_document.specs.DocumentViews as views;
+ghost use Rattle.htmd_document.specs.FlatDocuments as flat;
 ghost use Rattle.htmd_flow.specs.GroupViews.{IsWithItem, AreWithItems};
+ghost use Rattle.htmd_flow.specs.ListViews as items;
 ghost use Rattle.htmd_flow.specs.ListViews.{item_of};
 ghost use Rattle.htmd_flow.specs.Lists as spec;
 ghost use Rattle.htmd_document.specs.TightItems as tight;
@@ -11,7 +13,7 @@ ghost use Rattle.htmd_flow.specs.ParagraphViews.{writing_in};
 ghost use Rattle.htmd_flow.specs.Paragraphs.{fed_all};
 
 use crate::paragraphs::Paragraphs;
-use htmd_document::{Block, ItemContent};
+use htmd_document::{Block, ItemContent, text_in_line};
 use std::alloc::{AllocError, Global};
 use std::mem;
 
@@ -39,18 +41,52 @@ const LAST_NUMBER: i64 = 100_000_000_000_000_001;
 
 /// Whether there are blocks.
 #[tactic(auto, using(crate::proofs::ListsLemmas::filled_is))]
-fn is_filled(blocks: &[Block]) -> bool
+pub(crate) fn is_filled(blocks: &[Block]) -> bool
     ensures { result ≡ tight.is_filled (views.blocks_of blocks.now) }
 {
     !blocks.is_empty()
 }
 
-/// Whether there is one block at most.
-#[tactic(auto, using(crate::proofs::ListsLemmas::short_is))]
-fn is_short(blocks: &[Block]) -> bool
-    ensures { result ≡ tight.is_short (views.blocks_of blocks.now) }
+/// Whether a block is written as nothing but tags.
+#[cycle(tags)]
+fn is_tags_alone(block: &Block) -> bool
+    ensures { result ≡ items.is_tags_alone (views.block_of block.now) }
 {
-    blocks.len() < 2
+    match block {
+        Block::Element { content, .. } => text_in_line(content).is_some()
+            || are_tags_alone(content),
+        Block::Paragraph(_) => false,
+        Block::Heading { .. } => false,
+        Block::CodeBlock { .. } => false,
+        Block::Quote(_) => false,
+        Block::ThematicBreak => false,
+        Block::List { .. } => false,
+        Block::Table { .. } => false,
+    }
+}
+
+/// Whether blocks are written as nothing but tags.
+#[cycle(tags)]
+fn are_tags_alone(blocks: &[Block]) -> bool
+    ensures { result ≡ items.are_tags_alone (views.blocks_of blocks.now) }
+{
+    for block in blocks {
+        if !is_tags_alone(block) {
+            return false;
+        }
+    }
+    true
+}
+
+/// Whether blocks are written as one at most.
+fn is_short(blocks: &[Block]) -> bool
+    ensures { result ≡ tight.is_short (flat.flattened (views.blocks_of blocks.now)) }
+{
+    match blocks {
+        [] => true,
+        [block] => is_plain(block) || is_tags_alone(block),
+        _ => are_tags_alone(blocks),
+    }
 }
 
 /// Whether something shows in one of the items.
@@ -77,6 +113,22 @@ fn is_table(block: &Block) -> bool
     ensures { result ≡ tight.is_table (views.block_of block.now) }
 {
     matches!(block, Block::Table { .. })
+}
+
+/// Whether a block is no element.
+fn is_plain(block: &Block) -> bool
+    ensures { result ≡ flat.is_plain (views.block_of block.now) }
+{
+    match block {
+        Block::Element { .. } => false,
+        Block::Paragraph(_) => true,
+        Block::Heading { .. } => true,
+        Block::CodeBlock { .. } => true,
+        Block::Quote(_) => true,
+        Block::ThematicBreak => true,
+        Block::List { .. } => true,
+        Block::Table { .. } => true,
+    }
 }
 
 /// Whether a paragraph is among the blocks.
@@ -125,13 +177,12 @@ fn goes_on_a_paragraph(block: &Block) -> bool
 }
 
 /// Whether the blocks of an item can be tight.
-#[tactic(auto, using(crate::proofs::ListsLemmas::many_not_tight))]
 fn is_tight_item(blocks: &[Block]) -> bool
-    ensures { result ≡ tight.is_tight_item (views.blocks_of blocks.now) }
+    ensures { result ≡ tight.is_tight_item (flat.flattened (views.blocks_of blocks.now)) }
 {
     match blocks {
         [] => true,
-        [block] => !is_table(block),
+        [block] => is_plain(block) && !is_table(block),
         [block, next] => is_paragraph(block) && goes_on_a_paragraph(next),
         _ => false,
     }

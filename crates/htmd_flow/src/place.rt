@@ -3,8 +3,12 @@ ghost use Rattle.std.specs.Prelude.{◌≡◌, ◌<◌, ◌≤◌, ◌+◌, ◌&
 ghost use Rattle.std.specs.Prelude.{IfSome, OnOk, IfOk};
 ghost use Rattle.std.specs.List.{list_any, prefix_len};
 ghost use Rattle.htmd_document.specs.DocumentLimits as limits;
+ghost use Rattle.htmd_document.specs.Formats as formats;
 ghost use Rattle.htmd_document.specs.Formats.{of_format, of_element};
 ghost use Rattle.htmd_lexical.specs.Attributes.{pairs_of};
+ghost use Rattle.htmd_shown.specs.Attributes as attributes;
+ghost use Rattle.htmd_shown.specs.Showings.{show_usual_sign};
+ghost use Rattle.htmd_shown.specs.SimpleViews.{simple_of, simples_of};
 ghost use Rattle.htmd_flow.specs.Contexts as contexts;
 ghost use Rattle.htmd_flow.specs.Flows as flow;
 ghost use Rattle.htmd_flow.specs.FlowViews as views;
@@ -13,8 +17,9 @@ ghost use Rattle.htmd_flow.specs.PartViews.{around_of};
 use crate::around::Around;
 use htmd_document::{Format, InlineElement};
 use htmd_nodes::{Attribute, NodeId};
-use htmd_shown::Facts;
 use htmd_shown::attributes::{address, text_of, title_of};
+use htmd_shown::showing::show_usual_sign;
+use htmd_shown::{Facts, Role, Simple};
 use std::alloc::{AllocError, Global};
 
 /// Lists and quotes in each other.
@@ -53,22 +58,32 @@ pub(crate) struct Place<'t> {
     pub(crate) is_code: bool,
     /// Whether all is one line.
     pub(crate) is_flat: bool,
+    /// Whether the document is rich.
+    pub(crate) is_rich: bool,
     /// How many lists and quotes.
     pub(crate) nested: usize,
     pub(crate) near: Near<'t>,
 }
 
 impl<'t> Place<'t> {
-    /// Nothing is around.
-    pub(crate) fn bare() -> Place<'t>
-        ensures { views.context_in result [] ≡ contexts.bare }
+    /// Nothing is around, in a document that is rich or not.
+    pub(crate) fn bare(is_rich: bool) -> Place<'t>
+        ensures { views.context_in result [] ≡ contexts.bare_in is_rich }
     {
         Place {
             is_code: false,
             is_flat: false,
+            is_rich,
             nested: 0,
             near: Near::None,
         }
+    }
+
+    /// Whether blocks can be elements here.
+    pub(crate) fn has_elements(&self) -> bool
+        ensures { result ≡ (self.now.is_rich && not self.now.is_flat) }
+    {
+        self.is_rich && !self.is_flat
     }
 
     /// Inside a block that can be near to code, with so many `pre` in it.
@@ -100,6 +115,22 @@ impl<'t> Place<'t> {
         }
     }
 
+    /// Inside a cell: a `td` can say the language of the code in it.
+    pub(crate) fn in_cell(&self, cell: &Simple<'t>) -> Place<'t>
+        ensures { (around : List Around) → views.context_in result around
+            ≡ flow.in_cell (simple_of cell.now) (views.context_in self.now around) }
+    {
+        match cell {
+            Simple::Element {
+                role: Role::Cell,
+                facts,
+                attrs,
+                ..
+            } => self.beside_code(facts.pres, *attrs),
+            _ => *self,
+        }
+    }
+
     pub(crate) fn in_one_line(&self) -> Place<'t>
         ensures { result ≡ record self.now { is_flat = true } }
     {
@@ -128,15 +159,45 @@ fn is_format(around: &Around, format: Format) -> bool
 {
     match around {
         Around::Format(f) => *f == format,
-        Around::Element(_) | Around::Link { .. } => false,
+        _ => false,
     }
 }
 
-/// Whether it is an element that stays one.
-fn is_element(around: &Around) -> bool
+/// Whether an element stands above or below the line.
+fn is_raised(element: InlineElement) -> bool
+    ensures { result ≡ formats.is_raised (of_element element) }
+{
+    matches!(
+        element,
+        InlineElement::Superscript | InlineElement::Subscript
+    )
+}
+
+/// Whether it is an element that stands above or below the line.
+fn is_raised_around(around: &Around) -> bool
     ensures { result ≡ contexts.is_raised_around (around_of around.now) }
 {
-    matches!(around, Around::Element(_))
+    match around {
+        Around::Element(element) => is_raised(*element),
+        _ => false,
+    }
+}
+
+/// Whether it is this element.
+fn is_element(around: &Around, element: InlineElement) -> bool
+    ensures { result ≡ contexts.is_format (of_element element) (around_of around.now) }
+{
+    match around {
+        Around::Element(e) => *e == element,
+        _ => false,
+    }
+}
+
+/// Whether it is an abbreviation, whatever its title.
+fn is_abbreviation(around: &Around) -> bool
+    ensures { result ≡ contexts.is_format (formats.Abbreviation []) (around_of around.now) }
+{
+    matches!(around, Around::Abbreviation(_))
 }
 
 /// Whether this format is around.
@@ -157,18 +218,35 @@ pub(crate) fn new_format(around: &[Around], format: Format) -> Option<Around>
     Some(Around::Format(format))
 }
 
-/// How many elements that stay ones are around.
-fn elements_len(around: &[Around]) -> usize
+/// How many elements around stand above or below the line.
+fn raised_len(around: &[Around]) -> usize
     ensures value { result ≡ contexts.raised_around (map around_of around.now) }
     ensures bound { result ≤ length around.now }
 {
     let mut count = 0;
     for a in around {
-        if is_element(a) {
+        if is_raised_around(a) {
             count += 1;
         }
     }
     count
+}
+
+/// Whether this element is around.
+fn holds_element(around: &[Around], element: InlineElement) -> bool
+    ensures { result ≡ list_any (contexts.is_format (of_element element)) (map around_of around.now) }
+{
+    around.iter().any(|a| is_element(a, element))
+}
+
+/// Whether an element isn't put around once more: those that stand above or below the line stand in each other.
+fn is_enough(around: &[Around], element: InlineElement) -> bool
+    ensures { result ≡ contexts.is_enough (of_element element) (map around_of around.now) }
+{
+    if is_raised(element) {
+        return raised_len(around) >= MOST_RAISED;
+    }
+    holds_element(around, element)
 }
 
 /// This element, unless as many are around as there may be in each other.
@@ -176,10 +254,35 @@ pub(crate) fn new_element(around: &[Around], element: InlineElement) -> Option<A
     ensures { (place : Place) → views.with_option (views.context_in place around.now) result
         ≡ contexts.inside_format (of_element element) (views.context_in place around.now) }
 {
-    if elements_len(around) >= MOST_RAISED {
+    if is_enough(around, element) {
         return None;
     }
     Some(Around::Element(element))
+}
+
+/// Whether an abbreviation is around.
+fn holds_abbreviation(around: &[Around]) -> bool
+    ensures { result ≡ list_any (contexts.is_format (formats.Abbreviation [])) (map around_of around.now) }
+{
+    around.iter().any(|a| is_abbreviation(a))
+}
+
+/// The abbreviation of an `abbr` with a title, if none is around yet.
+pub(crate) fn new_abbreviation(
+    alloc: Global,
+    attrs: &[Attribute],
+    around: &[Around],
+) -> Result<Option<Around>, AllocError>
+    ensures { (place : Place) → IfOk result (λ a. views.with_option (views.context_in place around.now) a
+        ≡ contexts.inside_title (attributes.title_of (pairs_of attrs.now)) (views.context_in place around.now)) }
+{
+    if holds_abbreviation(around) {
+        return Ok(None);
+    }
+    match title_of(alloc, attrs)? {
+        Some(title) => Ok(Some(Around::Abbreviation(title))),
+        None => Ok(None),
+    }
 }
 
 // ---- links
@@ -240,6 +343,14 @@ pub(crate) fn is_unlinked(facts: Facts, around: &[Around]) -> bool
     ensures { result ≡ (facts.shows_sign && list_any contexts.leads_to_part (map around_of around.now)) }
 {
     facts.shows_sign && is_linked_to_part(around)
+}
+
+/// Whether nodes of a title aren't linked by the link around it, in a document with elements here or not.
+pub(crate) fn is_title_unlinked(nodes: &[Simple], place: &Place, around: &[Around]) -> bool
+    ensures { result ≡ ((place.now.is_rich && not place.now.is_flat)
+        && list_any contexts.leads_to_part (map around_of around.now) && show_usual_sign (simples_of nodes.now)) }
+{
+    place.has_elements() && is_linked_to_part(around) && show_usual_sign(nodes)
 }
 
 /// A link that was taken out of what is around, and how much was around it.

@@ -7,6 +7,7 @@ ghost use Rattle.htmd_flow.specs.Tables as spec;
 
 use crate::node::{holds_header, holds_table};
 use htmd_nodes::NodeId;
+use htmd_shown::showing::shows;
 use htmd_shown::{
     Role, Simple, content_of, is_blank, is_caption, is_cell, is_head, is_header_cell, is_part,
     is_row, is_row_or_part,
@@ -53,19 +54,30 @@ impl TablePart {
 
 // ---- what else is in it
 
-/// Whether a node of a row is a cell, or nothing shows of it.
-fn is_cell_or_blank(node: &Simple) -> bool
-    ensures { result ≡ spec.is_cell_or_blank (simple_of node.now) }
+/// Whether nothing shows of a node; in a rich document breaks and images without anything to see are nothing.
+fn is_nothing(is_rich: bool, node: &Simple) -> bool
+    ensures { result ≡ spec.is_nothing is_rich (simple_of node.now) }
 {
-    is_cell(node) || is_blank(node)
+    if is_rich {
+        !shows(node)
+    } else {
+        is_blank(node)
+    }
+}
+
+/// Whether a node of a row is a cell, or nothing shows of it.
+fn is_cell_or_nothing(is_rich: bool, node: &Simple) -> bool
+    ensures { result ≡ spec.is_cell_or_nothing is_rich (simple_of node.now) }
+{
+    is_cell(node) || is_nothing(is_rich, node)
 }
 
 /// Whether nothing shows of a row but its cells.
-fn holds_cells_alone(row: &[Simple]) -> bool
-    ensures { result ≡ list_all spec.is_cell_or_blank (map simple_of row.now) }
+fn holds_cells_alone(is_rich: bool, row: &[Simple]) -> bool
+    ensures { result ≡ list_all (spec.is_cell_or_nothing is_rich) (map simple_of row.now) }
 {
     for node in row {
-        if !is_cell_or_blank(node) {
+        if !is_cell_or_nothing(is_rich, node) {
             return false;
         }
     }
@@ -73,21 +85,21 @@ fn holds_cells_alone(row: &[Simple]) -> bool
 }
 
 /// Whether a node is a row of cells alone, or nothing shows of it.
-fn is_row_or_blank(node: &Simple) -> bool
-    ensures { result ≡ spec.is_row_or_blank (simple_of node.now) }
+fn is_row_or_nothing(is_rich: bool, node: &Simple) -> bool
+    ensures { result ≡ spec.is_row_or_nothing is_rich (simple_of node.now) }
 {
     if is_row(node) {
-        return holds_cells_alone(content_of(node));
+        return holds_cells_alone(is_rich, content_of(node));
     }
-    is_blank(node)
+    is_nothing(is_rich, node)
 }
 
 /// Whether nothing shows of a part of a table but rows of cells.
-fn holds_rows_alone(part: &[Simple]) -> bool
-    ensures { result ≡ list_all spec.is_row_or_blank (map simple_of part.now) }
+fn holds_rows_alone(is_rich: bool, part: &[Simple]) -> bool
+    ensures { result ≡ list_all (spec.is_row_or_nothing is_rich) (map simple_of part.now) }
 {
     for node in part {
-        if !is_row_or_blank(node) {
+        if !is_row_or_nothing(is_rich, node) {
             return false;
         }
     }
@@ -95,24 +107,24 @@ fn holds_rows_alone(part: &[Simple]) -> bool
 }
 
 /// Whether nothing shows of a node of a table but captions and cells.
-fn is_table_child(node: &Simple) -> bool
-    ensures { result ≡ spec.is_table_child (simple_of node.now) }
+fn is_table_child(is_rich: bool, node: &Simple) -> bool
+    ensures { result ≡ spec.is_table_child is_rich (simple_of node.now) }
 {
     if is_caption(node) {
         return true;
     }
     if is_part(node) {
-        return holds_rows_alone(content_of(node));
+        return holds_rows_alone(is_rich, content_of(node));
     }
-    is_row_or_blank(node)
+    is_row_or_nothing(is_rich, node)
 }
 
 /// Whether nothing shows of a table but captions and cells.
-fn holds_table_alone(table: &[Simple]) -> bool
-    ensures { result ≡ spec.holds_table_alone (map simple_of table.now) }
+pub(crate) fn holds_table_alone(is_rich: bool, table: &[Simple]) -> bool
+    ensures { result ≡ spec.holds_table_alone is_rich (map simple_of table.now) }
 {
     for node in table {
-        if !is_table_child(node) {
+        if !is_table_child(is_rich, node) {
             return false;
         }
     }
@@ -193,7 +205,7 @@ fn has_head(table: &[Simple]) -> bool
 // ---- its cells
 
 /// How many cells are in a row.
-fn cells_len(row: &[Simple]) -> usize
+pub(crate) fn cells_len(row: &[Simple]) -> usize
     ensures value { result ≡ spec.cells_len (map simple_of row.now) }
     ensures bound { result ≤ length row.now }
 {
@@ -350,7 +362,7 @@ pub enum Layout {
 pub(crate) fn layout_of(table: &[Simple]) -> Layout
     ensures { result ≡ spec.layout_of (map simple_of table.now) }
 {
-    if !has_captions_around(table) || !holds_table_alone(table) {
+    if !has_captions_around(table) || !holds_table_alone(false, table) {
         return Layout::Page;
     }
     let cells = Cells::of(table);

@@ -21,7 +21,7 @@ use htmd_shown::{Simple, content_of, is_meaning, is_term};
 use std::alloc::{AllocError, Global};
 
 /// Whether a node is a term or says what one means.
-fn is_term_or_meaning(node: &Simple) -> bool
+pub(crate) fn is_term_or_meaning(node: &Simple) -> bool
     ensures { result ≡ spec.is_term_or_meaning (simple_of node.now) }
 {
     is_term(node) || is_meaning(node)

@@ -98,15 +98,15 @@ formula-bare : (name : List ℕ) (attributes : List AttributePair) (other : Opti
 formula-bare name attributes other None h = h
 formula-bare name attributes other (Some tex) h = one-node _ tt
 
-module _ (around : Surroundings) (source : Option (List ℕ)) (id : ℕ) (name : List ℕ)
+module _ (rich : Bool) (around : Surroundings) (source : Option (List ℕ)) (id : ℕ) (name : List ℕ)
     (attributes : List AttributePair)
     (children : NumberedForest) (content : Simples) (u : AreBare content) where
-  content-bare : (in_head : Bool) → Bare (with_content in_head id name attributes children content)
+  content-bare : (in_head : Bool) → Bare (with_content rich in_head id name attributes children content)
   content-bare in_head =
       either-node (bytes_eq name (codes "a") && is_permalink in_head attributes content) (target-bare id attributes)
-      (one-node (made id (role_at name attributes children) attributes content) u)
+      (one-node (made id (role_at rich name attributes children) attributes content) u)
 
-  by-content-bare : Bare (by_content around source id name attributes children content)
+  by-content-bare : Bare (by_content rich around source id name attributes children content)
   by-content-bare =
       either-node (is_hidden around name attributes) no-node
       (either-node (is_image name attributes) (one-node _ tt)
@@ -135,9 +135,9 @@ mutual
       (all-bare sight (inside name children around) (picture_source name children) None children)) in
       let content : Simples = cond (is_emptied around name attributes) none all in
       either-node (is_skipped sight name) no-node
-      (formula-bare name attributes (by_content around source id name attributes children content)
+      (formula-bare name attributes (by_content sight.is_rich around source id name attributes children content)
       (tex_of name attributes children)
-      (by-content-bare around source id name attributes children content
+      (by-content-bare sight.is_rich around source id name attributes children content
       (emptied (is_emptied around name attributes) all bare)))
     where
       emptied : (b : Bool) (ts : Simples) → AreBare ts → AreBare (cond b none ts)

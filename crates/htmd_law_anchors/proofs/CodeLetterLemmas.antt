@@ -8,7 +8,7 @@ use Rattle.htmd_shown.specs.AllTexts.{dollar_sign}
 use Rattle.htmd_shown.specs.Marks.{letters_of, letters_among}
 use Rattle.htmd_shown.specs.Roles.{is_void}
 use Rattle.htmd_shown.specs.SimpleTrees.{Simple, text, image, formula, embedded, anchor, element, Simples, none, more}
-use Rattle.htmd_document_of_tree.specs.Seen.{code_shows}
+use Rattle.htmd_shown.specs.Showings.{code_shows}
 use Rattle.htmd_law_documents.specs.DocumentTexts.{visible}
 use Rattle.htmd_law_documents.specs.SaidTexts.{SaysUnless, Says, SayAll}
 use Rattle.htmd_law_documents.specs.SimpleForms.{IsMade, IsSound, AreSound}

@@ -19,7 +19,7 @@ use Rattle.htmd_shown.specs.Kinds.{are_blank}
 use Rattle.htmd_shown.specs.Marks.{letters, letters_of, letters_among}
 use Rattle.htmd_shown.specs.SimpleTrees.{Simple, text, image, formula, embedded, anchor, element, Simples, none, more}
 use Rattle.htmd_shown.specs.Spaces.{is_white, is_wide_space, is_blank_text}
-use Rattle.htmd_document_of_tree.specs.Seen.{code_shows}
+use Rattle.htmd_shown.specs.Showings.{code_shows}
 use Rattle.htmd_flow.specs.Flows.{code_parts}
 use Rattle.htmd_flow.specs.Parts.{Around}
 use Rattle.htmd_law_documents.specs.DocumentTexts.{visible}

@@ -5,6 +5,8 @@ pub mod PieceMarkLemmas
 pub mod CodeLetterLemmas
 pub mod PlacedLemmas
 pub mod StandLemmas
+pub mod LetterKeptLemmas
+pub mod ShowKeptLemmas
 pub mod LimitLemmas
 pub mod BareTreeLemmas
 pub mod TargetLemmas
@@ -15,6 +17,7 @@ pub mod TruthLemmas
 pub mod LinkWritingLemmas
 pub mod LinkPartLemmas
 pub mod LinkNodesLemmas
+pub mod LinkAroundLemmas
 pub mod LinkTreeLemmas
 pub mod LinkKeptLemmas
 pub mod LinkLeadLemmas
@@ -30,6 +33,7 @@ pub mod ProperTreeLemmas
 pub mod ShownProperLemmas
 pub mod LinkMain
 pub mod LinkReachLemmas
+pub mod LinkRichLemmas
 pub mod ShapeLeafLemmas
 pub mod Main
 pub mod Examples

@@ -7,10 +7,10 @@ use Rattle.htmd_shown.specs.declared.role.Role.{Role}
 use Rattle.htmd_shown.specs.declared.role.Role.TheVariants as role
 use Rattle.htmd_shown.specs.Attributes.{is_filled}
 use Rattle.htmd_shown.specs.Marks.{letters_of, letters_among}
-use Rattle.htmd_shown.specs.Roles.{is_link}
 use Rattle.htmd_shown.specs.SimpleTrees.{Simple, text, image, formula, embedded, anchor, element, Simples, none, more}
-use Rattle.htmd_document_of_tree.specs.Limits.{size, cost, paid, left_after, within, all_within, budget, limited}
-use Rattle.htmd_document_of_tree.specs.Seen.{code_shows}
+use Rattle.htmd_document_of_tree.specs.Limits.{is_carrying, size, cost, paid, left_after, emptied, within}
+use Rattle.htmd_document_of_tree.specs.Limits.{all_within, budget, limited}
+use Rattle.htmd_shown.specs.Showings.{code_shows}
 use Rattle.htmd_law_documents.specs.SaidTexts.{SayAll}
 use Rattle.htmd_law_documents.specs.SimpleTexts.{flat_in, grid_in}
 use Rattle.htmd_law_documents.proofs.VisibleLemmas.{both-true}
@@ -56,20 +56,21 @@ inner-shows id r facts attributes new old h f g things x = (
       (λ y. h.show (flat_in r f g) (grid_in r x.0 g) things y) x.1,
 )
 
--- a link without an address shows what the link shows
-link-shows : (id : ℕ) (r : Role) (facts : Facts) (attributes : List AttributePair) (content : Simples) (f g : Bool)
-    (things : List (List ℕ)) → is_link r ≡ true
-    → Shows f g (element id role.Target facts attributes content) things
+-- a link without an address, or an abbreviation without a title, shows what it shows with them
+emptied-shows : (id : ℕ) (r : Role) (facts : Facts) (attributes : List AttributePair) (content : Simples)
+    (f g : Bool) (things : List (List ℕ)) → is_carrying r ≡ true
+    → Shows f g (element id (emptied r) facts attributes content) things
     → Shows f g (element id r facts attributes content) things
-link-shows id role.Link facts attributes content f g things e x = x
-link-shows id r facts attributes content f g things e x = false-true e
+emptied-shows id role.Link facts attributes content f g things e x = x
+emptied-shows id role.Abbreviation facts attributes content f g things e x = x
+emptied-shows id r facts attributes content f g things e x = false-true e
 
 element-shows : (b : Bool) (id : ℕ) (r : Role) (facts : Facts) (attributes : List AttributePair) (content : Simples)
-    → (b ≡ true → is_link r ≡ true) → (f g : Bool) (things : List (List ℕ))
-    → Shows f g (element id (cond b role.Target r) facts attributes content) things
+    → (b ≡ true → is_carrying r ≡ true) → (f g : Bool) (things : List (List ℕ))
+    → Shows f g (element id (cond b (emptied r) r) facts attributes content) things
     → Shows f g (element id r facts attributes content) things
 element-shows true id r facts attributes content h f g things x =
-    link-shows id r facts attributes content f g things (h refl) x
+    emptied-shows id r facts attributes content f g things (h refl) x
 element-shows false id r facts attributes content h f g things x = x
 
 mutual
@@ -88,10 +89,10 @@ mutual
         code = ap is_filled (all-within-letters now content);
         show = λ k l us y. all-within-show now content k l us y;
       }) f g things
-      (element-shows (not (is_some now) && is_link r && nat_lt 0 (size attributes)) id r facts attributes
+      (element-shows (not (is_some now) && is_carrying r && nat_lt 0 (size r attributes)) id r facts attributes
       (all_within now content)
-      (λ e. (both-true (not (is_some now)) (is_link r)
-      (both-true (not (is_some now) && is_link r) (nat_lt 0 (size attributes)) e).0).1) f g things x)
+      (λ e. (both-true (not (is_some now)) (is_carrying r)
+      (both-true (not (is_some now) && is_carrying r) (nat_lt 0 (size r attributes)) e).0).1) f g things x)
 
   all-within-show : (left : Option ℕ) (ts : Simples) (f g : Bool) (things : List (List ℕ))
       → ShowAll f g (all_within left ts) things → ShowAll f g ts things

@@ -2,14 +2,19 @@
 use Rattle.std.proofs.Common.{◌≡◌, ℕ, Bool, true, false, cond, not, ◌&&◌, List, [], ◌∷◌, ◌++◌, refl, sym, ap, ◌∙◌}
 use Rattle.std.proofs.Common.{subst, Option, None}
 use Rattle.std.specs.Prelude.{nat_lt}
+use Rattle.std.specs.List.{list_any}
 use Rattle.std.proofs.lemmas.List.{append-nil}
+use Rattle.htmd_lexical.specs.AttributePairs.{AttributePair}
+use Rattle.htmd_shown.specs.declared.facts.Facts.{Facts}
 use Rattle.htmd_shown.specs.declared.role.Role.{Role}
 use Rattle.htmd_shown.specs.declared.role.Role.TheVariants as role
 use Rattle.htmd_shown.specs.AllTexts.{all_text, all_text_among, text_in, with_line_feeds}
 use Rattle.htmd_shown.specs.Kinds.{has}
+use Rattle.htmd_shown.specs.Marks.{is_usual_sign, letters_among}
 use Rattle.htmd_shown.specs.Pieces.{Pieces, no_pieces, is_leaf, is_unseen, after_leaf, at_edge, pieces_after}
 use Rattle.htmd_shown.specs.Roles.{is_caption, is_link, is_line_break, is_verbatim}
 use Rattle.htmd_shown.specs.Shown.{followed_by}
+use Rattle.htmd_shown.specs.Showings.{image_shows, code_shows}
 use Rattle.htmd_shown.specs.SimpleTrees.{Simple, text, image, formula, embedded, anchor, element, Simples, none, more}
 use Rattle.htmd_shown.specs.Spaces.{is_blank_text}
 use Rattle.htmd_document_of_tree.specs.declared.anchors.Anchors.{Anchors}
@@ -21,19 +26,35 @@ use Rattle.htmd_document_of_tree.specs.Anchors.{placing_after_all, placed, all_p
 use Rattle.htmd_document_of_tree.specs.Anchors.{anchored}
 use Rattle.htmd_document_of_tree.specs.FirstPieces.{most_linked, unlinked, cut_leaf, cut, cut_all, pieced, pieced_all}
 use Rattle.htmd_document_of_tree.specs.Leadings.{is_flat, layout_in}
-use Rattle.htmd_document_of_tree.specs.Seen.{image_shows, code_shows}
 use Rattle.htmd_document_of_tree.specs.Targets.{Target}
 use Rattle.htmd_flow.specs.Flows.{is_grid_of}
 use Rattle.htmd_law_documents.proofs.ElementLemmas.{false-true, true-false}
-use Rattle.htmd_law_anchors.proofs.LinkTreeLemmas.{link_in, code_gives, Unless, Holds, Within, AllWithin}
+use Rattle.htmd_law_anchors.proofs.LetterKeptLemmas.{all-placed-letters, all-cut-letters, all-pieced-letters}
+use Rattle.htmd_law_anchors.proofs.LinkAroundLemmas.{to_part, title_link, link_in}
+use Rattle.htmd_law_anchors.proofs.LinkTreeLemmas.{code_gives, Unless, Holds, Within, AllWithin}
+use Rattle.htmd_law_anchors.proofs.TruthLemmas.{and-false}
 
 -- ---- where a node stands
 
-layout-same : (flat : Bool) (r : Role) (ts us : Simples) → is_grid_of ts ≡ is_grid_of us
-    → layout_in flat r ts ≡ layout_in flat r us
-layout-same true r ts us e = refl
-layout-same false role.Table ts us e = ap (λ b. cond b layout.Cells layout.Blocks) e
-layout-same false r ts us e = refl
+layout-same : (rich flat : Bool) (r : Role) (ts us : Simples) → is_grid_of ts ≡ is_grid_of us
+    → layout_in rich flat r ts ≡ layout_in rich flat r us
+layout-same rich true r ts us e = refl
+layout-same rich false role.Table ts us e = ap (λ b. cond (not rich && b) layout.Cells layout.Blocks) e
+layout-same rich false r ts us e = refl
+
+title-same : (rich flat : Bool) (ts us : Simples) (link : Option (List ℕ)) → letters_among ts ≡ letters_among us
+    → title_link rich flat ts link ≡ title_link rich flat us link
+title-same rich flat ts us link e =
+    ap (λ s. cond (rich && not flat && to_part link && list_any is_usual_sign s) None link) e
+
+link-same : (rich flat : Bool) (r : Role) (facts : Facts) (attributes : List AttributePair) (ts us : Simples)
+    (link : Option (List ℕ)) → letters_among ts ≡ letters_among us
+    → link_in rich flat r facts attributes ts link ≡ link_in rich flat r facts attributes us link
+link-same rich flat role.Term facts attributes ts us link e = title-same rich flat ts us link e
+link-same rich flat role.Caption facts attributes ts us link e = title-same rich flat ts us link e
+link-same rich flat role.FigureCaption facts attributes ts us link e = title-same rich flat ts us link e
+link-same rich flat role.Summary facts attributes ts us link e = title-same rich flat ts us link e
+link-same rich flat r facts attributes ts us link e = refl
 
 flat-same : (beside : Layout) (t u : Simple) → has is_caption t ≡ has is_caption u
     → is_flat beside t ≡ is_flat beside u
@@ -121,53 +142,68 @@ abbrev mutual
   AllGridsPlaced p none = Unit {0}
   AllGridsPlaced p (more t ts) = GridsPlaced p t × AllGridsPlaced (placing_after p t) ts
 
-module _ (Is : List ℕ → Type 0) where
-  followed-within : (link : Option (List ℕ)) (beside : Layout) (ts us : Simples) → AllWithin Is link beside ts
-      → AllWithin Is link beside us → AllWithin Is link beside (followed_by ts us)
+-- what is in an element, changed but for its letters and its tables
+content-kept : (Is : List ℕ → Type 0) (rich flat : Bool) (r : Role) (facts : Facts)
+    (attributes : List AttributePair) (content us : Simples) (link : Option (List ℕ))
+    → layout_in rich flat r content ≡ layout_in rich flat r us → letters_among us ≡ letters_among content
+    → AllWithin Is rich (link_in rich flat r facts attributes content link) (layout_in rich flat r content) us
+    → AllWithin Is rich (link_in rich flat r facts attributes us link) (layout_in rich flat r us) us
+content-kept Is rich flat r facts attributes content us link e f h =
+    subst (λ (l : Option (List ℕ)). AllWithin Is rich l (layout_in rich flat r us) us)
+    (sym (link-same rich flat r facts attributes us content link f))
+    (subst (λ (beside : Layout). AllWithin Is rich (link_in rich flat r facts attributes content link) beside us) e h)
+
+module _ (Is : List ℕ → Type 0) (rich : Bool) where
+  followed-within : (link : Option (List ℕ)) (beside : Layout) (ts us : Simples) → AllWithin Is rich link beside ts
+      → AllWithin Is rich link beside us → AllWithin Is rich link beside (followed_by ts us)
   followed-within link beside none us g h = h
   followed-within link beside (more t ts) us g h = (g.0, followed-within link beside ts us g.1 h)
 
   anchors-within : (link : Option (List ℕ)) (beside : Layout) (ids : List (List ℕ))
-      → AllWithin Is link beside (anchors ids)
+      → AllWithin Is rich link beside (anchors ids)
   anchors-within link beside [] = tt
   anchors-within link beside (id ∷ ids) = (tt, anchors-within link beside ids)
 
   found-within : (link : Option (List ℕ)) (beside : Layout) (ids : List (List ℕ)) (b : Bool)
-      → AllWithin Is link beside (cond b (more (apart (anchors ids)) none) (anchors ids))
+      → AllWithin Is rich link beside (cond b (more (apart (anchors ids)) none) (anchors ids))
   found-within link beside ids true = (anchors-within link _ ids, tt)
   found-within link beside ids false = anchors-within link beside ids
 
   -- a leaf after anchors
   before-within : (link : Option (List ℕ)) (flat : Bool) (found : Simples) (t : Simple)
-      → ((beside : Layout) → AllWithin Is link beside found) → Within Is link flat t
-      → Within Is link flat (before found t)
+      → ((beside : Layout) → AllWithin Is rich link beside found) → Within Is rich link flat t
+      → Within Is rich link flat (before found t)
   before-within link true found t g h =
       followed-within link layout.OneLine found (more t none) (g layout.OneLine) (h, tt)
   before-within link false found t g h =
-      followed-within link layout.Blocks found (more t none) (g layout.Blocks) (h, tt)
+      subst (λ (b : Bool). AllWithin Is rich link (cond b layout.Cells layout.Blocks)
+      (followed_by found (more t none)))
+      (sym (and-false (not rich))) (followed-within link layout.Blocks found (more t none) (g layout.Blocks) (h, tt))
 
-  after-within : (link : Option (List ℕ)) (flat : Bool) (ids : List (List ℕ)) (t : Simple) → Within Is link flat t
-      → Within Is link flat (after_anchors ids t)
+  after-within : (link : Option (List ℕ)) (flat : Bool) (ids : List (List ℕ)) (t : Simple)
+      → Within Is rich link flat t
+      → Within Is rich link flat (after_anchors ids t)
   after-within link flat [] t h = h
   after-within link flat (id ∷ ids) t h =
       before-within link flat (cond (stands_apart t) (more (apart (anchors (id ∷ ids))) none) (anchors (id ∷ ids)))
       t
       (λ beside. found-within link beside (id ∷ ids) (stands_apart t)) h
 
-  ids-within : (link : Option (List ℕ)) (flat : Bool) (ids : List (List ℕ)) (t : Simple) → Within Is link flat t
-      → Within Is link flat (with_ids ids t)
+  ids-within : (link : Option (List ℕ)) (flat : Bool) (ids : List (List ℕ)) (t : Simple)
+      → Within Is rich link flat t
+      → Within Is rich link flat (with_ids ids t)
   ids-within link flat ids (embedded id address title attributes found) h = h
   ids-within link flat ids t h = h
 
-  leaf-within : (link : Option (List ℕ)) (flat b : Bool) (p : Placing) (t : Simple) → Within Is link flat t
-      → Within Is link flat (placed_before p b t)
+  leaf-within : (link : Option (List ℕ)) (flat b : Bool) (p : Placing) (t : Simple) → Within Is rich link flat t
+      → Within Is rich link flat (placed_before p b t)
   leaf-within link flat false p t h = h
   leaf-within link flat true p t h = either (is_embedded t)
     where
       ids : List (List ℕ)
       ids = ids_up_to p.seen p.targets
 
-      either : (b : Bool) → Within Is link flat (cond b (with_ids ids t) (after_anchors ids t))
+      either : (b : Bool) → Within Is rich link flat (cond b (with_ids ids t) (after_anchors ids t))
       either true = ids-within link flat ids t h
       either false = after-within link flat ids t h
 
@@ -212,7 +248,7 @@ module _ (Is : List ℕ → Type 0) where
 
   mutual
     within-placed : (t : Simple) (p : Placing) (link : Option (List ℕ)) (flat : Bool) → GridsPlaced p t
-        → Within Is link flat t → Within Is link flat (placed p t)
+        → Within Is rich link flat t → Within Is rich link flat (placed p t)
     within-placed (text s) p link flat g h = leaf-within link flat (not (is_blank_text s)) p (text s) h
     within-placed (image address attributes) p link flat g h =
         leaf-within link flat (image_shows address attributes) p (image address attributes) h
@@ -228,43 +264,45 @@ module _ (Is : List ℕ → Type 0) where
         t = element id r facts attributes content
 
         inner : Option (List ℕ)
-        inner = link_in flat r facts attributes link
+        inner = link_in rich flat r facts attributes content link
 
         either : (b : Bool) → is_verbatim r ≡ b
-            → Unless b ((flat && code_gives content) ≡ true → Holds Is link)
-            (AllWithin Is inner (layout_in flat r content) content)
-            → ((k : Option (List ℕ)) (beside : Layout) → AllWithin Is k beside content
-            → AllWithin Is k beside (all_placed p content))
-            → Within Is link flat (cond b (placed_before p (code_shows content) t)
+            → Unless b ((flat && code_gives content) ≡ true → Holds Is rich link)
+            (AllWithin Is rich inner (layout_in rich flat r content) content)
+            → ((k : Option (List ℕ)) (beside : Layout) → AllWithin Is rich k beside content
+            → AllWithin Is rich k beside (all_placed p content))
+            → Within Is rich link flat (cond b (placed_before p (code_shows content) t)
             (element id r facts attributes (all_placed p content)))
         either true e x next =
             leaf-within link flat (code_shows content) p t
-            (subst (λ (b : Bool). Unless b ((flat && code_gives content) ≡ true → Holds Is link)
-            (AllWithin Is inner (layout_in flat r content) content)) (sym e) x)
+            (subst (λ (b : Bool). Unless b ((flat && code_gives content) ≡ true → Holds Is rich link)
+            (AllWithin Is rich inner (layout_in rich flat r content) content)) (sym e) x)
         either false e x next =
-            subst (λ (b : Bool). Unless b ((flat && code_gives (all_placed p content)) ≡ true → Holds Is link)
-            (AllWithin Is inner (layout_in flat r (all_placed p content)) (all_placed p content))) (sym e)
-            (subst (λ (beside : Layout). AllWithin Is inner beside (all_placed p content))
-            (layout-same flat r content (all_placed p content) g.0) (next inner (layout_in flat r content) x))
+            subst (λ (b : Bool). Unless b ((flat && code_gives (all_placed p content)) ≡ true → Holds Is rich link)
+            (AllWithin Is rich (link_in rich flat r facts attributes (all_placed p content) link)
+            (layout_in rich flat r (all_placed p content)) (all_placed p content))) (sym e)
+            (content-kept Is rich flat r facts attributes content (all_placed p content) link
+            (layout-same rich flat r content (all_placed p content) g.0) (all-placed-letters p content)
+            (next inner (layout_in rich flat r content) x))
 
     all-within-placed : (ts : Simples) (p : Placing) (link : Option (List ℕ)) (beside : Layout)
-        → AllGridsPlaced p ts → AllWithin Is link beside ts → AllWithin Is link beside (all_placed p ts)
+        → AllGridsPlaced p ts → AllWithin Is rich link beside ts → AllWithin Is rich link beside (all_placed p ts)
     all-within-placed none p link beside g h = tt
     all-within-placed (more t ts) p link beside g h = (
-      subst (λ (b : Bool). Within Is link b (placed p t)) (flat-same beside t (placed p t) (caption-placed p t))
+      subst (λ (b : Bool). Within Is rich link b (placed p t)) (flat-same beside t (placed p t) (caption-placed p t))
           (within-placed t p link (is_flat beside t) g.0 h.0),
       all-within-placed ts (placing_after p t) link beside g.1 h.1,
     )
 
-  last-within : (targets : List Target) → AllWithin Is None layout.Blocks (last_anchors targets)
+  last-within : (targets : List Target) → AllWithin Is rich None layout.Blocks (last_anchors targets)
   last-within [] = tt
   last-within (t ∷ targets) = (anchors-within None _ (values_of (t ∷ targets)), tt)
 
   pub anchored-within : (which : Anchors) (ts : Simples)
-      → AllGridsPlaced (record { seen = 0; targets = targets_by which ts }) ts
-      → AllWithin Is None layout.Blocks ts → AllWithin Is None layout.Blocks (anchored which ts)
+      → AllGridsPlaced (record { seen = 0; targets = targets_by which rich ts }) ts
+      → AllWithin Is rich None layout.Blocks ts → AllWithin Is rich None layout.Blocks (anchored which rich ts)
   anchored-within which ts g h =
-      let p : Placing = record { seen = 0; targets = targets_by which ts } in
+      let p : Placing = record { seen = 0; targets = targets_by which rich ts } in
       followed-within None layout.Blocks (all_placed p ts) (last_anchors (placing_after_all p ts).targets)
       (all-within-placed ts p None layout.Blocks g h) (last-within (placing_after_all p ts).targets)
 
@@ -300,10 +338,11 @@ abbrev mutual
   AllGridsPieced none = Unit {0}
   AllGridsPieced (more t ts) = GridsPieced t × AllGridsPieced ts
 
-module _ (Is : List ℕ → Type 0) where
+module _ (Is : List ℕ → Type 0) (rich : Bool) where
   -- a leaf that isn't in the link
-  free-leaf : (link : Option (List ℕ)) (flat : Bool) (t : Simple) → is_leaf t ≡ true → Within Is link flat t
-      → Within Is None flat t
+  free-leaf : (link : Option (List ℕ)) (flat : Bool) (t : Simple) → is_leaf t ≡ true
+      → Within Is rich link flat t
+      → Within Is rich None flat t
   free-leaf link flat (text s) e h = λ b. tt
   free-leaf link flat (image address attributes) e h = λ b. tt
   free-leaf link flat (formula tex is_alone attributes) e h = λ b. tt
@@ -313,16 +352,18 @@ module _ (Is : List ℕ → Type 0) where
   free-leaf link flat (element id role.Verbatim facts attributes content) e h = λ b. tt
   free-leaf link flat (element id r facts attributes content) e h = false-true e
 
-  unlinked-within : (link : Option (List ℕ)) (flat : Bool) (t : Simple) → Within Is None flat t
-      → Within Is link flat (unlinked t)
+  unlinked-within : (link : Option (List ℕ)) (flat : Bool) (t : Simple) → Within Is rich None flat t
+      → Within Is rich link flat (unlinked t)
   unlinked-within link true t h = (h, tt)
-  unlinked-within link false t h = (h, tt)
+  unlinked-within link false t h =
+      subst (λ (b : Bool). AllWithin Is rich None (cond b layout.Cells layout.Blocks) (more t none))
+      (sym (and-false (not rich))) (h, tt)
 
   cut-leaf-within : (link : Option (List ℕ)) (flat : Bool) (p : Pieces) (t : Simple) → is_leaf t ≡ true
-      → Within Is link flat t → Within Is link flat (cut_leaf p t)
+      → Within Is rich link flat t → Within Is rich link flat (cut_leaf p t)
   cut-leaf-within link flat p t e h = either (not (is_unseen t) && nat_lt most_linked (after_leaf p t).count)
     where
-      either : (b : Bool) → Within Is link flat (cond b (unlinked t) t)
+      either : (b : Bool) → Within Is rich link flat (cond b (unlinked t) t)
       either true = unlinked-within link flat t (free-leaf link flat t e h)
       either false = h
 
@@ -377,7 +418,7 @@ module _ (Is : List ℕ → Type 0) where
 
   mutual
     within-cut : (t : Simple) (p : Pieces) (link : Option (List ℕ)) (flat : Bool) → GridsCut p t
-        → Within Is link flat t → Within Is link flat (cut p t)
+        → Within Is rich link flat t → Within Is rich link flat (cut p t)
     within-cut (text s) p link flat g h = cut-leaf-within link flat p (text s) refl h
     within-cut (image address attributes) p link flat g h =
         cut-leaf-within link flat p (image address attributes) refl h
@@ -394,36 +435,36 @@ module _ (Is : List ℕ → Type 0) where
         t = element id r facts attributes content
 
         inner : Option (List ℕ)
-        inner = link_in flat r facts attributes link
+        inner = link_in rich flat r facts attributes content link
 
         either : (b d : Bool) → is_verbatim r ≡ b
-            → Unless b ((flat && code_gives content) ≡ true → Holds Is link)
-            (AllWithin Is inner (layout_in flat r content) content)
-            → ((k : Option (List ℕ)) (beside : Layout) → AllWithin Is k beside content
-            → AllWithin Is k beside (cut_all (at_edge r p) content))
-            → Within Is link flat (cond b (cut_leaf p t)
+            → Unless b ((flat && code_gives content) ≡ true → Holds Is rich link)
+            (AllWithin Is rich inner (layout_in rich flat r content) content)
+            → ((k : Option (List ℕ)) (beside : Layout) → AllWithin Is rich k beside content
+            → AllWithin Is rich k beside (cut_all (at_edge r p) content))
+            → Within Is rich link flat (cond b (cut_leaf p t)
             (element id r facts attributes (cond d content (cut_all (at_edge r p) content))))
         either true d e x next =
             cut-leaf-within link flat p t e
-            (subst (λ (b : Bool). Unless b ((flat && code_gives content) ≡ true → Holds Is link)
-            (AllWithin Is inner (layout_in flat r content) content)) (sym e) x)
+            (subst (λ (b : Bool). Unless b ((flat && code_gives content) ≡ true → Holds Is rich link)
+            (AllWithin Is rich inner (layout_in rich flat r content) content)) (sym e) x)
         either false true e x next =
-            subst (λ (b : Bool). Unless b ((flat && code_gives content) ≡ true → Holds Is link)
-            (AllWithin Is inner (layout_in flat r content) content)) (sym e) x
+            subst (λ (b : Bool). Unless b ((flat && code_gives content) ≡ true → Holds Is rich link)
+            (AllWithin Is rich inner (layout_in rich flat r content) content)) (sym e) x
         either false false e x next =
             subst (λ (b : Bool). Unless b ((flat && code_gives (cut_all (at_edge r p) content)) ≡ true
-            → Holds Is link)
-            (AllWithin Is inner (layout_in flat r (cut_all (at_edge r p) content)) (cut_all (at_edge r p) content)))
-            (sym e)
-            (subst (λ (beside : Layout). AllWithin Is inner beside (cut_all (at_edge r p) content))
-            (layout-same flat r content (cut_all (at_edge r p) content) g.0)
-            (next inner (layout_in flat r content) x))
+            → Holds Is rich link)
+            (AllWithin Is rich (link_in rich flat r facts attributes (cut_all (at_edge r p) content) link)
+            (layout_in rich flat r (cut_all (at_edge r p) content)) (cut_all (at_edge r p) content))) (sym e)
+            (content-kept Is rich flat r facts attributes content (cut_all (at_edge r p) content) link
+            (layout-same rich flat r content (cut_all (at_edge r p) content) g.0)
+            (all-cut-letters (at_edge r p) content) (next inner (layout_in rich flat r content) x))
 
     all-within-cut : (ts : Simples) (p : Pieces) (link : Option (List ℕ)) (beside : Layout)
-        → AllGridsCut p ts → AllWithin Is link beside ts → AllWithin Is link beside (cut_all p ts)
+        → AllGridsCut p ts → AllWithin Is rich link beside ts → AllWithin Is rich link beside (cut_all p ts)
     all-within-cut none p link beside g h = tt
     all-within-cut (more t ts) p link beside g h = (
-      subst (λ (b : Bool). Within Is link b (cut p t)) (flat-same beside t (cut p t) (cut-caption p t))
+      subst (λ (b : Bool). Within Is rich link b (cut p t)) (flat-same beside t (cut p t) (cut-caption p t))
           (within-cut t p link (is_flat beside t) g.0 h.0),
       all-within-cut ts (pieces_after p t) link beside g.1 h.1,
     )
@@ -442,14 +483,14 @@ module _ (Is : List ℕ → Type 0) where
   verbatim-no_link r e = false-true e
 
   link-layout : (flat : Bool) (r : Role) (ts us : Simples) → is_link r ≡ true
-      → layout_in flat r ts ≡ layout_in flat r us
+      → layout_in rich flat r ts ≡ layout_in rich flat r us
   link-layout true r ts us e = refl
   link-layout false role.Link ts us e = refl
   link-layout false r ts us e = false-true e
 
   mutual
     within-pieced : (t : Simple) (link : Option (List ℕ)) (flat : Bool) → GridsPieced t
-        → Within Is link flat t → Within Is link flat (pieced t)
+        → Within Is rich link flat t → Within Is rich link flat (pieced t)
     within-pieced (text s) link flat g h = h
     within-pieced (image address attributes) link flat g h = h
     within-pieced (formula tex is_alone attributes) link flat g h = h
@@ -460,37 +501,42 @@ module _ (Is : List ℕ → Type 0) where
         (λ k beside x. all-within-pieced content k beside g.1 x)
       where
         inner : Option (List ℕ)
-        inner = link_in flat r facts attributes link
+        inner = link_in rich flat r facts attributes content link
 
         either : (b d : Bool) → is_verbatim r ≡ b → is_link r ≡ d
-            → Unless b ((flat && code_gives content) ≡ true → Holds Is link)
-            (AllWithin Is inner (layout_in flat r content) content)
-            → ((k : Option (List ℕ)) (beside : Layout) → AllWithin Is k beside content
-            → AllWithin Is k beside (pieced_all content))
-            → Within Is link flat (element id r facts attributes
+            → Unless b ((flat && code_gives content) ≡ true → Holds Is rich link)
+            (AllWithin Is rich inner (layout_in rich flat r content) content)
+            → ((k : Option (List ℕ)) (beside : Layout) → AllWithin Is rich k beside content
+            → AllWithin Is rich k beside (pieced_all content))
+            → Within Is rich link flat (element id r facts attributes
             (cond d (cut_all no_pieces content) (pieced_all content)))
         either true true e f x next = true-false (sym f ∙ verbatim-no_link r e)
         either true false e f x next =
-            subst (λ (b : Bool). Unless b ((flat && code_gives (pieced_all content)) ≡ true → Holds Is link)
-            (AllWithin Is inner (layout_in flat r (pieced_all content)) (pieced_all content))) (sym e)
+            subst (λ (b : Bool). Unless b ((flat && code_gives (pieced_all content)) ≡ true → Holds Is rich link)
+            (AllWithin Is rich (link_in rich flat r facts attributes (pieced_all content) link)
+            (layout_in rich flat r (pieced_all content)) (pieced_all content))) (sym e)
             (λ k. x (ap (λ s. flat && not (is_blank_text (with_line_feeds s))) (sym (all-pieced-text content)) ∙ k))
         either false true e f x next =
-            subst (λ (b : Bool). Unless b ((flat && code_gives (cut_all no_pieces content)) ≡ true → Holds Is link)
-            (AllWithin Is inner (layout_in flat r (cut_all no_pieces content)) (cut_all no_pieces content))) (sym e)
-            (subst (λ (beside : Layout). AllWithin Is inner beside (cut_all no_pieces content))
-            (link-layout flat r content (cut_all no_pieces content) f)
-            (all-within-cut content no_pieces inner (layout_in flat r content) g.2 x))
+            subst (λ (b : Bool). Unless b ((flat && code_gives (cut_all no_pieces content)) ≡ true
+            → Holds Is rich link)
+            (AllWithin Is rich (link_in rich flat r facts attributes (cut_all no_pieces content) link)
+            (layout_in rich flat r (cut_all no_pieces content)) (cut_all no_pieces content))) (sym e)
+            (content-kept Is rich flat r facts attributes content (cut_all no_pieces content) link
+            (link-layout flat r content (cut_all no_pieces content) f) (all-cut-letters no_pieces content)
+            (all-within-cut content no_pieces inner (layout_in rich flat r content) g.2 x))
         either false false e f x next =
-            subst (λ (b : Bool). Unless b ((flat && code_gives (pieced_all content)) ≡ true → Holds Is link)
-            (AllWithin Is inner (layout_in flat r (pieced_all content)) (pieced_all content))) (sym e)
-            (subst (λ (beside : Layout). AllWithin Is inner beside (pieced_all content))
-            (layout-same flat r content (pieced_all content) g.0) (next inner (layout_in flat r content) x))
+            subst (λ (b : Bool). Unless b ((flat && code_gives (pieced_all content)) ≡ true → Holds Is rich link)
+            (AllWithin Is rich (link_in rich flat r facts attributes (pieced_all content) link)
+            (layout_in rich flat r (pieced_all content)) (pieced_all content))) (sym e)
+            (content-kept Is rich flat r facts attributes content (pieced_all content) link
+            (layout-same rich flat r content (pieced_all content) g.0) (all-pieced-letters content)
+            (next inner (layout_in rich flat r content) x))
 
     pub all-within-pieced : (ts : Simples) (link : Option (List ℕ)) (beside : Layout) → AllGridsPieced ts
-        → AllWithin Is link beside ts → AllWithin Is link beside (pieced_all ts)
+        → AllWithin Is rich link beside ts → AllWithin Is rich link beside (pieced_all ts)
     all-within-pieced none link beside g h = tt
     all-within-pieced (more t ts) link beside g h = (
-      subst (λ (b : Bool). Within Is link b (pieced t)) (flat-same beside t (pieced t) (pieced-caption t))
+      subst (λ (b : Bool). Within Is rich link b (pieced t)) (flat-same beside t (pieced t) (pieced-caption t))
           (within-pieced t link (is_flat beside t) g.0 h.0),
       all-within-pieced ts link beside g.1 h.1,
     )

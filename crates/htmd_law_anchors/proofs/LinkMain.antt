@@ -1,5 +1,5 @@
 -- The law of links: each link of a document to a part of its page is one of those that count.
-use Rattle.std.proofs.Common.{◌≡◌, ℕ, true, false, List, [], ◌∷◌, None}
+use Rattle.std.proofs.Common.{◌≡◌, ℕ, Bool, true, false, List, [], ◌∷◌, None}
 use Rattle.std.specs.Str.{bytes_eq}
 use Rattle.htmd_shown.specs.Shown.{shown_in}
 use Rattle.htmd_shown.specs.SimpleTrees.{Simples}
@@ -36,16 +36,18 @@ unfolding document_of_tree document_by
 links_count which sight tree e =
     let shown : Simples = shown_in sight tree in
     let ts : Simples = limited shown in
-    let all : List Leading = all_leadings ts in
+    let rich : Bool = sight.is_rich in
+    let all : List Leading = all_leadings rich ts in
     let sound : AreSound ts = limited-sound shown (page-sound sight tree e) in
     let clear : AreClear ts = limited-clear shown (page-clear sight tree e) in
-    let p : Placing = record { seen = 0; targets = targets_by which ts } in
-    let us : Simples = anchored which ts in
-    let within : AllWithin (LeadsAmong all) None layout.Blocks ts =
-    leadings-within all ts (all-calm ts false sound (limited-proper shown (page-proper sight tree e)))
+    let p : Placing = record { seen = 0; targets = targets_by which rich ts } in
+    let us : Simples = anchored which rich ts in
+    let within : AllWithin (LeadsAmong all) rich None layout.Blocks ts =
+    leadings-within all rich ts (all-calm rich ts false sound (limited-proper shown (page-proper sight tree e)))
     (among all all (λ s f. f)) in
-    let placed : AllWithin (LeadsAmong all) None layout.Blocks us =
-    anchored-within (LeadsAmong all) which ts (all-grids-placed p ts sound clear) within in
-    document-links (LeadsAmong all) (pieced_all us)
-    (all-within-pieced (LeadsAmong all) us None layout.Blocks (all-grids-pieced us (anchored-sound which ts sound))
+    let placed : AllWithin (LeadsAmong all) rich None layout.Blocks us =
+    anchored-within (LeadsAmong all) rich which ts (all-grids-placed p ts sound clear) within in
+    document-links (LeadsAmong all) rich (pieced_all us)
+    (all-within-pieced (LeadsAmong all) rich us None layout.Blocks
+    (all-grids-pieced us (anchored-sound which rich ts sound))
     placed)

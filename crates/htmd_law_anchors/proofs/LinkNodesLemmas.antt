@@ -1,5 +1,6 @@
 -- The links of what nodes give are those around what shows: what follows each other, lists of terms, and tables.
 use Rattle.std.proofs.Common.{◌≡◌, ℕ, zero, suc, Bool, true, false, cond, not, ◌||◌, List, [], ◌∷◌, ◌++◌, map, refl}
+use Rattle.std.proofs.Common.{◌&&◌, ap}
 use Rattle.std.proofs.Common.{◌∙◌, fold, length, take, drop, subst, sym, Option, Some, None}
 use Rattle.std.specs.Prelude.{ℤ, nat_lt}
 use Rattle.std.specs.List.{list_any, flat_map}
@@ -7,12 +8,14 @@ use Rattle.htmd_lexical.specs.Characters.{space}
 use Rattle.htmd_document.specs.Documents.{Block}
 use Rattle.htmd_shown.specs.declared.role.Role.{Role}
 use Rattle.htmd_shown.specs.declared.role.Role.TheVariants as role
-use Rattle.htmd_shown.specs.Kinds.{has}
+use Rattle.htmd_shown.specs.Kinds.{has, content_of}
 use Rattle.htmd_shown.specs.Roles as roles
+use Rattle.htmd_shown.specs.Showings.{show_usual_sign}
 use Rattle.htmd_shown.specs.SimpleTrees as simple
 use Rattle.htmd_shown.specs.SimpleTrees.{Simple}
 use Rattle.htmd_shown.specs.Spaces.{is_blank_text}
-use Rattle.htmd_flow.specs.Contexts.{Context, is_lined, deeper, apart, in_one_line}
+use Rattle.htmd_flow.specs.Contexts.{Context, has_elements, is_lined, is_linked_to_part, unlinked, deeper, apart}
+use Rattle.htmd_flow.specs.Contexts.{in_one_line}
 use Rattle.htmd_flow.specs.Flows.{Node, Row, TermPart, gap, of_node, is_item, before_items, behind_item, item_of}
 use Rattle.htmd_flow.specs.Flows.{items_of, each_whole, list_parts, goes_on, items_in_a_row, flow_all, flow_after}
 use Rattle.htmd_flow.specs.Flows.{has_role, beside_terms, within_item, Terms, no_terms, item_with, onto_last, with_term}
@@ -20,7 +23,7 @@ use Rattle.htmd_flow.specs.Flows.{with_parts, after_node, with_node, with_part, 
 use Rattle.htmd_flow.specs.Flows.{term_parts, is_grid, caption_in_one_line, captions_in_one_line, cell_in_one_line}
 use Rattle.htmd_flow.specs.Flows.{row_in_one_line, rows_in_one_line, before_row, grid_in_one_line, caption_apart}
 use Rattle.htmd_flow.specs.Flows.{captions_among, cell_of, row_of, filled_rows, block_part, table_block, grid_inside}
-use Rattle.htmd_flow.specs.Flows.{table_parts}
+use Rattle.htmd_flow.specs.Flows.{table_parts, around_title, around_node, within}
 use Rattle.htmd_flow.specs.Grids as grid
 use Rattle.htmd_flow.specs.Lists.{ListItem, lists_if_filled}
 use Rattle.htmd_flow.specs.Paragraphs.{Writing, begun}
@@ -40,15 +43,18 @@ At link [] = link ≡ None
 At link (formatted format ∷ around) = At link around
 At link (linked node address title ∷ around) = (link ≡ Some address) × At None around
 
-pub record In (link : Option (List ℕ)) (flat : Bool) (c : Context) : Type 0 where
+pub record In (rich : Bool) (link : Option (List ℕ)) (flat : Bool) (c : Context) : Type 0 where
   pub around : At link c.around
   pub line : c.is_flat ≡ flat
+  pub is : c.is_rich ≡ rich
 
-pub in-deeper : (link : Option (List ℕ)) (flat : Bool) (c : Context) → In link flat c → In link flat (deeper c)
-in-deeper link flat c i = record { around = i.around; line = i.line }
+pub in-deeper : (rich : Bool) (link : Option (List ℕ)) (flat : Bool) (c : Context) → In rich link flat c
+    → In rich link flat (deeper c)
+in-deeper rich link flat c i = record { around = i.around; line = i.line; is = i.is }
 
-pub in-line : (link : Option (List ℕ)) (flat : Bool) (c : Context) → In link flat c → In link true (in_one_line c)
-in-line link flat c i = record { around = i.around; line = refl }
+pub in-line : (rich : Bool) (link : Option (List ℕ)) (flat : Bool) (c : Context) → In rich link flat c
+    → In rich link true (in_one_line c)
+in-line rich link flat c i = record { around = i.around; line = refl; is = i.is }
 
 -- ---- kinds
 
@@ -60,6 +66,8 @@ is_inner role.Meaning = true
 is_inner role.Caption = true
 is_inner role.Cell = true
 is_inner role.HeaderCell = true
+is_inner role.FigureCaption = true
+is_inner role.Summary = true
 is_inner _ = false
 
 pub item-inner : (r : Role) → roles.is_item r ≡ true → is_inner r ≡ true
@@ -78,20 +86,58 @@ pub caption-inner : (r : Role) → roles.is_caption r ≡ true → is_inner r �
 caption-inner role.Caption e = refl
 caption-inner r e = false-true e
 
+item-untitled : (r : Role) → roles.is_item r ≡ true → roles.is_title r ≡ false
+item-untitled role.Item e = refl
+item-untitled r e = false-true e
+
+meaning-untitled : (r : Role) → roles.is_meaning r ≡ true → roles.is_title r ≡ false
+meaning-untitled role.Meaning e = refl
+meaning-untitled r e = false-true e
+
+pub has-none : (p q : Role → Bool) → ((r : Role) → p r ≡ true → q r ≡ false) → (t : Simple)
+    → has p t ≡ true
+    → has q t ≡ false
+has-none p q f (simple.element id r facts attributes content) e = f r e
+has-none p q f t e = false-true e
+
+-- a title stands in what is around it, in a document that isn't rich, or in one line
+around-plain : (t : Simple) (c : Context) → has_elements c ≡ false → around_node t c ≡ c
+around-plain t c e = either (has roles.is_title t)
+  where
+    either : (b : Bool) → cond b (around_title (content_of t) c) c ≡ c
+    either true =
+        ap (λ b. cond (b && is_linked_to_part c && show_usual_sign (content_of t)) (unlinked c) c) e
+    either false = refl
+
+around-other : (t : Simple) (c : Context) → has roles.is_title t ≡ false → around_node t c ≡ c
+around-other t c e = ap (λ b. cond b (around_title (content_of t) c) c) e
+
 pub has-more : (p q : Role → Bool) → ((r : Role) → p r ≡ true → q r ≡ true) → (t : Simple)
     → has p t ≡ true
     → has q t ≡ true
 has-more p q f (simple.element id r facts attributes content) e = f r e
 has-more p q f t e = false-true e
 
-module _ (Is : List ℕ → Type 0) (link : Option (List ℕ)) where
+module _ (Is : List ℕ → Type 0) (rich : Bool) (link : Option (List ℕ)) where
   -- what it gives there is good
   abbrev pub Gives : Bool → (Context → List Part) → Type 0
-  Gives flat parts = (c : Context) → In link flat c → GoodParts Is (parts c)
+  Gives flat parts = (c : Context) → In rich link flat c → GoodParts Is (parts c)
+
+  -- the same where no element stands
+  abbrev pub GivesPlain : Bool → (Context → List Part) → Type 0
+  GivesPlain flat parts = (c : Context) → In rich link flat c → has_elements c ≡ false → GoodParts Is (parts c)
 
   pub record NodeGood (flat : Bool) (n : Node) : Type 0 where
     pub whole : Gives flat n.whole
-    pub content : has is_inner n.tree ≡ true → Gives flat n.content
+    pub content : has is_inner n.tree ≡ true → Gives flat (within n)
+
+  plain-content : (n : Node) (c : Context) → has_elements c ≡ false → GoodParts Is (within n c)
+      → GoodParts Is (n.content c)
+  plain-content n c e h = subst (λ (d : Context). GoodParts Is (n.content d)) (around-plain n.tree c e) h
+
+  pub other-content : (n : Node) (c : Context) → has roles.is_title n.tree ≡ false → GoodParts Is (within n c)
+      → GoodParts Is (n.content c)
+  other-content n c e h = subst (λ (d : Context). GoodParts Is (n.content d)) (around-other n.tree c e) h
 
   abbrev pub AllNodes : Bool → List Node → Type 0
   AllNodes flat [] = Unit {0}
@@ -123,7 +169,13 @@ module _ (Is : List ℕ → Type 0) (link : Option (List ℕ)) where
     either-items true xs ys g h = g refl
     either-items false xs ys g h = h
 
-    items-good : (nodes : List Node) → AllNodes flat nodes → (c : Context) → In link flat c
+    item-content : (n : Node) (c : Context) → is_item n ≡ true → NodeGood flat n → In rich link flat c
+        → GoodParts Is (n.content c)
+    item-content n c e h i =
+        other-content n c (has-none roles.is_item roles.is_title item-untitled n.tree e)
+        (h.content (has-more roles.is_item is_inner item-inner n.tree e) c i)
+
+    items-good : (nodes : List Node) → AllNodes flat nodes → (c : Context) → In rich link flat c
         → AllItems Is (items_of nodes c)
     items-good [] h c i = tt
     items-good (n ∷ nodes) h c i =
@@ -133,7 +185,7 @@ module _ (Is : List ℕ → Type 0) (link : Option (List ℕ)) where
         (λ e. (
           blocks-good Is true parts
               (parts-append Is (n.content c) (behind_item nodes c)
-              (h.0.content (has-more roles.is_item is_inner item-inner n.tree e) c i) (behind-good nodes h.1 c i)),
+              (item-content n c e h.0 i) (behind-good nodes h.1 c i)),
           rest,
         )) rest
 
@@ -152,7 +204,7 @@ module _ (Is : List ℕ → Type 0) (link : Option (List ℕ)) where
         ((edge ∷ before_items nodes c) ++ edge ∷ lists ++ edge ∷ [])
         (λ e. parts-apart Is (each_whole nodes c) (each-good nodes h c i))
         (λ e. between-edges (before_items nodes c) lists (before-good nodes h c i)
-        (lists-good Is c.nested start items (items-good nodes h (deeper c) (in-deeper link flat c i))))
+        (lists-good Is c.nested start items (items-good nodes h (deeper c) (in-deeper rich link flat c i))))
 
     -- ---- what follows each other
 
@@ -245,26 +297,27 @@ module _ (Is : List ℕ → Type 0) (link : Option (List ℕ)) where
     beside-good n h c i =
         parts-either Is (has roles.is_meaning n.tree) (apart (n.content c)) (cond (is_item n) (n.content c) (n.whole c))
         (λ e. parts-apart Is (n.content c)
-        (h.content (has-more roles.is_meaning is_inner meaning-inner n.tree e) c i))
-        (λ e. parts-either Is (is_item n) (n.content c) (n.whole c)
-        (λ k. h.content (has-more roles.is_item is_inner item-inner n.tree k) c i) (λ k. h.whole c i))
+        (other-content n c (has-none roles.is_meaning roles.is_title meaning-untitled n.tree e)
+        (h.content (has-more roles.is_meaning is_inner meaning-inner n.tree e) c i)))
+        (λ e. parts-either Is (is_item n) (n.content c) (n.whole c) (λ k. item-content n c k h i) (λ k. h.whole c i))
 
     within-good : (n : Node) → NodeGood flat n → Gives flat (within_item n)
     within-good n h c i =
         parts-either Is (has roles.is_meaning n.tree) (beside_terms n c) (edge ∷ beside_terms n c)
         (λ e. beside-good n h c i) (λ e. (tt, beside-good n h c i))
 
-    module _ (c : Context) (i : In link flat c) where
+    module _ (c : Context) (i : In rich link flat c) (plain : has_elements c ≡ false) where
       node-terms : (has_meanings : Bool) (t : Terms) (n : Node) → NodeGood flat n → TermsGood t
           → TermsGood (with_node has_meanings c t n)
       node-terms has_meanings t n k h =
           let d : Context = deeper c in
-          let j : In link flat d = in-deeper link flat c i in
+          let j : In rich link flat d = in-deeper rich link flat c i in
           either-terms (has roles.is_term n.tree) (with_term has_meanings t (apart (n.content d)))
           (with_parts (after_node t n) (within_item n d) (beside_terms n c))
           (λ e.
           let parts : GoodParts Is (apart (n.content d)) =
-          parts-apart Is (n.content d) (k.content (has-more roles.is_term is_inner term-inner n.tree e) d j) in
+          parts-apart Is (n.content d)
+          (plain-content n d plain (k.content (has-more roles.is_term is_inner term-inner n.tree e) d j)) in
           record {
             before = h.before;
             items = either-well t.goes_on (onto_last t.items (apart (n.content d)))
@@ -292,14 +345,15 @@ module _ (Is : List ℕ → Type 0) (link : Option (List ℕ)) where
           (lists-good Is c.nested None (items_of_terms t) (well-items t.items h.items))
 
     pub term-parts-good : (parts : List TermPart) (nodes : List Node) → GoodTerms parts → AllNodes flat nodes
-        → Gives flat (term_parts parts nodes)
-    term-parts-good parts nodes k h c i =
+        → GivesPlain flat (term_parts parts nodes)
+    term-parts-good parts nodes k h c i plain =
         let has_meanings : Bool = list_any (has_role roles.is_meaning) parts in
         let t : Terms = fold (with_part has_meanings c) no_terms parts in
         parts-either Is (is_lined c || not (list_any (has_role roles.is_term) parts)) (apart (flow_all nodes c))
         (list_of_terms c t)
         (λ e. parts-apart Is (flow_all nodes c) (flow-good nodes h c i))
-        (λ e. terms-list c i t (all-terms c i has_meanings parts no_terms k (record { before = tt; items = tt })))
+        (λ e. terms-list c i plain t (all-terms c i plain has_meanings parts no_terms k
+        (record { before = tt; items = tt })))
 
   -- ---- tables
 
@@ -319,7 +373,7 @@ module _ (Is : List ℕ → Type 0) (link : Option (List ℕ)) where
   abbrev pub CaptionsGood : Bool → List Node → Type 0
   CaptionsGood flat [] = Unit {0}
   CaptionsGood flat (n ∷ nodes) =
-      (has roles.is_caption n.tree ≡ true → Gives flat n.content) × CaptionsGood flat nodes
+      (has roles.is_caption n.tree ≡ true → Gives flat (within n)) × CaptionsGood flat nodes
 
   captions-take : (flat : Bool) (k : ℕ) (nodes : List Node) → CaptionsGood flat nodes
       → CaptionsGood flat (take k nodes)
@@ -334,21 +388,22 @@ module _ (Is : List ℕ → Type 0) (link : Option (List ℕ)) where
   captions-drop flat (suc k) (n ∷ nodes) h = captions-drop flat k nodes h.1
 
   line-captions : (flat : Bool) (nodes : List Node) → CaptionsGood flat nodes
-      → Gives flat (captions_in_one_line nodes)
-  line-captions flat [] h c i = tt
-  line-captions flat (n ∷ nodes) h c i =
+      → GivesPlain flat (captions_in_one_line nodes)
+  line-captions flat [] h c i p = tt
+  line-captions flat (n ∷ nodes) h c i p =
       parts-append Is (caption_in_one_line c n) (captions_in_one_line nodes c)
       (parts-either Is (has roles.is_caption n.tree) (n.content c ++ edge ∷ []) []
-      (λ e. parts-append Is (n.content c) (edge ∷ []) (h.0 e c i) (tt, tt)) (λ e. tt))
-      (line-captions flat nodes h.1 c i)
+      (λ e. parts-append Is (n.content c) (edge ∷ []) (plain-content n c p (h.0 e c i)) (tt, tt)) (λ e. tt))
+      (line-captions flat nodes h.1 c i p)
 
-  captions-apart : (flat : Bool) (nodes : List Node) → CaptionsGood flat nodes → Gives flat (captions_among nodes)
-  captions-apart flat [] h c i = tt
-  captions-apart flat (n ∷ nodes) h c i =
+  captions-apart : (flat : Bool) (nodes : List Node) → CaptionsGood flat nodes
+      → GivesPlain flat (captions_among nodes)
+  captions-apart flat [] h c i p = tt
+  captions-apart flat (n ∷ nodes) h c i p =
       parts-append Is (caption_apart c n) (captions_among nodes c)
       (parts-either Is (has roles.is_caption n.tree) (apart (n.content c)) []
-      (λ e. parts-apart Is (n.content c) (h.0 e c i)) (λ e. tt))
-      (captions-apart flat nodes h.1 c i)
+      (λ e. parts-apart Is (n.content c) (plain-content n c p (h.0 e c i))) (λ e. tt))
+      (captions-apart flat nodes h.1 c i p)
 
   pub space-blank : is_blank_text (space ∷ []) ≡ false → ⊥
   unfolding chars encode
@@ -371,23 +426,23 @@ module _ (Is : List ℕ → Type 0) (link : Option (List ℕ)) where
       (rows-in-line rows h.1 c i)
 
   one-line-good : (nodes : List Node) (rows : List Row) → CaptionsGood true nodes → RowsGood rows
-      → Gives true (grid_in_one_line nodes rows)
-  one-line-good nodes rows h g c i =
+      → GivesPlain true (grid_in_one_line nodes rows)
+  one-line-good nodes rows h g c i p =
       let k : ℕ = before_row nodes in
       let first : List Part = captions_in_one_line (take k nodes) c in
       let last : List Part = captions_in_one_line (drop k nodes) c in
       parts-append Is (first ++ rows_in_one_line rows c) last
       (parts-append Is first (rows_in_one_line rows c)
-      (line-captions true (take k nodes) (captions-take true k nodes h) c i) (rows-in-line rows g c i))
-      (line-captions true (drop k nodes) (captions-drop true k nodes h) c i)
+      (line-captions true (take k nodes) (captions-take true k nodes h) c i p) (rows-in-line rows g c i))
+      (line-captions true (drop k nodes) (captions-drop true k nodes h) c i p)
 
-  cell-lines : (c : Context) → In link true (in_one_line c) → (cells : List Node) → CellsGood cells
+  cell-lines : (c : Context) → In rich link true (in_one_line c) → (cells : List Node) → CellsGood cells
       → GoodCells Is (map (cell_of c) cells)
   cell-lines c i [] h = tt
   cell-lines c i (n ∷ cells) h =
       (line-good Is (n.content (in_one_line c)) (h.0 (in_one_line c) i), cell-lines c i cells h.1)
 
-  row-cells : (c : Context) → In link true (in_one_line c) → (rows : List Row) → RowsGood rows
+  row-cells : (c : Context) → In rich link true (in_one_line c) → (rows : List Row) → RowsGood rows
       → GoodRows Is (map (row_of c) rows)
   row-cells c i [] h = tt
   row-cells c i (row ∷ rows) h = (cell-lines c i row.cells h.0, row-cells c i rows h.1)
@@ -401,13 +456,13 @@ module _ (Is : List ℕ → Type 0) (link : Option (List ℕ)) where
       either true g = (h.0, g)
       either false g = g
 
-  option-good : (o : Option Block) → GoodOption Is o → GoodParts Is (block_part o)
+  pub option-good : (o : Option Block) → GoodOption Is o → GoodParts Is (block_part o)
   option-good None h = tt
   option-good (Some b) h = (h, tt)
 
   grid-good : (flat : Bool) (nodes : List Node) (rows : List Row) → CaptionsGood flat nodes → RowsGood rows
-      → Gives flat (grid_inside nodes rows)
-  grid-good flat nodes rows h g c i =
+      → GivesPlain flat (grid_inside nodes rows)
+  grid-good flat nodes rows h g c i p =
       let k : ℕ = before_row nodes in
       let first : List Part = captions_among (take k nodes) c in
       let last : List Part = captions_among (drop k nodes) c in
@@ -415,18 +470,19 @@ module _ (Is : List ℕ → Type 0) (link : Option (List ℕ)) where
       let made : List grid.Row = map (row_of c) rows in
       parts-append Is ((first ++ edge ∷ block) ++ edge ∷ last) (edge ∷ [])
       (parts-append Is (first ++ edge ∷ block) (edge ∷ last)
-      (parts-append Is first (edge ∷ block) (captions-apart flat (take k nodes) (captions-take flat k nodes h) c i) (
+      (parts-append Is first (edge ∷ block)
+      (captions-apart flat (take k nodes) (captions-take flat k nodes h) c i p) (
         tt,
         option-good (table_block rows c)
-            (table-good Is (filled_rows made) (rows-filled made (row-cells c (in-line link flat c i) rows g))),
+            (table-good Is (filled_rows made) (rows-filled made (row-cells c (in-line rich link flat c i) rows g))),
       ))
-      (tt, captions-apart flat (drop k nodes) (captions-drop flat k nodes h) c i)) (tt, tt)
+      (tt, captions-apart flat (drop k nodes) (captions-drop flat k nodes h) c i p)) (tt, tt)
 
   -- a table is one of rows and columns, whose cells stand in lines, or what is in it
   pub table-parts-good : (flat : Bool) (trees : List Simple) (nodes : List Node) (rows : List Row)
       → (is_grid trees rows ≡ true → CaptionsGood flat nodes × RowsGood rows)
-      → (is_grid trees rows ≡ false → AllNodes flat nodes) → Gives flat (table_parts trees nodes rows)
-  table-parts-good flat trees nodes rows g h c i =
+      → (is_grid trees rows ≡ false → AllNodes flat nodes) → GivesPlain flat (table_parts trees nodes rows)
+  table-parts-good flat trees nodes rows g h c i p =
       parts-either Is (is_grid trees rows)
       (edge ∷ (cond c.is_flat (grid_in_one_line nodes rows c) (grid_inside nodes rows c))) (apart (flow_all nodes c))
       (λ e. (
@@ -434,7 +490,7 @@ module _ (Is : List ℕ → Type 0) (link : Option (List ℕ)) where
         parts-either Is c.is_flat (grid_in_one_line nodes rows c) (grid_inside nodes rows c)
             (λ k. one-line-good nodes rows
             (subst (λ (b : Bool). CaptionsGood b nodes) (sym i.line ∙ k) (g e).0) (g e).1 c
-            (record { around = i.around; line = k }))
-            (λ k. grid-good flat nodes rows (g e).0 (g e).1 c i),
+            (record { around = i.around; line = k; is = i.is }) p)
+            (λ k. grid-good flat nodes rows (g e).0 (g e).1 c i p),
       ))
       (λ e. parts-apart Is (flow_all nodes c) (flow-good flat nodes (h e) c i))

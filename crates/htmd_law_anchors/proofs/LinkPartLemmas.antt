@@ -152,7 +152,7 @@ module _ (Is : List ℕ → Type 0) where
   GoodOption None = Unit {0}
   GoodOption (Some b) = LinksInBlock Is b
 
-  table-all : (alignments : List Alignment) (has_header : Bool) (rows : List (List Inlines)) → LinksInRows Is rows
+  pub table-all : (alignments : List Alignment) (has_header : Bool) (rows : List (List Inlines)) → LinksInRows Is rows
       → GoodOption (table_of_all alignments has_header rows)
   table-all alignments has_header rows h =
       either (width (map trimmed_row rows) == 0)

@@ -7,6 +7,7 @@ use Rattle.htmd_lexical.proofs.BytesLemmas.{same_bytes}
 use Rattle.htmd_lexical.proofs.Cases.{test}
 use Rattle.htmd_document.specs.Documents.{Inline, text, code, formatted, link, image, anchor, line_break, task}
 use Rattle.htmd_document.specs.Documents.{Inlines, no_inlines, inline, Block, paragraph, heading, code_block, quote}
+use Rattle.htmd_document.specs.Documents.{element, tags}
 use Rattle.htmd_document.specs.Documents.{thematic_break, list, table, Blocks, no_blocks, block, Items, no_items, item}
 use Rattle.htmd_shown.specs.Roles.{is_among}
 use Rattle.htmd_shown.specs.Shown.{shown_in}
@@ -62,6 +63,8 @@ module _ (Is So : List ℕ → Type 0) (f : (address : List ℕ) → Is address 
     map-block (code_block language s) h = tt
     map-block (quote content) h = map-blocks content h
     map-block thematic_break h = tt
+    map-block (element name attributes content) h = map-blocks content h
+    map-block (tags s) h = tt
     map-block (list start is_tight items) h = map-items items h
     map-block (table alignments header rows) h = (map-cells header h.0, map-rows rows h.1)
 
@@ -120,22 +123,25 @@ module _ (leadings : List Leading) (s : List ℕ) (l : is_linked_to leadings s �
       later true h = or-right (bytes_eq t.value s) (is_among (values_of (filter counts ts)) s) h
       later false h = h
 
-among-there : (trees : Simples) (ids : List (List ℕ)) → ids ≡ values_of (targets_by which.Linked trees)
-    → (ls : List Leading) → AreAmong (all_leadings trees) ls → AreThere trees ids ls
-among-there trees ids e [] h = tt
-among-there trees ids e (l ∷ ls) h = (
-  (λ p. subst (λ (xs : List (List ℕ)). is_among xs l.to ≡ true) (sym (e ∙ ap values_of (linked_targets trees)))
-      (place-kept (all_leadings trees) l.to h.0 (targets_by which.All trees) p)),
-  among-there trees ids e ls h.1,
+among-there : (rich : Bool) (trees : Simples) (ids : List (List ℕ))
+    → ids ≡ values_of (targets_by which.Linked rich trees)
+    → (ls : List Leading) → AreAmong (all_leadings rich trees) ls → AreThere rich trees ids ls
+among-there rich trees ids e [] h = tt
+among-there rich trees ids e (l ∷ ls) h = (
+  (λ p. subst (λ (xs : List (List ℕ)). is_among xs l.to ≡ true)
+      (sym (e ∙ ap values_of (linked_targets rich trees)))
+      (place-kept (all_leadings rich trees) l.to h.0 (targets_by which.All rich trees) p)),
+  among-there rich trees ids e ls h.1,
 )
 
 pub links_reach : LinksReach
 links_reach sight tree e =
+    let rich : Bool = sight.is_rich in
     let trees : Simples = limited (shown_in sight tree) in
-    let document : Blocks = document_of_tree which.Linked sight.scripting sight.skip tree in
+    let document : Blocks = document_of_tree which.Linked sight tree in
     let ids : List (List ℕ) = ids_of (marks_of_blocks document) in
-    let has : HasAnchors (shown_in sight tree) (targets_by which.Linked trees) document =
+    let has : HasAnchors (shown_in sight tree) (targets_by which.Linked rich trees) document =
     links_lead_there which.Linked sight tree e in
-    map-blocks (LeadsAmong (all_leadings trees)) (Reaches trees ids)
-    (λ address h p. among-there trees ids has.ids (leadings_to None (drop 1 address)) (h p)) document
+    map-blocks (LeadsAmong (all_leadings rich trees)) (Reaches rich trees ids)
+    (λ address h p. among-there rich trees ids has.ids (leadings_to None (drop 1 address)) (h p)) document
     (links_count which.Linked sight tree e)

@@ -1,17 +1,16 @@
 -- The links of a document are those around what shows of its simpler tree.
-use Rattle.std.proofs.Common.{◌≡◌, ℕ, zero, suc, Bool, true, false, cond, not, ◌&&◌, ◌||◌, List, [], ◌∷◌, ◌++◌, map, filter}
+use Rattle.std.proofs.Common.{◌≡◌, ℕ, Bool, true, false, cond, not, ◌&&◌, ◌||◌, List, [], ◌∷◌, ◌++◌, map, filter}
 use Rattle.std.proofs.Common.{refl, sym, ap, ◌∙◌, subst, Option, Some, None}
 use Rattle.std.specs.Prelude.{codes, is_some}
-use Rattle.std.specs.List.{list_any}
 use Rattle.htmd_lexical.specs.AttributePairs.{AttributePair}
 use Rattle.htmd_lexical.specs.Characters.{space}
 use Rattle.htmd_document.specs.Documents.{Inlines, no_inlines, inline, Blocks, no_blocks, block}
-use Rattle.htmd_document.specs.Formats.{Format, of_format, of_element}
+use Rattle.htmd_document.specs.Formats.{of_format, of_element}
 use Rattle.htmd_shown.specs.declared.facts.Facts.{Facts}
 use Rattle.htmd_shown.specs.declared.role.Role.{Role}
 use Rattle.htmd_shown.specs.declared.role.Role.TheVariants as role
 use Rattle.htmd_shown.specs.AllTexts.{all_text_among, with_line_feeds, lines_of}
-use Rattle.htmd_shown.specs.Attributes.{description_of, title_of, is_to_part, is_filled, is_any_case, text_of}
+use Rattle.htmd_shown.specs.Attributes.{description_of, title_of, is_filled, is_any_case, text_of}
 use Rattle.htmd_shown.specs.Attributes.{has_attribute}
 use Rattle.htmd_shown.specs.Kinds.{has}
 use Rattle.htmd_shown.specs.Roles as roles
@@ -21,126 +20,34 @@ use Rattle.htmd_document_of_tree.specs.declared.leadings.Layout.{Layout}
 use Rattle.htmd_document_of_tree.specs.declared.leadings.Layout.TheVariants as layout
 use Rattle.htmd_document_of_tree.specs.Leadings.{is_flat, layout_in}
 use Rattle.htmd_document_of_tree.specs.Limits.{address_of}
-use Rattle.htmd_flow.specs.Contexts.{Context, bare, is_lined, is_enough, is_link, leads_to_part}
-use Rattle.htmd_flow.specs.Contexts.{with_around, inside_format, inside_link, without_link, unlinked, beside_code}
+use Rattle.htmd_flow.specs.Contexts.{Context, bare_in, has_elements, is_lined}
+use Rattle.htmd_flow.specs.Contexts.{inside_title}
+use Rattle.htmd_flow.specs.Contexts.{inside_format, inside_link, unlinked, beside_code}
 use Rattle.htmd_flow.specs.Contexts.{in_code, in_one_line, deeper, run_in, apart}
 use Rattle.htmd_flow.specs.Flows.{Node, Row, gap, of_node, node_of, nodes_of, nodes_below, terms_of}
 use Rattle.htmd_flow.specs.Flows.{rows_among, rows_at, rows_of_table, no_part, part_of, leads_to, row_with, is_cell}
 use Rattle.htmd_flow.specs.Flows.{parts_of_child, document_of, flow_all, image_parts, math_block, math_in_line}
 use Rattle.htmd_flow.specs.Flows.{formula_parts, embed_edge, embed_parts, box_parts, heading_of, around_heading}
 use Rattle.htmd_flow.specs.Flows.{heading_parts, quote_of, code_parts, verbatim_parts, start_of}
-use Rattle.htmd_flow.specs.Flows.{is_grid_of, blocks_of, line_of, linked_by}
+use Rattle.htmd_flow.specs.Flows.{is_grid_of, blocks_of, line_of, linked_by, around_title, around_node, pieces_at, pieces_of}
+use Rattle.htmd_flow.specs.Flows.{of_caption, of_row, terms_by, term_parts, described_parts, table_parts, rich_table_parts}
 use Rattle.htmd_flow.specs.Levels.{list_of}
 use Rattle.htmd_flow.specs.Parts.{Around, formatted, linked, run, place, box, edge, whole}
 use Rattle.htmd_flow.specs.Terms.{is_group}
 use Rattle.htmd_flow.specs.declared.table_form.TablePart.{TablePart}
 use Rattle.htmd_law_documents.proofs.ElementLemmas.{false-true, true-false}
-use Rattle.htmd_law_documents.proofs.WrapperTableLemmas.{node-tree}
 use Rattle.htmd_law_anchors.specs.DocumentLinks.{LinksInLine, LinksInBlocks}
+use Rattle.htmd_law_anchors.proofs.LinkAroundLemmas.{node-tree, inside_of, heading_link, title_link, link_in, in-format}
+use Rattle.htmd_law_anchors.proofs.LinkAroundLemmas.{in-link, in-unlinked, in-heading, in-abbreviation, in-title}
 use Rattle.htmd_law_anchors.proofs.LinkWritingLemmas.{AllGood, GoodPart, GoodParts, parts-append, parts-apart}
 use Rattle.htmd_law_anchors.proofs.LinkWritingLemmas.{parts-either, blocks-good, line-good}
-use Rattle.htmd_law_anchors.proofs.LinkNodesLemmas.{At, In, in-deeper, is_inner, caption-inner, Gives, NodeGood, AllNodes}
+use Rattle.htmd_law_anchors.proofs.LinkNodesLemmas.{At, In, in-deeper, is_inner, Gives, NodeGood, AllNodes, has-more}
+use Rattle.htmd_law_anchors.proofs.LinkNodesLemmas.{has-none, caption-inner, other-content}
 use Rattle.htmd_law_anchors.proofs.LinkNodesLemmas.{list-parts-good, flow-good, GoodTerms, terms-append}
-use Rattle.htmd_law_anchors.proofs.LinkNodesLemmas.{nodes-terms, term-parts-good, CellsGood, RowsGood, rows-append}
+use Rattle.htmd_law_anchors.proofs.LinkNodesLemmas.{nodes-terms, term-parts-good, CellsGood, RowsGood}
 use Rattle.htmd_law_anchors.proofs.LinkNodesLemmas.{CaptionsGood, space-blank, table-parts-good}
-use Rattle.htmd_law_anchors.proofs.TruthLemmas.{or-none}
-
--- ---- the link around
-
-abbrev pub to_part : Option (List ℕ) → Bool
-to_part None = false
-to_part (Some address) = is_to_part address
-
-abbrev pub inside_of : Option (List ℕ) → List ℕ → Option (List ℕ)
-inside_of None address = Some address
-inside_of (Some other) address = Some other
-
-abbrev pub heading_link : Bool → Facts → Option (List ℕ) → Option (List ℕ)
-heading_link flat facts link = cond flat link (cond (facts.shows_sign && to_part link) None link)
-
--- around what is in an element
-abbrev pub link_in : Bool → Role → Facts → List AttributePair → Option (List ℕ) → Option (List ℕ)
-link_in flat role.Link facts attributes link = inside_of link (address_of attributes)
-link_in flat role.Unlinked facts attributes link = None
-link_in flat (role.Heading level) facts attributes link = heading_link flat facts link
-link_in flat r facts attributes link = link
-
-at-any : (link : Option (List ℕ)) (around : List Around) → At link around
-    → list_any is_link around ≡ is_some link
-at-any link [] h = sym (ap is_some h)
-at-any link (formatted format ∷ around) h = at-any link around h
-at-any link (linked node address title ∷ around) h = sym (ap is_some h.0)
-
-at-part : (link : Option (List ℕ)) (around : List Around) → At link around
-    → list_any leads_to_part around ≡ to_part link
-at-part link [] h = sym (ap to_part h)
-at-part link (formatted format ∷ around) h = at-part link around h
-at-part link (linked node address title ∷ around) h =
-    ap (λ b. is_to_part address || b) (at-part None around h.1)
-    ∙ (or-none (is_to_part address) ∙ sym (ap to_part h.0))
-
-at-format : (link : Option (List ℕ)) (around : List Around) (f : Format) → At link around
-    → At link (around ++ formatted f ∷ [])
-at-format link [] f h = h
-at-format link (formatted format ∷ around) f h = at-format link around f h
-at-format link (linked node address title ∷ around) f h = (h.0, at-format None around f h.1)
-
-at-link : (around : List Around) (node : ℕ) (address : List ℕ) (title : Option (List ℕ)) → At None around
-    → At (Some address) (around ++ linked node address title ∷ [])
-at-link [] node address title h = (refl, refl)
-at-link (formatted format ∷ around) node address title h = at-link around node address title h
-at-link (linked other s t ∷ around) node address title h = absurd (clash s h.0)
-  where
-    clash : (s : List ℕ) → None ≡ Some s → ⊥
-    clash s e = (cc)
-
-at-without : (link : Option (List ℕ)) (around : List Around) → At link around → At None (without_link around)
-at-without link [] h = refl
-at-without link (formatted format ∷ around) h = at-without link around h
-at-without link (linked node address title ∷ around) h = h.1
-
-in-either : (link : Option (List ℕ)) (flat b : Bool) (c d : Context) → In link flat c → In link flat d
-    → In link flat (cond b c d)
-in-either link flat true c d g h = g
-in-either link flat false c d g h = h
-
-in-format : (link : Option (List ℕ)) (flat : Bool) (c : Context) (f : Format) → In link flat c
-    → In link flat (inside_format f c)
-in-format link flat c f i =
-    in-either link flat (is_enough f c.around) c (with_around c (formatted f)) i
-    (record { around = at-format link c.around f i.around; line = i.line })
-
-in-link : (link : Option (List ℕ)) (flat : Bool) (c : Context) (node : ℕ) (address : List ℕ)
-    (title : Option (List ℕ)) → In link flat c
-    → In (inside_of link address) flat (inside_link node address title c)
-in-link link flat c node address title i =
-    subst (λ (b : Bool). In (inside_of link address) flat (cond b c (with_around c (linked node address title))))
-    (sym (at-any link c.around i.around)) (at link i)
-  where
-    at : (link : Option (List ℕ)) → In link flat c
-        → In (inside_of link address) flat (cond (is_some link) c (with_around c (linked node address title)))
-    at None i = record { around = at-link c.around node address title i.around; line = i.line }
-    at (Some other) i = i
-
-in-unlinked : (link : Option (List ℕ)) (flat : Bool) (c : Context) → In link flat c → In None flat (unlinked c)
-in-unlinked link flat c i = record { around = at-without link c.around i.around; line = i.line }
-
-in-near : (link : Option (List ℕ)) (flat : Bool) (c : Context) (pres : ℕ) (attributes : List AttributePair)
-    → In link flat c → In link flat (beside_code pres attributes c)
-in-near link flat c zero attributes i = i
-in-near link flat c (suc zero) attributes i = record { around = i.around; line = i.line }
-in-near link flat c (suc (suc n)) attributes i = record { around = i.around; line = i.line }
-
-in-heading : (link : Option (List ℕ)) (c : Context) (facts : Facts) → In link false c
-    → In (heading_link false facts link) true (in_one_line (around_heading facts c))
-in-heading link c facts i =
-    subst (λ (b : Bool). In (cond (facts.shows_sign && to_part link) None link) true
-    (in_one_line (cond (facts.shows_sign && b) (unlinked c) c))) (sym (at-part link c.around i.around))
-    (either (facts.shows_sign && to_part link))
-  where
-    either : (b : Bool) → In (cond b None link) true (in_one_line (cond b (unlinked c) c))
-    either true = record { around = at-without link c.around i.around; line = refl }
-    either false = record { around = i.around; line = refl }
+use Rattle.htmd_law_anchors.proofs.LinkRichLemmas.{cell-inner, cell-untitled, in-near, details-good, figure-good}
+use Rattle.htmd_law_anchors.proofs.LinkRichLemmas.{described-good, CellNodes, GoodPieces, pieces-append, rich-table-good}
 
 -- ---- what shows in a link
 
@@ -154,7 +61,7 @@ abbrev pub Unless : Bool → Type 0 → Type 0 → Type 0
 Unless true A B = A
 Unless false A B = B
 
-module _ (Is : List ℕ → Type 0) where
+module _ (Is : List ℕ → Type 0) (rich : Bool) where
   abbrev pub Holds : Option (List ℕ) → Type 0
   Holds None = Unit {0}
   Holds (Some address) = Is address
@@ -169,7 +76,7 @@ module _ (Is : List ℕ → Type 0) where
     Within link flat (anchor id) = Unit {0}
     Within link flat (element id r facts attributes content) =
         Unless (roles.is_verbatim r) ((flat && code_gives content) ≡ true → Holds link)
-        (AllWithin (link_in flat r facts attributes link) (layout_in flat r content) content)
+        (AllWithin (link_in rich flat r facts attributes content link) (layout_in rich flat r content) content)
 
     pub AllWithin : Option (List ℕ) → Layout → Simples → Type 0
     AllWithin link beside none = Unit {0}
@@ -188,13 +95,24 @@ module _ (Is : List ℕ → Type 0) where
   blocks-at link none h = tt
   blocks-at link (more t ts) h = (h.0, blocks-at link ts h.1)
 
-  base-at : (link : Option (List ℕ)) (flat : Bool) (ts : Simples)
-      → AllWithin link (cond (flat || false) layout.OneLine layout.Blocks) ts → AllAt link flat ts
+  -- what stands beside what is in an element that is no heading; grid: that is of rows and columns
+  abbrev pub ContentWithin : Option (List ℕ) → Bool → Bool → Simples → Type 0
+  ContentWithin link flat grid ts =
+      AllWithin link (cond (flat || false) layout.OneLine (cond (not rich && grid) layout.Cells layout.Blocks)) ts
+
+  unlaid : (b : Bool) → (not b && false) ≡ false
+  unlaid true = refl
+  unlaid false = refl
+
+  base-at : (link : Option (List ℕ)) (flat : Bool) (ts : Simples) → ContentWithin link flat false ts
+      → AllAt link flat ts
   base-at link true ts h = line-at link ts h
-  base-at link false ts h = blocks-at link ts h
+  base-at link false ts h =
+      blocks-at link ts (subst (λ (b : Bool). AllWithin link (cond b layout.Cells layout.Blocks) ts) (unlaid rich) h)
 
   heading-at : (link : Option (List ℕ)) (flat : Bool) (ts : Simples)
-      → AllWithin link (cond (flat || true) layout.OneLine layout.Blocks) ts → AllAt link true ts
+      → AllWithin link (cond (flat || true) layout.OneLine (cond (not rich && false) layout.Cells layout.Blocks)) ts
+      → AllAt link true ts
   heading-at link true ts h = line-at link ts h
   heading-at link false ts h = line-at link ts h
 
@@ -205,7 +123,7 @@ module _ (Is : List ℕ → Type 0) where
 
   -- ---- leaves
 
-  module _ (link : Option (List ℕ)) (flat : Bool) (c : Context) (i : In link flat c) where
+  module _ (link : Option (List ℕ)) (flat : Bool) (c : Context) (i : In rich link flat c) where
     good : Holds link → AllGood Is c.around
     good g = at-good link c.around i.around g
 
@@ -233,7 +151,7 @@ module _ (Is : List ℕ → Type 0) where
         in-line false false e = refl
 
     space-good : (around : List Around) (k : Bool) → GoodPart Is (run (space ∷ []) around k)
-    space-good around k e = absurd (space-blank Is link e)
+    space-good around k e = absurd (space-blank Is rich link e)
 
     edge-good : (b : Bool) → GoodPart Is (cond b (run_in c (space ∷ [])) edge)
     edge-good true = space-good c.around c.is_code
@@ -248,7 +166,8 @@ module _ (Is : List ℕ → Type 0) where
     embed-good id s title ids h a =
         parts-append Is (embed_edge c ∷ map place ids)
         (run_in (inside_link id s None c) title ∷ embed_edge c ∷ []) (edge-good c.is_flat, places-good ids) (
-          (λ e. at-good (inside_of link s) (inside_link id s None c).around (in-link link flat c id s None i).around
+          (λ e. at-good (inside_of link s) (inside_link id s None c).around
+              (in-link rich link flat c id s None i).around
               (held link h)),
           (edge-good c.is_flat, tt),
         )
@@ -290,14 +209,14 @@ module _ (Is : List ℕ → Type 0) where
         parts-either Is (is_any_case (codes "checkbox") (text_of (codes "type") attributes))
         (box (has_attribute (codes "checked") attributes) ∷ []) [] (λ e. (tt, tt)) (λ e. tt)
 
-  heading-good : (link : Option (List ℕ)) (flat : Bool) (c : Context) → In link flat c
+  heading-good : (link : Option (List ℕ)) (flat : Bool) (c : Context) → In rich link flat c
       → (level : ℕ) (facts : Facts)
-      (nodes : List Node) → AllNodes Is (heading_link flat facts link) true nodes
+      (nodes : List Node) → AllNodes Is rich (heading_link flat facts link) true nodes
       → GoodParts Is (heading_parts level facts nodes c)
   heading-good link true c i level facts nodes h =
       subst (λ (b : Bool). GoodParts Is (apart (cond b (flow_all nodes c)
       (heading_of level (line_of (flow_all nodes (in_one_line (around_heading facts c)))))))) (sym i.line)
-      (parts-apart Is (flow_all nodes c) (flow-good Is link true nodes h c i))
+      (parts-apart Is (flow_all nodes c) (flow-good Is rich link true nodes h c i))
   heading-good link false c i level facts nodes h =
       let d : Context = in_one_line (around_heading facts c) in
       subst (λ (b : Bool). GoodParts Is (apart (cond b (flow_all nodes c)
@@ -305,21 +224,22 @@ module _ (Is : List ℕ → Type 0) where
       (parts-apart Is (heading_of level (line_of (flow_all nodes d)))
       (heading-whole link false c i level (line_of (flow_all nodes d))
       (line-good Is (flow_all nodes d)
-      (flow-good Is (heading_link false facts link) true nodes h d (in-heading link c facts i)))))
+      (flow-good Is rich (heading_link false facts link) true nodes h d (in-heading rich link c facts i)))))
 
   -- what is known of nodes by what they are made of
-  abbrev RowTrees : Option (List ℕ) → Simples → Type 0
-  RowTrees link none = Unit {0}
-  RowTrees link (more t ts) = (has roles.is_row_or_part t ≡ true → Within link true t) × RowTrees link ts
+  abbrev RowTrees : Option (List ℕ) → Bool → Simples → Type 0
+  RowTrees link flat none = Unit {0}
+  RowTrees link flat (more t ts) =
+      (has roles.is_row_or_part t ≡ true → Within link flat t) × RowTrees link flat ts
 
   abbrev CaptionTrees : Option (List ℕ) → Bool → Simples → Type 0
   CaptionTrees link flat none = Unit {0}
   CaptionTrees link flat (more t ts) =
       (has roles.is_caption t ≡ true → Within link flat t) × CaptionTrees link flat ts
 
-  rows-at : (link : Option (List ℕ)) (ts : Simples) → AllAt link true ts → RowTrees link ts
-  rows-at link none h = tt
-  rows-at link (more t ts) h = ((λ e. h.0), rows-at link ts h.1)
+  rows-at : (link : Option (List ℕ)) (flat : Bool) (ts : Simples) → AllAt link flat ts → RowTrees link flat ts
+  rows-at link flat none h = tt
+  rows-at link flat (more t ts) h = ((λ e. h.0), rows-at link flat ts h.1)
 
   captions-at : (link : Option (List ℕ)) (flat : Bool) (ts : Simples) → AllAt link flat ts
       → CaptionTrees link flat ts
@@ -332,7 +252,7 @@ module _ (Is : List ℕ → Type 0) where
   row-no_caption (element id role.TableBody facts attributes content) e = refl
   row-no_caption t e = false-true e
 
-  cells-rows : (link : Option (List ℕ)) (ts : Simples) → AllWithin link layout.Cells ts → RowTrees link ts
+  cells-rows : (link : Option (List ℕ)) (ts : Simples) → AllWithin link layout.Cells ts → RowTrees link true ts
   cells-rows link none h = tt
   cells-rows link (more t ts) h =
       ((λ e. subst (λ (b : Bool). Within link b t) (row-no_caption t e) h.0), cells-rows link ts h.1)
@@ -343,38 +263,42 @@ module _ (Is : List ℕ → Type 0) where
   cells-captions link (more t ts) h =
       ((λ e. subst (λ (b : Bool). Within link b t) (ap not e) h.0), cells-captions link ts h.1)
 
-  abbrev TableWithin : Option (List ℕ) → Bool → Bool → Simples → Type 0
-  TableWithin link flat b ts =
-      AllWithin link (cond (flat || false) layout.OneLine (cond b layout.Cells layout.Blocks)) ts
-
-  table-rows : (link : Option (List ℕ)) (flat b : Bool) (ts : Simples) → b ≡ true → TableWithin link flat b ts
-      → CaptionTrees link flat ts × RowTrees link ts
-  table-rows link true b ts e h =
-      let a : AllAt link true ts = line-at link ts h in (captions-at link true ts a, rows-at link ts a)
-  table-rows link false true ts e h = (cells-captions link ts h, cells-rows link ts h)
-  table-rows link false false ts e h = false-true e
+  -- no element stands there
+  table-rows : (link : Option (List ℕ)) (flat b : Bool) (ts : Simples) → (rich && not flat) ≡ false → b ≡ true
+      → ContentWithin link flat b ts → CaptionTrees link flat ts × RowTrees link true ts
+  table-rows link true b ts p e h =
+      let a : AllAt link true ts = line-at link ts h in (captions-at link true ts a, rows-at link true ts a)
+  table-rows link false true ts p e h =
+      let g : AllWithin link layout.Cells ts =
+      subst (λ (b : Bool). AllWithin link (cond (not b && true) layout.Cells layout.Blocks) ts) (first rich p) h in
+      (cells-captions link ts g, cells-rows link ts g)
+    where
+      first : (b : Bool) → (b && true) ≡ false → b ≡ false
+      first true e = true-false e
+      first false e = refl
+  table-rows link false false ts p e h = false-true e
 
   table-blocks : (link : Option (List ℕ)) (flat b : Bool) (ts : Simples) → b ≡ false
-      → TableWithin link flat b ts
+      → ContentWithin link flat b ts
       → AllAt link flat ts
-  table-blocks link true b ts e h = line-at link ts h
-  table-blocks link false true ts e h = true-false e
-  table-blocks link false false ts e h = blocks-at link ts h
+  table-blocks link flat true ts e h = true-false e
+  table-blocks link flat false ts e h = base-at link flat ts h
+
+  -- elements stand there
+  table-elements : (link : Option (List ℕ)) (flat b : Bool) (ts : Simples) → (rich && not flat) ≡ true
+      → ContentWithin link flat b ts → AllAt link flat ts
+  table-elements link true b ts p h = line-at link ts h
+  table-elements link false b ts p h =
+      blocks-at link ts
+      (subst (λ (d : Bool). AllWithin link (cond (not d && b) layout.Cells layout.Blocks) ts) (first rich p) h)
+    where
+      first : (b : Bool) → (b && true) ≡ true → b ≡ true
+      first true e = refl
+      first false e = false-true e
 
   caption-tree : (t : Simple) → has roles.is_caption t ≡ true → has is_inner t ≡ true
   caption-tree (element id r facts attributes content) e = caption-inner r e
   caption-tree t e = false-true e
-
-  inner-at : (link : Option (List ℕ)) (flat : Bool) (id : ℕ) (r : Role) (facts : Facts)
-      (attributes : List AttributePair) (content : Simples) → is_inner r ≡ true
-      → Within link flat (element id r facts attributes content) → AllAt link flat content
-  inner-at link flat id role.Item facts attributes content e h = base-at link flat content h
-  inner-at link flat id role.Term facts attributes content e h = base-at link flat content h
-  inner-at link flat id role.Meaning facts attributes content e h = base-at link flat content h
-  inner-at link flat id role.Caption facts attributes content e h = base-at link flat content h
-  inner-at link flat id role.Cell facts attributes content e h = base-at link flat content h
-  inner-at link flat id role.HeaderCell facts attributes content e h = base-at link flat content h
-  inner-at link flat id r facts attributes content e h = false-true e
 
   group-at : (link : Option (List ℕ)) (flat : Bool) (id : ℕ) (r : Role) (facts : Facts)
       (attributes : List AttributePair) (content : Simples) → roles.is_division r ≡ true
@@ -382,13 +306,13 @@ module _ (Is : List ℕ → Type 0) where
   group-at link flat id role.Division facts attributes content e h = base-at link flat content h
   group-at link flat id r facts attributes content e h = false-true e
 
-  row-content : (link : Option (List ℕ)) (id : ℕ) (r : Role) (facts : Facts)
+  row-content : (link : Option (List ℕ)) (flat : Bool) (id : ℕ) (r : Role) (facts : Facts)
       (attributes : List AttributePair) (content : Simples) → roles.is_row_or_part r ≡ true
-      → Within link true (element id r facts attributes content) → AllAt link true content
-  row-content link id role.Row facts attributes content e h = line-at link content h
-  row-content link id role.TableHead facts attributes content e h = line-at link content h
-  row-content link id role.TableBody facts attributes content e h = line-at link content h
-  row-content link id r facts attributes content e h = false-true e
+      → Within link flat (element id r facts attributes content) → AllAt link flat content
+  row-content link flat id role.Row facts attributes content e h = base-at link flat content h
+  row-content link flat id role.TableHead facts attributes content e h = base-at link flat content h
+  row-content link flat id role.TableBody facts attributes content e h = base-at link flat content h
+  row-content link flat id r facts attributes content e h = false-true e
 
   row-of-part : (r : Role) → roles.is_part r ≡ true → roles.is_row_or_part r ≡ true
   row-of-part role.TableHead e = refl
@@ -407,106 +331,201 @@ module _ (Is : List ℕ → Type 0) where
   both-second true b e = e
   both-second false b e = false-true e
 
-  cells-of : (link : Option (List ℕ)) (nodes : List Node) → AllNodes Is link true nodes
-      → CellsGood Is link (filter is_cell nodes)
-  cells-of link [] h = tt
-  cells-of link (n ∷ nodes) h = either (is_cell n) refl (cells-of link nodes h.1)
+  cells-of : (link : Option (List ℕ)) (flat : Bool) (nodes : List Node) → AllNodes Is rich link flat nodes
+      → CellNodes Is rich link flat (filter is_cell nodes)
+  cells-of link flat [] h = tt
+  cells-of link flat (n ∷ nodes) h = either (is_cell n) refl (cells-of link flat nodes h.1)
     where
-      inner : (r : Role) → roles.is_cell r ≡ true → is_inner r ≡ true
-      inner role.Cell e = refl
-      inner role.HeaderCell e = refl
-      inner r e = false-true e
-
-      inner-tree : (t : Simple) → has roles.is_cell t ≡ true → has is_inner t ≡ true
-      inner-tree (element id r facts attributes content) e = inner r e
-      inner-tree t e = false-true e
-
-      either : (b : Bool) → is_cell n ≡ b → CellsGood Is link (filter is_cell nodes)
-          → CellsGood Is link (cond b (n ∷ filter is_cell nodes) (filter is_cell nodes))
-      either true e g = (h.0.content (inner-tree n.tree e), g)
+      either : (b : Bool) → is_cell n ≡ b → CellNodes Is rich link flat (filter is_cell nodes)
+          → CellNodes Is rich link flat (cond b (n ∷ filter is_cell nodes) (filter is_cell nodes))
+      either true e g = ((h.0, e), g)
       either false e g = g
 
-  either-rows : (link : Option (List ℕ)) (a b : Bool) (xs ys : List Row) → (a ≡ true → RowsGood Is link xs)
-      → (b ≡ true → RowsGood Is link ys) → RowsGood Is link (cond a xs (cond b ys []))
-  either-rows link true b xs ys g h = g refl
-  either-rows link false true xs ys g h = h refl
-  either-rows link false false xs ys g h = tt
+  abbrev RowNodes : Option (List ℕ) → Bool → List Row → Type 0
+  RowNodes link flat [] = Unit {0}
+  RowNodes link flat (row ∷ rows) = CellNodes Is rich link flat row.cells × RowNodes link flat rows
+
+  rows-append : (link : Option (List ℕ)) (flat : Bool) (xs ys : List Row) → RowNodes link flat xs
+      → RowNodes link flat ys → RowNodes link flat (xs ++ ys)
+  rows-append link flat [] ys g h = h
+  rows-append link flat (x ∷ xs) ys g h = (g.0, rows-append link flat xs ys g.1 h)
+
+  either-rows : (link : Option (List ℕ)) (flat a b : Bool) (xs ys : List Row)
+      → (a ≡ true → RowNodes link flat xs)
+      → (b ≡ true → RowNodes link flat ys) → RowNodes link flat (cond a xs (cond b ys []))
+  either-rows link flat true b xs ys g h = g refl
+  either-rows link flat false true xs ys g h = h refl
+  either-rows link flat false false xs ys g h = tt
+
+  line-cells : (link : Option (List ℕ)) (cells : List Node) → CellNodes Is rich link true cells
+      → CellsGood Is rich link cells
+  line-cells link [] h = tt
+  line-cells link (n ∷ cells) h = (
+    (λ c i. other-content Is rich link n c (has-none roles.is_cell roles.is_title cell-untitled n.tree h.0.1)
+        (h.0.0.content (has-more roles.is_cell is_inner cell-inner n.tree h.0.1) c i)),
+    line-cells link cells h.1,
+  )
+
+  line-rows : (link : Option (List ℕ)) (rows : List Row) → RowNodes link true rows → RowsGood Is rich link rows
+  line-rows link [] h = tt
+  line-rows link (row ∷ rows) h = (line-cells link row.cells h.0, line-rows link rows h.1)
+
+  rows-pieces : (link : Option (List ℕ)) (flat : Bool) (rows : List Row) → RowNodes link flat rows
+      → GoodPieces Is rich link flat (map of_row rows)
+  rows-pieces link flat [] h = tt
+  rows-pieces link flat (row ∷ rows) h = (h.0, rows-pieces link flat rows h.1)
+
+  either-piece : (link : Option (List ℕ)) (flat : Bool) (n : Node) (b : Bool) → has roles.is_caption n.tree ≡ b
+      → (rows : List Row) → NodeGood Is rich link flat n → RowNodes link flat rows
+      → GoodPieces Is rich link flat (cond b (of_caption n ∷ []) (map of_row rows))
+  either-piece link flat n true e rows h g = ((h, e), tt)
+  either-piece link flat n false e rows h g = rows-pieces link flat rows g
 
   grouped : (link : Option (List ℕ)) (flat : Bool) (nodes : List Node) (n : Node) (b : Bool)
-      → (b ≡ true → AllNodes Is link flat nodes) → NodeGood Is link flat n
-      → GoodTerms Is link flat (cond b (gap ∷ map of_node nodes ++ gap ∷ []) (of_node n ∷ []))
+      → (b ≡ true → AllNodes Is rich link flat nodes) → NodeGood Is rich link flat n
+      → GoodTerms Is rich link flat (cond b (gap ∷ map of_node nodes ++ gap ∷ []) (of_node n ∷ []))
   grouped link flat nodes n true all f = (
     tt,
-    terms-append Is link flat (map of_node nodes) (gap ∷ []) (nodes-terms Is link flat nodes (all refl))
+    terms-append Is rich link flat (map of_node nodes) (gap ∷ []) (nodes-terms Is rich link flat nodes (all refl))
         (tt, tt),
   )
   grouped link flat nodes n false all f = (f, tt)
 
-  near-good : (link : Option (List ℕ)) (flat : Bool) (nodes : List Node) → AllNodes Is link flat nodes
-      → (facts : Facts) (attributes : List AttributePair) (c : Context) → In link flat c
+  near-good : (link : Option (List ℕ)) (flat : Bool) (nodes : List Node) → AllNodes Is rich link flat nodes
+      → (facts : Facts) (attributes : List AttributePair) (c : Context) → In rich link flat c
       → GoodParts Is (apart (flow_all nodes (beside_code facts.pres attributes c)))
   near-good link flat nodes h facts attributes c i =
       parts-apart Is (flow_all nodes (beside_code facts.pres attributes c))
-      (flow-good Is link flat nodes h (beside_code facts.pres attributes c)
-      (in-near link flat c facts.pres attributes i))
+      (flow-good Is rich link flat nodes h (beside_code facts.pres attributes c)
+      (in-near rich link flat c facts.pres attributes i))
 
   module _ (id : ℕ) (facts : Facts) (attributes : List AttributePair) (content : Simples)
       (nodes : (link : Option (List ℕ)) (flat : Bool) → AllAt link flat content
-      → AllNodes Is link flat (nodes_of content))
+      → AllNodes Is rich link flat (nodes_of content))
       (terms : (link : Option (List ℕ)) (flat : Bool) → AllAt link flat content
-      → GoodTerms Is link flat (terms_of content))
+      → GoodTerms Is rich link flat (terms_of content))
       (captions : (link : Option (List ℕ)) (flat : Bool) → CaptionTrees link flat content
-      → CaptionsGood Is link flat (nodes_of content))
-      (rows : (link : Option (List ℕ)) → RowTrees link content → RowsGood Is link (rows_of_table content)) where
+      → CaptionsGood Is rich link flat (nodes_of content))
+      (rows : (link : Option (List ℕ)) → RowTrees link true content
+      → RowsGood Is rich link (rows_of_table content))
+      (pieces : (link : Option (List ℕ)) (flat : Bool) → AllAt link flat content
+      → GoodPieces Is rich link flat (pieces_of content)) where
+    title-good : (link : Option (List ℕ)) (flat : Bool)
+        → ContentWithin (title_link rich flat content link) flat false content
+        → Gives Is rich link flat (λ c. flow_all (nodes_of content) (around_title content c))
+    title-good link flat h c i =
+        let l : Option (List ℕ) = title_link rich flat content link in
+        flow-good Is rich l flat (nodes_of content) (nodes l flat (base-at l flat content h)) (around_title content c)
+        (in-title rich link flat c content i)
+
+    title-apart : (link : Option (List ℕ)) (flat : Bool)
+        → ContentWithin (title_link rich flat content link) flat false content
+        → Gives Is rich link flat (λ c. apart (flow_all (nodes_of content) (around_title content c)))
+    title-apart link flat h c i =
+        parts-apart Is (flow_all (nodes_of content) (around_title content c)) (title-good link flat h c i)
+
+    inner-flow : (link : Option (List ℕ)) (flat : Bool) → ContentWithin link flat false content
+        → Gives Is rich link flat (flow_all (nodes_of content))
+    inner-flow link flat h =
+        flow-good Is rich link flat (nodes_of content) (nodes link flat (base-at link flat content h))
+
+    inner-good : (r : Role) (link : Option (List ℕ)) (flat : Bool) → is_inner r ≡ true
+        → Within link flat (element id r facts attributes content)
+        → Gives Is rich link flat
+        (λ c. flow_all (nodes_of content) (around_node (element id r facts attributes content) c))
+    inner-good role.Item link flat e h c i = inner-flow link flat h c i
+    inner-good role.Meaning link flat e h c i = inner-flow link flat h c i
+    inner-good role.Cell link flat e h c i = inner-flow link flat h c i
+    inner-good role.HeaderCell link flat e h c i = inner-flow link flat h c i
+    inner-good role.Term link flat e h c i = title-good link flat h c i
+    inner-good role.Caption link flat e h c i = title-good link flat h c i
+    inner-good role.FigureCaption link flat e h c i = title-good link flat h c i
+    inner-good role.Summary link flat e h c i = title-good link flat h c i
+    inner-good r link flat e h c i = false-true e
+
+    table-good : (link : Option (List ℕ)) (flat : Bool) → ContentWithin link flat (is_grid_of content) content
+        → (c : Context) → In rich link flat c
+        → GoodParts Is (cond (has_elements c)
+        (rich_table_parts (list_of content) attributes (pieces_of content) (nodes_of content) c)
+        (table_parts (list_of content) (nodes_of content) (rows_of_table content) c))
+    table-good link flat h c i =
+        parts-either Is (has_elements c)
+        (rich_table_parts (list_of content) attributes (pieces_of content) (nodes_of content) c)
+        (table_parts (list_of content) (nodes_of content) (rows_of_table content) c)
+        (λ e.
+        let all : AllAt link flat content =
+        table-elements link flat (is_grid_of content) content (elements-in c i ∙ e) h in
+        rich-table-good Is rich link flat (list_of content) attributes (pieces_of content) (nodes_of content)
+        (pieces link flat all) (nodes link flat all) c i)
+        (λ e.
+        table-parts-good Is rich link flat (list_of content) (nodes_of content) (rows_of_table content)
+        (λ g.
+        let k = table-rows link flat (is_grid_of content) content (elements-in c i ∙ e) g h in
+        (captions link flat k.0, rows link k.1))
+        (λ g. nodes link flat (table-blocks link flat (is_grid_of content) content g h)) c i e)
+      where
+        elements-in : (c : Context) → In rich link flat c → (rich && not flat) ≡ has_elements c
+        elements-in c i =
+            ap (λ b. b && not flat) (sym i.is) ∙ ap (λ b. c.is_rich && not b) (sym i.line)
+
+    terms-in : (link : Option (List ℕ)) (flat : Bool) → AllAt link flat content
+        → Gives Is rich link flat (terms_by (terms_of content) (nodes_of content))
+    terms-in link flat h c i =
+        parts-either Is (has_elements c) (described_parts (terms_of content) c)
+        (term_parts (terms_of content) (nodes_of content) c)
+        (λ e. described-good Is rich link flat (terms_of content) (terms link flat h) c i)
+        (λ e. term-parts-good Is rich link flat (terms_of content) (nodes_of content) (terms link flat h)
+        (nodes link flat h) c i e)
+
     element-good : (r : Role) (link : Option (List ℕ)) (flat : Bool)
         → Within link flat (element id r facts attributes content)
-        → Gives Is link flat ((node_of (element id r facts attributes content)).whole)
+        → Gives Is rich link flat ((node_of (element id r facts attributes content)).whole)
     unfolding node_of
     element-good (role.Format g) link flat h c i =
-        flow-good Is link flat (nodes_of content)
+        flow-good Is rich link flat (nodes_of content)
         (nodes link flat (base-at link flat content h)) (inside_format (of_format g) c)
-        (in-format link flat c (of_format g) i)
+        (in-format rich link flat c (of_format g) i)
     element-good (role.Element g) link flat h c i =
-        flow-good Is link flat (nodes_of content)
+        flow-good Is rich link flat (nodes_of content)
         (nodes link flat (base-at link flat content h)) (inside_format (of_element g) c)
-        (in-format link flat c (of_element g) i)
+        (in-format rich link flat c (of_element g) i)
     element-good role.Code link flat h c i =
-        flow-good Is link flat (nodes_of content)
+        flow-good Is rich link flat (nodes_of content)
         (nodes link flat (base-at link flat content h)) (in_code c)
-        (record { around = i.around; line = i.line })
+        (record { around = i.around; line = i.line; is = i.is })
     element-good role.Typed link flat h c i =
-        flow-good Is link flat (nodes_of content)
+        flow-good Is rich link flat (nodes_of content)
         (nodes link flat (base-at link flat content h)) (in_code c)
-        (record { around = i.around; line = i.line })
+        (record { around = i.around; line = i.line; is = i.is })
     element-good role.Link link flat h c i =
-        flow-good Is (inside_of link (address_of attributes)) flat (nodes_of content)
+        flow-good Is rich (inside_of link (address_of attributes)) flat (nodes_of content)
         (nodes (inside_of link (address_of attributes)) flat
         (base-at (inside_of link (address_of attributes)) flat content h)) (linked_by id attributes c)
-        (in-link link flat c id (address_of attributes) (title_of attributes) i)
+        (in-link rich link flat c id (address_of attributes) (title_of attributes) i)
     element-good role.Unlinked link flat h c i =
-        flow-good Is None flat (nodes_of content)
-        (nodes None flat (base-at None flat content h)) (unlinked c) (in-unlinked link flat c i)
+        flow-good Is rich None flat (nodes_of content)
+        (nodes None flat (base-at None flat content h)) (unlinked c) (in-unlinked rich link flat c i)
     element-good role.Target link flat h c i =
-        flow-good Is link flat (nodes_of content)
+        flow-good Is rich link flat (nodes_of content)
         (nodes link flat (base-at link flat content h)) c i
     element-good role.Plain link flat h c i =
-        flow-good Is link flat (nodes_of content)
+        flow-good Is rich link flat (nodes_of content)
         (nodes link flat (base-at link flat content h)) c i
     element-good role.Apart link flat h c i =
         parts-append Is (run_in c (space ∷ []) ∷ flow_all (nodes_of content) c) (run_in c (space ∷ []) ∷ []) (
           space-good link flat c i c.around c.is_code,
-          flow-good Is link flat (nodes_of content)
+          flow-good Is rich link flat (nodes_of content)
               (nodes link flat (base-at link flat content h)) c i,
         )
         (space-good link flat c i c.around c.is_code, tt)
     element-good role.LineBreak link flat h c i = (tt, tt)
     element-good role.Input link flat h c i =
         parts-append Is (box_parts attributes) (flow_all (nodes_of content) c) (box-good link flat c i attributes)
-        (flow-good Is link flat (nodes_of content)
+        (flow-good Is rich link flat (nodes_of content)
         (nodes link flat (base-at link flat content h)) c i)
     element-good role.Anchors link flat h c i =
         let k : GoodParts Is (flow_all (nodes_of content) c) =
-        flow-good Is link flat (nodes_of content)
+        flow-good Is rich link flat (nodes_of content)
         (nodes link flat (base-at link flat content h)) c i in
         parts-either Is c.is_flat (flow_all (nodes_of content) c) (apart (flow_all (nodes_of content) c)) (λ e. k)
         (λ e. parts-apart Is (flow_all (nodes_of content) c) k)
@@ -523,33 +542,34 @@ module _ (Is : List ℕ → Type 0) where
         let bs : Blocks = blocks_of false (flow_all (nodes_of content) (deeper c)) in
         parts-apart Is (cond (is_lined c) (flow_all (nodes_of content) c) (quote_of bs))
         (parts-either Is (is_lined c) (flow_all (nodes_of content) c) (quote_of bs)
-        (λ e. flow-good Is link flat (nodes_of content)
+        (λ e. flow-good Is rich link flat (nodes_of content)
         (nodes link flat inner) c i)
         (λ e. quote-whole link flat c i bs
         (blocks-good Is false (flow_all (nodes_of content) (deeper c))
-        (flow-good Is link flat (nodes_of content)
-        (nodes link flat inner) (deeper c) (in-deeper link flat c i)))))
+        (flow-good Is rich link flat (nodes_of content)
+        (nodes link flat inner) (deeper c) (in-deeper rich link flat c i)))))
     element-good role.ThematicBreak link flat h c i = (tt, tt)
     element-good role.BulletList link flat h c i =
-        list-parts-good Is link flat None (nodes_of content)
+        list-parts-good Is rich link flat None (nodes_of content)
         (nodes link flat (base-at link flat content h)) c i
     element-good role.NumberedList link flat h c i =
-        list-parts-good Is link flat (Some (start_of attributes)) (nodes_of content)
+        list-parts-good Is rich link flat (Some (start_of attributes)) (nodes_of content)
         (nodes link flat (base-at link flat content h)) c i
-    element-good role.Terms link flat h c i =
-        let inner : AllAt link flat content = base-at link flat content h in
-        term-parts-good Is link flat (terms_of content) (nodes_of content) (terms link flat inner)
-        (nodes link flat inner) c i
-    element-good role.Table link flat h c i =
-        table-parts-good Is link flat (list_of content) (nodes_of content) (rows_of_table content)
-        (λ e.
-        let k = table-rows link flat (is_grid_of content) content e h in
-        (captions link flat k.0, rows link k.1))
-        (λ e. nodes link flat (table-blocks link flat (is_grid_of content) content e h)) c i
-    element-good role.Division link flat h c i =
-        near-good link flat (nodes_of content)
-        (nodes link flat (base-at link flat content h)) facts attributes c i
+    element-good role.Abbreviation link flat h c i =
+        inner-flow link flat h (inside_title (title_of attributes) c)
+        (in-abbreviation rich link flat c (title_of attributes) i)
+    element-good role.Terms link flat h c i = terms-in link flat (base-at link flat content h) c i
+    element-good role.Table link flat h c i = table-good link flat h c i
+    element-good role.Details link flat h c i =
+        details-good Is rich link flat attributes (nodes_of content) (nodes link flat (base-at link flat content h)) c i
     element-good role.Figure link flat h c i =
+        figure-good Is rich link flat (nodes_of content) (nodes link flat (base-at link flat content h))
+        (beside_code facts.pres attributes c) (in-near rich link flat c facts.pres attributes i)
+    element-good role.Term link flat h c i = title-apart link flat h c i
+    element-good role.Caption link flat h c i = title-apart link flat h c i
+    element-good role.FigureCaption link flat h c i = title-apart link flat h c i
+    element-good role.Summary link flat h c i = title-apart link flat h c i
+    element-good role.Division link flat h c i =
         near-good link flat (nodes_of content)
         (nodes link flat (base-at link flat content h)) facts attributes c i
     element-good role.Cell link flat h c i =
@@ -557,14 +577,14 @@ module _ (Is : List ℕ → Type 0) where
         (nodes link flat (base-at link flat content h)) facts attributes c i
     element-good r link flat h c i =
         parts-apart Is (flow_all (nodes_of content) c)
-        (flow-good Is link flat (nodes_of content)
+        (flow-good Is rich link flat (nodes_of content)
         (nodes link flat (base-at link flat content h)) c i)
 
   mutual
     unfolding node_of
 
     node-good : (t : Simple) (link : Option (List ℕ)) (flat : Bool) → Within link flat t
-        → NodeGood Is link flat (node_of t)
+        → NodeGood Is rich link flat (node_of t)
     node-good (text s) link flat h = record {
       whole = λ c i. ((λ e. good link flat c i (h e)), tt);
       content = λ e c i. tt;
@@ -585,18 +605,21 @@ module _ (Is : List ℕ → Type 0) where
     node-good (element id r facts attributes content) link flat h = record {
       whole = element-good id facts attributes content (λ k f x. nodes-good content k f x)
           (λ k f x. terms-good content k f x) (λ k f x. captions-good content k f x)
-          (λ k x. rows-good no_part content k x) r link flat h;
-      content = λ e. flow-good Is link flat (nodes_of content)
-          (nodes-good content link flat (inner-at link flat id r facts attributes content e h));
+          (λ k x. line-rows k (rows_of_table content) (rows-good no_part content k true x))
+          (λ k f x. pieces-good content k f x) r link flat h;
+      content = λ e. inner-good id facts attributes content (λ k f x. nodes-good content k f x)
+          (λ k f x. terms-good content k f x) (λ k f x. captions-good content k f x)
+          (λ k x. line-rows k (rows_of_table content) (rows-good no_part content k true x))
+          (λ k f x. pieces-good content k f x) r link flat e h;
     }
 
     nodes-good : (ts : Simples) (link : Option (List ℕ)) (flat : Bool) → AllAt link flat ts
-        → AllNodes Is link flat (nodes_of ts)
+        → AllNodes Is rich link flat (nodes_of ts)
     nodes-good none link flat h = tt
     nodes-good (more t ts) link flat h = (node-good t link flat h.0, nodes-good ts link flat h.1)
 
     captions-good : (ts : Simples) (link : Option (List ℕ)) (flat : Bool) → CaptionTrees link flat ts
-        → CaptionsGood Is link flat (nodes_of ts)
+        → CaptionsGood Is rich link flat (nodes_of ts)
     captions-good none link flat h = tt
     captions-good (more t ts) link flat h = (
       (λ e.
@@ -605,43 +628,53 @@ module _ (Is : List ℕ → Type 0) where
       captions-good ts link flat h.1,
     )
 
-    rows-good : (p : TablePart) (ts : Simples) (link : Option (List ℕ)) → RowTrees link ts
-        → RowsGood Is link (rows_among p ts)
-    rows-good p none link h = tt
-    rows-good p (more t ts) link h =
-        rows-append Is link (rows_at p t) (rows_among p ts) (row-good p t link h.0) (rows-good p ts link h.1)
+    rows-good : (p : TablePart) (ts : Simples) (link : Option (List ℕ)) (flat : Bool) → RowTrees link flat ts
+        → RowNodes link flat (rows_among p ts)
+    rows-good p none link flat h = tt
+    rows-good p (more t ts) link flat h =
+        rows-append link flat (rows_at p t) (rows_among p ts) (row-good p t link flat h.0)
+        (rows-good p ts link flat h.1)
 
-    row-good : (p : TablePart) (t : Simple) (link : Option (List ℕ))
-        → (has roles.is_row_or_part t ≡ true → Within link true t) → RowsGood Is link (rows_at p t)
-    row-good p (text s) link h = tt
-    row-good p (image o attributes) link h = tt
-    row-good p (formula tex is_alone attributes) link h = tt
-    row-good p (embedded id address title attributes ids) link h = tt
-    row-good p (anchor id) link h = tt
-    row-good p (element id r facts attributes content) link h =
+    row-good : (p : TablePart) (t : Simple) (link : Option (List ℕ)) (flat : Bool)
+        → (has roles.is_row_or_part t ≡ true → Within link flat t) → RowNodes link flat (rows_at p t)
+    row-good p (text s) link flat h = tt
+    row-good p (image o attributes) link flat h = tt
+    row-good p (formula tex is_alone attributes) link flat h = tt
+    row-good p (embedded id address title attributes ids) link flat h = tt
+    row-good p (anchor id) link flat h = tt
+    row-good p (element id r facts attributes content) link flat h =
         let t : Simple = element id r facts attributes content in
-        either-rows link (roles.is_row r) (leads_to p t) (row_with p (nodes_of content))
+        either-rows link flat (roles.is_row r) (leads_to p t) (row_with p (nodes_of content))
         (rows_among (part_of t) content)
         (λ e.
         let k : roles.is_row_or_part r ≡ true = row-of-row r e in (
-          cells-of link (nodes_of content)
-              (nodes-good content link true (row-content link id r facts attributes content k (h k))),
+          cells-of link flat (nodes_of content)
+              (nodes-good content link flat (row-content link flat id r facts attributes content k (h k))),
           tt,
         ))
         (λ e.
         let k : roles.is_row_or_part r ≡ true = row-of-part r (both-second _ (roles.is_part r) e) in
-        rows-good (part_of t) content link
-        (rows-at link content (row-content link id r facts attributes content k (h k))))
+        rows-good (part_of t) content link flat
+        (rows-at link flat content (row-content link flat id r facts attributes content k (h k))))
+
+    pieces-good : (ts : Simples) (link : Option (List ℕ)) (flat : Bool) → AllAt link flat ts
+        → GoodPieces Is rich link flat (pieces_of ts)
+    pieces-good none link flat h = tt
+    pieces-good (more t ts) link flat h =
+        pieces-append Is rich link flat (pieces_at (node_of t) (rows_at no_part t)) (pieces_of ts)
+        (either-piece link flat (node_of t) (has roles.is_caption (node_of t).tree) refl (rows_at no_part t)
+        (node-good t link flat h.0) (row-good no_part t link flat (λ e. h.0))) (pieces-good ts link flat h.1)
 
     terms-good : (ts : Simples) (link : Option (List ℕ)) (flat : Bool) → AllAt link flat ts
-        → GoodTerms Is link flat (terms_of ts)
+        → GoodTerms Is rich link flat (terms_of ts)
     terms-good none link flat h = tt
     terms-good (more t ts) link flat h =
-        terms-append Is link flat (parts_of_child (node_of t) (nodes_below t)) (terms_of ts)
+        terms-append Is rich link flat (parts_of_child (node_of t) (nodes_below t)) (terms_of ts)
         (term-good t link flat h.0 (node-good t link flat h.0)) (terms-good ts link flat h.1)
 
     term-good : (t : Simple) (link : Option (List ℕ)) (flat : Bool) → Within link flat t
-        → NodeGood Is link flat (node_of t) → GoodTerms Is link flat (parts_of_child (node_of t) (nodes_below t))
+        → NodeGood Is rich link flat (node_of t)
+        → GoodTerms Is rich link flat (parts_of_child (node_of t) (nodes_below t))
     term-good (text s) link flat h n = (n, tt)
     term-good (image o attributes) link flat h n = (n, tt)
     term-good (formula tex is_alone attributes) link flat h n = (n, tt)
@@ -653,8 +686,8 @@ module _ (Is : List ℕ → Type 0) where
         (λ e. nodes-good content link flat
         (group-at link flat id r facts attributes content (both-first (roles.is_division r) _ e) h)) n
 
-  pub document-links : (ts : Simples) → AllWithin None layout.Blocks ts → LinksInBlocks Is (document_of ts)
+  pub document-links : (ts : Simples) → AllWithin None layout.Blocks ts → LinksInBlocks Is (document_of rich ts)
   document-links ts h =
-      blocks-good Is false (flow_all (nodes_of ts) bare)
-      (flow-good Is None false (nodes_of ts)
-      (nodes-good ts None false (blocks-at None ts h)) bare (record { around = refl; line = refl }))
+      blocks-good Is false (flow_all (nodes_of ts) (bare_in rich))
+      (flow-good Is rich None false (nodes_of ts) (nodes-good ts None false (blocks-at None ts h)) (bare_in rich)
+      (record { around = refl; line = refl; is = refl }))

@@ -104,7 +104,7 @@ module _ (Is : List ℕ → Type 0) where
   blocks-append [] cs g h = h
   blocks-append (b ∷ bs) cs g h = (g.0, blocks-append bs cs g.1 h)
 
-  blocks-links : (bs : List Block) → AllBlocks bs → LinksInBlocks Is (blocks_of bs)
+  pub blocks-links : (bs : List Block) → AllBlocks bs → LinksInBlocks Is (blocks_of bs)
   blocks-links [] h = tt
   blocks-links (b ∷ bs) h = (h.0, blocks-links bs h.1)
 

@@ -227,8 +227,8 @@ filter-twice p q h (t ∷ ts) = test (q t)
     no e = test (p t) (λ k. true-false (sym (h t k) ∙ e)) (λ k. k)
 
 pub linked_targets : LinkedAreLedTo
-linked_targets trees =
-    let leadings : List Leading = all_leadings trees in
+linked_targets rich trees =
+    let leadings : List Leading = all_leadings rich trees in
     ap (λ xs. filter (λ (t : Target). is_led_to leadings t.value t.seen) xs)
     (all-counted (is_linked_to leadings) trees)
     ∙ filter-twice (λ (t : Target). is_led_to leadings t.value t.seen)

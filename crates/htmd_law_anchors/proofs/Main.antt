@@ -1,10 +1,10 @@
 -- The law of anchors.
-use Rattle.std.proofs.Common.{◌≡◌, ℕ, false, true, List, refl, sym, ap, ◌∙◌, subst}
+use Rattle.std.proofs.Common.{◌≡◌, ℕ, Bool, false, true, List, refl, sym, ap, ◌∙◌, subst}
 use Rattle.std.proofs.Common.{◌++◌, map}
 use Rattle.std.specs.List.{All}
 use Rattle.htmd_shown.specs.Shown.{shown_in}
 use Rattle.htmd_shown.specs.SimpleTrees.{Simple, text, image, formula, embedded, anchor, element, Simples, none, more}
-use Rattle.htmd_flow.specs.Contexts.{bare}
+use Rattle.htmd_flow.specs.Contexts.{bare_in}
 use Rattle.htmd_flow.specs.Flows.{document_of}
 use Rattle.htmd_document_of_tree.specs.declared.anchors.Anchors.{Anchors}
 use Rattle.htmd_document_of_tree.specs.Anchors.{Placing, placing_after_all, all_placed, values_of, last_anchors}
@@ -51,24 +51,25 @@ mutual
 
 -- ---- of trees without anchors
 
-record InOrder (which : Anchors) (ts : Simples) : Type 0 where
+record InOrder (which : Anchors) (rich : Bool) (ts : Simples) : Type 0 where
   things : List (List ℕ)
   show : ShowAll false false ts things
-  is : marks_of_blocks (document_of (pieced_all (anchored which ts))) ≡ with_places 0 (targets_by which ts) things
+  is : marks_of_blocks (document_of rich (pieced_all (anchored which rich ts)))
+      ≡ with_places 0 (targets_by which rich ts) things
 
-in-order : (which : Anchors) (ts : Simples) → AreSound ts → AreBare ts → InOrder which ts
-in-order which ts u b =
-    let us : Simples = anchored which ts in
+in-order : (which : Anchors) (rich : Bool) (ts : Simples) → AreSound ts → AreBare ts → InOrder which rich ts
+in-order which rich ts u b =
+    let us : Simples = anchored which rich ts in
     let all : Simples = pieced_all us in
-    let ms : List Mark = read_trees marks all bare false in
-    let sound : AreSound all = pieced-sound us (anchored-sound which ts u) in
-    let read : marks_of_blocks (document_of all) ≡ ms =
-    sym (blocks-marks (document_of all))
-    ∙ document-keeps marks no-link all
-    (stand-fit true all sound (pieced-stand true us (anchored-stand which ts b))) (no-addresses all) in
+    let ms : List Mark = read_trees marks all (bare_in rich) false in
+    let sound : AreSound all = pieced-sound us (anchored-sound which rich ts u) in
+    let read : marks_of_blocks (document_of rich all) ≡ ms =
+    sym (blocks-marks (document_of rich all))
+    ∙ document-keeps marks no-link rich all
+    (stand-fit true all sound (pieced-stand true us (anchored-stand which rich ts b))) (no-addresses all) in
     let have : MarkAll false false us ms =
-    pieced-marks us false false ms (trees-read all sound bare false) in
-    let p : Placing = record { seen = 0; targets = targets_by which ts } in
+    pieced-marks us false false ms (trees-read all sound (bare_in rich) false) in
+    let p : Placing = record { seen = 0; targets = targets_by which rich ts } in
     let left : List Target = (placing_after_all p ts).targets in
     let parts = split-marks (all_placed p ts) (last_anchors left) false false ms have in
     let h : ArePlaced p false false ts parts.0 = trees-placed ts u b p false false parts.0 parts.3 in
@@ -83,14 +84,14 @@ in-order which ts u b =
           ∙ put-all p h.things)));
     }
 
-has-anchors : (which : Anchors) (shown ts : Simples)
+has-anchors : (which : Anchors) (rich : Bool) (shown ts : Simples)
     → ((things : List (List ℕ)) → ShowAll false false ts things → ShowAll false false shown things)
     → AreSound ts → AreBare ts
-    → HasAnchors shown (targets_by which ts) (document_of (pieced_all (anchored which ts)))
-has-anchors which shown ts same u b =
-    let h : InOrder which ts = in-order which ts u b in
-    let targets : List Target = targets_by which ts in
-    let good : AreTargets targets = targets-good which ts in
+    → HasAnchors shown (targets_by which rich ts) (document_of rich (pieced_all (anchored which rich ts)))
+has-anchors which rich shown ts same u b =
+    let h : InOrder which rich ts = in-order which rich ts u b in
+    let targets : List Target = targets_by which rich ts in
+    let good : AreTargets targets = targets-good which rich ts in
     record {
       things = h.things;
       show = same h.things h.show;
@@ -108,5 +109,5 @@ pub links_lead_there : LinksLeadThere
 unfolding document_of_tree document_by
 links_lead_there which sight tree e =
     let shown : Simples = shown_in sight tree in
-    has-anchors which shown (limited shown) (λ things h. limited-show shown false false things h)
+    has-anchors which sight.is_rich shown (limited shown) (λ things h. limited-show shown false false things h)
     (limited-sound shown (page-sound sight tree e)) (limited-bare shown (page-bare sight tree))

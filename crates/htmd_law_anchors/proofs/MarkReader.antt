@@ -6,6 +6,7 @@ use Rattle.std.proofs.lemmas.List.{map-append}
 use Rattle.htmd_document.specs.Documents.{Inline, text, code, formatted, link, image, line_break, task, Inlines}
 use Rattle.htmd_document.specs.Documents.{anchor}
 use Rattle.htmd_document.specs.Documents.{no_inlines, inline, Block, paragraph, heading, code_block, quote}
+use Rattle.htmd_document.specs.Documents.{element, tags}
 use Rattle.htmd_document.specs.Documents.{thematic_break, list, table, Blocks, no_blocks, block, Items, no_items, item}
 use Rattle.htmd_law_documents.specs.DocumentTexts.{visible}
 use Rattle.htmd_law_documents.proofs.VisibleLemmas.{shows-nil, visible-append}
@@ -68,6 +69,8 @@ mutual
   block-marks (code_block language s) = refl
   block-marks (quote content) = blocks-marks content
   block-marks thematic_break = refl
+  block-marks (element name attributes content) = blocks-marks content
+  block-marks (tags s) = refl
   block-marks (list start is_tight items) = items-marks items
   block-marks (table alignments header rows) =
       ap (λ t. t ++ flat_map (read_cells marks) rows) (cells-marks header)

@@ -13,8 +13,8 @@ use Rattle.htmd_shown.specs.declared.role.Role.TheVariants as role
 use Rattle.htmd_shown.specs.AllTexts.{all_text_among, dollar_sign}
 use Rattle.htmd_shown.specs.Attributes.{text_of, title_of, address}
 use Rattle.htmd_shown.specs.SimpleTrees.{Simple, text, image, formula, embedded, anchor, element, Simples, none, more}
-use Rattle.htmd_flow.specs.Contexts.{Context, inside_format, in_one_line}
-use Rattle.htmd_flow.specs.Flows.{linked_by, around_heading, is_grid_of}
+use Rattle.htmd_flow.specs.Contexts.{Context, inside_format, inside_title, in_one_line, has_elements}
+use Rattle.htmd_flow.specs.Flows.{linked_by, around_heading, around_node, is_grid_of}
 use Rattle.htmd_law_documents.specs.DocumentTexts.{visible}
 use Rattle.htmd_law_documents.specs.SaidTexts.{SayAll}
 use Rattle.htmd_law_documents.specs.SimpleForms.{IsSound, AreSound}
@@ -23,7 +23,8 @@ use Rattle.htmd_law_documents.specs.TreeWrappers.{inside_heading}
 use Rattle.htmd_law_documents.proofs.ElementLemmas.{dollar-shows, all-texts-show}
 use Rattle.htmd_law_documents.proofs.Readers.{read_formula, read_by, read_tree, read_trees}
 use Rattle.htmd_law_documents.proofs.SaidLemmas.{say-actual}
-use Rattle.htmd_law_documents.proofs.WrapperElementLemmas.{format-change, link-change}
+use Rattle.htmd_law_documents.proofs.WrapperElementLemmas.{format-change, title-change, link-change}
+use Rattle.htmd_law_documents.proofs.WrapperNodesLemmas.{around-flat}
 use Rattle.htmd_law_anchors.specs.DocumentMarks.{Mark, letter, place, letters}
 use Rattle.htmd_law_anchors.specs.ShownThings.{ByRole}
 use Rattle.htmd_law_anchors.proofs.MarkReader.{marks, letters-append}
@@ -79,7 +80,7 @@ module _ (id : ℕ) (facts : Facts) (attributes : List AttributePair) (content :
 
   abbrev Has : Role → Bool → Type 0
   Has r g = ByRole r (CodeMarks content (by r g)) (by r g ≡ [])
-      (MarkAll (flat_in r c.is_flat g) (grid_in r holds_grid g) content (by r g))
+      (MarkAll (flat_in r c.is_flat g) (grid_in r (holds_grid && not (has_elements c)) g) content (by r g))
 
   -- in another context in which as much is one line
   as-flat : (d : Context) (flat : Bool) → d.is_flat ≡ flat → MarkAll flat false content (inner d false)
@@ -106,6 +107,8 @@ module _ (id : ℕ) (facts : Facts) (attributes : List AttributePair) (content :
       as-flat (inside_format (of_format f) c) c.is_flat (format-change (of_format f) c).flat
   by-has (role.Element f) g =
       as-flat (inside_format (of_element f) c) c.is_flat (format-change (of_element f) c).flat
+  by-has role.Abbreviation g =
+      as-flat (inside_title (title_of attributes) c) c.is_flat (title-change (title_of attributes) c).flat
   by-has role.Link g =
       as-flat (linked_by id attributes c) c.is_flat
       (link-change id (address (text_of (codes "href") attributes)) (title_of attributes) c).flat
@@ -123,11 +126,17 @@ mutual
   tree-read (embedded id address title attributes anchors) u c g =
       ap (λ xs. xs ++ letters title) (places-read anchors)
   tree-read (anchor id) u c g = refl
-  tree-read (element id r facts attributes content) u c g = (
-    is_grid_of content,
-    by-has id facts attributes content u.1 (is_grid_of content) (read_trees marks content)
-        (λ d k. trees-read content u.1 d k) c r g,
-  )
+  tree-read (element id r facts attributes content) u c g =
+      let t : Simple = element id r facts attributes content in
+      let d : Context = around_node t c in
+      let holds : Bool = is_grid_of content && not (has_elements d) in
+      let ms : List Mark = read_tree marks t c g in (
+        holds,
+        subst (λ (b : Bool). ByRole r (CodeMarks content ms) (ms ≡ [])
+            (MarkAll (flat_in r b g) (grid_in r holds g) content ms)) (around-flat t c)
+            (by-has id facts attributes content u.1 (is_grid_of content) (read_trees marks content)
+            (λ d k. trees-read content u.1 d k) d r g),
+      )
 
   pub trees-read : (ts : Simples) → AreSound ts → (c : Context) (g : Bool)
       → MarkAll c.is_flat g ts (read_trees marks ts c g)

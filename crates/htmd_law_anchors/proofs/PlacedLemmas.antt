@@ -17,7 +17,7 @@ use Rattle.htmd_shown.specs.Spaces.{is_blank_text}
 use Rattle.htmd_document_of_tree.specs.Anchors.{anchors, apart, stands_apart, after_anchors, preceded, Placing, ids_up_to}
 use Rattle.htmd_document_of_tree.specs.Anchors.{placed_before, after_leaf, placing_after, placing_after_all, placed, all_placed}
 use Rattle.htmd_document_of_tree.specs.Anchors.{values_of, last_anchors}
-use Rattle.htmd_document_of_tree.specs.Seen.{image_shows, code_shows}
+use Rattle.htmd_shown.specs.Showings.{image_shows, code_shows}
 use Rattle.htmd_document_of_tree.specs.Targets.{Target}
 use Rattle.htmd_law_documents.specs.DocumentTexts.{visible}
 use Rattle.htmd_law_documents.specs.SimpleForms.{IsMade, IsSound, AreSound}

@@ -14,13 +14,13 @@ use Rattle.htmd_shown.specs.Attributes.{text_of, is_filled, is_to_part}
 use Rattle.htmd_shown.specs.Marks.{letters, letters_of, letters_among, has_image, have_image, is_one, is_mark, is_usual_sign}
 use Rattle.htmd_shown.specs.Roles.{is_heading, is_link, is_verbatim, is_line_break, is_row}
 use Rattle.htmd_shown.specs.ShownTexts.{shown_text}
+use Rattle.htmd_shown.specs.Showings.{image_shows, code_shows}
 use Rattle.htmd_shown.specs.SimpleTrees.{Simple, text, image, formula, embedded, anchor, element, Simples, none, more}
 use Rattle.htmd_shown.specs.Spaces.{is_white, is_blank_text}
 use Rattle.htmd_document_of_tree.specs.declared.leadings.Layout.TheVariants as layout
-use Rattle.htmd_document_of_tree.specs.Leadings.{is_sign_alone, has_leaf, have_leaf}
-use Rattle.htmd_document_of_tree.specs.Limits.{address_of, size, cost, paid, left_after, within, all_within, budget}
-use Rattle.htmd_document_of_tree.specs.Limits.{limited}
-use Rattle.htmd_document_of_tree.specs.Seen.{image_shows, code_shows}
+use Rattle.htmd_document_of_tree.specs.Leadings.{is_unlinked as is_free, has_leaf, have_leaf}
+use Rattle.htmd_document_of_tree.specs.Limits.{address_of, is_carrying, size, cost, paid, left_after, emptied, within}
+use Rattle.htmd_document_of_tree.specs.Limits.{all_within, budget, limited}
 use Rattle.htmd_law_documents.specs.SimpleForms.{IsSound, AreSound}
 use Rattle.htmd_law_documents.proofs.ElementLemmas.{false-true, true-false, feed-shows}
 use Rattle.htmd_law_documents.proofs.NormalTextLemmas.{and-true}
@@ -117,16 +117,28 @@ within-mark left ts =
     ap (λ s. is_one is_usual_sign s && not (have_image (all_within left ts))) (all-within-letters left ts)
     ∙ ap (λ b. is_one is_usual_sign (letters_among ts) && not b) (all-within-image left ts)
 
-cut-unlinked : (b : Bool) (r : Role) → is_unlinked r ≡ false → is_unlinked (cond b role.Target r) ≡ false
-cut-unlinked true r e = refl
+cut-unlinked : (b : Bool) (r : Role) → is_unlinked r ≡ false → is_unlinked (cond b (emptied r) r) ≡ false
+cut-unlinked true r e = either (is_link r)
+  where
+    either : (b : Bool) → is_unlinked (cond b role.Target role.Plain) ≡ false
+    either true = refl
+    either false = refl
 cut-unlinked false r e = e
 
-cut-link : (b : Bool) (r : Role) → is_link (cond b role.Target r) ≡ true → is_link r ≡ true
-cut-link true r e = false-true e
+cut-link : (b : Bool) (r : Role) → is_link (cond b (emptied r) r) ≡ true → is_link r ≡ true
+cut-link true r e = either (is_link r) e
+  where
+    either : (b : Bool) → is_link (cond b role.Target role.Plain) ≡ true → is_link r ≡ true
+    either true e = false-true e
+    either false e = false-true e
 cut-link false r e = e
 
-cut-heading : (b : Bool) (r : Role) → is_heading (cond b role.Target r) ≡ true → is_heading r ≡ true
-cut-heading true r e = false-true e
+cut-heading : (b : Bool) (r : Role) → is_heading (cond b (emptied r) r) ≡ true → is_heading r ≡ true
+cut-heading true r e = either (is_link r) e
+  where
+    either : (b : Bool) → is_heading (cond b role.Target role.Plain) ≡ true → is_heading r ≡ true
+    either true e = false-true e
+    either false e = false-true e
 cut-heading false r e = e
 
 mutual
@@ -138,12 +150,12 @@ mutual
   within-proper left (anchor id) head h = tt
   within-proper left (element id r facts attributes content) head h =
       let now : Option ℕ = paid left (cost r facts attributes) in
-      let b : Bool = not (is_some now) && is_link r && nat_lt 0 (size attributes) in (
+      let b : Bool = not (is_some now) && is_carrying r && nat_lt 0 (size r attributes) in (
         cut-unlinked b r h.0,
         h.1 ∙ sym (within-mark now content),
         (λ e f p. within-mark now content ∙ h.2 e (cut-link b r f) p),
-        all-weaker (all_within now content) (head || is_heading r) (head || is_heading (cond b role.Target r))
-            (less head head (is_heading (cond b role.Target r)) (is_heading r) (λ e. e) (cut-heading b r))
+        all-weaker (all_within now content) (head || is_heading r) (head || is_heading (cond b (emptied r) r))
+            (less head head (is_heading (cond b (emptied r) r)) (is_heading r) (λ e. e) (cut-heading b r))
             (all-within-proper now content (head || is_heading r) h.3),
       )
 
@@ -197,30 +209,31 @@ no-code content e = ap is_filled e ∙ none
     none = grind (arith, nat_tests)
 
 mutual
-  no-leaf : (t : Simple) (head part : Bool) → IsSound t → IsProper head t → letters_of t ≡ []
+  no-leaf : (rich : Bool) (t : Simple) (head part : Bool) → IsSound t → IsProper head t → letters_of t ≡ []
       → has_image t ≡ false
-      → has_leaf part true t ≡ false
-  no-leaf (text s) head part u h e i = ap not (no-letters s h e)
-  no-leaf (image address attributes) head part u h e i =
+      → has_leaf rich part true t ≡ false
+  no-leaf rich (text s) head part u h e i = ap not (no-letters s h e)
+  no-leaf rich (image address attributes) head part u h e i =
       ap (λ b. b || not (is_blank_text (shown_text (text_of (codes "alt") attributes)))) i
       ∙ ap not (no-shown_letters (text_of (codes "alt") attributes) u e)
-  no-leaf (formula tex is_alone attributes) head part u h e i =
+  no-leaf rich (formula tex is_alone attributes) head part u h e i =
       no-formula dollar_sign (letters tex) (dollar_sign ∷ []) e
-  no-leaf (embedded id address title attributes anchors) head part u h e i = no-title title h.1 h.2 e
-  no-leaf (anchor id) head part u h e i = refl
-  no-leaf (element id r facts attributes content) head part u h e i =
-      either-leaf (is_verbatim r) (is_sign_alone part true r facts) (code_shows content)
-      (have_leaf part layout.OneLine content) (no-code content e)
-      (no-leaves content (head || is_heading r) part u.1 h.3 e i)
+  no-leaf rich (embedded id address title attributes anchors) head part u h e i = no-title title h.1 h.2 e
+  no-leaf rich (anchor id) head part u h e i = refl
+  no-leaf rich (element id r facts attributes content) head part u h e i =
+      either-leaf (is_verbatim r) (is_free rich part true r facts content) (code_shows content)
+      (have_leaf rich part layout.OneLine content) (no-code content e)
+      (no-leaves rich content (head || is_heading r) part u.1 h.3 e i)
 
-  no-leaves : (ts : Simples) (head part : Bool) → AreSound ts → AreProper head ts → letters_among ts ≡ []
-      → have_image ts ≡ false → have_leaf part layout.OneLine ts ≡ false
-  no-leaves none head part u h e i = refl
-  no-leaves (more t ts) head part u h e i =
+  no-leaves : (rich : Bool) (ts : Simples) (head part : Bool) → AreSound ts → AreProper head ts
+      → letters_among ts ≡ []
+      → have_image ts ≡ false → have_leaf rich part layout.OneLine ts ≡ false
+  no-leaves rich none head part u h e i = refl
+  no-leaves rich (more t ts) head part u h e i =
       let images = neither-image (has_image t) (have_image ts) i in
-      ap (λ b. b || have_leaf part layout.OneLine ts)
-      (no-leaf t head part u.0 h.0 (first-none (letters_of t) (letters_among ts) e) images.0)
-      ∙ no-leaves ts head part u.1 h.1 (last-none (letters_of t) (letters_among ts) e) images.1
+      ap (λ b. b || have_leaf rich part layout.OneLine ts)
+      (no-leaf rich t head part u.0 h.0 (first-none (letters_of t) (letters_among ts) e) images.0)
+      ∙ no-leaves rich ts head part u.1 h.1 (last-none (letters_of t) (letters_among ts) e) images.1
 
 -- ---- where a usual sign shows alone
 
@@ -239,28 +252,29 @@ sign-split (x ∷ []) (y ∷ ys) (inr e) = false-true e
 sign-split (x ∷ z ∷ xs) ys (inr e) = false-true e
 
 mutual
-  quiet : (t : Simple) → IsSound t → IsProper true t → Sign (letters_of t) → has_image t ≡ false → IsQuiet t
-  quiet (text s) u h z i = tt
-  quiet (image address attributes) u h s i = tt
-  quiet (formula tex is_alone attributes) u h s i = tt
-  quiet (embedded id address title attributes anchors) u h s i = tt
-  quiet (anchor id) u h s i = tt
-  quiet (element id r facts attributes content) u h s i =
-      ((λ l p. here l p s), all-quiet content u.1 h.3 s i)
+  quiet : (rich : Bool) (t : Simple) → IsSound t → IsProper true t → Sign (letters_of t) → has_image t ≡ false
+      → IsQuiet rich t
+  quiet rich (text s) u h z i = tt
+  quiet rich (image address attributes) u h s i = tt
+  quiet rich (formula tex is_alone attributes) u h s i = tt
+  quiet rich (embedded id address title attributes anchors) u h s i = tt
+  quiet rich (anchor id) u h s i = tt
+  quiet rich (element id r facts attributes content) u h s i =
+      ((λ l p. here l p s), all-quiet rich content u.1 h.3 s i)
     where
       here : is_link r ≡ true → is_to_part (address_of attributes) ≡ true → Sign (letters_among content)
-          → have_leaf true layout.OneLine content ≡ false
-      here l p (inl e) = no-leaves content true true u.1 h.3 e i
+          → have_leaf rich true layout.OneLine content ≡ false
+      here l p (inl e) = no-leaves rich content true true u.1 h.3 e i
       here l p (inr e) = true-false (sym (and-true e (ap not i)) ∙ h.2 refl l p)
 
-  all-quiet : (ts : Simples) → AreSound ts → AreProper true ts → Sign (letters_among ts)
+  all-quiet : (rich : Bool) (ts : Simples) → AreSound ts → AreProper true ts → Sign (letters_among ts)
       → have_image ts ≡ false
-      → AreQuiet ts
-  all-quiet none u h s i = tt
-  all-quiet (more t ts) u h s i =
+      → AreQuiet rich ts
+  all-quiet rich none u h s i = tt
+  all-quiet rich (more t ts) u h s i =
       let images = neither-image (has_image t) (have_image ts) i in
       let signs : SignIn (letters_of t) (letters_among ts) = sign-split (letters_of t) (letters_among ts) s in
-      (quiet t u.0 h.0 signs.first images.0, all-quiet ts u.1 h.1 signs.last images.1)
+      (quiet rich t u.0 h.0 signs.first images.0, all-quiet rich ts u.1 h.1 signs.last images.1)
 
 -- ---- code of which nothing shows
 
@@ -319,27 +333,27 @@ image-calm None attributes u g =
     test (is_blank_text (shown_text alt)) (λ e. true-false (sym g ∙ ap not (blank-line alt u e))) (λ e. ap not e)
 
 mutual
-  calm : (t : Simple) (head : Bool) → IsSound t → IsProper head t → IsCalm t
-  calm (text s) head u h = tt
-  calm (image o attributes) head u h = image-calm o attributes u
-  calm (formula tex is_alone attributes) head u h = tt
-  calm (embedded id address title attributes anchors) head u h = h.0
-  calm (anchor id) head u h = tt
-  calm (element id r facts attributes content) head u h = (
+  calm : (rich : Bool) (t : Simple) (head : Bool) → IsSound t → IsProper head t → IsCalm rich t
+  calm rich (text s) head u h = tt
+  calm rich (image o attributes) head u h = image-calm o attributes u
+  calm rich (formula tex is_alone attributes) head u h = tt
+  calm rich (embedded id address title attributes anchors) head u h = h.0
+  calm rich (anchor id) head u h = tt
+  calm rich (element id r facts attributes content) head u h = (
     h.0,
     code-calm content (head || is_heading r) u.1 h.3,
     (λ e s.
         let mark = both-true (is_one is_usual_sign (letters_among content)) (not (have_image content))
         (sym h.1 ∙ s) in
-        all-quiet content u.1 (all-weaker content (head || is_heading r) true
+        all-quiet rich content u.1 (all-weaker content (head || is_heading r) true
         (λ t. or-right head (is_heading r) e) h.3) (inr mark.0) (not-image (have_image content) mark.1)),
-    all-calm content (head || is_heading r) u.1 h.3,
+    all-calm rich content (head || is_heading r) u.1 h.3,
   )
     where
       not-image : (b : Bool) → not b ≡ true → b ≡ false
       not-image true e = false-true e
       not-image false e = refl
 
-  pub all-calm : (ts : Simples) (head : Bool) → AreSound ts → AreProper head ts → AreCalm ts
-  all-calm none head u h = tt
-  all-calm (more t ts) head u h = (calm t head u.0 h.0, all-calm ts head u.1 h.1)
+  pub all-calm : (rich : Bool) (ts : Simples) (head : Bool) → AreSound ts → AreProper head ts → AreCalm rich ts
+  all-calm rich none head u h = tt
+  all-calm rich (more t ts) head u h = (calm rich t head u.0 h.0, all-calm rich ts head u.1 h.1)

@@ -7,7 +7,8 @@ use Rattle.htmd_shown.specs.Kinds.{has, holds, content_of, is_blank}
 use Rattle.htmd_shown.specs.Roles.{is_caption, is_head, is_part, is_row, is_row_or_part, is_cell, is_header_cell}
 use Rattle.htmd_shown.specs.SimpleTrees.{Simple}
 use Rattle.htmd_flow.specs.Levels.{list_of}
-use Rattle.htmd_flow.specs.Tables.{is_cell_or_blank, is_row_or_blank, is_table_child, holds_table_alone, is_no_caption}
+use Rattle.htmd_flow.specs.Tables.{is_cell_or_nothing, is_row_or_nothing, is_table_child, holds_table_alone}
+use Rattle.htmd_flow.specs.Tables.{is_no_caption}
 use Rattle.htmd_flow.specs.Tables.{is_no_row, from_row, from_caption, has_captions_around, has_head, no_cells, with_cell}
 use Rattle.htmd_flow.specs.Tables.{with_cell_at, cells_len, with_row, with_row_at, with_rows, with_part, cells_in}
 use Rattle.htmd_flow.specs.Tables.{layout_by_cells, layout_of}
@@ -117,24 +118,26 @@ pub record Kin2 (t u : Simple) : Type 0 where
   pub row_or_part : has is_row_or_part t ≡ has is_row_or_part u
   pub rows : has is_part t ≡ true → All2 Kin1 (children t) (children u)
 
-cell-or-blank : (t u : Simple) → Kin0 t u → is_cell_or_blank t ≡ is_cell_or_blank u
-cell-or-blank t u k = ap (λ b. b || is_blank t) k.cell ∙ ap (λ b. has is_cell u || b) k.blank
+cell-or-nothing : (t u : Simple) → Kin0 t u → is_cell_or_nothing false t ≡ is_cell_or_nothing false u
+cell-or-nothing t u k = ap (λ b. b || is_blank t) k.cell ∙ ap (λ b. has is_cell u || b) k.blank
 
-row-or-blank : (t u : Simple) → Kin1 t u → is_row_or_blank t ≡ is_row_or_blank u
-row-or-blank t u k =
-    cond-eq (has is_row t) (has is_row u) (list_all is_cell_or_blank (children t)) (is_blank t)
-    (list_all is_cell_or_blank (children u)) (is_blank u) k.row
-    (λ e. all-same Kin0 is_cell_or_blank cell-or-blank (children t) (children u) (k.cells e)) (λ e. k.kin.blank)
+row-or-nothing : (t u : Simple) → Kin1 t u → is_row_or_nothing false t ≡ is_row_or_nothing false u
+row-or-nothing t u k =
+    cond-eq (has is_row t) (has is_row u) (list_all (is_cell_or_nothing false) (children t)) (is_blank t)
+    (list_all (is_cell_or_nothing false) (children u)) (is_blank u) k.row
+    (λ e. all-same Kin0 (is_cell_or_nothing false) cell-or-nothing (children t) (children u) (k.cells e))
+    (λ e. k.kin.blank)
 
-table-child : (t u : Simple) → Kin2 t u → is_table_child t ≡ is_table_child u
+table-child : (t u : Simple) → Kin2 t u → is_table_child false t ≡ is_table_child false u
 table-child t u k =
     cond-eq (has is_caption t) (has is_caption u) true
-    (cond (has is_part t) (list_all is_row_or_blank (children t)) (is_row_or_blank t)) true
-    (cond (has is_part u) (list_all is_row_or_blank (children u)) (is_row_or_blank u)) k.caption (λ e. refl)
-    (λ e. cond-eq (has is_part t) (has is_part u) (list_all is_row_or_blank (children t)) (is_row_or_blank t)
-    (list_all is_row_or_blank (children u)) (is_row_or_blank u) k.part
-    (λ f. all-same Kin1 is_row_or_blank row-or-blank (children t) (children u) (k.rows f))
-    (λ f. row-or-blank t u k.kin))
+    (cond (has is_part t) (list_all (is_row_or_nothing false) (children t)) (is_row_or_nothing false t)) true
+    (cond (has is_part u) (list_all (is_row_or_nothing false) (children u)) (is_row_or_nothing false u)) k.caption
+    (λ e. refl)
+    (λ e. cond-eq (has is_part t) (has is_part u) (list_all (is_row_or_nothing false) (children t))
+    (is_row_or_nothing false t) (list_all (is_row_or_nothing false) (children u)) (is_row_or_nothing false u) k.part
+    (λ f. all-same Kin1 (is_row_or_nothing false) row-or-nothing (children t) (children u) (k.rows f))
+    (λ f. row-or-nothing t u k.kin))
 
 no-row : (t u : Simple) → Kin2 t u → is_no_row t ≡ is_no_row u
 no-row t u k = ap not k.row_or_part
@@ -197,12 +200,14 @@ cells-same xs ys h =
 
 pub layout-same : (xs ys : List Simple) → All2 Kin2 xs ys → layout_of xs ≡ layout_of ys
 layout-same xs ys h =
-    ap (λ b. cond (b && holds_table_alone xs) (layout_by_cells (has_head xs) (cells_in xs)) layout.Page)
+    ap (λ b. cond (b && holds_table_alone false xs) (layout_by_cells (has_head xs) (cells_in xs)) layout.Page)
     (all-same Kin2 is_no_row no-row (from_caption (from_row xs)) (from_caption (from_row ys))
     (from-caption (from_row xs) (from_row ys) (from-row xs ys h)))
     ∙ (ap (λ b. cond (has_captions_around ys && b) (layout_by_cells (has_head xs) (cells_in xs)) layout.Page)
-    (all-same Kin2 is_table_child table-child xs ys h)
-    ∙ (ap (λ b. cond (has_captions_around ys && holds_table_alone ys) (layout_by_cells b (cells_in xs)) layout.Page)
+    (all-same Kin2 (is_table_child false) table-child xs ys h)
+    ∙ (ap (λ b. cond (has_captions_around ys && holds_table_alone false ys) (layout_by_cells b (cells_in xs))
+    layout.Page)
     (any-same Kin2 (has is_head) (λ t u k. k.head) xs ys h)
-    ∙ ap (λ c. cond (has_captions_around ys && holds_table_alone ys) (layout_by_cells (has_head ys) c) layout.Page)
+    ∙ ap (λ c. cond (has_captions_around ys && holds_table_alone false ys) (layout_by_cells (has_head ys) c)
+    layout.Page)
     (cells-same xs ys h)))

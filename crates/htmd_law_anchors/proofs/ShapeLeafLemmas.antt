@@ -20,13 +20,13 @@ use Rattle.htmd_shown.specs.Kinds.{has, is_blank}
 use Rattle.htmd_shown.specs.Pieces.{Pieces, no_pieces, is_leaf, is_unseen, after_leaf, at_edge, pieces_after}
 use Rattle.htmd_shown.specs.Roles as roles
 use Rattle.htmd_shown.specs.Shown.{followed_by}
+use Rattle.htmd_shown.specs.Showings.{image_shows, code_shows}
 use Rattle.htmd_shown.specs.SimpleTrees.{Simple, text, image, formula, embedded, anchor, element, Simples, none, more}
 use Rattle.htmd_shown.specs.Spaces.{is_blank_text}
 use Rattle.htmd_document.specs.Documents.{code_block}
 use Rattle.htmd_document_of_tree.specs.Anchors.{anchors, apart, before, stands_apart, after_anchors, preceded}
 use Rattle.htmd_document_of_tree.specs.Anchors.{Placing, ids_up_to, placed_before, placing_after, placed, all_placed}
 use Rattle.htmd_document_of_tree.specs.FirstPieces.{most_linked, unlinked, cut_leaf, cut, cut_all, pieced, pieced_all}
-use Rattle.htmd_document_of_tree.specs.Seen.{image_shows, code_shows}
 use Rattle.htmd_flow.specs.Contexts.{Context, in_code, inside_link, run_in}
 use Rattle.htmd_flow.specs.Contexts as contexts
 use Rattle.htmd_flow.specs.Flows.{node_of, nodes_of, flow_all, list_parts, is_spaces, image_parts}
@@ -39,7 +39,7 @@ use Rattle.htmd_law_documents.specs.SimpleForms.{IsMade, IsSound, AreSound}
 use Rattle.htmd_law_documents.proofs.ElementLemmas.{false-true, true-false}
 use Rattle.htmd_law_documents.proofs.NormalShownLemmas.{IsClear, AreClear, line-blank}
 use Rattle.htmd_law_documents.proofs.NormalTextLemmas.{from-not}
-use Rattle.htmd_law_documents.proofs.WrapperTableLemmas.{node-tree}
+use Rattle.htmd_law_anchors.proofs.LinkAroundLemmas.{node-tree}
 use Rattle.htmd_law_anchors.proofs.CodeTextLemmas.{blank-code, code-black, code-fills, ascii-blank}
 use Rattle.htmd_law_anchors.proofs.LinkKeptLemmas.{all-pieced-text, GridsPlaced, AllGridsPlaced, GridsCut, AllGridsCut}
 use Rattle.htmd_law_anchors.proofs.LinkKeptLemmas.{GridsPieced, AllGridsPieced}
@@ -250,7 +250,7 @@ unlinked-same t u e b =
     (λ c d w.
     let x : Context = contexts.unlinked d in
     let same : Same c.is_flat ((node_of t).whole c) ((node_of t).whole x) =
-    h.1 c x (record { flat = w.flat; nested = w.nested }) in
+    h.1 c x (record { flat = w.flat; nested = w.nested; first = w.first; second = w.second }) in
     subst (λ (ps : List Part). Same c.is_flat ((node_of t).whole c) ps)
     (sym (one-flow t h.0.item x ∙ append-nil ((node_of t).whole x))) same)
 

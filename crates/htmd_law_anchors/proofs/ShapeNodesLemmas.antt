@@ -9,7 +9,7 @@ use Rattle.htmd_document.specs.TightItems.{is_filled}
 use Rattle.htmd_shown.specs.Kinds.{has}
 use Rattle.htmd_shown.specs.Roles as roles
 use Rattle.htmd_shown.specs.Spaces.{is_blank_text}
-use Rattle.htmd_flow.specs.Contexts.{Context, is_lined, deeper, apart}
+use Rattle.htmd_flow.specs.Contexts.{Context, has_elements, is_lined, deeper, apart}
 use Rattle.htmd_flow.specs.Flows.{Node, TermPart, gap, of_node, is_item, is_cell, attributes_of, before_items, behind_item, item_of, items_of}
 use Rattle.htmd_flow.specs.Flows.{each_whole, list_parts, is_spaces, goes_on, items_in_a_row, flow_all, flow_after}
 use Rattle.htmd_flow.specs.Flows.{has_role, beside_terms, within_item, Terms, no_terms, item_with, onto_last, with_term}
@@ -262,13 +262,28 @@ lists-shape nested start items s = either (are_filled items) refl
 
 -- ---- nodes of the same kinds
 
--- as much is one line, and as many lists and quotes are around
+-- as much is one line, as many lists and quotes are around, and neither document is rich
 pub record Twin (c d : Context) : Type 0 where
   pub flat : c.is_flat ≡ d.is_flat
   pub nested : c.nested ≡ d.nested
+  pub first : c.is_rich ≡ false
+  pub second : d.is_rich ≡ false
 
 pub twin-deeper : (c d : Context) → Twin c d → Twin (deeper c) (deeper d)
-twin-deeper c d t = record { flat = t.flat; nested = ap suc t.nested }
+twin-deeper c d t = record { flat = t.flat; nested = ap suc t.nested; first = t.first; second = t.second }
+
+-- so nothing is an element
+pub same-plain : (c d : Context) → Twin c d → (ps qs ps' qs' : List Part) → Same c.is_flat qs qs'
+    → Same c.is_flat (cond (has_elements c) ps qs) (cond (has_elements d) ps' qs')
+same-plain c d t ps qs ps' qs' h =
+    same-cond c.is_flat (has_elements c) (has_elements d) ps qs ps' qs' (left ∙ sym right)
+    (λ e. true-false (sym e ∙ left)) (λ e. h)
+  where
+    left : has_elements c ≡ false
+    left = ap (λ b. b && not c.is_flat) t.first
+
+    right : has_elements d ≡ false
+    right = ap (λ b. b && not d.is_flat) t.second
 
 pub lined-same : (c d : Context) → Twin c d → is_lined c ≡ is_lined d
 lined-same c d t =

@@ -250,7 +250,7 @@ rows-append rs rs' qs qs' g h = absurd g
 
 module _ (c d : Context) (t : Twin c d) where
   twin-line : Twin (in_one_line c) (in_one_line d)
-  twin-line = record { flat = refl; nested = t.nested }
+  twin-line = record { flat = refl; nested = t.nested; first = t.first; second = t.second }
 
   cells-alike : (ns ms : List Node) → SameCells ns ms → AlikeCells (map (cell_of c) ns) (map (cell_of d) ms)
   cells-alike [] [] h = tt
@@ -411,7 +411,8 @@ module _ (c d : Context) (t : Twin c d) (ns ms : List Node) (rs qs : List Row) (
 paragraph-same : (n m : Node) → SameCell n m → is_paragraph n ≡ is_paragraph m
 paragraph-same n m h =
     shape.paragraph-few (n.content bare)
-    ∙ (ap shape.is_few (h.content bare bare (record { flat = refl; nested = refl }) nothing)
+    ∙ (ap shape.is_few (h.content bare bare (record { flat = refl; nested = refl; first = refl; second = refl })
+    nothing)
     ∙ sym (shape.paragraph-few (m.content bare)))
 
 all-paragraphs : (ns ms : List Node) → SameCells ns ms → list_all is_paragraph ns ≡ list_all is_paragraph ms

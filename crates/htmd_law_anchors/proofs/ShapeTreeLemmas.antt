@@ -5,29 +5,35 @@ use Rattle.std.specs.Prelude.{is_some}
 use Rattle.std.specs.List.{list_any}
 use Rattle.htmd_lexical.specs.AttributePairs.{AttributePair}
 use Rattle.htmd_lexical.specs.Characters.{space}
-use Rattle.htmd_document.specs.Formats.{Format, of_format, of_element}
+use Rattle.htmd_document.specs.declared.document.BlockElement.TheVariants as name
+use Rattle.htmd_document.specs.Formats.{Format, Abbreviation, of_format, of_element}
 use Rattle.htmd_shown.specs.declared.facts.Facts.{Facts}
 use Rattle.htmd_shown.specs.declared.role.Role.{Role}
 use Rattle.htmd_shown.specs.declared.role.Role.TheVariants as role
 use Rattle.htmd_shown.specs.Kinds.{has, content_of, is_blank}
+use Rattle.htmd_shown.specs.Attributes.{title_of}
 use Rattle.htmd_shown.specs.Roles as roles
+use Rattle.htmd_shown.specs.Showings.{show_usual_sign}
 use Rattle.htmd_shown.specs.SimpleTrees.{Simple, text, image, formula, embedded, anchor, element, Simples, none, more}
-use Rattle.htmd_flow.specs.Contexts.{Context, is_lined, is_enough, is_link, is_linked_to_part, with_around, inside_format}
+use Rattle.htmd_flow.specs.Contexts.{Context, has_elements, inside_title}
+use Rattle.htmd_flow.specs.Contexts.{is_lined, is_enough, is_link, is_linked_to_part, with_around, inside_format}
 use Rattle.htmd_flow.specs.Contexts.{inside_link, unlinked, beside_code, in_code, in_one_line, deeper, run_in, apart}
 use Rattle.htmd_flow.specs.Flows.{Node, Row, TermPart, gap, of_node, is_cell, is_spaces, node_of}
 use Rattle.htmd_flow.specs.Flows.{nodes_of, nodes_below, terms_of, rows_among, rows_at, row_with, no_part, part_of}
 use Rattle.htmd_flow.specs.Flows.{parts_of_child, flow_all, box_parts, heading_of, around_heading}
 use Rattle.htmd_flow.specs.Flows.{quote_of, blocks_of, line_of, start_of, is_grid_of, rows_of_table, linked_by}
+use Rattle.htmd_flow.specs.Flows.{around_title, captioned, described_parts, element_part, figure_parts, open_attribute}
+use Rattle.htmd_flow.specs.Flows.{pieces_of, rich_table_parts, table_parts, term_parts, titled}
 use Rattle.htmd_flow.specs.Levels.{list_of}
 use Rattle.htmd_flow.specs.Parts.{Part, formatted, linked, break}
 use Rattle.htmd_flow.specs.Terms.{is_term_or_meaning, is_group}
 use Rattle.htmd_flow.specs.declared.table_form.TablePart.{TablePart}
 use Rattle.htmd_law_documents.proofs.ElementLemmas.{false-true, true-false}
-use Rattle.htmd_law_documents.proofs.WrapperTableLemmas.{node-tree}
+use Rattle.htmd_law_anchors.proofs.LinkAroundLemmas.{node-tree}
 use Rattle.htmd_law_anchors.proofs.LinkNodesLemmas.{is_inner, has-more}
 use Rattle.htmd_law_anchors.proofs.ShapeLayoutLemmas.{All2, all-map, Kin0, Kin1, Kin2, layout-same}
 use Rattle.htmd_law_anchors.proofs.ShapeNodesLemmas.{Same, same-itself, same-append, same-apart, same-cond}
-use Rattle.htmd_law_anchors.proofs.ShapeNodesLemmas.{same-line, Twin, twin-deeper, lined-same, not-flat, GivesSame, SameNode}
+use Rattle.htmd_law_anchors.proofs.ShapeNodesLemmas.{same-plain, same-line, Twin, twin-deeper, lined-same, not-flat, GivesSame, SameNode}
 use Rattle.htmd_law_anchors.proofs.ShapeNodesLemmas.{SameNodes, list-parts-same, flow-same, SameTerms, terms-append}
 use Rattle.htmd_law_anchors.proofs.ShapeNodesLemmas.{nodes-terms, term-parts-same, heading-same, quote-same}
 use Rattle.htmd_law_anchors.proofs.ShapeTableLemmas.{SameCells, SameRows, rows-append, table-parts-same, grid-same}
@@ -73,37 +79,49 @@ grids-same ts us h =
 
 -- ---- contexts
 
--- as much is one line, and as many lists and quotes are around, as before
+-- as much is one line, as many lists and quotes are around, and the document is as rich, as before
 record Kept (c d : Context) : Type 0 where
   flat : d.is_flat ≡ c.is_flat
   nested : d.nested ≡ c.nested
+  rich : d.is_rich ≡ c.is_rich
 
 kept-either : (b : Bool) (c x y : Context) → Kept c x → Kept c y → Kept c (cond b x y)
 kept-either true c x y g h = g
 kept-either false c x y g h = h
 
 kept-here : (c : Context) → Kept c c
-kept-here c = record { flat = refl; nested = refl }
+kept-here c = record { flat = refl; nested = refl; rich = refl }
 
 kept-format : (f : Format) (c : Context) → Kept c (inside_format f c)
 kept-format f c =
     kept-either (is_enough f c.around) c c (with_around c (formatted f)) (kept-here c)
-    (record { flat = refl; nested = refl })
+    (record { flat = refl; nested = refl; rich = refl })
 
 kept-link : (id : ℕ) (s : List ℕ) (title : Option (List ℕ)) (c : Context) → Kept c (inside_link id s title c)
 kept-link id s title c =
     kept-either (list_any is_link c.around) c c (with_around c (linked id s title)) (kept-here c)
-    (record { flat = refl; nested = refl })
+    (record { flat = refl; nested = refl; rich = refl })
 
 kept-near : (pres : ℕ) (attributes : List AttributePair) (c : Context) → Kept c (beside_code pres attributes c)
 kept-near zero attributes c = kept-here c
-kept-near (suc zero) attributes c = record { flat = refl; nested = refl }
-kept-near (suc (suc n)) attributes c = record { flat = refl; nested = refl }
+kept-near (suc zero) attributes c = record { flat = refl; nested = refl; rich = refl }
+kept-near (suc (suc n)) attributes c = record { flat = refl; nested = refl; rich = refl }
+
+kept-abbreviation : (title : Option (List ℕ)) (c : Context) → Kept c (inside_title title c)
+kept-abbreviation None c = kept-here c
+kept-abbreviation (Some s) c = kept-format (Abbreviation s) c
+
+kept-title : (ts : Simples) (c : Context) → Kept c (around_title ts c)
+kept-title ts c =
+    kept-either (has_elements c && is_linked_to_part c && show_usual_sign ts) c (unlinked c) c
+    (record { flat = refl; nested = refl; rich = refl }) (kept-here c)
 
 kept-twin : (c d x y : Context) → Twin c d → Kept c x → Kept d y → Twin x y
 kept-twin c d x y t k l = record {
   flat = k.flat ∙ (t.flat ∙ sym l.flat);
   nested = k.nested ∙ (t.nested ∙ sym l.nested);
+  first = k.rich ∙ t.first;
+  second = l.rich ∙ t.second;
 }
 
 -- the same in other contexts
@@ -115,6 +133,13 @@ heading-nested : (facts : Facts) (c : Context) → (around_heading facts c).nest
 heading-nested facts c = either (facts.shows_sign && is_linked_to_part c)
   where
     either : (b : Bool) → (cond b (unlinked c) c).nested ≡ c.nested
+    either true = refl
+    either false = refl
+
+heading-rich : (facts : Facts) (c : Context) → (around_heading facts c).is_rich ≡ c.is_rich
+heading-rich facts c = either (facts.shows_sign && is_linked_to_part c)
+  where
+    either : (b : Bool) → (cond b (unlinked c) c).is_rich ≡ c.is_rich
     either true = refl
     either false = refl
 
@@ -136,11 +161,29 @@ module _ (id : ℕ) (facts : Facts) (attributes : List AttributePair) (ts us : S
       (moved (flow_all (nodes_of ts)) (flow_all (nodes_of us)) flows c d (beside_code facts.pres attributes c)
       (beside_code facts.pres attributes d) t (kept-near facts.pres attributes c) (kept-near facts.pres attributes d))
 
+  titles : GivesSame (λ c. apart (flow_all (nodes_of ts) (around_title ts c)))
+      (λ c. apart (flow_all (nodes_of us) (around_title us c)))
+  titles c d t =
+      same-apart c.is_flat (flow_all (nodes_of ts) (around_title ts c)) (flow_all (nodes_of us) (around_title us d))
+      (moved (flow_all (nodes_of ts)) (flow_all (nodes_of us)) flows c d (around_title ts c) (around_title us d) t
+      (kept-title ts c) (kept-title us d))
+
+  figures : GivesSame (figure_parts (nodes_of ts)) (figure_parts (nodes_of us))
+  figures c d t =
+      same-apart c.is_flat (cond (has_elements c) (captioned (nodes_of ts) c) (flow_all (nodes_of ts) c))
+      (cond (has_elements d) (captioned (nodes_of us) d) (flow_all (nodes_of us) d))
+      (same-plain c d t (captioned (nodes_of ts) c) (flow_all (nodes_of ts) c) (captioned (nodes_of us) d)
+      (flow_all (nodes_of us) d) (flows c d t))
+
   abbrev old : Role → Simple
   old r = element id r facts attributes ts
 
   abbrev new : Role → Simple
   new r = element id r facts attributes us
+
+  abbrev details : List Node → Context → List Part
+  details nodes c =
+      element_part name.Details (open_attribute attributes) (blocks_of false (titled name.Summary nodes c))
 
   element-whole : (r : Role) → roles.is_verbatim r ≡ false
       → GivesSame ((node_of (old r)).whole) ((node_of (new r)).whole)
@@ -152,14 +195,14 @@ module _ (id : ℕ) (facts : Facts) (attributes : List AttributePair) (ts us : S
       moved (flow_all (nodes_of ts)) (flow_all (nodes_of us)) flows c d (inside_format (of_element f) c)
       (inside_format (of_element f) d) t (kept-format (of_element f) c) (kept-format (of_element f) d)
   element-whole role.Code v c d t =
-      flows (in_code c) (in_code d) (record { flat = t.flat; nested = t.nested })
+      flows (in_code c) (in_code d) (record { flat = t.flat; nested = t.nested; first = t.first; second = t.second })
   element-whole role.Typed v c d t =
-      flows (in_code c) (in_code d) (record { flat = t.flat; nested = t.nested })
+      flows (in_code c) (in_code d) (record { flat = t.flat; nested = t.nested; first = t.first; second = t.second })
   element-whole role.Link v c d t =
       moved (flow_all (nodes_of ts)) (flow_all (nodes_of us)) flows c d (linked_by id attributes c)
       (linked_by id attributes d) t (kept-link id _ _ c) (kept-link id _ _ d)
   element-whole role.Unlinked v c d t =
-      flows (unlinked c) (unlinked d) (record { flat = t.flat; nested = t.nested })
+      flows (unlinked c) (unlinked d) (record { flat = t.flat; nested = t.nested; first = t.first; second = t.second })
   element-whole role.Target v c d t = flows c d t
   element-whole role.Plain v c d t = flows c d t
   element-whole role.Apart v c d t =
@@ -188,7 +231,12 @@ module _ (id : ℕ) (facts : Facts) (attributes : List AttributePair) (ts us : S
       (λ e. same-line c.is_flat false (heading_of level (line_of ps)) (heading_of level (line_of qs)) e
       (heading-same level ps qs
       (flows (in_one_line (around_heading facts c)) (in_one_line (around_heading facts d))
-      (record { flat = refl; nested = heading-nested facts c ∙ (t.nested ∙ sym (heading-nested facts d)) })))))
+      (record {
+        flat = refl;
+        nested = heading-nested facts c ∙ (t.nested ∙ sym (heading-nested facts d));
+        first = heading-rich facts c ∙ t.first;
+        second = heading-rich facts d ∙ t.second;
+      })))))
   element-whole role.Preformatted v c d t = true-false v
   element-whole role.Verbatim v c d t = true-false v
   element-whole role.BlockQuote v c d t =
@@ -207,13 +255,36 @@ module _ (id : ℕ) (facts : Facts) (attributes : List AttributePair) (ts us : S
   element-whole role.NumberedList v c d t =
       list-parts-same (Some (start_of attributes)) (Some (start_of attributes)) (nodes_of ts) (nodes_of us) h.nodes c d
       t
+  element-whole role.Abbreviation v c d t =
+      moved (flow_all (nodes_of ts)) (flow_all (nodes_of us)) flows c d (inside_title (title_of attributes) c)
+      (inside_title (title_of attributes) d) t (kept-abbreviation (title_of attributes) c)
+      (kept-abbreviation (title_of attributes) d)
   element-whole role.Terms v c d t =
-      term-parts-same (terms_of ts) (terms_of us) (nodes_of ts) (nodes_of us) h.terms h.nodes c d t
+      same-plain c d t (described_parts (terms_of ts) c) (term_parts (terms_of ts) (nodes_of ts) c)
+      (described_parts (terms_of us) d) (term_parts (terms_of us) (nodes_of us) d)
+      (term-parts-same (terms_of ts) (terms_of us) (nodes_of ts) (nodes_of us) h.terms h.nodes c d t)
   element-whole role.Table v c d t =
-      table-parts-same c d t (nodes_of ts) (nodes_of us) (rows_of_table ts) (rows_of_table us) h.nodes
-      (h.rows no_part) (list_of ts) (list_of us) (grids-same ts us h)
+      same-plain c d t (rich_table_parts (list_of ts) attributes (pieces_of ts) (nodes_of ts) c)
+      (table_parts (list_of ts) (nodes_of ts) (rows_of_table ts) c)
+      (rich_table_parts (list_of us) attributes (pieces_of us) (nodes_of us) d)
+      (table_parts (list_of us) (nodes_of us) (rows_of_table us) d)
+      (table-parts-same c d t (nodes_of ts) (nodes_of us) (rows_of_table ts) (rows_of_table us) h.nodes
+      (h.rows no_part) (list_of ts) (list_of us) (grids-same ts us h))
+  element-whole role.Details v c d t =
+      let e : List Part = details (nodes_of ts) c in
+      let f : List Part = details (nodes_of us) d in
+      same-apart c.is_flat (cond (has_elements c) e (flow_all (nodes_of ts) c))
+      (cond (has_elements d) f (flow_all (nodes_of us) d))
+      (same-plain c d t e (flow_all (nodes_of ts) c) f (flow_all (nodes_of us) d) (flows c d t))
+  element-whole role.Term v c d t = titles c d t
+  element-whole role.Caption v c d t = titles c d t
+  element-whole role.FigureCaption v c d t = titles c d t
+  element-whole role.Summary v c d t = titles c d t
   element-whole role.Division v c d t = near c d t
-  element-whole role.Figure v c d t = near c d t
+  element-whole role.Figure v c d t =
+      moved (figure_parts (nodes_of ts)) (figure_parts (nodes_of us)) figures c d
+      (beside_code facts.pres attributes c) (beside_code facts.pres attributes d) t
+      (kept-near facts.pres attributes c) (kept-near facts.pres attributes d)
   element-whole role.Cell v c d t = near c d t
   element-whole r v c d t =
       same-apart c.is_flat (flow_all (nodes_of ts) c) (flow_all (nodes_of us) d) (flows c d t)

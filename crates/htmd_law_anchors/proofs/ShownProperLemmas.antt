@@ -13,7 +13,8 @@ use Rattle.htmd_nodes.specs.NumberedTrees.{NumberedTree, NumberedForest}
 use Rattle.htmd_nodes.specs.NumberedTrees as page
 use Rattle.htmd_document.specs.declared.document.Format.TheVariants.{Emphasis, Strong, Deleted}
 use Rattle.htmd_document.specs.declared.document.InlineElement.{InlineElement}
-use Rattle.htmd_document.specs.declared.document.InlineElement.TheVariants.{Superscript, Subscript}
+use Rattle.htmd_document.specs.declared.document.InlineElement.TheVariants.{Superscript, Subscript, Inserted, Underlined}
+use Rattle.htmd_document.specs.declared.document.InlineElement.TheVariants.{Marked, Small, Keyboard}
 use Rattle.htmd_shown.specs.declared.role.Role.{Role}
 use Rattle.htmd_shown.specs.declared.role.Role.TheVariants as role
 use Rattle.htmd_shown.specs.Attributes.{value_of, text_of, has_attribute, in_line, address, is_to_part, leads_to_part}
@@ -29,9 +30,9 @@ use Rattle.htmd_shown.specs.Marks.{is_mark, is_sign, is_usual_sign}
 use Rattle.htmd_shown.specs.Permalinks.{is_permalink}
 use Rattle.htmd_shown.specs.Repeats.{is_repeat, last_element, leads_to_script}
 use Rattle.htmd_shown.specs.Roles.{is_among, is_headed, is_heading, is_link, role_of, table_role, heading_or_block}
-use Rattle.htmd_shown.specs.Roles.{block_role, inline_role, is_emphasis, is_strong, is_deleted, is_typed, is_apart}
+use Rattle.htmd_shown.specs.Roles.{block_role, inline_role, element_role, is_emphasis, is_strong, is_deleted, is_typed, is_apart}
 use Rattle.htmd_shown.specs.Roles.{block_names, is_table_body, is_bullet_list, is_verbatim_name}
-use Rattle.htmd_shown.specs.Shown.{Sight, Surroundings, nowhere, inside, is_for_layout, role_by, role_at, raised_by}
+use Rattle.htmd_shown.specs.Shown.{Sight, Surroundings, nowhere, inside, is_for_layout, plain_element, role_by, role_at, raised_by}
 use Rattle.htmd_shown.specs.Shown.{raised_one, format_of, formats_after, raised, with_one, followed_by, marks, marked}
 use Rattle.htmd_shown.specs.Shown.{is_led_to, target, with_content, embed, object, is_skipped, is_hidden, is_emptied}
 use Rattle.htmd_shown.specs.Shown.{by_content, formula_or, source_for, source_after, shown, shown_all, shown_in}
@@ -72,21 +73,32 @@ module _ (name : List ℕ) where
   other : (r : Role) → is_unlinked r ≡ false → is_link r ≡ false → Named name r
   other r u l = record { unlinked = u; link = λ f. true-false (sym f ∙ l) }
 
+  element-named : Named name (element_role name)
+  unfolding element_role
+  element-named =
+      if-named (bytes_eq name (codes "sup")) (other (role.Element Superscript) refl refl)
+      (if-named (bytes_eq name (codes "sub")) (other (role.Element Subscript) refl refl)
+      (if-named (bytes_eq name (codes "ins")) (other (role.Element Inserted) refl refl)
+      (if-named (bytes_eq name (codes "u")) (other (role.Element Underlined) refl refl)
+      (if-named (bytes_eq name (codes "mark")) (other (role.Element Marked) refl refl)
+      (if-named (bytes_eq name (codes "small")) (other (role.Element Small) refl refl)
+      (if-named (bytes_eq name (codes "kbd")) (other (role.Element Keyboard) refl refl)
+      (if-named (bytes_eq name (codes "abbr")) (other role.Abbreviation refl refl)
+      (other role.Plain refl refl))))))))
+
   inline-named : Named name (inline_role name)
   unfolding inline_role
   inline-named =
       if-named (is_emphasis name) (other (role.Format Emphasis) refl refl)
       (if-named (is_strong name) (other (role.Format Strong) refl refl)
       (if-named (is_deleted name) (other (role.Format Deleted) refl refl)
-      (if-named (bytes_eq name (codes "sup")) (other (role.Element Superscript) refl refl)
-      (if-named (bytes_eq name (codes "sub")) (other (role.Element Subscript) refl refl)
       (if-named (bytes_eq name (codes "code")) (other role.Code refl refl)
       (if-named (is_typed name) (other role.Typed refl refl)
       (link-named (bytes_eq name (codes "a")) refl
       (if-named (is_apart name) (other role.Apart refl refl)
       (if-named (bytes_eq name (codes "br")) (other role.LineBreak refl refl)
       (if-named (bytes_eq name (codes "input")) (other role.Input refl refl)
-      (other role.Plain refl refl)))))))))))
+      element-named))))))))
 
   block-named : Named name (block_role name)
   unfolding block_role
@@ -97,10 +109,11 @@ module _ (name : List ℕ) where
       (if-named (bytes_eq name (codes "div")) (other role.Division refl refl)
       (if-named (bytes_eq name (codes "figure")) (other role.Figure refl refl)
       (if-named (bytes_eq name (codes "figcaption")) (other role.FigureCaption refl refl)
+      (if-named (bytes_eq name (codes "details")) (other role.Details refl refl)
       (if-named (bytes_eq name (codes "summary")) (other role.Summary refl refl)
       (if-named (bytes_eq name (codes "legend")) (other role.Legend refl refl)
       (if-named (is_among block_names name) (other role.Block refl refl)
-      inline-named))))))))
+      inline-named)))))))))
 
   heading-named : Named name (heading_or_block name)
   unfolding heading_or_block
@@ -138,8 +151,15 @@ module _ (name : List ℕ) where
       (if-named (bytes_eq name (codes "hr")) (other role.ThematicBreak refl refl)
       table-named)))))))
 
-module _ (attributes : List AttributePair) (children : NumberedForest) where
-  by-unlinked : (r : Role) → is_unlinked r ≡ false → is_unlinked (role_by r attributes children) ≡ false
+plain-other : (e : InlineElement) → (is_unlinked (plain_element e) ≡ false) × (is_link (plain_element e) ≡ false)
+    × (is_heading (plain_element e) ≡ false)
+plain-other Superscript = (refl, refl, refl)
+plain-other Subscript = (refl, refl, refl)
+plain-other Keyboard = (refl, refl, refl)
+plain-other e = (refl, refl, refl)
+
+module _ (rich : Bool) (attributes : List AttributePair) (children : NumberedForest) where
+  by-unlinked : (r : Role) → is_unlinked r ≡ false → is_unlinked (role_by rich r attributes children) ≡ false
   by-unlinked role.Link e = either (has_attribute (codes "href") attributes)
     where
       either : (b : Bool) → is_unlinked (cond b role.Link role.Target) ≡ false
@@ -150,9 +170,19 @@ module _ (attributes : List AttributePair) (children : NumberedForest) where
       either : (b : Bool) → is_unlinked (cond b role.LayoutTable role.Table) ≡ false
       either true = refl
       either false = refl
+  by-unlinked (role.Element x) e = either rich
+    where
+      either : (b : Bool) → is_unlinked (cond b (role.Element x) (plain_element x)) ≡ false
+      either true = refl
+      either false = (plain-other x).0
+  by-unlinked role.Abbreviation e = either rich
+    where
+      either : (b : Bool) → is_unlinked (cond b role.Abbreviation role.Plain) ≡ false
+      either true = refl
+      either false = refl
   by-unlinked r e = e
 
-  by-link : (r : Role) → is_link (role_by r attributes children) ≡ true
+  by-link : (r : Role) → is_link (role_by rich r attributes children) ≡ true
       → (is_link r ≡ true) × (has_attribute (codes "href") attributes ≡ true)
   by-link role.Link e = (refl, either (has_attribute (codes "href") attributes) e)
     where
@@ -165,9 +195,21 @@ module _ (attributes : List AttributePair) (children : NumberedForest) where
           → (is_link role.Table ≡ true) × (has_attribute (codes "href") attributes ≡ true)
       either true f = false-true f
       either false f = false-true f
+  by-link (role.Element x) e = either rich e
+    where
+      either : (b : Bool) → is_link (cond b (role.Element x) (plain_element x)) ≡ true
+          → (is_link (role.Element x) ≡ true) × (has_attribute (codes "href") attributes ≡ true)
+      either true f = false-true f
+      either false f = true-false (sym f ∙ (plain-other x).1)
+  by-link role.Abbreviation e = either rich e
+    where
+      either : (b : Bool) → is_link (cond b role.Abbreviation role.Plain) ≡ true
+          → (is_link role.Abbreviation ≡ true) × (has_attribute (codes "href") attributes ≡ true)
+      either true f = false-true f
+      either false f = false-true f
   by-link r e = false-true e
 
-  by-heading : (r : Role) → is_heading (role_by r attributes children) ≡ true → is_headed r ≡ true
+  by-heading : (r : Role) → is_heading (role_by rich r attributes children) ≡ true → is_headed r ≡ true
   by-heading (role.Heading level) e = refl
   by-heading role.Link e = either (has_attribute (codes "href") attributes) e
     where
@@ -177,6 +219,18 @@ module _ (attributes : List AttributePair) (children : NumberedForest) where
   by-heading role.Table e = either (is_for_layout attributes || has_numbered_rows children) e
     where
       either : (b : Bool) → is_heading (cond b role.LayoutTable role.Table) ≡ true → is_headed role.Table ≡ true
+      either true f = false-true f
+      either false f = false-true f
+  by-heading (role.Element x) e = either rich e
+    where
+      either : (b : Bool) → is_heading (cond b (role.Element x) (plain_element x)) ≡ true
+          → is_headed (role.Element x) ≡ true
+      either true f = false-true f
+      either false f = true-false (sym f ∙ (plain-other x).2)
+  by-heading role.Abbreviation e = either rich e
+    where
+      either : (b : Bool) → is_heading (cond b role.Abbreviation role.Plain) ≡ true
+          → is_headed role.Abbreviation ≡ true
       either true f = false-true f
       either false f = false-true f
   by-heading r e = false-true e
@@ -311,7 +365,7 @@ or-more : (a b c : Bool) → (b ≡ true → c ≡ true) → (a || b) ≡ true �
 or-more true b c f e = refl
 or-more false b c f e = f e
 
-module _ (around : Surroundings) (source : Option (List ℕ)) (id : ℕ) (name : List ℕ)
+module _ (rich : Bool) (around : Surroundings) (source : Option (List ℕ)) (id : ℕ) (name : List ℕ)
     (attributes : List AttributePair) (children : NumberedForest)
     (g : list_all is_text_value attributes ≡ true) (h : are_text_trees children ≡ true) (content : Simples)
     (u : AreProper (around.in_head || is_headed (role_of name)) content) where
@@ -355,11 +409,11 @@ module _ (around : Surroundings) (source : Option (List ℕ)) (id : ℕ) (name :
   and-known false b e f = false-true e
 
   no-mark : (in_head : Bool) → (bytes_eq name (codes "a") && is_permalink in_head attributes content) ≡ false
-      → in_head ≡ true → is_link (role_at name attributes children) ≡ true
+      → in_head ≡ true → is_link (role_at rich name attributes children) ≡ true
       → is_to_part (address_of attributes) ≡ true → is_mark is_usual_sign content ≡ false
   no-mark false e i l p = false-true i
   no-mark true e i l p =
-      let named = by-link attributes children (role_of name) l in
+      let named = by-link rich attributes children (role_of name) l in
       let permalink : is_permalink true attributes content ≡ false =
       and-known (bytes_eq name (codes "a")) (is_permalink true attributes content)
       ((role-named name).link named.0) e in
@@ -368,20 +422,21 @@ module _ (around : Surroundings) (source : Option (List ℕ)) (id : ℕ) (name :
       (neither (has_class permalink_words attributes && is_mark is_sign content) _ permalink)
 
   content-proper : (in_head : Bool) → in_head ≡ here
-      → Proper here (with_content in_head id name attributes children content)
+      → Proper here (with_content rich in_head id name attributes children content)
   content-proper in_head same =
       either-node here (bytes_eq name (codes "a") && is_permalink in_head attributes content)
       (λ e. target-proper here id attributes)
-      (λ e. one-node here (made id (role_at name attributes children) attributes content) (
-        by-unlinked attributes children (role_of name) (role-named name).unlinked,
+      (λ e. one-node here (made id (role_at rich name attributes children) attributes content) (
+        by-unlinked rich attributes children (role_of name) (role-named name).unlinked,
         refl,
         (λ i l p. no-mark in_head e (same ∙ i) l p),
-        all-weaker content (here || is_headed (role_of name)) (here || is_heading (role_at name attributes children))
-            (or-more here (is_heading (role_at name attributes children)) (is_headed (role_of name))
-            (by-heading attributes children (role_of name))) u,
+        all-weaker content (here || is_headed (role_of name))
+            (here || is_heading (role_at rich name attributes children))
+            (or-more here (is_heading (role_at rich name attributes children)) (is_headed (role_of name))
+            (by-heading rich attributes children (role_of name))) u,
       ))
 
-  by-content-proper : Proper here (by_content around source id name attributes children content)
+  by-content-proper : Proper here (by_content rich around source id name attributes children content)
   by-content-proper =
       either-node here (is_hidden around name attributes) (λ e. no-node here)
       (λ e. either-node here (is_image name attributes)
@@ -420,8 +475,8 @@ mutual
       let content : Simples = cond (is_emptied around name attributes) none all in
       either-node around.in_head (is_skipped sight name) (λ f. no-node around.in_head)
       (λ f. formula-proper around.in_head name attributes
-      (by_content around source id name attributes children content) (tex_of name attributes children)
-      (by-content-proper around source id name attributes children parts.0 parts.1 content
+      (by_content sight.is_rich around source id name attributes children content) (tex_of name attributes children)
+      (by-content-proper sight.is_rich around source id name attributes children parts.0 parts.1 content
       (emptied head (is_emptied around name attributes) all proper)))
     where
       emptied : (head b : Bool) (ts : Simples) → AreProper head ts → AreProper head (cond b none ts)

@@ -15,7 +15,8 @@ use Rattle.htmd_document_of_tree.specs.declared.anchors.Anchors.{Anchors}
 use Rattle.htmd_document_of_tree.specs.declared.anchors.Anchors.TheVariants as which
 use Rattle.htmd_document_of_tree.specs.Anchors.{values_of, targets_by}
 use Rattle.htmd_document_of_tree.specs.Leadings.{all_leadings, is_linked_to, is_led_to}
-use Rattle.htmd_document_of_tree.specs.Seen.{one_if, code_shows, seen, all_seen}
+use Rattle.htmd_shown.specs.Showings.{code_shows}
+use Rattle.htmd_document_of_tree.specs.Seen.{one_if, seen, all_seen}
 use Rattle.htmd_document_of_tree.specs.Targets.{Target, target_by, id_target, name_target, is_whole, whole_in, own_targets}
 use Rattle.htmd_document_of_tree.specs.Targets.{targets_inside, targets_among, is_first, firsts_after, all_targets}
 use Rattle.htmd_document_of_tree.specs.Targets.{ids_among}
@@ -346,10 +347,10 @@ filter-good p ts h = record {
   filled = filter-filled p ts h.filled;
 }
 
-pub targets-good : (a : Anchors) (ts : Simples) → AreTargets (targets_by a ts)
+pub targets-good : (a : Anchors) (rich : Bool) (ts : Simples) → AreTargets (targets_by a rich ts)
 unfolding IsDistinct
-targets-good which.Linked ts =
-    filter-good (λ (t : Target). is_led_to (all_leadings ts) t.value t.seen)
-    (all_targets (is_linked_to (all_leadings ts)) ts) (all-good (is_linked_to (all_leadings ts)) ts)
-targets-good which.All ts = all-good (λ s. true) ts
-targets-good which.None ts = record { until = 0; climb = le-itself 0; unique = tt; filled = refl }
+targets-good which.Linked rich ts =
+    filter-good (λ (t : Target). is_led_to (all_leadings rich ts) t.value t.seen)
+    (all_targets (is_linked_to (all_leadings rich ts)) ts) (all-good (is_linked_to (all_leadings rich ts)) ts)
+targets-good which.All rich ts = all-good (λ s. true) ts
+targets-good which.None rich ts = record { until = 0; climb = le-itself 0; unique = tt; filled = refl }

@@ -135,7 +135,7 @@ module _ (v : List ℕ) where
       (λ h. no_id h)
 
 pub each_value : EachValueHasTarget
-each_value trees v h =
+each_value rich trees v h =
     let found : List Target = targets_among (λ s. true) None 0 trees in
     let ids : List (List ℕ) = ids_among found in
     at-last v ids (firsts_after ids [] found) (kept v ids found [] h (comes v ids found refl))

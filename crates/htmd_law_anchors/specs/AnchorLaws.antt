@@ -73,8 +73,8 @@ pub record HasAnchors (shown : Simples) (targets : List Target) (document : Bloc
 -- The document of a tree: the targets are those of the nodes that it is made of, within the budget of their links.
 abbrev pub AnchorsOfTree : Anchors → Sight → NumberedTree → Type 0
 AnchorsOfTree anchors sight tree =
-    HasAnchors (shown_in sight tree) (targets_by anchors (limited (shown_in sight tree)))
-    (document_of_tree anchors sight.scripting sight.skip tree)
+    HasAnchors (shown_in sight tree) (targets_by anchors sight.is_rich (limited (shown_in sight tree)))
+    (document_of_tree anchors sight tree)
 
 -- So it is for every tree of texts, with whatever anchors.
 abbrev pub LinksLeadThere : Type 0
@@ -83,15 +83,16 @@ LinksLeadThere = (anchors : Anchors) (sight : Sight) (tree : NumberedTree) → i
 
 -- By links the targets are those of all that a link leads to, and not only from the heading that their place is in.
 abbrev pub LinkedAreLedTo : Type 0
-LinkedAreLedTo = (trees : Simples)
-    → targets_by which.Linked trees
-    ≡ filter (λ (t : Target). is_led_to (all_leadings trees) t.value t.seen) (targets_by which.All trees)
+LinkedAreLedTo = (is_rich : Bool) (trees : Simples)
+    → targets_by which.Linked is_rich trees
+    ≡ filter (λ (t : Target). is_led_to (all_leadings is_rich trees) t.value t.seen)
+    (targets_by which.All is_rich trees)
 
 -- Each value of the page, an id or a name, is that of a target.
 abbrev pub EachValueHasTarget : Type 0
-EachValueHasTarget = (trees : Simples) (s : List ℕ)
+EachValueHasTarget = (is_rich : Bool) (trees : Simples) (s : List ℕ)
     → is_among (values_of (targets_among (λ value. true) None 0 trees)) s ≡ true
-    → is_among (values_of (targets_by which.All trees)) s ≡ true
+    → is_among (values_of (targets_by which.All is_rich trees)) s ≡ true
 
 -- ---- links
 
@@ -107,8 +108,8 @@ LeadsAmong leadings address = is_to_part address ≡ true → AreAmong leadings 
 -- Each link of the document of a tree to a part of its page is one of those that count, within their budget.
 abbrev pub LinksOfTree : Anchors → Sight → NumberedTree → Type 0
 LinksOfTree anchors sight tree =
-    LinksInBlocks (LeadsAmong (all_leadings (limited (shown_in sight tree))))
-    (document_of_tree anchors sight.scripting sight.skip tree)
+    LinksInBlocks (LeadsAmong (all_leadings sight.is_rich (limited (shown_in sight tree))))
+    (document_of_tree anchors sight tree)
 
 -- So it is for every tree of texts, with whatever anchors.
 abbrev pub LinksCount : Type 0
@@ -120,21 +121,24 @@ abbrev pub is_outside : List Leading → Target → Bool
 is_outside leadings t = list_all (λ (l : Leading). not (bytes_eq l.to t.value && is_in l.heading t.seen)) leadings
 
 -- a place of the page has this value, and no such heading holds it
-abbrev pub has_place : Simples → List ℕ → Bool
-has_place trees s =
-    list_any (λ (t : Target). bytes_eq t.value s && is_outside (all_leadings trees) t) (targets_by which.All trees)
+abbrev pub has_place : Bool → Simples → List ℕ → Bool
+has_place is_rich trees s =
+    list_any (λ (t : Target). bytes_eq t.value s && is_outside (all_leadings is_rich trees) t)
+    (targets_by which.All is_rich trees)
 
 -- for each value that they lead to there is an anchor, if the page has a place for it
-abbrev pub AreThere : Simples → List (List ℕ) → List Leading → Type 0
-AreThere trees ids [] = Unit {0}
-AreThere trees ids (l ∷ ls) = (has_place trees l.to ≡ true → is_among ids l.to ≡ true) × AreThere trees ids ls
+abbrev pub AreThere : Bool → Simples → List (List ℕ) → List Leading → Type 0
+AreThere is_rich trees ids [] = Unit {0}
+AreThere is_rich trees ids (l ∷ ls) =
+    (has_place is_rich trees l.to ≡ true → is_among ids l.to ≡ true) × AreThere is_rich trees ids ls
 
-abbrev pub Reaches : Simples → List (List ℕ) → List ℕ → Type 0
-Reaches trees ids address = is_to_part address ≡ true → AreThere trees ids (leadings_to None (drop 1 address))
+abbrev pub Reaches : Bool → Simples → List (List ℕ) → List ℕ → Type 0
+Reaches is_rich trees ids address =
+    is_to_part address ≡ true → AreThere is_rich trees ids (leadings_to None (drop 1 address))
 
--- So by links each link of the document to a part of the page for which the page has a place leads to an anchor of it.
+-- So by links each link of a document to a part of the page for which the page has a place leads to an anchor of it.
 abbrev pub LinksReach : Type 0
 LinksReach = (sight : Sight) (tree : NumberedTree) → is_text_tree tree ≡ true
-    → LinksInBlocks (Reaches (limited (shown_in sight tree))
-    (ids_of (marks_of_blocks (document_of_tree which.Linked sight.scripting sight.skip tree))))
-    (document_of_tree which.Linked sight.scripting sight.skip tree)
+    → LinksInBlocks (Reaches sight.is_rich (limited (shown_in sight tree))
+    (ids_of (marks_of_blocks (document_of_tree which.Linked sight tree))))
+    (document_of_tree which.Linked sight tree)

@@ -2,6 +2,7 @@
 use Rattle.std.specs.Prelude.{ℕ, List, [], ◌∷◌}
 use Rattle.htmd_document.specs.Documents.{Inline, text, code, formatted, link, image, anchor, line_break, task}
 use Rattle.htmd_document.specs.Documents.{Inlines, no_inlines, inline, Block, paragraph, heading, code_block, quote}
+use Rattle.htmd_document.specs.Documents.{element, tags}
 use Rattle.htmd_document.specs.Documents.{thematic_break, list, table, Blocks, no_blocks, block, Items, no_items, item}
 
 abbrev mutual
@@ -35,6 +36,8 @@ abbrev mutual
   LinksInBlock Is (code_block language s) = Unit {0}
   LinksInBlock Is (quote content) = LinksInBlocks Is content
   LinksInBlock Is thematic_break = Unit {0}
+  LinksInBlock Is (element name attributes content) = LinksInBlocks Is content
+  LinksInBlock Is (tags s) = Unit {0}
   LinksInBlock Is (list start is_tight items) = LinksInItems Is items
   LinksInBlock Is (table alignments header rows) = LinksInCells Is header × LinksInRows Is rows
 

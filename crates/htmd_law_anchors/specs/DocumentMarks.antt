@@ -3,6 +3,7 @@ use Rattle.std.specs.Prelude.{ℕ, List, [], ◌∷◌, ◌++◌, map}
 use Rattle.std.specs.List.{flat_map}
 use Rattle.htmd_document.specs.Documents.{Inline, text, code, formatted, link, image, anchor, line_break, task}
 use Rattle.htmd_document.specs.Documents.{Inlines, no_inlines, inline, Block, paragraph, heading, code_block, quote}
+use Rattle.htmd_document.specs.Documents.{element, tags}
 use Rattle.htmd_document.specs.Documents.{thematic_break, list, table, Blocks, no_blocks, block, Items, no_items, item}
 use Rattle.htmd_law_documents.specs.DocumentTexts.{visible}
 
@@ -41,6 +42,8 @@ abbrev mutual
   marks_of_block (code_block language s) = letters s
   marks_of_block (quote content) = marks_of_blocks content
   marks_of_block thematic_break = []
+  marks_of_block (element name attributes content) = marks_of_blocks content
+  marks_of_block (tags s) = []
   marks_of_block (list start is_tight items) = marks_of_items items
   marks_of_block (table alignments header rows) = marks_of_cells header ++ flat_map marks_of_cells rows
 

@@ -6,7 +6,7 @@ use Rattle.htmd_shown.specs.declared.role.Role.TheVariants as role
 use Rattle.htmd_shown.specs.Attributes.{text_of}
 use Rattle.htmd_shown.specs.SimpleTrees.{Simple, text, image, formula, embedded, anchor, element, Simples, none, more}
 use Rattle.htmd_shown.specs.Spaces.{is_blank_text}
-use Rattle.htmd_document_of_tree.specs.Seen.{image_shows, code_shows}
+use Rattle.htmd_shown.specs.Showings.{image_shows, code_shows}
 use Rattle.htmd_law_documents.specs.DocumentTexts.{visible}
 use Rattle.htmd_law_documents.specs.SaidTexts.{SayAll}
 use Rattle.htmd_law_documents.specs.SimpleTexts.{formula_said, flat_in, grid_in}

@@ -1,6 +1,6 @@
 //! Which anchors a document has, and where.
-ghost use Rattle.std.specs.Prelude.{map};
 ghost use Rattle.htmd_nodes.specs.NumberedTrees.{tree_of};
+ghost use Rattle.htmd_shown.specs.SightViews.{sight_with};
 ghost use Rattle.htmd_law_anchors.specs.AnchorLaws.{LinksLeadThere, LinkedAreLedTo, EachValueHasTarget};
 ghost use Rattle.htmd_law_anchors.specs.AnchorLaws.{AnchorsOfTree, LinksCount, LinksOfTree, LinksReach};
 
@@ -22,9 +22,15 @@ pub fn each_value()
     ensures { EachValueHasTarget }
 {}
 
-/// The first law for every `Tree`, whether scripts run or not, and whatever names are skipped.
-pub fn links_lead_there_in(tree: &Tree, which: Anchors, scripting: bool, skip: &[&str])
-    ensures { AnchorsOfTree which (record { scripting = scripting; skip = map (λ name. name.now) skip.now })
+/// The first law for every `Tree`, whether scripts run or not, whatever names are skipped, and rich or not.
+pub fn links_lead_there_in(
+    tree: &Tree,
+    which: Anchors,
+    scripting: bool,
+    skip: &[&str],
+    is_rich: bool,
+)
+    ensures { AnchorsOfTree which (sight_with scripting skip.now is_rich)
         (tree_of tree.now 0) }
 {
     let _root = tree.root();
@@ -40,9 +46,9 @@ pub fn links_reach()
     ensures { LinksReach }
 {}
 
-/// That each link counts, for every `Tree`, whether scripts run or not, and whatever names are skipped.
-pub fn links_count_in(tree: &Tree, which: Anchors, scripting: bool, skip: &[&str])
-    ensures { LinksOfTree which (record { scripting = scripting; skip = map (λ name. name.now) skip.now })
+/// That each link counts, for every `Tree`, whether scripts run or not, whatever names are skipped, and rich or not.
+pub fn links_count_in(tree: &Tree, which: Anchors, scripting: bool, skip: &[&str], is_rich: bool)
+    ensures { LinksOfTree which (sight_with scripting skip.now is_rich)
         (tree_of tree.now 0) }
 {
     let _root = tree.root();

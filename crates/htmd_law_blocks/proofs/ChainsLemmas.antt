@@ -42,13 +42,14 @@ IsWide quoting = Unit {0}
 IsWide (listing sign number zero) = ⊥
 IsWide (listing sign number (suc n)) = Unit {0}
 
--- no code and no HTML is open
+-- no code is open, and no HTML that a blank line doesn't end
 abbrev pub Calm : Open → Type 0
 Calm nothing = Unit {0}
 Calm (leaf (paragraph earlier last)) = Unit {0}
 Calm (leaf (indented ls)) = ⊥
 Calm (leaf (fenced columns sign count info ls)) = ⊥
-Calm (leaf (raw ends ls)) = ⊥
+Calm (leaf (raw [] ls)) = Unit {0}
+Calm (leaf (raw (e ∷ es) ls)) = ⊥
 Calm (leaf (table alignments header ls)) = Unit {0}
 Calm (within k d h o) = IsWide k × Calm o
 
@@ -59,16 +60,16 @@ IsWithoutLeaf (leaf l) = ⊥
 IsWithoutLeaf (within quoting d h o) = ⊥
 IsWithoutLeaf (within (listing sign number n) d h o) = IsWide (listing sign number n) × IsWithoutLeaf o
 
--- no paragraph is open right there, where that is asked for
+-- no HTML is open right there, and no paragraph, where that is asked for
 abbrev pub Firm : Bool → Open → Type 0
-Firm true o = Unit {0}
-Firm false nothing = Unit {0}
+Firm u nothing = Unit {0}
+Firm true (leaf (paragraph earlier last)) = Unit {0}
 Firm false (leaf (paragraph earlier last)) = ⊥
-Firm false (leaf (indented ls)) = Unit {0}
-Firm false (leaf (fenced columns sign count info ls)) = Unit {0}
-Firm false (leaf (raw ends ls)) = Unit {0}
-Firm false (leaf (table alignments header ls)) = Unit {0}
-Firm false (within k d h o) = Unit {0}
+Firm u (leaf (indented ls)) = Unit {0}
+Firm u (leaf (fenced columns sign count info ls)) = Unit {0}
+Firm u (leaf (raw ends ls)) = ⊥
+Firm u (leaf (table alignments header ls)) = Unit {0}
+Firm u (within k d h o) = Unit {0}
 
 no_leaf_text : (o : Open) → IsWithoutLeaf o → in_paragraph o ≡ false
 no_leaf_text nothing h = refl
@@ -166,7 +167,7 @@ line_closes true (leaf (paragraph earlier last)) c f done g k l h =
     ∙ text_closes done g earlier last x (started alone x) b (h.starts k)
 line_closes u (leaf (indented ls)) c f done g k l h = absurd c
 line_closes u (leaf (fenced columns sign count info ls)) c f done g k l h = absurd c
-line_closes u (leaf (raw ends ls)) c f done g k l h = absurd c
+line_closes u (leaf (raw ends ls)) c f done g k l h = absurd f
 line_closes u (leaf (table alignments header ls)) c f done g k l h =
     rw (no_row (cells l) (started alone (line k l)) (h.starts k), on_table) refl
 line_closes u (within t d m o) c f done g k l h =
@@ -225,7 +226,10 @@ settles (leaf (paragraph earlier last)) c done g k =
     (tt, refl, joined_none ps)
 settles (leaf (indented ls)) c done g k = absurd c
 settles (leaf (fenced columns sign count info ls)) c done g k = absurd c
-settles (leaf (raw ends ls)) c done g k = absurd c
+settles (leaf (raw [] ls)) c done g k =
+    let ps = joined done (closed g (leaf (raw [] ls))) in
+    (tt, refl, joined_none ps)
+settles (leaf (raw (e ∷ es) ls)) c done g k = absurd c
 settles (leaf (table alignments header ls)) c done g k =
     let ps = joined done (closed g (leaf (table alignments header ls))) in
     (tt, refl, joined_none ps)
@@ -237,33 +241,61 @@ settles (within (listing sign number n) d h o) c done g k =
 
 -- ---- the end of a closed block and the beginning of the next
 
--- an open container, where that is asked for
-abbrev pub Boxed : Bool → Open → Type 0
-Boxed false o = Unit {0}
-Boxed true nothing = ⊥
-Boxed true (leaf l) = ⊥
-Boxed true (within k d h o) = Unit {0}
+-- what was read last: a container, a block that a line may end, or anything
+pub data Last : Type 0 where
+  container : Last
+  other : Last
+  anything : Last
 
--- where the lines of some parts have been read, the last of which is a box or not
-pub record Ends (m : Bool) (b : Box) (qs : ClosedBlocks) : Type 0 where
+-- what is open then
+abbrev pub Boxed : Last → Open → Type 0
+Boxed container nothing = ⊥
+Boxed container (leaf l) = ⊥
+Boxed container (within k d h o) = Unit {0}
+Boxed other nothing = Unit {0}
+Boxed other (leaf (paragraph earlier last)) = Unit {0}
+Boxed other (leaf (indented ls)) = Unit {0}
+Boxed other (leaf (fenced columns sign count info ls)) = Unit {0}
+Boxed other (leaf (raw ends ls)) = ⊥
+Boxed other (leaf (table alignments header ls)) = Unit {0}
+Boxed other (within k d h o) = Unit {0}
+Boxed anything o = Unit {0}
+
+-- a line that may stand right after that; the flag: it may stand under a paragraph
+abbrev pub Fits : Last → Bool → Type 0
+Fits container u = Unit {0}
+Fits other u = u ≡ true
+Fits anything u = ⊥
+
+-- where the lines of some parts have been read
+pub record Ends (m : Last) (b : Box) (qs : ClosedBlocks) : Type 0 where
   pub parts : shut b ≡ qs
   pub calm : Calm b.inner
   pub filled : was_blank b.gap b.inner ≡ false
   pub in_box : Boxed m b.inner
 
-pub ends_by : (m : Bool) (b c : Box) (qs rs : ClosedBlocks) → b ≡ c → qs ≡ rs → Ends m c qs → Ends m b rs
+pub ends_by : (m : Last) (b c : Box) (qs rs : ClosedBlocks) → b ≡ c → qs ≡ rs → Ends m c qs → Ends m b rs
 ends_by m b c qs rs p q e = subst (λ (x : Box). Ends m x rs) (sym p) (subst (λ (y : ClosedBlocks). Ends m c y) q e)
 
-boxed_firm : (o : Open) → Boxed true o → (u : Bool) → Firm u o
-boxed_firm o b true = tt
-boxed_firm nothing b false = tt
-boxed_firm (leaf l) b false = absurd b
-boxed_firm (within k d h o) b false = tt
+boxed_firm : (o : Open) → Boxed container o → (u : Bool) → Firm u o
+boxed_firm nothing b u = tt
+boxed_firm (leaf l) b u = absurd b
+boxed_firm (within k d h o) b u = tt
 
-any_firm : (m u : Bool) (o : Open) → Boxed m o → (m ≡ false → u ≡ true) → Firm u o
-any_firm true u o b e = boxed_firm o b u
-any_firm false true o b e = tt
-any_firm false false o b e = absurd (let w = e refl in cc)
+other_firm : (o : Open) → Boxed other o → Firm true o
+other_firm nothing b = tt
+other_firm (leaf (paragraph earlier last)) b = tt
+other_firm (leaf (indented ls)) b = tt
+other_firm (leaf (fenced columns sign count info ls)) b = tt
+other_firm (leaf (raw ends ls)) b = absurd b
+other_firm (leaf (table alignments header ls)) b = tt
+other_firm (within k d h o) b = tt
+
+any_firm : (m : Last) (u : Bool) (o : Open) → Boxed m o → Fits m u → Firm u o
+any_firm container u o b e = boxed_firm o b u
+any_firm other true o b e = other_firm o b
+any_firm other false o b e = absurd (cc)
+any_firm anything u o b e = absurd e
 
 same_box : (b : Box) (qs : ClosedBlocks) (g : Bool) (x : Line) → shut b ≡ qs → was_blank b.gap b.inner ≡ g
     → Closes b.done b.gap b.inner x → fed b.done b.gap b.inner x ≡ fed qs g nothing x
@@ -280,7 +312,7 @@ gap_line true ls = [] ∷ ls
 gap_line false ls = ls
 
 -- the first line after an empty one
-pub after_empty : (m : Bool) (b : Box) (qs : ClosedBlocks) (k j : ℕ) (l : List ℕ) → Ends m b qs → IsBlack l
+pub after_empty : (m : Last) (b : Box) (qs : ClosedBlocks) (k j : ℕ) (l : List ℕ) → Ends m b qs → IsBlack l
     → (let c = fed b.done b.gap b.inner (line k []) in
     fed c.done c.gap c.inner (line j l) ≡ fed qs true nothing (line j l))
 after_empty m b qs k j l e g =
@@ -289,16 +321,17 @@ after_empty m b qs k j l e g =
     same_box c qs true (line j l) (s.2 ∙ e.parts) s.1 (no_leaf_closes c.inner s.0 c.done c.gap j l g)
 
 -- a line right after others
-pub right_after : (m u : Bool) (b : Box) (qs : ClosedBlocks) (k : ℕ) (l : List ℕ) → Ends m b qs
-    → Interrupts u l → (m ≡ false → u ≡ true)
+pub right_after : (m : Last) (u : Bool) (b : Box) (qs : ClosedBlocks) (k : ℕ) (l : List ℕ) → Ends m b qs
+    → Interrupts u l → Fits m u
     → fed b.done b.gap b.inner (line k l) ≡ fed qs false nothing (line k l)
 right_after m u b qs k l e i f =
     same_box b qs false (line k l) e.parts e.filled
     (line_closes u b.inner e.calm (any_firm m u b.inner e.in_box f) b.done b.gap k l i)
 
-next_line : (h m u : Bool) (b : Box) (qs : ClosedBlocks) (k : Columns) (l : List ℕ) (ls : List (List ℕ))
+next_line : (h : Bool) (m : Last) (u : Bool) (b : Box) (qs : ClosedBlocks) (k : Columns) (l : List ℕ)
+    (ls : List (List ℕ))
     → Ends m b qs
-    → IsBlack l → (h ≡ false → Interrupts u l × (m ≡ false → u ≡ true))
+    → IsBlack l → (h ≡ false → Interrupts u l × Fits m u)
     → fed_all b (place k (gap_line h (l ∷ ls))) ≡ fed_all (box qs h nothing) (place (gap_columns h k) (l ∷ ls))
 next_line true m u b qs k l ls e g i =
     ap (λ (x : Box). fed_all x (place (tail (tail k)) ls)) (after_empty m b qs (k zero) (k (suc zero)) l e g)
@@ -310,8 +343,9 @@ abbrev pub First : (List ℕ → Type 0) → List (List ℕ) → Type 0
 First P [] = ⊥
 First P (l ∷ ls) = P l
 
-pub next_lines : (h m u : Bool) (b : Box) (qs : ClosedBlocks) (k : Columns) (ls ms : List (List ℕ)) → Ends m b qs
-    → First IsBlack ls → (h ≡ false → First (Interrupts u) ls × (m ≡ false → u ≡ true))
+pub next_lines : (h : Bool) (m : Last) (u : Bool) (b : Box) (qs : ClosedBlocks) (k : Columns) (ls ms : List (List ℕ))
+    → Ends m b qs
+    → First IsBlack ls → (h ≡ false → First (Interrupts u) ls × Fits m u)
     → fed_all b (place k (gap_line h (ls ++ ms)))
     ≡ fed_all (fed_all (box qs h nothing) (place (gap_columns h k) ls)) (place (shift ls (gap_columns h k)) ms)
 next_lines h m u b qs k [] ms e f i = absurd f

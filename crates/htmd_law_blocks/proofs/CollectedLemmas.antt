@@ -44,6 +44,8 @@ mutual
   block_none o p before ds g (documents.quote content) rs =
       ap (λ (x : References). x ++ collected rs) (first_none o (place_in_quote p.in_item) ds content)
   block_none o p before ds g documents.thematic_break rs = refl
+  block_none o p before ds g (documents.element name attributes content) rs = refl
+  block_none o p before ds g (documents.tags s) rs = refl
   block_none o p before ds g (documents.list start t items) rs =
       items_none o (markers_of o before p.outer start (item_count items)) t 0 ds g items rs
   block_none o p before ds g (documents.table alignments header rows) rs = refl

@@ -5,7 +5,7 @@ use Rattle.std.specs.Prelude.{◌==◌, Option}
 use Rattle.htmd_document.specs.Documents as documents
 use Rattle.htmd_commonmark.specs.declared.options.DocumentOptions.{DocumentOptions}
 use Rattle.htmd_commonmark.specs.BlockMarkdown.{separator}
-use Rattle.htmd_commonmark.specs.DocumentMarkdown.{outermost, markdown_of, written_definitions}
+use Rattle.htmd_commonmark.specs.DocumentMarkdown.{outermost, flat_markdown, written_definitions}
 use Rattle.htmd_commonmark_reading.specs.LinkDefinitions.{Definition}
 use Rattle.htmd_commonmark_reading.specs.Lines.{placed}
 use Rattle.htmd_commonmark_reading.specs.Boxes.{quoting, listing, ClosedBlock, text, headed, code, rule, html, grid}
@@ -22,6 +22,7 @@ use Rattle.htmd_law_blocks.specs.NormalBlocks.{HasBlock, AreNormalBlocks}
 use Rattle.htmd_law_blocks.specs.DocumentTexts.{DocumentTexts, AreOneLine, DefinitionTexts}
 use Rattle.htmd_law_blocks.specs.BlockLaws.{definition_lines, parts_with, BlocksReadBack, ListsReadBack}
 use Rattle.htmd_law_blocks.proofs.LinesLemmas.{joined_none, joined_assoc}
+use Rattle.htmd_law_blocks.proofs.ChainsLemmas.{Last}
 use Rattle.htmd_law_blocks.proofs.PiecesLemmas.{flat, Pieces, no_pieces, piece, pieces_lines, piece_parts, pieces_parts}
 use Rattle.htmd_law_blocks.proofs.PiecesLemmas.{piece_joined, is_boxed, IsFilled, AreGood, pieces_read_back}
 use Rattle.htmd_law_blocks.proofs.LeavesLemmas.{paragraph_reads}
@@ -50,12 +51,12 @@ appended_parts (piece g p ps) qs =
     ∙ sym (joined_assoc one (pieces_parts ps) (pieces_parts qs))
     ∙ ap (λ (x : ClosedBlocks). joined x (pieces_parts qs)) (piece_joined g p (pieces_parts ps))
 
-good_appended : (ps qs : Pieces) (m : Bool) → AreGood m ps → ((n : Bool) → AreGood n qs) → AreGood m
+good_appended : (ps qs : Pieces) (m : Last) → AreGood m ps → ((n : Last) → AreGood n qs) → AreGood m
     (appended ps qs)
 good_appended no_pieces qs m h i = i m
 good_appended (piece g p ps) qs m h i = (h.0, h.1, good_appended ps qs (is_boxed p) h.2 i)
 
-filled_appended : (ps qs : Pieces) → IsFilled ps → ((n : Bool) → AreGood n qs) → IsFilled (appended ps qs)
+filled_appended : (ps qs : Pieces) → IsFilled ps → ((n : Last) → AreGood n qs) → IsFilled (appended ps qs)
 filled_appended no_pieces qs h i = absurd h
 filled_appended (piece g p ps) qs h i = (h.0, h.1, good_appended ps qs (is_boxed p) h.2 i)
 
@@ -97,7 +98,7 @@ definitions_parts (l ∷ ls) (d ∷ ds) h =
     ap (closed_block true (defined d)) (joined_none (definition_parts false ds no_closed_blocks))
 
 definitions_good : (ls : List (List ℕ)) (found : List Definition) → DefinitionTexts ls found
-    → ((n : Bool) → AreGood n (definition_pieces ls found)) × CleanPieces (definition_pieces ls found)
+    → ((n : Last) → AreGood n (definition_pieces ls found)) × CleanPieces (definition_pieces ls found)
 definitions_good [] found h = ((λ n. tt), tt)
 definitions_good (l ∷ ls) [] h = ((λ n. tt), tt)
 definitions_good (l ∷ ls) (d ∷ ds) h =
@@ -120,7 +121,7 @@ definitions_text (l ∷ ls) (d ∷ ds) h =
 
 some_read_back : (o : DocumentOptions) (d : documents.Blocks) (found : List Definition) → HasBlock d
     → AreNormalBlocks d → DocumentTexts o d → DefinitionTexts (definition_lines o d) found
-    → parts (markdown_of o d) ≡ parts_with o d found
+    → parts (flat_markdown o d) ≡ parts_with o d found
 some_read_back o d found n h w v =
     let ds = definition_lines o d in
     let ps = first_pieces o outermost [] d in
@@ -130,7 +131,7 @@ some_read_back o d found n h w v =
     let filled = filled_appended ps qs good.0 more.0 in
     let clean = clean_appended ps qs good.1 more.1 in
     let is = filled_is_text (appended ps qs) filled clean in
-    let e : markdown_of o d ≡ joined_lines (pieces_lines (appended ps qs)) =
+    let e : flat_markdown o d ≡ joined_lines (pieces_lines (appended ps qs)) =
     ap (λ (x : List ℕ). x ++ written_definitions ds) (sym (first_written o outermost [] d h))
     ∙ ap (λ (x : List ℕ). pieces_text ps ++ x) (sym (definitions_text ds found v))
     ∙ sym (text_appended ps qs good.0)

@@ -1,9 +1,9 @@
 -- A document as pieces: their parts are the document's, and their text is what is written of it.
-use Rattle.std.proofs.Common.{◌≡◌, ◌∙◌, refl, sym, ap, ℕ, suc, ◌≤◌, Bool, true, false, not, List, ◌+◌, ◌-◌, ◌++◌}
+use Rattle.std.proofs.Common.{◌≡◌, ◌∙◌, refl, sym, ap, ℕ, suc, ◌≤◌, Bool, true, false, not, List, [], ◌+◌, ◌-◌, ◌++◌}
 use Rattle.std.proofs.Common.{length, append_assoc, arith}
 use Rattle.std.specs.Prelude.{Option, None}
 use Rattle.htmd_document.specs.Documents.{Block, Blocks, Items, paragraph, heading, code_block, quote}
-use Rattle.htmd_document.specs.Documents.{thematic_break, list, table, no_blocks, block, no_items, item}
+use Rattle.htmd_document.specs.Documents.{thematic_break, list, table, element, tags, no_blocks, block, no_items, item}
 use Rattle.htmd_commonmark.specs.declared.blocks.Place.{Place}
 use Rattle.htmd_commonmark.specs.declared.markers.Sign.{Sign}
 use Rattle.htmd_commonmark.specs.declared.markers.Markers.{Markers}
@@ -14,7 +14,7 @@ use Rattle.htmd_commonmark.specs.BlockMarkdown.{marker, bounded, item_count, mar
 use Rattle.htmd_commonmark.specs.BlockMarkdown.{place_in_quote, behind_first, sign_of, written_blocks, further_blocks}
 use Rattle.htmd_commonmark.specs.BlockMarkdown.{written_block, further_items}
 use Rattle.htmd_commonmark.specs.BlockMarkdown as writing
-use Rattle.htmd_commonmark_reading.specs.Boxes.{quoting, listing, ClosedBlock, text, headed, code, rule, grid, boxed}
+use Rattle.htmd_commonmark_reading.specs.Boxes.{quoting, listing, ClosedBlock, text, headed, code, rule, html, grid, boxed}
 use Rattle.htmd_commonmark_reading.specs.Boxes.{ClosedBlocks, no_closed_blocks, closed_block}
 use Rattle.htmd_law_blocks.specs.LineTexts.{lines_of}
 use Rattle.htmd_law_blocks.specs.DocumentParts.{paragraph_text, heading_text, cell_texts, table_rows}
@@ -69,6 +69,9 @@ abbrev mutual
       piece gap (pieces.quote (first_pieces options (place_in_quote place.in_item) definitions content)) rest
   block_pieces options place before definitions gap thematic_break rest =
       piece gap (flat_piece (written_block options place before definitions thematic_break).text rule) rest
+  block_pieces options place before definitions gap (element name attributes content) rest =
+      piece gap (flat_piece [] (html [])) rest
+  block_pieces options place before definitions gap (tags s) rest = piece gap (flat_piece s (html s)) rest
   block_pieces options place before definitions gap (list start is_tight items) rest =
       item_pieces options (markers_of options before place.outer start (item_count items)) is_tight 0 definitions gap
       items
@@ -120,6 +123,8 @@ block_piece o p before ds g (heading level content) rest h = tt
 block_piece o p before ds g (code_block language s) rest h = tt
 block_piece o p before ds g (quote content) rest h = tt
 block_piece o p before ds g thematic_break rest h = tt
+block_piece o p before ds g (element name attributes content) rest h = tt
+block_piece o p before ds g (tags s) rest h = tt
 block_piece o p before ds g (list start is_tight items) rest h =
     items_piece o (markers_of o before p.outer start (item_count items)) is_tight 0 ds g items rest h.0
 block_piece o p before ds g (table alignments header rows) rest h = tt
@@ -178,6 +183,8 @@ mutual
       (first_same o (place_in_quote p.in_item) ds content h.1)
       ∙ ap (closed_block g (boxed quoting (first_parts o (place_in_quote p.in_item) ds content))) e
   block_same o p before ds g thematic_break rest rs h e = ap (closed_block g rule) e
+  block_same o p before ds g (element name attributes content) rest rs h e = absurd h
+  block_same o p before ds g (tags s) rest rs h e = ap (closed_block g (html s)) e
   block_same o p before ds g (list start t items) rest rs h e =
       items_same o (markers_of o before p.outer start (item_count items)) t 0 ds g items rest rs h.2 e
   block_same o p before ds g (table alignments header rows) rest rs h e =
@@ -230,6 +237,8 @@ block_gap o p before ds g (heading level content) rest h = refl
 block_gap o p before ds g (code_block language s) rest h = refl
 block_gap o p before ds g (quote content) rest h = refl
 block_gap o p before ds g thematic_break rest h = refl
+block_gap o p before ds g (element name attributes content) rest h = refl
+block_gap o p before ds g (tags s) rest h = refl
 block_gap o p before ds g (list start is_tight no_items) rest h = absurd h.0
 block_gap o p before ds g (list start is_tight (item first others)) rest h = refl
 block_gap o p before ds g (table alignments header rows) rest h = refl
@@ -283,6 +292,8 @@ mutual
       (first_written o (place_in_quote p.in_item) ds content h.1)
   block_written o p before ds g thematic_break rest h =
       flat_text g (written_block o p before ds thematic_break).text rule rest
+  block_written o p before ds g (element name attributes content) rest h = absurd h
+  block_written o p before ds g (tags s) rest h = flat_text g s (html s) rest
   block_written o p before ds g (list start t no_items) rest h = absurd h.0
   block_written o p before ds g (list start t (item first others)) rest h =
       let m = markers_of o before p.outer start (item_count (item first others)) in

@@ -6,7 +6,7 @@ use Rattle.std.proofs.lemmas.List.{append-nil}
 use Rattle.std.specs.Prelude.{◌&&◌, ◌||◌, nat_le, nat_lt, if◌then◌else◌, Option, Some, None}
 use Rattle.htmd_document.specs.declared.document.Alignment.{Alignment}
 use Rattle.htmd_document.specs.Documents.{Inlines, Block, Blocks, Items, paragraph, heading, code_block, quote}
-use Rattle.htmd_document.specs.Documents.{thematic_break, list, table, no_blocks, block, no_items, item}
+use Rattle.htmd_document.specs.Documents.{thematic_break, list, table, element, tags, no_blocks, block, no_items, item}
 use Rattle.htmd_document.specs.TightItems.{is_paragraph, goes_on_a_paragraph, is_one_or_none}
 use Rattle.htmd_commonmark.specs.declared.blocks.Place.{Place}
 use Rattle.htmd_commonmark.specs.declared.line.LineKind.TheVariants.{Heading, Cell}
@@ -23,7 +23,7 @@ use Rattle.htmd_commonmark.specs.TableLines.{with_escaped_bars, table_text}
 use Rattle.htmd_commonmark.specs.BlockMarkdown as writing
 use Rattle.htmd_commonmark.specs.DocumentMarkdown.{outermost}
 use Rattle.htmd_commonmark_reading.specs.Lines.{spaces}
-use Rattle.htmd_commonmark_reading.specs.Boxes.{ClosedBlock, text, headed, code, rule, grid}
+use Rattle.htmd_commonmark_reading.specs.Boxes.{ClosedBlock, text, headed, code, rule, html, grid}
 use Rattle.htmd_commonmark_reading.specs.BlockStarts.{under}
 use Rattle.htmd_law_blocks.specs.LineTexts.{IsBlack, IsNotOf, lines_of}
 use Rattle.htmd_law_blocks.specs.DocumentParts.{paragraph_text, heading_text, cell_texts, after_cells, row_texts, table_rows}
@@ -32,19 +32,19 @@ use Rattle.htmd_law_blocks.specs.NormalBlocks.{is_level, HasBlock, HasItem, HasC
 use Rattle.htmd_law_blocks.specs.NormalBlocks.{IsNormalBlock, AreNormalBlocks, AreNormalItems}
 use Rattle.htmd_law_blocks.specs.DocumentTexts.{IsHeading, AreCellTexts, AreRowTexts, FirstTexts, FurtherTexts}
 use Rattle.htmd_law_blocks.specs.DocumentTexts.{BlockTexts, ItemTexts}
-use Rattle.htmd_law_blocks.proofs.ChainsLemmas.{First}
+use Rattle.htmd_law_blocks.proofs.ChainsLemmas.{First, Last, container, other}
 use Rattle.htmd_law_blocks.proofs.PiecesLemmas.{Marker, Piece, Pieces, no_pieces, piece, each, quoted, item_lines}
 use Rattle.htmd_law_blocks.proofs.PiecesLemmas.{piece_lines, pieces_lines}
 use Rattle.htmd_law_blocks.proofs.PiecesLemmas.{IsApart, Allowed, Follows, Strong, is_boxed, IsGood, IsContent}
-use Rattle.htmd_law_blocks.proofs.PiecesLemmas.{IsFilled, AreGood, piece_first}
+use Rattle.htmd_law_blocks.proofs.PiecesLemmas.{IsFilled, AreGood, piece_first, kind_of}
 use Rattle.htmd_law_blocks.proofs.PiecesLemmas as pieces
 use Rattle.htmd_law_blocks.proofs.TextsLemmas.{AreClean}
 use Rattle.htmd_law_blocks.proofs.PieceTextsLemmas.{CleanPiece, CleanPieces}
 use Rattle.htmd_law_blocks.proofs.CellsLemmas.{AreTrimmed, escaped_cells}
 use Rattle.htmd_law_blocks.proofs.TablesLemmas.{IsSomeCells, TableLines, AreRowsOf, table_lines}
 use Rattle.htmd_law_blocks.proofs.FlatLemmas.{one_clean, Flat, paragraph_flat, rule_flat, heading_flat, underlined_flat}
-use Rattle.htmd_law_blocks.proofs.FlatLemmas.{code_flat, table_flat, Apart, paragraph_apart, heading_apart}
-use Rattle.htmd_law_blocks.proofs.FlatLemmas.{underlined_apart, code_apart, rule_apart, table_apart}
+use Rattle.htmd_law_blocks.proofs.FlatLemmas.{code_flat, tags_flat, table_flat, Apart, paragraph_apart, heading_apart}
+use Rattle.htmd_law_blocks.proofs.FlatLemmas.{underlined_apart, code_apart, tags_apart, rule_apart, table_apart}
 use Rattle.htmd_law_blocks.proofs.DocumentPieces.{marker_at, fewer_spaces, spaces_bounds, flat_piece, first_pieces}
 use Rattle.htmd_law_blocks.proofs.DocumentPieces.{further_pieces, block_pieces, item_pieces, IsPiece, block_piece}
 use Rattle.htmd_law_blocks.proofs.DocumentMarkers.{IsBullet, AreMarkers, next_markers, markers_are, marker_is}
@@ -197,7 +197,7 @@ FirstGood g (piece f p ps) =
 
 -- pieces after any other
 abbrev AfterGood : Pieces → Type 0
-AfterGood ps = ((m : Bool) → AreGood m ps) × CleanPieces ps
+AfterGood ps = ((m : Last) → AreGood m ps) × CleanPieces ps
 
 nothing_after : AfterGood no_pieces
 nothing_after = ((λ m. tt), tt)
@@ -206,7 +206,7 @@ to_filled : (ps : Pieces) → FirstGood false ps → IsFilled ps × CleanPieces 
 to_filled no_pieces h = absurd h
 to_filled (piece f p ps) h = ((h.0, h.1, h.2), (h.3, h.4))
 
-with_gap : (f : Bool) → f ≡ true → (m : Bool) (p : Piece) → Follows f m p
+with_gap : (f : Bool) → f ≡ true → (m : Last) (p : Piece) → Follows f m p
 with_gap true e m p = tt
 with_gap false e m p = absurd (cc)
 
@@ -216,7 +216,7 @@ to_after g (piece f p ps) e h = ((λ m. (with_gap f (h.0 ∙ e) m p, h.1, h.2)),
 
 flat_first : (g : Bool) (s : List ℕ) (p : ClosedBlock) (rest : Pieces) → Flat s p → AfterGood rest
     → FirstGood g (piece g (flat_piece s p) rest)
-flat_first g s p rest f r = (refl, f.reads, r.0 false, (f.clean, f.full), r.1)
+flat_first g s p rest f r = (refl, f.reads, r.0 (kind_of p), (f.clean, f.full), r.1)
 
 -- the lines of the first piece
 abbrev FirstLine : (List ℕ → Type 0) → Pieces → Type 0
@@ -278,6 +278,8 @@ block_other o outer t ds (quote content) rest u h w g =
     other_first outer (each quoted ls) b (quoted_other ls b)
 block_other o outer t ds thematic_break rest u h w g =
     other_first outer (lines_of (writing.rule o.hr_style true)) g.1.black (rule_apart o.hr_style)
+block_other o outer t ds (element name attributes content) rest u h w g = absurd h
+block_other o outer t ds (tags s) rest u h w g = other_first outer (lines_of s) g.1.black (tags_apart s h)
 block_other o outer t ds (list start is_tight no_items) rest u h w g = absurd h.0
 block_other o outer t ds (list start is_tight (item first others)) rest u h w g =
     let m = markers_of o None (Some outer) start (suc (item_count others)) in
@@ -315,9 +317,9 @@ few_spaces : (m : Markers) (k : ℕ) → fewer_spaces m k ≤ 3
 few_spaces m k = let b = (spaces_bounds m k).1 in omega (arith, b)
 
 -- an item goes on a list
-goes_on : (f : Bool) (mk : Marker) (n : ℕ) (c : Pieces) → Follows f true (pieces.item mk n c)
+goes_on : (f : Bool) (mk : Marker) (n : ℕ) (c : Pieces) → Follows f container (pieces.item mk n c)
 goes_on true mk n c = tt
-goes_on false mk n c = λ e. absurd (cc)
+goes_on false mk n c = tt
 
 tight_place : (t : Bool) (bs : Blocks) → fits_list t bs ≡ true → t ≡ true → may_be_tight bs ≡ true
 tight_place true bs h e = h
@@ -343,7 +345,7 @@ one_allowed None o before outer n h = tt
 one_allowed (Some s) o before outer n h = grind (arith, nat_tests)
 
 -- the first piece may follow a piece that is no box
-abbrev FirstFollows : Bool → Pieces → Type 0
+abbrev FirstFollows : Last → Pieces → Type 0
 FirstFollows m no_pieces = ⊥
 FirstFollows m (piece f p ps) = Follows f m p
 
@@ -351,19 +353,21 @@ some_strong : (mk : Marker) (ps : Pieces) → IsPiece ps → Allowed under mk.nu
 some_strong mk no_pieces h a = absurd h
 some_strong mk (piece f p ps) h a = a
 
-follows_by : (g : Bool) (mk : Marker) (n : ℕ) (c : Pieces) → Strong mk c → Follows g false (pieces.item mk n c)
+follows_by : (g : Bool) (mk : Marker) (n : ℕ) (c : Pieces) → Strong mk c → Follows g other (pieces.item mk n c)
 follows_by true mk n c h = tt
-follows_by false mk n c h = λ e. h
+follows_by false mk n c h = h
 
 -- a list that goes on a paragraph
 list_follows : (o : DocumentOptions) (p : Place) (before : Option Sign) (ds : List (List ℕ)) (g : Bool) (b : Block)
     (rest : Pieces) → IsNormalBlock b → goes_on_a_paragraph b ≡ true
-    → FirstFollows false (block_pieces o p before ds g b rest)
+    → FirstFollows other (block_pieces o p before ds g b rest)
 list_follows o p before ds g (paragraph content) rest h e = absurd (cc)
 list_follows o p before ds g (heading level content) rest h e = absurd (cc)
 list_follows o p before ds g (code_block language s) rest h e = absurd (cc)
 list_follows o p before ds g (quote content) rest h e = absurd (cc)
 list_follows o p before ds g thematic_break rest h e = absurd (cc)
+list_follows o p before ds g (element name attributes content) rest h e = absurd (cc)
+list_follows o p before ds g (tags s) rest h e = absurd (cc)
 list_follows o p before ds g (table alignments header rows) rest h e = absurd (cc)
 list_follows o p before ds g (list start t no_items) rest h e = absurd h.0
 list_follows o p before ds g (list start t (item no_blocks others)) rest h e =
@@ -378,7 +382,7 @@ list_follows o p before ds g (list start t (item (block b bs) others)) rest h e 
     (some_strong (marker_at m 0) c (block_piece o q None ds false b more h.2.1.0)
     (one_allowed start o before p.outer (suc (item_count others)) (and_left (is_one_or_none start) true e)))
 
-goes_after : (g : Bool) (ps : Pieces) → FirstGood g ps → FirstFollows false ps → AreGood false ps × CleanPieces
+goes_after : (g : Bool) (ps : Pieces) → FirstGood g ps → FirstFollows other ps → AreGood other ps × CleanPieces
     ps
 goes_after g no_pieces h f = absurd h
 goes_after g (piece f p ps) h w = ((w, h.1, h.2), (h.3, h.4))
@@ -386,7 +390,7 @@ goes_after g (piece f p ps) h w = ((w, h.1, h.2), (h.3, h.4))
 -- a paragraph, and right after it what may follow
 close_first : (o : DocumentOptions) (p : Place) (ds : List (List ℕ)) (b : Block) (rest : Pieces) → is_paragraph
     b ≡ true
-    → BlockTexts o p None ds b → AreGood false rest × CleanPieces rest
+    → BlockTexts o p None ds b → AreGood other rest × CleanPieces rest
     → FirstGood false (block_pieces o p None ds false b rest)
 close_first o p ds (paragraph content) rest h w r =
     let f = paragraph_flat (paragraph_text o ds content) w in
@@ -395,6 +399,8 @@ close_first o p ds (heading level content) rest h w r = absurd (cc)
 close_first o p ds (code_block language s) rest h w r = absurd (cc)
 close_first o p ds (quote content) rest h w r = absurd (cc)
 close_first o p ds thematic_break rest h w r = absurd (cc)
+close_first o p ds (element name attributes content) rest h w r = absurd (cc)
+close_first o p ds (tags s) rest h w r = absurd (cc)
 close_first o p ds (list start t items) rest h w r = absurd (cc)
 close_first o p ds (table alignments header rows) rest h w r = absurd (cc)
 
@@ -437,9 +443,11 @@ mutual
   block_good o p before ds g (quote content) rest h w r =
       let q = place_in_quote p.in_item in
       let f = to_filled (first_pieces o q ds content) (blocks_good o q ds content (λ e. absurd (cc)) h.0 h.1 w) in
-      (refl, f.0, r.0 true, f.1, r.1)
+      (refl, f.0, r.0 container, f.1, r.1)
   block_good o p before ds g thematic_break rest h w r =
       flat_first g (writing.rule o.hr_style p.in_item) rule rest (rule_flat o.hr_style p.in_item) r
+  block_good o p before ds g (element name attributes content) rest h w r = absurd h
+  block_good o p before ds g (tags s) rest h w r = flat_first g s (html s) rest (tags_flat s h) r
   block_good o p before ds g (list start t items) rest h w r =
       items_good o (markers_of o before p.outer start (item_count items)) t 0 ds g items rest
       (markers_are o before p.outer start (item_count items) h.1) h.0 h.2 w r
@@ -498,7 +506,7 @@ mutual
       let p = place_in_item m t in
       let c = content_of o m t k 1 ds first u h.1 w.0
       (λ s. blocks_good o p ds first (tight_place t first h.0) s h.1 w.0) in
-      (refl, (marker_is m k 0 u, few_spaces m k, c.0), r.0 true, (marker_clean m k 0 u, c.1), r.1)
+      (refl, (marker_is m k 0 u, few_spaces m k, c.0), r.0 container, (marker_clean m k 0 u, c.1), r.1)
   items_good o m t k ds g (item first (item second others)) rest u n h w r =
       let p = place_in_item m t in
       let i = suc (item_count others) in

@@ -23,7 +23,7 @@ use Rattle.htmd_commonmark.specs.BlockMarkdown as writing
 use Rattle.htmd_commonmark_reading.specs.Characters.{is_space_or_tab, stripped, stripped_end}
 use Rattle.htmd_commonmark_reading.specs.Lines.{line, indent_at}
 use Rattle.htmd_commonmark_reading.specs.LinkDefinitions.{Definitions, definitions}
-use Rattle.htmd_commonmark_reading.specs.Boxes.{ClosedBlock, text, headed, code, rule, grid, no_closed_blocks}
+use Rattle.htmd_commonmark_reading.specs.Boxes.{ClosedBlock, text, headed, code, rule, html, grid, no_closed_blocks}
 use Rattle.htmd_commonmark_reading.specs.Boxes.{closed_block, leaf, fenced, fitted_rows, joined_lines, parts_of}
 use Rattle.htmd_commonmark_reading.specs.Boxes.{language}
 use Rattle.htmd_commonmark_reading.specs.BlockStarts.{alone, under, started, first_line, no_start, is_same, fence_start}
@@ -32,9 +32,9 @@ use Rattle.htmd_commonmark_reading.specs.Tables.{cells, fitted}
 use Rattle.htmd_commonmark_reading.specs.LeafBlocks.{underline_of, is_row, is_header}
 use Rattle.htmd_commonmark_reading.specs.LeafBlocks as reading
 use Rattle.htmd_law_blocks.proofs.LeavesLemmas as leaves
-use Rattle.htmd_law_blocks.specs.LineTexts.{IsBlack, IsNotOf, is_line_character, lines_of, IsFirstLine, AreFurtherLines}
+use Rattle.htmd_law_blocks.specs.LineTexts.{IsBlack, AreBlack, IsNotOf, is_line_character, lines_of, IsFirstLine, AreFurtherLines}
 use Rattle.htmd_law_blocks.specs.LineTexts.{AreTextLines, IsLineText, IsHeadingText, IsUnderlinedText}
-use Rattle.htmd_law_blocks.specs.NormalBlocks.{HasLanguage, is_level}
+use Rattle.htmd_law_blocks.specs.NormalBlocks.{HasLanguage, is_level, IsTags, AreTagLines}
 use Rattle.htmd_law_blocks.proofs.LinesLemmas.{black_indent}
 use Rattle.htmd_law_blocks.proofs.EndsLemmas.{stripped_end_black, stripped_black}
 use Rattle.htmd_law_blocks.proofs.ChainsLemmas.{First}
@@ -42,7 +42,7 @@ use Rattle.htmd_law_blocks.proofs.PiecesLemmas.{FlatReads}
 use Rattle.htmd_law_blocks.proofs.LeavesLemmas.{StaysOpen, rule_line, asterisks_read, hyphens_read}
 use Rattle.htmd_law_blocks.proofs.LeavesLemmas.{underscores_read, heading_line, heading_reads}
 use Rattle.htmd_law_blocks.proofs.LeavesLemmas.{paragraph_reads, setext_reads, underline_sign, IsFence}
-use Rattle.htmd_law_blocks.proofs.LeavesLemmas.{fence_reads, IsTable, table_reads}
+use Rattle.htmd_law_blocks.proofs.LeavesLemmas.{fence_reads, html_reads, IsTable, table_reads}
 use Rattle.htmd_law_blocks.proofs.RunsLemmas.{stays_open}
 use Rattle.htmd_law_blocks.proofs.TablesLemmas.{IsSomeCells, AreBarred, TableLines}
 use Rattle.htmd_law_blocks.proofs.TextsLemmas.{IsClean, AreClean, IsSome, IsFull, full_append, clean_append}
@@ -67,7 +67,7 @@ flat_by s ls p e r c f = record {
 
 -- ---- lines and their text
 
-lines_some : (s : List ℕ) → lines_of s ≡ [] → ⊥
+pub lines_some : (s : List ℕ) → lines_of s ≡ [] → ⊥
 lines_some [] e = absurd (cc)
 lines_some (c ∷ s) e = go (c == line_feed) refl
   where
@@ -399,6 +399,33 @@ pub code_flat : (style : CodeBlockFence) (word : Option (List ℕ)) (s : List �
 code_flat Tildes word s h p = code_with 126 word s tilde_sign (tilde_info word h) p (fence_stays 126 s)
 code_flat Backticks word s h p = code_with 96 word s accent_sign (accent_info word h) p (fence_stays 96 s)
 
+-- ---- tags
+
+angle_line : (l : List ℕ) → first_is 60 l ≡ true → l ≡ 60 ∷ drop 1 l
+angle_line [] h = absurd (cc)
+angle_line (c ∷ t) h =
+    let e : c ≡ 60 = grind (arith, nat_tests) in
+    ap (λ (d : ℕ). d ∷ t) e
+
+angle_black : (l : List ℕ) → first_is 60 l ≡ true → IsBlack l
+angle_black l h = subst IsBlack (sym (angle_line l h)) refl
+
+black_full : (l : List ℕ) (ls : List (List ℕ)) → IsBlack l → AreBlack ls → IsFull (l ∷ ls)
+black_full l [] b h = black_some l b
+black_full l (m ∷ ls) b h = black_full m ls h.0 h.1
+
+pub tags_flat : (s : List ℕ) → IsTags s → Flat s (html s)
+tags_flat s h = go (lines_of s) refl h.lines
+  where
+    go : (ls : List (List ℕ)) → lines_of s ≡ ls → AreTagLines ls → Flat s (html s)
+    go [] e t = absurd t
+    go (l ∷ ls) e t =
+        let b = angle_black l t.0 in
+        let back : joined_lines (l ∷ ls) ≡ s = ap joined_lines (sym e) ∙ lines_back s in
+        flat_by s (l ∷ ls) (html s) e
+        (subst (λ (x : List ℕ). FlatReads (l ∷ ls) (html x) no_closed_blocks) back (html_reads l ls b t.1 t.2))
+        (subst AreClean e (clean_lines s h.plain)) (black_full l ls b t.2)
+
 -- ---- tables
 
 bar_line : (l : List ℕ) → first_is 124 l ≡ true → l ≡ 124 ∷ drop 1 l
@@ -533,6 +560,16 @@ code_apart Backticks word s =
 
 pub rule_apart : (style : HrStyle) → Apart (writing.rule style true)
 rule_apart style = begins_apart 95 (32 ∷ 95 ∷ 32 ∷ 95 ∷ []) refl refl refl refl
+
+pub tags_apart : (s : List ℕ) → IsTags s → Apart s
+tags_apart s h = go (lines_of s) refl h.lines
+  where
+    not_angle : (sign : ℕ) (l : List ℕ) → (60 == sign) ≡ false → first_is 60 l ≡ true → IsNotOf sign l
+    not_angle sign l e f = subst (IsNotOf sign) (sym (angle_line l f)) (not_of sign 60 (drop 1 l) refl e)
+
+    go : (ls : List (List ℕ)) → lines_of s ≡ ls → AreTagLines ls → Apart s
+    go [] e t = absurd t
+    go (l ∷ ls) e t = apart_by s (l ∷ ls) e (not_angle 42 l refl t.0) (not_angle 45 l refl t.0)
 
 pub table_apart : (al : List Alignment) (hs : List (List ℕ)) (rows : List (List (List ℕ))) (s : List ℕ)
     → TableLines al hs rows s → Apart s

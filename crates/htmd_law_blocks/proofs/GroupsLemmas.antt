@@ -20,7 +20,7 @@ use Rattle.htmd_commonmark_reading.specs.Lists.{Gapped, no_gapped, shown, hidden
 use Rattle.htmd_commonmark_reading.specs.Lists.{one_item, with_item, with_closed_block, gapped, item_gapped, item_text}
 use Rattle.htmd_commonmark_reading.specs.Lists.{cell_inlines, row_inlines}
 use Rattle.htmd_commonmark_reading.specs.Markup.{Inlines, Blocks, Items, paragraph, heading, code_block, quote}
-use Rattle.htmd_commonmark_reading.specs.Markup.{thematic_break, table, block, no_items, item}
+use Rattle.htmd_commonmark_reading.specs.Markup.{thematic_break, table, html_block, block, no_items, item}
 use Rattle.htmd_law_blocks.specs.DocumentParts.{paragraph_text, heading_text, cell_texts, table_rows}
 use Rattle.htmd_law_blocks.specs.DocumentParts.{sign_byte, item_sign, item_number, first_parts, further_parts}
 use Rattle.htmd_law_blocks.specs.DocumentParts.{block_parts, item_parts, document_parts}
@@ -45,6 +45,10 @@ block_gaps refs reads o p before ds g (documents.quote content) rest =
     shown g (block_read refs reads o p before ds (documents.quote content)) rest
 block_gaps refs reads o p before ds g documents.thematic_break rest =
     shown g (block_read refs reads o p before ds documents.thematic_break) rest
+block_gaps refs reads o p before ds g (documents.element name attributes content) rest =
+    shown g (block_read refs reads o p before ds (documents.element name attributes content)) rest
+block_gaps refs reads o p before ds g (documents.tags s) rest =
+    shown g (block_read refs reads o p before ds (documents.tags s)) rest
 block_gaps refs reads o p before ds g (documents.table alignments header rows) rest =
     shown g (block_read refs reads o p before ds (documents.table alignments header rows)) rest
 
@@ -76,6 +80,8 @@ block_plain refs reads o p before ds g (documents.heading level content) rest = 
 block_plain refs reads o p before ds g (documents.code_block language s) rest = refl
 block_plain refs reads o p before ds g (documents.quote content) rest = refl
 block_plain refs reads o p before ds g documents.thematic_break rest = refl
+block_plain refs reads o p before ds g (documents.element name attributes content) rest = refl
+block_plain refs reads o p before ds g (documents.tags s) rest = refl
 block_plain refs reads o p before ds g (documents.table alignments header rows) rest = refl
 
 further_plain : (refs : References) (o : DocumentOptions) (p : Place) (before : Option Sign) (ds : List (List ℕ))
@@ -109,6 +115,8 @@ block_any refs reads o p before ds g (documents.heading level content) rest = re
 block_any refs reads o p before ds g (documents.code_block language s) rest = refl
 block_any refs reads o p before ds g (documents.quote content) rest = refl
 block_any refs reads o p before ds g documents.thematic_break rest = refl
+block_any refs reads o p before ds g (documents.element name attributes content) rest = refl
+block_any refs reads o p before ds g (documents.tags s) rest = refl
 block_any refs reads o p before ds g (documents.table alignments header rows) rest = refl
 
 block_inner : (refs : References) (reads : List ℕ → Inlines) (o : DocumentOptions) (p : Place)
@@ -121,6 +129,8 @@ block_inner refs reads o p before ds g (documents.heading level content) rest = 
 block_inner refs reads o p before ds g (documents.code_block language s) rest = refl
 block_inner refs reads o p before ds g (documents.quote content) rest = refl
 block_inner refs reads o p before ds g documents.thematic_break rest = refl
+block_inner refs reads o p before ds g (documents.element name attributes content) rest = refl
+block_inner refs reads o p before ds g (documents.tags s) rest = refl
 block_inner refs reads o p before ds g (documents.table alignments header rows) rest = refl
 
 abbrev is_some : documents.Blocks → Bool
@@ -210,6 +220,8 @@ block_apart refs o p s ds g (documents.heading level content) rest e = tt
 block_apart refs o p s ds g (documents.code_block language x) rest e = tt
 block_apart refs o p s ds g (documents.quote content) rest e = tt
 block_apart refs o p s ds g documents.thematic_break rest e = tt
+block_apart refs o p s ds g (documents.element name attributes content) rest e = tt
+block_apart refs o p s ds g (documents.tags x) rest e = tt
 block_apart refs o p s ds g (documents.table alignments header rows) rest e = tt
 
 further_apart : (refs : References) (o : DocumentOptions) (p : Place) (before : Option Sign) (ds : List (List ℕ))
@@ -322,6 +334,8 @@ mutual
       ∙ ap (λ (x : Blocks). shown g (quote x) (gapped refs rs)) (first_plain refs (inlines refs) o q ds content)
       ∙ ap (shown g (quote (first_read refs (inlines refs) o q ds content))) e
   block_grouped refs reads o p before ds g documents.thematic_break rs rest h e a = ap (shown g thematic_break) e
+  block_grouped refs reads o p before ds g (documents.element name attributes content) rs rest h e a = absurd h
+  block_grouped refs reads o p before ds g (documents.tags s) rs rest h e a = ap (shown g (html_block s)) e
   block_grouped refs reads o p before ds g (documents.table alignments header rows) rs rest h e a =
       ap (shown g (table alignments (cell_inlines refs (cell_texts o ds header))
       (row_inlines refs (table_rows o ds header rows)))) e

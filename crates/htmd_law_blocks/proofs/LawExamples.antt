@@ -19,7 +19,7 @@ use Rattle.htmd_document.specs.Documents.{Inlines, Block, Blocks, text, link, in
 use Rattle.htmd_document.specs.Documents.{code_block, quote, thematic_break, list, table, no_blocks, block, no_items}
 use Rattle.htmd_document.specs.Documents.{item}
 use Rattle.htmd_commonmark.specs.declared.options.DocumentOptions.{DocumentOptions}
-use Rattle.htmd_commonmark.specs.DocumentMarkdown.{markdown_of}
+use Rattle.htmd_commonmark.specs.DocumentMarkdown.{flat_markdown}
 use Rattle.htmd_commonmark_reading.specs.LinkDefinitions.{definitions}
 use Rattle.htmd_commonmark_reading.specs.Reading.{parts, read}
 use Rattle.htmd_law_blocks.specs.DocumentParts.{document_parts}
@@ -61,16 +61,16 @@ lists =
     (one (quote (block (words (codes "e")) (one (code_block None (codes "f\n```")))))))
 
 pub lists_are_written :
-    markdown_of plain lists
+    flat_markdown plain lists
     ≡ codes "- a\n  1. b\n- * c\n\n* d\n\n  _ _ _\n\n*\n\n> e\n>\n> ````\n> f\n> ```\n> ````"
 unfolding chars encode ucd_category digits
 lists_are_written = refl
 
-pub lists_are_read : parts (markdown_of plain lists) ≡ document_parts plain lists
+pub lists_are_read : parts (flat_markdown plain lists) ≡ document_parts plain lists
 unfolding chars encode ucd_category digits
 lists_are_read = refl
 
-pub lists_are_lists : read (markdown_of plain lists) ≡ document_read [] plain lists
+pub lists_are_lists : read (flat_markdown plain lists) ≡ document_read [] plain lists
 unfolding chars encode ucd_category digits
 lists_are_lists = refl
 
@@ -82,7 +82,7 @@ flat =
     (one thematic_break))
 
 -- the second row is filled up
-pub flat_blocks : parts (markdown_of (options Setex Inlined) flat) ≡ document_parts (options Setex Inlined) flat
+pub flat_blocks : parts (flat_markdown (options Setex Inlined) flat) ≡ document_parts (options Setex Inlined) flat
 unfolding chars encode ucd_category ucd_east_asian ucd_normal digits
 flat_blocks = refl
 
@@ -91,7 +91,7 @@ linked = one (paragraph (inline (link (codes "/a") None (letters (codes "b"))) n
 
 -- after the blocks come the definitions of links
 pub linked_blocks :
-    parts (markdown_of (options Atx Referenced) linked)
+    parts (flat_markdown (options Atx Referenced) linked)
     ≡ parts_with (options Atx Referenced) linked (definitions (codes "[1]: /a")).found
 unfolding chars encode ucd_category digits
 linked_blocks = refl

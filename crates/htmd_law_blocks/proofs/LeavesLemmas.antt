@@ -10,8 +10,8 @@ use Rattle.htmd_commonmark_reading.specs.Characters.{is_space_or_tab, stripped_e
 use Rattle.htmd_commonmark_reading.specs.Lines.{Line, line, is_blank, cut}
 use Rattle.htmd_commonmark_reading.specs.LinkDefinitions.{Definitions, definitions}
 use Rattle.htmd_commonmark_reading.specs.Tables.{cells}
-use Rattle.htmd_commonmark_reading.specs.Boxes.{ClosedBlock, text, headed, code, rule, grid, ClosedBlocks}
-use Rattle.htmd_commonmark_reading.specs.Boxes.{no_closed_blocks, closed_block, Leaf, paragraph, fenced, table, nothing}
+use Rattle.htmd_commonmark_reading.specs.Boxes.{ClosedBlock, text, headed, code, rule, html, grid, ClosedBlocks}
+use Rattle.htmd_commonmark_reading.specs.Boxes.{defined, boxed, no_closed_blocks, closed_block, Leaf, paragraph, fenced, raw, table, nothing}
 use Rattle.htmd_commonmark_reading.specs.Boxes.{leaf, Box, box, joined, joined_lines, parts_of, closed_leaf}
 use Rattle.htmd_commonmark_reading.specs.Boxes.{fitted_rows, language}
 use Rattle.htmd_commonmark_reading.specs.BlockStarts.{alone, under, Start, no_start, whole, first_line, opened, started}
@@ -20,23 +20,46 @@ use Rattle.htmd_commonmark_reading.specs.LeafBlocks.{begun, on_underline, on_tex
 use Rattle.htmd_commonmark_reading.specs.LeafBlocks.{underline, underline_of, is_header, ended, with_leaf, after_leaf}
 use Rattle.htmd_commonmark_reading.specs.LeafBlocks.{on_table, is_row}
 use Rattle.htmd_commonmark_reading.specs.Containers.{holds_nothing, fed, fed_all}
-use Rattle.htmd_law_blocks.specs.LineTexts.{IsBlack, IsFirstLine, IsFurtherLine, AreFurtherLines}
+use Rattle.htmd_law_blocks.specs.LineTexts.{IsBlack, AreBlack, IsFirstLine, IsFurtherLine, AreFurtherLines}
 use Rattle.htmd_law_blocks.proofs.LinesLemmas.{joined_none, Columns, tail, place, shift, fed_append, not_blank}
 use Rattle.htmd_law_blocks.proofs.LinesLemmas.{black_past}
 use Rattle.htmd_law_blocks.proofs.EndsLemmas.{stripped_end_black, stripped_black}
-use Rattle.htmd_law_blocks.proofs.ChainsLemmas.{Ends, not_blank_text}
-use Rattle.htmd_law_blocks.proofs.PiecesLemmas.{FlatReads, Safe, safe_append}
+use Rattle.htmd_law_blocks.proofs.ChainsLemmas.{Boxed, other, anything, Ends, not_blank_text}
+use Rattle.htmd_law_blocks.proofs.PiecesLemmas.{FlatReads, Safe, safe_append, kind_of}
+
+-- ---- what is open behind a block that is no container
+
+nothing_boxed : (p : ClosedBlock) → Boxed (kind_of p) nothing
+nothing_boxed (text s) = tt
+nothing_boxed (headed level s) = tt
+nothing_boxed (code l s) = tt
+nothing_boxed rule = tt
+nothing_boxed (html s) = tt
+nothing_boxed (grid alignments header rows) = tt
+nothing_boxed (defined d) = tt
+nothing_boxed (boxed kind content) = tt
+
+text_boxed : (p : ClosedBlock) (earlier : List (List ℕ)) (last : List ℕ)
+    → Boxed (kind_of p) (leaf (paragraph earlier last))
+text_boxed (text s) earlier last = tt
+text_boxed (headed level s) earlier last = tt
+text_boxed (code l s) earlier last = tt
+text_boxed rule earlier last = tt
+text_boxed (html s) earlier last = tt
+text_boxed (grid alignments header rows) earlier last = tt
+text_boxed (defined d) earlier last = tt
+text_boxed (boxed kind content) earlier last = tt
 
 -- ---- one line that is all
 
 ends_whole : (done : ClosedBlocks) (g : Bool) (p : ClosedBlock) (b : Box) → b
     ≡ box (joined done (closed_block g p no_closed_blocks)) false
     nothing
-    → Ends false b (joined done (closed_block g p no_closed_blocks))
+    → Ends (kind_of p) b (joined done (closed_block g p no_closed_blocks))
 ends_whole done g p b e =
     let qs = joined done (closed_block g p no_closed_blocks) in
-    subst (λ (x : Box). Ends false x qs) (sym e)
-    record { parts = joined_none qs; calm = tt; filled = refl; in_box = tt }
+    subst (λ (x : Box). Ends (kind_of p) x qs) (sym e)
+    record { parts = joined_none qs; calm = tt; filled = refl; in_box = nothing_boxed p }
 
 whole_fed : (done : ClosedBlocks) (g : Bool) (x : Line) (p : ClosedBlock) → is_blank x ≡ false → started alone x
     ≡ whole p
@@ -166,19 +189,20 @@ pub record IsParagraph (l : List ℕ) (ls : List (List ℕ)) (p : ClosedBlock) (
   pub further : AreFurtherLines ls
   pub leaves : (g : Bool) → parts_of g text (definitions (joined_lines (l ∷ ls))) ≡ closed_block g p more
 
-ends_grown : (done : ClosedBlocks) (g : Bool) (ls earlier : List (List ℕ)) (last : List ℕ) (qs : ClosedBlocks)
-    → joined done (closed_leaf g (grown earlier last ls)) ≡ qs
-    → Ends false (box done g (leaf (grown earlier last ls))) qs
-ends_grown done g [] earlier last qs e = record { parts = e; calm = tt; filled = refl; in_box = tt }
-ends_grown done g (l ∷ ls) earlier last qs e = ends_grown done g ls (earlier ++ (last ∷ [])) l qs e
+ends_grown : (p : ClosedBlock) (done : ClosedBlocks) (g : Bool) (ls earlier : List (List ℕ)) (last : List ℕ)
+    (qs : ClosedBlocks) → joined done (closed_leaf g (grown earlier last ls)) ≡ qs
+    → Ends (kind_of p) (box done g (leaf (grown earlier last ls))) qs
+ends_grown p done g [] earlier last qs e =
+    record { parts = e; calm = tt; filled = refl; in_box = text_boxed p earlier last }
+ends_grown p done g (l ∷ ls) earlier last qs e = ends_grown p done g ls (earlier ++ (last ∷ [])) l qs e
 
 pub paragraph_reads : (l : List ℕ) (ls : List (List ℕ)) (p : ClosedBlock) (more : ClosedBlocks)
     → IsParagraph l ls p more
     → FlatReads (l ∷ ls) p more
 paragraph_reads l ls p more h = record {
-  reads = λ k done g. subst (λ (x : Box). Ends false x (joined done (closed_block g p more)))
+  reads = λ k done g. subst (λ (x : Box). Ends (kind_of p) x (joined done (closed_block g p more)))
       (sym (step k done g ∙ (further_texts ls [] l (tail k) done g h.further).0))
-      (ends_grown done g ls [] l (joined done (closed_block g p more))
+      (ends_grown p done g ls [] l (joined done (closed_block g p more))
       (ap (λ (ps : ClosedBlocks). joined done ps) (grown_closed ls [] l g ∙ h.leaves g)));
   safe = λ k done g. (
     (λ f. absurd (let w = not_blank l h.first.black in cc)),
@@ -343,6 +367,50 @@ fence_reads sign count o c info ls h w = record {
   black = h.opening_black;
 }
 
+-- ---- HTML blocks that a blank line ends (4.6)
+
+html_fed : (ls rows : List (List ℕ)) (k : Columns) (done : ClosedBlocks) (g : Bool) → AreBlack ls
+    → (fed_all (box done g (leaf (raw [] rows))) (place k ls) ≡ box done g (leaf (raw [] (rows ++ ls))))
+    × Safe (box done g (leaf (raw [] rows))) (place k ls)
+html_fed [] rows k done g h = (ap (λ (x : List (List ℕ)). box done g (leaf (raw [] x))) (sym (append-nil rows)), tt)
+html_fed (l ∷ ls) rows k done g h =
+    let x = line (k zero) l in
+    let b : is_blank x ≡ false = not_blank l h.0 in
+    let e : fed done g (leaf (raw [] rows)) x ≡ box done g (leaf (raw [] (rows ++ (l ∷ [])))) = rw b refl in
+    let r = html_fed ls (rows ++ (l ∷ [])) (tail k) done g h.1 in (
+      ap (λ (y : Box). fed_all y (place (tail k) ls)) e ∙ r.0
+          ∙ ap (λ (y : List (List ℕ)). box done g (leaf (raw [] y))) (append_assoc rows (l ∷ []) ls),
+      (
+        (λ f. absurd (let w = not_blank l h.0 in cc)),
+        subst (λ (y : Box). Safe y (place (tail k) ls)) (sym e) r.1,
+      ),
+    )
+
+pub html_reads : (l : List ℕ) (ls : List (List ℕ)) → IsBlack l
+    → ((k : ℕ) → started alone (line k l) ≡ first_line (leaf (raw [] (l ∷ [])))) → AreBlack ls
+    → FlatReads (l ∷ ls) (html (joined_lines (l ∷ ls))) no_closed_blocks
+html_reads l ls b h w = record {
+  reads = λ k done g.
+      subst (λ (x : Box). Ends anything x
+      (joined done (closed_block g (html (joined_lines (l ∷ ls))) no_closed_blocks)))
+      (sym (ap (λ (x : Box). fed_all x (place (tail k) ls)) (first k done g)
+      ∙ (html_fed ls (l ∷ []) (tail k) done g w).0))
+      record { parts = refl; calm = tt; filled = refl; in_box = tt };
+  safe = λ k done g. (
+    (λ f. absurd (let v = not_blank l b in cc)),
+    subst (λ (x : Box). Safe x (place (tail k) ls)) (sym (first k done g))
+        (html_fed ls (l ∷ []) (tail k) done g w).1,
+  );
+  black = b;
+}
+  where
+    first : (k : Columns) (done : ClosedBlocks) (g : Bool)
+        → fed done g nothing (line (k zero) l) ≡ box done g (leaf (raw [] (l ∷ [])))
+    first k done g =
+        let x = line (k zero) l in
+        let e : is_blank x ≡ false = not_blank l b in
+        rw e (ap (λ (s : Start). opened done g x s) (h (k zero)))
+
 -- ---- tables (GFM 4.10)
 
 abbrev pub AreRows : List (List ℕ) → Type 0
@@ -409,7 +477,7 @@ pub table_reads : (a : List Alignment) (h d : List ℕ) (rs : List (List ℕ)) �
 table_reads a h d rs t = record {
   reads = λ k done g.
       let qs = joined done (closed_block g (grid a (cells h) (fitted_rows (length a) rs)) no_closed_blocks) in
-      subst (λ (b : Box). Ends false b qs)
+      subst (λ (b : Box). Ends other b qs)
       (sym (ap (λ (b : Box). fed_all b (place (tail (tail k)) rs))
       (steps k done g) ∙ (rows_fed rs [] a (cells h) (tail (tail k)) done g t.rows).0))
       record { parts = refl; calm = tt; filled = refl; in_box = tt };

@@ -7,7 +7,7 @@ use Rattle.htmd_commonmark.specs.BlockMarkdown.{separator}
 use Rattle.htmd_commonmark_reading.specs.Lines.{spaces}
 use Rattle.htmd_commonmark_reading.specs.Boxes.{joined_lines}
 use Rattle.htmd_law_blocks.specs.LineTexts.{IsBlack}
-use Rattle.htmd_law_blocks.proofs.ChainsLemmas.{First, gap_line}
+use Rattle.htmd_law_blocks.proofs.ChainsLemmas.{First, Last, gap_line}
 use Rattle.htmd_law_blocks.proofs.PiecesLemmas.{Marker, Piece, flat, quote, item, Pieces, no_pieces, piece, each}
 use Rattle.htmd_law_blocks.proofs.PiecesLemmas.{quoted, indented, columns, item_lines, piece_lines, pieces_lines}
 use Rattle.htmd_law_blocks.proofs.PiecesLemmas.{further_lines, IsGood, IsFilled, AreGood, is_boxed, filled_first}
@@ -129,7 +129,7 @@ mutual
       both_text (piece_lines p) (further_lines (piece h q ps)) (piece_is_text p g.1 c.0)
       (further_is_text (piece h q ps) (is_boxed p) g.2 c.1 tt)
 
-  further_is_text : (ps : Pieces) (m : Bool) → AreGood m ps → CleanPieces ps → IsSomePieces ps → IsText
+  further_is_text : (ps : Pieces) (m : Last) → AreGood m ps → CleanPieces ps → IsSomePieces ps → IsText
       (further_lines ps)
   further_is_text no_pieces m g c s = absurd s
   further_is_text (piece h p no_pieces) m g c s =
@@ -171,7 +171,7 @@ item_joined m n ((c ∷ t) ∷ ls) s b h e =
     ap (pages.indented m.text (suc n)) e
     ∙ item_text m.text (suc n) (columns m n) c t ls h (marker_columns m n)
 
-first_full : (p : Piece) (ps : Pieces) (m : Bool) → IsText (piece_lines p) → AreGood m ps → CleanPieces ps
+first_full : (p : Piece) (ps : Pieces) (m : Last) → IsText (piece_lines p) → AreGood m ps → CleanPieces ps
     → IsFull (piece_lines p ++ further_lines ps)
 first_full p no_pieces m t a d = subst IsFull (sym (append-nil (piece_lines p))) t.1
 first_full p (piece h q ps) m t a d =
@@ -195,7 +195,7 @@ mutual
       first_joined ps p (is_boxed p) (piece_joined p g.1 c.0) (piece_is_text p g.1 c.0) g.2 c.1
 
   -- a piece and what follows it
-  first_joined : (ps : Pieces) (p : Piece) (m : Bool) → piece_text p ≡ joined_lines (piece_lines p)
+  first_joined : (ps : Pieces) (p : Piece) (m : Last) → piece_text p ≡ joined_lines (piece_lines p)
       → IsText (piece_lines p) → AreGood m ps → CleanPieces ps
       → piece_text p ++ further_text ps ≡ joined_lines (piece_lines p ++ further_lines ps)
   first_joined no_pieces p m e t a d =

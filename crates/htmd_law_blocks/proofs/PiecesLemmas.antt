@@ -1,5 +1,5 @@
 -- What is written of quotes and items is read as those, whatever flat blocks stand in them.
-use Rattle.std.proofs.Common.{◌≡◌, ◌∙◌, refl, sym, ap, subst, ℕ, zero, suc, ◌≤◌, Bool, true, false, not, List, [], ◌∷◌}
+use Rattle.std.proofs.Common.{◌≡◌, ◌∙◌, refl, sym, ap, subst, ℕ, zero, suc, ◌≤◌, Bool, true, false, List, [], ◌∷◌}
 use Rattle.std.proofs.Common.{◌+◌, ◌++◌, length, arith}
 use Rattle.std.proofs.lemmas.Bool.Decides.{nat_tests}
 use Rattle.std.proofs.lemmas.List.{append-nil}
@@ -7,7 +7,8 @@ use Rattle.std.specs.Prelude.{◌==◌, nat_le, Option, Some, None}
 use Rattle.htmd_lexical.specs.Characters.{greater_than_sign}
 use Rattle.htmd_lexical.specs.CharacterClasses.{first_is}
 use Rattle.htmd_commonmark_reading.specs.Lines.{Line, line, is_blank, is_blank_text, indent_at, spaces, placed}
-use Rattle.htmd_commonmark_reading.specs.Boxes.{Container, quoting, listing, ClosedBlock, boxed, ClosedBlocks}
+use Rattle.htmd_commonmark_reading.specs.Boxes.{Container, quoting, listing, ClosedBlock, text, headed, code, rule, html, grid, defined}
+use Rattle.htmd_commonmark_reading.specs.Boxes.{boxed, ClosedBlocks}
 use Rattle.htmd_commonmark_reading.specs.Boxes.{no_closed_blocks, closed_block, Open, nothing, leaf, within, Box, box}
 use Rattle.htmd_commonmark_reading.specs.Boxes.{joined, shut, was_blank}
 use Rattle.htmd_commonmark_reading.specs.BlockStarts.{After, alone, under, lazy, Start, first_line, opened, started}
@@ -19,7 +20,7 @@ use Rattle.htmd_law_blocks.proofs.LinesLemmas.{joined_none, joined_assoc, Column
 use Rattle.htmd_law_blocks.proofs.LinesLemmas.{placed_at_zero, fed_append, not_blank, spaces_blank, spaces_cut, steps}
 use Rattle.htmd_law_blocks.proofs.LinesLemmas.{cut_empty}
 use Rattle.htmd_law_blocks.proofs.ChainsLemmas.{is_first_line, Interrupts, IsWide, Ends, ends_by, First, next_lines}
-use Rattle.htmd_law_blocks.proofs.ChainsLemmas.{after_empty, right_after, gap_line, gap_columns}
+use Rattle.htmd_law_blocks.proofs.ChainsLemmas.{after_empty, right_after, gap_line, gap_columns, Last, container, other, anything, Fits}
 
 -- ---- pieces: blocks with the lines that are written of them
 
@@ -101,10 +102,21 @@ abbrev pub Safe : Box → List Line → Type 0
 Safe b [] = Unit {0}
 Safe b (x ∷ xs) = (is_blank x ≡ true → Keeps b) × Safe (fed b.done b.gap b.inner x) xs
 
+-- what a flat block may leave open: HTML is anything
+abbrev pub kind_of : ClosedBlock → Last
+kind_of (text s) = other
+kind_of (headed level s) = other
+kind_of (code l s) = other
+kind_of rule = other
+kind_of (html s) = anything
+kind_of (grid alignments header rows) = other
+kind_of (defined d) = other
+kind_of (boxed kind content) = other
+
 -- the lines of a flat block are read as it
 pub record FlatReads (ls : List (List ℕ)) (p : ClosedBlock) (more : ClosedBlocks) : Type 0 where
   pub reads : (k : Columns) (done : ClosedBlocks) (g : Bool)
-      → Ends false (fed_all (box done g nothing) (place k ls)) (joined done (closed_block g p more))
+      → Ends (kind_of p) (fed_all (box done g nothing) (place k ls)) (joined done (closed_block g p more))
   pub safe : (k : Columns) (done : ClosedBlocks) (g : Bool) → Safe (box done g nothing) (place k ls)
   pub black : First IsBlack ls
 
@@ -146,17 +158,23 @@ abbrev pub Strong : Marker → Pieces → Type 0
 Strong m no_pieces = ⊥
 Strong m (piece g p ps) = Allowed under m.number
 
--- a piece may follow another one, a box or not, with a blank line between or not
-abbrev pub Follows : Bool → Bool → Piece → Type 0
+-- an item may follow right after that
+abbrev pub FollowsOn : Last → Marker → Pieces → Type 0
+FollowsOn container marker c = Unit {0}
+FollowsOn other marker c = Strong marker c
+FollowsOn anything marker c = ⊥
+
+-- a piece may follow another one, with a blank line between or not
+abbrev pub Follows : Bool → Last → Piece → Type 0
 Follows true m p = Unit {0}
 Follows false m (flat ls p more) = ⊥
 Follows false m (quote c) = ⊥
-Follows false m (item marker n c) = m ≡ false → Strong marker c
+Follows false m (item marker n c) = FollowsOn m marker c
 
-abbrev pub is_boxed : Piece → Bool
-is_boxed (flat ls p more) = false
-is_boxed (quote c) = true
-is_boxed (item m n c) = true
+abbrev pub is_boxed : Piece → Last
+is_boxed (flat ls p more) = kind_of p
+is_boxed (quote c) = container
+is_boxed (item m n c) = container
 
 abbrev mutual
   pub IsGood : Piece → Type 0
@@ -174,7 +192,7 @@ abbrev mutual
   IsFilled no_pieces = ⊥
   IsFilled (piece g p ps) = (g ≡ false) × IsGood p × AreGood (is_boxed p) ps
 
-  pub AreGood : Bool → Pieces → Type 0
+  pub AreGood : Last → Pieces → Type 0
   AreGood m no_pieces = Unit {0}
   AreGood m (piece g p ps) = Follows g m p × IsGood p × AreGood (is_boxed p) ps
 
@@ -325,11 +343,11 @@ quote_starts : (k : ℕ) (l : List ℕ) → IsBlack l
 quote_starts k [] h = absurd h
 quote_starts k (c ∷ s) h = refl
 
-box_back : (t : Container) (b c : Box) (done : ClosedBlocks) (g : Bool) (ps : ClosedBlocks) (m : Bool) → IsWide t
+box_back : (t : Container) (b c : Box) (done : ClosedBlocks) (g : Bool) (ps : ClosedBlocks) (m : Last) → IsWide t
     → b ≡ inside done g t c → Ends m c ps
-    → Ends true b (joined done (closed_block g (boxed t ps) no_closed_blocks))
+    → Ends container b (joined done (closed_block g (boxed t ps) no_closed_blocks))
 box_back t b c done g ps m w e r =
-    ends_by true b (inside done g t c) (joined done (closed_block g (boxed t ps) no_closed_blocks))
+    ends_by container b (inside done g t c) (joined done (closed_block g (boxed t ps) no_closed_blocks))
     (joined done (closed_block g (boxed t ps) no_closed_blocks)) e refl record {
       parts = ap (λ (qs : ClosedBlocks). joined done (closed_block g (boxed t qs) no_closed_blocks)) r.parts;
       calm = (w, r.calm);
@@ -343,14 +361,14 @@ box_back t b c done g ps m w e r =
     still (listing sign number n) c h = h
 
 -- lines that are read as parts
-pub record Reads (m : Bool) (ls : List (List ℕ)) (f : Bool → ClosedBlocks) : Type 0 where
+pub record Reads (m : Last) (ls : List (List ℕ)) (f : Bool → ClosedBlocks) : Type 0 where
   pub reads : (k : Columns) (done : ClosedBlocks) (g : Bool)
       → Ends m (fed_all (box done g nothing) (place k ls)) (joined done (f g))
   pub safe : (k : Columns) (done : ClosedBlocks) (g : Bool) → Safe (box done g nothing) (place k ls)
 
-quote_back : (ls : List (List ℕ)) (ps : ClosedBlocks) (m : Bool) → First IsBlack ls
+quote_back : (ls : List (List ℕ)) (ps : ClosedBlocks) (m : Last) → First IsBlack ls
     → ((k : Columns) → Ends m (fed_all (box no_closed_blocks false nothing) (place k ls)) ps)
-    → Reads true (each quoted ls) (λ g. closed_block g (boxed quoting ps) no_closed_blocks)
+    → Reads container (each quoted ls) (λ g. closed_block g (boxed quoting ps) no_closed_blocks)
 quote_back [] ps m h r = absurd h
 quote_back (l ∷ ls) ps m h r = record {
   reads = λ k done g. box_back quoting (fed_all (box done g nothing) (place k (each quoted (l ∷ ls))))
@@ -383,12 +401,12 @@ quote_back (l ∷ ls) ps m h r = record {
     rest k done g = quote_takes_all ls (tail k) done g
         (fed no_closed_blocks false nothing (line (quote_column (k zero) l) l))
 
-item_back : (mk : Marker) (n : ℕ) (l : List ℕ) (ls : List (List ℕ)) (ps : ClosedBlocks) (m : Bool) → IsMarker mk
+item_back : (mk : Marker) (n : ℕ) (l : List ℕ) (ls : List (List ℕ)) (ps : ClosedBlocks) (m : Last) → IsMarker mk
     → n ≤ 3
     → IsBlack l → IsApart mk.number mk.sign l
     → ((k : Columns) → Ends m (fed_all (box no_closed_blocks false nothing) (place k (l ∷ ls))) ps)
     → ((k : Columns) → Safe (box no_closed_blocks false nothing) (place k (l ∷ ls)))
-    → Reads true (item_lines mk n (l ∷ ls))
+    → Reads container (item_lines mk n (l ∷ ls))
     (λ g. closed_block g (boxed (listing mk.sign mk.number (columns mk n)) ps)
     no_closed_blocks)
 item_back mk n l ls ps m i w h q r s = record {
@@ -437,11 +455,11 @@ item_back mk n l ls ps m i w h q r s = record {
         (s (columns_of k)).1
 
 empty_back : (mk : Marker) (n : ℕ) → IsMarker mk
-    → Reads true (item_lines mk n [])
+    → Reads container (item_lines mk n [])
     (λ g. closed_block g (boxed (listing mk.sign mk.number (columns mk 0)) no_closed_blocks)
     no_closed_blocks)
 empty_back mk n i = record {
-  reads = λ k done g. ends_by true (fed done g nothing (line (k zero) mk.text)) (box done g inner_box)
+  reads = λ k done g. ends_by container (fed done g nothing (line (k zero) mk.text)) (box done g inner_box)
       (joined done (closed_block g (boxed t no_closed_blocks) no_closed_blocks))
       (joined done (closed_block g (boxed t no_closed_blocks) no_closed_blocks))
       (first_fed done g (line (k zero) mk.text) inner_box (not_blank mk.text (marker_black mk i))
@@ -510,23 +528,32 @@ empty_interrupts mk i = record {
   no_quote = subst (λ (s : List ℕ). first_is greater_than_sign s ≡ false) (append-nil mk.text) (i.no_quote []);
 }
 
-item_follows : (m : Bool) (mk : Marker) (n : ℕ) (c : Pieces) → Follows false m (item mk n c) → IsGood
+-- whether it has to be such as may stand under a paragraph
+abbrev interrupts : Last → Bool
+interrupts container = false
+interrupts other = true
+interrupts anything = true
+
+item_follows : (m : Last) (mk : Marker) (n : ℕ) (c : Pieces) → Follows false m (item mk n c) → IsGood
     (item mk n c)
-    → First (Interrupts (not m)) (piece_lines (item mk n c))
-item_follows true mk n no_pieces f g = empty_interrupts mk g.0
-item_follows false mk n no_pieces f g = absurd (f refl)
+    → First (Interrupts (interrupts m)) (piece_lines (item mk n c))
+item_follows container mk n no_pieces f g = empty_interrupts mk g.0
+item_follows other mk n no_pieces f g = absurd f
+item_follows anything mk n no_pieces f g = absurd f
 item_follows m mk n (piece h p ps) f g = go (piece_lines p) (piece_first p g.2.1) g.2.3
   where
-    allowed : (m : Bool) → (m ≡ false → Strong mk (piece h p ps)) → not m ≡ true → Allowed under mk.number
-    allowed true f e = absurd (cc)
-    allowed false f e = f refl
+    allowed : (m : Last) → FollowsOn m mk (piece h p ps) → interrupts m ≡ true → Allowed under mk.number
+    allowed container f e = absurd (cc)
+    allowed other f e = f
+    allowed anything f e = absurd f
 
     go : (ls : List (List ℕ)) → First IsBlack ls → First (IsApart mk.number mk.sign) ls
-        → First (Interrupts (not m)) (item_lines mk n (ls ++ further_lines ps))
+        → First (Interrupts (interrupts m)) (item_lines mk n (ls ++ further_lines ps))
     go [] b q = absurd b
-    go (l ∷ ls) b q = item_interrupts (not m) mk n l g.0 g.1 b q (allowed m f)
+    go (l ∷ ls) b q = item_interrupts (interrupts m) mk n l g.0 g.1 b q (allowed m f)
 
-piece_follows : (m : Bool) (p : Piece) → Follows false m p → IsGood p → First (Interrupts (not m)) (piece_lines p)
+piece_follows : (m : Last) (p : Piece) → Follows false m p → IsGood p
+    → First (Interrupts (interrupts m)) (piece_lines p)
 piece_follows m (flat ls p more) f g = absurd f
 piece_follows m (quote c) f g = absurd f
 piece_follows m (item mk n c) f g = item_follows m mk n c f g
@@ -550,13 +577,13 @@ piece_keeps b d g (item m n c) e =
 
 -- ---- all pieces
 
-any_ends : (m : Bool) (b : Box) (qs : ClosedBlocks) → Ends m b qs → Ends false b qs
+any_ends : (m : Last) (b : Box) (qs : ClosedBlocks) → Ends m b qs → Ends anything b qs
 any_ends m b qs e = record { parts = e.parts; calm = e.calm; filled = e.filled; in_box = tt }
 
 -- what follows a box whose lines have been read is safe
-safe_next : (h m : Bool) (b : Box) (qs : ClosedBlocks) (k : Columns) (ls ms : List (List ℕ)) → Ends m b qs
+safe_next : (h : Bool) (m : Last) (b : Box) (qs : ClosedBlocks) (k : Columns) (ls ms : List (List ℕ)) → Ends m b qs
     → Keeps b
-    → First IsBlack ls → (h ≡ false → First (Interrupts (not m)) ls)
+    → First IsBlack ls → (h ≡ false → First (Interrupts (interrupts m)) ls × Fits m (interrupts m))
     → Safe (box qs h nothing) (place (gap_columns h k) (ls ++ ms))
     → Safe b (place k (gap_line h (ls ++ ms)))
 safe_next h m b qs k [] ms e q f i s = absurd f
@@ -571,39 +598,42 @@ safe_next true m b qs k (l ∷ ls) ms e q f i s = (
 safe_next false m b qs k (l ∷ ls) ms e q f i s = (
   (λ r. q),
   subst (λ (x : Box). Safe x (place (tail k) (ls ++ ms)))
-      (sym (right_after m (not m) b qs (k zero) l e (i refl) (firm m))) s.1,
+      (sym (right_after m (interrupts m) b qs (k zero) l e (i refl).0 (i refl).1)) s.1,
 )
-  where
-    firm : (m : Bool) → m ≡ false → not m ≡ true
-    firm true e = absurd (cc)
-    firm false e = refl
 
-follows : (h m : Bool) (p : Piece) → Follows h m p → h ≡ false → Follows false m p
+follows : (h : Bool) (m : Last) (p : Piece) → Follows h m p → h ≡ false → Follows false m p
 follows true m p f e = absurd (cc)
 follows false m p f e = f
 
-firm : (m : Bool) → m ≡ false → not m ≡ true
-firm true e = absurd (cc)
-firm false e = refl
+fits : (m : Last) (p : Piece) → Follows false m p → Fits m (interrupts m)
+fits container p f = tt
+fits other p f = refl
+fits anything (flat ls p more) f = absurd f
+fits anything (quote c) f = absurd f
+fits anything (item mk n c) f = absurd f
+
+may_start : (h : Bool) (m : Last) (p : Piece) → Follows h m p → IsGood p → h ≡ false
+    → First (Interrupts (interrupts m)) (piece_lines p) × Fits m (interrupts m)
+may_start h m p f g e = (piece_follows m p (follows h m p f e) g, fits m p (follows h m p f e))
 
 -- an item that isn't empty, with the lines of its first block
 item_content : (m : Marker) (n : ℕ) (p : Piece) (ps : Pieces) (f : Bool) → IsGood (item m n (piece f p ps))
-    → ((k : Columns) → Ends false (fed_all (box no_closed_blocks false nothing)
+    → ((k : Columns) → Ends anything (fed_all (box no_closed_blocks false nothing)
     (place k (piece_lines p ++ further_lines ps)))
     (pieces_parts (piece f p ps))
     × Safe (box no_closed_blocks false nothing) (place k (piece_lines p ++ further_lines ps)))
     → (ls : List (List ℕ)) → piece_lines p ≡ ls
-    → Reads true (item_lines m n (piece_lines p ++ further_lines ps))
+    → Reads container (item_lines m n (piece_lines p ++ further_lines ps))
     (λ g. closed_block g (boxed (listing m.sign m.number (columns m n)) (pieces_parts (piece f p ps)))
     no_closed_blocks)
 item_content m n p ps f w r [] e = absurd (subst (First IsBlack) e (piece_first p w.2.1))
 item_content m n p ps f w r (l ∷ ls) e =
-    subst (λ (x : List (List ℕ)). Reads true (item_lines m n (x ++ further_lines ps))
+    subst (λ (x : List (List ℕ)). Reads container (item_lines m n (x ++ further_lines ps))
     (λ g. closed_block g (boxed (listing m.sign m.number (columns m n)) (pieces_parts (piece f p ps)))
     no_closed_blocks)) (sym e)
-    (item_back m n l (ls ++ further_lines ps) (pieces_parts (piece f p ps)) false w.0 w.1
+    (item_back m n l (ls ++ further_lines ps) (pieces_parts (piece f p ps)) anything w.0 w.1
     (subst (First IsBlack) e (piece_first p w.2.1)) (subst (First (IsApart m.number m.sign)) e w.2.3)
-    (λ k. subst (λ (x : List (List ℕ)). Ends false (fed_all (box no_closed_blocks false nothing)
+    (λ k. subst (λ (x : List (List ℕ)). Ends anything (fed_all (box no_closed_blocks false nothing)
     (place k (x ++ further_lines ps)))
     (pieces_parts (piece f p ps))) e (r k).0)
     (λ k. subst (λ (x : List (List ℕ)). Safe (box no_closed_blocks false nothing) (place k (x ++ further_lines ps)))
@@ -613,21 +643,21 @@ item_content m n p ps f w r (l ∷ ls) e =
 mutual
   piece_back : (p : Piece) → IsGood p → Reads (is_boxed p) (piece_lines p) (λ g. piece_parts g p no_closed_blocks)
   piece_back (flat ls p more) w = record {
-    reads = λ k done g. ends_by false (fed_all (box done g nothing) (place k ls))
+    reads = λ k done g. ends_by (kind_of p) (fed_all (box done g nothing) (place k ls))
         (fed_all (box done g nothing) (place k ls))
         (joined done (closed_block g p more)) (joined done (closed_block g p (joined more no_closed_blocks))) refl
         (ap (λ (qs : ClosedBlocks). joined done (closed_block g p qs)) (sym (joined_none more))) (w.reads k done g);
     safe = w.safe;
   }
   piece_back (quote c) w =
-      quote_back (pieces_lines c) (pieces_parts c) false (filled_first c w) (λ k. (filled_back c w k).0)
+      quote_back (pieces_lines c) (pieces_parts c) anything (filled_first c w) (λ k. (filled_back c w k).0)
   piece_back (item m n no_pieces) w = empty_back m n w.0
   piece_back (item m n (piece f p ps)) w =
       item_content m n p ps f w (λ k. filled_back (piece f p ps) (w.2.0, w.2.1, w.2.2) k) (piece_lines p) refl
 
   -- a container's pieces, from its beginning
   filled_back : (ps : Pieces) → IsFilled ps → (k : Columns)
-      → Ends false (fed_all (box no_closed_blocks false nothing) (place k (pieces_lines ps))) (pieces_parts ps)
+      → Ends anything (fed_all (box no_closed_blocks false nothing) (place k (pieces_lines ps))) (pieces_parts ps)
       × Safe (box no_closed_blocks false nothing) (place k (pieces_lines ps))
   filled_back no_pieces w k = absurd w
   filled_back (piece f p ps) w k =
@@ -637,7 +667,7 @@ mutual
       let e = r.reads k no_closed_blocks false in
       let a = after_back ps (is_boxed p) w.2 j b (piece_parts false p no_closed_blocks) e
       (piece_keeps b no_closed_blocks false p e.parts) in (
-        ends_by false (fed_all (box no_closed_blocks false nothing) (place k (piece_lines p ++ further_lines ps)))
+        ends_by anything (fed_all (box no_closed_blocks false nothing) (place k (piece_lines p ++ further_lines ps)))
             (fed_all b (place j (further_lines ps)))
             (joined (piece_parts false p no_closed_blocks) (pieces_parts ps)) (piece_parts f p (pieces_parts ps))
             (fed_append (box no_closed_blocks false nothing) k (piece_lines p) (further_lines ps))
@@ -647,9 +677,9 @@ mutual
             (r.safe k no_closed_blocks false) a.1,
       )
 
-  after_back : (ps : Pieces) (m : Bool) → AreGood m ps → (k : Columns) (b : Box) (qs : ClosedBlocks) → Ends m b qs
+  after_back : (ps : Pieces) (m : Last) → AreGood m ps → (k : Columns) (b : Box) (qs : ClosedBlocks) → Ends m b qs
       → Keeps b
-      → Ends false (fed_all b (place k (further_lines ps))) (joined qs (pieces_parts ps))
+      → Ends anything (fed_all b (place k (further_lines ps))) (joined qs (pieces_parts ps))
       × Safe b (place k (further_lines ps))
   after_back no_pieces m w k b qs e q = (
     any_ends m b (joined qs no_closed_blocks)
@@ -665,10 +695,10 @@ mutual
       let s = r.reads i qs h in
       let a = after_back ps (is_boxed p) w.2 j c rs s (piece_keeps c qs h p s.parts) in
       let first = piece_first p w.1 in
-      let starts = λ (f : h ≡ false). piece_follows m p (follows h m p w.0 f) w.1 in (
-        ends_by false (fed_all b (place k (further_lines (piece h p ps)))) (fed_all c (place j (further_lines ps)))
+      let starts = may_start h m p w.0 w.1 in (
+        ends_by anything (fed_all b (place k (further_lines (piece h p ps)))) (fed_all c (place j (further_lines ps)))
             (joined rs (pieces_parts ps)) (joined qs (piece_parts h p (pieces_parts ps)))
-            (next_lines h m (not m) b qs k (piece_lines p) (further_lines ps) e first (λ f. (starts f, firm m)))
+            (next_lines h m (interrupts m) b qs k (piece_lines p) (further_lines ps) e first starts)
             (joined_assoc qs (piece_parts h p no_closed_blocks) (pieces_parts ps)
             ∙ ap (λ (x : ClosedBlocks). joined qs x) (piece_joined h p (pieces_parts ps))) a.0,
         safe_next h m b qs k (piece_lines p) (further_lines ps) e q first starts

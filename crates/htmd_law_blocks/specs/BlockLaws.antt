@@ -1,9 +1,9 @@
--- The blocks of a document are read back.
+-- The blocks of a flat document are read back.
 use Rattle.std.specs.Prelude.{◌≡◌, ℕ, true, List, []}
 use Rattle.htmd_document.specs.Documents as documents
 use Rattle.htmd_commonmark.specs.declared.options.DocumentOptions.{DocumentOptions}
 use Rattle.htmd_commonmark.specs.BlockMarkdown.{written_blocks}
-use Rattle.htmd_commonmark.specs.DocumentMarkdown.{outermost, markdown_of}
+use Rattle.htmd_commonmark.specs.DocumentMarkdown.{outermost, flat_markdown}
 use Rattle.htmd_commonmark_reading.specs.LinkDefinitions.{Definition}
 use Rattle.htmd_commonmark_reading.specs.Boxes.{ClosedBlocks, no_closed_blocks, joined, definition_parts}
 use Rattle.htmd_commonmark_reading.specs.Reading.{parts, read}
@@ -28,7 +28,7 @@ BlocksReadBack =
     (options : DocumentOptions) (document : documents.Blocks) (found : List Definition)
     → AreNormalBlocks document → DocumentTexts options document
     → DefinitionTexts (definition_lines options document) found
-    → parts (markdown_of options document) ≡ parts_with options document found
+    → parts (flat_markdown options document) ≡ parts_with options document found
 
 -- And what is read is the document, with what a reader who knows those definitions takes those texts for in the place
 -- of its inlines: lists have their items, starts and tightness.
@@ -37,4 +37,4 @@ ListsReadBack =
     (options : DocumentOptions) (document : documents.Blocks) (found : List Definition)
     → AreNormalBlocks document → DocumentTexts options document
     → DefinitionTexts (definition_lines options document) found
-    → read (markdown_of options document) ≡ document_read found options document
+    → read (flat_markdown options document) ≡ document_read found options document

@@ -1,4 +1,4 @@
--- A document with what a reader takes its texts for in the place of its inlines.
+-- A flat document with what a reader takes its texts for in the place of its inlines.
 use Rattle.std.specs.Prelude.{ℕ, Bool, List, [], Option, None}
 use Rattle.htmd_document.specs.Documents as documents
 use Rattle.htmd_commonmark.specs.declared.blocks.Place.{Place}
@@ -11,7 +11,7 @@ use Rattle.htmd_commonmark.specs.DocumentMarkdown.{outermost}
 use Rattle.htmd_commonmark_reading.specs.Brackets.{References, inlines}
 use Rattle.htmd_commonmark_reading.specs.Lists.{item_text, cell_inlines, row_inlines}
 use Rattle.htmd_commonmark_reading.specs.Markup.{Inlines, Block, Blocks, Items, paragraph, heading, code_block, quote}
-use Rattle.htmd_commonmark_reading.specs.Markup.{thematic_break, list, table, no_blocks, block, no_items, item}
+use Rattle.htmd_commonmark_reading.specs.Markup.{thematic_break, list, table, html_block, no_blocks, block, no_items, item}
 use Rattle.htmd_law_blocks.specs.DocumentParts.{paragraph_text, heading_text, cell_texts, table_rows}
 
 -- `refs`: the definitions that a reader knows; `reads`: what it takes the first paragraph's text for, which in an item
@@ -44,6 +44,8 @@ abbrev mutual
   block_read refs reads options place before definitions (documents.quote content) =
       quote (first_read refs (inlines refs) options (place_in_quote place.in_item) definitions content)
   block_read refs reads options place before definitions documents.thematic_break = thematic_break
+  block_read refs reads options place before definitions (documents.element name attributes content) = html_block []
+  block_read refs reads options place before definitions (documents.tags s) = html_block s
   block_read refs reads options place before definitions (documents.list start is_tight items) =
       list start is_tight
       (items_read refs options (markers_of options before place.outer start (item_count items)) is_tight definitions

@@ -1,7 +1,7 @@
--- The closed blocks that a document is: the same tree, with what is written of its inlines in their place.
+-- The closed blocks that a flat document is: the same tree, with what is written of its inlines in their place.
 use Rattle.std.specs.Prelude.{ℕ, suc, ◌+◌, Bool, false, not, if◌then◌else◌, List, [], ◌∷◌, length, map, Option, Some, None}
 use Rattle.htmd_document.specs.Documents.{Inlines, Block, Blocks, Items, paragraph, heading, code_block, quote}
-use Rattle.htmd_document.specs.Documents.{thematic_break, list, table, no_blocks, block, no_items, item}
+use Rattle.htmd_document.specs.Documents.{thematic_break, list, table, element, tags, no_blocks, block, no_items, item}
 use Rattle.htmd_commonmark.specs.declared.blocks.Place.{Place}
 use Rattle.htmd_commonmark.specs.declared.line.LineKind.TheVariants.{Paragraph, Heading, Cell}
 use Rattle.htmd_commonmark.specs.declared.markers.Sign.{Sign}
@@ -14,7 +14,7 @@ use Rattle.htmd_commonmark.specs.BlockMarkdown.{place_in_item, place_in_quote, b
 use Rattle.htmd_commonmark.specs.BlockMarkdown.{written_block}
 use Rattle.htmd_commonmark.specs.DocumentMarkdown.{outermost}
 use Rattle.htmd_commonmark_reading.specs.Tables.{fitted}
-use Rattle.htmd_commonmark_reading.specs.Boxes.{quoting, listing, text, headed, code, rule, grid, boxed, ClosedBlocks}
+use Rattle.htmd_commonmark_reading.specs.Boxes.{quoting, listing, text, headed, code, rule, html, grid, boxed, ClosedBlocks}
 use Rattle.htmd_commonmark_reading.specs.Boxes.{no_closed_blocks, closed_block}
 
 -- ---- texts
@@ -111,6 +111,9 @@ abbrev mutual
   block_parts options place before definitions gap (quote content) rest =
       closed_block gap (boxed quoting (first_parts options (place_in_quote place.in_item) definitions content)) rest
   block_parts options place before definitions gap thematic_break rest = closed_block gap rule rest
+  block_parts options place before definitions gap (element name attributes content) rest =
+      closed_block gap (html []) rest
+  block_parts options place before definitions gap (tags s) rest = closed_block gap (html s) rest
   block_parts options place before definitions gap (list start is_tight items) rest =
       item_parts options (markers_of options before place.outer start (item_count items)) is_tight 0 definitions gap
       items

@@ -3,7 +3,7 @@
 use Rattle.std.specs.Prelude.{◌≡◌, ℕ, Bool, true, false, List, [], ◌∷◌, Option, None}
 use Rattle.std.specs.List.{list_all}
 use Rattle.htmd_document.specs.Documents.{Block, Blocks, Items, paragraph, heading, code_block, quote}
-use Rattle.htmd_document.specs.Documents.{thematic_break, list, table, no_blocks, block, no_items, item}
+use Rattle.htmd_document.specs.Documents.{thematic_break, list, table, element, tags, no_blocks, block, no_items, item}
 use Rattle.htmd_commonmark.specs.declared.blocks.Place.{Place}
 use Rattle.htmd_commonmark.specs.declared.markers.Sign.{Sign}
 use Rattle.htmd_commonmark.specs.declared.markers.Markers.{Markers}
@@ -55,6 +55,8 @@ abbrev mutual
   BlockTexts options place before definitions (quote content) =
       FirstTexts options (place_in_quote place.in_item) definitions content
   BlockTexts options place before definitions thematic_break = Unit {0}
+  BlockTexts options place before definitions (element name attributes content) = Unit {0}
+  BlockTexts options place before definitions (tags s) = Unit {0}
   BlockTexts options place before definitions (list start is_tight items) =
       ItemTexts options (markers_of options before place.outer start (item_count items)) is_tight definitions items
   BlockTexts options place before definitions (table alignments header rows) =

@@ -14,6 +14,10 @@ abbrev pub IsBlack : List ℕ → Type 0
 IsBlack [] = ⊥
 IsBlack (c ∷ s) = is_space_or_tab c ≡ false
 
+abbrev pub AreBlack : List (List ℕ) → Type 0
+AreBlack [] = Unit {0}
+AreBlack (l ∷ ls) = IsBlack l × AreBlack ls
+
 -- some character of the line is neither white space nor this sign
 abbrev pub IsNotOf : ℕ → List ℕ → Type 0
 IsNotOf sign l = list_all (is_same sign) (marks l) ≡ false

@@ -1,17 +1,20 @@
--- The normal form of documents, as far as their blocks need it.
+-- The normal form of flat documents, as far as their blocks need it.
 use Rattle.std.specs.Prelude.{◌≡◌, ◌≤◌, ℕ, ◌+◌, Bool, true, false, not, ◌&&◌, ◌||◌, nat_le, List, [], ◌∷◌, length, Option}
 use Rattle.std.specs.Prelude.{Some, None}
 use Rattle.std.specs.List.{list_all}
-use Rattle.htmd_lexical.specs.Characters.{grave_accent, tilde}
+use Rattle.htmd_lexical.specs.Characters.{grave_accent, tilde, less_than_sign}
 use Rattle.htmd_lexical.specs.CharacterClasses.{first_is, lacks}
 use Rattle.htmd_document.specs.Documents.{Inlines, Block, Blocks, Items, paragraph, heading, code_block, quote}
-use Rattle.htmd_document.specs.Documents.{thematic_break, list, table, no_blocks, block, no_items, item}
+use Rattle.htmd_document.specs.Documents.{thematic_break, list, table, element, tags, no_blocks, block, no_items, item}
 use Rattle.htmd_document.specs.TightItems.{is_tight_item, is_short}
 use Rattle.htmd_document.specs.DocumentLimits.{greatest_start}
 use Rattle.htmd_commonmark.specs.BlockMarkdown.{item_count}
 use Rattle.htmd_commonmark_reading.specs.Characters.{stripped}
+use Rattle.htmd_commonmark_reading.specs.Lines.{line}
 use Rattle.htmd_commonmark_reading.specs.Boxes as reading
-use Rattle.htmd_law_blocks.specs.LineTexts.{is_line_character, lines_of}
+use Rattle.htmd_commonmark_reading.specs.Boxes.{leaf}
+use Rattle.htmd_commonmark_reading.specs.BlockStarts.{alone, started, first_line}
+use Rattle.htmd_law_blocks.specs.LineTexts.{is_line_character, lines_of, AreBlack}
 
 abbrev pub is_level : ℕ → Bool
 is_level level = nat_le 1 level && nat_le level 6
@@ -32,6 +35,18 @@ HasLanguage (Some s) = IsLanguage s
 -- code without characters that a reader changes
 abbrev pub IsCode : List ℕ → Type 0
 IsCode s = list_all is_line_character s ≡ true
+
+-- lines that begin an HTML block which a blank line ends, wherever it stands, and go on with it (4.6)
+abbrev pub AreTagLines : List (List ℕ) → Type 0
+AreTagLines [] = ⊥
+AreTagLines (l ∷ ls) =
+    (first_is less_than_sign l ≡ true)
+    × ((k : ℕ) → started alone (line k l) ≡ first_line (leaf (reading.raw [] (l ∷ []))))
+    × AreBlack ls
+
+pub record IsTags (s : List ℕ) : Type 0 where
+  pub plain : list_all is_line_character s ≡ true
+  pub lines : AreTagLines (lines_of s)
 
 abbrev pub HasBlock : Blocks → Type 0
 HasBlock no_blocks = ⊥
@@ -75,6 +90,8 @@ abbrev mutual
   IsNormalBlock (code_block language s) = HasLanguage language × IsCode s
   IsNormalBlock (quote content) = HasBlock content × AreNormalBlocks content
   IsNormalBlock thematic_break = Unit {0}
+  IsNormalBlock (element name attributes content) = ⊥
+  IsNormalBlock (tags s) = IsTags s
   IsNormalBlock (list start is_tight items) =
       HasItem items × (are_short_numbers start (item_count items) ≡ true) × AreNormalItems is_tight items
       × ((is_tight || is_spread items) ≡ true)

@@ -165,6 +165,10 @@ lines-like (c ∷ cs) l ds s h =
     (like-append l.written ds (written_for l.after_return c) (c ∷ []) h
     (return-like (c == carriage_return) l.after_return c refl parts.0)))
 
+pub lines-scalar : (s : List ℕ) → IsUtf8 s → scalars (fold with_character no_lines (chars s)).written ≡ true
+lines-scalar s u =
+    (lines-like (chars s) no_lines [] (scalars-chars s u) (record { are_scalars = refl; is = refl })).are_scalars
+
 pub feeds-show : (s cs : List ℕ) → Shows s cs → Shows (with_line_feeds s) cs
 feeds-show s cs h =
     let like : IsLike (fold with_character no_lines (chars s)).written (chars s) =

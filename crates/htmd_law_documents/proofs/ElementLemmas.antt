@@ -1,6 +1,5 @@
 -- What nodes of the simpler tree say as text: all text in them, and nothing where they are blank.
-use Rattle.std.proofs.Common.{◌≡◌, ℕ, Bool, true, false, cond, not, ◌&&◌, List, [], ◌∷◌, ◌++◌, refl, sym, ap, ◌∙◌}
-use Rattle.std.proofs.Common.{subst}
+use Rattle.std.proofs.Common.{◌≡◌, ℕ, Bool, true, false, cond, not, ◌&&◌, List, [], ◌∷◌, ◌++◌, refl, sym, ap}
 use Rattle.std.specs.Prelude.{codes}
 use Rattle.std.specs.Str.{IsUtf8}
 use Rattle.std.proofs.lemmas.Str.{IsUtf8-nil}
@@ -8,7 +7,7 @@ use Rattle.htmd_lexical.specs.Characters.{line_feed}
 use Rattle.htmd_shown.specs.declared.facts.Facts.{Facts}
 use Rattle.htmd_shown.specs.declared.role.Role.{Role}
 use Rattle.htmd_shown.specs.declared.role.Role.TheVariants as role
-use Rattle.htmd_shown.specs.AllTexts.{dollar_sign, formula_text, text_in, with_line_end, ends_line, all_text}
+use Rattle.htmd_shown.specs.AllTexts.{dollar_sign, formula_text, text_in, ends_line, all_text}
 use Rattle.htmd_shown.specs.AllTexts.{all_text_among}
 use Rattle.htmd_shown.specs.Attributes.{text_of, in_line}
 use Rattle.htmd_shown.specs.Kinds.{is_blank, are_blank}
@@ -19,7 +18,7 @@ use Rattle.htmd_law_documents.specs.DocumentTexts.{visible}
 use Rattle.htmd_law_documents.specs.SimpleForms.{IsMade, IsSound, AreSound}
 use Rattle.htmd_law_documents.specs.SimpleTexts.{formula_said, flat_in, grid_in, text_of_simple, text_of_simples}
 use Rattle.htmd_law_documents.proofs.VisibleLemmas.{Shows, shows-nil, shows-itself, shows-append, shows-blank}
-use Rattle.htmd_law_documents.proofs.VisibleLemmas.{seen-same, text-same, shown-shows, shows-character, shows-white}
+use Rattle.htmd_law_documents.proofs.VisibleLemmas.{seen-same, shown-shows, shows-character, shows-white}
 use Rattle.htmd_law_documents.proofs.VisibleLemmas.{both-true}
 use Rattle.htmd_law_documents.proofs.PiecesLemmas.{in_line-shows}
 use Rattle.htmd_law_documents.proofs.CodeLemmas.{blank-seen}

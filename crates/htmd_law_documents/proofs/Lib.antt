@@ -4,6 +4,7 @@ pub mod PiecesLemmas
 pub mod CodeLemmas
 pub mod ElementLemmas
 pub mod NormalTextLemmas
+pub mod NormalLettersLemmas
 pub mod NormalLineLemmas
 pub mod NormalBeginLemmas
 pub mod NormalStandLemmas
@@ -21,8 +22,18 @@ pub mod NormalNodesLemmas
 pub mod NormalTermLemmas
 pub mod NormalTableLemmas
 pub mod NormalAroundLemmas
+pub mod NormalFilledLemmas
+pub mod NormalSeenLemmas
+pub mod NormalSeenTableLemmas
+pub mod NormalSeenPiecesLemmas
+pub mod NormalSeenTermLemmas
+pub mod NormalRichLemmas
+pub mod NormalRichTableLemmas
 pub mod NormalElementLemmas
+pub mod NormalSeenElementLemmas
 pub mod NormalTreeLemmas
+pub mod NormalSeenTreeLemmas
+pub mod NormalTreeNodesLemmas
 pub mod NormalShownLemmas
 pub mod NormalPlacedLemmas
 pub mod NormalPiecedLemmas
@@ -37,7 +48,9 @@ pub mod WrapperKindLemmas
 pub mod WrapperNodesLemmas
 pub mod WrapperTermLemmas
 pub mod WrapperTableLemmas
+pub mod WrapperRichLemmas
 pub mod WrapperElementLemmas
+pub mod WrapperRichTableLemmas
 pub mod WrapperTreeLemmas
 pub mod WrapperReader
 pub mod WrapperMain

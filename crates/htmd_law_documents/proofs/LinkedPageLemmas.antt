@@ -134,7 +134,7 @@ module _ (link_at : ℕ → List ℕ) where
   formula-links name attributes other None h = h
   formula-links name attributes other (Some tex) h = one-node _ tt
 
-  module _ (around : Surroundings) (source : Option (List ℕ)) (id : ℕ) (name : List ℕ)
+  module _ (is_rich : Bool) (around : Surroundings) (source : Option (List ℕ)) (id : ℕ) (name : List ℕ)
       (attributes : List AttributePair) (children : NumberedForest)
       (leads : leads_to name attributes children ≡ link_at id) (content : Simples) (u : HaveLinks link_at content)
     where
@@ -153,14 +153,15 @@ module _ (link_at : ℕ → List ℕ) where
       embeds e = embed-links id attributes (embedded_address name attributes children) (to-embedded e)
 
       content-links : (in_head : Bool) → is_embedding name ≡ false
-          → Leads (with_content in_head id name attributes children content)
+          → Leads (with_content is_rich in_head id name attributes children content)
       content-links in_head e =
           either-node (bytes_eq name (codes "a") && is_permalink in_head attributes content)
           (λ b. either-node (is_led_to attributes)
           (λ l. one-node (made id role.Target attributes none) (λ v. false-true v, tt)) (λ l. no-node))
-          (λ b. one-node (made id (role_at name attributes children) attributes content) (λ v. to-address e, u))
+          (λ b. one-node (made id (role_at is_rich name attributes children) attributes content)
+          (λ v. to-address e, u))
 
-      by-content-links : Leads (by_content around source id name attributes children content)
+      by-content-links : Leads (by_content is_rich around source id name attributes children content)
       by-content-links =
           either-node (is_hidden around name attributes) (λ b. no-node)
           (λ b. either-node (is_image name attributes) (λ i. one-node _ tt)
@@ -190,9 +191,10 @@ module _ (link_at : ℕ → List ℕ) where
         (all-links sight (inside name children around) (picture_source name children) None children h.1)) in
         let content : Simples = cond (is_emptied around name attributes) none all in
         either-node (is_skipped sight name) (λ b. no-node)
-        (λ b. formula-links name attributes (by_content around source id name attributes children content)
+        (λ b. formula-links name attributes
+        (by_content sight.is_rich around source id name attributes children content)
         (tex_of name attributes children)
-        (by-content-links around source id name attributes children h.0 content
+        (by-content-links sight.is_rich around source id name attributes children h.0 content
         (emptied (is_emptied around name attributes) all links)))
       where
         emptied : (b : Bool) (ts : Simples) → HaveLinks link_at ts → HaveLinks link_at (cond b none ts)

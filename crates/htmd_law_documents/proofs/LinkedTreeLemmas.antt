@@ -1,5 +1,5 @@
 -- Links lead where they led when some are taken away and anchors come in.
-use Rattle.std.proofs.Common.{◌≡◌, ℕ, Bool, true, false, cond, not, ◌&&◌, List, [], ◌∷◌, refl}
+use Rattle.std.proofs.Common.{◌≡◌, ℕ, Bool, true, false, cond, not, ◌&&◌, List, [], ◌∷◌}
 use Rattle.std.proofs.Common.{Option, Some}
 use Rattle.std.specs.Prelude.{is_some, nat_lt, codes}
 use Rattle.htmd_lexical.specs.AttributePairs.{AttributePair}
@@ -16,8 +16,8 @@ use Rattle.htmd_document_of_tree.specs.Anchors.{ids_up_to, placed_before, placin
 use Rattle.htmd_document_of_tree.specs.Anchors.{all_placed, values_of, last_anchors, targets_by, anchored}
 use Rattle.htmd_document_of_tree.specs.FirstPieces.{most_linked, unlinked, cut_leaf, cut, cut_all, pieced, pieced_all}
 use Rattle.htmd_document_of_tree.specs.Limits.{size, cost, paid, left_after, within, all_within, budget}
-use Rattle.htmd_document_of_tree.specs.Limits.{limited}
-use Rattle.htmd_document_of_tree.specs.Seen.{image_shows, code_shows}
+use Rattle.htmd_document_of_tree.specs.Limits.{limited, is_carrying, emptied}
+use Rattle.htmd_shown.specs.Showings.{image_shows, code_shows}
 use Rattle.htmd_document_of_tree.specs.Targets.{Target}
 use Rattle.htmd_law_documents.specs.SimpleForms.{HasLinks, HaveLinks}
 use Rattle.htmd_law_documents.proofs.ElementLemmas.{false-true}
@@ -30,10 +30,14 @@ module _ (link_at : ℕ → List ℕ) where
   abbrev LeadsThere : ℕ → List AttributePair → Type 0
   LeadsThere id attributes = address (text_of (codes "href") attributes) ≡ link_at id
 
+  no-link : (b : Bool) {A : Type 0} → is_link (cond b role.Target role.Plain) ≡ true → A
+  no-link true e = false-true e
+  no-link false e = false-true e
+
   afford : (b : Bool) (id : ℕ) (r : Role) (attributes : List AttributePair)
-      → (is_link r ≡ true → LeadsThere id attributes) → is_link (cond b role.Target r) ≡ true
+      → (is_link r ≡ true → LeadsThere id attributes) → is_link (cond b (emptied r) r) ≡ true
       → LeadsThere id attributes
-  afford true id r attributes h e = false-true e
+  afford true id r attributes h e = no-link (is_link r) e
   afford false id r attributes h e = h e
 
   mutual
@@ -45,7 +49,7 @@ module _ (link_at : ℕ → List ℕ) where
     within-links left (anchor id) h = h
     within-links left (element id r facts attributes content) h =
         let now : Option ℕ = paid left (cost r facts attributes) in (
-          afford (not (is_some now) && is_link r && nat_lt 0 (size attributes)) id r attributes h.0,
+          afford (not (is_some now) && is_carrying r && nat_lt 0 (size r attributes)) id r attributes h.0,
           all-within-links now content h.1,
         )
 
@@ -123,10 +127,10 @@ module _ (link_at : ℕ → List ℕ) where
   last-links (t ∷ targets) =
       (apart-links (anchors (values_of (t ∷ targets))) (anchors-links (values_of (t ∷ targets))), tt)
 
-  pub anchored-links : (which : Anchors) (ts : Simples) → HaveLinks link_at ts
-      → HaveLinks link_at (anchored which ts)
-  anchored-links which ts h =
-      let p : Placing = record { seen = 0; targets = targets_by which ts } in
+  pub anchored-links : (which : Anchors) (is_rich : Bool) (ts : Simples) → HaveLinks link_at ts
+      → HaveLinks link_at (anchored which is_rich ts)
+  anchored-links which is_rich ts h =
+      let p : Placing = record { seen = 0; targets = targets_by which is_rich ts } in
       let last : List Target = (placing_after_all p ts).targets in
       followed-links link_at (all_placed p ts) (last_anchors last) (all-placed-links p ts h) (last-links last)
 

@@ -5,9 +5,9 @@ use Rattle.std.specs.Prelude.{nat_le}
 use Rattle.std.specs.List.{list_any}
 use Rattle.htmd_lexical.specs.AttributePairs.{AttributePair}
 use Rattle.htmd_document.specs.DocumentLimits.{most_raised}
-use Rattle.htmd_document.specs.Formats.{Format, is_same_format, is_raised, raised_count}
-use Rattle.htmd_document.specs.NormalInlines.{is_around, is_barred, is_attribute, is_title}
-use Rattle.htmd_document.proofs.FormatsLemmas.{same-turned}
+use Rattle.htmd_document.specs.Formats.{Format, is_same_kind, is_raised, raised_count}
+use Rattle.htmd_document.specs.NormalInlines.{is_around, is_barred, has_title, is_attribute, is_title}
+use Rattle.htmd_document.proofs.FormatsLemmas.{kind-turned}
 use Rattle.htmd_flow.specs.Contexts.{Context, with_around, is_format, is_link, is_raised_around, raised_around}
 use Rattle.htmd_flow.specs.Contexts.{is_enough, inside_format, inside_link, without_link, unlinked, beside_code}
 use Rattle.htmd_flow.specs.Nesting.{wrapper_of}
@@ -38,8 +38,8 @@ no-format : (f : Format) (r : List Format) (around : List Around) → is_around 
     → list_any (is_format f) around ≡ false → is_around (formats_after r around) f ≡ false
 no-format f r [] h e = h
 no-format f r (formatted g ∷ around) h e =
-    let parts = neither (is_same_format f g) (list_any (is_format f) around) e in
-    no-format f (g ∷ r) around (or-false (same-turned g f ∙ parts.0) h) parts.1
+    let parts = neither (is_same_kind f g) (list_any (is_format f) around) e in
+    no-format f (g ∷ r) around (or-false (kind-turned g f ∙ parts.0) h) parts.1
 no-format f r (linked n address title ∷ around) h e = no-format f r around h e
 
 -- as many are raised as are around
@@ -105,11 +105,11 @@ module _ (s : Wait) where
   changed parts g c false a f h = g (with_around c a) (h refl)
 
   -- with a format more
-  pub format-gives : (f : Format) (parts : Context → List Part) → GivesFrom s parts
+  pub format-gives : (f : Format) (parts : Context → List Part) → has_title f ≡ true → GivesFrom s parts
       → GivesFrom s (λ c. parts (inside_format f c))
-  format-gives f parts g c h =
+  format-gives f parts t g c h =
       changed parts g c (is_enough f c.around) (formatted f) h
-      (λ e. fit-more false [] c.around (formatted f) h (not-barred f c.around e))
+      (λ e. fit-more false [] c.around (formatted f) h (not-barred f c.around e, t))
 
   -- in a link
   pub link-gives : (id : ℕ) (address : List ℕ) (title : Option (List ℕ)) (parts : Context → List Part)

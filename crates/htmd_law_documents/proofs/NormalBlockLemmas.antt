@@ -7,6 +7,8 @@ use Rattle.htmd_document.specs.DocumentLimits.{most_nested}
 use Rattle.htmd_document.specs.Documents.{Inlines, no_inlines, inline, text, code, image, line_break, task, link}
 use Rattle.htmd_document.specs.Documents.{anchor}
 use Rattle.htmd_document.specs.Documents.{Block, paragraph, heading, code_block, quote, thematic_break, list, table}
+use Rattle.htmd_document.specs.Documents.{element, tags}
+use Rattle.htmd_document.specs.FlatDocuments.{flat_items}
 use Rattle.htmd_document.specs.Documents.{Blocks, no_blocks, block, Items, no_items, item, blocks_of}
 use Rattle.htmd_document.specs.Documents as value
 use Rattle.htmd_document.specs.TightItems.{is_filled}
@@ -14,6 +16,7 @@ use Rattle.htmd_document.specs.NormalInlines.{begins_with_space, has_none, first
 use Rattle.htmd_document.specs.NormalInlines.{are_whole, are_normal, is_normal_line}
 use Rattle.htmd_document.specs.NormalInlines.{is_normal_item, are_anchors, anchors_stand_well}
 use Rattle.htmd_document.specs.NormalDocuments.{is_normal_paragraph, is_normal_heading, is_normal_code, is_normal_list}
+use Rattle.htmd_document.specs.NormalDocuments.{is_normal_element}
 use Rattle.htmd_document.specs.NormalDocuments.{is_normal_table, is_normal_block, are_normal_blocks, are_normal_items}
 use Rattle.htmd_document.specs.NormalDocuments.{depth_of, depth_among, IsNormal}
 use Rattle.htmd_law_documents.proofs.VisibleLemmas.{both-true}
@@ -51,7 +54,11 @@ abbrev mutual
   Nearly in_item (code_block language s) = is_normal_code language s ≡ true
   Nearly in_item (quote content) = (is_filled content ≡ true) × NearlyAll false content
   Nearly in_item thematic_break = Unit {0}
-  Nearly in_item (list start is_tight items) = (is_normal_list start is_tight items ≡ true) × NearlyItems items
+  Nearly in_item (element name attributes content) =
+      (is_normal_element name attributes content ≡ true) × NearlyAll false content
+  Nearly in_item (tags s) = ⊥
+  Nearly in_item (list start is_tight items) = (is_normal_list start is_tight (flat_items items) ≡ true)
+      × NearlyItems items
   Nearly in_item (table alignments header rows) = is_normal_table alignments header rows ≡ true
 
   pub NearlyAll : Bool → Blocks → Type 0
@@ -96,6 +103,8 @@ mutual
   nearly-normal (code_block language t) in_item h = h
   nearly-normal (quote content) in_item h = and-true h.0 (all-normal content false h.1)
   nearly-normal thematic_break in_item h = refl
+  nearly-normal (element name attributes content) in_item h = and-true h.0 (all-normal content false h.1)
+  nearly-normal (tags s) in_item h = absurd h
   nearly-normal (list start is_tight items) in_item h = and-true h.0 (items-normal items h.1)
   nearly-normal (table alignments header rows) in_item h = h
 
@@ -130,6 +139,8 @@ nearly-first (heading level content) in_item h = h
 nearly-first (code_block language s) in_item h = h
 nearly-first (quote content) in_item h = h
 nearly-first thematic_break in_item h = h
+nearly-first (element name attributes content) in_item h = h
+nearly-first (tags s) in_item h = h
 nearly-first (list start is_tight items) in_item h = h
 nearly-first (table alignments header rows) in_item h = h
 

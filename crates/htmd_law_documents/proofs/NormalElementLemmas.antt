@@ -1,6 +1,6 @@
 -- What leaves and each kind of element give in normal documents.
-use Rattle.std.proofs.Common.{◌≡◌, ℕ, suc, ◌≤◌, Bool, true, false, cond, not, ◌&&◌, List, [], ◌∷◌, ◌++◌, refl}
-use Rattle.std.proofs.Common.{Option, Some, None, arith, map, length}
+use Rattle.std.proofs.Common.{◌≡◌, ℕ, suc, ◌≤◌, Bool, true, false, cond, not, ◌&&◌, List, [], ◌∷◌, ◌++◌, refl, Option}
+use Rattle.std.proofs.Common.{Some, None, arith, map, length}
 use Rattle.std.specs.Prelude.{codes, if◌then◌else◌, ◌-◌}
 use Rattle.std.specs.List.{list_all, prefix_len, suffix_len}
 use Rattle.std.specs.Str.{IsUtf8, chars}
@@ -8,8 +8,8 @@ use Rattle.htmd_lexical.specs.Characters.{space}
 use Rattle.htmd_lexical.specs.AttributePairs.{AttributePair}
 use Rattle.htmd_lexical.specs.WhiteSpace.{is_ascii_white_space}
 use Rattle.htmd_text.specs.Trims.{trimmed_start}
-use Rattle.htmd_document.specs.Documents.{Inlines, no_inlines, inline, code_block, heading, thematic_break}
-use Rattle.htmd_document.specs.Documents.{Blocks, no_blocks, block, quote}
+use Rattle.htmd_document.specs.Documents.{Inlines, no_inlines, inline, code_block, heading, thematic_break, Blocks}
+use Rattle.htmd_document.specs.Documents.{no_blocks, block, quote}
 use Rattle.htmd_document.specs.Formats.{of_format, of_element}
 use Rattle.htmd_document.specs.NormalInlines.{is_attribute}
 use Rattle.htmd_document.specs.NormalDocuments.{is_normal_code, is_code_byte, is_level, depth_among}
@@ -26,7 +26,17 @@ use Rattle.htmd_flow.specs.Contexts.{beside_code, inside_link, is_linked_to_part
 use Rattle.htmd_flow.specs.Flows.{Node, Row, TermPart, Element, blocks_of, line_of, flow_all, image_parts, math_block}
 use Rattle.htmd_flow.specs.Flows.{math_in_line, formula_parts, embed_parts, box_parts, between, heading_of}
 use Rattle.htmd_flow.specs.Flows.{heading_parts, around_heading, quote_of, quote_parts, code_parts, verbatim_parts}
-use Rattle.htmd_flow.specs.Flows.{start_of, near_parts, parts_of, linked_by}
+use Rattle.htmd_flow.specs.Flows.{start_of, near_parts, parts_of, linked_by, TablePiece, title_parts, around_title}
+use Rattle.htmd_flow.specs.Flows.{described_parts, term_parts, rich_table_at, table_parts, figure_parts}
+use Rattle.htmd_flow.specs.Contexts.{has_elements, inside_title}
+use Rattle.htmd_document.specs.Formats.{Abbreviation}
+use Rattle.htmd_law_documents.proofs.NormalValueLemmas.{IsTitled, title_of-titled}
+use Rattle.htmd_shown.specs.Showings.{show_usual_sign}
+use Rattle.htmd_document.specs.declared.document.Format as declared_format
+use Rattle.htmd_document.specs.declared.document.Format.TheVariants as marked
+use Rattle.htmd_document.specs.declared.document.InlineElement as declared_element
+use Rattle.htmd_document.specs.declared.document.InlineElement.TheVariants as element
+use Rattle.htmd_document.specs.NormalInlines.{has_title}
 use Rattle.htmd_flow.specs.Languages.{language_of_block}
 use Rattle.htmd_flow.specs.Levels.{list_of}
 use Rattle.htmd_flow.specs.Parts.{Part, break, place, box, edge, whole}
@@ -42,12 +52,15 @@ use Rattle.htmd_law_documents.proofs.NormalValueLemmas.{IsClean, clean-run, addr
 use Rattle.htmd_law_documents.proofs.NormalValueLemmas.{AreTexts, value-text, language-fine, title_of-fine, all-take}
 use Rattle.htmd_law_documents.proofs.NormalValueLemmas.{all-drop}
 use Rattle.htmd_law_documents.proofs.NormalCodeLemmas.{feeds-code, feeds-clean, without-code, lines-fine}
-use Rattle.htmd_law_documents.proofs.NormalNodesLemmas.{bound, FitsIn, Gives, FineNodes, not-flat}
-use Rattle.htmd_law_documents.proofs.NormalNodesLemmas.{deeper-fine, list-parts-fine, flow-fine}
+use Rattle.htmd_law_documents.proofs.NormalNodesLemmas.{bound, FitsIn, Gives, FineNodes, not-flat, deeper-fine}
+use Rattle.htmd_law_documents.proofs.NormalNodesLemmas.{list-parts-fine, flow-fine}
 use Rattle.htmd_law_documents.proofs.NormalTermLemmas.{FineTerms, term-parts-fine}
 use Rattle.htmd_law_documents.proofs.NormalTableLemmas.{RowNodes, table-parts-fine}
 use Rattle.htmd_law_documents.proofs.NormalAroundLemmas.{fit-without, format-gives, link-gives, unlinked-gives}
 use Rattle.htmd_law_documents.proofs.NormalAroundLemmas.{near-gives}
+use Rattle.htmd_law_documents.proofs.NormalRichLemmas.{rich-is, rich-flat, details-fine, figure-fine}
+use Rattle.htmd_law_documents.proofs.NormalRichLemmas.{described-parts-fine}
+use Rattle.htmd_law_documents.proofs.NormalRichTableLemmas.{FinePieces, rich-table-fine}
 use lib.Utf8.{encode}
 
 -- ---- leaves
@@ -241,6 +254,22 @@ verbatim-fine attributes content h c f =
 
 -- ---- each kind
 
+-- no title is asked of these
+
+format-titled : (g : declared_format.Format) → has_title (of_format g) ≡ true
+format-titled marked.Emphasis = refl
+format-titled marked.Strong = refl
+format-titled marked.Deleted = refl
+
+element-titled : (g : declared_element.InlineElement) → has_title (of_element g) ≡ true
+element-titled element.Superscript = refl
+element-titled element.Subscript = refl
+element-titled element.Inserted = refl
+element-titled element.Underlined = refl
+element-titled element.Marked = refl
+element-titled element.Small = refl
+element-titled element.Keyboard = refl
+
 -- a heading has a level, and nothing is for anchors
 abbrev pub IsLevel : Role → Type 0
 IsLevel (role.Heading level) = is_level level ≡ true
@@ -248,8 +277,10 @@ IsLevel role.Anchors = ⊥
 IsLevel _ = Unit {0}
 
 module _ (id : ℕ) (facts : Facts) (attributes : List AttributePair) (content : Simples) (nodes : List Node)
-    (rows : List Row) (terms : List TermPart) (texts : AreTexts attributes) (text : IsClean (all_text_among content))
-    (all : FineNodes nodes) (table : RowNodes rows) (parts : FineTerms terms) (c : Context) (f : FitsIn c) where
+    (rows : List Row) (pieces : List TablePiece) (terms : List TermPart) (texts : AreTexts attributes)
+    (text : IsClean (all_text_among content))
+    (all : FineNodes nodes) (table : RowNodes rows) (parts : FineTerms terms) (rich : FinePieces pieces) (c : Context)
+    (f : FitsIn c) where
   abbrev pub here-element : Element
   here-element = record {
     id = id;
@@ -258,6 +289,7 @@ module _ (id : ℕ) (facts : Facts) (attributes : List AttributePair) (content :
     content = content;
     nodes = nodes;
     rows = rows;
+    pieces = pieces;
     terms = terms;
   }
 
@@ -272,6 +304,22 @@ module _ (id : ℕ) (facts : Facts) (attributes : List AttributePair) (content :
       fine-apart c.is_flat (bound c) (flow_all nodes (beside_code facts.pres attributes c))
       (near-gives good facts.pres attributes (flow_all nodes) (flow-fine nodes all) c f)
 
+  abbreviated : (o : Option (List ℕ)) → IsTitled o
+      → FineParts c.is_flat (bound c) (flow_all nodes (inside_title o c))
+  abbreviated None h = here
+  abbreviated (Some title) h =
+      format-gives good (Abbreviation title) (flow_all nodes) h (flow-fine nodes all) c f
+
+  -- what heads something that isn't the page
+  titled : (b : Bool) → FineParts c.is_flat (bound c) (flow_all nodes (cond b (unlinked c) c))
+  titled true = unlinked-gives good (flow_all nodes) (flow-fine nodes all) c f
+  titled false = here
+
+  titles : FineParts c.is_flat (bound c) (title_parts here-element c)
+  titles =
+      fine-apart c.is_flat (bound c) (flow_all nodes (around_title content c))
+      (titled (has_elements c && is_linked_to_part c && show_usual_sign content))
+
   links : FineParts c.is_flat (bound c) (flow_all nodes (linked_by id attributes c))
   links =
       let s : List ℕ = text_of (codes "href") attributes in
@@ -280,8 +328,11 @@ module _ (id : ℕ) (facts : Facts) (attributes : List AttributePair) (content :
       (flow-fine nodes all) c f
 
   pub element-fine : (r : Role) → IsLevel r → FineParts c.is_flat (bound c) (parts_of r here-element c)
-  element-fine (role.Format g) k = format-gives good (of_format g) (flow_all nodes) (flow-fine nodes all) c f
-  element-fine (role.Element g) k = format-gives good (of_element g) (flow_all nodes) (flow-fine nodes all) c f
+  element-fine (role.Format g) k =
+      format-gives good (of_format g) (flow_all nodes) (format-titled g) (flow-fine nodes all) c f
+  element-fine (role.Element g) k =
+      format-gives good (of_element g) (flow_all nodes) (element-titled g) (flow-fine nodes all) c f
+  element-fine role.Abbreviation k = abbreviated (title_of attributes) (title_of-titled attributes texts)
   element-fine role.Code k = flow-fine nodes all (in_code c) f
   element-fine role.Typed k = flow-fine nodes all (in_code c) f
   element-fine role.Link k = links
@@ -306,9 +357,21 @@ module _ (id : ℕ) (facts : Facts) (attributes : List AttributePair) (content :
       fine-whole c.is_flat (bound c) thematic_break (tt, omega arith)
   element-fine role.BulletList k = list-parts-fine None nodes all c f
   element-fine role.NumberedList k = list-parts-fine (Some (start_of attributes)) nodes all c f
-  element-fine role.Terms k = term-parts-fine terms nodes parts all c f
-  element-fine role.Table k = table-parts-fine (list_of content) nodes rows all table c f
+  element-fine role.Terms k =
+      fine-either c.is_flat (bound c) (has_elements c) (described_parts terms c) (term_parts terms nodes c)
+      (λ e. described-parts-fine terms parts c f (rich-flat c e))
+      (λ e. term-parts-fine terms nodes parts all c f)
+  element-fine role.Table k =
+      fine-either c.is_flat (bound c) (has_elements c) (rich_table_at here-element c)
+      (table_parts (list_of content) nodes rows c)
+      (λ e. rich-table-fine (list_of content) attributes pieces nodes rich all c (rich-is c e) f (rich-flat c e))
+      (λ e. table-parts-fine (list_of content) nodes rows all table c f)
   element-fine role.Division k = near
-  element-fine role.Figure k = near
+  element-fine role.Figure k = near-gives good facts.pres attributes (figure_parts nodes) (figure-fine nodes all) c f
+  element-fine role.Details k = details-fine attributes nodes all c f
+  element-fine role.Term k = titles
+  element-fine role.Caption k = titles
+  element-fine role.FigureCaption k = titles
+  element-fine role.Summary k = titles
   element-fine role.Cell k = near
   element-fine r k = blocks

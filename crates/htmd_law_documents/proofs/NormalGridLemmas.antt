@@ -23,9 +23,16 @@ use Rattle.htmd_law_documents.proofs.NormalBlockLemmas.{IsLineWell, Fine}
 
 -- ---- cells
 
+-- one line, in which anchors stand before what shows
+abbrev pub IsCellLine : Inlines → Type 0
+IsCellLine cell = (is_normal_line cell ≡ true) × (anchors_stand_well cell ≡ true)
+
+cell-line : (cell : Inlines) → IsLineWell cell → IsCellLine cell
+cell-line cell h = (h.0, stand-well cell h.1)
+
 abbrev pub AreLines : List Inlines → Type 0
 AreLines [] = Unit {0}
-AreLines (cell ∷ cells) = IsLineWell cell × AreLines cells
+AreLines (cell ∷ cells) = IsCellLine cell × AreLines cells
 
 abbrev pub AllLines : List (List Inlines) → Type 0
 AllLines [] = Unit {0}
@@ -39,12 +46,12 @@ abbrev pub FineRows : List Row → Type 0
 FineRows [] = Unit {0}
 FineRows (row ∷ rows) = FineCells row.cells × FineRows rows
 
-empty-line : IsLineWell no_inlines
-empty-line = (refl, tt)
+empty-line : IsCellLine no_inlines
+empty-line = (refl, refl)
 
 filled-lines : (begins : List Bool) (cells : List Cell) → FineCells cells → AreLines (filled begins cells)
 filled-lines [] cells h = tt
-filled-lines (true ∷ begins) (c ∷ cells) h = (h.0, filled-lines begins cells h.1)
+filled-lines (true ∷ begins) (c ∷ cells) h = (cell-line c.content h.0, filled-lines begins cells h.1)
 filled-lines (true ∷ begins) [] h = (empty-line, filled-lines begins [] h)
 filled-lines (false ∷ begins) cells h = (empty-line, filled-lines begins cells h)
 
@@ -55,7 +62,7 @@ all-filled (begins ∷ shapes) (row ∷ rows) h = (filled-lines begins row.cells
 
 contents-lines : (cells : List Cell) → FineCells cells → AreLines (map (λ (c : Cell). c.content) cells)
 contents-lines [] h = tt
-contents-lines (c ∷ cells) h = (h.0, contents-lines cells h.1)
+contents-lines (c ∷ cells) h = (cell-line c.content h.0, contents-lines cells h.1)
 
 all-contents : (rows : List Row) → FineRows rows → AllLines (map contents_of rows)
 all-contents [] h = tt
@@ -77,7 +84,7 @@ lines-normal cells h = and-true (normal cells h) (well cells h)
 
     well : (cells : List Inlines) → AreLines cells → list_all anchors_stand_well cells ≡ true
     well [] h = refl
-    well (cell ∷ cells) h = and-true (stand-well cell h.0.1) (well cells h.1)
+    well (cell ∷ cells) h = and-true h.0.1 (well cells h.1)
 
 -- ---- rows without the empty cells at their ends
 
@@ -94,7 +101,7 @@ trimmed-row : (cells : List Inlines) → AreLines cells → IsTrimmed (trimmed_r
 trimmed-row [] h = record { lines = tt; ends = λ e. false-true e }
 trimmed-row (cell ∷ cells) h = at cell (trimmed_row cells) h.0 (trimmed-row cells h.1)
   where
-    at : (cell : Inlines) (rest : List Inlines) → IsLineWell cell → IsTrimmed rest
+    at : (cell : Inlines) (rest : List Inlines) → IsCellLine cell → IsTrimmed rest
         → IsTrimmed (with_cell cell rest)
     at no_inlines [] l t = record { lines = tt; ends = λ e. false-true e }
     at (inline x xs) [] l t = record { lines = (l, tt); ends = λ e. refl }
@@ -327,7 +334,7 @@ table-of n alignments false (first ∷ rest) h l =
       omega arith,
     )
 
-table-all-fine : (n : ℕ) (alignments : List Alignment) (has_header : Bool) (rows : List (List Inlines))
+pub table-all-fine : (n : ℕ) (alignments : List Alignment) (has_header : Bool) (rows : List (List Inlines))
     → AllLines rows → FineOption n (table_of_all alignments has_header rows)
 table-all-fine n alignments has_header rows h =
     let lines : List (List Inlines) = map trimmed_row rows in

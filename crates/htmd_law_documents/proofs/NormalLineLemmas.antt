@@ -14,7 +14,7 @@ use Rattle.htmd_flow.specs.Parts.{Around, formatted, linked}
 use Rattle.htmd_document.specs.NormalInlines.{is_attribute, is_title}
 use Rattle.htmd_document.specs.NormalInlines.{sort, is_same_sort, is_code, is_break}
 use Rattle.htmd_document.specs.NormalInlines.{begins_with_space, ends_with_space, may_meet, has_none}
-use Rattle.htmd_document.specs.NormalInlines.{first_passes, last_passes, is_barred, is_normal}
+use Rattle.htmd_document.specs.NormalInlines.{first_passes, last_passes, is_barred, has_title, is_normal}
 use Rattle.htmd_document.specs.NormalInlines.{are_normal}
 use Rattle.htmd_law_documents.proofs.VisibleLemmas.{both-true}
 use Rattle.htmd_law_documents.proofs.NormalTextLemmas.{and-true, not-false, false-true}
@@ -139,7 +139,7 @@ formats_in r (of_link node) = r
 
 -- a format that may stand there, or a link where none is
 abbrev pub Fits : Bool → List Format → Around → Type 0
-Fits l r (formatted f) = is_barred r f ≡ false
+Fits l r (formatted f) = (is_barred r f ≡ false) × (has_title f ≡ true)
 Fits l r (linked node address title) = (l ≡ false) × (is_attribute address ≡ true) × (is_title title ≡ true)
 
 abbrev pub FitAll : Bool → List Format → List Around → Type 0
@@ -155,7 +155,7 @@ pub wrapped-normal : (l : Bool) (r : List Format) (a : Around) (content : Inline
 wrapped-normal l r (formatted f) content g n b c e d h =
     let trimmed = and-true (not-false b) (not-false e) in
     let whole = and-true (and-true trimmed (not-false c)) (not-false d) in
-    and-true (and-true (and-true (not-false g) (not-false n)) whole) h
+    and-true (and-true (and-true (and-true (not-false g.0) g.1) (not-false n)) whole) h
 wrapped-normal l r (linked node address title) content g n b c e d h =
     and-true (and-true (and-true (and-true (not-false g.0) g.1) g.2) (not-false n)) h
 

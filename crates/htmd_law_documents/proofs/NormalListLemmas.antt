@@ -6,6 +6,8 @@ use Rattle.std.specs.List.{list_all}
 use Rattle.std.proofs.lemmas.Bool.Decides.{nat_tests}
 use Rattle.htmd_lexical.proofs.Cases.{test}
 use Rattle.htmd_document.specs.Documents.{Items, items_of, list}
+use Rattle.htmd_document.specs.FlatDocuments.{flattened, flat_items}
+use Rattle.htmd_flow.proofs.FlatItemsLemmas.{filled-flat}
 use Rattle.htmd_flow.specs.Lists.{ListItem, are_filled, is_tight, is_close, is_lone}
 use Rattle.htmd_document.specs.TightItems.{is_filled, is_tight_item, is_short}
 use Rattle.htmd_flow.specs.Lists.{list_of, numbered, new_number, Groups, groups_at, with_number, with_item}
@@ -46,13 +48,15 @@ inner-depth n (i ∷ items) h = most (depth_among i.blocks) (depth_of_items (inn
     most : (a c n : ℕ) → a ≤ n → c ≤ n → max a c ≤ n
     most a c n g h = omega arith
 
-inner-count : (items : List ListItem) → item_count (inner items) ≡ length items
+inner-count : (items : List ListItem) → item_count (flat_items (inner items)) ≡ length items
 inner-count [] = refl
 inner-count (i ∷ items) = ap suc (inner-count items)
 
-inner-filled : (items : List ListItem) → has_filled_item (inner items) ≡ are_filled items
+inner-filled : (items : List ListItem) → has_filled_item (flat_items (inner items)) ≡ are_filled items
 inner-filled [] = refl
-inner-filled (i ∷ items) = ap (λ b. is_filled i.blocks || b) (inner-filled items)
+inner-filled (i ∷ items) =
+    ap (λ b. b || has_filled_item (flat_items (inner items))) (filled-flat i.blocks)
+    ∙ ap (λ b. is_filled i.blocks || b) (inner-filled items)
 
 -- ---- tight and loose
 
@@ -60,31 +64,33 @@ or-right : (a : Bool) {b : Bool} → b ≡ true → (a || b) ≡ true
 or-right true e = refl
 or-right false e = e
 
-close-tight : (items : List ListItem) → list_all is_close items ≡ true → are_tight (inner items) ≡ true
+close-tight : (items : List ListItem) → list_all is_close items ≡ true
+    → are_tight (flat_items (inner items)) ≡ true
 close-tight [] e = refl
 close-tight (i ∷ items) e =
     let parts = both-true (is_close i) (list_all is_close items) e in
-    let here = both-true (not (i.has_paragraph && _)) (is_tight_item i.blocks) parts.0 in
-    and-true (or-right (is_short i.blocks) here.1) (close-tight items parts.1)
+    let here = both-true (not (i.has_paragraph && _)) (is_tight_item (flattened i.blocks)) parts.0 in
+    and-true (or-right (is_short (flattened i.blocks)) here.1) (close-tight items parts.1)
 
-lone-tight : (items : List ListItem) → is_lone items ≡ true → are_tight (inner items) ≡ true
+lone-tight : (items : List ListItem) → is_lone items ≡ true → are_tight (flat_items (inner items)) ≡ true
 lone-tight [] e = false-true e
-lone-tight (i ∷ []) e = and-true (ap (λ b. b || is_tight_item i.blocks) e) refl
+lone-tight (i ∷ []) e = and-true (ap (λ b. b || is_tight_item (flattened i.blocks)) e) refl
 lone-tight (i ∷ j ∷ items) e = false-true e
 
 loose-spread : (items : List ListItem) → are_filled items ≡ true → is_lone items ≡ false
-    → is_spread (inner items) ≡ true
+    → is_spread (flat_items (inner items)) ≡ true
 loose-spread [] f e = false-true f
 loose-spread (i ∷ []) f e = not-false e
 loose-spread (i ∷ j ∷ items) f e = refl
 
 either-tight : (a b : Bool) (items : List ListItem) → is_lone items ≡ a → list_all is_close items ≡ b
-    → are_filled items ≡ true → has_right_distance (a || b) (inner items) ≡ true
+    → are_filled items ≡ true → has_right_distance (a || b) (flat_items (inner items)) ≡ true
 either-tight true b items e f g = lone-tight items e
 either-tight false true items e f g = close-tight items f
 either-tight false false items e f g = loose-spread items g e
 
-distance : (items : List ListItem) → are_filled items ≡ true → has_right_distance (is_tight items) (inner items)
+distance : (items : List ListItem) → are_filled items ≡ true
+    → has_right_distance (is_tight items) (flat_items (inner items))
     ≡ true
 distance items f = either-tight (is_lone items) (list_all is_close items) items refl refl f
 
@@ -118,7 +124,7 @@ start-short nested (negsuc n) count = from_one-short count
 list-fine : (n : ℕ) (start : Option ℕ) (items : List ListItem) → FineItems n items → are_filled items ≡ true
     → are_short_numbers start (length items) ≡ true → FineParts false (suc n) (list_of start items ∷ [])
 list-fine n start items h f s =
-    let numbers : are_short_numbers start (item_count (inner items)) ≡ true =
+    let numbers : are_short_numbers start (item_count (flat_items (inner items))) ≡ true =
     ap (are_short_numbers start) (inner-count items) ∙ s in
     fine-whole false (suc n) (list start (is_tight items) (inner items)) (
       (and-true (and-true (inner-filled items ∙ f) numbers) (distance items f), inner-nearly n items h),

@@ -7,14 +7,13 @@ use Rattle.htmd_shown.specs.Facts.{inserted_facts}
 use Rattle.htmd_shown.specs.declared.role.Role.TheVariants as role
 use Rattle.htmd_shown.specs.Shown.{shown_in, followed_by}
 use Rattle.htmd_shown.specs.SimpleTrees.{Simple, element, Simples, none, more}
-use Rattle.htmd_document_of_tree.specs.declared.anchors.Anchors.{Anchors}
 use Rattle.htmd_document_of_tree.specs.Anchors.{Placing, anchors, apart, all_placed, placing_after_all, values_of}
 use Rattle.htmd_document_of_tree.specs.Anchors.{last_anchors, targets_by}
 use Rattle.htmd_document_of_tree.specs.FirstPieces.{pieced, pieced_all}
 use Rattle.htmd_document_of_tree.specs.Limits.{limited}
 use Rattle.htmd_document_of_tree.specs.Targets.{Target}
 use Rattle.htmd_document_of_tree.specs.TreeDocuments.{document_by, document_of_tree}
-use Rattle.htmd_flow.specs.Contexts.{Context, bare}
+use Rattle.htmd_flow.specs.Contexts.{Context, bare_in}
 use Rattle.htmd_flow.specs.Contexts as contexts
 use Rattle.htmd_flow.specs.Flows.{Node, document_of, is_item, goes_on, flow_all, flow_after}
 use Rattle.htmd_flow.specs.Flows.{items_in_a_row, list_parts, node_of, nodes_of}
@@ -22,11 +21,12 @@ use Rattle.htmd_flow.specs.Parts.{Part, edge}
 use Rattle.htmd_law_documents.specs.NormalLaws.{DocumentsAreNormal}
 use Rattle.htmd_law_documents.specs.SimpleForms.{AreSound}
 use Rattle.htmd_law_documents.proofs.ShownTreeLemmas.{page-sound}
-use Rattle.htmd_law_documents.proofs.SoundLemmas.{limited-sound, all-placed-kept}
+use Rattle.htmd_law_documents.proofs.SoundLemmas.{limited-sound, all-placed-kept, pieced-sound}
 use Rattle.htmd_law_documents.proofs.NormalBlockLemmas.{FineBlocks, document-normal}
 use Rattle.htmd_law_documents.proofs.NormalPartsLemmas.{FineParts, good, fine-append, fine-alone, fine-edges, blocks-of}
 use Rattle.htmd_law_documents.proofs.NormalNodesLemmas.{bound, flow-fine}
-use Rattle.htmd_law_documents.proofs.NormalTreeLemmas.{AreIds, ids-alone, AreFine, nodes-fine}
+use Rattle.htmd_law_documents.proofs.NormalTreeLemmas.{AreIds, ids-alone, AreFine}
+use Rattle.htmd_law_documents.proofs.NormalTreeNodesLemmas.{nodes-fine}
 use Rattle.htmd_law_documents.proofs.NormalShownLemmas.{AreClear, page-clear}
 use Rattle.htmd_law_documents.proofs.NormalPlacedLemmas.{limited-clear, AllNamed, targets-named, all-after-named}
 use Rattle.htmd_law_documents.proofs.NormalPlacedLemmas.{ArePlaced, all-placed-fine, anchors-ids, values-ids}
@@ -85,39 +85,44 @@ followed-none none = refl
 followed-none (more t ts) = ap (more t) (followed-none ts)
 
 -- anchors in a paragraph of their own, at the end
-ids-fine : (inner : Simples) → AreIds inner
-    → FineParts false (bound bare) (contexts.apart (flow_all (nodes_of inner) bare))
-ids-fine inner ids = (
+ids-fine : (is_rich : Bool) (inner : Simples) → AreIds inner
+    → FineParts false (bound (bare_in is_rich)) (contexts.apart (flow_all (nodes_of inner) (bare_in is_rich)))
+ids-fine is_rich inner ids = (
   tt,
   tt,
-  ids-alone (bound bare) bare inner ids (edge ∷ [])
-      (fine-alone (bound bare) good (edge ∷ []) (fine-edges false (bound bare))),
+  ids-alone (bound (bare_in is_rich)) (bare_in is_rich) inner ids (edge ∷ [])
+      (fine-alone (bound (bare_in is_rich)) good (edge ∷ []) (fine-edges false (bound (bare_in is_rich)))),
 )
 
-end-fine : (ts inner : Simples) → FineParts false (bound bare) (flow_all (nodes_of ts) bare) → AreIds inner
-    → FineParts false (bound bare)
-    (flow_all (nodes_of (followed_by ts (more (element 0 role.Anchors inserted_facts [] inner) none))) bare)
+end-fine : (is_rich : Bool) (ts inner : Simples)
+    → FineParts false (bound (bare_in is_rich)) (flow_all (nodes_of ts) (bare_in is_rich)) → AreIds inner
+    → FineParts false (bound (bare_in is_rich))
+    (flow_all (nodes_of (followed_by ts (more (element 0 role.Anchors inserted_facts [] inner) none)))
+    (bare_in is_rich))
 unfolding node_of
-end-fine ts inner f ids =
+end-fine is_rich ts inner f ids =
     let a : Simple = element 0 role.Anchors inserted_facts [] inner in
-    subst (λ (ns : List Node). FineParts false (bound bare) (flow_all ns bare)) (sym (nodes-followed ts (more a none)))
-    (subst (λ (ps : List Part). FineParts false (bound bare) ps)
-    (sym (flow-last (node_of a) bare refl refl (nodes_of ts)))
-    (fine-append false (bound bare) (flow_all (nodes_of ts) bare)
-    (contexts.apart (flow_all (nodes_of inner) bare)) f (ids-fine inner ids)))
+    subst (λ (ns : List Node). FineParts false (bound (bare_in is_rich)) (flow_all ns (bare_in is_rich)))
+    (sym (nodes-followed ts (more a none)))
+    (subst (λ (ps : List Part). FineParts false (bound (bare_in is_rich)) ps)
+    (sym (flow-last (node_of a) (bare_in is_rich) refl refl (nodes_of ts)))
+    (fine-append false (bound (bare_in is_rich)) (flow_all (nodes_of ts) (bare_in is_rich))
+    (contexts.apart (flow_all (nodes_of inner) (bare_in is_rich))) f (ids-fine is_rich inner ids)))
 
-last-fine : (ts : Simples) (targets : List Target)
-    → FineParts false (bound bare) (flow_all (nodes_of (pieced_all ts)) bare)
+last-fine : (is_rich : Bool) (ts : Simples) (targets : List Target)
+    → FineParts false (bound (bare_in is_rich)) (flow_all (nodes_of (pieced_all ts)) (bare_in is_rich))
     → AllNamed targets
-    → FineParts false (bound bare) (flow_all (nodes_of (pieced_all (followed_by ts (last_anchors targets)))) bare)
-last-fine ts [] f n =
-    subst (λ (us : Simples). FineParts false (bound bare) (flow_all (nodes_of (pieced_all us)) bare))
+    → FineParts false (bound (bare_in is_rich))
+    (flow_all (nodes_of (pieced_all (followed_by ts (last_anchors targets)))) (bare_in is_rich))
+last-fine is_rich ts [] f n =
+    subst (λ (us : Simples). FineParts false (bound (bare_in is_rich))
+    (flow_all (nodes_of (pieced_all us)) (bare_in is_rich)))
     (sym (followed-none ts)) f
-last-fine ts (t ∷ targets) f n =
+last-fine is_rich ts (t ∷ targets) f n =
     let ids : Simples = anchors (values_of (t ∷ targets)) in
-    subst (λ (us : Simples). FineParts false (bound bare) (flow_all (nodes_of us) bare))
+    subst (λ (us : Simples). FineParts false (bound (bare_in is_rich)) (flow_all (nodes_of us) (bare_in is_rich)))
     (sym (pieced-followed ts (more (apart ids) none)))
-    (end-fine (pieced_all ts) (pieced_all ids) f
+    (end-fine is_rich (pieced_all ts) (pieced_all ids) f
     (pieced-ids ids (anchors-ids (values_of (t ∷ targets)) (values-ids (t ∷ targets) n))))
 
 pub documents_are_normal : DocumentsAreNormal
@@ -127,18 +132,19 @@ documents_are_normal which sight tree e =
     let ts : Simples = limited shown in
     let clear : AreClear ts = limited-clear shown (page-clear sight tree e) in
     let sound : AreSound ts = limited-sound shown (page-sound sight tree e) in
-    let p : Placing = record { seen = 0; targets = targets_by which ts } in
-    let named : AllNamed p.targets = targets-named which ts clear in
+    let p : Placing = record { seen = 0; targets = targets_by which sight.is_rich ts } in
+    let named : AllNamed p.targets = targets-named which sight.is_rich ts clear in
     let placed : ArePlaced (all_placed p ts) = all-placed-fine p ts named clear in
-    let fine : AreFine (pieced_all (all_placed p ts)) =
-    all-pieced-fine (all_placed p ts) (all-placed-kept p ts sound).sound placed in
+    let kept : AreSound (all_placed p ts) = (all-placed-kept p ts sound).sound in
+    let pieced : AreSound (pieced_all (all_placed p ts)) = pieced-sound (all_placed p ts) kept in
+    let fine : AreFine (pieced_all (all_placed p ts)) = all-pieced-fine (all_placed p ts) kept placed in
     let nodes : List Node = nodes_of (pieced_all (all_placed p ts)) in
-    let parts : FineParts false (bound bare) (flow_all nodes bare) =
-    flow-fine nodes (nodes-fine (pieced_all (all_placed p ts)) fine) bare tt in
+    let parts : FineParts false (bound (bare_in sight.is_rich)) (flow_all nodes (bare_in sight.is_rich)) =
+    flow-fine nodes (nodes-fine (pieced_all (all_placed p ts)) fine pieced) (bare_in sight.is_rich) tt in
     let last : List Target = (placing_after_all p ts).targets in
     let all : Simples = pieced_all (followed_by (all_placed p ts) (last_anchors last)) in
-    let whole : FineParts false (bound bare) (flow_all (nodes_of all) bare) =
-    last-fine (all_placed p ts) last parts (all-after-named p ts named) in
-    let blocks : FineBlocks (bound bare) false (document_of all) =
-    blocks-of (bound bare) false (flow_all (nodes_of all) bare) whole in
-    document-normal (document_of all) blocks.nearly blocks.depth
+    let whole : FineParts false (bound (bare_in sight.is_rich)) (flow_all (nodes_of all) (bare_in sight.is_rich)) =
+    last-fine sight.is_rich (all_placed p ts) last parts (all-after-named p ts named) in
+    let blocks : FineBlocks (bound (bare_in sight.is_rich)) false (document_of sight.is_rich all) =
+    blocks-of (bound (bare_in sight.is_rich)) false (flow_all (nodes_of all) (bare_in sight.is_rich)) whole in
+    document-normal (document_of sight.is_rich all) blocks.nearly blocks.depth

@@ -1,28 +1,25 @@
 -- What normal documents are made of stays so when links end after their first pieces.
-use Rattle.std.proofs.Common.{◌≡◌, ℕ, Bool, true, false, cond, not, ◌&&◌, List, [], ◌∷◌, ◌++◌, refl, sym, ap}
-use Rattle.std.proofs.Common.{◌∙◌, Option, Some, None, subst, ◌⊎◌, inl, inr, arith}
+use Rattle.std.proofs.Common.{◌≡◌, ℕ, Bool, true, false, cond, not, ◌&&◌, List, [], ◌∷◌, ◌++◌, refl, sym, ap, ◌∙◌}
+use Rattle.std.proofs.Common.{Option, Some, None, subst, ◌⊎◌, inl, inr, arith}
 use Rattle.std.specs.Prelude.{codes, nat_lt}
 use Rattle.std.specs.Str.{IsUtf8, chars}
 use Rattle.std.proofs.lemmas.Bool.Decides.{nat_tests}
 use Rattle.std.proofs.lemmas.List.{append-nil}
 use Rattle.htmd_lexical.specs.AttributePairs.{AttributePair}
-use Rattle.htmd_lexical.specs.Characters.{line_feed}
 use Rattle.htmd_lexical.proofs.Cases.{test}
 use Rattle.htmd_text.specs.Trims.{trimmed_text, is_line_feed}
-use Rattle.htmd_text.proofs.TrimsLemmas.{line_feed_of_ascii}
 use Rattle.htmd_shown.specs.declared.facts.Facts.{Facts}
 use Rattle.htmd_shown.specs.declared.role.Role.{Role}
 use Rattle.htmd_shown.specs.declared.role.Role.TheVariants as role
-use Rattle.htmd_shown.specs.AllTexts.{all_text, all_text_among, text_in, ends_line, dollar_sign}
-use Rattle.htmd_shown.specs.AllTexts.{with_line_feeds, lines_of, without_last_line_feed}
+use Rattle.htmd_shown.specs.AllTexts.{all_text, all_text_among, text_in, dollar_sign, with_line_feeds, lines_of}
+use Rattle.htmd_shown.specs.AllTexts.{without_last_line_feed}
 use Rattle.htmd_shown.specs.Attributes.{text_of, in_line, is_filled}
-use Rattle.htmd_shown.specs.Marks.{letters, letters_of, letters_among}
 use Rattle.htmd_shown.specs.Pieces.{Pieces, no_pieces, is_unseen, after_leaf, at_edge, pieces_after}
 use Rattle.htmd_shown.specs.Roles.{is_link, is_line_break, is_verbatim}
 use Rattle.htmd_shown.specs.SimpleTrees.{Simple, text, image, formula, embedded, anchor, element, Simples, none, more}
 use Rattle.htmd_shown.specs.Spaces.{is_blank_text}
 use Rattle.htmd_document_of_tree.specs.FirstPieces.{most_linked, unlinked, cut_leaf, cut, cut_all, pieced, pieced_all}
-use Rattle.htmd_document_of_tree.specs.Seen.{image_shows, code_shows}
+use Rattle.htmd_shown.specs.Showings.{image_shows, code_shows}
 use Rattle.htmd_flow.specs.Contexts.{Context, run_in, in_code}
 use Rattle.htmd_flow.specs.Contexts as contexts
 use Rattle.htmd_flow.specs.Flows.{node_of, nodes_of, flow_all, image_parts, math_in_line, math_block, formula_parts}
@@ -32,29 +29,27 @@ use Rattle.htmd_flow.specs.Levels.{list_of}
 use Rattle.htmd_flow.specs.Parts.{Around, Part, edge, whole}
 use Rattle.htmd_document.specs.Documents.{code_block}
 use Rattle.htmd_law_documents.specs.DocumentTexts.{visible}
-use Rattle.htmd_law_documents.specs.SimpleForms.{IsMade, IsSound, AreSound}
-use Rattle.htmd_law_documents.proofs.VisibleLemmas.{Shows, shows-append, shows-nil, shows-itself, shown-shows}
-use Rattle.htmd_law_documents.proofs.VisibleLemmas.{seen-same, both-true}
+use Rattle.htmd_law_documents.specs.SimpleForms.{IsSound, AreSound}
+use Rattle.htmd_law_documents.proofs.VisibleLemmas.{Shows, shows-itself, both-true}
 use Rattle.htmd_law_documents.proofs.PiecesLemmas.{line_feed-white, AreUtf8, pieces_seen, PiecesShow, pieces-show}
-use Rattle.htmd_law_documents.proofs.PiecesLemmas.{in_line-shows}
 use Rattle.htmd_law_documents.proofs.CodeLemmas.{feeds-show, trimmed-shows, blank-seen}
-use Rattle.htmd_law_documents.proofs.ElementLemmas.{dollars-show, feed-shows, end-shows}
 use Rattle.htmd_law_documents.proofs.NormalTextLemmas.{and-false, true-false, false-true, from-not}
 use Rattle.htmd_law_documents.proofs.NormalLineLemmas.{FitAll}
-use Rattle.htmd_law_documents.proofs.NormalPartsLemmas.{is_text_character, FineFrom, good, waiting}
-use Rattle.htmd_law_documents.proofs.NormalPartsLemmas.{IsRun, fine-from, fine-append, fine-nil, fine-run, shown-run}
-use Rattle.htmd_law_documents.proofs.NormalValueLemmas.{IsClean, clean-run, clean-trimmed, all-less, AllPieces}
+use Rattle.htmd_law_documents.proofs.NormalPartsLemmas.{is_text_character, FineFrom, good, waiting, IsRun, fine-from}
+use Rattle.htmd_law_documents.proofs.NormalPartsLemmas.{fine-append, fine-nil, fine-run, shown-run}
+use Rattle.htmd_law_documents.proofs.NormalValueLemmas.{IsClean, text-run, clean-run, seen-trimmed, all-less, AllPieces}
 use Rattle.htmd_law_documents.proofs.NormalValueLemmas.{pieces-pass, AreTexts, value-text, address-fine, title_of-fine}
 use Rattle.htmd_law_documents.proofs.NormalValueLemmas.{in_line-line, in_line-clean}
 use Rattle.htmd_law_documents.proofs.NormalCodeLemmas.{feeds-clean, code-lines}
 use Rattle.htmd_law_documents.proofs.NormalNodesLemmas.{bound, FitsIn, GivesFrom}
 use Rattle.htmd_law_documents.proofs.NormalAroundLemmas.{fit-without, unlinked-gives}
 use Rattle.htmd_law_documents.proofs.NormalElementLemmas.{IsSource, dollar-run}
+use Rattle.htmd_law_documents.proofs.NormalSeenElementLemmas.{all-letters-said}
 use Rattle.htmd_law_documents.proofs.NormalTreeLemmas.{ShowsInLine, ShowsApart, AreIds, IsFine, AreFine, IsLed}
 use Rattle.htmd_law_documents.proofs.NormalTreeLemmas.{IsLedApart, Content, content-text, one-flow, leaf-waits}
 use Rattle.htmd_law_documents.proofs.NormalShownLemmas.{line-blank}
-use Rattle.htmd_law_documents.proofs.NormalPlacedLemmas.{LeafApart, IsPlaced, ArePlaced, PlacedLed}
-use Rattle.htmd_law_documents.proofs.NormalPlacedLemmas.{PlacedApart, no-texts}
+use Rattle.htmd_law_documents.proofs.NormalPlacedLemmas.{LeafApart, IsPlaced, ArePlaced, PlacedLed, PlacedApart}
+use Rattle.htmd_law_documents.proofs.NormalPlacedLemmas.{no-texts}
 use lib.Utf8.{encode}
 
 -- ---- leaves that show
@@ -135,30 +130,6 @@ formula-shows-apart tex is_alone attributes h = record { no_item = refl; shows =
 
 -- ---- a code block that shows
 
--- what is seen of all text
-element-letters : (r : Role) (facts : Facts) (content : Simples) (inner : List ℕ) → IsMade r facts content
-    → Shows inner (letters_among content) → Shows (text_in r inner) (letters_among content)
-element-letters role.LineBreak facts content inner m h =
-    seen-same (line_feed ∷ []) [] (letters_among content) (sym (ap letters_among (m.empty refl))) feed-shows
-element-letters role.Row facts content inner m h = end-shows (ends_line inner) inner (letters_among content) h
-element-letters r facts content inner m h = h
-
-mutual
-  letters-said : (t : Simple) → IsSound t → Shows (all_text t) (letters_of t)
-  letters-said (text s) u = shows-itself s u
-  letters-said (image o attributes) u = shown-shows (text_of (codes "alt") attributes) u
-  letters-said (formula tex is_alone attributes) u = dollars-show (in_line tex) (letters tex) (in_line-shows tex u)
-  letters-said (embedded id place title attributes ids) u = shows-itself title u
-  letters-said (anchor id) u = shows-nil
-  letters-said (element id r facts attributes content) u =
-      element-letters r facts content (all_text_among content) u.0 (all-letters-said content u.1)
-
-  all-letters-said : (ts : Simples) → AreSound ts → Shows (all_text_among ts) (letters_among ts)
-  all-letters-said none u = shows-nil
-  all-letters-said (more t ts) u =
-      shows-append (all_text t) (all_text_among ts) (letters_of t) (letters_among ts) (letters-said t u.0)
-      (all-letters-said ts u.1)
-
 -- something is to see of it
 abbrev IsSeen : List ℕ → Type 0
 IsSeen s = visible s ≡ [] → ⊥
@@ -176,11 +147,9 @@ lines-show : (n : ℕ) (pieces : List (List ℕ)) (around : List Around) → Are
     → (pieces_seen pieces ≡ [] → ⊥) → FineFrom true n waiting (code_parts pieces around)
 lines-show n [] around u h f s = absurd (s refl)
 lines-show n (t ∷ pieces) around u h f s =
-    let run-fine : IsRun t = clean-run t (record {
-      utf8 = u.0;
-      seen = all-less (λ b. not (is_line_feed b) && is_text_character b) is_text_character
-          (λ b e. (both-true (not (is_line_feed b)) (is_text_character b) e).1) t h.0;
-    }) in
+    let run-fine : IsRun t = text-run t u.0
+    (all-less (λ b. not (is_line_feed b) && is_text_character b) is_text_character
+    (λ b e. (both-true (not (is_line_feed b)) (is_text_character b) e).1) t h.0) in
     test (is_blank_text t)
     (λ e. (
       (run-fine, f),
@@ -218,7 +187,7 @@ verbatim-in-line attributes content h v c f e =
       tt,
       tt,
       lines-show (bound c) (lines_of s) c.around pieces.texts
-          (pieces-pass is_line_feed is_text_character t (clean-trimmed is_line_feed line_feed_of_ascii s clean).seen) f
+          (pieces-pass is_line_feed is_text_character t (seen-trimmed is_line_feed s clean.seen)) f
           (λ n. v (sym shows.is ∙ (sym trimmed.is ∙ (pieces.is ∙ n)))),
     ) in
     subst (λ (b : Bool). FineFrom true (bound c) waiting (cond b (edge ∷ []) (cond c.is_flat

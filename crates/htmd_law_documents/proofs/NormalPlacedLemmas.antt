@@ -21,8 +21,9 @@ use Rattle.htmd_document_of_tree.specs.Anchors.{placing_after, placing_after_all
 use Rattle.htmd_document_of_tree.specs.Anchors.{targets_by}
 use Rattle.htmd_document_of_tree.specs.Leadings.{all_leadings, is_led_to, is_linked_to}
 use Rattle.htmd_document_of_tree.specs.Limits.{size, cost, paid, left_after, within, all_within, budget}
-use Rattle.htmd_document_of_tree.specs.Limits.{limited}
-use Rattle.htmd_document_of_tree.specs.Seen.{image_shows, code_shows, seen}
+use Rattle.htmd_document_of_tree.specs.Limits.{limited, emptied, is_carrying}
+use Rattle.htmd_shown.specs.Showings.{image_shows, code_shows}
+use Rattle.htmd_document_of_tree.specs.Seen.{seen}
 use Rattle.htmd_document_of_tree.specs.Targets.{Target, target_by, id_target, name_target, whole_in, own_targets}
 use Rattle.htmd_document_of_tree.specs.Targets.{targets_inside, targets_among, ids_among, is_first, firsts_after}
 use Rattle.htmd_document_of_tree.specs.Targets.{all_targets}
@@ -35,8 +36,12 @@ use Rattle.htmd_law_documents.proofs.NormalShownLemmas.{IsClear, AreClear}
 
 -- ---- the budget of links
 
-affordable-level : (b : Bool) (r : Role) → IsLevel r → IsLevel (cond b role.Target r)
-affordable-level true r h = tt
+emptied-level : (b : Bool) → IsLevel (cond b role.Target role.Plain)
+emptied-level true = tt
+emptied-level false = tt
+
+affordable-level : (b : Bool) (r : Role) → IsLevel r → IsLevel (cond b (emptied r) r)
+affordable-level true r h = emptied-level (is_link r)
 affordable-level false r h = h
 
 mutual
@@ -49,7 +54,7 @@ mutual
   within-clear left (element id r facts attributes content) h =
       let now : Option ℕ = paid left (cost r facts attributes) in (
         h.0,
-        affordable-level (not (is_some now) && is_link r && nat_lt 0 (size attributes)) r h.1,
+        affordable-level (not (is_some now) && is_carrying r && nat_lt 0 (size r attributes)) r h.1,
         all-within-clear now content h.2,
       )
 
@@ -149,12 +154,13 @@ filter-named p (t ∷ targets) h = either (p t) (filter-named p targets h.1)
     either true g = (h.0, g)
     either false g = g
 
-pub targets-named : (w : Anchors) (ts : Simples) → AreClear ts → AllNamed (targets_by w ts)
-targets-named which.Linked ts h =
-    filter-named (λ (t : Target). is_led_to (all_leadings ts) t.value t.seen)
-    (all_targets (is_linked_to (all_leadings ts)) ts) (all-named (is_linked_to (all_leadings ts)) ts h)
-targets-named which.All ts h = all-named (λ s. true) ts h
-targets-named which.None ts h = tt
+pub targets-named : (w : Anchors) (is_rich : Bool) (ts : Simples) → AreClear ts → AllNamed (targets_by w is_rich ts)
+targets-named which.Linked is_rich ts h =
+    let leadings = all_leadings is_rich ts in
+    filter-named (λ (t : Target). is_led_to leadings t.value t.seen) (all_targets (is_linked_to leadings) ts)
+    (all-named (is_linked_to leadings) ts h)
+targets-named which.All is_rich ts h = all-named (λ s. true) ts h
+targets-named which.None is_rich ts h = tt
 
 -- ---- trees with anchors
 

@@ -4,9 +4,9 @@ use Rattle.std.proofs.Common.{Option, Some, None, filter, arith, subst}
 use Rattle.std.specs.Prelude.{codes}
 use Rattle.std.specs.List.{list_all, slice_split}
 use Rattle.std.specs.Option.{option_or, unwrap_or}
-use Rattle.std.specs.Str.{IsUtf8, is_utf8, bytes_eq, chars}
+use Rattle.std.specs.Str.{IsUtf8, is_utf8, bytes_eq}
 use Rattle.std.proofs.lemmas.Bool.Decides.{nat_tests}
-use Rattle.std.proofs.lemmas.Str.{IsUtf8-from_is_utf8, scalars-chars, chars-encodes}
+use Rattle.std.proofs.lemmas.Str.{IsUtf8-from_is_utf8}
 use Rattle.htmd_lexical.specs.AttributePairs.{AttributePair}
 use Rattle.htmd_lexical.specs.WhiteSpace.{is_ascii_white_space}
 use Rattle.htmd_lexical.proofs.Cases.{test}
@@ -25,30 +25,30 @@ use Rattle.htmd_shown.specs.Embeds.{is_unseen, Embedding, embedding, embedding_o
 use Rattle.htmd_shown.specs.Facts.{made}
 use Rattle.htmd_shown.specs.Formulas.{tex_of}
 use Rattle.htmd_shown.specs.Images.{file_in, is_file, is_comma, candidate_in, candidate_among, first_candidate}
-use Rattle.htmd_shown.specs.Images.{candidate_at, first_source, picture_source, file_of_attributes}
-use Rattle.htmd_shown.specs.Images.{file_of_sets, image_address, is_image}
+use Rattle.htmd_shown.specs.Images.{candidate_at, first_source, picture_source, file_of_attributes, file_of_sets}
+use Rattle.htmd_shown.specs.Images.{image_address, is_image}
 use Rattle.htmd_shown.specs.Kinds.{are_blank}
 use Rattle.htmd_shown.specs.LineNumbers.{has_numbered_rows}
 use Rattle.htmd_shown.specs.Permalinks.{is_permalink}
 use Rattle.htmd_shown.specs.Repeats.{is_repeat, last_element, leads_to_script}
 use Rattle.htmd_shown.specs.Roles.{is_among, role_of, table_role, heading_or_block, block_role, inline_role}
-use Rattle.htmd_shown.specs.Roles.{is_emphasis, is_strong, is_deleted, is_typed, is_apart, block_names, is_table_body}
-use Rattle.htmd_shown.specs.Roles.{is_bullet_list, is_verbatim_name}
+use Rattle.htmd_shown.specs.Roles.{element_role, is_emphasis, is_strong, is_deleted, is_typed, is_apart, block_names}
+use Rattle.htmd_shown.specs.Roles.{is_table_body, is_bullet_list, is_verbatim_name}
 use Rattle.htmd_document.specs.declared.document.Format.TheVariants.{Emphasis, Strong, Deleted}
-use Rattle.htmd_document.specs.declared.document.InlineElement.TheVariants.{Superscript, Subscript}
-use Rattle.htmd_shown.specs.Shown.{Sight, Surroundings, nowhere, inside, is_for_layout, role_by, role_at, raised_by}
-use Rattle.htmd_shown.specs.Shown.{raised_one, format_of, formats_after, raised, with_one, followed_by, marks, marked}
-use Rattle.htmd_shown.specs.Shown.{is_led_to, target, with_content, embed, object, is_skipped, is_hidden, is_emptied}
-use Rattle.htmd_shown.specs.Shown.{by_content, formula_or, is_img, source_for, source_after, shown, shown_all, shown_in}
-use Rattle.htmd_shown.specs.ShownTexts.{is_shown, shown_text}
+use Rattle.htmd_document.specs.declared.document.InlineElement.TheVariants.{Superscript, Subscript, Inserted}
+use Rattle.htmd_document.specs.declared.document.InlineElement.TheVariants.{Underlined, Marked, Small, Keyboard}
+use Rattle.htmd_shown.specs.Shown.{plain_element, Sight, Surroundings, nowhere, inside, is_for_layout, role_by, role_at}
+use Rattle.htmd_shown.specs.Shown.{raised_by, raised_one, format_of, formats_after, raised, with_one, followed_by}
+use Rattle.htmd_shown.specs.Shown.{marks, marked, is_led_to, target, with_content, embed, object, is_skipped, is_hidden}
+use Rattle.htmd_shown.specs.Shown.{is_emptied, by_content, formula_or, is_img, source_for, source_after, shown}
+use Rattle.htmd_shown.specs.Shown.{shown_all, shown_in}
+use Rattle.htmd_shown.specs.ShownTexts.{shown_text}
 use Rattle.htmd_shown.specs.SimpleTrees.{Simple, text, image, formula, embedded, anchor, element, Simples, none, more}
 use Rattle.htmd_shown.specs.SimpleTrees.{is_text}
-use Rattle.htmd_shown.specs.Spaces.{is_white, is_blank_text}
-use Rattle.htmd_law_documents.specs.DocumentTexts.{is_visible, visible}
+use Rattle.htmd_shown.specs.Spaces.{is_blank_text}
 use Rattle.htmd_law_documents.specs.TreeForms.{is_text_value, is_text_tree, are_text_trees}
-use Rattle.htmd_law_documents.proofs.VisibleLemmas.{both-true, shown-shows, scalars-filter}
-use Rattle.htmd_law_documents.proofs.PiecesLemmas.{in_line-shows, ascii-white, AreUtf8, pieces-show}
-use Rattle.htmd_law_documents.proofs.CodeLemmas.{blank-seen}
+use Rattle.htmd_law_documents.proofs.VisibleLemmas.{both-true}
+use Rattle.htmd_law_documents.proofs.PiecesLemmas.{ascii-white, AreUtf8, pieces-show}
 use Rattle.htmd_law_documents.proofs.ShownTreeLemmas.{GoodBy, no-by, one-by, either-by, or-by, value-good, tex-by}
 use Rattle.htmd_law_documents.proofs.ShownTreeLemmas.{embedded-by, address-good}
 use Rattle.htmd_law_documents.proofs.NormalTextLemmas.{from-not}
@@ -56,6 +56,7 @@ use Rattle.htmd_law_documents.proofs.NormalLeafLemmas.{AllIds}
 use Rattle.htmd_law_documents.proofs.NormalValueLemmas.{IsClean, shown-clean, in_line-clean, address-fine, utf8-trimmed}
 use Rattle.htmd_law_documents.proofs.NormalValueLemmas.{AreTexts, texts-of}
 use Rattle.htmd_law_documents.proofs.NormalElementLemmas.{IsSource, IsLevel}
+use Rattle.htmd_law_documents.proofs.NormalSeenElementLemmas.{blank-line}
 use Rattle.htmd_law_documents.proofs.NormalTreeLemmas.{mark-clean}
 
 -- ---- trees before anchors
@@ -164,58 +165,10 @@ image-good attributes source g s =
 
 -- ---- what is embedded
 
--- something is to see of what isn't blank
-some-visible : (cs : List ℕ) → list_all is_shown cs ≡ true → list_all is_white cs ≡ false
-    → filter is_visible cs ≡ []
-    → ⊥
-some-visible [] h b e = absurd (clash b)
-  where
-    clash : true ≡ false → ⊥
-    clash b = (cc)
-some-visible (c ∷ cs) h b e =
-    let parts = both-true (is_shown c) (list_all is_shown cs) h in
-    test (is_white c)
-    (λ w. some-visible cs parts.1 (sym (ap (λ x. x && list_all is_white cs) w) ∙ b)
-    (sym (ap (λ x. cond x (c ∷ filter is_visible cs) (filter is_visible cs))
-    (ap (λ x. is_shown c && not x) w ∙ none (is_shown c))) ∙ e))
-    (λ w. clash (sym (ap (λ x. cond x (c ∷ filter is_visible cs) (filter is_visible cs))
-    (ap (λ x. is_shown c && not x) w ∙ one (is_shown c) parts.0)) ∙ e))
-  where
-    none : (x : Bool) → (x && false) ≡ false
-    none true = refl
-    none false = refl
-
-    one : (x : Bool) → x ≡ true → (x && true) ≡ true
-    one true e = refl
-    one false e = e
-
-    clash : c ∷ filter is_visible cs ≡ [] → ⊥
-    clash e = (cc)
-
-all-shown : (cs : List ℕ) → list_all is_shown (filter is_shown cs) ≡ true
-all-shown [] = refl
-all-shown (c ∷ cs) = either (is_shown c) refl (all-shown cs)
-  where
-    either : (b : Bool) → is_shown c ≡ b → list_all is_shown (filter is_shown cs) ≡ true
-        → list_all is_shown (cond b (c ∷ filter is_shown cs) (filter is_shown cs)) ≡ true
-    either true e h = ap (λ b. b && list_all is_shown (filter is_shown cs)) e ∙ h
-    either false e h = h
-
 -- in one line too
 pub line-blank : (s : List ℕ) → IsUtf8 s → is_blank_text (shown_text s) ≡ false
     → is_blank_text (in_line s) ≡ false
-line-blank s u b = test (is_blank_text (in_line s))
-    (λ e.
-    let shown : IsClean (shown_text s) = shown-clean s u in
-    let nothing : visible s ≡ [] = sym (in_line-shows s u).is ∙ blank-seen (in_line s) e in
-    absurd (some-visible (chars (shown_text s)) (kept s u) b ((shown-shows s u).is ∙ nothing)))
-    (λ e. e)
-  where
-    kept : (s : List ℕ) → IsUtf8 s → list_all is_shown (chars (shown_text s)) ≡ true
-    kept s u =
-        ap (list_all is_shown)
-        (chars-encodes (filter is_shown (chars s)) (scalars-filter is_shown (chars s) (scalars-chars s u)))
-        ∙ all-shown (chars s)
+line-blank s u b = blank-line s u ∙ b
 
 -- a title that isn't blank
 record IsTitle (s : List ℕ) : Type 0 where
@@ -314,20 +267,36 @@ raised-clear formats id (more t ts) u =
 
 -- ---- roles
 
+kept-level : (is_rich : Bool) (e : InlineElement) → IsLevel (cond is_rich (role.Element e) (plain_element e))
+kept-level true e = tt
+kept-level false Superscript = tt
+kept-level false Subscript = tt
+kept-level false Inserted = tt
+kept-level false Underlined = tt
+kept-level false Marked = tt
+kept-level false Small = tt
+kept-level false Keyboard = tt
+
 -- what an element is has a level, if it is a heading
-role-level : (r : Role) (attributes : List AttributePair) (children : NumberedForest) → IsLevel r
-    → IsLevel (role_by r attributes children)
-role-level role.Link attributes children h = either (has_attribute (codes "href") attributes)
+role-level : (is_rich : Bool) (r : Role) (attributes : List AttributePair) (children : NumberedForest) → IsLevel r
+    → IsLevel (role_by is_rich r attributes children)
+role-level is_rich role.Link attributes children h = either (has_attribute (codes "href") attributes)
   where
     either : (b : Bool) → IsLevel (cond b role.Link role.Target)
     either true = tt
     either false = tt
-role-level role.Table attributes children h = either (is_for_layout attributes || has_numbered_rows children)
+role-level is_rich role.Table attributes children h = either (is_for_layout attributes || has_numbered_rows children)
   where
     either : (b : Bool) → IsLevel (cond b role.LayoutTable role.Table)
     either true = tt
     either false = tt
-role-level r attributes children h = h
+role-level is_rich (role.Element e) attributes children h = kept-level is_rich e
+role-level is_rich role.Abbreviation attributes children h = either is_rich
+  where
+    either : (b : Bool) → IsLevel (cond b role.Abbreviation role.Plain)
+    either true = tt
+    either false = tt
+role-level is_rich r attributes children h = h
 
 record HasLevel (r : Role) : Type 0 where
   is : IsLevel r
@@ -339,21 +308,31 @@ if-level false g h = h
 any-level : (r : Role) → IsLevel r → HasLevel r
 any-level r h = record { is = h }
 
+element-level : (name : List ℕ) → HasLevel (element_role name)
+unfolding element_role
+element-level name =
+    if-level (bytes_eq name (codes "sup")) (any-level (role.Element Superscript) tt)
+    (if-level (bytes_eq name (codes "sub")) (any-level (role.Element Subscript) tt)
+    (if-level (bytes_eq name (codes "ins")) (any-level (role.Element Inserted) tt)
+    (if-level (bytes_eq name (codes "u")) (any-level (role.Element Underlined) tt)
+    (if-level (bytes_eq name (codes "mark")) (any-level (role.Element Marked) tt)
+    (if-level (bytes_eq name (codes "small")) (any-level (role.Element Small) tt)
+    (if-level (bytes_eq name (codes "kbd")) (any-level (role.Element Keyboard) tt)
+    (if-level (bytes_eq name (codes "abbr")) (any-level role.Abbreviation tt) (any-level role.Plain tt))))))))
+
 inline-level : (name : List ℕ) → HasLevel (inline_role name)
 unfolding inline_role
 inline-level name =
     if-level (is_emphasis name) (any-level (role.Format Emphasis) tt)
     (if-level (is_strong name) (any-level (role.Format Strong) tt)
     (if-level (is_deleted name) (any-level (role.Format Deleted) tt)
-    (if-level (bytes_eq name (codes "sup")) (any-level (role.Element Superscript) tt)
-    (if-level (bytes_eq name (codes "sub")) (any-level (role.Element Subscript) tt)
     (if-level (bytes_eq name (codes "code")) (any-level role.Code tt)
     (if-level (is_typed name) (any-level role.Typed tt)
     (if-level (bytes_eq name (codes "a")) (any-level role.Link tt)
     (if-level (is_apart name) (any-level role.Apart tt)
     (if-level (bytes_eq name (codes "br")) (any-level role.LineBreak tt)
     (if-level (bytes_eq name (codes "input")) (any-level role.Input tt)
-    (any-level role.Plain tt)))))))))))
+    (element-level name)))))))))
 
 block-level : (name : List ℕ) → HasLevel (block_role name)
 unfolding block_role
@@ -364,10 +343,11 @@ block-level name =
     (if-level (bytes_eq name (codes "div")) (any-level role.Division tt)
     (if-level (bytes_eq name (codes "figure")) (any-level role.Figure tt)
     (if-level (bytes_eq name (codes "figcaption")) (any-level role.FigureCaption tt)
+    (if-level (bytes_eq name (codes "details")) (any-level role.Details tt)
     (if-level (bytes_eq name (codes "summary")) (any-level role.Summary tt)
     (if-level (bytes_eq name (codes "legend")) (any-level role.Legend tt)
     (if-level (is_among block_names name) (any-level role.Block tt)
-    (inline-level name)))))))))
+    (inline-level name))))))))))
 
 heading-level : (name : List ℕ) → HasLevel (heading_or_block name)
 unfolding heading_or_block
@@ -438,7 +418,7 @@ formula-clear : (name : List ℕ) (attributes : List AttributePair) (other : Opt
 formula-clear name attributes other None a g h = h
 formula-clear name attributes other (Some tex) a g h = one-node _ (g.is tex refl, a)
 
-module _ (around : Surroundings) (source : Option (List ℕ)) (id : ℕ) (name : List ℕ)
+module _ (is_rich : Bool) (around : Surroundings) (source : Option (List ℕ)) (id : ℕ) (name : List ℕ)
     (attributes : List AttributePair)
     (children : NumberedForest) (g : list_all is_text_value attributes ≡ true) (h : are_text_trees children ≡ true)
     (from : Good source) (content : Simples) (u : AreClear content) where
@@ -450,14 +430,14 @@ module _ (around : Surroundings) (source : Option (List ℕ)) (id : ℕ) (name :
       embed-clear id attributes (embedded_address name attributes children) g
       (embedded-by IsAddress address-is name attributes children g h)
 
-  content-clear : (in_head : Bool) → Clear (with_content in_head id name attributes children content)
+  content-clear : (in_head : Bool) → Clear (with_content is_rich in_head id name attributes children content)
   content-clear in_head =
       either-node (bytes_eq name (codes "a") && is_permalink in_head attributes content)
       (target-clear id attributes texts)
-      (one-node (made id (role_at name attributes children) attributes content)
-      (texts, role-level (role_of name) attributes children (name-level name).is, u))
+      (one-node (made id (role_at is_rich name attributes children) attributes content)
+      (texts, role-level is_rich (role_of name) attributes children (name-level name).is, u))
 
-  by-content-clear : Clear (by_content around source id name attributes children content)
+  by-content-clear : Clear (by_content is_rich around source id name attributes children content)
   by-content-clear =
       either-node (is_hidden around name attributes) no-node
       (either-node (is_image name attributes)
@@ -500,10 +480,10 @@ mutual
       (picture-good name children parts.1))) in
       let content : Simples = cond (is_emptied around name attributes) none all in
       either-node (is_skipped sight name) no-node
-      (formula-clear name attributes (by_content around source id name attributes children content)
+      (formula-clear name attributes (by_content sight.is_rich around source id name attributes children content)
       (tex_of name attributes children) (texts-of attributes parts.0)
       (tex-by IsClean shown-clean name attributes children parts.0 parts.1)
-      (by-content-clear around source id name attributes children parts.0 parts.1 from content
+      (by-content-clear sight.is_rich around source id name attributes children parts.0 parts.1 from content
       (emptied (is_emptied around name attributes) all clear)))
     where
       emptied : (b : Bool) (ts : Simples) → AreClear ts → AreClear (cond b none ts)

@@ -118,7 +118,7 @@ block-fine c f rows h =
     let made : List grid.Row = map (row_of c) rows in
     table-fine (bound c) (filled_rows made) (rows-filled made (row-cells c f rows h))
 
-option-fine : (flat : Bool) (n : ℕ) (o : Option Block) → FineOption n o → FineParts flat n (block_part o)
+pub option-fine : (flat : Bool) (n : ℕ) (o : Option Block) → FineOption n o → FineParts flat n (block_part o)
 option-fine flat n None h = fine-nil flat n
 option-fine flat n (Some b) h = fine-whole flat n b h
 

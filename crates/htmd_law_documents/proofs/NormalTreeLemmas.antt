@@ -1,12 +1,10 @@
 -- Simpler trees give what a normal document is made of.
-use Rattle.std.proofs.Common.{◌≡◌, ℕ, Bool, true, false, cond, not, ◌&&◌, List, [], ◌∷◌, ◌++◌, refl, sym, ap, ◌∙◌}
-use Rattle.std.proofs.Common.{map, filter, subst, None, ◌⊎◌, inl, inr}
-use Rattle.std.specs.Prelude.{codes, is_some}
+use Rattle.std.proofs.Common.{◌≡◌, ℕ, Bool, true, false, cond, List, [], ◌∷◌, ◌++◌, refl, sym, ap, ◌∙◌, subst, None}
+use Rattle.std.proofs.Common.{◌⊎◌, inl, inr}
+use Rattle.std.specs.Prelude.{codes}
 use Rattle.std.specs.Str.{is_utf8, chars}
 use Rattle.std.proofs.lemmas.Str.{IsUtf8-from_is_utf8, IsUtf8-append}
 use Rattle.htmd_lexical.specs.Characters.{line_feed, quotation_mark}
-use Rattle.htmd_lexical.specs.AttributePairs.{AttributePair}
-use Rattle.htmd_shown.specs.declared.facts.Facts.{Facts}
 use Rattle.htmd_shown.specs.declared.role.Role.{Role}
 use Rattle.htmd_shown.specs.declared.role.Role.TheVariants as role
 use Rattle.htmd_shown.specs.AllTexts.{all_text, all_text_among, text_in, with_line_end, ends_line, formula_text}
@@ -16,27 +14,21 @@ use Rattle.htmd_shown.specs.Kinds.{has}
 use Rattle.htmd_shown.specs.Roles as roles
 use Rattle.htmd_shown.specs.Roles.{is_line_break, is_row}
 use Rattle.htmd_shown.specs.SimpleTrees.{Simple, text, image, formula, embedded, anchor, element, Simples, none, more}
+use Rattle.htmd_shown.specs.ShownTexts.{is_shown}
 use Rattle.htmd_shown.specs.Spaces.{is_blank_text}
 use Rattle.htmd_document.specs.NormalInlines.{is_attribute}
 use Rattle.htmd_flow.specs.Contexts.{Context, apart}
-use Rattle.htmd_flow.specs.declared.table_form.TablePart.{TablePart}
-use Rattle.htmd_flow.specs.Flows.{Node, Row, gap, of_node, is_item, is_cell, flow_all, node_of, nodes_of}
-use Rattle.htmd_flow.specs.Flows.{nodes_below, parts_of_child, terms_of, no_part, part_of, leads_to, row_with}
-use Rattle.htmd_flow.specs.Flows.{rows_among, rows_at, rows_of_table, anchors_apart, list_parts}
+use Rattle.htmd_flow.specs.Flows.{flow_all, node_of, nodes_of, anchors_apart, list_parts}
 use Rattle.htmd_flow.specs.Parts.{Part, edge}
-use Rattle.htmd_flow.specs.Terms.{is_group}
-use Rattle.htmd_law_documents.proofs.NormalTextLemmas.{and-false, all-append}
+use Rattle.htmd_law_documents.proofs.NormalTextLemmas.{all-append}
+use Rattle.htmd_law_documents.proofs.NormalLettersLemmas.{characters-append}
 use Rattle.htmd_law_documents.proofs.NormalLeafLemmas.{IsId, AllIds}
-use Rattle.htmd_law_documents.proofs.NormalPartsLemmas.{is_text_character, FineParts, FineFrom, alone, good}
-use Rattle.htmd_law_documents.proofs.NormalPartsLemmas.{waiting, fine-from, fine-append, fine-alone, fine-nil}
-use Rattle.htmd_law_documents.proofs.NormalPartsLemmas.{fine-edges}
-use Rattle.htmd_law_documents.proofs.NormalValueLemmas.{IsClean, clean-nil, clean-run, shown-clean, AreTexts}
-use Rattle.htmd_law_documents.proofs.NormalValueLemmas.{value-text, in_line-clean}
-use Rattle.htmd_law_documents.proofs.NormalNodesLemmas.{bound, FitsIn, GivesFrom, Gives, FineNode, FineNodes, flow-fine}
-use Rattle.htmd_law_documents.proofs.NormalTermLemmas.{FineTerms, terms-append, nodes-terms}
-use Rattle.htmd_law_documents.proofs.NormalTableLemmas.{RowNodes, rows-append}
-use Rattle.htmd_law_documents.proofs.NormalElementLemmas.{IsSource, run-fine, image-fine, formula-fine, embed-fine}
-use Rattle.htmd_law_documents.proofs.NormalElementLemmas.{IsLevel, element-fine}
+use Rattle.htmd_law_documents.proofs.NormalPartsLemmas.{is_text_character, FineParts, FineFrom, alone, good, waiting}
+use Rattle.htmd_law_documents.proofs.NormalPartsLemmas.{fine-from, fine-append, fine-alone, fine-nil, fine-edges}
+use Rattle.htmd_law_documents.proofs.NormalValueLemmas.{IsClean, clean-nil, shown-clean, AreTexts, value-text}
+use Rattle.htmd_law_documents.proofs.NormalValueLemmas.{in_line-clean}
+use Rattle.htmd_law_documents.proofs.NormalNodesLemmas.{bound, FitsIn, GivesFrom, Gives, FineNode}
+use Rattle.htmd_law_documents.proofs.NormalElementLemmas.{IsSource, IsLevel}
 use Rattle.htmd_law_documents.proofs.WrapperTableLemmas.{node-tree}
 use lib.Utf8.{encode}
 
@@ -92,7 +84,7 @@ abbrev mutual
 abbrev pub Content : Role → Simples → Type 0
 Content r content = AreFine content ⊎ ((r ≡ role.Plain) × (IsLed content ⊎ IsLedApart content))
 
-by-content : (A : Type 0) (r : Role) (content : Simples) → (AreFine content → A)
+pub by-content : (A : Type 0) (r : Role) (content : Simples) → (AreFine content → A)
     → (r ≡ role.Plain → IsLed content → A) → (r ≡ role.Plain → IsLedApart content → A)
     → Content r content → A
 by-content A r content f g h (inl k) = f k
@@ -105,19 +97,20 @@ clean-append : (s t : List ℕ) → IsClean s → IsClean t → IsClean (s ++ t)
 clean-append s t g h = record {
   utf8 = IsUtf8-append s t g.utf8 h.utf8;
   seen = all-append is_text_character s t g.seen h.seen;
+  shown = characters-append is_shown s t g.utf8 g.shown h.shown;
 }
 
 feed-clean : IsClean (line_feed ∷ [])
 unfolding encode chars is_utf8
-feed-clean = record { utf8 = IsUtf8-from_is_utf8 (line_feed ∷ []) refl; seen = refl }
+feed-clean = record { utf8 = IsUtf8-from_is_utf8 (line_feed ∷ []) refl; seen = refl; shown = refl }
 
 pub mark-clean : IsClean (quotation_mark ∷ [])
 unfolding encode chars is_utf8
-mark-clean = record { utf8 = IsUtf8-from_is_utf8 (quotation_mark ∷ []) refl; seen = refl }
+mark-clean = record { utf8 = IsUtf8-from_is_utf8 (quotation_mark ∷ []) refl; seen = refl; shown = refl }
 
 dollar-clean : IsClean (dollar_sign ∷ [])
 unfolding encode chars is_utf8
-dollar-clean = record { utf8 = IsUtf8-from_is_utf8 (dollar_sign ∷ []) refl; seen = refl }
+dollar-clean = record { utf8 = IsUtf8-from_is_utf8 (dollar_sign ∷ []) refl; seen = refl; shown = refl }
 
 formula-clean : (tex : List ℕ) → IsClean tex → IsClean (formula_text tex)
 formula-clean tex h =
@@ -244,7 +237,7 @@ one-flow t ts c P i e h =
     (subst (λ (b : Bool). P (cond b (list_parts None (node_of t ∷ []) c ++ []) ((node_of t).whole c ++ [])))
     (sym (ap (has roles.is_item) (node-tree t) ∙ i)) h)
 
-leaf-good : (t : Simple) (ts : Simples) → FineNode (node_of t) → ShowsInLine t → ts ≡ none
+pub leaf-good : (t : Simple) (ts : Simples) → FineNode (node_of t) → ShowsInLine t → ts ≡ none
     → Gives (flow_all (nodes_of (more t ts)))
 leaf-good t ts n s e c f =
     one-flow t ts c (FineFrom c.is_flat (bound c) good) s.no_item e
@@ -256,7 +249,7 @@ leaf-waits t ts s e c f =
     one-flow t ts c (FineFrom c.is_flat (bound c) waiting) s.no_item e
     (fine-from c.is_flat (bound c) waiting ((node_of t).whole c) [] (s.shows c f) (fine-nil c.is_flat (bound c)))
 
-led-waits : (ts : Simples) → IsLed ts → GivesFrom waiting (flow_all (nodes_of ts))
+pub led-waits : (ts : Simples) → IsLed ts → GivesFrom waiting (flow_all (nodes_of ts))
 unfolding node_of
 led-waits none h c f = absurd h
 led-waits (more (anchor id) ts) h c f = (h.0, tt, led-waits ts h.1 c f)
@@ -281,7 +274,7 @@ module _ (c : Context) (f : FitsIn c) (inner : Simples) (ids : AreIds inner) whe
       (tt, tt, ids-alone n c inner ids (edge ∷ []) (fine-alone n good (edge ∷ []) (fine-edges false n))) g
 
 -- the leaf after them
-apart-good : (t : Simple) (ts inner : Simples) → FineNode (node_of t) → ShowsApart t → ts ≡ none
+pub apart-good : (t : Simple) (ts inner : Simples) → FineNode (node_of t) → ShowsApart t → ts ≡ none
     → AreIds inner
     → Gives (λ c. anchors_apart (nodes_of inner) c ++ flow_all (nodes_of (more t ts)) c)
 apart-good t ts inner n s e ids c f =
@@ -291,153 +284,3 @@ apart-good t ts inner n s e ids c f =
     (fine-append c.is_flat (bound c) ((node_of t).whole c) [] (n.whole c f) (fine-nil c.is_flat (bound c))))
     (λ b. one-flow t ts c (FineFrom true (bound c) waiting) s.no_item e
     (fine-from true (bound c) waiting ((node_of t).whole c) [] (s.shows c f b) (fine-nil true (bound c))))
-
--- ---- rows and terms
-
-cells-fine : (nodes : List Node) → FineNodes nodes → FineNodes (filter is_cell nodes)
-cells-fine [] h = tt
-cells-fine (n ∷ nodes) h = either (is_cell n) (cells-fine nodes h.1)
-  where
-    either : (b : Bool) → FineNodes (filter is_cell nodes)
-        → FineNodes (cond b (n ∷ filter is_cell nodes) (filter is_cell nodes))
-    either true g = (h.0, g)
-    either false g = g
-
-either-rows : (a b : Bool) (xs ys : List Row) → RowNodes xs → RowNodes ys → RowNodes (cond a xs (cond b ys []))
-either-rows true b xs ys g h = g
-either-rows false true xs ys g h = h
-either-rows false false xs ys g h = tt
-
--- a plain element is none
-plain-rows : (p : TablePart) (xs ys : List Row) → RowNodes (cond false xs (cond (not (is_some p.id) && false) ys []))
-plain-rows p xs ys =
-    subst (λ (b : Bool). RowNodes (cond false xs (cond b ys []))) (sym (and-false (not (is_some p.id)) refl)) tt
-
--- a group of terms, or a node
-grouped : (nodes : List Node) (n : Node) → FineNodes nodes → FineNode n → (b : Bool)
-    → FineTerms (cond b (gap ∷ map of_node nodes ++ gap ∷ []) (of_node n ∷ []))
-grouped nodes n all f true =
-    (tt, terms-append (map of_node nodes) (gap ∷ []) (nodes-terms nodes all) (tt, tt))
-grouped nodes n all f false = (f, tt)
-
-module _ (id : ℕ) (r : Role) (facts : Facts) (attributes : List AttributePair) (content : Simples)
-    (plain : r ≡ role.Plain) where
-  alone-term : FineNode (node_of (element id r facts attributes content))
-      → FineTerms (parts_of_child (node_of (element id r facts attributes content)) (nodes_of content))
-  unfolding node_of
-  alone-term k =
-      subst (λ (x : Role). FineNode (node_of (element id x facts attributes content))
-      → FineTerms (parts_of_child (node_of (element id x facts attributes content)) (nodes_of content))) (sym plain)
-      (λ m. (m, tt)) k
-
-  plain-node : Gives (flow_all (nodes_of content)) → FineNode (node_of (element id r facts attributes content))
-  unfolding node_of
-  plain-node g =
-      subst (λ (x : Role). FineNode (node_of (element id x facts attributes content))) (sym plain)
-      (record { whole = g; content = g })
-
-no-rows : (p : TablePart) (id : ℕ) (r : Role) (facts : Facts) (attributes : List AttributePair) (content : Simples)
-    → r ≡ role.Plain → RowNodes (rows_at p (element id r facts attributes content))
-unfolding node_of
-no-rows p id r facts attributes content e =
-    subst (λ (x : Role). RowNodes (rows_at p (element id x facts attributes content))) (sym e)
-    (plain-rows p (row_with p (nodes_of content))
-    (rows_among (part_of (element id role.Plain facts attributes content)) content))
-
--- ---- nodes
-
-mutual
-  unfolding node_of
-
-  pub node-fine : (t : Simple) → IsFine t → FineNode (node_of t)
-  node-fine (text s) h = record {
-    whole = run-fine s (clean-run s h);
-    content = λ c f. fine-nil c.is_flat (bound c);
-  }
-  node-fine (image o attributes) h = record {
-    whole = image-fine o attributes h.1 h.0;
-    content = λ c f. fine-nil c.is_flat (bound c);
-  }
-  node-fine (formula tex is_alone attributes) h = record {
-    whole = formula-fine tex is_alone h;
-    content = λ c f. fine-nil c.is_flat (bound c);
-  }
-  node-fine (embedded id address title attributes ids) h = record {
-    whole = embed-fine id address title ids h.0 h.1 h.2 h.3;
-    content = λ c f. fine-nil c.is_flat (bound c);
-  }
-  node-fine (anchor id) h = absurd h
-  node-fine (element id r facts attributes content) h =
-      by-content (FineNode (node_of (element id r facts attributes content))) r content
-      (λ k. record {
-        whole = λ c f. element-fine id facts attributes content (nodes_of content) (rows_of_table content)
-            (terms_of content) h.0 (texts-fine content k) (nodes-fine content k) (rows-fine no_part content k)
-            (terms-fine content k) c f r h.1;
-        content = flow-fine (nodes_of content) (nodes-fine content k);
-      })
-      (λ e k. plain-node id r facts attributes content e (led-fine content k))
-      (λ e k. plain-node id r facts attributes content e (apart-fine content k)) h.2
-
-  pub nodes-fine : (ts : Simples) → AreFine ts → FineNodes (nodes_of ts)
-  nodes-fine none h = tt
-  nodes-fine (more t ts) h = (node-fine t h.0, nodes-fine ts h.1)
-
-  led-fine : (ts : Simples) → IsLed ts → Gives (flow_all (nodes_of ts))
-  led-fine none h c f = absurd h
-  led-fine (more (anchor id) ts) h c f = (h.0, tt, led-waits ts h.1 c f)
-  led-fine (more (text s) ts) h c f = leaf-good (text s) ts (node-fine (text s) h.0) h.1 h.2 c f
-  led-fine (more (image o attributes) ts) h c f =
-      leaf-good (image o attributes) ts (node-fine (image o attributes) h.0) h.1 h.2 c f
-  led-fine (more (formula tex is_alone attributes) ts) h c f =
-      leaf-good (formula tex is_alone attributes) ts (node-fine (formula tex is_alone attributes) h.0) h.1 h.2 c f
-  led-fine (more (embedded id address title attributes ids) ts) h c f =
-      leaf-good (embedded id address title attributes ids) ts
-      (node-fine (embedded id address title attributes ids) h.0) h.1 h.2 c f
-  led-fine (more (element id r facts attributes content) ts) h c f =
-      leaf-good (element id r facts attributes content) ts (node-fine (element id r facts attributes content) h.0) h.1
-      h.2 c f
-
-  apart-fine : (ts : Simples) → IsLedApart ts → Gives (flow_all (nodes_of ts))
-  apart-fine (more (element id role.Anchors facts attributes inner) (more t ts)) h c f =
-      apart-good t ts inner (node-fine t h.1) h.2 h.3 h.0 c f
-  apart-fine ts h c f = absurd h
-
-  -- the rows among nodes of a table
-  rows-fine : (p : TablePart) (ts : Simples) → AreFine ts → RowNodes (rows_among p ts)
-  rows-fine p none h = tt
-  rows-fine p (more t ts) h =
-      rows-append (rows_at p t) (rows_among p ts) (row-fine p t h.0) (rows-fine p ts h.1)
-
-  row-fine : (p : TablePart) (t : Simple) → IsFine t → RowNodes (rows_at p t)
-  row-fine p (text s) h = tt
-  row-fine p (image o attributes) h = tt
-  row-fine p (formula tex is_alone attributes) h = tt
-  row-fine p (embedded id address title attributes ids) h = tt
-  row-fine p (anchor id) h = tt
-  row-fine p (element id r facts attributes content) h =
-      let t : Simple = element id r facts attributes content in
-      by-content (RowNodes (rows_at p t)) r content
-      (λ k. either-rows (has roles.is_row t) (leads_to p t) (row_with p (nodes_of content))
-      (rows_among (part_of t) content)
-      (cells-fine (nodes_of content) (nodes-fine content k), tt) (rows-fine (part_of t) content k))
-      (λ e k. no-rows p id r facts attributes content e) (λ e k. no-rows p id r facts attributes content e) h.2
-
-  -- the parts of a list of terms
-  terms-fine : (ts : Simples) → AreFine ts → FineTerms (terms_of ts)
-  terms-fine none h = tt
-  terms-fine (more t ts) h =
-      terms-append (parts_of_child (node_of t) (nodes_below t)) (terms_of ts) (term-fine t (node-fine t h.0) h.0)
-      (terms-fine ts h.1)
-
-  term-fine : (t : Simple) → FineNode (node_of t) → IsFine t
-      → FineTerms (parts_of_child (node_of t) (nodes_below t))
-  term-fine (text s) n h = (n, tt)
-  term-fine (image o attributes) n h = (n, tt)
-  term-fine (formula tex is_alone attributes) n h = (n, tt)
-  term-fine (embedded id address title attributes ids) n h = (n, tt)
-  term-fine (anchor id) n h = absurd h
-  term-fine (element id r facts attributes content) n h =
-      let t : Simple = element id r facts attributes content in
-      by-content (FineTerms (parts_of_child (node_of t) (nodes_of content))) r content
-      (λ k. grouped (nodes_of content) (node_of t) (nodes-fine content k) n (is_group t))
-      (λ e k. alone-term id r facts attributes content e n) (λ e k. alone-term id r facts attributes content e n) h.2

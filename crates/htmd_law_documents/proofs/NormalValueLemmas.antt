@@ -1,13 +1,13 @@
 -- Values of attributes in normal documents: addresses, titles, descriptions and languages.
-use Rattle.std.proofs.Common.{◌≡◌, ℕ, suc, ◌-◌, Bool, true, false, cond, not, ◌&&◌, ◌||◌, List, [], ◌∷◌, ◌++◌}
-use Rattle.std.proofs.Common.{filter, take, drop, length, refl, sym, ap, ◌∙◌, arith, subst, Option, Some, None, zero}
+use Rattle.std.proofs.Common.{◌≡◌, ℕ, suc, ◌-◌, Bool, true, false, cond, not, ◌&&◌, ◌||◌, List, [], ◌∷◌, ◌++◌, filter}
+use Rattle.std.proofs.Common.{take, drop, length, refl, sym, ap, ◌∙◌, arith, subst, Option, Some, None, zero}
 use Rattle.std.specs.Prelude.{encode_utf8, encode_utf8_all, ◌==◌, nat_lt, nat_le, codes}
 use Rattle.std.specs.List.{list_any, list_all, flat_map, prefix_len, suffix_len, slice_split, onto_first}
 use Rattle.std.specs.Option.{option_or, unwrap_or}
 use Rattle.std.specs.Str.{IsUtf8, is_utf8, chars, bytes_eq}
 use Rattle.std.proofs.lemmas.Bool.Decides.{nat_tests}
 use Rattle.std.proofs.lemmas.Str.{IsUtf8-from_is_utf8, is_utf8-from_IsUtf8, IsUtf8-take, IsUtf8-drop, IsUtf8-nil}
-use Rattle.std.proofs.lemmas.Str.{scalars-chars, encodes-chars, encode_ascii}
+use Rattle.std.proofs.lemmas.Str.{scalars-chars, encodes-chars, encode_ascii, chars-nil}
 use Rattle.std.proofs.lemmas.List.{append-nil}
 use Rattle.htmd_lexical.specs.Characters.{space}
 use Rattle.htmd_lexical.specs.CharacterClasses.{first_is, is_empty}
@@ -18,15 +18,15 @@ use Rattle.htmd_lexical.proofs.Cases.{test}
 use Rattle.htmd_text.specs.Joins.{joined_texts}
 use Rattle.htmd_text.specs.Trims.{trimmed_start, trimmed_text}
 use Rattle.htmd_text.proofs.TrimsLemmas.{OfAscii, start_boundary, end_boundary}
-use Rattle.htmd_shown.specs.Attributes.{value_of, text_of, is_filled, words, in_line, title_of_value}
-use Rattle.htmd_shown.specs.Attributes.{title_of}
+use Rattle.htmd_shown.specs.Attributes.{value_of, text_of, is_filled, words, in_line, title_of_value, title_of}
 use Rattle.htmd_shown.specs.Attributes.{is_space_or_control, is_in_address, address, is_in_name}
 use Rattle.htmd_shown.specs.SimpleTrees.{Simple}
 use Rattle.htmd_flow.specs.Languages.{longest_name, is_name, is_none, name_if, first_name, language_named, only_code}
 use Rattle.htmd_flow.specs.Languages.{found_languages, language_of_block}
 use Rattle.htmd_shown.specs.ShownTexts.{is_shown, shown_text}
-use Rattle.htmd_document.specs.NormalInlines.{is_line_byte, is_line, is_kept, is_attribute, is_title}
-use Rattle.htmd_document.specs.NormalInlines.{has_double_space}
+use Rattle.htmd_document.specs.NormalInlines.{is_line_byte, is_line, is_kept, is_attribute, is_title, has_double_space}
+use Rattle.htmd_document.specs.NormalInlines.{has_title}
+use Rattle.htmd_document.specs.Formats.{Abbreviation}
 use Rattle.htmd_document.specs.NormalDocuments.{is_language_byte, is_language, has_language}
 use Rattle.htmd_law_documents.specs.TreeForms.{is_text_value}
 use Rattle.htmd_law_documents.proofs.VisibleLemmas.{both-true, scalars-filter, shown-shows}
@@ -34,6 +34,7 @@ use Rattle.htmd_law_documents.proofs.PiecesLemmas.{in_line-shows}
 use Rattle.htmd_law_documents.proofs.NormalTextLemmas.{and-true, or-false, not-false, false-true, true-false}
 use Rattle.htmd_law_documents.proofs.NormalTextLemmas.{all-append, PassesWide, encode-passes, ends-append, first-append}
 use Rattle.htmd_law_documents.proofs.NormalTextLemmas.{filled-append, double-append, to-text}
+use Rattle.htmd_law_documents.proofs.NormalLettersLemmas.{shown-characters, line-characters}
 use Rattle.htmd_law_documents.proofs.NormalLeafLemmas.{IsWord, word-code, IsId}
 use Rattle.htmd_law_documents.proofs.NormalCharacterLemmas.{is_solid, solid-single, solid-begins, solid-ends}
 use Rattle.htmd_law_documents.proofs.NormalPartsLemmas.{is_text_character, IsRun}
@@ -104,18 +105,20 @@ chars-pass p wide s u h = decodes-pass p wide (chars s) (ap (list_all p) (encode
 pub record IsClean (s : List ℕ) : Type 0 where
   pub utf8 : IsUtf8 s
   pub seen : list_all is_text_character s ≡ true
+  -- each of its characters shows
+  pub shown : list_all is_shown (chars s) ≡ true
 
 pub clean-nil : IsClean []
-clean-nil = record { utf8 = IsUtf8-nil; seen = refl }
+clean-nil = record { utf8 = IsUtf8-nil; seen = refl; shown = ap (list_all is_shown) chars-nil }
 
 pub text-wide : PassesWide is_text_character
 text-wide b l = grind (arith, nat_tests)
 
+pub text-run : (s : List ℕ) → IsUtf8 s → list_all is_text_character s ≡ true → IsRun s
+text-run s u h = record { scalar = scalars-chars s u; seen = chars-pass is_text_character text-wide s u h }
+
 pub clean-run : (s : List ℕ) → IsClean s → IsRun s
-clean-run s h = record {
-  scalar = scalars-chars s h.utf8;
-  seen = chars-pass is_text_character text-wide s h.utf8 h.seen;
-}
+clean-run s h = text-run s h.utf8 h.seen
 
 pub utf8-trimmed : (p : ℕ → Bool) → OfAscii p → (s : List ℕ) → IsUtf8 s → IsUtf8 (trimmed_text p s)
 utf8-trimmed p ascii s h =
@@ -124,14 +127,12 @@ utf8-trimmed p ascii s h =
     (IsUtf8-drop s (prefix_len p s) h (start_boundary p s h ascii))
     (end_boundary p start ascii)
 
-pub clean-trimmed : (p : ℕ → Bool) → OfAscii p → (s : List ℕ) → IsClean s → IsClean (trimmed_text p s)
-clean-trimmed p ascii s h =
+pub seen-trimmed : (p : ℕ → Bool) (s : List ℕ) → list_all is_text_character s ≡ true
+    → list_all is_text_character (trimmed_text p s) ≡ true
+seen-trimmed p s h =
     let start : List ℕ = trimmed_start p s in
-    record {
-      utf8 = utf8-trimmed p ascii s h.utf8;
-      seen = all-take is_text_character (length start - suffix_len p start) start
-          (all-drop is_text_character (prefix_len p s) s h.seen);
-    }
+    all-take is_text_character (length start - suffix_len p start) start
+    (all-drop is_text_character (prefix_len p s) s h)
 
 seen-shown : (cs : List ℕ) → list_all is_text_character (filter is_shown cs) ≡ true
 seen-shown [] = refl
@@ -150,6 +151,7 @@ pub shown-clean : (s : List ℕ) → IsUtf8 s → IsClean (shown_text s)
 shown-clean s u = record {
   utf8 = (shown-shows s u).utf8;
   seen = encodes-pass is_text_character text-wide (filter is_shown (chars s)) (seen-shown (chars s));
+  shown = shown-characters s u;
 }
 
 -- ---- addresses
@@ -273,6 +275,7 @@ in_line-clean s u =
     record {
       utf8 = (in_line-shows s u).utf8;
       seen = all-less is_line_byte is_text_character plain-text (in_line s) parts.1;
+      shown = line-characters s u;
     }
 
 -- ---- words in one line
@@ -456,3 +459,17 @@ value-text attributes name h = at (value_of name attributes) refl
 pub title_of-fine : (attributes : List AttributePair) → AreTexts attributes → is_title (title_of attributes)
     ≡ true
 title_of-fine attributes h = title-fine (value_of (codes "title") attributes) (h (codes "title"))
+
+-- the title of an abbreviation, if there is one
+abbrev pub IsTitled : Option (List ℕ) → Type 0
+IsTitled None = Unit {0}
+IsTitled (Some title) = has_title (Abbreviation title) ≡ true
+
+titled-fine : (o : Option (List ℕ)) → ((s : List ℕ) → o ≡ Some s → IsUtf8 s) → IsTitled (title_of_value o)
+titled-fine None h = tt
+titled-fine (Some s) h = test (is_filled (in_line s))
+    (λ e. subst (λ (c : Bool). IsTitled (cond c (Some (in_line s)) None)) (sym e) (in_line-id s (h s refl) e))
+    (λ e. subst (λ (c : Bool). IsTitled (cond c (Some (in_line s)) None)) (sym e) tt)
+
+pub title_of-titled : (attributes : List AttributePair) → AreTexts attributes → IsTitled (title_of attributes)
+title_of-titled attributes h = titled-fine (value_of (codes "title") attributes) (h (codes "title"))

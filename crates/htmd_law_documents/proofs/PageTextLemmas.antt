@@ -210,7 +210,7 @@ object-is id attributes content inner (Some found) h k =
     either-is (are_blank content) (embed id attributes (Some found)) (Some (made id role.Plain attributes content))
     found.title inner (embed-is id attributes (Some found) h) k
 
-module _ (around : Surroundings) (source : Option (List ℕ)) (id : ℕ) (name : List ℕ)
+module _ (is_rich : Bool) (around : Surroundings) (source : Option (List ℕ)) (id : ℕ) (name : List ℕ)
     (attributes : List AttributePair)
     (children : NumberedForest) (g : list_all is_text_value attributes ≡ true) (h : are_text_trees children ≡ true)
     (content : Simples) (inner : List ℕ) (e : is_void (role_of name) ≡ true → content ≡ none)
@@ -226,7 +226,7 @@ module _ (around : Surroundings) (source : Option (List ℕ)) (id : ℕ) (name :
 
   -- the rules in their order, each with what is said by it
   abbrev by-role : Option Simple
-  by-role = with_content around.in_head id name attributes children content
+  by-role = with_content is_rich around.in_head id name attributes children content
 
   abbrev as-object : Option Simple
   as-object = cond (bytes_eq name (codes "object")) (object id attributes content found) by-role
@@ -249,11 +249,11 @@ module _ (around : Surroundings) (source : Option (List ℕ)) (id : ℕ) (name :
   -- no permalink
   content-is : Is (said_by by-role) inner
   content-is =
-      let kept : Simple = made id (role_at name attributes children) attributes content in
+      let kept : Simple = made id (role_at is_rich name attributes children) attributes content in
       subst (λ (b : Bool). Is (said_by (cond b (target id attributes) (Some kept))) inner) (sym l)
       (is-same (text_of_simple true false kept) (said_in content) inner
-      (element-said id (role_at name attributes children) attributes content
-      (λ v. e (role-void (role_of name) attributes children v))) i)
+      (element-said id (role_at is_rich name attributes children) attributes content
+      (λ v. e (role-void is_rich (role_of name) attributes children v))) i)
 
   rest-is : Is (said_by (cond (is_image name attributes) an-image as-embedded))
       (cond (is_image name attributes) alt embedded-text)
@@ -266,7 +266,7 @@ module _ (around : Surroundings) (source : Option (List ℕ)) (id : ℕ) (name :
       (text_of_object (are_blank content) inner found) inner
       (object-is id attributes content inner found embedding-sound i) content-is))
 
-  by-name-is : Is (said_by (by_content around source id name attributes children content))
+  by-name-is : Is (said_by (by_content is_rich around source id name attributes children content))
       (text_by_name name attributes children (are_blank content) inner)
   by-name-is =
       let hidden : is_hidden around name attributes ≡ is_among hidden_names name =
@@ -324,15 +324,15 @@ mutual
       subst (λ (b : Bool). Is (said_in (cond b none body)) inner) (sym emptied)
       (emptied-is (is_void (role_of name)) body (in_marks is_quoted said) kept) in
       either-is (is_skipped sight name) None
-      (formula_or name attributes (by_content around source id name attributes children content)
+      (formula_or name attributes (by_content sight.is_rich around source id name attributes children content)
       (tex_of name attributes children)) []
       (formula_or_text (text_by_name name attributes children (are_blank content) inner)
       (tex_of name attributes children))
       is-nil
-      (formula-is name attributes (by_content around source id name attributes children content)
+      (formula-is name attributes (by_content sight.is_rich around source id name attributes children content)
       (text_by_name name attributes children (are_blank content) inner) (tex_of name attributes children)
       (tex-good name attributes children parts.0 parts.1)
-      (by-name-is around source id name attributes children parts.0 parts.1 content inner
+      (by-name-is sight.is_rich around source id name attributes children parts.0 parts.1 content inner
       (λ v. ap (λ b. cond b none body) (emptied ∙ v)) here no-number (not-true link free.1)))
 
   nodes-are : (sight : Sight) (around : Surroundings) (source : Option (List ℕ))

@@ -45,10 +45,10 @@ line_feed-white = record { ascii = small; white = λ b e. ap is_white (same b e)
 
 -- ---- where a text is cut
 
-record IsCut (xs : List ℕ) (b : ℕ) (ys : List ℕ) : Type 0 where
-  front : IsUtf8 xs
-  rest : IsUtf8 ys
-  is : visible (xs ++ b ∷ ys) ≡ visible xs ++ visible ys
+pub record IsCut (xs : List ℕ) (b : ℕ) (ys : List ℕ) : Type 0 where
+  pub front : IsUtf8 xs
+  pub rest : IsUtf8 ys
+  pub is : visible (xs ++ b ∷ ys) ≡ visible xs ++ visible ys
 
 white-visible : (b : ℕ) (ys : List ℕ) → b < 128 → is_white b ≡ true → visible (b ∷ ys) ≡ visible ys
 white-visible b ys l w =
@@ -56,7 +56,7 @@ white-visible b ys l w =
     ∙ (filter-append is_visible (b ∷ []) (chars ys)
     ∙ ap (λ t. t ++ filter is_visible (chars ys)) (white-unseen b w))
 
-cut : (xs : List ℕ) (b : ℕ) (ys : List ℕ) → b < 128 → is_white b ≡ true → IsUtf8 (xs ++ b ∷ ys)
+pub cut : (xs : List ℕ) (b : ℕ) (ys : List ℕ) → b < 128 → is_white b ≡ true → IsUtf8 (xs ++ b ∷ ys)
     → IsCut xs b ys
 cut xs b ys l w u =
     let n : ℕ = length xs in
@@ -86,11 +86,11 @@ pub record PiecesShow (pieces : List (List ℕ)) (cs : List ℕ) : Type 0 where
   pub is : cs ≡ pieces_seen pieces
 
 -- a text before the first piece
-abbrev onto : List ℕ → List (List ℕ) → List (List ℕ)
+abbrev pub onto : List ℕ → List (List ℕ) → List (List ℕ)
 onto xs [] = xs ∷ []
 onto xs (s ∷ pieces) = (xs ++ s) ∷ pieces
 
-onto-more : (xs : List ℕ) (b : ℕ) (pieces : List (List ℕ))
+pub onto-more : (xs : List ℕ) (b : ℕ) (pieces : List (List ℕ))
     → onto xs (onto_first b pieces) ≡ onto (xs ++ b ∷ []) pieces
 onto-more xs b [] = refl
 onto-more xs b (s ∷ pieces) = ap (λ t. t ∷ pieces) (sym (append_assoc xs (b ∷ []) s))
@@ -101,7 +101,7 @@ onto-either true b pieces = refl
 onto-either false b [] = refl
 onto-either false b (s ∷ pieces) = refl
 
-onto-none : (p : ℕ → Bool) (s : List ℕ) → onto [] (slice_split p s) ≡ slice_split p s
+pub onto-none : (p : ℕ → Bool) (s : List ℕ) → onto [] (slice_split p s) ≡ slice_split p s
 onto-none p [] = refl
 onto-none p (b ∷ s) = onto-either (p b) b (slice_split p s)
 

@@ -1,6 +1,6 @@
 -- What a reader takes from the texts of documents and of trees, by what stands around them.
 use Rattle.std.proofs.Common.{◌≡◌, ℕ, Bool, true, false, List, [], ◌∷◌, ◌++◌, map, refl, sym, ap, ◌∙◌}
-use Rattle.std.specs.Prelude.{not, ◌&&◌, if◌then◌else◌, codes, Option, None, is_some}
+use Rattle.std.specs.Prelude.{not, ◌&&◌, ◌||◌, if◌then◌else◌, codes, Option, None, is_some}
 use Rattle.std.specs.List.{flat_map}
 use Rattle.std.specs.Str.{IsUtf8}
 use Rattle.std.proofs.lemmas.Str.{IsUtf8-nil}
@@ -10,20 +10,23 @@ use Rattle.htmd_shown.specs.declared.role.Role.{Role}
 use Rattle.htmd_shown.specs.declared.role.Role.TheVariants as role
 use Rattle.htmd_shown.specs.AllTexts.{all_text_among, dollar_sign}
 use Rattle.htmd_shown.specs.Attributes.{text_of}
+use Rattle.htmd_shown.specs.Showings.{show}
 use Rattle.htmd_shown.specs.SimpleTrees as simple
 use Rattle.htmd_shown.specs.SimpleTrees.{Simple, Simples, none, more}
-use Rattle.htmd_flow.specs.Contexts.{Context, inside_link, in_code}
+use Rattle.htmd_flow.specs.Contexts.{Context, inside_link, in_code, has_elements}
 use Rattle.htmd_document.specs.Formats.{Format}
 use Rattle.htmd_document.specs.Documents.{Inline, text, code, formatted, link, image, line_break, task}
 use Rattle.htmd_document.specs.Documents.{anchor}
 use Rattle.htmd_document.specs.Documents.{Inlines, no_inlines, inline, Block, paragraph, heading, code_block, quote}
+use Rattle.htmd_document.specs.Documents.{element, tags}
 use Rattle.htmd_document.specs.Documents.{thematic_break, list, table, Blocks, no_blocks, block, Items, no_items, item}
-use Rattle.htmd_flow.specs.Flows.{is_grid_of}
+use Rattle.htmd_flow.specs.Flows.{around_node, is_grid_of}
 use Rattle.htmd_flow.specs.Parts as part
 use Rattle.htmd_law_documents.specs.DocumentTexts.{visible}
 use Rattle.htmd_law_documents.specs.SimpleForms.{IsMade, IsSound, AreSound}
 use Rattle.htmd_law_documents.specs.TreeWrappers.{inside, inside_verbatim, inside_cell}
-use Rattle.htmd_law_documents.proofs.VisibleLemmas.{Shows, shows-nil}
+use Rattle.htmd_law_documents.proofs.VisibleLemmas.{Shows, shows-nil, and-false}
+use Rattle.htmd_law_documents.proofs.ElementLemmas.{false-true}
 
 -- what is taken from a text in these wrappers: piece by piece, and the same from the same visible characters; and what
 -- of an anchor
@@ -48,6 +51,35 @@ is_of_table role.TableHead = true
 is_of_table role.TableBody = true
 is_of_table role.Row = true
 is_of_table _ = false
+
+-- an element for anchors alone
+abbrev pub is_for_anchors : Role → Bool
+is_for_anchors role.Anchors = true
+is_for_anchors _ = false
+
+-- Anchors stand right in an element that isn't blank, in which something shows, and no table, part or row of one; and
+-- in one for anchors alone if they may stand where it does.
+abbrev pub holds_anchors : Bool → Role → Facts → Simples → Bool
+holds_anchors here r facts content =
+    (is_for_anchors r && here) || (not (is_of_table r) && (not facts.is_blank && show true content))
+
+-- where none may stand, none does in what is blank, or shows nothing
+pub none-held : (r : Role) (facts : Facts) (content : Simples) → (not facts.is_blank && show true content) ≡ false
+    → holds_anchors false r facts content ≡ false
+none-held r facts content e =
+    let other : Bool = not (is_of_table r) && (not facts.is_blank && show true content) in
+    ap (λ b. b || other) (and-false (is_for_anchors r))
+    ∙ (ap (λ b. not (is_of_table r) && b) e ∙ and-false (not (is_of_table r)))
+
+-- nor right in a table, a part of one, or a row
+pub none-in-table : (here : Bool) (r : Role) (facts : Facts) (content : Simples) → is_of_table r ≡ true
+    → holds_anchors here r facts content ≡ false
+none-in-table here r facts content e =
+    ap (λ b. (is_for_anchors r && here) || (not b && (not facts.is_blank && show true content))) e ∙ other r e
+  where
+    other : (r : Role) → is_of_table r ≡ true → ((is_for_anchors r && here) || false) ≡ false
+    other role.Anchors e = false-true e
+    other r e = refl
 
 module _ (R : Reader) where
   -- nothing is taken from what doesn't show
@@ -83,6 +115,8 @@ module _ (R : Reader) where
     read_block (code_block language s) = R.read [] true s
     read_block (quote content) = read_blocks content
     read_block thematic_break = []
+    read_block (element name attributes content) = read_blocks content
+    read_block (tags s) = []
     read_block (list start is_tight items) = read_items items
     read_block (table alignments header rows) = read_cells header ++ flat_map read_cells rows
 
@@ -127,7 +161,8 @@ module _ (R : Reader) where
       read_in (inside_verbatim context) all
   read_by role.Verbatim id facts attributes all holds_grid inner context in_grid =
       read_in (inside_verbatim context) all
-  read_by role.Table id facts attributes all holds_grid inner context in_grid = inner context holds_grid
+  read_by role.Table id facts attributes all holds_grid inner context in_grid =
+      inner context (holds_grid && not (has_elements context))
   read_by role.TableHead id facts attributes all holds_grid inner context in_grid = inner context in_grid
   read_by role.TableBody id facts attributes all holds_grid inner context in_grid = inner context in_grid
   read_by role.Row id facts attributes all holds_grid inner context in_grid = inner context in_grid
@@ -147,8 +182,8 @@ module _ (R : Reader) where
         flat_map R.mark anchors ++ read_in (inside_link id address None context) title
     read_tree (simple.anchor id) context in_grid = R.mark id
     read_tree (simple.element id r facts attributes content) context in_grid =
-        read_by r id facts attributes (all_text_among content) (is_grid_of content) (read_trees content) context
-        in_grid
+        read_by r id facts attributes (all_text_among content) (is_grid_of content) (read_trees content)
+        (around_node (simple.element id r facts attributes content) context) in_grid
 
     pub read_trees : Simples → Context → Bool → List R.Seen
     read_trees none context in_grid = []
@@ -156,10 +191,6 @@ module _ (R : Reader) where
         read_tree tree context in_grid ++ read_trees trees context in_grid
 
   -- ---- where anchors stand
-
-  -- right in an element that isn't blank, and no table, part or row of one
-  abbrev pub holds_anchors : Role → Facts → Bool
-  holds_anchors r facts = not facts.is_blank && not (is_of_table r)
 
   abbrev mutual
     -- a node of texts as it is made, in which anchors stand so, or nothing is taken of them; here: one may stand here
@@ -170,7 +201,7 @@ module _ (R : Reader) where
     IsFit here (simple.embedded id address title attributes anchors) = IsUtf8 title
     IsFit here (simple.anchor id) = here ≡ false → R.mark id ≡ []
     IsFit here (simple.element id r facts attributes content) =
-        IsMade r facts content × AreFit (holds_anchors r facts) content
+        IsMade r facts content × AreFit (holds_anchors here r facts content) content
 
     pub AreFit : Bool → Simples → Type 0
     AreFit here none = Unit {0}
@@ -184,7 +215,7 @@ module _ (R : Reader) where
     fit-sound here (simple.embedded id address title attributes anchors) u = u
     fit-sound here (simple.anchor id) u = tt
     fit-sound here (simple.element id r facts attributes content) u =
-        (u.0, all-fit-sound (holds_anchors r facts) content u.1)
+        (u.0, all-fit-sound (holds_anchors here r facts content) content u.1)
 
     pub all-fit-sound : (here : Bool) (ts : Simples) → AreFit here ts → AreSound ts
     all-fit-sound here none u = tt
@@ -204,7 +235,7 @@ module _ (R : Reader) where
       sound-fit here (simple.embedded id address title attributes anchors) u = u
       sound-fit here (simple.anchor id) u = λ e. silent id
       sound-fit here (simple.element id r facts attributes content) u =
-          (u.0, all-sound-fit (holds_anchors r facts) content u.1)
+          (u.0, all-sound-fit (holds_anchors here r facts content) content u.1)
 
       pub all-sound-fit : (here : Bool) (ts : Simples) → AreSound ts → AreFit here ts
       all-sound-fit here none u = tt

@@ -20,8 +20,9 @@ use Rattle.htmd_document_of_tree.specs.Anchors.{placing_after_all, placed, all_p
 use Rattle.htmd_document_of_tree.specs.Anchors.{targets_by, anchored}
 use Rattle.htmd_document_of_tree.specs.FirstPieces.{most_linked, unlinked, cut_leaf, cut, cut_all, pieced, pieced_all}
 use Rattle.htmd_document_of_tree.specs.Limits.{size, cost, paid, left_after, within, all_within, budget}
+use Rattle.htmd_document_of_tree.specs.Limits.{is_carrying, emptied}
 use Rattle.htmd_document_of_tree.specs.Limits.{limited}
-use Rattle.htmd_document_of_tree.specs.Seen.{image_shows, code_shows}
+use Rattle.htmd_shown.specs.Showings.{image_shows, code_shows}
 use Rattle.htmd_document_of_tree.specs.Targets.{Target}
 use Rattle.htmd_law_documents.specs.DocumentTexts.{visible}
 use Rattle.htmd_law_documents.specs.SaidTexts.{SaysUnless, Says, SayAll}
@@ -207,10 +208,10 @@ last-silent [] = tt
 last-silent (t ∷ targets) =
     (apart-silent (anchors (values_of (t ∷ targets))) (anchors-silent (values_of (t ∷ targets))), tt)
 
-pub anchored-say : (which : Anchors) (ts : Simples) (f g : Bool) (cs : List ℕ) → SayAll f g (anchored which ts) cs
-    → SayAll f g ts cs
-anchored-say which ts f g cs x =
-    let p : Placing = record { seen = 0; targets = targets_by which ts } in
+pub anchored-say : (which : Anchors) (is_rich : Bool) (ts : Simples) (f g : Bool) (cs : List ℕ)
+    → SayAll f g (anchored which is_rich ts) cs → SayAll f g ts cs
+anchored-say which is_rich ts f g cs x =
+    let p : Placing = record { seen = 0; targets = targets_by which is_rich ts } in
     let last : List Target = (placing_after_all p ts).targets in
     all-placed-say p ts f g cs (back-says (all_placed p ts) (last_anchors last) f g cs (last-silent last) x)
 
@@ -280,19 +281,20 @@ mutual
 
 -- ---- the budget of links
 
--- a link without an address says what the link says
-link-says : (id : ℕ) (r : Role) (facts : Facts) (attributes : List AttributePair) (content : Simples) (f g : Bool)
-    (cs : List ℕ) → is_link r ≡ true → Says f g (element id role.Target facts attributes content) cs
+-- a link without an address says what the link says, and so does an abbreviation without its title
+carrying-says : (id : ℕ) (r : Role) (facts : Facts) (attributes : List AttributePair) (content : Simples) (f g : Bool)
+    (cs : List ℕ) → is_carrying r ≡ true → Says f g (element id (emptied r) facts attributes content) cs
     → Says f g (element id r facts attributes content) cs
-link-says id role.Link facts attributes content f g cs e x = x
-link-says id r facts attributes content f g cs e x = false-true e
+carrying-says id role.Link facts attributes content f g cs e x = x
+carrying-says id role.Abbreviation facts attributes content f g cs e x = x
+carrying-says id r facts attributes content f g cs e x = false-true e
 
 element-within : (b : Bool) (id : ℕ) (r : Role) (facts : Facts) (attributes : List AttributePair) (content : Simples)
-    → (b ≡ true → is_link r ≡ true) → (f g : Bool) (cs : List ℕ)
-    → Says f g (element id (cond b role.Target r) facts attributes content) cs
+    → (b ≡ true → is_carrying r ≡ true) → (f g : Bool) (cs : List ℕ)
+    → Says f g (element id (cond b (emptied r) r) facts attributes content) cs
     → Says f g (element id r facts attributes content) cs
 element-within true id r facts attributes content h f g cs x =
-    link-says id r facts attributes content f g cs (h refl) x
+    carrying-says id r facts attributes content f g cs (h refl) x
 element-within false id r facts attributes content h f g cs x = x
 
 mutual
@@ -307,10 +309,10 @@ mutual
       let now : Option ℕ = paid left (cost r facts attributes) in
       inner-says id r facts attributes (all_within now content) content
       (λ k l ds z. all-within-say now content k l ds z) f g cs
-      (element-within (not (is_some now) && is_link r && nat_lt 0 (size attributes)) id r facts attributes
+      (element-within (not (is_some now) && is_carrying r && nat_lt 0 (size r attributes)) id r facts attributes
       (all_within now content)
-      (λ e. (both-true (not (is_some now)) (is_link r)
-      (both-true (not (is_some now) && is_link r) (nat_lt 0 (size attributes)) e).0).1) f g cs x)
+      (λ e. (both-true (not (is_some now)) (is_carrying r)
+      (both-true (not (is_some now) && is_carrying r) (nat_lt 0 (size r attributes)) e).0).1) f g cs x)
 
   pub all-within-say : (left : Option ℕ) (ts : Simples) (f g : Bool) (cs : List ℕ)
       → SayAll f g (all_within left ts) cs

@@ -34,6 +34,9 @@ use Rattle.htmd_shown.specs.LineNumbers.{is_number_cell, has_numbered_rows}
 use Rattle.htmd_shown.specs.Permalinks.{is_permalink}
 use Rattle.htmd_shown.specs.Repeats.{is_repeat, last_element, leads_to_script}
 use Rattle.htmd_shown.specs.Roles.{is_among, is_void, role_of}
+use Rattle.htmd_shown.specs.Shown.{plain_element}
+use Rattle.htmd_document.specs.declared.document.InlineElement.TheVariants.{Superscript, Subscript, Inserted}
+use Rattle.htmd_document.specs.declared.document.InlineElement.TheVariants.{Underlined, Marked, Small, Keyboard}
 use Rattle.htmd_shown.specs.Shown.{Sight, Surroundings, nowhere, inside, is_for_layout, role_by, role_at, raised_by}
 use Rattle.htmd_shown.specs.Shown.{raised_one, format_of, formats_after, raised, with_one, followed_by, marks, marked}
 use Rattle.htmd_shown.specs.Shown.{is_led_to, target, with_content, embed, object, is_skipped, is_hidden, is_emptied}
@@ -266,21 +269,39 @@ made-sound : (id : ℕ) (r : Role) (attributes : List AttributePair) (content : 
     → (is_void r ≡ true → content ≡ none) → AreSound content → IsSound (made id r attributes content)
 made-sound id r attributes content e u = (record { empty = e; blank = λ h. h }, u)
 
+element-void : (is_rich : Bool) (e : InlineElement)
+    → is_void (cond is_rich (role.Element e) (plain_element e)) ≡ true → is_void (role.Element e) ≡ true
+element-void true e h = h
+element-void false Superscript h = h
+element-void false Subscript h = h
+element-void false Inserted h = h
+element-void false Underlined h = h
+element-void false Marked h = h
+element-void false Small h = h
+element-void false Keyboard h = h
+
 -- what an element is doesn't make it void
-pub role-void : (r : Role) (attributes : List AttributePair) (children : NumberedForest)
-    → is_void (role_by r attributes children) ≡ true → is_void r ≡ true
-role-void role.Link attributes children h = either (has_attribute (codes "href") attributes) h
+pub role-void : (is_rich : Bool) (r : Role) (attributes : List AttributePair) (children : NumberedForest)
+    → is_void (role_by is_rich r attributes children) ≡ true → is_void r ≡ true
+role-void is_rich role.Link attributes children h = either (has_attribute (codes "href") attributes) h
   where
     either : (b : Bool) → is_void (cond b role.Link role.Target) ≡ true → is_void role.Link ≡ true
     either true e = e
     either false e = e
-role-void role.Table attributes children h =
+role-void is_rich role.Table attributes children h =
     either (is_for_layout attributes || has_numbered_rows children) h
   where
     either : (b : Bool) → is_void (cond b role.LayoutTable role.Table) ≡ true → is_void role.Table ≡ true
     either true e = e
     either false e = e
-role-void r attributes children h = h
+role-void is_rich (role.Element e) attributes children h = element-void is_rich e h
+role-void is_rich role.Abbreviation attributes children h = either is_rich h
+  where
+    either : (b : Bool) → is_void (cond b role.Abbreviation role.Plain) ≡ true
+        → is_void role.Abbreviation ≡ true
+    either true e = e
+    either false e = e
+role-void is_rich r attributes children h = h
 
 with-one-sound : (o : Option Simple) (ts : Simples) → Sound o → AreSound ts → AreSound (with_one o ts)
 with-one-sound None ts g h = h
@@ -350,19 +371,19 @@ formula-sound : (name : List ℕ) (attributes : List AttributePair) (other : Opt
 formula-sound name attributes other None g h = h
 formula-sound name attributes other (Some tex) g h = one-node _ (g.is tex refl)
 
-module _ (around : Surroundings) (source : Option (List ℕ)) (id : ℕ) (name : List ℕ)
+module _ (is_rich : Bool) (around : Surroundings) (source : Option (List ℕ)) (id : ℕ) (name : List ℕ)
     (attributes : List AttributePair)
     (children : NumberedForest) (g : list_all is_text_value attributes ≡ true) (h : are_text_trees children ≡ true)
     (content : Simples) (u : AreSound content)
     (e : is_void (role_of name) ≡ true → content ≡ none) where
-  content-sound : (in_head : Bool) → Sound (with_content in_head id name attributes children content)
+  content-sound : (in_head : Bool) → Sound (with_content is_rich in_head id name attributes children content)
   content-sound in_head =
       either-node (bytes_eq name (codes "a") && is_permalink in_head attributes content) (target-sound id attributes)
-      (one-node (made id (role_at name attributes children) attributes content)
-      (made-sound id (role_at name attributes children) attributes content
-      (λ v. e (role-void (role_of name) attributes children v)) u))
+      (one-node (made id (role_at is_rich name attributes children) attributes content)
+      (made-sound id (role_at is_rich name attributes children) attributes content
+      (λ v. e (role-void is_rich (role_of name) attributes children v)) u))
 
-  by-content-sound : Sound (by_content around source id name attributes children content)
+  by-content-sound : Sound (by_content is_rich around source id name attributes children content)
   by-content-sound =
       either-node (is_hidden around name attributes) no-node
       (either-node (is_image name attributes) (one-node _ (value-good (codes "alt") attributes g))
@@ -396,9 +417,9 @@ mutual
       (all-sound sight (inside name children around) (picture_source name children) None children parts.1)) in
       let content : Simples = cond (is_emptied around name attributes) none all in
       either-node (is_skipped sight name) no-node
-      (formula-sound name attributes (by_content around source id name attributes children content)
+      (formula-sound name attributes (by_content sight.is_rich around source id name attributes children content)
       (tex_of name attributes children) (tex-good name attributes children parts.0 parts.1)
-      (by-content-sound around source id name attributes children parts.0 parts.1 content
+      (by-content-sound sight.is_rich around source id name attributes children parts.0 parts.1 content
       (emptied (is_emptied around name attributes) all sound)
       (λ v. ap (λ b. cond b none all)
       (ap (λ b. b || (around.in_numbered_row && is_number_cell name attributes)) v))))

@@ -23,8 +23,8 @@ use Rattle.htmd_document_of_tree.specs.Anchors.{placing_after_all, placed, all_p
 use Rattle.htmd_document_of_tree.specs.Anchors.{targets_by, anchored}
 use Rattle.htmd_document_of_tree.specs.FirstPieces.{most_linked, unlinked, cut_leaf, cut, cut_all, pieced, pieced_all}
 use Rattle.htmd_document_of_tree.specs.Limits.{size, cost, paid, left_after, affordable, within, all_within, budget}
-use Rattle.htmd_document_of_tree.specs.Limits.{limited}
-use Rattle.htmd_document_of_tree.specs.Seen.{image_shows, code_shows}
+use Rattle.htmd_document_of_tree.specs.Limits.{limited, emptied, is_carrying}
+use Rattle.htmd_shown.specs.Showings.{image_shows, code_shows}
 use Rattle.htmd_document_of_tree.specs.Targets.{Target}
 use Rattle.htmd_law_documents.specs.SimpleForms.{IsMade, IsSound, AreSound}
 use Rattle.htmd_law_documents.proofs.VisibleLemmas.{both-true}
@@ -59,20 +59,21 @@ no-forest t ts e = absurd (clash e)
 
 -- ---- the budget of links
 
-link-no-void : (r : Role) → is_link r ≡ true → is_void r ≡ false
-link-no-void role.Link e = refl
-link-no-void r e = false-true e
+emptied-void : (r : Role) → is_carrying r ≡ true → is_void (emptied r) ≡ is_void r
+emptied-void role.Link e = refl
+emptied-void role.Abbreviation e = refl
+emptied-void r e = false-true e
 
-affordable-void : (b : Bool) (r : Role) → (b ≡ true → is_link r ≡ true)
-    → is_void (cond b role.Target r) ≡ is_void r
-affordable-void true r h = sym (link-no-void r (h refl))
+affordable-void : (b : Bool) (r : Role) → (b ≡ true → is_carrying r ≡ true)
+    → is_void (cond b (emptied r) r) ≡ is_void r
+affordable-void true r h = emptied-void r (h refl)
 affordable-void false r h = refl
 
 module _ (left : Option ℕ) (r : Role) (attributes : List AttributePair) where
   as-void : is_void (affordable left r attributes) ≡ is_void r
-  as-void = affordable-void (not (is_some left) && is_link r && nat_lt 0 (size attributes)) r
-      (λ e. (both-true (not (is_some left)) (is_link r)
-      (both-true (not (is_some left) && is_link r) (nat_lt 0 (size attributes)) e).0).1)
+  as-void = affordable-void (not (is_some left) && is_carrying r && nat_lt 0 (size r attributes)) r
+      (λ e. (both-true (not (is_some left)) (is_carrying r)
+      (both-true (not (is_some left) && is_carrying r) (nat_lt 0 (size r attributes)) e).0).1)
 
 within-blank : (left : Option ℕ) (t : Simple) → is_blank (within left t) ≡ is_blank t
 within-blank left (text s) = refl
@@ -135,7 +136,8 @@ mutual
 nothing-filled : is_filled [] ≡ false
 nothing-filled = grind (arith, nat_tests)
 
-blank-code : (content : Simples) → AreSound content → are_blank content ≡ true → code_shows content ≡ false
+pub blank-code : (content : Simples) → AreSound content → are_blank content ≡ true
+    → code_shows content ≡ false
 blank-code content u e = ap is_filled (blanks-letters content u e) ∙ nothing-filled
 
 -- ---- anchors
@@ -236,9 +238,10 @@ last-sound [] = tt
 last-sound (t ∷ targets) =
     (apart-sound (anchors (values_of (t ∷ targets))) (anchors-sound (values_of (t ∷ targets))), tt)
 
-pub anchored-sound : (which : Anchors) (ts : Simples) → AreSound ts → AreSound (anchored which ts)
-anchored-sound which ts u =
-    let p : Placing = record { seen = 0; targets = targets_by which ts } in
+pub anchored-sound : (which : Anchors) (is_rich : Bool) (ts : Simples) → AreSound ts
+    → AreSound (anchored which is_rich ts)
+anchored-sound which is_rich ts u =
+    let p : Placing = record { seen = 0; targets = targets_by which is_rich ts } in
     let last : List Target = (placing_after_all p ts).targets in
     followed-sound (all_placed p ts) (last_anchors last) (all-placed-kept p ts u).sound (last-sound last)
 

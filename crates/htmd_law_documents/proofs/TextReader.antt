@@ -1,8 +1,8 @@
 -- The reader that takes the visible characters alone, and whether texts are UTF-8.
 use Rattle.std.proofs.Common.{◌≡◌, ℕ, Bool, true, false, cond, List, [], ◌∷◌, ◌++◌, map, refl, sym, ap, ◌∙◌}
-use Rattle.std.proofs.Common.{Option, Some, None}
+use Rattle.std.proofs.Common.{Option, Some, None, subst}
 use Rattle.std.specs.Prelude.{if◌then◌else◌, is_some, codes, not, ◌&&◌}
-use Rattle.std.specs.List.{flat_map, list_all}
+use Rattle.std.specs.List.{flat_map, list_all, list_any}
 use Rattle.std.specs.Str.{is_utf8, IsUtf8}
 use Rattle.std.proofs.lemmas.List.{map-append}
 use Rattle.std.proofs.lemmas.List.Folds.{list_all-append}
@@ -10,10 +10,11 @@ use Rattle.std.proofs.lemmas.Grind.{flat_map-append}
 use Rattle.std.proofs.lemmas.Str.{IsUtf8-append, IsUtf8-nil, IsUtf8-from_is_utf8, is_utf8-from_IsUtf8}
 use Rattle.htmd_lexical.specs.AttributePairs.{AttributePair}
 use Rattle.htmd_lexical.proofs.Cases.{test}
-use Rattle.htmd_document.specs.Formats.{of_format, of_element}
+use Rattle.htmd_document.specs.Formats.{Format, Abbreviation, of_format, of_element}
 use Rattle.htmd_document.specs.Documents.{Inline, text, code, formatted, link, image, line_break, task, Inlines}
 use Rattle.htmd_document.specs.Documents.{anchor}
 use Rattle.htmd_document.specs.Documents.{no_inlines, inline, Block, paragraph, heading, code_block, quote}
+use Rattle.htmd_document.specs.Documents.{element, tags}
 use Rattle.htmd_document.specs.Documents.{thematic_break, list, table, Blocks, no_blocks, block, Items, no_items, item}
 use Rattle.htmd_shown.specs.declared.facts.Facts.{Facts}
 use Rattle.htmd_shown.specs.declared.role.Role.{Role}
@@ -23,19 +24,24 @@ use Rattle.htmd_shown.specs.Attributes.{text_of, title_of, address}
 use Rattle.htmd_shown.specs.Roles.{is_void}
 use Rattle.htmd_shown.specs.SimpleTrees as simple
 use Rattle.htmd_shown.specs.SimpleTrees.{Simple, Simples, none, more}
-use Rattle.htmd_flow.specs.Contexts.{Context, inside_format, in_one_line}
-use Rattle.htmd_flow.specs.Flows.{linked_by, around_heading, is_grid_of}
+use Rattle.htmd_flow.specs.Contexts.{Context, inside_format, inside_title, inside_link, in_one_line}
+use Rattle.htmd_flow.specs.Contexts.{has_elements, unlinked, with_around, is_enough, is_link, is_linked_to_part}
+use Rattle.htmd_flow.specs.Flows.{linked_by, around_heading, around_node, is_grid_of}
+use Rattle.htmd_flow.specs.Parts as part
 use Rattle.htmd_law_documents.specs.DocumentTexts.{text_of_inline, text_of_line, text_of_cells, text_of_rows}
 use Rattle.htmd_law_documents.specs.DocumentTexts.{text_of_block, text_of_blocks, text_of_items, visible}
+use Rattle.htmd_law_documents.specs.SaidTexts.{SaysUnless, Says, SayAll}
 use Rattle.htmd_law_documents.specs.SimpleForms.{IsSound, AreSound}
 use Rattle.htmd_law_documents.specs.SimpleTexts.{formula_said, flat_in, grid_in, text_of_simple, text_of_simples}
 use Rattle.htmd_law_documents.specs.TreeWrappers.{inside_heading}
 use Rattle.htmd_law_documents.proofs.VisibleLemmas.{Shows, shows-nil, shows-append, seen-same, visible-append}
 use Rattle.htmd_law_documents.proofs.VisibleLemmas.{both-true}
 use Rattle.htmd_law_documents.proofs.ElementLemmas.{false-true, dollar-shows, all-texts-show, simple-utf8, simples-utf8}
+use Rattle.htmd_law_documents.proofs.SaidLemmas.{say-actual}
+use Rattle.htmd_law_documents.proofs.WrapperNodesLemmas.{no-elements, around-flat}
 use Rattle.htmd_law_documents.proofs.Readers.{Reader, read_inline, read_line, read_cells, read_block, read_blocks}
 use Rattle.htmd_law_documents.proofs.Readers.{read_items, read_formula, read_by, read_tree, read_trees, no-marks}
-use Rattle.htmd_law_documents.proofs.WrapperElementLemmas.{format-change, link-change}
+use Rattle.htmd_law_documents.proofs.WrapperElementLemmas.{format-change, title-change, link-change}
 
 -- the visible characters of a text, or none where it isn't UTF-8
 abbrev pub taken : List ℕ → List (Option ℕ)
@@ -145,6 +151,8 @@ mutual
   block-shows (code_block language s) h = taken-shows s h
   block-shows (quote content) h = blocks-show content h
   block-shows thematic_break h = shows-nil
+  block-shows (element name attributes content) h = blocks-show content h
+  block-shows (tags s) h = shows-nil
   block-shows (list start is_tight items) h = items-show items h
   block-shows (table alignments header rows) h =
       both-show (text_of_cells header) (text_of_rows rows) (read_cells texts header)
@@ -172,12 +180,40 @@ blocks-say bs cs e =
 
 -- ---- the simpler tree
 
+-- no change of a context makes a document rich
+format-plain : (f : Format) (c : Context) → (inside_format f c).is_rich ≡ c.is_rich
+format-plain f c = either (is_enough f c.around)
+  where
+    either : (b : Bool) → (cond b c (with_around c (part.formatted f))).is_rich ≡ c.is_rich
+    either true = refl
+    either false = refl
+
+title-plain : (o : Option (List ℕ)) (c : Context) → (inside_title o c).is_rich ≡ c.is_rich
+title-plain None c = refl
+title-plain (Some title) c = format-plain (Abbreviation title) c
+
+link-plain : (id : ℕ) (s : List ℕ) (title : Option (List ℕ)) (c : Context)
+    → (inside_link id s title c).is_rich ≡ c.is_rich
+link-plain id s title c = either (list_any is_link c.around)
+  where
+    either : (b : Bool) → (cond b c (with_around c (part.linked id s title))).is_rich ≡ c.is_rich
+    either true = refl
+    either false = refl
+
+heading-plain : (facts : Facts) (c : Context) → (inside_heading facts c).is_rich ≡ c.is_rich
+heading-plain facts c = either c.is_flat (facts.shows_sign && is_linked_to_part c)
+  where
+    either : (b d : Bool) → (cond b c (in_one_line (cond d (unlinked c) c))).is_rich ≡ c.is_rich
+    either true d = refl
+    either false true = refl
+    either false false = refl
+
 -- in a context all is one line as it is said of an element
 module _ (id : ℕ) (facts : Facts) (attributes : List AttributePair) (content : Simples) (holds_grid : Bool)
     (inner : Context → Bool → List (Option ℕ))
-    (e : (c : Context) (g : Bool) → inner c g ≡ taken (text_of_simples c.is_flat g content))
+    (e : (c : Context) (g : Bool) → c.is_rich ≡ false → inner c g ≡ taken (text_of_simples c.is_flat g content))
     (s : Shows (all_text_among content) (visible (text_of_simples true false content)))
-    (u : IsUtf8 (text_of_simples true false content)) (c : Context) where
+    (u : IsUtf8 (text_of_simples true false content)) (c : Context) (p : c.is_rich ≡ false) where
   abbrev by : Role → Bool → List (Option ℕ)
   by r g = read_by texts r id facts attributes (all_text_among content) holds_grid inner c g
 
@@ -185,13 +221,17 @@ module _ (id : ℕ) (facts : Facts) (attributes : List AttributePair) (content :
   said r g = cond (is_void r) [] (text_of_simples (flat_in r c.is_flat g) (grid_in r holds_grid g) content)
 
   -- in another context in which as much is one line
-  as-flat : (d : Context) (flat : Bool) → d.is_flat ≡ flat
+  as-flat : (d : Context) (flat : Bool) → d.is_flat ≡ flat → d.is_rich ≡ c.is_rich
       → inner d false ≡ taken (text_of_simples flat false content)
-  as-flat d flat f = e d false ∙ ap (λ b. taken (text_of_simples b false content)) f
+  as-flat d flat f q = e d false (q ∙ p) ∙ ap (λ b. taken (text_of_simples b false content)) f
 
   all-taken : taken (all_text_among content) ≡ taken (text_of_simples true false content)
   all-taken = taken-good (all_text_among content) s.utf8 ∙ (ap (map Some) s.is
       ∙ sym (taken-good (text_of_simples true false content) u))
+
+  and-true : (b : Bool) → (b && true) ≡ b
+  and-true true = refl
+  and-true false = refl
 
   heading-flat : (b : Bool) → c.is_flat ≡ b
       → (cond b c (in_one_line (around_heading facts c))).is_flat ≡ true
@@ -204,19 +244,28 @@ module _ (id : ℕ) (facts : Facts) (attributes : List AttributePair) (content :
   by-taken role.Preformatted g = all-taken
   by-taken role.Verbatim g = all-taken
   by-taken (role.Heading level) g =
-      as-flat (inside_heading facts c) true (heading-flat c.is_flat refl)
+      as-flat (inside_heading facts c) true (heading-flat c.is_flat refl) (heading-plain facts c)
   by-taken (role.Format f) g =
       as-flat (inside_format (of_format f) c) c.is_flat (format-change (of_format f) c).flat
+      (format-plain (of_format f) c)
   by-taken (role.Element f) g =
       as-flat (inside_format (of_element f) c) c.is_flat (format-change (of_element f) c).flat
+      (format-plain (of_element f) c)
+  by-taken role.Abbreviation g =
+      as-flat (inside_title (title_of attributes) c) c.is_flat (title-change (title_of attributes) c).flat
+      (title-plain (title_of attributes) c)
   by-taken role.Link g =
       as-flat (linked_by id attributes c) c.is_flat
       (link-change id (address (text_of (codes "href") attributes)) (title_of attributes) c).flat
-  by-taken role.Cell true = e _ _
-  by-taken role.Cell false = e _ _
-  by-taken role.HeaderCell true = e _ _
-  by-taken role.HeaderCell false = e _ _
-  by-taken r g = e _ _
+      (link-plain id (address (text_of (codes "href") attributes)) (title_of attributes) c)
+  by-taken role.Table g =
+      ap (inner c) (ap (λ b. holds_grid && not (b && not c.is_flat)) p ∙ and-true holds_grid)
+      ∙ e c holds_grid p
+  by-taken role.Cell true = e _ _ p
+  by-taken role.Cell false = e _ _ p
+  by-taken role.HeaderCell true = e _ _ p
+  by-taken role.HeaderCell false = e _ _ p
+  by-taken r g = e _ _ p
 
 -- a formula
 formula-taken : (tex : List ℕ) → IsUtf8 tex → (is_alone : Bool) (c : Context)
@@ -234,23 +283,136 @@ formula-taken tex u is_alone c = either (is_alone && not c.is_flat)
         ∙ ap (λ x. x ++ taken mark) (taken-append mark tex dollar-shows.utf8 u))
 
 mutual
-  pub tree-taken : (t : Simple) → IsSound t → (c : Context) (g : Bool)
+  pub tree-taken : (t : Simple) → IsSound t → (c : Context) (g : Bool) → c.is_rich ≡ false
       → read_tree texts t c g ≡ taken (text_of_simple c.is_flat g t)
-  tree-taken (simple.text s) u c g = refl
-  tree-taken (simple.image address attributes) u c g = refl
-  tree-taken (simple.formula tex is_alone attributes) u c g = formula-taken tex u is_alone c
-  tree-taken (simple.embedded id address title attributes anchors) u c g =
+  tree-taken (simple.text s) u c g p = refl
+  tree-taken (simple.image address attributes) u c g p = refl
+  tree-taken (simple.formula tex is_alone attributes) u c g p = formula-taken tex u is_alone c
+  tree-taken (simple.embedded id address title attributes anchors) u c g p =
       ap (λ xs. xs ++ taken title) (no-marks texts (λ i. refl) anchors)
-  tree-taken (simple.anchor id) u c g = sym (taken-good [] IsUtf8-nil ∙ ap (map Some) shows-nil.is)
-  tree-taken (simple.element id r facts attributes content) u c g =
-      by-taken id facts attributes content (is_grid_of content) (read_trees texts content) (trees-taken content u.1)
-      (all-texts-show content u.1 false) (simples-utf8 content u.1 true false) c r g
+  tree-taken (simple.anchor id) u c g p = sym (taken-good [] IsUtf8-nil ∙ ap (map Some) shows-nil.is)
+  tree-taken (simple.element id r facts attributes content) u c g p =
+      let t : Simple = simple.element id r facts attributes content in
+      ap (λ d. read_by texts r id facts attributes (all_text_among content) (is_grid_of content)
+      (read_trees texts content) d g) (no-elements t c (ap (λ b. b && not c.is_flat) p))
+      ∙ by-taken id facts attributes content (is_grid_of content) (read_trees texts content) (trees-taken content u.1)
+      (all-texts-show content u.1 false) (simples-utf8 content u.1 true false) c p r g
 
-  pub trees-taken : (ts : Simples) → AreSound ts → (c : Context) (g : Bool)
+  pub trees-taken : (ts : Simples) → AreSound ts → (c : Context) (g : Bool) → c.is_rich ≡ false
       → read_trees texts ts c g ≡ taken (text_of_simples c.is_flat g ts)
-  trees-taken none u c g = sym (taken-good [] IsUtf8-nil ∙ ap (map Some) shows-nil.is)
-  trees-taken (more t ts) u c g =
-      ap (λ xs. xs ++ read_trees texts ts c g) (tree-taken t u.0 c g)
-      ∙ (ap (λ xs. taken (text_of_simple c.is_flat g t) ++ xs) (trees-taken ts u.1 c g)
+  trees-taken none u c g p = sym (taken-good [] IsUtf8-nil ∙ ap (map Some) shows-nil.is)
+  trees-taken (more t ts) u c g p =
+      ap (λ xs. xs ++ read_trees texts ts c g) (tree-taken t u.0 c g p)
+      ∙ (ap (λ xs. taken (text_of_simple c.is_flat g t) ++ xs) (trees-taken ts u.1 c g p)
       ∙ sym (taken-append (text_of_simple c.is_flat g t) (text_of_simples c.is_flat g ts)
       (simple-utf8 t u.0 c.is_flat g) (simples-utf8 ts u.1 c.is_flat g)))
+
+-- ---- rich documents
+
+-- what is taken is what these nodes say, whichever tables are of rows and columns
+abbrev pub Said : Bool → Bool → Simples → List (Option ℕ) → Type 0
+Said f g ts xs = (cs : List ℕ) × (xs ≡ map Some cs) × SayAll f g ts cs
+
+abbrev SaidOne : Bool → Bool → Simple → List (Option ℕ) → Type 0
+SaidOne f g t xs = (cs : List ℕ) × (xs ≡ map Some cs) × Says f g t cs
+
+module _ (id : ℕ) (facts : Facts) (attributes : List AttributePair) (content : Simples) (u : AreSound content)
+    (holds_grid : Bool) (inner : Context → Bool → List (Option ℕ))
+    (e : (c : Context) (g : Bool) → Said c.is_flat g content (inner c g)) (c : Context) where
+  abbrev said-by : Role → Bool → List (Option ℕ)
+  said-by r g = read_by texts r id facts attributes (all_text_among content) holds_grid inner c g
+
+  abbrev SaidBy : Role → Bool → Type 0
+  SaidBy r g =
+      (cs : List ℕ) × (said-by r g ≡ map Some cs) × (holds : Bool)
+      × SaysUnless (is_void r) cs (SayAll (flat_in r c.is_flat g) (grid_in r holds g) content cs)
+
+  given-said : (holds f g : Bool) (xs : List (Option ℕ)) → Said f g content xs
+      → (cs : List ℕ) × (xs ≡ map Some cs) × (h : Bool) × SayAll f g content cs
+  given-said holds f g xs x = (x.0, x.1, holds, x.2)
+
+  as-said : (d : Context) (flat : Bool) → d.is_flat ≡ flat
+      → (cs : List ℕ) × (inner d false ≡ map Some cs) × (h : Bool) × SayAll flat false content cs
+  as-said d flat f =
+      given-said false flat false (inner d false)
+      (subst (λ (b : Bool). Said b false content (inner d false)) f (e d false))
+
+  code-said : (cs : List ℕ) × (taken (all_text_among content) ≡ map Some cs) × (h : Bool)
+      × SayAll true false content cs
+  code-said =
+      let s = all-texts-show content u false in (
+        visible (text_of_simples true false content),
+        taken-good (all_text_among content) s.utf8 ∙ ap (map Some) s.is,
+        false,
+        say-actual content u true false,
+      )
+
+  line-flat : (b : Bool) → c.is_flat ≡ b → (cond b c (in_one_line (around_heading facts c))).is_flat ≡ true
+  line-flat true f = f
+  line-flat false f = refl
+
+  by-said : (r : Role) (g : Bool) → SaidBy r g
+  by-said role.LineBreak g = ([], refl, false, refl)
+  by-said role.ThematicBreak g = ([], refl, false, refl)
+  by-said role.Preformatted g = code-said
+  by-said role.Verbatim g = code-said
+  by-said (role.Heading level) g = as-said (inside_heading facts c) true (line-flat c.is_flat refl)
+  by-said (role.Format f) g =
+      as-said (inside_format (of_format f) c) c.is_flat (format-change (of_format f) c).flat
+  by-said (role.Element f) g =
+      as-said (inside_format (of_element f) c) c.is_flat (format-change (of_element f) c).flat
+  by-said role.Abbreviation g =
+      as-said (inside_title (title_of attributes) c) c.is_flat (title-change (title_of attributes) c).flat
+  by-said role.Link g =
+      as-said (linked_by id attributes c) c.is_flat
+      (link-change id (address (text_of (codes "href") attributes)) (title_of attributes) c).flat
+  by-said role.Table g =
+      let holds : Bool = holds_grid && not (has_elements c) in
+      let x : Said c.is_flat holds content (inner c holds) = e c holds in
+      (x.0, x.1, holds, x.2)
+  by-said role.Cell true = given-said false _ _ _ (e _ _)
+  by-said role.Cell false = given-said false _ _ _ (e _ _)
+  by-said role.HeaderCell true = given-said false _ _ _ (e _ _)
+  by-said role.HeaderCell false = given-said false _ _ _ (e _ _)
+  by-said r g = given-said false _ _ _ (e _ _)
+
+mutual
+  tree-said : (t : Simple) → IsSound t → (c : Context) (g : Bool) → SaidOne c.is_flat g t (read_tree texts t c g)
+  tree-said (simple.text s) u c g = (visible s, taken-good s u, refl)
+  tree-said (simple.image address attributes) u c g =
+      (visible (text_of (codes "alt") attributes), taken-good (text_of (codes "alt") attributes) u, refl)
+  tree-said (simple.formula tex is_alone attributes) u c g =
+      let s : List ℕ = formula_said (is_alone && not c.is_flat) tex in (
+        visible s,
+        formula-taken tex u is_alone c
+            ∙ taken-good s (simple-utf8 (simple.formula tex is_alone attributes) u c.is_flat g),
+        refl,
+      )
+  tree-said (simple.embedded id address title attributes anchors) u c g =
+      (visible title, ap (λ xs. xs ++ taken title) (no-marks texts (λ i. refl) anchors) ∙ taken-good title u, refl)
+  tree-said (simple.anchor id) u c g = ([], refl, refl)
+  tree-said (simple.element id r facts attributes content) u c g =
+      let t : Simple = simple.element id r facts attributes content in
+      let d : Context = around_node t c in
+      let x = by-said id facts attributes content u.1 (is_grid_of content) (read_trees texts content)
+      (λ d k. trees-said content u.1 d k) d r g in (
+        x.0,
+        x.1,
+        (
+          x.2,
+          subst (λ (b : Bool). SaysUnless (is_void r) x.0 (SayAll (flat_in r b g) (grid_in r x.2 g) content x.0))
+              (around-flat t c) x.3,
+        ),
+      )
+
+  pub trees-said : (ts : Simples) → AreSound ts → (c : Context) (g : Bool)
+      → Said c.is_flat g ts (read_trees texts ts c g)
+  trees-said none u c g = ([], refl, refl)
+  trees-said (more t ts) u c g =
+      let x = tree-said t u.0 c g in
+      let y = trees-said ts u.1 c g in (
+        x.0 ++ y.0,
+        ap (λ xs. xs ++ read_trees texts ts c g) x.1
+            ∙ (ap (λ xs. map Some x.0 ++ xs) y.1 ∙ sym (map-append Some x.0 y.0)),
+        (x.0, y.0, refl, x.2, y.2),
+      )

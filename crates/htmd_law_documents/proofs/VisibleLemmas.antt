@@ -90,7 +90,7 @@ shows-character c h = text-same (encode_utf8 c) (encode_utf8_all (c ∷ [])) (fi
     (sym (append-nil (encode_utf8 c)))
     (shows-encodes (c ∷ []) (ap (λ b. b && true) h))
 
-and-false : (b : Bool) → (b && false) ≡ false
+pub and-false : (b : Bool) → (b && false) ≡ false
 and-false true = refl
 and-false false = refl
 

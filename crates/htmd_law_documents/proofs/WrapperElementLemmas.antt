@@ -16,19 +16,24 @@ use Rattle.htmd_shown.specs.AllTexts.{all_text_among, with_line_feeds, lines_of,
 use Rattle.htmd_shown.specs.Attributes.{text_of, title_of, description_of, address, has_attribute, in_line, is_any_case}
 use Rattle.htmd_shown.specs.Attributes.{is_filled, trimmed}
 use Rattle.htmd_shown.specs.Roles as roles
-use Rattle.htmd_shown.specs.SimpleTrees.{Simples}
+use Rattle.htmd_shown.specs.SimpleTrees.{element, Simples}
 use Rattle.htmd_shown.specs.Spaces.{is_blank_text}
-use Rattle.htmd_document.specs.Formats.{Format, of_format, of_element}
+use Rattle.htmd_document.specs.Formats.{Format, Abbreviation, of_format, of_element}
 use Rattle.htmd_document.specs.Documents.{Inlines, no_inlines, inline, heading, code_block, quote, thematic_break}
 use Rattle.htmd_document.specs.Documents.{Blocks, no_blocks, block}
 use Rattle.htmd_flow.specs.Contexts.{Context, is_lined, is_enough, inside_format, inside_link, with_around, is_link}
-use Rattle.htmd_flow.specs.Contexts.{without_link, unlinked, is_linked_to_part, beside_code, in_code, in_one_line}
-use Rattle.htmd_flow.specs.Contexts.{deeper, run_in, apart}
-use Rattle.htmd_flow.specs.Flows.{Node, Row, TermPart, Element, blocks_of, line_of, flow_all, list_parts, term_parts}
+use Rattle.htmd_flow.specs.Contexts.{unlinked, is_linked_to_part, beside_code, in_code, in_one_line}
+use Rattle.htmd_flow.specs.Contexts.{deeper, run_in, apart, has_elements, inside_title}
+use Rattle.htmd_flow.specs.Flows.{Node, Row, TablePiece, TermPart, Element, blocks_of, line_of, flow_all, list_parts}
+use Rattle.htmd_flow.specs.Flows.{term_parts, described_parts, terms_by, rich_table_at, table_at, around_title}
+use Rattle.htmd_flow.specs.Flows.{title_parts, captioned, figure_at, element_part, open_attribute, titled}
+use Rattle.htmd_flow.specs.Flows.{details_parts, around_node, shows_title}
+use Rattle.htmd_document.specs.declared.document.BlockElement.{BlockElement}
 use Rattle.htmd_flow.specs.Flows.{table_parts, image_parts, math_block, math_in_line, formula_parts, embed_edge}
 use Rattle.htmd_flow.specs.Flows.{embed_parts, box_parts, linked_by, between, heading_of, around_heading, heading_parts}
 use Rattle.htmd_flow.specs.Flows.{quote_of, quote_parts, code_parts, text_in_lines, verbatim_parts, start_of}
 use Rattle.htmd_flow.specs.Flows.{anchors_apart, near_parts, parts_of, is_grid_of}
+use Rattle.htmd_document.specs.declared.document.BlockElement.TheVariants as name
 use Rattle.htmd_flow.specs.Languages.{language_of_block}
 use Rattle.htmd_flow.specs.Levels.{list_of}
 use Rattle.htmd_flow.specs.Parts.{Around, formatted, linked, Part, place, box, edge, whole}
@@ -49,6 +54,9 @@ use Rattle.htmd_law_documents.proofs.WrapperPartsLemmas.{blocks-keep, line-keeps
 use Rattle.htmd_law_documents.proofs.WrapperNodesLemmas.{shallow, nodes_wrapped, not-flat, Agree, NodesKeep}
 use Rattle.htmd_law_documents.proofs.WrapperNodesLemmas.{keep-either, keep-in, list-parts-keep, flow-keeps}
 use Rattle.htmd_law_documents.proofs.WrapperTermLemmas.{terms_wrapped, TermsKeep, term-parts-keep}
+use Rattle.htmd_law_documents.proofs.WrapperNodesLemmas.{unlinked-agrees, title-flat, title-alike, title-agrees}
+use Rattle.htmd_law_documents.proofs.WrapperRichLemmas.{described-keeps, elements-unflat, element-part-keeps}
+use Rattle.htmd_law_documents.proofs.WrapperRichLemmas.{figure-keeps, titles-keep}
 
 -- ---- contexts
 
@@ -83,7 +91,13 @@ link-change id s title c = record { flat = flat (list_any is_link c.around); ali
     alike true = refl
     alike false = refl
 
-near-change : (n : ℕ) (attributes : List AttributePair) (c : Context)
+pub title-change : (o : Option (List ℕ)) (c : Context) → IsChange (inside_title o) c
+title-change None c = record { flat = refl; alike = refl }
+title-change (Some title) c =
+    let change : IsChange (inside_format (Abbreviation title)) c = format-change (Abbreviation title) c in
+    record { flat = change.flat; alike = change.alike }
+
+pub near-change : (n : ℕ) (attributes : List AttributePair) (c : Context)
     → ((beside_code n attributes c).is_flat ≡ c.is_flat) × (shallow (beside_code n attributes c) ≡ shallow c)
 near-change zero attributes c = (refl, refl)
 near-change (suc zero) attributes c = (refl, refl)
@@ -136,6 +150,10 @@ module _ (R : Reader) where
         either true = h
         either false = agree-more c.around (formatted f) h tt
 
+    titled-agrees : (o : Option (List ℕ)) (c : Context) → Agree R addr c → Agree R addr (inside_title o c)
+    titled-agrees None c h = h
+    titled-agrees (Some title) c h = format-agrees (Abbreviation title) c h
+
     link-agrees : (id : ℕ) (s : List ℕ) (title : Option (List ℕ)) (c : Context) → Agree R addr c
         → R.as_link s ≡ addr id → Agree R addr (inside_link id s title c)
     link-agrees id s title c h e = either (list_any is_link c.around)
@@ -144,27 +162,14 @@ module _ (R : Reader) where
         either true = h
         either false = agree-more c.around (linked id s title) h e
 
-    either-link : (k : Bool) (b : Around) (around rest : List Around) → AllAgree R addr (b ∷ around)
-        → AllAgree R addr rest → AllAgree R addr (cond k around (b ∷ rest))
-    either-link true b around rest h r = h.1
-    either-link false b around rest h r = (h.0, r)
-
-    without-agree : (around : List Around) → AllAgree R addr around → AllAgree R addr (without_link around)
-    without-agree [] h = tt
-    without-agree (b ∷ around) h =
-        either-link (is_link b) b around (without_link around) h (without-agree around h.1)
-
-    unlinked-agrees : (c : Context) → Agree R addr c → Agree R addr (unlinked c)
-    unlinked-agrees c h = without-agree c.around h
-
     sign-agrees : (facts : Facts) (c : Context) → Agree R addr c → Agree R addr (around_heading facts c)
     sign-agrees facts c h = either (facts.shows_sign && is_linked_to_part c)
       where
         either : (b : Bool) → Agree R addr (cond b (unlinked c) c)
-        either true = unlinked-agrees c h
+        either true = unlinked-agrees R addr c h
         either false = h
 
-    near-agrees : (n : ℕ) (attributes : List AttributePair) (c : Context) → Agree R addr c
+    pub near-agrees : (n : ℕ) (attributes : List AttributePair) (c : Context) → Agree R addr c
         → Agree R addr (beside_code n attributes c)
     near-agrees zero attributes c h = h
     near-agrees (suc zero) attributes c h = h
@@ -446,7 +451,7 @@ module _ (R : Reader) where
     -- ---- each kind
 
     module _ (id : ℕ) (facts : Facts) (attributes : List AttributePair) (content : Simples) (nodes : List Node)
-        (rows : List Row) (terms : List TermPart) (all : NodesKeep R addr nodes)
+        (rows : List Row) (pieces : List TablePiece) (terms : List TermPart) (all : NodesKeep R addr nodes)
         (same : (c : Context) → nodes_wrapped R nodes c ≡ read_trees R content c false)
         (text : IsUtf8 (all_text_among content)) (c : Context) (a : Agree R addr c)
         (term-nodes : TermsKeep R addr terms)
@@ -462,6 +467,7 @@ module _ (R : Reader) where
         content = content;
         nodes = nodes;
         rows = rows;
+        pieces = pieces;
         terms = terms;
       }
 
@@ -495,9 +501,59 @@ module _ (R : Reader) where
           (same (shallow c))
           (list-parts-keep R addr start nodes all c a)
 
-      list-of-terms : Keep R addr c.is_flat (term_parts terms nodes c) (inner (shallow c))
-      list-of-terms = term-parts-keep R addr terms nodes c (inner (shallow c)) term-nodes all a term-says
-          (same (shallow c))
+      list-of-terms : Keep R addr c.is_flat (terms_by terms nodes c) (inner (shallow c))
+      list-of-terms =
+          keep-either R addr (has_elements c) c.is_flat (described_parts terms c) (term_parts terms nodes c)
+          (inner (shallow c))
+          (λ e. described-keeps R addr terms c (inner (shallow c)) term-nodes a (elements-unflat c e) term-says)
+          (λ e. term-parts-keep R addr terms nodes c (inner (shallow c)) term-nodes all a e term-says
+          (same (shallow c)))
+
+      title : Keep R addr c.is_flat (title_parts here-element c) (inner (around_title content (shallow c)))
+      title =
+          let d : Context = around_title content c in
+          let s : Context = around_title content (shallow c) in
+          keep-apart R addr c.is_flat (flow_all nodes d) (inner s)
+          (flow d s (title-flat content c) (title-alike content c) (title-agrees R addr content c a))
+
+      titled-nodes : (t : BlockElement) (d : Context) → d.is_flat ≡ false → shallow d ≡ shallow c
+          → Agree R addr d
+          → Keep R addr false (titled t nodes d) (inner (shallow c))
+      titled-nodes t d e f b =
+          keep-same R addr false (titled t nodes d) (nodes_wrapped R nodes (shallow d)) (inner (shallow c))
+          (same (shallow d) ∙ ap inner f)
+          (titles-keep R addr t nodes all d b e)
+
+      figure : Keep R addr c.is_flat (figure_at here-element c) (inner (shallow c))
+      figure =
+          let d : Context = beside_code facts.pres attributes c in
+          let change = near-change facts.pres attributes c in
+          let agree : Agree R addr d = near-agrees facts.pres attributes c a in
+          let parts : List Part = if has_elements d then captioned nodes d else flow_all nodes d in
+          keep-apart R addr c.is_flat parts (inner (shallow c))
+          (keep-either R addr (has_elements d) c.is_flat (captioned nodes d) (flow_all nodes d) (inner (shallow c))
+          (λ e.
+          let flat : d.is_flat ≡ false = elements-unflat d e in
+          keep-in R addr c.is_flat false (captioned nodes d) (inner (shallow c)) (sym change.0 ∙ flat)
+          (figure-keeps R addr (list_any (λ (n : Node). shows_title name.FigureCaption n.tree) nodes)
+          (titled name.FigureCaption nodes d) (inner (shallow c))
+          (titled-nodes name.FigureCaption d flat change.1 agree)))
+          (λ e. flow d (shallow c) change.0 change.1 agree))
+
+      details : Keep R addr c.is_flat (details_parts attributes nodes c) (inner (shallow c))
+      details =
+          let made : List Part =
+          element_part name.Details (open_attribute attributes) (blocks_of false (titled name.Summary nodes c)) in
+          keep-apart R addr c.is_flat (if has_elements c then made else flow_all nodes c) (inner (shallow c))
+          (keep-either R addr (has_elements c) c.is_flat made (flow_all nodes c) (inner (shallow c))
+          (λ e.
+          let flat : c.is_flat ≡ false = elements-unflat c e in
+          keep-in R addr c.is_flat false made (inner (shallow c)) flat
+          (element-part-keeps R addr name.Details (open_attribute attributes)
+          (blocks_of false (titled name.Summary nodes c)) (inner (shallow c))
+          (blocks-keep R addr false (titled name.Summary nodes c) (inner (shallow c))
+          (titled-nodes name.Summary c flat refl a))))
+          (λ e. here))
 
       heads : (level : ℕ) → Keep R addr c.is_flat (heading_parts level facts nodes c)
           (inner (inside_heading facts (shallow c)))
@@ -535,47 +591,85 @@ module _ (R : Reader) where
           (λ e. here) (λ e. blocks)
 
       unlinked-kept : Keep R addr c.is_flat (flow_all nodes (unlinked c)) (inner (unlinked (shallow c)))
-      unlinked-kept = changed unlinked (record { flat = refl; alike = refl }) (unlinked-agrees c a)
+      unlinked-kept = changed unlinked (record { flat = refl; alike = refl }) (unlinked-agrees R addr c a)
 
       -- a table keeps what is in it
       abbrev TableKeeps : Type 0
       TableKeeps = Keep R addr c.is_flat (table_parts (list_of content) nodes rows c)
           (read_trees R content (shallow c) (is_grid_of content))
 
+      abbrev pub RichTableKeeps : Type 0
+      RichTableKeeps = Keep R addr c.is_flat (rich_table_at here-element c) (read_trees R content (shallow c) false)
+
       pub element-keeps : (r : Role) → (roles.is_link r ≡ true → HasAddress id attributes)
-          → (is_of_table r ≡ true → TableKeeps)
+          → (is_of_table r ≡ true → has_elements c ≡ false → TableKeeps)
+          → (is_of_table r ≡ true → has_elements c ≡ true → RichTableKeeps)
           → Keep R addr c.is_flat (parts_of r here-element c)
           (read_by R r id facts attributes (all_text_among content) (is_grid_of content) (read_trees R content)
-          (shallow c) false)
-      element-keeps (role.Format f) l k =
+          (around_node (element id r facts attributes content) (shallow c)) false)
+      element-keeps (role.Format f) l k j =
           changed (inside_format (of_format f)) (format-change (of_format f) c) (format-agrees (of_format f) c a)
-      element-keeps (role.Element f) l k =
+      element-keeps (role.Element f) l k j =
           changed (inside_format (of_element f)) (format-change (of_element f) c) (format-agrees (of_element f) c a)
-      element-keeps role.Code l k = changed in_code (record { flat = refl; alike = refl }) a
-      element-keeps role.Typed l k = changed in_code (record { flat = refl; alike = refl }) a
-      element-keeps role.Link l k =
+      element-keeps role.Abbreviation l k j =
+          let o : Option (List ℕ) = title_of attributes in
+          changed (inside_title o) (title-change o c) (titled-agrees o c a)
+      element-keeps role.Code l k j = changed in_code (record { flat = refl; alike = refl }) a
+      element-keeps role.Typed l k j = changed in_code (record { flat = refl; alike = refl }) a
+      element-keeps role.Link l k j =
           let s : List ℕ = address (text_of (codes "href") attributes) in
           changed (linked_by id attributes) (link-change id s (title_of attributes) c)
           (link-agrees id s (title_of attributes) c a (l refl))
-      element-keeps role.Unlinked l k = unlinked-kept
-      element-keeps role.Target l k = here
-      element-keeps role.Plain l k = here
-      element-keeps role.Apart l k = spaces-around
-      element-keeps role.LineBreak l k = record { linked = (tt, tt); is = refl }
-      element-keeps role.Input l k =
+      element-keeps role.Unlinked l k j = unlinked-kept
+      element-keeps role.Target l k j = here
+      element-keeps role.Plain l k j = here
+      element-keeps role.Apart l k j = spaces-around
+      element-keeps role.LineBreak l k j = record { linked = (tt, tt); is = refl }
+      element-keeps role.Input l k j =
           keep-append R addr c.is_flat (box_parts attributes) (flow_all nodes c) [] (inner (shallow c))
           (box-keeps c.is_flat attributes) here
-      element-keeps role.Anchors l k = anchored
-      element-keeps (role.Heading level) l k = heads level
-      element-keeps role.Preformatted l k = codes-kept
-      element-keeps role.Verbatim l k = codes-kept
-      element-keeps role.BlockQuote l k = quotes
-      element-keeps role.ThematicBreak l k = rule-keeps c.is_flat
-      element-keeps role.BulletList l k = lists None
-      element-keeps role.NumberedList l k = lists (Some (start_of attributes))
-      element-keeps role.Terms l k = list-of-terms
-      element-keeps role.Table l k = k refl
-      element-keeps role.Division l k = near
-      element-keeps role.Figure l k = near
-      element-keeps role.Cell l k = near
-      element-keeps r l k = blocks
+      element-keeps role.Anchors l k j = anchored
+      element-keeps (role.Heading level) l k j = heads level
+      element-keeps role.Preformatted l k j = codes-kept
+      element-keeps role.Verbatim l k j = codes-kept
+      element-keeps role.BlockQuote l k j = quotes
+      element-keeps role.ThematicBreak l k j = rule-keeps c.is_flat
+      element-keeps role.BulletList l k j = lists None
+      element-keeps role.NumberedList l k j = lists (Some (start_of attributes))
+      element-keeps role.Terms l k j = list-of-terms
+      element-keeps role.Table l k j = table
+        where
+          and-true : (b : Bool) → (b && true) ≡ b
+          and-true true = refl
+          and-true false = refl
+
+          and-false : (b : Bool) → (b && false) ≡ false
+          and-false true = refl
+          and-false false = refl
+
+          grid : Bool
+          grid = is_grid_of content
+
+          table : Keep R addr c.is_flat (table_at here-element c)
+              (read_trees R content (shallow c) (grid && not (has_elements c)))
+          table =
+              keep-either R addr (has_elements c) c.is_flat (rich_table_at here-element c)
+              (table_parts (list_of content) nodes rows c)
+              (read_trees R content (shallow c) (grid && not (has_elements c)))
+              (λ e. keep-same R addr c.is_flat (rich_table_at here-element c) (read_trees R content (shallow c) false)
+              (read_trees R content (shallow c) (grid && not (has_elements c)))
+              (ap (λ b. read_trees R content (shallow c) b) (sym (ap (λ b. grid && not b) e ∙ and-false grid)))
+              (j refl e))
+              (λ e. keep-same R addr c.is_flat (table_parts (list_of content) nodes rows c)
+              (read_trees R content (shallow c) grid) (read_trees R content (shallow c) (grid && not (has_elements c)))
+              (ap (λ b. read_trees R content (shallow c) b) (sym (ap (λ b. grid && not b) e ∙ and-true grid)))
+              (k refl e))
+      element-keeps role.Division l k j = near
+      element-keeps role.Figure l k j = figure
+      element-keeps role.Details l k j = details
+      element-keeps role.Term l k j = title
+      element-keeps role.Caption l k j = title
+      element-keeps role.FigureCaption l k j = title
+      element-keeps role.Summary l k j = title
+      element-keeps role.Cell l k j = near
+      element-keeps r l k j = blocks

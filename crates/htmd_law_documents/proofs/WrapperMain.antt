@@ -7,7 +7,7 @@ use Rattle.htmd_document_of_tree.specs.Anchors.{anchored}
 use Rattle.htmd_document_of_tree.specs.FirstPieces.{pieced_all}
 use Rattle.htmd_document_of_tree.specs.Limits.{limited}
 use Rattle.htmd_document_of_tree.specs.TreeDocuments.{document_by, document_of_tree}
-use Rattle.htmd_flow.specs.Contexts.{bare}
+use Rattle.htmd_flow.specs.Contexts.{bare_in}
 use Rattle.htmd_flow.specs.Flows.{document_of}
 use Rattle.htmd_law_documents.specs.DocumentWrappers.{Wrapper, of_link}
 use Rattle.htmd_law_documents.specs.SimpleForms.{AreSound, HasLinks, HaveLinks}
@@ -41,11 +41,12 @@ module _ (places : ℕ → List ℕ) where
     have-addresses (more t ts) h = (has-address t h.0, have-addresses ts h.1)
 
 pub wrappers_of_document : WrappersOfDocument
-wrappers_of_document trees places u h =
-    sym (blocks-wrappers (document_of trees))
-    ∙ (document-keeps wrapped (wrapper_at places) trees (all-sound-fit wrapped (λ id. refl) true trees u)
+wrappers_of_document is_rich trees places u h =
+    sym (blocks-wrappers (document_of is_rich trees))
+    ∙ (document-keeps wrapped (wrapper_at places) is_rich trees
+    (all-sound-fit wrapped (λ id. refl) true trees u)
     (have-addresses places trees h)
-    ∙ trees-wrappers trees bare false)
+    ∙ trees-wrappers trees (bare_in is_rich) false)
 
 pub wrappers_of_tree : WrappersOfTree
 unfolding document_of_tree document_by
@@ -53,11 +54,12 @@ wrappers_of_tree which sight items h =
     let tree : NumberedTree = tree_of items 0 in
     let shown : Simples = shown_in sight tree in
     let ts : Simples = limited shown in
-    let us : Simples = anchored which ts in
+    let us : Simples = anchored which sight.is_rich ts in
     let sound : AreSound (pieced_all us) =
-    pieced-sound us (anchored-sound which ts (limited-sound shown (page-sound sight tree (tree-text items 0 h)))) in
+    pieced-sound us (anchored-sound which sight.is_rich ts
+    (limited-sound shown (page-sound sight tree (tree-text items 0 h)))) in
     let at : ℕ → List ℕ = link_at items in
     let links : HaveLinks at (pieced_all us) =
-    all-pieced-links at us (anchored-links at which ts (limited-links at shown (page-links at sight tree
+    all-pieced-links at us (anchored-links at which sight.is_rich ts (limited-links at shown (page-links at sight tree
     (tree-linked items 0)))) in
-    wrappers_of_document (pieced_all us) at sound links
+    wrappers_of_document sight.is_rich (pieced_all us) at sound links

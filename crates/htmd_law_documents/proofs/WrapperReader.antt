@@ -9,6 +9,7 @@ use Rattle.htmd_lexical.specs.AttributePairs.{AttributePair}
 use Rattle.htmd_document.specs.Documents.{Inline, text, code, formatted, link, image, line_break, task, Inlines}
 use Rattle.htmd_document.specs.Documents.{anchor}
 use Rattle.htmd_document.specs.Documents.{no_inlines, inline, Block, paragraph, heading, code_block, quote}
+use Rattle.htmd_document.specs.Documents.{element, tags}
 use Rattle.htmd_document.specs.Documents.{thematic_break, list, table, Blocks, no_blocks, block, Items, no_items, item}
 use Rattle.htmd_shown.specs.declared.facts.Facts.{Facts}
 use Rattle.htmd_shown.specs.declared.role.Role.{Role}
@@ -18,7 +19,7 @@ use Rattle.htmd_shown.specs.Attributes.{text_of}
 use Rattle.htmd_shown.specs.SimpleTrees as simple
 use Rattle.htmd_shown.specs.SimpleTrees.{Simple, Simples, none, more}
 use Rattle.htmd_flow.specs.Contexts.{Context, inside_link, in_code}
-use Rattle.htmd_flow.specs.Flows.{is_grid_of}
+use Rattle.htmd_flow.specs.Flows.{around_node, is_grid_of}
 use Rattle.htmd_flow.specs.Parts as part
 use Rattle.htmd_law_documents.specs.DocumentTexts.{visible}
 use Rattle.htmd_law_documents.specs.DocumentWrappers.{Wrapper, of_format, of_link, Wrapped, in_wrappers}
@@ -95,6 +96,8 @@ mutual
   block-wrappers (code_block language s) = refl
   block-wrappers (quote content) = blocks-wrappers content
   block-wrappers thematic_break = refl
+  block-wrappers (element name attributes content) = blocks-wrappers content
+  block-wrappers (tags s) = refl
   block-wrappers (list start is_tight items) = items-wrappers items
   block-wrappers (table alignments header rows) =
       ap (λ t. t ++ flat_map (read_cells wrapped) rows) (cells-wrappers header)
@@ -168,7 +171,8 @@ mutual
   tree-wrappers (simple.anchor id) c b = refl
   tree-wrappers (simple.element id r facts attributes content) c b =
       by-wrappers id facts attributes (all_text_among content) (is_grid_of content) (read_trees wrapped content)
-      (wrappers_of_trees content) (trees-wrappers content) c b r
+      (wrappers_of_trees content) (trees-wrappers content)
+      (around_node (simple.element id r facts attributes content) c) b r
 
   pub trees-wrappers : (ts : Simples) (c : Context) (b : Bool)
       → read_trees wrapped ts c b ≡ wrappers_of_trees ts c b

@@ -17,10 +17,12 @@ use Rattle.htmd_shown.specs.declared.role.Role.TheVariants as role
 use Rattle.htmd_shown.specs.AllTexts.{all_text_among}
 use Rattle.htmd_shown.specs.Kinds.{has, is_blank, are_blank, content_of}
 use Rattle.htmd_shown.specs.Roles as roles
+use Rattle.htmd_shown.specs.Showings.{show}
 use Rattle.htmd_shown.specs.SimpleTrees.{Simple, text, image, formula, embedded, anchor, element, Simples, none, more}
 use Rattle.htmd_flow.specs.declared.table_form.Layout.TheVariants as layout
 use Rattle.htmd_flow.specs.declared.table_form.TablePart.{TablePart}
-use Rattle.htmd_flow.specs.Contexts.{Context, in_one_line, apart}
+use Rattle.htmd_flow.specs.Contexts.{Context, in_one_line, apart, has_elements}
+use Rattle.htmd_flow.specs.Flows.{around_node}
 use Rattle.htmd_flow.specs.Flows.{Node, Row, node_of, nodes_of, flow_all, is_cell, no_part, part_of, leads_to, row_with}
 use Rattle.htmd_flow.specs.Flows.{rows_if, rows_among, rows_at, rows_of_table, is_grid, is_grid_by, is_grid_of}
 use Rattle.htmd_flow.specs.Flows.{before_row, caption_in_one_line, captions_in_one_line, cell_in_one_line}
@@ -29,7 +31,8 @@ use Rattle.htmd_flow.specs.Flows.{cell_of, row_of, filled_rows, block_part, tabl
 use Rattle.htmd_flow.specs.Grids as grid
 use Rattle.htmd_flow.specs.Levels.{list_of}
 use Rattle.htmd_flow.specs.Parts.{Part, run, edge}
-use Rattle.htmd_flow.specs.Tables.{is_cell_or_blank, is_row_or_blank, is_table_child, holds_table_alone, is_no_caption}
+use Rattle.htmd_flow.specs.Tables.{is_cell_or_nothing, is_row_or_nothing, is_table_child, holds_table_alone}
+use Rattle.htmd_flow.specs.Tables.{is_no_caption}
 use Rattle.htmd_flow.specs.Tables.{is_no_row, from_caption, has_captions_around, layout_by_cells, has_head}
 use Rattle.htmd_flow.specs.Tables.{cells_in}
 use Rattle.htmd_law_documents.proofs.VisibleLemmas.{both-true}
@@ -37,14 +40,16 @@ use Rattle.htmd_law_documents.proofs.PiecesLemmas.{space-shows}
 use Rattle.htmd_law_documents.proofs.CodeLemmas.{blank-seen}
 use Rattle.htmd_law_documents.proofs.ElementLemmas.{false-true, true-false, not-true, blank-text}
 use Rattle.htmd_law_documents.proofs.Readers.{Reader, unseen, read_cells, read_tree, read_trees, read_around}
-use Rattle.htmd_law_documents.proofs.Readers.{is_of_table, holds_anchors, IsFit, AreFit, all-fit-sound}
+use Rattle.htmd_law_documents.proofs.Readers.{is_of_table, holds_anchors, none-held, none-in-table, IsFit, AreFit}
+use Rattle.htmd_law_documents.proofs.Readers.{all-fit-sound}
 use Rattle.htmd_law_documents.proofs.WrapperPartsLemmas.{Keep, keep-nil, keep-append, keep-same, keep-edge, keep-edges}
 use Rattle.htmd_law_documents.proofs.WrapperPartsLemmas.{keep-after, keep-apart, keep-run, keep-whole, line-keeps}
 use Rattle.htmd_law_documents.proofs.WrapperGridLemmas.{wrappers_of_rows, grid-wrappers, wrappers_of_option}
 use Rattle.htmd_law_documents.proofs.WrapperGridLemmas.{table-wrappers}
 use Rattle.htmd_law_documents.proofs.WrapperKindLemmas.{caption-inner, part-within, row-within, cell-within, blank-read}
 use Rattle.htmd_law_documents.proofs.WrapperNodesLemmas.{shallow, wrappers_in, nodes_wrapped, Agree, NodeKeeps}
-use Rattle.htmd_law_documents.proofs.WrapperNodesLemmas.{NodesKeep, keep-either, keep-in, flow-keeps}
+use Rattle.htmd_law_documents.proofs.WrapperNodesLemmas.{NodesKeep, keep-either, keep-in, flow-keeps, untitled}
+use Rattle.htmd_law_documents.proofs.WrapperNodesLemmas.{no-elements}
 
 one_more : (n : ℕ) → 1 + n ≡ suc n
 one_more n = omega arith
@@ -55,16 +60,21 @@ flat-same c e = ap (λ b. record c { is_flat = b }) (sym e)
 
 -- ---- roles of tables
 
-part-no-row : (r : Role) → roles.is_part r ≡ true → roles.is_row r ≡ false
+pub cell-untitled : (r : Role) → roles.is_cell r ≡ true → roles.is_title r ≡ false
+cell-untitled role.Cell e = refl
+cell-untitled role.HeaderCell e = refl
+cell-untitled r e = false-true e
+
+pub part-no-row : (r : Role) → roles.is_part r ≡ true → roles.is_row r ≡ false
 part-no-row role.TableHead e = refl
 part-no-row role.TableBody e = refl
 part-no-row r e = false-true e
 
-row-of-table : (r : Role) → roles.is_row r ≡ true → is_of_table r ≡ true
+pub row-of-table : (r : Role) → roles.is_row r ≡ true → is_of_table r ≡ true
 row-of-table role.Row e = refl
 row-of-table r e = false-true e
 
-part-of-table : (r : Role) → roles.is_part r ≡ true → is_of_table r ≡ true
+pub part-of-table : (r : Role) → roles.is_part r ≡ true → is_of_table r ≡ true
 part-of-table role.TableHead e = refl
 part-of-table role.TableBody e = refl
 part-of-table r e = false-true e
@@ -124,15 +134,10 @@ module _ (R : Reader) where
       ∙ ap (λ xs. read_tree R t c false ++ xs) (nodes-all ts c)
 
   -- no anchor stands right in a table, a part of one, or a row
-  pub nowhere : (r : Role) (facts : Facts) (content : Simples) → is_of_table r ≡ true
-      → AreFit R (holds_anchors R r facts) content → AreFit R false content
-  nowhere r facts content e u =
-      subst (λ (b : Bool). AreFit R b content)
-      (ap (λ b. not facts.is_blank && not b) e ∙ and-false (not facts.is_blank)) u
-    where
-      and-false : (b : Bool) → (b && false) ≡ false
-      and-false true = refl
-      and-false false = refl
+  pub nowhere : (here : Bool) (r : Role) (facts : Facts) (content : Simples) → is_of_table r ≡ true
+      → AreFit R (holds_anchors here r facts content) content → AreFit R false content
+  nowhere here r facts content e u =
+      subst (λ (b : Bool). AreFit R b content) (none-in-table here r facts content e) u
 
   -- nothing is taken from what is blank
   mutual
@@ -147,9 +152,11 @@ module _ (R : Reader) where
     blank-unwrapped (element id r facts attributes content) u e c g =
         let known : facts.is_blank ≡ true = (both-true (not (roles.is_void r)) facts.is_blank e).1 in
         let blank : are_blank content ≡ true = u.0.blank known in
-        let unplaced : holds_anchors R r facts ≡ false = ap (λ b. not b && not (is_of_table r)) known in
-        blank-read R id facts attributes (all_text_among content) (is_grid_of content) (read_trees R content) c g r
-        (blank-text content (all-fit-sound R (holds_anchors R r facts) content u.1) blank)
+        let unplaced : holds_anchors false r facts content ≡ false =
+        none-held r facts content (ap (λ b. not b && show true content) known) in
+        blank-read R id facts attributes (all_text_among content) (is_grid_of content) (read_trees R content)
+        (around_node (element id r facts attributes content) c) g r
+        (blank-text content (all-fit-sound R (holds_anchors false r facts content) content u.1) blank)
         (λ d h. blanks-unwrapped content (subst (λ (b : Bool). AreFit R b content) unplaced u.1) blank d h)
 
     blanks-unwrapped : (ts : Simples) → AreFit R false ts → are_blank ts ≡ true → (c : Context) (g : Bool)
@@ -186,12 +193,14 @@ module _ (R : Reader) where
       here (embedded id address title attributes anchors) e = false-true e
       here (anchor id) e = false-true e
       here (element id r facts attributes content) e =
-          cell-within R id facts attributes (all_text_among content) (is_grid_of content) (read_trees R content) c true
-          r e
+          let t : Simple = element id r facts attributes content in
+          cell-within R id facts attributes (all_text_among content) (is_grid_of content) (read_trees R content)
+          (around_node t c) true r e
+          ∙ ap (λ d. wrappers_in R t (in_one_line d)) (untitled roles.is_cell cell-untitled t c e)
 
-  caption-wrappers : (t : Simple) (c : Context) → has roles.is_caption t ≡ true
+  caption-wrappers : (t : Simple) (c : Context) → has_elements c ≡ false → has roles.is_caption t ≡ true
       → read_tree R t c true ≡ wrappers_in R (node_of t).tree c
-  caption-wrappers t c e = here t e ∙ ap (λ x. wrappers_in R x c) (sym (node-tree t))
+  caption-wrappers t c plain e = here t e ∙ ap (λ x. wrappers_in R x c) (sym (node-tree t))
     where
       here : (u : Simple) → has roles.is_caption u ≡ true → read_tree R u c true ≡ wrappers_in R u c
       here (text s) e = false-true e
@@ -200,8 +209,10 @@ module _ (R : Reader) where
       here (embedded id address title attributes anchors) e = false-true e
       here (anchor id) e = false-true e
       here (element id r facts attributes content) e =
-          caption-inner R r e id facts attributes (all_text_among content) (is_grid_of content) (read_trees R content) c
-          true
+          let t : Simple = element id r facts attributes content in
+          caption-inner R r e id facts attributes (all_text_among content) (is_grid_of content) (read_trees R content)
+          (around_node t c) true
+          ∙ ap (wrappers_in R t) (no-elements t c plain)
 
   module _ (addr : ℕ → R.Wrap) where
     -- ---- trees of which all nodes keep their wrappers
@@ -241,12 +252,12 @@ module _ (R : Reader) where
       is : cs ≡ cells_wrapped cells c
 
     cells-keep : (ts : Simples) → KeptTrees ts → AreFit R false ts
-        → list_all is_cell_or_blank (list_of ts) ≡ true
+        → list_all (is_cell_or_nothing false) (list_of ts) ≡ true
         → (c : Context) → CellsKeep (filter is_cell (nodes_of ts)) (read_trees R ts c true) c
     unfolding node_of
     cells-keep none k u e c = record { nodes = tt; is = refl }
     cells-keep (more t ts) k u e c =
-        let parts = both-true (is_cell_or_blank t) (list_all is_cell_or_blank (list_of ts)) e in
+        let parts = both-true ((is_cell_or_nothing false) t) (list_all (is_cell_or_nothing false) (list_of ts)) e in
         let cells : List Node = filter is_cell (nodes_of ts) in
         let rest : CellsKeep cells (read_trees R ts c true) c = cells-keep ts k.1 u.1 parts.1 c in
         let n : Node = node_of t in
@@ -276,7 +287,7 @@ module _ (R : Reader) where
     rows-append [] ys g h = h
     rows-append (x ∷ xs) ys g h = (g.0, rows-append xs ys g.1 h)
 
-    module _ (c : Context) (a : Agree R addr c) where
+    module _ (c : Context) (a : Agree R addr c) (plain : has_elements c ≡ false) where
       abbrev pub s : Context
       s = shallow c
 
@@ -300,7 +311,7 @@ module _ (R : Reader) where
       row-read : (p : TablePart) (id : ℕ) (r : Role) (facts : Facts) (attributes : List AttributePair)
           (content : Simples)
           → KeptTrees content → IsFit R false (element id r facts attributes content)
-          → is_row_or_blank (element id r facts attributes content) ≡ true
+          → (is_row_or_nothing false) (element id r facts attributes content) ≡ true
           → leads_to p (element id r facts attributes content) ≡ false
           → RowsRead (rows_if p (element id r facts attributes content) (nodes_of content)
           (rows_among (part_of (element id r facts attributes content)) content))
@@ -314,30 +325,33 @@ module _ (R : Reader) where
           (λ w. subst (λ (b : Bool). RowsRead (cond b row (cond (leads_to p t) below [])) cs) (sym w)
           (let cells : CellsKeep (filter is_cell (nodes_of content)) (read_trees R content s true) s =
           cells-keep content k
-          (nowhere r facts content (row-of-table r w) u.1)
-          (sym (ap (λ b. cond b (list_all is_cell_or_blank (list_of content)) (is_blank t)) w) ∙ e) s in
+          (nowhere false r facts content (row-of-table r w) u.1)
+          (sym (ap (λ b. cond b (list_all (is_cell_or_nothing false) (list_of content)) (is_blank t)) w) ∙ e) s in
           record {
             nodes = (cells.nodes, tt);
             is = row-within R id facts attributes (all_text_among content) (is_grid_of content) (read_trees R content)
-                s true r w
+                (around_node t s) true r w
+                ∙ ap (λ d. read_trees R content d true) (no-elements t s plain)
                 ∙ (cells.is ∙ sym (append-nil (cells_wrapped (filter is_cell (nodes_of content)) s)));
           }))
           (λ w. subst (λ (b : Bool). RowsRead (cond b row (cond (leads_to p t) below [])) cs) (sym w)
           (subst (λ (b : Bool). RowsRead (cond b below []) cs) (sym l)
           (nothing-read cs (blank-unwrapped t u
-          (sym (ap (λ b. cond b (list_all is_cell_or_blank (list_of content)) (is_blank t)) w) ∙ e) s true))))
+          (sym (ap (λ b. cond b (list_all (is_cell_or_nothing false) (list_of content)) (is_blank t)) w) ∙ e) s
+          true))))
 
       -- among the nodes of a part
       rows-in-part : (ts : Simples) (p : TablePart) → is_some p.id ≡ true → KeptTrees ts → AreFit R false ts
-          → list_all is_row_or_blank (list_of ts) ≡ true → RowsRead (rows_among p ts) (read_trees R ts s true)
+          → list_all (is_row_or_nothing false) (list_of ts) ≡ true
+          → RowsRead (rows_among p ts) (read_trees R ts s true)
       unfolding node_of
       rows-in-part none p i k u e = nothing-read [] refl
       rows-in-part (more t ts) p i k u e =
-          let parts = both-true (is_row_or_blank t) (list_all is_row_or_blank (list_of ts)) e in
+          let parts = both-true ((is_row_or_nothing false) t) (list_all (is_row_or_nothing false) (list_of ts)) e in
           both-read (rows_at p t) (rows_among p ts) (read_tree R t s true) (read_trees R ts s true)
           (here t k.0 u.0 parts.0) (rows-in-part ts p i k.1 u.1 parts.1)
         where
-          here : (t : Simple) → KeptTree t → IsFit R false t → is_row_or_blank t ≡ true
+          here : (t : Simple) → KeptTree t → IsFit R false t → (is_row_or_nothing false) t ≡ true
               → RowsRead (rows_at p t) (read_tree R t s true)
           here (text x) k u e = nothing-read _ (blank-unwrapped (text x) u e s true)
           here (image address attributes) k u e = false-true e
@@ -349,7 +363,7 @@ module _ (R : Reader) where
               (ap (λ b. not b && roles.is_part r) i)
 
       -- a node of a table that is no caption
-      table-row : (t : Simple) → KeptTree t → IsFit R false t → is_table_child t ≡ true
+      table-row : (t : Simple) → KeptTree t → IsFit R false t → (is_table_child false) t ≡ true
           → has roles.is_caption t ≡ false
           → RowsRead (rows_at no_part t) (read_tree R t s true)
       unfolding node_of
@@ -363,23 +377,25 @@ module _ (R : Reader) where
           let cs : List R.Seen = read_tree R t s true in
           let row : List Row = row_with no_part (nodes_of content) in
           let below : List Row = rows_among (part_of t) content in
-          let rows : Bool = list_all is_row_or_blank (list_of content) in
-          let inner : cond (roles.is_part r) rows (is_row_or_blank t) ≡ true =
-          sym (ap (λ b. cond b true (cond (roles.is_part r) rows (is_row_or_blank t))) n) ∙ e in
+          let rows : Bool = list_all (is_row_or_nothing false) (list_of content) in
+          let inner : cond (roles.is_part r) rows ((is_row_or_nothing false) t) ≡ true =
+          sym (ap (λ b. cond b true (cond (roles.is_part r) rows ((is_row_or_nothing false) t))) n) ∙ e in
           test (roles.is_part r)
           (λ w. subst (λ (b : Bool). RowsRead (cond b row (cond (roles.is_part r) below [])) cs)
           (sym (part-no-row r w))
           (subst (λ (b : Bool). RowsRead (cond b below []) cs) (sym w)
           (let all : RowsRead below (read_trees R content s true) =
-          rows-in-part content (part_of t) refl k.1 (nowhere r facts content (part-of-table r w) u.1)
-          (sym (ap (λ b. cond b rows (is_row_or_blank t)) w) ∙ inner) in
+          rows-in-part content (part_of t) refl k.1 (nowhere false r facts content (part-of-table r w) u.1)
+          (sym (ap (λ b. cond b rows ((is_row_or_nothing false) t)) w) ∙ inner) in
           record {
             nodes = all.nodes;
             is = part-within R id facts attributes (all_text_among content) (is_grid_of content) (read_trees R content)
-                s true r w ∙ all.is;
+                (around_node t s) true r w
+                ∙ ap (λ d. read_trees R content d true) (no-elements t s plain)
+                ∙ all.is;
           })))
           (λ w. row-read no_part id r facts attributes content k.1 u
-          (sym (ap (λ b. cond b rows (is_row_or_blank t)) w) ∙ inner) w)
+          (sym (ap (λ b. cond b rows ((is_row_or_nothing false) t)) w) ∙ inner) w)
 
       -- ---- captions
 
@@ -419,7 +435,7 @@ module _ (R : Reader) where
           let ds : List R.Seen = read_tree R t s true in
           let k : has roles.is_caption n.tree ≡ true = ap (has roles.is_caption) (node-tree t) ∙ e in
           let here : Keep R addr c.is_flat (n.content c) ds =
-          keep-same R addr c.is_flat (n.content c) (wrappers_in R n.tree s) ds (sym (caption-wrappers t s e))
+          keep-same R addr c.is_flat (n.content c) (wrappers_in R n.tree s) ds (sym (caption-wrappers t s plain e))
           ((kept-node t kept).content c a) in
           caption-first n nodes ds cs
           (subst (λ (b : Bool). Keep R addr c.is_flat (cond b (apart (n.content c)) []) ds) (sym k)
@@ -428,12 +444,12 @@ module _ (R : Reader) where
           (keep-after R addr c.is_flat (n.content c) (edge ∷ []) ds here (keep-edges R addr c.is_flat))) rest
 
       -- what is no row, no part and no caption says nothing
-      other-unwrapped : (t : Simple) → IsFit R false t → is_table_child t ≡ true
+      other-unwrapped : (t : Simple) → IsFit R false t → (is_table_child false) t ≡ true
           → has roles.is_caption t ≡ false
           → IsNeither t → read_tree R t s true ≡ []
       other-unwrapped t u e n h =
-          let rows : Bool = list_all is_row_or_blank (list_of (content_of t)) in
-          let cells : Bool = list_all is_cell_or_blank (list_of (content_of t)) in
+          let rows : Bool = list_all (is_row_or_nothing false) (list_of (content_of t)) in
+          let cells : Bool = list_all (is_cell_or_nothing false) (list_of (content_of t)) in
           blank-unwrapped t u
           (sym (ap (λ b. cond b true (cond (has roles.is_part t) rows (cond (has roles.is_row t) cells (is_blank t))))
           n
@@ -442,7 +458,7 @@ module _ (R : Reader) where
 
       -- a node that is no row and no part, before others
       caption-more : (t : Simple) (nodes : List Node) (cs : List R.Seen) → KeptTree t → IsFit R false t
-          → is_table_child t ≡ true → IsNeither t → CaptionsKeep nodes cs
+          → (is_table_child false) t ≡ true → IsNeither t → CaptionsKeep nodes cs
           → CaptionsKeep (node_of t ∷ nodes) (read_tree R t s true ++ cs)
       caption-more t nodes cs k u e h rest = test (has roles.is_caption t)
           (λ n. one-caption t nodes cs k n rest)
@@ -455,12 +471,12 @@ module _ (R : Reader) where
         captions : CaptionsKeep (nodes_of ts) (read_trees R ts s true)
         rows : rows_of_table ts ≡ []
 
-      alone : (ts : Simples) → KeptTrees ts → AreFit R false ts → holds_table_alone (list_of ts) ≡ true
+      alone : (ts : Simples) → KeptTrees ts → AreFit R false ts → (holds_table_alone false) (list_of ts) ≡ true
           → list_all is_no_row (list_of ts) ≡ true → AreAlone ts
       unfolding node_of
       alone none k u e f = record { captions = no-captions; rows = refl }
       alone (more t ts) k u e f =
-          let parts = both-true (is_table_child t) (holds_table_alone (list_of ts)) e in
+          let parts = both-true ((is_table_child false) t) ((holds_table_alone false) (list_of ts)) e in
           let others = both-true (is_no_row t) (list_all is_no_row (list_of ts)) f in
           let here : IsNeither t = neither-here t others.0 in
           let rest : AreAlone ts = alone ts k.1 u.1 parts.1 others.1 in
@@ -483,12 +499,13 @@ module _ (R : Reader) where
         is = ap (λ rows. rows_wrapped rows s ++ read_trees R ts s true) (sym h.rows);
       }
 
-      rows-behind : (ts : Simples) → KeptTrees ts → AreFit R false ts → holds_table_alone (list_of ts) ≡ true
+      rows-behind : (ts : Simples) → KeptTrees ts → AreFit R false ts
+          → (holds_table_alone false) (list_of ts) ≡ true
           → list_all is_no_row (from_caption (list_of ts)) ≡ true → AreBehind ts
       unfolding node_of
       rows-behind none k u e f = record { nodes = tt; behind = []; captions = no-captions; is = refl }
       rows-behind (more t ts) k u e f =
-          let parts = both-true (is_table_child t) (holds_table_alone (list_of ts)) e in
+          let parts = both-true ((is_table_child false) t) ((holds_table_alone false) (list_of ts)) e in
           let all : List Simple = t ∷ list_of ts in
           let k1 : ℕ = prefix_len is_no_caption (list_of ts) in
           test (has roles.is_caption t)
@@ -522,7 +539,7 @@ module _ (R : Reader) where
         is : read_trees R ts s true ≡ (before ++ rows_wrapped (rows_of_table ts) s) ++ behind
 
       around-more : (t : Simple) (ts : Simples) (n : ℕ) → KeptTree t → IsFit R false t
-          → is_table_child t ≡ true
+          → (is_table_child false) t ≡ true
           → IsNeither t → AreAround ts n → AreAround (more t ts) (suc n)
       unfolding node_of
       around-more t ts n k u e h rest =
@@ -541,7 +558,8 @@ module _ (R : Reader) where
                 ∙ ap (λ x. ((ds ++ rest.before) ++ rows_wrapped x s) ++ rest.behind) (sym same)));
           }
 
-      rows-around : (ts : Simples) → KeptTrees ts → AreFit R false ts → holds_table_alone (list_of ts) ≡ true
+      rows-around : (ts : Simples) → KeptTrees ts → AreFit R false ts
+          → (holds_table_alone false) (list_of ts) ≡ true
           → has_captions_around (list_of ts) ≡ true → AreAround ts (before_row (nodes_of ts))
       unfolding node_of
       rows-around none k u e f = record {
@@ -553,7 +571,7 @@ module _ (R : Reader) where
         is = refl;
       }
       rows-around (more t ts) k u e f =
-          let parts = both-true (is_table_child t) (holds_table_alone (list_of ts)) e in
+          let parts = both-true ((is_table_child false) t) ((holds_table_alone false) (list_of ts)) e in
           let all : List Simple = t ∷ list_of ts in
           let k1 : ℕ = prefix_len is_no_row (list_of ts) in
           let m : ℕ = before_row (nodes_of ts) in
@@ -709,8 +727,8 @@ module _ (R : Reader) where
 
       -- a table of rows and columns holds captions and rows alone, in order
       grid-form : (ts : List Simple) (rows : List Row) → is_grid ts rows ≡ true
-          → (has_captions_around ts && holds_table_alone ts) ≡ true
-      grid-form ts rows e = test (has_captions_around ts && holds_table_alone ts)
+          → (has_captions_around ts && (holds_table_alone false) ts) ≡ true
+      grid-form ts rows e = test (has_captions_around ts && (holds_table_alone false) ts)
           (λ h. h)
           (λ h. false-true (sym (ap (λ b. is_grid_by
           (cond b (layout_by_cells (has_head ts) (cells_in ts)) layout.Page) rows) h) ∙ e))
@@ -733,7 +751,7 @@ module _ (R : Reader) where
           (edge ∷ (if c.is_flat then grid_in_one_line nodes rows c else grid_inside nodes rows c))
           (apart (flow_all nodes c)) (λ b. read_trees R content s b)
           (λ e.
-          let form = both-true (has_captions_around ts) (holds_table_alone ts) (grid-form ts rows e) in
+          let form = both-true (has_captions_around ts) ((holds_table_alone false) ts) (grid-form ts rows e) in
           let all : AreAround content (before_row nodes) = rows-around content k u form.1 form.0 in
           keep-edge R addr c.is_flat (if c.is_flat then grid_in_one_line nodes rows c else grid_inside nodes rows c) cs
           (keep-either R addr c.is_flat c.is_flat (grid_in_one_line nodes rows c) (grid_inside nodes rows c) cs

@@ -7,7 +7,7 @@ use Rattle.std.proofs.lemmas.Bool.Decides.{nat_tests}
 use Rattle.std.proofs.lemmas.List.{append-nil}
 use Rattle.htmd_shown.specs.Kinds.{has}
 use Rattle.htmd_shown.specs.Roles as roles
-use Rattle.htmd_flow.specs.Contexts.{Context, is_lined, deeper, apart}
+use Rattle.htmd_flow.specs.Contexts.{Context, is_lined, deeper, apart, has_elements}
 use Rattle.htmd_flow.specs.Flows.{Node, TermPart, gap, of_node, is_item, has_role, beside_terms, within_item, Terms}
 use Rattle.htmd_flow.specs.Flows.{no_terms, item_with, onto_last, with_term, with_parts, after_node, with_node}
 use Rattle.htmd_flow.specs.Flows.{with_part, term_item, items_of_terms, list_of_terms, term_parts, flow_all}
@@ -20,10 +20,11 @@ use Rattle.htmd_law_documents.proofs.WrapperWritingLemmas.{Wrote, wrote-same, wr
 use Rattle.htmd_law_documents.proofs.WrapperPartsLemmas.{Keep, keep-nil, keep-append, keep-same, keep-edge, keep-edges}
 use Rattle.htmd_law_documents.proofs.WrapperPartsLemmas.{keep-after, keep-apart, parts_wrapped, parts-wrote}
 use Rattle.htmd_law_documents.proofs.WrapperListLemmas.{items_wrapped, lists-keep}
-use Rattle.htmd_law_documents.proofs.WrapperKindLemmas.{term-inner, meaning-inner}
+use Rattle.htmd_law_documents.proofs.WrapperKindLemmas.{term-inner}
 use Rattle.htmd_law_documents.proofs.WrapperNodesLemmas.{shallow, not-flat, node_wrapped, nodes_wrapped, wrappers_in}
 use Rattle.htmd_law_documents.proofs.WrapperNodesLemmas.{inner-wrappers, item-wrappers, Agree, NodeKeeps, NodesKeep}
-use Rattle.htmd_law_documents.proofs.WrapperNodesLemmas.{keep-either, keep-in, flow-keeps}
+use Rattle.htmd_law_documents.proofs.WrapperNodesLemmas.{keep-either, keep-in, flow-keeps, fits, no-elements}
+use Rattle.htmd_law_documents.proofs.WrapperNodesLemmas.{meaning-wrappers}
 
 module _ (R : Reader) where
   abbrev pub term_wrapped : Context → TermPart → List R.Seen
@@ -50,7 +51,7 @@ module _ (R : Reader) where
     Begun (w ∷ ws) cs =
         (ds : List R.Seen) × (es : List R.Seen) × (cs ≡ ds ++ es) × Wrote R addr w false ds × Begun ws es
 
-    more-wrote : (w : Writing) (ps : List Part) (cs ds : List R.Seen) → Wrote R addr w false cs
+    pub more-wrote : (w : Writing) (ps : List Part) (cs ds : List R.Seen) → Wrote R addr w false cs
         → Keep R addr false ps ds → Wrote R addr (fed_all w ps) false (cs ++ ds)
     more-wrote w ps cs ds h k =
         wrote-same R addr (fed_all w ps) false (cs ++ parts_wrapped R false ps) (cs ++ ds) (ap (λ t. cs ++ t) k.is)
@@ -171,11 +172,11 @@ module _ (R : Reader) where
         keep-either R addr (has roles.is_meaning n.tree) c.is_flat (apart (n.content c))
         (cond (is_item n) (n.content c) (n.whole c)) cs
         (λ e. keep-same R addr c.is_flat (apart (n.content c)) ds cs
-        (sym (inner-wrappers R roles.is_meaning (meaning-inner R) n.tree s e))
+        (sym (meaning-wrappers R n.tree s e))
         (keep-apart R addr c.is_flat (n.content c) ds (h.content c a)))
         (λ e. keep-either R addr (is_item n) c.is_flat (n.content c) (n.whole c) cs
         (λ i. keep-same R addr c.is_flat (n.content c) ds cs (sym (item-wrappers R n.tree s i)) (h.content c a))
-        (λ i. h.whole c a))
+        (λ i. h.whole c a (fits R addr c)))
 
     within-keeps : (n : Node) → NodeKeeps R addr n → (c : Context) → Agree R addr c
         → Keep R addr c.is_flat (within_item n c) (node_wrapped R (shallow c) n)
@@ -189,7 +190,7 @@ module _ (R : Reader) where
     after-said t n cs h =
         record { first = h.first; rest = h.rest; before = h.before; items = h.items; is = h.is }
 
-    module _ (c : Context) (a : Agree R addr c) (flat : c.is_flat ≡ false) where
+    module _ (c : Context) (a : Agree R addr c) (flat : c.is_flat ≡ false) (plain : has_elements c ≡ false) where
       unflat : (ps : List Part) (cs : List R.Seen) → Keep R addr c.is_flat ps cs → Keep R addr false ps cs
       unflat ps cs k = keep-in R addr false c.is_flat ps cs (sym flat) k
 
@@ -203,7 +204,8 @@ module _ (R : Reader) where
           (with_parts (after_node t n) (within_item n d) (beside_terms n c)) (cs ++ ds)
           (λ e. term-said has_meanings t (apart (n.content d)) cs ds h
           (keep-same R addr false (apart (n.content d)) inner ds
-          (sym (inner-wrappers R roles.is_term (term-inner R) n.tree (shallow c) e))
+          (sym (inner-wrappers R roles.is_term (term-inner R) n.tree (shallow c) e
+          ∙ ap (wrappers_in R n.tree) (no-elements n.tree (shallow c) plain)))
           (keep-apart R addr false (n.content d) inner (unflat (n.content d) inner (k.content d a)))))
           (λ e. parts-said (after_node t n) (within_item n d) (beside_terms n c) cs ds (after-said t n cs h)
           (unflat (within_item n d) ds (within-keeps n k d a)) (unflat (beside_terms n c) ds (beside-keeps n k c a)))
@@ -245,9 +247,10 @@ module _ (R : Reader) where
           (keep-edges R addr false))
 
     pub term-parts-keep : (ps : List TermPart) (nodes : List Node) (c : Context) (cs : List R.Seen) → TermsKeep ps
-        → NodesKeep R addr nodes → Agree R addr c → terms_wrapped ps (shallow c) ≡ cs
+        → NodesKeep R addr nodes → Agree R addr c → has_elements c ≡ false
+        → terms_wrapped ps (shallow c) ≡ cs
         → nodes_wrapped R nodes (shallow c) ≡ cs → Keep R addr c.is_flat (term_parts ps nodes c) cs
-    term-parts-keep ps nodes c cs k h a e f =
+    term-parts-keep ps nodes c cs k h a plain e f =
         let has_meanings : Bool = list_any (has_role roles.is_meaning) ps in
         let t : Terms = fold (with_part has_meanings c) no_terms ps in
         let nothing : Said no_terms [] =
@@ -260,5 +263,5 @@ module _ (R : Reader) where
         (λ i.
         let flat : c.is_flat ≡ false =
         not-flat c (neither (is_lined c) (not (list_any (has_role roles.is_term) ps)) i).0 in
-        list-keeps c a flat t cs
-        (subst (Said t) e (parts-all c a flat has_meanings ps no_terms [] k nothing)))
+        list-keeps c a flat plain t cs
+        (subst (Said t) e (parts-all c a flat plain has_meanings ps no_terms [] k nothing)))

@@ -5,26 +5,34 @@ use Rattle.std.proofs.lemmas.List.{append-nil}
 use Rattle.std.proofs.lemmas.Grind.{flat_map-append}
 use Rattle.htmd_lexical.proofs.Cases.{test}
 use Rattle.htmd_shown.specs.AllTexts.{all_text_among}
+use Rattle.htmd_shown.specs.declared.role.Role.{Role}
+use Rattle.htmd_shown.specs.declared.role.Role.TheVariants as role
 use Rattle.htmd_shown.specs.Roles as roles
 use Rattle.htmd_shown.specs.SimpleTrees.{Simple, text, image, formula, embedded, anchor, element, Simples, none, more}
-use Rattle.htmd_flow.specs.Contexts.{Context, bare}
-use Rattle.htmd_flow.specs.Flows.{Node, TermPart, gap, of_node, node_of, nodes_of, nodes_below, terms_of}
-use Rattle.htmd_flow.specs.Flows.{parts_of_child, flow_all, rows_of_table, is_grid_of, document_of}
+use Rattle.htmd_flow.specs.Contexts.{Context, bare_in}
+use Rattle.htmd_flow.specs.Flows.{Node, TermPart, gap, of_node, node_of, nodes_of, nodes_below, pieces_of, terms_of}
+use Rattle.htmd_flow.specs.Flows.{around_node, parts_of_child, flow_all, rows_of_table, is_grid_of, document_of}
 use Rattle.htmd_flow.specs.Levels.{list_of}
 use Rattle.htmd_flow.specs.Terms.{is_group, is_term_or_meaning}
 use Rattle.htmd_law_documents.proofs.VisibleLemmas.{both-true}
-use Rattle.htmd_law_documents.proofs.ElementLemmas.{all-texts-show}
+use Rattle.htmd_law_documents.proofs.ElementLemmas.{all-texts-show, false-true}
 use Rattle.htmd_law_documents.proofs.Readers.{Reader, read_blocks, read_tree, read_trees, holds_anchors, IsFit, AreFit}
 use Rattle.htmd_law_documents.proofs.Readers.{all-fit-sound}
 use Rattle.htmd_law_documents.proofs.WrapperPartsLemmas.{Keep, keep-nil, keep-same, keep-run, blocks-keep}
 use Rattle.htmd_law_documents.proofs.WrapperKindLemmas.{division-inner}
 use Rattle.htmd_law_documents.proofs.WrapperNodesLemmas.{shallow, node_wrapped, nodes_wrapped, Agree}
-use Rattle.htmd_law_documents.proofs.WrapperNodesLemmas.{NodesKeep, flow-keeps}
+use Rattle.htmd_law_documents.proofs.WrapperNodesLemmas.{NodesKeep, flow-keeps, untitled}
 use Rattle.htmd_law_documents.proofs.WrapperTermLemmas.{term_wrapped, terms_wrapped, TermsKeep}
 use Rattle.htmd_law_documents.proofs.WrapperTableLemmas.{nodes-all, KeptTree, KeptTrees, kept-nodes}
 use Rattle.htmd_law_documents.proofs.WrapperTableLemmas.{table-keeps, nowhere}
 use Rattle.htmd_law_documents.proofs.WrapperElementLemmas.{HasAddress, image-keeps, formula-keeps, embed-keeps}
 use Rattle.htmd_law_documents.proofs.WrapperElementLemmas.{element-keeps}
+use Rattle.htmd_law_documents.proofs.WrapperRichLemmas.{elements-unflat}
+use Rattle.htmd_law_documents.proofs.WrapperRichTableLemmas.{rich-table-keeps}
+
+division-untitled : (r : Role) → roles.is_division r ≡ true → roles.is_title r ≡ false
+division-untitled role.Division e = refl
+division-untitled r e = false-true e
 
 module _ (R : Reader) where
   -- ---- what a list of terms says
@@ -58,7 +66,10 @@ module _ (R : Reader) where
       ∙ (nodes-all R content c
       ∙ sym (division-inner R r
       (both-true (roles.is_division r) (list_any is_term_or_meaning (list_of content)) e).0
-      id facts attributes (all_text_among content) (is_grid_of content) (read_trees R content) c false))))
+      id facts attributes (all_text_among content) (is_grid_of content) (read_trees R content) (around_node t c) false
+      ∙ ap (λ d. read_trees R content d false)
+      (untitled roles.is_division division-untitled t c
+      (both-true (roles.is_division r) (list_any is_term_or_meaning (list_of content)) e).0)))))
       (λ e. ap (λ b. terms_wrapped R (cond b group (of_node n ∷ [])) c) e ∙ append-nil (read_tree R t c false))
 
   terms-say : (ts : Simples) (c : Context) → terms_wrapped R (terms_of ts) c ≡ read_trees R ts c false
@@ -134,34 +145,37 @@ module _ (R : Reader) where
 
       tree-kept : (here : Bool) (t : Simple) → IsFit R here t → HaveAddress t → KeptTree R addr t
       tree-kept here (text s) u d = record {
-        whole = λ c a. keep-run R addr c.is_flat s c.around c.is_code u a;
+        whole = λ c a o. keep-run R addr c.is_flat s c.around c.is_code u a;
         content = λ c a. keep-nil R addr c.is_flat;
       }
       tree-kept here (image address attributes) u d = record {
-        whole = λ c a. image-keeps R addr address attributes c a u;
+        whole = λ c a o. image-keeps R addr address attributes c a u;
         content = λ c a. keep-nil R addr c.is_flat;
       }
       tree-kept here (formula tex is_alone attributes) u d = record {
-        whole = λ c a. formula-keeps R addr tex is_alone c a u;
+        whole = λ c a o. formula-keeps R addr tex is_alone c a u;
         content = λ c a. keep-nil R addr c.is_flat;
       }
       tree-kept here (embedded id address title attributes anchors) u d = record {
-        whole = λ c a. embed-keeps R addr id address title anchors c a u d;
+        whole = λ c a o. embed-keeps R addr id address title anchors c a u d;
         content = λ c a. keep-nil R addr c.is_flat;
       }
       tree-kept here (anchor id) u d = record {
-        whole = λ c a. record { linked = (tt, tt); is = append-nil (R.mark id) };
+        whole = λ c a o. record { linked = (tt, tt); is = append-nil (R.mark id) };
         content = λ c a. keep-nil R addr c.is_flat;
       }
       tree-kept here (element id r facts attributes content) u d =
-          let inside : Bool = holds_anchors R r facts in
+          let inside : Bool = holds_anchors here r facts content in
           let k : KeptTrees R addr content = trees-kept inside content u.1 d.1 in (
             record {
-              whole = λ c a. element-keeps R addr id facts attributes content (nodes_of content)
-                  (rows_of_table content) (terms_of content) (kept-nodes R addr content k) (nodes-all R content)
+              whole = λ c a o. element-keeps R addr id facts attributes content (nodes_of content)
+                  (rows_of_table content) (pieces_of content) (terms_of content) (kept-nodes R addr content k)
+                  (nodes-all R content)
                   (all-texts-show content (all-fit-sound R inside content u.1) false).utf8 c a (kept-terms content k)
                   (terms-say content (shallow c)) r d.0
-                  (λ e. table-keeps R addr c a content k (nowhere R r facts content e u.1));
+                  (λ e p. table-keeps R addr c a p content k (nowhere R here r facts content e u.1))
+                  (λ e p. rich-table-keeps R addr c a (elements-unflat c p) content attributes k
+                  (nowhere R here r facts content e u.1));
               content = λ c a. flow-kept content k c a;
             },
             k,
@@ -173,8 +187,8 @@ module _ (R : Reader) where
 
     -- ---- the document
 
-    pub document-keeps : (ts : Simples) → AreFit R true ts → HaveAddresses ts
-        → read_blocks R (document_of ts) ≡ read_trees R ts bare false
-    document-keeps ts u d =
-        blocks-keep R addr false (flow_all (nodes_of ts) bare) (read_trees R ts bare false)
-        (flow-kept ts (trees-kept true ts u d) bare tt)
+    pub document-keeps : (is_rich : Bool) (ts : Simples) → AreFit R true ts → HaveAddresses ts
+        → read_blocks R (document_of is_rich ts) ≡ read_trees R ts (bare_in is_rich) false
+    document-keeps is_rich ts u d =
+        blocks-keep R addr false (flow_all (nodes_of ts) (bare_in is_rich)) (read_trees R ts (bare_in is_rich) false)
+        (flow-kept ts (trees-kept true ts u d) (bare_in is_rich) tt)

@@ -4,6 +4,7 @@ use Rattle.std.specs.List.{flat_map}
 use Rattle.std.specs.Str.{chars}
 use Rattle.htmd_document.specs.Documents.{Inline, text, code, formatted, link, image, anchor, line_break, task}
 use Rattle.htmd_document.specs.Documents.{Inlines, no_inlines, inline, Block, paragraph, heading, code_block, quote}
+use Rattle.htmd_document.specs.Documents.{element, tags}
 use Rattle.htmd_document.specs.Documents.{thematic_break, list, table, Blocks, no_blocks, block, Items, no_items, item}
 use Rattle.htmd_shown.specs.ShownTexts.{is_shown}
 use Rattle.htmd_shown.specs.Spaces.{is_white}
@@ -38,6 +39,8 @@ abbrev mutual
   text_of_block (code_block language s) = s
   text_of_block (quote content) = text_of_blocks content
   text_of_block thematic_break = []
+  text_of_block (element name attributes content) = text_of_blocks content
+  text_of_block (tags s) = []
   text_of_block (list start is_tight items) = text_of_items items
   text_of_block (table alignments header rows) = text_of_cells header ++ text_of_rows rows
 

@@ -4,6 +4,7 @@ use Rattle.std.specs.List.{flat_map}
 use Rattle.htmd_document.specs.Formats.{Format}
 use Rattle.htmd_document.specs.Documents.{Inline, text, code, formatted, link, image, anchor, line_break, task}
 use Rattle.htmd_document.specs.Documents.{Inlines, no_inlines, inline, Block, paragraph, heading, code_block, quote}
+use Rattle.htmd_document.specs.Documents.{element, tags}
 use Rattle.htmd_document.specs.Documents.{thematic_break, list, table, Blocks, no_blocks, block, Items, no_items, item}
 use Rattle.htmd_law_documents.specs.DocumentTexts.{visible}
 
@@ -51,6 +52,8 @@ abbrev mutual
   wrappers_of_block (code_block language s) = in_wrappers [] true s
   wrappers_of_block (quote content) = wrappers_of_blocks content
   wrappers_of_block thematic_break = []
+  wrappers_of_block (element name attributes content) = wrappers_of_blocks content
+  wrappers_of_block (tags s) = []
   wrappers_of_block (list start is_tight items) = wrappers_of_items items
   wrappers_of_block (table alignments header rows) = wrappers_of_cells header ++ flat_map wrappers_of_cells rows
 

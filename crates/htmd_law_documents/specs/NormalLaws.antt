@@ -10,4 +10,4 @@ use Rattle.htmd_law_documents.specs.TreeForms.{is_text_tree}
 -- the document of every tree of texts is normal, whichever anchors it has
 abbrev pub DocumentsAreNormal : Type 0
 DocumentsAreNormal = (which : Anchors) (sight : Sight) (tree : NumberedTree) → is_text_tree tree ≡ true
-    → IsNormal (document_of_tree which sight.scripting sight.skip tree)
+    → IsNormal (document_of_tree which sight tree)

@@ -1,5 +1,5 @@
 -- The laws of texts.
-use Rattle.std.specs.Prelude.{◌≡◌, true, false}
+use Rattle.std.specs.Prelude.{◌≡◌, Bool, true, false}
 use Rattle.htmd_nodes.specs.NumberedTrees.{NumberedTree}
 use Rattle.htmd_flow.specs.Flows.{document_of}
 use Rattle.htmd_shown.specs.Shown.{Sight, shown_in}
@@ -13,20 +13,25 @@ use Rattle.htmd_law_documents.specs.SimpleForms.{AreSound}
 use Rattle.htmd_law_documents.specs.SimpleTexts.{text_of_simples}
 use Rattle.htmd_law_documents.specs.TreeForms.{is_text_tree}
 
--- Every visible character of these trees stands in their document, in order, and no other.
+-- Every visible character of these trees stands in their document that isn't rich, in order, and no other.
 abbrev pub KeepsText : Simples → Type 0
-KeepsText trees = visible (text_of_blocks (document_of trees)) ≡ visible (text_of_simples false false trees)
+KeepsText trees = visible (text_of_blocks (document_of false trees)) ≡ visible (text_of_simples false false trees)
+
+-- The same in a document that is rich or not, whether a table is one of rows and columns or not.
+abbrev pub SaysText : Bool → Simples → Type 0
+SaysText is_rich trees = SayAll false false trees (visible (text_of_blocks (document_of is_rich trees)))
 
 -- So it is for all trees of texts that are made.
 abbrev pub TextOfDocument : Type 0
-TextOfDocument = (trees : Simples) → AreSound trees → KeepsText trees
+TextOfDocument = (trees : Simples) → AreSound trees
+    → KeepsText trees × ((is_rich : Bool) → SaysText is_rich trees)
 
 -- Every visible character of all that shows of a page stands in its document, in order, and no other: whichever anchors
 -- it has, and whether a table is one of rows and columns or not.
 abbrev pub KeepsTextOfTree : Anchors → Sight → NumberedTree → Type 0
 KeepsTextOfTree which sight tree =
     SayAll false false (shown_in sight tree)
-    (visible (text_of_blocks (document_of_tree which sight.scripting sight.skip tree)))
+    (visible (text_of_blocks (document_of_tree which sight tree)))
 
 -- So it is for every tree of texts.
 abbrev pub TextOfTree : Type 0

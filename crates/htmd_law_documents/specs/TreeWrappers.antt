@@ -6,10 +6,11 @@ use Rattle.htmd_shown.specs.declared.facts.Facts.{Facts}
 use Rattle.htmd_shown.specs.declared.role.Role.{Role}
 use Rattle.htmd_shown.specs.declared.role.Role.TheVariants as role
 use Rattle.htmd_shown.specs.AllTexts.{all_text_among, dollar_sign}
-use Rattle.htmd_shown.specs.Attributes.{text_of}
+use Rattle.htmd_shown.specs.Attributes.{text_of, title_of}
 use Rattle.htmd_shown.specs.SimpleTrees.{Simple, text, image, formula, embedded, anchor, element, Simples, none, more}
-use Rattle.htmd_flow.specs.Contexts.{Context, inside_format, inside_link, in_code, in_one_line, unlinked}
-use Rattle.htmd_flow.specs.Flows.{linked_by, around_heading, is_grid_of}
+use Rattle.htmd_flow.specs.Contexts.{Context, inside_format, inside_title, inside_link, in_code, in_one_line}
+use Rattle.htmd_flow.specs.Contexts.{unlinked, has_elements}
+use Rattle.htmd_flow.specs.Flows.{linked_by, around_heading, around_node, is_grid_of}
 use Rattle.htmd_flow.specs.Parts as part
 use Rattle.htmd_document.specs.Formats as formats
 use Rattle.htmd_law_documents.specs.DocumentWrappers.{Wrapper, of_format, of_link, Wrapped, in_wrappers}
@@ -28,10 +29,11 @@ wrapped_in context s = in_wrappers (map wrapper_of context.around) context.is_co
 abbrev pub inside_heading : Facts → Context → Context
 inside_heading facts context = if context.is_flat then context else in_one_line (around_heading facts context)
 
--- a format, code, a link or none, and a heading
+-- a format, a title, code, a link or none, and a heading
 abbrev pub inside : Role → ℕ → Facts → List AttributePair → Context → Context
 inside (role.Format f) id facts attributes context = inside_format (formats.of_format f) context
 inside (role.Element e) id facts attributes context = inside_format (formats.of_element e) context
+inside role.Abbreviation id facts attributes context = inside_title (title_of attributes) context
 inside role.Code id facts attributes context = in_code context
 inside role.Typed id facts attributes context = in_code context
 inside role.Link id facts attributes context = linked_by id attributes context
@@ -56,7 +58,7 @@ wrapped_formula context is_alone tex =
     else (wrapped_in context (dollar_sign ∷ []) ++ wrapped_in (in_code context) tex)
     ++ wrapped_in context (dollar_sign ∷ [])
 
--- a cell of a table of rows and columns is one line
+-- a cell of a table of rows and columns is one line, but where blocks can be elements
 abbrev pub inside_cell : Bool → Context → Context
 inside_cell in_grid context = if in_grid then in_one_line context else context
 
@@ -71,7 +73,8 @@ wrappers_by role.Preformatted id facts attributes all holds_grid inner context i
     wrapped_in (inside_verbatim context) all
 wrappers_by role.Verbatim id facts attributes all holds_grid inner context in_grid =
     wrapped_in (inside_verbatim context) all
-wrappers_by role.Table id facts attributes all holds_grid inner context in_grid = inner context holds_grid
+wrappers_by role.Table id facts attributes all holds_grid inner context in_grid =
+    inner context (holds_grid && not (has_elements context))
 wrappers_by role.TableHead id facts attributes all holds_grid inner context in_grid = inner context in_grid
 wrappers_by role.TableBody id facts attributes all holds_grid inner context in_grid = inner context in_grid
 wrappers_by role.Row id facts attributes all holds_grid inner context in_grid = inner context in_grid
@@ -85,7 +88,7 @@ wrappers_by r id facts attributes all holds_grid inner context in_grid =
 -- ---- the tree
 
 abbrev mutual
-  -- in a place, and whether that is in a table of rows and columns
+  -- in a place, and whether that is in a table of rows and columns; around a title there may be no link
   pub wrappers_of_tree : Simple → Context → Bool → List Wrapped
   wrappers_of_tree (text s) context in_grid = wrapped_in context s
   wrappers_of_tree (image address attributes) context in_grid = wrapped_image context address attributes
@@ -95,7 +98,7 @@ abbrev mutual
   wrappers_of_tree (anchor id) context in_grid = []
   wrappers_of_tree (element id r facts attributes content) context in_grid =
       wrappers_by r id facts attributes (all_text_among content) (is_grid_of content)
-      (wrappers_of_trees content) context in_grid
+      (wrappers_of_trees content) (around_node (element id r facts attributes content) context) in_grid
 
   pub wrappers_of_trees : Simples → Context → Bool → List Wrapped
   wrappers_of_trees none context in_grid = []

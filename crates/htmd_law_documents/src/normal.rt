@@ -1,7 +1,7 @@
 //! The normal form of the document of a tree.
-ghost use Rattle.std.specs.Prelude.{map};
 ghost use Rattle.htmd_nodes.specs.NumberedTrees.{tree_of};
 ghost use Rattle.htmd_document.specs.NormalDocuments.{IsNormal};
+ghost use Rattle.htmd_shown.specs.SightViews.{sight_with};
 ghost use Rattle.htmd_document_of_tree.specs.TreeDocuments.{document_of_tree};
 ghost use Rattle.htmd_law_documents.specs.NormalLaws.{DocumentsAreNormal};
 
@@ -13,9 +13,15 @@ pub fn documents_are_normal()
     ensures { DocumentsAreNormal }
 {}
 
-/// So it is for every `Tree`, whether scripts run or not, and whatever names are skipped.
-pub fn this_document_is_normal(tree: &Tree, which: Anchors, scripting: bool, skip: &[&str])
-    ensures { IsNormal (document_of_tree which scripting (map (λ name. name.now) skip.now) (tree_of tree.now 0)) }
+/// So it is for every `Tree`, whether scripts run or not, whatever names are skipped, and whether it is rich or not.
+pub fn this_document_is_normal(
+    tree: &Tree,
+    which: Anchors,
+    scripting: bool,
+    skip: &[&str],
+    is_rich: bool,
+)
+    ensures { IsNormal (document_of_tree which (sight_with scripting skip.now is_rich) (tree_of tree.now 0)) }
 {
     let _root = tree.root();
 }

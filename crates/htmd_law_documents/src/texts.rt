@@ -1,6 +1,6 @@
 //! What a document keeps of the texts of its tree.
-ghost use Rattle.std.specs.Prelude.{map};
 ghost use Rattle.htmd_nodes.specs.NumberedTrees.{tree_of};
+ghost use Rattle.htmd_shown.specs.SightViews.{sight_with};
 ghost use Rattle.htmd_law_documents.specs.TextLaws.{TextOfDocument, TextOfTree, KeepsTextOfTree, ShowsAll};
 
 use htmd_document_of_tree::Anchors;
@@ -22,10 +22,10 @@ pub fn shows_all()
     ensures { ShowsAll }
 {}
 
-/// The text of its document is that of every `Tree`, whether scripts run or not, and whatever names are skipped.
-pub fn text_of_this_tree(tree: &Tree, which: Anchors, scripting: bool, skip: &[&str])
-    ensures { KeepsTextOfTree which (record { scripting = scripting; skip = map (λ name. name.now) skip.now })
-        (tree_of tree.now 0) }
+/// The text of its document is that of every `Tree`, whether scripts run or not, whatever names are skipped, and
+/// whether it is rich or not.
+pub fn text_of_this_tree(tree: &Tree, which: Anchors, scripting: bool, skip: &[&str], is_rich: bool)
+    ensures { KeepsTextOfTree which (sight_with scripting skip.now is_rich) (tree_of tree.now 0) }
 {
     let _root = tree.root();
 }

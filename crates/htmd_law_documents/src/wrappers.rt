@@ -2,7 +2,7 @@
 ghost use Rattle.htmd_law_documents.specs.WrapperLaws.{WrappersOfDocument, WrappersOfTree};
 
 /// Each visible character has in the document the formats, the link and the code around it that it has in the simpler
-/// tree.
+/// tree, whether the document is rich or not.
 pub fn wrappers_of_document()
     ensures { WrappersOfDocument }
 {}

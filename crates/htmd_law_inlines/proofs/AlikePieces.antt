@@ -7,7 +7,9 @@ use Rattle.htmd_lexical.specs.Characters.{is_one_of}
 use Rattle.htmd_markdown.specs.declared.link.LinkStyle.{LinkStyle}
 use Rattle.htmd_markdown.specs.declared.link.LinkStyle.TheVariants.{Inlined, InlinedPreferAutolinks, Referenced}
 use Rattle.htmd_document.specs.Formats.{Format}
-use Rattle.htmd_document.specs.Formats.{Emphasis, Strong, Deleted, Superscript, Subscript}
+use Rattle.htmd_document.specs.Formats.{Emphasis, Strong, Deleted, Superscript, Subscript, Inserted, Underlined, Marked}
+use Rattle.htmd_document.specs.Formats.{Small, Keyboard, Abbreviation}
+use Rattle.htmd_document.specs.Tags.{escaped_value}
 use Rattle.htmd_document.specs.Documents.{Inline, text, code, formatted, link, image, anchor, line_break, task}
 use Rattle.htmd_document.specs.Tags as html
 use Rattle.htmd_document.specs.Documents.{Inlines, no_inlines, inline}
@@ -145,6 +147,12 @@ mark_alike line s t f content Deleted a =
     (fits_alike line s t f content 126 refl a)
 mark_alike line s t f content Superscript a = refl
 mark_alike line s t f content Subscript a = refl
+mark_alike line s t f content Inserted a = refl
+mark_alike line s t f content Underlined a = refl
+mark_alike line s t f content Marked a = refl
+mark_alike line s t f content Small a = refl
+mark_alike line s t f content Keyboard a = refl
+mark_alike line s t f content (Abbreviation title) a = refl
 
 -- ---- inlines
 
@@ -230,6 +238,13 @@ mark_head Deleted s =
     (λ e. (60, (codes "del>", (rw e refl, refl, refl))))
 mark_head Superscript s = (60, (codes "sup>", (refl, refl, refl)))
 mark_head Subscript s = (60, (codes "sub>", (refl, refl, refl)))
+mark_head Inserted s = (60, (codes "ins>", (refl, refl, refl)))
+mark_head Underlined s = (60, (codes "u>", (refl, refl, refl)))
+mark_head Marked s = (60, (codes "mark>", (refl, refl, refl)))
+mark_head Small s = (60, (codes "small>", (refl, refl, refl)))
+mark_head Keyboard s = (60, (codes "kbd>", (refl, refl, refl)))
+mark_head (Abbreviation title) s =
+    (60, (codes "abbr title=\"" ++ escaped_value title ++ codes "\">", (refl, refl, refl)))
 
 mutual
   pub alike_all : (line : Line) (w v : Written) (closing : Option ℕ) (xs : Inlines) → IsSame w.text v.text

@@ -7,7 +7,7 @@ use Rattle.std.proofs.lemmas.Bool.{and_parts, not-true, ltb-true}
 use Rattle.std.proofs.lemmas.Grind.{flat_map-append}
 use Rattle.std.proofs.lemmas.List.{append_assoc, append-nil}
 use Rattle.std.proofs.lemmas.Str.{IsUtf8-append}
-use Rattle.htmd_document.specs.Tags.{in_value, in_value_char, escaped_value, anchor_tag, end_of_anchor}
+use Rattle.htmd_document.specs.Tags.{in_value, in_value_char, escaped_value, anchor_tag, end_of_anchor, abbreviation_tag}
 use Rattle.htmd_document.specs.Tags as html
 use Rattle.htmd_document.proofs.TagsLemmas.{encoded}
 use Rattle.htmd_commonmark_reading.specs.Characters.{one_more}
@@ -114,3 +114,17 @@ anchor_utf8 id (cs, (h, e)) =
     IsUtf8-append (anchor_tag id) end_of_anchor
     (IsUtf8-append (codes "<a id=\"" ++ escaped_value id) (codes "\">")
     (IsUtf8-append (codes "<a id=\"") (escaped_value id) tags_utf8.0 v) tags_utf8.1) tags_utf8.2
+
+title_tags_utf8 : (IsUtf8 (codes "<abbr title=\"")) × (IsUtf8 (codes "\">"))
+unfolding encode
+title_tags_utf8 = ((codes "<abbr title=\"", (refl, refl)), (codes "\">", (refl, refl)))
+
+-- the tag of an abbreviation up to the quotation mark behind its title
+pub front_utf8 : (title : List ℕ) → IsUtf8 title → IsUtf8 (codes "<abbr title=\"" ++ escaped_value title)
+front_utf8 title (cs, (h, e)) =
+    IsUtf8-append (codes "<abbr title=\"") (escaped_value title) title_tags_utf8.0
+    (subst (λ x. IsUtf8 (escaped_value x)) e (value_utf8 cs h))
+
+pub abbreviation_utf8 : (title : List ℕ) → IsUtf8 title → IsUtf8 (abbreviation_tag title)
+abbreviation_utf8 title h =
+    IsUtf8-append (codes "<abbr title=\"" ++ escaped_value title) (codes "\">") (front_utf8 title h) title_tags_utf8.1

@@ -6,8 +6,8 @@ use Rattle.std.specs.List.{list_all}
 use Rattle.std.proofs.lemmas.Bool.{eqb-true, and_from}
 use Rattle.std.proofs.lemmas.List.{append_assoc}
 use Rattle.std.proofs.lemmas.List.Folds.{list_all-append}
-use Rattle.htmd_document.specs.Tags.{in_value, escaped_value, anchor_tag}
-use Rattle.htmd_commonmark_reading.specs.Anchors.{value, anchor_id}
+use Rattle.htmd_document.specs.Tags.{in_value, escaped_value, anchor_tag, abbreviation_tag}
+use Rattle.htmd_commonmark_reading.specs.Anchors.{value, anchor_id, abbreviation_title}
 use Rattle.htmd_law_inlines.proofs.TextPieces.{test}
 use Rattle.htmd_lexical.proofs.BytesLemmas.{bytes_same}
 
@@ -27,7 +27,7 @@ byte_read b s =
     (λ n5. test (b == 93) (λ e. rw (n1, n2, n3, n4, n5, e) (ap (λ c. c ∷ value s) (sym (eqb-true b 93 e))))
     (λ n6. ap (λ l. value (l ++ s)) (plain_byte b n1 n2 n3 n4 n5 n6) ∙ rw (n4, n1) refl))))))
 
-value_read : (id rest : List ℕ) → value (escaped_value id ++ (34 ∷ rest)) ≡ id
+pub value_read : (id rest : List ℕ) → value (escaped_value id ++ (34 ∷ rest)) ≡ id
 value_read [] rest = refl
 value_read (b ∷ id) rest =
     ap value (append_assoc (in_value b) (escaped_value id) (34 ∷ rest))
@@ -38,6 +38,13 @@ pub id_of : (id : List ℕ) → anchor_id (anchor_tag id) ≡ Some id
 id_of id =
     ap (λ i. if bytes_eq (anchor_tag i) (anchor_tag id) then Some i else None) (value_read id (62 ∷ []))
     ∙ ap (λ t. if t then Some id else None) (bytes_same (anchor_tag id))
+
+-- so has the tag of an abbreviation its title
+pub title_read : (title : List ℕ) → abbreviation_title (abbreviation_tag title) ≡ Some title
+title_read title =
+    ap (λ i. if bytes_eq (abbreviation_tag i) (abbreviation_tag title) then Some i else None)
+    (value_read title (62 ∷ []))
+    ∙ ap (λ t. if t then Some title else None) (bytes_same (abbreviation_tag title))
 
 -- no quotation mark is in it
 byte_unquoted : (b : ℕ) → list_all (λ c. not (c == 34)) (in_value b) ≡ true

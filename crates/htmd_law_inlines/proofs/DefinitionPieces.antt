@@ -29,7 +29,7 @@ use Rattle.htmd_commonmark_reading.specs.LinkDefinitions.{after_destination, des
 use Rattle.htmd_commonmark_reading.specs.LinkDefinitions.{defined_with, past_line, title_after}
 use Rattle.htmd_commonmark_reading.specs.Brackets.{References, target_of}
 use Rattle.htmd_document.specs.NormalInlines.{is_normal, are_normal, meets, is_barred, has_none, are_whole}
-use Rattle.htmd_document.specs.NormalInlines.{is_attribute, is_title, is_kept}
+use Rattle.htmd_document.specs.NormalInlines.{is_attribute, is_title, is_kept, has_title}
 use Rattle.htmd_law_inlines.specs.ReadBack.{of_defined, references, is_number, are_numbered}
 use Rattle.htmd_law_inlines.proofs.TextPieces.{test}
 use Rattle.htmd_law_inlines.proofs.AddressPieces.{until_read, address_text, ends_address}
@@ -131,7 +131,7 @@ mutual
   numbered_one line around w f (formatted g content) n h =
       let m = mark_for g (sides_of line w.text f content) in
       numbered_all line (g ∷ around) (wrote w m.opener) (Some m.sign) content
-      (and_parts (not (is_barred around g) && not (has_none content) && are_whole content)
+      (and_parts (not (is_barred around g) && has_title g && not (has_none content) && are_whole content)
       (are_normal line.in_link (g ∷ around) content) n).1 h
   numbered_one line around w f (link a t content) n h =
       let p = and_parts (not line.in_link && is_attribute a && is_title t && not (has_none content))

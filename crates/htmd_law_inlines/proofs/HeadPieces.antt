@@ -34,8 +34,8 @@ use Rattle.htmd_commonmark.specs.InlineEnds.{first_of, last_of_all}
 use Rattle.htmd_commonmark.specs.InlineMarkdown.{written_code, written_break, needs_tags, sides_of}
 use Rattle.htmd_commonmark_reading.specs.DelimiterRuns.{may_open, may_close}
 use Rattle.htmd_commonmark_reading.specs.Brackets.{kind, Kind}
-use Rattle.htmd_document.specs.Formats.{is_same_format}
-use Rattle.htmd_document.proofs.FormatsLemmas.{same-itself}
+use Rattle.htmd_document.specs.Formats.{is_same_kind}
+use Rattle.htmd_document.proofs.FormatsLemmas.{same-kind}
 use Rattle.htmd_document.specs.NormalInlines.{is_code, is_break, is_around, is_barred, last_passes}
 use Rattle.htmd_law_inlines.proofs.Pieces.{pushed, pushed_append}
 use Rattle.htmd_law_inlines.proofs.TextPieces.{test, differs}
@@ -354,14 +354,14 @@ pub more_around : (rows : List RowFormat) (formats : List Format) (g : Format) �
     → AreAround rows (g ∷ formats)
 more_around [] formats g h = tt
 more_around (r ∷ rows) formats g h = (
-  or_right (is_same_format g (row_format r)) (is_around formats (row_format r)) h.0,
+  or_right (is_same_kind g (row_format r)) (is_around formats (row_format r)) h.0,
   more_around rows formats g h.1,
 )
 
 pub row_around : (r : RowFormat) (rows : List RowFormat) (formats : List Format) → AreAround rows formats
     → AreAround (r ∷ rows) (row_format r ∷ formats)
 row_around r rows formats h = (
-  ap (λ b. b || is_around formats (row_format r)) (same-itself (row_format r)),
+  ap (λ b. b || is_around formats (row_format r)) (same-kind (row_format r)),
   more_around rows formats (row_format r) h,
 )
 

@@ -37,7 +37,7 @@ use Rattle.htmd_commonmark_reading.specs.Brackets.{target_of}
 use Rattle.htmd_commonmark_reading.specs.DelimiterRuns.{Token, finished, processed, may_open, may_close}
 use Rattle.htmd_document.specs.NormalInlines.{is_normal, are_normal, meets, is_barred, has_none, are_whole, is_text}
 use Rattle.htmd_document.specs.NormalInlines.{is_line, is_line_byte, is_trimmed, is_attribute, is_title, is_kept}
-use Rattle.htmd_document.specs.NormalInlines.{last_passes, ends_in_space}
+use Rattle.htmd_document.specs.NormalInlines.{last_passes, ends_in_space, has_title}
 use Rattle.htmd_law_inlines.proofs.Pieces.{pushed, pushed_append}
 use Rattle.htmd_law_inlines.proofs.TextPieces.{test}
 use Rattle.htmd_law_inlines.proofs.RowsRead.{text_read}
@@ -486,10 +486,12 @@ mutual
       let shape = λ (m : Mark). wrote (written line (wrote w m.opener) (Some m.sign) content) m.closer in
       let x = formatted g content in
       let s = sides_of line w.text f content in
-      let n1 = and_parts (not (is_barred formats g) && not (has_none content) && are_whole content)
+      let n1 = and_parts (not (is_barred formats g) && has_title g && not (has_none content) && are_whole content)
       (are_normal line.in_link (g ∷ formats) content) n in
-      let n2 = and_parts (not (is_barred formats g) && not (has_none content)) (are_whole content) n1.0 in
-      let n3 = and_parts (not (is_barred formats g)) (not (has_none content)) n2.0 in
+      let n2 = and_parts (not (is_barred formats g) && has_title g && not (has_none content)) (are_whole content)
+      n1.0 in
+      let n3 = and_parts (not (is_barred formats g) && has_title g) (not (has_none content)) n2.0 in
+      let n4 = and_parts (not (is_barred formats g)) (has_title g) n3.0 in
       mark_cases g s
       (λ r. let row = row_text r.row r.sign in
       let start = wrote w row in
@@ -511,7 +513,7 @@ mutual
       subst (λ (m : Mark). ReadsOne rows refs line w (shape m) x ks) (sym r.is)
       (row_shown rows refs line w f g content ks r h
       (none_around rows formats r.row a (sym (row_barred formats r.row) ∙ ap (is_barred formats) r.means
-      ∙ not-true (is_barred formats g) n3.0)) c
+      ∙ not-true (is_barred formats g) n4.0)) c
       inside.0 beside.0
       (row_opens r.sign line w f content (beside_after r.sign (c.text ++ (row ++ ks))) h fit inside.1)
       (row_closes r.sign line w f content (beside_before r.sign (pushed after.text [])) (beside_after r.sign ks) fit
@@ -522,7 +524,7 @@ mutual
       subst (λ (m : Mark). ReadsOne rows refs line w (shape m) x ks) (sym t.is)
       (tags_shown rows refs line w g (mark_for g s) content ks t
       (walk rows (g ∷ formats) refs all finds line start (Some 60) content (in_tag t.closing ++ ks) n1.1
-      (more_around rows formats g a) (sound_tag w.text t.opening t.opening_utf8 h) p' refl
+      (more_around rows formats g a) (sound_tag w.text t.opening (t.opening_utf8 n4.1) h) p' refl
       (sign_ends 60 (last_passes is_format content) ((t.closing ++ codes ">") ++ ks) refl refl))))
   walk_one rows formats refs all finds line w f (link b t content) ks n a h p d =
       let n1 = and_parts (not line.in_link && is_attribute b && is_title t && not (has_none content))

@@ -1,19 +1,21 @@
 -- Inlines as they are seen: raw tags of the writer are formats, codes and breaks; and the document that they are.
-use Rattle.std.proofs.Common.{◌≡◌, ◌∙◌, refl, ap, sym, ℕ, Bool, true, false, List, [], ◌∷◌, Option, Some, codes}
+use Rattle.std.proofs.Common.{◌≡◌, ◌∙◌, refl, ap, sym, ℕ, Bool, true, false, List, [], ◌∷◌, ◌++◌, Option, Some, codes}
 use Rattle.std.specs.Prelude.{not, ◌&&◌, if◌then◌else◌}
+use Rattle.std.specs.Str.{bytes_eq}
 use Rattle.std.proofs.lemmas.Bool.{and_parts, not-true}
 use Rattle.htmd_lexical.specs.CharacterClasses.{is_empty}
 use Rattle.htmd_document.specs.Formats.{Format}
-use Rattle.htmd_document.specs.Formats.{Emphasis, Strong, Deleted, Superscript, Subscript}
+use Rattle.htmd_document.specs.Formats.{Emphasis, Strong, Deleted}
 use Rattle.htmd_document.specs.Documents as document
 use Rattle.htmd_document.specs.Tags.{anchor_tag, end_of_anchor}
 use Rattle.htmd_commonmark_reading.specs.Markup.{Inlines, no_inlines, letter, code, formatted, link, image, line_break}
 use Rattle.htmd_commonmark_reading.specs.Markup.{task, raw, joined, letters, plain_text}
-use Rattle.htmd_commonmark_reading.specs.SeenMarkup.{Tag, code_pair, Tags, outside, inside, with_seen, all_seen}
+use Rattle.htmd_commonmark_reading.specs.SeenMarkup.{Tag, plain_tag, format_pair, code_pair, role, opens, closes}
+use Rattle.htmd_commonmark_reading.specs.SeenMarkup.{Tags, outside, inside, with_seen, with_raw, closed_tag, all_seen}
 use Rattle.htmd_commonmark_reading.specs.SeenMarkup.{is_text_alone, paired, seen, seen_inlines, document_inlines}
 use Rattle.htmd_commonmark_reading.specs.SeenMarkup.{with_letter, with_first, with_content, with_anchor}
 use Rattle.htmd_document.specs.NormalInlines.{is_normal, are_normal, meets, is_text, is_line, has_double_space}
-use Rattle.htmd_document.specs.NormalInlines.{is_barred, has_none, are_whole, is_attribute, is_title}
+use Rattle.htmd_document.specs.NormalInlines.{is_barred, has_title, has_none, are_whole, is_attribute, is_title}
 use Rattle.htmd_law_inlines.proofs.Pieces.{joined_joined, joined_none}
 use Rattle.htmd_law_inlines.proofs.AnchorValues.{id_of}
 
@@ -95,50 +97,48 @@ anchor_seen id b = seen_twice b (raw (anchor_tag id) no_inlines) (raw end_of_anc
 
 -- ---- pairs of tags
 
+pub pair_seen : (f : Format) (o c : List ℕ) (t u : Tag) → role o ≡ opens t → role c ≡ closes u
+    → bytes_eq t.name u.name ≡ true → t.pair ≡ format_pair f → (xs ys : Inlines) → AreSeen xs ys
+    → AreSeen (raw o (joined xs (raw c no_inlines))) (formatted f ys no_inlines)
+pair_seen f o c t u opening closing name pair xs ys h b =
+    let stop = raw c no_inlines in
+    let b1 = inside t no_inlines b in
+    let b2 = inside t ys b in
+    let made = joined ys no_inlines in
+    ap (λ r. seen (with_raw b o r) (joined xs stop)) opening ∙ seen_joined xs stop b1
+    ∙ ap (λ d. seen d stop) (h b1)
+    ∙ ap (with_raw b2 c) closing
+    ∙ ap (λ q. if q then with_seen b (paired t t.pair made)
+    else closed_tag u b2 b (raw t.open_tag made)) name
+    ∙ ap (λ p. with_seen b (paired t p made)) pair
+    ∙ ap (λ x. with_seen b (formatted f x no_inlines)) (joined_none ys)
+
+-- of tags without attributes
+pub plain_seen : (f : Format) (name : List ℕ)
+    → role (codes "<" ++ name ++ codes ">") ≡ opens (plain_tag name (format_pair f))
+    → role (codes "</" ++ name ++ codes ">") ≡ closes (plain_tag name (format_pair f))
+    → bytes_eq name name ≡ true → (xs ys : Inlines) → AreSeen xs ys
+    → AreSeen (raw (codes "<" ++ name ++ codes ">") (joined xs (raw (codes "</" ++ name ++ codes ">") no_inlines)))
+    (formatted f ys no_inlines)
+plain_seen f name opening closing same xs ys h =
+    let t = plain_tag name (format_pair f) in
+    pair_seen f (codes "<" ++ name ++ codes ">") (codes "</" ++ name ++ codes ">") t t opening closing same refl xs ys h
+
 pub em_seen : (xs ys : Inlines) → AreSeen xs ys
     → AreSeen (raw (codes "<em>") (joined xs (raw (codes "</em>") no_inlines))) (formatted Emphasis ys no_inlines)
-em_seen xs ys h b =
-    let stop = raw (codes "</em>") no_inlines in
-    let b1 = seen b (raw (codes "<em>") no_inlines) in
-    seen_joined xs stop b1 ∙ ap (λ c. seen c stop) (h b1)
-    ∙ ap (λ x. with_seen b (formatted Emphasis x no_inlines)) (joined_none ys)
+em_seen = plain_seen Emphasis (codes "em") refl refl refl
 
 pub strong_seen : (xs ys : Inlines) → AreSeen xs ys
     → AreSeen (raw (codes "<strong>") (joined xs (raw (codes "</strong>") no_inlines)))
     (formatted Strong ys no_inlines)
-strong_seen xs ys h b =
-    let stop = raw (codes "</strong>") no_inlines in
-    let b1 = seen b (raw (codes "<strong>") no_inlines) in
-    seen_joined xs stop b1 ∙ ap (λ c. seen c stop) (h b1)
-    ∙ ap (λ x. with_seen b (formatted Strong x no_inlines)) (joined_none ys)
+strong_seen = plain_seen Strong (codes "strong") refl refl refl
 
 pub del_seen : (xs ys : Inlines) → AreSeen xs ys
     → AreSeen (raw (codes "<del>") (joined xs (raw (codes "</del>") no_inlines))) (formatted Deleted ys no_inlines)
-del_seen xs ys h b =
-    let stop = raw (codes "</del>") no_inlines in
-    let b1 = seen b (raw (codes "<del>") no_inlines) in
-    seen_joined xs stop b1 ∙ ap (λ c. seen c stop) (h b1)
-    ∙ ap (λ x. with_seen b (formatted Deleted x no_inlines)) (joined_none ys)
-
-pub sup_seen : (xs ys : Inlines) → AreSeen xs ys
-    → AreSeen (raw (codes "<sup>") (joined xs (raw (codes "</sup>") no_inlines)))
-    (formatted Superscript ys no_inlines)
-sup_seen xs ys h b =
-    let stop = raw (codes "</sup>") no_inlines in
-    let b1 = seen b (raw (codes "<sup>") no_inlines) in
-    seen_joined xs stop b1 ∙ ap (λ c. seen c stop) (h b1)
-    ∙ ap (λ x. with_seen b (formatted Superscript x no_inlines)) (joined_none ys)
-
-pub sub_seen : (xs ys : Inlines) → AreSeen xs ys
-    → AreSeen (raw (codes "<sub>") (joined xs (raw (codes "</sub>") no_inlines))) (formatted Subscript ys no_inlines)
-sub_seen xs ys h b =
-    let stop = raw (codes "</sub>") no_inlines in
-    let b1 = seen b (raw (codes "<sub>") no_inlines) in
-    seen_joined xs stop b1 ∙ ap (λ c. seen c stop) (h b1)
-    ∙ ap (λ x. with_seen b (formatted Subscript x no_inlines)) (joined_none ys)
+del_seen = plain_seen Deleted (codes "del") refl refl refl
 
 abbrev code_tag : Tag
-code_tag = record { name = codes "code"; pair = code_pair }
+code_tag = plain_tag (codes "code") code_pair
 
 letters_alone : (c : ℕ) (s : List ℕ) → is_text_alone (letters (c ∷ s) no_inlines) ≡ true
 letters_alone c [] = refl
@@ -242,7 +242,7 @@ mutual
   first_document in_link around (document.code s) rest n m e = ap (with_first (document.code s)) e
   first_document in_link around (document.formatted f content) rest n m e =
       let d = document_of in_link (f ∷ around) content
-      (and_parts (not (is_barred around f) && not (has_none content) && are_whole content)
+      (and_parts (not (is_barred around f) && has_title f && not (has_none content) && are_whole content)
       (are_normal in_link (f ∷ around) content) n).1 in
       ap (λ o. with_content (document.formatted f) o (document_inlines (meant rest))) d
       ∙ ap (with_first (document.formatted f content)) e

@@ -50,22 +50,6 @@ pub closes_del : (refs : References) (in_link : Bool) (before ks : List ℕ)
     → IsRead refs in_link before (codes "</del>") ks (raw (codes "</del>") no_inlines)
 closes_del refs in_link before ks = tag_read refs in_link before (codes "/del>") ks (λ ks. refl)
 
-pub opens_sup : (refs : References) (in_link : Bool) (before ks : List ℕ)
-    → IsRead refs in_link before (codes "<sup>") ks (raw (codes "<sup>") no_inlines)
-opens_sup refs in_link before ks = tag_read refs in_link before (codes "sup>") ks (λ ks. refl)
-
-pub closes_sup : (refs : References) (in_link : Bool) (before ks : List ℕ)
-    → IsRead refs in_link before (codes "</sup>") ks (raw (codes "</sup>") no_inlines)
-closes_sup refs in_link before ks = tag_read refs in_link before (codes "/sup>") ks (λ ks. refl)
-
-pub opens_sub : (refs : References) (in_link : Bool) (before ks : List ℕ)
-    → IsRead refs in_link before (codes "<sub>") ks (raw (codes "<sub>") no_inlines)
-opens_sub refs in_link before ks = tag_read refs in_link before (codes "sub>") ks (λ ks. refl)
-
-pub closes_sub : (refs : References) (in_link : Bool) (before ks : List ℕ)
-    → IsRead refs in_link before (codes "</sub>") ks (raw (codes "</sub>") no_inlines)
-closes_sub refs in_link before ks = tag_read refs in_link before (codes "/sub>") ks (λ ks. refl)
-
 pub opens_code : (refs : References) (in_link : Bool) (before ks : List ℕ)
     → IsRead refs in_link before (codes "<code>") ks (raw (codes "<code>") no_inlines)
 opens_code refs in_link before ks = tag_read refs in_link before (codes "code>") ks (λ ks. refl)

@@ -33,7 +33,7 @@ use Rattle.htmd_commonmark.specs.InlineMarkdown.{place_of_description, is_autoli
 use Rattle.htmd_commonmark.specs.InlineMarkdown.{sides_of, reference_number}
 use Rattle.htmd_document.specs.NormalInlines.{is_normal, are_normal, meets, may_meet, is_barred, has_none, are_whole}
 use Rattle.htmd_document.specs.NormalInlines.{is_text, is_line, is_line_byte, has_double_space, is_trimmed}
-use Rattle.htmd_document.specs.NormalInlines.{is_attribute, is_title, is_kept}
+use Rattle.htmd_document.specs.NormalInlines.{is_attribute, is_title, is_kept, has_title}
 use Rattle.htmd_law_inlines.proofs.TextPieces.{test, differs}
 use Rattle.htmd_law_inlines.proofs.ReferencePieces.{one_of}
 use Rattle.htmd_law_inlines.proofs.OpenRuns.{RowFormat, one, two, tildes}
@@ -250,8 +250,11 @@ mutual
       sound_end w.text (written_code line s) v.last h v.utf8 v.ends
       (differs (is_one_of (codes "`>)]")) v.last 92 v.is_mark refl)
   sound_one line around w f (formatted g content) n c h =
-      let p = and_parts (not (is_barred around g) && not (has_none content) && are_whole content)
+      let p = and_parts (not (is_barred around g) && has_title g && not (has_none content) && are_whole content)
       (are_normal line.in_link (g ∷ around) content) n in
+      let q = and_parts (not (is_barred around g) && has_title g && not (has_none content)) (are_whole content) p.0 in
+      let r = and_parts (not (is_barred around g) && has_title g) (not (has_none content)) q.0 in
+      let title = (and_parts (not (is_barred around g)) (has_title g) r.0).1 in
       let s = sides_of line w.text f content in
       mark_cases g s
       (λ r. subst (λ (m : Mark). IsSound (wrote (written line (wrote w m.opener) (Some m.sign) content)
@@ -265,7 +268,7 @@ mutual
       (sym t.is)
       (sound_tag (written line (wrote w (in_tag t.opening)) (Some 60) content).text t.closing t.closing_utf8
       (sound_all line (g ∷ around) (wrote w (in_tag t.opening)) (Some 60) content p.1 refl
-      (sound_tag w.text t.opening t.opening_utf8 h))))
+      (sound_tag w.text t.opening (t.opening_utf8 title) h))))
   sound_one line around w f (link a t content) n c h =
       let p = and_parts (not line.in_link && is_attribute a && is_title t && not (has_none content))
       (are_normal true around content) n in

@@ -8,7 +8,7 @@ use Rattle.htmd_html5.specs.BodyStarts.{block_rule, formatting_rule, phrasing_ru
 use Rattle.htmd_html5.specs.Html5Documents.{html5_document}
 use Rattle.htmd_law_html5.specs.PageLetters.{token_texts}
 use Rattle.htmd_flow.specs.Flows.{node_of}
-use Rattle.htmd_shown.specs.Roles.{role_of, table_role, heading_or_block, block_role, inline_role}
+use Rattle.htmd_shown.specs.Roles.{role_of, table_role, heading_or_block, block_role, inline_role, element_role}
 use Rattle.htmd_shown.specs.Shown.{Sight, shown}
 use Rattle.htmd_document_of_tree.specs.declared.anchors.Anchors.TheVariants as which
 use Rattle.htmd_document_of_tree.specs.TreeDocuments.{document_by, document_of_tree}
@@ -62,34 +62,34 @@ seen_of_these = refl
 -- ---- the pieces of a page
 
 abbrev with_scripts : Sight
-with_scripts = record { scripting = true; skip = [] }
+with_scripts = record { scripting = true; skip = []; is_rich = false }
 
 abbrev without_scripts : Sight
-without_scripts = record { scripting = false; skip = codes "nav" ∷ [] }
+without_scripts = record { scripting = false; skip = codes "nav" ∷ []; is_rich = false }
 
 a_script_is_hidden : page_pieces with_scripts (codes "a<script>b</script>c")
     ≡ a_shown (codes "a") ∷ hidden (codes "b") ∷ a_shown (codes "c") ∷ []
 unfolding html5_document block_rule formatting_rule phrasing_rule text_end_rule move_last wrap_children forest_from
-    tree_of role_of table_role heading_or_block block_role inline_role shown
+    tree_of role_of table_role heading_or_block block_role inline_role element_role shown
 a_script_is_hidden = refl
 
 a_description_is_said : page_pieces with_scripts (codes "<q>a<img alt=b></q>")
     ≡ said (codes "\"") ∷ a_shown (codes "a") ∷ said (codes "b") ∷ said (codes "\"") ∷ []
 unfolding html5_document block_rule formatting_rule phrasing_rule text_end_rule move_last wrap_children forest_from
-    tree_of role_of table_role heading_or_block block_role inline_role shown
+    tree_of role_of table_role heading_or_block block_role inline_role element_role shown
 a_description_is_said = refl
 
 a_skipped_element_is_hidden : page_pieces without_scripts (codes "<nav>a</nav><noscript>b</noscript>")
     ≡ hidden (codes "a") ∷ a_shown (codes "b") ∷ []
 unfolding html5_document block_rule formatting_rule phrasing_rule text_end_rule move_last wrap_children forest_from
-    tree_of role_of table_role heading_or_block block_role inline_role shown
+    tree_of role_of table_role heading_or_block block_role inline_role element_role shown
 a_skipped_element_is_hidden = refl
 
 -- the texts of a table's page, in another order
 a_table_moves_text : page_pieces with_scripts (codes "<table><td>a</td>b")
     ≡ a_shown (codes "b") ∷ a_shown (codes "a") ∷ []
 unfolding html5_document block_rule formatting_rule phrasing_rule text_end_rule move_last wrap_children forest_from
-    tree_of role_of table_role heading_or_block block_role inline_role shown
+    tree_of role_of table_role heading_or_block block_role inline_role element_role shown
 a_table_moves_text = refl
 
 its_tokens : token_texts true (codes "<table><td>a</td>b") ≡ codes "a" ∷ codes "b" ∷ []
@@ -99,7 +99,7 @@ its_tokens = refl
 -- frames drop text, so no piece has it
 frames_have_no_piece : page_pieces with_scripts (codes "<frameset>a") ≡ []
 unfolding html5_document block_rule formatting_rule phrasing_rule text_end_rule move_last wrap_children forest_from
-    tree_of role_of table_role heading_or_block block_role inline_role shown
+    tree_of role_of table_role heading_or_block block_role inline_role element_role shown
 frames_have_no_piece = refl
 
 -- ---- a whole page
@@ -111,6 +111,6 @@ its_letters = refl
 its_document : seen_of (text_of_blocks (page_document which.Linked with_scripts
     (codes "<q>a<script>b</script><img alt=c></q>"))) ≡ codes "\"ac\""
 unfolding chars encode html5_document block_rule formatting_rule phrasing_rule text_end_rule move_last wrap_children
-    forest_from tree_of role_of table_role heading_or_block block_role inline_role shown document_by
-    document_of_tree node_of
+    forest_from tree_of role_of table_role heading_or_block block_role inline_role element_role shown
+    document_by document_of_tree node_of
 its_document = refl

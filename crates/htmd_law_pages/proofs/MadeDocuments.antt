@@ -21,10 +21,10 @@ pub made : {E : Type 0} (which : Anchors) (P : Sight → List ℕ → Blocks →
     → ((sight : Sight) (page : List ℕ) → IsRead sight page → P sight page (page_document which sight page))
     → (sight : Sight) (page : List ℕ) (items : List Item) (r : Result Document E) → IsUtf8 page
     → HoldTexts items → items ≡ html5_document sight.scripting page
-    → IfOk r (λ d. document_of d ≡ document_of_tree which sight.scripting sight.skip (tree_of items 0))
+    → IfOk r (λ d. document_of d ≡ document_of_tree which sight (tree_of items 0))
     → IfOk r (λ d. P sight page (document_of d))
 made which P law sight page items r u h e same =
     same_document (P sight page) (page_document which sight page) r
     (law sight page (record { utf8 = u; texts = subst HoldTexts e h }))
     (subst (λ (x : List Item). IfOk r
-    (λ d. document_of d ≡ document_of_tree which sight.scripting sight.skip (tree_of x 0))) e same)
+    (λ d. document_of d ≡ document_of_tree which sight (tree_of x 0))) e same)

@@ -260,7 +260,7 @@ target_reads id attributes texts = either (is_led_to attributes)
     either true = reads_hidden texts
     either false = reads_hidden texts
 
-module _ (around : Surroundings) (source : Option (List ℕ)) (id : ℕ) (name : List ℕ)
+module _ (is_rich : Bool) (around : Surroundings) (source : Option (List ℕ)) (id : ℕ) (name : List ℕ)
     (attributes : List AttributePair)
     (children : NumberedForest) (g : list_all is_text_value attributes ≡ true) (h : are_text_trees children ≡ true)
     (content : Simples) (inner : List Piece) (e : is_void (role_of name) ≡ true → content ≡ simple.none)
@@ -278,10 +278,10 @@ module _ (around : Surroundings) (source : Option (List ℕ)) (id : ℕ) (name :
 
   -- the rules in their order, each with its pieces
   abbrev kept : Simple
-  kept = made id (role_at name attributes children) attributes content
+  kept = made id (role_at is_rich name attributes children) attributes content
 
   abbrev by_role : Option Simple
-  by_role = with_content around.in_head id name attributes children content
+  by_role = with_content is_rich around.in_head id name attributes children content
 
   abbrev link_pieces : List Piece
   link_pieces = cond (is_sign_link around name attributes content) (all_hidden texts) inner
@@ -308,10 +308,10 @@ module _ (around : Surroundings) (source : Option (List ℕ)) (id : ℕ) (name :
   kept_reads : Reads (said_by (Some kept)) inner
   kept_reads =
       text-same (text_of_simple true false kept) (said_in content) (visible_in (texts_of_document inner))
-      (element-said id (role_at name attributes children) attributes content
-      (λ v. e (role-void (role_of name) attributes children v))) i
+      (element-said id (role_at is_rich name attributes children) attributes content
+      (λ v. e (role-void is_rich (role_of name) attributes children v))) i
 
-  name_reads : Reads (said_by (by_content around source id name attributes children content))
+  name_reads : Reads (said_by (by_content is_rich around source id name attributes children content))
       (pieces_by_name around name attributes children content inner)
   name_reads =
       either_reads (is_hidden around name attributes) None (cond (is_image name attributes) an_image as_embedded)
@@ -363,12 +363,13 @@ mutual
       (nodes_read sight (inside name children around) (picture_source name children) None children parts.1)) in
       let by_name : List Piece = pieces_by_name around name attributes children content inner in
       either_reads (is_skipped sight name) None
-      (formula_or name attributes (by_content around source id name attributes children content)
+      (formula_or name attributes (by_content sight.is_rich around source id name attributes children content)
       (tex_of name attributes children)) (all_hidden texts)
       (pieces_of_formula texts by_name (tex_of name attributes children)) (reads_hidden texts)
-      (formula_reads name attributes (by_content around source id name attributes children content) texts by_name
+      (formula_reads name attributes (by_content sight.is_rich around source id name attributes children content) texts
+      by_name
       (tex_of name attributes children) (tex-good name attributes children parts.0 parts.1)
-      (name_reads around source id name attributes children parts.0 parts.1 content inner
+      (name_reads sight.is_rich around source id name attributes children parts.0 parts.1 content inner
       (λ v. ap (λ b. cond b simple.none body)
       (ap (λ b. b || (around.in_numbered_row && is_number_cell name attributes)) v))
       (emptied_reads (is_emptied around name attributes) body texts (in_quotation_marks is_quoted below) whole)))

@@ -47,7 +47,7 @@ abbrev pub page_pieces : Sight → List ℕ → List Piece
 page_pieces sight page = pieces_in sight (page_tree sight page)
 
 abbrev pub page_document : Anchors → Sight → List ℕ → Blocks
-page_document which sight page = document_of_tree which sight.scripting sight.skip (page_tree sight page)
+page_document which sight page = document_of_tree which sight (page_tree sight page)
 
 -- A page in UTF-8 of which a tree is made. The texts and values of each tree of the source are UTF-8.
 pub record IsRead (sight : Sight) (page : List ℕ) : Type 0 where

@@ -1,7 +1,7 @@
 //! From the texts of a page's tokens to its document.
-ghost use Rattle.std.specs.Prelude.{IfOk, map};
+ghost use Rattle.std.specs.Prelude.{IfOk};
 ghost use Rattle.htmd_document.specs.DocumentViews.{document_of};
-ghost use Rattle.htmd_shown.specs.Shown.{Sight};
+ghost use Rattle.htmd_shown.specs.SightViews.{sight_with};
 ghost use Rattle.htmd_law_pages.specs.PageTexts.{PiecesShow, PageTextIsWritten, PageTextStandsInOrder};
 ghost use Rattle.htmd_law_pages.specs.PageTexts.{AllTextIsWritten};
 ghost use Rattle.htmd_law_pages.specs.PageTexts.{CountsLetters, KeepsOrder, HasAllText};
@@ -34,22 +34,21 @@ pub fn all_text_is_written()
 {}
 
 /// The document of any page, as browsers read it, has the page's text. Elements with one of the names in `skip` give
-/// nothing. No page is refused; `Err` means out of memory.
+/// nothing. A rich document keeps elements that Markdown has no form for. No page is refused; `Err` means out of
+/// memory.
 pub fn document_of_page(
     alloc: Global,
     page: &str,
     scripting: bool,
     skip: &[&str],
     anchors: Anchors,
+    rich: bool,
 ) -> Result<Document, AllocError>
-    ensures letters { IfOk result (λ d. CountsLetters
-        (record { scripting = scripting; skip = map (λ name. name.now) skip.now }) page.now (document_of d)) }
-    ensures order { IfOk result (λ d. KeepsOrder
-        (record { scripting = scripting; skip = map (λ name. name.now) skip.now }) page.now (document_of d)) }
-    ensures all { IfOk result (λ d. HasAllText
-        (record { scripting = scripting; skip = map (λ name. name.now) skip.now }) page.now (document_of d)) }
+    ensures letters { IfOk result (λ d. CountsLetters (sight_with scripting skip.now rich) page.now (document_of d)) }
+    ensures order { IfOk result (λ d. KeepsOrder (sight_with scripting skip.now rich) page.now (document_of d)) }
+    ensures all { IfOk result (λ d. HasAllText (sight_with scripting skip.now rich) page.now (document_of d)) }
 {
     let tree = parse_html5(alloc, page, scripting)?;
     let _root = tree.root();
-    Document::of_tree(alloc, &tree, scripting, skip, anchors)
+    Document::of_tree(alloc, &tree, scripting, skip, anchors, rich)
 }

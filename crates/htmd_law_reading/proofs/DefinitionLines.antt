@@ -4,6 +4,7 @@ use Rattle.std.specs.Prelude.{codes}
 use Rattle.std.specs.List.{flat_map}
 use Rattle.std.proofs.lemmas.List.{length-append}
 use Rattle.htmd_document.specs.Documents.{Blocks}
+use Rattle.htmd_document.specs.FlatDocuments.{flattened}
 use Rattle.htmd_commonmark.specs.declared.options.DocumentOptions.{DocumentOptions}
 use Rattle.htmd_commonmark.specs.BlockMarkdown.{written_blocks}
 use Rattle.htmd_commonmark.specs.DocumentMarkdown.{outermost, written_definitions, markdown_of}
@@ -31,15 +32,15 @@ written_lines (first ∷ rest) =
 
 pub definitions_are_lines : DefinitionsAreLines
 definitions_are_lines options d =
-    let text : List ℕ = (written_blocks options outermost [] d).text in
-    let lines : List (List ℕ) = definition_lines options d in
+    let text : List ℕ = (written_blocks options outermost [] (flattened d)).text in
+    let lines : List (List ℕ) = definition_lines options (flattened d) in
     omega (arith, length-append text (written_definitions lines), written_lines lines)
 
 -- few of a text that fits
 pub few_answered : (options : DocumentOptions) (d : Blocks) → length (markdown_of options d) < 2 ^ 64
     → HasFewDefinitions options d
 few_answered options d l =
-    less (length (definition_lines options d)) (length (markdown_of options d)) (2 ^ 64)
+    less (length (definition_lines options (flattened d))) (length (markdown_of options d)) (2 ^ 64)
     (definitions_are_lines options d) l
   where
     less : (a b k : ℕ) → a ≤ b → b < k → a < k

@@ -1,5 +1,5 @@
 -- Worked rows of the law: documents, what is written of them, and what is read. Each holds by computing.
-use Rattle.std.proofs.Common.{◌≡◌, ℕ, true, false, refl, codes, List, None, Some}
+use Rattle.std.proofs.Common.{◌≡◌, ℕ, true, false, refl, codes, List, [], ◌∷◌, None, Some}
 use Rattle.std.specs.Fmt.{digits}
 use Rattle.std.specs.Str.{is_utf8, chars}
 use Rattle.unicode.proofs.CategoryComputing.{ucd_category}
@@ -12,7 +12,9 @@ use Rattle.htmd_markdown.specs.declared.thematic_break.HrStyle.TheVariants.{Dash
 use Rattle.htmd_document.specs.Formats.{Strong, Superscript}
 use Rattle.htmd_document.specs.Documents.{Inlines, Block, Blocks, text, code, formatted, link, line_break, task}
 use Rattle.htmd_document.specs.Documents.{inline, no_inlines, paragraph, heading, list, no_blocks, block, no_items}
-use Rattle.htmd_document.specs.Documents.{item}
+use Rattle.htmd_document.specs.Documents.{item, element}
+use Rattle.htmd_document.specs.declared.document.AttributeName.TheVariants.{ColumnSpan}
+use Rattle.htmd_document.specs.declared.document.BlockElement.TheVariants.{Table, Row, Cell}
 use Rattle.htmd_document.specs.NormalDocuments.{is_normal_document}
 use Rattle.htmd_commonmark.specs.declared.options.DocumentOptions.{DocumentOptions}
 use Rattle.htmd_commonmark.specs.DocumentMarkdown.{markdown_of}
@@ -75,3 +77,23 @@ no_break_first = refl
 pub break_is_not_read : document (markdown_of options begins_with_break) ≡ None
 unfolding chars encode ucd_category digits
 break_is_not_read = refl
+
+-- a table in an item: a cell that holds a list, and one with a text alone; the blank lines in it make the list loose
+abbrev rich : Blocks
+rich = one (list None false (item (one (element Table [] (one (element Row []
+    (block (element Cell (record { name = ColumnSpan; value = codes "2" } ∷ [])
+    (one (list None true (item (one (paragraph (letters (codes "a")))) no_items))))
+    (one (element Cell [] (one (paragraph (letters (codes "b < c"))))))))))) no_items))
+
+pub rich_is_normal : is_normal_document rich ≡ true
+unfolding is_utf8 chars encode
+rich_is_normal = refl
+
+pub rich_is_written : markdown_of options rich
+    ≡ codes "- <table>\n  <tr>\n  <td colspan=\"2\">\n\n  - a\n\n  </td>\n  <td>b &lt; c</td>\n  </tr>\n  </table>"
+unfolding chars encode ucd_category digits
+rich_is_written = refl
+
+pub rich_is_read : document (markdown_of options rich) ≡ Some rich
+unfolding chars encode ucd_category digits
+rich_is_read = refl

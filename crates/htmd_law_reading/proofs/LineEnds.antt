@@ -6,15 +6,16 @@ use Rattle.std.specs.List.{flat_map}
 use Rattle.std.proofs.lemmas.List.{append-nil}
 use Rattle.htmd_lexical.specs.Characters.{null, line_feed, carriage_return}
 use Rattle.htmd_document.specs.Documents.{Block, Blocks, no_blocks, block}
+use Rattle.htmd_document.specs.FlatDocuments.{flattened}
 use Rattle.htmd_commonmark.specs.declared.options.DocumentOptions.{DocumentOptions}
 use Rattle.htmd_commonmark.specs.BlockMarkdown.{written_blocks}
-use Rattle.htmd_commonmark.specs.DocumentMarkdown.{markdown_of, written_definitions, outermost}
+use Rattle.htmd_commonmark.specs.DocumentMarkdown.{flat_markdown, written_definitions, outermost}
 use Rattle.htmd_commonmark_reading.specs.Characters.{replacement_character}
 use Rattle.htmd_commonmark_reading.specs.Lines.{split_lines, without_null, onto_first, placed}
 use Rattle.htmd_commonmark_reading.specs.Boxes.{joined_lines}
 use Rattle.htmd_commonmark_reading.specs.Containers.{parsed}
 use Rattle.htmd_commonmark_reading.specs.LinkDefinitions.{Definition}
-use Rattle.htmd_commonmark_reading.specs.Reading.{document, finished}
+use Rattle.htmd_commonmark_reading.specs.Reading.{document, finished, nested_of}
 use Rattle.htmd_commonmark_reading.specs.SeenMarkup.{seen_blocks, document_blocks}
 use Rattle.htmd_law_blocks.specs.BlockLaws.{definition_lines}
 use Rattle.htmd_law_blocks.specs.DocumentTexts.{AreOneLine, DefinitionTexts}
@@ -24,11 +25,12 @@ use Rattle.htmd_law_blocks.proofs.DocumentPieces.{first_pieces, first_written}
 use Rattle.htmd_law_blocks.proofs.DocumentReadBack.{document_filled}
 use Rattle.htmd_law_blocks.proofs.PieceTextsLemmas.{filled_is_text, filled_joined}
 use Rattle.htmd_law_blocks.proofs.PiecesLemmas.{pieces_lines}
-use Rattle.htmd_document.specs.NormalDocuments.{IsNormal}
+use Rattle.htmd_document.specs.NormalDocuments.{IsFlat}
 use Rattle.htmd_law_inlines.proofs.TextPieces.{test}
 use Rattle.htmd_law_texts.specs.TextLaws.{definitions_of}
 use Rattle.htmd_law_texts.proofs.NormalForm.{blocks_are_normal}
 use Rattle.htmd_law_texts.proofs.DocumentLaws.{texts_are_lines, definitions_are_read}
+use Rattle.htmd_law_texts.proofs.FlatForm.{normal_is_flat}
 use Rattle.htmd_law_reading.specs.ReadingLaws.{FilesReadBack}
 use Rattle.htmd_law_reading.proofs.ReadingMain.{reads_back}
 
@@ -102,7 +104,7 @@ nulls_end (c ∷ d ∷ s) h =
 -- what is read stays as it is
 same_document : (s : List ℕ) → EndsInLine s → document (s ++ (10 ∷ [])) ≡ document s
 same_document s h =
-    ap (λ ls. document_blocks (seen_blocks (finished (parsed (placed ls)))))
+    ap (λ ls. nested_of (document_blocks (seen_blocks (finished (parsed (placed ls))))))
     (ap split_lines (nulls_after s (10 ∷ [])) ∙ same_lines (without_null s) (nulls_end s h))
 
 -- ---- what is written
@@ -128,9 +130,9 @@ after_definitions s (first ∷ rest) found v h =
     all_clean [] h = tt
     all_clean (l ∷ ls) h = (one_clean l h.0 h.1, all_clean ls h.2)
 
--- what is written of a document with blocks
-written_ends : (options : DocumentOptions) (first : Block) (rest : Blocks) → IsNormal (block first rest)
-    → EndsInLine (markdown_of options (block first rest))
+-- what is written of a flat document with blocks
+written_ends : (options : DocumentOptions) (first : Block) (rest : Blocks) → IsFlat (block first rest)
+    → EndsInLine (flat_markdown options (block first rest))
 written_ends options first rest n =
     let d = block first rest in
     let ps = first_pieces options outermost [] d in
@@ -142,8 +144,12 @@ written_ends options first rest n =
     (subst EndsInLine (sym (filled_joined ps good.0 good.1) ∙ first_written options outermost [] d normal)
     (lines_end (pieces_lines ps) t.0 t.1))
 
+same_flat : (options : DocumentOptions) (d : Blocks) → IsFlat d
+    → document (flat_markdown options d ++ (10 ∷ [])) ≡ document (flat_markdown options d)
+same_flat options no_blocks n = refl
+same_flat options (block first rest) n =
+    same_document (flat_markdown options (block first rest)) (written_ends options first rest n)
+
 pub files_read_back : FilesReadBack
-files_read_back options no_blocks n few = refl
-files_read_back options (block first rest) n few =
-    same_document (markdown_of options (block first rest)) (written_ends options first rest n)
-    ∙ reads_back options (block first rest) n few
+files_read_back options d n few =
+    same_flat options (flattened d) (normal_is_flat d n) ∙ reads_back options d n few

@@ -13,14 +13,14 @@ use Rattle.htmd_law_reading.proofs.LineEnds.{files_read_back}
 
 pub pages_read_back : PagesReadBack
 pages_read_back which sight tree options text few =
-    let d = document_of_tree which sight.scripting sight.skip tree in
+    let d = document_of_tree which sight tree in
     reads_back options d (documents_are_normal which sight tree text) few
 
 pub pages_are_seen : PagesAreSeen
 pages_are_seen which sight items options h few =
     let tree = tree_of items 0 in
     let text = tree-text items 0 h in
-    let d = document_of_tree which sight.scripting sight.skip tree in
+    let d = document_of_tree which sight tree in
     let read = files_read_back options d (documents_are_normal which sight tree text) few in (
       read,
       subst (Shows which sight tree) (sym read)
@@ -30,4 +30,4 @@ pages_are_seen which sight items options h few =
 pub answers_are_seen : AnswersAreSeen
 answers_are_seen which sight items options h fits =
     pages_are_seen which sight items options h
-    (few_answered options (document_of_tree which sight.scripting sight.skip (tree_of items 0)) fits)
+    (few_answered options (document_of_tree which sight (tree_of items 0)) fits)

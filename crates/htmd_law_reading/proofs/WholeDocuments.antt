@@ -1,4 +1,4 @@
--- What is read of the blocks that are written, with the inlines in them, is what was written.
+-- What is read of the flat blocks that are written, with the inlines in them, is what was written.
 use Rattle.std.proofs.Common.{◌≡◌, ◌∙◌, ◌≤◌, refl, ap, sym, ℕ, zero, suc, Bool, true, false, List, [], ◌∷◌, ◌++◌}
 use Rattle.std.proofs.Common.{Option, Some}
 use Rattle.std.proofs.Common.{None, append_assoc, arith}
@@ -7,7 +7,7 @@ use Rattle.std.specs.List.{list_all}
 use Rattle.std.proofs.lemmas.Bool.{and_parts, and_right, not-true}
 use Rattle.std.proofs.lemmas.List.{length-append}
 use Rattle.htmd_document.specs.Documents.{Inlines, Block, Blocks, Items, paragraph, heading, code_block, quote}
-use Rattle.htmd_document.specs.Documents.{thematic_break, list, table, no_blocks, block, no_items, item}
+use Rattle.htmd_document.specs.Documents.{thematic_break, list, table, element, tags, no_blocks, block, no_items, item}
 use Rattle.htmd_commonmark.specs.declared.blocks.Place.{Place}
 use Rattle.htmd_commonmark.specs.declared.line.LineKind.{LineKind}
 use Rattle.htmd_commonmark.specs.declared.line.LineKind.TheVariants.{Paragraph, Heading, Cell}
@@ -32,7 +32,7 @@ use Rattle.htmd_commonmark_reading.specs.Tables.{fitted}
 use Rattle.htmd_law_blocks.specs.DocumentBlocks.{first_read, further_read, block_read, items_read}
 use Rattle.htmd_law_blocks.specs.DocumentParts.{cell_texts, after_cells, row_texts, filled_rows, heading_text}
 use Rattle.htmd_document.specs.NormalInlines.{has_none, is_normal_line, is_normal_item}
-use Rattle.htmd_document.specs.NormalDocuments.{is_normal_block, are_normal_blocks, are_normal_items, ends_filled}
+use Rattle.htmd_document.specs.NormalDocuments.{is_flat_block, are_flat_blocks, are_flat_items, ends_filled}
 use Rattle.htmd_document.specs.NormalDocuments.{is_normal_row}
 use Rattle.htmd_law_inlines.specs.ReadBack.{seen_document, references, AreFew}
 use Rattle.htmd_law_inlines.proofs.InlineLaws.{inlines_read_back}
@@ -238,12 +238,12 @@ both_are f x y o p d e = ap (λ z. option_of_both f z p) d ∙ ap (option_of_bot
 mutual
   pub first_blocks : (options : DocumentOptions) (place : Place) (b : Bool) (all ds after : List (List ℕ))
       (bs : Blocks)
-      → AreFew all → Numbered 1 ds → are_normal_blocks b bs ≡ true
+      → AreFew all → Numbered 1 ds → are_flat_blocks b bs ≡ true
       → (written_blocks options place ds bs).definitions ++ after ≡ all
       → document_blocks (seen_blocks (first_read (references all) (reads_of b all) options place ds bs)) ≡ Some bs
   first_blocks options place b all ds after no_blocks h d n e = refl
   first_blocks options place b all ds after (block first rest) h d n e =
-      let p = and_parts (is_normal_block b first) (are_normal_blocks false rest) n in
+      let p = and_parts (is_flat_block b first) (are_flat_blocks false rest) n in
       let es = (written_block options place None ds first).definitions in
       let sign = sign_of options None place.outer first in
       let g = further_grown options (behind_first place) sign es rest p.1 in
@@ -254,12 +254,12 @@ mutual
       (further_seen options (behind_first place) sign all es after rest h d' p.1 e)
 
   further_seen : (options : DocumentOptions) (place : Place) (before : Option Sign) (all ds after : List (List ℕ))
-      (bs : Blocks) → AreFew all → Numbered 1 ds → are_normal_blocks false bs ≡ true
+      (bs : Blocks) → AreFew all → Numbered 1 ds → are_flat_blocks false bs ≡ true
       → (further_blocks options place before ds bs).definitions ++ after ≡ all
       → document_blocks (seen_blocks (further_read (references all) options place before ds bs)) ≡ Some bs
   further_seen options place before all ds after no_blocks h d n e = refl
   further_seen options place before all ds after (block first rest) h d n e =
-      let p = and_parts (is_normal_block false first) (are_normal_blocks false rest) n in
+      let p = and_parts (is_flat_block false first) (are_flat_blocks false rest) n in
       let es = (written_block options place before ds first).definitions in
       let sign = sign_of options before place.outer first in
       let g = further_grown options place sign es rest p.1 in
@@ -270,7 +270,7 @@ mutual
       (further_seen options place sign all es after rest h d' p.1 e)
 
   one_block : (options : DocumentOptions) (place : Place) (before : Option Sign) (b : Bool)
-      (all ds after : List (List ℕ)) (x : Block) → AreFew all → Numbered 1 ds → is_normal_block b x ≡ true
+      (all ds after : List (List ℕ)) (x : Block) → AreFew all → Numbered 1 ds → is_flat_block b x ≡ true
       → (written_block options place before ds x).definitions ++ after ≡ all
       → document_block (seen_block (block_read (references all) (reads_of b all) options place before ds x))
       ≡ Some x
@@ -284,6 +284,8 @@ mutual
       ap (option_of quote) (first_blocks options (place_in_quote place.in_item) false all ds after content h d
       (quote_parts b content n).1 e)
   one_block options place before b all ds after thematic_break h d n e = refl
+  one_block options place before b all ds after (element name attributes content) h d n e = absurd (cc)
+  one_block options place before b all ds after (tags s) h d n e = refl
   one_block options place before b all ds after (list start is_tight items) h d n e =
       ap (option_of (list start is_tight))
       (all_items options (markers_of options before place.outer start (item_count items)) is_tight all ds after items
@@ -303,12 +305,12 @@ mutual
       ∙ rows_seen options all es after (length header) rows h d' p.1 (table_rows_are alignments header rows n) e)
 
   all_items : (options : DocumentOptions) (markers : Markers) (is_tight : Bool) (all ds after : List (List ℕ))
-      (items : Items) → AreFew all → Numbered 1 ds → are_normal_items items ≡ true
+      (items : Items) → AreFew all → Numbered 1 ds → are_flat_items items ≡ true
       → (written_items options markers is_tight ds items).definitions ++ after ≡ all
       → document_items (seen_items (items_read (references all) options markers is_tight ds items)) ≡ Some items
   all_items options markers is_tight all ds after no_items h d n e = refl
   all_items options markers is_tight all ds after (item first rest) h d n e =
-      let p = and_parts (are_normal_blocks true first) (are_normal_items rest) n in
+      let p = and_parts (are_flat_blocks true first) (are_flat_items rest) n in
       let es = (written_blocks options (place_in_item markers is_tight) ds first).definitions in
       let g = further_items_grown options markers is_tight 1 es rest p.1 in
       let d' = grown_numbered ds es (blocks_grown options (place_in_item markers is_tight) ds true first p.0) d in
@@ -318,13 +320,13 @@ mutual
       (further_items_seen options markers is_tight 1 all es after rest h d' p.1 e)
 
   further_items_seen : (options : DocumentOptions) (markers : Markers) (is_tight : Bool) (k : ℕ)
-      (all ds after : List (List ℕ)) (items : Items) → AreFew all → Numbered 1 ds → are_normal_items items
+      (all ds after : List (List ℕ)) (items : Items) → AreFew all → Numbered 1 ds → are_flat_items items
       ≡ true
       → (further_items options markers is_tight k ds items).definitions ++ after ≡ all
       → document_items (seen_items (items_read (references all) options markers is_tight ds items)) ≡ Some items
   further_items_seen options markers is_tight k all ds after no_items h d n e = refl
   further_items_seen options markers is_tight k all ds after (item first rest) h d n e =
-      let p = and_parts (are_normal_blocks true first) (are_normal_items rest) n in
+      let p = and_parts (are_flat_blocks true first) (are_flat_items rest) n in
       let es = (written_blocks options (place_in_item markers is_tight) ds first).definitions in
       let g = further_items_grown options markers is_tight (suc k) es rest p.1 in
       let d' = grown_numbered ds es (blocks_grown options (place_in_item markers is_tight) ds true first p.0) d in

@@ -1,5 +1,5 @@
 -- How long what is written of blocks is at most.
-use Rattle.std.proofs.Common.{◌≡◌, refl, ℕ, suc, ◌+◌, ◌*◌, ◌-◌, ◌≤◌, Bool, true, false, List, [], ◌∷◌, ◌++◌}
+use Rattle.std.proofs.Common.{◌≡◌, refl, ℕ, suc, ◌+◌, ◌*◌, ◌≤◌, Bool, true, false, List, [], ◌∷◌, ◌++◌}
 use Rattle.std.proofs.Common.{length, arith}
 use Rattle.std.specs.Prelude.{if◌then◌else◌, ◌==◌, max, codes, Option, Some, None}
 use Rattle.std.proofs.lemmas.List.{length-append}
@@ -17,7 +17,7 @@ use Rattle.htmd_markdown.specs.ThematicBreaks as breaks
 use Rattle.htmd_markdown.proofs.RunsLemmas.{longest_run-le-length}
 use Rattle.htmd_document.specs.declared.document.Alignment.{Alignment}
 use Rattle.htmd_document.specs.Documents.{Inlines, Block, Blocks, Items, paragraph, heading, code_block, quote}
-use Rattle.htmd_document.specs.Documents.{thematic_break, list, table, no_blocks, block, no_items, item}
+use Rattle.htmd_document.specs.Documents.{thematic_break, list, table, element, tags, no_blocks, block, no_items, item}
 use Rattle.htmd_commonmark.specs.declared.blocks.Place.{Place}
 use Rattle.htmd_commonmark.specs.declared.line.LineKind.TheVariants.{Paragraph, Heading, Cell}
 use Rattle.htmd_commonmark.specs.declared.markers.Sign.{Sign}
@@ -36,7 +36,7 @@ use Rattle.htmd_document_of_tree.proofs.TextLengths.{characters_le}
 use Rattle.htmd_law_sizes.specs.DocumentSizes.{size_of_option, size_of_inlines, size_of_rows, size_of, size_of_block}
 use Rattle.htmd_law_sizes.specs.DocumentSizes.{size_of_items, width_of_marker, margin_of, margin_of_block}
 use Rattle.htmd_law_sizes.specs.DocumentSizes.{margin_of_items}
-use Rattle.htmd_law_sizes.proofs.CountsLemmas.{tally, tally_append, Cost, empty, cost_append, within, fixed, repeated}
+use Rattle.htmd_law_sizes.proofs.CountsLemmas.{tally, tally_append, Cost, empty, whole, cost_append, within, fixed, repeated}
 use Rattle.htmd_law_sizes.proofs.CountsLemmas.{feeds_of, tally_le}
 use Rattle.htmd_law_sizes.proofs.PieceBounds.{decimal_cost}
 use Rattle.htmd_law_sizes.proofs.InlineBounds.{lines_size, line_cost}
@@ -304,6 +304,12 @@ mutual
         defined = omega (arith, f.defined);
       }
   block_fits o p before definitions (table al header rows) g h = table_fits o definitions g al header rows
+  block_fits o p before definitions (element name attributes content) g h =
+      flat definitions (record { text = []; definitions = definitions }) g
+      (size_of_block (element name attributes content)) (empty is_line_feed) (omega arith) (omega arith) (omega arith)
+  block_fits o p before definitions (tags s) g h =
+      flat definitions (record { text = s; definitions = definitions }) g (suc (length s)) (whole is_line_feed s)
+      (omega arith) (omega arith) (omega arith)
 
   pub blocks_fit : (o : DocumentOptions) (p : Place) (definitions : List (List ℕ)) (bs : Blocks) (g : ℕ)
       → margin_of bs ≤ g → Fits definitions (written_blocks o p definitions bs) g (size_of bs)

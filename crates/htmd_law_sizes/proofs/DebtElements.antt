@@ -1,13 +1,12 @@
 -- How much of addresses an element gives, by its role.
-use Rattle.std.proofs.Common.{◌≡◌, ◌∙◌, refl, sym, ℕ, zero, suc, ◌+◌, ◌*◌, ◌≤◌, Bool, true, false, List, [], ◌∷◌, ◌++◌}
+use Rattle.std.proofs.Common.{◌≡◌, refl, ℕ, ◌+◌, ◌*◌, ◌≤◌, Bool, true, false, List, [], ◌∷◌, ◌++◌}
 use Rattle.std.proofs.Common.{map, add-mul, arith}
 use Rattle.std.specs.Prelude.{not, ◌&&◌, nat_le, if◌then◌else◌, codes, Option, Some, None}
-use Rattle.std.specs.List.{list_any}
 use Rattle.htmd_lexical.specs.Characters.{space}
 use Rattle.htmd_lexical.specs.AttributePairs.{AttributePair}
 use Rattle.htmd_document.specs.Documents.{Inlines, no_inlines, inline, heading, code_block, quote, thematic_break}
 use Rattle.htmd_document.specs.Documents.{Blocks, no_blocks, block}
-use Rattle.htmd_document.specs.Formats.{Format, of_format, of_element}
+use Rattle.htmd_document.specs.Formats.{of_format, of_element}
 use Rattle.htmd_shown.specs.declared.facts.Facts.{Facts}
 use Rattle.htmd_shown.specs.declared.role.Role.{Role}
 use Rattle.htmd_shown.specs.declared.role.Role.TheVariants as role
@@ -15,72 +14,37 @@ use Rattle.htmd_shown.specs.AllTexts.{all_text_among, with_line_feeds, lines_of,
 use Rattle.htmd_shown.specs.Attributes.{has_attribute, text_of, title_of, description_of, address, in_line, is_any_case}
 use Rattle.htmd_shown.specs.Attributes.{is_filled}
 use Rattle.htmd_shown.specs.Roles as roles
-use Rattle.htmd_shown.specs.SimpleTrees.{Simples}
+use Rattle.htmd_shown.specs.SimpleTrees.{Simple, Simples}
 use Rattle.htmd_shown.specs.Spaces.{is_blank_text}
-use Rattle.htmd_flow.specs.Contexts.{Context, is_lined, is_link, is_enough, with_around, inside_format, inside_link}
-use Rattle.htmd_flow.specs.Contexts.{without_link, unlinked, is_linked_to_part, beside_code, in_code, in_one_line, deeper}
+use Rattle.htmd_flow.specs.Contexts.{Context, has_elements, is_lined, inside_format, inside_title, inside_link, unlinked}
+use Rattle.htmd_flow.specs.Contexts.{is_linked_to_part, beside_code, in_code, in_one_line, deeper}
 use Rattle.htmd_flow.specs.Contexts.{run_in, apart}
 use Rattle.htmd_flow.specs.Flows.{Element, flow_all, blocks_of, line_of, image_parts}
 use Rattle.htmd_flow.specs.Flows.{math_block, math_in_line, formula_parts, embed_edge, embed_parts, box_parts, linked_by}
 use Rattle.htmd_flow.specs.Flows.{heading_of, around_heading, heading_parts, quote_of, quote_parts, code_parts}
-use Rattle.htmd_flow.specs.Flows.{text_in_lines, start_of, anchors_apart, parts_of}
+use Rattle.htmd_flow.specs.Flows.{text_in_lines, start_of, anchors_apart, around_title, title_parts, described_parts}
+use Rattle.htmd_flow.specs.Flows.{term_parts, terms_by, rich_table_at, table_parts, table_at, figure_at, details_parts}
+use Rattle.htmd_flow.specs.Flows.{parts_of}
 use Rattle.htmd_flow.specs.Languages.{language_of_block}
 use Rattle.htmd_flow.specs.Levels.{list_of}
-use Rattle.htmd_flow.specs.Parts.{Around, formatted, linked, Part, place, box, edge, whole}
+use Rattle.htmd_flow.specs.Parts.{place, box, edge, whole}
 use Rattle.htmd_law_sizes.specs.DocumentSizes.{size_of_option}
+use Rattle.htmd_document_of_tree.specs.Limits.{is_carrying, size}
+use Rattle.htmd_law_sizes.proofs.DebtContexts.{Inside, marked_inside, element_inside, named_inside, link_inside}
+use Rattle.htmd_law_sizes.proofs.DebtContexts.{less_around, unlinked_inside, near_inside, here, title_inside}
 use Rattle.htmd_law_sizes.proofs.Debts.{link_size, debt_inlines, debt}
 use Rattle.htmd_law_sizes.proofs.DebtNodes.{AllDue, dues, not_flat, list_cost_of, flow_cost}
 use Rattle.htmd_law_sizes.proofs.DebtNodes.{TermsDue, terms_dues, terms_cost}
 use Rattle.htmd_law_sizes.proofs.DebtParts.{rep, Costs, at_most, nothing, both, run_cost, blank_cost, three_cost}
 use Rattle.htmd_law_sizes.proofs.DebtParts.{picture_cost, break_cost, place_cost, box_cost, edge_cost, block_cost}
 use Rattle.htmd_law_sizes.proofs.DebtParts.{code_cost, apart_cost, space_blank, blocks_cost, line_cost}
+use Rattle.htmd_law_sizes.proofs.DebtRich.{same_line, not_one_line, details_cost, figure_cost, described_cost}
+use Rattle.htmd_law_sizes.proofs.DebtRichTables.{PiecesDue, pieces_dues, rich_table_cost}
 use Rattle.htmd_law_sizes.proofs.DebtTables.{RowsDue, rows_dues}
 use Rattle.htmd_law_sizes.proofs.DebtTables.{captions_dues, table_cost}
 use Rattle.htmd_law_sizes.proofs.LanguageLemmas.{language_le}
-use Rattle.htmd_law_sizes.proofs.Leaves.{leaves_among, said, own_among, due_among}
+use Rattle.htmd_law_sizes.proofs.Leaves.{leaves_among, own_among, due_among}
 use Rattle.htmd_law_sizes.proofs.Leaves.{among_grows}
-
--- ---- contexts
-
-rep_append : (a b : List Around) → rep (a ++ b) ≡ rep a + rep b
-rep_append [] b = omega arith
-rep_append (formatted f ∷ a) b = rep_append a b
-rep_append (linked node address title ∷ a) b = omega (arith, rep_append a b)
-
--- a context in the same line, with at most so much around
-pub record Inside (c d : Context) (k : ℕ) : Type 0 where
-  pub flat : d.is_flat ≡ c.is_flat
-  pub room : rep d.around ≤ k
-
-format_inside : (f : Format) (c : Context) → Inside c (inside_format f c) (rep c.around)
-format_inside f c = go (is_enough f c.around)
-  where
-    go : (t : Bool) → Inside c (if t then c else with_around c (formatted f)) (rep c.around)
-    go true = record { flat = refl; room = omega arith }
-    go false = record { flat = refl; room = omega (arith, rep_append c.around (formatted f ∷ [])) }
-
-link_inside : (id : ℕ) (s : List ℕ) (title : Option (List ℕ)) (c : Context)
-    → Inside c (inside_link id s title c) (rep c.around + link_size s title)
-link_inside id s title c = go (list_any is_link c.around)
-  where
-    go : (t : Bool)
-        → Inside c (if t then c else with_around c (linked id s title)) (rep c.around + link_size s title)
-    go true = record { flat = refl; room = omega arith }
-    go false = record { flat = refl; room = omega (arith, rep_append c.around (linked id s title ∷ [])) }
-
-less_around : (xs : List Around) → rep (without_link xs) ≤ rep xs
-less_around [] = omega arith
-less_around (formatted f ∷ xs) = less_around xs
-less_around (linked node address title ∷ xs) = omega arith
-
-unlinked_inside : (c : Context) → Inside c (unlinked c) (rep c.around)
-unlinked_inside c = record { flat = refl; room = less_around c.around }
-
-near_inside : (n : ℕ) (attributes : List AttributePair) (c : Context)
-    → Inside c (beside_code n attributes c) (rep c.around)
-near_inside zero attributes c = record { flat = refl; room = omega arith }
-near_inside (suc zero) attributes c = record { flat = refl; room = omega arith }
-near_inside (suc (suc n)) attributes c = record { flat = refl; room = omega arith }
 
 heading_inside : (facts : Facts) (c : Context) → rep (around_heading facts c).around ≤ rep c.around
 heading_inside facts c = go (facts.shows_sign && is_linked_to_part c)
@@ -169,14 +133,11 @@ pub record Known (e : Element) : Type 0 where
   pub fit : AllDue e.nodes
   pub paid : (k : ℕ) → dues k e.nodes ≤ due_among k e.content
   pub rows : RowsDue e.rows
+  pub pieces : PiecesDue e.pieces
+  pub pieced : (k : ℕ) → pieces_dues k e.pieces ≤ due_among k e.content
   pub lined : (k : ℕ) → captions_dues k e.nodes + rows_dues k e.rows ≤ due_among k e.content
   pub terms : TermsDue e.terms
   pub termed : (k : ℕ) → terms_dues k e.terms ≤ due_among k e.content
-
--- the same parts in the line that another context is in
-same_line : (c d : Context) (parts : List Part) (k : ℕ) → d.is_flat ≡ c.is_flat → Costs d.is_flat parts k
-    → Costs c.is_flat parts k
-same_line c d parts k e h = record { at = λ w g. h.at w (g ∙ sym e) }
 
 pub flow_in : (e : Element) (c d : Context) (k : ℕ) → Known e → Inside c d k
     → Costs c.is_flat (flow_all e.nodes d) (due_among k e.content)
@@ -184,9 +145,6 @@ flow_in e c d k h i =
     same_line c d (flow_all e.nodes d) (due_among k e.content) i.flat
     (at_most d.is_flat (flow_all e.nodes d) (dues (rep d.around) e.nodes) (due_among k e.content)
     (omega (arith, h.paid (rep d.around), among_grows (rep d.around) k e.content i.room)) (flow_cost e.nodes d h.fit))
-
-pub here : (c : Context) → Inside c c (rep c.around)
-here c = record { flat = refl; room = omega arith }
 
 apart_in : (e : Element) (c d : Context) (k : ℕ) → Known e → Inside c d k
     → Costs c.is_flat (apart (flow_all e.nodes d)) (due_among k e.content)
@@ -314,30 +272,98 @@ verbatim_cost attributes content s c = go (is_blank_text s) c.is_flat refl
 -- what a link says, for each leaf in it
 link_in : (e : Element) (c : Context) → Known e
     → Costs c.is_flat (flow_all e.nodes (linked_by e.id e.attributes c))
-    (rep c.around * leaves_among e.content + (said e.attributes * leaves_among e.content + 0 + own_among e.content))
+    (rep c.around * leaves_among e.content
+    + (size role.Link e.attributes * leaves_among e.content + 0 + own_among e.content))
 link_in e c h =
     let k = rep c.around in
     let d = linked_by e.id e.attributes c in
-    at_most c.is_flat (flow_all e.nodes d) (due_among (k + said e.attributes) e.content)
-    (k * leaves_among e.content + (said e.attributes * leaves_among e.content + 0 + own_among e.content))
-    (omega (arith, add-mul k (said e.attributes) (leaves_among e.content)))
-    (flow_in e c d (k + said e.attributes) h
+    at_most c.is_flat (flow_all e.nodes d) (due_among (k + size role.Link e.attributes) e.content)
+    (k * leaves_among e.content + (size role.Link e.attributes * leaves_among e.content + 0 + own_among e.content))
+    (omega (arith, add-mul k (size role.Link e.attributes) (leaves_among e.content)))
+    (flow_in e c d (k + size role.Link e.attributes) h
     (link_inside e.id (address (text_of (codes "href") e.attributes)) (title_of e.attributes) c))
+
+-- so does an abbreviation
+abbreviation_in : (e : Element) (c : Context) → Known e
+    → Costs c.is_flat (flow_all e.nodes (inside_title (title_of e.attributes) c))
+    (rep c.around * leaves_among e.content
+    + (size role.Abbreviation e.attributes * leaves_among e.content + 0 + own_among e.content))
+abbreviation_in e c h =
+    let k = rep c.around in
+    let m = size role.Abbreviation e.attributes in
+    let d = inside_title (title_of e.attributes) c in
+    at_most c.is_flat (flow_all e.nodes d) (due_among (k + m) e.content)
+    (k * leaves_among e.content + (m * leaves_among e.content + 0 + own_among e.content))
+    (omega (arith, add-mul k m (leaves_among e.content)))
+    (flow_in e c d (k + m) h (named_inside e.attributes c))
+
+-- ---- elements of rich documents
+
+title_in : (e : Element) (c : Context) → Known e
+    → Costs c.is_flat (title_parts e c) (due_among (rep c.around) e.content)
+title_in e c h = apart_in e c (around_title e.content c) (rep c.around) h (title_inside e.content c)
+
+terms_in : (e : Element) (c : Context) → Known e
+    → Costs c.is_flat (terms_by e.terms e.nodes c) (due_among (rep c.around) e.content)
+terms_in e c h = go (has_elements c) refl
+  where
+    k : ℕ
+    k = due_among (rep c.around) e.content
+
+    go : (t : Bool) → has_elements c ≡ t
+        → Costs c.is_flat (if t then described_parts e.terms c else term_parts e.terms e.nodes c) k
+    go true g = described_cost e.terms c k (not_one_line c.is_rich c.is_flat g) h.terms (h.termed (rep c.around))
+    go false g = terms_cost e.terms e.nodes c k h.terms h.fit (h.termed (rep c.around)) (h.paid (rep c.around))
+
+table_in : (e : Element) (c : Context) → Known e
+    → Costs c.is_flat (table_at e c) (due_among (rep c.around) e.content)
+table_in e c h = go (has_elements c) refl
+  where
+    k : ℕ
+    k = due_among (rep c.around) e.content
+
+    trees : List Simple
+    trees = list_of e.content
+
+    go : (t : Bool) → has_elements c ≡ t
+        → Costs c.is_flat (if t then rich_table_at e c else table_parts trees e.nodes e.rows c) k
+    go true g =
+        rich_table_cost trees e.attributes e.pieces e.nodes c k (not_one_line c.is_rich c.is_flat g) h.fit h.pieces
+        (h.paid (rep c.around)) (h.pieced (rep c.around))
+    go false g =
+        table_cost trees e.nodes e.rows c k h.fit h.rows (h.paid (rep c.around)) (h.lined (rep c.around))
+
+figure_in : (e : Element) (c : Context) → Known e
+    → Costs c.is_flat (figure_at e c) (due_among (rep c.around) e.content)
+figure_in e c h =
+    let d = beside_code e.facts.pres e.attributes c in
+    let i = near_inside e.facts.pres e.attributes c in
+    same_line c d (figure_at e c) (due_among (rep c.around) e.content) i.flat
+    (at_most d.is_flat (figure_at e c) (dues (rep d.around) e.nodes) (due_among (rep c.around) e.content)
+    (omega (arith, h.paid (rep d.around), among_grows (rep d.around) (rep c.around) e.content i.room))
+    (figure_cost e.nodes d h.fit))
+
+details_in : (e : Element) (c : Context) → Known e
+    → Costs c.is_flat (details_parts e.attributes e.nodes c) (due_among (rep c.around) e.content)
+details_in e c h =
+    at_most c.is_flat (details_parts e.attributes e.nodes c) (dues (rep c.around) e.nodes)
+    (due_among (rep c.around) e.content) (h.paid (rep c.around)) (details_cost e.attributes e.nodes c h.fit)
 
 -- all that an element gives, by its role
 pub element_cost : (r : Role) (e : Element) (c : Context) → Known e
     → Costs c.is_flat (parts_of r e c)
     (rep c.around * (if roles.is_verbatim r then 1 else leaves_among e.content)
-    + ((if roles.is_link r then said e.attributes * leaves_among e.content else 0)
+    + ((if is_carrying r then size r e.attributes * leaves_among e.content else 0)
     + (if roles.is_verbatim r then 64 else 0) + own_among e.content))
 element_cost (role.Format f) e c h =
     at_most c.is_flat (parts_of (role.Format f) e c) (due_among (rep c.around) e.content)
     (rep c.around * leaves_among e.content + (0 + 0 + own_among e.content)) (omega arith)
-    (flow_in e c (inside_format (of_format f) c) (rep c.around) h (format_inside (of_format f) c))
+    (flow_in e c (inside_format (of_format f) c) (rep c.around) h (marked_inside f c))
 element_cost (role.Element f) e c h =
     at_most c.is_flat (parts_of (role.Element f) e c) (due_among (rep c.around) e.content)
     (rep c.around * leaves_among e.content + (0 + 0 + own_among e.content)) (omega arith)
-    (flow_in e c (inside_format (of_element f) c) (rep c.around) h (format_inside (of_element f) c))
+    (flow_in e c (inside_format (of_element f) c) (rep c.around) h (element_inside f c))
+element_cost role.Abbreviation e c h = abbreviation_in e c h
 element_cost role.Code e c h =
     at_most c.is_flat (parts_of role.Code e c) (due_among (rep c.around) e.content)
     (rep c.around * leaves_among e.content + (0 + 0 + own_among e.content)) (omega arith)
@@ -408,30 +434,24 @@ element_cost role.Item e c h =
     (apart_in e c c (rep c.around) h (here c))
 element_cost role.Terms e c h =
     at_most c.is_flat (parts_of role.Terms e c) (due_among (rep c.around) e.content)
-    (rep c.around * leaves_among e.content + (0 + 0 + own_among e.content)) (omega arith)
-    (terms_cost e.terms e.nodes c (due_among (rep c.around) e.content) h.terms h.fit (h.termed (rep c.around))
-    (h.paid (rep c.around)))
+    (rep c.around * leaves_among e.content + (0 + 0 + own_among e.content)) (omega arith) (terms_in e c h)
 element_cost role.Term e c h =
     at_most c.is_flat (parts_of role.Term e c) (due_among (rep c.around) e.content)
-    (rep c.around * leaves_among e.content + (0 + 0 + own_among e.content)) (omega arith)
-    (apart_in e c c (rep c.around) h (here c))
+    (rep c.around * leaves_among e.content + (0 + 0 + own_among e.content)) (omega arith) (title_in e c h)
 element_cost role.Meaning e c h =
     at_most c.is_flat (parts_of role.Meaning e c) (due_among (rep c.around) e.content)
     (rep c.around * leaves_among e.content + (0 + 0 + own_among e.content)) (omega arith)
     (apart_in e c c (rep c.around) h (here c))
 element_cost role.Table e c h =
     at_most c.is_flat (parts_of role.Table e c) (due_among (rep c.around) e.content)
-    (rep c.around * leaves_among e.content + (0 + 0 + own_among e.content)) (omega arith)
-    (table_cost (list_of e.content) e.nodes e.rows c (due_among (rep c.around) e.content) h.fit h.rows
-    (h.paid (rep c.around)) (h.lined (rep c.around)))
+    (rep c.around * leaves_among e.content + (0 + 0 + own_among e.content)) (omega arith) (table_in e c h)
 element_cost role.LayoutTable e c h =
     at_most c.is_flat (parts_of role.LayoutTable e c) (due_among (rep c.around) e.content)
     (rep c.around * leaves_among e.content + (0 + 0 + own_among e.content)) (omega arith)
     (apart_in e c c (rep c.around) h (here c))
 element_cost role.Caption e c h =
     at_most c.is_flat (parts_of role.Caption e c) (due_among (rep c.around) e.content)
-    (rep c.around * leaves_among e.content + (0 + 0 + own_among e.content)) (omega arith)
-    (apart_in e c c (rep c.around) h (here c))
+    (rep c.around * leaves_among e.content + (0 + 0 + own_among e.content)) (omega arith) (title_in e c h)
 element_cost role.TableHead e c h =
     at_most c.is_flat (parts_of role.TableHead e c) (due_among (rep c.around) e.content)
     (rep c.around * leaves_among e.content + (0 + 0 + own_among e.content)) (omega arith)
@@ -458,16 +478,16 @@ element_cost role.Division e c h =
     (apart_in e c (beside_code e.facts.pres e.attributes c) (rep c.around) h (near_inside e.facts.pres e.attributes c))
 element_cost role.Figure e c h =
     at_most c.is_flat (parts_of role.Figure e c) (due_among (rep c.around) e.content)
-    (rep c.around * leaves_among e.content + (0 + 0 + own_among e.content)) (omega arith)
-    (apart_in e c (beside_code e.facts.pres e.attributes c) (rep c.around) h (near_inside e.facts.pres e.attributes c))
+    (rep c.around * leaves_among e.content + (0 + 0 + own_among e.content)) (omega arith) (figure_in e c h)
 element_cost role.FigureCaption e c h =
     at_most c.is_flat (parts_of role.FigureCaption e c) (due_among (rep c.around) e.content)
-    (rep c.around * leaves_among e.content + (0 + 0 + own_among e.content)) (omega arith)
-    (apart_in e c c (rep c.around) h (here c))
+    (rep c.around * leaves_among e.content + (0 + 0 + own_among e.content)) (omega arith) (title_in e c h)
+element_cost role.Details e c h =
+    at_most c.is_flat (parts_of role.Details e c) (due_among (rep c.around) e.content)
+    (rep c.around * leaves_among e.content + (0 + 0 + own_among e.content)) (omega arith) (details_in e c h)
 element_cost role.Summary e c h =
     at_most c.is_flat (parts_of role.Summary e c) (due_among (rep c.around) e.content)
-    (rep c.around * leaves_among e.content + (0 + 0 + own_among e.content)) (omega arith)
-    (apart_in e c c (rep c.around) h (here c))
+    (rep c.around * leaves_among e.content + (0 + 0 + own_among e.content)) (omega arith) (title_in e c h)
 element_cost role.Legend e c h =
     at_most c.is_flat (parts_of role.Legend e c) (due_among (rep c.around) e.content)
     (rep c.around * leaves_among e.content + (0 + 0 + own_among e.content)) (omega arith)

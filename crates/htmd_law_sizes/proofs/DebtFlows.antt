@@ -1,4 +1,4 @@
--- How much of addresses the document of a simpler tree has.
+-- How much is repeated in the document of a simpler tree.
 use Rattle.std.proofs.Common.{◌≡◌, refl, sym, ap, ℕ, ◌+◌, ◌≤◌, Bool, true, false, List, [], ◌∷◌, ◌++◌}
 use Rattle.std.proofs.Common.{map, zero-mul, arith}
 use Rattle.std.specs.Prelude.{not, ◌&&◌, if◌then◌else◌, None, is_some}
@@ -7,27 +7,30 @@ use Rattle.htmd_shown.specs.Attributes.{address}
 use Rattle.htmd_shown.specs.Kinds.{has, content_of}
 use Rattle.htmd_shown.specs.Roles as roles
 use Rattle.htmd_shown.specs.SimpleTrees.{Simple, text, image, formula, embedded, anchor, element, Simples, none, more}
-use Rattle.htmd_flow.specs.Contexts.{Context, bare}
+use Rattle.htmd_flow.specs.Contexts.{Context, bare_in}
 use Rattle.htmd_flow.specs.Flows.{Node, Row, TermPart, gap, of_node, Element, flow_all, image_parts}
 use Rattle.htmd_flow.specs.Flows.{formula_parts, embed_parts}
 use Rattle.htmd_flow.specs.Flows.{parts_of_child, no_part, part_of, leads_to, row_with, rows_if, node_of}
-use Rattle.htmd_flow.specs.Flows.{nodes_of, nodes_below, terms_of, rows_among, rows_at, document_of}
+use Rattle.htmd_flow.specs.Flows.{nodes_of, nodes_below, terms_of, rows_among, rows_at, document_of, TablePiece}
+use Rattle.htmd_flow.specs.Flows.{of_caption, of_row, pieces_at, pieces_of}
 use Rattle.htmd_flow.specs.Levels.{list_of}
 use Rattle.htmd_flow.specs.Parts.{place}
 use Rattle.htmd_flow.specs.Terms.{is_group, is_term_or_meaning}
 use Rattle.htmd_flow.specs.declared.table_form.TablePart.{TablePart}
 use Rattle.htmd_law_sizes.proofs.Debts.{link_size, debt}
-use Rattle.htmd_law_sizes.proofs.DebtNodes.{Due, AllDue, dues, flow_cost}
+use Rattle.htmd_law_sizes.proofs.DebtNodes.{Due, AllDue, dues, opened, flow_cost}
 use Rattle.htmd_law_sizes.proofs.DebtNodes.{TermsDue, terms_dues}
 use Rattle.htmd_law_sizes.proofs.DebtParts.{rep, Costs, at_most, nothing}
 use Rattle.htmd_law_sizes.proofs.DebtParts.{place_cost}
 use Rattle.htmd_law_sizes.proofs.DebtParts.{blocks_cost}
+use Rattle.htmd_law_sizes.proofs.DebtContexts.{here}
+use Rattle.htmd_law_sizes.proofs.DebtRichTables.{PiecesDue, pieces_dues}
 use Rattle.htmd_law_sizes.proofs.DebtTables.{RowsDue, rows_dues, both_due, dues_append, cells_due, cells_dues}
 use Rattle.htmd_law_sizes.proofs.DebtTables.{captions_dues}
 use Rattle.htmd_law_sizes.proofs.FlowCosts.{caption_alone}
 use Rattle.htmd_law_sizes.proofs.Leaves.{leaves_among, own_among, due, due_among, inner_due, due_more}
-use Rattle.htmd_law_sizes.proofs.Leaves.{inner_le, open_by, row_open, part_open, division_open}
-use Rattle.htmd_law_sizes.proofs.DebtElements.{image_cost, formula_cost, embed_cost, text_cost, Known, flow_in, here}
+use Rattle.htmd_law_sizes.proofs.Leaves.{inner_le, open_by, caption_open, row_open, part_open, division_open}
+use Rattle.htmd_law_sizes.proofs.DebtElements.{image_cost, formula_cost, embed_cost, text_cost, Known, flow_in}
 use Rattle.htmd_law_sizes.proofs.DebtElements.{element_cost}
 
 -- ---- what nodes owe
@@ -215,6 +218,54 @@ lined k (more t ts) =
       due_more k t ts,
     )
 
+-- ---- captions and rows
+
+pieces_append : (k : ℕ) (a b : List TablePiece) → pieces_dues k (a ++ b) ≡ pieces_dues k a + pieces_dues k b
+pieces_append k [] b = omega arith
+pieces_append k (of_caption n ∷ a) b = omega (arith, pieces_append k a b)
+pieces_append k (of_row r ∷ a) b = omega (arith, pieces_append k a b)
+
+pieces_both : (a b : List TablePiece) → PiecesDue a → PiecesDue b → PiecesDue (a ++ b)
+pieces_both [] b f g = g
+pieces_both (of_caption n ∷ a) b f g = (f.0, pieces_both a b f.1 g)
+pieces_both (of_row r ∷ a) b f g = (f.0, pieces_both a b f.1 g)
+
+all_rows : (k : ℕ) (rows : List Row) → pieces_dues k (map of_row rows) ≡ rows_dues k rows
+all_rows k [] = refl
+all_rows k (row ∷ rows) = omega (arith, all_rows k rows)
+
+all_rows_due : (rows : List Row) → RowsDue rows → PiecesDue (map of_row rows)
+all_rows_due [] f = tt
+all_rows_due (row ∷ rows) f = (f.0, all_rows_due rows f.1)
+
+piece_dues : (k : ℕ) (t : Simple) → pieces_dues k (pieces_at (node_of t) (rows_at no_part t)) ≤ due k t
+piece_dues k t = go (has roles.is_caption (node_of t).tree)
+  where
+    go : (b : Bool)
+        → pieces_dues k (if b then of_caption (node_of t) ∷ [] else map of_row (rows_at no_part t)) ≤ due k t
+    go true = omega (arith, ap (due k) (node_tree t))
+    go false = omega (arith, all_rows k (rows_at no_part t), at_dues k no_part t)
+
+piece_due : (n : Node) (rows : List Row) → Due n → RowsDue rows → PiecesDue (pieces_at n rows)
+piece_due n rows f g = go (has roles.is_caption n.tree) refl
+  where
+    go : (b : Bool) → has roles.is_caption n.tree ≡ b
+        → PiecesDue (if b then of_caption n ∷ [] else map of_row rows)
+    go true e = (record { cost = λ c. opened n c f (open_by roles.is_caption caption_open n.tree e) }, tt)
+    go false e = all_rows_due rows g
+
+all_pieces : (k : ℕ) (ts : Simples) → pieces_dues k (pieces_of ts) ≤ due_among k ts
+unfolding pieces_of
+all_pieces k none = omega arith
+all_pieces k (more t ts) =
+    omega (
+      arith,
+      pieces_append k (pieces_at (node_of t) (rows_at no_part t)) (pieces_of ts),
+      piece_dues k t,
+      all_pieces k ts,
+      due_more k t ts,
+    )
+
 row_due_if : (p : TablePart) (t : Simple) (nodes : List Node) (inner : List Row) → AllDue nodes → RowsDue inner
     → RowsDue (rows_if p t nodes inner)
 row_due_if p t nodes inner f g = go (has roles.is_row t) (leads_to p t)
@@ -230,7 +281,7 @@ nothing_in : (c : Context) (k : ℕ) → Costs c.is_flat [] k
 nothing_in c k = at_most c.is_flat [] 0 k (omega arith) (nothing c.is_flat)
 
 mutual
-  unfolding node_of nodes_of nodes_below terms_of rows_at rows_among
+  unfolding node_of nodes_of nodes_below terms_of rows_at rows_among pieces_of
 
   node_due : (t : Simple) → Due (node_of t)
   node_due (text s) = record {
@@ -266,12 +317,15 @@ mutual
         content = content;
         nodes = nodes_of content;
         rows = rows_among no_part content;
+        pieces = pieces_of content;
         terms = terms_of content;
       } in
       let h : Known e = record {
         fit = nodes_due content;
         paid = λ k. nodes_dues k content;
         rows = rows_due no_part content;
+        pieces = pieces_due content;
+        pieced = λ k. all_pieces k content;
         lined = λ k. lined k content;
         terms = terms_due content;
         termed = λ k. all_terms k content;
@@ -299,6 +353,12 @@ mutual
       terms_both (parts_of_child (node_of t) (nodes_below t)) (terms_of ts) (child_due t (node_due t) (below_due t))
       (terms_due ts)
 
+  pieces_due : (ts : Simples) → PiecesDue (pieces_of ts)
+  pieces_due none = tt
+  pieces_due (more t ts) =
+      pieces_both (pieces_at (node_of t) (rows_at no_part t)) (pieces_of ts)
+      (piece_due (node_of t) (rows_at no_part t) (node_due t) (rows_at_due no_part t)) (pieces_due ts)
+
   rows_at_due : (p : TablePart) (t : Simple) → RowsDue (rows_at p t)
   rows_at_due p (text s) = tt
   rows_at_due p (image address attributes) = tt
@@ -314,13 +374,14 @@ mutual
   rows_due p none = tt
   rows_due p (more t ts) = both_due (rows_at p t) (rows_among p ts) (rows_at_due p t) (rows_due p ts)
 
--- what its links say for each leaf in them, its languages, and what it embeds
-pub debt_le : (trees : Simples) → debt (document_of trees) ≤ own_among trees
-debt_le trees =
+-- what its links and abbreviations say for each leaf in them, its languages, and what it embeds
+pub debt_le : (is_rich : Bool) (trees : Simples) → debt (document_of is_rich trees) ≤ own_among trees
+debt_le is_rich trees =
+    let c = bare_in is_rich in
     omega (
       arith,
-      blocks_cost false false (flow_all (nodes_of trees) bare) (dues 0 (nodes_of trees)) refl
-          (flow_cost (nodes_of trees) bare (nodes_due trees)),
+      blocks_cost false false (flow_all (nodes_of trees) c) (dues 0 (nodes_of trees)) refl
+          (flow_cost (nodes_of trees) c (nodes_due trees)),
       nodes_dues 0 trees,
       zero-mul (leaves_among trees),
     )

@@ -1,12 +1,10 @@
--- What the links of a simpler tree say for each leaf in them: within the budget, and not more with anchors and in
--- pieces.
+-- What the links and abbreviations of a simpler tree say for each leaf in them: within the budget, and not more with
+-- anchors and in pieces.
 use Rattle.std.proofs.Common.{◌≡◌, ◌∙◌, refl, sym, ap, ℕ, suc, ◌+◌, ◌-◌, ◌*◌, ◌≤◌, Bool, true, false, List, [], ◌∷◌}
 use Rattle.std.proofs.Common.{length, zero-mul, mul-le-mul_left, arith}
 use Rattle.std.proofs.lemmas.Bool.Decides.{nat_tests}
 use Rattle.std.specs.Prelude.{not, ◌&&◌, min, nat_le, nat_lt, if◌then◌else◌, codes, Option, Some, None, is_some}
-use Rattle.std.specs.Option.{unwrap_or}
 use Rattle.htmd_lexical.specs.AttributePairs.{AttributePair}
-use Rattle.htmd_shown.specs.Attributes.{text_of, title_of, address}
 use Rattle.htmd_shown.specs.declared.facts.Facts.{Facts}
 use Rattle.htmd_shown.specs.declared.role.Role.{Role}
 use Rattle.htmd_shown.specs.declared.role.Role.TheVariants as role
@@ -22,18 +20,18 @@ use Rattle.htmd_document_of_tree.specs.Anchors.{with_ids, after_anchors, precede
 use Rattle.htmd_document_of_tree.specs.Anchors.{placing_after, placing_after_all, placed, all_placed, values_of}
 use Rattle.htmd_document_of_tree.specs.Anchors.{last_anchors, anchored}
 use Rattle.htmd_document_of_tree.specs.FirstPieces.{most_linked, unlinked, cut_leaf, cut, cut_all, pieced, pieced_all}
-use Rattle.htmd_document_of_tree.specs.Limits.{size, pair_of, Written, nothing_written, with_pair}
+use Rattle.htmd_document_of_tree.specs.Limits.{is_carrying, size, pair_of, Written, nothing_written, with_pair}
 use Rattle.htmd_document_of_tree.specs.Limits.{with_element, written, written_all, budget, link_cost, cost, paid}
 use Rattle.htmd_document_of_tree.specs.Limits.{left_after, left_after_all, affordable, within, all_within, limited}
-use Rattle.htmd_document_of_tree.specs.Seen.{image_shows, code_shows}
+use Rattle.htmd_shown.specs.Showings.{image_shows, code_shows}
 use Rattle.htmd_document_of_tree.specs.Targets.{Target}
 use Rattle.htmd_law_sizes.specs.SimpleSizes.{size_of_simple, size_of_simples}
 use Rattle.htmd_law_sizes.specs.TreeSizes.{size_of_values}
 use Rattle.htmd_document_of_tree.proofs.TextLengths.{characters_le}
 use Rattle.htmd_law_sizes.proofs.Debts.{link_size}
-use Rattle.htmd_law_sizes.proofs.Leaves.{leaves, leaves_among, said, said_by, named_by, own, own_among}
-use Rattle.htmd_document_of_tree.proofs.TextLengths.{address_le}
-use Rattle.htmd_law_sizes.proofs.TextCosts.{title_le, text_le, option_le}
+use Rattle.htmd_law_sizes.proofs.Leaves.{leaves, leaves_among, said_by, named_by, own, own_among}
+use Rattle.htmd_document_of_tree.proofs.TextLengths.{size_le}
+use Rattle.htmd_law_sizes.proofs.TextCosts.{text_le}
 
 -- ---- links and the rest
 
@@ -75,40 +73,31 @@ mutual
 
 -- ---- the budget
 
-said_le : (attributes : List AttributePair) → said attributes ≤ 1 + 4 * size_of_values attributes
-said_le attributes =
-    let a = address (text_of (codes "href") attributes) in
-    let t = unwrap_or (title_of attributes) [] in
-    omega (
-      arith,
-      characters_le a,
-      characters_le t,
-      address_le (text_of (codes "href") attributes),
-      text_le (codes "href") attributes,
-      option_le (title_of attributes),
-      title_le attributes,
-    )
+said_le : (r : Role) (attributes : List AttributePair) → size r attributes ≤ 1 + 4 * size_of_values attributes
+said_le r attributes =
+    omega (arith, size_le r attributes, text_le (codes "href") attributes, text_le (codes "title") attributes)
 
-pair_le : (w : Written) (attributes : List AttributePair)
-    → (with_pair w attributes).count ≤ w.count + 1 + 4 * size_of_values attributes
-pair_le w attributes = go (is_among w.pairs (pair_of attributes))
+pair_le : (w : Written) (r : Role) (attributes : List AttributePair)
+    → (with_pair w r attributes).count ≤ w.count + 1 + 4 * size_of_values attributes
+pair_le w r attributes = go (is_among w.pairs (pair_of r attributes))
   where
     go : (t : Bool)
         → (if t then w else record {
-          count = w.count + size attributes;
+          count = w.count + size r attributes;
           pairs =
-              pair_of attributes ∷ w.pairs;
+              pair_of r attributes ∷ w.pairs;
         }).count
         ≤ w.count + 1 + 4 * size_of_values attributes
     go true = omega arith
-    go false = omega (arith, said_le attributes)
+    go false = omega (arith, said_le r attributes)
 
 element_le : (w : Written) (r : Role) (attributes : List AttributePair)
     → (with_element w r attributes).count ≤ w.count + 1 + 4 * size_of_values attributes
-element_le w r attributes = go (is_link r)
+element_le w r attributes = go (is_carrying r)
   where
-    go : (t : Bool) → (if t then with_pair w attributes else w).count ≤ w.count + 1 + 4 * size_of_values attributes
-    go true = pair_le w attributes
+    go : (t : Bool)
+        → (if t then with_pair w r attributes else w).count ≤ w.count + 1 + 4 * size_of_values attributes
+    go true = pair_le w r attributes
     go false = omega arith
 
 mutual
@@ -145,56 +134,60 @@ abbrev mutual
   AllCounted none = Unit {0}
   AllCounted (more t ts) = Counted t × AllCounted ts
 
-link_plain : (r : Role) → is_link r ≡ true → is_verbatim r ≡ false
-link_plain (role.Format f) h = refl
-link_plain (role.Element f) h = refl
-link_plain role.Code h = refl
-link_plain role.Typed h = refl
-link_plain role.Link h = refl
-link_plain role.Target h = refl
-link_plain role.Apart h = refl
-link_plain role.LineBreak h = refl
-link_plain role.Input h = refl
-link_plain (role.Heading level) h = refl
-link_plain role.Paragraph h = refl
-link_plain role.Preformatted h = absurd (cc)
-link_plain role.Verbatim h = absurd (cc)
-link_plain role.BlockQuote h = refl
-link_plain role.ThematicBreak h = refl
-link_plain role.BulletList h = refl
-link_plain role.NumberedList h = refl
-link_plain role.Item h = refl
-link_plain role.Terms h = refl
-link_plain role.Term h = refl
-link_plain role.Meaning h = refl
-link_plain role.Table h = refl
-link_plain role.LayoutTable h = refl
-link_plain role.Caption h = refl
-link_plain role.TableHead h = refl
-link_plain role.TableBody h = refl
-link_plain role.Row h = refl
-link_plain role.Cell h = refl
-link_plain role.HeaderCell h = refl
-link_plain role.Division h = refl
-link_plain role.Figure h = refl
-link_plain role.FigureCaption h = refl
-link_plain role.Summary h = refl
-link_plain role.Legend h = refl
-link_plain role.Block h = refl
-link_plain role.Plain h = refl
-link_plain role.Anchors h = refl
-link_plain role.Unlinked h = refl
+carrying_plain : (r : Role) → is_carrying r ≡ true → is_verbatim r ≡ false
+carrying_plain (role.Format f) h = refl
+carrying_plain (role.Element f) h = refl
+carrying_plain role.Abbreviation h = refl
+carrying_plain role.Code h = refl
+carrying_plain role.Typed h = refl
+carrying_plain role.Link h = refl
+carrying_plain role.Target h = refl
+carrying_plain role.Apart h = refl
+carrying_plain role.LineBreak h = refl
+carrying_plain role.Input h = refl
+carrying_plain (role.Heading level) h = refl
+carrying_plain role.Paragraph h = refl
+carrying_plain role.Preformatted h = absurd (cc)
+carrying_plain role.Verbatim h = absurd (cc)
+carrying_plain role.BlockQuote h = refl
+carrying_plain role.ThematicBreak h = refl
+carrying_plain role.BulletList h = refl
+carrying_plain role.NumberedList h = refl
+carrying_plain role.Item h = refl
+carrying_plain role.Terms h = refl
+carrying_plain role.Term h = refl
+carrying_plain role.Meaning h = refl
+carrying_plain role.Table h = refl
+carrying_plain role.LayoutTable h = refl
+carrying_plain role.Caption h = refl
+carrying_plain role.TableHead h = refl
+carrying_plain role.TableBody h = refl
+carrying_plain role.Row h = refl
+carrying_plain role.Cell h = refl
+carrying_plain role.HeaderCell h = refl
+carrying_plain role.Division h = refl
+carrying_plain role.Figure h = refl
+carrying_plain role.FigureCaption h = refl
+carrying_plain role.Details h = refl
+carrying_plain role.Summary h = refl
+carrying_plain role.Legend h = refl
+carrying_plain role.Block h = refl
+carrying_plain role.Plain h = refl
+carrying_plain role.Anchors h = refl
+carrying_plain role.Unlinked h = refl
 
 plain_verbatim : (left : Option ℕ) (r : Role) (attributes : List AttributePair)
     → is_verbatim (affordable left r attributes) ≡ is_verbatim r
-plain_verbatim left r attributes = go (not (is_some left)) (is_link r) refl (nat_lt 0 (size attributes))
+plain_verbatim left r attributes =
+    go (not (is_some left)) (is_carrying r) refl (nat_lt 0 (size r attributes)) (is_link r)
   where
-    go : (a b : Bool) → is_link r ≡ b → (c : Bool)
-        → is_verbatim (if a && b && c then role.Target else r) ≡ is_verbatim r
-    go true true e true = sym (link_plain r e)
-    go true true e false = refl
-    go true false e c = refl
-    go false b e c = refl
+    go : (a b : Bool) → is_carrying r ≡ b → (c d : Bool)
+        → is_verbatim (if a && b && c then (if d then role.Target else role.Plain) else r) ≡ is_verbatim r
+    go true true e true true = sym (carrying_plain r e)
+    go true true e true false = sym (carrying_plain r e)
+    go true true e false d = refl
+    go true false e c d = refl
+    go false b e c d = refl
 
 mutual
   leaves_within : (left : Option ℕ) (t : Simple) → leaves (within left t) ≡ leaves t
@@ -226,61 +219,70 @@ at_most a b h = grind (arith, nat_tests)
 below : (a b : ℕ) → nat_lt a b ≡ true → suc a ≤ b
 below a b h = grind (arith, nat_tests)
 
--- a link that can't be paid is none
+-- what an element says by a test of whether it says something
+abbrev said_if : Bool → Role → List AttributePair → Simples → ℕ
+said_if b r attributes content = if b then size r attributes * leaves_among content else 0
+
+-- a link or an abbreviation that can't be paid is none
 unpaid : (r : Role) (attributes : List AttributePair) (content : Simples)
     → said_by (affordable None r attributes) attributes content ≡ 0
-unpaid r attributes content = go (is_link r) refl (nat_lt 0 (size attributes)) refl
+unpaid r attributes content = go (is_carrying r) refl (nat_lt 0 (size r attributes)) refl (is_link r)
   where
-    go : (b : Bool) → is_link r ≡ b → (c : Bool) → nat_lt 0 (size attributes) ≡ c
-        → said_by (if true && b && c then role.Target else r) attributes content ≡ 0
-    go true e true f = refl
-    go true e false f =
-        rw e (ap (λ (n : ℕ). n * leaves_among content) (positive (size attributes) f)
+    go : (b : Bool) → is_carrying r ≡ b → (c : Bool) → nat_lt 0 (size r attributes) ≡ c → (d : Bool)
+        → said_by (if true && b && c then (if d then role.Target else role.Plain) else r) attributes content ≡ 0
+    go true e true f true = refl
+    go true e true f false = refl
+    go true e false f d =
+        ap (λ (x : Bool). said_if x r attributes content) e
+        ∙ (ap (λ (n : ℕ). n * leaves_among content) (positive (size r attributes) f)
         ∙ zero-mul (leaves_among content))
-    go false e c f = rw e refl
+    go false e c f d = ap (λ (x : Bool). said_if x r attributes content) e
 
--- what a link says is what it costs
+-- what it says is what it costs
 paid_le : (left : Option ℕ) (r : Role) (facts : Facts) (attributes : List AttributePair) (content : Simples)
     → min greatest_count (leaves_among content) ≤ facts.leaves
     → said_by (affordable (paid left (cost r facts attributes)) r attributes) attributes content
     + value (paid left (cost r facts attributes)) ≤ value left
 paid_le None r facts attributes content h = omega (arith, unpaid r attributes content)
-paid_le (Some n) r facts attributes content h = go (is_link r) refl
+paid_le (Some n) r facts attributes content h = go (is_carrying r) refl
   where
     m : ℕ
-    m = size attributes * facts.leaves
+    m = size r attributes * facts.leaves
 
-    priced : (x : Bool) → nat_le m n ≡ x → is_link r ≡ true → suc facts.leaves ≤ greatest_count
+    says : (b : Bool) → is_carrying r ≡ b → said_by r attributes content ≡ said_if b r attributes content
+    says b e = ap (λ (x : Bool). said_if x r attributes content) e
+
+    priced : (x : Bool) → nat_le m n ≡ x → is_carrying r ≡ true → suc facts.leaves ≤ greatest_count
         → said_by (affordable (if x then Some (n - m) else None) r attributes) attributes content
         + value (if x then Some (n - m) else None) ≤ n
     priced true f e g =
         let i : leaves_among content ≤ facts.leaves = omega (arith, h, g) in
-        rw e (omega (arith, mul-le-mul_left (size attributes) i, at_most m n f))
+        omega (arith, says true e, mul-le-mul_left (size r attributes) i, at_most m n f)
     priced false f e g = omega (arith, unpaid r attributes content)
 
-    counted : (x : Bool) → nat_lt facts.leaves greatest_count ≡ x → is_link r ≡ true
+    counted : (x : Bool) → nat_lt facts.leaves greatest_count ≡ x → is_carrying r ≡ true
         → said_by (affordable (paid (Some n) (if x then Some m else None)) r attributes) attributes content
         + value (paid (Some n) (if x then Some m else None)) ≤ n
     counted true f e = priced (nat_le m n) refl e (below facts.leaves greatest_count f)
     counted false f e = omega (arith, unpaid r attributes content)
 
-    free : (x : Bool) → is_link r ≡ false
+    free : (x : Bool) → is_carrying r ≡ false
         → said_by (affordable (if x then Some (n - 0) else None) r attributes) attributes content
         + value (if x then Some (n - 0) else None) ≤ n
-    free true e = rw e (omega arith)
+    free true e = omega (arith, says false e)
     free false e = omega (arith, unpaid r attributes content)
 
-    go : (b : Bool) → is_link r ≡ b
+    go : (b : Bool) → is_carrying r ≡ b
         → said_by
-        (affordable (paid (Some n) (if b then link_cost (size attributes) facts.leaves else Some 0)) r attributes)
+        (affordable (paid (Some n) (if b then link_cost (size r attributes) facts.leaves else Some 0)) r attributes)
         attributes content
-        + value (paid (Some n) (if b then link_cost (size attributes) facts.leaves else Some 0)) ≤ n
+        + value (paid (Some n) (if b then link_cost (size r attributes) facts.leaves else Some 0)) ≤ n
     go true e = counted (nat_lt facts.leaves greatest_count) refl e
     go false e = free (nat_le 0 n) e
 
 same_leaves : (r : Role) (attributes : List AttributePair) (a b : Simples) → leaves_among a ≡ leaves_among b
     → said_by r attributes a ≡ said_by r attributes b
-same_leaves r attributes a b e = ap (λ (n : ℕ). if is_link r then said attributes * n else 0) e
+same_leaves r attributes a b e = ap (λ (n : ℕ). if is_carrying r then size r attributes * n else 0) e
 
 mutual
   links_within : (left : Option ℕ) (t : Simple) → Counted t
@@ -401,9 +403,9 @@ last_none : (targets : List Target) → links_among (last_anchors targets) ≡ 0
 last_none [] = refl
 last_none (t ∷ targets) = let a = anchors_none (values_of (t ∷ targets)) in omega (arith, a.1)
 
-anchored_links : (w : Anchors) (ts : Simples) → links_among (anchored w ts) ≡ links_among ts
-anchored_links w ts =
-    let p : Placing = record { seen = 0; targets = targets_by w ts } in
+anchored_links : (w : Anchors) (t : Bool) (ts : Simples) → links_among (anchored w t ts) ≡ links_among ts
+anchored_links w t ts =
+    let p : Placing = record { seen = 0; targets = targets_by w t ts } in
     let l = (placing_after_all p ts).targets in
     let i = followed (all_placed p ts) (last_anchors l) in
     let k = all_placed_kept p ts in
@@ -471,16 +473,16 @@ mutual
       let j = all_pieced_kept ts in
       record { leaf = omega (arith, i.leaf, j.leaf); link = omega (arith, i.link, j.link) }
 
--- all that the links of a document's simpler tree say
-pub links_le : (w : Anchors) (ts : Simples) → AllCounted ts
-    → links_among (pieced_all (anchored w (limited ts))) ≤ 64 * size_of_simples ts + 65536
-links_le w ts h =
+-- all that the links and abbreviations of a document's simpler tree say
+pub links_le : (w : Anchors) (t : Bool) (ts : Simples) → AllCounted ts
+    → links_among (pieced_all (anchored w t (limited ts))) ≤ 64 * size_of_simples ts + 65536
+links_le w t ts h =
     let l = limited ts in
-    let p = all_pieced_kept (anchored w l) in
+    let p = all_pieced_kept (anchored w t l) in
     omega (
       arith,
       p.link,
-      anchored_links w l,
+      anchored_links w t l,
       all_links_within (Some (budget ts)) ts h,
       budget_le ts,
     )

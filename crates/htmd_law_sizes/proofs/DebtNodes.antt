@@ -1,5 +1,5 @@
 -- How much of addresses nodes that follow each other give, with the lists that they make, and terms.
-use Rattle.std.proofs.Common.{◌≡◌, ◌∙◌, refl, sym, ℕ, ◌+◌, ◌≤◌, Bool, true, false, List, [], ◌∷◌, ◌++◌, length}
+use Rattle.std.proofs.Common.{◌≡◌, ◌∙◌, refl, ℕ, ◌+◌, ◌≤◌, Bool, true, false, List, [], ◌∷◌, ◌++◌, length}
 use Rattle.std.proofs.Common.{map, arith}
 use Rattle.std.specs.Prelude.{fold, nat_le, nat_lt, ◌||◌, not, if◌then◌else◌, Option, Some, None, ℤ}
 use Rattle.std.specs.List.{list_any}
@@ -15,7 +15,7 @@ use Rattle.htmd_flow.specs.Lists.{ListItem, are_filled, is_tight, list_of, start
 use Rattle.htmd_flow.specs.Lists.{groups_at, with_number, with_item, lists_of, lists_if_filled}
 use Rattle.htmd_flow.specs.Paragraphs.{Writing, begun}
 use Rattle.htmd_flow.specs.Parts.{Part, edge}
-use Rattle.htmd_law_sizes.proofs.DebtParts.{rep, owed, Costs, at_most, nothing, both, edge_cost, block_cost, apart_cost}
+use Rattle.htmd_law_sizes.proofs.DebtParts.{rep, owed, Costs, at_most, loosely, strictly, nothing, both, edge_cost, block_cost, apart_cost}
 use Rattle.htmd_law_sizes.proofs.DebtParts.{all_flat, edge_before, blocks_cost, in_cost}
 use Rattle.htmd_law_sizes.proofs.Debts.{debt, debt_items}
 use Rattle.htmd_law_sizes.proofs.Leaves.{due, inner_due, inner_le, open_by, item_open, meaning_open, term_open}
@@ -394,10 +394,6 @@ within_cost n c f = go (has roles.is_meaning n.tree)
     go true = beside_cost n c f
     go false = edge_before c.is_flat (beside_terms n c) k (beside_cost n c f)
 
--- the same where all isn't one line
-loosely : (f : Bool) (parts : List Part) (k : ℕ) → f ≡ false → Costs f parts k → Costs false parts k
-loosely f parts k e c = record { at = λ w g. c.at w (g ∙ sym e) }
-
 node_slim : (b : Bool) (c : Context) (t : Terms) (n : Node) (k : ℕ) → c.is_flat ≡ false → Due n → Slim t k
     → Slim (with_node b c t n) (k + due (rep c.around) n.tree)
 node_slim b c t n k h f s = go (has roles.is_term n.tree) refl
@@ -443,9 +439,6 @@ part_slim b c t (of_node n ∷ parts) k h f s =
 terms_items : (items : List Writing) → items_debt (map term_item items) ≤ begun_debt items
 terms_items [] = omega arith
 terms_items (w ∷ items) = omega (arith, terms_items items, in_cost w)
-
-strictly : (f : Bool) (parts : List Part) (k : ℕ) → f ≡ false → Costs false parts k → Costs f parts k
-strictly f parts k e c = record { at = λ w g. c.at w (g ∙ e) }
 
 pub terms_cost : (parts : List TermPart) (nodes : List Node) (c : Context) (k : ℕ) → TermsDue parts → AllDue nodes
     → terms_dues (rep c.around) parts ≤ k → dues (rep c.around) nodes ≤ k

@@ -10,6 +10,8 @@ use Rattle.htmd_lexical.specs.Characters.{space}
 use Rattle.htmd_document.specs.Documents.{Inline, text, code, formatted, link, image, line_break, task, Inlines}
 use Rattle.htmd_document.specs.Documents.{anchor, no_inlines, inline, Block}
 use Rattle.htmd_document.specs.Documents as documents
+use Rattle.htmd_document.specs.Formats.{title_of}
+use Rattle.htmd_document.proofs.FormatsLemmas.{same-itself}
 use Rattle.htmd_flow.specs.declared.paragraphs.Latest.{Latest}
 use Rattle.htmd_flow.specs.declared.paragraphs.Latest.TheVariants.{Nothing, Task, Plain, Code}
 use Rattle.htmd_flow.specs.declared.paragraphs.Met.TheVariants as met
@@ -32,7 +34,7 @@ use Rattle.htmd_law_sizes.proofs.Debts.{link_size, debt_inline, debt_inlines, de
 
 abbrev pub rep : List Around → ℕ
 rep [] = 0
-rep (part.formatted format ∷ around) = rep around
+rep (part.formatted format ∷ around) = length (chars (title_of format)) + rep around
 rep (part.linked node address title ∷ around) = link_size address title + rep around
 
 none_left : (n : ℕ) (around : List Around) → rep (drop n (take n around)) ≡ 0
@@ -43,7 +45,7 @@ none_left (suc n) (a ∷ around) = none_left n around
 dropped_le : (n : ℕ) (around : List Around) → rep (drop n around) ≤ rep around
 dropped_le zero around = omega arith
 dropped_le (suc n) [] = omega arith
-dropped_le (suc n) (part.formatted format ∷ around) = dropped_le n around
+dropped_le (suc n) (part.formatted format ∷ around) = omega (arith, dropped_le n around)
 dropped_le (suc n) (part.linked node address title ∷ around) = omega (arith, dropped_le n around)
 
 all_dropped : (around : List Around) → rep (drop (length around) around) ≡ 0
@@ -237,7 +239,7 @@ abbrev pub ready : List Around → Writing → ℕ
 ready around w = owed w + (if hot around w then 0 else rep around)
 
 same_wrapper : (a : Around) → is_same (wrapper_of a) (wrapper_of a) ≡ true
-same_wrapper (part.formatted format) = grind (arith, nat_tests)
+same_wrapper (part.formatted format) = same-itself format
 same_wrapper (part.linked node address title) = grind (arith, nat_tests)
 
 shared_all : (around : List Around)
@@ -451,6 +453,13 @@ pub record Costs (f : Bool) (parts : List Part) (k : ℕ) : Type 0 where
 pub at_most : (f : Bool) (parts : List Part) (j k : ℕ) → j ≤ k → Costs f parts j → Costs f parts k
 at_most f parts j k h c = record { at = λ w e. omega (arith, c.at w e, h) }
 
+-- the same of lines that are known to be one or not
+pub loosely : (f : Bool) (parts : List Part) (k : ℕ) → f ≡ false → Costs f parts k → Costs false parts k
+loosely f parts k e c = record { at = λ w g. c.at w (g ∙ sym e) }
+
+pub strictly : (f : Bool) (parts : List Part) (k : ℕ) → f ≡ false → Costs false parts k → Costs f parts k
+strictly f parts k e c = record { at = λ w g. c.at w (g ∙ e) }
+
 pub nothing : (f : Bool) → Costs f [] 0
 nothing f = record { at = λ w e. omega arith }
 
@@ -545,6 +554,20 @@ blocked_debt w x = go w.is_flat
         ≤ owed w + debt_block x
     go true = omega arith
     go false = omega (arith, ended_debt w, list_append (ended w).done (x ∷ []))
+
+flat_block : (w : Writing) (x : Block) → w.is_flat ≡ true → owed (blocked w x) ≤ owed w
+flat_block w x e = go w.is_flat e
+  where
+    go : (b : Bool) → b ≡ true
+        → owed
+        (if b then broken_off w else record (ended w) { done = (ended w).done ++ x ∷ []; met = met.Nothing })
+        ≤ owed w
+    go true i = omega arith
+    go false i = absurd (cc)
+
+-- in one line a block is none
+pub flat_cost : (x : Block) → Costs true (whole x ∷ []) 0
+flat_cost x = record { at = λ w e. omega (arith, flat_block w x e) }
 
 pub block_cost : (f : Bool) (x : Block) → Costs f (whole x ∷ []) (debt_block x)
 block_cost f x = record { at = λ w e. omega (arith, blocked_debt w x) }

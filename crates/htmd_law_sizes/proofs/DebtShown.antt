@@ -115,23 +115,24 @@ object_counted id attributes content o h = go (are_blank content) o
     go true (Some found) = tt
     go false o = made_counted id role.Plain attributes content h
 
-content_counted : (in_head : Bool) (id : ℕ) (name : List ℕ) (attributes : List AttributePair) (ts : NumberedForest)
-    (content : Simples) → AllCounted content → CountedIf (with_content in_head id name attributes ts content)
-content_counted in_head id name attributes ts content h =
+content_counted : (t in_head : Bool) (id : ℕ) (name : List ℕ) (attributes : List AttributePair)
+    (ts : NumberedForest)
+    (content : Simples) → AllCounted content → CountedIf (with_content t in_head id name attributes ts content)
+content_counted t in_head id name attributes ts content h =
     go (bytes_eq name (codes "a") && is_permalink in_head attributes content) (is_led_to attributes)
   where
     go : (a b : Bool)
         → CountedIf
         (if a then (if b then Some (made id role.Target attributes none) else None)
-        else Some (made id (role_at name attributes ts) attributes content))
+        else Some (made id (role_at t name attributes ts) attributes content))
     go true true = made_counted id role.Target attributes none tt
     go true false = tt
-    go false b = made_counted id (role_at name attributes ts) attributes content h
+    go false b = made_counted id (role_at t name attributes ts) attributes content h
 
-by_counted : (around : Surroundings) (source : Option (List ℕ)) (id : ℕ) (name : List ℕ)
+by_counted : (t : Bool) (around : Surroundings) (source : Option (List ℕ)) (id : ℕ) (name : List ℕ)
     (attributes : List AttributePair) (ts : NumberedForest) (content : Simples) → AllCounted content
-    → CountedIf (by_content around source id name attributes ts content)
-by_counted around source id name attributes ts content h =
+    → CountedIf (by_content t around source id name attributes ts content)
+by_counted t around source id name attributes ts content h =
     go (is_hidden around name attributes) (is_image name attributes) (is_among embedding_names name)
     (bytes_eq name (codes "object"))
   where
@@ -141,12 +142,12 @@ by_counted around source id name attributes ts content h =
         else (if b then Some (image (image_address attributes source) attributes)
         else (if c then embed id attributes (embedding_of name attributes ts)
         else (if d then object id attributes content (embedding_of name attributes ts)
-        else with_content around.in_head id name attributes ts content))))
+        else with_content t around.in_head id name attributes ts content))))
     go true b c d = tt
     go false true c d = tt
     go false false true d = embed_counted id attributes (embedding_of name attributes ts)
     go false false false true = object_counted id attributes content (embedding_of name attributes ts) h
-    go false false false false = content_counted around.in_head id name attributes ts content h
+    go false false false false = content_counted t around.in_head id name attributes ts content h
 
 formula_counted : (name : List ℕ) (attributes : List AttributePair) (other : Option Simple) (tex : Option (List ℕ))
     → CountedIf other → CountedIf (formula_or name attributes other tex)
@@ -181,10 +182,10 @@ mutual
       let h : AllCounted content =
       emptied_counted (is_emptied around name attributes) m
       (marked_counted (bytes_eq name (codes "q")) r (raised_counted (raised_by name) id inner i)) in
-      let b = by_content around source id name attributes children content in
+      let b = by_content sight.is_rich around source id name attributes children content in
       skipped_counted (is_skipped sight name) (formula_or name attributes b (tex_of name attributes children))
       (formula_counted name attributes b (tex_of name attributes children)
-      (by_counted around source id name attributes children content h))
+      (by_counted sight.is_rich around source id name attributes children content h))
 
   nodes_counted : (sight : Sight) (around : Surroundings) (source : Option (List ℕ))
       (before : Option (List AttributePair)) (ts : NumberedForest)

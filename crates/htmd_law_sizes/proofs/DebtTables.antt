@@ -77,7 +77,7 @@ trimmed_le : (cells : List Inlines) → debt_cells (trimmed_row cells) ≤ debt_
 trimmed_le [] = omega arith
 trimmed_le (cell ∷ cells) = omega (arith, trimmed_le cells, with_le cell (trimmed_row cells))
 
-trimmed_rows : (g : List (List Inlines)) → debt_rows (map trimmed_row g) ≤ debt_rows g
+pub trimmed_rows : (g : List (List Inlines)) → debt_rows (map trimmed_row g) ≤ debt_rows g
 trimmed_rows [] = omega arith
 trimmed_rows (cells ∷ g) = omega (arith, trimmed_rows g, trimmed_le cells)
 
@@ -112,7 +112,7 @@ in_le al true [] = omega (arith, padded_le (width []) [])
 in_le al true (first ∷ rest) = omega (arith, padded_le (width (first ∷ rest)) first, body_le rest)
 in_le al false lines = omega (arith, padded_le (width lines) [], body_le lines)
 
-of_cost : (f : Bool) (al : List Alignment) (t : Bool) (lines : List (List Inlines))
+pub of_cost : (f : Bool) (al : List Alignment) (t : Bool) (lines : List (List Inlines))
     → Costs f (block_part (table_of al t lines)) (debt_rows lines)
 of_cost f al t lines = go (width lines == 0)
   where

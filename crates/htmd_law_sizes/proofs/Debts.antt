@@ -5,7 +5,9 @@ use Rattle.std.specs.Option.{unwrap_or}
 use Rattle.std.specs.Str.{chars, chars_after, continuation_len, lead_bits}
 use Rattle.htmd_document.specs.Documents.{Inline, Inlines, text, code, formatted, link, image, anchor, line_break, task}
 use Rattle.htmd_document.specs.Documents.{no_inlines, inline, Block, Blocks, Items, paragraph, heading, code_block}
-use Rattle.htmd_document.specs.Documents.{quote, thematic_break, list, table, no_blocks, block, no_items, item}
+use Rattle.htmd_document.specs.Documents.{quote, thematic_break, list, table, element, tags, no_blocks, block, no_items}
+use Rattle.htmd_document.specs.Documents.{item}
+use Rattle.htmd_document.specs.Formats.{title_of}
 use Rattle.htmd_law_sizes.specs.DocumentSizes.{size_of_option, lean_inlines, lean_inline, lean_cells, lean_rows, lean}
 use Rattle.htmd_law_sizes.specs.DocumentSizes.{lean_block, lean_items, repeated_inlines, repeated_inline}
 use Rattle.htmd_law_sizes.specs.DocumentSizes.{repeated_cells, repeated_rows, repeated, repeated_block, repeated_items}
@@ -22,7 +24,7 @@ abbrev mutual
   pub debt_inline : Inline → ℕ
   debt_inline (text s) = 0
   debt_inline (code s) = 0
-  debt_inline (formatted format content) = debt_inlines content
+  debt_inline (formatted format content) = length (chars (title_of format)) + debt_inlines content
   debt_inline (link address title content) = link_size address title + debt_inlines content
   debt_inline (image address title description) = 0
   debt_inline (anchor id) = 0
@@ -50,6 +52,8 @@ abbrev mutual
   debt_block thematic_break = 0
   debt_block (list start is_tight items) = debt_items items
   debt_block (table alignments header rows) = debt_rows (header ∷ rows)
+  debt_block (element name attributes content) = debt content
+  debt_block (tags s) = 0
 
   pub debt_items : Items → ℕ
   debt_items no_items = 0
@@ -93,7 +97,7 @@ mutual
   inline_le : (x : Inline) → repeated_inline x ≤ 4 * debt_inline x + 6 * lean_inline x
   inline_le (text s) = omega arith
   inline_le (code s) = omega arith
-  inline_le (formatted format content) = omega (arith, inlines_le content)
+  inline_le (formatted format content) = omega (arith, inlines_le content, bytes_le (title_of format))
   inline_le (link address title content) = omega (arith, inlines_le content, bytes_le address, title_le title)
   inline_le (image address title description) = omega arith
   inline_le (anchor id) = omega arith
@@ -121,6 +125,8 @@ mutual
   block_le thematic_break = omega arith
   block_le (list start is_tight items) = omega (arith, items_le items)
   block_le (table alignments header rows) = omega (arith, rows_le (header ∷ rows))
+  block_le (element name attributes content) = omega (arith, repeated_le content)
+  block_le (tags s) = omega arith
 
   items_le : (items : Items) → repeated_items items ≤ 4 * debt_items items + 6 * lean_items items
   items_le no_items = omega arith

@@ -9,7 +9,10 @@ use Rattle.htmd_markdown.specs.declared.list.BulletListMarker.TheVariants.{Dash}
 use Rattle.htmd_markdown.specs.declared.thematic_break.HrStyle.TheVariants.{Dashes}
 use Rattle.htmd_document.specs.Documents.{Inlines, Block, Blocks, text, link, inline, no_inlines, paragraph, heading}
 use Rattle.htmd_document.specs.Documents.{code_block, quote, thematic_break, list, table, no_blocks, block, no_items}
-use Rattle.htmd_document.specs.Documents.{item}
+use Rattle.htmd_document.specs.Documents.{item, formatted, element as element_block}
+use Rattle.htmd_document.specs.Formats.{Abbreviation}
+use Rattle.htmd_document.specs.declared.document.AttributeName.TheVariants.{ColumnSpan}
+use Rattle.htmd_document.specs.declared.document.BlockElement.TheVariants.{Cell}
 use Rattle.htmd_commonmark.specs.declared.options.DocumentOptions.{DocumentOptions}
 use Rattle.htmd_commonmark.specs.DocumentMarkdown.{markdown_of}
 use Rattle.htmd_nodes.specs.NumberedTrees.{text as text_node, comment, element, none, more}
@@ -73,6 +76,12 @@ pub of_table :
     ≡ 1 + (1 + 3) + (1 + 1 + 3)
 of_table = refl
 
+-- a cell with its two tags, the text in one line with them as it is written, a paragraph, and the text
+pub of_cell :
+    size_of (one (element_block Cell (record { name = ColumnSpan; value = codes "2" } ∷ []) (words (codes "a<"))))
+    ≡ (1 + 16) + (1 + 5) + 5 + (1 + 1 + 2)
+of_cell = refl
+
 -- ---- what is repeated
 
 -- a link's address and title
@@ -86,6 +95,11 @@ pub of_rest :
     lean (one (paragraph (inline (link (codes "/x") (Some (codes "t")) (letters (codes "a"))) no_inlines)))
     ≡ 1 + 1 + 2
 of_rest = refl
+
+-- the title of an abbreviation
+pub of_abbreviation :
+    repeated (one (paragraph (inline (formatted (Abbreviation (codes "t")) (letters (codes "a"))) no_inlines))) ≡ 1
+of_abbreviation = refl
 
 -- the language of code
 pub of_language : repeated (one (code_block (Some (codes "c")) (codes "x"))) ≡ 1

@@ -7,10 +7,10 @@ use Rattle.htmd_shown.specs.declared.role.Role.TheVariants as role
 use Rattle.htmd_shown.specs.Kinds.{has}
 use Rattle.htmd_shown.specs.Roles as roles
 use Rattle.htmd_shown.specs.SimpleTrees.{Simple, text, image, formula, embedded, anchor, element, Simples, none, more}
-use Rattle.htmd_flow.specs.Contexts.{bare}
+use Rattle.htmd_flow.specs.Contexts.{bare_in}
 use Rattle.htmd_flow.specs.Flows.{Node, Row, TermPart, gap, of_node, Element, flow_all, is_cell, parts_of_child, no_part}
 use Rattle.htmd_flow.specs.Flows.{part_of, leads_to, row_with, rows_if, node_of, nodes_of, nodes_below, terms_of}
-use Rattle.htmd_flow.specs.Flows.{rows_among, rows_at}
+use Rattle.htmd_flow.specs.Flows.{rows_among, rows_at, TablePiece, of_caption, of_row, pieces_at, pieces_of, document_of}
 use Rattle.htmd_flow.specs.Terms.{is_group}
 use Rattle.htmd_flow.specs.declared.table_form.TablePart.{TablePart}
 use Rattle.htmd_law_sizes.specs.SimpleSizes.{size_of_simple, size_of_simples}
@@ -18,8 +18,10 @@ use Rattle.htmd_law_sizes.specs.SizeLaws.{FlowIsBounded}
 use Rattle.htmd_law_sizes.specs.TreeSizes.{size_of_values}
 use Rattle.htmd_law_sizes.proofs.ContextRooms.{bare_within}
 use Rattle.htmd_law_sizes.proofs.ElementCosts.{Known, run_le, image_cost, formula_cost, embed_cost, element_le}
+use Rattle.htmd_law_sizes.proofs.HeavySizes.{lean_le}
 use Rattle.htmd_law_sizes.proofs.NodeCosts.{Fit, AllFit, worth, flow_le}
 use Rattle.htmd_law_sizes.proofs.PartCosts.{blocks_cost}
+use Rattle.htmd_law_sizes.proofs.RichTableCosts.{PiecesFit, pieces_worth}
 use Rattle.htmd_law_sizes.proofs.TableCosts.{RowsFit, rows_worth, both_fit, worth_append, cells_fit, captions_worth}
 use Rattle.htmd_law_sizes.proofs.TermCosts.{TermsFit, terms_worth}
 
@@ -154,6 +156,7 @@ pub caption_alone : (r : Role) → roles.is_caption r ≡ true
     → (roles.is_row r ≡ false) × (roles.is_part r ≡ false)
 caption_alone (role.Format f) h = absurd (cc)
 caption_alone (role.Element f) h = absurd (cc)
+caption_alone role.Abbreviation h = absurd (cc)
 caption_alone role.Code h = absurd (cc)
 caption_alone role.Typed h = absurd (cc)
 caption_alone role.Link h = absurd (cc)
@@ -184,6 +187,7 @@ caption_alone role.HeaderCell h = absurd (cc)
 caption_alone role.Division h = absurd (cc)
 caption_alone role.Figure h = absurd (cc)
 caption_alone role.FigureCaption h = absurd (cc)
+caption_alone role.Details h = absurd (cc)
 caption_alone role.Summary h = absurd (cc)
 caption_alone role.Legend h = absurd (cc)
 caption_alone role.Block h = absurd (cc)
@@ -229,6 +233,54 @@ lined none = omega arith
 lined (more t ts) =
     omega (arith, caption_or_rows t, lined ts, worth_append (rows_at no_part t) (rows_among no_part ts))
 
+-- ---- captions and rows
+
+pieces_append : (a b : List TablePiece) → pieces_worth (a ++ b) ≡ pieces_worth a + pieces_worth b
+pieces_append [] b = omega arith
+pieces_append (of_caption n ∷ a) b = omega (arith, pieces_append a b)
+pieces_append (of_row r ∷ a) b = omega (arith, pieces_append a b)
+
+pieces_both : (a b : List TablePiece) → PiecesFit a → PiecesFit b → PiecesFit (a ++ b)
+pieces_both [] b f g = g
+pieces_both (of_caption n ∷ a) b f g = (f.0, pieces_both a b f.1 g)
+pieces_both (of_row r ∷ a) b f g = (f.0, pieces_both a b f.1 g)
+
+all_rows : (rows : List Row) → pieces_worth (map of_row rows) ≡ rows_worth rows
+all_rows [] = refl
+all_rows (row ∷ rows) = omega (arith, all_rows rows)
+
+all_rows_fit : (rows : List Row) → RowsFit rows → PiecesFit (map of_row rows)
+all_rows_fit [] f = tt
+all_rows_fit (row ∷ rows) f = (f.0, all_rows_fit rows f.1)
+
+piece_worth : (t : Simple) → pieces_worth (pieces_at (node_of t) (rows_at no_part t)) ≤ 400 * size_of_simple t
+piece_worth t = go (has roles.is_caption (node_of t).tree)
+  where
+    go : (b : Bool)
+        → pieces_worth (if b then of_caption (node_of t) ∷ [] else map of_row (rows_at no_part t))
+        ≤ 400 * size_of_simple t
+    go true = omega (arith, ap size_of_simple (node_tree t))
+    go false = omega (arith, all_rows (rows_at no_part t), rows_at_le no_part t)
+
+piece_fit : (t : Simple) → Fit (node_of t) → RowsFit (rows_at no_part t)
+    → PiecesFit (pieces_at (node_of t) (rows_at no_part t))
+piece_fit t f g = go (has roles.is_caption (node_of t).tree)
+  where
+    go : (b : Bool) → PiecesFit (if b then of_caption (node_of t) ∷ [] else map of_row (rows_at no_part t))
+    go true = (f, tt)
+    go false = all_rows_fit (rows_at no_part t) g
+
+pieces_paid : (ts : Simples) → pieces_worth (pieces_of ts) ≤ 400 * size_of_simples ts
+unfolding pieces_of
+pieces_paid none = omega arith
+pieces_paid (more t ts) =
+    omega (
+      arith,
+      pieces_append (pieces_at (node_of t) (rows_at no_part t)) (pieces_of ts),
+      piece_worth t,
+      pieces_paid ts,
+    )
+
 -- ---- trees
 
 row_fit : (p : TablePart) (t : Simple) (nodes : List Node) (inner : List Row) → AllFit nodes → RowsFit inner
@@ -241,7 +293,7 @@ row_fit p t nodes inner f g = go (has roles.is_row t) (leads_to p t)
     go false false = tt
 
 mutual
-  unfolding node_of nodes_of nodes_below terms_of rows_at rows_among
+  unfolding node_of nodes_of nodes_below terms_of rows_at rows_among pieces_of
 
   node_fit : (t : Simple) → Fit (node_of t)
   node_fit (text s) = record {
@@ -273,6 +325,7 @@ mutual
         content = content;
         nodes = nodes_of content;
         rows = rows_among no_part content;
+        pieces = pieces_of content;
         terms = terms_of content;
       } in
       let h : Known e (size_of_simples content) = record {
@@ -280,6 +333,8 @@ mutual
         paid = omega (arith, worth_nodes content);
         rows = rows_fit no_part content;
         lined = lined content;
+        pieces = pieces_fit content;
+        pieced = pieces_paid content;
         terms = terms_fit content;
         termed = terms_paid content;
         inside = refl;
@@ -307,6 +362,12 @@ mutual
       terms_both (parts_of_child (node_of t) (nodes_below t)) (terms_of ts)
       (child_fit t (node_fit t) (below_fit t)) (terms_fit ts)
 
+  pieces_fit : (ts : Simples) → PiecesFit (pieces_of ts)
+  pieces_fit none = tt
+  pieces_fit (more t ts) =
+      pieces_both (pieces_at (node_of t) (rows_at no_part t)) (pieces_of ts)
+      (piece_fit t (node_fit t) (rows_at_fit no_part t)) (pieces_fit ts)
+
   rows_at_fit : (p : TablePart) (t : Simple) → RowsFit (rows_at p t)
   rows_at_fit p (text s) = tt
   rows_at_fit p (image address attributes) = tt
@@ -323,10 +384,12 @@ mutual
   rows_fit p (more t ts) = both_fit (rows_at p t) (rows_among p ts) (rows_at_fit p t) (rows_fit p ts)
 
 pub flow_is_bounded : FlowIsBounded
-flow_is_bounded trees =
+flow_is_bounded is_rich trees =
+    let c = bare_in is_rich in
     omega (
       arith,
-      blocks_cost false (flow_all (nodes_of trees) bare),
-      flow_le (nodes_of trees) bare (nodes_fit trees) bare_within,
+      lean_le (document_of is_rich trees),
+      blocks_cost false (flow_all (nodes_of trees) c),
+      flow_le (nodes_of trees) c (nodes_fit trees) bare_within,
       worth_nodes trees,
     )

@@ -1,13 +1,12 @@
 -- How wide the margin of a simpler tree's document is: each list and each quote puts at most 69 bytes before a line.
 use Rattle.std.proofs.Common.{◌≡◌, refl, ℕ, zero, suc, ◌+◌, ◌≤◌, Bool, true, false, List, [], ◌∷◌, ◌++◌}
 use Rattle.std.proofs.Common.{map, take, drop, arith}
-use Rattle.std.specs.Prelude.{◌&&◌, ◌==◌, not, filter, if◌then◌else◌, codes, Option}
+use Rattle.std.specs.Prelude.{◌&&◌, not, filter, if◌then◌else◌, codes, Option}
 use Rattle.std.specs.Prelude.{Some, None}
 use Rattle.std.specs.List.{list_any, flat_map}
 use Rattle.htmd_lexical.specs.Characters.{space}
 use Rattle.htmd_lexical.specs.AttributePairs.{AttributePair}
-use Rattle.htmd_document.specs.declared.document.Alignment.{Alignment}
-use Rattle.htmd_document.specs.Formats.{Format, of_format, of_element}
+use Rattle.htmd_document.specs.Formats.{Format, Abbreviation, of_format, of_element}
 use Rattle.htmd_document.specs.Documents.{Inlines, no_inlines, inline, Blocks, no_blocks, block}
 use Rattle.htmd_document.specs.Documents.{code_block}
 use Rattle.htmd_shown.specs.declared.facts.Facts.{Facts}
@@ -20,8 +19,8 @@ use Rattle.htmd_shown.specs.Kinds.{has}
 use Rattle.htmd_shown.specs.Roles as roles
 use Rattle.htmd_shown.specs.SimpleTrees.{Simple, text, image, formula, embedded, anchor, element, Simples, none, more}
 use Rattle.htmd_shown.specs.Spaces.{is_blank_text}
-use Rattle.htmd_flow.specs.Contexts.{Context, bare, is_lined, is_link, is_enough, with_around, inside_format}
-use Rattle.htmd_flow.specs.Contexts.{inside_link, unlinked, beside_code, in_code, in_one_line, deeper}
+use Rattle.htmd_flow.specs.Contexts.{Context, bare_in, has_elements, is_lined, is_link, is_enough, with_around}
+use Rattle.htmd_flow.specs.Contexts.{inside_format, inside_title, inside_link, unlinked, beside_code, in_code, in_one_line, deeper}
 use Rattle.htmd_flow.specs.Contexts.{run_in, apart}
 use Rattle.htmd_flow.specs.Flows.{Node, Row, TermPart, gap, of_node, Element, is_cell, is_grid, blocks_of}
 use Rattle.htmd_flow.specs.Flows.{line_of}
@@ -33,7 +32,9 @@ use Rattle.htmd_flow.specs.Flows.{math_block, math_in_line, formula_parts, embed
 use Rattle.htmd_flow.specs.Flows.{heading_of, around_heading, heading_parts, quote_of, quote_parts, code_parts}
 use Rattle.htmd_flow.specs.Flows.{text_in_lines, start_of, anchors_apart, parts_of}
 use Rattle.htmd_flow.specs.Flows.{parts_of_child, no_part, part_of, leads_to, row_with, rows_if, node_of, nodes_of}
-use Rattle.htmd_flow.specs.Flows.{nodes_below, terms_of, rows_among, rows_at}
+use Rattle.htmd_flow.specs.Flows.{nodes_below, terms_of, rows_among, rows_at, TablePiece, of_caption, of_row, pieces_at}
+use Rattle.htmd_flow.specs.Flows.{pieces_of, around_title, title_parts, described_parts, term_parts, terms_by}
+use Rattle.htmd_flow.specs.Flows.{rich_table_at, table_at, figure_at}
 use Rattle.htmd_flow.specs.Grids as grids
 use Rattle.htmd_flow.specs.Languages.{language_of_block}
 use Rattle.htmd_flow.specs.Levels as levels
@@ -45,6 +46,8 @@ use Rattle.htmd_law_sizes.specs.DocumentSizes.{margin_of}
 use Rattle.htmd_law_sizes.specs.SizeLaws.{MarginIsBounded}
 use Rattle.htmd_law_sizes.proofs.PartMargins.{widest_of, widest, widest_append, blocks_margin, deep, Narrow, AllNarrow, flow_width}
 use Rattle.htmd_law_sizes.proofs.PartMargins.{not_deep, list_width, TermsNarrow, terms_width}
+use Rattle.htmd_law_sizes.proofs.RichMargins.{near_nested, title_nested, details_width, figure_width, described_width}
+use Rattle.htmd_law_sizes.proofs.RichMargins.{of_width, PiecesNarrow, rich_table_width}
 
 -- ---- contexts
 
@@ -63,11 +66,9 @@ link_nested id s title c = go (list_any is_link c.around)
     go true = refl
     go false = refl
 
-near_nested : (n : ℕ) (attributes : List AttributePair) (c : Context)
-    → (beside_code n attributes c).nested ≡ c.nested
-near_nested zero attributes c = refl
-near_nested (suc zero) attributes c = refl
-near_nested (suc (suc n)) attributes c = refl
+title_in_nested : (title : Option (List ℕ)) (c : Context) → (inside_title title c).nested ≡ c.nested
+title_in_nested None c = refl
+title_in_nested (Some title) c = format_nested (Abbreviation title) c
 
 flow_inside : (nodes : List Node) (c d : Context) → AllNarrow nodes → d.nested ≡ c.nested
     → widest (flow_all nodes d) ≤ deep c
@@ -230,15 +231,6 @@ rows_flat [] c f = omega arith
 rows_flat (row ∷ rows) c f =
     simp widest_append (omega (arith, cells_width row.cells c f.0, rows_flat rows c f.1))
 
-of_width : (al : List Alignment) (t : Bool) (lines : List (List Inlines))
-    → widest (block_part (grids.table_of al t lines)) ≡ 0
-of_width al t lines = go (grids.width lines == 0)
-  where
-    go : (b : Bool)
-        → widest (block_part (if b then None else Some (grids.table_in (grids.width lines) al t lines))) ≡ 0
-    go true = refl
-    go false = refl
-
 grid_width : (rows : List grids.Row) → widest (block_part (grids.table_of_rows rows)) ≡ 0
 grid_width [] = refl
 grid_width (first ∷ rows) =
@@ -280,6 +272,7 @@ table_width trees nodes rows c f g = go (is_grid trees rows) c.is_flat
 record Known (e : Element) : Type 0 where
   fit : AllNarrow e.nodes
   rows : RowsNarrow e.rows
+  pieces : PiecesNarrow e.pieces
   terms : TermsNarrow e.terms
 
 apart_width : (nodes : List Node) (c d : Context) → AllNarrow nodes → d.nested ≡ c.nested
@@ -293,11 +286,38 @@ anchors_width nodes c f = go c.is_flat
     go true = flow_width nodes c f
     go false = apart_width nodes c c f refl
 
+title_in_width : (e : Element) (c : Context) → Known e → widest (title_parts e c) ≤ deep c
+title_in_width e c h = apart_width e.nodes c (around_title e.content c) h.fit (title_nested e.content c)
+
+terms_in_width : (e : Element) (c : Context) → Known e → widest (terms_by e.terms e.nodes c) ≤ deep c
+terms_in_width e c h = go (has_elements c)
+  where
+    go : (t : Bool) → widest (if t then described_parts e.terms c else term_parts e.terms e.nodes c) ≤ deep c
+    go true = described_width e.terms c h.terms
+    go false = terms_width e.terms e.nodes c h.terms h.fit
+
+table_in_width : (e : Element) (c : Context) → Known e → widest (table_at e c) ≤ deep c
+table_in_width e c h = go (has_elements c)
+  where
+    trees : List Simple
+    trees = levels.list_of e.content
+
+    go : (t : Bool) → widest (if t then rich_table_at e c else table_parts trees e.nodes e.rows c) ≤ deep c
+    go true = rich_table_width trees e.attributes e.pieces e.nodes c h.fit h.pieces
+    go false = table_width trees e.nodes e.rows c h.fit h.rows
+
+figure_in_width : (e : Element) (c : Context) → Known e → widest (figure_at e c) ≤ deep c
+figure_in_width e c h =
+    let d = beside_code e.facts.pres e.attributes c in
+    omega (arith, figure_width e.nodes d h.fit, near_nested e.facts.pres e.attributes c)
+
 element_width : (r : Role) (e : Element) (c : Context) → Known e → widest (parts_of r e c) ≤ deep c
 element_width (role.Format f) e c h =
     flow_inside e.nodes c (inside_format (of_format f) c) h.fit (format_nested (of_format f) c)
 element_width (role.Element f) e c h =
     flow_inside e.nodes c (inside_format (of_element f) c) h.fit (format_nested (of_element f) c)
+element_width role.Abbreviation e c h =
+    flow_inside e.nodes c (inside_title (title_of e.attributes) c) h.fit (title_in_nested (title_of e.attributes) c)
 element_width role.Code e c h = flow_inside e.nodes c (in_code c) h.fit refl
 element_width role.Typed e c h = flow_inside e.nodes c (in_code c) h.fit refl
 element_width role.Link e c h =
@@ -325,12 +345,12 @@ element_width role.ThematicBreak e c h = omega arith
 element_width role.BulletList e c h = list_width None e.nodes c h.fit
 element_width role.NumberedList e c h = list_width (Some (start_of e.attributes)) e.nodes c h.fit
 element_width role.Item e c h = apart_width e.nodes c c h.fit refl
-element_width role.Terms e c h = terms_width e.terms e.nodes c h.terms h.fit
-element_width role.Term e c h = apart_width e.nodes c c h.fit refl
+element_width role.Terms e c h = terms_in_width e c h
+element_width role.Term e c h = title_in_width e c h
 element_width role.Meaning e c h = apart_width e.nodes c c h.fit refl
-element_width role.Table e c h = table_width (levels.list_of e.content) e.nodes e.rows c h.fit h.rows
+element_width role.Table e c h = table_in_width e c h
 element_width role.LayoutTable e c h = apart_width e.nodes c c h.fit refl
-element_width role.Caption e c h = apart_width e.nodes c c h.fit refl
+element_width role.Caption e c h = title_in_width e c h
 element_width role.TableHead e c h = apart_width e.nodes c c h.fit refl
 element_width role.TableBody e c h = apart_width e.nodes c c h.fit refl
 element_width role.Row e c h = apart_width e.nodes c c h.fit refl
@@ -339,10 +359,10 @@ element_width role.Cell e c h =
 element_width role.HeaderCell e c h = apart_width e.nodes c c h.fit refl
 element_width role.Division e c h =
     apart_width e.nodes c (beside_code e.facts.pres e.attributes c) h.fit (near_nested e.facts.pres e.attributes c)
-element_width role.Figure e c h =
-    apart_width e.nodes c (beside_code e.facts.pres e.attributes c) h.fit (near_nested e.facts.pres e.attributes c)
-element_width role.FigureCaption e c h = apart_width e.nodes c c h.fit refl
-element_width role.Summary e c h = apart_width e.nodes c c h.fit refl
+element_width role.Figure e c h = figure_in_width e c h
+element_width role.FigureCaption e c h = title_in_width e c h
+element_width role.Details e c h = details_width e.attributes e.nodes c h.fit
+element_width role.Summary e c h = title_in_width e c h
 element_width role.Legend e c h = apart_width e.nodes c c h.fit refl
 element_width role.Block e c h = apart_width e.nodes c c h.fit refl
 element_width role.Plain e c h = flow_width e.nodes c h.fit
@@ -350,6 +370,22 @@ element_width role.Anchors e c h = anchors_width e.nodes c h.fit
 element_width role.Unlinked e c h = flow_inside e.nodes c (unlinked c) h.fit refl
 
 -- ---- trees
+
+pieces_both : (a b : List TablePiece) → PiecesNarrow a → PiecesNarrow b → PiecesNarrow (a ++ b)
+pieces_both [] b f g = g
+pieces_both (of_caption n ∷ a) b f g = (f.0, pieces_both a b f.1 g)
+pieces_both (of_row r ∷ a) b f g = (f.0, pieces_both a b f.1 g)
+
+all_rows_narrow : (rows : List Row) → RowsNarrow rows → PiecesNarrow (map of_row rows)
+all_rows_narrow [] f = tt
+all_rows_narrow (row ∷ rows) f = (f.0, all_rows_narrow rows f.1)
+
+piece_narrow : (n : Node) (rows : List Row) → Narrow n → RowsNarrow rows → PiecesNarrow (pieces_at n rows)
+piece_narrow n rows f g = go (has roles.is_caption n.tree)
+  where
+    go : (b : Bool) → PiecesNarrow (if b then of_caption n ∷ [] else map of_row rows)
+    go true = (f, tt)
+    go false = all_rows_narrow rows g
 
 cells_narrow : (nodes : List Node) → AllNarrow nodes → AllNarrow (filter is_cell nodes)
 cells_narrow [] f = tt
@@ -389,7 +425,7 @@ child_narrow t f g = go (is_group (node_of t).tree)
     go false = (f, tt)
 
 mutual
-  unfolding node_of nodes_of nodes_below terms_of rows_at rows_among
+  unfolding node_of nodes_of nodes_below terms_of rows_at rows_among pieces_of
 
   node_narrow : (t : Simple) → Narrow (node_of t)
   node_narrow (text s) = record { outer = λ c. omega arith; inner = λ c. omega arith }
@@ -414,11 +450,13 @@ mutual
         content = content;
         nodes = nodes_of content;
         rows = rows_among no_part content;
+        pieces = pieces_of content;
         terms = terms_of content;
       } in
       let h : Known e = record {
         fit = nodes_narrow content;
         rows = rows_narrow no_part content;
+        pieces = pieces_narrow content;
         terms = terms_narrow content;
       } in
       record {
@@ -444,6 +482,12 @@ mutual
       terms_both (parts_of_child (node_of t) (nodes_below t)) (terms_of ts)
       (child_narrow t (node_narrow t) (below_narrow t)) (terms_narrow ts)
 
+  pieces_narrow : (ts : Simples) → PiecesNarrow (pieces_of ts)
+  pieces_narrow none = tt
+  pieces_narrow (more t ts) =
+      pieces_both (pieces_at (node_of t) (rows_at no_part t)) (pieces_of ts)
+      (piece_narrow (node_of t) (rows_at no_part t) (node_narrow t) (rows_at_narrow no_part t)) (pieces_narrow ts)
+
   rows_at_narrow : (p : TablePart) (t : Simple) → RowsNarrow (rows_at p t)
   rows_at_narrow p (text s) = tt
   rows_at_narrow p (image address attributes) = tt
@@ -461,9 +505,10 @@ mutual
 
 -- 32 lists and quotes in each other
 pub margin_is_bounded : MarginIsBounded
-margin_is_bounded trees =
+margin_is_bounded is_rich trees =
+    let c = bare_in is_rich in
     omega (
       arith,
-      blocks_margin false (flow_all (nodes_of trees) bare),
-      flow_width (nodes_of trees) bare (nodes_narrow trees),
+      blocks_margin false (flow_all (nodes_of trees) c),
+      flow_width (nodes_of trees) c (nodes_narrow trees),
     )

@@ -12,7 +12,7 @@ use Rattle.htmd_flow.specs.Grids.{with_count, count_of, is_too_large, grid, is_e
 use Rattle.htmd_flow.specs.Grids.{padded, body, table_in, table_of, alignments_of, begins_with_header}
 use Rattle.htmd_flow.specs.Grids.{table_of_rows}
 use Rattle.htmd_flow.specs.Grids as grids
-use Rattle.htmd_law_sizes.specs.DocumentSizes.{lean_inlines, lean_cells, lean_rows}
+use Rattle.htmd_law_sizes.proofs.HeavySizes.{heavy_inlines, heavy_cells, heavy_rows}
 use Rattle.htmd_law_sizes.proofs.PartCosts.{costs}
 
 -- ---- what is in rows
@@ -20,7 +20,7 @@ use Rattle.htmd_law_sizes.proofs.PartCosts.{costs}
 -- the contents of a row, of rows, and how many cells
 abbrev pub in_row : List Inlines → ℕ
 in_row [] = 0
-in_row (content ∷ cells) = lean_inlines content + in_row cells
+in_row (content ∷ cells) = heavy_inlines content + in_row cells
 
 abbrev pub in_rows : List (List Inlines) → ℕ
 in_rows [] = 0
@@ -32,7 +32,7 @@ lengths (cells ∷ rows) = length cells + lengths rows
 
 abbrev pub in_cells : List Cell → ℕ
 in_cells [] = 0
-in_cells (cell ∷ cells) = lean_inlines cell.content + in_cells cells
+in_cells (cell ∷ cells) = heavy_inlines cell.content + in_cells cells
 
 abbrev pub in_all : List Row → ℕ
 in_all [] = 0
@@ -42,7 +42,7 @@ abbrev pub cell_count : List Row → ℕ
 cell_count [] = 0
 cell_count (row ∷ rows) = length row.cells + cell_count rows
 
-cells_size : (cells : List Inlines) → lean_cells cells ≡ length cells + in_row cells
+cells_size : (cells : List Inlines) → heavy_cells cells ≡ length cells + in_row cells
 cells_size [] = refl
 cells_size (content ∷ cells) = omega (arith, cells_size cells)
 
@@ -132,12 +132,12 @@ grid_is rows = go (is_too_large rows) refl
 -- ---- rows without the empty cells at their ends
 
 with_le : (cell : Inlines) (cells : List Inlines)
-    → (in_row (with_cell cell cells) ≤ lean_inlines cell + in_row cells)
+    → (in_row (with_cell cell cells) ≤ heavy_inlines cell + in_row cells)
     × (length (with_cell cell cells) ≤ suc (length cells))
 with_le cell [] = go (is_empty_cell cell)
   where
     go : (t : Bool)
-        → (in_row (if t then [] else cell ∷ []) ≤ lean_inlines cell + 0)
+        → (in_row (if t then [] else cell ∷ []) ≤ heavy_inlines cell + 0)
         × (length (if t then [] else cell ∷ []) ≤ 1)
     go true = (omega arith, omega arith)
     go false = (omega arith, omega arith)
@@ -151,7 +151,7 @@ trimmed_le (cell ∷ cells) =
     let j = with_le cell (trimmed_row cells) in
     (omega (arith, i.0, j.0), omega (arith, i.1, j.1))
 
-trimmed_rows : (g : List (List Inlines))
+pub trimmed_rows : (g : List (List Inlines))
     → (in_rows (map trimmed_row g) ≤ in_rows g) × (lengths (map trimmed_row g) ≤ lengths g)
 trimmed_rows [] = (omega arith, omega arith)
 trimmed_rows (cells ∷ g) =
@@ -176,7 +176,7 @@ row_append (x ∷ a) b = omega (arith, row_append a b)
 
 -- a row of so many places at most
 padded_size : (columns w : ℕ) (cells : List Inlines) → columns ≤ w → length cells ≤ w
-    → lean_cells (padded columns cells) ≤ w + in_row cells
+    → heavy_cells (padded columns cells) ≤ w + in_row cells
 padded_size columns w cells h i =
     let e = replicate (columns - length cells) no_inlines in
     omega (
@@ -194,12 +194,12 @@ filled_row : (n : ℕ) → nat_lt 0 n ≡ true → 1 ≤ n
 filled_row n h = grind (arith, nat_tests)
 
 -- a row that is kept has a cell
-body_size : (rows : List (List Inlines)) → lean_rows (body rows) ≤ 2 * lengths rows + in_rows rows
+body_size : (rows : List (List Inlines)) → heavy_rows (body rows) ≤ 2 * lengths rows + in_rows rows
 body_size [] = omega arith
 body_size (cells ∷ rows) = go (nat_lt 0 (length cells)) refl (body_size rows)
   where
-    go : (t : Bool) → nat_lt 0 (length cells) ≡ t → lean_rows (body rows) ≤ 2 * lengths rows + in_rows rows
-        → lean_rows (if t then cells ∷ body rows else body rows)
+    go : (t : Bool) → nat_lt 0 (length cells) ≡ t → heavy_rows (body rows) ≤ 2 * lengths rows + in_rows rows
+        → heavy_rows (if t then cells ∷ body rows else body rows)
         ≤ 2 * (length cells + lengths rows) + (in_row cells + in_rows rows)
     go true e i = omega (arith, i, cells_size cells, filled_row (length cells) e)
     go false e i = omega (arith, i)
@@ -222,7 +222,7 @@ in_cost al false lines =
       body_size lines,
     )
 
-of_cost : (al : List Alignment) (t : Bool) (lines : List (List Inlines))
+pub of_cost : (al : List Alignment) (t : Bool) (lines : List (List Inlines))
     → costs (block_part (table_of al t lines)) ≤ 3 + 3 * lengths lines + in_rows lines
 of_cost al t lines = go (width lines == 0)
   where

@@ -6,7 +6,8 @@ use Rattle.htmd_lexical.specs.Characters.{asterisk, tilde, underscore, right_squ
 use Rattle.htmd_markdown.specs.declared.link.LinkStyle.{LinkStyle}
 use Rattle.htmd_markdown.specs.declared.link.LinkStyle.TheVariants.{Inlined, InlinedPreferAutolinks, Referenced}
 use Rattle.htmd_document.specs.Formats.{Format}
-use Rattle.htmd_document.specs.Formats.{Emphasis, Strong, Deleted, Superscript, Subscript}
+use Rattle.htmd_document.specs.Formats.{Emphasis, Strong, Deleted, Superscript, Subscript, Inserted, Underlined, Marked}
+use Rattle.htmd_document.specs.Formats.{Small, Keyboard, Abbreviation, title_of}
 use Rattle.htmd_document.specs.Documents.{Inline, Inlines, text, code, formatted, link, image, line_break, task}
 use Rattle.htmd_document.specs.Documents.{no_inlines, inline}
 use Rattle.htmd_commonmark.specs.declared.inline_ends.Following.{Following}
@@ -25,7 +26,7 @@ use Rattle.htmd_commonmark.specs.WrittenText.{Written, wrote}
 use Rattle.htmd_law_sizes.specs.DocumentSizes.{size_of_option, size_of_inline, size_of_inlines}
 use Rattle.htmd_law_sizes.proofs.CountsLemmas.{tally, is_break, Cost, tally_append, fixed, within}
 use Rattle.htmd_law_sizes.proofs.PieceBounds.{escaped_cost, ended_cost, code_cost, break_cost, task_cost, resource_cost}
-use Rattle.htmd_law_sizes.proofs.PieceBounds.{anchor_cost, image_cost, autolink_cost, reference_cost, definition_cost}
+use Rattle.htmd_law_sizes.proofs.PieceBounds.{anchor_cost, abbreviation_cost, image_cost, autolink_cost, reference_cost, definition_cost}
 
 -- ---- what was written, and more of it
 
@@ -71,21 +72,22 @@ wrote_grown w s g = record {
 
 -- ---- marks
 
-abbrev IsShort : Mark → Type 0
-IsShort m = Cost is_break m.opener 8 0 × Cost is_break m.closer 9 0
+-- with a title of so many bytes
+abbrev IsShort : ℕ → Mark → Type 0
+IsShort n m = Cost is_break m.opener (15 + 6 * n) n × Cost is_break m.closer 9 0
 
-choose : (t : Bool) (x y : Mark) → IsShort x → IsShort y → IsShort (if t then x else y)
+choose : (t : Bool) (x y : Mark) → IsShort 0 x → IsShort 0 y → IsShort 0 (if t then x else y)
 choose true x y g h = g
 choose false x y g h = h
 
 short : (m : Mark) (j k : ℕ) → Cost is_break m.opener j 0 → Cost is_break m.closer k 0 → j ≤ 8 → k ≤ 9
-    → IsShort m
-short m j k g h i l = (within g i (omega arith), within h l (omega arith))
+    → IsShort 0 m
+short m j k g h i l = (within g (omega (arith, i)) (omega arith), within h l (omega arith))
 
-one_sign : (sign : ℕ) (s : List ℕ) (k : ℕ) → Cost is_break s k 0 → k ≤ 8 → IsShort (row sign s)
+one_sign : (sign : ℕ) (s : List ℕ) (k : ℕ) → Cost is_break s k 0 → k ≤ 8 → IsShort 0 (row sign s)
 one_sign sign s k g h = short (row sign s) k k g g h (omega arith)
 
-mark_short : (format : Format) (s : Sides) → IsShort (mark_for format s)
+mark_short : (format : Format) (s : Sides) → IsShort (length (title_of format)) (mark_for format s)
 mark_short Emphasis s =
     choose (fits asterisk s) (row asterisk (codes "*"))
     (if fits underscore s then row underscore (codes "_") else tags (codes "<em>") (codes "</em>"))
@@ -113,6 +115,23 @@ mark_short Superscript s =
 mark_short Subscript s =
     short (tags (codes "<sub>") (codes "</sub>")) 5 6 (fixed is_break (codes "<sub>") 5 refl refl)
     (fixed is_break (codes "</sub>") 6 refl refl) (omega arith) (omega arith)
+mark_short Inserted s =
+    short (tags (codes "<ins>") (codes "</ins>")) 5 6 (fixed is_break (codes "<ins>") 5 refl refl)
+    (fixed is_break (codes "</ins>") 6 refl refl) (omega arith) (omega arith)
+mark_short Underlined s =
+    short (tags (codes "<u>") (codes "</u>")) 3 4 (fixed is_break (codes "<u>") 3 refl refl)
+    (fixed is_break (codes "</u>") 4 refl refl) (omega arith) (omega arith)
+mark_short Marked s =
+    short (tags (codes "<mark>") (codes "</mark>")) 6 7 (fixed is_break (codes "<mark>") 6 refl refl)
+    (fixed is_break (codes "</mark>") 7 refl refl) (omega arith) (omega arith)
+mark_short Small s =
+    short (tags (codes "<small>") (codes "</small>")) 7 8 (fixed is_break (codes "<small>") 7 refl refl)
+    (fixed is_break (codes "</small>") 8 refl refl) (omega arith) (omega arith)
+mark_short Keyboard s =
+    short (tags (codes "<kbd>") (codes "</kbd>")) 5 6 (fixed is_break (codes "<kbd>") 5 refl refl)
+    (fixed is_break (codes "</kbd>") 6 refl refl) (omega arith) (omega arith)
+mark_short (Abbreviation title) s =
+    (abbreviation_cost title, within (fixed is_break (codes "</abbr>") 7 refl refl) (omega arith) (omega arith))
 
 -- ---- links
 

@@ -1,15 +1,15 @@
--- How much of addresses a simpler tree can bring: what each link says, for each leaf in it.
+-- How much is repeated of a simpler tree: what each link and each abbreviation says, for each leaf in it.
 use Rattle.std.proofs.Common.{◌≡◌, ◌∙◌, refl, sym, ℕ, ◌+◌, ◌*◌, ◌≤◌, Bool, true, false, List}
 use Rattle.std.proofs.Common.{mul-zero, mul-add, mul-le-mul_right, arith}
-use Rattle.std.specs.Prelude.{if◌then◌else◌, codes, None}
+use Rattle.std.specs.Prelude.{if◌then◌else◌, None}
 use Rattle.htmd_lexical.specs.AttributePairs.{AttributePair}
 use Rattle.htmd_shown.specs.declared.role.Role.{Role}
 use Rattle.htmd_shown.specs.declared.role.Role.TheVariants as role
-use Rattle.htmd_shown.specs.Attributes.{text_of, title_of, address}
 use Rattle.htmd_shown.specs.Kinds.{has, content_of}
 use Rattle.htmd_shown.specs.Roles as roles
 use Rattle.htmd_shown.specs.SimpleTrees.{Simple, text, image, formula, embedded, anchor, element, Simples, none, more}
 use Rattle.htmd_shown.specs.Spaces.{is_blank_text}
+use Rattle.htmd_document_of_tree.specs.Limits.{is_carrying, size}
 use Rattle.htmd_law_sizes.proofs.Debts.{link_size}
 
 -- ---- leaves
@@ -29,12 +29,9 @@ abbrev mutual
 
 -- ---- links
 
-abbrev pub said : List AttributePair → ℕ
-said attributes = link_size (address (text_of (codes "href") attributes)) (title_of attributes)
-
--- what a link says, for each leaf in it
+-- what a link or an abbreviation says, for each leaf in it
 abbrev pub said_by : Role → List AttributePair → Simples → ℕ
-said_by r attributes content = if roles.is_link r then said attributes * leaves_among content else 0
+said_by r attributes content = if is_carrying r then size r attributes * leaves_among content else 0
 
 -- the language of code
 abbrev pub named_by : Role → ℕ
@@ -54,7 +51,7 @@ abbrev mutual
   own_among none = 0
   own_among (more t ts) = own t + own_among ts
 
--- with what the link around says, for each leaf
+-- with what stands around, for each leaf
 abbrev pub due : ℕ → Simple → ℕ
 due k t = k * leaves t + own t
 
@@ -68,6 +65,9 @@ inner_due k t = due_among k (content_of t)
 pub due_more : (k : ℕ) (t : Simple) (ts : Simples) → due_among k (more t ts) ≡ due k t + due_among k ts
 due_more k t ts = omega (arith, mul-add k (leaves t) (leaves_among ts))
 
+pub due_grows : (j k : ℕ) (t : Simple) → j ≤ k → due j t ≤ due k t
+due_grows j k t h = omega (arith, mul-le-mul_right (leaves t) h)
+
 pub among_grows : (j k : ℕ) (ts : Simples) → j ≤ k → due_among j ts ≤ due_among k ts
 among_grows j k ts h = omega (arith, mul-le-mul_right (leaves_among ts) h)
 
@@ -77,6 +77,8 @@ record Closed (r : Role) : Type 0 where
   item : roles.is_item r ≡ false
   cell : roles.is_cell r ≡ false
   caption : roles.is_caption r ≡ false
+  figure_caption : roles.is_figure_caption r ≡ false
+  summary : roles.is_summary r ≡ false
   term : roles.is_term r ≡ false
   meaning : roles.is_meaning r ≡ false
   row : roles.is_row r ≡ false
@@ -87,6 +89,7 @@ record Closed (r : Role) : Type 0 where
 closed : (r : Role) → roles.is_verbatim r ≡ true → Closed r
 closed (role.Format f) h = absurd (cc)
 closed (role.Element f) h = absurd (cc)
+closed role.Abbreviation h = absurd (cc)
 closed role.Code h = absurd (cc)
 closed role.Typed h = absurd (cc)
 closed role.Link h = absurd (cc)
@@ -96,30 +99,30 @@ closed role.LineBreak h = absurd (cc)
 closed role.Input h = absurd (cc)
 closed (role.Heading level) h = absurd (cc)
 closed role.Paragraph h = absurd (cc)
-closed role.Preformatted h =
-    record {
-      item =
-          refl;
-      cell = refl;
-      caption = refl;
-      term = refl;
-      meaning = refl;
-      row = refl;
-      part = refl;
-      division = refl;
-    }
-closed role.Verbatim h =
-    record {
-      item =
-          refl;
-      cell = refl;
-      caption = refl;
-      term = refl;
-      meaning = refl;
-      row = refl;
-      part = refl;
-      division = refl;
-    }
+closed role.Preformatted h = record {
+  item = refl;
+  cell = refl;
+  caption = refl;
+  figure_caption = refl;
+  summary = refl;
+  term = refl;
+  meaning = refl;
+  row = refl;
+  part = refl;
+  division = refl;
+}
+closed role.Verbatim h = record {
+  item = refl;
+  cell = refl;
+  caption = refl;
+  figure_caption = refl;
+  summary = refl;
+  term = refl;
+  meaning = refl;
+  row = refl;
+  part = refl;
+  division = refl;
+}
 closed role.BlockQuote h = absurd (cc)
 closed role.ThematicBreak h = absurd (cc)
 closed role.BulletList h = absurd (cc)
@@ -139,6 +142,7 @@ closed role.HeaderCell h = absurd (cc)
 closed role.Division h = absurd (cc)
 closed role.Figure h = absurd (cc)
 closed role.FigureCaption h = absurd (cc)
+closed role.Details h = absurd (cc)
 closed role.Summary h = absurd (cc)
 closed role.Legend h = absurd (cc)
 closed role.Block h = absurd (cc)
@@ -168,6 +172,20 @@ caption_open r e = go (roles.is_verbatim r) refl
   where
     go : (b : Bool) → roles.is_verbatim r ≡ b → b ≡ false
     go true v = let c = closed r v in differ (roles.is_caption r) e c.caption
+    go false v = refl
+
+pub figure_caption_open : (r : Role) → roles.is_figure_caption r ≡ true → roles.is_verbatim r ≡ false
+figure_caption_open r e = go (roles.is_verbatim r) refl
+  where
+    go : (b : Bool) → roles.is_verbatim r ≡ b → b ≡ false
+    go true v = let c = closed r v in differ (roles.is_figure_caption r) e c.figure_caption
+    go false v = refl
+
+pub summary_open : (r : Role) → roles.is_summary r ≡ true → roles.is_verbatim r ≡ false
+summary_open r e = go (roles.is_verbatim r) refl
+  where
+    go : (b : Bool) → roles.is_verbatim r ≡ b → b ≡ false
+    go true v = let c = closed r v in differ (roles.is_summary r) e c.summary
     go false v = refl
 
 pub term_open : (r : Role) → roles.is_term r ≡ true → roles.is_verbatim r ≡ false

@@ -6,7 +6,9 @@ pub mod LineBounds
 pub mod RoomLemmas
 pub mod BlockBounds
 pub mod MarginLemmas
+pub mod FlatBounds
 pub mod BoundsLemmas
+pub mod HeavySizes
 pub mod PartCosts
 pub mod ContextRooms
 pub mod NodeCosts
@@ -14,9 +16,13 @@ pub mod TermCosts
 pub mod TextCosts
 pub mod GridCosts
 pub mod TableCosts
+pub mod CellContexts
+pub mod RichCosts
+pub mod RichTableCosts
 pub mod ElementCosts
 pub mod FlowCosts
 pub mod PartMargins
+pub mod RichMargins
 pub mod FlowMargins
 pub mod ShownSizes
 pub mod PreparedSizes
@@ -28,6 +34,9 @@ pub mod DebtParts
 pub mod Leaves
 pub mod DebtNodes
 pub mod DebtTables
+pub mod DebtContexts
+pub mod DebtRich
+pub mod DebtRichTables
 pub mod DebtElements
 pub mod DebtFlows
 pub mod DebtLimits

@@ -1,16 +1,17 @@
 -- In a normal document each list and each quote puts at most 14 bytes before a line.
-use Rattle.std.proofs.Common.{◌≡◌, refl, ℕ, suc, ◌+◌, ◌*◌, ◌≤◌, Bool, true, false, arith}
+use Rattle.std.proofs.Common.{◌≡◌, refl, ℕ, suc, ◌+◌, ◌*◌, ◌≤◌, Bool, true, false, ap, arith}
 use Rattle.std.proofs.lemmas.Bool.Decides.{nat_tests}
 use Rattle.std.proofs.lemmas.Fmt.{length-decimal-le}
 use Rattle.std.specs.Prelude.{◌&&◌, nat_le, Option, Some, None}
 use Rattle.htmd_document.specs.DocumentLimits.{most_nested}
 use Rattle.htmd_document.specs.Documents.{Block, Blocks, Items, paragraph, heading, code_block, quote}
-use Rattle.htmd_document.specs.Documents.{thematic_break, list, table, no_blocks, block, no_items, item}
+use Rattle.htmd_document.specs.Documents.{thematic_break, list, table, element, tags, no_blocks, block, no_items, item}
 use Rattle.htmd_document.specs.TightItems.{is_filled}
+use Rattle.htmd_document.specs.FlatDocuments.{flat_items}
 use Rattle.htmd_document.specs.DocumentLimits.{greatest_start}
 use Rattle.htmd_document.specs.NormalDocuments.{item_count, are_short_numbers, has_filled_item, has_right_distance}
 use Rattle.htmd_document.specs.NormalDocuments.{is_normal_block, are_normal_blocks, are_normal_items, depth_of}
-use Rattle.htmd_document.specs.NormalDocuments.{depth_among, depth_of_items, IsNormal}
+use Rattle.htmd_document.specs.NormalDocuments.{depth_among, depth_of_items, is_normal_element, IsNormal}
 use Rattle.htmd_law_sizes.specs.DocumentSizes.{width_of_marker, margin_of, margin_of_block, margin_of_items}
 
 left : (a b : Bool) → (a && b) ≡ true → a ≡ true
@@ -39,6 +40,10 @@ narrow (Some start) k count n e h =
     let d = length-decimal-le 9 (start + k) (omega arith) (omega (arith, e, i)) (omega (arith, e, i)) in
     omega (arith, d)
 
+flat_count : (items : Items) → item_count (flat_items items) ≡ item_count items
+flat_count no_items = refl
+flat_count (item first rest) = ap suc (flat_count rest)
+
 mutual
   block_margin : (t : Bool) (b : Block) → is_normal_block t b ≡ true → margin_of_block b ≤ 14 * depth_of b
   block_margin t (paragraph content) h = omega arith
@@ -48,13 +53,19 @@ mutual
       omega (arith, blocks_margin false content (right (is_filled content) (are_normal_blocks false content) h))
   block_margin t thematic_break h = omega arith
   block_margin t (list start is_tight items) h =
-      let a = has_filled_item items in
-      let b = are_short_numbers start (item_count items) in
-      let c = has_right_distance is_tight items in
+      let a = has_filled_item (flat_items items) in
+      let b = are_short_numbers start (item_count (flat_items items)) in
+      let c = has_right_distance is_tight (flat_items items) in
       let d = are_normal_items items in
       let i = left (a && b && c) d h in
-      items_margin start 0 (item_count items) items (omega arith) (second a b c i) (right (a && b && c) d h)
+      let n = flat_count items in
+      items_margin start 0 (item_count (flat_items items)) items (omega (arith, n)) (second a b c i)
+      (right (a && b && c) d h)
   block_margin t (table alignments header rows) h = omega arith
+  block_margin t (element name attributes content) h =
+      blocks_margin false content
+      (right (is_normal_element name attributes content) (are_normal_blocks false content) h)
+  block_margin t (tags s) h = omega arith
 
   blocks_margin : (t : Bool) (bs : Blocks) → are_normal_blocks t bs ≡ true → margin_of bs ≤ 14 * depth_among bs
   blocks_margin t no_blocks h = omega arith

@@ -8,14 +8,14 @@ use Rattle.htmd_flow.specs.Flows.{list_parts, goes_on, items_in_a_row, flow_all,
 use Rattle.htmd_flow.specs.Lists.{ListItem, are_filled, list_of, start_of, numbered, new_number, Groups}
 use Rattle.htmd_flow.specs.Lists.{groups_at, with_number, with_item, lists_of, lists_if_filled}
 use Rattle.htmd_flow.specs.Parts.{Part, edge}
-use Rattle.htmd_law_sizes.specs.DocumentSizes.{lean, lean_items}
+use Rattle.htmd_law_sizes.proofs.HeavySizes.{heavy, heavy_items}
 use Rattle.htmd_law_sizes.specs.SimpleSizes.{size_of_simple}
 use Rattle.htmd_law_sizes.proofs.ContextRooms.{Within}
 use Rattle.htmd_law_sizes.proofs.PartCosts.{costs, costs_append, blocks_cost}
 
 -- 400 for each unit of a node's size
 pub record Fit (n : Node) : Type 0 where
-  pub outer : (c : Context) → Within c.around → costs (n.whole c) + 4 ≤ 400 * size_of_simple n.tree
+  pub outer : (c : Context) → Within c.around → costs (n.whole c) + 50 ≤ 400 * size_of_simple n.tree
   pub inner : (c : Context) → Within c.around → costs (n.content c) + 400 ≤ 400 * size_of_simple n.tree
 
 abbrev pub AllFit : List Node → Type 0
@@ -31,14 +31,14 @@ worth (n ∷ nodes) = 400 * size_of_simple n.tree + worth nodes
 -- four more for each item
 abbrev pub items_size : List ListItem → ℕ
 items_size [] = 0
-items_size (i ∷ items) = 4 + lean i.blocks + items_size items
+items_size (i ∷ items) = 4 + heavy i.blocks + items_size items
 
 items_append : (a b : List ListItem) → items_size (a ++ b) ≡ items_size a + items_size b
 items_append [] b = omega arith
 items_append (i ∷ a) b = omega (arith, items_append a b)
 
 blocks_size : (items : List ListItem)
-    → lean_items (documents.items_of (map (λ (i : ListItem). i.blocks) items)) + 3 * length items
+    → heavy_items (documents.items_of (map (λ (i : ListItem). i.blocks) items)) + 3 * length items
     ≡ items_size items
 blocks_size [] = refl
 blocks_size (i ∷ items) = omega (arith, blocks_size items)
@@ -63,7 +63,7 @@ abbrev groups_cost : Groups → ℕ
 groups_cost g = costs g.done + items_size g.group
 
 number_cost : (g : Groups) (i : ListItem) (v : Option ℤ)
-    → groups_cost (with_number g i v) ≤ groups_cost g + (4 + lean i.blocks)
+    → groups_cost (with_number g i v) ≤ groups_cost g + (4 + heavy i.blocks)
 number_cost g i None = omega (arith, items_append g.group (i ∷ []))
 number_cost g i (Some v) =
     omega (arith, costs_append g.done (numbered g.nested g.start g.group), numbered_cost g.nested g.start g.group)
@@ -105,7 +105,7 @@ behind_le (n ∷ nodes) c f w = go (is_item n) (behind_le nodes c f.1 w)
     inner : costs (n.content c) + 400 ≤ 400 * size_of_simple n.tree
     inner = f.0.inner c w
 
-    outer : costs (n.whole c) + 4 ≤ 400 * size_of_simple n.tree
+    outer : costs (n.whole c) + 50 ≤ 400 * size_of_simple n.tree
     outer = f.0.outer c w
 
     parts : List Part
@@ -137,7 +137,7 @@ before_le : (nodes : List Node) (c d : Context) → AllFit nodes → Within c.ar
 before_le [] c d f w v = omega arith
 before_le (n ∷ nodes) c d f w v = go (is_item n) (before_le nodes c d f.1 w v)
   where
-    outer : costs (n.whole c) + 4 ≤ 400 * size_of_simple n.tree
+    outer : costs (n.whole c) + 50 ≤ 400 * size_of_simple n.tree
     outer = f.0.outer c w
 
     first : items_size (item_of n (n.content d ++ behind_item nodes d) ∷ items_of nodes d) + 400
@@ -176,7 +176,7 @@ list_le start nodes c f w = go (is_lined c)
 -- items that stand in no list
 loose_le : (n : Node) (nodes : List Node) (c : Context) → is_item n ≡ true → Fit n → AllFit nodes
     → Within c.around
-    → costs (list_parts None (n ∷ nodes) c) ≤ 400 * size_of_simple n.tree + worth nodes
+    → costs (list_parts None (n ∷ nodes) c) + 40 ≤ 400 * size_of_simple n.tree + worth nodes
 loose_le n nodes c e f g w = go (is_lined c) (is_item n) e
   where
     d : Context
@@ -188,7 +188,7 @@ loose_le n nodes c e f g w = go (is_lined c) (is_item n) e
         else (edge ∷ (if b then [] else n.whole c ++ before_items nodes c))
         ++ edge ∷ lists_if_filled c.nested None
         (if b then item_of n (n.content d ++ behind_item nodes d) ∷ items_of nodes d else items_of nodes d)
-        ++ edge ∷ [])
+        ++ edge ∷ []) + 40
         ≤ 400 * size_of_simple n.tree + worth nodes
     go true b i = simp costs_append (omega (arith, f.outer c w, each_le nodes c g w))
     go false true i =
@@ -230,7 +230,7 @@ flow_step n nodes c false e f w i j =
     omega (arith, f.0.outer c w, costs_append (n.whole c) (flow_all nodes c), i)
 
 after_step : (n : Node) (nodes : List Node) (c : Context) (t : Bool)
-    → costs (n.whole c) + 4 ≤ 400 * size_of_simple n.tree
+    → costs (n.whole c) + 50 ≤ 400 * size_of_simple n.tree
     → costs (flow_all nodes c) ≤ worth nodes
     → worth (items_in_a_row nodes) + costs (flow_after nodes c) ≤ worth nodes
     → worth (if t then n ∷ items_in_a_row nodes else [])
@@ -251,3 +251,14 @@ mutual
   after_le [] c f w = omega arith
   after_le (n ∷ nodes) c f w =
       after_step n nodes c (goes_on n) (f.0.outer c w) (flow_le nodes c f.1 w) (after_le nodes c f.1 w)
+
+-- one node alone
+pub single_le : (n : Node) (c : Context) → Fit n → Within c.around
+    → costs (flow_all (n ∷ []) c) + 40 ≤ 400 * size_of_simple n.tree
+single_le n c f w = go (is_item n) refl
+  where
+    go : (t : Bool) → is_item n ≡ t
+        → costs (if t then list_parts None (n ∷ []) c ++ [] else n.whole c ++ []) + 40 ≤ 400 * size_of_simple
+        n.tree
+    go true e = omega (arith, loose_le n [] c e f tt w, costs_append (list_parts None (n ∷ []) c) [])
+    go false e = omega (arith, f.outer c w, costs_append (n.whole c) [])

@@ -23,23 +23,24 @@ pub document_is_bounded : DocumentIsBounded
 unfolding document_of_tree document_by
 document_is_bounded which sight tree =
     let trees = shown_in sight tree in
-    let ready = pieced_all (anchored which (limited trees)) in
+    let ready = pieced_all (anchored which sight.is_rich (limited trees)) in
     omega (
       arith,
-      size_parts (document_of ready),
-      repeated_le (document_of ready),
-      debt_le ready,
+      size_parts (document_of sight.is_rich ready),
+      repeated_le (document_of sight.is_rich ready),
+      debt_le sight.is_rich ready,
       all_parts ready,
-      links_le which trees (page_counted sight tree),
-      flow_is_bounded ready,
-      prepared_is_bounded which trees,
+      links_le which sight.is_rich trees (page_counted sight tree),
+      flow_is_bounded sight.is_rich ready,
+      prepared_is_bounded which sight.is_rich trees,
       shown_is_bounded sight tree,
     )
 
 pub pages_are_bounded : PagesAreBounded
 unfolding document_of_tree document_by
 pages_are_bounded which sight tree options =
-    let d = document_of_tree which sight.scripting sight.skip tree in
-    let m = margin_is_bounded (pieced_all (anchored which (limited (shown_in sight tree)))) in
+    let d = document_of_tree which sight tree in
+    let ready = pieced_all (anchored which sight.is_rich (limited (shown_in sight tree))) in
+    let m = margin_is_bounded sight.is_rich ready in
     let g : 256 + 4 * margin_of d ≤ 9088 = omega (arith, m) in
     omega (arith, markdown_is_bounded options d, mul-le-mul g (document_is_bounded which sight tree))

@@ -52,7 +52,7 @@ pub widest_append : (a b : List Part) → widest (a ++ b) ≡ max (widest a) (wi
 widest_append [] b = omega arith
 widest_append (p ∷ a) b = omega (arith, widest_append a b)
 
-abbrev list_margin : List Block → ℕ
+abbrev pub list_margin : List Block → ℕ
 list_margin [] = 0
 list_margin (b ∷ blocks) = max (margin_of_block b) (list_margin blocks)
 
@@ -132,12 +132,12 @@ fed_margin w (box t) = omega (arith, tasked_margin (parted w) t, parted_margin w
 fed_margin w edge = omega (arith, edged_margin w)
 fed_margin w (whole x) = blocked_margin w x
 
-all_margin : (parts : List Part) (w : Writing)
+pub all_margin : (parts : List Part) (w : Writing)
     → list_margin (fed_all w parts).done ≤ max (list_margin w.done) (widest parts)
 all_margin [] w = omega arith
 all_margin (p ∷ parts) w = omega (arith, all_margin parts (fed w p), fed_margin w p)
 
-in_margin : (w : Writing) → margin_of (blocks_in w) ≤ list_margin w.done
+pub in_margin : (w : Writing) → margin_of (blocks_in w) ≤ list_margin w.done
 in_margin w = omega (arith, margin_list (ended w).done, ended_margin w)
 
 pub blocks_margin : (in_item : Bool) (parts : List Part) → margin_of (blocks_of in_item parts) ≤ widest parts

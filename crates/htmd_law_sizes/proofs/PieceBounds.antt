@@ -243,6 +243,14 @@ value_cost : (s : List ℕ) → Cost is_break (html.escaped_value s) (6 * length
 value_cost [] = within (empty is_break) (omega arith) (omega arith)
 value_cost (b ∷ s) = within (cost_append (byte_cost b) (value_cost s)) (omega arith) (omega arith)
 
+pub abbreviation_cost : (title : List ℕ)
+    → Cost is_break (html.abbreviation_tag title) (15 + 6 * length title) (length title)
+abbreviation_cost title =
+    within
+    (cost_append (cost_append (fixed is_break (codes "<abbr title=\"") 13 refl refl) (value_cost title))
+    (fixed is_break (codes "\">") 2 refl refl))
+    (omega arith) (omega arith)
+
 pub anchor_cost : (id : List ℕ) → Cost is_break (html.anchor id) (6 * length id + 13) (length id)
 anchor_cost id =
     within

@@ -21,8 +21,10 @@ use Rattle.htmd_document_of_tree.specs.Anchors.{anchored}
 use Rattle.htmd_document_of_tree.specs.FirstPieces.{most_linked, unlinked, cut_leaf, cut, cut_all, pieced}
 use Rattle.htmd_document_of_tree.specs.FirstPieces.{pieced_all}
 use Rattle.htmd_document_of_tree.specs.Leadings.{all_leadings, is_linked_to, is_led_to}
-use Rattle.htmd_document_of_tree.specs.Limits.{size, budget, cost, paid, affordable, within, all_within, left_after, limited}
-use Rattle.htmd_document_of_tree.specs.Seen.{image_shows, code_shows, seen}
+use Rattle.htmd_document_of_tree.specs.Limits.{is_carrying, size, budget, cost, paid, affordable, within, all_within}
+use Rattle.htmd_document_of_tree.specs.Limits.{left_after, limited}
+use Rattle.htmd_shown.specs.Showings.{image_shows, code_shows}
+use Rattle.htmd_document_of_tree.specs.Seen.{seen}
 use Rattle.htmd_document_of_tree.specs.Targets.{Target, target_by, id_target, name_target, whole_in, own_targets}
 use Rattle.htmd_document_of_tree.specs.Targets.{targets_inside, targets_among, ids_among, is_first, firsts_after}
 use Rattle.htmd_document_of_tree.specs.Targets.{all_targets}
@@ -37,11 +39,13 @@ use Rattle.htmd_law_sizes.proofs.TextCosts.{text_le}
 
 level_within : (left : Option ℕ) (r : Role) (attributes : List AttributePair)
     → level_of (affordable left r attributes) ≤ level_of r
-level_within left r attributes = go (not (is_some left) && is_link r && nat_lt 0 (size attributes))
+level_within left r attributes =
+    go (not (is_some left) && is_carrying r && nat_lt 0 (size r attributes)) (is_link r)
   where
-    go : (t : Bool) → level_of (if t then role.Target else r) ≤ level_of r
-    go true = omega arith
-    go false = omega arith
+    go : (t b : Bool) → level_of (if t then (if b then role.Target else role.Plain) else r) ≤ level_of r
+    go true true = omega arith
+    go true false = omega arith
+    go false b = omega arith
 
 mutual
   within_le : (left : Option ℕ) (t : Simple) → size_of_simple (within left t) ≤ size_of_simple t
@@ -168,16 +172,16 @@ found_le counts ts =
     let found = targets_among counts None 0 ts in
     omega (arith, firsts_le (ids_among found) [] found, all_targets_le counts None 0 ts)
 
-by_which_le : (w : Anchors) (ts : Simples) → targets_size (targets_by w ts) ≤ 4 * size_of_simples ts
-by_which_le which.Linked ts =
-    let l = all_leadings ts in
+by_which_le : (w : Anchors) (t : Bool) (ts : Simples) → targets_size (targets_by w t ts) ≤ 4 * size_of_simples ts
+by_which_le which.Linked t ts =
+    let l = all_leadings t ts in
     omega (
       arith,
-      kept_le (λ (t : Target). is_led_to l t.value t.seen) (all_targets (is_linked_to l) ts),
+      kept_le (λ (x : Target). is_led_to l x.value x.seen) (all_targets (is_linked_to l) ts),
       found_le (is_linked_to l) ts,
     )
-by_which_le which.All ts = found_le (λ s. true) ts
-by_which_le which.None ts = omega arith
+by_which_le which.All t ts = found_le (λ s. true) ts
+by_which_le which.None t ts = omega arith
 
 -- ---- anchors
 
@@ -287,16 +291,16 @@ last_le [] = omega arith
 last_le (t ∷ targets) =
     omega (arith, anchors_size (values_of (t ∷ targets)), values_size (t ∷ targets))
 
-anchored_le : (w : Anchors) (ts : Simples) → size_of_simples (anchored w ts) ≤ 13 * size_of_simples ts
-anchored_le w ts =
-    let p : Placing = record { seen = 0; targets = targets_by w ts } in
+anchored_le : (w : Anchors) (t : Bool) (ts : Simples) → size_of_simples (anchored w t ts) ≤ 13 * size_of_simples ts
+anchored_le w t ts =
+    let p : Placing = record { seen = 0; targets = targets_by w t ts } in
     let l = (placing_after_all p ts).targets in
     omega (
       arith,
       followed_size (all_placed p ts) (last_anchors l),
       all_placed_le p ts,
       last_le l,
-      by_which_le w ts,
+      by_which_le w t ts,
     )
 
 -- ---- first pieces
@@ -365,11 +369,11 @@ mutual
   all_pieced_le (more t ts) = omega (arith, pieced_le t, all_pieced_le ts)
 
 pub prepared_is_bounded : PreparedIsBounded
-prepared_is_bounded w trees =
+prepared_is_bounded w t trees =
     let l = limited trees in
     omega (
       arith,
-      all_pieced_le (anchored w l),
-      anchored_le w l,
+      all_pieced_le (anchored w t l),
+      anchored_le w t l,
       all_within_le (Some (budget trees)) trees,
     )

@@ -27,10 +27,10 @@ use Rattle.htmd_shown.specs.Kinds.{are_blank}
 use Rattle.htmd_shown.specs.LineNumbers.{has_numbered_rows}
 use Rattle.htmd_shown.specs.Permalinks.{is_permalink}
 use Rattle.htmd_shown.specs.Repeats.{is_repeat, last_element, leads_to_script}
-use Rattle.htmd_shown.specs.Roles.{is_emphasis, is_strong, is_deleted, is_typed, is_apart, inline_role, is_verbatim_name}
+use Rattle.htmd_shown.specs.Roles.{is_emphasis, is_strong, is_deleted, is_typed, is_apart, inline_role, element_role, is_verbatim_name}
 use Rattle.htmd_shown.specs.Roles.{is_bullet_list, is_table_body, block_names, block_role, heading_or_block, table_role}
 use Rattle.htmd_shown.specs.Roles.{role_of, is_among}
-use Rattle.htmd_shown.specs.Shown.{Sight, Surroundings, nowhere, inside, is_for_layout, role_by, role_at, raised_by}
+use Rattle.htmd_shown.specs.Shown.{Sight, Surroundings, nowhere, inside, is_for_layout, plain_element, role_by, role_at, raised_by}
 use Rattle.htmd_shown.specs.Shown.{raised_one, raised, with_one, followed_by, marks, marked}
 use Rattle.htmd_shown.specs.Shown.{is_led_to, with_content, embed, object, is_skipped, is_hidden, is_emptied}
 use Rattle.htmd_shown.specs.Shown.{by_content, formula_or, is_img, source_for, source_after, shown, shown_all}
@@ -56,21 +56,32 @@ choose : (t : Bool) {x y : Role} → Leveled x → Leveled y → Leveled (if t t
 choose true h i = h
 choose false h i = i
 
+element_role_level : (name : List ℕ) → Leveled (element_role name)
+unfolding element_role
+element_role_level name =
+    choose (bytes_eq name (codes "sup")) (record { has = omega arith })
+    (choose (bytes_eq name (codes "sub")) (record { has = omega arith })
+    (choose (bytes_eq name (codes "ins")) (record { has = omega arith })
+    (choose (bytes_eq name (codes "u")) (record { has = omega arith })
+    (choose (bytes_eq name (codes "mark")) (record { has = omega arith })
+    (choose (bytes_eq name (codes "small")) (record { has = omega arith })
+    (choose (bytes_eq name (codes "kbd")) (record { has = omega arith })
+    (choose (bytes_eq name (codes "abbr")) (record { has = omega arith })
+    (record { has = omega arith }))))))))
+
 inline_role_level : (name : List ℕ) → Leveled (inline_role name)
 unfolding inline_role
 inline_role_level name =
     choose (is_emphasis name) (record { has = omega arith })
     (choose (is_strong name) (record { has = omega arith })
     (choose (is_deleted name) (record { has = omega arith })
-    (choose (bytes_eq name (codes "sup")) (record { has = omega arith })
-    (choose (bytes_eq name (codes "sub")) (record { has = omega arith })
     (choose (bytes_eq name (codes "code")) (record { has = omega arith })
     (choose (is_typed name) (record { has = omega arith })
     (choose (bytes_eq name (codes "a")) (record { has = omega arith })
     (choose (is_apart name) (record { has = omega arith })
     (choose (bytes_eq name (codes "br")) (record { has = omega arith })
     (choose (bytes_eq name (codes "input")) (record { has = omega arith })
-    (record { has = omega arith })))))))))))
+    (element_role_level name)))))))))
 
 block_role_level : (name : List ℕ) → Leveled (block_role name)
 unfolding block_role
@@ -81,10 +92,11 @@ block_role_level name =
     (choose (bytes_eq name (codes "div")) (record { has = omega arith })
     (choose (bytes_eq name (codes "figure")) (record { has = omega arith })
     (choose (bytes_eq name (codes "figcaption")) (record { has = omega arith })
+    (choose (bytes_eq name (codes "details")) (record { has = omega arith })
     (choose (bytes_eq name (codes "summary")) (record { has = omega arith })
     (choose (bytes_eq name (codes "legend")) (record { has = omega arith })
     (choose (is_among block_names name) (record { has = omega arith })
-    (inline_role_level name)))))))))
+    (inline_role_level name))))))))))
 
 heading_or_block_level : (name : List ℕ) → Leveled (heading_or_block name)
 unfolding heading_or_block
@@ -122,49 +134,60 @@ role_of_level name =
     (choose (bytes_eq name (codes "hr")) (record { has = omega arith })
     (table_role_level name))))))))
 
-by_level : (r : Role) (attributes : List AttributePair) (children : NumberedForest) → Leveled r
-    → Leveled (role_by r attributes children)
-by_level (role.Format f) attributes children h = h
-by_level (role.Element f) attributes children h = h
-by_level role.Code attributes children h = h
-by_level role.Typed attributes children h = h
-by_level role.Link attributes children h =
+plain_element_level : (f : InlineElement) → Leveled (plain_element f)
+plain_element_level format.Superscript = record { has = omega arith }
+plain_element_level format.Subscript = record { has = omega arith }
+plain_element_level format.Inserted = record { has = omega arith }
+plain_element_level format.Underlined = record { has = omega arith }
+plain_element_level format.Marked = record { has = omega arith }
+plain_element_level format.Small = record { has = omega arith }
+plain_element_level format.Keyboard = record { has = omega arith }
+
+by_level : (t : Bool) (r : Role) (attributes : List AttributePair) (children : NumberedForest) → Leveled r
+    → Leveled (role_by t r attributes children)
+by_level t (role.Format f) attributes children h = h
+by_level t (role.Element f) attributes children h = choose t h (plain_element_level f)
+by_level t role.Abbreviation attributes children h = choose t h (record { has = omega arith })
+by_level t role.Code attributes children h = h
+by_level t role.Typed attributes children h = h
+by_level t role.Link attributes children h =
     choose (has_attribute (codes "href") attributes) (record { has = omega arith }) (record { has = omega arith })
-by_level role.Target attributes children h = h
-by_level role.Apart attributes children h = h
-by_level role.LineBreak attributes children h = h
-by_level role.Input attributes children h = h
-by_level (role.Heading level) attributes children h = h
-by_level role.Paragraph attributes children h = h
-by_level role.Preformatted attributes children h = h
-by_level role.Verbatim attributes children h = h
-by_level role.BlockQuote attributes children h = h
-by_level role.ThematicBreak attributes children h = h
-by_level role.BulletList attributes children h = h
-by_level role.NumberedList attributes children h = h
-by_level role.Item attributes children h = h
-by_level role.Terms attributes children h = h
-by_level role.Term attributes children h = h
-by_level role.Meaning attributes children h = h
-by_level role.Table attributes children h =
+by_level t role.Target attributes children h = h
+by_level t role.Apart attributes children h = h
+by_level t role.LineBreak attributes children h = h
+by_level t role.Input attributes children h = h
+by_level t (role.Heading level) attributes children h = h
+by_level t role.Paragraph attributes children h = h
+by_level t role.Preformatted attributes children h = h
+by_level t role.Verbatim attributes children h = h
+by_level t role.BlockQuote attributes children h = h
+by_level t role.ThematicBreak attributes children h = h
+by_level t role.BulletList attributes children h = h
+by_level t role.NumberedList attributes children h = h
+by_level t role.Item attributes children h = h
+by_level t role.Terms attributes children h = h
+by_level t role.Term attributes children h = h
+by_level t role.Meaning attributes children h = h
+by_level t role.Table attributes children h =
     choose (is_for_layout attributes || has_numbered_rows children) (record { has = omega arith })
     (record { has = omega arith })
-by_level role.LayoutTable attributes children h = h
-by_level role.Caption attributes children h = h
-by_level role.TableHead attributes children h = h
-by_level role.TableBody attributes children h = h
-by_level role.Row attributes children h = h
-by_level role.Cell attributes children h = h
-by_level role.HeaderCell attributes children h = h
-by_level role.Division attributes children h = h
-by_level role.Figure attributes children h = h
-by_level role.FigureCaption attributes children h = h
-by_level role.Summary attributes children h = h
-by_level role.Legend attributes children h = h
-by_level role.Block attributes children h = h
-by_level role.Plain attributes children h = h
-by_level role.Anchors attributes children h = h
-by_level role.Unlinked attributes children h = h
+by_level t role.LayoutTable attributes children h = h
+by_level t role.Caption attributes children h = h
+by_level t role.TableHead attributes children h = h
+by_level t role.TableBody attributes children h = h
+by_level t role.Row attributes children h = h
+by_level t role.Cell attributes children h = h
+by_level t role.HeaderCell attributes children h = h
+by_level t role.Division attributes children h = h
+by_level t role.Figure attributes children h = h
+by_level t role.FigureCaption attributes children h = h
+by_level t role.Details attributes children h = h
+by_level t role.Summary attributes children h = h
+by_level t role.Legend attributes children h = h
+by_level t role.Block attributes children h = h
+by_level t role.Plain attributes children h = h
+by_level t role.Anchors attributes children h = h
+by_level t role.Unlinked attributes children h = h
 
 -- ---- values
 
@@ -517,11 +540,12 @@ formats_le name =
     go false false true = omega arith
     go false false false = omega arith
 
-made_le : (id : ℕ) (name : List ℕ) (attributes : List AttributePair) (ts : NumberedForest) (content : Simples)
-    → size_of_simple (made id (role_at name attributes ts) attributes content)
+made_le : (t : Bool) (id : ℕ) (name : List ℕ) (attributes : List AttributePair) (ts : NumberedForest)
+    (content : Simples)
+    → size_of_simple (made id (role_at t name attributes ts) attributes content)
     ≤ 7 + size_of_values attributes + size_of_simples content
-made_le id name attributes ts content =
-    let l = by_level (role_of name) attributes ts (role_of_level name) in
+made_le t id name attributes ts content =
+    let l = by_level t (role_of name) attributes ts (role_of_level name) in
     omega (arith, l.has)
 
 object_le : (id : ℕ) (name : List ℕ) (attributes : List AttributePair) (ts : NumberedForest) (content : Simples)
@@ -542,29 +566,29 @@ object_le id name attributes ts content k h l =
     go true (Some t) i = i
     go false o i = omega (arith, h)
 
-content_le : (in_head : Bool) (id : ℕ) (name : List ℕ) (attributes : List AttributePair) (ts : NumberedForest)
+content_le : (t in_head : Bool) (id : ℕ) (name : List ℕ) (attributes : List AttributePair) (ts : NumberedForest)
     (content : Simples)
-    → size_if (with_content in_head id name attributes ts content)
+    → size_if (with_content t in_head id name attributes ts content)
     ≤ 7 + size_of_values attributes + size_of_simples content
-content_le in_head id name attributes ts content =
+content_le t in_head id name attributes ts content =
     go (bytes_eq name (codes "a") && is_permalink in_head attributes content) (is_led_to attributes)
   where
     go : (a b : Bool)
         → size_if
         (if a then (if b then Some (made id role.Target attributes none) else None)
-        else Some (made id (role_at name attributes ts) attributes content))
+        else Some (made id (role_at t name attributes ts) attributes content))
         ≤ 7 + size_of_values attributes + size_of_simples content
     go true true = omega arith
     go true false = omega arith
-    go false b = made_le id name attributes ts content
+    go false b = made_le t id name attributes ts content
 
-by_le : (around : Surroundings) (source : Option (List ℕ)) (id : ℕ) (name : List ℕ)
+by_le : (t : Bool) (around : Surroundings) (source : Option (List ℕ)) (id : ℕ) (name : List ℕ)
     (attributes : List AttributePair)
     (ts : NumberedForest) (content : Simples) (k : ℕ) → size_of_simples content ≤ k
     → 6 * size_of_forest ts ≤ k
-    → size_if (by_content around source id name attributes ts content)
+    → size_if (by_content t around source id name attributes ts content)
     ≤ 7 + 9 * size_of_values attributes + size_of_option source + k
-by_le around source id name attributes ts content k h l =
+by_le t around source id name attributes ts content k h l =
     go (is_hidden around name attributes) (is_image name attributes) (is_among embedding_names name)
     (bytes_eq name (codes "object"))
   where
@@ -574,13 +598,13 @@ by_le around source id name attributes ts content k h l =
         else (if b then Some (simple.image (image_address attributes source) attributes)
         else (if c then embed id attributes (embedding_of name attributes ts)
         else (if d then object id attributes content (embedding_of name attributes ts)
-        else with_content around.in_head id name attributes ts content))))
+        else with_content t around.in_head id name attributes ts content))))
         ≤ 7 + 9 * size_of_values attributes + size_of_option source + k
     go true b c d = omega arith
     go false true c d = omega (arith, image_le attributes source)
     go false false true d = omega (arith, embed_le id name attributes ts, l)
     go false false false true = omega (arith, object_le id name attributes ts content k h l)
-    go false false false false = omega (arith, content_le around.in_head id name attributes ts content, h)
+    go false false false false = omega (arith, content_le t around.in_head id name attributes ts content, h)
 
 or_formula_le : (name : List ℕ) (attributes : List AttributePair) (other : Option Simple) (tex : Option (List ℕ))
     (f k : ℕ) → size_of_option tex ≤ 2 * (size_of_values attributes + f) → size_if other ≤ k
@@ -641,9 +665,12 @@ mutual
       let j : size_of_simples content ≤ 16 * f + 7 =
       emptied_le (is_emptied around name attributes) m (16 * f + 7) i in
       let k = 14 + 9 * a + size_of_option source + 16 * f in
-      let b = by_content around source id name attributes children content in
+      let b = by_content sight.is_rich around source id name attributes children content in
       let e : size_if b ≤ k =
-      omega (arith, by_le around source id name attributes children content (16 * f + 7) j (omega arith)) in
+      omega (
+        arith,
+        by_le sight.is_rich around source id name attributes children content (16 * f + 7) j (omega arith),
+      ) in
       let g : size_if (formula_or name attributes b (tex_of name attributes children)) ≤ k =
       or_formula_le name attributes b (tex_of name attributes children) f k (tex_le name attributes children) e
       (omega arith) in

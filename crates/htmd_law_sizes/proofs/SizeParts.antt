@@ -2,7 +2,7 @@
 use Rattle.std.proofs.Common.{◌≡◌, refl, ◌+◌, List, [], ◌∷◌, arith}
 use Rattle.htmd_document.specs.Documents.{Inline, Inlines, text, code, formatted, link, image, anchor, line_break, task}
 use Rattle.htmd_document.specs.Documents.{no_inlines, inline, Block, Blocks, Items, paragraph, heading, code_block}
-use Rattle.htmd_document.specs.Documents.{quote, thematic_break, list, table, no_blocks, block, no_items, item}
+use Rattle.htmd_document.specs.Documents.{quote, thematic_break, list, table, element, tags, no_blocks, block, no_items, item}
 use Rattle.htmd_law_sizes.specs.DocumentSizes.{size_of_inlines, size_of_inline, size_of_cells, size_of_rows, size_of}
 use Rattle.htmd_law_sizes.specs.DocumentSizes.{size_of_block, size_of_items, lean_inlines, lean_inline, lean_cells}
 use Rattle.htmd_law_sizes.specs.DocumentSizes.{lean_rows, lean, lean_block, lean_items, repeated_inlines}
@@ -45,6 +45,8 @@ mutual
   block_parts thematic_break = refl
   block_parts (list start is_tight items) = omega (arith, items_parts items)
   block_parts (table alignments header rows) = omega (arith, rows_parts (header ∷ rows))
+  block_parts (element name attributes content) = omega (arith, size_parts content)
+  block_parts (tags s) = omega arith
 
   items_parts : (items : Items) → size_of_items items ≡ lean_items items + repeated_items items
   items_parts no_items = refl

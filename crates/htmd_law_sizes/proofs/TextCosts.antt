@@ -1,10 +1,13 @@
 -- How long the texts are that a document takes from attributes and from the texts below an element.
-use Rattle.std.proofs.Common.{ℕ, suc, ◌+◌, ◌*◌, ◌-◌, ◌≤◌, Bool, true, false, List, [], ◌∷◌, ◌++◌}
-use Rattle.std.proofs.Common.{length, arith}
+use Rattle.std.proofs.Common.{◌≡◌, ◌∙◌, refl, sym, ap, ℕ, zero, suc, ◌+◌, ◌*◌, ◌-◌, ◌≤◌, Bool, true, false, List, []}
+use Rattle.std.proofs.Common.{◌∷◌, ◌++◌, length, append_assoc, cond, encode_utf8_all, arith}
+use Rattle.std.proofs.lemmas.Bool.Decides.{nat_tests}
 use Rattle.std.proofs.lemmas.List.{length-append}
-use Rattle.std.specs.Prelude.{◌==◌, ◌&&◌, filter, fold, if◌then◌else◌, codes, Option, Some, None}
+use Rattle.std.proofs.lemmas.Str.{encode_ascii, len_utf8_bounds, length-encode}
+use Rattle.std.specs.Prelude.{◌==◌, ◌&&◌, nat_lt, filter, fold, if◌then◌else◌, codes, Option, Some, None}
 use Rattle.std.specs.Option.{unwrap_or}
-use Rattle.std.specs.Str.{bytes_eq, chars}
+use Rattle.std.specs.Char.{encode_utf8}
+use Rattle.std.specs.Str.{bytes_eq, chars, chars_after, continuation_len, lead_bits}
 use Rattle.htmd_lexical.specs.Characters.{line_feed, carriage_return}
 use Rattle.htmd_lexical.specs.AttributePairs.{AttributePair}
 use Rattle.htmd_text.specs.Trims.{trimmed_text, is_line_feed}
@@ -19,8 +22,7 @@ use Rattle.htmd_shown.specs.SimpleTrees.{Simple, text, image, formula, embedded,
 use Rattle.htmd_law_sizes.specs.DocumentSizes.{size_of_option}
 use Rattle.htmd_law_sizes.specs.SimpleSizes.{size_of_simple, size_of_simples}
 use Rattle.htmd_law_sizes.specs.TreeSizes.{size_of_values}
-use Rattle.htmd_document_of_tree.proofs.TextLengths.{characters_le}
-use Rattle.htmd_document_of_tree.proofs.TextBytesLemmas.{encodes_le}
+use Rattle.htmd_document_of_tree.proofs.TextBytesLemmas.{encoded_le}
 use Rattle.htmd_document_of_tree.proofs.TextLengths.{pieces_le, shown_le, line_le, trimmed_le, total}
 
 -- ---- values
@@ -117,38 +119,83 @@ mutual
   all_among_le (more t ts) =
       omega (arith, all_text_le t, all_among_le ts, length-append (all_text t) (all_text_among ts))
 
-written_le : (t : Bool) (c : ℕ) → length (written_for t c) ≤ 1
+feed_le : (c : ℕ) → length (encode_utf8 line_feed) ≤ length (encode_utf8 c)
+feed_le c =
+    omega (arith, ap length (encode_ascii line_feed (omega arith)), length-encode c, (len_utf8_bounds c).0)
+
+written_le : (t : Bool) (c : ℕ) → length (encode_utf8_all (written_for t c)) ≤ length (encode_utf8 c)
 written_le t c = go (c == carriage_return) ((c == line_feed) && t)
   where
-    go : (x y : Bool) → length (if x then line_feed ∷ [] else (if y then [] else c ∷ [])) ≤ 1
-    go true y = omega arith
+    go : (x y : Bool)
+        → length (encode_utf8_all (if x then line_feed ∷ [] else (if y then [] else c ∷ [])))
+        ≤ length (encode_utf8 c)
+    go true y = omega (arith, length-append (encode_utf8 line_feed) (encode_utf8_all []), feed_le c)
     go false true = omega arith
-    go false false = omega arith
+    go false false = omega (arith, length-append (encode_utf8 c) (encode_utf8_all []))
+
+encode_append : (a b : List ℕ) → encode_utf8_all (a ++ b) ≡ encode_utf8_all a ++ encode_utf8_all b
+encode_append [] b = refl
+encode_append (c ∷ a) b =
+    ap (λ (x : List ℕ). encode_utf8 c ++ x) (encode_append a b)
+    ∙ sym (append_assoc (encode_utf8 c) (encode_utf8_all a) (encode_utf8_all b))
 
 lines_written : (cs : List ℕ) (l : Lines)
-    → length (fold with_character l cs).written ≤ length l.written + length cs
+    → length (encode_utf8_all (fold with_character l cs).written)
+    ≤ length (encode_utf8_all l.written) + length (encode_utf8_all cs)
 lines_written [] l = omega arith
 lines_written (c ∷ cs) l =
     omega (
       arith,
       lines_written cs (with_character l c),
-      length-append l.written (written_for l.after_return c),
+      ap length (encode_append l.written (written_for l.after_return c)),
+      length-append (encode_utf8_all l.written) (encode_utf8_all (written_for l.after_return c)),
+      length-append (encode_utf8 c) (encode_utf8_all cs),
       written_le l.after_return c,
     )
 
--- with each line end as one line feed
-pub with_feeds_le : (s : List ℕ) → length (with_line_feeds s) ≤ 4 * length s
-with_feeds_le s =
+-- what a character takes whose bytes are read, and at most what those take that began one
+abbrev begun : ℕ → ℕ → ℕ
+begun zero c = length (encode_utf8 c)
+begun (suc n) c = 2
+
+begins_le : (b : ℕ) → begun (continuation_len b) (lead_bits b) ≤ 2
+begins_le b = go (nat_lt b 128) refl (nat_lt b 224) (nat_lt b 240)
+  where
+    go : (x : Bool) → nat_lt b 128 ≡ x → (y z : Bool)
+        → begun (cond x 0 (cond y 1 (cond z 2 3))) (cond x b (cond y (b - 192) (cond z (b - 224) (b - 240)))) ≤ 2
+    go true e y z = omega (arith, ap length (encode_ascii b (grind (arith, nat_tests, e))))
+    go false e true z = omega arith
+    go false e false true = omega arith
+    go false e false false = omega arith
+
+read_after : (n c : ℕ) (s : List ℕ)
+    → length (encode_utf8_all (chars_after n c s)) ≤ begun n c + 2 * length s
+read_after zero c [] = omega (arith, length-append (encode_utf8 c) (encode_utf8_all []))
+read_after zero c (b ∷ s) =
     omega (
       arith,
-      encodes_le (fold with_character no_lines (chars s)).written,
-      lines_written (chars s) no_lines,
-      characters_le s,
+      length-append (encode_utf8 c) (encode_utf8_all (chars_after (continuation_len b) (lead_bits b) s)),
+      read_after (continuation_len b) (lead_bits b) s,
+      begins_le b,
     )
+read_after (suc n) c [] = omega arith
+read_after (suc zero) c (b ∷ s) =
+    omega (arith, read_after zero (c * 64 + (b - 128)) s, encoded_le (c * 64 + (b - 128)))
+read_after (suc (suc n)) c (b ∷ s) = omega (arith, read_after (suc n) (c * 64 + (b - 128)) s)
+
+-- the characters of a text, written again
+read_le : (s : List ℕ) → length (encode_utf8_all (chars s)) ≤ 2 * length s
+unfolding chars
+read_le [] = omega arith
+read_le (b ∷ s) = omega (arith, read_after (continuation_len b) (lead_bits b) s, begins_le b)
+
+-- with each line end as one line feed
+pub with_feeds_le : (s : List ℕ) → length (with_line_feeds s) ≤ 2 * length s
+with_feeds_le s = omega (arith, lines_written (chars s) no_lines, read_le s)
 
 -- the text of a code block, or of lines of code
 pub code_text_le : (content : Simples) → length (with_line_feeds (all_text_among content))
-    ≤ 12 * size_of_simples content
+    ≤ 6 * size_of_simples content
 code_text_le content = omega (arith, with_feeds_le (all_text_among content), all_among_le content)
 
 pub without_last_le : (s : List ℕ) → length (without_last_line_feed s) ≤ length s

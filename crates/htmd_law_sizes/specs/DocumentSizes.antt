@@ -4,7 +4,12 @@ use Rattle.std.specs.Fmt.{decimal}
 use Rattle.htmd_document.specs.Documents.{Inline, Inlines, text, code, formatted, link, image, anchor, line_break, task}
 use Rattle.htmd_document.specs.Documents.{no_inlines, inline, Block, Blocks, Items, paragraph, heading, code_block}
 use Rattle.htmd_document.specs.Documents.{quote}
-use Rattle.htmd_document.specs.Documents.{thematic_break, list, table, no_blocks, block, no_items, item}
+use Rattle.htmd_document.specs.Documents.{thematic_break, list, table, element, tags, no_blocks, block, no_items, item}
+use Rattle.htmd_document.specs.Documents.{BlockAttribute}
+use Rattle.htmd_document.specs.FlatDocuments.{text_in_line}
+use Rattle.htmd_document.specs.Formats.{title_of}
+use Rattle.htmd_document.specs.Tags.{element_tag, end_of_element, escaped_text}
+use Rattle.htmd_document.specs.declared.document.BlockElement.{BlockElement}
 
 -- ---- size
 
@@ -22,7 +27,7 @@ abbrev mutual
   pub size_of_inline : Inline → ℕ
   size_of_inline (text s) = suc (length s)
   size_of_inline (code s) = suc (length s)
-  size_of_inline (formatted format content) = suc (size_of_inlines content)
+  size_of_inline (formatted format content) = suc (length (title_of format) + size_of_inlines content)
   size_of_inline (link address title content) =
       suc (length address + size_of_option title + size_of_inlines content)
   size_of_inline (image address title description) = suc (length address + size_of_option title + length description)
@@ -40,6 +45,16 @@ abbrev pub size_of_rows : List (List Inlines) → ℕ
 size_of_rows [] = 0
 size_of_rows (cells ∷ rows) = suc (size_of_cells cells) + size_of_rows rows
 
+-- an element's tags, each one and its bytes, and what stands in one line with them
+abbrev pub size_in_line : Option (List ℕ) → ℕ
+size_in_line None = 0
+size_in_line (Some s) = length (escaped_text s)
+
+abbrev pub size_of_tags : BlockElement → List BlockAttribute → Blocks → ℕ
+size_of_tags name attributes content =
+    suc (length (element_tag name attributes)) + suc (length (end_of_element name))
+    + size_in_line (text_in_line content)
+
 -- Each block and each item counts one, and a heading its level besides.
 abbrev mutual
   pub size_of : Blocks → ℕ
@@ -54,6 +69,8 @@ abbrev mutual
   size_of_block thematic_break = 1
   size_of_block (list start is_tight items) = suc (size_of_items items)
   size_of_block (table alignments header rows) = suc (size_of_rows (header ∷ rows))
+  size_of_block (element name attributes content) = size_of_tags name attributes content + size_of content
+  size_of_block (tags s) = suc (length s)
 
   pub size_of_items : Items → ℕ
   size_of_items no_items = 0
@@ -61,8 +78,8 @@ abbrev mutual
 
 -- ---- what is repeated
 
--- The bytes that a page can say once and a document many times: of the addresses and titles of links, and of the
--- languages of code.
+-- The bytes that a page can say once and a document many times: of the addresses and titles of links, of the titles of
+-- abbreviations, and of the languages of code.
 abbrev mutual
   pub repeated_inlines : Inlines → ℕ
   repeated_inlines no_inlines = 0
@@ -71,7 +88,7 @@ abbrev mutual
   pub repeated_inline : Inline → ℕ
   repeated_inline (text s) = 0
   repeated_inline (code s) = 0
-  repeated_inline (formatted format content) = repeated_inlines content
+  repeated_inline (formatted format content) = length (title_of format) + repeated_inlines content
   repeated_inline (link address title content) = length address + size_of_option title + repeated_inlines content
   repeated_inline (image address title description) = 0
   repeated_inline (anchor id) = 0
@@ -99,6 +116,8 @@ abbrev mutual
   repeated_block thematic_break = 0
   repeated_block (list start is_tight items) = repeated_items items
   repeated_block (table alignments header rows) = repeated_rows (header ∷ rows)
+  repeated_block (element name attributes content) = repeated content
+  repeated_block (tags s) = 0
 
   pub repeated_items : Items → ℕ
   repeated_items no_items = 0
@@ -141,6 +160,8 @@ abbrev mutual
   lean_block thematic_break = 1
   lean_block (list start is_tight items) = suc (lean_items items)
   lean_block (table alignments header rows) = suc (lean_rows (header ∷ rows))
+  lean_block (element name attributes content) = size_of_tags name attributes content + lean content
+  lean_block (tags s) = suc (length s)
 
   pub lean_items : Items → ℕ
   lean_items no_items = 0
@@ -167,6 +188,8 @@ abbrev mutual
   margin_of_block (code_block language s) = 0
   margin_of_block thematic_break = 0
   margin_of_block (table alignments header rows) = 0
+  margin_of_block (element name attributes content) = margin_of content
+  margin_of_block (tags s) = 0
 
   -- the first item at this place
   pub margin_of_items : Option ℕ → ℕ → Items → ℕ

@@ -1,5 +1,5 @@
 -- How long the Markdown of a document is at most, and how big the document of a page.
-use Rattle.std.specs.Prelude.{◌+◌, ◌*◌, ◌≤◌, length}
+use Rattle.std.specs.Prelude.{◌+◌, ◌*◌, ◌≤◌, length, Bool}
 use Rattle.htmd_nodes.specs.NumberedTrees.{NumberedTree}
 use Rattle.htmd_document.specs.Documents.{Blocks}
 use Rattle.htmd_document.specs.NormalDocuments.{IsNormal}
@@ -37,28 +37,28 @@ ShownIsBounded = (sight : Sight) (tree : NumberedTree)
 -- Within its budget, with its anchors, and with each link around its first pieces, it is at most 26 times as big.
 abbrev pub PreparedIsBounded : Type 0
 PreparedIsBounded =
-    (which : Anchors) (trees : Simples)
-    → size_of_simples (pieced_all (anchored which (limited trees))) ≤ 26 * size_of_simples trees
+    (which : Anchors) (is_rich : Bool) (trees : Simples)
+    → size_of_simples (pieced_all (anchored which is_rich (limited trees))) ≤ 26 * size_of_simples trees
 
--- The document of a simpler tree is at most 400 times as big as the tree, what can be repeated aside.
+-- The document of a simpler tree, rich or not, is at most 400 times as big as the tree, what can be repeated aside.
 abbrev pub FlowIsBounded : Type 0
-FlowIsBounded = (trees : Simples) → lean (document_of trees) ≤ 400 * size_of_simples trees + 1
+FlowIsBounded = (is_rich : Bool) (trees : Simples)
+    → lean (document_of is_rich trees) ≤ 400 * size_of_simples trees + 1
 
 -- Its quotes and items put at most 2,208 bytes before a line.
 abbrev pub MarginIsBounded : Type 0
-MarginIsBounded = (trees : Simples) → margin_of (document_of trees) ≤ 2208
+MarginIsBounded = (is_rich : Bool) (trees : Simples) → margin_of (document_of is_rich trees) ≤ 2208
 
 -- So the document of any tree is at most 1,275,392 times as big as the tree, and 262,151. The numbers are by far not
--- the
--- least: with one price for each node and each byte of a stage, each stage is one induction with sums alone.
+-- the least: with one price for each node and each byte of a stage, each stage is one induction with sums alone.
 abbrev pub DocumentIsBounded : Type 0
 DocumentIsBounded =
     (which : Anchors) (sight : Sight) (tree : NumberedTree)
-    → size_of (document_of_tree which sight.scripting sight.skip tree) ≤ 1275392 * size_of_tree tree + 262151
+    → size_of (document_of_tree which sight tree) ≤ 1275392 * size_of_tree tree + 262151
 
 -- And its Markdown, whatever the options, has at most 9,088 bytes for each unit of that.
 abbrev pub PagesAreBounded : Type 0
 PagesAreBounded =
     (which : Anchors) (sight : Sight) (tree : NumberedTree) (options : DocumentOptions)
-    → length (markdown_of options (document_of_tree which sight.scripting sight.skip tree))
+    → length (markdown_of options (document_of_tree which sight tree))
     ≤ 9088 * (1275392 * size_of_tree tree + 262151)

@@ -14,8 +14,8 @@ pub fn normal_markdown_is_bounded()
     ensures { NormalMarkdownIsBounded }
 {}
 
-/// What shows of a tree, whether scripts run or not, and whatever names are skipped, is at most 16 times as big as the
-/// tree.
+/// What shows of a tree, whether scripts run or not, whatever names are skipped, and whether the document is to be
+/// rich, is at most 16 times as big as the tree.
 pub fn shown_is_bounded()
     ensures { ShownIsBounded }
 {}
@@ -26,14 +26,14 @@ pub fn prepared_is_bounded()
     ensures { PreparedIsBounded }
 {}
 
-/// The document of a simpler tree is at most 400 times as big as the tree, but for the addresses and titles of its
-/// links
-/// and the languages of its code, which a page can say once and a document many times.
+/// The document of a simpler tree, rich or not, is at most 400 times as big as the tree, but for the addresses and
+/// titles of its links, the titles of its abbreviations and the languages of its code, which a page can say once and a
+/// document many times.
 pub fn flow_is_bounded()
     ensures { FlowIsBounded }
 {}
 
-/// The quotes and items of the document of a simpler tree put at most 2,208 bytes before a line.
+/// The quotes and items of the document of a simpler tree, rich or not, put at most 2,208 bytes before a line.
 pub fn margin_is_bounded()
     ensures { MarginIsBounded }
 {}
@@ -45,8 +45,7 @@ pub fn document_is_bounded()
 
 /// And its Markdown, whatever the options, has at most 9,088 bytes for each unit of that: no page's Markdown grows with
 /// the square of its tree. The numbers are what a proof with one price for each node and each byte needs, and by far
-/// not
-/// the least.
+/// not the least.
 pub fn pages_are_bounded()
     ensures { PagesAreBounded }
 {}

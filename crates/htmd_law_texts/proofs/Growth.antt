@@ -9,7 +9,7 @@ use Rattle.htmd_document.specs.Formats.{Format}
 use Rattle.htmd_document.specs.Documents.{Inline, text, code, formatted, link, image, line_break, task}
 use Rattle.htmd_document.specs.Documents.{Inlines, no_inlines, inline, Block, Blocks, Items, paragraph, heading}
 use Rattle.htmd_document.specs.Documents.{code_block, quote}
-use Rattle.htmd_document.specs.Documents.{thematic_break, list, table, no_blocks, block, no_items, item}
+use Rattle.htmd_document.specs.Documents.{thematic_break, list, table, element, tags, no_blocks, block, no_items, item}
 use Rattle.htmd_markdown.specs.declared.link.LinkStyle.{LinkStyle}
 use Rattle.htmd_markdown.specs.declared.link.LinkStyle.TheVariants.{Inlined, InlinedPreferAutolinks, Referenced}
 use Rattle.htmd_document.specs.Documents.{anchor}
@@ -33,7 +33,7 @@ use Rattle.htmd_commonmark.specs.WrittenText.{Written, wrote}
 use Rattle.htmd_document.specs.NormalInlines.{is_normal, are_normal, is_normal_line, is_normal_item, meets, is_title}
 use Rattle.htmd_document.specs.NormalInlines.{is_kept}
 use Rattle.htmd_law_inlines.proofs.TextPieces.{test}
-use Rattle.htmd_document.specs.NormalDocuments.{is_normal_heading, are_normal_blocks, is_normal_block, are_normal_items}
+use Rattle.htmd_document.specs.NormalDocuments.{is_normal_heading, are_flat_blocks, is_flat_block, are_flat_items}
 use Rattle.htmd_law_texts.proofs.NormalForm.{paragraph_parts, heading_parts, quote_parts, list_parts, table_parts}
 use Rattle.htmd_law_texts.proofs.PieceFirsts.{format_parts}
 use Rattle.htmd_law_texts.proofs.WrittenLines.{link_parts}
@@ -233,11 +233,11 @@ rows_grown options definitions (cells ∷ rows) h =
 mutual
   pub blocks_grown : (options : DocumentOptions) (place : Place) (definitions : List (List ℕ)) (b : Bool)
       (bs : Blocks)
-      → are_normal_blocks b bs ≡ true → Grown definitions
+      → are_flat_blocks b bs ≡ true → Grown definitions
       (written_blocks options place definitions bs).definitions
   blocks_grown options place definitions b no_blocks h = grown_same definitions
   blocks_grown options place definitions b (block first rest) h =
-      let p = and_parts (is_normal_block b first) (are_normal_blocks false rest) h in
+      let p = and_parts (is_flat_block b first) (are_flat_blocks false rest) h in
       let es = (written_block options place None definitions first).definitions in
       let sign = sign_of options None place.outer first in
       grown_trans definitions es (further_blocks options (behind_first place) sign es rest).definitions
@@ -245,18 +245,18 @@ mutual
       (further_grown options (behind_first place) sign es rest p.1)
 
   pub further_grown : (options : DocumentOptions) (place : Place) (before : Option Sign) (definitions : List (List ℕ))
-      (bs : Blocks) → are_normal_blocks false bs ≡ true
+      (bs : Blocks) → are_flat_blocks false bs ≡ true
       → Grown definitions (further_blocks options place before definitions bs).definitions
   further_grown options place before definitions no_blocks h = grown_same definitions
   further_grown options place before definitions (block first rest) h =
-      let p = and_parts (is_normal_block false first) (are_normal_blocks false rest) h in
+      let p = and_parts (is_flat_block false first) (are_flat_blocks false rest) h in
       let es = (written_block options place before definitions first).definitions in
       let sign = sign_of options before place.outer first in
       grown_trans definitions es (further_blocks options place sign es rest).definitions
       (block_grown options place before definitions false first p.0) (further_grown options place sign es rest p.1)
 
   pub block_grown : (options : DocumentOptions) (place : Place) (before : Option Sign) (definitions : List (List ℕ))
-      (b : Bool) (x : Block) → is_normal_block b x ≡ true
+      (b : Bool) (x : Block) → is_flat_block b x ≡ true
       → Grown definitions (written_block options place before definitions x).definitions
   block_grown options place before definitions b (paragraph content) h =
       inlines_grown options definitions b content (paragraph_parts b content h)
@@ -266,6 +266,8 @@ mutual
   block_grown options place before definitions b (quote content) h =
       blocks_grown options (place_in_quote place.in_item) definitions false content (quote_parts b content h).1
   block_grown options place before definitions b thematic_break h = grown_same definitions
+  block_grown options place before definitions b (element name attributes content) h = grown_same definitions
+  block_grown options place before definitions b (tags s) h = grown_same definitions
   block_grown options place before definitions b (list start is_tight items) h =
       items_grown options (markers_of options before place.outer start (item_count items)) is_tight definitions items
       (list_parts b start is_tight items h).1
@@ -276,22 +278,22 @@ mutual
       (cells_grown options definitions header p.0) (rows_grown options es rows p.1)
 
   items_grown : (options : DocumentOptions) (markers : Markers) (is_tight : Bool) (definitions : List (List ℕ))
-      (items : Items) → are_normal_items items ≡ true
+      (items : Items) → are_flat_items items ≡ true
       → Grown definitions (written_items options markers is_tight definitions items).definitions
   items_grown options markers is_tight definitions no_items h = grown_same definitions
   items_grown options markers is_tight definitions (item first rest) h =
-      let p = and_parts (are_normal_blocks true first) (are_normal_items rest) h in
+      let p = and_parts (are_flat_blocks true first) (are_flat_items rest) h in
       let es = (written_blocks options (place_in_item markers is_tight) definitions first).definitions in
       grown_trans definitions es (further_items options markers is_tight 1 es rest).definitions
       (blocks_grown options (place_in_item markers is_tight) definitions true first p.0)
       (further_items_grown options markers is_tight 1 es rest p.1)
 
   pub further_items_grown : (options : DocumentOptions) (markers : Markers) (is_tight : Bool) (k : ℕ)
-      (definitions : List (List ℕ)) (items : Items) → are_normal_items items ≡ true
+      (definitions : List (List ℕ)) (items : Items) → are_flat_items items ≡ true
       → Grown definitions (further_items options markers is_tight k definitions items).definitions
   further_items_grown options markers is_tight k definitions no_items h = grown_same definitions
   further_items_grown options markers is_tight k definitions (item first rest) h =
-      let p = and_parts (are_normal_blocks true first) (are_normal_items rest) h in
+      let p = and_parts (are_flat_blocks true first) (are_flat_items rest) h in
       let es = (written_blocks options (place_in_item markers is_tight) definitions first).definitions in
       grown_trans definitions es (further_items options markers is_tight (suc k) es rest).definitions
       (blocks_grown options (place_in_item markers is_tight) definitions true first p.0)

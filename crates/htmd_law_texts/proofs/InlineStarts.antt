@@ -25,7 +25,8 @@ use Rattle.htmd_law_blocks.specs.LineTexts.{IsFirstLine, IsFurtherLine}
 use Rattle.htmd_law_inlines.proofs.TextPieces.{test, differs}
 use Rattle.htmd_law_inlines.proofs.ReferencePieces.{one_of}
 use Rattle.htmd_law_texts.proofs.WrittenPieces.{Row, row_signs, star, stars, score, scores, tildes, Tag, opener, closer}
-use Rattle.htmd_law_texts.proofs.WrittenPieces.{em_tag, strong_tag, del_tag, sup_tag, sub_tag}
+use Rattle.htmd_law_texts.proofs.WrittenPieces.{em_tag, strong_tag, del_tag, sup_tag, sub_tag, ins_tag, u_tag}
+use Rattle.htmd_law_texts.proofs.WrittenPieces.{mark_tag, small_tag, kbd_tag, abbr_tag}
 use Rattle.htmd_law_texts.proofs.LineStarts.{IsLead, Both, both_by, first_by, further_by, plain_line, black_start}
 use Rattle.htmd_law_texts.proofs.LineStarts.{not_of}
 use Rattle.htmd_law_texts.proofs.Foreign.{all_false}
@@ -157,10 +158,52 @@ opens_no_block strong_tag u k = refl
 opens_no_block del_tag u k = refl
 opens_no_block sup_tag u k = refl
 opens_no_block sub_tag u k = refl
+opens_no_block ins_tag u k = refl
+opens_no_block u_tag u k = refl
+opens_no_block mark_tag u k = refl
+opens_no_block small_tag u k = refl
+opens_no_block kbd_tag u k = refl
+opens_no_block (abbr_tag title) u k = refl
 
 blank_text : (u : List ℕ) → is_empty_or_blank u ≡ false → is_blank_text u ≡ false
 blank_text [] h = absurd (cc)
 blank_text (c ∷ u) h = rw h refl
+
+-- the tag of an abbreviation and what follows it, without the angle bracket
+abbrev title_start : List ℕ → List ℕ → List ℕ
+title_start title u = codes "abbr title=\"" ++ (html.escaped_value title ++ (34 ∷ 62 ∷ u))
+
+title_opens : (title u : List ℕ) → open_tag (title_start title u) ≡ Some (title_start title [])
+title_opens title u = rw (quoted (html.escaped_value title) u (unquoted title)) refl
+
+drop_front : (s u : List ℕ) → drop (length s) (s ++ u) ≡ u
+drop_front [] u = refl
+drop_front (c ∷ s) u = drop_front s u
+
+title_not_alone : (title u : List ℕ) → is_blank_text u ≡ false → is_lone_tag (title_start title u) ≡ false
+title_not_alone title u h =
+    let t = title_start title u in
+    let tag = title_start title [] in
+    let split : t ≡ tag ++ u =
+    ap (λ l. codes "abbr title=\"" ++ l) (sym (append_assoc (html.escaped_value title) (34 ∷ 62 ∷ []) u)) in
+    let text : is_blank_text (drop (length tag) t) ≡ false =
+    ap is_blank_text (ap (drop (length tag)) split ∙ drop_front tag u) ∙ h in
+    and_right (not (is_of_text (without_slash t))) (fills t (open_tag t) || fills t (closing_tag t))
+    (ap (λ o. fills t o || fills t (closing_tag t)) (title_opens title u)
+    ∙ ap (λ b. b || fills t (closing_tag t)) text)
+
+title_ends : (title u : List ℕ) → is_blank_text u ≡ false → block_ends alone (title_start title u) ≡ None
+title_ends title u h = ap (λ b. if b then Some [] else None) (title_not_alone title u h)
+
+title_starts : (title u : List ℕ) → is_blank_text u ≡ false → (k : ℕ)
+    → started alone (line k (html.abbreviation_tag title ++ u)) ≡ no_start
+title_starts title u h k =
+    let v = html.escaped_value title in
+    let t = title_start title u in
+    let is : html.abbreviation_tag title ++ u ≡ 60 ∷ t =
+    append_assoc (codes "<abbr title=\"" ++ v) (codes "\">") u
+    ∙ append_assoc (codes "<abbr title=\"") v (34 ∷ 62 ∷ u) in
+    ap (λ l. started alone (line k l)) is ∙ black_start alone k 60 t refl ∙ rw (title_ends title u h) refl
 
 opens_no_html : (t : Tag) (u : List ℕ) → is_blank_text u ≡ false → (k : ℕ)
     → started alone (line k (opener t ++ u)) ≡ no_start
@@ -169,6 +212,12 @@ opens_no_html strong_tag u h k = rw h refl
 opens_no_html del_tag u h k = rw h refl
 opens_no_html sup_tag u h k = rw h refl
 opens_no_html sub_tag u h k = rw h refl
+opens_no_html ins_tag u h k = rw h refl
+opens_no_html u_tag u h k = rw h refl
+opens_no_html mark_tag u h k = rw h refl
+opens_no_html small_tag u h k = rw h refl
+opens_no_html kbd_tag u h k = rw h refl
+opens_no_html (abbr_tag title) u h k = title_starts title u h k
 
 -- each tag begins with its angle bracket
 abbrev behind_angle : Tag → List ℕ
@@ -177,6 +226,12 @@ behind_angle strong_tag = codes "strong>"
 behind_angle del_tag = codes "del>"
 behind_angle sup_tag = codes "sup>"
 behind_angle sub_tag = codes "sub>"
+behind_angle ins_tag = codes "ins>"
+behind_angle u_tag = codes "u>"
+behind_angle mark_tag = codes "mark>"
+behind_angle small_tag = codes "small>"
+behind_angle kbd_tag = codes "kbd>"
+behind_angle (abbr_tag title) = codes "abbr title=\"" ++ html.escaped_value title ++ codes "\">"
 
 opener_is : (t : Tag) → opener t ≡ 60 ∷ behind_angle t
 opener_is em_tag = refl
@@ -184,6 +239,12 @@ opener_is strong_tag = refl
 opener_is del_tag = refl
 opener_is sup_tag = refl
 opener_is sub_tag = refl
+opener_is ins_tag = refl
+opener_is u_tag = refl
+opener_is mark_tag = refl
+opener_is small_tag = refl
+opener_is kbd_tag = refl
+opener_is (abbr_tag title) = refl
 
 pub opener_further : (t : Tag) (u : List ℕ) → IsFurtherLine (opener t ++ u)
 opener_further t u =
@@ -203,6 +264,12 @@ closer_further strong_tag u = further_by 60 (codes "/strong>" ++ u) angle_lead (
 closer_further del_tag u = further_by 60 (codes "/del>" ++ u) angle_lead (λ k. refl)
 closer_further sup_tag u = further_by 60 (codes "/sup>" ++ u) angle_lead (λ k. refl)
 closer_further sub_tag u = further_by 60 (codes "/sub>" ++ u) angle_lead (λ k. refl)
+closer_further ins_tag u = further_by 60 (codes "/ins>" ++ u) angle_lead (λ k. refl)
+closer_further u_tag u = further_by 60 (codes "/u>" ++ u) angle_lead (λ k. refl)
+closer_further mark_tag u = further_by 60 (codes "/mark>" ++ u) angle_lead (λ k. refl)
+closer_further small_tag u = further_by 60 (codes "/small>" ++ u) angle_lead (λ k. refl)
+closer_further kbd_tag u = further_by 60 (codes "/kbd>" ++ u) angle_lead (λ k. refl)
+closer_further (abbr_tag title) u = further_by 60 (codes "/abbr>" ++ u) angle_lead (λ k. refl)
 
 pub code_tag_further : (u : List ℕ) → IsFurtherLine (codes "<code>" ++ u)
 code_tag_further u = further_by 60 (codes "code>" ++ u) angle_lead (λ k. refl)
@@ -328,10 +395,6 @@ anchor_start id u = codes "a id=\"" ++ (html.escaped_value id ++ (34 ∷ 62 ∷ 
 
 tag_opens : (id u : List ℕ) → open_tag (anchor_start id u) ≡ Some (anchor_start id [])
 tag_opens id u = rw (quoted (html.escaped_value id) u (unquoted id)) refl
-
-drop_front : (s u : List ℕ) → drop (length s) (s ++ u) ≡ u
-drop_front [] u = refl
-drop_front (c ∷ s) u = drop_front s u
 
 -- the end tag follows it in its line
 not_alone : (id m : List ℕ) → is_lone_tag (anchor_start id (codes "</a>" ++ m)) ≡ false

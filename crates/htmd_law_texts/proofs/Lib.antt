@@ -16,6 +16,11 @@ pub mod TrimmedPieces
 pub mod NoDefinition
 pub mod DefinitionLines
 pub mod LineLaws
+pub mod TagLines
+pub mod TagTexts
+pub mod FlatForm
+pub mod NestedLines
+pub mod NestedBlocks
 pub mod NormalForm
 pub mod Growth
 pub mod DocumentLaws

@@ -5,7 +5,10 @@ use Rattle.std.specs.Prelude.{length, ◌==◌, ◌&&◌, not, slice_get, replic
 use Rattle.std.specs.List.{list_all}
 use Rattle.std.specs.Option.{option_or}
 use Rattle.std.specs.Char.{is_ascii_punctuation}
-use Rattle.std.proofs.lemmas.Bool.{and_parts, or_parts, eqb-true, not-true}
+use Rattle.std.proofs.lemmas.Bool.{and_parts, and_from, or_parts, eqb-true, not-true}
+use Rattle.std.proofs.lemmas.List.Folds.{list_all-append}
+use Rattle.htmd_document.specs.Tags as html
+use Rattle.htmd_law_inlines.proofs.AnchorValues.{plain_byte}
 use Rattle.htmd_lexical.specs.Characters.{grave_accent, is_one_of}
 use Rattle.htmd_lexical.specs.CharacterClasses.{first_is}
 use Rattle.htmd_text.specs.EscapedPlaces.{with_backslashes}
@@ -37,7 +40,8 @@ use Rattle.htmd_law_inlines.proofs.TextPieces.{test, differs}
 use Rattle.htmd_law_inlines.proofs.TextMarks.{mark_at, marks_all, length_one}
 use Rattle.htmd_law_texts.proofs.WrittenPieces.{pieces, piece, text_piece, link_end, Row, row_sign, row_signs, star}
 use Rattle.htmd_law_texts.proofs.WrittenPieces.{stars, score, scores, tildes, Tag, opener, closer, em_tag, strong_tag}
-use Rattle.htmd_law_texts.proofs.WrittenPieces.{del_tag, sup_tag, sub_tag, mark_cases}
+use Rattle.htmd_law_texts.proofs.WrittenPieces.{del_tag, sup_tag, sub_tag, ins_tag, u_tag, mark_tag, small_tag, kbd_tag}
+use Rattle.htmd_law_texts.proofs.WrittenPieces.{abbr_tag, mark_cases}
 use Rattle.htmd_law_texts.proofs.TextStarts.{IsNext, next_escapes}
 use Rattle.htmd_law_texts.proofs.PieceFirsts.{IsParagraph, next_is, format_parts, text_first, code_first, row_first}
 use Rattle.htmd_law_texts.proofs.PieceFirsts.{tag_first, no_text}
@@ -233,12 +237,59 @@ fine_row score k f = fine_quiet (codes "_") k refl f
 fine_row scores k f = fine_quiet (codes "__") k refl f
 fine_row tildes k f = fine_quiet (codes "~~") k refl f
 
+-- a value without a closing bracket, up to the quotation mark that ends it
+fine_value : (s k : List ℕ) → list_all (λ c. not (c == 93)) s ≡ true → Fine k
+    → (e : Bool) → IsFine e (s ++ (34 ∷ 62 ∷ k))
+fine_value [] k h f true = fine_escaped 34 (62 ∷ k) (fine_quiet (62 ∷ []) k refl f)
+fine_value [] k h f false = fine_quiet (34 ∷ 62 ∷ []) k refl f
+fine_value (c ∷ s) k h f true =
+    let p = and_parts (not (c == 93)) (list_all (λ c. not (c == 93)) s) h in
+    fine_escaped c (s ++ (34 ∷ 62 ∷ k)) (fine_value s k p.1 f false)
+fine_value (c ∷ s) k h f false =
+    let p = and_parts (not (c == 93)) (list_all (λ c. not (c == 93)) s) h in
+    let u = s ++ (34 ∷ 62 ∷ k) in
+    test (c == 91)
+    (λ e. subst (λ d. Fine (d ∷ u)) (sym (eqb-true c 91 e)) (fine_opening u))
+    (λ y. fine_other c u (not-true (c == 93) p.0) y (fine_value s k p.1 f (c == 92)))
+
+byte_unclosed : (b : ℕ) → list_all (λ c. not (c == 93)) (html.in_value b) ≡ true
+byte_unclosed b =
+    test (b == 38) (λ e. rw e refl)
+    (λ n1. test (b == 60) (λ e. rw (n1, e) refl)
+    (λ n2. test (b == 62) (λ e. rw (n1, n2, e) refl)
+    (λ n3. test (b == 34) (λ e. rw (n1, n2, n3, e) refl)
+    (λ n4. test (b == 124) (λ e. rw (n1, n2, n3, n4, e) refl)
+    (λ n5. test (b == 93) (λ e. rw (n1, n2, n3, n4, n5, e) refl)
+    (λ n6. ap (list_all (λ c. not (c == 93))) (plain_byte b n1 n2 n3 n4 n5 n6) ∙ rw n6 refl))))))
+
+unclosed : (s : List ℕ) → list_all (λ c. not (c == 93)) (html.escaped_value s) ≡ true
+unclosed [] = refl
+unclosed (b ∷ s) =
+    list_all-append (λ c. not (c == 93)) (html.in_value b) (html.escaped_value s)
+    ∙ and_from (list_all (λ c. not (c == 93)) (html.in_value b))
+    (list_all (λ c. not (c == 93)) (html.escaped_value s))
+    (byte_unclosed b) (unclosed s)
+
 fine_opener : (t : Tag) (k : List ℕ) → Fine k → Fine (opener t ++ k)
 fine_opener em_tag k f = fine_quiet (codes "<em>") k refl f
 fine_opener strong_tag k f = fine_quiet (codes "<strong>") k refl f
 fine_opener del_tag k f = fine_quiet (codes "<del>") k refl f
 fine_opener sup_tag k f = fine_quiet (codes "<sup>") k refl f
 fine_opener sub_tag k f = fine_quiet (codes "<sub>") k refl f
+fine_opener ins_tag k f = fine_quiet (codes "<ins>") k refl f
+fine_opener u_tag k f = fine_quiet (codes "<u>") k refl f
+fine_opener mark_tag k f = fine_quiet (codes "<mark>") k refl f
+fine_opener small_tag k f = fine_quiet (codes "<small>") k refl f
+fine_opener kbd_tag k f = fine_quiet (codes "<kbd>") k refl f
+fine_opener (abbr_tag title) k f =
+    let v = html.escaped_value title in
+    let is : html.abbreviation_tag title ++ k ≡ codes "<abbr title=\"" ++ (v ++ (34 ∷ 62 ∷ k)) =
+    append_assoc (codes "<abbr title=\"" ++ v) (codes "\">") k
+    ∙ append_assoc (codes "<abbr title=\"") v (34 ∷ 62 ∷ k) in
+    subst Fine (sym is) (fine_begun (v ++ (34 ∷ 62 ∷ k)) (fine_value v k (unclosed title) f false))
+  where
+    fine_begun : (s : List ℕ) → Fine s → Fine (codes "<abbr title=\"" ++ s)
+    fine_begun s f = fine_quiet (codes "<abbr title=\"") s refl f
 
 fine_closer : (t : Tag) (k : List ℕ) → Fine k → Fine (closer t ++ k)
 fine_closer em_tag k f = fine_quiet (codes "</em>") k refl f
@@ -246,6 +297,12 @@ fine_closer strong_tag k f = fine_quiet (codes "</strong>") k refl f
 fine_closer del_tag k f = fine_quiet (codes "</del>") k refl f
 fine_closer sup_tag k f = fine_quiet (codes "</sup>") k refl f
 fine_closer sub_tag k f = fine_quiet (codes "</sub>") k refl f
+fine_closer ins_tag k f = fine_quiet (codes "</ins>") k refl f
+fine_closer u_tag k f = fine_quiet (codes "</u>") k refl f
+fine_closer mark_tag k f = fine_quiet (codes "</mark>") k refl f
+fine_closer small_tag k f = fine_quiet (codes "</small>") k refl f
+fine_closer kbd_tag k f = fine_quiet (codes "</kbd>") k refl f
+fine_closer (abbr_tag title) k f = fine_quiet (codes "</abbr>") k refl f
 
 fine_break : (line : Line) → IsParagraph line → (k : List ℕ) → Fine k → Fine (written_break line ++ k)
 fine_break line p k f = rw p.no_one_line (styled line.br_style)
@@ -289,7 +346,7 @@ mutual
       (fine_row r (t ++ (o ++ k))
       (fine_pieces line p (wrote w o) (Some (row_sign r)) (format ∷ around) content (o ++ k) b q.3 (row_next r k)
       (fine_row r k f))))
-      (λ r. let o = opener r in
+      (λ r i. let o = opener r in
       let t = pieces line (wrote w o) (Some 60) content in
       subst Fine (sym (append_assoc o (t ++ closer r) k ∙ ap (λ l. o ++ l) (append_assoc t (closer r) k)))
       (fine_opener r (t ++ (closer r ++ k))
@@ -344,7 +401,7 @@ undefined_first line p w g around (formatted format content) k b h =
     (λ r e. let y = pieces line (wrote w (row_signs r)) (Some (row_sign r)) content ++ row_signs r in
     subst Undefined (sym (append_assoc (row_signs r) y k))
     (row_first r (y ++ k) Undefined (λ u. refl) (λ u. refl) (λ u z. refl)))
-    (λ r. let y = pieces line (wrote w (opener r)) (Some 60) content ++ closer r in
+    (λ r i. let y = pieces line (wrote w (opener r)) (Some 60) content ++ closer r in
     subst Undefined (sym (append_assoc (opener r) y k)) (tag_first r (y ++ k) Undefined (λ u. refl)))
 undefined_first line p w g around (link a name content) k b h =
     let q = link_parts line.in_link around a name content h in

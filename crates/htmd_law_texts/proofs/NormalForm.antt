@@ -10,8 +10,7 @@ use Rattle.htmd_lexical.specs.Characters.{grave_accent, tilde, ampersand, backsl
 use Rattle.htmd_lexical.specs.CharacterClasses.{is_empty, first_is, leading_run, behind_run}
 use Rattle.htmd_document.specs.declared.document.Alignment.{Alignment}
 use Rattle.htmd_document.specs.Documents.{Inlines, Block, Blocks, Items, paragraph, heading, code_block, quote}
-use Rattle.htmd_document.specs.Documents.{thematic_break, list, table, no_blocks, block, no_items, item}
-use Rattle.htmd_document.specs.DocumentLimits.{most_nested}
+use Rattle.htmd_document.specs.Documents.{thematic_break, list, table, element, tags, no_blocks, block, no_items, item}
 use Rattle.htmd_document.specs.TightItems.{is_filled}
 use Rattle.htmd_document.specs.NormalInlines.{has_none, is_normal_line, is_normal_item, are_anchors}
 use Rattle.htmd_document.specs.NormalInlines.{anchors_stand_well}
@@ -20,8 +19,8 @@ use Rattle.htmd_document.specs.NormalDocuments.{is_normal_paragraph, is_level, i
 use Rattle.htmd_document.specs.NormalDocuments.{is_language, has_language, is_code_byte, is_normal_list}
 use Rattle.htmd_document.specs.NormalDocuments.{has_filled_item, has_right_distance, are_tight, is_normal_row, ends_filled}
 use Rattle.htmd_document.specs.NormalDocuments.{are_normal_cells, has_right_length}
-use Rattle.htmd_document.specs.NormalDocuments.{is_normal_table, has_cell, is_normal_block, are_normal_blocks}
-use Rattle.htmd_document.specs.NormalDocuments.{are_normal_items, depth_among, IsNormal}
+use Rattle.htmd_document.specs.NormalDocuments.{is_normal_table, has_cell, is_flat_block, are_flat_blocks}
+use Rattle.htmd_document.specs.NormalDocuments.{are_flat_items, IsFlat}
 use Rattle.htmd_commonmark.specs.BlockMarkdown.{item_count}
 use Rattle.htmd_commonmark_reading.specs.Boxes.{is_end_of_word, nonempty}
 use Rattle.htmd_commonmark_reading.specs.Characters.{is_space_or_tab, escaped, unescaped, resolved, itself, Piece}
@@ -32,11 +31,9 @@ use Rattle.htmd_law_blocks.specs.NormalBlocks.{AreNormalItems}
 use Rattle.htmd_law_inlines.proofs.NumberPieces.{all_reverse}
 use Rattle.htmd_law_texts.proofs.PieceTexts.{is_allowed, all_by}
 use Rattle.htmd_law_texts.proofs.WrittenLines.{clean_line}
+use Rattle.htmd_law_texts.proofs.TagLines.{tags_are}
 
 -- ---- parts
-
-pub document_parts : (d : Blocks) → IsNormal d → are_normal_blocks false d ≡ true
-document_parts d h = (and_parts (are_normal_blocks false d) (nat_le (depth_among d) most_nested) h).0
 
 pub paragraph_parts : (b : Bool) (xs : Inlines) → is_normal_paragraph b xs ≡ true
     → (if b then is_normal_item xs else is_normal_line xs) ≡ true
@@ -54,14 +51,14 @@ heading_parts level xs h =
     let q = and_parts (is_level level) (not (has_none xs)) p.0 in
     (q.0, not-true (has_none xs) q.1, p.1)
 
-pub quote_parts : (b : Bool) (content : Blocks) → is_normal_block b (quote content) ≡ true
-    → (is_filled content ≡ true) × (are_normal_blocks false content ≡ true)
-quote_parts b content h = and_parts (is_filled content) (are_normal_blocks false content) h
+pub quote_parts : (b : Bool) (content : Blocks) → is_flat_block b (quote content) ≡ true
+    → (is_filled content ≡ true) × (are_flat_blocks false content ≡ true)
+quote_parts b content h = and_parts (is_filled content) (are_flat_blocks false content) h
 
 pub list_parts : (b : Bool) (start : Option ℕ) (is_tight : Bool) (items : Items)
-    → is_normal_block b (list start is_tight items) ≡ true
-    → (is_normal_list start is_tight items ≡ true) × (are_normal_items items ≡ true)
-list_parts b start is_tight items h = and_parts (is_normal_list start is_tight items) (are_normal_items items) h
+    → is_flat_block b (list start is_tight items) ≡ true
+    → (is_normal_list start is_tight items ≡ true) × (are_flat_items items ≡ true)
+list_parts b start is_tight items h = and_parts (is_normal_list start is_tight items) (are_flat_items items) h
 
 cells_lines : (cells : List Inlines) → are_normal_cells cells ≡ true → list_all is_normal_line cells ≡ true
 cells_lines cells h = (and_parts (list_all is_normal_line cells) (list_all anchors_stand_well cells) h).0
@@ -252,7 +249,7 @@ distance true items h = h
 distance false items h = tt
 
 mutual
-  block_is : (b : Bool) (x : Block) → is_normal_block b x ≡ true → IsNormalBlock x
+  block_is : (b : Bool) (x : Block) → is_flat_block b x ≡ true → IsNormalBlock x
   block_is b (paragraph content) h = tt
   block_is b (heading level content) h = (heading_parts level content h).0
   block_is b (code_block language s) h =
@@ -262,6 +259,8 @@ mutual
       let p = quote_parts b content h in
       (has_block content p.0, blocks_are false content p.1)
   block_is b thematic_break h = tt
+  block_is b (element name attributes content) h = absurd (cc)
+  block_is b (tags s) h = tags_are s h
   block_is b (list start is_tight items) h =
       let p = list_parts b start is_tight items h in
       let numbers = form.are_short_numbers start (form.item_count items) in
@@ -280,23 +279,23 @@ mutual
         fit_columns (length header) rows t.other_rows,
       )
 
-  blocks_are : (b : Bool) (bs : Blocks) → are_normal_blocks b bs ≡ true → AreNormalBlocks bs
+  blocks_are : (b : Bool) (bs : Blocks) → are_flat_blocks b bs ≡ true → AreNormalBlocks bs
   blocks_are b no_blocks h = tt
   blocks_are b (block first rest) h =
-      let p = and_parts (is_normal_block b first) (are_normal_blocks false rest) h in
+      let p = and_parts (is_flat_block b first) (are_flat_blocks false rest) h in
       (block_is b first p.0, blocks_are false rest p.1)
 
-  items_are : (is_tight : Bool) (items : Items) → Distance is_tight items → are_normal_items items ≡ true
+  items_are : (is_tight : Bool) (items : Items) → Distance is_tight items → are_flat_items items ≡ true
       → AreNormalItems is_tight items
   items_are is_tight no_items d h = tt
   items_are false (item first rest) d h =
-      let p = and_parts (are_normal_blocks true first) (are_normal_items rest) h in
+      let p = and_parts (are_flat_blocks true first) (are_flat_items rest) h in
       (refl, blocks_are true first p.0, items_are false rest tt p.1)
   items_are true (item first rest) d h =
-      let p = and_parts (are_normal_blocks true first) (are_normal_items rest) h in
+      let p = and_parts (are_flat_blocks true first) (are_flat_items rest) h in
       let q = and_parts (form.may_be_tight first) (are_tight rest) d in
       (q.0, blocks_are true first p.0, items_are true rest q.1 p.1)
 
--- the blocks of a normal document are normal, as their laws ask for it
-pub blocks_are_normal : (d : Blocks) → IsNormal d → AreNormalBlocks d
-blocks_are_normal d h = blocks_are false d (document_parts d h)
+-- the blocks of a flat document are normal, as their laws ask for it
+pub blocks_are_normal : (d : Blocks) → IsFlat d → AreNormalBlocks d
+blocks_are_normal d h = blocks_are false d h

@@ -28,7 +28,8 @@ use Rattle.htmd_document.specs.NormalInlines.{may_meet, is_kept}
 use Rattle.htmd_law_inlines.proofs.TextPieces.{test}
 use Rattle.htmd_law_texts.proofs.WrittenPieces.{pieces, piece, link_end, one_text, Row, row_sign, row_signs, star}
 use Rattle.htmd_law_texts.proofs.WrittenPieces.{stars, score, scores, tildes, Tag, opener, closer, em_tag, strong_tag}
-use Rattle.htmd_law_texts.proofs.WrittenPieces.{del_tag, sup_tag, sub_tag, mark_cases}
+use Rattle.htmd_law_texts.proofs.WrittenPieces.{del_tag, sup_tag, sub_tag, ins_tag, u_tag, mark_tag, small_tag, kbd_tag}
+use Rattle.htmd_law_texts.proofs.WrittenPieces.{abbr_tag, format_title, mark_cases}
 use Rattle.htmd_law_texts.proofs.PieceTexts.{row_all, opener_all, closer_all, end_all}
 use Rattle.htmd_law_texts.proofs.PieceUtf8.{small_utf8, row_utf8, opener_utf8, inline_utf8}
 use Rattle.htmd_law_texts.proofs.TextStarts.{IsNext}
@@ -52,6 +53,12 @@ closer_next strong_tag k = (refl, λ e. absurd (cc), λ e. refl)
 closer_next del_tag k = (refl, λ e. absurd (cc), λ e. refl)
 closer_next sup_tag k = (refl, λ e. absurd (cc), λ e. refl)
 closer_next sub_tag k = (refl, λ e. absurd (cc), λ e. refl)
+closer_next ins_tag k = (refl, λ e. absurd (cc), λ e. refl)
+closer_next u_tag k = (refl, λ e. absurd (cc), λ e. refl)
+closer_next mark_tag k = (refl, λ e. absurd (cc), λ e. refl)
+closer_next small_tag k = (refl, λ e. absurd (cc), λ e. refl)
+closer_next kbd_tag k = (refl, λ e. absurd (cc), λ e. refl)
+closer_next (abbr_tag title) k = (refl, λ e. absurd (cc), λ e. refl)
 
 -- what ends a link begins with a bracket
 pub end_is : (style : LinkStyle) (n : ℕ) (a : List ℕ) (t : Option (List ℕ))
@@ -170,12 +177,13 @@ mutual
       (IsUtf8-append w.text o u (row_utf8 r)) (λ e. absurd (cc)) q.3 (row_next r k)
       (subst (λ b. Starts b (o ++ k)) (sym (fits_last line (row_sign r) w.text f content e))
       (starts_append o k (row_all false r) s.1))).1))
-      (λ r. let o = opener r in
+      (λ r i. let o = opener r in
+      let titled = i (format_title line.in_link around g content h) in
       let t = pieces line (wrote w o) (Some 60) content in
       subst AllBegun (sym (append_assoc o (t ++ closer r) k ∙ ap (λ l. o ++ l) (append_assoc t (closer r) k)))
-      (begun_append o (t ++ (closer r ++ k)) (opener_all false r)
+      (begun_append o (t ++ (closer r ++ k)) (opener_all false r titled)
       (starts_pieces line p (wrote w o) (Some 60) (g ∷ around) content (closer r ++ k) false
-      (IsUtf8-append w.text o u (opener_utf8 r)) (λ e. absurd (cc)) q.3 (closer_next r k)
+      (IsUtf8-append w.text o u (opener_utf8 r titled)) (λ e. absurd (cc)) q.3 (closer_next r k)
       (closer_starts (ends_at false content) r k s.1)).1))
   begun_piece line p w f around (link a name content) k u h s =
       let q = link_parts line.in_link around a name content h in

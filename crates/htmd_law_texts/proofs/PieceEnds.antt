@@ -34,7 +34,8 @@ use Rattle.htmd_document.specs.NormalInlines.{ends_with_space, ends_in_space, is
 use Rattle.htmd_law_inlines.proofs.TextPieces.{test, differs}
 use Rattle.htmd_law_texts.proofs.WrittenPieces.{pieces, piece, text_piece, link_end, Row, row_signs, star, stars, score}
 use Rattle.htmd_law_texts.proofs.WrittenPieces.{scores, tildes, Tag, opener, closer, em_tag, strong_tag, del_tag}
-use Rattle.htmd_law_texts.proofs.WrittenPieces.{sup_tag, sub_tag, mark_cases}
+use Rattle.htmd_law_texts.proofs.WrittenPieces.{sup_tag, sub_tag, ins_tag, u_tag, mark_tag, small_tag, kbd_tag}
+use Rattle.htmd_law_texts.proofs.WrittenPieces.{abbr_tag, mark_cases}
 use Rattle.htmd_law_texts.proofs.PieceTexts.{text_plain}
 use Rattle.htmd_law_texts.proofs.LineStarts.{strip_at}
 use Rattle.htmd_law_texts.proofs.PieceFirsts.{no_text}
@@ -150,6 +151,12 @@ closer_ends P o strong_tag = o.append (codes "</strong") (codes ">") (o.closers 
 closer_ends P o del_tag = o.append (codes "</del") (codes ">") (o.closers 62 refl)
 closer_ends P o sup_tag = o.append (codes "</sup") (codes ">") (o.closers 62 refl)
 closer_ends P o sub_tag = o.append (codes "</sub") (codes ">") (o.closers 62 refl)
+closer_ends P o ins_tag = o.append (codes "</ins") (codes ">") (o.closers 62 refl)
+closer_ends P o u_tag = o.append (codes "</u") (codes ">") (o.closers 62 refl)
+closer_ends P o mark_tag = o.append (codes "</mark") (codes ">") (o.closers 62 refl)
+closer_ends P o small_tag = o.append (codes "</small") (codes ">") (o.closers 62 refl)
+closer_ends P o kbd_tag = o.append (codes "</kbd") (codes ">") (o.closers 62 refl)
+closer_ends P o (abbr_tag title) = o.append (codes "</abbr") (codes ">") (o.closers 62 refl)
 
 end_ends : (P : List ℕ → Type 0) → IsOfEnds P
     → (style : LinkStyle) (n : ℕ) (a : List ℕ) (t : Option (List ℕ))
@@ -185,7 +192,7 @@ piece_ends P o line w f around (formatted g content) h n t =
     mark_cases (λ g' m. P (m.opener ++ (pieces line (wrote w m.opener) (Some m.sign) content ++ m.closer)))
     g (sides_of line w.text f content)
     (λ r e. o.append (row_signs r) _ (o.append _ (row_signs r) (row_ends P o r)))
-    (λ r. o.append (opener r) _ (o.append _ (closer r) (closer_ends P o r)))
+    (λ r i. o.append (opener r) _ (o.append _ (closer r) (closer_ends P o r)))
 piece_ends P o line w f around (link a name content) h n t =
     let v = wrote w (codes "[") in
     let i = length (written (in_link line) v (Some 93) content).definitions in

@@ -36,15 +36,18 @@ use Rattle.htmd_commonmark.specs.WrittenText.{Written, wrote, is_one_line, is_he
 use Rattle.htmd_document.specs.NormalInlines as normal
 use Rattle.htmd_document.specs.NormalInlines.{are_whole, last_passes, is_normal, are_normal, is_around, is_barred, are_trimmed}
 use Rattle.htmd_document.specs.NormalInlines.{has_none, first_passes, is_break, begins_with_space, meets, may_meet}
-use Rattle.htmd_document.specs.NormalInlines.{is_text}
+use Rattle.htmd_document.specs.NormalInlines.{is_text, is_trimmed, has_title}
+use Rattle.htmd_document.specs.Tags as html
+use Rattle.htmd_law_inlines.proofs.AnchorPieces.{front_utf8}
 use Rattle.htmd_law_inlines.proofs.CharacterPieces.{no_punctuation}
 use Rattle.htmd_law_inlines.proofs.TextPieces.{test, differs}
 use Rattle.htmd_law_inlines.proofs.TextMarks.{mark_at, marks_all}
 use Rattle.htmd_law_texts.proofs.WrittenPieces.{pieces, piece, text_piece, Row, row_sign, row_signs, row_format, star}
 use Rattle.htmd_law_texts.proofs.WrittenPieces.{stars, score, scores, tildes, Tag, opener, closer, em_tag, strong_tag}
-use Rattle.htmd_law_texts.proofs.WrittenPieces.{del_tag, sup_tag, sub_tag, mark_cases}
+use Rattle.htmd_law_texts.proofs.WrittenPieces.{del_tag, sup_tag, sub_tag, ins_tag, u_tag, mark_tag, small_tag, kbd_tag}
+use Rattle.htmd_law_texts.proofs.WrittenPieces.{abbr_tag, is_titled, mark_cases}
 use Rattle.htmd_law_texts.proofs.PieceTexts.{text_plain}
-use Rattle.htmd_law_texts.proofs.PieceUtf8.{is_small, small_utf8, before_ascii, row_utf8}
+use Rattle.htmd_law_texts.proofs.PieceUtf8.{is_small, small_utf8, before_ascii, row_utf8, text_is_utf8}
 use Rattle.htmd_law_texts.proofs.TextStarts.{IsNext, heads}
 use Rattle.htmd_law_texts.proofs.InlineStarts.{solid}
 
@@ -131,14 +134,40 @@ row_before s score i = ap is_of_word (before_by s [] 95 i refl (omega arith)) �
 row_before s scores i = ap is_of_word (before_by s (codes "_") 95 i refl (omega arith)) ∙ mark_no_word 95 refl
 row_before s tildes i = ap is_of_word (before_by s (codes "~") 126 i refl (omega arith)) ∙ mark_no_word 126 refl
 
-pub opener_before : (s : List ℕ) (t : Tag) → IsUtf8 s
+before_titled : (s u : List ℕ) → IsUtf8 s → IsUtf8 u
+    → written_text.character_before (s ++ (u ++ codes "\">")) ≡ in_line (Some 62)
+before_titled s u i h =
+    let e : s ++ (u ++ codes "\">") ≡ (s ++ (u ++ codes "\"")) ++ (62 ∷ []) =
+    ap (λ l. s ++ l) (sym (append_assoc u (codes "\"") (62 ∷ [])))
+    ∙ sym (append_assoc s (u ++ codes "\"") (62 ∷ [])) in
+    ap written_text.character_before e
+    ∙ before_ascii (s ++ (u ++ codes "\"")) 62
+    (IsUtf8-append s (u ++ codes "\"") i (IsUtf8-append u (codes "\"") h (small_utf8 (codes "\"") refl))) (omega arith)
+
+pub opener_before : (s : List ℕ) (t : Tag) → IsUtf8 s → is_titled t ≡ true
     → is_of_word (written_text.character_before (s ++ opener t)) ≡ false
-opener_before s em_tag i = ap is_of_word (before_by s (codes "<em") 62 i refl (omega arith)) ∙ mark_no_word 62 refl
-opener_before s strong_tag i = ap is_of_word (before_by s (codes "<strong") 62 i refl (omega arith))
+opener_before s em_tag i h = ap is_of_word (before_by s (codes "<em") 62 i refl (omega arith)) ∙ mark_no_word 62 refl
+opener_before s strong_tag i h = ap is_of_word (before_by s (codes "<strong") 62 i refl (omega arith))
     ∙ mark_no_word 62 refl
-opener_before s del_tag i = ap is_of_word (before_by s (codes "<del") 62 i refl (omega arith)) ∙ mark_no_word 62 refl
-opener_before s sup_tag i = ap is_of_word (before_by s (codes "<sup") 62 i refl (omega arith)) ∙ mark_no_word 62 refl
-opener_before s sub_tag i = ap is_of_word (before_by s (codes "<sub") 62 i refl (omega arith)) ∙ mark_no_word 62 refl
+opener_before s del_tag i h = ap is_of_word (before_by s (codes "<del") 62 i refl (omega arith))
+    ∙ mark_no_word 62 refl
+opener_before s sup_tag i h = ap is_of_word (before_by s (codes "<sup") 62 i refl (omega arith))
+    ∙ mark_no_word 62 refl
+opener_before s sub_tag i h = ap is_of_word (before_by s (codes "<sub") 62 i refl (omega arith))
+    ∙ mark_no_word 62 refl
+opener_before s ins_tag i h = ap is_of_word (before_by s (codes "<ins") 62 i refl (omega arith))
+    ∙ mark_no_word 62 refl
+opener_before s u_tag i h = ap is_of_word (before_by s (codes "<u") 62 i refl (omega arith)) ∙ mark_no_word 62 refl
+opener_before s mark_tag i h = ap is_of_word (before_by s (codes "<mark") 62 i refl (omega arith))
+    ∙ mark_no_word 62 refl
+opener_before s small_tag i h = ap is_of_word (before_by s (codes "<small") 62 i refl (omega arith))
+    ∙ mark_no_word 62 refl
+opener_before s kbd_tag i h = ap is_of_word (before_by s (codes "<kbd") 62 i refl (omega arith))
+    ∙ mark_no_word 62 refl
+opener_before s (abbr_tag title) i h =
+    ap is_of_word (before_titled s (codes "<abbr title=\"" ++ html.escaped_value title) i
+    (front_utf8 title (text_is_utf8 title (and_parts (is_text title) (is_trimmed title) h).0)))
+    ∙ mark_no_word 62 refl
 
 pub break_begins : (s : List ℕ) (style : BrStyle) → IsUtf8 s
     → written_text.begins_line (s ++ breaks.line_break style) ≡ true
@@ -204,6 +233,12 @@ tag_first strong_tag k P x = x (codes "strong>" ++ k)
 tag_first del_tag k P x = x (codes "del>" ++ k)
 tag_first sup_tag k P x = x (codes "sup>" ++ k)
 tag_first sub_tag k P x = x (codes "sub>" ++ k)
+tag_first ins_tag k P x = x (codes "ins>" ++ k)
+tag_first u_tag k P x = x (codes "u>" ++ k)
+tag_first mark_tag k P x = x (codes "mark>" ++ k)
+tag_first small_tag k P x = x (codes "small>" ++ k)
+tag_first kbd_tag k P x = x (codes "kbd>" ++ k)
+tag_first (abbr_tag title) k P x = x (((codes "abbr title=\"" ++ html.escaped_value title) ++ codes "\">") ++ k)
 
 pub link_first : (line : Line) (w : Written) (f : Following) (a : List ℕ) (t : Option (List ℕ)) (content : Inlines)
     (k : List ℕ) (P : List ℕ → Type 0) → ((u : List ℕ) → P (60 ∷ u)) → ((u : List ℕ) → P (91 ∷ u))
@@ -270,7 +305,7 @@ next_is line p w closing around s k (inline x rest) m h n =
         (row_first r (y ++ k') P (λ u. guessed (first_of_format g) 42 u q.0 q.1 refl)
         (λ u. guessed (first_of_format g) 95 u q.0 q.1 refl)
         (λ u z. guessed (first_of_format g) 126 u q.0 q.1 refl)))
-        (λ r. let o = opener r in
+        (λ r i. let o = opener r in
         let y = pieces line (wrote w o) (Some 60) content ++ closer r in
         subst P (sym (append_assoc o y k'))
         (tag_first r (y ++ k') P (λ u. guessed (first_of_format g) 60 u q.0 q.1 refl)))
@@ -329,12 +364,12 @@ format_parts in_link around g content h =
     let x0 = not (is_barred around g) in
     let x1 = not (has_none content) in
     let x2 = not (first_passes is_break content) in
-    let p = and_parts (x0 && x1 && are_whole content) (are_normal in_link (g ∷ around) content) h in
-    let q = and_parts (x0 && x1) (are_whole content) p.0 in
-    let r = and_parts x0 x1 q.0 in
+    let p = and_parts (x0 && has_title g && x1 && are_whole content) (are_normal in_link (g ∷ around) content) h in
+    let q = and_parts (x0 && has_title g && x1) (are_whole content) p.0 in
+    let r = and_parts (x0 && has_title g) x1 q.0 in
     let s = (and_parts (are_trimmed content && x2) (not (last_passes is_break content)) q.1).0 in
     let t = and_parts (are_trimmed content) x2 s in (
-      not-true (is_barred around g) r.0,
+      not-true (is_barred around g) (and_parts x0 (has_title g) r.0).0,
       not-true (has_none content) r.1,
       t.0,
       p.1,
@@ -378,7 +413,7 @@ mutual
       (solid_pieces line p (wrote w o) (Some (row_sign r)) (g ∷ around) content (o ++ k)
       (IsUtf8-append w.text o u (row_utf8 r)) (row_before w.text r u) q.1
       (fits_first line p (row_sign r) w.text f content e) (trimmed_first content q.2) q.3))))
-      (λ r. let o = opener r in
+      (λ r i. let o = opener r in
       let y = pieces line (wrote w o) (Some 60) content ++ closer r in
       subst IsSolid (sym (append_assoc o y k)) (tag_first r (y ++ k) IsSolid (λ u. refl)))
   solid_piece line p w f around (link a t content) k u b n s h =
@@ -429,7 +464,7 @@ no_tilde_pieces line p w closing around (inline x rest) k d n f h =
         (row_first r (y ++ k) NoTilde (λ u. refl) (λ u. refl)
         (λ u z. let v : true ≡ false = sym d ∙ ap (λ r. is_barred around (row_format r)) (sym z)
         ∙ a in absurd (cc))))
-        (λ r a. let o = opener r in
+        (λ r i a. let o = opener r in
         let y = pieces line (wrote w o) (Some 60) content ++ closer r in
         subst NoTilde (sym (append_assoc o y k)) (tag_first r (y ++ k) NoTilde (λ u. refl)))
         (format_parts line.in_link around g content h).0

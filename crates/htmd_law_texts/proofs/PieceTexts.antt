@@ -35,13 +35,14 @@ use Rattle.htmd_commonmark.specs.TextEscapes.{escaped, is_marked}
 use Rattle.htmd_commonmark.specs.WrittenText.{Written, wrote, is_one_line}
 use Rattle.htmd_law_blocks.specs.LineTexts as texts
 use Rattle.htmd_document.specs.NormalInlines as normal
-use Rattle.htmd_document.specs.NormalInlines.{is_normal, are_normal, is_text, is_line, is_attribute, is_title, is_kept}
+use Rattle.htmd_document.specs.NormalInlines.{is_normal, are_normal, is_text, is_trimmed, is_line, is_attribute, is_title, is_kept}
 use Rattle.htmd_law_inlines.proofs.AnchorValues.{plain_byte}
 use Rattle.htmd_law_inlines.proofs.TextPieces.{test, differs}
 use Rattle.htmd_law_inlines.proofs.AddressPieces.{bare_signs, piece_cases}
 use Rattle.htmd_law_texts.proofs.WrittenPieces.{pieces, piece, text_piece, link_end, Row, row_sign, row_signs, star}
 use Rattle.htmd_law_texts.proofs.WrittenPieces.{stars, score, scores, tildes, Tag, em_tag, strong_tag, del_tag, sup_tag}
-use Rattle.htmd_law_texts.proofs.WrittenPieces.{sub_tag, opener, closer, mark_cases}
+use Rattle.htmd_law_texts.proofs.WrittenPieces.{sub_tag, ins_tag, u_tag, mark_tag, small_tag, kbd_tag, abbr_tag, opener}
+use Rattle.htmd_law_texts.proofs.WrittenPieces.{closer, is_titled, format_title, mark_cases}
 
 -- ---- classes of characters
 
@@ -264,24 +265,10 @@ row_all b score = refl
 row_all b scores = refl
 row_all b tildes = refl
 
-pub opener_all : (b : Bool) (t : Tag) → AllIn b (opener t)
-opener_all b em_tag = refl
-opener_all b strong_tag = refl
-opener_all b del_tag = refl
-opener_all b sup_tag = refl
-opener_all b sub_tag = refl
-
-pub closer_all : (b : Bool) (t : Tag) → AllIn b (closer t)
-closer_all b em_tag = refl
-closer_all b strong_tag = refl
-closer_all b del_tag = refl
-closer_all b sup_tag = refl
-closer_all b sub_tag = refl
-
 pub text_plain : (s : List ℕ) → is_text s ≡ true → list_all normal.is_line_byte s ≡ true
 text_plain s h = (and_parts _ _ (and_parts _ _ (and_parts _ _ h).0).0).1
 
--- the value of an anchor
+-- the value of an attribute
 byte_all : (b : Bool) (c : ℕ) → normal.is_line_byte c ≡ true
     → list_all (is_allowed b) (html.in_value c) ≡ true
 byte_all b c h =
@@ -299,6 +286,35 @@ value_all b [] h = refl
 value_all b (c ∷ s) h =
     let p = and_parts (normal.is_line_byte c) (list_all normal.is_line_byte s) h in
     all_append (is_allowed b) (html.in_value c) (html.escaped_value s) (byte_all b c p.0) (value_all b s p.1)
+
+pub opener_all : (b : Bool) (t : Tag) → is_titled t ≡ true → AllIn b (opener t)
+opener_all b em_tag h = refl
+opener_all b strong_tag h = refl
+opener_all b del_tag h = refl
+opener_all b sup_tag h = refl
+opener_all b sub_tag h = refl
+opener_all b ins_tag h = refl
+opener_all b u_tag h = refl
+opener_all b mark_tag h = refl
+opener_all b small_tag h = refl
+opener_all b kbd_tag h = refl
+opener_all b (abbr_tag title) h =
+    let v = value_all b title (text_plain title (and_parts (is_text title) (is_trimmed title) h).0) in
+    all_append (is_allowed b) (codes "<abbr title=\"" ++ html.escaped_value title) (codes "\">")
+    (all_append (is_allowed b) (codes "<abbr title=\"") (html.escaped_value title) refl v) refl
+
+pub closer_all : (b : Bool) (t : Tag) → AllIn b (closer t)
+closer_all b em_tag = refl
+closer_all b strong_tag = refl
+closer_all b del_tag = refl
+closer_all b sup_tag = refl
+closer_all b sub_tag = refl
+closer_all b ins_tag = refl
+closer_all b u_tag = refl
+closer_all b mark_tag = refl
+closer_all b small_tag = refl
+closer_all b kbd_tag = refl
+closer_all b (abbr_tag title) = refl
 
 mutual
   pub pieces_all : (b : Bool) (line : Line) (w : Written) (closing : Option ℕ) (around : List Format) (xs : Inlines)
@@ -328,9 +344,10 @@ mutual
       all_append (is_allowed b) o (t ++ o) (row_all b r)
       (all_append (is_allowed b) t o (pieces_all b line (wrote w o) (Some (row_sign r)) (format ∷ around) content p a)
       (row_all b r)))
-      (λ r. let o = opener r in
+      (λ r i. let o = opener r in
       let t = pieces line (wrote w o) (Some 60) content in
-      all_append (is_allowed b) o (t ++ closer r) (opener_all b r)
+      all_append (is_allowed b) o (t ++ closer r)
+      (opener_all b r (i (format_title line.in_link around format content h)))
       (all_append (is_allowed b) t (closer r) (pieces_all b line (wrote w o) (Some 60) (format ∷ around) content p a)
       (closer_all b r)))
   piece_in b line w f around (link address name content) h a =

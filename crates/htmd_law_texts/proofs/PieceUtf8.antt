@@ -20,7 +20,7 @@ use Rattle.htmd_markdown.specs.declared.line_break.BrStyle.{BrStyle}
 use Rattle.htmd_markdown.specs.declared.line_break.BrStyle.TheVariants.{TwoSpaces, Backslash}
 use Rattle.htmd_markdown.specs.LineBreaks as breaks
 use Rattle.htmd_markdown.specs.CodeSpans.{meets_delimiter, smallest_unused_len, space_if}
-use Rattle.htmd_law_inlines.proofs.AnchorPieces.{anchor_utf8}
+use Rattle.htmd_law_inlines.proofs.AnchorPieces.{anchor_utf8, abbreviation_utf8}
 use Rattle.htmd_document.specs.Documents.{anchor}
 use Rattle.htmd_commonmark.specs.declared.line.Line.{Line}
 use Rattle.htmd_commonmark.specs.declared.inline_ends.Following.{Following}
@@ -33,7 +33,7 @@ use Rattle.htmd_commonmark.specs.InlineMarkdown.{place_in_tags, written_break, w
 use Rattle.htmd_commonmark.specs.InlineMarkdown.{is_autolinked, in_link, place_of}
 use Rattle.htmd_commonmark.specs.TextEscapes.{escaped, is_marked}
 use Rattle.htmd_commonmark.specs.WrittenText.{Written, wrote, is_one_line, is_heading, character_before, in_line}
-use Rattle.htmd_document.specs.NormalInlines.{is_normal, are_normal, is_text, is_line, is_attribute, is_title, is_kept}
+use Rattle.htmd_document.specs.NormalInlines.{is_normal, are_normal, is_text, is_trimmed, is_line, is_attribute, is_title, is_kept}
 use Rattle.htmd_law_inlines.proofs.TextPieces.{test}
 use Rattle.htmd_law_inlines.proofs.TextRead.{escapes_of}
 use Rattle.htmd_law_inlines.proofs.TextMarks.{marks_all, are_due}
@@ -44,7 +44,8 @@ use Rattle.htmd_law_inlines.proofs.WalkPieces.{ascii_utf8, escaped_utf8}
 use Rattle.htmd_law_inlines.proofs.Utf8Pieces.{resource_utf8}
 use Rattle.htmd_law_texts.proofs.WrittenPieces.{pieces, piece, text_piece, link_end, Row, row_sign, row_signs, star}
 use Rattle.htmd_law_texts.proofs.WrittenPieces.{stars, score, scores, tildes, Tag, em_tag, strong_tag, del_tag, sup_tag}
-use Rattle.htmd_law_texts.proofs.WrittenPieces.{sub_tag, opener, closer, mark_cases}
+use Rattle.htmd_law_texts.proofs.WrittenPieces.{sub_tag, ins_tag, u_tag, mark_tag, small_tag, kbd_tag, abbr_tag, opener}
+use Rattle.htmd_law_texts.proofs.WrittenPieces.{closer, is_titled, format_title, mark_cases}
 use Rattle.htmd_law_texts.proofs.PieceTexts.{all_by, all_replicate, decimal_digits}
 use lib.Utf8.{encode, encodes, scalar, low_scalar}
 
@@ -157,12 +158,19 @@ row_utf8 score = small_utf8 (codes "_") refl
 row_utf8 scores = small_utf8 (codes "__") refl
 row_utf8 tildes = small_utf8 (codes "~~") refl
 
-pub opener_utf8 : (t : Tag) → IsUtf8 (opener t)
-opener_utf8 em_tag = small_utf8 (codes "<em>") refl
-opener_utf8 strong_tag = small_utf8 (codes "<strong>") refl
-opener_utf8 del_tag = small_utf8 (codes "<del>") refl
-opener_utf8 sup_tag = small_utf8 (codes "<sup>") refl
-opener_utf8 sub_tag = small_utf8 (codes "<sub>") refl
+pub opener_utf8 : (t : Tag) → is_titled t ≡ true → IsUtf8 (opener t)
+opener_utf8 em_tag h = small_utf8 (codes "<em>") refl
+opener_utf8 strong_tag h = small_utf8 (codes "<strong>") refl
+opener_utf8 del_tag h = small_utf8 (codes "<del>") refl
+opener_utf8 sup_tag h = small_utf8 (codes "<sup>") refl
+opener_utf8 sub_tag h = small_utf8 (codes "<sub>") refl
+opener_utf8 ins_tag h = small_utf8 (codes "<ins>") refl
+opener_utf8 u_tag h = small_utf8 (codes "<u>") refl
+opener_utf8 mark_tag h = small_utf8 (codes "<mark>") refl
+opener_utf8 small_tag h = small_utf8 (codes "<small>") refl
+opener_utf8 kbd_tag h = small_utf8 (codes "<kbd>") refl
+opener_utf8 (abbr_tag title) h =
+    abbreviation_utf8 title (text_is_utf8 title (and_parts (is_text title) (is_trimmed title) h).0)
 
 closer_utf8 : (t : Tag) → IsUtf8 (closer t)
 closer_utf8 em_tag = small_utf8 (codes "</em>") refl
@@ -170,6 +178,12 @@ closer_utf8 strong_tag = small_utf8 (codes "</strong>") refl
 closer_utf8 del_tag = small_utf8 (codes "</del>") refl
 closer_utf8 sup_tag = small_utf8 (codes "</sup>") refl
 closer_utf8 sub_tag = small_utf8 (codes "</sub>") refl
+closer_utf8 ins_tag = small_utf8 (codes "</ins>") refl
+closer_utf8 u_tag = small_utf8 (codes "</u>") refl
+closer_utf8 mark_tag = small_utf8 (codes "</mark>") refl
+closer_utf8 small_tag = small_utf8 (codes "</small>") refl
+closer_utf8 kbd_tag = small_utf8 (codes "</kbd>") refl
+closer_utf8 (abbr_tag title) = small_utf8 (codes "</abbr>") refl
 
 -- ---- all inlines
 
@@ -198,9 +212,9 @@ mutual
       IsUtf8-append o (t ++ o) (row_utf8 r)
       (IsUtf8-append t o (pieces_utf8 line (wrote w o) (Some (row_sign r)) (format ∷ around) content k p)
       (row_utf8 r)))
-      (λ r. let o = opener r in
+      (λ r i. let o = opener r in
       let t = pieces line (wrote w o) (Some 60) content in
-      IsUtf8-append o (t ++ closer r) (opener_utf8 r)
+      IsUtf8-append o (t ++ closer r) (opener_utf8 r (i (format_title line.in_link around format content h)))
       (IsUtf8-append t (closer r) (pieces_utf8 line (wrote w o) (Some 60) (format ∷ around) content k p)
       (closer_utf8 r)))
   inline_utf8 line w f around (link address name content) k h =

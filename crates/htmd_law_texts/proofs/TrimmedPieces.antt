@@ -31,7 +31,8 @@ use Rattle.htmd_law_inlines.proofs.TextPieces.{test, differs}
 use Rattle.htmd_law_inlines.proofs.TextMarks.{index_at}
 use Rattle.htmd_law_texts.proofs.WrittenPieces.{pieces, piece, text_piece, Row, row_sign, row_signs, star, stars, score}
 use Rattle.htmd_law_texts.proofs.WrittenPieces.{scores, tildes, Tag, opener, closer, em_tag, strong_tag, del_tag}
-use Rattle.htmd_law_texts.proofs.WrittenPieces.{sup_tag, sub_tag, mark_cases}
+use Rattle.htmd_law_texts.proofs.WrittenPieces.{sup_tag, sub_tag, ins_tag, u_tag, mark_tag, small_tag, kbd_tag}
+use Rattle.htmd_law_texts.proofs.WrittenPieces.{abbr_tag, mark_cases}
 use Rattle.htmd_law_texts.proofs.PieceTexts.{text_plain}
 use Rattle.htmd_law_texts.proofs.PieceFirsts.{no_text, span_head}
 use Rattle.std.proofs.lemmas.List.{length-reverse}
@@ -253,6 +254,12 @@ opener_black strong_tag k = refl
 opener_black del_tag k = refl
 opener_black sup_tag k = refl
 opener_black sub_tag k = refl
+opener_black ins_tag k = refl
+opener_black u_tag k = refl
+opener_black mark_tag k = refl
+opener_black small_tag k = refl
+opener_black kbd_tag k = refl
+opener_black (abbr_tag title) k = refl
 
 pub begins_black : (line : Line) (w : Written) (closing : Option ℕ) (around : List Format) (xs : Inlines)
     → has_none xs ≡ false → first_passes is_break xs ≡ false → first_passes begins_with_space xs ≡ false
@@ -272,7 +279,7 @@ begins_black line w closing around (inline x rest) n b e h =
         mark_cases (λ g' m. IsBlack (m.opener ++ (pieces line (wrote w m.opener) (Some m.sign) content ++ m.closer)))
         g (sides_of line w.text f content)
         (λ r e. row_black r (pieces line (wrote w (row_signs r)) (Some (row_sign r)) content ++ row_signs r))
-        (λ r. opener_black r (pieces line (wrote w (opener r)) (Some 60) content ++ closer r))
+        (λ r i. opener_black r (pieces line (wrote w (opener r)) (Some 60) content ++ closer r))
     one f (link a t content) b e h = test (is_autolinked line a t content) (λ y. rw y refl) (λ y. rw y refl)
     one f (image a t d) b e h = refl
     one f (anchor i) b e h = refl

@@ -31,7 +31,7 @@ use Rattle.htmd_document.specs.NormalInlines.{is_normal, are_normal, has_none, i
 use Rattle.htmd_document.specs.NormalInlines.{begins_with_space, is_text, is_attribute, is_title, is_kept}
 use Rattle.htmd_law_inlines.proofs.TextPieces.{test}
 use Rattle.htmd_law_texts.proofs.WrittenPieces.{pieces, piece, text_piece, row_sign, row_signs, row_format, opener}
-use Rattle.htmd_law_texts.proofs.WrittenPieces.{closer, mark_cases}
+use Rattle.htmd_law_texts.proofs.WrittenPieces.{closer, format_title, mark_cases}
 use Rattle.htmd_law_texts.proofs.PieceTexts.{is_allowed, all_append, all_by, kept_allowed, piece_in, row_all}
 use Rattle.htmd_law_texts.proofs.PieceTexts.{opener_all, text_plain}
 use Rattle.htmd_law_texts.proofs.PieceUtf8.{row_utf8, opener_utf8}
@@ -259,18 +259,19 @@ inline_begins line p w f around (formatted g content) k u b n sp h x =
     (λ z. no_tilde_line all
     (no_tilde_pieces line p (wrote w o) (Some (row_sign r)) (row_format r ∷ around) content (o ++ k)
     (ap (λ r. is_around (row_format r ∷ around) Deleted) z) q.1 first j)))))
-    (λ r a j. let o = opener r in
+    (λ r i a j. let o = opener r in
+    let titled = i (format_title line.in_link around g content h) in
     let t = pieces line (wrote w o) (Some 60) content in
-    let u' = IsUtf8-append w.text o u (opener_utf8 r) in
+    let u' = IsUtf8-append w.text o u (opener_utf8 r titled) in
     let all = t ++ (closer r ++ k) in
     let is : first_line ((o ++ (t ++ closer r)) ++ k) ≡ o ++ first_line all =
     ap first_line (append_assoc o (t ++ closer r) k ∙ ap (λ l. o ++ l) (append_assoc t (closer r) k))
-    ∙ line_append o all (opener_all false r) in
+    ∙ line_append o all (opener_all false r titled) in
     subst (Begins (line.in_link || y)) (sym is) (
       opener_further r (first_line all),
       λ e. opener_first r (first_line all) (solid_first (first_line all) (solid_line all
           (solid_pieces line p (wrote w o) (Some 60) (g ∷ around) content (closer r ++ k) u'
-          (opener_before w.text r u) q.1 (or_parts line.in_link y e).1 (trimmed_first content q.2) q.3))),
+          (opener_before w.text r u titled) q.1 (or_parts line.in_link y e).1 (trimmed_first content q.2) q.3))),
     ))
     q.0 q.3
 inline_begins line p w f around (link a t content) k u b n sp h x =

@@ -1,16 +1,20 @@
 -- What is written of inlines, as a text that stands after what was written before.
-use Rattle.std.proofs.Common.{◌≡◌, ◌∙◌, refl, ap, sym, ℕ, suc, true, List, [], ◌∷◌, ◌++◌, Option, Some, codes}
+use Rattle.std.proofs.Common.{◌≡◌, ◌∙◌, refl, ap, sym, ℕ, suc, Bool, true, not, List, [], ◌∷◌, ◌++◌, Option, Some, codes}
 use Rattle.std.proofs.Common.{append_assoc}
 use Rattle.std.specs.Prelude.{length, ◌&&◌, if◌then◌else◌}
+use Rattle.std.proofs.lemmas.Bool.{and_parts}
 use Rattle.std.proofs.lemmas.List.{append-nil}
 use Rattle.htmd_document.specs.Formats.{Format}
-use Rattle.htmd_document.specs.Formats.{Emphasis, Strong, Deleted, Superscript, Subscript}
+use Rattle.htmd_document.specs.Formats.{Emphasis, Strong, Deleted, Superscript, Subscript, Inserted, Underlined, Marked}
+use Rattle.htmd_document.specs.Formats.{Small, Keyboard, Abbreviation}
 use Rattle.htmd_document.specs.Documents.{Inline, text, code, formatted, link, image, line_break, task}
 use Rattle.htmd_document.specs.Documents.{anchor}
 use Rattle.htmd_document.specs.Documents.{Inlines, no_inlines, inline}
 use Rattle.htmd_markdown.specs.declared.link.LinkStyle.{LinkStyle}
 use Rattle.htmd_markdown.specs.declared.link.LinkStyle.TheVariants.{Inlined, InlinedPreferAutolinks, Referenced}
 use Rattle.htmd_document.specs.Tags as html
+use Rattle.htmd_document.specs.NormalInlines.{is_normal, are_normal, is_text, is_trimmed, has_title, has_none, is_barred}
+use Rattle.htmd_document.specs.NormalInlines.{are_whole}
 use Rattle.htmd_commonmark.specs.declared.line.Line.{Line}
 use Rattle.htmd_commonmark.specs.declared.inline_ends.Following.{Following}
 use Rattle.htmd_commonmark.specs.declared.marks.Sides.{Sides}
@@ -140,6 +144,12 @@ pub data Tag : Type 0 where
   del_tag : Tag
   sup_tag : Tag
   sub_tag : Tag
+  ins_tag : Tag
+  u_tag : Tag
+  mark_tag : Tag
+  small_tag : Tag
+  kbd_tag : Tag
+  abbr_tag : (title : List ℕ) → Tag
 
 abbrev pub opener : Tag → List ℕ
 opener em_tag = codes "<em>"
@@ -147,6 +157,12 @@ opener strong_tag = codes "<strong>"
 opener del_tag = codes "<del>"
 opener sup_tag = codes "<sup>"
 opener sub_tag = codes "<sub>"
+opener ins_tag = codes "<ins>"
+opener u_tag = codes "<u>"
+opener mark_tag = codes "<mark>"
+opener small_tag = codes "<small>"
+opener kbd_tag = codes "<kbd>"
+opener (abbr_tag title) = html.abbreviation_tag title
 
 abbrev pub closer : Tag → List ℕ
 closer em_tag = codes "</em>"
@@ -154,17 +170,43 @@ closer strong_tag = codes "</strong>"
 closer del_tag = codes "</del>"
 closer sup_tag = codes "</sup>"
 closer sub_tag = codes "</sub>"
+closer ins_tag = codes "</ins>"
+closer u_tag = codes "</u>"
+closer mark_tag = codes "</mark>"
+closer small_tag = codes "</small>"
+closer kbd_tag = codes "</kbd>"
+closer (abbr_tag title) = codes "</abbr>"
+
+-- the title of a tag is normal
+abbrev pub is_titled : Tag → Bool
+is_titled (abbr_tag title) = is_text title && is_trimmed title
+is_titled t = true
+
+pub format_title : (in_link : Bool) (around : List Format) (f : Format) (content : Inlines)
+    → is_normal in_link around (formatted f content) ≡ true → has_title f ≡ true
+format_title in_link around f content h =
+    let x = not (is_barred around f) in
+    let n = not (has_none content) in
+    let p = and_parts (x && has_title f && n && are_whole content) (are_normal in_link (f ∷ around) content) h in
+    let q = and_parts (x && has_title f && n) (are_whole content) p.0 in
+    (and_parts x (has_title f) (and_parts (x && has_title f) n q.0).0).1
 
 pub mark_cases : (P : Format → Mark → Type 0) (f : Format) (s : Sides)
     → ((r : Row) → fits (row_sign r) s ≡ true → P (row_format r) (row (row_sign r) (row_signs r)))
-    → ((t : Tag) → P f (tags (opener t) (closer t)))
+    → ((t : Tag) → (has_title f ≡ true → is_titled t ≡ true) → P f (tags (opener t) (closer t)))
     → P f (mark_for f s)
 mark_cases P Emphasis s x y =
     test (fits 42 s) (λ e. rw e (x star e))
-    (λ n. test (fits 95 s) (λ e. rw (n, e) (x score e)) (λ e. rw (n, e) (y em_tag)))
+    (λ n. test (fits 95 s) (λ e. rw (n, e) (x score e)) (λ e. rw (n, e) (y em_tag (λ h. refl))))
 mark_cases P Strong s x y =
     test (fits 42 s) (λ e. rw e (x stars e))
-    (λ n. test (fits 95 s) (λ e. rw (n, e) (x scores e)) (λ e. rw (n, e) (y strong_tag)))
-mark_cases P Deleted s x y = test (fits 126 s) (λ e. rw e (x tildes e)) (λ e. rw e (y del_tag))
-mark_cases P Superscript s x y = y sup_tag
-mark_cases P Subscript s x y = y sub_tag
+    (λ n. test (fits 95 s) (λ e. rw (n, e) (x scores e)) (λ e. rw (n, e) (y strong_tag (λ h. refl))))
+mark_cases P Deleted s x y = test (fits 126 s) (λ e. rw e (x tildes e)) (λ e. rw e (y del_tag (λ h. refl)))
+mark_cases P Superscript s x y = y sup_tag (λ h. refl)
+mark_cases P Subscript s x y = y sub_tag (λ h. refl)
+mark_cases P Inserted s x y = y ins_tag (λ h. refl)
+mark_cases P Underlined s x y = y u_tag (λ h. refl)
+mark_cases P Marked s x y = y mark_tag (λ h. refl)
+mark_cases P Small s x y = y small_tag (λ h. refl)
+mark_cases P Keyboard s x y = y kbd_tag (λ h. refl)
+mark_cases P (Abbreviation title) s x y = y (abbr_tag title) (λ h. h)

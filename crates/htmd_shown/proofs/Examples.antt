@@ -1,9 +1,10 @@
 -- Worked rows of what shows.
-use Rattle.std.proofs.Common.{◌≡◌, ℕ, true, List, [], ◌∷◌, Some, None, refl}
+use Rattle.std.proofs.Common.{◌≡◌, ℕ, true, false, List, [], ◌∷◌, Some, None, refl}
 use Rattle.std.specs.Prelude.{codes}
 use Rattle.std.specs.Str.{chars}
 use Rattle.htmd_lexical.specs.AttributePairs.{AttributePair}
 use Rattle.htmd_nodes.specs.NumberedTrees as page
+use Rattle.htmd_document.specs.declared.document.InlineElement.TheVariants.{Keyboard}
 use Rattle.htmd_shown.specs.declared.role.Role.TheVariants as role
 use Rattle.htmd_shown.specs.AllTexts.{with_line_end}
 use Rattle.htmd_shown.specs.ClassWords.{has_class, number_words}
@@ -13,7 +14,7 @@ use Rattle.htmd_shown.specs.Formulas.{squeezed, is_displayed_type}
 use Rattle.htmd_shown.specs.Images.{first_candidate, is_data}
 use Rattle.htmd_shown.specs.Marks.{is_usual_sign}
 use Rattle.htmd_shown.specs.Pieces.{no_pieces, pieces_after_all}
-use Rattle.htmd_shown.specs.Roles.{role_of, table_role, heading_or_block, block_role, inline_role}
+use Rattle.htmd_shown.specs.Roles.{role_of, table_role, heading_or_block, block_role, inline_role, element_role}
 use Rattle.htmd_shown.specs.Shown.{Sight, role_at, shown, shown_all, shown_in, is_for_layout}
 use Rattle.htmd_shown.specs.SimpleTrees.{Simple, text, element, Simples, none, more}
 use lib.Utf8.{encode}
@@ -28,9 +29,18 @@ unfolding role_of table_role heading_or_block block_role
 role-term = refl
 
 -- an `a` without an address is no link
-pub role-target : role_at (codes "a") [] page.none ≡ role.Target
+pub role-target : role_at false (codes "a") [] page.none ≡ role.Target
 unfolding role_of table_role heading_or_block block_role inline_role
 role-target = refl
+
+-- what is typed is code, unless the document is rich
+pub role-typed : role_at false (codes "kbd") [] page.none ≡ role.Typed
+unfolding role_of table_role heading_or_block block_role inline_role element_role
+role-typed = refl
+
+pub role-keyboard : role_at true (codes "kbd") [] page.none ≡ role.Element Keyboard
+unfolding role_of table_role heading_or_block block_role inline_role element_role
+role-keyboard = refl
 
 pub layout-said : is_for_layout (pair (codes "role") (codes " Presentation x") ∷ []) ≡ true
 layout-said = refl
@@ -90,7 +100,7 @@ pieces-one = refl
 -- ---- pages
 
 abbrev sight : Sight
-sight = record { scripting = true; skip = [] }
+sight = record { scripting = true; skip = []; is_rich = false }
 
 -- the permalink of a heading goes
 pub heading-permalink : shown_in sight (page.document 0 (page.more (page.element 1 (codes "h2") []

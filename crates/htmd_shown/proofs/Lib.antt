@@ -9,6 +9,7 @@ pub mod NodesLemmas
 pub mod PageLemmas
 pub mod RolesLemmas
 pub mod ShapesLemmas
+pub mod ShowingsLemmas
 pub mod ShownTextsLemmas
 pub mod SpacesLemmas
 pub mod WalkLemmas

@@ -9,7 +9,7 @@ use Rattle.htmd_nodes.specs.declared.tag.Tag.TheVariants as tag
 use Rattle.htmd_nodes.specs.Tags.{tag_text, HasNoTag}
 use Rattle.htmd_shown.specs.declared.role.Role.TheVariants as role
 use Rattle.htmd_shown.specs.Roles.{is_among, hidden_names}
-use Rattle.htmd_shown.specs.Roles.{role_of, table_role, heading_or_block, block_role, inline_role}
+use Rattle.htmd_shown.specs.Roles.{role_of, table_role, heading_or_block, block_role, inline_role, element_role}
 
 pub among_names : (names : List (Bor (List ℕ))) (name : List ℕ)
     → list_any (λ n. bytes_eq n.now name) names ≡ is_among (map (λ n. n.now) names) name
@@ -37,6 +37,19 @@ hidden_tags =
 pub shown_name : (name : List ℕ) → HasNoTag name → is_among hidden_names name ≡ false
 shown_name name h = none_among name h hidden_tags
 
+element_plain : (name : List ℕ) → HasNoTag name → element_role name ≡ role.Plain
+unfolding element_role
+element_plain name h = rw (
+  h tag.Sup,
+  h tag.Sub,
+  h tag.Ins,
+  h tag.U,
+  h tag.Mark,
+  h tag.Small,
+  h tag.Kbd,
+  h tag.Abbr,
+) refl
+
 inline_plain : (name : List ℕ) → HasNoTag name → inline_role name ≡ role.Plain
 unfolding inline_role
 inline_plain name h = rw (
@@ -50,11 +63,8 @@ inline_plain name h = rw (
   h tag.Del,
   h tag.S,
   h tag.Strike,
-  h tag.Sup,
-  h tag.Sub,
   h tag.Code,
   h tag.Tt,
-  h tag.Kbd,
   h tag.Samp,
   h tag.A,
   h tag.Button,
@@ -64,12 +74,11 @@ inline_plain name h = rw (
   h tag.Textarea,
   h tag.Br,
   h tag.Input,
-) refl
+) (element_plain name h)
 
 abbrev block_tags : List Tag
 block_tags =
-    tag.Address ∷ tag.Article ∷ tag.Aside ∷ tag.Body ∷ tag.Center ∷ tag.Details ∷ tag.Dialog
-    ∷ tag.Fieldset ∷
+    tag.Address ∷ tag.Article ∷ tag.Aside ∷ tag.Body ∷ tag.Center ∷ tag.Dialog ∷ tag.Fieldset ∷
     tag.Footer ∷ tag.Form ∷ tag.Frameset ∷ tag.Header ∷ tag.Hgroup ∷ tag.Html ∷ tag.Main ∷ tag.Nav ∷
     tag.Search ∷ tag.Section ∷ []
 
@@ -82,6 +91,7 @@ block_plain name h = rw (
   h tag.Div,
   h tag.Figure,
   h tag.Figcaption,
+  h tag.Details,
   h tag.Summary,
   h tag.Legend,
   none_among name h block_tags,

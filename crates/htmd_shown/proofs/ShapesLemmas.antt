@@ -1,6 +1,6 @@
 -- What a node of the source stands for.
-use Rattle.std.proofs.Common.{◌≡◌, ℕ, List, sym, ap, ◌∙◌}
-use Rattle.std.specs.Prelude.{Option, option_map, Vec}
+use Rattle.std.proofs.Common.{◌≡◌, ℕ, Bool, List, sym, ap, ◌∙◌, string_bytes}
+use Rattle.std.specs.Prelude.{Option, option_map, String, Vec}
 use Rattle.std.specs.Borrow.{Bor}
 use Rattle.std.specs.declared.alloc.Global.{Global}
 use Rattle.htmd_lexical.specs.Attributes.{pairs_of}
@@ -22,6 +22,12 @@ pub image_shape : (address : Option (Bor (List ℕ))) (attrs : Bor (List Attribu
 image_shape address attrs =
     ap simple_of (sym (source.rolls-Image address attrs))
     ∙ fold-roll-Simple value.Simple simple_step (Simple-F.Image address attrs)
+
+pub formula_shape : (tex : String Global) (is_alone : Bool) (attrs : Bor (List Attribute))
+    → simple_of (source.Formula tex is_alone attrs) ≡ value.formula (string_bytes tex) is_alone (pairs_of attrs.now)
+formula_shape tex is_alone attrs =
+    ap simple_of (sym (source.rolls-Formula tex is_alone attrs))
+    ∙ fold-roll-Simple value.Simple simple_step (Simple-F.Formula tex is_alone attrs)
 
 pub element_shape : (id : ℕ) (role : Role) (facts : Facts) (attrs : Bor (List Attribute))
     (content : Vec Simple Global)

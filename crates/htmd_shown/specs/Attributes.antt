@@ -124,6 +124,10 @@ span_between least most (Some (negsuc n)) = 1
 abbrev pub column_span : List AttributePair → ℕ
 column_span attributes = span_between 1 16 (number_at (codes "colspan") attributes)
 
+-- the same where a cell can take more columns, 1,000 at most
+abbrev pub wide_span : List AttributePair → ℕ
+wide_span attributes = span_between 1 1000 (number_at (codes "colspan") attributes)
+
 -- how many rows a cell takes; 0 stands for all further ones of its group
 abbrev pub row_span : List AttributePair → ℕ
 row_span attributes = span_between 0 65534 (number_at (codes "rowspan") attributes)

@@ -17,6 +17,7 @@ pub mod Pieces
 pub mod Repeats
 pub mod Roles
 pub mod Shown
+pub mod Showings
 pub mod ShownTexts
 pub mod SightViews
 pub mod SimpleTrees

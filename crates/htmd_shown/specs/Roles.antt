@@ -5,7 +5,8 @@ use Rattle.std.specs.Str.{bytes_eq}
 use Rattle.htmd_shown.specs.declared.role.Role.{Role}
 use Rattle.htmd_shown.specs.declared.role.Role.TheVariants as role
 use Rattle.htmd_document.specs.declared.document.Format.TheVariants.{Emphasis, Strong, Deleted}
-use Rattle.htmd_document.specs.declared.document.InlineElement.TheVariants.{Superscript, Subscript}
+use Rattle.htmd_document.specs.declared.document.InlineElement.TheVariants.{Superscript, Subscript, Inserted}
+use Rattle.htmd_document.specs.declared.document.InlineElement.TheVariants.{Underlined, Marked, Small, Keyboard}
 
 -- the name is one of these
 abbrev pub is_among : List (List ℕ) → List ℕ → Bool
@@ -34,10 +35,9 @@ abbrev pub is_deleted : List ℕ → Bool
 is_deleted name =
     bytes_eq name (codes "del") || bytes_eq name (codes "s") || bytes_eq name (codes "strike")
 
--- what is typed or printed, which is code too
+-- what is printed, which is code too
 abbrev pub is_typed : List ℕ → Bool
-is_typed name =
-    bytes_eq name (codes "tt") || bytes_eq name (codes "kbd") || bytes_eq name (codes "samp")
+is_typed name = bytes_eq name (codes "tt") || bytes_eq name (codes "samp")
 
 -- elements that stand beside each other with a space between
 abbrev pub is_apart : List ℕ → Bool
@@ -46,20 +46,30 @@ is_apart name =
     || bytes_eq name (codes "optgroup") || bytes_eq name (codes "textarea")
 
 -- an element with none of these names says nothing of what is in it
+unfoldable pub element_role : List ℕ → Role
+element_role name =
+    if bytes_eq name (codes "sup") then role.Element Superscript
+    else (if bytes_eq name (codes "sub") then role.Element Subscript
+    else (if bytes_eq name (codes "ins") then role.Element Inserted
+    else (if bytes_eq name (codes "u") then role.Element Underlined
+    else (if bytes_eq name (codes "mark") then role.Element Marked
+    else (if bytes_eq name (codes "small") then role.Element Small
+    else (if bytes_eq name (codes "kbd") then role.Element Keyboard
+    else (if bytes_eq name (codes "abbr") then role.Abbreviation
+    else role.Plain)))))))
+
 unfoldable pub inline_role : List ℕ → Role
 inline_role name =
     if is_emphasis name then role.Format Emphasis
     else (if is_strong name then role.Format Strong
     else (if is_deleted name then role.Format Deleted
-    else (if bytes_eq name (codes "sup") then role.Element Superscript
-    else (if bytes_eq name (codes "sub") then role.Element Subscript
     else (if bytes_eq name (codes "code") then role.Code
     else (if is_typed name then role.Typed
     else (if bytes_eq name (codes "a") then role.Link
     else (if is_apart name then role.Apart
     else (if bytes_eq name (codes "br") then role.LineBreak
     else (if bytes_eq name (codes "input") then role.Input
-    else role.Plain))))))))))
+    else element_role name))))))))
 
 -- ---- blocks
 
@@ -80,8 +90,8 @@ is_table_body name =
 -- elements that are blocks, and nothing else to the document
 abbrev pub block_names : List (List ℕ)
 block_names =
-    codes "address" ∷ codes "article" ∷ codes "aside" ∷ codes "body" ∷ codes "center" ∷ codes "details" ∷
-    codes "dialog" ∷ codes "fieldset" ∷ codes "footer" ∷ codes "form" ∷ codes "frameset" ∷ codes "header" ∷
+    codes "address" ∷ codes "article" ∷ codes "aside" ∷ codes "body" ∷ codes "center" ∷ codes "dialog" ∷
+    codes "fieldset" ∷ codes "footer" ∷ codes "form" ∷ codes "frameset" ∷ codes "header" ∷
     codes "hgroup" ∷ codes "html" ∷ codes "main" ∷ codes "nav" ∷ codes "search" ∷ codes "section" ∷ []
 
 unfoldable pub block_role : List ℕ → Role
@@ -92,10 +102,11 @@ block_role name =
     else (if bytes_eq name (codes "div") then role.Division
     else (if bytes_eq name (codes "figure") then role.Figure
     else (if bytes_eq name (codes "figcaption") then role.FigureCaption
+    else (if bytes_eq name (codes "details") then role.Details
     else (if bytes_eq name (codes "summary") then role.Summary
     else (if bytes_eq name (codes "legend") then role.Legend
     else (if is_among block_names name then role.Block
-    else inline_role name))))))))
+    else inline_role name)))))))))
 
 unfoldable pub heading_or_block : List ℕ → Role
 heading_or_block name =
@@ -142,6 +153,10 @@ abbrev pub is_link : Role → Bool
 is_link role.Link = true
 is_link _ = false
 
+abbrev pub is_abbreviation : Role → Bool
+is_abbreviation role.Abbreviation = true
+is_abbreviation _ = false
+
 -- an `a`, with an address or without
 abbrev pub is_anchor : Role → Bool
 is_anchor role.Link = true
@@ -167,6 +182,14 @@ is_meaning _ = false
 abbrev pub is_division : Role → Bool
 is_division role.Division = true
 is_division _ = false
+
+abbrev pub is_figure_caption : Role → Bool
+is_figure_caption role.FigureCaption = true
+is_figure_caption _ = false
+
+abbrev pub is_summary : Role → Bool
+is_summary role.Summary = true
+is_summary _ = false
 
 abbrev pub is_table : Role → Bool
 is_table role.Table = true
@@ -228,6 +251,14 @@ abbrev pub is_heading : Role → Bool
 is_heading (role.Heading level) = true
 is_heading _ = false
 
+-- what heads something that isn't the page
+abbrev pub is_title : Role → Bool
+is_title role.Term = true
+is_title role.Caption = true
+is_title role.FigureCaption = true
+is_title role.Summary = true
+is_title _ = false
+
 -- headings, and what heads something else
 abbrev pub is_headed : Role → Bool
 is_headed (role.Heading level) = true
@@ -242,6 +273,7 @@ is_headed _ = false
 abbrev pub is_inline : Role → Bool
 is_inline (role.Format format) = true
 is_inline (role.Element element) = true
+is_inline role.Abbreviation = true
 is_inline role.Code = true
 is_inline role.Typed = true
 is_inline role.Link = true

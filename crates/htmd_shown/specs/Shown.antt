@@ -6,7 +6,7 @@ use Rattle.std.specs.Str.{bytes_eq}
 use Rattle.htmd_lexical.specs.Characters.{quotation_mark}
 use Rattle.htmd_lexical.specs.AttributePairs.{AttributePair}
 use Rattle.htmd_document.specs.declared.document.InlineElement.{InlineElement}
-use Rattle.htmd_document.specs.declared.document.InlineElement.TheVariants.{Superscript, Subscript}
+use Rattle.htmd_document.specs.declared.document.InlineElement.TheVariants.{Superscript, Subscript, Keyboard}
 use Rattle.htmd_nodes.specs.NumberedTrees.{NumberedTree, NumberedForest}
 use Rattle.htmd_nodes.specs.NumberedTrees as page
 use Rattle.htmd_shown.specs.declared.role.Role.{Role}
@@ -25,10 +25,11 @@ use Rattle.htmd_shown.specs.Roles.{is_among, hidden_names, is_headed, is_preform
 use Rattle.htmd_shown.specs.ShownTexts.{shown_text}
 use Rattle.htmd_shown.specs.SimpleTrees.{Simple, text, image, formula, embedded, Simples, none, more, is_text}
 
--- whether scripts run, and the names of the elements that are skipped with all in them
+-- whether scripts run, the names of the elements that are skipped with all in them, and whether the document is rich
 pub record Sight : Type 0 where
   pub scripting : Bool
   pub skip : List (List ℕ)
+  pub is_rich : Bool
 
 -- what stands around a node: a heading or the like, a `pre`, and right around it a row with line numbers
 pub record Surroundings : Type 0 where
@@ -59,15 +60,27 @@ begins_with_layout (word ∷ rest) = is_layout_word word
 abbrev pub is_for_layout : List AttributePair → Bool
 is_for_layout attributes = begins_with_layout (words (text_of (codes "role") attributes))
 
--- An `a` without an address is no link; a table for layout, or with line numbers, is none of rows and columns.
-abbrev pub role_by : Role → List AttributePair → NumberedForest → Role
-role_by role.Link attributes children = if has_attribute (codes "href") attributes then role.Link else role.Target
-role_by role.Table attributes children =
-    if is_for_layout attributes || has_numbered_rows children then role.LayoutTable else role.Table
-role_by r attributes children = r
+-- what an element is in a document that isn't rich: what is typed is code
+abbrev pub plain_element : InlineElement → Role
+plain_element Superscript = role.Element Superscript
+plain_element Subscript = role.Element Subscript
+plain_element Keyboard = role.Typed
+plain_element element = role.Plain
 
-abbrev pub role_at : List ℕ → List AttributePair → NumberedForest → Role
-role_at name attributes children = role_by (role_of name) attributes children
+-- An `a` without an address is no link; a table for layout, or with line numbers, is none of rows and columns.
+abbrev pub role_by : Bool → Role → List AttributePair → NumberedForest → Role
+role_by is_rich role.Link attributes children =
+    if has_attribute (codes "href") attributes then role.Link else role.Target
+role_by is_rich role.Table attributes children =
+    if is_for_layout attributes || has_numbered_rows children then role.LayoutTable else role.Table
+role_by is_rich (role.Element element) attributes children =
+    if is_rich then role.Element element else plain_element element
+role_by is_rich role.Abbreviation attributes children =
+    if is_rich then role.Abbreviation else role.Plain
+role_by is_rich r attributes children = r
+
+abbrev pub role_at : Bool → List ℕ → List AttributePair → NumberedForest → Role
+role_at is_rich name attributes children = role_by is_rich (role_of name) attributes children
 
 -- ---- raised and lowered parts of formulas
 
@@ -125,11 +138,11 @@ abbrev pub target : ℕ → List AttributePair → Option Simple
 target id attributes = if is_led_to attributes then Some (made id role.Target attributes none) else None
 
 -- an element by what shows of its content
-abbrev pub with_content : Bool → ℕ → List ℕ → List AttributePair → NumberedForest → Simples
+abbrev pub with_content : Bool → Bool → ℕ → List ℕ → List AttributePair → NumberedForest → Simples
     → Option Simple
-with_content in_head id name attributes children content =
+with_content is_rich in_head id name attributes children content =
     if bytes_eq name (codes "a") && is_permalink in_head attributes content then target id attributes
-    else Some (made id (role_at name attributes children) attributes content)
+    else Some (made id (role_at is_rich name attributes children) attributes content)
 
 -- what is embedded, if something is
 abbrev pub embed : ℕ → List AttributePair → Option Embedding → Option Simple
@@ -159,16 +172,16 @@ is_emptied around name attributes =
     is_void (role_of name) || (around.in_numbered_row && is_number_cell name attributes)
 
 -- an element that isn't skipped and is no formula; content: what shows of its content
-abbrev pub by_content : Surroundings → Option (List ℕ) → ℕ → List ℕ → List AttributePair
+abbrev pub by_content : Bool → Surroundings → Option (List ℕ) → ℕ → List ℕ → List AttributePair
     → NumberedForest
     → Simples → Option Simple
-by_content around source id name attributes children content =
+by_content is_rich around source id name attributes children content =
     if is_hidden around name attributes then None
     else (if is_image name attributes then Some (image (image_address attributes source) attributes)
     else (if is_among embedding_names name then embed id attributes (embedding_of name attributes children)
     else (if bytes_eq name (codes "object")
     then object id attributes content (embedding_of name attributes children)
-    else with_content around.in_head id name attributes children content)))
+    else with_content is_rich around.in_head id name attributes children content)))
 
 abbrev pub formula_or : List ℕ → List AttributePair → Option Simple → Option (List ℕ) → Option Simple
 formula_or name attributes other None = other
@@ -198,7 +211,7 @@ unfoldable mutual
   shown sight around source (page.element id name attributes children) =
       if is_skipped sight name then None
       else formula_or name attributes
-      (by_content around source id name attributes children
+      (by_content sight.is_rich around source id name attributes children
       (if is_emptied around name attributes then none
       else marked (bytes_eq name (codes "q")) (raised (raised_by name) id
       (shown_all sight (inside name children around) (picture_source name children) None children))))

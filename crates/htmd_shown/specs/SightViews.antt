@@ -22,11 +22,15 @@ use Rattle.htmd_shown.specs.Shown.{shown, shown_all, source_for}
 use Rattle.htmd_shown.specs.SimpleViews.{simple_of, simples_of}
 use Rattle.htmd_shown.specs.SimpleTrees.{Simple, Simples, none, more}
 
-abbrev pub sight_with : Bool → List (Bor (List ℕ)) → Sight
-sight_with scripting skip = record { scripting = scripting; skip = map (λ name. name.now) skip }
+abbrev pub sight_with : Bool → List (Bor (List ℕ)) → Bool → Sight
+sight_with scripting skip is_rich = record {
+  scripting = scripting;
+  skip = map (λ name. name.now) skip;
+  is_rich = is_rich;
+}
 
 abbrev pub sight_of : code.Sight → Sight
-sight_of sight = sight_with sight.scripting sight.skip.now
+sight_of sight = sight_with sight.scripting sight.skip.now sight.is_rich
 
 abbrev pub around_of : around.Around → Surroundings
 around_of a = record { in_head = a.in_head; in_pre = a.in_pre; in_numbered_row = a.in_numbered_row }
@@ -60,7 +64,7 @@ content_shown sight around _ = none
 -- of an element that isn't skipped and is no formula
 abbrev pub other_shown : Sight → Surroundings → Option (List ℕ) → NumberedTree → Option Simple
 other_shown sight around source (page.element id name attributes children) =
-    by_content around source id name attributes children
+    by_content sight.is_rich around source id name attributes children
     (content_shown sight around (page.element id name attributes children))
 other_shown sight around source _ = None
 

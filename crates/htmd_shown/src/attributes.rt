@@ -317,6 +317,16 @@ pub fn column_span(attrs: &[Attribute]) -> u8
     }
 }
 
+/// The same where a cell can take more columns, 1,000 at most.
+pub fn wide_span(attrs: &[Attribute]) -> u16
+    ensures { result ≡ spec.wide_span (pairs_of attrs.now) }
+{
+    match number_at(attrs, "colspan") {
+        Some(number) if number >= 0 => number.min(1000).max(1) as u16,
+        _ => 1,
+    }
+}
+
 /// How many rows a cell takes; 0 stands for all further ones of its group.
 pub fn row_span(attrs: &[Attribute]) -> u16
     ensures { result ≡ spec.row_span (pairs_of attrs.now) }

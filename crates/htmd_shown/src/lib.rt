@@ -11,6 +11,8 @@ mod image_source;
 mod page;
 mod repeats;
 pub mod role;
+mod role_at;
+pub mod showing;
 pub mod shown_text;
 mod sight;
 mod sign;
@@ -24,7 +26,7 @@ pub use sight::shown;
 pub use sign::is_usual_sign;
 pub use simple::{
     Embedded, Simple, are_blank, content_of, has_header, has_table, is_blank, is_caption, is_cell,
-    is_head, is_header_cell, is_image, is_item, is_meaning, is_paragraph, is_part, is_row,
-    is_row_or_part, is_term, is_text, role_in,
+    is_figure_caption, is_head, is_header_cell, is_image, is_item, is_meaning, is_paragraph,
+    is_part, is_row, is_row_or_part, is_summary, is_term, is_text, is_title, role_in,
 };
 pub use texts::{all_text, with_line_feeds, without_last_line_feed};

@@ -10,11 +10,13 @@ use htmd_nodes::{Name, Tag};
 #[derive(Clone, Copy, PartialEq, Eq)]
 pub enum Role {
     Format(Format),
-    /// What stays an element.
+    /// What stays an element: `sup` and `sub`, and in rich documents others.
     Element(InlineElement),
+    /// `abbr`.
+    Abbreviation,
     /// `code`.
     Code,
-    /// `kbd`, `samp` and `tt`, which are code too.
+    /// `samp` and `tt`, which are code too.
     Typed,
     /// An `a` with an address.
     Link,
@@ -55,6 +57,7 @@ pub enum Role {
     Division,
     Figure,
     FigureCaption,
+    Details,
     Summary,
     Legend,
     /// A block that is nothing else.
@@ -141,6 +144,7 @@ fn block_role(tag: Tag) -> Role
         Tag::Div => Role::Division,
         Tag::Figure => Role::Figure,
         Tag::Figcaption => Role::FigureCaption,
+        Tag::Details => Role::Details,
         Tag::Summary => Role::Summary,
         Tag::Legend => Role::Legend,
         _ if is_block(tag) => Role::Block,
@@ -159,7 +163,6 @@ fn is_block(tag: Tag) -> bool
             | Tag::Aside
             | Tag::Body
             | Tag::Center
-            | Tag::Details
             | Tag::Dialog
             | Tag::Fieldset
             | Tag::Footer
@@ -184,14 +187,30 @@ fn inline_role(tag: Tag) -> Role
         Tag::Em | Tag::I | Tag::Cite | Tag::Dfn | Tag::Var => Role::Format(Format::Emphasis),
         Tag::Strong | Tag::B => Role::Format(Format::Strong),
         Tag::Del | Tag::S | Tag::Strike => Role::Format(Format::Deleted),
-        Tag::Sup => Role::Element(InlineElement::Superscript),
-        Tag::Sub => Role::Element(InlineElement::Subscript),
         Tag::Code => Role::Code,
-        Tag::Tt | Tag::Kbd | Tag::Samp => Role::Typed,
+        Tag::Tt | Tag::Samp => Role::Typed,
         Tag::A => Role::Link,
         Tag::Button | Tag::Select | Tag::Option | Tag::Optgroup | Tag::Textarea => Role::Apart,
         Tag::Br => Role::LineBreak,
         Tag::Input => Role::Input,
+        _ => element_role(tag),
+    }
+}
+
+/// The same of a tag that is none of those above.
+#[tactic(auto, unfolding(crate::specs::Roles::element_role))]
+fn element_role(tag: Tag) -> Role
+    ensures { result ≡ spec.element_role (tag_text tag) }
+{
+    match tag {
+        Tag::Sup => Role::Element(InlineElement::Superscript),
+        Tag::Sub => Role::Element(InlineElement::Subscript),
+        Tag::Ins => Role::Element(InlineElement::Inserted),
+        Tag::U => Role::Element(InlineElement::Underlined),
+        Tag::Mark => Role::Element(InlineElement::Marked),
+        Tag::Small => Role::Element(InlineElement::Small),
+        Tag::Kbd => Role::Element(InlineElement::Keyboard),
+        Tag::Abbr => Role::Abbreviation,
         _ => Role::Plain,
     }
 }
@@ -246,6 +265,13 @@ impl Role {
         matches!(self, Role::Link)
     }
 
+    /// Whether it is an `abbr`.
+    pub fn is_abbreviation(self) -> bool
+        ensures { result ≡ spec.is_abbreviation self }
+    {
+        matches!(self, Role::Abbreviation)
+    }
+
     /// Whether it is an `a`.
     pub fn is_anchor(self) -> bool
         ensures { result ≡ spec.is_anchor self }
@@ -281,6 +307,18 @@ impl Role {
         ensures { result ≡ spec.is_division self }
     {
         matches!(self, Role::Division)
+    }
+
+    pub fn is_figure_caption(self) -> bool
+        ensures { result ≡ spec.is_figure_caption self }
+    {
+        matches!(self, Role::FigureCaption)
+    }
+
+    pub fn is_summary(self) -> bool
+        ensures { result ≡ spec.is_summary self }
+    {
+        matches!(self, Role::Summary)
     }
 
     pub fn is_table(self) -> bool
@@ -365,6 +403,16 @@ impl Role {
         matches!(self, Role::Heading(_))
     }
 
+    /// Whether it heads something that isn't the page.
+    pub fn is_title(self) -> bool
+        ensures { result ≡ spec.is_title self }
+    {
+        matches!(
+            self,
+            Role::Term | Role::Caption | Role::FigureCaption | Role::Summary
+        )
+    }
+
     /// Whether it is a heading, or heads something else.
     pub fn is_headed(self) -> bool
         ensures { result ≡ spec.is_headed self }
@@ -388,6 +436,7 @@ impl Role {
             self,
             Role::Format(_)
                 | Role::Element(_)
+                | Role::Abbreviation
                 | Role::Code
                 | Role::Typed
                 | Role::Link

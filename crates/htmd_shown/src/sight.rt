@@ -15,18 +15,18 @@ ghost use Rattle.htmd_shown.specs.SightViews as views;
 ghost use Rattle.htmd_shown.specs.SimpleTrees as trees;
 ghost use Rattle.htmd_shown.specs.SimpleViews.{simple_of, simples_of};
 
-use crate::attributes::{first_word, leads_to_part, text_of};
+use crate::attributes::{leads_to_part, text_of};
 use crate::below::Below;
 use crate::classes::{is_copy, is_of_permalink};
 use crate::embedded::{Embedding, embedding_of, is_embedding};
 use crate::formula::{is_display, tex_of};
 use crate::image_source::{image_address, is_image, picture_source};
 use crate::page::{
-    Element, element_at, has_numbered_rows, is_img, is_number_cell, is_number_in_code,
-    is_numbered_row, text_at,
+    Element, element_at, is_img, is_number_cell, is_number_in_code, is_numbered_row, text_at,
 };
 use crate::repeats::{has_script, is_passed, leads_to_script};
 use crate::role::{Role, is_among, is_never_shown, role_of};
+use crate::role_at::role_at;
 use crate::sign::Sign;
 use crate::simple::{Embedded, Simple, is_text};
 use htmd_document::InlineElement;
@@ -34,15 +34,16 @@ use htmd_nodes::{Attribute, Name, NodeId, Tag, Tree, value_of};
 use std::alloc::{AllocError, Global};
 
 /// What shows of a page: of its tree, without the elements that `skip` names, and without `noscript` where scripts run.
-/// `Err` means out of memory.
+/// For a rich document more elements count. `Err` means out of memory.
 pub fn shown<'t>(
     alloc: Global,
     tree: &'t Tree,
     scripting: bool,
     skip: &'t [&'t str],
+    is_rich: bool,
 ) -> Result<Vec<Simple<'t>>, AllocError>
     ensures { IfOk result (λ nodes. simples_of nodes.items
-        ≡ spec.shown_in (views.sight_with scripting skip.now) (tree_of tree.now 0)) }
+        ≡ spec.shown_in (views.sight_with scripting skip.now is_rich) (tree_of tree.now 0)) }
 {
     let root = tree.root();
     let sight = Sight {
@@ -50,6 +51,7 @@ pub fn shown<'t>(
         tree,
         scripting,
         skip,
+        is_rich,
     };
     let inside = Inside {
         parent: root,
@@ -73,6 +75,8 @@ struct Sight<'t> {
     scripting: bool,
     /// The names of the elements that are skipped with all in them.
     skip: &'t [&'t str],
+    /// Whether the document is rich.
+    is_rich: bool,
 }
 
 /// What stands around a node.
@@ -368,46 +372,7 @@ fn raised<'t>(
     Ok(Seen::of_element(parent, Role::Element(format), &[], content))
 }
 
-// ---- roles
-
-/// Whether a table says that it is for the layout of the page.
-fn is_for_layout(attrs: &[Attribute]) -> bool
-    ensures { result ≡ spec.is_for_layout (pairs_of attrs.now) }
-{
-    match first_word(text_of(attrs, "role")) {
-        Some(found) => {
-            found.word.eq_ignore_ascii_case("presentation")
-                || found.word.eq_ignore_ascii_case("none")
-        }
-        None => false,
-    }
-}
-
-/// What an element is: an `a` without an address is no link, and a table for layout or with line numbers is none of
-/// rows and columns.
-fn role_at(tree: &Tree, found: &Element) -> Role
-    requires { All (λ node. node < length tree.now) found.now.children.now }
-    ensures { result ≡ spec.role_at found.now.name.now (pairs_of found.now.attrs.now)
-        (forest_of (tree_of tree.now) found.now.children.now) }
-{
-    match role_of(found.name) {
-        Role::Link => {
-            if value_of(found.attrs, "href").is_some() {
-                Role::Link
-            } else {
-                Role::Target
-            }
-        }
-        Role::Table => {
-            if is_for_layout(found.attrs) || has_numbered_rows(tree, found.children) {
-                Role::LayoutTable
-            } else {
-                Role::Table
-            }
-        }
-        role => role,
-    }
-}
+// ---- permalinks
 
 /// Whether a link is one to its own place: in a heading or the like by its class or its address, elsewhere by both.
 #[tactic(auto, using(crate::proofs::BelowsLemmas::mark_told))]
@@ -669,14 +634,15 @@ impl<'t> Sight<'t> {
         requires within { All (λ node. node < length self.now.tree.now) found.now.children.now }
         requires summed { views.AreSummed content }
         ensures value { IfOk result (λ seen. option_map views.node_of seen
-            ≡ spec.with_content in_head found.now.node found.now.name.now (pairs_of found.now.attrs.now)
-            (forest_of (tree_of self.now.tree.now) found.now.children.now) (views.nodes_of content.entry)) }
+            ≡ spec.with_content self.now.is_rich in_head found.now.node found.now.name.now
+            (pairs_of found.now.attrs.now) (forest_of (tree_of self.now.tree.now) found.now.children.now)
+            (views.nodes_of content.entry)) }
         ensures summed { IfOk result (λ seen. IfSome seen (λ s. views.IsSummed s)) }
     {
         if found.name.is(Tag::A) && is_permalink(in_head, found.attrs, &content) {
             return target(self.alloc, found.node, found.attrs);
         }
-        let role = role_at(self.tree, found);
+        let role = role_at(self.is_rich, self.tree, found);
         Ok(Some(Seen::of_element(found.node, role, found.attrs, content)))
     }
 

@@ -185,6 +185,36 @@ pub fn is_meaning(node: &Simple) -> bool
     }
 }
 
+/// Whether a node is the caption of a figure.
+pub fn is_figure_caption(node: &Simple) -> bool
+    ensures { result ≡ kinds.has roles.is_figure_caption (simple_of node.now) }
+{
+    match role_in(node) {
+        Some(role) => role.is_figure_caption(),
+        None => false,
+    }
+}
+
+/// Whether a node is the summary of `details`.
+pub fn is_summary(node: &Simple) -> bool
+    ensures { result ≡ kinds.has roles.is_summary (simple_of node.now) }
+{
+    match role_in(node) {
+        Some(role) => role.is_summary(),
+        None => false,
+    }
+}
+
+/// Whether a node is a term, a caption or a summary.
+pub fn is_title(node: &Simple) -> bool
+    ensures { result ≡ kinds.has roles.is_title (simple_of node.now) }
+{
+    match role_in(node) {
+        Some(role) => role.is_title(),
+        None => false,
+    }
+}
+
 /// Whether a node is a caption.
 pub fn is_caption(node: &Simple) -> bool
     ensures { result ≡ kinds.has roles.is_caption (simple_of node.now) }

@@ -86,7 +86,8 @@ fn push_markdown(
     let mut builder = HtmlToMarkdownBuilder::new(alloc)?
         .options(settings.options)
         .scripting_enabled(settings.scripting)
-        .anchors(settings.anchors);
+        .anchors(settings.anchors)
+        .rich(settings.rich);
     if !tags.is_empty() {
         builder = match builder.skip_tags(tags.as_slice()) {
             Ok(builder) => builder,

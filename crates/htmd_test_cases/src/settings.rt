@@ -37,6 +37,8 @@ pub(crate) struct Settings {
     pub(crate) scripting: bool,
     /// which places of links a document has
     pub(crate) anchors: Anchors,
+    /// whether a document keeps elements that Markdown has no form for
+    pub(crate) rich: bool,
     /// the tags that are skipped, named in one call
     pub(crate) skipped: Vec<String>,
     /// the options of the program
@@ -51,6 +53,7 @@ impl Settings {
             options: Options::default(),
             scripting: true,
             anchors: Anchors::Linked,
+            rich: false,
             skipped: Vec::new(alloc),
             words: Vec::new(alloc),
         };
@@ -79,6 +82,7 @@ impl Settings {
         let is_known = match field {
             "scripting" => self.set_scripting(value),
             "anchors" => self.set_anchors(value),
+            "rich" => self.set_rich(value),
             "skip_tags" => {
                 self.skipped = names_of(alloc, value)?;
                 !self.skipped.is_empty()
@@ -97,6 +101,15 @@ impl Settings {
             return false;
         };
         self.anchors = anchors;
+        true
+    }
+
+    /// Sets whether documents are rich, and answers whether the value is one.
+    fn set_rich(&mut self, value: &str) -> bool {
+        let Some(rich) = truth(value) else {
+            return false;
+        };
+        self.rich = rich;
         true
     }
 

@@ -1,7 +1,10 @@
 //! What no clause says: that documents are written if there is memory.
 
 use htmd_commonmark::{DocumentOptions, to_markdown};
-use htmd_document::{Alignment, Block, Document, Format, Inline, InlineElement};
+use htmd_document::{
+    Alignment, AttributeName, Block, BlockAttribute, BlockElement, Document, Format, Inline,
+    InlineElement,
+};
 use htmd_markdown::{BrStyle, BulletListMarker, CodeBlockFence, HeadingStyle, HrStyle, LinkStyle};
 use htmd_test_expected::expect_text;
 use std::alloc::{AllocError, Global};
@@ -13,6 +16,16 @@ const MARKDOWN: &str =
 
 const JSON: &str = "{\"children\":[{\"type\":\"thematicBreak\"},{\"children\":[\
      {\"type\":\"text\",\"value\":\"a\"}],\"type\":\"paragraph\"}],\"type\":\"root\"}";
+
+const RICH_MARKDOWN: &str =
+    "<details open=\"\">\n<summary>a</summary>\n\n<abbr title=\"b &quot;c&quot;\">d</abbr> <kbd>e</kbd>\n\n</details>";
+
+const RICH_JSON: &str =
+    "{\"children\":[{\"type\":\"html\",\"value\":\"<details open=\\\"\\\">\\n<summary>a</summary>\"},\
+     {\"children\":[{\"type\":\"html\",\"value\":\"<abbr title=\\\"b &quot;c&quot;\\\">\"},{\"type\":\"text\",\"value\":\"d\"},\
+     {\"type\":\"html\",\"value\":\"</abbr>\"},{\"type\":\"text\",\"value\":\" \"},{\"type\":\"html\",\"value\":\"<kbd>\"},\
+     {\"type\":\"text\",\"value\":\"e\"},{\"type\":\"html\",\"value\":\"</kbd>\"}],\"type\":\"paragraph\"},\
+     {\"type\":\"html\",\"value\":\"</details>\"}],\"type\":\"root\"}";
 
 const OPTIONS: DocumentOptions = DocumentOptions {
     heading_style: HeadingStyle::Atx,
@@ -108,6 +121,36 @@ fn heading(alloc: Global) -> Result<Block, AllocError> {
     Ok(Block::Heading { level: 2, content })
 }
 
+/// Details that are open, with a summary, an abbreviation and a key.
+fn details(alloc: Global) -> Result<Document, AllocError> {
+    let mut around = Vec::new(alloc);
+    around.push(Inline::Abbreviation {
+        title: String::from_str(alloc, "b \"c\"")?,
+        content: line(alloc, "d")?,
+    })?;
+    around.push(text(alloc, " ")?)?;
+    around.push(Inline::Element(InlineElement::Keyboard, line(alloc, "e")?))?;
+    let mut content = Vec::new(alloc);
+    content.push(Block::Element {
+        name: BlockElement::Summary,
+        attributes: Vec::new(alloc),
+        content: item(alloc, line(alloc, "a")?)?,
+    })?;
+    content.push(Block::Paragraph(around))?;
+    let mut attributes = Vec::new(alloc);
+    attributes.push(BlockAttribute {
+        name: AttributeName::Open,
+        value: String::new(alloc),
+    })?;
+    let mut blocks = Vec::new(alloc);
+    blocks.push(Block::Element {
+        name: BlockElement::Details,
+        attributes,
+        content,
+    })?;
+    Ok(Document { blocks })
+}
+
 fn everything(alloc: Global) -> Result<Document, AllocError> {
     let mut blocks = Vec::new(alloc);
     blocks.push(heading(alloc)?)?;
@@ -132,6 +175,15 @@ fn writes_json(rt: HostRuntime) -> Result<(), Fail> {
     blocks.push(Block::Paragraph(line(rt.alloc(), "a")?))?;
     let json = Document { blocks }.to_mdast(rt.alloc())?;
     expect_text("a break and a paragraph", &json, JSON)
+}
+
+#[test]
+fn writes_elements(rt: HostRuntime) -> Result<(), Fail> {
+    let document = details(rt.alloc())?;
+    let markdown = to_markdown(rt.alloc(), &document, &OPTIONS)?;
+    expect_text("details as Markdown", &markdown, RICH_MARKDOWN)?;
+    let json = document.to_mdast(rt.alloc())?;
+    expect_text("details as JSON", &json, RICH_JSON)
 }
 
 #[test]

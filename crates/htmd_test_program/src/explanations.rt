@@ -1,7 +1,7 @@
-//! What the program says about long lines and bad bytes that are refused. Other refusals are a family of
-//! `htmd_test_cases`.
+//! What the program says about long lines and bad bytes that are refused, and about the main content. Other refusals
+//! are a family of `htmd_test_cases`.
 use crate::calls::called;
-use htmd_test_expected::expect_text;
+use htmd_test_expected::{expect_text, expect_that};
 use std::alloc::{AllocError, Global};
 use std::test::Fail;
 
@@ -86,6 +86,40 @@ fn explains_bad_bytes(rt: HostRuntime) -> Result<(), Fail> {
     for (options, stdin, want) in table {
         let answer = explained(rt.alloc(), options, stdin)?;
         expect_text(want, answer.as_str(), want)?;
+    }
+    Ok(())
+}
+
+// What the main content is, and the rule that chose it.
+#[test]
+fn explains_the_main_content(rt: HostRuntime) -> Result<(), Fail> {
+    const ROWS: &[(&[u8], &str)] = &[
+        (
+            b"a<main id=m title=t>b",
+            "what the page says is its main part: <main id=\"m\">",
+        ),
+        (
+            b"a<div itemprop=articleBody class='b c'>d</div>",
+            "what the page says is the body of its article: <div class=\"b c\">",
+        ),
+        (
+            b"<main><article>a</article>",
+            "an article with most of the prose: <article>",
+        ),
+        (
+            b"<p><a href=/>abcdefgh</a></p><div id=d><h1>i</h1><p>jklmnopq</div>",
+            "the element with the most prose and few links: <div id=\"d\">",
+        ),
+        (
+            b"<p>a",
+            "the whole page, as no part of it is better: <body>",
+        ),
+    ];
+    for &(page, said) in ROWS {
+        let answer = called(rt.alloc(), &["--web", "--article", "--explain"], page)?;
+        expect_that(said, answer.status == 0)?;
+        let want = format!(in rt.alloc(); "main content: {said}\n")?;
+        expect_text(said, answer.stderr.as_str(), want.as_str())?;
     }
     Ok(())
 }

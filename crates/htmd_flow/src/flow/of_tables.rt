@@ -119,7 +119,7 @@ impl Flow {
     {
         let mut content = Paragraphs::new(self.alloc, false, false);
         let mut around = Vec::new(self.alloc);
-        self.among(nodes, &Place::bare(), &mut around, &mut content)?;
+        self.among(nodes, &Place::bare(false), &mut around, &mut content)?;
         Ok(is_paragraph_at_most(content.finish()?.as_slice()))
     }
 

@@ -15,11 +15,11 @@ returns g c =
       c.build-converter.ensures.ready,
       then_same _ _ _ c.build-converter.ensures.config (then_same _ _ _ (elim c.if-not-is_empty.branch [
         | then-not-is_empty+in-Ok w ↦ rw w.builder-is (w.in-Ok.ensures.ok
-            ∙ (ap (λ k. with_handler k (texts names) no_handler) (c.anchors-builder.ensures.config
-            ∙ (c.scripting_enabled.ensures.config ∙ c.options.ensures.config))
+            ∙ (ap (λ k. with_handler k (texts names) no_handler) (c.rich-builder.ensures.config
+            ∙ (c.anchors.ensures.config ∙ (c.scripting_enabled.ensures.config ∙ c.options.ensures.config)))
             ∙ skips_some names _ (sym c.is_empty.ensures ∙ w.if-not-is_empty.true)))
-        | else-not-is_empty w ↦ rw w.builder-is ((c.anchors-builder.ensures.config
-            ∙ (c.scripting_enabled.ensures.config ∙ c.options.ensures.config))
+        | else-not-is_empty w ↦ rw w.builder-is ((c.rich-builder.ensures.config
+            ∙ (c.anchors.ensures.config ∙ (c.scripting_enabled.ensures.config ∙ c.options.ensures.config)))
             ∙ skips_nothing names _ (sym c.is_empty.ensures ∙ w.if-not-is_empty.false))
       ])
           (ap (λ k. skipping (texts names) (with_options k options)) c.requires.default
@@ -28,12 +28,13 @@ returns g c =
       search rules,
       c.build-converter.ensures.skipped ∙ (elim c.if-not-is_empty.branch [
         | then-not-is_empty+in-Ok w ↦ rw w.builder-is (w.in-Ok.ensures.skipped
-            ∙ ap (λ l. l ++ texts names) (c.anchors-builder.ensures.skipped ∙ (c.scripting_enabled.ensures.skipped
-            ∙ (c.options.ensures.skipped ∙ c.requires.none_skipped))))
+            ∙ ap (λ l. l ++ texts names) (c.rich-builder.ensures.skipped ∙ (c.anchors.ensures.skipped
+            ∙ (c.scripting_enabled.ensures.skipped ∙ (c.options.ensures.skipped ∙ c.requires.none_skipped)))))
         | else-not-is_empty w ↦ rw w.builder-is
-            (c.anchors-builder.ensures.skipped ∙ (c.scripting_enabled.ensures.skipped
+            (c.rich-builder.ensures.skipped ∙ (c.anchors.ensures.skipped ∙ (c.scripting_enabled.ensures.skipped
             ∙ (c.options.ensures.skipped ∙ (c.requires.none_skipped
-            ∙ no_names names (sym c.is_empty.ensures ∙ w.if-not-is_empty.false)))))
+            ∙ no_names names (sym c.is_empty.ensures ∙ w.if-not-is_empty.false))))))
       ] ∙ ap texts c.as_slice-skipped.ensures.value),
+      search rules,
       search rules,
     )

@@ -1,6 +1,6 @@
 -- A reader sees the tree in the Markdown of its document.
 use Rattle.std.proofs.Common.{◌≡◌, ◌<◌, ◌^◌, ◌∙◌, ap, length, rules, string_bytes}
-use Rattle.htmd.specs.Converters.{anchors_of, skipped_of}
+use Rattle.htmd.specs.Converters.{anchors_of, rich_of, skipped_of}
 use Rattle.htmd_commonmark.specs.DocumentMarkdown.{markdown_of}
 use Rattle.htmd_document.specs.DocumentViews.{document_of}
 use Rattle.htmd.specs.PageDocuments.{document_of_items, document_options}
@@ -15,11 +15,13 @@ returns-then-settings-clause-seen g c = λ guarded.
     let tree = c.args.tree.now in
     let skipped = skipped_of c.args.converter.now in
     let anchors = anchors_of c.args.converter.now in
+    let rich = rich_of c.args.converter.now in
     let goes_by = c.requires.goes_by in
     let read = c.in_ok-document.ensures.ok
-    ∙ (ap (λ b. document_of_items b skipped anchors tree) goes_by.2
-    ∙ (ap (λ l. document_of_items settings.scripting l anchors tree) goes_by.3
-    ∙ ap (λ a. document_of_items settings.scripting settings.skipped a tree) goes_by.4)) in
+    ∙ (ap (λ b. document_of_items b skipped anchors rich tree) goes_by.2
+    ∙ (ap (λ l. document_of_items settings.scripting l anchors rich tree) goes_by.3
+    ∙ (ap (λ a. document_of_items settings.scripting settings.skipped a rich tree) goes_by.4
+    ∙ ap (λ b. document_of_items settings.scripting settings.skipped settings.anchors b tree) goes_by.5))) in
     let is = c.in_ok-markdown.ensures.ok
     ∙ (ap (λ o. markdown_of o (document_of c.in_ok-document.document)) c.document_options.ensures
     ∙ ap (markdown_of (document_options settings.options)) read) in

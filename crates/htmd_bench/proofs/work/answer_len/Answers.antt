@@ -21,9 +21,10 @@ returns-in_ok-to_markdown-in-Document c =
     let len : c.len-in-Document.result ≡ length text = search rules in
     subst (λ work. HasLength work c.args.input.now c.len-in-Document.result) (sym c.in-Document.is)
     (subst (λ n. HasDocumentLength c.args.input.now n) (sym len)
-    (document_of_page _ _ _ _ c.args.input.now text _ document c.in_ok-converter-in-Document.ensures.handlers
+    (document_of_page _ _ _ _ _ c.args.input.now text _ document c.in_ok-converter-in-Document.ensures.handlers
     c.in_ok-converter-in-Document.ensures.scripting c.in_ok-converter-in-Document.ensures.skipped
-    c.in_ok-converter-in-Document.ensures.anchors c.in_ok-tree-in-Document.ensures.ok
+    c.in_ok-converter-in-Document.ensures.anchors c.in_ok-converter-in-Document.ensures.rich
+    c.in_ok-tree-in-Document.ensures.ok
     c.in_ok-document-in-Document.ensures.ok
     (c.in_ok-to_markdown-in-Document.ensures.ok
     ∙ ap (λ options. markdown_of options document) c.document_options.ensures)))

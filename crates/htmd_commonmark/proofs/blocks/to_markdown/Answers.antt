@@ -1,6 +1,7 @@
 -- The blocks, and then the definitions.
 use Rattle.std.proofs.Common.{◌≡◌, [], ap, ◌∙◌, string_bytes}
 use Rattle.htmd_document.specs.DocumentViews.{blocks_of}
+use Rattle.htmd_document.specs.FlatDocuments.{flattened}
 use Rattle.htmd_markdown.specs.Tables.{texts}
 use Rattle.htmd_commonmark.specs.BlockMarkdown.{written_blocks}
 use Rattle.htmd_commonmark.specs.BlockViews.{Output, output_of, put}
@@ -16,13 +17,13 @@ returns c =
     let start : o ≡ record { page = nothing; definitions = [] } =
     ap (λ p. record { page = p; definitions = (written_of c.new-2.result).definitions }) c.new.ensures
     ∙ ap (λ w. record { page = nothing; definitions = w.definitions }) c.new-2.ensures in
-    let blocks = blocks_of c.args.document.now.blocks.items in
+    let blocks = flattened (blocks_of c.args.document.now.blocks.items) in
     record {
       ok = document_put o (output_of c.write_blocks.new.self)
           (written_blocks c.args.options.now outermost [] blocks) c.push_definitions.new.lines
           (texts c.deref-2.result.now) (string_bytes c.into_text.result) start
           (c.in_ok-write_blocks.ensures
-          ∙ ap (λ l. put o (written_blocks c.args.options.now outermost o.definitions (blocks_of l)))
+          ∙ ap (λ l. put o (written_blocks c.args.options.now outermost o.definitions (flattened (blocks_of l))))
           c.deref.ensures.value
           ∙ ap (λ ds. put o (written_blocks c.args.options.now outermost ds blocks))
           (ap (λ u. u.definitions) start))

@@ -14,8 +14,8 @@ returns-then-is_empty c =
     let found = c.in_ok-targets.targets in
     let len : deque_len found ≡ length found.items = search rules in
     let empty : deque_len found ≡ 0 = grind (arith, nat_tests, c.is_empty.ensures, c.if-is_empty.true) in
-    let none : spec.targets_by c.args.anchors trees ≡ [] =
-    ap (λ ts. spec.targets_by c.args.anchors (simples_of ts)) (sym c.deref.ensures.value)
+    let none : spec.targets_by c.args.anchors c.args.is_rich trees ≡ [] =
+    ap (λ ts. spec.targets_by c.args.anchors c.args.is_rich (simples_of ts)) (sym c.deref.ensures.value)
     ∙ (sym c.in_ok-targets.ensures
     ∙ ap (λ ts. map target_of ts) (no-items found.items (sym len ∙ empty))) in
     sym (ap (λ ts. spec.with_targets (record { seen = 0; targets = ts }) trees) none ∙ without-targets trees)
@@ -26,4 +26,5 @@ returns c =
     on_ok_weaker c.place.result
     (λ e. e ∙ ap (λ p. spec.with_targets p trees) (c.new.ensures.placing
     ∙ ap (λ ts. record { seen = 0; targets = ts }) (c.in_ok-targets.ensures
-    ∙ ap (λ ts. spec.targets_by c.args.anchors (simples_of ts)) c.deref.ensures.value))) c.place.ensures
+    ∙ ap (λ ts. spec.targets_by c.args.anchors c.args.is_rich (simples_of ts)) c.deref.ensures.value)))
+    c.place.ensures

@@ -9,4 +9,5 @@ pub returns-in-All : goal.returns-in-All
 returns-in-All c =
     let trees = simples_of c.args.trees.now in
     IfOk-weaker c.targets_of.result _ _
-    (λ x e. e ∙ (all-stay trees ∙ sym (ap (λ a. spec.targets_by a trees) c.in-All.is))) c.targets_of.ensures
+    (λ x e. e ∙ (all-stay trees ∙ sym (ap (λ a. spec.targets_by a c.args.is_rich trees) c.in-All.is)))
+    c.targets_of.ensures

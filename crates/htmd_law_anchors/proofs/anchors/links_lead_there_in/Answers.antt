@@ -1,5 +1,5 @@
-use Rattle.std.proofs.Common.{map}
 use Rattle.htmd_nodes.specs.NumberedTrees.{tree_of}
+use Rattle.htmd_shown.specs.SightViews.{sight_with}
 use Rattle.htmd_law_documents.proofs.StoredTextsLemmas.{tree-text}
 use Rattle.htmd_law_anchors.proofs.Main.{links_lead_there}
 use Rattle.htmd_law_anchors.proofs.anchors.links_lead_there_in.Goals as goal
@@ -7,5 +7,5 @@ use Rattle.htmd_law_anchors.proofs.anchors.links_lead_there_in.Goals as goal
 pub returns : goal.returns
 returns c =
     links_lead_there c.args.which
-    (record { scripting = c.args.scripting; skip = map (λ name. name.now) c.args.skip.now })
+    (sight_with c.args.scripting c.args.skip.now c.args.is_rich)
     (tree_of c.args.tree.now 0) (tree-text c.args.tree.now 0 c.root-root.ensures.texts)

@@ -15,6 +15,7 @@ among-requires c =
 pub returns : goal.returns
 returns c =
     let items = c.args.tree.now in
-    page_shown (sight_with c.args.scripting c.args.skip.now) items c.children.ensures.tree c.children.result.now
+    page_shown (sight_with c.args.scripting c.args.skip.now c.args.is_rich) items c.children.ensures.tree
+    c.children.result.now
     (nodes_of c.in_ok-content.content) c.root-root.result
     (c.children.ensures.value ∙ ap (children_of items) c.root-root.ensures.value) c.in_ok-content.ensures.value

@@ -2,7 +2,7 @@ use Rattle.std.proofs.Common.{◌+◌, ◌<◌, ◌≤◌, length, map, refl, sy
 use Rattle.htmd_shown.specs.SimpleTrees.{simples_of}
 use Rattle.htmd_shown.specs.SimpleViews.{simple_of}
 use Rattle.htmd_document_of_tree.specs.LeadingViews as views
-use Rattle.std.proofs.Common.{◌&&◌}
+use Rattle.std.proofs.Common.{◌&&◌, ◌||◌}
 use Rattle.htmd_document_of_tree.specs.Leadings.{after, is_flat, leadings, leadings_if, shows_in_link}
 use Rattle.htmd_document_of_tree.specs.Seen.{all_seen}
 use Rattle.htmd_document_of_tree.proofs.LeadingsLemmas.{leadings-from, leadings-drop, leadings-end, merged-append}
@@ -79,15 +79,23 @@ element-returns t c =
     let layout = c.in_ok-layout.layout in
     let heading = c.in_ok-heading.heading in
     let may = c.may_lead-may_lead.ensures in
+    let inner = c.inside.ensures
+    ∙ ap (λ a. record {
+      seen = a.seen;
+      heading = heading;
+      is_linked = a.is_linked || c.in_ok-is_written.is_written;
+      is_rich = a.is_rich;
+    }) c.around_content-outer.ensures in
     record {
       seen = IfOk-weaker c.among.result _ _
-          (λ n e. e ∙ ap (λ a. a.seen + all_seen content) c.inside.ensures) c.among.ensures.seen;
+          (λ n e. e ∙ ap (λ a. a.seen + all_seen content) inner) c.among.ensures.seen;
       spans = on_ok_weaker c.among.result
           (element-led around c.args.is_flat c.args.role attributes content layout heading c.in_ok-is_written.is_written
           c.inside.result c.in_ok-layout.ensures c.in_ok-heading.ensures
-          (c.in_ok-is_written.ensures.written ∙ ap (λ b. b && shows_in_link layout attributes content) may)
-          c.inside.ensures c.args.self.now c.link_if.new.self c.among.new.self
+          (c.in_ok-is_written.ensures.written
+          ∙ ap (λ b. b && shows_in_link around.is_rich layout attributes content) may)
+          inner c.args.self.now c.link_if.new.self c.among.new.self
           (λ s. c.in_ok-is_written.ensures.spans s ∙ ap (λ b. views.merged (views.span_to c.args.self.now s) s
-          (leadings_if (b && shows_in_link layout attributes content) heading attributes)) may))
+          (leadings_if (b && shows_in_link around.is_rich layout attributes content) heading attributes)) may))
           c.among.ensures.spans;
     }

@@ -9,5 +9,5 @@ use Rattle.htmd_document_of_tree.proofs.leadings.Leadings.of.Goals as goal
 pub returns : goal.returns
 returns c = λ s.
     c.in_ok-among.ensures.spans s
-    ∙ ap (λ known. views.merged known s (spec.all_leadings (simples_of c.args.trees.now)))
+    ∙ ap (λ known. views.merged known s (spec.all_leadings c.args.is_rich (simples_of c.args.trees.now)))
     (ap (λ es. lookup (λ k. bytes_eq s (string_bytes k)) es) c.new.ensures.empty)

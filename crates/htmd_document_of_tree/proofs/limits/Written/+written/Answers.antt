@@ -1,7 +1,7 @@
 use Rattle.std.proofs.Common.{◌≡◌, ◌+◌, ◌<◌, ◌≤◌, length, map, take, sym, ap, ◌∙◌}
 use Rattle.htmd_shown.specs.SimpleViews.{simple_of}
 use Rattle.std.proofs.Common.{subst}
-use Rattle.std.proofs.Common.{List, cond}
+use Rattle.std.proofs.Common.{List}
 use Rattle.std.proofs.lemmas.Result.{on_ok_weaker}
 use Rattle.htmd_lexical.specs.Attributes.{pairs_of}
 use Rattle.htmd_shown.specs.ShownTexts.{shown_text}
@@ -52,8 +52,6 @@ note-returns-in_ok-note_element-in-Element t c =
     on_ok_weaker c.note_all.result
     (λ f w known.
     let one = f _ (c.in_ok-note_element-in-Element.ensures w known) in
-    let same = ap (λ b. spec.written_all (cond b (spec.with_pair w attributes) w)
-    (among c.deref.result.now)) c.is_link.ensures
-    ∙ ap (λ ts. spec.written_all (spec.with_element w i.role attributes) (among ts)) c.deref.ensures.value in
+    let same = ap (λ ts. spec.written_all (spec.with_element w i.role attributes) (among ts)) c.deref.ensures.value in
     subst (λ (v : value.Simple). Counts c.note_all.new.self (spec.written w v)) (sym e)
     (subst (λ (v : spec.Written). Counts c.note_all.new.self v) same one)) c.note_all.ensures

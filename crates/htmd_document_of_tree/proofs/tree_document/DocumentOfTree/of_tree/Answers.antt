@@ -18,8 +18,9 @@ returns c =
     (c.piece.auto.trees ∙ c.deref_mut-2.ensures.len) in
     record {
       ok = c.in_ok-blocks.ensures
-          ∙ ap flow.document_of (ap simples_of (c.deref.ensures.value ∙ pieced_trees) ∙ (c.in_ok-piece.ensures
+          ∙ ap (flow.document_of c.args.rich) (ap simples_of (c.deref.ensures.value ∙ pieced_trees)
+          ∙ (c.in_ok-piece.ensures
           ∙ ap pieced_all (ap simples_of c.deref_mut-2.ensures.value ∙ (c.in_ok-put_anchors.ensures
-          ∙ ap (λ trees. anchored c.args.anchors trees) (ap simples_of limited_trees ∙ (c.in_ok-limit.ensures
+          ∙ ap (anchored c.args.anchors c.args.rich) (ap simples_of limited_trees ∙ (c.in_ok-limit.ensures
           ∙ ap limited (ap simples_of c.deref_mut.ensures.value ∙ c.in_ok-trees.ensures)))))));
     }

@@ -1,10 +1,16 @@
 -- What each function of the flow gives.
 use Rattle.htmd_flow.proofs.flow.Flow.+flow.Answers.NodeAnswers as nodes
 use Rattle.htmd_flow.proofs.flow.Flow.+flow.Answers.ListAnswers as lists
+use Rattle.htmd_flow.proofs.flow.Flow.+flow.Answers.DescriptionAnswers as descriptions
+use Rattle.htmd_flow.proofs.flow.Flow.+flow.Answers.RichAnswers as rich
+use Rattle.htmd_flow.proofs.flow.Flow.+flow.Answers.RichTableAnswers as rich_tables
 use Rattle.htmd_flow.proofs.flow.Flow.+flow.Answers.TableAnswers as tables
 use Rattle.htmd_flow.proofs.flow.Flow.+flow.Goals as goal
 mod NodeAnswers
 mod ListAnswers
+mod DescriptionAnswers
+mod RichAnswers
+mod RichTableAnswers
 mod TableAnswers
 
 pub apart-returns : goal.apart-returns
@@ -392,3 +398,192 @@ line-returns-clause-content = nodes.line-returns-clause-content
 
 pub is_paragraph-returns : goal.is_paragraph-returns
 is_paragraph-returns = tables.is_paragraph-returns
+
+pub element-returns-in_ok-title-in-Abbreviation-clause-out : goal.element-returns-in_ok-title-in-Abbreviation-clause-out
+element-returns-in_ok-title-in-Abbreviation-clause-out = nodes.element-returns-in_ok-title-in-Abbreviation-clause-out
+
+pub block-returns-in-Details-clause-out : goal.block-returns-in-Details-clause-out
+block-returns-in-Details-clause-out = nodes.block-returns-in-Details-clause-out
+
+pub block-returns-in-Term-clause-out : goal.block-returns-in-Term-clause-out
+block-returns-in-Term-clause-out = nodes.block-returns-in-Term-clause-out
+
+pub block-returns-in-Caption-clause-out : goal.block-returns-in-Caption-clause-out
+block-returns-in-Caption-clause-out = nodes.block-returns-in-Caption-clause-out
+
+pub block-returns-in-FigureCaption-clause-out : goal.block-returns-in-FigureCaption-clause-out
+block-returns-in-FigureCaption-clause-out = nodes.block-returns-in-FigureCaption-clause-out
+
+pub block-returns-in-Summary-clause-out : goal.block-returns-in-Summary-clause-out
+block-returns-in-Summary-clause-out = nodes.block-returns-in-Summary-clause-out
+
+pub terms_at-returns-then-has_elements-clause-out : goal.terms_at-returns-then-has_elements-clause-out
+terms_at-returns-then-has_elements-clause-out = nodes.terms_at-returns-then-has_elements-clause-out
+
+pub terms_at-returns-clause-out : goal.terms_at-returns-clause-out
+terms_at-returns-clause-out = nodes.terms_at-returns-clause-out
+
+pub table_at-returns-then-has_elements-clause-out : goal.table_at-returns-then-has_elements-clause-out
+table_at-returns-then-has_elements-clause-out = nodes.table_at-returns-then-has_elements-clause-out
+
+pub table_at-returns-clause-out : goal.table_at-returns-clause-out
+table_at-returns-clause-out = nodes.table_at-returns-clause-out
+
+pub title_content-returns-then-is_title_unlinked-clause-out :
+    goal.title_content-returns-then-is_title_unlinked-clause-out
+title_content-returns-then-is_title_unlinked-clause-out = rich.title_content-returns-then-is_title_unlinked-clause-out
+
+pub title_content-returns-clause-out : goal.title_content-returns-clause-out
+title_content-returns-clause-out = rich.title_content-returns-clause-out
+
+pub title-returns-clause-out : goal.title-returns-clause-out
+title-returns-clause-out = rich.title-returns-clause-out
+
+pub within-returns-then-is_title-clause-out : goal.within-returns-then-is_title-clause-out
+within-returns-then-is_title-clause-out = rich.within-returns-then-is_title-clause-out
+
+pub within-returns-clause-out : goal.within-returns-clause-out
+within-returns-clause-out = rich.within-returns-clause-out
+
+pub blocks_within-returns-clause-blocks : goal.blocks_within-returns-clause-blocks
+blocks_within-returns-clause-blocks = rich.blocks_within-returns-clause-blocks
+
+pub title_element-returns-clause-out : goal.title_element-returns-clause-out
+title_element-returns-clause-out = rich.title_element-returns-clause-out
+
+pub titled-loop-at-preserved-then-is_title_of : goal.titled-loop-at-preserved-then-is_title_of
+titled-loop-at-preserved-then-is_title_of = rich.titled-loop-at-preserved-then-is_title_of
+
+pub titled-loop-at-preserved : goal.titled-loop-at-preserved
+titled-loop-at-preserved = rich.titled-loop-at-preserved
+
+pub titled-returns-clause-out : goal.titled-returns-clause-out
+titled-returns-clause-out = rich.titled-returns-clause-out
+
+pub titled_blocks-returns-clause-blocks : goal.titled_blocks-returns-clause-blocks
+titled_blocks-returns-clause-blocks = rich.titled_blocks-returns-clause-blocks
+
+pub details-returns-then-not-has_elements-clause-out : goal.details-returns-then-not-has_elements-clause-out
+details-returns-then-not-has_elements-clause-out = rich.details-returns-then-not-has_elements-clause-out
+
+pub details-returns-clause-out : goal.details-returns-clause-out
+details-returns-clause-out = rich.details-returns-clause-out
+
+pub figure-returns-then-not-has_elements-clause-out : goal.figure-returns-then-not-has_elements-clause-out
+figure-returns-then-not-has_elements-clause-out = rich.figure-returns-then-not-has_elements-clause-out
+
+pub figure-returns-clause-out : goal.figure-returns-clause-out
+figure-returns-clause-out = rich.figure-returns-clause-out
+
+pub captioned-returns-then-not-show_title-clause-out : goal.captioned-returns-then-not-show_title-clause-out
+captioned-returns-then-not-show_title-clause-out = rich.captioned-returns-then-not-show_title-clause-out
+
+pub captioned-returns-clause-out : goal.captioned-returns-clause-out
+captioned-returns-clause-out = rich.captioned-returns-clause-out
+
+pub described-returns-clause-out : goal.described-returns-clause-out
+described-returns-clause-out = rich.described-returns-clause-out
+
+pub rich_cells-loop-node-preserved-then-not-is_cell : goal.rich_cells-loop-node-preserved-then-not-is_cell
+rich_cells-loop-node-preserved-then-not-is_cell = rich_tables.rich_cells-loop-node-preserved-then-not-is_cell
+
+pub rich_cells-loop-node-preserved : goal.rich_cells-loop-node-preserved
+rich_cells-loop-node-preserved = rich_tables.rich_cells-loop-node-preserved
+
+pub rich_cells-returns-clause-cells : goal.rich_cells-returns-clause-cells
+rich_cells-returns-clause-cells = rich_tables.rich_cells-returns-clause-cells
+
+pub rich_cells-rich_cell-requires : goal.rich_cells-rich_cell-requires
+rich_cells-rich_cell-requires = rich_tables.rich_cells-rich_cell-requires
+
+pub rich_cell-returns-clause-cell : goal.rich_cell-returns-clause-cell
+rich_cell-returns-clause-cell = rich_tables.rich_cell-returns-clause-cell
+
+pub rich_pieces-loop-piece-preserved : goal.rich_pieces-loop-piece-preserved
+rich_pieces-loop-piece-preserved = rich_tables.rich_pieces-loop-piece-preserved
+
+pub rich_pieces-rich_piece-requires : goal.rich_pieces-rich_piece-requires
+rich_pieces-rich_piece-requires = rich_tables.rich_pieces-rich_piece-requires
+
+pub rich_pieces-returns-clause-made : goal.rich_pieces-returns-clause-made
+rich_pieces-returns-clause-made = rich_tables.rich_pieces-returns-clause-made
+
+pub kept_table-returns-then-is_for_page-clause-out : goal.kept_table-returns-then-is_for_page-clause-out
+kept_table-returns-then-is_for_page-clause-out = rich_tables.kept_table-returns-then-is_for_page-clause-out
+
+pub rich_table-returns-clause-out : goal.rich_table-returns-clause-out
+rich_table-returns-clause-out = rich_tables.rich_table-returns-clause-out
+
+pub descriptions-loop-at-init : goal.descriptions-loop-at-init
+descriptions-loop-at-init = descriptions.descriptions-loop-at-init
+
+pub descriptions-loop-at-preserved : goal.descriptions-loop-at-preserved
+descriptions-loop-at-preserved = descriptions.descriptions-loop-at-preserved
+
+pub descriptions-description_part-requires : goal.descriptions-description_part-requires
+descriptions-description_part-requires = descriptions.descriptions-description_part-requires
+
+pub descriptions-returns-clause-begun : goal.descriptions-returns-clause-begun
+descriptions-returns-clause-begun = descriptions.descriptions-returns-clause-begun
+
+pub described_nodes-loop-at-init : goal.described_nodes-loop-at-init
+described_nodes-loop-at-init = descriptions.described_nodes-loop-at-init
+
+pub described_nodes-loop-at-preserved : goal.described_nodes-loop-at-preserved
+described_nodes-loop-at-preserved = descriptions.described_nodes-loop-at-preserved
+
+pub described_nodes-description-requires : goal.described_nodes-description-requires
+described_nodes-description-requires = descriptions.described_nodes-description-requires
+
+pub described_nodes-returns-clause-begun : goal.described_nodes-returns-clause-begun
+described_nodes-returns-clause-begun = descriptions.described_nodes-returns-clause-begun
+
+pub description_part-returns-then-is_group-clause-begun : goal.description_part-returns-then-is_group-clause-begun
+description_part-returns-then-is_group-clause-begun = descriptions.description_part-returns-then-is_group-clause-begun
+
+pub description_part-returns-clause-begun : goal.description_part-returns-clause-begun
+description_part-returns-clause-begun = descriptions.description_part-returns-clause-begun
+
+pub description-returns-then-is_term_or_meaning-clause-begun :
+    goal.description-returns-then-is_term_or_meaning-clause-begun
+description-returns-then-is_term_or_meaning-clause-begun =
+    descriptions.description-returns-then-is_term_or_meaning-clause-begun
+
+pub description-returns-in_default-clause-begun : goal.description-returns-in_default-clause-begun
+description-returns-in_default-clause-begun = descriptions.description-returns-in_default-clause-begun
+
+pub description-returns-clause-begun : goal.description-returns-clause-begun
+description-returns-clause-begun = descriptions.description-returns-clause-begun
+
+pub rich_table-kept_table-requires : goal.rich_table-kept_table-requires
+rich_table-kept_table-requires = rich_tables.rich_table-kept_table-requires
+
+pub kept_table-returns-clause-out : goal.kept_table-returns-clause-out
+kept_table-returns-clause-out = rich_tables.kept_table-returns-clause-out
+
+pub titled-loop-at-smaller : goal.titled-loop-at-smaller
+titled-loop-at-smaller = rich.titled-loop-at-smaller
+
+pub titled-among-requires : goal.titled-among-requires
+titled-among-requires = rich.titled-among-requires
+
+pub titled-title_element-requires : goal.titled-title_element-requires
+titled-title_element-requires = rich.titled-title_element-requires
+
+pub kept_table-returns-then-is_table-clause-out : goal.kept_table-returns-then-is_table-clause-out
+kept_table-returns-then-is_table-clause-out = rich_tables.kept_table-returns-then-is_table-clause-out
+
+pub kept_table-rich_pieces-requires : goal.kept_table-rich_pieces-requires
+kept_table-rich_pieces-requires = rich_tables.kept_table-rich_pieces-requires
+
+pub rich_piece-returns-then-is_caption-clause-made : goal.rich_piece-returns-then-is_caption-clause-made
+rich_piece-returns-then-is_caption-clause-made = rich_tables.rich_piece-returns-then-is_caption-clause-made
+
+pub rich_piece-returns-clause-made : goal.rich_piece-returns-clause-made
+rich_piece-returns-clause-made = rich_tables.rich_piece-returns-clause-made
+
+pub rich_piece-blocks_within-requires : goal.rich_piece-blocks_within-requires
+rich_piece-blocks_within-requires = rich_tables.rich_piece-blocks_within-requires
+
+pub rich_piece-rich_cells-requires : goal.rich_piece-rich_cells-requires
+rich_piece-rich_cells-requires = rich_tables.rich_piece-rich_cells-requires

@@ -1,16 +1,19 @@
 -- How deep the nodes of each call are, and what loops keep: with what the rest gives, all is given.
-use Rattle.std.proofs.Common.{◌≡◌, ℕ, ◌+◌, ◌*◌, ◌≤◌, List, ◌∷◌, ◌++◌, length, drop, take, map}
+use Rattle.std.proofs.Common.{◌≡◌, ℕ, ◌+◌, ◌-◌, ◌*◌, ◌≤◌, List, ◌∷◌, ◌++◌, length, drop, take, map}
 use Rattle.std.specs.Prelude.{flat_map}
 use Rattle.std.specs.List.{prefix_len, list_all}
 use Rattle.htmd_shown.specs.declared.simple.Simple.{Simple}
 use Rattle.htmd_shown.specs.SimpleViews.{simple_of, simples_of}
 use Rattle.htmd_flow.specs.Flows as spec
+use Rattle.htmd_flow.specs.DescriptionViews as descriptions
+use Rattle.htmd_flow.specs.ElementViews as element_views
 use Rattle.htmd_flow.specs.FlowViews as views
 use Rattle.htmd_flow.specs.GridViews as grids
 use Rattle.htmd_flow.specs.ItemViews as item_views
 use Rattle.htmd_flow.specs.Levels.{height, highest}
 use Rattle.htmd_flow.specs.ListViews as lists
 use Rattle.htmd_flow.specs.ParagraphViews.{writing_in}
+use Rattle.htmd_flow.specs.PieceViews as piece_views
 use Rattle.htmd_flow.specs.Paragraphs.{fed_all}
 use Rattle.htmd_flow.specs.TableViews as tables
 use Rattle.htmd_flow.specs.TermViews as terms
@@ -22,6 +25,10 @@ levels nodes rank = highest (map simple_of nodes) * 32 + rank
 
 abbrev levels_at : Simple → ℕ → ℕ
 levels_at node rank = height (simple_of node) * 32 + rank
+
+-- in the cells of a row
+abbrev cells_levels : List Simple → ℕ
+cells_levels row = highest (map (λ (n : spec.Node). n.tree) (tables.cells_at row))
 
 abbrev pub decreases-each : goal.decreases-each
 decreases-each l = levels l.nodes.now 1
@@ -147,10 +154,10 @@ abbrev pub decreases-near : goal.decreases-near
 decreases-near l = levels l.element.now.content.now 6
 
 abbrev pub decreases-block : goal.decreases-block
-decreases-block l = levels l.element.now.content.now 9
+decreases-block l = levels l.element.now.content.now 11
 
 abbrev pub decreases-element : goal.decreases-element
-decreases-element l = levels l.element.now.content.now 10
+decreases-element l = levels l.element.now.content.now 12
 
 abbrev pub invariant-among-loop-at : goal.invariant-among-loop-at
 invariant-among-loop-at l = record {
@@ -275,5 +282,132 @@ invariant-term_nodes-loop-node l = record {
   terms : terms.AreAdded (views.context_in l.place l.initial.around.items)
       (map spec.of_node (views.nodes_at (take l.node-index l.nodes))) (writing_in l.initial.out) l.initial.items
       (writing_in l.out) l.items;
+  around : l.around.items ≡ l.initial.around.items;
+}
+
+-- ---- rich documents
+
+abbrev pub decreases-within : goal.decreases-within
+decreases-within l = levels_at l.node.now 0
+
+abbrev pub decreases-blocks_within : goal.decreases-blocks_within
+decreases-blocks_within l = levels_at l.node.now 1
+
+abbrev pub decreases-title_element : goal.decreases-title_element
+decreases-title_element l = levels_at l.node.now 2
+
+abbrev pub decreases-titled : goal.decreases-titled
+decreases-titled l = levels l.nodes.now 5
+
+abbrev pub decreases-titled_blocks : goal.decreases-titled_blocks
+decreases-titled_blocks l = levels l.nodes.now 6
+
+abbrev pub decreases-captioned : goal.decreases-captioned
+decreases-captioned l = levels l.nodes.now 7
+
+abbrev pub decreases-title_content : goal.decreases-title_content
+decreases-title_content l = levels l.nodes.now 6
+
+abbrev pub decreases-title : goal.decreases-title
+decreases-title l = levels l.nodes.now 7
+
+abbrev pub decreases-details : goal.decreases-details
+decreases-details l = levels l.element.now.content.now 8
+
+abbrev pub decreases-figure : goal.decreases-figure
+decreases-figure l = levels l.element.now.content.now 8
+
+abbrev pub decreases-description : goal.decreases-description
+decreases-description l = levels l.alone.now 5
+
+abbrev pub decreases-described_nodes : goal.decreases-described_nodes
+decreases-described_nodes l = levels l.nodes.now 6
+
+abbrev pub decreases-description_part : goal.decreases-description_part
+decreases-description_part l = levels l.alone.now 6
+
+abbrev pub decreases-descriptions : goal.decreases-descriptions
+decreases-descriptions l = levels l.nodes.now 7
+
+abbrev pub decreases-described : goal.decreases-described
+decreases-described l = levels l.nodes.now 8
+
+abbrev pub decreases-terms_at : goal.decreases-terms_at
+decreases-terms_at l = levels l.content.now 9
+
+abbrev pub decreases-table_at : goal.decreases-table_at
+decreases-table_at l = levels l.element.now.content.now 9
+
+abbrev pub decreases-rich_table : goal.decreases-rich_table
+decreases-rich_table l = levels l.element.now.content.now 8
+
+abbrev pub decreases-kept_table : goal.decreases-kept_table
+decreases-kept_table l = levels l.element.now.content.now 7
+
+abbrev pub decreases-rich_pieces : goal.decreases-rich_pieces
+decreases-rich_pieces l = piece_views.highest (piece_views.pieces_in l.kept.now) * 32 + 4
+
+abbrev pub decreases-rich_piece : goal.decreases-rich_piece
+decreases-rich_piece l = piece_views.height_of (piece_views.piece_of l.piece.now) * 32 + 3
+
+abbrev pub decreases-rich_cells : goal.decreases-rich_cells
+decreases-rich_cells l = cells_levels l.row.now * 32 + 2
+
+abbrev pub decreases-rich_cell : goal.decreases-rich_cell
+decreases-rich_cell l = levels_at l.cell.now 0
+
+abbrev pub invariant-titled-loop-at : goal.invariant-titled-loop-at
+invariant-titled-loop-at l = record {
+  out : fed_all (writing_in l.out) (spec.titled l.title (views.nodes_at (drop l.at l.nodes))
+      (views.context_in l.place l.initial.around.items))
+      ≡ fed_all (writing_in l.initial.out) (spec.titled l.title (views.nodes_at l.nodes)
+      (views.context_in l.place l.initial.around.items));
+  around : l.around.items ≡ l.initial.around.items;
+  bound : l.at ≤ length l.nodes;
+}
+
+abbrev pub decreases-titled-loop-at : goal.decreases-titled-loop-at
+decreases-titled-loop-at l = length l.nodes - l.at
+
+abbrev pub invariant-descriptions-loop-at : goal.invariant-descriptions-loop-at
+invariant-descriptions-loop-at l = record {
+  begun : descriptions.AreDescribed (views.context_in l.place l.initial.around.items)
+      (spec.terms_of (simples_of (take l.at l.nodes))) (writing_in l.initial.out) l.initial.begun
+      (writing_in l.out) l.begun;
+  around : l.around.items ≡ l.initial.around.items;
+  bound : l.at ≤ length l.nodes;
+}
+
+abbrev pub decreases-descriptions-loop-at : goal.decreases-descriptions-loop-at
+decreases-descriptions-loop-at l = length l.nodes - l.at
+
+abbrev pub invariant-described_nodes-loop-at : goal.invariant-described_nodes-loop-at
+invariant-described_nodes-loop-at l = record {
+  begun : descriptions.AreDescribed (views.context_in l.place l.initial.around.items)
+      (map spec.of_node (views.nodes_at (take l.at l.nodes))) (writing_in l.initial.out) l.initial.begun
+      (writing_in l.out) l.begun;
+  around : l.around.items ≡ l.initial.around.items;
+  bound : l.at ≤ length l.nodes;
+}
+
+abbrev pub decreases-described_nodes-loop-at : goal.decreases-described_nodes-loop-at
+decreases-described_nodes-loop-at l = length l.nodes - l.at
+
+abbrev pub invariant-rich_pieces-loop-piece : goal.invariant-rich_pieces-loop-piece
+invariant-rich_pieces-loop-piece l = record {
+  made : element_views.pieces_in l.made.items
+      ++ map (spec.piece_with_blocks l.has_spans (views.context_in l.place l.initial.around.items))
+      (piece_views.pieces_in (drop l.piece-index l.kept))
+      ≡ map (spec.piece_with_blocks l.has_spans (views.context_in l.place l.initial.around.items))
+      (piece_views.pieces_in l.kept);
+  around : l.around.items ≡ l.initial.around.items;
+}
+
+abbrev pub invariant-rich_cells-loop-node : goal.invariant-rich_cells-loop-node
+invariant-rich_cells-loop-node l = record {
+  cells : map element_views.cell_of l.cells.items ++ map (spec.cell_with_blocks l.has_spans l.is_in_head
+      (views.context_in l.place l.initial.around.items)) (tables.cells_at (drop l.node-index l.row))
+      ≡ map (spec.cell_with_blocks l.has_spans l.is_in_head
+      (views.context_in l.place l.initial.around.items)) (tables.cells_at l.row);
   around : l.around.items ≡ l.initial.around.items;
 }

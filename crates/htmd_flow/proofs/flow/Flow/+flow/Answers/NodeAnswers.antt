@@ -1,6 +1,6 @@
 -- What nodes and blocks give.
 use Rattle.std.proofs.Common.{◌≡◌, ◌+◌, ◌-◌, ◌≤◌, ◌∷◌, true, false, length, drop, take, map, sym, subst, ap}
-use Rattle.std.proofs.Common.{◌∙◌, ◌&&◌, arith, rules}
+use Rattle.std.proofs.Common.{◌∙◌, ◌&&◌, arith, rules, cond}
 use Rattle.std.specs.Prelude.{Some, None, pos, string_bytes}
 use Rattle.std.specs.Option.{option_copied, unwrap_or}
 use Rattle.std.proofs.lemmas.Int.{to_z-of_z}
@@ -9,14 +9,15 @@ use mir.Val.{SFits}
 use Rattle.htmd_document.specs.DocumentViews.{inlines_of, blocks_of}
 use Rattle.htmd_document.specs.Formats.{of_format, of_element}
 use Rattle.htmd_lexical.specs.Attributes.{pairs_of}
+use Rattle.htmd_shown.specs.Attributes.{title_of}
 use Rattle.htmd_shown.specs.ShownTexts.{shown_text}
 use Rattle.htmd_shown.specs.SimpleViews.{simple_of, simples_of}
-use Rattle.htmd_flow.specs.Contexts.{apart, in_one_line, inside_format}
+use Rattle.htmd_flow.specs.Contexts.{apart, in_one_line, inside_format, inside_title}
 use Rattle.htmd_flow.specs.Flows as spec
 use Rattle.htmd_flow.specs.FlowViews as views
 use Rattle.htmd_flow.specs.FlowViews.{context_in, node_at, nodes_at, with_option}
 use Rattle.htmd_flow.specs.ItemViews.{row_len}
-use Rattle.htmd_flow.specs.Levels.{highest}
+use Rattle.htmd_flow.specs.Levels.{highest, list_of}
 use Rattle.htmd_flow.specs.ParagraphViews.{writing_in}
 use Rattle.htmd_flow.specs.Paragraphs.{fed, fed_all, begun, blocks_in}
 use Rattle.htmd_flow.specs.Parts.{run, place, whole}
@@ -275,6 +276,18 @@ element-returns-in-Element-clause-out t c =
     ∙ ap (λ r. fed_all (writing_in c.args.out.now) (spec.parts_of r (views.element_in c.args.element.now) context))
     (sym c.in-Element.is))
 
+pub element-returns-in_ok-title-in-Abbreviation-clause-out : goal.element-returns-in_ok-title-in-Abbreviation-clause-out
+element-returns-in_ok-title-in-Abbreviation-clause-out t c =
+    let context = context_in c.args.place.now c.args.around.now.items in
+    let attributes = pairs_of c.args.element.now.attrs.now in
+    on_ok c.inside-in-Abbreviation.result c.inside-in-Abbreviation.ensures.out (λ e. e
+    ∙ ap (λ x. fed_all (writing_in c.args.out.now) (spec.flow_all (nodes_at c.args.element.now.content.now) x))
+    (subst (λ a. with_option (context_in c.args.place.now a) c.in_ok-title-in-Abbreviation.title
+    ≡ inside_title (title_of attributes) (context_in c.args.place.now a)) c.deref-in-Abbreviation.ensures.value
+    (c.in_ok-title-in-Abbreviation.ensures c.args.place.now))
+    ∙ ap (λ r. fed_all (writing_in c.args.out.now) (spec.parts_of r (views.element_in c.args.element.now) context))
+    (sym c.in-Abbreviation.is))
+
 pub element-returns-in_ok-link-in-Link-clause-out : goal.element-returns-in_ok-link-in-Link-clause-out
 element-returns-in_ok-link-in-Link-clause-out t c =
     let context = context_in c.args.place.now c.args.around.now.items in
@@ -310,6 +323,7 @@ element-returns-in_default-clause-out t c =
     (context_in c.args.place.now c.args.around.now.items) c.args.role (record {
       format = c.in_default.not-Format;
       element = c.in_default.not-Element;
+      abbreviation = c.in_default.not-Abbreviation;
       code = c.in_default.not-Code;
       typed = c.in_default.not-Typed;
       link = c.in_default.not-Link;
@@ -348,9 +362,39 @@ block-returns-in-Division-clause-out t c =
 
 pub block-returns-in-Figure-clause-out : goal.block-returns-in-Figure-clause-out
 block-returns-in-Figure-clause-out t c =
-    on_ok c.near-in-Figure.result c.near-in-Figure.ensures.out (λ e. e
+    on_ok c.figure.result c.figure.ensures.out (λ e. e
     ∙ ap (λ r. fed_all (writing_in c.args.out.now) (spec.block_parts r (views.element_in c.args.element.now)
     (context_in c.args.place.now c.args.around.now.items))) (sym c.in-Figure.is))
+
+pub block-returns-in-Details-clause-out : goal.block-returns-in-Details-clause-out
+block-returns-in-Details-clause-out t c =
+    on_ok c.details.result c.details.ensures.out (λ e. e
+    ∙ ap (λ r. fed_all (writing_in c.args.out.now) (spec.block_parts r (views.element_in c.args.element.now)
+    (context_in c.args.place.now c.args.around.now.items))) (sym c.in-Details.is))
+
+pub block-returns-in-Term-clause-out : goal.block-returns-in-Term-clause-out
+block-returns-in-Term-clause-out t c =
+    on_ok c.title.result c.title.ensures.out (λ e. e
+    ∙ ap (λ r. fed_all (writing_in c.args.out.now) (spec.block_parts r (views.element_in c.args.element.now)
+    (context_in c.args.place.now c.args.around.now.items))) (sym c.in-Term.is))
+
+pub block-returns-in-Caption-clause-out : goal.block-returns-in-Caption-clause-out
+block-returns-in-Caption-clause-out t c =
+    on_ok c.title-in-Caption.result c.title-in-Caption.ensures.out (λ e. e
+    ∙ ap (λ r. fed_all (writing_in c.args.out.now) (spec.block_parts r (views.element_in c.args.element.now)
+    (context_in c.args.place.now c.args.around.now.items))) (sym c.in-Caption.is))
+
+pub block-returns-in-FigureCaption-clause-out : goal.block-returns-in-FigureCaption-clause-out
+block-returns-in-FigureCaption-clause-out t c =
+    on_ok c.title-in-FigureCaption.result c.title-in-FigureCaption.ensures.out (λ e. e
+    ∙ ap (λ r. fed_all (writing_in c.args.out.now) (spec.block_parts r (views.element_in c.args.element.now)
+    (context_in c.args.place.now c.args.around.now.items))) (sym c.in-FigureCaption.is))
+
+pub block-returns-in-Summary-clause-out : goal.block-returns-in-Summary-clause-out
+block-returns-in-Summary-clause-out t c =
+    on_ok c.title-in-Summary.result c.title-in-Summary.ensures.out (λ e. e
+    ∙ ap (λ r. fed_all (writing_in c.args.out.now) (spec.block_parts r (views.element_in c.args.element.now)
+    (context_in c.args.place.now c.args.around.now.items))) (sym c.in-Summary.is))
 
 pub block-returns-in-Cell-clause-out : goal.block-returns-in-Cell-clause-out
 block-returns-in-Cell-clause-out t c =
@@ -360,17 +404,13 @@ block-returns-in-Cell-clause-out t c =
 
 pub block-returns-in-Terms-clause-out : goal.block-returns-in-Terms-clause-out
 block-returns-in-Terms-clause-out t c =
-    on_ok c.terms.result c.terms.ensures.out (λ e. e
+    on_ok c.terms_at.result c.terms_at.ensures.out (λ e. e
     ∙ ap (λ r. fed_all (writing_in c.args.out.now) (spec.block_parts r (views.element_in c.args.element.now)
     (context_in c.args.place.now c.args.around.now.items))) (sym c.in-Terms.is))
 
 pub block-returns-in-Table-clause-out : goal.block-returns-in-Table-clause-out
 block-returns-in-Table-clause-out t c =
-    on_ok c.table.result c.table.ensures.out (λ e. e
-    ∙ ap (λ ts. fed_all (writing_in c.args.out.now) (spec.table_parts ts (nodes_at c.args.element.now.content.now)
-    (spec.rows_of_table (simples_of c.args.element.now.content.now))
-    (context_in c.args.place.now c.args.around.now.items)))
-    (sym (trees_are c.args.element.now.content.now))
+    on_ok c.table_at.result c.table_at.ensures.out (λ e. e
     ∙ ap (λ r. fed_all (writing_in c.args.out.now) (spec.block_parts r (views.element_in c.args.element.now)
     (context_in c.args.place.now c.args.around.now.items))) (sym c.in-Table.is))
 
@@ -426,7 +466,12 @@ block-returns-in_default-clause-out t c =
       terms = c.in_default.not-Terms;
       table = c.in_default.not-Table;
       division = c.in_default.not-Division;
+      details = c.in_default.not-Details;
       figure = c.in_default.not-Figure;
+      term = c.in_default.not-Term;
+      caption = c.in_default.not-Caption;
+      figure_caption = c.in_default.not-FigureCaption;
+      summary = c.in_default.not-Summary;
       cell = c.in_default.not-Cell;
     })))
 
@@ -576,3 +621,41 @@ line-returns-clause-content t c =
     ∙ ap line_in (c.in_ok-among.ensures.out
     ∙ ap (λ w. fed_all w (spec.flow_all ns (context_in c.in_one_line.result around))) c.new-line.ensures
     ∙ ap (λ p. fed_all (begun false true) (spec.flow_all ns (context_in p around))) c.in_one_line.ensures))
+
+pub terms_at-returns-then-has_elements-clause-out : goal.terms_at-returns-then-has_elements-clause-out
+terms_at-returns-then-has_elements-clause-out t c =
+    let context = context_in c.args.place.now c.args.around.now.items in
+    let parts = spec.terms_of (simples_of c.args.content.now) in
+    on_ok c.described.result c.described.ensures.out (λ e. e
+    ∙ ap (fed_all (writing_in c.args.out.now)) (sym (ap (λ b. cond b (spec.described_parts parts context)
+    (spec.term_parts parts (nodes_at c.args.content.now) context))
+    (sym c.has_elements.ensures ∙ c.if-has_elements.true))))
+
+pub terms_at-returns-clause-out : goal.terms_at-returns-clause-out
+terms_at-returns-clause-out t c =
+    let context = context_in c.args.place.now c.args.around.now.items in
+    let parts = spec.terms_of (simples_of c.args.content.now) in
+    on_ok c.terms.result c.terms.ensures.out (λ e. e
+    ∙ ap (fed_all (writing_in c.args.out.now)) (sym (ap (λ b. cond b (spec.described_parts parts context)
+    (spec.term_parts parts (nodes_at c.args.content.now) context))
+    (sym c.has_elements.ensures ∙ c.if-has_elements.false))))
+
+pub table_at-returns-then-has_elements-clause-out : goal.table_at-returns-then-has_elements-clause-out
+table_at-returns-then-has_elements-clause-out t c =
+    let context = context_in c.args.place.now c.args.around.now.items in
+    let e = views.element_in c.args.element.now in
+    on_ok c.rich_table.result c.rich_table.ensures.out (λ out. out
+    ∙ ap (fed_all (writing_in c.args.out.now)) (sym (ap (λ b. cond b (spec.rich_table_at e context)
+    (spec.table_parts (list_of e.content) e.nodes e.rows context))
+    (sym c.has_elements.ensures ∙ c.if-has_elements.true))))
+
+pub table_at-returns-clause-out : goal.table_at-returns-clause-out
+table_at-returns-clause-out t c =
+    let context = context_in c.args.place.now c.args.around.now.items in
+    let e = views.element_in c.args.element.now in
+    on_ok c.table.result c.table.ensures.out (λ out. out
+    ∙ ap (λ ts. fed_all (writing_in c.args.out.now) (spec.table_parts ts e.nodes e.rows context))
+    (sym (trees_are c.args.element.now.content.now))
+    ∙ ap (fed_all (writing_in c.args.out.now)) (sym (ap (λ b. cond b (spec.rich_table_at e context)
+    (spec.table_parts (list_of e.content) e.nodes e.rows context))
+    (sym c.has_elements.ensures ∙ c.if-has_elements.false))))

@@ -1,0 +1,10 @@
+use Rattle.std.proofs.Common.{◌≡◌, drop, map}
+use Rattle.std.specs.List.{list_all}
+use Rattle.htmd_flow.specs.ElementViews as views
+use Rattle.htmd_flow.specs.TableElements as spec
+use Rattle.htmd_flow.proofs.table_element.are_in_header.Given as goal
+
+abbrev pub invariant-loop-cell : goal.invariant-loop-cell
+invariant-loop-cell l =
+    list_all spec.is_in_header (map views.cell_of (drop l.cell-index l.cells))
+    ≡ list_all spec.is_in_header (map views.cell_of l.cells)
