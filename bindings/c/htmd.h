@@ -74,6 +74,14 @@ enum {
     HTMD_ANCHORS_NONE = 2    /* none */
 };
 
+/* images: how they are kept */
+enum {
+    HTMD_IMAGES_KEEP = 0,   /* as they are */
+    HTMD_IMAGES_LINKED = 1, /* those that have an address; those whose data stands in the page are their text */
+    HTMD_IMAGES_ALT = 2,    /* each is its text */
+    HTMD_IMAGES_DROP = 3    /* none is kept */
+};
+
 enum { HTMD_HEADING_ATX = 0, HTMD_HEADING_SETEXT = 1 };
 enum { HTMD_HR_ASTERISKS = 0, HTMD_HR_DASHES = 1, HTMD_HR_UNDERSCORES = 2 };
 enum { HTMD_BR_TWO_SPACES = 0, HTMD_BR_BACKSLASH = 1 };
@@ -105,7 +113,11 @@ typedef struct htmd_options {
     uint8_t anchors;
     uint8_t rich;              /* 1: the document also says what Markdown has no form for; 0: it doesn't */
     uint8_t article;           /* 1: only the main content of the page is converted; 0: all of it */
-    uint8_t reserved[12];      /* 0 */
+    uint8_t visible;           /* 1: what the page hides by its attributes is left out; 0: it is not */
+    uint8_t images;
+    uint8_t links_as_text;     /* 1: links are written as their text; 0: with their addresses */
+    uint8_t title;             /* 1: the page's title comes first, as a heading, if there is no h1; 0: it doesn't */
+    uint8_t reserved[8];       /* 0 */
 } htmd_options;
 
 /* A text, and the number of its bytes. With none it says nothing; the pointer isn't null even then. */

@@ -84,7 +84,11 @@ static void test_struct(void) {
     CHECK(offsetof(htmd_options, anchors) == 17);
     CHECK(offsetof(htmd_options, rich) == 18);
     CHECK(offsetof(htmd_options, article) == 19);
-    CHECK(offsetof(htmd_options, reserved) == 20);
+    CHECK(offsetof(htmd_options, visible) == 20);
+    CHECK(offsetof(htmd_options, images) == 21);
+    CHECK(offsetof(htmd_options, links_as_text) == 22);
+    CHECK(offsetof(htmd_options, title) == 23);
+    CHECK(offsetof(htmd_options, reserved) == 24);
 }
 
 /* A call for a page, into a buffer that is large enough. */
@@ -291,14 +295,30 @@ static void test_rich(void) {
     CHECK(says(&rich, "<details>\n<summary>a</summary>\n\nb\n\n</details>"));
 }
 
+static void test_changes(void) {
+    const char *html = "<title>T</title><p hidden>x</p><p><a href=\"b\">c</a> <img src=\"data:,\" alt=\"d\"></p>";
+    htmd_options options = defaults();
+    options.reader = HTMD_HTML5;
+    options.mode = HTMD_GUARDED;
+    options.visible = 1;
+    options.images = HTMD_IMAGES_LINKED;
+    options.title = 1;
+    struct answer linked = call(html, strlen(html), &options, ROOM);
+    CHECK(says(&linked, "# T\n\n[c](b) d"));
+    options.links_as_text = 1;
+    options.images = HTMD_IMAGES_DROP;
+    struct answer dropped = call(html, strlen(html), &options, ROOM);
+    CHECK(says(&dropped, "# T\n\nc"));
+}
+
 /* Each number of each byte of the struct: all but the good ones answer the status for them, and write nothing. */
 static void test_numbers(void) {
-    const int counts[32] = {0, 3, 3, 2, 2, 3, 2, 3, 3, 2, 2, 2, 256, 256, 2, 2, 2, 3, 2, 2};
+    const int counts[32] = {0, 3, 3, 2, 2, 3, 2, 3, 3, 2, 2, 2, 256, 256, 2, 2, 2, 3, 2, 2, 2, 4, 2, 2};
     for (int at = 0; at < 32; at++) {
         for (int number = 0; number < 256; number++) {
             htmd_options options = defaults();
             memcpy((uint8_t *)&options + at, &(uint8_t){(uint8_t)number}, 1);
-            int is_good = at == 0 ? number == HTMD_OPTIONS_VERSION : at > 19 ? number == 0 : number < counts[at];
+            int is_good = at == 0 ? number == HTMD_OPTIONS_VERSION : at > 23 ? number == 0 : number < counts[at];
             if (at == offsetof(htmd_options, output) && number == HTMD_MDAST)
                 continue; /* JSON, which test_modes asks for */
             struct answer answer = call("<p>a</p>", 8, &options, 8);
@@ -466,6 +486,7 @@ int main(void) {
     test_modes();
     test_anchors();
     test_rich();
+    test_changes();
     test_numbers();
     test_utf8();
     test_places();

@@ -18,6 +18,7 @@ CodeBlockStyle = Literal["fenced", "indented"]
 CodeBlockFence = Literal["backticks", "tildes"]
 BulletListMarker = Literal["asterisk", "dash"]
 Anchors = Literal["linked", "all", "none"]
+Images = Literal["keep", "linked", "alt", "drop"]
 
 #: The values of each option, and their numbers in the struct.
 VALUES: Mapping[str, Mapping[str, int]] = {
@@ -33,6 +34,7 @@ VALUES: Mapping[str, Mapping[str, int]] = {
     "bullet_list_marker": {"asterisk": 0, "dash": 1},
     "output": {"markdown": 0, "mdast": 1},
     "anchors": {"linked": 0, "all": 1, "none": 2},
+    "images": {"keep": 0, "linked": 1, "alt": 2, "drop": 3},
 }
 
 # The bytes of the buffer beyond those of the page. What doesn't fit is converted a second time.
@@ -75,10 +77,14 @@ def convert(
     ul_bullet_spacing: int = 3,
     ol_number_spacing: int = 2,
     preformatted_code: bool = False,
+    visible: bool = False,
     article: bool = False,
     select: str = "",
     drop: str = "",
     skip: str = "",
+    images: Images = "keep",
+    links_as_text: bool = False,
+    title: bool = False,
     base: str = "",
     front_matter: bool = False,
     encoding: Optional[str] = None,
@@ -103,11 +109,15 @@ def convert(
     bullet_list_marker: "asterisk" or "dash"
     ul_bullet_spacing, ol_number_spacing: the spaces after a bullet and after a number, 0 to 255; in "guarded" 1 to 4
     preformatted_code: whether the white space of code spans is kept
+    visible: whether what the page hides is left out: by `hidden`, `aria-hidden="true"` or a style of its own
     article: whether only the main content of the page is converted, without menus and the like
     select: selectors with commas between them, as "main,.note": only the outermost elements that they name are
         converted
     drop: selectors of what is left out, before other elements are selected
     skip: names of elements that give nothing, with commas between them
+    images: "keep", or "linked": images whose data stands in the page are their text, or "alt": all are, or "drop"
+    links_as_text: whether links are written as their text, without addresses
+    title: whether the page's title comes first, as a heading, if nothing that is converted is an `h1`
     base: the URL of the page: addresses are made absolute
     front_matter: whether what the head of the page says about it is written first
     encoding: the label of the encoding of bytes without a byte order mark, if it is known; without it, "html5" takes
@@ -125,13 +135,16 @@ def convert(
     option or value, and `MemoryError`. Calls from several threads run in parallel.
     """
     options = _options(
-        scripting,
         ul_bullet_spacing,
         ol_number_spacing,
-        preformatted_code,
-        front_matter,
-        rich,
-        article,
+        scripting=scripting,
+        preformatted_code=preformatted_code,
+        front_matter=front_matter,
+        rich=rich,
+        article=article,
+        visible=visible,
+        links_as_text=links_as_text,
+        title=title,
         output="markdown",
         reader=reader,
         mode=mode,
@@ -144,6 +157,7 @@ def convert(
         code_block_fence=code_block_fence,
         bullet_list_marker=bullet_list_marker,
         anchors=anchors,
+        images=images,
     )
     return _written(html, options, _texts(select, drop, skip, base, encoding))
 
@@ -153,10 +167,14 @@ def document(
     *,
     reader: Reader = "html5",
     scripting: bool = True,
+    visible: bool = False,
     article: bool = False,
     select: str = "",
     drop: str = "",
     skip: str = "",
+    images: Images = "keep",
+    links_as_text: bool = False,
+    title: bool = False,
     base: str = "",
     encoding: Optional[str] = None,
     anchors: Anchors = "linked",
@@ -171,7 +189,19 @@ def document(
     Raises what `convert` raises.
     """
     options = _options(
-        scripting, 3, 2, False, False, rich, article, output="mdast", reader=reader, mode="guarded", anchors=anchors
+        3,
+        2,
+        scripting=scripting,
+        rich=rich,
+        article=article,
+        visible=visible,
+        links_as_text=links_as_text,
+        title=title,
+        output="mdast",
+        reader=reader,
+        mode="guarded",
+        anchors=anchors,
+        images=images,
     )
     return json.loads(_written(html, options, _texts(select, drop, skip, base, encoding)))
 
@@ -209,39 +239,25 @@ def _written(html: Union[str, bytes], options: _library.Options, texts: Dict[str
 
 
 @functools.lru_cache(maxsize=64, typed=True)
-def _options(
-    scripting: bool,
-    ul_bullet_spacing: int,
-    ol_number_spacing: int,
-    preformatted_code: bool,
-    front_matter: bool,
-    rich: bool,
-    article: bool,
-    **values: str,
-) -> _library.Options:
+def _options(ul_bullet_spacing: int, ol_number_spacing: int, **values: Union[bool, str]) -> _library.Options:
     """The struct that says these options; it is never written again, so that threads may share it."""
-    numbers = {name: _number(name, value) for name, value in values.items()}
+    numbers = {name: _number(name, value) if name in VALUES else _flag(name, value) for name, value in values.items()}
     return _library.Options(
         version=_library.OPTIONS_VERSION,
-        scripting=_flag("scripting", scripting),
         ul_bullet_spacing=_spacing("ul_bullet_spacing", ul_bullet_spacing),
         ol_number_spacing=_spacing("ol_number_spacing", ol_number_spacing),
-        preformatted_code=_flag("preformatted_code", preformatted_code),
-        front_matter=_flag("front_matter", front_matter),
-        rich=_flag("rich", rich),
-        article=_flag("article", article),
         **numbers,
     )
 
 
-def _number(name: str, value: str) -> int:
+def _number(name: str, value: Union[bool, str]) -> int:
     known = VALUES[name]
     if value not in known:
         raise ValueError(f"{name} is {value!r}; known are {', '.join(map(repr, known))}")
     return known[value]
 
 
-def _flag(name: str, value: bool) -> bool:
+def _flag(name: str, value: Union[bool, str]) -> bool:
     if not isinstance(value, bool):
         raise TypeError(f"{name} is {value!r}, and not a bool")
     return value

@@ -63,7 +63,11 @@ class Options(ctypes.Structure):
         ("anchors", ctypes.c_uint8),
         ("rich", ctypes.c_uint8),
         ("article", ctypes.c_uint8),
-        ("reserved", ctypes.c_uint8 * 12),
+        ("visible", ctypes.c_uint8),
+        ("images", ctypes.c_uint8),
+        ("links_as_text", ctypes.c_uint8),
+        ("title", ctypes.c_uint8),
+        ("reserved", ctypes.c_uint8 * 8),
     ]
 
 

@@ -154,6 +154,16 @@ class Pages(unittest.TestCase):
         with self.assertRaises(TypeError):
             htmd.convert(self.PAGE, article=1)
 
+    def test_changes(self):
+        html = '<title>T</title><p hidden>x</p><p><a href="b">c</a> <img src="data:," alt="d"></p>'
+        self.assertEqual(htmd.convert(html, visible=True, images="linked", title=True), "# T\n\n[c](b) d")
+        self.assertEqual(htmd.convert(html, visible=True, images="drop", links_as_text=True), "c")
+        self.assertEqual(htmd.document(html, visible=True, images="alt", title=True)["children"][0]["depth"], 1)
+        with self.assertRaises(TypeError):
+            htmd.convert(html, visible=1)
+        with self.assertRaises(ValueError):
+            htmd.convert(html, images="none")
+
     def test_addresses_and_front_matter(self):
         markdown = htmd.convert(self.PAGE, select="main > p", base="https://example.org/docs/", front_matter=True)
         self.assertEqual(markdown, '---\ntitle: "T"\n---\n\na [b](https://example.org/docs/b)\n\nc')
@@ -283,6 +293,7 @@ class Header(unittest.TestCase):
             "bullet_list_marker": "BULLET_",
             "output": "",
             "anchors": "ANCHORS_",
+            "images": "IMAGES_",
         }
         for name, values in _convert.VALUES.items():
             for value, number in values.items():

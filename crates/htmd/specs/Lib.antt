@@ -67,6 +67,7 @@ pub use Rattle.htmd_walk.specs.TableViews
 pub use Rattle.htmd_walk.specs.UnescapedTexts
 pub use Rattle.htmd_walk.specs.declared.options.Options
 pub use Rattle.htmd_document_of_tree.specs.declared.anchors.Anchors as DocumentAnchors
+pub use Rattle.htmd_trimming.specs.declared.asked.Images as KeptImages
 pub use Rattle.htmd_markdown.specs.declared.link.LinkStyle
 pub use Rattle.htmd_walk.specs.declared.options.CodeBlockStyle
 pub use Rattle.htmd_walk.specs.declared.options.TranslationMode

@@ -26,7 +26,7 @@ use Rattle.htmd_html5.specs.Html5Documents.{html5_document}
 use Rattle.htmd.specs.declared.page_error.PageError.{PageError}
 use Rattle.htmd.specs.declared.page_error.PageError.TheVariants.{NotUtf8, Refused, NothingSelected, Memory}
 use Rattle.htmd.specs.PageSettings.{Settings}
-use Rattle.htmd.specs.PageChanges.{head_of, part_of}
+use Rattle.htmd.specs.PageChanges.{head_of, part_of, visible_part}
 
 -- the Document, and under it a `p`
 abbrev pub empty_paragraph : List Item
@@ -89,11 +89,13 @@ IsTreeBy settings input page =
     (MatchBool settings.html5 (IsHtml5Tree settings.scripting input page)
     (IsTreeOf settings.scripting (strict_part settings input) page))
 
--- the main content of the page that an input is, and the rule by which it was chosen
+-- the main content of the page that an input is, without what it hides if that isn't converted, and the rule by which
+-- it was chosen
 abbrev pub IsMainContent : Settings → List ℕ → Chosen → List Item → Type 0
 IsMainContent settings input chosen content =
     (page : List Item) × IsTreeBy settings input page
-    × (chosen ≡ (article_of (value_at page 0)).chosen) × (content ≡ article_page page)
+    × (chosen ≡ (article_of (value_at (visible_part settings page) 0)).chosen)
+    × (content ≡ article_page (visible_part settings page))
 
 -- Markdown after what the head of its page says, which stands between two lines `---`, if it says anything
 abbrev pub after_head : List ℕ → List ℕ → List ℕ

@@ -4,6 +4,8 @@ use Rattle.std.specs.Option.{option_or}
 use Rattle.htmd_document_of_tree.specs.declared.anchors.Anchors.{Anchors}
 use Rattle.htmd_document_of_tree.specs.declared.anchors.Anchors.TheVariants as which
 use Rattle.htmd_encodings.specs.declared.encodings.Encoding.{Encoding}
+use Rattle.htmd_trimming.specs.declared.asked.Images.{Images}
+use Rattle.htmd_trimming.specs.declared.asked.Images.TheVariants as images
 use Rattle.htmd_walk.specs.declared.options.Options.{Options}
 use Rattle.htmd_walk.specs.Defaults.{default_options}
 use Rattle.htmd_selectors.specs.SelectorSteps.{Step}
@@ -35,12 +37,20 @@ pub record Settings : Type 0 where
   pub options : Options
   -- elements with these names give nothing
   pub skipped : List (List ℕ)
+  -- only what the page doesn't hide is converted
+  pub visible : Bool
   -- only the main content of the page is converted
   pub article : Bool
   -- only the outermost elements that these selectors name are converted, if there are any selectors
   pub selected : List Step
   -- the elements that these selectors name are left out
   pub dropped : List Step
+  -- how images are kept
+  pub images : Images
+  -- links are written as their text
+  pub links_as_text : Bool
+  -- the page's title is written as a heading, if the page has none of the first level
+  pub title : Bool
   -- the URL of the page, if addresses are made absolute
   pub base : Option Parts
   -- the page as one of a run, if addresses lead to the outputs of its pages; what is said of all pages doesn't say it
@@ -62,9 +72,13 @@ settings_in settings = record {
   scripting = settings.scripting;
   options = settings.options;
   skipped = map (λ name. name.now) settings.skipped.items;
+  visible = settings.visible;
   article = settings.article;
   selected = steps_in settings.selected;
   dropped = steps_in settings.dropped;
+  images = settings.images;
+  links_as_text = settings.links_as_text;
+  title = settings.title;
   base = settings.base;
   run_page = None;
   front_matter = settings.front_matter;
@@ -84,9 +98,13 @@ default_settings = record {
   scripting = true;
   options = default_options;
   skipped = [];
+  visible = false;
   article = false;
   selected = [];
   dropped = [];
+  images = images.Keep;
+  links_as_text = false;
+  title = false;
   base = None;
   run_page = None;
   front_matter = false;

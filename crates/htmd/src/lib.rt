@@ -44,6 +44,7 @@ pub use htmd_encodings::{Encoding, encoding_named};
 pub use htmd_nodes::{Attribute, Name, NodeData, NodeId, Tag, Tree, TreeError};
 pub use htmd_selectors::{SelectorError, Selectors, parse_selectors};
 pub use htmd_tree::{FaultKind, ReadError, body_of, line_and_column};
+pub use htmd_trimming::Images;
 pub use htmd_walk::element_handler::Element;
 pub use htmd_walk::{element_handler, options};
 pub use page_converter::{PageConverter, convert_page, main_content};

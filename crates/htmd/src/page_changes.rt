@@ -1,5 +1,6 @@
 //! What is done to the tree of a page before it is converted.
 ghost use Rattle.std.specs.Prelude.{◌≡◌, IfOk, option_copied, option_map, string_bytes};
+ghost use Rattle.htmd_addresses.specs.Bases.{base_address as named_address};
 ghost use Rattle.htmd_addresses.specs.RunViews.{run_page_of};
 ghost use Rattle.std.specs.Option.{option_or};
 ghost use Rattle.htmd_selectors.specs.Views.{steps_in};
@@ -7,11 +8,12 @@ ghost use Rattle.htmd.specs.PageChanges as spec;
 ghost use Rattle.htmd.specs.PageSettings.{page_in, settings_for, settings_in};
 
 use crate::page_settings::{PageInRun, PageSettings};
-use htmd_addresses::{RunPage, base_of, lead_to_pages, make_absolute};
+use htmd_addresses::{RunPage, base_address, base_of, lead_to_pages, make_absolute};
 use htmd_article::article_of;
-use htmd_front_matter::front_matter;
+use htmd_front_matter::{front_matter, title_of};
 use htmd_nodes::Tree;
 use htmd_selectors::{Selectors, drop_elements, select_elements};
+use htmd_trimming::{Images, plainer_page, titled_page, visible_page};
 use std::alloc::{AllocError, Global};
 use url::Url;
 
@@ -36,6 +38,21 @@ pub(crate) fn head_of(
         front_matter(alloc, page)
     } else {
         Ok(String::new(alloc))
+    }
+}
+
+/// The page without what it hides, if only the rest is converted.
+pub(crate) fn visible_part(
+    alloc: Global,
+    settings: &PageSettings<'_>,
+    page: Tree,
+) -> Result<Tree, AllocError>
+    ensures { IfOk result (λ tree. tree ≡ spec.visible_part (settings_in settings.now) page) }
+{
+    if settings.visible {
+        visible_page(alloc, &page)
+    } else {
+        Ok(page)
     }
 }
 
@@ -89,11 +106,57 @@ fn chosen(
 ) -> Result<Option<Tree>, AllocError>
     ensures { IfOk result (λ part. part ≡ spec.selected_of (settings_in settings.now)
         (spec.without_dropped (settings_in settings.now)
-        (spec.main_content (settings_in settings.now) page))) }
+        (spec.main_content (settings_in settings.now)
+        (spec.visible_part (settings_in settings.now) page)))) }
 {
-    let content = main_content(alloc, settings, page)?;
+    let visible = visible_part(alloc, settings, page)?;
+    let content = main_content(alloc, settings, visible)?;
     let kept = without_dropped(alloc, settings, content)?;
     selected(alloc, settings, kept)
+}
+
+/// Whether images are kept as they are.
+fn are_kept(images: Images) -> bool
+    ensures { result ≡ spec.are_kept images }
+{
+    matches!(images, Images::Keep)
+}
+
+/// A part whose images and links are as they are to be written.
+fn plainer(alloc: Global, settings: &PageSettings<'_>, part: Tree) -> Result<Tree, AllocError>
+    ensures { IfOk result (λ tree. tree ≡ spec.plainer (settings_in settings.now) part) }
+{
+    if settings.links_as_text || !are_kept(settings.images) {
+        plainer_page(alloc, &part, settings.images, settings.links_as_text)
+    } else {
+        Ok(part)
+    }
+}
+
+/// The title of a page, if it is to be written.
+fn heading_of(
+    alloc: Global,
+    settings: &PageSettings<'_>,
+    page: &Tree,
+) -> Result<Option<String>, AllocError>
+    ensures { IfOk result (λ title. option_map string_bytes title
+        ≡ spec.heading_of (settings_in settings.now) page.now) }
+{
+    if settings.title {
+        title_of(alloc, page)
+    } else {
+        Ok(None)
+    }
+}
+
+/// A part under a title.
+fn under_title(alloc: Global, title: Option<String>, part: Tree) -> Result<Tree, AllocError>
+    ensures { IfOk result (λ tree. tree ≡ spec.under_title (option_map string_bytes title) part) }
+{
+    match title {
+        Some(title) => titled_page(alloc, part, title.as_str()),
+        None => Ok(part),
+    }
 }
 
 /// The base that a page names, against its URL; none if it names none, or if the URL isn't known.
@@ -108,18 +171,40 @@ fn own_base(url: Option<&Url>, page: &Tree) -> Result<Option<Url>, AllocError>
     }
 }
 
-/// A part of a page with the addresses that it is to have.
+/// The address of the base that a page names.
+fn named_base(alloc: Global, page: &Tree) -> Result<Option<String>, AllocError>
+    ensures { IfOk result (λ named. option_map string_bytes named ≡ named_address page.now) }
+{
+    match base_address(page) {
+        Some(address) => Ok(Some(String::from_str(alloc, address)?)),
+        None => Ok(None),
+    }
+}
+
+/// The same text, lent.
+fn lent(text: &Option<String>) -> Option<&str>
+    ensures { option_copied result ≡ option_map string_bytes text.now }
+{
+    match text {
+        Some(text) => Some(text.as_str()),
+        None => None,
+    }
+}
+
+/// A part of a page, which names a base or none, with the addresses that it is to have.
 fn with_addresses(
     alloc: Global,
     run_page: Option<RunPage<'_>>,
     base: Option<&Url>,
+    named: &Option<String>,
     part: Tree,
 ) -> Result<Tree, AllocError>
     ensures { IfOk result (λ tree. tree
-        ≡ spec.with_addresses (option_map run_page_of run_page.entry) (option_copied base.entry) part) }
+        ≡ spec.with_addresses (option_map run_page_of run_page.entry) (option_copied base.entry)
+        (option_map string_bytes named.now) part) }
 {
     match (run_page, base) {
-        (Some(page), base) => lead_to_pages(alloc, &part, page, base),
+        (Some(page), base) => lead_to_pages(alloc, &part, page, base, lent(named)),
         (None, Some(base)) => make_absolute(alloc, &part, base),
         (None, None) => Ok(part),
     }
@@ -143,8 +228,14 @@ pub(crate) fn part_of(
     let url = in_run.url.as_ref().or(settings.base.as_ref());
     let own = own_base(url, &page)?;
     let base = own.as_ref().or(url);
+    let named = named_base(alloc, &page)?;
+    let title = heading_of(alloc, settings, &page)?;
     match chosen(alloc, settings, page)? {
-        Some(part) => Ok(Some(with_addresses(alloc, in_run.run_page, base, part)?)),
+        Some(part) => {
+            let plain = plainer(alloc, settings, part)?;
+            let addressed = with_addresses(alloc, in_run.run_page, base, &named, plain)?;
+            Ok(Some(under_title(alloc, title, addressed)?))
+        }
         None => Ok(None),
     }
 }

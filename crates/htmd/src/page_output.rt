@@ -17,7 +17,7 @@ ghost use Rattle.htmd_law_reading.specs.ReadingLaws.{IsSeenIn};
 use crate::convert_error::ConvertError;
 use crate::converter::{HtmlToMarkdown, HtmlToMarkdownBuilder};
 use crate::documents::document_options;
-use crate::page_changes::{head_of, part_of};
+use crate::page_changes::{head_of, part_of, visible_part};
 use crate::page_error::PageError;
 use crate::page_settings::{PageInRun, PageSettings};
 use crate::paragraph::paragraph_of;
@@ -208,7 +208,8 @@ pub(crate) fn main_content_of<H: Registry>(
 {
     let text = text_of(alloc, settings, input)?;
     let page = tree_by(alloc, converter, settings, &text)?;
-    Ok(article_of(alloc, &page)?)
+    let visible = visible_part(alloc, settings, page)?;
+    Ok(article_of(alloc, &visible)?)
 }
 
 /// What the bytes of an input become, by a converter with these settings. In Markdown of what a person sees, a reader

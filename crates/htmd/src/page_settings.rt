@@ -7,6 +7,7 @@ use htmd_addresses::RunPage;
 use htmd_document_of_tree::Anchors;
 use htmd_encodings::Encoding;
 use htmd_selectors::Selectors;
+use htmd_trimming::Images;
 use htmd_walk::options::Options;
 use std::alloc::Global;
 use url::Url;
@@ -37,12 +38,20 @@ pub struct PageSettings<'a> {
     pub options: Options,
     /// Elements with these names give nothing. The names of elements are in lower case.
     pub skipped: Vec<&'a str>,
+    /// What the page hides by its attributes is left out, before anything else is.
+    pub visible: bool,
     /// Only the main content of the page is converted.
     pub article: bool,
     /// If there are any, only the outermost elements that these name are converted.
     pub selected: Selectors,
     /// The elements that these name are left out, before others are selected.
     pub dropped: Selectors,
+    /// How images are kept.
+    pub images: Images,
+    /// Links are written as their text, without their addresses.
+    pub links_as_text: bool,
+    /// The title of the page is written first, as a heading, if what is converted has no `h1`.
+    pub title: bool,
     /// The URL of the page. Addresses are made absolute by it, or by the base that the page names against it.
     pub base: Option<Url>,
     /// What the head of the page says about it is written first.
@@ -76,9 +85,13 @@ impl<'a> PageSettings<'a> {
             scripting: true,
             options: Options::default(),
             skipped: Vec::new(alloc),
+            visible: false,
             article: false,
             selected: Selectors::new(alloc),
             dropped: Selectors::new(alloc),
+            images: Images::Keep,
+            links_as_text: false,
+            title: false,
             base: None,
             front_matter: false,
         }

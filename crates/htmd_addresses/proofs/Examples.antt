@@ -1,10 +1,10 @@
 -- Worked rows: paths in their one form, addresses that lead to pages of a run, and those of pages in a folder.
-use Rattle.std.proofs.Common.{◌≡◌, List, [], ◌∷◌, codes, refl}
+use Rattle.std.proofs.Common.{◌≡◌, List, [], ◌∷◌, None, Some, codes, refl}
 use Rattle.percent_encoding.specs.AsciiSet.{should_percent_encode}
 use Rattle.percent_encoding.specs.Percent.{percent_decode, percent_encode, percent_encode_byte}
 use Rattle.url.specs.Parts.{Parts}
 use Rattle.htmd_addresses.specs.Addresses.{resolved}
-use Rattle.htmd_addresses.specs.Leads.{PageValue, lead, relative}
+use Rattle.htmd_addresses.specs.Leads.{Folders, PageValue, folders_of, lead, relative}
 use Rattle.htmd_addresses.specs.Paths.{plain_path}
 
 same-path : plain_path (codes "./site//a/../b.html") ≡ codes "site/b.html"
@@ -30,16 +30,20 @@ second = record { input = codes "site/b/c d.html"; output = codes "out/b/c d.md"
 abbrev pages : List PageValue
 pages = first ∷ second ∷ []
 
-down : lead pages first (codes "b/c%20d.html?x=1#y") ≡ codes "b/c%20d.md?x=1#y"
+-- the folders of a page that names no base
+abbrev alone : PageValue → Folders
+alone page = folders_of page None
+
+down : lead pages (alone first) (codes "b/c%20d.html?x=1#y") ≡ codes "b/c%20d.md?x=1#y"
 unfolding percent_decode percent_encode percent_encode_byte should_percent_encode
 down = refl
 
-up : lead pages second (codes " ../a.html ") ≡ codes "../a.md"
+up : lead pages (alone second) (codes " ../a.html ") ≡ codes "../a.md"
 unfolding percent_decode percent_encode percent_encode_byte should_percent_encode
 up = refl
 
 -- `\` is a slash in addresses
-backslash : lead pages first (codes "b\\c d.html") ≡ codes "b/c%20d.md"
+backslash : lead pages (alone first) (codes "b\\c d.html") ≡ codes "b/c%20d.md"
 unfolding percent_decode percent_encode percent_encode_byte should_percent_encode
 backslash = refl
 
@@ -50,32 +54,62 @@ index = record { input = codes "site/b/index.html"; output = codes "out/b/index.
 abbrev with_index : List PageValue
 with_index = index ∷ pages
 
-down_to_index : lead with_index first (codes "b/#y") ≡ codes "b/index.md#y"
+down_to_index : lead with_index (alone first) (codes "b/#y") ≡ codes "b/index.md#y"
 unfolding percent_decode percent_encode percent_encode_byte should_percent_encode
 down_to_index = refl
 
-up_to_index : lead with_index (record { input = codes "site/b/e/f.html"; output = codes "out/b/e/f.md" }) (codes "..")
-    ≡ codes "../index.md"
+folder_to_index : lead with_index (alone first) (codes "b?x=1#y") ≡ codes "b/index.md?x=1#y"
+unfolding percent_decode percent_encode percent_encode_byte should_percent_encode
+folder_to_index = refl
+
+-- a page counts before an index
+page_before_index : lead (record { input = codes "site/b"; output = codes "out/b.md" } ∷ with_index) (alone first)
+    (codes "b") ≡ codes "b.md"
+unfolding percent_decode percent_encode percent_encode_byte should_percent_encode
+page_before_index = refl
+
+up_to_index : lead with_index (alone (record { input = codes "site/b/e/f.html"; output = codes "out/b/e/f.md" }))
+    (codes "..") ≡ codes "../index.md"
 unfolding percent_decode percent_encode percent_encode_byte should_percent_encode
 up_to_index = refl
 
-without_index : lead pages first (codes "b/") ≡ codes "b/"
+without_index : lead pages (alone first) (codes "b/") ≡ codes "b/"
 unfolding percent_decode
 without_index = refl
 
 -- no page, another host, a scheme, a part of the same page
-others : lead pages first (codes "c.html") ≡ codes "c.html"
+others : lead pages (alone first) (codes "c.html") ≡ codes "c.html"
 unfolding percent_decode
 others = refl
 
-host : lead pages first (codes "/a.html") ≡ codes "/a.html"
+host : lead pages (alone first) (codes "/a.html") ≡ codes "/a.html"
 host = refl
 
-scheme : lead pages first (codes "x:a.html") ≡ codes "x:a.html"
+scheme : lead pages (alone first) (codes "x:a.html") ≡ codes "x:a.html"
 scheme = refl
 
-fragment : lead pages first (codes "#y") ≡ codes "#y"
+fragment : lead pages (alone first) (codes "#y") ≡ codes "#y"
 fragment = refl
+
+-- by a base in a folder, and above one
+by_base : lead pages (folders_of first (Some (codes " b/x?y "))) (codes "c%20d.html#z") ≡ codes "b/c%20d.md#z"
+unfolding percent_decode percent_encode percent_encode_byte should_percent_encode
+by_base = refl
+
+by_base_above : lead pages (folders_of second (Some (codes ".."))) (codes "a.html") ≡ codes "../a.md"
+unfolding percent_decode percent_encode percent_encode_byte should_percent_encode
+by_base_above = refl
+
+-- a base without a path says nothing
+empty_base : folders_of second (Some (codes "#x")) ≡ alone second
+empty_base = refl
+
+-- no address is read in a folder by a base with a scheme, or from the root
+scheme_base : (folders_of first (Some (codes "x:b/"))).input ≡ None
+scheme_base = refl
+
+root_base : (folders_of first (Some (codes "/b/"))).input ≡ None
+root_base = refl
 
 -- a page of a folder, whose path is escaped name by name: none is read as a scheme or a query
 in_folder : relative [] (codes "a b/c:d?.html") ≡ codes "a%20b/c%3Ad%3F.html"

@@ -28,6 +28,10 @@ abbrev mutual
   base_in (comment s) = None
   base_in (element name attributes children) = option_or (own_base name attributes) (first_base children)
 
+-- the address of the base that a page names
+abbrev pub base_address : List Item → Option (List ℕ)
+base_address items = base_in (value_at items 0)
+
 -- a base that counts (HTML, 4.2.3)
 abbrev pub is_usable : Parts → Bool
 is_usable url = not (bytes_eq url.scheme (codes "data") || bytes_eq url.scheme (codes "javascript"))
@@ -44,7 +48,7 @@ base_by url (Some address) = usable (parse_url (Some url) address)
 
 -- the base that a page at a URL names, if it names one that counts
 abbrev pub named_base : Parts → List Item → Option Parts
-named_base url items = base_by url (base_in (value_at items 0))
+named_base url items = base_by url (base_address items)
 
 -- the base of a page at a URL: the one that it names, or else the URL
 abbrev pub page_base : Parts → List Item → Parts

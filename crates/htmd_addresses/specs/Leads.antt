@@ -1,15 +1,16 @@
 -- Addresses that lead to pages of a run, as addresses of the outputs of these pages.
 use Rattle.std.specs.Prelude.{ℕ, ◌-◌, Bool, false, not, ◌&&◌, ◌||◌, ◌==◌, if◌then◌else◌, List, [], ◌∷◌, ◌++◌}
-use Rattle.std.specs.Prelude.{map, length, take, drop, Option, Some, None, is_some, codes}
+use Rattle.std.specs.Prelude.{map, length, take, drop, Option, Some, None, is_some, option_map, codes}
 use Rattle.std.specs.Char.{is_ascii_alphabetic, is_ascii_alphanumeric, is_ascii_whitespace}
 use Rattle.std.specs.List.{flat_map, prefix_len, suffix_len}
+use Rattle.std.specs.Option.{option_or, unwrap_or}
 use Rattle.std.specs.Str.{bytes_eq}
 use Rattle.htmd_lexical.specs.Characters.{backslash, colon, full_stop, hyphen, number_sign, plus_sign, question_mark}
 use Rattle.htmd_lexical.specs.Characters.{slash}
 use Rattle.htmd_lexical.specs.AttributePairs.{AttributePair}
 use Rattle.htmd_nodes.specs.Items.{Item}
 use Rattle.htmd_addresses.specs.Addresses as addresses
-use Rattle.htmd_addresses.specs.Paths.{Folder, folder_of, name_of, page_in, plain_path, way}
+use Rattle.htmd_addresses.specs.Paths.{Folder, folder_of, name_of, page_folder, page_in, plain_path, way}
 use Rattle.htmd_selectors.specs.Rewriting.{rewritten_page}
 use Rattle.htmd_addresses.specs.declared.leads.TheConstants.{SEGMENT}
 use Rattle.url.specs.Parts.{Parts}
@@ -25,11 +26,20 @@ pub record RunPage : Type 0 where
   pub pages : List PageValue
   pub own : PageValue
 
+-- the folders of a page: that in which its addresses are read, if they are read in one, and that of its output
+pub record Folders : Type 0 where
+  pub input : Option Folder
+  pub output : Folder
+
 -- the output of the first page whose input has this path
 abbrev pub output_at : List PageValue → List ℕ → Option (List ℕ)
 output_at [] path = None
 output_at (page ∷ pages) path =
     if bytes_eq (plain_path page.input) path then Some page.output else output_at pages path
+
+-- the output of the page whose input has this path, or else of the index of the folder with it
+abbrev pub output_or_index : List PageValue → List ℕ → Option (List ℕ)
+output_or_index pages path = option_or (output_at pages path) (output_at pages (path ++ codes "/index.html"))
 
 -- ---- addresses
 
@@ -64,24 +74,27 @@ abbrev pub is_path_of_folder : List ℕ → Bool
 is_path_of_folder [] = false
 is_path_of_folder (b ∷ s) = not ((b == slash) || (b == backslash))
 
--- an address that begins with a path, which is read in the folder of the page
+-- the path of an address
+abbrev pub path_part : List ℕ → List ℕ
+path_part address = take (path_len address) address
+
+-- an address that begins with a path, which is read in a folder
 abbrev pub is_relative : List ℕ → Bool
-is_relative address = not (has_scheme address) && is_path_of_folder (take (path_len address) address)
+is_relative address = not (has_scheme address) && is_path_of_folder (path_part address)
 
 -- a backslash is a slash in addresses of files and of the Web
 abbrev pub with_slash : ℕ → ℕ
 with_slash b = if b == backslash then slash else b
 
--- the path of a file, in the path of an address
+-- the path of a file, in an address
 abbrev pub file_path : List ℕ → List ℕ
-file_path path = map with_slash (percent_decode path)
+file_path address = map with_slash (percent_decode (path_part address))
 
--- the output of the page that an address in an input leads to
-abbrev pub output_for : List PageValue → List ℕ → List ℕ → Option (List ℕ)
-output_for pages input address =
-    if is_relative address
-    then output_at pages (page_in (folder_of input) (file_path (take (path_len address) address)))
-    else None
+-- the output of the page that an address leads to which is read in this folder; none if it is read in none
+abbrev pub output_for : List PageValue → Option Folder → List ℕ → Option (List ℕ)
+output_for pages None address = None
+output_for pages (Some folder) address =
+    if is_relative address then output_or_index pages (page_in folder (file_path address)) else None
 
 -- names as an address has them, each with a slash after it
 abbrev pub escaped : Folder → List ℕ
@@ -92,15 +105,34 @@ abbrev pub relative : Folder → List ℕ → List ℕ
 relative from to = escaped (way from (folder_of to)) ++ percent_encode SEGMENT (name_of to)
 
 -- the address of an output, with the query and the fragment of the address that led to its page
-abbrev pub lead_to : PageValue → List ℕ → Option (List ℕ) → List ℕ → List ℕ
-lead_to own address None ending = address
-lead_to own address (Some output) ending = relative (folder_of own.output) output ++ ending
+abbrev pub lead_to : Folder → List ℕ → Option (List ℕ) → List ℕ → List ℕ
+lead_to folder address None ending = address
+lead_to folder address (Some output) ending = relative folder output ++ ending
 
 -- an address that leads to no page of the run stays
-abbrev pub lead : List PageValue → PageValue → List ℕ → List ℕ
+abbrev pub lead : List PageValue → Folders → List ℕ → List ℕ
 lead pages own address =
     let inner = trimmed address in
-    lead_to own address (output_for pages own.input inner) (drop (path_len inner) inner)
+    lead_to own.output address (output_for pages own.input inner) (drop (path_len inner) inner)
+
+-- ---- bases
+
+-- the path of a base, from the folder of its page; none for one with a scheme or from the root
+abbrev pub base_path : List ℕ → Option (List ℕ)
+base_path base = if (path_len base == 0) || is_relative base then Some (file_path base) else None
+
+-- the path of the base that a page names; a page that names none is as one with an empty base
+abbrev pub named_path : Option (List ℕ) → Option (List ℕ)
+named_path named = base_path (trimmed (unwrap_or named []))
+
+-- the folders of a page whose base has this path
+abbrev pub folders_by : PageValue → Option (List ℕ) → Folders
+folders_by own path =
+    record { input = option_map (page_folder (folder_of own.input)) path; output = folder_of own.output }
+
+-- the folders of a page that names this base
+abbrev pub folders_of : PageValue → Option (List ℕ) → Folders
+folders_of own named = folders_by own (named_path named)
 
 -- ---- pages
 
@@ -109,7 +141,7 @@ abbrev pub is_hyperlink : List ℕ → Bool
 is_hyperlink name = bytes_eq name (codes "a") || bytes_eq name (codes "area")
 
 -- the attribute is an address that leads to a page of the run
-abbrev pub leads : List PageValue → PageValue → Bool → AttributePair → Bool
+abbrev pub leads : List PageValue → Folders → Bool → AttributePair → Bool
 leads pages own hyperlink a =
     hyperlink && bytes_eq a.name (codes "href") && is_some (output_for pages own.input (trimmed a.value))
 
@@ -119,19 +151,19 @@ other_value None a = a.value
 other_value (Some base) a = addresses.value_of base a
 
 -- the value of an attribute, of a hyperlink or another element
-abbrev pub value_of : List PageValue → PageValue → Option Parts → Bool → AttributePair → List ℕ
+abbrev pub value_of : List PageValue → Folders → Option Parts → Bool → AttributePair → List ℕ
 value_of pages own base hyperlink a =
     if leads pages own hyperlink a then lead pages own a.value else other_value base a
 
 -- an attribute with its new value
-abbrev pub attribute_of : List PageValue → PageValue → Option Parts → Bool → AttributePair → AttributePair
+abbrev pub attribute_of : List PageValue → Folders → Option Parts → Bool → AttributePair → AttributePair
 attribute_of pages own base hyperlink a = record { name = a.name; value = value_of pages own base hyperlink a }
 
 -- the attributes of an element with this name
-abbrev pub attributes_of : List PageValue → PageValue → Option Parts → List ℕ → List AttributePair
+abbrev pub attributes_of : List PageValue → Folders → Option Parts → List ℕ → List AttributePair
     → List AttributePair
 attributes_of pages own base name attributes = map (attribute_of pages own base (is_hyperlink name)) attributes
 
--- the page whose addresses lead to outputs, and whose other addresses are absolute where there is a base
-abbrev pub led_page : List PageValue → PageValue → Option Parts → List Item → List Item
-led_page pages own base items = rewritten_page (attributes_of pages own base) items
+-- the page that names this base, with addresses that lead to outputs, and others that are absolute where there is a URL
+abbrev pub led_page : List PageValue → PageValue → Option Parts → Option (List ℕ) → List Item → List Item
+led_page pages own base named items = rewritten_page (attributes_of pages (folders_of own named) base) items

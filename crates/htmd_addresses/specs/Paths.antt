@@ -73,14 +73,21 @@ path_in folder path = path_of (folder_in folder path) (name_of path)
 abbrev pub is_of_folder : List ℕ → Bool
 is_of_folder name = stays name || bytes_eq name parent
 
--- the page with this name in a folder: that of a folder is its index
-abbrev pub page_named : Folder → List ℕ → List ℕ
-page_named folder name =
-    if is_of_folder name then path_of (enter folder name) (codes "index.html") else path_of folder name
+-- the folder of the page with this name in a folder
+abbrev pub folder_named : Folder → List ℕ → Folder
+folder_named folder name = if is_of_folder name then enter folder name else folder
+
+-- the page of a folder is its index
+abbrev pub page_name : List ℕ → List ℕ
+page_name name = if is_of_folder name then codes "index.html" else name
+
+-- the folder of the page that a path leads to which is read in a folder
+abbrev pub page_folder : Folder → List ℕ → Folder
+page_folder folder path = folder_named (folder_in folder path) (name_of path)
 
 -- the page that a path leads to which is read in a folder
 abbrev pub page_in : Folder → List ℕ → List ℕ
-page_in folder path = page_named (folder_in folder path) (name_of path)
+page_in folder path = path_of (page_folder folder path) (page_name (name_of path))
 
 -- a path in its one form
 abbrev pub plain_path : List ℕ → List ℕ

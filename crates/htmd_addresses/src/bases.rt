@@ -56,6 +56,13 @@ fn first_base(tree: &Tree, node: NodeId) -> Option<&str>
     None
 }
 
+/// The address of the base that a page names: that of its first `base` with an address.
+pub fn base_address(tree: &Tree) -> Option<&str>
+    ensures { option_copied result ≡ bases.base_address tree.now }
+{
+    base_in(tree, tree.root())
+}
+
 /// Whether a page may have this base.
 fn is_usable(url: &Url) -> bool
     ensures { result ≡ bases.is_usable url.now }
@@ -69,7 +76,7 @@ fn is_usable(url: &Url) -> bool
 pub fn base_of(tree: &Tree, url: &Url) -> Result<Option<Url>, AllocError>
     ensures ok { IfOk result (λ base. base ≡ bases.named_base url.now tree.now) }
 {
-    let Some(address) = base_in(tree, tree.root()) else {
+    let Some(address) = base_address(tree) else {
         return Ok(None);
     };
     let Some(base) = url_of(url.join(address))? else {

@@ -1,16 +1,16 @@
 //! Addresses that lead to pages of a run, as addresses of the outputs of these pages.
-ghost use Rattle.std.specs.Prelude.{◌≡◌, ◌++◌, map, is_some, IfOk, OnOk, string_bytes};
+ghost use Rattle.std.specs.Prelude.{◌≡◌, ◌++◌, map, is_some, option_map, IfOk, OnOk, string_bytes};
 ghost use Rattle.std.specs.Option.{option_copied};
 ghost use Rattle.std.specs.Str.{IsCharBoundary};
 ghost use Rattle.htmd_lexical.specs.Attributes.{pair_of, pairs_of};
 ghost use Rattle.htmd_addresses.specs.Leads as spec;
 ghost use Rattle.htmd_addresses.specs.PageViews.{names_of};
 ghost use Rattle.htmd_addresses.specs.Paths as paths;
-ghost use Rattle.htmd_addresses.specs.RunViews.{own_of, pages_in};
+ghost use Rattle.htmd_addresses.specs.RunViews.{folders_in, own_of, pages_in};
 ghost use Rattle.percent_encoding.specs.Percent.{percent_encode};
 
 use crate::pages::Pages;
-use crate::paths::{folder_of, name_of, page_in, same_names};
+use crate::paths::{enter_page_folder, folder_of, name_of, page_in, same_names};
 use crate::resolving::value_of as absolute_value;
 use htmd_nodes::{Attribute, Tree};
 use htmd_selectors::{Rewrite, rewritten};
@@ -85,6 +85,20 @@ fn is_path_of_folder(path: &[u8]) -> bool
     }
 }
 
+/// The path of an address.
+fn path_part(address: &str) -> &[u8]
+    ensures { result.now ≡ spec.path_part address.now }
+{
+    &address.as_bytes()[..path_len(address)]
+}
+
+/// Whether an address begins with a path that is read in a folder.
+fn is_relative(address: &str) -> bool
+    ensures { result ≡ spec.is_relative address.now }
+{
+    !has_scheme(address.as_bytes()) && is_path_of_folder(path_part(address))
+}
+
 fn with_slash(b: u8) -> u8
     ensures { result ≡ spec.with_slash b }
 {
@@ -100,12 +114,12 @@ fn put_slashes(path: &mut [u8])
     }
 }
 
-/// The path of a file, in the path of an address.
-fn file_path(alloc: Global, path: &[u8]) -> Result<Vec<u8>, AllocError>
-    ensures { IfOk result (λ file. file.items ≡ spec.file_path path.now) }
+/// The path of a file, in an address.
+fn file_path(alloc: Global, address: &str) -> Result<Vec<u8>, AllocError>
+    ensures { IfOk result (λ file. file.items ≡ spec.file_path address.now) }
 {
     let mut file = Vec::new(alloc);
-    percent_decode(path).append_to(&mut file)?;
+    percent_decode(path_part(address)).append_to(&mut file)?;
     put_slashes(file.as_mut_slice());
     Ok(file)
 }
@@ -155,6 +169,41 @@ pub(crate) fn relative(alloc: Global, from: &[&[u8]], to: &str) -> Result<String
     Ok(address)
 }
 
+/// The path of a base, from the folder of its page; none for one with a scheme or from the root.
+fn base_path(alloc: Global, base: &str) -> Result<Option<Vec<u8>>, AllocError>
+    ensures { IfOk result (λ path. option_map (λ v. v.items) path ≡ spec.base_path base.now) }
+{
+    if path_len(base) == 0 || is_relative(base) {
+        return Ok(Some(file_path(alloc, base)?));
+    }
+    Ok(None)
+}
+
+/// The path of the base that a page names.
+fn named_path(alloc: Global, named: Option<&str>) -> Result<Option<Vec<u8>>, AllocError>
+    ensures { IfOk result (λ path. option_map (λ v. v.items) path
+        ≡ spec.named_path (option_copied named.entry)) }
+{
+    base_path(alloc, named.unwrap_or("").trim_ascii())
+}
+
+/// The folder in which the addresses of an input are read, by the path of its base.
+fn folder_by<'x>(
+    alloc: Global,
+    input: &'x str,
+    path: Option<&'x [u8]>,
+) -> Result<Option<Vec<&'x [u8]>>, AllocError>
+    ensures { IfOk result (λ folder. option_map (λ names. names_of names.items) folder
+        ≡ option_map (paths.page_folder (paths.folder_of input.now)) (option_copied path.entry)) }
+{
+    let Some(path) = path else {
+        return Ok(None);
+    };
+    let mut folder = folder_of(alloc, input.as_bytes())?;
+    enter_page_folder(&mut folder, path)?;
+    Ok(Some(folder))
+}
+
 /// A page of a run: the pages of that run, and the paths of its own input and output.
 #[derive(Clone, Copy)]
 pub struct RunPage<'a> {
@@ -166,12 +215,11 @@ pub struct RunPage<'a> {
 /// The addresses of a page are to lead to the outputs of other pages.
 #[derive(Drop)]
 struct Leads<'a, 'b> {
-    page: RunPage<'a>,
+    pages: &'a Pages,
     base: Option<&'b Url>,
-    input_folder: Vec<&'a [u8]>,
+    /// The folder in which addresses are read.
+    input_folder: Option<Vec<&'b [u8]>>,
     output_folder: Vec<&'a [u8]>,
-    ghost input_is: { names_of input_folder.items ≡ paths.folder_of page.input.now },
-    ghost output_is: { names_of output_folder.items ≡ paths.folder_of page.output.now },
 }
 
 impl<'a, 'b> Leads<'a, 'b> {
@@ -179,14 +227,19 @@ impl<'a, 'b> Leads<'a, 'b> {
         alloc: Global,
         page: RunPage<'a>,
         base: Option<&'b Url>,
+        path: Option<&'b [u8]>,
     ) -> Result<Leads<'a, 'b>, AllocError>
-        ensures page { IfOk result (λ leads. leads.page ≡ page.entry) }
+    where
+        'a: 'b,
+        ensures pages { IfOk result (λ leads. leads.pages ≡ page.entry.pages) }
         ensures base { IfOk result (λ leads. leads.base ≡ base.entry) }
+        ensures folders { IfOk result (λ leads. folders_in leads
+            ≡ spec.folders_by (own_of page.entry) (option_copied path.entry)) }
     {
         Ok(Leads {
-            page,
+            pages: page.pages,
             base,
-            input_folder: folder_of(alloc, page.input.as_bytes())?,
+            input_folder: folder_by(alloc, page.input, path)?,
             output_folder: folder_of(alloc, page.output.as_bytes())?,
         })
     }
@@ -194,22 +247,23 @@ impl<'a, 'b> Leads<'a, 'b> {
     /// The output of the page that an address leads to.
     fn output_for(&self, alloc: Global, address: &str) -> Result<Option<&'a str>, AllocError>
         ensures { IfOk result (λ output. option_copied output
-            ≡ spec.output_for (pages_in self.now.page.pages.now) self.now.page.input.now address.now) }
+            ≡ spec.output_for (pages_in self.now.pages.now) (folders_in self.now).input address.now) }
     {
-        let bytes = address.as_bytes();
-        let path = &bytes[..path_len(address)];
-        if has_scheme(bytes) || !is_path_of_folder(path) {
+        let Some(folder) = &self.input_folder else {
+            return Ok(None);
+        };
+        if !is_relative(address) {
             return Ok(None);
         }
-        let file = file_path(alloc, path)?;
-        let page = page_in(alloc, self.input_folder.as_slice(), file.as_slice())?;
-        Ok(self.page.pages.output_at(page.as_slice()))
+        let file = file_path(alloc, address)?;
+        let page = page_in(alloc, folder.as_slice(), file.as_slice())?;
+        self.pages.output_or_index(page)
     }
 
     /// The address of the output that an address leads to; one that leads to no page of the run stays.
     fn lead(&self, alloc: Global, address: &str) -> Result<String, AllocError>
         ensures { IfOk result (λ s. string_bytes s
-            ≡ spec.lead (pages_in self.now.page.pages.now) (own_of self.now.page) address.now) }
+            ≡ spec.lead (pages_in self.now.pages.now) (folders_in self.now) address.now) }
     {
         let inner = address.trim_ascii();
         let Some(output) = self.output_for(alloc, inner)? else {
@@ -223,8 +277,8 @@ impl<'a, 'b> Leads<'a, 'b> {
 
     /// Whether an address leads to a page of the run.
     fn are_to(&self, alloc: Global, address: &str) -> Result<bool, AllocError>
-        ensures { IfOk result (λ b. b ≡ is_some (spec.output_for (pages_in self.now.page.pages.now)
-            self.now.page.input.now (spec.trimmed address.now))) }
+        ensures { IfOk result (λ b. b ≡ is_some (spec.output_for (pages_in self.now.pages.now)
+            (folders_in self.now).input (spec.trimmed address.now))) }
     {
         Ok(self.output_for(alloc, address.trim_ascii())?.is_some())
     }
@@ -246,8 +300,8 @@ impl<'a, 'b> Leads<'a, 'b> {
         attribute: &Attribute,
         is_hyperlink: bool,
     ) -> Result<String, AllocError>
-        ensures { IfOk result (λ s. string_bytes s ≡ spec.value_of (pages_in self.now.page.pages.now)
-            (own_of self.now.page) (option_copied self.now.base) is_hyperlink (pair_of attribute.now)) }
+        ensures { IfOk result (λ s. string_bytes s ≡ spec.value_of (pages_in self.now.pages.now)
+            (folders_in self.now) (option_copied self.now.base) is_hyperlink (pair_of attribute.now)) }
     {
         let address = attribute.value.as_str();
         if is_hyperlink && attribute.name.as_str() == "href" && self.are_to(alloc, address)? {
@@ -269,7 +323,7 @@ impl Rewrite for Leads<'_, '_> {
     ghost use Rattle.std.specs.Option.{option_copied};
 
     ghost rule = { λ leads.
-        attributes_of (pages_in leads.page.pages.now) (own_of leads.page) (option_copied leads.base) };
+        attributes_of (pages_in leads.pages.now) (folders_in leads) (option_copied leads.base) };
 
     fn attributes(
         &self,
@@ -289,17 +343,21 @@ impl Rewrite for Leads<'_, '_> {
 }
 
 /// The page of a run in which the addresses of `a` and `area` that lead to a page of the run lead to its output. Where
-/// a base is given, all other addresses in `href` and `src` are resolved against it. `Err` means out of memory, or a
-/// URL of 4 GB.
+/// a base is given, all other addresses in `href` and `src` are resolved against it. `named` is the address of the base
+/// that the whole page names: relative addresses are read in its folder; none of them leads to a page of the run if it
+/// has a scheme or begins at the root. `Err` means out of memory, or a URL of 4 GB.
 pub fn lead_to_pages(
     alloc: Global,
     tree: &Tree,
     page: RunPage<'_>,
     base: Option<&Url>,
+    named: Option<&str>,
 ) -> Result<Tree, AllocError>
     ensures ok { IfOk result (λ led. led
         ≡ spec.led_page (pages_in page.entry.pages.now) (own_of page.entry)
-        (option_copied base.entry) tree.now) }
+        (option_copied base.entry) (option_copied named.entry) tree.now) }
 {
-    rewritten(alloc, tree, &Leads::new(alloc, page, base)?)
+    let path = named_path(alloc, named)?;
+    let leads = Leads::new(alloc, page, base, path.as_deref())?;
+    rewritten(alloc, tree, &leads)
 }

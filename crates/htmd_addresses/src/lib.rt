@@ -11,7 +11,7 @@ mod paths;
 mod resolving;
 
 pub use absolute::make_absolute;
-pub use bases::base_of;
+pub use bases::{base_address, base_of};
 pub use leads::{RunPage, lead_to_pages};
 pub use page_urls::page_url;
 pub use pages::{Page, Pages};

@@ -1,7 +1,7 @@
 //! The pages of a run, found by the paths of their inputs.
 ghost use Rattle.std.specs.Prelude.{◌≡◌, ℕ, List, IfOk};
 ghost use Rattle.std.specs.Option.{option_copied};
-ghost use Rattle.htmd_addresses.specs.Leads.{output_at};
+ghost use Rattle.htmd_addresses.specs.Leads.{output_at, output_or_index};
 ghost use Rattle.htmd_addresses.specs.Paths as paths;
 ghost use Rattle.htmd_addresses.specs.PageViews.{output_in, pages_of};
 
@@ -51,11 +51,24 @@ impl Pages {
     }
 
     /// The output of the page whose input has this path, in its one form.
-    pub(crate) fn output_at(&self, path: &[u8]) -> Option<&str>
+    fn output_at(&self, path: &[u8]) -> Option<&str>
         ensures { option_copied result ≡ output_at (pages_in self.now) path.now }
     {
         let place = self.places.get(path)?;
         let page = self.pages.get(*place)?;
         Some(page.output.as_str())
+    }
+
+    /// The output of the page whose input has this path, or else of the index of the folder with it.
+    pub(crate) fn output_or_index(&self, mut path: Vec<u8>) -> Result<Option<&str>, AllocError>
+        ensures { IfOk result (λ output. option_copied output
+            ≡ output_or_index (pages_in self.now) path.items) }
+    {
+        let output = self.output_at(path.as_slice());
+        if output.is_some() {
+            return Ok(output);
+        }
+        path.extend_from_slice(b"/index.html")?;
+        Ok(self.output_at(path.as_slice()))
     }
 }

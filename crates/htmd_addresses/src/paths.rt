@@ -103,19 +103,35 @@ fn is_of_folder(name: &[u8]) -> bool
     name.is_empty() || name == b".".as_slice() || name == b"..".as_slice()
 }
 
-/// The path of the page with a name in a folder; that of a folder is its index.
-fn page_named<'a>(
-    alloc: Global,
-    mut folder: Vec<&'a [u8]>,
-    name: &'a [u8],
-) -> Result<Vec<u8>, AllocError>
-    ensures { IfOk result (λ page. page.items ≡ spec.page_named (names_of folder.entry.items) name.now) }
+/// Goes from a folder to that of the page with a name in it.
+fn enter_named<'a>(folder: &mut Vec<&'a [u8]>, name: &'a [u8]) -> Result<(), AllocError>
+    ensures { OnOk result (names_of folder.new.items ≡ spec.folder_named (names_of folder.old.items) name.now) }
 {
     if is_of_folder(name) {
-        enter(&mut folder, name)?;
-        return path_of(alloc, folder.as_slice(), b"index.html");
+        return enter(folder, name);
     }
-    path_of(alloc, folder.as_slice(), name)
+    Ok(())
+}
+
+/// The name of the page that a name leads to; that of a folder is its index.
+fn page_name(name: &[u8]) -> &[u8]
+    ensures { result.now ≡ spec.page_name name.now }
+{
+    if is_of_folder(name) {
+        return b"index.html";
+    }
+    name
+}
+
+/// Goes from a folder to that of the page that a path leads to.
+pub(crate) fn enter_page_folder<'a>(
+    folder: &mut Vec<&'a [u8]>,
+    path: &'a [u8],
+) -> Result<(), AllocError>
+    ensures { OnOk result (names_of folder.new.items ≡ spec.page_folder (names_of folder.old.items) path.now) }
+{
+    enter_folder(folder, path)?;
+    enter_named(folder, name_of(path))
 }
 
 /// The path of the page that a path leads to which is read in a folder.
@@ -127,8 +143,8 @@ pub(crate) fn page_in<'x>(
     ensures { IfOk result (λ page. page.items ≡ spec.page_in (names_of folder.now) path.now) }
 {
     let mut names = Vec::from_slice(alloc, folder)?;
-    enter_folder(&mut names, path)?;
-    page_named(alloc, names, name_of(path))
+    enter_page_folder(&mut names, path)?;
+    path_of(alloc, names.as_slice(), page_name(name_of(path)))
 }
 
 /// How many names two folders begin with alike.

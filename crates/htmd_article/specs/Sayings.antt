@@ -42,6 +42,14 @@ is_frame_word s = list_any (λ word. same_word word s) frame_words
 abbrev pub has_frame_word : List ℕ → Bool
 has_frame_word s = list_any is_frame_word (slice_split (λ b. not (is_ascii_alphabetic b)) s)
 
+-- one of these runs is *code*
+abbrev pub has_code_word : List ℕ → Bool
+has_code_word s = list_any (same_word (codes "code")) (slice_split (λ b. not (is_ascii_alphabetic b)) s)
+
+-- the tool bar around a code block isn't part of a page's frame
+abbrev pub is_frame_class : List ℕ → Bool
+is_frame_class s = has_frame_word s && not (has_code_word s)
+
 abbrev pub has_role : List ℕ → List AttributePair → Bool
 has_role role attributes = says (codes "role") (has_word role) attributes
 
@@ -53,7 +61,7 @@ has_frame_role attributes =
     || has_role (codes "alertdialog") attributes
 
 abbrev pub has_frame_class : List AttributePair → Bool
-has_frame_class attributes = says (codes "class") has_frame_word attributes
+has_frame_class attributes = says (codes "class") is_frame_class attributes
 
 -- an id counts only whole: it is often made from a heading
 abbrev pub has_frame_id : List AttributePair → Bool

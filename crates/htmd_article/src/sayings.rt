@@ -78,6 +78,21 @@ fn has_frame_word(text: &[u8]) -> bool
         .any(|part| is_frame_word(part))
 }
 
+/// Whether one of the text's runs of ASCII letters is *code*.
+fn has_code_word(text: &[u8]) -> bool
+    ensures { result ≡ spec.has_code_word text.now }
+{
+    text.split(|b| !b.is_ascii_alphabetic())
+        .any(|part| is_same_word(part, b"code"))
+}
+
+/// Whether a class is one of a page's frame, and not around code.
+fn is_frame_class(text: &[u8]) -> bool
+    ensures { result ≡ spec.is_frame_class text.now }
+{
+    has_frame_word(text) && !has_code_word(text)
+}
+
 pub(crate) fn has_role(attrs: &[Attribute], role: &str) -> bool
     ensures { result ≡ spec.has_role role.now (pairs_of attrs.now) }
 {
@@ -101,7 +116,7 @@ pub(crate) fn has_frame_class(attrs: &[Attribute]) -> bool
     ensures { result ≡ spec.has_frame_class (pairs_of attrs.now) }
 {
     match value_of(attrs, "class") {
-        Some(value) => has_frame_word(value.as_bytes()),
+        Some(value) => is_frame_class(value.as_bytes()),
         None => false,
     }
 }

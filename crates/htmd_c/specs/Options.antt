@@ -20,6 +20,8 @@ use Rattle.htmd.specs.CodeBlockStyle.{CodeBlockStyle}
 use Rattle.htmd.specs.CodeBlockStyle.TheVariants.{Fenced, Indented}
 use Rattle.htmd.specs.DocumentAnchors.{Anchors}
 use Rattle.htmd.specs.DocumentAnchors.TheVariants as places
+use Rattle.htmd.specs.KeptImages.{Images}
+use Rattle.htmd.specs.KeptImages.TheVariants as images
 use Rattle.htmd.specs.TranslationMode.{TranslationMode}
 use Rattle.htmd.specs.TranslationMode.TheVariants.{Pure, Faithful}
 use Rattle.htmd.specs.Options.{Options}
@@ -71,7 +73,11 @@ default_struct = record {
   anchors = 0;
   rich = 0;
   article = 0;
-  reserved = replicate 12 0;
+  visible = 0;
+  images = 0;
+  links_as_text = 0;
+  title = 0;
+  reserved = replicate 8 0;
 }
 
 -- what a text is read as, and what becomes of what Markdown has no form for, have numbers that are known
@@ -85,18 +91,26 @@ are_lines_known given =
     nat_lt given.heading_style 2 && nat_lt given.hr_style 3 && nat_lt given.br_style 2
     && nat_lt given.link_style 3 && nat_lt given.link_reference_style 3
 
--- the styles of code and of lists, the output, what is written before it, which places of links there are, whether the
--- document is rich and whether it is of the main content have numbers that are known; a spacing is any number
+-- the styles of code and of lists, the output, what is written before it, which places of links there are and whether
+-- the document is rich have numbers that are known; a spacing is any number
 abbrev pub are_blocks_known : HtmdOptions → Bool
 are_blocks_known given =
     nat_lt given.code_block_style 2 && nat_lt given.code_block_fence 2 && nat_lt given.bullet_list_marker 2
     && nat_lt given.preformatted_code 2 && nat_lt given.output 2 && nat_lt given.front_matter 2
-    && nat_lt given.anchors 3 && nat_lt given.rich 2 && nat_lt given.article 2
+    && nat_lt given.anchors 3 && nat_lt given.rich 2
+
+-- what of the page is converted, how images and links are kept, and whether a title comes first have numbers that are
+-- known
+abbrev pub are_changes_known : HtmdOptions → Bool
+are_changes_known given =
+    nat_lt given.article 2 && nat_lt given.visible 2 && nat_lt given.images 4 && nat_lt given.links_as_text 2
+    && nat_lt given.title 2
 
 -- the version is known, each number is one of its field's, and what is reserved is 0
 abbrev pub is_good : HtmdOptions → Bool
 is_good given =
-    is_reading_known given && are_lines_known given && are_blocks_known given && list_all (λ b. b == 0) given.reserved
+    is_reading_known given && are_lines_known given && are_blocks_known given && are_changes_known given
+    && list_all (λ b. b == 0) given.reserved
 
 abbrev pub mode : ℕ → TranslationMode
 mode n = if n == 1 then Faithful else Pure
@@ -127,6 +141,10 @@ bullet_list_marker n = if n == 1 then Dash else Asterisk
 
 abbrev pub anchors : ℕ → Anchors
 anchors n = if n == 1 then places.All else if n == 2 then places.None else places.Linked
+
+abbrev pub kept_images : ℕ → Images
+kept_images n =
+    if n == 1 then images.Linked else if n == 2 then images.Alt else if n == 3 then images.Drop else images.Keep
 
 -- the options that a good struct stands for
 abbrev pub options_of : HtmdOptions → Options
@@ -163,9 +181,13 @@ settings_of given = record {
   scripting = is_scripting given;
   options = options_of given;
   skipped = [];
+  visible = given.visible == 1;
   article = given.article == 1;
   selected = [];
   dropped = [];
+  images = kept_images given.images;
+  links_as_text = given.links_as_text == 1;
+  title = given.title == 1;
   base = None;
   run_page = None;
   front_matter = given.front_matter == 1;

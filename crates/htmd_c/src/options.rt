@@ -8,7 +8,7 @@ use htmd::options::{
     BrStyle, BulletListMarker, CodeBlockFence, CodeBlockStyle, HeadingStyle, HrStyle,
     LinkReferenceStyle, LinkStyle, Options, TranslationMode,
 };
-use htmd::{Anchors, PageSettings};
+use htmd::{Anchors, Images, PageSettings};
 use htmd_encodings::Encoding;
 use std::alloc::Global;
 
@@ -55,7 +55,11 @@ pub struct HtmdOptions {
     pub anchors: u8,
     pub rich: u8,
     pub article: u8,
-    pub reserved: [u8; 12],
+    pub visible: u8,
+    pub images: u8,
+    pub links_as_text: u8,
+    pub title: u8,
+    pub reserved: [u8; 8],
 }
 
 /// The struct for the options of `convert`.
@@ -83,7 +87,11 @@ pub(crate) fn default_struct() -> HtmdOptions
         anchors: 0,
         rich: 0,
         article: 0,
-        reserved: [0; 12],
+        visible: 0,
+        images: 0,
+        links_as_text: 0,
+        title: 0,
+        reserved: [0; 8],
     }
 }
 
@@ -114,7 +122,16 @@ fn are_blocks_known(given: &HtmdOptions) -> bool
         && given.front_matter < 2
         && given.anchors < 3
         && given.rich < 2
-        && given.article < 2
+}
+
+fn are_changes_known(given: &HtmdOptions) -> bool
+    ensures { result ≡ spec.are_changes_known given.now }
+{
+    given.article < 2
+        && given.visible < 2
+        && given.images < 4
+        && given.links_as_text < 2
+        && given.title < 2
 }
 
 fn are_zero(bytes: &[u8]) -> bool
@@ -130,6 +147,7 @@ pub(crate) fn is_good(given: &HtmdOptions) -> bool
     is_reading_known(given)
         && are_lines_known(given)
         && are_blocks_known(given)
+        && are_changes_known(given)
         && are_zero(&given.reserved)
 }
 
@@ -227,6 +245,17 @@ fn anchors(number: u8) -> Anchors
     }
 }
 
+fn kept_images(number: u8) -> Images
+    ensures { result ≡ spec.kept_images number }
+{
+    match number {
+        1 => Images::Linked,
+        2 => Images::Alt,
+        3 => Images::Drop,
+        _ => Images::Keep,
+    }
+}
+
 /// The options that a good struct stands for.
 fn options_of(given: &HtmdOptions) -> Options
     ensures { result ≡ spec.options_of given.now }
@@ -262,6 +291,10 @@ pub(crate) fn settings_of<'a>(alloc: Global, given: &HtmdOptions) -> PageSetting
     settings.scripting = given.scripting == 1;
     settings.options = options_of(given);
     settings.front_matter = given.front_matter == 1;
+    settings.visible = given.visible == 1;
     settings.article = given.article == 1;
+    settings.images = kept_images(given.images);
+    settings.links_as_text = given.links_as_text == 1;
+    settings.title = given.title == 1;
     settings
 }

@@ -16,6 +16,7 @@ use Rattle.htmd.specs.LinkReferenceStyle.TheVariants as reference
 use Rattle.htmd.specs.CodeBlockFence.TheVariants as fence
 use Rattle.htmd.specs.BulletListMarker.TheVariants as marker
 use Rattle.htmd.specs.DocumentAnchors.TheVariants as anchors
+use Rattle.htmd.specs.KeptImages.TheVariants as images
 use Rattle.htmd.specs.LinkStyle.TheVariants as link
 use Rattle.htmd.specs.CodeBlockStyle.TheVariants as code_block
 use Rattle.htmd.specs.TranslationMode.TheVariants as translation
@@ -168,13 +169,21 @@ known_options =
     ∷ plain (codes "--anchors=linked") (sets (λ settings. record settings { anchors = anchors.Linked }))
     ∷ plain (codes "--anchors=all") (sets (λ settings. record settings { anchors = anchors.All }))
     ∷ plain (codes "--anchors=none") (sets (λ settings. record settings { anchors = anchors.None }))
+    ∷ plain (codes "--no-anchors") (sets (λ settings. record settings { anchors = anchors.None }))
     ∷ plain (codes "--rich") (sets (λ settings. record settings { rich = true }))
     ∷ plain (codes "--front-matter") (sets (λ settings. record settings { front_matter = true }))
+    ∷ plain (codes "--title") (sets (λ settings. record settings { title = true }))
+    ∷ plain (codes "--visible") (sets (λ settings. record settings { visible = true }))
     ∷ plain (codes "--article") (sets (λ settings. record settings { article = true }))
     ∷ selecting (codes "--select=") selects
     ∷ selecting (codes "--drop=") drops
     ∷ named (codes "--skip=") skips
     ∷ addressed (codes "--base=") is_based_on
+    ∷ plain (codes "--images=keep") (sets (λ settings. record settings { images = images.Keep }))
+    ∷ plain (codes "--images=linked") (sets (λ settings. record settings { images = images.Linked }))
+    ∷ plain (codes "--images=alt") (sets (λ settings. record settings { images = images.Alt }))
+    ∷ plain (codes "--images=drop") (sets (λ settings. record settings { images = images.Drop }))
+    ∷ plain (codes "--links=text") (sets (λ settings. record settings { links_as_text = true }))
     ∷ plain (codes "--heading-style=atx") (sets_option (λ options. record options { heading_style = heading.Atx }))
     ∷ plain (codes "--heading-style=setext")
     (sets_option (λ options. record options { heading_style = heading.Setex }))
@@ -215,6 +224,7 @@ known_options =
     (λ n. sets_option (λ options. record options { ol_number_spacing = n }))
     ∷ plain (codes "--preformatted-code") (sets_option (λ options. record options { preformatted_code = true }))
     ∷ plain (codes "--help") shows_instead
+    ∷ plain (codes "-h") shows_instead
     ∷ plain (codes "--version") shows_instead
     ∷ plain (codes "--manual") shows_instead
     ∷ plain (codes "--completions=bash") shows_instead

@@ -324,7 +324,7 @@ fn write_command<W: Sink>(sink: &mut W, row: &OptionRow) -> Result<(), Failed>
     ensures { FailsAtErr result (W.has_failed sink.old) (W.has_failed sink.new) }
 {
     write_all(sink, b"complete -c htmd")?;
-    write_long(sink, row.name)?;
+    write_name(sink, row.name)?;
     write_offered(sink, values_of(row))?;
     write_line(sink, row.help)
 }
@@ -338,7 +338,7 @@ fn write_file_command<W: Sink>(sink: &mut W, row: &FileOption) -> Result<(), Fai
         write_all(sink, b" -s ")?;
         write_all(sink, letter.as_bytes())?;
     }
-    write_long(sink, row.name)?;
+    write_name(sink, row.name)?;
     if !row.value.is_empty() {
         write_all(sink, FISH_FOLDERS.as_bytes())?;
     }
@@ -346,10 +346,13 @@ fn write_file_command<W: Sink>(sink: &mut W, row: &FileOption) -> Result<(), Fai
 }
 
 // Writes the name of an option, and its fixed value.
-fn write_long<W: Sink>(sink: &mut W, name: &str) -> Result<(), Failed>
+fn write_name<W: Sink>(sink: &mut W, name: &str) -> Result<(), Failed>
     ensures { FailsAtErr result (W.has_failed sink.old) (W.has_failed sink.new) }
 {
-    let name = name.strip_prefix("--").unwrap_or(name);
+    let Some(name) = name.strip_prefix("--") else {
+        write_all(sink, b" -s ")?;
+        return write_all(sink, name.strip_prefix("-").unwrap_or(name).as_bytes());
+    };
     write_all(sink, b" -l ")?;
     let Some((word, value)) = name.split_once('=') else {
         return write_all(sink, name.as_bytes());

@@ -3,6 +3,7 @@ ghost use Rattle.htmd_streams.specs.Ends.{FailsAtErr};
 
 use crate::completions::write_completions;
 use crate::manual::write_manual;
+use crate::option_faults::rows_named;
 use crate::options::{FILE_OPTIONS, FileOption, Group, Notice, OPTIONS, OptionRow};
 use htmd_streams::{Failed, Sink, write_all};
 
@@ -80,13 +81,15 @@ fn write_group<W: Sink>(sink: &mut W, group: Group) -> Result<(), Failed>
     Ok(())
 }
 
-// Writes an option with its line, which has the fixed values, if there are any.
+// Writes an option with its line, which has the fixed values, if there are several.
 fn write_row<W: Sink>(sink: &mut W, row: &OptionRow) -> Result<(), Failed>
     ensures { FailsAtErr result (W.has_failed sink.old) (W.has_failed sink.new) }
 {
     match row.name.split_once('=') {
-        None | Some((_, "")) => write_option(sink, "", row.name, row.value, row.line),
-        Some((name, _)) => write_option(sink, "", name, "=", row.line),
+        Some((name, value)) if !value.is_empty() && rows_named(name) > 1 => {
+            write_option(sink, "", name, "=", row.line)
+        }
+        _ => write_option(sink, "", row.name, row.value, row.line),
     }
 }
 

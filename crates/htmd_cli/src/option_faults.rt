@@ -46,9 +46,14 @@ fn row_named(name: &str) -> Option<&'static OptionRow> {
     OPTIONS.iter().find(|row| is_named(row, name))
 }
 
+/// How many rows the option with this name has: as many as fixed values, if there are any.
+pub(crate) fn rows_named(name: &str) -> usize {
+    OPTIONS.iter().filter(|row| is_named(row, name)).count()
+}
+
 /// Writes the fixed values of an option: `a, b and c`.
 fn write_values<W: Write>(out: &mut W, name: &str) -> fmt::Result {
-    let mut left = OPTIONS.iter().filter(|row| is_named(row, name)).count();
+    let mut left = rows_named(name);
     for row in &OPTIONS {
         if is_named(row, name) {
             left = left.saturating_sub(1);
@@ -86,10 +91,41 @@ fn write_unknown<W: Write>(out: &mut W, given: &str) -> fmt::Result {
     }
 }
 
+fn is_in_name(byte: u8) -> bool {
+    byte.is_ascii_alphanumeric() || byte == b'-' || byte == b':'
+}
+
+/// The pseudo-class at a place of a selector, with its colon, if there is one.
+fn pseudo_class(selector: &str, place: usize) -> Option<&str> {
+    let rest = selector.get(place..)?;
+    if !rest.starts_with(":") {
+        return None;
+    }
+    let mut len = 0usize;
+    for byte in rest.as_bytes() {
+        if !is_in_name(*byte) {
+            break;
+        }
+        len = len.saturating_add(1);
+    }
+    rest.get(..len)
+}
+
+/// Writes what of a selector isn't taken: a pseudo-class by its name.
+fn write_reason<W: Write>(out: &mut W, value: &str, error: &SelectorError) -> fmt::Result {
+    if let SelectorError::Unsupported { place } = error {
+        if let Some(name) = pseudo_class(value, *place) {
+            return writeln!(out, "`{name}` isn't supported at byte {place}");
+        }
+    }
+    writeln!(out, "{error}")
+}
+
 /// Writes why a value isn't a selector, and a mark under the place.
 fn write_selector<W: Write>(out: &mut W, given: &str, error: &SelectorError) -> fmt::Result {
     let (name, value) = given.split_once('=').unwrap_or((given, ""));
-    writeln!(out, "htmd: {name}: {error}")?;
+    write!(out, "htmd: {name}: ")?;
+    write_reason(out, value, error)?;
     match error.place() {
         Some(place) => write_mark(out, value, place),
         None => Ok(()),

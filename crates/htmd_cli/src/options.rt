@@ -1,9 +1,9 @@
 //! The table of the program's options.
-use htmd::Anchors;
 use htmd::options::{
     BrStyle, BulletListMarker, CodeBlockFence, CodeBlockStyle, HeadingStyle, HrStyle,
     LinkReferenceStyle, LinkStyle,
 };
+use htmd::{Anchors, Images};
 
 /// The headings under which the help lists the options.
 #[derive(Clone, Copy, PartialEq, Eq)]
@@ -72,7 +72,11 @@ pub(crate) enum Setting {
     Anchors(Anchors),
     Rich,
     FrontMatter,
+    Title,
+    Visible,
     Article,
+    Images(Images),
+    LinksAsText,
     Style(Style),
     PreformattedCode,
     Explain,
@@ -95,7 +99,7 @@ pub(crate) struct OptionRow {
 }
 
 /// The options that are known, by their groups.
-pub(crate) const OPTIONS: [OptionRow; 49] = [
+pub(crate) const OPTIONS: [OptionRow; 58] = [
     OptionRow {
         group: Group::Input,
         name: "--web",
@@ -210,6 +214,14 @@ pub(crate) const OPTIONS: [OptionRow; 49] = [
     },
     OptionRow {
         group: Group::Written,
+        name: "--no-anchors",
+        value: "",
+        setting: Setting::Anchors(Anchors::None),
+        line: "short for --anchors=none",
+        help: "the same as --anchors=none",
+    },
+    OptionRow {
+        group: Group::Written,
         name: "--rich",
         value: "",
         setting: Setting::Rich,
@@ -223,6 +235,22 @@ pub(crate) const OPTIONS: [OptionRow; 49] = [
         setting: Setting::FrontMatter,
         line: "puts title, language and the like first, as YAML",
         help: "with --html5: puts title, lang, description, author and others of the page's head first, as YAML",
+    },
+    OptionRow {
+        group: Group::Written,
+        name: "--title",
+        value: "",
+        setting: Setting::Title,
+        line: "puts the page's title first where there is no h1",
+        help: "puts the title of the page first, as a heading, if nothing that is converted is an h1",
+    },
+    OptionRow {
+        group: Group::Written,
+        name: "--visible",
+        value: "",
+        setting: Setting::Visible,
+        line: "leaves out what the page hides",
+        help: "leaves out elements that have hidden or aria-hidden=true, or whose own style hides them",
     },
     OptionRow {
         group: Group::Written,
@@ -263,6 +291,46 @@ pub(crate) const OPTIONS: [OptionRow; 49] = [
         setting: Setting::Valued(Valued::Base),
         line: "makes addresses absolute, by the URL of the page",
         help: "makes addresses absolute, by this URL of the page or of its folder, or by the page's own base",
+    },
+    OptionRow {
+        group: Group::Written,
+        name: "--images=keep",
+        value: "",
+        setting: Setting::Images(Images::Keep),
+        line: "keep (default), linked, alt, drop: images",
+        help: "keeps images (default)",
+    },
+    OptionRow {
+        group: Group::Written,
+        name: "--images=linked",
+        value: "",
+        setting: Setting::Images(Images::Linked),
+        line: "",
+        help: "writes images whose address is data: as their text, and keeps the others",
+    },
+    OptionRow {
+        group: Group::Written,
+        name: "--images=alt",
+        value: "",
+        setting: Setting::Images(Images::Alt),
+        line: "",
+        help: "writes images as their text",
+    },
+    OptionRow {
+        group: Group::Written,
+        name: "--images=drop",
+        value: "",
+        setting: Setting::Images(Images::Drop),
+        line: "",
+        help: "leaves images out",
+    },
+    OptionRow {
+        group: Group::Written,
+        name: "--links=text",
+        value: "",
+        setting: Setting::LinksAsText,
+        line: "writes links as their text, without addresses",
+        help: "writes links as their text, without their addresses",
     },
     OptionRow {
         group: Group::Style,
@@ -349,8 +417,8 @@ pub(crate) const OPTIONS: [OptionRow; 49] = [
         name: "--link-reference-style=full",
         value: "",
         setting: Setting::Style(Style::Reference(LinkReferenceStyle::Full)),
-        line: "full (default), collapsed, shortcut",
-        help: "references are numbered, as [text][1] (default)",
+        line: "full (default), collapsed, shortcut: not with --guarded",
+        help: "references are numbered, as [text][1] (default), with --guarded always",
     },
     OptionRow {
         group: Group::Style,
@@ -358,7 +426,7 @@ pub(crate) const OPTIONS: [OptionRow; 49] = [
         value: "",
         setting: Setting::Style(Style::Reference(LinkReferenceStyle::Collapsed)),
         line: "",
-        help: "references are collapsed, as [text][]",
+        help: "without --guarded: references are collapsed, as [text][]",
     },
     OptionRow {
         group: Group::Style,
@@ -366,15 +434,15 @@ pub(crate) const OPTIONS: [OptionRow; 49] = [
         value: "",
         setting: Setting::Style(Style::Reference(LinkReferenceStyle::Shortcut)),
         line: "",
-        help: "references are shortcuts, as [text]",
+        help: "without --guarded: references are shortcuts, as [text]",
     },
     OptionRow {
         group: Group::Style,
         name: "--code-block-style=indented",
         value: "",
         setting: Setting::Style(Style::CodeBlock(CodeBlockStyle::Indented)),
-        line: "fenced (default), indented",
-        help: "code blocks are indented by four spaces",
+        line: "fenced (default), indented: not with --guarded",
+        help: "without --guarded: code blocks are indented by four spaces",
     },
     OptionRow {
         group: Group::Style,
@@ -382,7 +450,7 @@ pub(crate) const OPTIONS: [OptionRow; 49] = [
         value: "",
         setting: Setting::Style(Style::CodeBlock(CodeBlockStyle::Fenced)),
         line: "",
-        help: "code blocks are between fences (default)",
+        help: "code blocks are between fences (default), with --guarded always",
     },
     OptionRow {
         group: Group::Style,
@@ -422,7 +490,7 @@ pub(crate) const OPTIONS: [OptionRow; 49] = [
         value: "N",
         setting: Setting::Valued(Valued::BulletSpacing),
         line: "spaces after a bullet, 0 to 255 (default 3)",
-        help: "the number of spaces after a bullet, 0 to 255 (default 3)",
+        help: "the number of spaces after a bullet, 0 to 255 (default 3), with --guarded 1 to 4",
     },
     OptionRow {
         group: Group::Style,
@@ -430,23 +498,31 @@ pub(crate) const OPTIONS: [OptionRow; 49] = [
         value: "N",
         setting: Setting::Valued(Valued::NumberSpacing),
         line: "spaces after an item's number, 0 to 255 (default 2)",
-        help: "the number of spaces after an item's number, 0 to 255 (default 2)",
+        help: "the number of spaces after an item's number, 0 to 255 (default 2), with --guarded 1 to 4",
     },
     OptionRow {
         group: Group::Style,
         name: "--preformatted-code",
         value: "",
         setting: Setting::PreformattedCode,
-        line: "keeps the white space of code spans",
-        help: "keeps the white space of code spans",
+        line: "without --guarded: keeps the white space of code spans",
+        help: "without --guarded: keeps the white space of code spans",
     },
     OptionRow {
         group: Group::Help,
         name: "--help",
         value: "",
         setting: Setting::Show(Notice::Help),
-        line: "lists the options",
+        line: "lists the options; so does -h",
         help: "lists the options, and reads nothing",
+    },
+    OptionRow {
+        group: Group::Help,
+        name: "-h",
+        value: "",
+        setting: Setting::Show(Notice::Help),
+        line: "",
+        help: "the same as --help",
     },
     OptionRow {
         group: Group::Help,

@@ -38,6 +38,18 @@ pub fn to_markdown(
     ensures ok { IfOk result
         (λ s. string_bytes s ≡ markdown_of options.now (document_of document.now)) }
 {
+    blocks_to_markdown(alloc, &document.blocks, options)
+}
+
+/// Blocks as the Markdown of a document of them. `Err` means out of memory.
+pub fn blocks_to_markdown(
+    alloc: Global,
+    blocks: &[Block],
+    options: &DocumentOptions,
+) -> Result<String, AllocError>
+    ensures ok { IfOk result
+        (λ s. string_bytes s ≡ markdown_of options.now (blocks_of blocks.now)) }
+{
     let mut writer = BlockWriter {
         lines: Lines::new(alloc),
         inlines: InlineWriter::new(alloc),
@@ -48,7 +60,7 @@ pub fn to_markdown(
         in_item: false,
         tight: false,
     };
-    writer.write_blocks(&document.blocks, options, place)?;
+    writer.write_blocks(blocks, options, place)?;
     push_definitions(&mut writer.lines, &writer.inlines.definitions)?;
     Ok(writer.lines.into_text())
 }

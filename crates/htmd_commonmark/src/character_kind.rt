@@ -6,14 +6,14 @@ ghost use Rattle.htmd_commonmark.specs.CharacterKinds as spec;
 use unicode::properties::{GeneralCategory, GeneralCategoryGroup};
 
 /// The first character of the text, none of an empty one.
-pub(crate) fn first_character(text: &str) -> Option<char>
+pub fn first_character(text: &str) -> Option<char>
     ensures { result ≡ spec.first_character text.now }
 {
     text.chars().next()
 }
 
 /// The last character of the text, none of an empty one.
-pub(crate) fn last_character(text: &str) -> Option<char>
+pub fn last_character(text: &str) -> Option<char>
     ensures { result ≡ spec.last_character text.now }
 {
     text.chars().next_back()
@@ -27,7 +27,7 @@ pub(crate) fn character_count(text: &str) -> usize
 }
 
 /// Whether the character is white space: tab, line feed, form feed, carriage return, or a space of any width.
-pub(crate) fn is_space(c: char) -> bool
+pub fn is_space(c: char) -> bool
     ensures { result ≡ spec.is_space c }
 {
     c.is_ascii_whitespace()

@@ -19,7 +19,7 @@ fn columns_of(c: char) -> usize
 }
 
 /// How many columns the text takes.
-pub(crate) fn width_of(text: &str) -> usize
+pub fn width_of(text: &str) -> usize
     ensures { result ≡ spec.width_of text.now }
 {
     let mut width = 0;

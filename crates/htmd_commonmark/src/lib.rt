@@ -15,9 +15,13 @@ mod lines;
 mod markers;
 mod marks;
 mod options;
+mod parts;
 mod reference;
 mod table;
 mod text_escape;
 
-pub use blocks::to_markdown;
+pub use blocks::{blocks_to_markdown, to_markdown};
+pub use character_kind::{first_character, is_space, last_character};
+pub use columns::width_of;
 pub use options::DocumentOptions;
+pub use parts::{cell_text, paragraph_text};

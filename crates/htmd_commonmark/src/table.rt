@@ -122,7 +122,7 @@ fn cell_texts(
 }
 
 /// The text with a backslash before each bar.
-fn with_escaped_bars(alloc: Global, text: &str) -> Result<String, AllocError>
+pub(crate) fn with_escaped_bars(alloc: Global, text: &str) -> Result<String, AllocError>
     ensures { IfOk result (λ s. string_bytes s ≡ spec.with_escaped_bars text.now) }
 {
     let mut escaped = String::with_capacity(alloc, text.len())?;

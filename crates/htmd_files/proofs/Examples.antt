@@ -105,6 +105,10 @@ words-links : words.job (codes "--links=md" ∷ codes "a.html" ∷ [])
     ≡ Ok (record words.no_job { operands = codes "a.html" ∷ []; links_to_markdown = true })
 words-links = refl
 
+words-links_as_text : words.job (codes "--links=text" ∷ [])
+    ≡ Ok (record words.no_job { options = codes "--links=text" ∷ [] })
+words-links_as_text = refl
+
 words-links_to_html : words.job (codes "--links=html" ∷ []) ≡ Err (words.links (codes "--links=html"))
 words-links_to_html = refl
 

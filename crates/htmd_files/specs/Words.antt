@@ -58,10 +58,11 @@ abbrev pub with_output : List ℕ → List ℕ → Job → Result Job Fault
 with_output option [] job = Err (no_value option)
 with_output option (b ∷ name) job = set_output job.output (b ∷ name) job
 
--- an option says where addresses of pages lead: to their Markdown
+-- an option says where addresses of pages lead: to their Markdown; that links are text is an option of pages
 abbrev pub with_links : List ℕ → List ℕ → Job → Result Job Fault
 with_links option format job =
-    if bytes_eq format (codes "md") then Ok (record job { links_to_markdown = true }) else Err (links option)
+    if bytes_eq format (codes "md") then Ok (record job { links_to_markdown = true })
+    else if bytes_eq format (codes "text") then Ok (with_option option job) else Err (links option)
 
 abbrev pub reading : Expected → Job → Reading
 reading expected job = record { job = job; expected = expected }

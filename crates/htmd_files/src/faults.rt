@@ -18,7 +18,7 @@ pub enum WordFault<'a> {
     #[error("there are two outputs, {first} and {second}")]
     Twice { first: &'a str, second: &'a str },
     /// Where addresses of pages lead is told by another value, or none.
-    #[error("'{word}': the value of --links is md")]
+    #[error("'{word}': the values of --links are md and text")]
     Links { word: &'a str },
 }
 

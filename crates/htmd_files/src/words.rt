@@ -91,16 +91,19 @@ impl<'a> Job<'a> {
         Ok(())
     }
 
-    /// Where addresses of pages lead: to their Markdown.
-    fn set_links(&mut self, word: &'a str, format: &str) -> Result<(), WordFault<'a>>
+    /// Where addresses of pages lead: to their Markdown. That links are text is an option of pages.
+    fn set_links(&mut self, alloc: Global, word: &'a str, format: &str) -> Result<(), WordFault<'a>>
         ensures ok { OnOk result (spec.with_links word.now format.now (job_in self.old) ≡ Ok (job_in self.new)) }
         ensures err { IfErr result (IsWordFault (spec.with_links word.now format.now (job_in self.old))) }
     {
-        if format != "md" {
-            return Err(WordFault::Links { word });
+        if format == "md" {
+            self.links_to_markdown = true;
+            return Ok(());
         }
-        self.links_to_markdown = true;
-        Ok(())
+        if format == "text" {
+            return self.push_option(alloc, word);
+        }
+        Err(WordFault::Links { word })
     }
 
     /// A word that doesn't name the output: one that says where links lead, another option, or a file.
@@ -110,7 +113,7 @@ impl<'a> Job<'a> {
         ensures err { IfErr result (IsWordFault (spec.take_links word.now (job_in self.old))) }
     {
         if let Some(format) = word.strip_prefix("--links=") {
-            return self.set_links(word, format);
+            return self.set_links(alloc, word, format);
         }
         if word == "--links" {
             return Err(WordFault::Links { word });

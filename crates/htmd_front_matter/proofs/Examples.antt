@@ -20,6 +20,12 @@ page = more (element (codes "html") (pair (codes "lang") (codes "en") ∷ [])
 value-title : first_value Title page ≡ Some (codes " A  b ")
 value-title = refl
 
+-- `<svg><title>Menu</title></svg><title>T</title>`
+value-not_of_icon : first_value Title
+    (more (element (codes "svg") [] (more (element (codes "title") [] (more (text (codes "Menu")) none)) none))
+    (more (element (codes "title") [] (more (text (codes "T")) none)) none)) ≡ Some (codes "T")
+value-not_of_icon = refl
+
 value-lang : first_value Lang page ≡ Some (codes "en")
 value-lang = refl
 

@@ -1,5 +1,5 @@
 -- What the head of a page says of it: the first element in document order that says it.
-use Rattle.std.specs.Prelude.{ℕ, Bool, if◌then◌else◌, List, map, Option, Some, None, codes}
+use Rattle.std.specs.Prelude.{ℕ, Bool, false, if◌then◌else◌, List, map, Option, Some, None, codes}
 use Rattle.std.specs.Char.{to_ascii_lowercase}
 use Rattle.std.specs.Option.{option_or}
 use Rattle.std.specs.Str.{bytes_eq}
@@ -72,6 +72,16 @@ own_value Date name attributes children = attribute_value Date name attributes
 own_value Canonical name attributes children = attribute_value Canonical name attributes
 own_value Keywords name attributes children = attribute_value Keywords name attributes
 
+-- what an element has in it says nothing: in an `svg` a `title` is that of a picture
+abbrev pub is_passed : Key → List ℕ → Bool
+is_passed Title name = bytes_eq name (codes "svg")
+is_passed Lang name = false
+is_passed Description name = false
+is_passed Author name = false
+is_passed Date name = false
+is_passed Canonical name = false
+is_passed Keywords name = false
+
 abbrev mutual
   -- what the first element says that says it, in document order
   pub first_value : Key → ValueForest → Option (List ℕ)
@@ -84,4 +94,5 @@ abbrev mutual
   value_in key (text s) = None
   value_in key (comment s) = None
   value_in key (element name attributes children) =
-      option_or (own_value key name attributes children) (first_value key children)
+      if is_passed key name then None
+      else option_or (own_value key name attributes children) (first_value key children)

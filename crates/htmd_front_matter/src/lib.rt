@@ -2,6 +2,8 @@
 #![tactic(auto)]
 
 mod lines;
+mod titles;
 mod values;
 
 pub use lines::front_matter;
+pub use titles::title_of;

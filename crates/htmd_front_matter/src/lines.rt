@@ -1,5 +1,5 @@
 //! The front matter of a page, line by line.
-ghost use Rattle.std.specs.Prelude.{◌≡◌, ◌++◌, [], IfOk, OnOk, string_bytes, option_copied, flat_map};
+ghost use Rattle.std.specs.Prelude.{◌≡◌, ◌++◌, IfOk, OnOk, string_bytes};
 ghost use Rattle.json.specs.Print.{quoted};
 ghost use Rattle.htmd_nodes.specs.NumberedTrees.{value_at};
 ghost use Rattle.htmd_front_matter.specs.Values.{value_in};
@@ -31,7 +31,7 @@ fn quoted_text(alloc: Global, text: &str) -> Result<String, AllocError>
 }
 
 /// The value with single spaces, and none at its ends.
-fn tidied(alloc: Global, value: &str) -> Result<String, AllocError>
+pub(crate) fn tidied(alloc: Global, value: &str) -> Result<String, AllocError>
     ensures { IfOk result (λ s. string_bytes s ≡ spec.tidied value.now) }
 {
     let squeezed = compress_whitespace(alloc, value)?;

@@ -135,6 +135,16 @@ fn own_value<'a>(
     }
 }
 
+/// Whether what an element has in it says nothing.
+fn is_passed(key: Key, name: &str) -> bool
+    ensures { result ≡ spec.is_passed key name.now }
+{
+    match key {
+        Key::Title => name == "svg",
+        _ => false,
+    }
+}
+
 /// What the first element that says it says, among a node and what is below it.
 #[cycle(values)]
 pub(crate) fn value_in(key: Key, tree: &Tree, node: NodeId) -> Option<&str>
@@ -144,6 +154,9 @@ pub(crate) fn value_in(key: Key, tree: &Tree, node: NodeId) -> Option<&str>
     match tree.data(node) {
         NodeData::Document => first_value(key, tree, node),
         NodeData::Element { name, attrs } => {
+            if is_passed(key, name.as_str()) {
+                return None;
+            }
             let own = own_value(key, tree, node, name.as_str(), attrs.as_slice());
             if own.is_some() {
                 return own;

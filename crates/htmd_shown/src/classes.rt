@@ -102,6 +102,13 @@ pub(crate) fn is_of_mathjax(attrs: &[Attribute]) -> bool
     has_class(attrs, MATHJAX)
 }
 
+/// Whether a class is one of MediaWiki's images of formulas.
+pub fn is_of_wiki(attrs: &[Attribute]) -> bool
+    ensures { result ≡ spec.has_class spec.wiki_words (pairs_of attrs.now) }
+{
+    has_class(attrs, WIKI)
+}
+
 /// Whether an element shows again what the element before it shows: KaTeX's and MediaWiki's after the MathML.
 pub(crate) fn is_copy(before: &[Attribute], attrs: &[Attribute]) -> bool
     ensures { result ≡ repeats.is_copy_of (pairs_of before.now) (pairs_of attrs.now) }

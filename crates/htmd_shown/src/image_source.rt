@@ -13,7 +13,7 @@ use htmd_text::repeats::{leading_len, trailing_len};
 use std::alloc::{AllocError, Global};
 
 /// Whether an address has a file in itself.
-fn is_data(address: &[u8]) -> bool
+pub fn is_data(address: &[u8]) -> bool
     ensures { result ≡ spec.is_data address.now }
 {
     address.len() >= 5 && address[..5].eq_ignore_ascii_case(b"data:")
@@ -110,11 +110,7 @@ fn first_source<'t>(tree: &'t Tree, nodes: &[NodeId]) -> Option<&'t str>
 }
 
 /// What a `picture` gives the first `img` in it.
-pub(crate) fn picture_source<'t>(
-    tree: &'t Tree,
-    name: &Name,
-    children: &[NodeId],
-) -> Option<&'t str>
+pub fn picture_source<'t>(tree: &'t Tree, name: &Name, children: &[NodeId]) -> Option<&'t str>
     requires { All (λ node. node < length tree.now) children.now }
     ensures { option_copied result
         ≡ spec.picture_source name.now (forest_of (tree_of tree.now) children.now) }
@@ -156,7 +152,7 @@ fn file_of_sets<'t>(alloc: Global, attrs: &'t [Attribute]) -> Result<Option<&'t 
 }
 
 /// The address of an image, of which its `picture` may give one: the first of a file, else `src` as it is.
-pub(crate) fn image_address<'t>(
+pub fn image_address<'t>(
     alloc: Global,
     attrs: &'t [Attribute],
     source: Option<&'t str>,
@@ -177,7 +173,7 @@ pub(crate) fn image_address<'t>(
 }
 
 /// Whether an element is an image: an `img`, or an `input` that is one.
-pub(crate) fn is_image(name: &Name, attrs: &[Attribute]) -> bool
+pub fn is_image(name: &Name, attrs: &[Attribute]) -> bool
     ensures { result ≡ spec.is_image name.now (pairs_of attrs.now) }
 {
     name.is(Tag::Img) || name.is(Tag::Input) && text_of(attrs, "type").eq_ignore_ascii_case("image")

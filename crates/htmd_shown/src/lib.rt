@@ -7,7 +7,7 @@ mod classes;
 mod embedded;
 mod facts;
 mod formula;
-mod image_source;
+pub mod image_source;
 mod page;
 mod repeats;
 pub mod role;
@@ -20,6 +20,7 @@ pub mod simple;
 pub mod spaces;
 pub mod texts;
 
+pub use classes::is_of_wiki;
 pub use facts::Facts;
 pub use role::{Role, is_among, role_of};
 pub use sight::shown;

@@ -43,9 +43,12 @@ const WORD_FAULTS: &[(&str, &str)] = &[
     ("-oa -o b", "there are two outputs, a and b"),
     (
         "--links=html a",
-        "'--links=html': the value of --links is md",
+        "'--links=html': the values of --links are md and text",
     ),
-    ("a --links", "'--links': the value of --links is md"),
+    (
+        "a --links",
+        "'--links': the values of --links are md and text",
+    ),
     ("a", "none"),
 ];
 

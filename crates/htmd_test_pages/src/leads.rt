@@ -1,5 +1,5 @@
 //! Addresses of pages of a run.
-use htmd_addresses::{Page, Pages, RunPage, lead_to_pages};
+use htmd_addresses::{Page, Pages, RunPage, base_address, lead_to_pages};
 use htmd_test_expected::expect_text;
 use htmd_tree::{read_html, serialize};
 use std::alloc::{AllocError, Global};
@@ -34,7 +34,7 @@ fn led(alloc: Global, own: (&str, &str), html: &str) -> Result<String, Fail> {
         input: own.0,
         output: own.1,
     };
-    let led = lead_to_pages(alloc, &page, own, None)?;
+    let led = lead_to_pages(alloc, &page, own, None, base_address(&page))?;
     Ok(serialize(alloc, &led, led.root())?)
 }
 
@@ -52,7 +52,10 @@ const ADDRESSES: &[(&str, &str)] = &[
     ("sub/?x#y", "sub/index.md?x#y"),
     ("sub/.", "sub/index.md"),
     ("sub/index.html/..", "sub/index.md"),
-    ("sub", "sub"),
+    ("sub", "sub/index.md"),
+    ("../site/sub?x#y", "sub/index.md?x#y"),
+    ("sub/./../sub#", "sub/index.md#"),
+    ("su", "su"),
     ("./", "./"),
     ("a.htm", "a.htm"),
     ("../a.html", "../a.html"),
@@ -73,6 +76,38 @@ fn addresses_lead_to_outputs(rt: HostRuntime) -> Result<(), Fail> {
         )?;
         let html = led(rt.alloc(), PAGES[0], html.as_str())?;
         expect_text(address, html.as_str(), want.as_str())?;
+    }
+    Ok(())
+}
+
+/// Bases that `site/a.html` names, addresses in it, and what these become.
+const BASES: &[(&str, &str, &str)] = &[
+    ("sub/", "b c.html", "sub/b%20c.md"),
+    (" sub/x.html?y ", "b%20c.html#z", "sub/b%20c.md#z"),
+    ("sub", "a.html", "a.md"),
+    ("..", "site/sub", "sub/index.md"),
+    ("../", "site/a.html?x", "a.md?x"),
+    ("../", "a.html", "a.html"),
+    ("sub/", "../a.html", "a.md"),
+    ("sub/", "#x", "#x"),
+    ("", "a.html", "a.md"),
+    ("#x", "a.html", "a.md"),
+    ("?x", "sub/", "sub/index.md"),
+    ("/", "a.html", "a.html"),
+    ("//a.example", "a.html", "a.html"),
+    ("http://a.example/", "a.html", "a.html"),
+];
+
+#[test]
+fn addresses_are_read_by_the_base(rt: HostRuntime) -> Result<(), Fail> {
+    for (base, address, want) in BASES {
+        let bases = format!(in rt.alloc(); "<base><base href=\"{base}\"><base href=\"x/\">")?;
+        let html = format!(in rt.alloc(); "{bases}<a href=\"{address}\">t</a>")?;
+        let want = format!(in rt.alloc();
+            "<html><head></head><body>{bases}<a href=\"{want}\">t</a></body></html>"
+        )?;
+        let html = led(rt.alloc(), PAGES[0], html.as_str())?;
+        expect_text(base, html.as_str(), want.as_str())?;
     }
     Ok(())
 }

@@ -32,7 +32,7 @@ fn refuses_options(rt: HostRuntime) -> Result<(), Fail> {
         "--encoding=",
         "--encoding=utf-7",
         "page.html",
-        "-h",
+        "-H",
         "--skip",
         "--skip=",
         "--skip=,",
@@ -121,7 +121,7 @@ fn options_in(help: &str) -> Result<usize, Fail> {
 
 // Fails unless the help has a line for each option.
 fn expect_help(help: &str) -> Result<(), Fail> {
-    expect_number("options", options_in(help)?, 38)?;
+    expect_number("options", options_in(help)?, 43)?;
     let usage = "Usage: htmd [OPTION..] [FILE..]\n";
     expect_that(usage, help.starts_with(usage))?;
     for line in [
@@ -138,14 +138,20 @@ fn expect_help(help: &str) -> Result<(), Fail> {
     Ok(())
 }
 
-// The help has a line for each option, and each option that it names is known.
-#[test]
-fn shows_the_help(rt: HostRuntime) -> Result<(), Fail> {
-    let answer = called(rt.alloc(), &["--help"], b"a")?;
+// Fails unless an option shows the help, and nothing is read.
+fn expect_shown(alloc: Global, option: &str) -> Result<(), Fail> {
+    let answer = called(alloc, &[option], b"a")?;
     expect_that("status", answer.status == 0)?;
     expect_text("stderr", answer.stderr.as_str(), "")?;
     expect_number("unread", answer.unread, 1)?;
     expect_help(answer.stdout.as_str())
+}
+
+// The help has a line for each option, and each option that it names is known.
+#[test]
+fn shows_the_help(rt: HostRuntime) -> Result<(), Fail> {
+    expect_shown(rt.alloc(), "--help")?;
+    expect_shown(rt.alloc(), "-h")
 }
 
 // Fails unless a sink that fails after so many writes is reported.

@@ -1,5 +1,5 @@
 -- What is left to prove of the functions of the cycle `values`.
-use Rattle.std.proofs.Common.{rules, ◌<◌, length, sym, ap, ◌∙◌, arith, ℕ, List}
+use Rattle.std.proofs.Common.{rules, ◌≡◌, ◌<◌, length, sym, ap, ◌∙◌, arith, ℕ, List, true, false, refl}
 use Rattle.htmd_lexical.specs.Attributes.{pairs_of}
 use Rattle.htmd_lexical.specs.AttributePairs.{AttributePair}
 use Rattle.htmd_values.specs.ValueTrees.{ValueForest}
@@ -7,7 +7,7 @@ use Rattle.htmd_nodes.specs.Items.{document_node, element_node, children_of}
 use Rattle.htmd_nodes.specs.NumberedTrees.{tree_of, forest_of, value_forest}
 use Rattle.htmd_nodes.specs.Views.{data_of}
 use Rattle.htmd_nodes.proofs.ItemsLemmas.{child_read}
-use Rattle.htmd_front_matter.specs.Values.{value_in, first_value, own_value}
+use Rattle.htmd_front_matter.specs.Values.{value_in, first_value, own_value, is_passed}
 use Rattle.htmd_nodes.proofs.SearchLemmas.{value-node, own-some, own-none}
 use Rattle.htmd_front_matter.proofs.ValuesLemmas.{value-other}
 use Rattle.htmd_front_matter.proofs.values.+values.Goals as goal
@@ -28,6 +28,16 @@ value_in-returns-in-Document t c =
     (sym (ap data_of c.in-Document.is) ∙ c.data.ensures.value)) in
     c.first_value.ensures ∙ sym w
 
+pub value_in-returns-then-is_passed : goal.value_in-returns-then-is_passed
+value_in-returns-then-is_passed t c =
+    let name : List ℕ = c.in-Element.name in
+    let w =
+    ap (value_in c.args.key) (value-node c.args.tree.now c.args.node (element_node name
+    (pairs_of c.in-Element.attrs.items)) c.data.ensures.tree
+    c.requires (sym (ap data_of c.in-Element.is) ∙ c.data.ensures.value)) in
+    let passed : is_passed c.args.key name ≡ true = search rules in
+    sym (w ∙ rw passed refl)
+
 pub value_in-returns-then-is_some : goal.value_in-returns-then-is_some
 value_in-returns-then-is_some t c =
     let name : List ℕ = c.in-Element.name in
@@ -37,10 +47,11 @@ value_in-returns-then-is_some t c =
     let w =
     ap (value_in c.args.key) (value-node c.args.tree.now c.args.node (element_node name attributes) c.data.ensures.tree
     c.requires (sym (ap data_of c.in-Element.is) ∙ c.data.ensures.value)) in
-    own-some c.own_value-own.result (own_value c.args.key name attributes children)
+    let inside : is_passed c.args.key name ≡ false = search rules in
+    let said = own-some c.own_value-own.result (own_value c.args.key name attributes children)
     (first_value c.args.key children)
-    (search rules) (search rules)
-    ∙ sym w
+    (search rules) (search rules) in
+    said ∙ sym (w ∙ rw inside refl)
 
 pub value_in-returns-else-is_some : goal.value_in-returns-else-is_some
 value_in-returns-else-is_some t c =
@@ -51,11 +62,12 @@ value_in-returns-else-is_some t c =
     let w =
     ap (value_in c.args.key) (value-node c.args.tree.now c.args.node (element_node name attributes) c.data.ensures.tree
     c.requires (sym (ap data_of c.in-Element.is) ∙ c.data.ensures.value)) in
+    let inside : is_passed c.args.key name ≡ false = search rules in
     c.first_value-in-Element.ensures
     ∙ (own-none c.own_value-own.result (own_value c.args.key name attributes children)
     (first_value c.args.key children)
     (search rules) (search rules)
-    ∙ sym w)
+    ∙ sym (w ∙ rw inside refl))
 
 pub value_in-returns-in_default : goal.value_in-returns-in_default
 value_in-returns-in_default t c =

@@ -4,8 +4,7 @@ use Rattle.std.specs.Option.{option_copied}
 use Rattle.std.proofs.lemmas.Str.Ascii.{trim_ascii_is}
 use Rattle.htmd_addresses.specs.Leads.{relative, without_start}
 use Rattle.htmd_addresses.specs.PageViews.{names_of}
-use Rattle.htmd_addresses.specs.Paths.{folder_of}
-use Rattle.htmd_addresses.specs.RunViews.{own_of, pages_in}
+use Rattle.htmd_addresses.specs.RunViews.{folders_in, pages_in}
 use Rattle.htmd_addresses.proofs.LeadsLemmas.{lead-at}
 use Rattle.htmd_addresses.proofs.leads.Leads.lead.Goals as goal
 
@@ -15,7 +14,7 @@ returns-in_default c =
     let inner = c.trim_ascii-inner.result.now in
     let P : List ℕ → Type 0 = λ x. IfOk c.from_str.result (λ s. string_bytes s ≡ x) in
     subst P
-    (lead-at (pages_in c.args.self.now.page.pages.now) (own_of c.args.self.now.page) address inner
+    (lead-at (pages_in c.args.self.now.pages.now) (folders_in c.args.self.now) address inner
     (trim_ascii_is address inner (without_start address) refl c.trim_ascii-inner.ensures.value)
     None (sym (ap option_copied c.in_default.is) ∙ c.in_ok-output.ensures))
     c.from_str.ensures.ok
@@ -28,10 +27,9 @@ returns c =
     let ending = c.split_at.result.1.now in
     c.in_ok-push_str.ensures.bytes
     ∙ (ap (λ x. x ++ ending)
-    (c.in_ok-lead.ensures
-    ∙ ap (λ x. relative x c.in-Some.output.now) (ap names_of c.as_slice.ensures.value ∙ self.output_is))
-    ∙ (ap (λ x. relative (folder_of self.page.output.now) c.in-Some.output.now ++ x)
+    (c.in_ok-lead.ensures ∙ ap (λ x. relative (names_of x) c.in-Some.output.now) c.as_slice.ensures.value)
+    ∙ (ap (λ x. relative (names_of self.output_folder.items) c.in-Some.output.now ++ x)
     (c.split_at.ensures.back ∙ ap (λ n. drop n inner) c.path_len.ensures.value)
-    ∙ lead-at (pages_in self.page.pages.now) (own_of self.page) address inner
+    ∙ lead-at (pages_in self.pages.now) (folders_in self) address inner
     (trim_ascii_is address inner (without_start address) refl c.trim_ascii-inner.ensures.value)
     (Some c.in-Some.output.now) (sym (ap option_copied c.in-Some.is) ∙ c.in_ok-output.ensures)))

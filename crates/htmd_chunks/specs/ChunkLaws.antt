@@ -1,0 +1,12 @@
+-- Laws of pieces.
+use Rattle.std.specs.Prelude.{◌≡◌, ℕ}
+use Rattle.htmd_document.specs.Documents.{Blocks}
+use Rattle.htmd_document.specs.NormalDocuments.{IsNormal}
+use Rattle.htmd_commonmark.specs.declared.options.DocumentOptions.{DocumentOptions}
+use Rattle.htmd_chunks.specs.Joins.{joined}
+use Rattle.htmd_chunks.specs.Pieces.{chunks_of}
+
+-- joined in order, the pieces of a normal document are the document
+abbrev pub PiecesJoin : Type 0
+PiecesJoin = (options : DocumentOptions) (most : ℕ) (document : Blocks)
+    → IsNormal document → joined (chunks_of options most document) ≡ document

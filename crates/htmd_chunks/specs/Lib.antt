@@ -1,0 +1,19 @@
+-- A document cut into pieces: sizes, what a block is cut into, where a document is cut, and how pieces are joined.
+pub mod Sizes
+pub mod Measures
+pub mod Runs
+pub mod Words
+pub mod WordViews
+pub mod CodeLines
+pub mod UnitViews
+pub mod Rows
+pub mod RowViews
+pub mod Least
+pub mod Fillings
+pub mod Cuts
+pub mod Sections
+pub mod Pieces
+pub mod ChunkViews
+pub mod Joins
+pub mod JointNames
+pub mod ChunkLaws
