@@ -67,3 +67,12 @@ module _ (p : source.Part) where
       ∙ (sym (other-whole (out-Part p).node.now (out-Part p).facts
       (without_links (parts_of (out-Part p).parts.items)) h)
       ∙ sym (ap (λ x. written_whole (linkless x)) (part-out p)))
+
+-- a whole page under the root of a new tree
+pub ruleset whole_steps = (root_within, root_holds, under_root, whole_document, whole_other)
+
+-- the same without the links above its content
+pub ruleset linkless_steps = (root_within, root_holds, under_root, linkless_document, linkless_other)
+
+-- what stands under the root of a new tree
+pub ruleset root_steps = (root_within, root_holds, under_root)

@@ -150,3 +150,9 @@ module _ (mark : Landmark) (xs : List source.Part) (i : ℕ) (x : source.Part) (
     walk_none h =
         sym (none (outermost mark (part_of x)) (all_outermost mark (parts_of (drop (i + 1) xs)))
         (sym (ap part_found (none_of found h)) ∙ e)) ∙ next
+
+-- an element that is counted or found
+pub ruleset outermost_steps = (outermost_named, outermost_within, outermost_nowhere)
+
+-- the same of a large article
+pub ruleset large_steps = (large_named, outermost_within, outermost_nowhere)

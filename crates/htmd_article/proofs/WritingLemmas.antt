@@ -113,3 +113,9 @@ module _ (out : List Item) (under : ℕ) (in_title : Bool) (p : source.Part) whe
       element-laid out under in_title p (written_part in_title (linkless (part_of p)))
       (linkless_in in_title p) (linkless-out in_title p) mid new id otherwise number e
       (g ∙ ap (λ b. laid mid id (written b (without_links (parts_of (out-Part p).parts.items)))) same)
+
+-- a part that is written, its node and what is below
+pub ruleset part_steps = (part_gone, part_leaf, part_over, part_within, part_holds)
+
+-- the same of a part without the links above its content
+pub ruleset linkless_steps = (linkless_gone, linkless_leaf, linkless_over, part_within, part_holds)

@@ -35,7 +35,7 @@ fn new_tree(alloc: Global) -> Result<Tree, AllocError>
 }
 
 /// Appends a part to the Document of a tree; of a Document what is below it.
-#[tactic(auto, using(crate::proofs::ContentLemmas::root_within, crate::proofs::ContentLemmas::root_holds, crate::proofs::ContentLemmas::under_root, crate::proofs::ContentLemmas::whole_document, crate::proofs::ContentLemmas::whole_other))]
+#[tactic(auto, using(crate::proofs::ContentLemmas::whole_steps))]
 fn push_whole(out: &mut Tree, part: &Part, alloc: Global) -> Result<(), AllocError>
     ensures { OnOk result (out.new ≡ out.old ++ forest_items 1 0 (length out.old)
         (written_whole (part_of part.now))) }
@@ -48,7 +48,7 @@ fn push_whole(out: &mut Tree, part: &Part, alloc: Global) -> Result<(), AllocErr
 }
 
 /// The same without the links above the content, unless all is links.
-#[tactic(auto, using(crate::proofs::ContentLemmas::root_within, crate::proofs::ContentLemmas::root_holds, crate::proofs::ContentLemmas::under_root, crate::proofs::ContentLemmas::linkless_document, crate::proofs::ContentLemmas::linkless_other))]
+#[tactic(auto, using(crate::proofs::ContentLemmas::linkless_steps))]
 fn push_content(out: &mut Tree, part: &Part, alloc: Global) -> Result<(), AllocError>
     ensures { OnOk result (out.new ≡ out.old ++ forest_items 1 0 (length out.old)
         (written_whole (without_top_links (part_of part.now)))) }
@@ -75,7 +75,7 @@ fn push_densest(out: &mut Tree, body: &Part, alloc: Global) -> Result<Chosen, Al
 }
 
 /// Appends what the page says is its main content to the Document of a tree; where it says nothing, the densest part.
-#[tactic(auto, using(crate::proofs::ContentLemmas::root_within, crate::proofs::ContentLemmas::root_holds, crate::proofs::ContentLemmas::under_root))]
+#[tactic(auto, using(crate::proofs::ContentLemmas::root_steps))]
 fn push_said(
     out: &mut Tree,
     said: Option<Landmark>,
@@ -95,7 +95,7 @@ fn push_said(
 }
 
 /// Appends the main content of a body without frame to the Document of a tree.
-#[tactic(auto, using(crate::proofs::ContentLemmas::root_within, crate::proofs::ContentLemmas::root_holds, crate::proofs::ContentLemmas::under_root))]
+#[tactic(auto, using(crate::proofs::ContentLemmas::root_steps))]
 fn push_chosen(out: &mut Tree, body: &Part, alloc: Global) -> Result<Chosen, AllocError>
     ensures out { OnOk result (out.new ≡ out.old ++ forest_items 1 0 (length out.old)
         (spec.chosen_in (part_of body.now)).content) }

@@ -37,7 +37,7 @@ pub(crate) fn is_landmark(mark: Landmark, node: &NodeData, facts: Facts) -> bool
 }
 
 /// How many such elements are outermost, the node with them.
-#[tactic(auto, using(crate::proofs::OutermostLemmas::outermost_named, crate::proofs::OutermostLemmas::outermost_within, crate::proofs::OutermostLemmas::outermost_nowhere))]
+#[tactic(auto, using(crate::proofs::OutermostLemmas::outermost_steps))]
 pub(crate) fn outermost_count(mark: Landmark, part: &Part) -> Result<usize, AllocError>
     ensures { IfOk result (λ count. count ≡ length (spec.outermost mark (part_of part.now))) }
 {
@@ -55,7 +55,7 @@ pub(crate) fn outermost_count(mark: Landmark, part: &Part) -> Result<usize, Allo
 }
 
 /// How many letters of prose are in the outermost such elements.
-#[tactic(auto, using(crate::proofs::OutermostLemmas::outermost_named, crate::proofs::OutermostLemmas::outermost_within, crate::proofs::OutermostLemmas::outermost_nowhere))]
+#[tactic(auto, using(crate::proofs::OutermostLemmas::outermost_steps))]
 pub(crate) fn outermost_prose(mark: Landmark, part: &Part) -> Result<usize, AllocError>
     ensures { IfOk result (λ prose. prose ≡ prose_in (spec.outermost mark (part_of part.now))) }
 {
@@ -80,7 +80,7 @@ fn is_large(whole: usize, prose: usize) -> bool
 }
 
 /// The first of the outermost articles with more than half of so many letters of prose, the node with them.
-#[tactic(auto, using(crate::proofs::OutermostLemmas::outermost_named, crate::proofs::OutermostLemmas::outermost_within, crate::proofs::OutermostLemmas::outermost_nowhere))]
+#[tactic(auto, using(crate::proofs::OutermostLemmas::outermost_steps))]
 pub(crate) fn large_in<'p, 't>(whole: usize, part: &'p Part<'t>) -> Option<&'p Part<'t>>
     ensures { part_found result ≡ first_large whole (spec.outermost landmark.Article (part_of part.now)) }
 {
@@ -103,7 +103,7 @@ pub(crate) fn large_in<'p, 't>(whole: usize, part: &'p Part<'t>) -> Option<&'p P
 }
 
 /// The same in the outermost elements that say that they are something.
-#[tactic(auto, using(crate::proofs::OutermostLemmas::large_named, crate::proofs::OutermostLemmas::outermost_within, crate::proofs::OutermostLemmas::outermost_nowhere))]
+#[tactic(auto, using(crate::proofs::OutermostLemmas::large_steps))]
 pub(crate) fn large_within<'p, 't>(
     whole: usize,
     mark: Landmark,

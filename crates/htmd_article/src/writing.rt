@@ -124,7 +124,7 @@ pub(crate) fn push_parts(
 }
 
 /// Appends a part to a node of a tree; in a heading or a term its links to itself go.
-#[tactic(auto, using(crate::proofs::WritingLemmas::part_gone, crate::proofs::WritingLemmas::part_leaf, crate::proofs::WritingLemmas::part_over, crate::proofs::WritingLemmas::part_within, crate::proofs::WritingLemmas::part_holds))]
+#[tactic(auto, using(crate::proofs::WritingLemmas::part_steps))]
 #[cycle(written)]
 pub(crate) fn push_part(
     out: &mut Tree,
@@ -177,7 +177,7 @@ pub(crate) fn push_below_links(
 }
 
 /// Appends a part to a node of a tree, without the links above the content in it.
-#[tactic(auto, using(crate::proofs::WritingLemmas::linkless_gone, crate::proofs::WritingLemmas::linkless_leaf, crate::proofs::WritingLemmas::linkless_over, crate::proofs::WritingLemmas::part_within, crate::proofs::WritingLemmas::part_holds))]
+#[tactic(auto, using(crate::proofs::WritingLemmas::linkless_steps))]
 #[cycle(below_links)]
 pub(crate) fn push_block(
     out: &mut Tree,
@@ -202,7 +202,7 @@ pub(crate) fn push_block(
 }
 
 /// Appends the outermost elements in a part that say that they are something, the part with them, to a node of a tree.
-#[tactic(auto, using(crate::proofs::OutermostLemmas::outermost_named, crate::proofs::OutermostLemmas::outermost_within, crate::proofs::OutermostLemmas::outermost_nowhere))]
+#[tactic(auto, using(crate::proofs::OutermostLemmas::outermost_steps))]
 pub(crate) fn push_outermost(
     out: &mut Tree,
     under: NodeId,
