@@ -30,7 +30,8 @@ pub heading_step : (c : Bounds) (m : Margin) (t : Bool) (f : Filling) (heads : L
 heading_step c m t f heads b rest heading = rw (sym heading)
 
 pub other_step : (c : Bounds) (m : Margin) (t : Bool) (f : Filling) (heads : List Block) (b : Block) (rest : Blocks)
-    (between bytes : ℕ) → false ≡ is_heading b → between ≡ gap m t → bytes ≡ heads_cost c.options m t heads
+    (between bytes : ℕ) → false ≡ is_heading b → between ≡ gap m t
+    → bytes ≡ heads_cost c.options m t heads
     → filled c m t f heads (block b rest)
     ≡ filled c m t (with_unit c m between f heads bytes b (λ room. cut c m room b)) [] rest
 other_step c m t f heads b rest between bytes other gaps taken = rw (sym other, gaps, taken)
@@ -58,16 +59,20 @@ no_heads c m t f heads none = rw none
 -- ---- items
 
 -- an item that is cut
-pub group_cut : (c : Bounds) (m : Margin) (l list : ListShape) (f g new : ListFilling) (k before : ℕ) (content : Blocks)
+pub group_cut : (c : Bounds) (m : Margin) (l list : ListShape) (f g new : ListFilling) (k before : ℕ)
+    (content : Blocks)
     (after from heads whole least room last tail most between : ℕ) (within : Margin) (cut_off : List Part)
-    → from ≡ k - before → heads ≡ empties_cost m l from before → whole ≡ group_cost c m l k heads content after
+    → from ≡ k - before → heads ≡ empties_cost m l from before
+    → whole ≡ group_cost c m l k heads content after
     → nat_le whole c.most ≡ false → within ≡ in_item (item_width c.options l k) m
-    → least ≡ least_among c within l.is_tight 0 content → most ≡ c.most → between ≡ gap m l.is_tight → list ≡ l
+    → least ≡ least_among c within l.is_tight 0 content → most ≡ c.most → between ≡ gap m l.is_tight
+    → list ≡ l
     → g ≡ list_with_room most between list f from (heads + least)
     → room ≡ g.free - (g.used + list_gap_in between g + heads)
     → cut_off ≡ split c within l.is_tight room content → last ≡ cost_of_last_blocks c within l.is_tight cut_off
     → tail ≡ empties_cost m l (suc k) after
-    → new ≡ with_empty_items (with_item_parts most between list (record g { now = g.now ++ replicate before no_blocks })
+    → new ≡ with_empty_items (with_item_parts most between list
+    (record g { now = g.now ++ replicate before no_blocks })
     k cut_off heads last) after tail
     → new ≡ with_group c m l f k before content after
     (λ r. split c (in_item (item_width c.options l k) m) l.is_tight r content)
@@ -84,7 +89,8 @@ grouped c m l f g after =
     (λ room. split c (in_item (item_width c.options l g.place) m) l.is_tight room (blocks_of g.item.items))
 
 -- with an item that waits, and with those to come, from this place on
-abbrev pub all_filled : Bounds → Margin → ListShape → ListFilling → ℕ → ℕ → ℕ → Option Group → Items → ListFilling
+abbrev pub all_filled : Bounds → Margin → ListShape → ListFilling → ℕ → ℕ → ℕ → Option Group
+    → Items → ListFilling
 all_filled c m l f k before after None rest = items_filled c m l f k before rest
 all_filled c m l f k before after (Some g) rest =
     items_filled c m l (grouped c m l f g (after + empties_before rest)) k 0 rest
@@ -96,7 +102,8 @@ Waits deepest k before after (Some g) rest =
     (before ≡ 0) × (g.place + after + 1 ≡ k) × (g.before ≤ g.place)
     × (depth_among (blocks_of g.item.items) ≤ deepest)
 
-pub empty_step : (c : Bounds) (m : Margin) (l : ListShape) (f : ListFilling) (k before after : ℕ) (last : Option Group)
+pub empty_step : (c : Bounds) (m : Margin) (l : ListShape) (f : ListFilling) (k before after : ℕ)
+    (last : Option Group)
     (rest : Items) → all_filled c m l f k before after last (item no_blocks rest)
     ≡ all_filled c m l f (k + 1) before (after + 1) last rest
 empty_step c m l f k before after None rest = ap (λ n. items_filled c m l f n before rest) (sym (add-one k))
@@ -152,7 +159,8 @@ next_step c m l f next k before after old g rest full here empties put =
     ∙ ap (λ h. items_filled c m l h k 0 (item content rest)) (sym put)
     ∙ first_step c m l next k 0 after g rest full here empties
 
-pub first_waits : (deepest k before after : ℕ) (g : Group) (rest : Items) → is_filled (blocks_of g.item.items) ≡ true
+pub first_waits : (deepest k before after : ℕ) (g : Group) (rest : Items)
+    → is_filled (blocks_of g.item.items) ≡ true
     → g.place ≡ k → g.before ≡ before → depth_among (blocks_of g.item.items) ≤ deepest
     → Waits deepest k before after None (item (blocks_of g.item.items) rest)
     → Waits deepest (k + 1) 0 0 (Some g) rest
@@ -170,7 +178,8 @@ next_waits deepest k g rest here empties depth =
     (refl, at, fits, depth)
 
 -- all of it, and what waits
-abbrev pub Going : Bounds → Margin → ListShape → ListFilling → ℕ → ListFilling → ℕ → ℕ → ℕ → Option Group → Items
+abbrev pub Going : Bounds → Margin → ListShape → ListFilling → ℕ → ListFilling → ℕ → ℕ → ℕ
+    → Option Group → Items
     → Type 0
 Going c m l whole deepest f k before after last rest =
     (whole ≡ all_filled c m l f k before after last rest) × Waits deepest k before after last rest
@@ -190,8 +199,10 @@ Put c m l f after next None = next ≡ f
 Put c m l f after next (Some g) = next ≡ grouped c m l f g after
 
 pub goes_filled : (c : Bounds) (m : Margin) (l : ListShape) (whole : ListFilling) (deepest : ℕ) (f next : ListFilling)
-    (k before after : ℕ) (last : Option Group) (g : Group) (rest : Items) → is_filled (blocks_of g.item.items) ≡ true
-    → g.place ≡ k → g.before ≡ before → depth_among (blocks_of g.item.items) ≤ deepest → Put c m l f after next last
+    (k before after : ℕ) (last : Option Group) (g : Group) (rest : Items)
+    → is_filled (blocks_of g.item.items) ≡ true
+    → g.place ≡ k → g.before ≡ before → depth_among (blocks_of g.item.items) ≤ deepest
+    → Put c m l f after next last
     → Going c m l whole deepest f k before after last (item (blocks_of g.item.items) rest)
     → Going c m l whole deepest next (k + 1) 0 0 (Some g) rest
 goes_filled c m l whole deepest f next k before after None g rest full here empties depth put h = (
@@ -207,7 +218,8 @@ goes_filled c m l whole deepest f next k before after (Some old) g rest full her
 
 pub same_going : (c : Bounds) (m : Margin) (l : ListShape) (whole : ListFilling) (deepest : ℕ) (f f2 : ListFilling)
     (k k2 before before2 after after2 : ℕ) (last last2 : Option Group) (rest : Items) → f2 ≡ f → k2 ≡ k
-    → before2 ≡ before → after2 ≡ after → last2 ≡ last → Going c m l whole deepest f k before after last rest
+    → before2 ≡ before → after2 ≡ after → last2 ≡ last
+    → Going c m l whole deepest f k before after last rest
     → Going c m l whole deepest f2 k2 before2 after2 last2 rest
 same_going c m l whole deepest f f2 k k2 before before2 after after2 last last2 rest fs ks befores afters lasts h =
     rw (fs, ks, befores, afters, lasts) h
@@ -229,7 +241,8 @@ pub all_empty : (items : List (Vec code.Block Global)) → empties_before (all_i
     → has_filled_item (all_items_of items) ≡ false
 all_empty items all =
     go (map (λ bs. blocks_of bs.items) items) (all ∙ sym (length-map items (λ bs. blocks_of bs.items))) where
-      go : (bss : List Blocks) → empties_before (items_of bss) ≡ length bss → has_filled_item (items_of bss) ≡ false
+      go : (bss : List Blocks) → empties_before (items_of bss) ≡ length bss
+          → has_filled_item (items_of bss) ≡ false
       go [] all = refl
       go (no_blocks ∷ bss) all = go bss (omega arith)
       go (block b bs ∷ bss) all = absurd (omega arith)

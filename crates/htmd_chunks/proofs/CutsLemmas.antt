@@ -53,7 +53,8 @@ whole-parts b = parts_of (block_part [] b) [] no_parts
 
 rows-merged : (alignments : List Alignment) (header : List Inlines) (rows : List (List Inlines))
     (rest : List (List (List Inlines)))
-    → merged (table alignments header rows) (map (block_part (joint.Table ∷ [])) (map (table alignments header) rest))
+    → merged (table alignments header rows)
+    (map (block_part (joint.Table ∷ [])) (map (table alignments header) rest))
     ≡ table alignments header (rows ++ together rest)
 rows-merged alignments header rows [] = ap (table alignments header) (sym (append-nil rows))
 rows-merged alignments header rows (run ∷ rest) =

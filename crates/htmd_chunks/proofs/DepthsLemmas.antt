@@ -13,7 +13,8 @@ pub depth-at : (bs : List Block) (i : ℕ) (b : Block) → i < length bs → b �
     → depth_of (block_of b) ≤ depth_among (blocks_of bs)
 depth-at [] i b within is = absurd (omega arith)
 depth-at (c ∷ bs) zero b within is =
-    let same : depth_of (block_of b) ≡ depth_of (block_of c) = ap (λ x. depth_of (block_of x)) is in omega (arith, same)
+    let same : depth_of (block_of b) ≡ depth_of (block_of c) = ap (λ x. depth_of (block_of x)) is in
+    omega (arith, same)
 depth-at (c ∷ bs) (suc i) b within is =
     let later : depth_of (block_of b) ≤ depth_among (blocks_of bs) = depth-at bs i b (omega arith) is in
     omega (arith, later)
@@ -30,7 +31,8 @@ depth-in (w ∷ items) (suc i) v within is =
     depth-in items i v (omega arith) is in
     omega (arith, later)
 
-pub quote-less : (content read : List Block) (b : value.Block) → b ≡ value.quote (blocks_of content) → read ≡ content
+pub quote-less : (content read : List Block) (b : value.Block) → b ≡ value.quote (blocks_of content)
+    → read ≡ content
     → depth_among (blocks_of read) < depth_of b
 quote-less content read b shape same =
     let here : depth_among (blocks_of read) ≡ depth_among (blocks_of content) =

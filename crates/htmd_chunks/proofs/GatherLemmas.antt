@@ -63,7 +63,8 @@ module _ (c : Bounds) (further : List value.Block → List Section) (count used 
 
 -- ---- parts between headings
 
-pub slice_more : {A : Type 0} (xs : List A) (from i : ℕ) (x : A) → from ≤ i → i < length xs → x ≡ get_or xs i x
+pub slice_more : {A : Type 0} (xs : List A) (from i : ℕ) (x : A) → from ≤ i → i < length xs
+    → x ≡ get_or xs i x
     → take ((i + 1) - from) (drop from xs) ≡ take (i - from) (drop from xs) ++ x ∷ []
 slice_more xs from i x after within is =
     let k = i - from in
@@ -79,7 +80,8 @@ ends-more (c ∷ []) b = refl
 ends-more (c ∷ d ∷ bs) b = ends-more (d ∷ bs) b
 
 -- what stands in the part so far ends with the block before
-pub ends-before : (bs : List Block) (from i : ℕ) (b : Block) → from < i → i ≤ length bs → b ≡ get_or bs (i - 1) b
+pub ends-before : (bs : List Block) (from i : ℕ) (b : Block) → from < i → i ≤ length bs
+    → b ≡ get_or bs (i - 1) b
     → end_in_other (map block_of (take (i - from) (drop from bs))) ≡ not (is_heading (block_of b))
 ends-before bs from zero b after within is = absurd (omega arith)
 ends-before bs from (suc i) b after within is =
@@ -104,7 +106,8 @@ behind_one bs i b within is =
     ∙ ap (λ k. block_of b ∷ map block_of (drop k bs)) (sym (add-one i))
 
 -- the block goes on the part
-pub part_more : (level : ℕ) (bs : List Block) (from i : ℕ) (b : Block) → from ≤ i → i < length bs → b ≡ get_or bs i b
+pub part_more : (level : ℕ) (bs : List Block) (from i : ℕ) (b : Block) → from ≤ i → i < length bs
+    → b ≡ get_or bs i b
     → (is_of_level level (block_of b) && end_in_other (map block_of (take (i - from) (drop from bs)))) ≡ false
     → level_parts level (map block_of (take (i - from) (drop from bs))) (map block_of (drop i bs))
     ≡ level_parts level (map block_of (take ((i + 1) - from) (drop from bs))) (map block_of (drop (i + 1) bs))
@@ -171,10 +174,12 @@ slice_costs c bs costs from n all =
     ∙ ap (λ l. map each (take n l)) (drop-map block_of from bs)
     ∙ ap (map each) (take-map block_of n (drop from bs))
 
-pub rest_costs : (c : Bounds) (bs : List Block) (costs : List ℕ) (from : ℕ) → costs ≡ block_costs c (map block_of bs)
+pub rest_costs : (c : Bounds) (bs : List Block) (costs : List ℕ) (from : ℕ)
+    → costs ≡ block_costs c (map block_of bs)
     → take (length costs - from) (drop from costs)
     ≡ block_costs c (map block_of (take (length bs - from) (drop from bs)))
 rest_costs c bs costs from all =
     let count : length costs ≡ length bs =
-    ap length all ∙ length-map (map block_of bs) (λ b. block_cost c.options no_margin b) ∙ length-map bs block_of in
+    ap length all ∙ length-map (map block_of bs) (λ b. block_cost c.options no_margin b)
+    ∙ length-map bs block_of in
     ap (λ n. take (n - from) (drop from costs)) count ∙ slice_costs c bs costs from (length bs - from) all

@@ -129,7 +129,8 @@ first_filled items i v is within here =
 
 skipped : (c : Bounds) (m : Margin) (l : ListShape) (k heads : ℕ) (bss : List Blocks)
     → least_item c m l k heads (items_of bss)
-    ≡ least_item c m l (k + empties_before (items_of bss)) (heads + empties_cost m l k (empties_before (items_of bss)))
+    ≡ least_item c m l (k + empties_before (items_of bss))
+    (heads + empties_cost m l k (empties_before (items_of bss)))
     (items_of (drop (empties_before (items_of bss)) bss))
 skipped c m l k heads [] = sym (add-zero heads)
 skipped c m l k heads (block b bs ∷ bss) =
@@ -177,7 +178,8 @@ least_found c m l items v place heads whole first within here before all =
     skipped c m l 0 0 (contents items)
     ∙ ap (λ k. least_item c m l k (0 + empties_cost m l 0 (empties_before (all_items_of items)))
     (items_of (drop (empties_before (all_items_of items)) (contents items)))) begins
-    ∙ ap (λ h. least_item c m l place h (items_of (drop (empties_before (all_items_of items)) (contents items)))) costs
+    ∙ ap (λ h. least_item c m l place h (items_of (drop (empties_before (all_items_of items)) (contents items))))
+    costs
     ∙ ap (λ k. least_item c m l place heads (items_of (drop k (contents items)))) (sym first)
     ∙ ap (least_item c m l place heads) shape
     ∙ at_first c m l place heads (blocks_of v.items) rest (first_filled items place v first within here)

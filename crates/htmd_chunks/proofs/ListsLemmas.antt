@@ -134,7 +134,8 @@ list_room-items most gap l f place bytes =
       | false ↦ list_flushed-items most l f place
     ]
 
-pub list_room-going : (most gap : ℕ) (l : ListShape) (f : ListFilling) (place bytes : ℕ) → IsGoing f.continues f.now
+pub list_room-going : (most gap : ℕ) (l : ListShape) (f : ListFilling) (place bytes : ℕ)
+    → IsGoing f.continues f.now
     → IsGoing (list_with_room most gap l f place bytes).continues (list_with_room most gap l f place bytes).now
 list_room-going most gap l f place bytes going =
     elim (is_none f.now || nat_le (f.used + list_gap_in gap f + bytes) f.free)
@@ -175,13 +176,15 @@ pub item_parts-items : (most gap : ℕ) (l : ListShape) (f : ListFilling) (place
     ≡ items_behind (items_so_far l f) (item (block b bs) no_items)
 item_parts-items most gap l f place [] heads last b bs going is = absurd (cc)
 item_parts-items most gap l f place (p ∷ []) heads last b bs going is =
-    put-items l f (record f { now = f.now ++ blocks_of p.blocks ∷ [] }) (blocks_of p.blocks ∷ []) going refl refl refl
+    put-items l f (record f { now = f.now ++ blocks_of p.blocks ∷ [] }) (blocks_of p.blocks ∷ []) going refl refl
+    refl
     ∙ ap (λ x. items_behind (items_so_far l f) (item x no_items))
     (sym (join-none p.continues (blocks_of p.blocks)) ∙ is)
 item_parts-items most gap l f place (p ∷ q ∷ parts) heads last b bs going is =
     further-items most l (record f { now = f.now ++ blocks_of p.blocks ∷ [] }) place (items_so_far l f)
     (blocks_of p.blocks) (q ∷ parts)
-    (put-items l f (record f { now = f.now ++ blocks_of p.blocks ∷ [] }) (blocks_of p.blocks ∷ []) going refl refl refl)
+    (put-items l f (record f { now = f.now ++ blocks_of p.blocks ∷ [] }) (blocks_of p.blocks ∷ []) going refl refl
+    refl)
     ∙ ap (λ x. items_behind (items_so_far l f) (item x no_items))
     (ap (λ x. parts_joined x (q ∷ parts)) (sym (join-none p.continues (blocks_of p.blocks))) ∙ is)
 

@@ -20,7 +20,8 @@ use Rattle.htmd_chunks.specs.declared.size.Margin.{Margin}
 
 -- the first part begins a block, a later one goes on so
 abbrev pub GoesOn : List BlockPart → List Joint → List Joint → Type 0
-GoesOn parts continues how = ((length parts ≡ 0) × (continues ≡ [])) ⊎ ((0 < length parts) × (continues ≡ how))
+GoesOn parts continues how = ((length parts ≡ 0) × (continues ≡ [])) ⊎
+    ((0 < length parts) × (continues ≡ how))
 
 at_first : (continues how : List Joint) → GoesOn [] continues how → continues ≡ []
 at_first continues how (inl h) = h.1
@@ -78,14 +79,16 @@ quote-more (q ∷ parts) new (d ∷ contents) c p so_far pushed block how =
 -- ---- the last part
 
 pub last-cost : (c : Bounds) (m : Margin) (parts : List BlockPart) (i : ℕ) (p : BlockPart) → i + 1 ≡ length parts
-    → p ≡ get_or parts i p → cost_of_last c m (map block_part_of parts) ≡ block_cost c.options m (block_of p.block)
+    → p ≡ get_or parts i p → cost_of_last c m (map block_part_of parts)
+    ≡ block_cost c.options m (block_of p.block)
 last-cost c m [] i p last is = absurd (omega arith)
 last-cost c m (q ∷ []) zero p last is = ap (λ x. block_cost c.options m (block_of x.block)) (sym is)
 last-cost c m (q ∷ []) (suc i) p last is = absurd (omega arith)
 last-cost c m (q ∷ r ∷ parts) zero p last is = absurd (omega arith)
 last-cost c m (q ∷ r ∷ parts) (suc i) p last is = last-cost c m (r ∷ parts) i p (omega arith) is
 
-pub last-blocks : (c : Bounds) (m : Margin) (t : Bool) (parts : List Part) (i : ℕ) (p : Part) → i + 1 ≡ length parts
+pub last-blocks : (c : Bounds) (m : Margin) (t : Bool) (parts : List Part) (i : ℕ) (p : Part)
+    → i + 1 ≡ length parts
     → p ≡ get_or parts i p → cost_of_last_blocks c m t (map part_of parts)
     ≡ cost m (blocks_size c.options t (blocks_of p.blocks.items))
 last-blocks c m t [] i p last is = absurd (omega arith)

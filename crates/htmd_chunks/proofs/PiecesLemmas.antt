@@ -40,13 +40,15 @@ some_next (y ∷ xs) zero x rest next =
     )
 some_next (y ∷ xs) (suc i) x rest next = let h = some_next xs i x rest next in (ap (λ l. y ∷ l) h.0, h.1)
 
-none_next : {A : Type 0} (xs : List A) (i : ℕ) → drop i xs ≡ [] → (take (suc i) xs ≡ take i xs) × (drop (suc i) xs ≡ [])
+none_next : {A : Type 0} (xs : List A) (i : ℕ) → drop i xs ≡ []
+    → (take (suc i) xs ≡ take i xs) × (drop (suc i) xs ≡ [])
 none_next [] zero next = (refl, refl)
 none_next [] (suc i) next = (refl, refl)
 none_next (y ∷ xs) zero next = absurd (cc)
 none_next (y ∷ xs) (suc i) next = let h = none_next xs i next in (ap (λ l. y ∷ l) h.0, h.1)
 
-pub some_taken : {A : Type 0} (all : List A) (i : ℕ) (x : A) (taken taken2 rest rest2 : List A) → taken ≡ take i all
+pub some_taken : {A : Type 0} (all : List A) (i : ℕ) (x : A) (taken taken2 rest rest2 : List A)
+    → taken ≡ take i all
     → rest ≡ drop i all → rest ≡ x ∷ rest2 → taken2 ≡ taken ++ x ∷ []
     → (taken2 ≡ take (i + 1) all) × (rest2 ≡ drop (i + 1) all)
 some_taken all i x taken taken2 rest rest2 so_far left next put =

@@ -69,7 +69,8 @@ many_spread [] many = absurd (omega arith)
 many_spread (v ∷ []) many = absurd (omega arith)
 many_spread (v ∷ w ∷ items) many = refl
 
-pub part_shape : (l : ListShape) (first : ℕ) (start : Option ℕ) (tight : Bool) (items : Vec (Vec Block Global) Global)
+pub part_shape : (l : ListShape) (first : ℕ) (start : Option ℕ) (tight : Bool)
+    (items : Vec (Vec Block Global) Global)
     → start ≡ option_map (λ n. n + first) l.start
     → tight ≡ (l.is_tight || not (is_spread (flat_items (all_items_of items.items))))
     → block_of (source.List start tight items) ≡ list_of l first (map (λ bs. blocks_of bs.items) items.items)

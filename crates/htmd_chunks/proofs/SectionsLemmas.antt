@@ -43,7 +43,8 @@ level_parts-length : (level : ℕ) (begun bs : List Block)
 level_parts-length level begun [] = refl
 level_parts-length level begun (b ∷ bs) =
     elim (is_of_level level b && end_in_other begun)
-    as (λ e. total_length (cond e (begun ∷ level_parts level (b ∷ []) bs) (level_parts level (begun ++ b ∷ []) bs))
+    as (λ e. total_length (cond e (begun ∷ level_parts level (b ∷ []) bs)
+    (level_parts level (begun ++ b ∷ []) bs))
     ≡ length begun + suc (length bs)) [
       | true ↦ omega (arith, level_parts-length level (b ∷ []) bs)
       | false ↦ omega (arith, level_parts-length level (begun ++ b ∷ []) bs, length-append begun (b ∷ []))
@@ -75,7 +76,8 @@ gathered-count c further all count used (part ∷ parts) =
           total_count-append (fitting count) rest ∙ omega (arith, fitting-count count, rest_count)
     ]
 
-pub sections-count : (c : Bounds) (levels : List ℕ) (bs : List Block) → total_count (sections c levels bs) ≡ length bs
+pub sections-count : (c : Bounds) (levels : List ℕ) (bs : List Block)
+    → total_count (sections c levels bs) ≡ length bs
 sections-count c [] bs = add-zero (length bs)
 sections-count c (level ∷ levels) bs =
     gathered-count c (λ part. sections c levels part) (sections-count c levels) 0 0 (level_parts level [] bs)
@@ -128,4 +130,5 @@ pub document-joined : (c : Bounds) (bs : List Block) → are_normal_blocks false
     → parts_joined no_blocks (document_parts c bs) ≡ blocks_of bs
 document-joined c [] normal = refl
 document-joined c (b ∷ bs) normal =
-    parts_by-joined c no_blocks (sections c all_levels (b ∷ bs)) (b ∷ bs) (sections-count c all_levels (b ∷ bs)) normal
+    parts_by-joined c no_blocks (sections c all_levels (b ∷ bs)) (b ∷ bs) (sections-count c all_levels (b ∷ bs))
+    normal

@@ -11,7 +11,8 @@ use Rattle.htmd_document.specs.declared.document.Block.TheVariants.{rolls-Quote,
 use Rattle.htmd_document.specs.declared.document.Inline.{Inline}
 use Rattle.htmd_commonmark.specs.BlockViews.{cells_of, rows_of}
 
-pub quote_shape : (content : Vec Block Global) → block_of (source.Quote content) ≡ value.quote (blocks_of content.items)
+pub quote_shape : (content : Vec Block Global)
+    → block_of (source.Quote content) ≡ value.quote (blocks_of content.items)
 quote_shape content =
     ap block_of (sym (rolls-Quote content)) ∙ fold-roll-Block value.Block block_step (source.Block-F.Quote content)
 

@@ -62,7 +62,8 @@ cost_of_last_blocks c m is_tight (p ∷ q ∷ parts) = cost_of_last_blocks c m i
 
 -- headings and a block behind what was filled so far; `taken`: what the headings take; `parts`: what it is cut into
 -- where it is too large, the first with so much room
-abbrev pub with_unit : Bounds → Margin → ℕ → Filling → List Block → ℕ → Block → (ℕ → List BlockPart) → Filling
+abbrev pub with_unit : Bounds → Margin → ℕ → Filling → List Block → ℕ → Block
+    → (ℕ → List BlockPart) → Filling
 with_unit c m gap f heads taken b parts =
     if is_too_large c m taken b
     then (let g = with_heads c.most gap f heads taken (taken + least c m b) in
@@ -71,7 +72,8 @@ with_unit c m gap f heads taken b parts =
     else with_whole c.most gap f (heads ++ b ∷ []) (taken + block_cost c.options m b)
 
 -- the item at this place, with so many empty ones before it and behind it; `parts`: what it is cut into
-abbrev pub with_group : Bounds → Margin → ListShape → ListFilling → ℕ → ℕ → Blocks → ℕ → (ℕ → List Part) → ListFilling
+abbrev pub with_group : Bounds → Margin → ListShape → ListFilling → ℕ → ℕ → Blocks → ℕ
+    → (ℕ → List Part) → ListFilling
 with_group c m l f k before content after parts =
     let heads = empties_cost m l (k - before) before in
     let all = group_cost c m l k heads content after in

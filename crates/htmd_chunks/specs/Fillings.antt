@@ -147,7 +147,8 @@ with_further_items most l f place (p ∷ parts) =
 
 -- The parts of the item at this place, each an item of its own; `heads` and `last`: what stands before the first one
 -- and what the last one takes.
-abbrev pub with_item_parts : ℕ → ℕ → ListShape → ListFilling → ℕ → List Part → ℕ → ℕ → ListFilling
+abbrev pub with_item_parts : ℕ → ℕ → ListShape → ListFilling → ℕ → List Part → ℕ → ℕ
+    → ListFilling
 with_item_parts most gap l f place [] heads last = record f { used = f.used + gap + heads + last }
 with_item_parts most gap l f place (p ∷ []) heads last =
     record f { now = f.now ++ blocks_of p.blocks ∷ []; used = f.used + gap + heads + last }

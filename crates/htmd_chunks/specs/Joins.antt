@@ -31,7 +31,8 @@ abbrev mutual
   join (name ∷ within) no_blocks b = b
   join (name ∷ within) (block last no_blocks) no_blocks = block last no_blocks
   join (name ∷ within) (block last no_blocks) (block first rest) = block (join_block name within last first) rest
-  join (name ∷ within) (block first (block next others)) b = block first (join (name ∷ within) (block next others) b)
+  join (name ∷ within) (block first (block next others)) b =
+      block first (join (name ∷ within) (block next others) b)
 
   pub join_block : Joint → List Joint → Block → Block → Block
   join_block joint.Quote within (quote a) (quote b) = quote (join within a b)

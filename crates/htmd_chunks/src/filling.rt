@@ -84,7 +84,8 @@ impl Filling {
 
     /// Ends the part.
     fn flush(&mut self) -> Result<(), AllocError>
-        ensures filling { OnOk result (filling_of self.new ≡ spec.flushed self.old.limits.most (filling_of self.old)) }
+        ensures filling { OnOk result
+            (filling_of self.new ≡ spec.flushed self.old.limits.most (filling_of self.old)) }
         ensures limits { self.new.limits ≡ self.old.limits }
     {
         self.done.push(Part {

@@ -1,5 +1,5 @@
 //! A document cut into pieces of at most so many bytes of Markdown, each with the headings that it is under. Pieces are
-//! documents: joined in order they are the document that was cut.
+//! documents: joined in order, those of a normal document are that document.
 #![tactic(auto)]
 
 mod bounds;

@@ -74,7 +74,8 @@ cut::cut_list-returns t c =
     let items = c.args.items in
     let some : empties_before (all_items_of items.items) ≡ length items.items → ⊥ =
     λ all. c.if-empties_before-len.false (c.empties_before.ensures.value
-    ∙ ap (λ l. empties_before (all_items_of l)) c.deref.ensures.value ∙ all ∙ sym items.ok.0 ∙ sym c.len-2.ensures) in
+    ∙ ap (λ l. empties_before (all_items_of l)) c.deref.ensures.value ∙ all ∙ sym items.ok.0
+    ∙ sym c.len-2.ensures) in
     let parts = λ (l : ListShape). list_parts_in l (spec.items_filled c.args.bounds.now c.args.margin l
     (list_filling c.args.first) 0 (empties_before (all_items_of items.items)) (all_items_of items.items)) in
     let count : c.len.result ≡ item_count (all_items_of items.items) =
@@ -181,7 +182,8 @@ cut_list::cut_items-loop-item-preserved t c =
           let limits : c.if-is_empty.filling.limits ≡ l.filling.limits =
           elim w.match-replace.branch [
             | cut_list::cut_items-in-Some-replace+in_ok-push_group x ↦
-                ap (λ (h : ListFilling). h.limits) (w.filling-is ∙ x.filling-is) ∙ x.in_ok-push_group.ensures.limits
+                ap (λ (h : ListFilling). h.limits) (w.filling-is ∙ x.filling-is)
+                ∙ x.in_ok-push_group.ensures.limits
             | cut_list::cut_items-in_default x ↦ ap (λ (h : ListFilling). h.limits) (w.filling-is ∙ x.filling-is)
           ] in
           let lists : c.if-is_empty.filling.list ≡ l.filling.list =
@@ -217,7 +219,8 @@ cut_list::cut_items-returns t c =
     let f = list_filling_of l.filling in
     let left = into_iter_items l.item-iterator in
     let none : left ≡ [] = nil_from_length left (sym l.item-iterator.rest.ok.0 ∙ c.in-None.ensures.steps.0) in
-    let going = subst (λ is. Going bounds margin list whole deepest f l.place l.before l.after l.last (all_items_of is))
+    let going = subst (λ is. Going bounds margin list whole deepest f l.place l.before l.after l.last
+    (all_items_of is))
     none l.invariant.going in
     let next = list_filling_of c.match-last-4.filling in
     let put : Put bounds margin list f l.after next l.last =
@@ -239,7 +242,8 @@ cut_list::cut_items-returns t c =
     if_ok_as (λ parts. map block_part_of parts.items) c.into_parts.result _ (list_parts_in list whole)
     c.into_parts.ensures
     (ap (λ x. list_parts_in x next) lists
-    ∙ ap (list_parts_in list) (sym (goes_end bounds margin list whole deepest f next l.place l.before l.after l.last put
+    ∙ ap (list_parts_in list) (sym
+    (goes_end bounds margin list whole deepest f next l.place l.before l.after l.last put
     going)))
 
 pub cut_list::push_group-returns-clause-filling : goal.cut_list::push_group-returns-clause-filling
@@ -271,7 +275,8 @@ cut_list::push_group-returns-clause-filling t c =
     ∙ ap (λ bs. group_cost bounds margin list group.place heads (blocks_of bs) c.args.after) c.deref.ensures.value)
     over (c.in_ok-within.ensures ∙ ap (λ n. in_item n margin) c.in_ok-item_width.ensures)
     (c.in_ok-least.ensures ∙ ap (λ bs. least_among bounds within tight 0 (blocks_of bs)) c.deref-2.ensures.value)
-    (ap (λ n. n.most) limits ∙ c.requires.most) (ap (λ n. n.gap) limits ∙ c.requires.gap) (lists ∙ c.requires.list)
+    (ap (λ n. n.most) limits ∙ c.requires.most) (ap (λ n. n.gap) limits ∙ c.requires.gap)
+    (lists ∙ c.requires.list)
     (c.in_ok-make_room.ensures.filling
     ∙ ap (list_with_room f.limits.most f.limits.gap f.list far from) c.in_ok-sum.ensures
     ∙ ap (λ n. list_with_room n.most n.gap f.list far from (heads + least)) (sym limits)

@@ -139,4 +139,5 @@ least_item-returns t c =
     ∙ sym (least_read bounds margin list c.args.items.now v c.deref.result.now place heads whole
     c.empties_before-empties.result c.empties_before-place.ensures.value within c.index-items-place.is
     c.deref.ensures.value c.in_ok-heads.ensures c.empties_before-empties.ensures.value c.in_ok-whole.ensures
-    ∙ ap (λ b. if b then whole else (heads + spec.least_among bounds inside list.is_tight 0 (blocks_of v.items))) over))
+    ∙ ap (λ b. if b then whole else (heads + spec.least_among bounds inside list.is_tight 0 (blocks_of v.items)))
+    over))

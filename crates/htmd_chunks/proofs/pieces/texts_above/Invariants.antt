@@ -7,4 +7,5 @@ use Rattle.htmd_chunks.proofs.pieces.texts_above.Given as goal
 abbrev pub invariant-loop-heading : goal.invariant-loop-heading
 invariant-loop-heading l =
     map string_bytes l.texts.items
-    ≡ map (λ (h : spec.Heading). h.text) (filter (spec.is_under l.level) (map heading_of (take l.heading-index l.path)))
+    ≡ map (λ (h : spec.Heading). h.text)
+    (filter (spec.is_under l.level) (map heading_of (take l.heading-index l.path)))

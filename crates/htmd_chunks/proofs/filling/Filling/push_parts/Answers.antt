@@ -13,7 +13,8 @@ loop-part-preserved c =
     let ps = map block_part_of c.loop-part.yielded in
     record {
       filling = c.in_ok-begin.ensures.filling
-          ∙ ap (λ n. spec.with_further n (filling_of c.loop-part.self) (map block_part_of (c.in-Some-part.part ∷ [])))
+          ∙ ap (λ n. spec.with_further n (filling_of c.loop-part.self)
+          (map block_part_of (c.in-Some-part.part ∷ [])))
           (ap (λ l. l.most) c.loop-part.invariant.limits)
           ∙ ap (λ g. spec.with_further most g (map block_part_of (c.in-Some-part.part ∷ [])))
           c.loop-part.invariant.filling
