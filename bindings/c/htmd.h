@@ -67,6 +67,9 @@ enum {
     HTMD_MDAST = 1     /* what a reader sees, as JSON in the form of mdast; mode and styles have no effect then */
 };
 
+/* chunk_bytes: pieces are lines of JSON, each with a line feed behind it; mode, output and link_style have no effect
+ * then. crates/htmd_chunks/README.md of the repository says where pages are cut, and what the lines have. */
+
 /* anchors: which places of links the document has that a reader sees */
 enum {
     HTMD_ANCHORS_LINKED = 0, /* those that links of the page lead to */
@@ -117,7 +120,8 @@ typedef struct htmd_options {
     uint8_t images;
     uint8_t links_as_text;     /* 1: links are written as their text; 0: with their addresses */
     uint8_t title;             /* 1: the page's title comes first, as a heading, if there is no h1; 0: it doesn't */
-    uint8_t reserved[8];       /* 0 */
+    uint32_t chunk_bytes;      /* not 0: pieces of at most so many bytes of Markdown are written; 0: all in one */
+    uint8_t reserved[4];       /* 0 */
 } htmd_options;
 
 /* A text, and the number of its bytes. With none it says nothing; the pointer isn't null even then. */
@@ -180,8 +184,8 @@ void htmd_default_options(htmd_options *options);
 void htmd_default_page_options(htmd_page_options *options);
 
 /*
- * Writes the Markdown of a text, or its JSON, to the front of out, and returns the status. It checks the options first,
- * then whether the bytes are UTF-8.
+ * Writes the Markdown of a text, its JSON or its pieces to the front of out, and returns the status. It checks the
+ * options first, then whether the bytes are UTF-8.
  *
  * needed: with HTMD_DONE and HTMD_TOO_SMALL the length of the whole output, else 0.
  * place: with HTMD_REFUSED the place of the first U+0000 of what is read, if it has one, and else the first place where
@@ -190,7 +194,7 @@ void htmd_default_page_options(htmd_page_options *options);
  *
  * Nothing is written to out unless the status is HTMD_DONE, and then only the first needed bytes. Each call converts
  * the text again, so a buffer that is large enough the first time saves a conversion. Most Markdown is shorter than its
- * HTML, but that of a text made for it can be thousands of times as long, and takes memory accordingly (README.md).
+ * HTML, but that of a text made for it can be thousands of times as long, and takes memory accordingly.
  */
 uint32_t htmd_convert(const uint8_t *html, size_t html_len, const htmd_options *options, uint8_t *out, size_t out_len,
                       size_t *needed, size_t *place, uint8_t *kind);

@@ -88,7 +88,8 @@ static void test_struct(void) {
     CHECK(offsetof(htmd_options, images) == 21);
     CHECK(offsetof(htmd_options, links_as_text) == 22);
     CHECK(offsetof(htmd_options, title) == 23);
-    CHECK(offsetof(htmd_options, reserved) == 24);
+    CHECK(offsetof(htmd_options, chunk_bytes) == 24);
+    CHECK(offsetof(htmd_options, reserved) == 28);
 }
 
 /* A call for a page, into a buffer that is large enough. */
@@ -311,16 +312,36 @@ static void test_changes(void) {
     CHECK(says(&dropped, "# T\n\nc"));
 }
 
+static void test_pieces(void) {
+    const char *html = "<title>t</title><h1>T</h1><p>a<h2>A</h2><p>b<h2>B</h2><p>c";
+    htmd_options options = defaults();
+    options.reader = HTMD_HTML5;
+    options.output = HTMD_MDAST;
+    options.chunk_bytes = 18;
+    struct answer pieces = call(html, strlen(html), &options, ROOM);
+    CHECK(says(&pieces, "{\"n\":0,\"path\":[],\"start\":0,\"continues\":[],\"markdown\":\"# T\\n\\na\\n\\n## A\\n\\nb\"}\n"
+                        "{\"n\":1,\"path\":[\"T\"],\"start\":4,\"continues\":[],\"markdown\":\"## B\\n\\nc\"}\n"));
+    options.chunk_bytes = UINT32_MAX;
+    options.front_matter = 1;
+    pieces = call(html, strlen(html), &options, ROOM);
+    CHECK(says(&pieces, "{\"front\":{\"title\":\"t\"},\"n\":0,\"path\":[],\"start\":0,\"continues\":[],"
+                        "\"markdown\":\"# T\\n\\na\\n\\n## A\\n\\nb\\n\\n## B\\n\\nc\"}\n"));
+    pieces = call("", 0, &options, 0);
+    CHECK(says(&pieces, ""));
+}
+
 /* Each number of each byte of the struct: all but the good ones answer the status for them, and write nothing. */
 static void test_numbers(void) {
-    const int counts[32] = {0, 3, 3, 2, 2, 3, 2, 3, 3, 2, 2, 2, 256, 256, 2, 2, 2, 3, 2, 2, 2, 4, 2, 2};
+    const int counts[32] = {0, 3, 3, 2, 2, 3, 2, 3, 3, 2, 2, 2, 256, 256, 2, 2, 2, 3, 2, 2, 2, 4, 2, 2, 1, 1, 1, 1};
     for (int at = 0; at < 32; at++) {
         for (int number = 0; number < 256; number++) {
             htmd_options options = defaults();
             memcpy((uint8_t *)&options + at, &(uint8_t){(uint8_t)number}, 1);
-            int is_good = at == 0 ? number == HTMD_OPTIONS_VERSION : at > 23 ? number == 0 : number < counts[at];
+            int is_good = at == 0 ? number == HTMD_OPTIONS_VERSION : at > 27 ? number == 0 : number < counts[at];
             if (at == offsetof(htmd_options, output) && number == HTMD_MDAST)
                 continue; /* JSON, which test_modes asks for */
+            if (at > 23 && at < 28 && number != 0)
+                continue; /* pieces, which test_pieces asks for */
             struct answer answer = call("<p>a</p>", 8, &options, 8);
             if (is_good) {
                 CHECK(says(&answer, "a"));
@@ -395,14 +416,15 @@ static char *nested(const struct nesting *nesting) {
     return html;
 }
 
-/* Each nesting by each reader and in each mode: that the call ends, whatever the Markdown is. */
+/* Each nesting by each reader, in each mode and in pieces: that the call ends, whatever the Markdown is. */
 static void *convert_nestings(void *unused) {
     for (size_t i = 0; i < sizeof NESTINGS / sizeof NESTINGS[0]; i++) {
         char *html = nested(&NESTINGS[i]);
         htmd_options options = defaults();
-        for (int way = 0; way < 6; way++) {
+        for (int way = 0; way < 8; way++) {
             options.reader = way % 2 == 0 ? HTMD_STRICT : HTMD_HTML5;
-            options.mode = (uint8_t)(way / 2);
+            options.mode = (uint8_t)(way / 2 % 3);
+            options.chunk_bytes = way < 6 ? 0 : 100;
             uint8_t out[1];
             size_t needed, place;
             uint8_t kind;
@@ -441,10 +463,11 @@ void *__wrap_malloc(size_t size) { return is_refused() ? NULL : __real_malloc(si
 void *__wrap_realloc(void *block, size_t size) { return is_refused() ? NULL : __real_realloc(block, size); }
 
 /* Each request of a call refused in turn: the call says so and writes nothing, or answers as ever. */
-static void refuse_each(const char *html, uint8_t reader) {
+static void refuse_each(const char *html, uint8_t reader, uint32_t chunk_bytes) {
     const uint8_t *text = (const uint8_t *)html;
     htmd_options options = defaults();
     options.reader = reader;
+    options.chunk_bytes = chunk_bytes;
     struct answer whole = call(html, strlen(html), &options, ROOM);
     CHECK(whole.status == HTMD_DONE);
     long refusals = 0;
@@ -469,8 +492,10 @@ static void refuse_each(const char *html, uint8_t reader) {
 static void test_memory(void) {
     refuse_each("<h1>A <em>page</em></h1><ol start=9><li><a href=\"/x\" title=\"t\">one</a></li><li>b_c</li></ol>"
                 "<table><tr><th>A</th></tr><tr><td>1|2</td></tr></table><pre><code>let</code></pre>",
-                HTMD_STRICT);
-    refuse_each("<title>t</title><p>a<b>b<p>c</b>&copy d<table><tr><td>1<td>2<tr>x</table><ul><li>e<li>f", HTMD_HTML5);
+                HTMD_STRICT, 0);
+    const char *page = "<title>t</title><p>a<b>b<p>c</b>&copy d<table><tr><td>1<td>2<tr>x</table><ul><li>e<li>f";
+    refuse_each(page, HTMD_HTML5, 0);
+    refuse_each(page, HTMD_HTML5, 8);
 }
 #else
 static void test_memory(void) {}
@@ -487,6 +512,7 @@ int main(void) {
     test_anchors();
     test_rich();
     test_changes();
+    test_pieces();
     test_numbers();
     test_utf8();
     test_places();

@@ -90,6 +90,7 @@ def convert(
     encoding: Optional[str] = None,
     anchors: Anchors = "linked",
     rich: bool = False,
+    chunks: Optional[int] = None,
 ) -> str:
     """Converts a page, a text or its bytes, to Markdown.
 
@@ -126,6 +127,9 @@ def convert(
         links of other pages may lead to, "none" none
     rich: whether "guarded" also writes, as HTML, what Markdown has no form for: details, captions, terms and what they
         mean, marks, keys, tables with blocks in their cells
+    chunks: if it is given, what "guarded" writes comes in pieces of at most so many bytes of Markdown, where it can be
+        cut, whatever the mode is: a line of JSON for each, with a line feed behind it. `io.StringIO(text)` gives the
+        lines; `str.splitlines` would also split at U+2028 and the like, which JSON leaves as they are
 
     "guarded" ignores link_reference_style, code_block_style and preformatted_code: references are full, code blocks
     fenced, and the white space of code spans is squeezed.
@@ -137,6 +141,7 @@ def convert(
     options = _options(
         ul_bullet_spacing,
         ol_number_spacing,
+        chunks,
         scripting=scripting,
         preformatted_code=preformatted_code,
         front_matter=front_matter,
@@ -191,6 +196,7 @@ def document(
     options = _options(
         3,
         2,
+        None,
         scripting=scripting,
         rich=rich,
         article=article,
@@ -239,13 +245,16 @@ def _written(html: Union[str, bytes], options: _library.Options, texts: Dict[str
 
 
 @functools.lru_cache(maxsize=64, typed=True)
-def _options(ul_bullet_spacing: int, ol_number_spacing: int, **values: Union[bool, str]) -> _library.Options:
+def _options(
+    ul_bullet_spacing: int, ol_number_spacing: int, chunks: Optional[int], **values: Union[bool, str]
+) -> _library.Options:
     """The struct that says these options; it is never written again, so that threads may share it."""
     numbers = {name: _number(name, value) if name in VALUES else _flag(name, value) for name, value in values.items()}
     return _library.Options(
         version=_library.OPTIONS_VERSION,
-        ul_bullet_spacing=_spacing("ul_bullet_spacing", ul_bullet_spacing),
-        ol_number_spacing=_spacing("ol_number_spacing", ol_number_spacing),
+        ul_bullet_spacing=_whole("ul_bullet_spacing", ul_bullet_spacing, 0, 255),
+        ol_number_spacing=_whole("ol_number_spacing", ol_number_spacing, 0, 255),
+        chunk_bytes=0 if chunks is None else _whole("chunks", chunks, 1, 2**32 - 1),
         **numbers,
     )
 
@@ -263,11 +272,11 @@ def _flag(name: str, value: Union[bool, str]) -> bool:
     return value
 
 
-def _spacing(name: str, value: int) -> int:
+def _whole(name: str, value: int, least: int, most: int) -> int:
     if not isinstance(value, int) or isinstance(value, bool):
         raise TypeError(f"{name} is {value!r}, and not an int")
-    if not 0 <= value <= 255:
-        raise ValueError(f"{name} is {value}; it may be 0 to 255")
+    if not least <= value <= most:
+        raise ValueError(f"{name} is {value}; it may be {least} to {most}")
     return value
 
 

@@ -67,7 +67,8 @@ class Options(ctypes.Structure):
         ("images", ctypes.c_uint8),
         ("links_as_text", ctypes.c_uint8),
         ("title", ctypes.c_uint8),
-        ("reserved", ctypes.c_uint8 * 8),
+        ("chunk_bytes", ctypes.c_uint32),
+        ("reserved", ctypes.c_uint8 * 4),
     ]
 
 

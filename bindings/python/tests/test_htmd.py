@@ -1,6 +1,8 @@
 """Tests of the package: what no clause can say of real calls. They run by `python3 -m unittest` and by pytest."""
 
 import concurrent.futures
+import io
+import json
 import pickle
 import re
 import unittest
@@ -138,6 +140,38 @@ class Documents(unittest.TestCase):
     def test_longer_than_its_page(self):
         page = "<p>a<br>b</p>" * 1000
         self.assertEqual(len(htmd.document(page)["children"]), 1000)
+
+
+class Pieces(unittest.TestCase):
+    PAGE = "<title>t</title><h1>T</h1><p>a<h2>A</h2><p>b<h2>B</h2><p>c"
+
+    def pieces(self, page, **options):
+        return [json.loads(line) for line in io.StringIO(htmd.convert(page, **options))]
+
+    def test_page(self):
+        first, second = self.pieces(self.PAGE, chunks=18)
+        self.assertEqual(
+            first, {"n": 0, "path": [], "start": 0, "continues": [], "markdown": "# T\n\na\n\n## A\n\nb"}
+        )
+        self.assertEqual(second, {"n": 1, "path": ["T"], "start": 4, "continues": [], "markdown": "## B\n\nc"})
+        self.assertEqual(self.pieces(self.PAGE, chunks=18, mode="pure"), [first, second])
+        self.assertEqual(self.pieces("", chunks=18), [])
+
+    def test_front_matter(self):
+        (piece,) = self.pieces(self.PAGE, chunks=2**32 - 1, front_matter=True)
+        self.assertEqual(piece["front"], {"title": "t"})
+
+    def test_lines(self):
+        (piece,) = self.pieces("<p>a\u2028b\u0085c\u2029d", chunks=2000)
+        self.assertEqual(piece["markdown"], "a\u2028b\u0085c\u2029d")
+
+    def test_sizes(self):
+        for value in (0, -1, 2**32):
+            with self.subTest(value=value), self.assertRaises(ValueError):
+                htmd.convert(self.PAGE, chunks=value)
+        for value in ("1", 1.0, True):
+            with self.subTest(value=value), self.assertRaises(TypeError):
+                htmd.convert(self.PAGE, chunks=value)
 
 
 class Pages(unittest.TestCase):
@@ -306,7 +340,7 @@ class Header(unittest.TestCase):
 
     def test_struct(self):
         struct = self.text[self.text.index("typedef struct") :]
-        fields = re.findall(r"uint8_t (\w+)(?:\[\d+\])?;", struct[: struct.index("}")])
+        fields = re.findall(r"uint(?:8|32)_t (\w+)(?:\[\d+\])?;", struct[: struct.index("}")])
         self.assertEqual(fields, [name for name, _ in _library.Options._fields_])
 
 

@@ -1,11 +1,12 @@
 -- What is done to a page, and lines of front matter.
 use Rattle.std.proofs.Common.{◌≡◌, ◌∙◌, ap, sym, refl, inl, inr, ℕ, not, eqb, List, [], ◌∷◌, ◌++◌}
-use Rattle.std.proofs.Common.{length, take, Option, Some, None, append_assoc, append-nil, arith}
+use Rattle.std.proofs.Common.{cond, is_some, length, take, Option, Some, None, append_assoc, append-nil, arith}
 use Rattle.std.proofs.Common.{codes, flat_map, length-append, Bor}
 use Rattle.std.specs.Option.{option_copied, option_or, unwrap_or}
 use Rattle.std.proofs.lemmas.List.{take-append-le, take_all}
 use Rattle.std.proofs.lemmas.Bool.Decides.{nat_tests}
 use Rattle.htmd_lexical.specs.Characters.{line_feed}
+use Rattle.htmd_addresses.specs.Leads.{RunPage}
 use Rattle.htmd_nodes.specs.Items.{Item}
 use Rattle.htmd_document.specs.Documents.{Blocks}
 use Rattle.htmd_document.specs.Mdast.{mdast_with_front_matter}
@@ -15,7 +16,7 @@ use Rattle.json.specs.Print.{quoted}
 use Rattle.htmd_front_matter.specs.Lines.{front_matter, line_if, keys, tidied}
 use Rattle.htmd_front_matter.specs.Values.{name_of, value_in}
 use Rattle.url.specs.Parts.{Parts}
-use Rattle.htmd.specs.PageChanges.{AreLines, are_given}
+use Rattle.htmd.specs.PageChanges.{AreLines, are_given, with_addresses}
 use Rattle.htmd.specs.PageOutputs.{mdast_after}
 
 pub are_some : (steps : List Step) → not (eqb (length steps) 0) ≡ are_given steps
@@ -33,6 +34,14 @@ pub first_copied : (a b : Option (Bor Parts)) → option_copied (option_or a b)
     ≡ option_or (option_copied a) (option_copied b)
 first_copied None b = refl
 first_copied (Some base) b = refl
+
+-- what a page names counts for a page of a run alone
+pub named_in_run : (run_page : Option RunPage) (base : Option Parts) (named : Option (List ℕ)) (part : List Item)
+    → with_addresses run_page base (cond (is_some run_page) named None) part
+    ≡ with_addresses run_page base named part
+named_in_run None None named part = refl
+named_in_run None (Some base) named part = refl
+named_in_run (Some page) base named part = refl
 
 -- ---- lines
 

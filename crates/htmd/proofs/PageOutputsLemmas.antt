@@ -1,6 +1,7 @@
 -- What the bytes of an input become, and why they become nothing.
 use Rattle.std.proofs.Common.{◌≡◌, ◌∙◌, ap, sym, subst, ℕ, Bool, true, false, List, [], ◌∷◌, ◌++◌, length, map, eqb}
-use Rattle.std.proofs.Common.{MatchBool, arith, codes, refl}
+use Rattle.std.proofs.Common.{MatchBool, Option, Some, None, arith, codes, refl}
+use Rattle.std.specs.Option.{option_or}
 use Rattle.std.proofs.lemmas.Bool.Decides.{nat_tests}
 use Rattle.std.specs.Borrow.{Bor}
 use Rattle.std.specs.Str.{IsUtf8}
@@ -13,7 +14,6 @@ use Rattle.htmd.specs.declared.page_error.PageError.{PageError}
 use Rattle.htmd.specs.declared.page_error.PageError.TheVariants.{Memory}
 use Rattle.htmd.specs.PageOutputs.{skipping, IsFaultOf, IsOutputBy, IsOutputOf, IsReadable, IsUnselected}
 use Rattle.htmd.specs.PageOutputs.{SelectsNothing, reads_any, text_in, empty_paragraph, paragraph}
-use Rattle.htmd.specs.PageOutputs.{tree_markdown, tree_output}
 
 -- one equation after the other
 pub then_same : (x y z : Config) → x ≡ y → y ≡ z → x ≡ z
@@ -108,11 +108,10 @@ of_unselected settings input text found (r, t) f n = (r, subst (SelectsNothing s
 
 -- ---- a page of a run
 
--- what a run adds changes only addresses
-pub same_output : (page : PageInRun) (settings : Settings) (head : List ℕ) (part : List Item)
-    → tree_output settings head part ≡ tree_output (settings_for page settings) head part
-unfolding tree_output tree_markdown
-same_output page settings head part = refl
+-- what it is called, since no settings say that
+pub named : (name : Option (List ℕ)) → option_or name None ≡ name
+named None = refl
+named (Some s) = refl
 
 -- a page by itself has nothing added
 pub alone_adds_nothing : (page : PageInRun) (settings : Settings) → page ≡ alone

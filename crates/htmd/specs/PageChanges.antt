@@ -1,5 +1,6 @@
 -- What is done to the tree of a page before it is converted, and what the head of the page says of it.
-use Rattle.std.specs.Prelude.{◌≡◌, ◌⊎◌, ◌++◌, ℕ, Bool, true, false, ◌&&◌, ◌||◌, not, if◌then◌else◌, List, [], ◌∷◌, Option}
+use Rattle.std.specs.Prelude.{◌≡◌, ◌⊎◌, ◌++◌, ℕ, Bool, true, false, ◌&&◌, ◌||◌, not, if◌then◌else◌, List, [], ◌∷◌}
+use Rattle.std.specs.Prelude.{Option}
 use Rattle.std.specs.Prelude.{Some, None, option_map}
 use Rattle.htmd_lexical.specs.Characters.{line_feed}
 use Rattle.htmd_nodes.specs.Items.{Item}
@@ -10,6 +11,7 @@ use Rattle.htmd_addresses.specs.Addresses.{absolute_page}
 use Rattle.htmd_addresses.specs.Bases.{base_address, page_base}
 use Rattle.htmd_addresses.specs.Leads.{RunPage, led_page}
 use Rattle.htmd_front_matter.specs.Lines.{front_matter}
+use Rattle.htmd_front_matter.specs.Objects.{front_object}
 use Rattle.htmd_front_matter.specs.Titles.{title_of}
 use Rattle.htmd_trimming.specs.declared.asked.Images.{Images}
 use Rattle.htmd_trimming.specs.declared.asked.Images.TheVariants as images
@@ -23,9 +25,15 @@ abbrev pub are_given : List Step → Bool
 are_given [] = false
 are_given (step ∷ steps) = true
 
+-- what the head of a page says of it: as JSON if the page is written in pieces, else as lines of YAML
+abbrev pub front_of : Option ℕ → List Item → List ℕ
+front_of None page = front_matter page
+front_of (Some most) page = front_object page
+
 -- what the head of a page says of it, if that is written; a text has no head
 abbrev pub head_of : Settings → List Item → List ℕ
-head_of settings page = if settings.front_matter && not settings.text then front_matter page else []
+head_of settings page =
+    if settings.front_matter && not settings.text then front_of settings.chunks page else []
 
 -- lines that all end with a line feed, or none
 abbrev pub AreLines : List ℕ → Type 0

@@ -1,7 +1,6 @@
 -- What the bytes of an input become by settings, and why they become nothing.
-use Rattle.std.specs.Prelude.{◌≡◌, ◌&&◌, ◌||◌, ℕ, Bool, true, false, not, if◌then◌else◌, List, [], ◌∷◌, ◌++◌, codes}
-use Rattle.std.specs.Prelude.{MatchBool, ⊤}
-use Rattle.std.specs.Prelude.{length, take, Some, None, IsUtf8}
+use Rattle.std.specs.Prelude.{◌≡◌, ◌&&◌, ℕ, Bool, false, not, if◌then◌else◌, MatchBool, ⊤, List, [], ◌∷◌}
+use Rattle.std.specs.Prelude.{◌++◌, length, take, codes, Option, Some, None, IsUtf8}
 use Rattle.htmd_nodes.specs.Items.{IsTree, HoldTexts}
 use Rattle.htmd_nodes.specs.NumberedTrees.{value_at}
 use Rattle.htmd_article.specs.Articles.{article_of, article_page}
@@ -19,6 +18,8 @@ use Rattle.htmd.specs.PageDocuments.{document_of_items, document_options}
 use Rattle.htmd_document.specs.Documents.{Blocks}
 use Rattle.htmd_document.specs.Mdast.{mdast_of, mdast_with_front_matter}
 use Rattle.htmd_commonmark.specs.DocumentMarkdown.{markdown_of}
+use Rattle.htmd_chunks.specs.Pieces.{chunks_of}
+use Rattle.htmd_chunks.specs.ChunkLines.{json_lines}
 use Rattle.htmd.specs.Converters.{anchors_of, handlers_of, rich_of, scripting_of, skipped_of}
 use Rattle.htmd.specs.declared.converter.HtmlToMarkdown.{HtmlToMarkdown}
 use Rattle.htmd_encodings.specs.Decoding.{page_text}
@@ -113,13 +114,33 @@ tree_markdown settings tree =
     if settings.guarded then markdown_of (document_options settings.options) (document_in settings tree)
     else markdown (config_of settings) tree 0
 
--- what is written of a tree, after what the head of its page says
-unfoldable pub tree_output : Settings → List ℕ → List Item → List ℕ
-tree_output settings head tree =
+-- what is written of a tree in one text, after what the head of its page says
+abbrev pub whole_output : Settings → List ℕ → List Item → List ℕ
+whole_output settings head tree =
     if settings.mdast then mdast_after head (document_in settings tree)
     else after_head head (tree_markdown settings tree)
 
--- this is what an input becomes: what is written of the part of its tree that is converted, after what its head says
+-- what the head of a page says, if that is written
+abbrev pub front_in : List ℕ → Option (List ℕ)
+front_in [] = None
+front_in (b ∷ s) = Some (b ∷ s)
+
+-- what a reader sees of a tree in pieces of at most so many bytes, as lines of JSON, with the page's name and its head
+unfoldable pub pieces_output : Settings → ℕ → List ℕ → List Item → List ℕ
+pieces_output settings most head tree =
+    json_lines (document_options settings.options) settings.name (front_in head)
+    (chunks_of (document_options settings.options) most (document_in settings tree))
+
+-- in pieces, if their greatest size is given, whatever else is
+abbrev pub output_in : Option ℕ → Settings → List ℕ → List Item → List ℕ
+output_in None settings head tree = whole_output settings head tree
+output_in (Some most) settings head tree = pieces_output settings most head tree
+
+-- what is written of a tree, with what the head of its page says
+unfoldable pub tree_output : Settings → List ℕ → List Item → List ℕ
+tree_output settings head tree = output_in settings.chunks settings head tree
+
+-- this is what an input becomes: what is written of the part of its tree that is converted, with what its head says
 abbrev pub IsOutputBy : Settings → List ℕ → List ℕ → Type 0
 IsOutputBy settings input output =
     (page : List Item) × IsTreeBy settings input page

@@ -1,5 +1,5 @@
 -- How a page is read, and how it is converted; and what a run over several pages adds to that.
-use Rattle.std.specs.Prelude.{Bool, true, false, List, [], ℕ, map, Option, None, option_map}
+use Rattle.std.specs.Prelude.{Bool, true, false, List, [], ℕ, map, Option, None, option_copied, option_map}
 use Rattle.std.specs.Option.{option_or}
 use Rattle.htmd_document_of_tree.specs.declared.anchors.Anchors.{Anchors}
 use Rattle.htmd_document_of_tree.specs.declared.anchors.Anchors.TheVariants as which
@@ -29,6 +29,8 @@ pub record Settings : Type 0 where
   pub guarded : Bool
   -- that is written as JSON, in the form of mdast
   pub mdast : Bool
+  -- that is written in pieces of at most so many bytes, as lines of JSON
+  pub chunks : Option ℕ
   -- which places of links the document has that a reader sees
   pub anchors : Anchors
   -- that document keeps elements that Markdown has no form for
@@ -53,9 +55,11 @@ pub record Settings : Type 0 where
   pub title : Bool
   -- the URL of the page, if addresses are made absolute
   pub base : Option Parts
+  -- what the page is called in a run; what is said of all pages doesn't say it
+  pub name : Option (List ℕ)
   -- the page as one of a run, if addresses lead to the outputs of its pages; what is said of all pages doesn't say it
   pub run_page : Option RunPage
-  -- what the head of the page says of it is written first
+  -- what the head of the page says of it is written first, or in each piece
   pub front_matter : Bool
 
 -- the settings that are held
@@ -67,6 +71,7 @@ settings_in settings = record {
   encoding = settings.encoding;
   guarded = settings.guarded;
   mdast = settings.mdast;
+  chunks = settings.chunks;
   anchors = settings.anchors;
   rich = settings.rich;
   scripting = settings.scripting;
@@ -80,6 +85,7 @@ settings_in settings = record {
   links_as_text = settings.links_as_text;
   title = settings.title;
   base = settings.base;
+  name = None;
   run_page = None;
   front_matter = settings.front_matter;
 }
@@ -93,6 +99,7 @@ default_settings = record {
   encoding = None;
   guarded = false;
   mdast = false;
+  chunks = None;
   anchors = which.Linked;
   rich = false;
   scripting = true;
@@ -106,26 +113,33 @@ default_settings = record {
   links_as_text = false;
   title = false;
   base = None;
+  name = None;
   run_page = None;
   front_matter = false;
 }
 
--- what a run adds for one of its pages: the URL of that page, and the page as one of the run
+-- what a run adds for one of its pages: the URL of that page, what it is called, and the page as one of the run
 pub record PageInRun : Type 0 where
   pub url : Option Parts
+  pub name : Option (List ℕ)
   pub run_page : Option RunPage
 
 -- what is held of a page in a run
 abbrev pub page_in : held_in_run.PageInRun → PageInRun
-page_in page = record { url = page.url; run_page = option_map run_page_of page.run_page }
+page_in page = record {
+  url = page.url;
+  name = option_copied page.name;
+  run_page = option_map run_page_of page.run_page;
+}
 
 -- a page by itself
 abbrev pub alone : PageInRun
-alone = record { url = None; run_page = None }
+alone = record { url = None; name = None; run_page = None }
 
 -- the settings for one page of a run
 abbrev pub settings_for : PageInRun → Settings → Settings
 settings_for page settings = record settings {
   base = option_or page.url settings.base;
+  name = option_or page.name settings.name;
   run_page = option_or page.run_page settings.run_page;
 }

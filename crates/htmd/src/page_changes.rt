@@ -1,5 +1,6 @@
 //! What is done to the tree of a page before it is converted.
-ghost use Rattle.std.specs.Prelude.{◌≡◌, IfOk, option_copied, option_map, string_bytes};
+ghost use Rattle.std.specs.Prelude.{◌≡◌, if◌then◌else◌, IfOk, None, is_some, option_copied, option_map};
+ghost use Rattle.std.specs.Prelude.{string_bytes};
 ghost use Rattle.htmd_addresses.specs.Bases.{base_address as named_address};
 ghost use Rattle.htmd_addresses.specs.RunViews.{run_page_of};
 ghost use Rattle.std.specs.Option.{option_or};
@@ -10,7 +11,7 @@ ghost use Rattle.htmd.specs.PageSettings.{page_in, settings_for, settings_in};
 use crate::page_settings::{PageInRun, PageSettings};
 use htmd_addresses::{RunPage, base_address, base_of, lead_to_pages, make_absolute};
 use htmd_article::article_of;
-use htmd_front_matter::{front_matter, title_of};
+use htmd_front_matter::{front_matter, front_object, title_of};
 use htmd_nodes::Tree;
 use htmd_selectors::{Selectors, drop_elements, select_elements};
 use htmd_trimming::{Images, plainer_page, titled_page, visible_page};
@@ -24,18 +25,30 @@ fn are_given(selectors: &Selectors) -> bool
     !selectors.is_empty()
 }
 
+/// What the head of a page says about it: as JSON if the page is written in pieces, else as lines of YAML.
+#[tactic(auto, using(crate::proofs::PageChangesLemmas::are_lines))]
+fn front_of(alloc: Global, settings: &PageSettings<'_>, page: &Tree) -> Result<String, AllocError>
+    ensures value { IfOk result (λ front. string_bytes front ≡ spec.front_of settings.now.chunks page.now) }
+    ensures lines { settings.now.chunks ≡ None → IfOk result (λ front. spec.AreLines (string_bytes front)) }
+{
+    match settings.chunks {
+        Some(_) => front_object(alloc, page),
+        None => front_matter(alloc, page),
+    }
+}
+
 /// What the head of a page says about it, if that is written; a text has no head.
-#[tactic(auto, using(crate::proofs::PageChangesLemmas::no_lines, crate::proofs::PageChangesLemmas::are_lines))]
+#[tactic(auto, using(crate::proofs::PageChangesLemmas::no_lines))]
 pub(crate) fn head_of(
     alloc: Global,
     settings: &PageSettings<'_>,
     page: &Tree,
 ) -> Result<String, AllocError>
     ensures value { IfOk result (λ lines. string_bytes lines ≡ spec.head_of (settings_in settings.now) page.now) }
-    ensures lines { IfOk result (λ lines. spec.AreLines (string_bytes lines)) }
+    ensures lines { settings.now.chunks ≡ None → IfOk result (λ lines. spec.AreLines (string_bytes lines)) }
 {
     if settings.front_matter && !settings.text {
-        front_matter(alloc, page)
+        front_of(alloc, settings, page)
     } else {
         Ok(String::new(alloc))
     }
@@ -171,10 +184,18 @@ fn own_base(url: Option<&Url>, page: &Tree) -> Result<Option<Url>, AllocError>
     }
 }
 
-/// The address of the base that a page names.
-fn named_base(alloc: Global, page: &Tree) -> Result<Option<String>, AllocError>
-    ensures { IfOk result (λ named. option_map string_bytes named ≡ named_address page.now) }
+/// The address of the base that a page names, if the page is one of a run, since nothing else depends on it.
+fn named_base(
+    alloc: Global,
+    run_page: Option<RunPage<'_>>,
+    page: &Tree,
+) -> Result<Option<String>, AllocError>
+    ensures { IfOk result (λ named. option_map string_bytes named
+        ≡ (if is_some (option_map run_page_of run_page.entry) then named_address page.now else None)) }
 {
+    if run_page.is_none() {
+        return Ok(None);
+    }
     match base_address(page) {
         Some(address) => Ok(Some(String::from_str(alloc, address)?)),
         None => Ok(None),
@@ -212,7 +233,7 @@ fn with_addresses(
 
 /// The part of a page that is converted, with the addresses that it is to have; none if nothing is selected. Both
 /// kinds of selectors and the base are those of the whole page. Of a text it is all.
-#[tactic(auto, using(crate::proofs::PageChangesLemmas::first_copied))]
+#[tactic(auto, using(crate::proofs::PageChangesLemmas::first_copied, crate::proofs::PageChangesLemmas::named_in_run))]
 pub(crate) fn part_of(
     alloc: Global,
     settings: &PageSettings<'_>,
@@ -228,7 +249,7 @@ pub(crate) fn part_of(
     let url = in_run.url.as_ref().or(settings.base.as_ref());
     let own = own_base(url, &page)?;
     let base = own.as_ref().or(url);
-    let named = named_base(alloc, &page)?;
+    let named = named_base(alloc, in_run.run_page, &page)?;
     let title = heading_of(alloc, settings, &page)?;
     match chosen(alloc, settings, page)? {
         Some(part) => {

@@ -1,6 +1,6 @@
 //! One call for a page: its encoding, how it is read, what of it is converted, and how that is written.
 
-ghost use Rattle.std.specs.Prelude.{◌≡◌, [], IfErr, IfOk, string_bytes};
+ghost use Rattle.std.specs.Prelude.{◌≡◌, [], IfErr, IfOk, is_some, string_bytes};
 ghost use Rattle.htmd_walk.specs.BuiltIn.{built_in};
 ghost use Rattle.htmd_walk.specs.Defaults.{default_options};
 ghost use Rattle.htmd.specs.Converters.{handlers_built, skipped_built};
@@ -23,10 +23,11 @@ pub struct PageConverter<'a, 'b, R = ElementHandlers> {
     settings: &'a PageSettings<'b>,
 }
 
-/// What the bytes of a page become by settings: Markdown, or JSON in the form of mdast. In Markdown of what a person
-/// sees, a reader of CommonMark sees the same. The settings say how the bytes are decoded and read, what of the page is
-/// converted, and how that is written. `NothingSelected` is a page of which no element is selected; `NotUtf8` and
-/// `Refused` come only where a text or strict HTML is read; `Memory` means out of memory.
+/// What the bytes of a page become by settings: Markdown, JSON in the form of mdast, or pieces as lines of JSON. In
+/// Markdown of what a person sees, a reader of CommonMark sees the same; pieces together are the same document. The
+/// settings say how the bytes are decoded and read, what of the page is converted, and how that is written.
+/// `NothingSelected` is a page of which no element is selected; `NotUtf8` and `Refused` come only where a text or
+/// strict HTML is read; `Memory` means out of memory.
 pub fn convert_page(
     alloc: Global,
     bytes: &[u8],
@@ -80,6 +81,13 @@ impl<'a, 'b, R: Registrar + Drop> PageConverter<'a, 'b, R> {
 
 impl<R: Registry> PageConverter<'_, '_, R> {
     ghost use Rattle.htmd.specs.PageConverters.{IsReady, settings_of};
+
+    /// Whether pages become lines that each end with a line feed.
+    pub fn writes_lines(&self) -> bool
+        ensures { result ≡ is_some (settings_of self.now).chunks }
+    {
+        self.settings.chunks.is_some()
+    }
 
     /// What the bytes of a page become by itself, as `convert_page` gives it.
     pub fn convert_alone(&self, alloc: Global, bytes: &[u8]) -> Result<String, PageError>

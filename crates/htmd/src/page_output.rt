@@ -1,6 +1,7 @@
 //! What the bytes of a page become by settings.
 
-ghost use Rattle.std.specs.Prelude.{◌≡◌, [], ℕ, true, false, Err, IfErr, IfOk, string_bytes};
+ghost use Rattle.std.specs.Prelude.{◌≡◌, [], ℕ, true, false, Err, IfErr, IfOk, None};
+ghost use Rattle.std.specs.Prelude.{option_copied, string_bytes};
 ghost use Rattle.std.specs.Cow.{cow_str_bytes};
 ghost use Rattle.htmd_walk.specs.BuiltIn.{built_in};
 ghost use Rattle.htmd.specs.Converters.{handlers_built, skipped_built};
@@ -8,9 +9,10 @@ ghost use Rattle.htmd_document.specs.DocumentViews.{document_of};
 ghost use Rattle.htmd_walk.specs.Defaults.{default_options};
 ghost use Rattle.htmd_grammar.specs.declared.fault.FaultKind.{FaultKind};
 ghost use Rattle.htmd.specs.PageChanges.{AreLines};
-ghost use Rattle.htmd.specs.PageOutputs.{GoesBy, IsFaultOf, IsMainContent, IsOutputOf, IsReadable, IsRefusedBy, IsTreeBy, text_in};
+ghost use Rattle.htmd.specs.PageOutputs.{GoesBy, IsFaultOf, IsMainContent, IsOutputOf, IsReadable, IsRefusedBy};
+ghost use Rattle.htmd.specs.PageOutputs.{IsTreeBy, text_in};
 ghost use Rattle.htmd.specs.PageOutputs as spec;
-ghost use Rattle.htmd.specs.PageSights.{IsSeen, IsSeenAfter, sight_in};
+ghost use Rattle.htmd.specs.PageSights.{IsSeen, IsSeenAfter, IsSeenBy, sight_in};
 ghost use Rattle.htmd.specs.PageSettings.{page_in, settings_for, settings_in};
 ghost use Rattle.htmd_law_reading.specs.ReadingLaws.{IsSeenIn};
 
@@ -22,6 +24,7 @@ use crate::page_error::PageError;
 use crate::page_settings::{PageInRun, PageSettings};
 use crate::paragraph::paragraph_of;
 use htmd_article::{Article, article_of};
+use htmd_chunks::{chunks, to_json_lines};
 use htmd_commonmark::to_markdown;
 use htmd_document::Document;
 use htmd_encodings::page_text;
@@ -171,9 +174,8 @@ fn tree_markdown<H: Registry>(
     converter.tree_to_markdown(alloc, tree, tree.root())
 }
 
-/// What is written of a tree by a converter with these settings, after what the head of its page says.
-#[tactic(auto, unfolding(crate::specs::PageOutputs::tree_output))]
-fn tree_output<H: Registry>(
+/// What is written of a tree in one text, after what the head of its page says.
+fn whole_output<H: Registry>(
     alloc: Global,
     converter: &HtmlToMarkdown<H>,
     settings: &PageSettings<'_>,
@@ -183,7 +185,7 @@ fn tree_output<H: Registry>(
     requires goes_by { GoesBy H.ready H.config converter.now (settings_in settings.now) }
     requires head { AreLines head.now }
     ensures ok { IfOk result (λ output. string_bytes output
-        ≡ spec.tree_output (settings_in settings.now) head.now tree.now) }
+        ≡ spec.whole_output (settings_in settings.now) head.now tree.now) }
     ensures seen { IfOk result (λ output.
         IsSeenAfter (settings_in settings.now) head.now tree.now (string_bytes output)) }
 {
@@ -193,6 +195,62 @@ fn tree_output<H: Registry>(
     }
     let markdown = tree_markdown(alloc, converter, settings, tree)?;
     after_head(alloc, head, markdown)
+}
+
+/// What the head of a page says, if that is written.
+fn front_in(head: &str) -> Option<&str>
+    ensures { option_copied result ≡ spec.front_in head.now }
+{
+    if head.is_empty() { None } else { Some(head) }
+}
+
+/// What a reader sees of a tree in pieces of at most so many bytes, as lines of JSON.
+#[tactic(auto, unfolding(crate::specs::PageOutputs::pieces_output), using(crate::proofs::PageOutputsLemmas::named))]
+fn pieces_output<H: Registry>(
+    alloc: Global,
+    converter: &HtmlToMarkdown<H>,
+    settings: &PageSettings<'_>,
+    in_run: &PageInRun<'_>,
+    most: usize,
+    head: &str,
+    tree: &Tree,
+) -> Result<String, AllocError>
+    requires goes_by { GoesBy H.ready H.config converter.now (settings_in settings.now) }
+    ensures { IfOk result (λ lines. string_bytes lines ≡ spec.pieces_output
+        (settings_for (page_in in_run.now) (settings_in settings.now)) most head.now tree.now) }
+{
+    let document = converter.tree_to_document(alloc, tree)?;
+    let options = document_options(&settings.options);
+    let pieces = chunks(alloc, document, most, &options)?;
+    to_json_lines(alloc, &pieces, &options, in_run.name, front_in(head))
+}
+
+/// What is written of a tree by a converter with these settings, with what the head of its page says.
+#[tactic(auto, unfolding(crate::specs::PageOutputs::tree_output, crate::specs::PageOutputs::tree_markdown))]
+fn tree_output<H: Registry>(
+    alloc: Global,
+    converter: &HtmlToMarkdown<H>,
+    settings: &PageSettings<'_>,
+    in_run: &PageInRun<'_>,
+    head: &str,
+    tree: &Tree,
+) -> Result<String, AllocError>
+    requires goes_by { GoesBy H.ready H.config converter.now (settings_in settings.now) }
+    requires head { settings.now.chunks ≡ None → AreLines head.now }
+    ensures ok { IfOk result (λ output. string_bytes output ≡ spec.tree_output
+        (settings_for (page_in in_run.now) (settings_in settings.now)) head.now tree.now) }
+    ensures seen { IfOk result (λ output. IsSeenBy settings.now.chunks
+        (settings_for (page_in in_run.now) (settings_in settings.now)) head.now tree.now (string_bytes output)) }
+{
+    match settings.chunks {
+        Some(most) => {
+            let lines = pieces_output(alloc, converter, settings, in_run, most, head, tree)?;
+            // The tree's texts are UTF-8: so its document is normal, and its pieces are seen.
+            let _root = tree.root();
+            Ok(lines)
+        }
+        None => whole_output(alloc, converter, settings, head, tree),
+    }
 }
 
 /// The main content of a page, and the rule by which it was chosen, whether or not only that is converted.
@@ -213,7 +271,7 @@ pub(crate) fn main_content_of<H: Registry>(
 }
 
 /// What the bytes of an input become, by a converter with these settings. In Markdown of what a person sees, a reader
-/// of CommonMark sees the same.
+/// of CommonMark sees the same; pieces together are the same document.
 pub(crate) fn output_of<H: Registry>(
     alloc: Global,
     converter: &HtmlToMarkdown<H>,
@@ -235,5 +293,5 @@ pub(crate) fn output_of<H: Registry>(
     let Some(part) = part_of(alloc, settings, in_run, page)? else {
         return Err(PageError::NothingSelected);
     };
-    Ok(tree_output(alloc, converter, settings, &head, &part)?)
+    Ok(tree_output(alloc, converter, settings, in_run, &head, &part)?)
 }

@@ -29,6 +29,9 @@ pub struct PageSettings<'a> {
     pub guarded: bool,
     /// What a reader sees of the page is written as JSON, in the form of mdast. Then `guarded` has no effect.
     pub mdast: bool,
+    /// What a reader sees of the page is written in pieces of at most so many bytes of Markdown, where it can be cut,
+    /// as lines of JSON. Then `guarded` and `mdast` have no effect.
+    pub chunks: Option<usize>,
     /// Which places of links the document has that a reader sees.
     pub anchors: Anchors,
     /// That document keeps elements that Markdown has no form for, as HTML.
@@ -54,7 +57,7 @@ pub struct PageSettings<'a> {
     pub title: bool,
     /// The URL of the page. Addresses are made absolute by it, or by the base that the page names against it.
     pub base: Option<Url>,
-    /// What the head of the page says about it is written first.
+    /// What the head of the page says about it is written first; in pieces it is in each line.
     pub front_matter: bool,
 }
 
@@ -63,6 +66,8 @@ pub struct PageSettings<'a> {
 pub struct PageInRun<'a> {
     /// The URL of this page, if it has one of its own. It counts in place of the settings' base.
     pub url: Option<Url>,
+    /// What the page is called where it is written in pieces, which name it.
+    pub name: Option<&'a str>,
     /// Addresses of `a` and `area` that lead to pages of the run lead to their outputs, and aren't made absolute.
     pub run_page: Option<RunPage<'a>>,
 }
@@ -80,6 +85,7 @@ impl<'a> PageSettings<'a> {
             encoding: None,
             guarded: false,
             mdast: false,
+            chunks: None,
             anchors: Anchors::Linked,
             rich: false,
             scripting: true,
@@ -105,6 +111,7 @@ impl<'a> PageInRun<'a> {
     {
         PageInRun {
             url: None,
+            name: None,
             run_page: None,
         }
     }

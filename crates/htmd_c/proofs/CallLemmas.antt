@@ -1,5 +1,5 @@
 -- What a text of the struct says, and why bytes become nothing.
-use Rattle.std.proofs.Common.{◌≡◌, ◌∙◌, ◌⊎◌, ap, sym, subst, refl, inl, inr, ℕ, true, false, List, [], ◌∷◌, ◌++◌}
+use Rattle.std.proofs.Common.{◌≡◌, ◌∙◌, ap, sym, subst, refl, ℕ, true, false, List, [], ◌∷◌, ◌++◌}
 use Rattle.std.proofs.Common.{Bor, length, eqb, map, arith}
 use Rattle.std.proofs.Common.{Option, Some, None, IsUtf8}
 use Rattle.std.specs.List.{list_all}

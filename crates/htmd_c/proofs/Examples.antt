@@ -1,5 +1,5 @@
 -- Worked examples of the definitions.
-use Rattle.std.proofs.Common.{◌≡◌, true, false, refl, Some}
+use Rattle.std.proofs.Common.{◌≡◌, true, false, [], ◌∷◌, refl, Some}
 use Rattle.htmd.specs.TranslationMode.TheVariants.{Faithful}
 use Rattle.htmd.specs.Defaults.{default_options}
 use Rattle.htmd.specs.PageSettings.{default_settings}
@@ -39,6 +39,9 @@ two_is_any_page = refl
 one_is_faithful : options_of (record default_struct { mode = 1 })
     ≡ record default_options { translation_mode = Faithful }
 one_is_faithful = refl
+
+two_thousand_bytes : (settings_of (record default_struct { chunk_bytes = 208 ∷ 7 ∷ 0 ∷ 0 ∷ [] })).chunks ≡ Some 2000
+two_thousand_bytes = refl
 
 -- and numbers that are not
 no_reader_three : is_good (record default_struct { reader = 3 }) ≡ false

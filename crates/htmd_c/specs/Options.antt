@@ -1,6 +1,8 @@
 -- What the numbers of the struct of options mean. For each field 0 is the default of `convert`, except for the version,
 -- scripting, which is on by default, and the spacings.
-use Rattle.std.specs.Prelude.{ℕ, Bool, false, ◌&&◌, ◌==◌, [], Some, None, nat_lt, if◌then◌else◌, replicate}
+use Rattle.std.specs.Prelude.{ℕ, Bool, false, ◌&&◌, ◌==◌, List, [], Option, Some, None, nat_lt, if◌then◌else◌}
+use Rattle.std.specs.Prelude.{replicate}
+use Rattle.std.specs.Int.{from_le_bytes, w32}
 use Rattle.std.specs.List.{list_all}
 use Rattle.htmd.specs.HeadingStyle.{HeadingStyle}
 use Rattle.htmd.specs.HeadingStyle.TheVariants.{Atx, Setex}
@@ -77,7 +79,8 @@ default_struct = record {
   images = 0;
   links_as_text = 0;
   title = 0;
-  reserved = replicate 8 0;
+  chunk_bytes = replicate 4 0;
+  reserved = replicate 4 0;
 }
 
 -- what a text is read as, and what becomes of what Markdown has no form for, have numbers that are known
@@ -146,6 +149,10 @@ abbrev pub kept_images : ℕ → Images
 kept_images n =
     if n == 1 then images.Linked else if n == 2 then images.Alt else if n == 3 then images.Drop else images.Keep
 
+-- how many bytes a piece may have, if there are pieces
+abbrev pub chunks : List ℕ → Option ℕ
+chunks bytes = if from_le_bytes w32 bytes == 0 then None else Some (from_le_bytes w32 bytes)
+
 -- the options that a good struct stands for
 abbrev pub options_of : HtmdOptions → Options
 options_of given = record {
@@ -176,6 +183,7 @@ settings_of given = record {
   encoding = Some Utf8;
   guarded = given.mode == guarded;
   mdast = given.output == mdast;
+  chunks = chunks given.chunk_bytes;
   anchors = anchors given.anchors;
   rich = given.rich == 1;
   scripting = is_scripting given;
@@ -189,6 +197,7 @@ settings_of given = record {
   links_as_text = given.links_as_text == 1;
   title = given.title == 1;
   base = None;
+  name = None;
   run_page = None;
   front_matter = given.front_matter == 1;
 }

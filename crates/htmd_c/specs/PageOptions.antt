@@ -1,5 +1,5 @@
 -- The texts of the struct for pages, and the settings that they stand for. A text without bytes says nothing.
-use Rattle.std.specs.Prelude.{◌≡◌, ◌⊎◌, ℕ, true, false, List, [], ◌∷◌, Option, Some, None, IsUtf8, ⊤}
+use Rattle.std.specs.Prelude.{◌≡◌, ◌⊎◌, ℕ, true, false, List, [], ◌∷◌, Option, Some, None, IsUtf8}
 use Rattle.std.specs.List.{list_all}
 use Rattle.htmd.specs.PageSettings.{Settings}
 use Rattle.htmd.specs.declared.page_error.PageError.TheVariants.{Memory}

@@ -59,7 +59,9 @@ pub struct HtmdOptions {
     pub images: u8,
     pub links_as_text: u8,
     pub title: u8,
-    pub reserved: [u8; 8],
+    /// A number, least byte first, which needs no alignment so.
+    pub chunk_bytes: [u8; 4],
+    pub reserved: [u8; 4],
 }
 
 /// The struct for the options of `convert`.
@@ -91,7 +93,8 @@ pub(crate) fn default_struct() -> HtmdOptions
         images: 0,
         links_as_text: 0,
         title: 0,
-        reserved: [0; 8],
+        chunk_bytes: [0; 4],
+        reserved: [0; 4],
     }
 }
 
@@ -256,6 +259,15 @@ fn kept_images(number: u8) -> Images
     }
 }
 
+fn chunks(bytes: [u8; 4]) -> Option<usize>
+    ensures { result ≡ spec.chunks bytes }
+{
+    match u32::from_le_bytes(bytes) {
+        0 => None,
+        most => Some(most as usize),
+    }
+}
+
 /// The options that a good struct stands for.
 fn options_of(given: &HtmdOptions) -> Options
     ensures { result ≡ spec.options_of given.now }
@@ -286,6 +298,7 @@ pub(crate) fn settings_of<'a>(alloc: Global, given: &HtmdOptions) -> PageSetting
     settings.encoding = Some(Encoding::Utf8);
     settings.guarded = given.mode == GUARDED;
     settings.mdast = given.output == MDAST;
+    settings.chunks = chunks(given.chunk_bytes);
     settings.anchors = anchors(given.anchors);
     settings.rich = given.rich == 1;
     settings.scripting = given.scripting == 1;

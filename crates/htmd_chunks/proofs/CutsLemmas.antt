@@ -51,7 +51,7 @@ whole-parts b = parts_of (block_part [] b) [] no_parts
 
 -- ---- tables
 
-rows-merged : (alignments : List Alignment) (header : List Inlines) (rows : List (List Inlines))
+pub rows-merged : (alignments : List Alignment) (header : List Inlines) (rows : List (List Inlines))
     (rest : List (List (List Inlines)))
     → merged (table alignments header rows)
     (map (block_part (joint.Table ∷ [])) (map (table alignments header) rest))
@@ -115,7 +115,7 @@ moved a heads b rest =
     ∙ behind-assoc (blocks_behind a (blocks_of heads)) (block b no_blocks) rest
 
 -- a list's parts follow each other
-items-placed : (c : Bounds) (m : Margin) (l : ListShape) (f : ListFilling) (k before : ℕ) (items : Items)
+pub items-placed : (c : Bounds) (m : Margin) (l : ListShape) (f : ListFilling) (k before : ℕ) (items : Items)
     → Placed l f → Placed l (items_filled c m l f k before items)
 items-placed c m l f k before no_items placed = placed
 items-placed c m l f k before (item no_blocks rest) placed = items-placed c m l f (suc k) before rest placed

@@ -321,7 +321,7 @@ go_on-list l parts no_more = no_parts
 go_on-list l parts (one_more place items within rest others) =
     goes_on (list_of l place items) (list_joint l) within rest (go_on-list l rest others)
 
-same-start : (start : Option ℕ) → option_map (λ s. s + 0) start ≡ start
+pub same-start : (start : Option ℕ) → option_map (λ s. s + 0) start ≡ start
 same-start None = refl
 same-start (Some n) = ap (λ (k : ℕ). Some k) (add-zero n)
 

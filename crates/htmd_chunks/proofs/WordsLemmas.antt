@@ -37,13 +37,13 @@ use Rattle.htmd_chunks.proofs.RunsLemmas.{runs-have}
 -- ---- kinds of inlines
 
 -- a text, or an inline that no text becomes one with
-data Kind : Inline → Type 0 where
+pub data Kind : Inline → Type 0 where
   a_text : (s : List ℕ) → Kind (text s)
   other : (x : Inline) → ((w : Word) → behind_text (x ∷ w) ≡ x ∷ w)
       → ((w : Word) → first_text (x ∷ w) ≡ [])
       → ((s : List ℕ) → text_after x s ≡ x ∷ text s ∷ []) → Kind x
 
-kind_of : (x : Inline) → Kind x
+pub kind_of : (x : Inline) → Kind x
 kind_of (text s) = a_text s
 kind_of (code s) = other (code s) (λ w. refl) (λ w. refl) (λ t. refl)
 kind_of (formatted f content) = other (formatted f content) (λ w. refl) (λ w. refl) (λ t. refl)
@@ -244,7 +244,7 @@ word_units-have c m content =
 
 -- ---- parts
 
-paragraphs-merged : (xs : List Inline) (yss : List (List Inline))
+pub paragraphs-merged : (xs : List Inline) (yss : List (List Inline))
     → merged (paragraph (inlines_of xs))
     (map (block_part (joint.Paragraph ∷ [])) (map (λ ys. paragraph (inlines_of ys)) yss))
     ≡ paragraph (inlines_of (further_words xs yss))
@@ -329,12 +329,12 @@ cut-spaced before behind so_far (b ∷ s) =
 
 -- ---- texts apart
 
-abbrev is_text : Inline → Bool
+abbrev pub is_text : Inline → Bool
 is_text (text s) = true
 is_text _ = false
 
 -- nothing follows, or another inline than a text
-data NotText : Inlines → Type 0 where
+pub data NotText : Inlines → Type 0 where
   nothing_more : NotText no_inlines
   not_text : (x : Inline) (rest : Inlines) → is_text x ≡ false → NotText (inline x rest)
 
@@ -346,12 +346,12 @@ data AreApart : Inlines → Type 0 where
   apart_other : (x : Inline) (rest : Inlines) → is_text x ≡ false → AreApart rest → AreApart (inline x rest)
 
 -- no text becomes one with the inline
-record IsOther (x : Inline) : Type 0 where
-  behind : (w : Word) → behind_text (x ∷ w) ≡ x ∷ w
-  first : (w : Word) → first_text (x ∷ w) ≡ []
-  after : (s : List ℕ) → text_after x s ≡ x ∷ text s ∷ []
+pub record IsOther (x : Inline) : Type 0 where
+  pub behind : (w : Word) → behind_text (x ∷ w) ≡ x ∷ w
+  pub first : (w : Word) → first_text (x ∷ w) ≡ []
+  pub after : (s : List ℕ) → text_after x s ≡ x ∷ text s ∷ []
 
-text-kind : (x : Inline) → Kind x → is_text x ≡ false → IsOther x
+pub text-kind : (x : Inline) → Kind x → is_text x ≡ false → IsOther x
 text-kind x (a_text s) e = absurd (cc)
 text-kind x (other y b f t) e = record { behind = b; first = f; after = t }
 
@@ -380,7 +380,7 @@ ready-ends rest xs (apart_other x others e apart) ends = ready_other x others xs
 
 -- ---- words of what follows a word
 
-abbrev prefixed : Inline → List Word → List Word
+abbrev pub prefixed : Inline → List Word → List Word
 prefixed x [] = []
 prefixed x (w ∷ ws) = (x ∷ w) ∷ ws
 
@@ -398,7 +398,7 @@ prefix-parts x w rest (p ∷ []) all =
 prefix-parts x w rest (p ∷ q ∷ parts) all =
     ap (λ v. v ∷ (ended [] (q ∷ parts) ++ words_from true (begun [] (q ∷ parts)) rest)) (with_text-cons x w p)
 
-prefix-first : (before : Bool) (x : Inline) (w : Word) (rest : Inlines)
+pub prefix-first : (before : Bool) (x : Inline) (w : Word) (rest : Inlines)
     → words_from before (x ∷ w) rest ≡ prefixed x (words_from before w rest)
 prefix-first before x w no_inlines = refl
 prefix-first before x w (inline (text s) rest) =
@@ -412,7 +412,7 @@ prefix-first before x w (inline line_break rest) = prefix-first false x (w ++ li
 prefix-first before x w (inline (task t) rest) = prefix-first false x (w ++ task t ∷ []) rest
 
 -- an inline that is no text goes on the word
-words-other : (before : Bool) (w : Word) (x : Inline) (rest : Inlines) → is_text x ≡ false
+pub words-other : (before : Bool) (w : Word) (x : Inline) (rest : Inlines) → is_text x ≡ false
     → (b : Bool) × (words_from before w (inline x rest) ≡ words_from b (w ++ x ∷ []) rest)
 words-other before w (text s) rest e = absurd (cc)
 words-other before w (code s) rest e = (true, refl)
@@ -453,7 +453,7 @@ append-something : (vs ws : List Word) → IsSomething ws → IsSomething (vs ++
 append-something [] ws some = some
 append-something (v ∷ vs) ws some = something v (vs ++ ws)
 
-words-some : (before : Bool) (w : Word) (rest : Inlines) → IsSomething (words_from before w rest)
+pub words-some : (before : Bool) (w : Word) (rest : Inlines) → IsSomething (words_from before w rest)
 words-some before w no_inlines = something w []
 words-some before w (inline (text s) rest) =
     let parts = cut_text before (begins_shown rest) [] s in
@@ -545,7 +545,7 @@ words-glued content (apart_text b s rest not apart) before xs w ready =
 
 -- ---- normal inlines are apart
 
-not-text : (in_link : Bool) (around : List Format) (s : List ℕ) (rest : Inlines) → meets (text s) rest ≡ true
+pub not-text : (in_link : Bool) (around : List Format) (s : List ℕ) (rest : Inlines) → meets (text s) rest ≡ true
     → NotText rest
 not-text in_link around s no_inlines e = nothing_more
 not-text in_link around s (inline (text t) rest) e = absurd (cc)
@@ -643,12 +643,12 @@ words-whole content in_item normal =
     let alone : Ends [] = λ t. refl in
     put-glued (words_of content) ∙ words-glued content apart false [] [] (ready-ends content [] apart alone)
 
-units-runs : (taken : List (List Word) → ℕ) (most first : ℕ) (units : List (List Word)) → HaveItems units
+pub units-runs : (taken : List (List Word) → ℕ) (most first : ℕ) (units : List (List Word)) → HaveItems units
     → IsSomething units → RunsHave (runs taken most first units)
 units-runs taken most first units no_units some = elim some [ ]
 units-runs taken most first units (unit_of w ws rest have) some = runs-have taken most first w ws [] rest have
 
-units-some : (words : List Word) (units : List (List Word)) → IsSomething words → together units ≡ words
+pub units-some : (words : List Word) (units : List (List Word)) → IsSomething words → together units ≡ words
     → IsSomething units
 units-some words [] (something w ws) is = absurd (cc)
 units-some words (u ∷ units) some is = something u units

@@ -16,4 +16,7 @@ pub mod Pieces
 pub mod ChunkViews
 pub mod Joins
 pub mod JointNames
+pub mod ChunkLines
 pub mod ChunkLaws
+pub mod ShortPieces
+pub mod SizeLaws

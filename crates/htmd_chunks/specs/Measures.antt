@@ -1,5 +1,5 @@
 -- The sizes of blocks. Those of containers are sums, so that parts of them take no more.
-use Rattle.std.specs.Prelude.{ℕ, zero, suc, ◌+◌, ◌-◌, Bool, false, Option, Some, None, List, []}
+use Rattle.std.specs.Prelude.{ℕ, zero, suc, ◌+◌, ◌-◌, Bool, false, Option, Some, None, List}
 use Rattle.std.specs.List.{sum_by}
 use Rattle.htmd_text.specs.Digits.{digits}
 use Rattle.htmd_markdown.specs.ListItems.{aligned_spaces}

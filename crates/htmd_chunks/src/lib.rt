@@ -9,6 +9,7 @@ mod cut;
 mod cut_list;
 mod filling;
 mod joint;
+mod json_lines;
 mod kinds;
 pub mod laws;
 mod least;
@@ -23,4 +24,5 @@ mod units;
 mod words;
 
 pub use joint::Joint;
+pub use json_lines::to_json_lines;
 pub use pieces::{Piece, chunks};

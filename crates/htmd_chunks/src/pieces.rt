@@ -52,7 +52,7 @@ pub fn chunks(
 }
 
 /// The options, with links inline.
-fn piece_options(options: &DocumentOptions) -> DocumentOptions
+pub(crate) fn piece_options(options: &DocumentOptions) -> DocumentOptions
     ensures { result ≡ spec.piece_options options.now }
 {
     DocumentOptions {

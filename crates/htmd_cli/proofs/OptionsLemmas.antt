@@ -1,19 +1,23 @@
 -- Options, their values and what they ask for, step by step.
-use Rattle.std.proofs.Common.{◌≡◌, ℕ, zero, suc, ◌+◌, ◌<◌, Bool, true, false, ◌&&◌, ◌||◌, List, [], ◌∷◌, ◌++◌}
+use Rattle.std.proofs.Common.{◌≡◌, ℕ, zero, suc, ◌+◌, ◌-◌, ◌*◌, ◌^◌, ◌<◌, ◌≤◌, Bool, true, false, ◌&&◌, ◌||◌, List, []}
+use Rattle.std.proofs.Common.{◌∷◌, ◌++◌}
 use Rattle.std.proofs.Common.{length, drop, get_or, eqb, refl, sym, ◌∙◌, ap, subst, arith}
 use Rattle.std.proofs.Common.{Option, Some, None, MatchOption, option_map, is_some, ◌⊎◌, inl, inr}
 use Rattle.std.specs.Borrow.{Bor}
 use Rattle.std.specs.Str.Pattern.{LacksTextAt, StripsPrefix, FindsTextPrefix}
+use Rattle.std.specs.Prelude.{nat_lt}
+use Rattle.std.specs.Char.{is_ascii_digit}
 use Rattle.std.specs.List.{list_any}
 use Rattle.std.specs.declared.alloc.Global.{Global}
 use Rattle.std.specs.declared.string.String.{String}
-use Rattle.std.proofs.lemmas.List.{drop_more}
+use Rattle.std.proofs.lemmas.List.{drop_all, drop_more}
 use Rattle.std.proofs.lemmas.Bool.{eqb-true}
 use Rattle.std.proofs.lemmas.Bool.Decides.{nat_tests}
+use Rattle.htmd.specs.Characters.{digit_zero}
 use Rattle.htmd.specs.CharacterClasses.{begins_with}
 use Rattle.htmd_cli.specs.Options.{Request, is_given, request_after, request_by, default_request}
 use Rattle.htmd.specs.PageValues.{selectors}
-use Rattle.htmd_cli.specs.Options.{number_behind, with_digit, are_known, is_known}
+use Rattle.htmd_cli.specs.Options.{below, number_behind, with_digit, are_known, is_known}
 use Rattle.htmd_cli.specs.Options.{takes_memory}
 use Rattle.htmd_cli.specs.OptionRows.{IsOptionFault}
 use Rattle.htmd_cli.specs.declared.requests.OptionFault.{OptionFault}
@@ -31,11 +35,34 @@ pub no_number : (s : List ℕ) → number_behind None s ≡ None
 no_number [] = refl
 no_number (b ∷ s) = no_number s
 
--- one digit more
-pub number_goes_on : (n : ℕ) (s : List ℕ) (i : ℕ) (r : Option ℕ) → i < length s
-    → r ≡ with_digit n (get_or s i 0)
-    → number_behind (Some n) (drop i s) ≡ number_behind r (drop (i + 1) s)
-number_goes_on n s i r l e = rw (drop_more s i 0 l) (ap (λ o. number_behind o (drop (i + 1) s)) (sym e))
+-- no digit is left
+pub number_is : (n : ℕ) (s : List ℕ) (i : ℕ) → n < 2 ^ 64 → length s ≤ i
+    → Some n ≡ below (2 ^ 64) (number_behind (Some n) (drop i s))
+number_is n s i l e =
+    let fits : nat_lt n (2 ^ 64) ≡ true = grind (arith, nat_tests) in
+    rw (drop_all i s e, fits) refl
+
+-- a number that is too large stays so
+stays_large : (n : ℕ) (s : List ℕ) → nat_lt n (2 ^ 64) ≡ false
+    → below (2 ^ 64) (number_behind (Some n) s) ≡ None
+stays_large n [] e = rw e refl
+stays_large n (b ∷ s) e =
+    test (is_ascii_digit b) (λ q. rw q (stays_large (n * 10 + (b - digit_zero)) s (grind (arith, nat_tests))))
+    (λ q. rw (q, no_number s) refl)
+
+-- what isn't a digit, or one digit too many
+pub number_ends : (n : ℕ) (s : List ℕ) (i : ℕ) → i < length s
+    → None ≡ below (2 ^ 64) (with_digit n (get_or s i 0))
+    → below (2 ^ 64) (number_behind (Some n) (drop i s)) ≡ None
+number_ends n s i l e = rw (drop_more s i 0 l) (ends (get_or s i 0) (drop (i + 1) s) e)
+  where
+    ends : (b : ℕ) (s : List ℕ) → None ≡ below (2 ^ 64) (with_digit n b)
+        → below (2 ^ 64) (number_behind (with_digit n b) s) ≡ None
+    ends b s e =
+        test (is_ascii_digit b)
+        (λ q. test (nat_lt (n * 10 + (b - digit_zero)) (2 ^ 64)) (λ t. let z = rw (q, t) at e in absurd (cc))
+        (λ t. rw q (stays_large (n * 10 + (b - digit_zero)) s t)))
+        (λ q. rw (q, no_number s) refl)
 
 -- ---- the rows of the source's table
 

@@ -1,10 +1,9 @@
 -- A run from its input to how it ends.
-use Rattle.std.proofs.Common.{◌≡◌, subst, refl, ℕ, List, [], ◌∷◌, ◌++◌, Option, Some}
+use Rattle.std.proofs.Common.{◌≡◌, subst, refl, ℕ, List, [], ◌++◌, Option, Some}
 use Rattle.std.proofs.Common.{Result, Ok, Err}
 use Rattle.std.proofs.KnownBytes.{Consumes-whole}
 use Rattle.std.specs.Str.{IsUtf8}
 use Rattle.std.specs.Io.KnownBytes.{Appends, Consumes, IsAtEnd}
-use Rattle.htmd.specs.Characters.{line_feed}
 use Rattle.htmd_cli.specs.declared.faults.RunError.{RunError}
 use Rattle.htmd_cli.specs.declared.faults.RunError.TheVariants as run
 use Rattle.htmd.specs.declared.page_error.PageError.{PageError}
@@ -14,15 +13,16 @@ use Rattle.htmd_cli.specs.declared.faults.StreamError.TheVariants.{Page, Read, W
 use Rattle.htmd.specs.PageSettings.{Settings}
 use Rattle.htmd_cli.specs.Failures.{IsReadFault, stream_error}
 use Rattle.htmd.specs.PageOutputs.{IsFaultOf, IsOutputOf, IsRefusedBy, IsUnselected}
-use Rattle.htmd_cli.specs.StreamConversions.{Ends, IsConvertible, Writes}
+use Rattle.htmd_cli.specs.StreamConversions.{Ends, IsConvertible, Writes, ending}
 
 -- the whole input was converted, and that was written
 pub ends_well : {W : Type 0} (T : Type 0) (settings : Settings) (contents : W → Option (List ℕ)) (before after : W)
-    (done : T) (input output written : List ℕ) → IsOutputOf settings input output → written ≡ output
-    → Appends (contents before) (contents after) (written ++ line_feed ∷ [])
+    (done : T) (input output written end : List ℕ) → IsOutputOf settings input output → written ≡ output
+    → end ≡ ending settings → Appends (contents before) (contents after) (written ++ end)
     → Ends settings (Some input) (Some []) contents before after (Ok done)
-ends_well T settings contents before after done input output written m w a =
-    (refl, (output, m, subst (λ z. Appends (contents before) (contents after) (z ++ line_feed ∷ [])) w a))
+ends_well T settings contents before after done input output written end m w e a =
+    let A : List ℕ → Type 0 = Appends (contents before) (contents after) in
+    (refl, (output, m, subst (λ z. A (output ++ z)) e (subst (λ z. A (z ++ end)) w a)))
 
 -- the whole input becomes something, and the sink failed
 pub ends_at_sink : {W : Type 0} (T : Type 0) (settings : Settings) (contents : W → Option (List ℕ))

@@ -17,8 +17,7 @@ use Rattle.htmd_encodings.specs.Labels.{encoding_named}
 use Rattle.htmd.specs.PageSettings.{settings_in}
 use Rattle.htmd_cli.specs.Options.{Request, KnownOption, sets, sets_option, skips, takes_rows, shows_instead, number}
 use Rattle.htmd.specs.PageValues.{parts, is_filled, selectors, url}
-use Rattle.htmd_cli.specs.Options.{selects, drops, is_based_on, takes_any_page_guarded}
-use Rattle.htmd_cli.specs.Options.{takes_faithful}
+use Rattle.htmd_cli.specs.Options.{cuts, size, selects, drops, is_based_on, takes_any_page_guarded, takes_faithful}
 
 -- the setting is told by a value
 abbrev pub takes_value : Setting → Bool
@@ -55,6 +54,7 @@ value_effect valued.Select value = option_map selects (selectors value)
 value_effect valued.Drop value = option_map drops (selectors value)
 value_effect valued.Skip value = if list_all is_filled (parts value) then Some (skips (parts value)) else None
 value_effect valued.Base value = option_map is_based_on (url value)
+value_effect valued.Chunks value = option_map cuts (size value)
 value_effect valued.BulletSpacing value =
     option_map (λ n. sets_option (λ options. record options { ul_bullet_spacing = n })) (number value)
 value_effect valued.NumberSpacing value =
@@ -70,6 +70,7 @@ effect_of setting.Rows value = Some takes_rows
 effect_of setting.Faithful value = Some takes_faithful
 effect_of setting.Guarded value = Some (sets (λ settings. record settings { guarded = true }))
 effect_of setting.Mdast value = Some (sets (λ settings. record settings { mdast = true }))
+effect_of (setting.Chunks most) value = Some (cuts most)
 effect_of setting.NoScripting value = Some (sets (λ settings. record settings { scripting = false }))
 effect_of (setting.Anchors anchors) value = Some (sets (λ settings. record settings { anchors = anchors }))
 effect_of setting.Rich value = Some (sets (λ settings. record settings { rich = true }))

@@ -1,5 +1,5 @@
 -- The program's command-line options, and what they ask for.
-use Rattle.std.specs.Prelude.{ℕ, ◌+◌, ◌-◌, ◌*◌, Bool, true, false, ◌&&◌, nat_lt, if◌then◌else◌}
+use Rattle.std.specs.Prelude.{ℕ, ◌+◌, ◌-◌, ◌*◌, ◌^◌, Bool, true, false, nat_lt, if◌then◌else◌}
 use Rattle.std.specs.Prelude.{List, [], ◌∷◌, ◌++◌, length, drop, Option, Some, None, is_some, option_map}
 use Rattle.std.specs.Prelude.{option_and_then, codes, string_bytes}
 use Rattle.std.specs.List.{list_all}
@@ -42,19 +42,30 @@ default_request = record { settings = default_settings; rows = false; shows = fa
 
 -- ---- values
 
--- a number with a further decimal digit after it, as far as a byte goes
+-- a number with a further decimal digit after it
 abbrev pub with_digit : ℕ → ℕ → Option ℕ
-with_digit n b =
-    if is_ascii_digit b && nat_lt (n * 10 + (b - digit_zero)) 256 then Some (n * 10 + (b - digit_zero)) else None
+with_digit n b = if is_ascii_digit b then Some (n * 10 + (b - digit_zero)) else None
 
 abbrev pub number_behind : Option ℕ → List ℕ → Option ℕ
 number_behind n [] = n
 number_behind n (b ∷ s) = number_behind (option_and_then (λ m. with_digit m b) n) s
 
+-- the number that decimal digits write
+abbrev pub decimal : List ℕ → Option ℕ
+decimal [] = None
+decimal (b ∷ s) = number_behind (Some 0) (b ∷ s)
+
+-- the number, if it is less than the limit
+abbrev pub below : ℕ → Option ℕ → Option ℕ
+below limit n = option_and_then (λ m. if nat_lt m limit then Some m else None) n
+
 -- the number from 0 to 255 that decimal digits write
 abbrev pub number : List ℕ → Option ℕ
-number [] = None
-number (b ∷ s) = number_behind (Some 0) (b ∷ s)
+number s = below 256 (decimal s)
+
+-- the number of bytes that decimal digits write: 1 or more, as far as a machine word goes
+abbrev pub size : List ℕ → Option ℕ
+size s = option_and_then (λ n. if nat_lt 0 n then Some n else None) (below (2 ^ 64) (decimal s))
 
 -- ---- what an option does to what is asked for so far
 
@@ -82,6 +93,15 @@ is_based_on url = sets (λ settings. record settings { base = Some url })
 -- the URL of the page that has this path in the folder whose URL the options say, if they do
 abbrev pub url_in_folder : Option Parts → List ℕ → Option Parts
 url_in_folder base path = option_and_then (λ url. page_url url path) base
+
+-- what the names of outputs end with, behind a full stop: lines of JSON, one JSON, or Markdown
+abbrev pub extension : Settings → List ℕ
+extension settings =
+    if is_some settings.chunks then codes "jsonl" else if settings.mdast then codes "json" else codes "md"
+
+-- what a reader sees is written in pieces of at most so many bytes
+abbrev pub cuts : ℕ → Request → Request
+cuts most = sets (λ settings. record settings { chunks = Some most })
 
 -- any page, and what a reader sees of it is written
 abbrev pub takes_any_page_guarded : Request → Request
@@ -127,6 +147,15 @@ numbered name effect = record {
   effect = λ value. option_map effect (number value);
 }
 
+-- an option that ends with a number of bytes
+abbrev pub sized : List ℕ → (ℕ → Request → Request) → KnownOption
+sized name effect = record {
+  name = name;
+  takes_value = true;
+  takes_memory = false;
+  effect = λ value. option_map effect (size value);
+}
+
 -- an option that ends with the label of an encoding
 abbrev pub labelled : List ℕ → (Encoding → Request → Request) → KnownOption
 labelled name effect = record {
@@ -166,6 +195,8 @@ known_options =
     ∷ plain (codes "--guarded") (sets (λ settings. record settings { guarded = true }))
     ∷ plain (codes "--faithful") takes_faithful
     ∷ plain (codes "--mdast") (sets (λ settings. record settings { mdast = true }))
+    ∷ sized (codes "--chunks=") cuts
+    ∷ plain (codes "--chunks") (cuts 2000)
     ∷ plain (codes "--anchors=linked") (sets (λ settings. record settings { anchors = anchors.Linked }))
     ∷ plain (codes "--anchors=all") (sets (λ settings. record settings { anchors = anchors.All }))
     ∷ plain (codes "--anchors=none") (sets (λ settings. record settings { anchors = anchors.None }))

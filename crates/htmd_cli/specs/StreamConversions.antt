@@ -1,5 +1,6 @@
 -- What a run reads and writes, if the bytes of its source and sink are known, and how it ends.
-use Rattle.std.specs.Prelude.{◌≡◌, ℕ, List, [], ◌∷◌, ◌++◌, false, Option, IfSome, Result, Ok, Err, IsUtf8}
+use Rattle.std.specs.Prelude.{◌≡◌, ℕ, if◌then◌else◌, List, [], ◌∷◌, ◌++◌, false, Option, is_some, IfSome}
+use Rattle.std.specs.Prelude.{Result, Ok, Err, IsUtf8}
 use Rattle.std.specs.Io.KnownBytes.{Appends, IsAtEnd}
 use Rattle.htmd.specs.Characters.{line_feed}
 use Rattle.htmd.specs.declared.page_error.PageError.TheVariants.{NotUtf8, Refused, NothingSelected, Memory}
@@ -8,10 +9,14 @@ use Rattle.htmd_cli.specs.declared.faults.StreamError.TheVariants.{Page, Read, W
 use Rattle.htmd.specs.PageSettings.{Settings}
 use Rattle.htmd.specs.PageOutputs.{IsOutputOf, IsRefusedBy, IsUnselected, reads_any}
 
--- what the bytes become, and a line feed, were written
+-- what is written behind what a page becomes: a line feed, unless that is lines
+abbrev pub ending : Settings → List ℕ
+ending settings = if is_some settings.chunks then [] else line_feed ∷ []
+
+-- what the bytes become, with its ending, was written
 abbrev pub Writes : Settings → Option (List ℕ) → Option (List ℕ) → List ℕ → Type 0
 Writes settings before after bytes =
-    (output : List ℕ) × IsOutputOf settings bytes output × Appends before after (output ++ line_feed ∷ [])
+    (output : List ℕ) × IsOutputOf settings bytes output × Appends before after (output ++ ending settings)
 
 -- the bytes become something
 abbrev pub IsConvertible : Settings → List ℕ → Type 0
@@ -25,7 +30,7 @@ Converts settings input before after = IfSome input (Writes settings before afte
 abbrev pub Ends : {W T : Type 0} → Settings → Option (List ℕ) → Option (List ℕ)
     → (W → Option (List ℕ)) → W → W
     → Result T StreamError → Type 0
--- all was read, and what it becomes and a line feed were written
+-- all was read, and what it becomes was written, with its ending
 Ends settings input rest contents before after (Ok done) =
     IsAtEnd rest × Converts settings input (contents before) (contents after)
 -- all was read and is not UTF-8, which any page may be; nothing was written

@@ -81,15 +81,17 @@ fn write_group<W: Sink>(sink: &mut W, group: Group) -> Result<(), Failed>
     Ok(())
 }
 
-// Writes an option with its line, which has the fixed values, if there are several.
+// Writes an option with its line, which has the fixed values, if there are several. A value may be left out if the
+// option also has a row without any.
 fn write_row<W: Sink>(sink: &mut W, row: &OptionRow) -> Result<(), Failed>
     ensures { FailsAtErr result (W.has_failed sink.old) (W.has_failed sink.new) }
 {
     match row.name.split_once('=') {
-        Some((name, value)) if !value.is_empty() && rows_named(name) > 1 => {
-            write_option(sink, "", name, "=", row.line)
+        Some((name, "")) if rows_named(name) > 1 => {
+            write_option(sink, &[name, "[=", row.value, "]"], row.line)
         }
-        _ => write_option(sink, "", row.name, row.value, row.line),
+        Some((name, _)) if rows_named(name) > 1 => write_option(sink, &[name, "="], row.line),
+        _ => write_option(sink, &[row.name, row.value], row.line),
     }
 }
 
@@ -97,24 +99,18 @@ fn write_file_options<W: Sink>(sink: &mut W) -> Result<(), Failed>
     ensures { FailsAtErr result (W.has_failed sink.old) (W.has_failed sink.new) }
 {
     for row in &FILE_OPTIONS {
-        write_option(sink, row.short, row.name, row.value, row.line)?;
+        let between = if row.short.is_empty() { "" } else { ", " };
+        write_option(sink, &[row.short, between, row.name, row.value], row.line)?;
     }
     Ok(())
 }
 
-// Writes an option with its line.
-fn write_option<W: Sink>(
-    sink: &mut W,
-    short: &str,
-    name: &str,
-    value: &str,
-    line: &str,
-) -> Result<(), Failed>
+// Writes the parts of an option, with its line.
+fn write_option<W: Sink>(sink: &mut W, parts: &[&str], line: &str) -> Result<(), Failed>
     ensures { FailsAtErr result (W.has_failed sink.old) (W.has_failed sink.new) }
 {
-    let between = if short.is_empty() { "" } else { ", " };
     let mut width = 0usize;
-    for part in &[short, between, name, value] {
+    for part in parts {
         width = width.saturating_add(part.len());
         write_all(sink, part.as_bytes())?;
     }

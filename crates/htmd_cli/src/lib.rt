@@ -32,6 +32,6 @@ pub use mode::Mode;
 pub use option_faults::{say_fault, say_warnings};
 pub use pipeline::{convert_stream, run, run_over};
 pub use program::command;
-pub use reports::report_page;
+pub use reports::{report_article, report_page};
 pub use requests::{OptionFault, Request, read_options};
 pub use rows::run_rows;

@@ -35,7 +35,11 @@ A
 .I FILE
 may be a folder.
 It stands for all files below it whose names end in .html, .htm or .xhtml, in either case.
-Their Markdown gets the same paths, with the ending .md, below the folder that
+What they become gets the same paths, with the ending .md, with
+.B \-\-mdast
+.json and with
+.B \-\-chunks
+.jsonl, below the folder that
 .B \-o
 names:
 .PP

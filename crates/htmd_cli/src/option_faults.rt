@@ -23,6 +23,7 @@ fn wanted(valued: Valued) -> &'static str {
         Valued::Select | Valued::Drop => "selectors with commas between them, as main,.note",
         Valued::Skip => "names with commas between them, as nav,footer",
         Valued::Base => "an absolute URL, as https://example.org/docs/",
+        Valued::Chunks => "a number of bytes, at least 1",
         Valued::BulletSpacing | Valued::NumberSpacing => "a number from 0 to 255",
     }
 }

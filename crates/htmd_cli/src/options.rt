@@ -53,6 +53,7 @@ pub(crate) enum Valued {
     Drop,
     Skip,
     Base,
+    Chunks,
     BulletSpacing,
     NumberSpacing,
 }
@@ -68,6 +69,8 @@ pub(crate) enum Setting {
     Faithful,
     Guarded,
     Mdast,
+    /// Pieces of at most so many bytes.
+    Chunks(usize),
     NoScripting,
     Anchors(Anchors),
     Rich,
@@ -99,7 +102,7 @@ pub(crate) struct OptionRow {
 }
 
 /// The options that are known, by their groups.
-pub(crate) const OPTIONS: [OptionRow; 58] = [
+pub(crate) const OPTIONS: [OptionRow; 60] = [
     OptionRow {
         group: Group::Input,
         name: "--web",
@@ -187,6 +190,22 @@ pub(crate) const OPTIONS: [OptionRow; 58] = [
         setting: Setting::Mdast,
         line: "writes JSON, in the form of mdast, not Markdown",
         help: "writes what people see of the page as JSON, in the form of mdast, instead of Markdown",
+    },
+    OptionRow {
+        group: Group::Written,
+        name: "--chunks=",
+        value: "BYTES",
+        setting: Setting::Valued(Valued::Chunks),
+        line: "writes pieces as lines of JSON (default 2000 bytes)",
+        help: "writes what --guarded writes in pieces of at most so many bytes, each as a line of JSON",
+    },
+    OptionRow {
+        group: Group::Written,
+        name: "--chunks",
+        value: "",
+        setting: Setting::Chunks(2000),
+        line: "",
+        help: "the same as --chunks=2000; it counts whatever --guarded, --faithful and --mdast say",
     },
     OptionRow {
         group: Group::Written,
@@ -579,7 +598,7 @@ pub(crate) struct FileOption {
 }
 
 /// The options of the program for files. `read_options` knows none of them.
-pub(crate) const FILE_OPTIONS: [FileOption; 4] = [
+pub(crate) const FILE_OPTIONS: [FileOption; 6] = [
     FileOption {
         short: "-o",
         name: "--output=",
@@ -593,6 +612,20 @@ pub(crate) const FILE_OPTIONS: [FileOption; 4] = [
         value: "",
         line: "lets pages of the run link to each other's Markdown",
         help: "points links from page to page of the run at their Markdown; parts of other pages want --anchors=all",
+    },
+    FileOption {
+        short: "",
+        name: "--copy",
+        value: "",
+        line: "copies the other files of a folder, such as images",
+        help: "copies the files of a folder that are no pages to the same paths in OUT, so that images are found",
+    },
+    FileOption {
+        short: "",
+        name: "--newer",
+        value: "",
+        line: "leaves out pages whose outputs are newer",
+        help: "leaves out each page whose output is there and is newer than the page; other options don't count",
     },
     FileOption {
         short: "",

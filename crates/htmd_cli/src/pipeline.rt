@@ -1,14 +1,13 @@
 //! One run: read all, convert, write.
-ghost use Rattle.std.specs.Prelude.{◌≡◌, ◌≢◌, ◌↔◌, ◌∷◌, ◌++◌, [], ℕ, Some, Err, true, false, IsTrue, IsUtf8};
+ghost use Rattle.std.specs.Prelude.{◌≡◌, ◌≢◌, ◌↔◌, ◌++◌, [], ℕ, Some, Err, true, false, IsTrue, IsUtf8};
 ghost use Rattle.std.specs.Prelude.{OnOk, IfOk, IfErr, IfSome, IsErrAnd, IsErrOf};
 ghost use Rattle.std.specs.Io.KnownBytes.{Appends, Consumes, IsAtEnd};
-ghost use Rattle.htmd.specs.Characters.{line_feed};
 ghost use Rattle.htmd.specs.Conversions.{IsRefused};
 ghost use Rattle.htmd.specs.FaultKind.{FaultKind};
 ghost use Rattle.htmd_streams.specs.Ends.{FailsAtErr};
 ghost use Rattle.htmd_cli.specs.Failures.{IsReadFault};
 ghost use Rattle.htmd_cli.specs.ModeRuns.{HasMarkdown, IsBeforeConversion, WritesMarkdown};
-ghost use Rattle.htmd_cli.specs.StreamConversions.{Ends};
+ghost use Rattle.htmd_cli.specs.StreamConversions.{Ends, ending};
 ghost use Rattle.htmd.specs.PageConverters.{IsReady, settings_of};
 ghost use Rattle.htmd.specs.PageSettings.{page_in, settings_for, settings_in};
 
@@ -58,8 +57,8 @@ pub fn run<R: Source, W: Sink>(
     write_markdown(alloc, input.as_slice(), sink, mode)
 }
 
-/// Reads the whole source, and writes what it becomes by settings, and one line feed, to the sink; also returns what
-/// was read, as `convert_stream` does it with a converter by these settings.
+/// Reads the whole source, and writes what it becomes by settings, and one line feed unless that is lines, to the sink;
+/// also returns what was read, as `convert_stream` does it with a converter by these settings.
 pub fn run_over<R: Source, W: Sink>(
     alloc: Global,
     source: &mut R,
@@ -82,10 +81,10 @@ pub fn run_over<R: Source, W: Sink>(
     convert_stream(alloc, source, sink, &converter, &PageInRun::alone())
 }
 
-/// Reads the whole source, and writes what `PageConverter::convert` makes of it, and one line feed, to the sink; also
-/// returns what was read, which is nothing if the source or the memory failed while it was read. The source and the
-/// sink must not have failed before. The sink is not touched before the conversion has succeeded; after `Write` it
-/// isn't known how much was written.
+/// Reads the whole source, and writes what `PageConverter::convert` makes of it, and one line feed unless that is
+/// lines, to the sink; also returns what was read, which is nothing if the source or the memory failed while it was
+/// read. The source and the sink must not have failed before. The sink is not touched before the conversion has
+/// succeeded; after `Write` it isn't known how much was written.
 pub fn convert_stream<R: Source, W: Sink, H: Registry>(
     alloc: Global,
     source: &mut R,
@@ -157,7 +156,7 @@ fn write_markdown<W: Sink>(
         return Err(RunError::NotUtf8);
     };
     let markdown = markdown_by(alloc, mode, text)?;
-    match write_line(sink, markdown.as_str()) {
+    match write_text(sink, markdown.as_str(), "\n") {
         Ok(()) => Ok(()),
         Err(_) => Err(RunError::Write),
     }
@@ -179,19 +178,26 @@ fn write_output<W: Sink, H: Registry>(
     ensures write_failed { IsErrOf result StreamError.Write ↔ IsTrue (W.has_failed sink.new) }
 {
     let output = converter.convert(alloc, input, page)?;
-    match write_line(sink, output.as_str()) {
+    match write_text(sink, output.as_str(), ending(converter)) {
         Ok(()) => Ok(()),
         Err(_) => Err(StreamError::Write),
     }
 }
 
-// Writes a text and a line feed, and flushes.
-fn write_line<W: Sink>(sink: &mut W, text: &str) -> Result<(), Failed>
+/// What is written behind what a page becomes: a line feed, unless that is lines.
+fn ending<H: Registry>(converter: &PageConverter<'_, '_, H>) -> &'static str
+    ensures { result.now ≡ ending (settings_of converter.now) }
+{
+    if converter.writes_lines() { "" } else { "\n" }
+}
+
+// Writes a text and its ending, and flushes.
+fn write_text<W: Sink>(sink: &mut W, text: &str, ending: &str) -> Result<(), Failed>
     ensures bytes { OnOk result
-        (Appends (W.contents sink.old) (W.contents sink.new) (text.now ++ line_feed ∷ [])) }
+        (Appends (W.contents sink.old) (W.contents sink.new) (text.now ++ ending.now)) }
     ensures failure { FailsAtErr result (W.has_failed sink.old) (W.has_failed sink.new) }
 {
     write_all(sink, text.as_bytes())?;
-    write_all(sink, b"\n")?;
+    write_all(sink, ending.as_bytes())?;
     sink.flush()
 }

@@ -4,11 +4,12 @@ ghost use Rattle.std.specs.Io.KnownBytes.{Appends};
 
 use crate::explanations::{explain, explain_main_content};
 use crate::faults::StreamError;
+use crate::requests::Request;
 use htmd::{PageError, PageSettings, main_content};
 use htmd_streams::{Sink, write_all};
 use std::alloc::Global;
 use std::fmt;
-use std::fmt::Write;
+use std::fmt::{Display, Write};
 
 /// A sink as a formatter's writer.
 #[derive(Drop)]
@@ -62,6 +63,25 @@ pub(crate) fn explain_article<E: Sink>(
     }
 }
 
+/// Says what the main content of one page of several is, and why, if the request is for that and to explain it.
+pub fn report_article<E: Sink, P: Display>(
+    alloc: Global,
+    errors: &mut E,
+    path: &P,
+    request: &Request<'_>,
+    page: &[u8],
+) {
+    let settings = request.settings();
+    if !request.explains() || !settings.article {
+        return;
+    }
+    if let Ok(article) = main_content(alloc, page, settings) {
+        let mut lines = Lines { sink: errors };
+        let _ = write!(lines, "htmd: {path}: ");
+        let _ = explain_main_content(&mut lines, &article);
+    }
+}
+
 /// What helps if the strict reader refused a page.
 fn hint(error: &StreamError) -> &'static str {
     match error {
@@ -72,9 +92,9 @@ fn hint(error: &StreamError) -> &'static str {
 
 /// Says which page of several isn't converted, and if requested, where and why; `input` is what was read of it.
 /// Without the request, a hint follows if the strict reader refused the page.
-pub fn report_page<E: Sink>(
+pub fn report_page<E: Sink, P: Display>(
     errors: &mut E,
-    path: &str,
+    path: &P,
     error: &StreamError,
     input: &[u8],
     explains: bool,

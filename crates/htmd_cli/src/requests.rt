@@ -12,7 +12,7 @@ ghost use Rattle.htmd.specs.PageSettings.{settings_in};
 ghost use Rattle.htmd_cli.specs.declared.requests.OptionFault.TheVariants.{Memory};
 
 use crate::options::{Notice, OPTIONS, OptionRow, Setting, Style, Valued};
-use crate::values::number;
+use crate::values::{number, size};
 use htmd::PageSettings;
 use htmd::options::{Options, TranslationMode};
 use htmd::page_values::{are_names, parse_url, push_names, push_selectors};
@@ -164,6 +164,19 @@ impl<'a> Request<'a> {
         }
     }
 
+    /// What the names of outputs end with.
+    pub fn extension(&self) -> &'static str
+        ensures { result.now ≡ spec.extension (request_in self.now).settings }
+    {
+        if self.settings.chunks.is_some() {
+            "jsonl"
+        } else if self.settings.mdast {
+            "json"
+        } else {
+            "md"
+        }
+    }
+
     /// Whether the source is rows with a page each.
     pub fn takes_rows(&self) -> bool
         ensures { result ≡ (request_in self.now).rows }
@@ -199,27 +212,23 @@ impl<'a> Request<'a> {
             (is_some (value_effect valued value.now)) (value_takes_memory valued)) }
     {
         let settings = &mut self.settings;
+        let unknown = OptionFault::Unknown(given);
         match valued {
-            Valued::Encoding => match encoding_named(value.as_bytes()) {
-                Some(encoding) => settings.encoding = Some(encoding),
-                None => return Err(OptionFault::Unknown(given)),
-            },
+            Valued::Encoding => {
+                settings.encoding = Some(encoding_named(value.as_bytes()).ok_or(unknown)?)
+            }
             Valued::Select => add_selectors(alloc, &mut settings.selected, value, given)?,
             Valued::Drop => add_selectors(alloc, &mut settings.dropped, value, given)?,
             Valued::Skip if are_names(value) => push_names(&mut settings.skipped, value)?,
-            Valued::Skip => return Err(OptionFault::Unknown(given)),
-            Valued::Base => match parse_url(alloc, value)? {
-                Some(url) => settings.base = Some(url),
-                None => return Err(OptionFault::Unknown(given)),
-            },
-            Valued::BulletSpacing => match number(value) {
-                Some(number) => settings.options.ul_bullet_spacing = number,
-                None => return Err(OptionFault::Unknown(given)),
-            },
-            Valued::NumberSpacing => match number(value) {
-                Some(number) => settings.options.ol_number_spacing = number,
-                None => return Err(OptionFault::Unknown(given)),
-            },
+            Valued::Skip => return Err(unknown),
+            Valued::Base => settings.base = Some(parse_url(alloc, value)?.ok_or(unknown)?),
+            Valued::Chunks => settings.chunks = Some(size(value).ok_or(unknown)?),
+            Valued::BulletSpacing => {
+                settings.options.ul_bullet_spacing = number(value).ok_or(unknown)?
+            }
+            Valued::NumberSpacing => {
+                settings.options.ol_number_spacing = number(value).ok_or(unknown)?
+            }
         }
         Ok(())
     }
@@ -254,6 +263,7 @@ impl<'a> Request<'a> {
             }
             Setting::Guarded => settings.guarded = true,
             Setting::Mdast => settings.mdast = true,
+            Setting::Chunks(most) => settings.chunks = Some(most),
             Setting::NoScripting => settings.scripting = false,
             Setting::Anchors(anchors) => settings.anchors = anchors,
             Setting::Rich => settings.rich = true,

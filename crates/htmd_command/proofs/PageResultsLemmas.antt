@@ -1,5 +1,5 @@
 -- What is done of an input is what is answered.
-use Rattle.std.proofs.Common.{◌≡◌, ◌∙◌, refl, ap, sym, subst, ℕ, Bool, true, false, List, [], ◌∷◌, ◌++◌}
+use Rattle.std.proofs.Common.{◌≡◌, ◌∙◌, refl, ap, sym, subst, ℕ, Bool, true, false, List, ◌++◌}
 use Rattle.std.specs.Prelude.{option_and_then}
 use Rattle.std.proofs.Common.{Option, Some, None, option_map, Result, Ok, Err, IsErrOf, IsTrue, ◌↔◌, ◌≢◌, MatchBool}
 use Rattle.std.proofs.Common.{Bor, string_bytes}
@@ -8,18 +8,17 @@ use Rattle.std.proofs.lemmas.Bool.{cond-true, cond-false, false≢true}
 use Rattle.htmd_addresses.specs.Leads.{PageValue, RunPage}
 use Rattle.htmd_addresses.specs.RunViews.{pages_in}
 use Rattle.htmd_addresses.specs.declared.pages.Pages.{Pages}
-use Rattle.htmd.specs.Characters.{line_feed}
 use Rattle.htmd.specs.declared.page_error.PageError.TheVariants.{NotUtf8, Refused, NothingSelected, Memory}
 use Rattle.htmd_cli.specs.declared.faults.StreamError.{StreamError}
 use Rattle.htmd_cli.specs.declared.faults.StreamError.TheVariants as stream
 use Rattle.htmd_cli.specs.Options.{Request, url_in_folder}
-use Rattle.htmd_cli.specs.Rows.{ConvertsRows, Succeeds, rows_of}
-use Rattle.htmd_cli.specs.StreamConversions.{Converts, Ends}
-use Rattle.htmd.specs.PageSettings.{PageInRun, Settings, alone, settings_for}
+use Rattle.htmd_cli.specs.Rows.{AnswersFirst, AnswersSome, ConvertsRows, Succeeds, rows_of}
+use Rattle.htmd_cli.specs.StreamConversions.{Converts, Ends, ending}
+use Rattle.htmd.specs.PageSettings.{PageInRun, Settings, settings_for}
 use Rattle.htmd_files.specs.declared.planning.Page.{Page}
 use Rattle.htmd_folders.specs.Pages.{Becomes}
 use Rattle.htmd_command.specs.PageResults.{IsResultOf, IsPageResult, in_run, own_url, page_request, pages_led}
-use Rattle.htmd_command.specs.PageResults.{request_for, run_page_in, value_of}
+use Rattle.htmd_command.specs.PageResults.{named, request_for, request_for_file, run_page_in, value_of}
 use Rattle.url.specs.Parts.{Parts}
 use Rattle.std.specs.declared.alloc.Global.{Global}
 use Rattle.std.specs.declared.string.String.{String}
@@ -33,7 +32,7 @@ either_becomes true settings None before after s = s
 either_becomes true settings (Some bytes) before after s = s
 either_becomes false settings None before after s = s
 either_becomes false settings (Some bytes) before after (output, is, appended) =
-    (output ++ line_feed ∷ [], (output, is, refl), appended)
+    (output ++ ending settings, (output, is, refl), appended)
 
 -- what was done of a whole input is its answer
 pub succeeds_becomes : (request : Request) (input before after : Option (List ℕ))
@@ -113,13 +112,36 @@ page_becomes pages page request added input before after e adds converts =
     subst P (sym (cond-false request.rows request own e))
     (converts_becomes own input before after e (subst Q adds converts))
 
--- a page by itself is converted by the settings alone
-pub alone_converts : (page : PageInRun) (settings : Settings) (input before after : Option (List ℕ))
-    → page ≡ alone
-    → Converts (settings_for page settings) input before after → Converts settings input before after
-alone_converts page settings input before after e =
-    subst (λ (p : PageInRun). Converts (settings_for p settings) input before after
-    → Converts settings input before after) (sym e) (λ converts. converts)
+-- a file is converted by its name
+pub file_succeeds : (name : List ℕ) (request : Request) (page : PageInRun) (input before after : Option (List ℕ))
+    → request.rows ≡ false → page ≡ named name
+    → Converts (settings_for page request.settings) input before after
+    → Succeeds (request_for_file name request) input before after
+file_succeeds name request page input before after rows e converts =
+    let P : PageInRun → Type 0 = λ p. Converts (settings_for p request.settings) input before after in
+    let Q : Settings → Type 0 = λ s. Converts s input before after in
+    converts_succeeds (request_for_file name request) input before after rows
+    (subst Q (sym (cond-false request.rows request.settings (settings_for (named name) request.settings) rows))
+    (subst P e converts))
+
+-- rows of a file have no name
+named_rows : (name : List ℕ) (request : Request) → request.rows ≡ true
+    → request.settings ≡ (request_for_file name request).settings
+named_rows name request rows =
+    sym (cond-true request.rows request.settings (settings_for (named name) request.settings) rows)
+
+pub file_rows : (name : List ℕ) (request : Request) (input before after : Option (List ℕ)) → request.rows ≡ true
+    → Succeeds request input before after → Succeeds (request_for_file name request) input before after
+file_rows name request input before after rows done =
+    let P : Settings → Type 0 = λ s. MatchBool request.rows (ConvertsRows s input before after)
+    (Converts s input before after) in
+    subst P (named_rows name request rows) done
+
+pub file_answers : (name : List ℕ) (request : Request) (input before after : Option (List ℕ)) → request.rows ≡ true
+    → AnswersSome request input before after → AnswersSome (request_for_file name request) input before after
+file_answers name request input before after rows some =
+    let P : Settings → Type 0 = λ s. AnswersFirst s input before after in
+    subst P (named_rows name request rows) some
 
 -- ---- what a run adds for a page
 

@@ -1,5 +1,8 @@
 -- A run, case by case.
 use Rattle.std.proofs.Common.{◌≡◌, ◌≢◌, ◌≤◌, ◌↔◌, ◌⊎◌, ◌∙◌, refl, ap, sym, subst, inl, inr, ℕ, Bool, true, false}
+use Rattle.std.proofs.Common.{◌++◌, get_or, is_some, if◌then◌else◌}
+use Rattle.std.specs.Prelude.{codes, reverse}
+use Rattle.std.proofs.lemmas.List.{reverse-append}
 use Rattle.std.proofs.Common.{List, [], ◌∷◌, length, map, arith, Bor, Option, Some, None, IfSome, Ok, Err}
 use Rattle.std.proofs.Math.Nat.{suc-ne-zero}
 use Rattle.std.proofs.lemmas.Bool.{false≢true}
@@ -24,9 +27,9 @@ use Rattle.htmd_folders.specs.Listings.{is_file}
 use Rattle.htmd_folders.specs.Pages.{Conversion}
 use Rattle.htmd_folders.specs.declared.operands.Missed.{Missed}
 use Rattle.htmd_folders.specs.PlanViews.{missed_in, IsNoPlan}
-use Rattle.htmd_folders.specs.Plans.{IsPlanOf}
+use Rattle.htmd_folders.specs.Plans.{AreFinished, IsPlanOf}
 use Rattle.htmd_command.specs.Programs.{IsOfFiles, Runs, RunsJob, ShowsInput, ShowsNamed, WritesJob, WritesPages}
-use Rattle.htmd_command.specs.Programs.{becomes_in}
+use Rattle.htmd_command.specs.Programs.{becomes_in, extension_by}
 use Rattle.htmd_command.specs.Streams.{Stream, IsUntouched, SaysMemory, Shows}
 
 -- ---- the words
@@ -80,13 +83,13 @@ shows_since request (Some past) between name output status m shown =
 
 -- ---- the pages
 
-pub written_since : (becomes : Conversion) (pages : List Page) (missed : List (List ℕ))
-    (before between after : Option (List Change)) (failed status : ℕ) → Makes before between []
-    → WritesPages becomes pages missed between after failed status
-    → IfSome before (λ past. WritesPages becomes pages missed (Some past) after failed status)
-written_since becomes pages missed None between after failed status m w = m
-written_since becomes pages missed (Some past) between after failed status m w =
-    subst (λ b. WritesPages becomes pages missed b after failed status) m w
+pub written_since : (becomes : Conversion) (keeps : Bool) (pages : List Page) (missed : List (List ℕ))
+    (before between after : Option (List Change)) (left failed status : ℕ) → Makes before between []
+    → WritesPages becomes keeps pages missed between after left failed status
+    → IfSome before (λ past. WritesPages becomes keeps pages missed (Some past) after left failed status)
+written_since becomes keeps pages missed None between after left failed status m w = m
+written_since becomes keeps pages missed (Some past) between after left failed status m w =
+    subst (λ b. WritesPages becomes keeps pages missed b after left failed status) m w
 
 -- the status of pages
 none_missed : (missed : List Missed) → length missed ≡ 0 → missed_in missed ≡ []
@@ -104,6 +107,30 @@ success_law missed failed count status c w = (
   (λ z. ((w.0 z).0, none_missed missed (sym c ∙ (w.0 z).1))),
   (λ e. w.1 (e.0, c ∙ some_missed missed e.1)),
 )
+
+-- the bytes of names that end in two ways, the last ones first
+ends : (stem ending other last : List ℕ) → stem ++ codes "." ++ ending ≡ other ++ last
+    → reverse ending ++ reverse (stem ++ codes ".") ≡ reverse last ++ reverse other
+ends stem ending other last e =
+    sym (reverse-append (stem ++ codes ".") ending) ∙ ap reverse e ∙ reverse-append other last
+
+-- no extension of outputs makes a name of unfinished ones
+finished_as : (lines json : Bool)
+    → AreFinished (if lines then codes "jsonl" else if json then codes "json" else codes "md")
+finished_as true json stem (other, e) =
+    let second : 110 ≡ 97 = ap (λ s. get_or s 1 0) (ends stem (codes "jsonl") other (codes ".htmd-partial") e) in
+    absurd (omega (arith, second))
+finished_as false true stem (other, e) =
+    let first : 110 ≡ 108 = ap (λ s. get_or s 0 0) (ends stem (codes "json") other (codes ".htmd-partial") e) in
+    absurd (omega (arith, first))
+finished_as false false stem (other, e) =
+    let first : 100 ≡ 108 = ap (λ s. get_or s 0 0) (ends stem (codes "md") other (codes ".htmd-partial") e) in
+    absurd (omega (arith, first))
+
+pub are_finished : (name : List ℕ) (options : List (String Global)) → name ≡ extension_by options → AreFinished name
+are_finished name options e =
+    let settings = (request_by options).settings in
+    subst AreFinished (sym e) (finished_as (is_some settings.chunks) settings.mdast)
 
 -- ---- runs of jobs
 
@@ -154,12 +181,12 @@ module _ {W E : Type 0} (asked : Job) (options : List (String Global)) (before a
   ran_out m u s e = inr (inl ((m, u), s, e))
 
   pub unplanned : (missed : List (List ℕ)) (reason : plans.Fault) → IsOfFiles asked options
-      → IsPlanOf before asked missed (Err reason) → Makes before after [] → IsUntouched output → status ≡ 2
-      → Job_run
+      → IsPlanOf before asked (extension_by options) missed (Err reason) → Makes before after []
+      → IsUntouched output → status ≡ 2 → Job_run
   unplanned missed reason f is m u e = inl (inr (f, missed, reason, is), (m, u), e)
 
-  pub run_refused : (refused : PlanFault) → IsOfFiles asked options → IsNoPlan before asked refused
-      → Makes before after [] → IsUntouched output
+  pub run_refused : (refused : PlanFault) → IsOfFiles asked options
+      → IsNoPlan before asked (extension_by options) refused → Makes before after [] → IsUntouched output
       → (refused ≡ plan_fault.Memory → SaysMemory errors × (status ≡ 1))
       → (refused ≢ plan_fault.Memory → status ≡ 2) → Job_run
   run_refused plan_fault.Memory f h m u memory other = ran_out m u (memory refl).0 (memory refl).1
@@ -201,11 +228,16 @@ module _ {W E : Type 0} (asked : Job) (options : List (String Global)) (before a
   })))
 
   pub run_shown : (between : Option (List Change)) (name : List ℕ) (missed : List (List ℕ))
-      → IsOfFiles asked options → IsPlanOf before asked missed (Ok (plans.standard_output name))
+      → IsOfFiles asked options
+      → IsPlanOf before asked (extension_by options) missed (Ok (plans.standard_output name))
       → Makes before between [] → Makes between after []
       → ShowsInput options between name input output errors status → Job_run
   run_shown between name missed f is m n (inl (dash, shown, l)) = inr (inr (inl (record {
-    cause = inr (inr (f, missed, subst (λ x. IsPlanOf before asked missed (Ok (plans.standard_output x))) dash is));
+    cause = inr (inr (
+      f,
+      missed,
+      subst (λ x. IsPlanOf before asked (extension_by options) missed (Ok (plans.standard_output x))) dash is,
+    ));
     same = made_then before between after m n;
     shown = shown;
     unknown = not_2 (are_known options) status l;
@@ -223,17 +255,19 @@ module _ {W E : Type 0} (asked : Job) (options : List (String Global)) (before a
       ran_out (made_then before between after m n) silent said one
 
   pub run_written : (between : Option (List Change)) (pages : List Page) (missed : List (List ℕ))
-      → IsOfFiles asked options → IsPlanOf before asked missed (Ok (plans.files (pages_of pages)))
+      → IsOfFiles asked options
+      → IsPlanOf before asked (extension_by options) missed (Ok (plans.files (pages_of pages)))
       → Makes before between [] → IsUntouched output
       → WritesJob asked options pages missed between after errors status → Job_run
-  run_written between pages missed f is m u (inl (failed, w)) = inr (inr (inr (inr (record {
+  run_written between pages missed f is m u (inl (left, failed, w)) = inr (inr (inr (inr (record {
     of_files = f;
     pages = pages;
     missed = missed;
+    left = left;
     failed = failed;
     planned = is;
-    written = written_since (becomes_in asked (request_by options) pages) pages missed before between after failed
-        status m w;
+    written = written_since (becomes_in asked (request_by options) pages) asked.keeps_newer pages missed before between
+        after left failed status m w;
     silent = u;
   }))))
   run_written between pages missed f is m u (inr (said, n, one)) =

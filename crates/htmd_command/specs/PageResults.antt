@@ -1,23 +1,25 @@
 -- What the program makes of the bytes of a page, by what its options ask for.
-use Rattle.std.specs.Prelude.{◌≡◌, ℕ, if◌then◌else◌, List, [], ◌∷◌, ◌++◌, map, Option, Some, option_and_then}
-use Rattle.std.specs.Prelude.{None, option_map, MatchBool, string_bytes}
+use Rattle.std.specs.Prelude.{◌≡◌, ℕ, if◌then◌else◌, List, ◌++◌, map, Option, None, Some, option_and_then, option_map}
+use Rattle.std.specs.Prelude.{MatchBool, codes, string_bytes}
 use Rattle.std.specs.Borrow.{Bor}
-use Rattle.htmd.specs.Characters.{line_feed}
+use Rattle.std.specs.Option.{option_or}
+use Rattle.std.specs.Str.{bytes_eq}
 use Rattle.htmd.specs.PageOutputs.{IsOutputOf}
 use Rattle.htmd_addresses.specs.Leads.{PageValue, RunPage}
 use Rattle.htmd_addresses.specs.RunViews.{pages_in}
 use Rattle.htmd_addresses.specs.declared.pages.Pages.{Pages}
 use Rattle.htmd_cli.specs.Options.{Request, sets, url_in_folder}
 use Rattle.htmd_cli.specs.Rows.{rows_of}
-use Rattle.htmd.specs.PageSettings.{PageInRun, Settings, settings_for}
+use Rattle.htmd_cli.specs.StreamConversions.{ending}
+use Rattle.htmd.specs.PageSettings.{PageInRun, Settings, alone, settings_for}
 use Rattle.url.specs.Parts.{Parts}
 use Rattle.htmd_files.specs.declared.planning.Page.{Page}
 use Rattle.htmd_files.specs.Words.{Job}
 
--- this is what the bytes become, and a line feed
+-- this is what the bytes become, with its ending
 abbrev pub IsPageResult : Settings → List ℕ → List ℕ → Type 0
 IsPageResult settings bytes written =
-    (output : List ℕ) × IsOutputOf settings bytes output × (written ≡ output ++ line_feed ∷ [])
+    (output : List ℕ) × IsOutputOf settings bytes output × (written ≡ output ++ ending settings)
 
 -- this is written for the bytes: the answers to their rows, or what the page becomes
 abbrev pub IsResultOf : Request → List ℕ → List ℕ → Type 0
@@ -44,13 +46,34 @@ pages_led kept = option_map (λ pages. pages_in pages.now) kept
 abbrev pub own_url : Option Parts → Page → Option Parts
 own_url base page = option_and_then (url_in_folder base) (path_in_folder page)
 
+-- the path of an input, unless it is standard input
+abbrev pub given_name : List ℕ → Option (List ℕ)
+given_name path = if bytes_eq path (codes "-") then None else Some path
+
+-- what a page is called: by its path in the folder that it was found below, or as it was named itself
+abbrev pub name_of : Page → Option (List ℕ)
+name_of page = option_or (path_in_folder page) (given_name (string_bytes page.input))
+
 -- a page as one of a run, if addresses lead to its pages
 abbrev pub run_page_in : Option (List PageValue) → Page → Option RunPage
 run_page_in pages page = option_map (λ pages. record { pages = pages; own = value_of page }) pages
 
 -- what a run adds for one of its pages
 abbrev pub in_run : Option (List PageValue) → Page → Settings → PageInRun
-in_run pages page settings = record { url = own_url settings.base page; run_page = run_page_in pages page }
+in_run pages page settings = record {
+  url = own_url settings.base page;
+  name = name_of page;
+  run_page = run_page_in pages page;
+}
+
+-- a page by itself, which has this name
+abbrev pub named : List ℕ → PageInRun
+named name = record alone { name = Some name }
+
+-- what is asked for of a file that is converted to standard output; rows are pages of their own
+abbrev pub request_for_file : List ℕ → Request → Request
+request_for_file name request =
+    sets (λ settings. if request.rows then settings else settings_for (named name) settings) request
 
 -- what is asked for of a page that holds no rows
 abbrev pub page_request : Option (List PageValue) → Page → Request → Request

@@ -1,9 +1,10 @@
 -- What a run of the program changes, writes and answers, case by case.
-use Rattle.std.specs.Prelude.{◌≡◌, ◌≢◌, ◌≤◌, ◌↔◌, ◌⊎◌, ℕ, true, false, List, [], codes, Option, Some, IfSome, Ok, Err}
+use Rattle.std.specs.Prelude.{◌≡◌, ◌≢◌, ◌≤◌, ◌↔◌, ◌⊎◌, ℕ, Bool, true, false, List, [], codes, Option, Some, IfSome, Ok}
+use Rattle.std.specs.Prelude.{Err}
 use Rattle.std.specs.List.{AllByRecursion}
 use Rattle.std.specs.declared.alloc.Global.{Global}
 use Rattle.std.specs.declared.string.String.{String}
-use Rattle.htmd_cli.specs.Options.{Request, are_known, request_by}
+use Rattle.htmd_cli.specs.Options.{Request, are_known, extension, request_by}
 use Rattle.htmd_cli.specs.Rows.{Succeeds}
 use Rattle.htmd_files.specs.declared.planning.Page.{Page}
 use Rattle.htmd_files.specs.FilePlans.{Fault, files, standard_output}
@@ -14,8 +15,8 @@ use Rattle.htmd_files.specs.WordViews.{texts_of}
 use Rattle.htmd_folders.specs.Changes.{Change, Makes, IsOpened}
 use Rattle.htmd_folders.specs.FolderConversions.{Takes, IfKnown, IsConverted, IsConvertedOrKept}
 use Rattle.htmd_folders.specs.Listings.{is_file}
-use Rattle.htmd_folders.specs.Pages.{Conversion}
-use Rattle.htmd_command.specs.PageResults.{IsResultOf, pages_led_to, request_for}
+use Rattle.htmd_folders.specs.Pages.{Conversion, or_copy}
+use Rattle.htmd_command.specs.PageResults.{IsResultOf, pages_led_to, request_for, request_for_file}
 use Rattle.htmd_folders.specs.Plans.{IsPlanOf}
 use Rattle.htmd_command.specs.Streams.{Stream, IsUntouched, SaysMemory, Shows}
 
@@ -30,6 +31,10 @@ pub record IsOfFiles (asked : Job) (options : List (String Global)) : Type 0 whe
   pub known : are_known options ≡ true
   pub converts : (request_by options).shows ≡ false
 
+-- what the names of outputs in a folder end with
+abbrev pub extension_by : List (String Global) → List ℕ
+extension_by options = extension (request_by options).settings
+
 -- ---- nothing is done
 
 -- no file is changed, and nothing is written to standard output
@@ -41,7 +46,7 @@ abbrev pub CannotDo : Job → List (String Global) → Option (List Change) → 
 CannotDo asked options before =
     ((asked.operands ≢ []) × (are_known options ≡ false))
     ⊎ (IsOfFiles asked options × (missed : List (List ℕ)) × (fault : Fault)
-    × IsPlanOf before asked missed (Err fault))
+    × IsPlanOf before asked (extension_by options) missed (Err fault))
 
 -- memory runs out before anything is done, and standard error says so: the status is 1
 abbrev pub RunsOut : {W E : Type 0} → Option (List Change) → Option (List Change) → Stream W → Stream E → ℕ
@@ -57,7 +62,8 @@ pub record ConvertsInput {W : Type 0} (asked : Job) (options : List (String Glob
     (before after : Option (List Change)) (input : Option (List ℕ)) (output : Stream W) (status : ℕ)
     : Type 0 where
   pub cause : (asked.operands ≡ []) ⊎ (((request_by options).shows ≡ true) ⊎ (IsOfFiles asked options
-      × (missed : List (List ℕ)) × IsPlanOf before asked missed (Ok (standard_output (codes "-")))))
+      × (missed : List (List ℕ)) × IsPlanOf before asked (extension_by options) missed
+      (Ok (standard_output (codes "-")))))
   pub same : Makes before after []
   pub shown : Shows (request_by options) input output status
   pub unknown : status ≡ 2 → are_known options ≡ false
@@ -66,7 +72,8 @@ pub record ConvertsInput {W : Type 0} (asked : Job) (options : List (String Glob
 -- a file is opened, and what it holds is converted to standard output; or it isn't there, and the status is 1
 abbrev pub ShowsNamed : {W : Type 0} → Request → Option (List Change) → List ℕ → Stream W → ℕ → Type 0
 ShowsNamed request before name output status =
-    ((bytes : Option (List ℕ)) × IsOpened before name bytes × Shows request bytes output status × (status ≤ 1))
+    ((bytes : Option (List ℕ)) × IsOpened before name bytes
+    × Shows (request_for_file name request) bytes output status × (status ≤ 1))
     ⊎ (IfSome before (λ past. is_file past name ≡ false) × IsUntouched output × (status ≡ 1))
 
 -- the input of a plan without outputs is shown: standard input for `-`, or a file; or memory runs out
@@ -83,23 +90,24 @@ pub record ShowsFile {W : Type 0} (asked : Job) (options : List (String Global))
   pub of_files : IsOfFiles asked options
   pub name : List ℕ
   pub missed : List (List ℕ)
-  pub planned : IsPlanOf before asked missed (Ok (standard_output name))
+  pub planned : IsPlanOf before asked (extension_by options) missed (Ok (standard_output name))
   pub same : Makes before after []
   pub shown : ShowsNamed (request_by options) before name output status
 
 -- ---- files are written
 
--- what each page of a plan becomes by what is asked for of it
+-- what each page of a plan becomes by what is asked for of it; what is no page is copied
 abbrev pub becomes_in : Job → Request → List Page → Conversion
-becomes_in asked request pages page = IsResultOf (request_for (pages_led_to asked pages) page request)
+becomes_in asked request pages =
+    or_copy (λ page. IsResultOf (request_for (pages_led_to asked pages) page request))
 
--- The pages are taken one after the other, and this many fail. In the end each output holds what its input became, or
--- if some page failed, that or what it held before. The status is 0 if no page failed and no name is missed, and only
--- then; else it is 1.
-pub record WritesPages (becomes : Conversion) (pages : List Page) (missed : List (List ℕ))
-    (before after : Option (List Change)) (failed status : ℕ) : Type 0 where
-  pub taken : Takes becomes pages before after failed
-  pub converted : failed ≡ 0
+-- The pages are taken one after the other; so many are left alone, and so many fail. In the end each output holds what
+-- its input became, or if some page was left alone or failed, that or what it held before. The status is 0 if no page
+-- failed and no name is missed, and only then; else it is 1.
+pub record WritesPages (becomes : Conversion) (keeps : Bool) (pages : List Page) (missed : List (List ℕ))
+    (before after : Option (List Change)) (left failed status : ℕ) : Type 0 where
+  pub taken : Takes becomes keeps pages before after left failed
+  pub converted : left ≡ 0 → failed ≡ 0
       → IfKnown before after (λ past now. AllByRecursion (IsConverted becomes past now) pages)
   pub kept : IfKnown before after (λ past now. AllByRecursion (IsConvertedOrKept becomes past now) pages)
   pub success : (status ≡ 0) ↔ ((failed ≡ 0) × (missed ≡ []))
@@ -109,8 +117,9 @@ pub record WritesPages (becomes : Conversion) (pages : List Page) (missed : List
 abbrev pub WritesJob : {E : Type 0} → Job → List (String Global) → List Page → List (List ℕ)
     → Option (List Change) → Option (List Change) → Stream E → ℕ → Type 0
 WritesJob asked options pages missed before after errors status =
-    ((failed : ℕ)
-    × WritesPages (becomes_in asked (request_by options) pages) pages missed before after failed status)
+    ((left : ℕ) × (failed : ℕ)
+    × WritesPages (becomes_in asked (request_by options) pages) asked.keeps_newer pages missed before after left failed
+    status)
     ⊎ (SaysMemory errors × Makes before after [] × (status ≡ 1))
 
 -- that is done for the pages of the plan, and nothing is written to standard output
@@ -119,10 +128,12 @@ pub record ConvertsFiles {W : Type 0} (asked : Job) (options : List (String Glob
   pub of_files : IsOfFiles asked options
   pub pages : List Page
   pub missed : List (List ℕ)
+  pub left : ℕ
   pub failed : ℕ
-  pub planned : IsPlanOf before asked missed (Ok (files (pages_of pages)))
+  pub planned : IsPlanOf before asked (extension_by options) missed (Ok (files (pages_of pages)))
   pub written : IfSome before (λ past.
-      WritesPages (becomes_in asked (request_by options) pages) pages missed (Some past) after failed status)
+      WritesPages (becomes_in asked (request_by options) pages) asked.keeps_newer pages missed (Some past) after left
+      failed status)
   pub silent : IsUntouched output
 
 -- ---- all together

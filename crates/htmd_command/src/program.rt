@@ -5,7 +5,9 @@ ghost use Rattle.htmd_cli.specs.OptionRows.{request_in};
 ghost use Rattle.htmd_files.specs.WordViews.{job_in, texts_of};
 ghost use Rattle.htmd_folders.specs.Changes.{Makes};
 ghost use Rattle.htmd_folders.specs.FolderConversions.{AreApart};
+ghost use Rattle.htmd_folders.specs.Pages.{or_copy};
 ghost use Rattle.htmd_folders.specs.PlanViews.{missed_in};
+ghost use Rattle.htmd_command.specs.PageResults.{request_for_file};
 ghost use Rattle.htmd_command.specs.Programs.{IsOfFiles, Runs, RunsInput, RunsJob, ShowsInput, ShowsNamed, WritesJob};
 ghost use Rattle.htmd_command.specs.Programs.{WritesPages};
 ghost use Rattle.htmd_command.specs.Streams.{stream, SaysMemory, Shows};
@@ -17,8 +19,8 @@ use htmd_cli::{
 };
 use htmd_files::{FilePlan, Job, Page, PlanFault, WordFault, job_of};
 use htmd_folders::{
-    Conversion, Lines, Missed, Progress, ShownName, Store, StoreFault, Tally, find_plan, run_pages,
-    write_total,
+    Conversion, Lines, Missed, Progress, RunOptions, ShownName, Store, StoreFault, Tally,
+    find_plan, run_pages, write_total,
 };
 use htmd_streams::write_all;
 use std::alloc::Global;
@@ -122,7 +124,7 @@ fn run_job<S: Store, R: Source, W: Sink, E: Sink>(
         (stream E.contents E.has_failed errors.old errors.new) result }
     ensures status { result ≤ 2 }
 {
-    let (plan, missed) = match find_plan(of.alloc, store, of.job) {
+    let (plan, missed) = match find_plan(of.alloc, store, of.job, of.request.extension()) {
         Ok(found) => found,
         Err(fault) => return fail_plan(errors, &fault),
     };
@@ -194,7 +196,6 @@ fn write_pages<S: Store, E: Sink>(
         request: of.request,
         pages: led.as_ref(),
     };
-    let progress = progress_of(of.job, of.is_terminal);
     convert_files(
         of.alloc,
         store,
@@ -202,7 +203,7 @@ fn write_pages<S: Store, E: Sink>(
         pages,
         missed,
         errors,
-        progress,
+        options_of(of.job, of.is_terminal && !of.request.explains()),
     )
 }
 
@@ -238,16 +239,25 @@ fn show_opened<R: Source, W: Sink, E: Sink>(
 ) -> u8
     requires source { R.has_failed source.old ≡ false }
     requires sink { W.has_failed sink.old ≡ false }
-    ensures shown { Shows (request_by conversion.now.options.now) (R.remaining source.old)
+    ensures shown { Shows (request_for_file input.now (request_by conversion.now.options.now)) (R.remaining source.old)
         (stream W.contents W.has_failed sink.old sink.new) result }
     ensures status { result ≤ 1 }
 {
-    match conversion.convert_alone(source, sink, errors) {
+    match conversion.convert_alone(input, source, sink, errors) {
         Ok(()) => 0,
         Err(fault) => {
             conversion.report(input, &fault, errors);
             1
         }
+    }
+}
+
+fn options_of(job: &Job<'_>, is_terminal: bool) -> RunOptions
+    ensures { result.keeps_newer ≡ job.now.keeps_newer }
+{
+    RunOptions {
+        keeps_newer: job.keeps_newer,
+        progress: progress_of(job, is_terminal),
     }
 }
 
@@ -269,11 +279,12 @@ fn convert_files<S: Store, C: Conversion, E: Sink>(
     pages: &[Page],
     missed: &[Missed],
     errors: &mut E,
-    progress: Progress,
+    options: RunOptions,
 ) -> u8
     requires { AreApart pages.now }
-    ensures taken { (failed : ℕ) × WritesPages (C.becomes conversion.now) pages.now (missed_in missed.now)
-        (S.changes store.old) (S.changes store.new) failed result }
+    ensures taken { (left : ℕ) × (failed : ℕ)
+        × WritesPages (or_copy (C.becomes conversion.now)) options.keeps_newer pages.now
+        (missed_in missed.now) (S.changes store.old) (S.changes store.new) left failed result }
     ensures status { result ≤ 1 }
 {
     for item in missed {
@@ -281,11 +292,11 @@ fn convert_files<S: Store, C: Conversion, E: Sink>(
         let cause = &item.cause;
         let _ = writeln!(Lines { sink: errors }, "htmd: {path}: {cause}");
     }
-    let tally = run_pages(alloc, store, conversion, pages, errors, progress);
+    let tally = run_pages(alloc, store, conversion, pages, errors, options);
     let count = missed.len();
-    let failed = tally.failed.saturating_add(count as u64);
-    if tally.converted.saturating_add(failed) > 1 {
-        write_total(errors, progress, Tally { failed, ..tally });
+    if pages.len().saturating_add(count) > 1 {
+        let failed = tally.failed.saturating_add(count as u64);
+        write_total(errors, options.progress, Tally { failed, ..tally });
     }
     status_of(tally.failed, count)
 }

@@ -1,16 +1,20 @@
 //! What the options ask for, as a conversion.
-ghost use Rattle.std.specs.Prelude.{◌≡◌, ◌↔◌, true, false, option_map, IfOk, IsErrOf, IsTrue, OnErr, OnOk};
+ghost use Rattle.std.specs.Prelude.{◌≡◌, ◌↔◌, true, false, option_copied, option_map, IfOk, IsErrOf, IsTrue, OnErr};
+ghost use Rattle.std.specs.Prelude.{OnOk};
 ghost use Rattle.htmd.specs.PageSettings.{page_in, settings_for, settings_in};
 ghost use Rattle.htmd_addresses.specs.RunViews.{run_page_of};
 ghost use Rattle.htmd_cli.specs.OptionRows.{request_in};
 ghost use Rattle.htmd_cli.specs.Options.{request_by};
 ghost use Rattle.htmd_cli.specs.Rows.{AnswersSome, Succeeds};
 ghost use Rattle.htmd_cli.specs.StreamConversions.{Converts, Ends};
-ghost use Rattle.htmd_command.specs.PageResults.{IsResultOf, in_run, own_url, pages_led, request_for, run_page_in};
+ghost use Rattle.htmd_command.specs.PageResults.{IsResultOf, given_name as named_input, in_run, name_of, own_url};
+ghost use Rattle.htmd_command.specs.PageResults.{pages_led, request_for, request_for_file, run_page_in};
 
 use htmd::{HtmlToMarkdown, PageConverter, PageError, PageInRun, PageSettings};
 use htmd_addresses::{Pages, RunPage};
-use htmd_cli::{Request, Sink, Source, StreamError, command, convert_stream, report_page};
+use htmd_cli::{
+    Request, Sink, Source, StreamError, command, convert_stream, report_article, report_page,
+};
 use htmd_files::Page;
 use htmd_folders::{Conversion, Lines, ShownName};
 use std::alloc::{AllocError, Global};
@@ -62,6 +66,23 @@ fn convert_in_run<R: Source, W: Sink>(
     convert_stream(alloc, source, sink, &converter, page)
 }
 
+/// The path of an input, unless it is standard input.
+fn given_name(input: &str) -> Option<&str>
+    ensures { option_copied result ≡ named_input input.now }
+{
+    if input == "-" { None } else { Some(input) }
+}
+
+/// What a page is called: by its path in the folder that was named, or as it was named itself.
+fn page_name(page: &Page) -> Option<&str>
+    ensures { option_copied result ≡ name_of page.now }
+{
+    match &page.path_in_folder {
+        Some(path) => Some(path.as_str()),
+        None => given_name(&page.input),
+    }
+}
+
 /// A page as one of a run, if addresses lead to its pages.
 #[tactic(auto, using(crate::proofs::PageResultsLemmas::run_told, crate::proofs::PageResultsLemmas::run_untold))]
 fn run_page<'a>(pages: Option<&'a Pages>, page: &'a Page) -> Option<RunPage<'a>>
@@ -100,12 +121,14 @@ impl Requested<'_, '_, '_, '_> {
         }
     }
 
-    /// Converts a page, with what the run adds for it.
-    fn convert_page<R: Source, W: Sink>(
+    /// Converts the page of a path, with what the run adds for it. What its main content is, is said if requested.
+    fn convert_page<R: Source, W: Sink, E: Sink>(
         &self,
+        path: &str,
         page: &PageInRun<'_>,
         source: &mut R,
         sink: &mut W,
+        errors: &mut E,
     ) -> Result<(), Refusal>
         requires source { R.has_failed source.old ≡ false }
         requires sink { W.has_failed sink.old ≡ false }
@@ -115,32 +138,42 @@ impl Requested<'_, '_, '_, '_> {
         ensures nothing { OnErr result (W.has_failed sink.new ≡ false → sink.new ≡ sink.old) }
     {
         match convert_in_run(self.alloc, source, sink, self.request.settings(), page) {
-            (Ok(()), _) => Ok(()),
+            (Ok(()), input) => {
+                let path = ShownName(path);
+                report_article(self.alloc, errors, &path, self.request, input.as_slice());
+                Ok(())
+            }
             (Err(error), input) => Err(Refusal::Page { error, input }),
         }
     }
 
-    /// Converts a page as if it was alone, or rows with a page each.
+    /// Converts a page as if it was alone, but for its name, or rows with a page each.
     pub(crate) fn convert_alone<R: Source, W: Sink, E: Sink>(
         &self,
+        name: &str,
         source: &mut R,
         sink: &mut W,
         errors: &mut E,
     ) -> Result<(), Refusal>
         requires source { R.has_failed source.old ≡ false }
         requires sink { W.has_failed sink.old ≡ false }
-        ensures done { OnOk result (Succeeds (request_by self.now.options.now)
+        ensures done { OnOk result (Succeeds (request_for_file name.now (request_by self.now.options.now))
             (R.remaining source.old) (W.contents sink.old) (W.contents sink.new)) }
         ensures nothing { OnErr result ((request_by self.now.options.now).rows ≡ false
             → W.has_failed sink.new ≡ false → sink.new ≡ sink.old) }
         ensures rows { OnErr result ((request_by self.now.options.now).rows ≡ true
-            → W.has_failed sink.new ≡ false → AnswersSome (request_by self.now.options.now)
+            → W.has_failed sink.new ≡ false
+            → AnswersSome (request_for_file name.now (request_by self.now.options.now))
             (R.remaining source.old) (W.contents sink.old) (W.contents sink.new)) }
     {
         if self.request.takes_rows() {
             return self.convert_rows(source, sink, errors);
         }
-        self.convert_page(&PageInRun::alone(), source, sink)
+        let page = PageInRun {
+            name: Some(name),
+            ..PageInRun::alone()
+        };
+        self.convert_page(name, &page, source, sink, errors)
     }
 
     /// The URL of a page that was found below a folder, if the URL of that is known. `Err` means out of memory.
@@ -163,6 +196,7 @@ impl Requested<'_, '_, '_, '_> {
         let url = self.own_url(page)?;
         Ok(PageInRun {
             url,
+            name: page_name(page),
             run_page: run_page(self.pages, page),
         })
     }
@@ -186,7 +220,7 @@ impl Conversion for Requested<'_, '_, '_, '_> {
             return self.convert_rows(source, sink, errors);
         }
         match self.page_in_run(page) {
-            Ok(added) => self.convert_page(&added, source, sink),
+            Ok(added) => self.convert_page(&page.input, &added, source, sink, errors),
             Err(AllocError) => Err(Refusal::Page {
                 error: StreamError::Page(PageError::Memory),
                 input: Vec::new(self.alloc),
@@ -197,7 +231,8 @@ impl Conversion for Requested<'_, '_, '_, '_> {
     fn report<E: Sink>(&self, page: &str, fault: &Refusal, errors: &mut E) {
         match fault {
             Refusal::Page { error, input } => {
-                report_page(errors, page, error, input, self.request.explains());
+                let page = ShownName(page);
+                report_page(errors, &page, error, input, self.request.explains());
             }
             Refusal::Rows => {
                 let page = ShownName(page);

@@ -1,6 +1,7 @@
 -- Lemmas on the Markdown of documents.
 pub mod CharacterKindsLemmas
 pub mod TextEscapesLemmas
+pub mod PlainTextsLemmas
 pub mod AddressesLemmas
 pub mod PagesLemmas
 pub mod ColumnsLemmas

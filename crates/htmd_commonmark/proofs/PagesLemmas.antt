@@ -2,7 +2,7 @@
 use Rattle.std.proofs.Common.{◌≡◌, ℕ, zero, suc, ◌+◌, ◌-◌, ◌<◌, ◌≤◌, Bool, true, false, cond, List, [], ◌∷◌, ◌++◌}
 use Rattle.std.proofs.Common.{length, get_or, take, drop, min, refl, sym, ap, ◌∙◌, arith, append_assoc, codes}
 use Rattle.std.proofs.Common.{length-append}
-use Rattle.std.specs.Prelude.{◌==◌, nat_lt, replicate, map, Result, Ok, Err, OnOk}
+use Rattle.std.specs.Prelude.{◌==◌, ◌&&◌, nat_lt, replicate, map, Result, Ok, Err, OnOk}
 use Rattle.std.specs.Result.{is_ok}
 use Rattle.std.specs.Char.{is_ascii}
 use Rattle.std.specs.List.{between, flat_map, list_all, list_any, onto_first, prefix_len, suffix_len, slice_split}
@@ -40,8 +40,8 @@ wrote-prefix page (b ∷ s) = wrote-prefix (with_byte page b) s ∙ with_byte-pr
 nothing_due : (page : Page) (out : List ℕ) → due (begun page out) ≡ []
 nothing_due page out = drop_all (length page.prefix) page.prefix (omega arith)
 
-nothing_due_at_end : (page : Page) (out : List ℕ) → due_at_end (begun page out) ≡ []
-nothing_due_at_end page out = ap (trimmed_end is_space) (nothing_due page out)
+none_due_at_end : (page : Page) (out : List ℕ) → due_at_end (begun page out) ≡ []
+none_due_at_end page out = ap (trimmed_end is_space) (nothing_due page out)
 
 -- a character of a line that has its prefix
 begun-byte : (page : Page) (out : List ℕ) (b : ℕ) → (b == line_feed) ≡ false
@@ -57,7 +57,7 @@ started page out = record { out = out; prefix = page.prefix; written = 0; gap = 
 begun-line_feed : (page : Page) (out : List ℕ) (b : ℕ) → (b == line_feed) ≡ true
     → with_byte (begun page out) b ≡ started page (out ++ line_feed ∷ [])
 begun-line_feed page out b here =
-    rw here (ap (λ l. started page ((out ++ l) ++ line_feed ∷ [])) (nothing_due_at_end page out)
+    rw here (ap (λ l. started page ((out ++ l) ++ line_feed ∷ [])) (none_due_at_end page out)
     ∙ ap (λ l. started page (l ++ line_feed ∷ [])) (append-nil out))
 
 -- a text without line feeds
@@ -511,6 +511,28 @@ pub text_pushed : (page : Page) (s : List ℕ) → (length s == 0) ≡ false →
     → begun page ((page.out ++ due page) ++ s) ≡ wrote page s
 text_pushed page [] some none = cc
 text_pushed page (b ∷ s) some none = sym (text_in_line page b s none)
+
+-- a line that has its prefix, after which no spaces are due
+both_tests : (gap written n : ℕ) → ((gap == 0) && (written == n)) ≡ true → (gap ≡ 0) × (written ≡ n)
+both_tests gap written n e = (grind (arith, nat_tests), grind (arith, nat_tests))
+
+pub written_due : (out prefix : List ℕ) (written gap : ℕ) → ((gap == 0) && (written == length prefix)) ≡ true
+    → out ≡ out ++ (replicate gap space ++ drop written prefix)
+written_due out prefix written gap e =
+    let both = both_tests gap written (length prefix) e in
+    sym (ap (λ n. out ++ (replicate n space ++ drop written prefix)) both.0
+    ∙ ap (λ n. out ++ drop n prefix) both.1
+    ∙ ap (λ l. out ++ l) (drop_all (length prefix) prefix (omega arith))
+    ∙ append-nil out)
+
+pub written_at_end : (out prefix : List ℕ) (written gap : ℕ) → ((gap == 0) && (written == length prefix)) ≡ true
+    → out ≡ out ++ (replicate gap space ++ trimmed_end is_space (drop written prefix))
+written_at_end out prefix written gap e =
+    let both = both_tests gap written (length prefix) e in
+    sym (ap (λ n. out ++ (replicate n space ++ trimmed_end is_space (drop written prefix))) both.0
+    ∙ ap (λ n. out ++ trimmed_end is_space (drop n prefix)) both.1
+    ∙ ap (λ l. out ++ trimmed_end is_space l) (drop_all (length prefix) prefix (omega arith))
+    ∙ append-nil out)
 
 pub pushed_page : {T E : Type 0} (r : Result T E) (f : List ℕ → Page) (new long short : List ℕ) (whole : Page)
     → new ≡ cond (is_ok r) long short → f long ≡ whole → OnOk r (f new ≡ whole)

@@ -13,6 +13,7 @@ pub mod MarkViews
 pub mod InlineEnds
 pub mod InlineMarkdown
 pub mod Pages
+pub mod PlainTexts
 pub mod Columns
 pub mod TableLines
 pub mod BlockMarkdown

@@ -1,10 +1,11 @@
 //! Addresses and titles of links and images (CommonMark 0.31.2, 6.3), and autolinks (6.5).
-ghost use Rattle.std.specs.Prelude.{◌≡◌, ◌++◌, IsTrue, OnOk, slice_get, string_bytes};
+ghost use Rattle.std.specs.Prelude.{◌≡◌, ◌++◌, IsTrue, OnOk, codes, slice_get, string_bytes};
 ghost use Rattle.std.specs.Char.{is_ascii};
 ghost use Rattle.std.specs.List.{list_all, list_any, prefix_len};
 ghost use Rattle.std.specs.Option.{option_copied};
 ghost use Rattle.htmd_lexical.specs.Characters.{is_one_of};
 ghost use Rattle.htmd_commonmark.specs.Addresses as spec;
+ghost use Rattle.htmd_commonmark.specs.PlainTexts.{may_be_escaped};
 
 use crate::reference::{begins_reference, holds_reference};
 use std::alloc::AllocError;
@@ -14,12 +15,49 @@ pub(crate) fn push_destination(out: &mut String, address: &str) -> Result<(), Al
     ensures { OnOk result
         (string_bytes out.new ≡ string_bytes out.old ++ spec.destination address.now) }
 {
-    if !needs_brackets(address) {
-        return push_escaped_in(out, address, b"()<>");
+    if needs_brackets(address) {
+        return push_in_brackets(out, address);
     }
+    if !holds_sign(address.as_bytes()) {
+        return out.push_str(address);
+    }
+    push_escaped_in(out, address, b"()<>")
+}
+
+/// Appends the address between `<` and `>`.
+fn push_in_brackets(out: &mut String, address: &str) -> Result<(), AllocError>
+    ensures { OnOk result
+        (string_bytes out.new ≡ string_bytes out.old
+        ++ codes "<" ++ spec.escaped_in (codes "<>") address.now ++ codes ">") }
+{
     out.push('<')?;
     push_escaped_in(out, address, b"<>")?;
     out.push('>')
+}
+
+/// Whether a byte is one that is escaped in some addresses. All are looked at, so that a processor can compare many at
+/// once.
+fn holds_sign(bytes: &[u8]) -> bool
+    ensures { result ≡ list_any may_be_escaped bytes.now }
+{
+    // A number, since of a bool LLVM makes branches where this is inlined.
+    let mut found = 0;
+    for b in bytes {
+        found = found.max(may_be_escaped(*b) as u8);
+    }
+    found == 1
+}
+
+/// Whether a byte is escaped in some addresses. All are compared, so that there is no branch.
+fn may_be_escaped(byte: u8) -> bool
+    ensures { result ≡ may_be_escaped byte }
+{
+    (byte == b'&')
+        | (byte == b'(')
+        | (byte == b')')
+        | (byte == b'<')
+        | (byte == b'>')
+        | (byte == b'\\')
 }
 
 /// Appends a space and the title between quotation marks, if there is one.
@@ -39,7 +77,19 @@ pub(crate) fn push_title(out: &mut String, title: Option<&str>) -> Result<(), Al
 fn needs_brackets(address: &str) -> bool
     ensures { result ≡ spec.needs_brackets address.now }
 {
-    address.is_empty() || address.as_bytes().iter().any(|b| is_space_or_control(*b))
+    address.is_empty() || holds_space_or_control(address.as_bytes())
+}
+
+/// Whether a space or a control is among the bytes. All are looked at, so that a processor can compare many at once.
+fn holds_space_or_control(bytes: &[u8]) -> bool
+    ensures { result ≡ list_any spec.is_space_or_control bytes.now }
+{
+    // A number, since of a bool LLVM makes branches where this is inlined.
+    let mut found = 0;
+    for b in bytes {
+        found = found.max(is_space_or_control(*b) as u8);
+    }
+    found == 1
 }
 
 /// Whether the byte is a space or a control.

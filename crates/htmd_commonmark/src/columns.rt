@@ -9,6 +9,9 @@ use unicode::properties::EastAsianWidth;
 fn columns_of(c: char) -> usize
     ensures { result ≡ spec.columns_of c }
 {
+    if c.is_ascii() {
+        return 1;
+    }
     if canonical_combining_class(c) != 0 {
         return 0;
     }

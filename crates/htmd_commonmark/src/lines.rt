@@ -1,5 +1,6 @@
 //! The lines of a document, each after the prefix of the quotes and items that it is in.
-ghost use Rattle.std.specs.Prelude.{◌≡◌, ◌≤◌, ◌++◌, IfOk, OnOk, true, false, drop, length, replicate, string_bytes};
+ghost use Rattle.std.specs.Prelude.{◌≡◌, ◌≤◌, ◌++◌, ◌&&◌, ◌==◌, IfOk, OnOk, true, false, drop, length, replicate};
+ghost use Rattle.std.specs.Prelude.{string_bytes};
 ghost use Rattle.std.specs.List.{list_all, list_any};
 ghost use Rattle.std.specs.Char.{is_ascii};
 ghost use Rattle.htmd_lexical.specs.Characters.{line_feed, number_sign, space};
@@ -73,6 +74,17 @@ impl Lines {
     pub(crate) fn push(&mut self, text: &str) -> Result<(), AllocError>
         ensures { OnOk result (self.new ≡ page.wrote self.old text.now) }
     {
+        if holds_line_feed(text.as_bytes()) {
+            self.push_lines(text)
+        } else {
+            self.push_in_line(text)
+        }
+    }
+
+    /// The same of a text with line feeds.
+    fn push_lines(&mut self, text: &str) -> Result<(), AllocError>
+        ensures { OnOk result (self.new ≡ page.wrote self.old text.now) }
+    {
         let bytes = text.as_bytes();
         let mut from = 0;
         for i in 0..bytes.len() {
@@ -114,8 +126,7 @@ impl Lines {
         if text.is_empty() {
             return Ok(());
         }
-        push_repeated(&mut self.out, ' ', self.gap)?;
-        self.out.push_str(&self.prefix[self.written..])?;
+        push_due(&mut self.out, &self.prefix, self.written, self.gap)?;
         self.gap = 0;
         self.written = self.prefix.len();
         self.out.push_str(text)
@@ -189,6 +200,39 @@ impl Lines {
     }
 }
 
+/// Whether a line feed is among the bytes. All are looked at, so that a processor can compare many at once.
+fn holds_line_feed(bytes: &[u8]) -> bool
+    ensures { result ≡ list_any is_line_feed bytes.now }
+{
+    // A number, since of a bool LLVM makes branches where this is inlined.
+    let mut found = 0;
+    for b in bytes {
+        found = found.max((*b == b'\n') as u8);
+    }
+    found == 1
+}
+
+/// Whether a line has its prefix, and no spaces are due.
+fn is_written(prefix: &str, written: usize, gap: usize) -> bool
+    ensures { result ≡ (gap == 0 && written == length prefix.now) }
+{
+    gap == 0 && written == prefix.len()
+}
+
+/// Appends what is due on a line on which something follows: spaces, and of the prefix what the line doesn't have.
+fn push_due(out: &mut String, prefix: &str, written: usize, gap: usize) -> Result<(), AllocError>
+    requires within { written ≤ length prefix.now }
+    requires ascii { list_all is_ascii prefix.now ≡ true }
+    ensures { OnOk result (string_bytes out.new ≡ string_bytes out.old
+        ++ (replicate gap space ++ drop written prefix.now)) }
+{
+    if is_written(prefix, written, gap) {
+        return Ok(());
+    }
+    push_repeated(out, ' ', gap)?;
+    out.push_str(&prefix[written..])
+}
+
 /// Appends what is due on a line on which nothing follows: spaces, and of the prefix what the line doesn't have,
 /// without spaces at its end.
 fn push_bare_prefix(
@@ -197,6 +241,19 @@ fn push_bare_prefix(
     written: usize,
     gap: usize,
 ) -> Result<(), AllocError>
+    requires within { written ≤ length prefix.now }
+    requires ascii { list_all is_ascii prefix.now ≡ true }
+    ensures { OnOk result (string_bytes out.new ≡ string_bytes out.old
+        ++ (replicate gap space ++ trimmed_end is_space (drop written prefix.now))) }
+{
+    if is_written(prefix, written, gap) {
+        return Ok(());
+    }
+    push_rest(out, prefix, written, gap)
+}
+
+/// The same of a line on which something is due.
+fn push_rest(out: &mut String, prefix: &str, written: usize, gap: usize) -> Result<(), AllocError>
     requires within { written ≤ length prefix.now }
     requires ascii { list_all is_ascii prefix.now ≡ true }
     ensures { OnOk result (string_bytes out.new ≡ string_bytes out.old

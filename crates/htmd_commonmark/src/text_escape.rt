@@ -1,9 +1,11 @@
 //! A text with a backslash before each character that a reader would take for more (CommonMark 0.31.2, 2.4).
-ghost use Rattle.std.specs.Prelude.{◌≡◌, ◌<◌, ◌++◌, ◌-◌, ◌&&◌, ◌||◌, ◌==◌, ℕ, not, OnOk, length, slice_index};
+ghost use Rattle.std.specs.Prelude.{◌≡◌, ◌<◌, ◌++◌, ◌-◌, ◌&&◌, ◌||◌, ◌==◌, ℕ, not, true, OnOk, length, slice_index};
+ghost use Rattle.std.specs.List.{list_any};
 ghost use Rattle.std.specs.Prelude.{string_bytes};
 ghost use Rattle.htmd_lexical.specs.Characters.{underscore};
 ghost use Rattle.htmd_text.specs.EscapedPlaces.{is_place};
 ghost use Rattle.htmd_commonmark.specs.LineMarks.{line_mark};
+ghost use Rattle.htmd_commonmark.specs.PlainTexts.{may_be_marked};
 ghost use Rattle.htmd_commonmark.specs.TextEscapes as spec;
 
 use crate::character_kind::{first_character, is_word, last_character};
@@ -27,6 +29,53 @@ pub struct Place {
 
 /// Appends the text so that a reader takes each character as itself.
 pub(crate) fn push_escaped(out: &mut String, text: &str, place: &Place) -> Result<(), AllocError>
+    ensures { OnOk result
+        (string_bytes out.new ≡ string_bytes out.old ++ spec.escaped place.now text.now) }
+{
+    if is_plain(text.as_bytes(), place) {
+        return out.push_str(text);
+    }
+    push_with_marks(out, text, place)
+}
+
+/// Whether no place of the text gets a backslash, as is soon seen of most texts.
+fn is_plain(bytes: &[u8], place: &Place) -> bool
+    ensures { result ≡ true → spec.escaped place.now bytes.now ≡ bytes.now }
+{
+    if holds_mark(bytes) {
+        return false;
+    }
+    line_mark_of(bytes, place).is_none()
+}
+
+/// Whether a byte is one that gets a backslash in some places. All bytes are looked at, so that a processor can compare
+/// many at once.
+fn holds_mark(bytes: &[u8]) -> bool
+    ensures { result ≡ list_any may_be_marked bytes.now }
+{
+    // A number, since of a bool LLVM makes branches where this is inlined.
+    let mut found = 0;
+    for b in bytes {
+        found = found.max(may_be_marked(*b) as u8);
+    }
+    found == 1
+}
+
+/// Whether a byte gets a backslash in some places of lines: the six from `[` to a backquote, and others. All are
+/// compared, so that there is no branch.
+fn may_be_marked(byte: u8) -> bool
+    ensures { result ≡ may_be_marked byte }
+{
+    ((byte >= b'[') & (byte <= b'`'))
+        | (byte == b'!')
+        | (byte == b'&')
+        | (byte == b'*')
+        | (byte == b'<')
+        | (byte == b'~')
+}
+
+/// The same of a text with places that get a backslash.
+fn push_with_marks(out: &mut String, text: &str, place: &Place) -> Result<(), AllocError>
     ensures { OnOk result
         (string_bytes out.new ≡ string_bytes out.old ++ spec.escaped place.now text.now) }
 {

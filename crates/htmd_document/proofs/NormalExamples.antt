@@ -277,16 +277,16 @@ pub short_row : is_normal_table (Left ∷ None ∷ []) (words ∷ words ∷ []) 
 unfolding is_utf8 chars encode
 short_row = refl
 
--- a row ends in an empty cell, and the header in one that no row needs
+-- a row ends in an empty cell
 pub empty_end : is_normal_table (Left ∷ None ∷ []) (words ∷ words ∷ []) ((words ∷ no_inlines ∷ []) ∷ [])
     ≡ false
 unfolding is_utf8 chars encode
 empty_end = refl
 
-pub header_too_long : is_normal_table (Left ∷ None ∷ []) (words ∷ no_inlines ∷ []) ((words ∷ []) ∷ [])
-    ≡ false
+-- the header may end in a cell that no row needs, as where a table is cut
+pub long_header : is_normal_table (Left ∷ None ∷ []) (words ∷ no_inlines ∷ []) ((words ∷ []) ∷ []) ≡ true
 unfolding is_utf8 chars encode
-header_too_long = refl
+long_header = refl
 
 pub no_columns : is_normal_table [] [] [] ≡ false
 no_columns = refl

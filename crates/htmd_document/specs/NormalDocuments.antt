@@ -113,14 +113,10 @@ are_normal_cells cells = list_all is_normal_line cells && list_all anchors_stand
 abbrev pub is_normal_row : ℕ → List Inlines → Bool
 is_normal_row columns cells = nat_le (length cells) columns && ends_filled cells && are_normal_cells cells
 
--- the header is as long as the longest of the rows and of itself without empty cells at its end
-abbrev pub has_right_length : List Inlines → List (List Inlines) → Bool
-has_right_length header rows = ends_filled header || list_any (λ cells. length cells == length header) rows
-
 abbrev pub is_normal_table : List Alignment → List Inlines → List (List Inlines) → Bool
 is_normal_table alignments header rows =
     has_cell header && (length alignments == length header) && are_normal_cells header
-    && list_all (is_normal_row (length header)) rows && has_right_length header rows
+    && list_all (is_normal_row (length header)) rows
 
 -- ---- elements
 

@@ -1,5 +1,6 @@
 //! To which parts of the page its links lead.
-ghost use Rattle.std.specs.Prelude.{◌≡◌, ℕ, ◌+◌, true, not, ◌&&◌, ◌||◌, ◌==◌, if◌then◌else◌, IfOk, OnOk, List, [], drop, Some, None};
+ghost use Rattle.std.specs.Prelude.{◌≡◌, ℕ, ◌+◌, true, not, ◌&&◌, ◌||◌, ◌==◌, if◌then◌else◌, IfOk, OnOk, List, []};
+ghost use Rattle.std.specs.Prelude.{drop, Some, None};
 ghost use Rattle.std.specs.Prelude.{is_some, string_bytes};
 ghost use Rattle.std.specs.List.{list_any};
 ghost use Rattle.percent_encoding.specs.Percent.{percent_sign};
@@ -17,7 +18,7 @@ ghost use Rattle.htmd_document_of_tree.specs.Seen.{seen, all_seen};
 use crate::seen::{all_seen, leaf_shows, one_more};
 use htmd_flow::is_grid;
 use htmd_nodes::{Attribute, value_of};
-use htmd_shown::attributes::{address, in_line, leads_to_part, text_of};
+use htmd_shown::attributes::{address, in_line, leads_to_part, text_of, whole_address};
 use htmd_shown::showing::{code_shows, image_shows, show_usual_sign};
 use htmd_shown::shown_text::is_blank_when_shown;
 use htmd_shown::simple::is_caption;
@@ -418,7 +419,11 @@ impl Leadings {
         if !to_part {
             return Ok(());
         }
-        let address = address(self.alloc, text_of(attrs, "href"))?;
+        let href = text_of(attrs, "href");
+        if let Some(address) = whole_address(href) {
+            return self.lead_by(address, heading);
+        }
+        let address = address(self.alloc, href)?;
         self.lead_by(address.as_str(), heading)
     }
 

@@ -1,7 +1,7 @@
 -- Worked rows: names, paths, words and plans.
 use Rattle.std.proofs.Common.{◌≡◌, ℕ, true, false, List, [], ◌∷◌, Option, Some, None, Ok, Err, refl}
 use Rattle.std.specs.Prelude.{codes}
-use Rattle.htmd_files.specs.Names.{is_page, md_name}
+use Rattle.htmd_files.specs.Names.{is_hidden, is_page, with_extension}
 use Rattle.htmd_files.specs.Paths.{normal, is_same, place, is_below, file_name}
 use Rattle.htmd_files.specs.Relative.{relative}
 use Rattle.htmd_files.specs.Words as words
@@ -21,10 +21,16 @@ page-htmlx = refl
 page-folder : is_page (codes "a.html/b") ≡ false
 page-folder = refl
 
-name-html : md_name (codes "a.b/c.d.htm") ≡ codes "a.b/c.d.md"
+hidden-folder : is_hidden (codes "a/.git/config") ≡ true
+hidden-folder = refl
+
+hidden-not : is_hidden (codes "a.b/c.") ≡ false
+hidden-not = refl
+
+name-html : with_extension (codes "md") (codes "a.b/c.d.htm") ≡ codes "a.b/c.d.md"
 name-html = refl
 
-name-other : md_name (codes "notes.txt") ≡ codes "notes.txt.md"
+name-other : with_extension (codes "jsonl") (codes "notes.txt") ≡ codes "notes.txt.jsonl"
 name-other = refl
 
 -- ---- paths
@@ -105,6 +111,14 @@ words-links : words.job (codes "--links=md" ∷ codes "a.html" ∷ [])
     ≡ Ok (record words.no_job { operands = codes "a.html" ∷ []; links_to_markdown = true })
 words-links = refl
 
+words-newer : words.job (codes "-oout" ∷ codes "--newer" ∷ codes "site" ∷ [])
+    ≡ Ok (record (asked (codes "site" ∷ []) (Some (codes "out")) []) { keeps_newer = true })
+words-newer = refl
+
+words-copy : words.job (codes "--copy" ∷ codes "-o" ∷ codes "out" ∷ codes "site" ∷ [])
+    ≡ Ok (record (asked (codes "site" ∷ []) (Some (codes "out")) []) { copies = true })
+words-copy = refl
+
 words-links_as_text : words.job (codes "--links=text" ∷ [])
     ≡ Ok (record words.no_job { options = codes "--links=text" ∷ [] })
 words-links_as_text = refl
@@ -120,16 +134,27 @@ words-links_to_nothing = refl
 abbrev site : spec.Operand
 site = spec.folder (codes "site") (codes "z.html" ∷ codes "b/a.HTM" ∷ codes "a.png" ∷ codes "a.xhtml" ∷ [])
 
+abbrev named : List ℕ → Option spec.Destination
+named path = Some (record { path = path; is_folder = false; extension = codes "md"; copies = false })
+
 abbrev to_folder : List ℕ → Option spec.Destination
-to_folder path = Some (record { path = path; is_folder = true })
+to_folder path = Some (record { path = path; is_folder = true; extension = codes "md"; copies = false })
 
 -- the page of a file
 abbrev page : List ℕ → List ℕ → spec.Page
-page input output = record { input = input; output = output; path_in_folder = None }
+page input output = record { input = input; output = output; path_in_folder = None; is_copy = false }
 
 -- a page of a folder, which has this path there
 abbrev page_at : List ℕ → List ℕ → List ℕ → spec.Page
-page_at path input output = record { input = input; output = output; path_in_folder = Some path }
+page_at path input output =
+    record { input = input; output = output; path_in_folder = Some path; is_copy = false }
+
+-- a file of a folder that is copied
+abbrev copy_at : List ℕ → List ℕ → List ℕ → spec.Page
+copy_at path input output = record { input = input; output = output; path_in_folder = Some path; is_copy = true }
+
+abbrev copied_to : List ℕ → Option spec.Destination
+copied_to path = Some (record { path = path; is_folder = true; extension = codes "md"; copies = true })
 
 plan-folder : spec.plan (site ∷ spec.file (codes "./c.html") ∷ []) (to_folder (codes "out"))
     ≡ Ok (spec.files (page_at (codes "a.xhtml") (codes "site/a.xhtml") (codes "out/a.md")
@@ -138,11 +163,41 @@ plan-folder : spec.plan (site ∷ spec.file (codes "./c.html") ∷ []) (to_folde
     ∷ page (codes "./c.html") (codes "out/c.md") ∷ []))
 plan-folder = refl
 
-plan-one : spec.plan (spec.file (codes "a.html") ∷ []) (Some (record { path = codes "b.md"; is_folder = false }))
+plan-copies : spec.plan (site ∷ []) (copied_to (codes "out"))
+    ≡ Ok (spec.files (page_at (codes "a.xhtml") (codes "site/a.xhtml") (codes "out/a.md")
+    ∷ page_at (codes "b/a.HTM") (codes "site/b/a.HTM") (codes "out/b/a.md")
+    ∷ page_at (codes "z.html") (codes "site/z.html") (codes "out/z.md")
+    ∷ copy_at (codes "a.png") (codes "site/a.png") (codes "out/a.png") ∷ []))
+plan-copies = refl
+
+-- what is below an output in the folder isn't copied, nor what isn't finished or is hidden
+plan-copies_within : spec.plan
+    (spec.folder (codes "a")
+    (codes "o/b.png" ∷ codes "b.md.0.htmd-partial" ∷ codes ".c" ∷ codes "p/b" ∷ []) ∷ [])
+    (copied_to (codes "a/o"))
+    ≡ Ok (spec.files (copy_at (codes "p/b") (codes "a/p/b") (codes "a/o/p/b") ∷ []))
+plan-copies_within = refl
+
+-- an output above the folder isn't in it
+plan-copies_above : spec.plan (spec.folder (codes "a") (codes "b" ∷ []) ∷ []) (copied_to (codes "."))
+    ≡ Ok (spec.files (copy_at (codes "b") (codes "a/b") (codes "./b") ∷ []))
+plan-copies_above = refl
+
+plan-copies_shared : spec.plan (spec.folder (codes "a") (codes "b.html" ∷ codes "b.md" ∷ []) ∷ [])
+    (copied_to (codes "out"))
+    ≡ Err (spec.shared (codes "a/b.html") (codes "a/b.md") (codes "out/b.md"))
+plan-copies_shared = refl
+
+plan-json : spec.plan (spec.file (codes "a.html") ∷ [])
+    (Some (record { path = codes "b"; is_folder = true; extension = codes "json"; copies = false }))
+    ≡ Ok (spec.files (page (codes "a.html") (codes "b/a.json") ∷ []))
+plan-json = refl
+
+plan-one : spec.plan (spec.file (codes "a.html") ∷ []) (named (codes "b.md"))
     ≡ Ok (spec.files (page (codes "a.html") (codes "b.md") ∷ []))
 plan-one = refl
 
-plan-slash : spec.plan (spec.file (codes "a.html") ∷ []) (Some (record { path = codes "b/"; is_folder = false }))
+plan-slash : spec.plan (spec.file (codes "a.html") ∷ []) (named (codes "b/"))
     ≡ Ok (spec.files (page (codes "a.html") (codes "b/a.md") ∷ []))
 plan-slash = refl
 
@@ -157,7 +212,7 @@ plan-shared : spec.plan (spec.file (codes "a/b.html") ∷ spec.file (codes "c/b.
 plan-shared = refl
 
 plan-overwritten : spec.plan (spec.file (codes "a.html") ∷ [])
-    (Some (record { path = codes "./x/../a.html"; is_folder = false }))
+    (named (codes "./x/../a.html"))
     ≡ Err (spec.overwritten (codes "a.html") (codes "./x/../a.html"))
 plan-overwritten = refl
 

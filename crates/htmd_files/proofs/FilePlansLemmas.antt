@@ -101,9 +101,9 @@ map_either h false x o = refl
 
 -- ---- pages of operands
 
-pub next_operand : (out : List ℕ) (operands : List held_operand.Operand) (i : ℕ) (operand : held_operand.Operand)
-    (pages : List spec.Page) (whole : Result (List spec.Page) spec.Fault) → i < length operands
-    → operand ≡ get_or operands i operand
+pub next_operand : (out : spec.Destination) (operands : List held_operand.Operand) (i : ℕ)
+    (operand : held_operand.Operand) (pages : List spec.Page) (whole : Result (List spec.Page) spec.Fault)
+    → i < length operands → operand ≡ get_or operands i operand
     → spec.after pages (spec.pages_in out (map operand_of (drop i operands))) ≡ whole
     → spec.after pages (spec.and_then (spec.pages_of out (operand_of operand))
     (spec.pages_in out (map operand_of (drop (i + 1) operands)))) ≡ whole

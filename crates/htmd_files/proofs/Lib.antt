@@ -1,5 +1,6 @@
 -- Lemmas on names, paths, words and plans.
 pub mod NamesLemmas
+pub mod UnfinishedLemmas
 pub mod PathsLemmas
 pub mod WordsLemmas
 pub mod OrderLemmas

@@ -1,10 +1,11 @@
--- The plan: which pages are read, in which order, and where the Markdown of each is written.
-use Rattle.std.specs.Prelude.{ℕ, Bool, not, ◌||◌, if◌then◌else◌, List, [], ◌∷◌, ◌++◌, map, filter, find}
+-- The plan: which pages are read and which files are copied, in which order, and where the output of each is written.
+use Rattle.std.specs.Prelude.{ℕ, Bool, true, false, not, ◌||◌, ◌&&◌, if◌then◌else◌, List, [], ◌∷◌, ◌++◌, map, filter}
+use Rattle.std.specs.Prelude.{find}
 use Rattle.std.specs.Prelude.{codes, Option, Some, None, Result, Ok, Err}
 use Rattle.std.specs.Cmp.Lexicographic.{slice_cmp}
 use Rattle.std.specs.Ordering.{nat_cmp, is_lt}
-use Rattle.htmd_files.specs.Names.{is_page, md_name}
-use Rattle.htmd_files.specs.Paths.{place, is_same, is_below, file_name, below, ends_with_slash}
+use Rattle.htmd_files.specs.Names.{is_hidden, is_page, is_unfinished, with_extension}
+use Rattle.htmd_files.specs.Paths.{Place, place, is_same, is_below, is_within, file_name, below, ends_with_slash}
 
 -- what the file system has where an operand leads: nothing for standard input; a file; or a folder, and the paths of
 -- all files below it
@@ -13,16 +14,21 @@ pub data Operand : Type 0 where
   file : List ℕ → Operand
   folder : List ℕ → List (List ℕ) → Operand
 
--- what `-o` names, and whether that is a folder which is there
+-- what `-o` names, whether that is a folder which is there, what the names of outputs in a folder end with, and whether
+-- files that are no pages are copied
 pub record Destination : Type 0 where
   pub path : List ℕ
   pub is_folder : Bool
+  pub extension : List ℕ
+  pub copies : Bool
 
--- a page: the path that is read and the one that is written, and if it was found below a folder, its path from there
+-- a page, or a file that is copied: the path that is read and the one that is written, and if it was found below a
+-- folder, its path from there
 pub record Page : Type 0 where
   pub input : List ℕ
   pub output : List ℕ
   pub path_in_folder : Option (List ℕ)
+  pub is_copy : Bool
 
 -- an input to standard output, or pages to files
 pub data FilePlan : Type 0 where
@@ -64,26 +70,53 @@ in_order (path ∷ paths) = placed path (in_order paths)
 abbrev pub pages_among : List (List ℕ) → List (List ℕ)
 pages_among paths = in_order (filter is_page paths)
 
+-- a file of a folder is copied: it is no page, no unfinished output, not hidden, and not below the output, if that is
+-- in the folder
+abbrev pub is_copied : Bool → Place → List ℕ → List ℕ → Bool
+is_copied holds_output out from path =
+    not (is_page path || is_unfinished path)
+    && not (is_hidden path || (holds_output && is_below out (place (below from path))))
+
+-- the files of a folder that are copied
+abbrev pub copies_among : Destination → List ℕ → List (List ℕ) → List (List ℕ)
+copies_among out from paths =
+    if out.copies then in_order (filter (is_copied (is_within from out.path) (place out.path) from) paths) else []
+
 -- ---- pages below a folder
 
--- a page of a folder: its Markdown has the same path below the output
-abbrev pub page_below : List ℕ → List ℕ → List ℕ → Page
+-- a page of a folder: its output has the same path below what `-o` names
+abbrev pub page_below : Destination → List ℕ → List ℕ → Page
 page_below out from path = record {
   input = below from path;
-  output = below out (md_name path);
+  output = below out.path (with_extension out.extension path);
   path_in_folder = Some path;
+  is_copy = false;
 }
 
--- a page whose Markdown is named after it
-abbrev pub named_page : List ℕ → List ℕ → Option (List ℕ) → Result (List Page) Fault
-named_page out path None = Err (no_name path)
-named_page out path (Some name) =
-    Ok (record { input = path; output = below out (md_name name); path_in_folder = None } ∷ [])
+-- a file of a folder that is copied has the same path below what `-o` names
+abbrev pub copy_below : Destination → List ℕ → List ℕ → Page
+copy_below out from path = record {
+  input = below from path;
+  output = below out.path path;
+  path_in_folder = Some path;
+  is_copy = true;
+}
 
-abbrev pub pages_of : List ℕ → Operand → Result (List Page) Fault
+-- a page whose output is named after it
+abbrev pub named_page : Destination → List ℕ → Option (List ℕ) → Result (List Page) Fault
+named_page out path None = Err (no_name path)
+named_page out path (Some name) = Ok (record {
+  input = path;
+  output = below out.path (with_extension out.extension name);
+  path_in_folder = None;
+  is_copy = false;
+} ∷ [])
+
+abbrev pub pages_of : Destination → Operand → Result (List Page) Fault
 pages_of out standard_input = Err (no_name (codes "-"))
 pages_of out (file path) = named_page out path (file_name (place path))
-pages_of out (folder from paths) = Ok (map (page_below out from) (pages_among paths))
+pages_of out (folder from paths) =
+    Ok (map (page_below out from) (pages_among paths) ++ map (copy_below out from) (copies_among out from paths))
 
 abbrev pub after : List Page → Result (List Page) Fault → Result (List Page) Fault
 after pages (Ok others) = Ok (pages ++ others)
@@ -94,7 +127,7 @@ and_then (Ok pages) others = after pages others
 and_then (Err fault) others = Err fault
 
 -- the pages of operands, in order
-abbrev pub pages_in : List ℕ → List Operand → Result (List Page) Fault
+abbrev pub pages_in : Destination → List Operand → Result (List Page) Fault
 pages_in out [] = Ok []
 pages_in out (operand ∷ operands) = and_then (pages_of out operand) (pages_in out operands)
 
@@ -170,8 +203,8 @@ only_input (first ∷ second ∷ others) = Err (several (path_of first) (path_of
 abbrev pub names_folder : Destination → Bool
 names_folder out = out.is_folder || ends_with_slash out.path
 
-abbrev pub pages_below : List ℕ → List Operand → Result (List Page) Fault
-pages_below out operands = if_below out (pages_in out operands)
+abbrev pub pages_below : Destination → List Operand → Result (List Page) Fault
+pages_below out operands = if_below out.path (pages_in out operands)
 
 -- what is read, unless it is a folder
 abbrev pub input_path : Operand → Option (List ℕ)
@@ -186,10 +219,10 @@ single_input (first ∷ second ∷ others) = None
 
 -- with `-o`: a single file is written to what it names, unless that is a folder
 abbrev pub pages_at : Destination → List Operand → Option (List ℕ) → Result (List Page) Fault
-pages_at out operands None = pages_below out.path operands
+pages_at out operands None = pages_below out operands
 pages_at out operands (Some path) =
-    if names_folder out then pages_below out.path operands
-    else Ok (record { input = path; output = out.path; path_in_folder = None } ∷ [])
+    if names_folder out then pages_below out operands
+    else Ok (record { input = path; output = out.path; path_in_folder = None; is_copy = false } ∷ [])
 
 abbrev pub pages_to : Destination → List Operand → Result (List Page) Fault
 pages_to out operands = pages_at out operands (single_input operands)

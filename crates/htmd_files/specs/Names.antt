@@ -1,9 +1,13 @@
--- Which files are pages, by their names, and how the files of their Markdown are named.
-use Rattle.std.specs.Prelude.{ℕ, ◌-◌, Bool, if◌then◌else◌, List, ◌++◌, length, take, drop, map, codes}
+-- Which files are pages, by their names, how their outputs are named, and which names outputs have until they are
+-- finished.
+use Rattle.std.specs.Prelude.{ℕ, ◌-◌, Bool, true, false, ◌&&◌, ◌||◌, ◌==◌, nat_eq, if◌then◌else◌, List, [], ◌∷◌, ◌++◌}
+use Rattle.std.specs.Prelude.{length, take, drop, map, codes}
 use Rattle.std.specs.Prelude.{Option, Some, None, is_some, unwrap_or}
 use Rattle.std.specs.Char.{to_ascii_lowercase}
+use Rattle.std.specs.List.{ends_with}
 use Rattle.std.specs.Option.{option_or}
 use Rattle.std.specs.Str.{bytes_eq}
+use Rattle.htmd_lexical.specs.Characters.{full_stop, slash}
 
 -- the last bytes, as many as an ending has
 abbrev pub stem_len : List ℕ → List ℕ → ℕ
@@ -27,6 +31,19 @@ page_stem path = option_or (before_ending path (codes ".html"))
 abbrev pub is_page : List ℕ → Bool
 is_page path = is_some (page_stem path)
 
--- the path of its Markdown: `.md` in place of the ending of a page, else after all
-abbrev pub md_name : List ℕ → List ℕ
-md_name path = unwrap_or (page_stem path) path ++ codes ".md"
+-- the name of an unfinished output
+abbrev pub is_unfinished : List ℕ → Bool
+is_unfinished path = ends_with nat_eq path (codes ".htmd-partial")
+
+-- a name in the path begins with a full stop: here, if one begins here, or behind a slash
+abbrev pub hides : Bool → List ℕ → Bool
+hides begins [] = false
+hides begins (b ∷ path) = (begins && b == full_stop) || hides (b == slash) path
+
+-- a hidden file, or one in a hidden folder
+abbrev pub is_hidden : List ℕ → Bool
+is_hidden path = hides true path
+
+-- the path of its output: with this extension in place of the ending of a page, else after all
+abbrev pub with_extension : List ℕ → List ℕ → List ℕ
+with_extension extension path = unwrap_or (page_stem path) path ++ codes "." ++ extension

@@ -91,6 +91,10 @@ alike false b = not b
 abbrev pub is_below : Place → Place → Bool
 is_below folder at = alike folder.is_absolute at.is_absolute && leads_down (names_after folder.names at.names)
 
+-- a folder itself, or below it
+abbrev pub is_within : List ℕ → List ℕ → Bool
+is_within folder path = is_below (place folder) (place path) || is_same folder path
+
 -- the last name, which comes first here, if it is that of a file or a folder
 abbrev pub last_name : List (List ℕ) → Option (List ℕ)
 last_name [] = None

@@ -23,13 +23,19 @@ operand_of (operand.File path) = spec.file (string_bytes path)
 operand_of (operand.Folder path files) = spec.folder (string_bytes path) (texts_of files.items)
 
 abbrev pub destination_of : held_destination.Destination → spec.Destination
-destination_of out = record { path = out.path.now; is_folder = out.is_folder }
+destination_of out = record {
+  path = out.path.now;
+  is_folder = out.is_folder;
+  extension = out.extension.now;
+  copies = out.copies;
+}
 
 abbrev pub page_of : held_page.Page → spec.Page
 page_of page = record {
   input = string_bytes page.input;
   output = string_bytes page.output;
   path_in_folder = option_map (λ path. string_bytes path) page.path_in_folder;
+  is_copy = page.is_copy;
 }
 
 abbrev pub pages_of : List held_page.Page → List spec.Page

@@ -1,6 +1,6 @@
 -- What each plan keeps.
 use Rattle.std.specs.Prelude.{◌≡◌, ◌≢◌, ℕ, Bool, true, false, not, ◌&&◌, List, [], ◌++◌, Option, Some, None, is_some}
-use Rattle.std.specs.Prelude.{All, AllPairs, ⊤}
+use Rattle.std.specs.Prelude.{All, AllPairs, MatchBool, ⊤}
 use Rattle.std.specs.Prelude.{◌<◌, codes, length}
 use Rattle.htmd_files.specs.Paths.{normal, place, is_below}
 use Rattle.htmd_files.specs.FilePlans.{Operand, Destination, Page, FilePlan, standard_output, files, single_input}
@@ -33,10 +33,20 @@ AreBelow None operands pages = ⊤
 AreBelow (Some out) operands pages =
     writes_one out operands ≡ false → All (λ page. is_below (place out.path) (place page.output) ≡ true) pages
 
--- the output ends in `.md`
-abbrev pub HasMarkdownName : Page → Type 0
-HasMarkdownName page = (stem : List ℕ) × (page.output ≡ stem ++ codes ".md")
+-- the name of the output ends with this extension
+abbrev pub HasExtension : List ℕ → Page → Type 0
+HasExtension extension page = (stem : List ℕ) × (page.output ≡ stem ++ codes "." ++ extension)
 
--- if there are several pages, each output does
-abbrev pub AreNamed : List Page → Type 0
-AreNamed pages = 1 < length pages → All HasMarkdownName pages
+-- such a name is one of unfinished outputs
+abbrev pub HasUnfinishedName : List ℕ → Type 0
+HasUnfinishedName name = (stem : List ℕ) × (name ≡ stem ++ codes ".htmd-partial")
+
+-- a file that is copied has no such name, and a page this extension
+abbrev pub IsNamed : List ℕ → Page → Type 0
+IsNamed extension page =
+    MatchBool page.is_copy (HasUnfinishedName page.output → ⊥) (HasExtension extension page)
+
+-- without `-o` there are no pages; if there are several, each output is named by what `-o` names
+abbrev pub AreNamed : Option Destination → List Page → Type 0
+AreNamed None pages = pages ≡ []
+AreNamed (Some out) pages = 1 < length pages → All (IsNamed out.extension) pages

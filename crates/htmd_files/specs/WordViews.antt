@@ -23,6 +23,8 @@ job_in job = record {
   shows_progress = job.shows_progress;
   is_quiet = job.is_quiet;
   links_to_markdown = job.links_to_markdown;
+  keeps_newer = job.keeps_newer;
+  copies = job.copies;
   options = texts_of job.options.items;
 }
 

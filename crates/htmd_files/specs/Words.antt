@@ -5,13 +5,16 @@ use Rattle.std.specs.Prelude.{Option, Some, None, Result, Ok, Err}
 use Rattle.std.specs.List.{starts_with}
 use Rattle.std.specs.Str.{bytes_eq}
 
--- what is asked for: the files to read, what `-o` names, `--progress`, `--quiet`, `--links=md` and the other options
+-- what is asked for: the files to read, what `-o` names, `--progress`, `--quiet`, `--links=md`, `--newer`, `--copy` and
+-- the other options
 pub record Job : Type 0 where
   pub operands : List (List ℕ)
   pub output : Option (List ℕ)
   pub shows_progress : Bool
   pub is_quiet : Bool
   pub links_to_markdown : Bool
+  pub keeps_newer : Bool
+  pub copies : Bool
   pub options : List (List ℕ)
 
 -- why nothing is: the option has no value, there are two outputs, or links are to lead to something else than Markdown
@@ -38,6 +41,8 @@ no_job = record {
   shows_progress = false;
   is_quiet = false;
   links_to_markdown = false;
+  keeps_newer = false;
+  copies = false;
   options = [];
 }
 
@@ -107,6 +112,8 @@ take_any word job =
     else if is_output_option word then Ok (reading (value word) job)
     else if bytes_eq word (codes "--progress") then Ok (reading any (record job { shows_progress = true }))
     else if bytes_eq word (codes "--quiet") then Ok (reading any (record job { is_quiet = true }))
+    else if bytes_eq word (codes "--newer") then Ok (reading any (record job { keeps_newer = true }))
+    else if bytes_eq word (codes "--copy") then Ok (reading any (record job { copies = true }))
     else take_short word job
 
 abbrev pub take_word : Expected → List ℕ → Job → Result Reading Fault

@@ -147,6 +147,17 @@ pub fn normal_path(alloc: Global, path: &str) -> Result<String, AllocError>
     place.path(alloc)
 }
 
+/// Whether a path is that of a folder, or below it.
+pub(crate) fn is_within(alloc: Global, folder: &str, path: &str) -> Result<bool, AllocError>
+    ensures { IfOk result (λ is. is ≡ spec.is_within folder.now path.now) }
+{
+    let place = place_of(alloc, path)?;
+    if place.is_below(&place_of(alloc, folder)?) {
+        return Ok(true);
+    }
+    Ok(normal_path(alloc, folder)? == normal_path(alloc, path)?)
+}
+
 /// How many names two lists begin with in common.
 fn shared_len(a: &[&str], b: &[&str]) -> usize
     ensures value { result ≡ common_prefix_len bytes_eq (texts a.now) (texts b.now) }

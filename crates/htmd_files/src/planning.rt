@@ -1,18 +1,19 @@
-//! The plan: which pages are read, in which order, and where the Markdown of each is written.
-ghost use Rattle.std.specs.Prelude.{◌≡◌, [], ◌∷◌, ◌++◌, map, find, None, Some, Ok, IfOk, IfErr, OnOk, string_bytes};
+//! The plan: which pages are read and which files are copied, in which order, and where the output of each is written.
+ghost use Rattle.std.specs.Prelude.{◌≡◌, [], ◌∷◌, ◌++◌, false, map, find, None, Some, Ok, IfOk, IfErr, OnOk};
+ghost use Rattle.std.specs.Prelude.{string_bytes};
 ghost use Rattle.std.specs.Prelude.{filter, option_copied, option_map};
 ghost use Rattle.htmd_files.specs.Names as names;
 ghost use Rattle.htmd_files.specs.Paths as paths;
 ghost use Rattle.htmd_files.specs.FilePlans as spec;
-ghost use Rattle.htmd_files.specs.PlaceViews.{texts};
+ghost use Rattle.htmd_files.specs.PlaceViews.{place_in, texts};
 ghost use Rattle.htmd_files.specs.PlanViews.{operand_of, destination_of, page_of, pages_of, plan_in, IsRefusal};
 ghost use Rattle.htmd_files.specs.PlanViews.{HoldsOutputs};
 ghost use Rattle.htmd_files.specs.Promises.{AreApart, KeepInputs, AreBelow, AreNamed, pages_in as pages_written};
 ghost use Rattle.htmd_files.specs.WordViews.{texts_of};
 
 use crate::faults::PlanFault;
-use crate::names::{is_page, md_name};
-use crate::places::{normal_path, place_of};
+use crate::names::{is_hidden, is_page, is_unfinished, with_extension};
+use crate::places::{Place, is_within, normal_path, place_of};
 use std::alloc::{AllocError, Global};
 use std::collections::BTreeMap;
 
@@ -27,20 +28,28 @@ pub enum Operand {
     Folder { path: String, files: Vec<String> },
 }
 
-/// What `-o` names, and whether that is a folder which is there.
+/// What `-o` names.
 #[derive(Clone, Copy)]
 pub struct Destination<'a> {
     pub path: &'a str,
+    /// It is a folder which is there.
     pub is_folder: bool,
+    /// What the names of outputs in a folder end with, without the full stop.
+    pub extension: &'a str,
+    /// Files of a folder that are no pages are copied.
+    pub copies: bool,
 }
 
-/// A page, by the path that is read, which is `-` for standard input, and the one that is written.
+/// A page, or a file that is copied, by the path that is read, which is `-` for standard input, and the one that is
+/// written.
 #[derive(Drop)]
 pub struct Page {
     pub input: String,
     pub output: String,
     /// Its path from the folder on that was named, if it was found below one.
     pub path_in_folder: Option<String>,
+    /// It is a file that is copied.
+    pub is_copy: bool,
 }
 
 /// What is to be done.
@@ -125,15 +134,101 @@ fn pages_among<'a>(alloc: Global, files: &'a [String]) -> Result<Vec<&'a str>, A
     Ok(paths)
 }
 
-/// A page below a folder.
-fn page_below(alloc: Global, folder: &str, path: &str, out: &str) -> Result<Page, AllocError>
-    ensures { IfOk result (λ page. page_of page ≡ spec.page_below out.now folder.now path.now) }
+/// Whether a file of a folder is copied: it is no page, no unfinished output, not hidden, and not below the output, if
+/// that is in the folder.
+fn is_copied(
+    alloc: Global,
+    holds_output: bool,
+    output: &Place<'_>,
+    folder: &str,
+    path: &str,
+) -> Result<bool, AllocError>
+    ensures { IfOk result (λ is. is ≡ spec.is_copied holds_output (place_in output.now) folder.now path.now) }
 {
-    let name = md_name(alloc, path)?;
+    if is_page(path) || is_unfinished(path) || is_hidden(path) {
+        return Ok(false);
+    }
+    if !holds_output {
+        return Ok(true);
+    }
+    let file = joined(alloc, folder, path)?;
+    let place = place_of(alloc, file.as_str())?;
+    Ok(!place.is_below(output))
+}
+
+/// The paths of a folder that are copied.
+fn only_copies<'a>(
+    alloc: Global,
+    folder: &str,
+    files: &'a [String],
+    out: &str,
+) -> Result<Vec<&'a str>, AllocError>
+    ensures { IfOk result (λ copied. texts copied.items ≡ filter
+        (spec.is_copied (paths.is_within folder.now out.now) (paths.place out.now) folder.now) (texts_of files.now)) }
+{
+    let holds_output = is_within(alloc, folder, out)?;
+    let output = place_of(alloc, out)?;
+    let mut copied = Vec::new(alloc);
+    for file in files {
+        if is_copied(alloc, holds_output, &output, folder, file.as_str())? {
+            copied.push(file.as_str())?;
+        }
+    }
+    Ok(copied)
+}
+
+/// The files of a folder that are copied, in the order of their bytes.
+fn copies_among<'a>(
+    alloc: Global,
+    folder: &str,
+    files: &'a [String],
+    out: Destination<'_>,
+) -> Result<Vec<&'a str>, AllocError>
+    ensures { IfOk result (λ copied. texts copied.items
+        ≡ spec.copies_among (destination_of out.entry) folder.now (texts_of files.now)) }
+{
+    if !out.copies {
+        return Ok(Vec::new(alloc));
+    }
+    let mut copied = only_copies(alloc, folder, files, out.path)?;
+    copied.sort()?;
+    Ok(copied)
+}
+
+/// A file below a folder that is copied.
+fn copy_below(
+    alloc: Global,
+    folder: &str,
+    path: &str,
+    out: Destination<'_>,
+) -> Result<Page, AllocError>
+    ensures { IfOk result (λ page.
+        page_of page ≡ spec.copy_below (destination_of out.entry) folder.now path.now) }
+{
     Ok(Page {
         input: joined(alloc, folder, path)?,
-        output: joined(alloc, out, name.as_str())?,
+        output: joined(alloc, out.path, path)?,
         path_in_folder: Some(String::from_str(alloc, path)?),
+        is_copy: true,
+    })
+}
+
+/// A page below a folder.
+fn page_below(
+    alloc: Global,
+    folder: &str,
+    path: &str,
+    out: Destination<'_>,
+) -> Result<Page, AllocError>
+    ensures { IfOk result (λ page.
+        page_of page ≡ spec.page_below (destination_of out.entry) folder.now path.now) }
+{
+    let name = with_extension(alloc, path, out.extension)?;
+    Ok(Page {
+        input: joined(alloc, folder, path)?,
+        output: joined(alloc, out.path, name.as_str())?,
+        path_in_folder: Some(String::from_str(alloc, path)?),
+        is_copy: false,
     })
 }
 
@@ -143,10 +238,10 @@ fn push_paths(
     pages: &mut Vec<Page>,
     folder: &str,
     paths: &[&str],
-    out: &str,
+    out: Destination<'_>,
 ) -> Result<(), AllocError>
-    ensures { OnOk result (pages_of pages.new.items
-        ≡ pages_of pages.old.items ++ map (spec.page_below out.now folder.now) (texts paths.now)) }
+    ensures { OnOk result (pages_of pages.new.items ≡ pages_of pages.old.items
+        ++ map (spec.page_below (destination_of out.entry) folder.now) (texts paths.now)) }
 {
     for path in paths {
         let page = page_below(alloc, folder, path, out)?;
@@ -155,30 +250,58 @@ fn push_paths(
     Ok(())
 }
 
-/// Adds the pages of a folder.
+/// Adds files below a folder that are copied.
+fn push_copies(
+    alloc: Global,
+    pages: &mut Vec<Page>,
+    folder: &str,
+    paths: &[&str],
+    out: Destination<'_>,
+) -> Result<(), AllocError>
+    ensures { OnOk result (pages_of pages.new.items ≡ pages_of pages.old.items
+        ++ map (spec.copy_below (destination_of out.entry) folder.now) (texts paths.now)) }
+{
+    for path in paths {
+        let copy = copy_below(alloc, folder, path, out)?;
+        pages.push(copy)?;
+    }
+    Ok(())
+}
+
+/// Adds the pages of a folder, and the files of it that are copied.
 fn push_folder(
     alloc: Global,
     pages: &mut Vec<Page>,
     folder: &str,
     files: &[String],
-    out: &str,
+    out: Destination<'_>,
 ) -> Result<(), AllocError>
-    ensures { OnOk result (pages_of pages.new.items ≡ pages_of pages.old.items
-        ++ map (spec.page_below out.now folder.now) (spec.pages_among (texts_of files.now))) }
+    ensures { OnOk result (spec.after (pages_of pages.old.items)
+        (spec.pages_of (destination_of out.entry) (spec.folder folder.now (texts_of files.now)))
+        ≡ Ok (pages_of pages.new.items)) }
 {
     let paths = pages_among(alloc, files)?;
-    push_paths(alloc, pages, folder, paths.as_slice(), out)
+    push_paths(alloc, pages, folder, paths.as_slice(), out)?;
+    let copied = copies_among(alloc, folder, files, out)?;
+    push_copies(alloc, pages, folder, copied.as_slice(), out)
 }
 
-/// A page whose Markdown has this name.
-fn named_page(alloc: Global, path: &str, name: &str, out: &str) -> Result<Page, AllocError>
-    ensures { IfOk result (λ page. spec.named_page out.now path.now (Some name.now) ≡ Ok (page_of page ∷ [])) }
+/// A page whose output has this name, but for the extension.
+fn named_page(
+    alloc: Global,
+    path: &str,
+    name: &str,
+    out: Destination<'_>,
+) -> Result<Page, AllocError>
+    ensures { IfOk result (λ page.
+        spec.named_page (destination_of out.entry) path.now (Some name.now) ≡ Ok (page_of page ∷ [])) }
 {
-    let name = md_name(alloc, name)?;
+    let name = with_extension(alloc, name, out.extension)?;
     Ok(Page {
         input: String::from_str(alloc, path)?,
-        output: joined(alloc, out, name.as_str())?,
+        output: joined(alloc, out.path, name.as_str())?,
         path_in_folder: None,
+        is_copy: false,
     })
 }
 
@@ -189,12 +312,12 @@ fn no_name(alloc: Global, path: &str) -> Result<PlanFault, AllocError>
     Ok(PlanFault::NoName { input })
 }
 
-/// The page of a file, whose Markdown is named after it.
-fn file_page(alloc: Global, path: &str, out: &str) -> Result<Page, PlanFault>
-    ensures ok { IfOk result (λ page.
-        spec.named_page out.now path.now (paths.file_name (paths.place path.now)) ≡ Ok (page_of page ∷ [])) }
-    ensures err { IfErr result (IsRefusal
-        (spec.fault_in (spec.named_page out.now path.now (paths.file_name (paths.place path.now))))) }
+/// The page of a file, whose output is named after it.
+fn file_page(alloc: Global, path: &str, out: Destination<'_>) -> Result<Page, PlanFault>
+    ensures ok { IfOk result (λ page. spec.named_page (destination_of out.entry) path.now
+        (paths.file_name (paths.place path.now)) ≡ Ok (page_of page ∷ [])) }
+    ensures err { IfErr result (IsRefusal (spec.fault_in (spec.named_page (destination_of out.entry) path.now
+        (paths.file_name (paths.place path.now))))) }
 {
     let place = place_of(alloc, path)?;
     match place.file_name() {
@@ -208,11 +331,12 @@ fn push_pages(
     alloc: Global,
     pages: &mut Vec<Page>,
     operand: &Operand,
-    out: &str,
+    out: Destination<'_>,
 ) -> Result<(), PlanFault>
-    ensures ok { OnOk result (spec.after (pages_of pages.old.items) (spec.pages_of out.now (operand_of operand.now))
-        ≡ Ok (pages_of pages.new.items)) }
-    ensures err { IfErr result (IsRefusal (spec.fault_in (spec.pages_of out.now (operand_of operand.now)))) }
+    ensures ok { OnOk result (spec.after (pages_of pages.old.items)
+        (spec.pages_of (destination_of out.entry) (operand_of operand.now)) ≡ Ok (pages_of pages.new.items)) }
+    ensures err { IfErr result (IsRefusal
+        (spec.fault_in (spec.pages_of (destination_of out.entry) (operand_of operand.now)))) }
 {
     match operand {
         Operand::StandardInput => return Err(no_name(alloc, "-")?),
@@ -228,10 +352,15 @@ fn push_pages(
 }
 
 /// The pages of operands.
-fn pages_in(alloc: Global, operands: &[Operand], out: &str) -> Result<Vec<Page>, PlanFault>
+fn pages_in(
+    alloc: Global,
+    operands: &[Operand],
+    out: Destination<'_>,
+) -> Result<Vec<Page>, PlanFault>
     ensures ok { IfOk result (λ pages.
-        spec.pages_in out.now (map operand_of operands.now) ≡ Ok (pages_of pages.items)) }
-    ensures err { IfErr result (IsRefusal (spec.fault_in (spec.pages_in out.now (map operand_of operands.now)))) }
+        spec.pages_in (destination_of out.entry) (map operand_of operands.now) ≡ Ok (pages_of pages.items)) }
+    ensures err { IfErr result (IsRefusal
+        (spec.fault_in (spec.pages_in (destination_of out.entry) (map operand_of operands.now)))) }
 {
     let mut pages = Vec::new(alloc);
     for operand in operands {
@@ -268,26 +397,32 @@ fn check_below(alloc: Global, pages: &[Page], out: &str) -> Result<(), PlanFault
 }
 
 /// The pages of operands, all below a folder.
-fn pages_below(alloc: Global, operands: &[Operand], out: &str) -> Result<Vec<Page>, PlanFault>
+fn pages_below(
+    alloc: Global,
+    operands: &[Operand],
+    out: Destination<'_>,
+) -> Result<Vec<Page>, PlanFault>
     ensures ok { IfOk result (λ pages.
-        spec.pages_below out.now (map operand_of operands.now) ≡ Ok (pages_of pages.items)) }
-    ensures err { IfErr result (IsRefusal (spec.fault_in (spec.pages_below out.now (map operand_of operands.now)))) }
+        spec.pages_below (destination_of out.entry) (map operand_of operands.now) ≡ Ok (pages_of pages.items)) }
+    ensures err { IfErr result (IsRefusal
+        (spec.fault_in (spec.pages_below (destination_of out.entry) (map operand_of operands.now)))) }
 {
     let pages = pages_in(alloc, operands, out)?;
-    check_below(alloc, pages.as_slice(), out)?;
+    check_below(alloc, pages.as_slice(), out.path)?;
     Ok(pages)
 }
 
 /// The page of an input whose output is named.
 fn one_page(alloc: Global, path: &str, out: &str) -> Result<Vec<Page>, AllocError>
     ensures { IfOk result (λ pages. pages_of pages.items
-        ≡ record { input = path.now; output = out.now; path_in_folder = None } ∷ []) }
+        ≡ record { input = path.now; output = out.now; path_in_folder = None; is_copy = false } ∷ []) }
 {
     let mut pages = Vec::new(alloc);
     pages.push(Page {
         input: String::from_str(alloc, path)?,
         output: String::from_str(alloc, out)?,
         path_in_folder: None,
+        is_copy: false,
     })?;
     Ok(pages)
 }
@@ -313,11 +448,11 @@ fn pages_to(
     match single_input(operands) {
         Some(path) => {
             if names_folder(out) {
-                return pages_below(alloc, operands, out.path);
+                return pages_below(alloc, operands, out);
             }
             Ok(one_page(alloc, path, out.path)?)
         }
-        None => pages_below(alloc, operands, out.path),
+        None => pages_below(alloc, operands, out),
     }
 }
 
@@ -436,7 +571,8 @@ pub fn plan_of(
         spec.plan (map operand_of operands.now) (option_map destination_of out.entry) ≡ Ok (plan_in plan)) }
     ensures apart { IfOk result (λ plan. AreApart (pages_written (plan_in plan))) }
     ensures inputs { IfOk result (λ plan. KeepInputs (pages_written (plan_in plan))) }
-    ensures named { IfOk result (λ plan. AreNamed (pages_written (plan_in plan))) }
+    ensures named { IfOk result (λ plan.
+        AreNamed (option_map destination_of out.entry) (pages_written (plan_in plan))) }
     ensures below { IfOk result (λ plan. AreBelow
         (option_map destination_of out.entry) (map operand_of operands.now) (pages_written (plan_in plan))) }
     ensures err { IfErr result (IsRefusal

@@ -19,6 +19,10 @@ pub struct Job<'a> {
     pub is_quiet: bool,
     /// `--links=md`.
     pub links_to_markdown: bool,
+    /// `--newer`.
+    pub keeps_newer: bool,
+    /// `--copy`.
+    pub copies: bool,
     /// The other options, in order.
     pub options: Vec<String>,
 }
@@ -44,6 +48,8 @@ impl<'a> Job<'a> {
             shows_progress: false,
             is_quiet: false,
             links_to_markdown: false,
+            keeps_newer: false,
+            copies: false,
             options: Vec::new(alloc),
         }
     }
@@ -170,6 +176,10 @@ impl<'a> Job<'a> {
             self.shows_progress = true;
         } else if word == "--quiet" {
             self.is_quiet = true;
+        } else if word == "--newer" {
+            self.keeps_newer = true;
+        } else if word == "--copy" {
+            self.copies = true;
         } else {
             self.take_short(alloc, word)?;
         }

@@ -2,6 +2,7 @@
 use Rattle.std.proofs.Common.{◌≡◌, ℕ, zero, suc, ◌+◌, ◌-◌, ◌≤◌, ◌<◌, true, false, List, [], ◌∷◌, ◌++◌, map, length}
 use Rattle.std.proofs.Common.{take, drop, get_or, String, Global, string_bytes, Option}
 use Rattle.std.proofs.Common.{refl, sym, ◌∙◌, ap, arith, append_assoc, add-one, not, cond}
+use Rattle.std.specs.Prelude.{slice_get, Some}
 use Rattle.std.specs.List.{prefix_len}
 use Rattle.std.proofs.lemmas.List.{length-map, length-drop, length-take, drop-map, take-map}
 use Rattle.std.proofs.Math.ListN.{get_or-map}
@@ -131,6 +132,23 @@ joined-beside old now xs x y q r e =
     ∙ (ap (followed (inlines_of xs)) (sym e)
     ∙ (sym (joined-last (inlines_of xs) (inline_of x) y)
     ∙ ap (λ zs. joined zs y) (sym (inlines-push xs x) ∙ sym (ap inlines_of q))))))
+
+-- the last one, by its place
+last-split : (xs : List declared_inline.Inline) (k : ℕ) (x : declared_inline.Inline) → k + 1 ≡ length xs
+    → Some x ≡ slice_get xs k → xs ≡ take k xs ++ x ∷ []
+last-split [] k x e h = absurd (omega (arith, e))
+last-split (a ∷ []) zero x e h = cc
+last-split (a ∷ b ∷ xs) zero x e h = absurd (omega (arith, e))
+last-split (a ∷ xs) (suc k) x e h = ap (λ l. a ∷ l) (last-split xs k x (omega (arith, e)) h)
+
+-- an inline that isn't one with the last one comes after it
+pub beside-last : (xs : List declared_inline.Inline) (x : declared_inline.Inline) (y : Inline)
+    → Some x ≡ slice_get xs (length xs - 1) → met (inline_of x) y ≡ inline (inline_of x) (one_inline y)
+    → followed (inlines_of xs) (one_inline y) ≡ joined (inlines_of xs) y
+beside-last [] x y h m = cc
+beside-last (a ∷ xs) x y h m =
+    let split = last-split (a ∷ xs) (length (a ∷ xs) - 1) x (omega arith) h in
+    joined-beside (a ∷ xs) (a ∷ xs) (take (length (a ∷ xs) - 1) (a ∷ xs)) x y split split m
 
 pub inline-text : (s : String Global) → inline_of (Text s) ≡ value.text (string_bytes s)
 unfolding declared_inline.out-Inline denote.Hole.Carrier.out

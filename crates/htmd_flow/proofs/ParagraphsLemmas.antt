@@ -4,22 +4,25 @@ use Rattle.std.proofs.Common.{take, drop, refl, sym, subst, ◌∙◌, ap, arith
 use Rattle.std.proofs.Common.{Result, Ok, Err, IfOk}
 use Rattle.std.specs.Prelude.{encode_utf8, min}
 use Rattle.std.proofs.lemmas.Bool.Decides.{nat_tests}
-use Rattle.std.proofs.lemmas.List.{length-map, length-append, take_all, length-take-le, length-take, take-append-drop, map_push}
+use Rattle.std.proofs.lemmas.List.{append-nil, length-map, length-append, take_all, length-take-le, length-take}
+use Rattle.std.proofs.lemmas.List.{take-append-drop, map_push}
 use Rattle.std.proofs.lemmas.List.Sums.{fold-append}
 use Rattle.std.specs.Prelude.{String, string_bytes}
 use Rattle.std.specs.declared.alloc.Global.{Global}
 use Rattle.std.specs.Str.{chars}
 use Rattle.std.proofs.lemmas.Str.{chars-nil}
 use Rattle.std.proofs.Math.Seq.{take-append_seam}
-use Rattle.htmd_document.specs.Documents.{Inline, Inlines, no_inlines, line_break, anchor}
+use Rattle.htmd_document.specs.Documents.{Block, Inline, Inlines, no_inlines, line_break, anchor}
 use Rattle.htmd_flow.specs.Nesting.{Wrapper, of_format, of_link, wrapper_of, is_same, shared, behind}
 use Rattle.htmd_flow.specs.Nesting.{text_or_code}
 use Rattle.htmd_flow.specs.Paragraphs.{Writing, parted, after_leaf, after_character}
 use Rattle.htmd_flow.specs.Paragraphs.{shared_wrappers, latest_of, is_leaf, spaced_out}
 use Rattle.htmd_flow.specs.Paragraphs.{gap_before, white_behind, is_code_gap, put_before, anchored, shown_content}
-use Rattle.htmd_flow.specs.Paragraphs.{whole_content, gap_behind}
+use Rattle.htmd_flow.specs.Paragraphs.{whole_content, gap_behind, open_paragraph, paragraph_of}
+use Rattle.htmd_flow.specs.declared.paragraphs.Latest.TheVariants.{Nothing}
 use Rattle.htmd_flow.specs.declared.paragraphs.Met.TheVariants as met
-use Rattle.htmd_flow.specs.ParagraphViews.{with_latest, untasked, emptied, IsPut, IsGapPut, IsLike, IsReached}
+use Rattle.htmd_flow.specs.ParagraphViews.{with_blocks, with_latest, untasked, emptied, IsPut, IsGapPut, IsLike}
+use Rattle.htmd_flow.specs.ParagraphViews.{IsReached}
 use Rattle.htmd_document.specs.DocumentViews.{inline_of}
 use Rattle.htmd_document.specs.declared.document.Inline.TheVariants as source
 use Rattle.htmd_flow.specs.Parts.{Around}
@@ -343,3 +346,38 @@ pub taken_of : (mid : Writing) (content : Inlines) (wrappers : List Wrapper) →
 taken_of mid content wrappers e f =
     ap (λ xs. record mid { content = xs; around = wrappers }) e
     ∙ ap (λ (ws : List Wrapper). record mid { content = no_inlines; around = ws }) f
+
+-- ---- where nothing is put
+
+pub without_items : {A : Type 0} (xs : List A) → (length xs == 0) ≡ true → xs ≡ []
+without_items [] e = refl
+without_items (x ∷ xs) e = absurd (grind (arith, nat_tests, e))
+
+-- without anchors
+pub none_put : (w : Writing) (n : ℕ) (around : List Around) → w.anchors ≡ [] → n ≤ length w.around
+    → IsPut w w n (anchored n w.content around w.anchors)
+none_put w n around e h = record {
+  in_item = refl;
+  is_flat = refl;
+  done = refl;
+  latest = refl;
+  met = refl;
+  content = ap (anchored n w.content around) (sym e);
+  wrappers = refl;
+  bound = h;
+}
+
+nothing_open : (w : Writing) → w.latest ≡ Nothing → w.anchors ≡ [] → open_paragraph w ≡ []
+nothing_open w e f =
+    ap (λ ids. paragraph_of (anchored 0 (shown_content w) [] ids)) f
+    ∙ ap (λ l. paragraph_of (cond (is_leaf l) w.content no_inlines)) e
+
+-- a paragraph in which nothing showed, without anchors
+pub idle_ended : (w : Writing) (content : Inlines) (wrappers : List Wrapper) → w.latest ≡ Nothing
+    → w.anchors ≡ [] → content ≡ no_inlines → wrappers ≡ []
+    → record w { content = content; around = wrappers } ≡ emptied (with_blocks w (open_paragraph w))
+idle_ended w content wrappers e f g h =
+    taken_of w content wrappers g h
+    ∙ ap (λ (ids : List (List ℕ)). record w { content = no_inlines; around = []; anchors = ids }) f
+    ∙ ap (λ (d : List Block). record (emptied w) { done = d })
+    (sym (append-nil w.done) ∙ ap (λ bs. w.done ++ bs) (sym (nothing_open w e f)))

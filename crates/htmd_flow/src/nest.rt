@@ -1,5 +1,6 @@
 //! Leaves with what is around them, as inlines in each other.
-ghost use Rattle.std.specs.Prelude.{◌≡◌, ◌≤◌, ◌-◌, ◌++◌, ◌∷◌, [], true, IfOk, length, take, drop, map};
+ghost use Rattle.std.specs.Prelude.{◌≡◌, ◌≤◌, ◌-◌, ◌++◌, ◌∷◌, ℕ, [], List, true, false, IfOk, length, take};
+ghost use Rattle.std.specs.Prelude.{drop, map};
 ghost use Rattle.std.specs.List.{prefix_len};
 ghost use Rattle.htmd_document.specs.DocumentViews.{inline_of, inlines_of};
 ghost use Rattle.htmd_document.specs.Documents as value;
@@ -173,7 +174,9 @@ impl Nest {
         ensures content { IfOk result (λ _. view.content_of self.new ≡ no_inlines) }
     {
         let around = around.clone()?;
-        let before = mem::replace(&mut self.content, Vec::new(self.alloc));
+        // Most have one inline in them, and a list that grows by itself has room for four.
+        let content = Vec::with_capacity(self.alloc, 1)?;
+        let before = mem::replace(&mut self.content, content);
         self.frames.push(Frame { before, around })?;
         Ok(())
     }
@@ -212,6 +215,9 @@ fn join_text(alloc: Global, content: &mut Vec<Inline>, text: &str) -> Result<(),
     ensures { IfOk result (λ _. inlines_of content.new.items
         ≡ spec.joined (inlines_of content.old.items) (value.text text.now)) }
 {
+    if !ends_in_text(content) {
+        return push_text(alloc, content, text);
+    }
     let Some(last) = content.pop() else {
         return push_text(alloc, content, text);
     };
@@ -232,6 +238,9 @@ fn join_code(alloc: Global, content: &mut Vec<Inline>, text: &str) -> Result<(),
     ensures { IfOk result (λ _. inlines_of content.new.items
         ≡ spec.joined (inlines_of content.old.items) (value.code text.now)) }
 {
+    if !ends_in_code(content) {
+        return push_code(alloc, content, text);
+    }
     let Some(last) = content.pop() else {
         return push_code(alloc, content, text);
     };
@@ -248,11 +257,16 @@ fn join_code(alloc: Global, content: &mut Vec<Inline>, text: &str) -> Result<(),
     }
 }
 
+/// Room for a short text, which others often follow, is made at once; an allocation of less takes as much.
+const LEAST_ROOM: usize = 24;
+
 fn push_text(alloc: Global, content: &mut Vec<Inline>, text: &str) -> Result<(), AllocError>
     ensures { IfOk result (λ _. inlines_of content.new.items
         ≡ view.followed (inlines_of content.old.items) (spec.one_inline (value.text text.now))) }
 {
-    content.push(Inline::Text(String::from_str(alloc, text)?))?;
+    let mut copy = String::with_capacity(alloc, text.len().saturating_add(1).max(LEAST_ROOM))?;
+    copy.push_str(text)?;
+    content.push(Inline::Text(copy))?;
     Ok(())
 }
 
@@ -262,4 +276,50 @@ fn push_code(alloc: Global, content: &mut Vec<Inline>, text: &str) -> Result<(),
 {
     content.push(Inline::Code(String::from_str(alloc, text)?))?;
     Ok(())
+}
+
+/// Whether the last of these inlines is a text, which is one with what follows of that kind.
+fn ends_in_text(content: &[Inline]) -> bool
+    ensures { result ≡ false → (s : List ℕ)
+        → view.followed (inlines_of content.now) (spec.one_inline (value.text s))
+        ≡ spec.joined (inlines_of content.now) (value.text s) }
+{
+    match content.last() {
+        Some(last) => is_text(last),
+        None => false,
+    }
+}
+
+/// Whether an inline is a text.
+fn is_text(inline: &Inline) -> bool
+    ensures { result ≡ false → (s : List ℕ) → spec.met (inline_of inline.now) (value.text s)
+        ≡ value.inline (inline_of inline.now) (spec.one_inline (value.text s)) }
+{
+    match inline {
+        Inline::Text(_) => true,
+        _ => false,
+    }
+}
+
+/// Whether the last of these inlines is code, which is one with what follows of that kind.
+fn ends_in_code(content: &[Inline]) -> bool
+    ensures { result ≡ false → (s : List ℕ)
+        → view.followed (inlines_of content.now) (spec.one_inline (value.code s))
+        ≡ spec.joined (inlines_of content.now) (value.code s) }
+{
+    match content.last() {
+        Some(last) => is_code(last),
+        None => false,
+    }
+}
+
+/// Whether an inline is code.
+fn is_code(inline: &Inline) -> bool
+    ensures { result ≡ false → (s : List ℕ) → spec.met (inline_of inline.now) (value.code s)
+        ≡ value.inline (inline_of inline.now) (spec.one_inline (value.code s)) }
+{
+    match inline {
+        Inline::Code(_) => true,
+        _ => false,
+    }
 }

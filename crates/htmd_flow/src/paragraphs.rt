@@ -1,12 +1,12 @@
 //! Parts one after another, as blocks or as one line of inlines.
-ghost use Rattle.std.specs.Prelude.{◌≡◌, ◌≤◌, ◌&&◌, [], map, length, IfOk, string_bytes};
+ghost use Rattle.std.specs.Prelude.{◌≡◌, ◌≤◌, ◌&&◌, [], map, length, true, IfOk, string_bytes};
 ghost use Rattle.htmd_document.specs.DocumentViews.{block_of, blocks_of, inlines_of, bytes_of_title};
 ghost use Rattle.htmd_flow.specs.Nesting as nesting;
 ghost use Rattle.htmd_flow.specs.Nesting.{text_or_code};
 ghost use Rattle.htmd_flow.specs.NestViews.{wrappers_of};
 ghost use Rattle.htmd_flow.specs.ParagraphViews.{writing_in, emptied, untasked, with_blocks};
 ghost use Rattle.htmd_flow.specs.ParagraphViews.{IsReached, IsGapPut, IsLike, IsPut, with_latest};
-ghost use Rattle.htmd_flow.specs.declared.paragraphs.Latest.TheVariants.{Task};
+ghost use Rattle.htmd_flow.specs.declared.paragraphs.Latest.TheVariants.{Nothing, Task};
 ghost use Rattle.htmd_flow.specs.Paragraphs as spec;
 ghost use Rattle.htmd_flow.specs.Parts.{run, picture, break, place, box, edge, whole};
 ghost use Rattle.htmd_flow.specs.PartViews.{around_of};
@@ -68,6 +68,12 @@ impl Latest {
         ensures { result ≡ spec.latest_of is_code }
     {
         if is_code { Latest::Code } else { Latest::Plain }
+    }
+
+    fn is_nothing(self) -> bool
+        ensures { result ≡ true → self ≡ Nothing }
+    {
+        matches!(self, Latest::Nothing)
     }
 
     /// Whether it is a leaf that can be all of a paragraph.
@@ -379,6 +385,9 @@ impl Paragraphs {
         ensures anchors { IfOk result (λ _. (writing_in self.new).anchors ≡ []) }
         ensures rest { IfOk result (λ _. IsLike (writing_in self.old) (writing_in self.new)) }
     {
+        if self.anchors.is_empty() {
+            return Ok(());
+        }
         let anchors = mem::replace(&mut self.anchors, Vec::new(self.alloc));
         for id in anchors {
             self.nest
@@ -457,12 +466,35 @@ impl Paragraphs {
         Ok(())
     }
 
+    /// Whether nothing showed in the paragraph, and no anchors are due.
+    fn is_idle(&self) -> bool
+        ensures { result ≡ true
+            → ((writing_in self.now).latest ≡ Nothing) × ((writing_in self.now).anchors ≡ []) }
+    {
+        if !self.latest.is_nothing() {
+            return false;
+        }
+        self.anchors.is_empty()
+    }
+
+    /// Moves what is in the paragraph to the blocks, if something is.
+    fn end_content(&mut self) -> Result<(), AllocError>
+        ensures { IfOk result (λ _. writing_in self.new
+            ≡ emptied (with_blocks (writing_in self.old) (spec.open_paragraph (writing_in self.old)))) }
+    {
+        if self.is_idle() {
+            self.nest = Nest::new(self.alloc);
+            return Ok(());
+        }
+        let content = self.take()?;
+        self.push_paragraph(content)
+    }
+
     /// Ends the paragraph, if there is one, and begins another.
     fn end(&mut self) -> Result<(), AllocError>
         ensures { IfOk result (λ _. writing_in self.new ≡ spec.ended (writing_in self.old)) }
     {
-        let content = self.take()?;
-        self.push_paragraph(content)?;
+        self.end_content()?;
         self.latest = Latest::Nothing;
         self.gap.clear();
         self.is_blank = true;

@@ -10,8 +10,9 @@ use Rattle.htmd_files.specs.declared.planning.Page.{Page}
 use Rattle.htmd_folders.specs.Changes.{Change, placed, created, moved, removed, obstructed}
 use Rattle.htmd_folders.specs.Changes.{Holding, nothing, unfinished, whole, held, IsReplaceable}
 use Rattle.htmd_folders.specs.Pages.{Conversion, Fails, IsMadeFor, IsUnfinishedName, output_name}
-use Rattle.htmd_folders.specs.FolderConversions.{AtEachMoment, HasUnfinishedName, IsAsBeforeOrWhole, IsSpared}
-use Rattle.htmd_folders.proofs.FolderConversionsLemmas.{TakesOne}
+use Rattle.htmd_folders.specs.FolderConversions.{AtEachMoment, IsAsBeforeOrWhole, IsSpared}
+use Rattle.htmd_files.specs.Promises.{HasUnfinishedName}
+use Rattle.htmd_folders.proofs.FolderConversionsLemmas.{ConvertsOne}
 
 -- two names differ
 pub differs : (name other : List ℕ) → name ≢ other → bytes_eq name other ≡ false
@@ -68,7 +69,7 @@ IsStep page past now =
 
 -- a page that was taken makes that
 pub step_of : (becomes : Conversion) (page : Page) (past : List Change) (after : Option (List Change)) (m n : ℕ)
-    → TakesOne becomes page (Some past) after m n
+    → ConvertsOne becomes page (Some past) after m n
     → (now : List Change) × (after ≡ Some now) × IsStep page past now
 step_of becomes page past after m n (inl ((bytes, h, (written, partial, b, made, place, e)), f)) = (
   moved partial (output_name page) written ∷ created partial ∷ past,

@@ -1,15 +1,16 @@
 -- What follows from how the pages of a run were taken.
-use Rattle.std.proofs.Common.{◌≡◌, ◌≢◌, ◌⊎◌, ℕ, List, [], ◌∷◌, ◌++◌, Option, None, Some}
-use Rattle.std.proofs.Common.{refl, sym, ◌∙◌, ap, subst, inl, inr, append_assoc}
+use Rattle.std.proofs.Common.{◌≡◌, ◌≢◌, ◌⊎◌, ℕ, Bool, List, [], ◌∷◌, ◌++◌, Option, None, Some}
+use Rattle.std.proofs.Common.{refl, sym, ◌∙◌, ap, subst, inl, inr, append_assoc, arith}
 use Rattle.std.proofs.Math.Nat.{suc-ne-zero}
 use Rattle.std.specs.List.{AllByRecursion}
+use Rattle.htmd_files.specs.Promises.{HasUnfinishedName}
 use Rattle.htmd_files.specs.declared.planning.Page.{Page}
 use Rattle.htmd_folders.specs.Changes.{Change, created, nothing, unfinished, whole, held, IsReplaceable}
 use Rattle.htmd_folders.specs.Pages.{Conversion, input_name, output_name}
-use Rattle.htmd_folders.specs.FolderConversions.{Takes, HasUnfinishedName, AreSparing, IsApart, AreApart, IsSpared}
+use Rattle.htmd_folders.specs.FolderConversions.{Takes, AreSparing, IsApart, AreApart, IsSpared}
 use Rattle.htmd_folders.specs.FolderConversions.{IsConverted, IsConvertedOrKept, IfKnown}
 use Rattle.htmd_folders.specs.FolderConversions.{AtEachMoment, IsAsBeforeOrWhole, IsNeverHalf}
-use Rattle.htmd_folders.proofs.FolderConversionsLemmas.{TakesOne}
+use Rattle.htmd_folders.proofs.FolderConversionsLemmas.{ConvertsAll, ConvertsOne, converts_all}
 use Rattle.htmd_folders.proofs.ChangesLemmas.{step_of, spared_by, obstacle_by, held_output, held_kept, some_same}
 use Rattle.htmd_folders.proofs.ChangesLemmas.{moments_by, moments_map, moments_append, whole_at_each, whole_now}
 
@@ -20,13 +21,13 @@ all_by P Q R [] f p q = tt
 all_by P Q R (x ∷ xs) f (p, ps) (q, qs) = (f x p q, all_by P Q R xs f ps qs)
 
 -- the page was converted, or some page failed and its output is as it was
-abbrev pub IsConvertedIf : Conversion → List Change → List Change → ℕ → Page → Type 0
+abbrev IsConvertedIf : Conversion → List Change → List Change → ℕ → Page → Type 0
 IsConvertedIf becomes past now failed page =
     IsConverted becomes past now page
     ⊎ ((failed ≢ 0) × (held (output_name page) now ≡ held (output_name page) past))
 
 -- what is known after a run
-pub record Known (becomes : Conversion) (pages : List Page) (past now : List Change) (failed : ℕ) : Type 0 where
+record Known (becomes : Conversion) (pages : List Page) (past now : List Change) (failed : ℕ) : Type 0 where
   pub spared : (name : List ℕ) → AreSparing name pages → IsSpared name past now
   pub apart : AreApart pages → AllByRecursion (IsConvertedIf becomes past now failed) pages
   pub obstacles : (name : List ℕ) → (IsReplaceable (held name past) → ⊥) → held name now ≡ held name past
@@ -61,7 +62,7 @@ obstacle_between name past mid e k r = k (subst IsReplaceable e r)
 -- the first page, if the rest of the pages spare its output
 first_page : (becomes : Conversion) (page : Page) (past between now : List Change) (failed others : ℕ)
     → held (output_name page) now ≡ held (output_name page) between
-    → TakesOne becomes page (Some past) (Some between) failed others → IsConvertedIf becomes past now failed page
+    → ConvertsOne becomes page (Some past) (Some between) failed others → IsConvertedIf becomes past now failed page
 first_page becomes page past between now failed others k (inl ((bytes, h, (written, partial, b, made, place, e)), f)) =
     let out = output_name page in
     inl (
@@ -76,7 +77,7 @@ first_page becomes page past between now failed others k (inr (h, f)) =
 
 -- how many failed, with the first page and without it
 fewer : (becomes : Conversion) (page : Page) (a b : Option (List Change)) (failed others : ℕ)
-    → TakesOne becomes page a b failed others → others ≢ 0 → failed ≢ 0
+    → ConvertsOne becomes page a b failed others → others ≢ 0 → failed ≢ 0
 fewer becomes page a b failed others (inl (h, f)) n = λ z. n (sym f ∙ z)
 fewer becomes page a b failed others (inr (h, f)) n = λ z. suc-ne-zero others (sym f ∙ z)
 
@@ -97,7 +98,7 @@ sparing page (later ∷ more) (a, rest) = (λ e. a.1 (sym e), sparing page more 
 
 -- the pages after the first one spare its output
 output_kept : (becomes : Conversion) (page : Page) (more : List Page) (between now : List Change) (others : ℕ)
-    → Takes becomes more (Some between) (Some now) others → AllByRecursion (IsApart page) more
+    → ConvertsAll becomes more (Some between) (Some now) others → AllByRecursion (IsApart page) more
     → ((name : List ℕ) → AreSparing name more → IsSpared name between now)
     → held (output_name page) now ≡ held (output_name page) between
 output_kept becomes page [] between now others (e, z) a s = ap (held (output_name page)) (some_same e)
@@ -105,21 +106,21 @@ output_kept becomes page (later ∷ more) between now others t (a, rest) s =
     kept_if (output_name page) between now a.2
     (s (output_name page) (sparing page (later ∷ more) (a, rest)))
 
-pub known : (becomes : Conversion) (pages : List Page) (past : List Change) (after : Option (List Change))
-    (failed : ℕ) → Takes becomes pages (Some past) after failed
+known : (becomes : Conversion) (pages : List Page) (past : List Change) (after : Option (List Change))
+    (failed : ℕ) → ConvertsAll becomes pages (Some past) after failed
     → (now : List Change) × (after ≡ Some now) × Known becomes pages past now failed
 known becomes [] past after failed (e, z) =
     (past, e, record { spared = λ name s. inl refl; apart = λ a. tt; obstacles = λ name k. refl })
 known becomes (page ∷ more) past after failed (between, others, rest, one) =
     let step = step_of becomes page past between failed others one in
     let mid = step.0 in
-    let T : Option (List Change) → Type 0 = λ x. Takes becomes more x after others in
-    let O : Option (List Change) → Type 0 = λ x. TakesOne becomes page (Some past) x failed others in
+    let T : Option (List Change) → Type 0 = λ x. ConvertsAll becomes more x after others in
+    let O : Option (List Change) → Type 0 = λ x. ConvertsOne becomes page (Some past) x failed others in
     let one' = subst O step.1 one in
     let rest' = subst T step.1 rest in
     let next = known becomes more mid after others rest' in
     let now = next.0 in
-    let N : Option (List Change) → Type 0 = λ x. Takes becomes more (Some mid) x others in (
+    let N : Option (List Change) → Type 0 = λ x. ConvertsAll becomes more (Some mid) x others in (
       now,
       next.1,
       record {
@@ -149,50 +150,56 @@ or_kept : (P Q R : Type 0) → P ⊎ (R × Q) → P ⊎ Q
 or_kept P Q R (inl p) = inl p
 or_kept P Q R (inr (r, q)) = inr q
 
-pub converted_law : (becomes : Conversion) (pages : List Page) (before after : Option (List Change)) (failed : ℕ)
-    → Takes becomes pages before after failed → failed ≡ 0 → AreApart pages
-    → IfKnown before after (λ past now. AllByRecursion (IsConverted becomes past now) pages)
-converted_law becomes pages None after failed t z a = tt
-converted_law becomes pages (Some past) after failed t z a =
-    let k = known becomes pages past after failed t in
-    let P : Page → Type 0 = IsConvertedIf becomes past k.0 failed in (
-      k.0,
-      k.1,
-      all_by P P (IsConverted becomes past k.0) pages
-          (λ page p q. unless_failed (IsConverted becomes past k.0 page)
-          (held (output_name page) k.0 ≡ held (output_name page) past) failed z p) (k.2.apart a) (k.2.apart a),
-    )
+module _ (becomes : Conversion) (keeps : Bool) (pages : List Page) where
+  pub converted_law : (before after : Option (List Change)) (left failed : ℕ)
+      → Takes becomes keeps pages before after left failed → left ≡ 0 → failed ≡ 0 → AreApart pages
+      → IfKnown before after (λ past now. AllByRecursion (IsConverted becomes past now) pages)
+  converted_law None after left failed t y z a = tt
+  converted_law (Some past) after left failed t y z a =
+      let all = converts_all becomes keeps pages (Some past) after 0 0 left failed t in
+      let k = known becomes pages past after all.0 all.1 in
+      let none : all.0 ≡ 0 = (let e = all.2 in omega (arith, e, y, z)) in
+      let P : Page → Type 0 = IsConvertedIf becomes past k.0 all.0 in (
+        k.0,
+        k.1,
+        all_by P P (IsConverted becomes past k.0) pages
+            (λ page p q. unless_failed (IsConverted becomes past k.0 page)
+            (held (output_name page) k.0 ≡ held (output_name page) past) all.0 none p) (k.2.apart a) (k.2.apart a),
+      )
 
-pub kept_law : (becomes : Conversion) (pages : List Page) (before after : Option (List Change)) (failed : ℕ)
-    → Takes becomes pages before after failed → AreApart pages
-    → IfKnown before after (λ past now. AllByRecursion (IsConvertedOrKept becomes past now) pages)
-kept_law becomes pages None after failed t a = tt
-kept_law becomes pages (Some past) after failed t a =
-    let k = known becomes pages past after failed t in
-    let P : Page → Type 0 = IsConvertedIf becomes past k.0 failed in (
-      k.0,
-      k.1,
-      all_by P P (IsConvertedOrKept becomes past k.0) pages
-          (λ page p q. or_kept (IsConverted becomes past k.0 page)
-          (held (output_name page) k.0 ≡ held (output_name page) past) (failed ≢ 0) p) (k.2.apart a) (k.2.apart a),
-    )
+  pub kept_law : (before after : Option (List Change)) (left failed : ℕ)
+      → Takes becomes keeps pages before after left failed → AreApart pages
+      → IfKnown before after (λ past now. AllByRecursion (IsConvertedOrKept becomes past now) pages)
+  kept_law None after left failed t a = tt
+  kept_law (Some past) after left failed t a =
+      let all = converts_all becomes keeps pages (Some past) after 0 0 left failed t in
+      let k = known becomes pages past after all.0 all.1 in
+      let P : Page → Type 0 = IsConvertedIf becomes past k.0 all.0 in (
+        k.0,
+        k.1,
+        all_by P P (IsConvertedOrKept becomes past k.0) pages
+            (λ page p q. or_kept (IsConverted becomes past k.0 page)
+            (held (output_name page) k.0 ≡ held (output_name page) past) (all.0 ≢ 0) p) (k.2.apart a) (k.2.apart a),
+      )
 
-pub others_law : (becomes : Conversion) (pages : List Page) (before after : Option (List Change)) (failed : ℕ)
-    → Takes becomes pages before after failed
-    → IfKnown before after (λ past now. (name : List ℕ) → AreSparing name pages → IsSpared name past now)
-others_law becomes pages None after failed t = tt
-others_law becomes pages (Some past) after failed t =
-    let k = known becomes pages past after failed t in
-    (k.0, k.1, k.2.spared)
+  pub others_law : (before after : Option (List Change)) (left failed : ℕ)
+      → Takes becomes keeps pages before after left failed
+      → IfKnown before after (λ past now. (name : List ℕ) → AreSparing name pages → IsSpared name past now)
+  others_law None after left failed t = tt
+  others_law (Some past) after left failed t =
+      let all = converts_all becomes keeps pages (Some past) after 0 0 left failed t in
+      let k = known becomes pages past after all.0 all.1 in
+      (k.0, k.1, k.2.spared)
 
-pub obstacles_law : (becomes : Conversion) (pages : List Page) (before after : Option (List Change)) (failed : ℕ)
-    → Takes becomes pages before after failed
-    → IfKnown before after (λ past now. (name : List ℕ) → (IsReplaceable (held name past) → ⊥)
-    → held name now ≡ held name past)
-obstacles_law becomes pages None after failed t = tt
-obstacles_law becomes pages (Some past) after failed t =
-    let k = known becomes pages past after failed t in
-    (k.0, k.1, k.2.obstacles)
+  pub obstacles_law : (before after : Option (List Change)) (left failed : ℕ)
+      → Takes becomes keeps pages before after left failed
+      → IfKnown before after (λ past now. (name : List ℕ) → (IsReplaceable (held name past) → ⊥)
+      → held name now ≡ held name past)
+  obstacles_law None after left failed t = tt
+  obstacles_law (Some past) after left failed t =
+      let all = converts_all becomes keeps pages (Some past) after 0 0 left failed t in
+      let k = known becomes pages past after all.0 all.1 in
+      (k.0, k.1, k.2.obstacles)
 
 -- ---- each moment
 
@@ -211,8 +218,8 @@ something_between name past mid n (inl e) u = λ z. n u (sym e ∙ z)
 something_between name past mid n (inr (bytes, w)) u = λ z. let e : whole bytes ≡ nothing = sym w ∙ z in cc
 
 -- the moments of a run
-pub moments : (becomes : Conversion) (pages : List Page) (past : List Change) (after : Option (List Change))
-    (failed : ℕ) → Takes becomes pages (Some past) after failed
+moments : (becomes : Conversion) (pages : List Page) (past : List Change) (after : Option (List Change))
+    (failed : ℕ) → ConvertsAll becomes pages (Some past) after failed
     → (changes : List Change) × (after ≡ Some (changes ++ past))
     × ((name : List ℕ) → (HasUnfinishedName name → held name past ≢ nothing)
     → AtEachMoment (IsAsBeforeOrWhole name past) changes past)
@@ -222,7 +229,7 @@ moments becomes (page ∷ more) past after failed (between, others, rest, one) =
     let made = moments_by page past step.0 step.2 in
     let sooner = made.0 in
     let mid = sooner ++ past in
-    let T : Option (List Change) → Type 0 = λ x. Takes becomes more x after others in
+    let T : Option (List Change) → Type 0 = λ x. ConvertsAll becomes more x after others in
     let next = moments becomes more mid after others (subst T (step.1 ∙ ap Some made.1) rest) in (
       next.0 ++ sooner,
       next.1 ∙ ap Some (sym (append_assoc next.0 sooner past)),
@@ -235,7 +242,9 @@ moments becomes (page ∷ more) past after failed (between, others, rest, one) =
           (whole_at_each name sooner past (made.2 name n)),
     )
 
-pub never_half_law : (becomes : Conversion) (pages : List Page) (before after : Option (List Change)) (failed : ℕ)
-    → Takes becomes pages before after failed → IsNeverHalf before after
-never_half_law becomes pages None after failed t = tt
-never_half_law becomes pages (Some past) after failed t = moments becomes pages past after failed t
+pub never_half_law : (becomes : Conversion) (keeps : Bool) (pages : List Page) (before after : Option (List Change))
+    (left failed : ℕ) → Takes becomes keeps pages before after left failed → IsNeverHalf before after
+never_half_law becomes keeps pages None after left failed t = tt
+never_half_law becomes keeps pages (Some past) after left failed t =
+    let all = converts_all becomes keeps pages (Some past) after 0 0 left failed t in
+    moments becomes pages past after all.0 all.1

@@ -13,17 +13,22 @@ use Rattle.htmd_files.specs.Promises as promise
 use Rattle.htmd_files.specs.Words.{Job}
 use Rattle.htmd_files.specs.WordViews.{text_of}
 use Rattle.htmd_folders.specs.Changes.{Change, Makes}
-use Rattle.htmd_folders.specs.Plans.{IsPlace, IsPlanOf, LeadTo}
+use Rattle.htmd_folders.specs.Plans.{AreFinished, IsPlace, IsPlanOf, LeadTo, destination}
 use Rattle.htmd_folders.specs.PlanViews.{HasPagesApart, HasPlace, IsNoPlan}
-use Rattle.htmd_folders.proofs.ApartLemmas.{are_apart}
+use Rattle.htmd_folders.proofs.ApartLemmas.{are_apart, none_apart}
 use Rattle.htmd_folders.proofs.OperandsLemmas.{still_known}
 
 -- ---- the pages of a plan
 
-pub plan_apart : (planned : FilePlan) → promise.AreApart (pages_in (plan_in planned))
-    → KeepInputs (pages_in (plan_in planned)) → AreNamed (pages_in (plan_in planned)) → HasPagesApart planned
-plan_apart (held.StandardOutput input) outputs inputs names = tt
-plan_apart (held.Files pages) outputs inputs names = are_apart pages.items outputs inputs names
+pub plan_apart : (asked : Job) (extension : List ℕ) (is_folder : Bool) (output : Option (List ℕ)) (planned : FilePlan)
+    → AreFinished extension → promise.AreApart (pages_in (plan_in planned)) → KeepInputs (pages_in (plan_in planned))
+    → AreNamed (option_map (destination asked extension is_folder) output) (pages_in (plan_in planned))
+    → HasPagesApart planned
+plan_apart asked extension is_folder output (held.StandardOutput input) finished outputs inputs names = tt
+plan_apart asked extension is_folder None (held.Files pages) finished outputs inputs names =
+    none_apart pages.items names
+plan_apart asked extension is_folder (Some path) (held.Files pages) finished outputs inputs names =
+    are_apart (destination asked extension is_folder path) pages.items finished outputs inputs names
 
 -- ---- why there is no plan
 
@@ -33,22 +38,29 @@ fault_is (Err g) f e =
     let same : g ≡ f = cc in
     ap Err same
 
-given_fault : (before : Option (List Change)) (asked : Job) (missed : List (List ℕ))
-    (r : Result plans.FilePlan plans.Fault) (f : plans.Fault) → IsPlanOf before asked missed r
+given_fault : (before : Option (List Change)) (asked : Job) (extension : List ℕ) (missed : List (List ℕ))
+    (r : Result plans.FilePlan plans.Fault) (f : plans.Fault) → IsPlanOf before asked extension missed r
     → plans.fault_in r ≡ Some f
-    → (missed : List (List ℕ)) × (reason : plans.Fault) × IsPlanOf before asked missed (Err reason)
-given_fault before asked missed r f is e = (missed, f, subst (IsPlanOf before asked missed) (fault_is r f e) is)
+    → (missed : List (List ℕ)) × (reason : plans.Fault) × IsPlanOf before asked extension missed (Err reason)
+given_fault before asked extension missed r f is e =
+    (missed, f, subst (IsPlanOf before asked extension missed) (fault_is r f e) is)
 
-pub no_plan : (before : Option (List Change)) (asked : Job) (missed : List (List ℕ))
-    (r : Result plans.FilePlan plans.Fault) (refused : PlanFault) → IsPlanOf before asked missed r
-    → IsRefusal (plans.fault_in r) refused → IsNoPlan before asked refused
-no_plan before asked missed r fault.Memory is e = tt
-no_plan before asked missed r (fault.Several first second) is e = given_fault before asked missed r _ is e
-no_plan before asked missed r (fault.Folder folder) is e = given_fault before asked missed r _ is e
-no_plan before asked missed r (fault.NoName input) is e = given_fault before asked missed r _ is e
-no_plan before asked missed r (fault.Outside input output folder) is e = given_fault before asked missed r _ is e
-no_plan before asked missed r (fault.Shared first second output) is e = given_fault before asked missed r _ is e
-no_plan before asked missed r (fault.Overwritten input output) is e = given_fault before asked missed r _ is e
+pub no_plan : (before : Option (List Change)) (asked : Job) (extension : List ℕ) (missed : List (List ℕ))
+    (r : Result plans.FilePlan plans.Fault) (refused : PlanFault) → IsPlanOf before asked extension missed r
+    → IsRefusal (plans.fault_in r) refused → IsNoPlan before asked extension refused
+no_plan before asked extension missed r fault.Memory is e = tt
+no_plan before asked extension missed r (fault.Several first second) is e =
+    given_fault before asked extension missed r _ is e
+no_plan before asked extension missed r (fault.Folder folder) is e =
+    given_fault before asked extension missed r _ is e
+no_plan before asked extension missed r (fault.NoName input) is e =
+    given_fault before asked extension missed r _ is e
+no_plan before asked extension missed r (fault.Outside input output folder) is e =
+    given_fault before asked extension missed r _ is e
+no_plan before asked extension missed r (fault.Shared first second output) is e =
+    given_fault before asked extension missed r _ is e
+no_plan before asked extension missed r (fault.Overwritten input output) is e =
+    given_fault before asked extension missed r _ is e
 
 -- ---- what was found
 
@@ -60,14 +72,14 @@ pub lists_if : (output : Option (Bor (List ℕ))) (lists : Bool) → lists ≡ i
     → lists ≡ is_some (option_map text_of output)
 lists_if output lists e = e ∙ some_mapped text_of output
 
-pub plan_found : (before between : Option (List Change)) (asked : Job) (lists : Bool) (names : List (List ℕ))
-    (found given : List Operand) (missed : List (List ℕ)) (to : Option plans.Destination)
+pub plan_found : (before between : Option (List Change)) (asked : Job) (extension : List ℕ) (lists : Bool)
+    (names : List (List ℕ)) (found given : List Operand) (missed : List (List ℕ)) (to : Option plans.Destination)
     (r : Result plans.FilePlan plans.Fault) → Makes before between [] → given ≡ found → names ≡ asked.operands
     → lists ≡ is_some asked.output → map plans.path_of (map operand_of found) ≡ names
     → IfSome before (λ past. LeadTo past lists names (map operand_of found) missed)
-    → HasPlace between asked.output to → plans.plan (map operand_of given) to ≡ r
-    → IsPlanOf before asked missed r
-plan_found before between asked lists names found given missed to r m g n l paths leads place is =
+    → HasPlace between asked extension to → plans.plan (map operand_of given) to ≡ r
+    → IsPlanOf before asked extension missed r
+plan_found before between asked extension lists names found given missed to r m g n l paths leads place is =
     let L : Bool → Type 0 = λ b. IfSome before (λ past. LeadTo past b names (map operand_of found) missed) in
     let N : List (List ℕ) → Type 0 =
     λ x. IfSome before (λ past. LeadTo past (is_some asked.output) x (map operand_of found) missed) in

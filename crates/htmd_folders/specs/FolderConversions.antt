@@ -1,23 +1,35 @@
 -- What a run of pages changes.
-use Rattle.std.specs.Prelude.{◌≡◌, ◌≢◌, ◌⊎◌, ℕ, suc, List, [], ◌∷◌, ◌++◌, codes, Option, Some, IfSome, ⊤}
+use Rattle.std.specs.Prelude.{◌≡◌, ◌≢◌, ◌⊎◌, ℕ, suc, Bool, true, List, [], ◌∷◌, ◌++◌, Option, Some, IfSome, ⊤}
 use Rattle.std.specs.List.{AllByRecursion}
+use Rattle.htmd_files.specs.Promises.{HasUnfinishedName}
 use Rattle.htmd_files.specs.declared.planning.Page.{Page}
-use Rattle.htmd_folders.specs.Changes.{Change, held, nothing, unfinished, whole}
+use Rattle.htmd_folders.specs.Changes.{Change, Makes, held, nothing, unfinished, whole}
 use Rattle.htmd_folders.specs.Pages.{Conversion, Converts, Fails, input_name, output_name}
 
--- the pages were taken in order, each was converted or failed, and this many failed
-abbrev pub Takes : Conversion → List Page → Option (List Change) → Option (List Change) → ℕ → Type 0
-Takes becomes [] before after failed = (after ≡ before) × (failed ≡ 0)
-Takes becomes (page ∷ more) before after failed =
-    (between : Option (List Change)) × (others : ℕ) × Takes becomes more between after others
-    × ((Converts becomes page before between × (failed ≡ others))
-    ⊎ (Fails page before between × (failed ≡ suc others)))
+-- A page was taken: it was converted; or if newer outputs are kept, it was left alone, and no file was changed; or it
+-- failed. So many were left alone before and since, and so many failed.
+abbrev pub TakesOne : Conversion → Bool → Page → Option (List Change) → Option (List Change) → (left failed : ℕ)
+    → (left_now failed_now : ℕ) → Type 0
+TakesOne becomes keeps page before after left failed left_now failed_now =
+    (Converts becomes page before after × (left_now ≡ left) × (failed_now ≡ failed))
+    ⊎ (((keeps ≡ true) × Makes before after [] × (left_now ≡ suc left) × (failed_now ≡ failed))
+    ⊎ (Fails page before after × (left_now ≡ left) × (failed_now ≡ suc failed)))
+
+-- the pages were taken in order, after which so many were left alone, and so many failed
+abbrev pub TakesAfter : Conversion → Bool → List Page → Option (List Change) → Option (List Change)
+    → (left failed : ℕ) → (left_now failed_now : ℕ) → Type 0
+TakesAfter becomes keeps [] before after left failed left_now failed_now =
+    (after ≡ before) × (left_now ≡ left) × (failed_now ≡ failed)
+TakesAfter becomes keeps (page ∷ more) before after left failed left_now failed_now =
+    (between : Option (List Change)) × (l : ℕ) × (f : ℕ) × TakesOne becomes keeps page before between left failed l f
+    × TakesAfter becomes keeps more between after l f left_now failed_now
+
+-- the pages were taken in order, of which so many were left alone, and so many failed
+abbrev pub Takes : Conversion → Bool → List Page → Option (List Change) → Option (List Change)
+    → (left failed : ℕ) → Type 0
+Takes becomes keeps pages before after left failed = TakesAfter becomes keeps pages before after 0 0 left failed
 
 -- ---- what follows from that
-
--- such a name is one of unfinished outputs
-abbrev pub HasUnfinishedName : List ℕ → Type 0
-HasUnfinishedName name = (stem : List ℕ) × (name ≡ stem ++ codes ".htmd-partial")
 
 -- none of the pages is written under this name
 abbrev pub AreSparing : List ℕ → List Page → Type 0

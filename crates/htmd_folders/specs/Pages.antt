@@ -1,5 +1,5 @@
 -- What the conversion of a page changes.
-use Rattle.std.specs.Prelude.{◌≡◌, ◌⊎◌, ℕ, List, ◌∷◌, ◌++◌, Option, Some, IfSome, codes, string_bytes}
+use Rattle.std.specs.Prelude.{◌≡◌, ◌⊎◌, ℕ, List, ◌∷◌, ◌++◌, Option, Some, IfSome, MatchBool, codes, string_bytes}
 use Rattle.std.specs.Io.KnownBytes.{Appends}
 use Rattle.htmd_files.specs.declared.planning.Page.{Page}
 use Rattle.htmd_folders.specs.Changes.{Change, created, moved, held, nothing, whole, IsReplaceable, IsLeft}
@@ -24,6 +24,14 @@ output_name page = string_bytes page.output
 -- what a page becomes whose input holds the first bytes
 abbrev pub Conversion : Type 1
 Conversion = Page → List ℕ → List ℕ → Type 0
+
+-- a file that is copied becomes its own bytes, and a page what the conversion makes of it
+abbrev pub or_copy : Conversion → Conversion
+or_copy becomes page bytes written = MatchBool page.is_copy (written ≡ bytes) (becomes page bytes written)
+
+-- all bytes of a source were appended to a sink
+abbrev pub Copies : Option (List ℕ) → Option (List ℕ) → Option (List ℕ) → Type 0
+Copies input before after = IfSome input (λ bytes. Appends before after bytes)
 
 -- a file that isn't finished was made for an output, under a name that held nothing
 abbrev pub IsMadeFor : List ℕ → List ℕ → List Change → Type 0

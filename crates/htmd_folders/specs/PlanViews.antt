@@ -1,5 +1,5 @@
 -- What is found where a name leads; only contracts of private functions cite it.
-use Rattle.std.specs.Prelude.{◌≡◌, ℕ, Bool, List, ◌++◌, map, Option, option_map, IfSome, Err, string_bytes, ⊤}
+use Rattle.std.specs.Prelude.{◌≡◌, ℕ, Bool, List, ◌++◌, map, Option, IfSome, Err, string_bytes, ⊤}
 use Rattle.htmd_files.specs.declared.planning.Operand.{Operand}
 use Rattle.htmd_files.specs.declared.faults.PlanFault.{PlanFault}
 use Rattle.htmd_files.specs.declared.faults.PlanFault.TheVariants as fault
@@ -32,10 +32,10 @@ FindsFiles before name files missed missed_now =
     IfSome before (λ past. IsListing past name files × (missed_now ≡ missed ++ spec.missed_in name files))
 
 -- out of memory, or this is why there is no plan
-abbrev pub IsNoPlan : Option (List Change) → Job → PlanFault → Type 0
-IsNoPlan before asked fault.Memory = ⊤
-IsNoPlan before asked _ =
-    (missed : List (List ℕ)) × (reason : Fault) × spec.IsPlanOf before asked missed (Err reason)
+abbrev pub IsNoPlan : Option (List Change) → Job → List ℕ → PlanFault → Type 0
+IsNoPlan before asked extension fault.Memory = ⊤
+IsNoPlan before asked extension _ =
+    (missed : List (List ℕ)) × (reason : Fault) × spec.IsPlanOf before asked extension missed (Err reason)
 
 -- the pages that are written are apart
 abbrev pub HasPagesApart : FilePlan → Type 0
@@ -43,7 +43,7 @@ HasPagesApart (held.StandardOutput input) = ⊤
 HasPagesApart (held.Files pages) = AreApart pages.items
 
 -- the output that a job names was found to be a folder which is there, or not to be one
-abbrev pub HasPlace : Option (List Change) → Option (List ℕ) → Option Destination → Type 0
-HasPlace before output found =
-    (is_folder : Bool) × IfSome before (λ past. spec.IsPlace past output is_folder)
-    × (found ≡ option_map (spec.destination is_folder) output)
+abbrev pub HasPlace : Option (List Change) → Job → List ℕ → Option Destination → Type 0
+HasPlace before asked extension found =
+    (is_folder : Bool) × IfSome before (λ past. spec.IsPlace past asked.output is_folder)
+    × (found ≡ spec.destination_in asked extension is_folder)

@@ -7,6 +7,7 @@ use Rattle.htmd_files.specs.FilePlans.{plan}
 use Rattle.htmd_files.specs.Names.{is_page}
 use Rattle.htmd_files.specs.Words.{Job}
 use Rattle.htmd_folders.specs.Changes.{Change}
+use Rattle.htmd_files.specs.Promises.{HasUnfinishedName}
 use Rattle.htmd_folders.specs.Listings.{IsFolder, IsListing}
 
 -- the name of a folder is missed if no file below it is a page
@@ -31,22 +32,30 @@ LeadTo past lists (name ∷ names) operands missed =
     × LeadsTo past lists name first of_first × LeadTo past lists names others of_others
     × (operands ≡ first ∷ others) × (missed ≡ of_first ++ of_others)
 
--- a place that may be a folder which is there
-abbrev pub destination : Bool → List ℕ → Destination
-destination is_folder path = record { path = path; is_folder = is_folder }
+-- the output that a job names may be a folder which is there; outputs in it have this extension
+abbrev pub destination : Job → List ℕ → Bool → List ℕ → Destination
+destination asked extension is_folder path =
+    record { path = path; is_folder = is_folder; extension = extension; copies = asked.copies }
+
+abbrev pub destination_in : Job → List ℕ → Bool → Option Destination
+destination_in asked extension is_folder = option_map (destination asked extension is_folder) asked.output
 
 -- the output that a job names is a folder which is there, or it isn't
 abbrev pub IsPlace : List Change → Option (List ℕ) → Bool → Type 0
 IsPlace past None is_folder = is_folder ≡ false
 IsPlace past (Some path) is_folder = (is_folder ≡ true) ↔ IsFolder past path
 
+-- no name with this extension is one of unfinished outputs
+abbrev pub AreFinished : List ℕ → Type 0
+AreFinished extension = (stem : List ℕ) → HasUnfinishedName (stem ++ codes "." ++ extension) → ⊥
+
 -- The plan of a job, or why there is none, and the names that are missed: it is made for what the job's names lead to
 -- before the run changes a file. If it isn't known what the store holds, the operands are those that it answered.
-pub record IsPlanOf (before : Option (List Change)) (asked : Job) (missed : List (List ℕ))
+pub record IsPlanOf (before : Option (List Change)) (asked : Job) (extension : List ℕ) (missed : List (List ℕ))
     (planned : Result FilePlan Fault) : Type 0 where
   pub operands : List Operand
   pub is_folder : Bool
   pub names : map path_of operands ≡ asked.operands
   pub found : IfSome before (λ past. LeadTo past (is_some asked.output) asked.operands operands missed)
   pub place : IfSome before (λ past. IsPlace past asked.output is_folder)
-  pub is : plan operands (option_map (destination is_folder) asked.output) ≡ planned
+  pub is : plan operands (destination_in asked extension is_folder) ≡ planned

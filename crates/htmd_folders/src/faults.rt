@@ -42,13 +42,31 @@ impl fmt::Display for StoreFault {
     }
 }
 
-/// Why a page was not converted.
+/// Why a file was not copied.
+#[derive(Debug, Clone, Copy, PartialEq, Eq, Drop)]
+pub enum CopyFault {
+    Read,
+    Write,
+}
+
+impl fmt::Display for CopyFault {
+    fn fmt<W: fmt::Write>(&self, f: &mut fmt::Formatter<W>) -> fmt::Result {
+        f.write_str(match self {
+            CopyFault::Read => "read failed",
+            CopyFault::Write => "write failed",
+        })
+    }
+}
+
+/// Why a page was not converted, or a file not copied.
 #[derive(Drop)]
 pub enum PageFault<F> {
     /// The input can't be opened.
     Input(StoreFault),
     /// The output can't be made, or not be brought to its name.
     Output(StoreFault),
+    /// The file can't be copied.
+    Copy(CopyFault),
     /// The conversion did not succeed.
     Conversion(F),
 }

@@ -149,8 +149,21 @@ impl<R: Files + std::io::Input> Store for HostStore<'_, R> {
         }
     }
 
-    fn list(&mut self, alloc: Global, folder: &str) -> Result<Listing, StoreFault> {
-        match list_below(alloc, self.runtime, folder) {
+    fn is_newer(&mut self, path: &str, other: &str) -> bool {
+        if other == STANDARD_INPUT {
+            return false;
+        }
+        let (Ok(file), Ok(other)) = (
+            fs::symlink_metadata(self.runtime, path),
+            fs::metadata(self.runtime, other),
+        ) else {
+            return false;
+        };
+        file.is_file() && written_at(&file) > written_at(&other)
+    }
+
+    fn list(&mut self, alloc: Global, folder: &str, all: bool) -> Result<Listing, StoreFault> {
+        match list_below(alloc, self.runtime, folder, all) {
             Ok(listing) => Ok(listing),
             Err(error) => Err(fault_of(&error)),
         }
@@ -178,6 +191,11 @@ fn number_of(metadata: &Metadata) -> FileNumber {
         device: metadata.dev(),
         number: metadata.ino(),
     }
+}
+
+// The seconds and nanoseconds at which a file was last written.
+fn written_at(metadata: &Metadata) -> (i64, i64) {
+    (metadata.mtime(), metadata.mtime_nsec())
 }
 
 // What is known of a file that is to be closed. Network file systems may say only at its closing that a write failed,

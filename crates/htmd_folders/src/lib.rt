@@ -7,6 +7,7 @@
 #![tactic(auto)]
 
 mod conversion;
+mod copies;
 mod faults;
 mod host;
 mod lines;
@@ -22,7 +23,7 @@ mod streams;
 mod walk;
 
 pub use conversion::Conversion;
-pub use faults::{PageFault, StoreFault};
+pub use faults::{CopyFault, PageFault, StoreFault};
 pub use host::HostStore;
 pub use lines::{Lines, ShownName};
 pub use listing::{Listing, Unread};
@@ -31,6 +32,6 @@ pub use operands::{Cause, Missed};
 pub use page::convert_to_file;
 pub use plans::find_plan;
 pub use progress::{Progress, write_total};
-pub use run::{Tally, run_pages};
+pub use run::{RunOptions, Tally, run_pages};
 pub use store::Store;
 pub use streams::MemoryWriter;

@@ -5,8 +5,7 @@ use crate::faults::StoreFault;
 #[derive(Drop)]
 pub struct Listing {
     pub files: Vec<String>,
-    /// What may hold pages, or be one, and can't be read: folders, and names that aren't UTF-8, with U+FFFD in place of
-    /// what isn't.
+    /// What is of concern and can't be read: folders, and names that aren't UTF-8, with U+FFFD in place of what isn't.
     pub unread: Vec<Unread>,
 }
 

@@ -207,7 +207,12 @@ impl Store for MemoryStore {
         Ok(self.has_below(path))
     }
 
-    fn list(&mut self, alloc: Global, folder: &str) -> Result<Listing, StoreFault> {
+    // Files have no times here.
+    fn is_newer(&mut self, _path: &str, _other: &str) -> bool {
+        false
+    }
+
+    fn list(&mut self, alloc: Global, folder: &str, _all: bool) -> Result<Listing, StoreFault> {
         let Ok(files) = self.files_below(alloc, folder) else {
             return Err(StoreFault::Failed(ErrorKind::OutOfMemory));
         };

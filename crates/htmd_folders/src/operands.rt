@@ -50,12 +50,14 @@ impl fmt::Display for Cause {
     }
 }
 
-/// Looks for operands in a store. What is below folders is listed only if requested.
+/// Looks for operands in a store. What is below folders is listed only if requested, and files that are no pages and
+/// can't be read are told only with `copies`.
 pub(crate) fn find_operands<S: Store>(
     alloc: Global,
     store: &mut S,
     names: &[&str],
     lists: bool,
+    copies: bool,
 ) -> Result<Found, AllocError>
     ensures names { IfOk result (λ found. map path_of (map operand_of found.operands.items)
         ≡ map text_of names.now) }
@@ -66,7 +68,7 @@ pub(crate) fn find_operands<S: Store>(
     let mut operands = Vec::new(alloc);
     let mut missed = Vec::new(alloc);
     for name in names {
-        operands.push(find_operand(alloc, store, name, lists, &mut missed)?)?;
+        operands.push(find_operand(alloc, store, name, lists, copies, &mut missed)?)?;
     }
     Ok(Found { operands, missed })
 }
@@ -77,6 +79,7 @@ fn find_operand<S: Store>(
     store: &mut S,
     name: &str,
     lists: bool,
+    copies: bool,
     missed: &mut Vec<Missed>,
 ) -> Result<Operand, AllocError>
     ensures name { IfOk result (λ operand. path_of (operand_of operand) ≡ name.now) }
@@ -88,7 +91,7 @@ fn find_operand<S: Store>(
         return Ok(Operand::StandardInput);
     }
     if is_folder(store, name) {
-        let files = files_of(alloc, store, name, lists, missed)?;
+        let files = files_of(alloc, store, name, lists, copies, missed)?;
         let path = String::from_str(alloc, name)?;
         return Ok(Operand::Folder { path, files });
     }
@@ -102,6 +105,7 @@ fn files_of<S: Store>(
     store: &mut S,
     name: &str,
     lists: bool,
+    copies: bool,
     missed: &mut Vec<Missed>,
 ) -> Result<Vec<String>, AllocError>
     ensures files { IfOk result (λ files. lists ≡ true → FindsFiles (S.changes store.old) name.now
@@ -112,7 +116,7 @@ fn files_of<S: Store>(
     if !lists {
         return Ok(Vec::new(alloc));
     }
-    files_below(alloc, store, name, missed)
+    files_below(alloc, store, name, copies, missed)
 }
 
 /// Whether a folder is under a name. What can't be looked at is none.
@@ -128,13 +132,14 @@ fn files_below<S: Store>(
     alloc: Global,
     store: &mut S,
     name: &str,
+    copies: bool,
     missed: &mut Vec<Missed>,
 ) -> Result<Vec<String>, AllocError>
     ensures files { IfOk result (λ files. FindsFiles (S.changes store.old) name.now (texts_of files.items)
         (missed_in missed.old.items) (missed_in missed.new.items)) }
     ensures same { Makes (S.changes store.old) (S.changes store.new) [] }
 {
-    match store.list(alloc, name) {
+    match store.list(alloc, name, copies) {
         Ok(listing) => take_listing(alloc, name, listing, missed),
         Err(StoreFault::Failed(ErrorKind::OutOfMemory)) => Err(AllocError),
         Err(fault) => {

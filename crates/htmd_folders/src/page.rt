@@ -1,17 +1,15 @@
-//! One page: from its input to its output.
+//! One page, or one file that is copied: from its input to its output.
 ghost use Rattle.std.specs.Prelude.{◌≡◌, ◌∷◌, [], false, IfOk, IfSome, OnOk, OnErr, string_bytes};
 ghost use Rattle.htmd_folders.specs.Changes.{IsNew, Makes, created};
-ghost use Rattle.htmd_folders.specs.Pages.{Converts, Fails, IsMadeFor, IsUnfinishedName, Writes};
+ghost use Rattle.htmd_folders.specs.Pages.{Becomes, Converts, Fails, IsMadeFor, IsUnfinishedName, Writes, or_copy};
 
 use crate::conversion::Conversion;
+use crate::copies::copy;
 use crate::faults::{PageFault, StoreFault};
 use crate::store::Store;
-use htmd_files::Page;
+use htmd_files::{Page, UNFINISHED};
 use htmd_streams::{Sink, Source};
 use std::alloc::{AllocError, Global};
-
-/// What the name of an unfinished output ends with.
-const UNFINISHED: &str = ".htmd-partial";
 
 /// How many names are tried for an unfinished output.
 const MOST_NAMES: u32 = 1000;
@@ -22,9 +20,9 @@ pub(crate) struct Unfinished<W> {
     writer: W,
 }
 
-/// Converts a page. What it becomes is written to a new file beside the output, which is brought under the output's
-/// name when it is whole. Folders that are missing above the output are made. If the page fails, the output stays as it
-/// was, and the file beside it is removed.
+/// Converts a page, or copies a file as it is. What it becomes is written to a new file beside the output, which is
+/// brought under the output's name when it is whole. Folders that are missing above the output are made. If the page
+/// fails, the output stays as it was, and the file beside it is removed.
 pub fn convert_to_file<S: Store, C: Conversion, E: Sink>(
     alloc: Global,
     store: &mut S,
@@ -32,7 +30,7 @@ pub fn convert_to_file<S: Store, C: Conversion, E: Sink>(
     page: &Page,
     errors: &mut E,
 ) -> Result<(), PageFault<C::Fault>>
-    ensures ok { OnOk result (Converts (C.becomes conversion.now) page.now
+    ensures ok { OnOk result (Converts (or_copy (C.becomes conversion.now)) page.now
         (S.changes store.old) (S.changes store.new)) }
     ensures err { OnErr result (Fails page.now (S.changes store.old) (S.changes store.new)) }
 {
@@ -53,22 +51,47 @@ fn write_page<S: Store, C: Conversion, R: Source, E: Sink>(
 ) -> Result<(), PageFault<C::Fault>>
     requires { R.has_failed source.old ≡ false }
     ensures ok { OnOk result (IfSome (S.changes store.old) (λ past. IfSome (R.remaining source.old)
-        (λ bytes. Writes (C.becomes conversion.now) page.now bytes past (S.changes store.new)))) }
+        (λ bytes. Writes (or_copy (C.becomes conversion.now)) page.now bytes past (S.changes store.new)))) }
     ensures err { OnErr result (Fails page.now (S.changes store.old) (S.changes store.new)) }
 {
     let Unfinished { name, mut writer } = match create_below(alloc, store, &page.output) {
         Ok(unfinished) => unfinished,
         Err(fault) => return Err(PageFault::Output(fault)),
     };
-    match conversion.convert(page, source, &mut writer, errors) {
+    match fill(conversion, page, source, &mut writer, errors) {
         Ok(()) => match store.publish(writer, &name, &page.output) {
             Ok(()) => Ok(()),
             Err(fault) => Err(PageFault::Output(fault)),
         },
         Err(fault) => {
             store.discard(writer, &name);
-            Err(PageFault::Conversion(fault))
+            Err(fault)
         }
+    }
+}
+
+// Writes what a page becomes to a file, or copies it there.
+fn fill<C: Conversion, R: Source, W: Sink, E: Sink>(
+    conversion: &C,
+    page: &Page,
+    source: &mut R,
+    writer: &mut W,
+    errors: &mut E,
+) -> Result<(), PageFault<C::Fault>>
+    requires source { R.has_failed source.old ≡ false }
+    requires sink { W.has_failed writer.old ≡ false }
+    ensures { OnOk result (Becomes (or_copy (C.becomes conversion.now) page.now)
+        (R.remaining source.old) (W.contents writer.old) (W.contents writer.new)) }
+{
+    if page.is_copy {
+        return match copy(source, writer) {
+            Ok(()) => Ok(()),
+            Err(fault) => Err(PageFault::Copy(fault)),
+        };
+    }
+    match conversion.convert(page, source, writer, errors) {
+        Ok(()) => Ok(()),
+        Err(fault) => Err(PageFault::Conversion(fault)),
     }
 }
 

@@ -1,26 +1,28 @@
 //! The plan of a job, for what a store has.
 ghost use Rattle.std.specs.Prelude.{◌≡◌, [], IfOk, IfErr, Ok, option_map};
 ghost use Rattle.htmd_files.specs.PlanViews.{destination_of, plan_in};
-ghost use Rattle.htmd_files.specs.WordViews.{job_in, text_of};
+ghost use Rattle.htmd_files.specs.WordViews.{job_in};
 ghost use Rattle.htmd_folders.specs.Changes.{Makes};
 ghost use Rattle.htmd_folders.specs.PlanViews.{missed_in, HasPagesApart, HasPlace, IsNoPlan};
-ghost use Rattle.htmd_folders.specs.Plans.{IsPlanOf};
+ghost use Rattle.htmd_folders.specs.Plans.{AreFinished, IsPlanOf};
 
 use crate::operands::{Found, Missed, find_operands, is_folder};
 use crate::store::Store;
 use htmd_files::{Destination, FilePlan, Job, PlanFault, plan_of};
 use std::alloc::Global;
 
-/// The plan of a job for what a store has where its names lead, and of what nothing is converted. Nothing is changed.
+/// The plan of a job for what a store has where its names lead, and of what nothing is converted. The names of outputs
+/// in a folder have this extension. Nothing is changed.
 pub fn find_plan<S: Store>(
     alloc: Global,
     store: &mut S,
     job: &Job<'_>,
+    extension: &str,
 ) -> Result<(FilePlan, Vec<Missed>), PlanFault>
-    ensures ok { IfOk result (λ found. IsPlanOf (S.changes store.old) (job_in job.now)
+    ensures ok { IfOk result (λ found. IsPlanOf (S.changes store.old) (job_in job.now) extension.now
         (missed_in found.1.items) (Ok (plan_in found.0))) }
-    ensures apart { IfOk result (λ found. HasPagesApart found.0) }
-    ensures err { IfErr result (IsNoPlan (S.changes store.old) (job_in job.now)) }
+    ensures apart { IfOk result (λ found. AreFinished extension.now → HasPagesApart found.0) }
+    ensures err { IfErr result (IsNoPlan (S.changes store.old) (job_in job.now) extension.now) }
     ensures same { Makes (S.changes store.old) (S.changes store.new) [] }
 {
     let Found { operands, missed } = find_operands(
@@ -28,8 +30,9 @@ pub fn find_plan<S: Store>(
         store,
         &job.operands,
         job.output.is_some(),
+        job.copies,
     )?;
-    let destination = find_destination(store, job.output);
+    let destination = find_destination(store, job, extension);
     match plan_of(alloc, &operands, destination) {
         Ok(plan) => Ok((plan, missed)),
         Err(fault) => Err(fault),
@@ -37,15 +40,21 @@ pub fn find_plan<S: Store>(
 }
 
 // The output that is named, and whether that is a folder which is there.
-fn find_destination<'a, S: Store>(store: &mut S, output: Option<&'a str>) -> Option<Destination<'a>>
-    ensures place { HasPlace (S.changes store.old) (option_map text_of output.entry)
+fn find_destination<'a, S: Store>(
+    store: &mut S,
+    job: &Job<'a>,
+    extension: &'a str,
+) -> Option<Destination<'a>>
+    ensures place { HasPlace (S.changes store.old) (job_in job.now) extension.now
         (option_map destination_of result) }
     ensures same { Makes (S.changes store.old) (S.changes store.new) [] }
 {
-    match output {
+    match job.output {
         Some(path) => Some(Destination {
             path,
             is_folder: is_folder(store, path),
+            extension,
+            copies: job.copies,
         }),
         None => None,
     }

@@ -10,7 +10,7 @@ use std::fmt::Write;
 pub enum Progress {
     /// Nothing.
     Quiet,
-    /// How many pages were converted and how many failed, in a last line.
+    /// How many pages were converted, failed, and so on, in a last line.
     Total,
     /// The same, and a count meanwhile, which is written over itself.
     Count,
@@ -38,15 +38,27 @@ pub(crate) fn clear_count<E: Sink>(errors: &mut E, progress: Progress) {
     }
 }
 
-/// Writes how many pages were converted and how many failed, unless nothing is to be said.
+/// Writes how many pages were converted and how many failed, and if there are any, how many files were copied and how
+/// many outputs were newer, unless nothing is to be said.
 pub fn write_total<E: Sink>(errors: &mut E, progress: Progress, tally: Tally) {
     if progress != Progress::Quiet {
-        let converted = Pages(tally.converted);
-        let failed = Grouped(tally.failed);
-        let _ = writeln!(
-            Lines { sink: errors },
-            "htmd: {converted} converted, {failed} failed"
-        );
+        let _ = writeln!(Lines { sink: errors }, "htmd: {tally}");
+    }
+}
+
+impl fmt::Display for Tally {
+    fn fmt<W: fmt::Write>(&self, f: &mut fmt::Formatter<W>) -> fmt::Result {
+        let converted = Pages(self.converted);
+        let failed = Grouped(self.failed);
+        write!(f, "{converted} converted, {failed} failed")?;
+        if self.copied > 0 {
+            let word = if self.copied == 1 { "file" } else { "files" };
+            write!(f, ", {} {word} copied", Grouped(self.copied))?;
+        }
+        if self.up_to_date > 0 {
+            write!(f, ", {} up to date", Grouped(self.up_to_date))?;
+        }
+        Ok(())
     }
 }
 

@@ -2,8 +2,8 @@
 ghost use Rattle.std.specs.Prelude.{◌≡◌, ◌⊎◌, ◌<◌, ◌+◌, ◌^◌, suc, length, ℕ, List};
 ghost use Rattle.std.specs.List.{AllByRecursion};
 ghost use Rattle.htmd_folders.specs.Changes.{held, IsReplaceable};
-ghost use Rattle.htmd_folders.specs.Pages.{Converts, Fails};
-ghost use Rattle.htmd_folders.specs.FolderConversions.{Takes, AreApart, AreSparing, IfKnown, IsConverted};
+ghost use Rattle.htmd_folders.specs.Pages.{Converts, Fails, or_copy};
+ghost use Rattle.htmd_folders.specs.FolderConversions.{Takes, TakesOne, AreApart, AreSparing, IfKnown, IsConverted};
 ghost use Rattle.htmd_folders.specs.FolderConversions.{IsConvertedOrKept, IsNeverHalf, IsSpared};
 
 use crate::conversion::Conversion;
@@ -17,31 +17,42 @@ use htmd_streams::Sink;
 use std::alloc::Global;
 use std::fmt::Write;
 
-/// How many pages of a run were converted, and how many failed.
+/// How many pages of a run were converted, how many files copied, how many of both were left alone since their outputs
+/// are newer, and how many failed.
 #[derive(Debug, Clone, Copy, PartialEq, Eq, Drop)]
 pub struct Tally {
     pub converted: u64,
+    pub copied: u64,
+    pub up_to_date: u64,
     pub failed: u64,
 }
 
-/// Converts pages, each after the other; one that fails has a line on the sink for errors, and the others go on. If
-/// there are more pages than one, that sink also gets the count that `progress` requests.
+/// How pages are taken.
+#[derive(Clone, Copy, Drop)]
+pub struct RunOptions {
+    /// A page whose output is newer is left alone.
+    pub keeps_newer: bool,
+    pub progress: Progress,
+}
+
+/// Converts pages and copies files, each after the other; one that fails has a line on the sink for errors, and the
+/// others go on. If there are more pages than one, that sink also gets the count that `progress` requests.
 pub fn run_pages<S: Store, C: Conversion, E: Sink>(
     alloc: Global,
     store: &mut S,
     conversion: &C,
     pages: &[Page],
     errors: &mut E,
-    progress: Progress,
+    options: RunOptions,
 ) -> Tally
-    ensures all { result.converted + result.failed ≡ length pages.now }
-    ensures taken { Takes (C.becomes conversion.now) pages.now (S.changes store.old) (S.changes store.new)
-        result.failed }
-    ensures converted { result.failed ≡ 0 → AreApart pages.now
+    ensures all { result.converted + result.copied + result.up_to_date + result.failed ≡ length pages.now }
+    ensures taken { Takes (or_copy (C.becomes conversion.now)) options.keeps_newer pages.now
+        (S.changes store.old) (S.changes store.new) result.up_to_date result.failed }
+    ensures converted { result.up_to_date ≡ 0 → result.failed ≡ 0 → AreApart pages.now
         → IfKnown (S.changes store.old) (S.changes store.new)
-        (λ past now. AllByRecursion (IsConverted (C.becomes conversion.now) past now) pages.now) }
+        (λ past now. AllByRecursion (IsConverted (or_copy (C.becomes conversion.now)) past now) pages.now) }
     ensures kept { AreApart pages.now → IfKnown (S.changes store.old) (S.changes store.new)
-        (λ past now. AllByRecursion (IsConvertedOrKept (C.becomes conversion.now) past now) pages.now) }
+        (λ past now. AllByRecursion (IsConvertedOrKept (or_copy (C.becomes conversion.now)) past now) pages.now) }
     ensures others { IfKnown (S.changes store.old) (S.changes store.new)
         (λ past now. (name : List ℕ) → AreSparing name pages.now → IsSpared name past now) }
     ensures obstacles { IfKnown (S.changes store.old) (S.changes store.new)
@@ -49,7 +60,7 @@ pub fn run_pages<S: Store, C: Conversion, E: Sink>(
         → held name now ≡ held name past) }
     ensures never_half { IsNeverHalf (S.changes store.old) (S.changes store.new) }
 {
-    take_pages(alloc, store, conversion, pages, errors, progress)
+    take_pages(alloc, store, conversion, pages, errors, options)
 }
 
 // The same, as the pages are taken.
@@ -59,22 +70,40 @@ fn take_pages<S: Store, C: Conversion, E: Sink>(
     conversion: &C,
     pages: &[Page],
     errors: &mut E,
-    progress: Progress,
+    options: RunOptions,
 ) -> Tally
-    ensures all { result.converted + result.failed ≡ length pages.now }
-    ensures taken { Takes (C.becomes conversion.now) pages.now (S.changes store.old) (S.changes store.new)
-        result.failed }
+    ensures all { result.converted + result.copied + result.up_to_date + result.failed ≡ length pages.now }
+    ensures taken { Takes (or_copy (C.becomes conversion.now)) options.keeps_newer pages.now
+        (S.changes store.old) (S.changes store.new) result.up_to_date result.failed }
 {
     protect_inputs(store, pages);
     let count = pages.len() as u64;
-    let progress = if count > 1 { progress } else { Progress::Quiet };
+    let progress = if count > 1 {
+        options.progress
+    } else {
+        Progress::Quiet
+    };
     let mut tally = Tally {
         converted: 0,
+        copied: 0,
+        up_to_date: 0,
         failed: 0,
     };
     for page in pages {
-        write_count(errors, progress, tally.converted + tally.failed, count);
-        take_page(alloc, store, conversion, page, errors, progress, &mut tally);
+        let done = tally.converted + tally.copied + tally.up_to_date + tally.failed;
+        write_count(errors, progress, done, count);
+        take_page(
+            alloc,
+            store,
+            conversion,
+            page,
+            errors,
+            RunOptions {
+                progress,
+                ..options
+            },
+            &mut tally,
+        );
     }
     clear_count(errors, progress);
     tally
@@ -89,8 +118,40 @@ fn protect_inputs<S: Store>(store: &mut S, pages: &[Page])
     }
 }
 
-// Converts a page, counts it, and says why if it failed.
+// Converts a page or copies a file, unless its output is to be kept and is newer.
 fn take_page<S: Store, C: Conversion, E: Sink>(
+    alloc: Global,
+    store: &mut S,
+    conversion: &C,
+    page: &Page,
+    errors: &mut E,
+    options: RunOptions,
+    tally: &mut Tally,
+)
+    requires { tally.old.converted + tally.old.copied + tally.old.up_to_date + tally.old.failed < 2 ^ 63 }
+    ensures all { tally.new.converted + tally.new.copied + tally.new.up_to_date + tally.new.failed
+        ≡ suc (tally.old.converted + tally.old.copied + tally.old.up_to_date + tally.old.failed) }
+    ensures taken { TakesOne (or_copy (C.becomes conversion.now)) options.keeps_newer page.now
+        (S.changes store.old) (S.changes store.new) tally.old.up_to_date tally.old.failed
+        tally.new.up_to_date tally.new.failed }
+{
+    if options.keeps_newer && store.is_newer(&page.output, &page.input) {
+        tally.up_to_date += 1;
+        return;
+    }
+    convert_page(
+        alloc,
+        store,
+        conversion,
+        page,
+        errors,
+        options.progress,
+        tally,
+    );
+}
+
+// Converts a page or copies a file, counts it, and says why if it failed.
+fn convert_page<S: Store, C: Conversion, E: Sink>(
     alloc: Global,
     store: &mut S,
     conversion: &C,
@@ -99,14 +160,17 @@ fn take_page<S: Store, C: Conversion, E: Sink>(
     progress: Progress,
     tally: &mut Tally,
 )
-    requires { tally.old.converted + tally.old.failed < 2 ^ 63 }
-    ensures all { tally.new.converted + tally.new.failed ≡ suc (tally.old.converted + tally.old.failed) }
-    ensures taken { (Converts (C.becomes conversion.now) page.now (S.changes store.old) (S.changes store.new)
+    requires { tally.old.converted + tally.old.copied + tally.old.up_to_date + tally.old.failed < 2 ^ 63 }
+    ensures all { tally.new.converted + tally.new.copied + tally.new.failed
+        ≡ suc (tally.old.converted + tally.old.copied + tally.old.failed) }
+    ensures up_to_date { tally.new.up_to_date ≡ tally.old.up_to_date }
+    ensures taken { (Converts (or_copy (C.becomes conversion.now)) page.now (S.changes store.old) (S.changes store.new)
         × (tally.new.failed ≡ tally.old.failed))
         ⊎ (Fails page.now (S.changes store.old) (S.changes store.new)
         × (tally.new.failed ≡ suc tally.old.failed)) }
 {
     match convert_to_file(alloc, store, conversion, page, errors) {
+        Ok(()) if page.is_copy => tally.copied += 1,
         Ok(()) => tally.converted += 1,
         Err(fault) => {
             clear_count(errors, progress);
@@ -116,7 +180,7 @@ fn take_page<S: Store, C: Conversion, E: Sink>(
     }
 }
 
-// Says which page failed, and why.
+// Says which page or file failed, and why.
 fn report<C: Conversion, E: Sink>(
     conversion: &C,
     page: &Page,
@@ -130,6 +194,7 @@ fn report<C: Conversion, E: Sink>(
             conversion.report(&page.input, fault, errors);
             Ok(())
         }
+        PageFault::Copy(fault) => writeln!(Lines { sink: errors }, "htmd: {input}: {fault}"),
         PageFault::Input(fault) => writeln!(Lines { sink: errors }, "htmd: {input}: {fault}"),
         PageFault::Output(fault) => writeln!(
             Lines { sink: errors },

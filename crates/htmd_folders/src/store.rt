@@ -67,8 +67,14 @@ pub trait Store {
         ensures folder { TellsFolder (changes self.old) path.now result }
         ensures same { Makes (changes self.old) (changes self.new) [] };
 
-    /// All files below a folder. Links to folders are not followed.
-    fn list(&mut self, alloc: Global, folder: &str) -> Result<Listing, StoreFault>
+    /// Whether the file under the first name was written later than the one under the second. What is no file was not,
+    /// nor what can't be looked at; and two that bear one time neither.
+    fn is_newer(&mut self, path: &str, other: &str) -> bool
+        ensures same { Makes (changes self.old) (changes self.new) [] };
+
+    /// All files below a folder. Links to folders are not followed. A name that isn't UTF-8 is told with `all`, and
+    /// else if it may be that of a page or of a folder.
+    fn list(&mut self, alloc: Global, folder: &str, all: bool) -> Result<Listing, StoreFault>
         ensures files { IfOk result (λ listing.
             Lists (changes self.old) folder.now (texts_of listing.files.items)) }
         ensures readable { IfOk result (λ listing.

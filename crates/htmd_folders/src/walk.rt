@@ -13,12 +13,19 @@ const BUFFER_SIZE: usize = 32768;
 const ENDINGS: [&[u8]; 3] = [b".html", b".htm", b".xhtml"];
 
 /// All files below a folder, by their paths from it on. Links to folders are not followed, and links to files count as
-/// files. `Err` means that the folder itself can't be read, or out of memory.
-pub(crate) fn list_below<R: Files>(alloc: Global, files: &R, folder: &str) -> io::Result<Listing> {
+/// files. A name that isn't UTF-8 is told with `all`, and else if it may be that of a page or of a folder. `Err` means
+/// that the folder itself can't be read, or out of memory.
+pub(crate) fn list_below<R: Files>(
+    alloc: Global,
+    files: &R,
+    folder: &str,
+    all: bool,
+) -> io::Result<Listing> {
     let mut walk = Walk {
         alloc,
         files,
         folder,
+        all,
         open: Vec::new(alloc),
         listing: Listing {
             files: Vec::new(alloc),
@@ -41,6 +48,7 @@ struct Walk<'a, 'b, R> {
     alloc: Global,
     files: &'a R,
     folder: &'b str,
+    all: bool,
     // The folders that are still to be read, by their paths from the given one on.
     open: Vec<String>,
     listing: Listing,
@@ -101,7 +109,7 @@ impl<R: Files> Walk<'_, '_, R> {
 
     // The same for a name that isn't UTF-8.
     fn add_unreadable(&mut self, below: &str, name: &[u8]) -> Result<(), AllocError> {
-        if !may_be_page(name) {
+        if !self.all && !may_be_page(name) {
             return Ok(());
         }
         let shown = String::from_utf8_lossy(self.alloc, name)?;

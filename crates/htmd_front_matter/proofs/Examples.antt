@@ -6,6 +6,10 @@ use Rattle.htmd_values.specs.ValueTrees.{ValueForest, text, element, none, more}
 use Rattle.htmd_front_matter.specs.declared.values.Key.TheVariants.{Title, Lang, Description, Canonical}
 use Rattle.htmd_front_matter.specs.Values.{first_value}
 use Rattle.htmd_front_matter.specs.Lines.{tidied}
+use Rattle.htmd_front_matter.specs.Objects.{member, front_object}
+use Rattle.htmd_nodes.specs.Items.{document_item}
+use Rattle.htmd_nodes.specs.NumberedTrees.{tree_of, forest_from}
+use Rattle.json.specs.Print.{escape_byte}
 
 abbrev pair : List ℕ → List ℕ → AttributePair
 pair name value = record { name = name; value = value }
@@ -37,3 +41,12 @@ value-canonical = refl
 
 tidied-title : tidied (codes " A \n b ") ≡ codes "A b"
 tidied-title = refl
+
+member-title : member Title (codes " A  \"b\" ") ≡ codes "\"title\":\"A \\\"b\\\"\""
+unfolding escape_byte
+member-title = refl
+
+-- a page that says nothing
+object-empty : front_object (document_item ∷ []) ≡ codes "{}"
+unfolding tree_of forest_from
+object-empty = refl

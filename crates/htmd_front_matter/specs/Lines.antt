@@ -16,8 +16,12 @@ use Rattle.htmd_front_matter.specs.Values.{name_of, value_in}
 abbrev pub tidied : List ℕ → List ℕ
 tidied s = trimmed_text is_document_white_space (squeezed_text s)
 
+-- a value as it is written: as a JSON string
+abbrev pub written : List ℕ → List ℕ
+written value = quoted (tidied value)
+
 abbrev pub line : Key → List ℕ → List ℕ
-line key value = name_of key ++ codes ": " ++ quoted (tidied value) ++ line_feed ∷ []
+line key value = name_of key ++ codes ": " ++ written value ++ line_feed ∷ []
 
 -- a line, if something is said
 abbrev pub line_if : Key → Option (List ℕ) → List ℕ

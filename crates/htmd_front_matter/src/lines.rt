@@ -12,7 +12,7 @@ use serde_json::{Value, json};
 use std::alloc::{AllocError, Global};
 
 /// The keys, in the order in which they are written.
-const KEYS: [Key; 7] = [
+pub(crate) const KEYS: [Key; 7] = [
     Key::Title,
     Key::Lang,
     Key::Description,
@@ -38,11 +38,18 @@ pub(crate) fn tidied(alloc: Global, value: &str) -> Result<String, AllocError>
     String::from_str(alloc, squeezed.as_str().trim_document_whitespace())
 }
 
+/// A value as it is written: as a JSON string.
+pub(crate) fn written(alloc: Global, value: &str) -> Result<String, AllocError>
+    ensures { IfOk result (λ s. string_bytes s ≡ spec.written value.now) }
+{
+    let value = tidied(alloc, value)?;
+    quoted_text(alloc, value.as_str())
+}
+
 fn push_line(alloc: Global, lines: &mut String, key: Key, value: &str) -> Result<(), AllocError>
     ensures { OnOk result (string_bytes lines.new ≡ string_bytes lines.old ++ spec.line key value.now) }
 {
-    let value = tidied(alloc, value)?;
-    let value = quoted_text(alloc, value.as_str())?;
+    let value = written(alloc, value)?;
     lines.push_str(name_of(key))?;
     lines.push_str(": ")?;
     lines.push_str(value.as_str())?;

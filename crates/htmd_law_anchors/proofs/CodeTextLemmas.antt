@@ -13,7 +13,7 @@ use Rattle.htmd_text.specs.Trims.{trimmed_text, is_line_feed}
 use Rattle.htmd_shown.specs.declared.facts.Facts.{Facts}
 use Rattle.htmd_shown.specs.declared.role.Role.{Role}
 use Rattle.htmd_shown.specs.declared.role.Role.TheVariants as role
-use Rattle.htmd_shown.specs.AllTexts.{all_text, all_text_among, text_in, ends_line, with_line_feeds, lines_of}
+use Rattle.htmd_shown.specs.AllTexts.{all_text, all_text_among, text_in, ends_line, is_line, with_line_feeds, lines_of}
 use Rattle.htmd_shown.specs.Attributes.{text_of, in_line, is_filled}
 use Rattle.htmd_shown.specs.Kinds.{are_blank}
 use Rattle.htmd_shown.specs.Marks.{letters, letters_of, letters_among}
@@ -24,12 +24,13 @@ use Rattle.htmd_flow.specs.Flows.{code_parts}
 use Rattle.htmd_flow.specs.Parts.{Around}
 use Rattle.htmd_law_documents.specs.DocumentTexts.{visible}
 use Rattle.htmd_law_documents.specs.SimpleForms.{IsMade, IsSound, AreSound}
-use Rattle.htmd_law_documents.proofs.VisibleLemmas.{Shows, shows-append, shows-nil, shows-itself, shown-shows, seen-same}
+use Rattle.htmd_law_documents.proofs.VisibleLemmas.{Shows, shows-append, shows-nil, shows-itself, shown-shows}
+use Rattle.htmd_law_documents.proofs.VisibleLemmas.{seen-same}
 use Rattle.htmd_law_documents.proofs.VisibleLemmas.{both-true}
 use Rattle.htmd_law_documents.proofs.PiecesLemmas.{line_feed-white, pieces_seen, PiecesShow, pieces-show}
 use Rattle.htmd_law_documents.proofs.PiecesLemmas.{in_line-shows}
 use Rattle.htmd_law_documents.proofs.CodeLemmas.{feeds-show, trimmed-shows, blank-seen}
-use Rattle.htmd_law_documents.proofs.ElementLemmas.{true-false, dollars-show, feed-shows, end-shows, blank-text}
+use Rattle.htmd_law_documents.proofs.ElementLemmas.{true-false, dollars-show, feed-shows, line-shows, blank-text}
 use Rattle.htmd_law_documents.proofs.NormalTextLemmas.{PassesWide, encode-passes, and-true}
 use Rattle.htmd_law_anchors.proofs.ShapeWritingLemmas.{any_fills}
 
@@ -39,8 +40,8 @@ element-letters : (r : Role) (facts : Facts) (content : Simples) (inner : List �
     → Shows inner (letters_among content) → Shows (text_in r inner) (letters_among content)
 element-letters role.LineBreak facts content inner m h =
     seen-same (line_feed ∷ []) [] (letters_among content) (sym (ap letters_among (m.empty refl))) feed-shows
-element-letters role.Row facts content inner m h = end-shows (ends_line inner) inner (letters_among content) h
-element-letters r facts content inner m h = h
+element-letters r facts content inner m h =
+    line-shows (is_line r inner) (ends_line inner) inner (letters_among content) h
 
 mutual
   letters-said : (t : Simple) → IsSound t → Shows (all_text t) (letters_of t)

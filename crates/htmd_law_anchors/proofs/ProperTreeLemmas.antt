@@ -9,10 +9,11 @@ use Rattle.htmd_lexical.specs.Characters.{line_feed}
 use Rattle.htmd_lexical.proofs.Cases.{test}
 use Rattle.htmd_shown.specs.declared.role.Role.{Role}
 use Rattle.htmd_shown.specs.declared.role.Role.TheVariants as role
-use Rattle.htmd_shown.specs.AllTexts.{all_text, all_text_among, text_in, ends_line, dollar_sign}
+use Rattle.htmd_shown.specs.AllTexts.{all_text, all_text_among, text_in, ends_line, is_line, dollar_sign}
 use Rattle.htmd_shown.specs.Attributes.{text_of, is_filled, is_to_part}
-use Rattle.htmd_shown.specs.Marks.{letters, letters_of, letters_among, has_image, have_image, is_one, is_mark, is_usual_sign}
-use Rattle.htmd_shown.specs.Roles.{is_heading, is_link, is_verbatim, is_line_break, is_row}
+use Rattle.htmd_shown.specs.Marks.{letters, letters_of, letters_among, has_image, have_image, is_one, is_mark}
+use Rattle.htmd_shown.specs.Marks.{is_usual_sign}
+use Rattle.htmd_shown.specs.Roles.{is_heading, is_link, is_verbatim, is_line_break}
 use Rattle.htmd_shown.specs.ShownTexts.{shown_text}
 use Rattle.htmd_shown.specs.Showings.{image_shows, code_shows}
 use Rattle.htmd_shown.specs.SimpleTrees.{Simple, text, image, formula, embedded, anchor, element, Simples, none, more}
@@ -286,7 +287,7 @@ unfolding chars encode
 feed-white = record { utf8 = feed-shows.utf8; all = refl }
 
 text-white : (r : Role) (inner : List ℕ) → White inner → White (text_in r inner)
-text-white r inner h = either (is_line_break r) (is_row r) (ends_line inner)
+text-white r inner h = either (is_line_break r) (is_line r inner) (ends_line inner)
   where
     either : (b d e : Bool)
         → White (cond b (line_feed ∷ []) (cond d (cond e inner (inner ++ line_feed ∷ [])) inner))

@@ -7,7 +7,7 @@ use Rattle.htmd_lexical.specs.Characters.{line_feed}
 use Rattle.htmd_shown.specs.declared.facts.Facts.{Facts}
 use Rattle.htmd_shown.specs.declared.role.Role.{Role}
 use Rattle.htmd_shown.specs.declared.role.Role.TheVariants as role
-use Rattle.htmd_shown.specs.AllTexts.{dollar_sign, formula_text, text_in, ends_line, all_text}
+use Rattle.htmd_shown.specs.AllTexts.{dollar_sign, formula_text, text_in, ends_line, is_line, all_text}
 use Rattle.htmd_shown.specs.AllTexts.{all_text_among}
 use Rattle.htmd_shown.specs.Attributes.{text_of, in_line}
 use Rattle.htmd_shown.specs.Kinds.{is_blank, are_blank}
@@ -70,9 +70,12 @@ formula-shows tex u =
 
 -- ---- all text
 
-pub end-shows : (b : Bool) (s cs : List ℕ) → Shows s cs → Shows (cond b s (s ++ line_feed ∷ [])) cs
-end-shows true s cs h = h
-end-shows false s cs h = shows-blank s (line_feed ∷ []) cs h feed-shows
+-- a line or none, which ends or doesn't
+pub line-shows : (is_line ends : Bool) (s cs : List ℕ) → Shows s cs
+    → Shows (cond is_line (cond ends s (s ++ line_feed ∷ [])) s) cs
+line-shows true true s cs h = h
+line-shows true false s cs h = shows-blank s (line_feed ∷ []) cs h feed-shows
+line-shows false ends s cs h = h
 
 module _ (facts : Facts) (content : Simples) (inner : List ℕ) (holds_grid : Bool)
     (h : (g : Bool) → Shows inner (visible (text_of_simples true g content))) where
@@ -83,15 +86,16 @@ module _ (facts : Facts) (content : Simples) (inner : List ℕ) (holds_grid : Bo
   element-shows : (r : Role) (g : Bool) → IsMade r facts content → Shows (text_in r inner) (visible (said r g))
   element-shows role.LineBreak g m = seen-same (line_feed ∷ []) [] (visible []) (sym shows-nil.is) feed-shows
   element-shows role.ThematicBreak g m =
-      seen-same inner (visible (text_of_simples true g content)) (visible [])
-      (ap (λ ts. visible (text_of_simples true g ts)) (m.empty refl)) (h g)
-  element-shows role.Row g m =
-      end-shows (ends_line inner) inner (visible (text_of_simples true g content)) (h g)
+      line-shows (is_line role.ThematicBreak inner) (ends_line inner) inner (visible [])
+      (seen-same inner (visible (text_of_simples true g content)) (visible [])
+      (ap (λ ts. visible (text_of_simples true g ts)) (m.empty refl)) (h g))
   element-shows role.Cell true m = h false
   element-shows role.Cell false m = h false
   element-shows role.HeaderCell true m = h false
   element-shows role.HeaderCell false m = h false
-  element-shows r g m = h _
+  element-shows r g m =
+      line-shows (is_line r inner) (ends_line inner) inner
+      (visible (text_of_simples (flat_in r true g) (grid_in r holds_grid g) content)) (h _)
 
 mutual
   all-text-shows : (t : Simple) → IsSound t → (g : Bool) → Shows (all_text t) (visible (text_of_simple true g t))

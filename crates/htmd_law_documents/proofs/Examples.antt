@@ -2,9 +2,11 @@
 use Rattle.std.proofs.Common.{◌≡◌, true, false, [], ◌∷◌, refl}
 use Rattle.std.specs.Prelude.{codes, encode_utf8_all}
 use Rattle.std.specs.Str.{chars}
+use Rattle.htmd_document.specs.Documents.{code, Inlines, no_inlines, inline}
 use Rattle.htmd_shown.specs.SimpleTrees.{text, formula, none, more}
 use Rattle.htmd_law_documents.specs.DocumentTexts.{visible}
 use Rattle.htmd_law_documents.specs.SimpleTexts.{text_of_simple, text_of_simples}
+use Rattle.htmd_law_documents.specs.TableLengths.{has_right_length}
 use lib.Utf8.{encode}
 
 -- ---- what can be seen
@@ -31,3 +33,16 @@ flat-says = refl
 pub trees-say : text_of_simples false false (more (text (codes "a ")) (more (formula (codes "x") false []) none))
     ≡ codes "a $x$"
 trees-say = refl
+
+-- ---- headers
+
+abbrev word : Inlines
+word = inline (code (codes "a")) no_inlines
+
+-- a row needs the last cell
+pub needed-header : has_right_length (word ∷ no_inlines ∷ []) ((no_inlines ∷ word ∷ []) ∷ []) ≡ true
+needed-header = refl
+
+-- and none does
+pub long-header : has_right_length (word ∷ no_inlines ∷ []) ((word ∷ []) ∷ []) ≡ false
+long-header = refl

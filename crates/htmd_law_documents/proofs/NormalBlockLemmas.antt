@@ -19,6 +19,8 @@ use Rattle.htmd_document.specs.NormalDocuments.{is_normal_paragraph, is_normal_h
 use Rattle.htmd_document.specs.NormalDocuments.{is_normal_element}
 use Rattle.htmd_document.specs.NormalDocuments.{is_normal_table, is_normal_block, are_normal_blocks, are_normal_items}
 use Rattle.htmd_document.specs.NormalDocuments.{depth_of, depth_among, IsNormal}
+use Rattle.htmd_law_documents.specs.TableLengths.{has_right_length, has_right_tables, have_right_tables}
+use Rattle.htmd_law_documents.specs.TableLengths.{items_have_right_tables}
 use Rattle.htmd_law_documents.proofs.VisibleLemmas.{both-true}
 use Rattle.htmd_law_documents.proofs.NormalTextLemmas.{and-true, not-false, false-true}
 use Rattle.htmd_law_documents.proofs.NormalLineLemmas.{IsWhole}
@@ -59,7 +61,8 @@ abbrev mutual
   Nearly in_item (tags s) = ⊥
   Nearly in_item (list start is_tight items) = (is_normal_list start is_tight (flat_items items) ≡ true)
       × NearlyItems items
-  Nearly in_item (table alignments header rows) = is_normal_table alignments header rows ≡ true
+  Nearly in_item (table alignments header rows) =
+      (is_normal_table alignments header rows ≡ true) × (has_right_length header rows ≡ true)
 
   pub NearlyAll : Bool → Blocks → Type 0
   NearlyAll in_item no_blocks = Unit {0}
@@ -106,7 +109,7 @@ mutual
   nearly-normal (element name attributes content) in_item h = and-true h.0 (all-normal content false h.1)
   nearly-normal (tags s) in_item h = absurd h
   nearly-normal (list start is_tight items) in_item h = and-true h.0 (items-normal items h.1)
-  nearly-normal (table alignments header rows) in_item h = h
+  nearly-normal (table alignments header rows) in_item h = h.0
 
   all-normal : (bs : Blocks) (in_item : Bool) → NearlyAll in_item bs → are_normal_blocks in_item bs ≡ true
   all-normal no_blocks in_item h = refl
@@ -121,6 +124,28 @@ document-normal d h n = and-true (all-normal d false h) (within (depth_among d) 
   where
     within : (k : ℕ) → k ≤ most_nested → nat_le k most_nested ≡ true
     within k l = grind (arith, nat_tests)
+
+-- ---- and tables have the right length
+
+mutual
+  nearly-right : (b : Block) (in_item : Bool) → Nearly in_item b → has_right_tables b ≡ true
+  nearly-right (paragraph content) in_item h = refl
+  nearly-right (heading level content) in_item h = refl
+  nearly-right (code_block language t) in_item h = refl
+  nearly-right (quote content) in_item h = all-right content false h.1
+  nearly-right thematic_break in_item h = refl
+  nearly-right (element name attributes content) in_item h = all-right content false h.1
+  nearly-right (tags s) in_item h = absurd h
+  nearly-right (list start is_tight items) in_item h = items-right items h.1
+  nearly-right (table alignments header rows) in_item h = h.1
+
+  pub all-right : (bs : Blocks) (in_item : Bool) → NearlyAll in_item bs → have_right_tables bs ≡ true
+  all-right no_blocks in_item h = refl
+  all-right (block first rest) in_item h = and-true (nearly-right first in_item h.0) (all-right rest false h.1)
+
+  items-right : (items : Items) → NearlyItems items → items_have_right_tables items ≡ true
+  items-right no_items h = refl
+  items-right (item first rest) h = and-true (all-right first true h.0) (items-right rest h.1)
 
 -- ---- blocks in a row
 

@@ -16,7 +16,8 @@ use Rattle.htmd_flow.specs.Grids.{with_cell, trimmed_row, width, padded, body, a
 use Rattle.htmd_flow.specs.Grids.{table_of_all, table_of_rows, alignments_of, begins_with_header}
 use Rattle.htmd_document.specs.NormalInlines.{is_normal_line, anchors_stand_well}
 use Rattle.htmd_document.specs.NormalDocuments.{has_cell, ends_filled, are_normal_cells, is_normal_row}
-use Rattle.htmd_document.specs.NormalDocuments.{has_right_length, is_normal_table}
+use Rattle.htmd_document.specs.NormalDocuments.{is_normal_table}
+use Rattle.htmd_law_documents.specs.TableLengths.{has_right_length}
 use Rattle.htmd_law_documents.proofs.NormalStandLemmas.{stand-well}
 use Rattle.htmd_law_documents.proofs.NormalTextLemmas.{and-true, false-true}
 use Rattle.htmd_law_documents.proofs.NormalBlockLemmas.{IsLineWell, Fine}
@@ -277,16 +278,19 @@ right-length n header rows l m h (inr e) =
 
 table-made : (n : ℕ) (alignments : List Alignment) (header : List Inlines) (rows : List (List Inlines)) → 1 ≤ n
     → length header ≤ n → IsTrimmed header → AreWithin n rows → AllTrimmed rows → IsAsLong n header rows
-    → is_normal_table (aligned n alignments) (padded n header) (body rows) ≡ true
+    → (is_normal_table (aligned n alignments) (padded n header) (body rows) ≡ true)
+    × (has_right_length (padded n header) (body rows) ≡ true)
 table-made n alignments header rows l m h w a r =
     let columns : length (padded n header) ≡ n = padded-length n header m in
     let lines : AreLines (padded n header) =
-    lines-append header (replicate (n - length header) no_inlines) h.lines (empty-lines (n - length header)) in
-    and-true (and-true (and-true (and-true (has-some (padded n header) (least n (length (padded n header)) columns l))
-    (equal (length (aligned n alignments)) (length (padded n header)) (aligned-length n alignments ∙ sym columns)))
-    (lines-normal (padded n header) lines))
-    (ap (λ k. list_all (is_normal_row k) (body rows)) columns ∙ body-rows n rows w a))
-    (right-length n header rows l m h r)
+    lines-append header (replicate (n - length header) no_inlines) h.lines (empty-lines (n - length header)) in (
+      and-true (and-true (and-true (has-some (padded n header) (least n (length (padded n header)) columns l))
+          (equal (length (aligned n alignments)) (length (padded n header))
+          (aligned-length n alignments ∙ sym columns)))
+          (lines-normal (padded n header) lines))
+          (ap (λ k. list_all (is_normal_row k) (body rows)) columns ∙ body-rows n rows w a),
+      right-length n header rows l m h r,
+    )
   where
     least : (n k : ℕ) → k ≡ n → 1 ≤ n → 1 ≤ k
     least n k e l = omega arith

@@ -1,12 +1,14 @@
--- The law of the normal form.
+-- The laws of the normal form.
 use Rattle.std.proofs.Common.{◌≡◌, Bool, true, false, cond, List, [], ◌∷◌, ◌++◌, refl, sym, ap, ◌∙◌, subst}
 use Rattle.std.proofs.Common.{append_assoc}
 use Rattle.std.proofs.lemmas.List.{append-nil}
 use Rattle.std.specs.Prelude.{None}
 use Rattle.htmd_shown.specs.Facts.{inserted_facts}
 use Rattle.htmd_shown.specs.declared.role.Role.TheVariants as role
-use Rattle.htmd_shown.specs.Shown.{shown_in, followed_by}
+use Rattle.htmd_nodes.specs.NumberedTrees.{NumberedTree}
+use Rattle.htmd_shown.specs.Shown.{Sight, shown_in, followed_by}
 use Rattle.htmd_shown.specs.SimpleTrees.{Simple, element, Simples, none, more}
+use Rattle.htmd_document_of_tree.specs.declared.anchors.Anchors.{Anchors}
 use Rattle.htmd_document_of_tree.specs.Anchors.{Placing, anchors, apart, all_placed, placing_after_all, values_of}
 use Rattle.htmd_document_of_tree.specs.Anchors.{last_anchors, targets_by}
 use Rattle.htmd_document_of_tree.specs.FirstPieces.{pieced, pieced_all}
@@ -15,14 +17,15 @@ use Rattle.htmd_document_of_tree.specs.Targets.{Target}
 use Rattle.htmd_document_of_tree.specs.TreeDocuments.{document_by, document_of_tree}
 use Rattle.htmd_flow.specs.Contexts.{Context, bare_in}
 use Rattle.htmd_flow.specs.Contexts as contexts
-use Rattle.htmd_flow.specs.Flows.{Node, document_of, is_item, goes_on, flow_all, flow_after}
+use Rattle.htmd_flow.specs.Flows.{Node, is_item, goes_on, flow_all, flow_after}
 use Rattle.htmd_flow.specs.Flows.{items_in_a_row, list_parts, node_of, nodes_of}
 use Rattle.htmd_flow.specs.Parts.{Part, edge}
-use Rattle.htmd_law_documents.specs.NormalLaws.{DocumentsAreNormal}
+use Rattle.htmd_law_documents.specs.NormalLaws.{DocumentsAreNormal, TablesHaveRightLength}
 use Rattle.htmd_law_documents.specs.SimpleForms.{AreSound}
+use Rattle.htmd_law_documents.specs.TreeForms.{is_text_tree}
 use Rattle.htmd_law_documents.proofs.ShownTreeLemmas.{page-sound}
 use Rattle.htmd_law_documents.proofs.SoundLemmas.{limited-sound, all-placed-kept, pieced-sound}
-use Rattle.htmd_law_documents.proofs.NormalBlockLemmas.{FineBlocks, document-normal}
+use Rattle.htmd_law_documents.proofs.NormalBlockLemmas.{FineBlocks, document-normal, all-right}
 use Rattle.htmd_law_documents.proofs.NormalPartsLemmas.{FineParts, good, fine-append, fine-alone, fine-edges, blocks-of}
 use Rattle.htmd_law_documents.proofs.NormalNodesLemmas.{bound, flow-fine}
 use Rattle.htmd_law_documents.proofs.NormalTreeLemmas.{AreIds, ids-alone, AreFine}
@@ -125,9 +128,10 @@ last-fine is_rich ts (t ∷ targets) f n =
     (end-fine is_rich (pieced_all ts) (pieced_all ids) f
     (pieced-ids ids (anchors-ids (values_of (t ∷ targets)) (values-ids (t ∷ targets) n))))
 
-pub documents_are_normal : DocumentsAreNormal
+document-fine : (which : Anchors) (sight : Sight) (tree : NumberedTree) → is_text_tree tree ≡ true
+    → FineBlocks (bound (bare_in sight.is_rich)) false (document_of_tree which sight tree)
 unfolding document_of_tree document_by
-documents_are_normal which sight tree e =
+document-fine which sight tree e =
     let shown : Simples = shown_in sight tree in
     let ts : Simples = limited shown in
     let clear : AreClear ts = limited-clear shown (page-clear sight tree e) in
@@ -145,6 +149,13 @@ documents_are_normal which sight tree e =
     let all : Simples = pieced_all (followed_by (all_placed p ts) (last_anchors last)) in
     let whole : FineParts false (bound (bare_in sight.is_rich)) (flow_all (nodes_of all) (bare_in sight.is_rich)) =
     last-fine sight.is_rich (all_placed p ts) last parts (all-after-named p ts named) in
-    let blocks : FineBlocks (bound (bare_in sight.is_rich)) false (document_of sight.is_rich all) =
-    blocks-of (bound (bare_in sight.is_rich)) false (flow_all (nodes_of all) (bare_in sight.is_rich)) whole in
-    document-normal (document_of sight.is_rich all) blocks.nearly blocks.depth
+    blocks-of (bound (bare_in sight.is_rich)) false (flow_all (nodes_of all) (bare_in sight.is_rich)) whole
+
+pub documents_are_normal : DocumentsAreNormal
+documents_are_normal which sight tree e =
+    let fine = document-fine which sight tree e in
+    document-normal (document_of_tree which sight tree) fine.nearly fine.depth
+
+pub tables_have_right_length : TablesHaveRightLength
+tables_have_right_length which sight tree e =
+    all-right (document_of_tree which sight tree) false (document-fine which sight tree e).nearly

@@ -18,7 +18,7 @@ use Rattle.htmd_shown.specs.declared.facts.Facts.{Facts}
 use Rattle.htmd_shown.specs.declared.role.Role.{Role}
 use Rattle.htmd_shown.specs.declared.role.Role.TheVariants as role
 use Rattle.htmd_shown.specs.AllTexts.{all_text, all_text_among, text_in, ends_line, dollar_sign, with_line_feeds}
-use Rattle.htmd_shown.specs.AllTexts.{lines_of, without_last_line_feed}
+use Rattle.htmd_shown.specs.AllTexts.{is_line, lines_of, without_last_line_feed}
 use Rattle.htmd_shown.specs.Attributes.{text_of, in_line, address, title_of, has_attribute, is_any_case}
 use Rattle.htmd_shown.specs.Attributes as attribute
 use Rattle.htmd_shown.specs.Marks.{letters, letters_of, letters_among}
@@ -48,7 +48,7 @@ use Rattle.htmd_law_documents.proofs.VisibleLemmas.{seen-same, both-true}
 use Rattle.htmd_law_documents.proofs.PiecesLemmas.{line_feed-white, pieces_seen, PiecesShow, pieces-show, in_line-shows}
 use Rattle.htmd_law_documents.proofs.PiecesLemmas.{unfilled}
 use Rattle.htmd_law_documents.proofs.CodeLemmas.{feeds-show, trimmed-shows, blank-seen}
-use Rattle.htmd_law_documents.proofs.ElementLemmas.{dollars-show, feed-shows, end-shows}
+use Rattle.htmd_law_documents.proofs.ElementLemmas.{dollars-show, feed-shows, line-shows}
 use Rattle.htmd_law_documents.proofs.NormalTextLemmas.{true-false, false-true, from-not, neither}
 use Rattle.htmd_law_documents.proofs.NormalLettersLemmas.{blank-visible, shown-characters, line-characters}
 use Rattle.htmd_law_documents.proofs.NormalValueLemmas.{IsClean}
@@ -133,8 +133,8 @@ element-letters : (r : Role) (facts : Facts) (content : Simples) (inner : List �
     → Shows inner (letters_among content) → Shows (text_in r inner) (letters_among content)
 element-letters role.LineBreak facts content inner m h =
     seen-same (line_feed ∷ []) [] (letters_among content) (sym (ap letters_among (m.empty refl))) feed-shows
-element-letters role.Row facts content inner m h = end-shows (ends_line inner) inner (letters_among content) h
-element-letters r facts content inner m h = h
+element-letters r facts content inner m h =
+    line-shows (is_line r inner) (ends_line inner) inner (letters_among content) h
 
 mutual
   letters-said : (t : Simple) → IsSound t → Shows (all_text t) (letters_of t)

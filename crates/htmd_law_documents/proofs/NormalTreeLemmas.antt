@@ -8,11 +8,11 @@ use Rattle.htmd_lexical.specs.Characters.{line_feed, quotation_mark}
 use Rattle.htmd_shown.specs.declared.role.Role.{Role}
 use Rattle.htmd_shown.specs.declared.role.Role.TheVariants as role
 use Rattle.htmd_shown.specs.AllTexts.{all_text, all_text_among, text_in, with_line_end, ends_line, formula_text}
-use Rattle.htmd_shown.specs.AllTexts.{dollar_sign}
+use Rattle.htmd_shown.specs.AllTexts.{is_line, dollar_sign}
 use Rattle.htmd_shown.specs.Attributes.{text_of, in_line}
 use Rattle.htmd_shown.specs.Kinds.{has}
 use Rattle.htmd_shown.specs.Roles as roles
-use Rattle.htmd_shown.specs.Roles.{is_line_break, is_row}
+use Rattle.htmd_shown.specs.Roles.{is_line_break}
 use Rattle.htmd_shown.specs.SimpleTrees.{Simple, text, image, formula, embedded, anchor, element, Simples, none, more}
 use Rattle.htmd_shown.specs.ShownTexts.{is_shown}
 use Rattle.htmd_shown.specs.Spaces.{is_blank_text}
@@ -125,7 +125,7 @@ line-end-clean s h = either (ends_line s)
     either false = clean-append s (line_feed ∷ []) h feed-clean
 
 role-clean : (r : Role) (inner : List ℕ) → IsClean inner → IsClean (text_in r inner)
-role-clean r inner h = either (is_line_break r) (is_row r)
+role-clean r inner h = either (is_line_break r) (is_line r inner)
   where
     either : (b d : Bool) → IsClean (cond b (line_feed ∷ []) (cond d (with_line_end inner) inner))
     either true d = feed-clean

@@ -9,4 +9,5 @@ pub mod TextLaws
 pub mod DocumentWrappers
 pub mod TreeWrappers
 pub mod WrapperLaws
+pub mod TableLengths
 pub mod NormalLaws

@@ -3,7 +3,7 @@ ghost use Rattle.htmd_nodes.specs.NumberedTrees.{tree_of};
 ghost use Rattle.htmd_document.specs.NormalDocuments.{IsNormal};
 ghost use Rattle.htmd_shown.specs.SightViews.{sight_with};
 ghost use Rattle.htmd_document_of_tree.specs.TreeDocuments.{document_of_tree};
-ghost use Rattle.htmd_law_documents.specs.NormalLaws.{DocumentsAreNormal};
+ghost use Rattle.htmd_law_documents.specs.NormalLaws.{DocumentsAreNormal, TablesHaveRightLength};
 
 use htmd_document_of_tree::Anchors;
 use htmd_nodes::Tree;
@@ -13,7 +13,13 @@ pub fn documents_are_normal()
     ensures { DocumentsAreNormal }
 {}
 
-/// So it is for every `Tree`, whether scripts run or not, whatever names are skipped, and whether it is rich or not.
+/// No table of it has columns that it doesn't need.
+pub fn tables_have_right_length()
+    ensures { TablesHaveRightLength }
+{}
+
+/// The document of every `Tree` is in normal form, whether scripts run or not, whatever names are skipped, and whether
+/// it is rich or not.
 pub fn this_document_is_normal(
     tree: &Tree,
     which: Anchors,

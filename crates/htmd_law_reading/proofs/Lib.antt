@@ -4,4 +4,6 @@ pub mod ReadingMain
 pub mod LineEnds
 pub mod DefinitionLines
 pub mod PageLaws
+pub mod NoDefinitions
+pub mod PieceLaws
 mod Examples

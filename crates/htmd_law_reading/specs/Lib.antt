@@ -1,2 +1,3 @@
 -- What is read of what is written of a document.
 pub mod ReadingLaws
+pub mod PieceLaws

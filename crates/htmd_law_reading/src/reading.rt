@@ -1,6 +1,7 @@
 //! Documents, and the documents of pages, are read back.
 ghost use Rattle.htmd_law_reading.specs.ReadingLaws.{ReadsBack, FilesReadBack, DefinitionsAreLines, PagesReadBack};
 ghost use Rattle.htmd_law_reading.specs.ReadingLaws.{PagesAreSeen, AnswersAreSeen};
+ghost use Rattle.htmd_law_reading.specs.PieceLaws.{PiecesReadBack, PagePiecesReadBack};
 
 /// What a reader of CommonMark sees of what is written of a normal document is the document, for all options.
 pub fn reads_back()
@@ -31,4 +32,14 @@ pub fn pages_are_seen()
 /// So it is for all Markdown that is answered.
 pub fn answers_are_seen()
     ensures { AnswersAreSeen }
+{}
+
+/// What a reader sees of the Markdown of a piece of a normal document is the piece.
+pub fn pieces_read_back()
+    ensures { PiecesReadBack }
+{}
+
+/// So it is with the pieces of a page.
+pub fn page_pieces_read_back()
+    ensures { PagePiecesReadBack }
 {}

@@ -12,12 +12,13 @@ use Rattle.htmd_lexical.specs.Characters.{line_feed, carriage_return}
 use Rattle.htmd_lexical.specs.AttributePairs.{AttributePair}
 use Rattle.htmd_text.specs.Trims.{trimmed_text, is_line_feed}
 use Rattle.htmd_shown.specs.declared.role.Role.{Role}
-use Rattle.htmd_shown.specs.AllTexts.{dollar_sign, formula_text, image_text, ends_line, with_line_end, text_in, all_text}
+use Rattle.htmd_shown.specs.AllTexts.{dollar_sign, formula_text, image_text, ends_line, with_line_end, text_in}
+use Rattle.htmd_shown.specs.AllTexts.{all_text}
 use Rattle.htmd_shown.specs.AllTexts.{all_text_among, Lines, written_for, with_character, no_lines, with_line_feeds}
-use Rattle.htmd_shown.specs.AllTexts.{lines_of, without_last_line_feed}
+use Rattle.htmd_shown.specs.AllTexts.{is_line, lines_of, without_last_line_feed}
 use Rattle.htmd_shown.specs.Attributes.{value_of, text_of, is_filled, in_line, title_of_value}
 use Rattle.htmd_shown.specs.Attributes.{title_of, description_of, address}
-use Rattle.htmd_shown.specs.Roles.{is_line_break, is_row}
+use Rattle.htmd_shown.specs.Roles.{is_line_break}
 use Rattle.htmd_shown.specs.SimpleTrees.{Simple, text, image, formula, embedded, anchor, element, Simples, none, more}
 use Rattle.htmd_law_sizes.specs.DocumentSizes.{size_of_option}
 use Rattle.htmd_law_sizes.specs.SimpleSizes.{size_of_simple, size_of_simples}
@@ -84,8 +85,8 @@ formula_le tex = omega (arith, line_le tex, length-append (in_line tex) (dollar_
 image_le : (attributes : List AttributePair) → length (image_text attributes) ≤ 2 * size_of_values attributes
 image_le attributes = omega (arith, shown_le (text_of (codes "alt") attributes), text_le (codes "alt") attributes)
 
-row_end_le : (s : List ℕ) → length (with_line_end s) ≤ suc (length s)
-row_end_le s = go (ends_line s)
+line_end_le : (s : List ℕ) → length (with_line_end s) ≤ suc (length s)
+line_end_le s = go (ends_line s)
   where
     go : (t : Bool) → length (if t then s else s ++ line_feed ∷ []) ≤ suc (length s)
     go true = omega arith
@@ -93,12 +94,12 @@ row_end_le s = go (ends_line s)
 
 by_role_le : (r : Role) (inner : List ℕ) (k : ℕ) → length inner ≤ 3 * k
     → length (text_in r inner) ≤ 3 * suc k
-by_role_le r inner k h = go (is_line_break r) (is_row r)
+by_role_le r inner k h = go (is_line_break r) (is_line r inner)
   where
     go : (x y : Bool)
         → length (if x then line_feed ∷ [] else (if y then with_line_end inner else inner)) ≤ 3 * suc k
     go true y = omega arith
-    go false true = omega (arith, row_end_le inner, h)
+    go false true = omega (arith, line_end_le inner, h)
     go false false = omega (arith, h)
 
 mutual

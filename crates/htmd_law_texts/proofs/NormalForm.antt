@@ -17,8 +17,9 @@ use Rattle.htmd_document.specs.NormalInlines.{anchors_stand_well}
 use Rattle.htmd_document.specs.NormalDocuments as form
 use Rattle.htmd_document.specs.NormalDocuments.{is_normal_paragraph, is_level, is_normal_heading, is_language_byte}
 use Rattle.htmd_document.specs.NormalDocuments.{is_language, has_language, is_code_byte, is_normal_list}
-use Rattle.htmd_document.specs.NormalDocuments.{has_filled_item, has_right_distance, are_tight, is_normal_row, ends_filled}
-use Rattle.htmd_document.specs.NormalDocuments.{are_normal_cells, has_right_length}
+use Rattle.htmd_document.specs.NormalDocuments.{has_filled_item, has_right_distance, are_tight, is_normal_row}
+use Rattle.htmd_document.specs.NormalDocuments.{ends_filled}
+use Rattle.htmd_document.specs.NormalDocuments.{are_normal_cells}
 use Rattle.htmd_document.specs.NormalDocuments.{is_normal_table, has_cell, is_flat_block, are_flat_blocks}
 use Rattle.htmd_document.specs.NormalDocuments.{are_flat_items, IsFlat}
 use Rattle.htmd_commonmark.specs.BlockMarkdown.{item_count}
@@ -88,8 +89,7 @@ is_table alignments header rows h =
     let x1 = length alignments == length header in
     let x2 = are_normal_cells header in
     let x3 = list_all (is_normal_row (length header)) rows in
-    let v = and_parts (x0 && x1 && x2 && x3) (has_right_length header rows) h in
-    let p = and_parts (x0 && x1 && x2) x3 v.0 in
+    let p = and_parts (x0 && x1 && x2) x3 h in
     let q = and_parts (x0 && x1) x2 p.0 in
     let r = and_parts x0 x1 q.0 in
     record { some = r.0; aligned = r.1; header_row = q.1; other_rows = p.1 }

@@ -4,6 +4,7 @@ use Rattle.std.proofs.Common.{refl, ap, ◌∙◌, arith}
 use Rattle.std.specs.Prelude.{not, ◌==◌}
 use Rattle.std.specs.List.{fold, list_any, onto_first, prefix_len, reduce}
 use Rattle.std.specs.Option.{unwrap_or}
+use Rattle.std.proofs.lemmas.Bool.{or_parts}
 use Rattle.std.proofs.lemmas.Bool.Decides.{nat_tests}
 use Rattle.std.proofs.lemmas.List.Splits.{slice_split-cons_yes, slice_split-cons_no}
 use Rattle.htmd_markdown.specs.Runs.{runs, longest_run, has_run}
@@ -71,6 +72,13 @@ longest-cons_yes c b s same =
 
 longest-cons_no : (c b : ℕ) (s : List ℕ) → (b == c) ≡ false → longest_run c (b ∷ s) ≡ longest_run c s
 longest-cons_no c b s other = ap longest (runs-cons_no c b s other)
+
+-- a text without the character has no run of it
+pub no_run_without : (c : ℕ) (s : List ℕ) → list_any (λ b. b == c) s ≡ false → longest_run c s ≡ 0
+no_run_without c [] none = refl
+no_run_without c (b ∷ s) none =
+    let parts = or_parts (b == c) (list_any (λ b. b == c) s) none in
+    longest-cons_no c b s parts.0 ∙ no_run_without c s parts.1
 
 longest_grows : (c b : ℕ) (s : List ℕ) (t : Bool) → (b == c) ≡ t
     → (longest_run c s ≤ longest_run c (b ∷ s))

@@ -5,6 +5,8 @@ use Rattle.htmd_values.specs.ValueTrees.{ValueForest, text, comment, element, no
 use Rattle.htmd_selectors.specs.declared.selectors.Operator.{Operator}
 use Rattle.htmd_selectors.specs.declared.selectors.Operator.TheVariants.{Equals, Includes, Dash, Prefix, Suffix}
 use Rattle.htmd_selectors.specs.declared.selectors.Operator.TheVariants.{Substring}
+use Rattle.htmd_selectors.specs.declared.matching.Counts.{Counts}
+use Rattle.htmd_selectors.specs.declared.selectors.Peers.TheVariants.{All, SameName}
 use Rattle.htmd_selectors.specs.declared.selectors.Relation.{Relation}
 use Rattle.htmd_selectors.specs.declared.selectors.Relation.TheVariants.{Start, Same, Child, Below, Next, After}
 use Rattle.htmd_selectors.specs.declared.selectors.SelectorError.TheVariants.{NoSelector, NoName, Unclosed, Unsupported}
@@ -15,7 +17,7 @@ use Rattle.htmd_selectors.specs.SelectorSteps.{has_value, is_first, is_last, is_
 use Rattle.htmd_selectors.specs.SelectorSteps.{is_nth, Step}
 use Rattle.htmd_selectors.specs.Series.{has}
 use Rattle.htmd_selectors.specs.SeriesReading.{series_of}
-use Rattle.htmd_selectors.specs.Reading.{read, escaped_character, steps_of_text}
+use Rattle.htmd_selectors.specs.Reading.{read, escaped_character, row_by, steps_of_text}
 use Rattle.htmd_selectors.specs.Matching.{Element, Place, Level, compares, meets, passes, is_named}
 use Rattle.htmd_selectors.specs.SelectedParts.{without, outermost}
 
@@ -112,22 +114,28 @@ unfolding read
 reads-double_sibling = refl
 
 reads-places : steps_of_text (codes "a:First-Child:only-child, :root") ≡ Ok (step Start (is_type (codes "a"))
-    ∷ step Same is_first ∷ step Same is_only ∷ step Start is_root ∷ [])
+    ∷ step Same (is_first All) ∷ step Same (is_only All) ∷ step Start is_root ∷ [])
 unfolding read
 reads-places = refl
 
 reads-places_in_group : steps_of_text (codes ":not(a:last-child, :empty)") ≡ Ok ((record {
   relation = Start;
-  test = among true ((is_type (codes "a") ∷ is_last ∷ []) ∷ (is_empty ∷ []) ∷ []);
+  test = among true ((is_type (codes "a") ∷ is_last All ∷ []) ∷ (is_empty ∷ []) ∷ []);
 }) ∷ [])
 unfolding read
 reads-places_in_group = refl
 
 -- `:nth-child(2n + 1)`, which `odd` stands for, and `:nth-last-child(-n+3)`
-reads-series : steps_of_text (codes ":nth-child( 2N + 1 ):Nth-last-child(-n+3)") ≡ Ok (step Start (is_nth First
-    (series 2 false 1 false)) ∷ step Same (is_nth Last (series 1 true 3 false)) ∷ [])
+reads-series : steps_of_text (codes ":nth-child( 2N + 1 ):Nth-last-child(-n+3)") ≡ Ok (step Start
+    (is_nth (row_by All First) (series 2 false 1 false)) ∷ step Same (is_nth (row_by All Last) (series 1 true 3 false))
+    ∷ [])
 unfolding read
 reads-series = refl
+
+reads-of_type : steps_of_text (codes "p:first-of-type:Nth-Last-Of-Type(2)") ≡ Ok (step Start (is_type (codes "p"))
+    ∷ step Same (is_first SameName) ∷ step Same (is_nth (row_by SameName Last) (series 0 false 2 false)) ∷ [])
+unfolding read
+reads-of_type = refl
 
 reads-no_series : steps_of_text (codes "a:nth-child(2 n)") ≡ Err (Unsupported 12)
 unfolding read
@@ -197,15 +205,18 @@ has-none = refl
 
 -- ---- elements that are named
 
--- an element with text, so many elements before it and so many after it
-abbrev place : ℕ → ℕ → Place
-place before after = record { before = before; after = after; holds_nothing = false; has_no_parent = false }
+-- an element with text, so many elements before it and after it, and so many of its name
+abbrev place : Counts → Counts → Place
+place all named = record { among_all = all; of_type = named; holds_nothing = false; has_no_parent = false }
+
+abbrev counts : ℕ → ℕ → Counts
+counts before after = record { before = before; after = after }
 
 abbrev paragraph : Element
 paragraph = record {
   name = codes "p";
   attributes = record { name = codes "class"; value = codes " a\tbc" } ∷ [];
-  place = place 0 1;
+  place = place (counts 0 2) (counts 0 1);
 }
 
 meets-type : meets paragraph (is_type (codes "P")) ≡ true
@@ -223,20 +234,23 @@ meets-class_part = refl
 meets-attribute : meets paragraph (has_attribute (codes "CLASS")) ≡ true
 meets-attribute = refl
 
-meets-first : meets paragraph is_first ≡ true
+meets-first : meets paragraph (is_first All) ≡ true
 meets-first = refl
 
-meets-last : meets paragraph is_last ≡ false
+meets-last : meets paragraph (is_last All) ≡ false
 meets-last = refl
 
-meets-only : meets paragraph is_only ≡ false
+meets-only : meets paragraph (is_only All) ≡ false
 meets-only = refl
 
-meets-nth : meets paragraph (is_nth First (series 0 false 1 false)) ≡ true
+meets-nth : meets paragraph (is_nth (row_by All First) (series 0 false 1 false)) ≡ true
 meets-nth = refl
 
-meets-nth_last : meets paragraph (is_nth Last (series 0 false 1 false)) ≡ false
+meets-nth_last : meets paragraph (is_nth (row_by All Last) (series 0 false 2 false)) ≡ false
 meets-nth_last = refl
+
+meets-nth_last_of_type : meets paragraph (is_nth (row_by SameName Last) (series 0 false 2 false)) ≡ true
+meets-nth_last_of_type = refl
 
 -- ---- values
 
@@ -277,7 +291,7 @@ passes-is : passes paragraph (among false ((is_type (codes "div") ∷ []) ∷ (i
 passes-is = refl
 
 abbrev plain : List ℕ → Element
-plain name = record { name = name; attributes = []; place = place 0 0 }
+plain name = record { name = name; attributes = []; place = place (counts 0 0) (counts 0 0) }
 
 abbrev level : List ℕ → Level
 level name = record { here = plain name; earlier = [] }
@@ -336,12 +350,31 @@ outermost-next = refl
 outermost-root : outermost (step Start is_root ∷ []) [] [] page ≡ page
 outermost-root = refl
 
-outermost-first : outermost (step Start (is_type (codes "p")) ∷ step Same is_first ∷ []) [] [] page ≡ outer
+outermost-first : outermost (step Start (is_type (codes "p")) ∷ step Same (is_first All) ∷ []) [] [] page ≡ outer
 outermost-first = refl
 
-outermost-last : outermost (step Start is_last ∷ []) [] [] page
+outermost-last : outermost (step Start (is_last All) ∷ []) [] [] page
     ≡ more (element (codes "p") [] (more (text (codes "a")) inner)) last
 outermost-last = refl
+
+-- ---- places among elements with the same name, of `<p>a</p><b></b><p>c</p><b></b>`
+
+abbrev mixed : ValueForest
+mixed = more (element (codes "p") [] (more (text (codes "a")) none))
+    (more (element (codes "b") [] none)
+    (more (element (codes "p") [] (more (text (codes "c")) none))
+    (more (element (codes "b") [] none) none)))
+
+outermost-first_of_type : outermost (step Start (is_first SameName) ∷ []) [] [] mixed
+    ≡ more (element (codes "p") [] (more (text (codes "a")) none)) (more (element (codes "b") [] none) none)
+outermost-first_of_type = refl
+
+outermost-last_of_type : outermost (step Start (is_type (codes "p")) ∷ step Same (is_last SameName) ∷ []) [] [] mixed
+    ≡ last
+outermost-last_of_type = refl
+
+outermost-only_of_type : outermost (step Start (is_only SameName) ∷ []) [] [] mixed ≡ none
+outermost-only_of_type = refl
 
 -- ---- `:empty` of `<p><!--a--></p><p> </p>`
 

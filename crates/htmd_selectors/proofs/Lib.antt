@@ -3,4 +3,5 @@ pub mod SelectorStatesLemmas
 pub mod ReadingLemmas
 pub mod SelectedPartsLemmas
 pub mod PagesLemmas
+pub mod TypesLemmas
 mod Examples

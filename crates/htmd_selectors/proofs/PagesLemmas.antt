@@ -29,7 +29,15 @@ trees_below items node = value_forest (forest_of (tree_of items) (children_of it
 
 -- what is known before the first of them
 abbrev pub known_before : List spec_steps.Step → List StepState → List Item → ℕ → Known
-known_before steps outside items node = first_known steps outside (eqb (depth_at items node) 0)
+known_before steps outside items node =
+    first_known steps outside (eqb (depth_at items node) 0) (trees_below items node)
+
+known_at_root : (steps : List spec_steps.Step) (outside : List StepState) (items : List Item) (root : ℕ)
+    → IsTree items → root ≡ 0
+    → known_before steps outside items root ≡ first_known steps outside true (trees_below items 0)
+known_at_root steps outside items root t first =
+    ap (λ b. first_known steps outside b (trees_below items root)) (root-outside items root t first)
+    ∙ ap (λ n. first_known steps outside true (trees_below items n)) first
 
 -- a copy in a new tree is a page of what was kept
 copy-is : (items out new : List Item) (root under : ℕ) (kept-of : ValueForest → ValueForest)
@@ -49,8 +57,7 @@ pub rewritten-is : (rule : Rule) (items out new : List Item) (root under : ℕ) 
     → new ≡ rewritten_page rule items
 rewritten-is rule items out new root under t only first zeroth e =
     copy-is items out new root under (kept rule [] (known_before [] [] items root)) only first zeroth e
-    ∙ ap (λ b. document_items (kept rule [] (first_known [] [] b) (trees_below items 0)))
-    (root-outside items root t first)
+    ∙ ap (λ k. document_items (kept rule [] k (trees_below items 0))) (known_at_root [] [] items root t first)
     ∙ ap document_items (kept-page [] items t [] refl rule
     ∙ ap (rewritten rule) (without-none [] [] (children_of_document (value_at items 0))))
 
@@ -67,9 +74,8 @@ module _ (items : List Item) (steps : List Step) (outside : List StepState) (t :
   dropped-is under zeroth e =
       copy-is items out new root under
       (kept unchanged (steps_of steps) (known_before (steps_of steps) outside items root)) only first zeroth e
-      ∙ ap (λ b. document_items
-      (kept unchanged (steps_of steps) (first_known (steps_of steps) outside b) (trees_below items 0)))
-      (root-outside items root t first)
+      ∙ ap (λ k. document_items (kept unchanged (steps_of steps) k (trees_below items 0)))
+      (known_at_root (steps_of steps) outside items root t first)
       ∙ ap document_items (kept-page (steps_of steps) items t outside none_outside unchanged)
 
   pub outermost-laid : new ≡ out ++ forest_items 1 0 (length out)
@@ -80,10 +86,9 @@ module _ (items : List Item) (steps : List Step) (outside : List StepState) (t :
       e ∙ (ap (λ (x : List Item). x ++ forest_items 1 0 (length x)
       (outermost (steps_of steps) (known_before (steps_of steps) outside items root) (trees_below items root))) only
       ∙ (ap (λ n. document_items
-      (outermost (steps_of steps) (known_before (steps_of steps) outside items root) (trees_below items n))) first
-      ∙ (ap (λ b. document_items
-      (outermost (steps_of steps) (first_known (steps_of steps) outside b) (trees_below items 0)))
-      (root-outside items root t first)
+      (outermost (steps_of steps) (known_before (steps_of steps) outside items n) (trees_below items n))) first
+      ∙ (ap (λ k. document_items (outermost (steps_of steps) k (trees_below items 0)))
+      (known_at_root (steps_of steps) outside items 0 t refl)
       ∙ ap document_items (outermost-page (steps_of steps) items t outside none_outside))))
 
 not_zero : (n : ℕ) → eqb (suc n) 0 ≡ true → ⊥

@@ -18,7 +18,7 @@ use Rattle.htmd_nodes.specs.declared.tree.NodeData.TheVariants.{Document, Doctyp
 use Rattle.htmd_nodes.proofs.LayoutLemmas.{length-forest_items}
 use Rattle.htmd_nodes.proofs.NumberedTreesLemmas.{tree-open}
 use Rattle.htmd_selectors.specs.Rewriting.{joined}
-use Rattle.htmd_selectors.specs.SelectedParts.{count, elements_in, is_nothing}
+use Rattle.htmd_selectors.specs.SelectedParts.{count, elements_in, element_names, with_name, is_nothing}
 use Rattle.htmd_selectors.specs.SelectorStates.{Known, next_known, outermost_tree}
 use Rattle.htmd_selectors.specs.SelectorSteps.{Step}
 
@@ -71,6 +71,15 @@ elements-turn items ids i id left l is e =
     let all : left ≡ count (value_at items id) + elements_in (trees_from items (i + 1) ids) =
     e ∙ ap elements_in (trees_from-more items ids i id l is) in
     omega (arith, all)
+
+-- the names after one child more
+pub element_names-turn : (items : List Item) (ids : List ℕ) (i id : ℕ) (old new whole : List (List ℕ))
+    → i < length ids → id ≡ get_or ids i id → old ++ element_names (trees_from items i ids) ≡ whole
+    → ((rest : List (List ℕ)) → new ++ rest ≡ old ++ with_name (value_at items id) rest)
+    → new ++ element_names (trees_from items (i + 1) ids) ≡ whole
+element_names-turn items ids i id old new whole l is rest one =
+    one (element_names (trees_from items (i + 1) ids))
+    ∙ (ap (λ f. old ++ element_names f) (sym (trees_from-more items ids i id l is)) ∙ rest)
 
 -- one child more
 pub laid-turn : (tree_part : ValueTree → ValueForest) (part next : ValueForest → ValueForest) (items : List Item)
@@ -142,6 +151,15 @@ count-other id Doctype f h = refl
 count-other id (Text s) f h = refl
 count-other id (Comment s) f h = refl
 count-other id (Element name attributes) f h = absurd (h name attributes refl)
+
+pub with_name-other : (id : ℕ) (d : NodeData) (f : NumberedForest) (rest : List (List ℕ))
+    → ((name : List ℕ) (attributes : Vec Attribute Global) → d ≡ Element name attributes → ⊥)
+    → with_name (value_tree (with_children id (data_of d) f)) rest ≡ rest
+with_name-other id Document f rest h = refl
+with_name-other id Doctype f rest h = refl
+with_name-other id (Text s) f rest h = refl
+with_name-other id (Comment s) f rest h = refl
+with_name-other id (Element name attributes) f rest h = absurd (h name attributes refl)
 
 pub is_nothing-other : (id : ℕ) (d : NodeData) (f : NumberedForest)
     → ((name : List ℕ) (attributes : Vec Attribute Global) → d ≡ Element name attributes → ⊥)

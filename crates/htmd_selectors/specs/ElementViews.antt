@@ -1,4 +1,5 @@
 -- What elements and what is known of others stand for.
+use Rattle.std.specs.Prelude.{drop}
 use Rattle.htmd_lexical.specs.Attributes.{pairs_of}
 use Rattle.htmd_selectors.specs.declared.matching.Element.{Element}
 use Rattle.htmd_selectors.specs.declared.matching.Known.{Known}
@@ -8,8 +9,8 @@ use Rattle.htmd_selectors.specs.SelectorStates as states
 
 abbrev pub place_of : Place → spec.Place
 place_of place = record {
-  before = place.before;
-  after = place.after;
+  among_all = place.among_all;
+  of_type = place.of_type;
   holds_nothing = place.holds_nothing;
   has_no_parent = place.has_no_parent;
 }
@@ -22,5 +23,6 @@ known_of known = record {
   parent = known.parent.now;
   beside = known.beside.items;
   before = known.before;
+  types = drop known.before known.types.items;
   has_no_parent = known.has_no_parent;
 }

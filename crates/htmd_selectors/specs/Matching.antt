@@ -8,7 +8,11 @@ use Rattle.htmd_lexical.specs.AttributePairs.{AttributePair}
 use Rattle.htmd_lexical.specs.CharacterClasses as text
 use Rattle.htmd_lexical.specs.Characters.{hyphen}
 use Rattle.htmd_lexical.specs.WhiteSpace.{is_ascii_white_space}
+use Rattle.htmd_selectors.specs.declared.matching.Counts.{Counts}
 use Rattle.htmd_selectors.specs.declared.selectors.Comparison.{Comparison}
+use Rattle.htmd_selectors.specs.declared.selectors.Peers.{Peers}
+use Rattle.htmd_selectors.specs.declared.selectors.Peers.TheVariants as peers
+use Rattle.htmd_selectors.specs.declared.selectors.Row.{Row}
 use Rattle.htmd_selectors.specs.declared.selectors.Side.{Side}
 use Rattle.htmd_selectors.specs.declared.selectors.Side.TheVariants as side
 use Rattle.htmd_selectors.specs.declared.selectors.Operator.{Operator}
@@ -20,11 +24,11 @@ use Rattle.htmd_selectors.specs.SelectorSteps.{has_value, is_first, is_last, is_
 use Rattle.htmd_selectors.specs.SelectorSteps.{Test, asks, among, Step}
 use Rattle.htmd_selectors.specs.Series.{has}
 
--- where an element is: how many elements of its parent are before it and after it, whether it holds neither an element
--- nor a text, and whether no element is around it
+-- where an element is: how many elements of its parent are before it and after it, and how many of these have its
+-- name; whether it holds neither an element nor a text, and whether no element is around it
 pub record Place : Type 0 where
-  pub before : ℕ
-  pub after : ℕ
+  pub among_all : Counts
+  pub of_type : Counts
   pub holds_nothing : Bool
   pub has_no_parent : Bool
 
@@ -98,10 +102,24 @@ exactly operator = record { operator = operator; caseless = false }
 
 -- ---- elements
 
+-- among all elements of the parent, or those with the same name
+abbrev pub counts_among : Peers → Place → Counts
+counts_among peers.All place = place.among_all
+counts_among peers.SameName place = place.of_type
+
 -- how many elements are before a place, counted from this side
-abbrev pub count_from : Side → Place → ℕ
-count_from side.First place = place.before
-count_from side.Last place = place.after
+abbrev pub count_from : Side → Counts → ℕ
+count_from side.First counts = counts.before
+count_from side.Last counts = counts.after
+
+abbrev pub count_in : Row → Place → ℕ
+count_in row place = count_from row.side (counts_among row.peers place)
+
+abbrev pub is_first_among : Peers → Place → Bool
+is_first_among peers place = (counts_among peers place).before == 0
+
+abbrev pub is_last_among : Peers → Place → Bool
+is_last_among peers place = (counts_among peers place).after == 0
 
 -- an element meets a condition (Selectors Level 4, 5, 6 and 14)
 abbrev pub meets : Element → Condition → Bool
@@ -111,12 +129,12 @@ meets e (has_class class) = has_such (codes "class") (is_such (exactly operator.
 meets e (has_id id) = has_such (codes "id") (is_such (exactly operator.Equals) id) e.attributes
 meets e (has_attribute name) = has_such name (λ value. true) e.attributes
 meets e (has_value name comparison wanted) = has_such name (is_such comparison wanted) e.attributes
-meets e is_first = e.place.before == 0
-meets e is_last = e.place.after == 0
-meets e is_only = (e.place.before == 0) && (e.place.after == 0)
+meets e (is_first peers) = is_first_among peers e.place
+meets e (is_last peers) = is_last_among peers e.place
+meets e (is_only peers) = is_first_among peers e.place && is_last_among peers e.place
 meets e is_empty = e.place.holds_nothing
 meets e is_root = e.place.has_no_parent
-meets e (is_nth side series) = has series (count_from side e.place + 1)
+meets e (is_nth row series) = has series (count_in row e.place + 1)
 
 -- an element meets all conditions of a compound
 abbrev pub meets_all : Element → List Condition → Bool

@@ -11,8 +11,11 @@ use Rattle.htmd_lexical.specs.Numbers.{number, is_between}
 use Rattle.htmd_lexical.specs.WhiteSpace.{is_ascii_white_space}
 use Rattle.htmd_selectors.specs.declared.selectors.Operator.{Operator}
 use Rattle.htmd_selectors.specs.declared.selectors.Operator.TheVariants as operator
+use Rattle.htmd_selectors.specs.declared.selectors.Peers.{Peers}
+use Rattle.htmd_selectors.specs.declared.selectors.Peers.TheVariants as peers
 use Rattle.htmd_selectors.specs.declared.selectors.Relation.{Relation}
 use Rattle.htmd_selectors.specs.declared.selectors.Relation.TheVariants as relation
+use Rattle.htmd_selectors.specs.declared.selectors.Row.{Row}
 use Rattle.htmd_selectors.specs.declared.selectors.SelectorError.{SelectorError}
 use Rattle.htmd_selectors.specs.declared.selectors.Side.{Side}
 use Rattle.htmd_selectors.specs.declared.selectors.Side.TheVariants as side
@@ -262,42 +265,55 @@ open_group start group.Outside group.Not r = Ok (begin_group group.Not r)
 open_group start group.Is inner r = Err (Unsupported start)
 open_group start group.Not inner r = Err (Unsupported start)
 
--- pseudo-classes without parentheses (Selectors Level 4, 14)
+-- pseudo-classes without parentheses, of all elements of a parent and of those with the same name (Selectors Level 4,
+-- 14.3 and 14.4)
+abbrev pub peer_class : List ℕ → Option Condition
+peer_class name =
+    if same_name name (codes "first-child") then Some (is_first peers.All)
+    else (if same_name name (codes "last-child") then Some (is_last peers.All)
+    else (if same_name name (codes "only-child") then Some (is_only peers.All)
+    else (if same_name name (codes "first-of-type") then Some (is_first peers.SameName)
+    else (if same_name name (codes "last-of-type") then Some (is_last peers.SameName)
+    else (if same_name name (codes "only-of-type") then Some (is_only peers.SameName) else None)))))
+
+-- all pseudo-classes without parentheses (Selectors Level 4, 14)
 abbrev pub pseudo_class : List ℕ → Option Condition
 pseudo_class name =
-    if same_name name (codes "first-child") then Some is_first
-    else (if same_name name (codes "last-child") then Some is_last
-    else (if same_name name (codes "only-child") then Some is_only
-    else (if same_name name (codes "empty") then Some is_empty
-    else (if same_name name (codes "root") then Some is_root else None))))
+    if same_name name (codes "empty") then Some is_empty
+    else (if same_name name (codes "root") then Some is_root else peer_class name)
 
 abbrev pub after_pseudo_class : Option Condition → ℕ → ℕ → Reading → Result Reading SelectorError
 after_pseudo_class (Some condition) place b r = after_simple place b (add condition r)
 after_pseudo_class None place b r = Err (Unsupported (place - length r.word - 1))
 
--- those of places in a row (Selectors Level 4, 14.3)
-abbrev pub side_named : List ℕ → Option Side
-side_named name =
-    if same_name name (codes "nth-child") then Some side.First
-    else (if same_name name (codes "nth-last-child") then Some side.Last else None)
+abbrev pub row_by : Peers → Side → Row
+row_by peers side = record { peers = peers; side = side }
+
+-- those of places in a row (Selectors Level 4, 14.3 and 14.4)
+abbrev pub row_named : List ℕ → Option Row
+row_named name =
+    if same_name name (codes "nth-child") then Some (row_by peers.All side.First)
+    else (if same_name name (codes "nth-last-child") then Some (row_by peers.All side.Last)
+    else (if same_name name (codes "nth-of-type") then Some (row_by peers.SameName side.First)
+    else (if same_name name (codes "nth-last-of-type") then Some (row_by peers.SameName side.Last) else None)))
 
 -- parentheses after a name
-abbrev pub open_by : Option Side → ℕ → Reading → Result Reading SelectorError
-open_by (Some from) start r = Ok (begin (position.InSeries from) r)
+abbrev pub open_by : Option Row → ℕ → Reading → Result Reading SelectorError
+open_by (Some row) start r = Ok (begin (position.InSeries row) r)
 open_by None start r = open_group start r.group (group_named r.word) r
 
-abbrev pub add_series : Side → Option Series → ℕ → Reading → Result Reading SelectorError
-add_series from (Some series) place r = Ok (add (is_nth from series) r)
-add_series from None place r = Err (Unsupported (place - length r.word))
+abbrev pub add_series : Row → Option Series → ℕ → Reading → Result Reading SelectorError
+add_series row (Some series) place r = Ok (add (is_nth row series) r)
+add_series row None place r = Err (Unsupported (place - length r.word))
 
 -- all up to `)` says which places
-abbrev pub in_series : Side → ℕ → ℕ → Reading → Result Reading SelectorError
-in_series from place b r =
-    if b == right_parenthesis then add_series from (series_of r.word) place r else Ok (push b r)
+abbrev pub in_series : Row → ℕ → ℕ → Reading → Result Reading SelectorError
+in_series row place b r =
+    if b == right_parenthesis then add_series row (series_of r.word) place r else Ok (push b r)
 
 abbrev pub after_pseudo : ℕ → ℕ → Reading → Result Reading SelectorError
 after_pseudo place b r =
-    if b == left_parenthesis then open_by (side_named r.word) (place - length r.word - 1) r
+    if b == left_parenthesis then open_by (row_named r.word) (place - length r.word - 1) r
     else after_pseudo_class (pseudo_class r.word) place b r
 
 abbrev pub in_pseudo : ℕ → ℕ → Reading → Result Reading SelectorError
@@ -400,7 +416,7 @@ abbrev pub read_by : Position → ℕ → ℕ → Reading → Result Reading Sel
 read_by position.BeforeCompound place b r = before_compound place b r
 read_by (position.InWord kind) place b r = in_word kind place b r
 read_by position.InPseudo place b r = in_pseudo place b r
-read_by (position.InSeries from) place b r = in_series from place b r
+read_by (position.InSeries row) place b r = in_series row place b r
 read_by position.AfterSimple place b r = after_simple place b r
 read_by position.AfterCompound place b r = after_compound place b r
 read_by position.BeforeName place b r = before_name place b r
@@ -418,7 +434,7 @@ abbrev pub in_next_line : Position → ℕ → Reading → Result Reading Select
 in_next_line position.BeforeCompound place r = Err (Unsupported place)
 in_next_line (position.InWord kind) place r = Err (Unsupported place)
 in_next_line position.InPseudo place r = Err (Unsupported place)
-in_next_line (position.InSeries from) place r = Err (Unsupported place)
+in_next_line (position.InSeries row) place r = Err (Unsupported place)
 in_next_line position.AfterSimple place r = Err (Unsupported place)
 in_next_line position.AfterCompound place r = Err (Unsupported place)
 in_next_line position.BeforeName place r = Err (Unsupported place)
@@ -490,7 +506,7 @@ abbrev pub finished : Position → ℕ → List Step → Result (List Step) Sele
 finished position.BeforeCompound place steps = Ok steps
 finished (position.InWord kind) place steps = Err (Unclosed place)
 finished position.InPseudo place steps = Err (Unclosed place)
-finished (position.InSeries from) place steps = Err (Unclosed place)
+finished (position.InSeries row) place steps = Err (Unclosed place)
 finished position.AfterSimple place steps = Err (Unclosed place)
 finished position.AfterCompound place steps = Err (Unclosed place)
 finished position.BeforeName place steps = Err (Unclosed place)

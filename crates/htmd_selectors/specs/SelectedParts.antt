@@ -1,5 +1,6 @@
 -- Parts of a page: the outermost elements that are named, and the page without all elements that are.
-use Rattle.std.specs.Prelude.{ℕ, ◌+◌, Bool, true, false, ◌&&◌, if◌then◌else◌, List, [], ◌∷◌, length, Option, Some, None}
+use Rattle.std.specs.Prelude.{ℕ, ◌+◌, Bool, true, false, ◌&&◌, if◌then◌else◌, List, [], ◌∷◌, length, map}
+use Rattle.std.specs.Prelude.{Option, Some, None}
 use Rattle.htmd_lexical.specs.AttributePairs.{AttributePair}
 use Rattle.htmd_lexical.specs.CharacterClasses as characters
 use Rattle.htmd_values.specs.ValueTrees.{ValueTree, document, doctype, text, comment, element, ValueForest, none, more}
@@ -9,6 +10,7 @@ use Rattle.htmd_nodes.specs.NumberedTrees.{value_at}
 use Rattle.htmd_selectors.specs.SelectorSteps.{Step}
 use Rattle.htmd_selectors.specs.Matching.{Element, Level, is_named}
 use Rattle.htmd_selectors.specs.Rewriting.{unchanged, joined, rewritten, children_of_document}
+use Rattle.htmd_selectors.specs.Types.{counts_between}
 
 -- how many elements a tree is: one or none
 abbrev pub count : ValueTree → ℕ
@@ -22,6 +24,19 @@ count (element name attributes children) = 1
 abbrev pub elements_in : ValueForest → ℕ
 elements_in none = 0
 elements_in (more tree trees) = count tree + elements_in trees
+
+-- these names after that of a tree that is an element
+abbrev pub with_name : ValueTree → List (List ℕ) → List (List ℕ)
+with_name (document children) names = names
+with_name doctype names = names
+with_name (text s) names = names
+with_name (comment s) names = names
+with_name (element name attributes children) names = name ∷ names
+
+-- the names of those of these trees that are elements
+abbrev pub element_names : ValueForest → List (List ℕ)
+element_names none = []
+element_names (more tree trees) = with_name tree (element_names trees)
 
 -- a tree is neither an element nor a text, unless that is empty; white space is a text (Selectors Level 3,
 -- 6.6.5.12)
@@ -40,79 +55,79 @@ abbrev pub is_outside : List Level → Bool
 is_outside [] = true
 is_outside (level ∷ around) = false
 
--- an element, with the elements of its parent before it, nearest first, and how many are after it
-abbrev pub this_element : List Level → List Element → ℕ → List ℕ → List AttributePair → ValueForest
+-- an element, with the elements of its parent before it, nearest first, and the trees after it
+abbrev pub this_element : List Level → List Element → ValueForest → List ℕ → List AttributePair → ValueForest
     → Element
-this_element around earlier after name attributes children = record {
+this_element around earlier later name attributes children = record {
   name = name;
   attributes = attributes;
   place = record {
-    before = length earlier;
-    after = after;
+    among_all = record { before = length earlier; after = elements_in later };
+    of_type = counts_between (map (λ e. e.name) earlier) name (element_names later);
     holds_nothing = are_nothing children;
     has_no_parent = is_outside around;
   };
 }
 
 -- a tree that is an element is named
-abbrev pub names : List Step → List Level → List Element → ℕ → ValueTree → Bool
-names steps around earlier after (document children) = false
-names steps around earlier after doctype = false
-names steps around earlier after (text s) = false
-names steps around earlier after (comment s) = false
-names steps around earlier after (element name attributes children) =
-    is_named steps (this_element around earlier after name attributes children) earlier around
+abbrev pub names : List Step → List Level → List Element → ValueForest → ValueTree → Bool
+names steps around earlier later (document children) = false
+names steps around earlier later doctype = false
+names steps around earlier later (text s) = false
+names steps around earlier later (comment s) = false
+names steps around earlier later (element name attributes children) =
+    is_named steps (this_element around earlier later name attributes children) earlier around
 
 -- the elements before the next tree
-abbrev pub passed : List Level → List Element → ℕ → ValueTree → List Element
-passed around earlier after (document children) = earlier
-passed around earlier after doctype = earlier
-passed around earlier after (text s) = earlier
-passed around earlier after (comment s) = earlier
-passed around earlier after (element name attributes children) =
-    this_element around earlier after name attributes children ∷ earlier
+abbrev pub passed : List Level → List Element → ValueForest → ValueTree → List Element
+passed around earlier later (document children) = earlier
+passed around earlier later doctype = earlier
+passed around earlier later (text s) = earlier
+passed around earlier later (comment s) = earlier
+passed around earlier later (element name attributes children) =
+    this_element around earlier later name attributes children ∷ earlier
 
 -- the elements around what is in an element
-abbrev pub inside : List Level → List Element → ℕ → List ℕ → List AttributePair → ValueForest
+abbrev pub inside : List Level → List Element → ValueForest → List ℕ → List AttributePair → ValueForest
     → List Level
-inside around earlier after name attributes children =
-    (record { here = this_element around earlier after name attributes children; earlier = earlier }) ∷ around
+inside around earlier later name attributes children =
+    (record { here = this_element around earlier later name attributes children; earlier = earlier }) ∷ around
 
 abbrev mutual
   -- without the elements that are named, and what is below them
   pub without : List Step → List Level → List Element → ValueForest → ValueForest
   without steps around earlier none = none
   without steps around earlier (more tree trees) =
-      if names steps around earlier (elements_in trees) tree
-      then without steps around (passed around earlier (elements_in trees) tree) trees
-      else more (without_below steps around earlier (elements_in trees) tree)
-      (without steps around (passed around earlier (elements_in trees) tree) trees)
+      if names steps around earlier trees tree
+      then without steps around (passed around earlier trees tree) trees
+      else more (without_below steps around earlier trees tree)
+      (without steps around (passed around earlier trees tree) trees)
 
-  pub without_below : List Step → List Level → List Element → ℕ → ValueTree → ValueTree
-  without_below steps around earlier after (document children) = document (without steps around [] children)
-  without_below steps around earlier after doctype = doctype
-  without_below steps around earlier after (text s) = text s
-  without_below steps around earlier after (comment s) = comment s
-  without_below steps around earlier after (element name attributes children) =
-      element name attributes (without steps (inside around earlier after name attributes children) [] children)
+  pub without_below : List Step → List Level → List Element → ValueForest → ValueTree → ValueTree
+  without_below steps around earlier later (document children) = document (without steps around [] children)
+  without_below steps around earlier later doctype = doctype
+  without_below steps around earlier later (text s) = text s
+  without_below steps around earlier later (comment s) = comment s
+  without_below steps around earlier later (element name attributes children) =
+      element name attributes (without steps (inside around earlier later name attributes children) [] children)
 
 abbrev mutual
   -- the elements that are named and not below one that is, in document order
   pub outermost : List Step → List Level → List Element → ValueForest → ValueForest
   outermost steps around earlier none = none
   outermost steps around earlier (more tree trees) =
-      if names steps around earlier (elements_in trees) tree
-      then more tree (outermost steps around (passed around earlier (elements_in trees) tree) trees)
-      else joined (outermost_below steps around earlier (elements_in trees) tree)
-      (outermost steps around (passed around earlier (elements_in trees) tree) trees)
+      if names steps around earlier trees tree
+      then more tree (outermost steps around (passed around earlier trees tree) trees)
+      else joined (outermost_below steps around earlier trees tree)
+      (outermost steps around (passed around earlier trees tree) trees)
 
-  pub outermost_below : List Step → List Level → List Element → ℕ → ValueTree → ValueForest
-  outermost_below steps around earlier after (document children) = none
-  outermost_below steps around earlier after doctype = none
-  outermost_below steps around earlier after (text s) = none
-  outermost_below steps around earlier after (comment s) = none
-  outermost_below steps around earlier after (element name attributes children) =
-      outermost steps (inside around earlier after name attributes children) [] children
+  pub outermost_below : List Step → List Level → List Element → ValueForest → ValueTree → ValueForest
+  outermost_below steps around earlier later (document children) = none
+  outermost_below steps around earlier later doctype = none
+  outermost_below steps around earlier later (text s) = none
+  outermost_below steps around earlier later (comment s) = none
+  outermost_below steps around earlier later (element name attributes children) =
+      outermost steps (inside around earlier later name attributes children) [] children
 
 -- no Document is below another one: one that is isn't copied
 abbrev pub one_document : ValueForest → ValueForest

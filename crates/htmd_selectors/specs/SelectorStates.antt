@@ -1,15 +1,18 @@
 -- What is kept of the open elements and of the elements before the next one, step by step of the selectors.
-use Rattle.std.specs.Prelude.{ℕ, ◌+◌, Bool, true, false, ◌&&◌, ◌||◌, if◌then◌else◌, List, [], ◌∷◌, length, replicate}
+use Rattle.std.specs.Prelude.{ℕ, ◌+◌, Bool, true, false, ◌&&◌, ◌||◌, if◌then◌else◌, List, []}
+use Rattle.std.specs.Prelude.{◌∷◌, length, drop, replicate}
 use Rattle.htmd_lexical.specs.AttributePairs.{AttributePair}
 use Rattle.htmd_values.specs.ValueTrees.{ValueTree, document, doctype, text, comment, element, ValueForest, none, more}
 use Rattle.htmd_selectors.specs.declared.selectors.Relation.{Relation}
 use Rattle.htmd_selectors.specs.declared.selectors.Relation.TheVariants as relation
+use Rattle.htmd_selectors.specs.declared.matching.Counts.{Counts}
 use Rattle.htmd_selectors.specs.declared.matching.StepState.{StepState}
 use Rattle.htmd_selectors.specs.SelectorSteps.{Step}
 use Rattle.htmd_selectors.specs.Matching.{Element, Level, passes, matches, starts, parent_passes, some_passes}
 use Rattle.htmd_selectors.specs.Matching.{nearest_passes, earlier_passes}
-use Rattle.htmd_selectors.specs.SelectedParts.{elements_in, are_nothing}
+use Rattle.htmd_selectors.specs.SelectedParts.{elements_in, element_names, are_nothing}
 use Rattle.htmd_selectors.specs.Rewriting.{Rule, unchanged, joined}
+use Rattle.htmd_selectors.specs.Types.{asks_types, first_counts, type_counts}
 
 -- for these steps, last step first: they name the innermost of these elements; they name one of them
 abbrev pub state_around : List Step → List Level → StepState
@@ -77,12 +80,13 @@ is_named_by here (step ∷ steps) [] = here
 is_named_by here (step ∷ steps) (next ∷ named) =
     (starts step.relation && here) || is_named_by next steps named
 
--- what is known before an element: the states of its parent and of the elements before it, how many these are, and
--- whether no element is around it
+-- what is known before an element: the states of its parent and of the elements before it, how many these are; how many
+-- of its name each element from there on has beside it, where a step asks for that; and whether no element is around it
 pub record Known : Type 0 where
   pub parent : List StepState
   pub beside : List StepState
   pub before : ℕ
+  pub types : List Counts
   pub has_no_parent : Bool
 
 abbrev pub known_element : Known → ℕ → List ℕ → List AttributePair → ValueForest → Element
@@ -90,8 +94,8 @@ known_element known after name attributes children = record {
   name = name;
   attributes = attributes;
   place = record {
-    before = known.before;
-    after = after;
+    among_all = record { before = known.before; after = after };
+    of_type = first_counts known.types;
     holds_nothing = are_nothing children;
     has_no_parent = known.has_no_parent;
   };
@@ -109,16 +113,26 @@ next_known steps known after (comment s) = known
 next_known steps known after (element name attributes children) = record known {
   beside = with_element (named_at steps known (known_element known after name attributes children)) known.beside;
   before = known.before + 1;
+  types = drop 1 known.types;
 }
 
+-- how many of its name each of these elements has beside it, where a step asks for that
+abbrev pub types_in : List Step → ValueForest → List Counts
+types_in steps trees = if asks_types steps then type_counts [] (element_names trees) else []
+
 -- before the first of the trees below these elements
-abbrev pub first_known : List Step → List StepState → Bool → Known
-first_known steps parent is_outside =
-    record { parent = parent; beside = no_states steps; before = 0; has_no_parent = is_outside }
+abbrev pub first_known : List Step → List StepState → Bool → ValueForest → Known
+first_known steps parent is_outside trees = record {
+  parent = parent;
+  beside = no_states steps;
+  before = 0;
+  types = types_in steps trees;
+  has_no_parent = is_outside;
+}
 
 -- below an element
-abbrev pub known_below : List Step → Known → Element → Known
-known_below steps known e = first_known steps (with_element (named_at steps known e) known.parent) false
+abbrev pub known_below : List Step → Known → Element → ValueForest → Known
+known_below steps known e trees = first_known steps (with_element (named_at steps known e) known.parent) false trees
 
 abbrev pub names_by : List Step → Known → ℕ → ValueTree → Bool
 names_by steps known after (document children) = false
@@ -144,11 +158,11 @@ abbrev mutual
   kept_tree rule steps known after (element name attributes children) =
       if names_by steps known after (element name attributes children) then none
       else more (element name (rule name attributes) (kept rule steps
-      (known_below steps known (known_element known after name attributes children)) children)) none
+      (known_below steps known (known_element known after name attributes children) children) children)) none
 
 -- no selectors
 abbrev pub nothing_known : Known
-nothing_known = record { parent = []; beside = []; before = 0; has_no_parent = true }
+nothing_known = record { parent = []; beside = []; before = 0; types = []; has_no_parent = true }
 
 abbrev mutual
   -- the outermost elements that are named, without Documents
@@ -165,4 +179,5 @@ abbrev mutual
   outermost_tree steps known after (element name attributes children) =
       if names_by steps known after (element name attributes children)
       then kept_tree unchanged [] nothing_known 0 (element name attributes children)
-      else outermost steps (known_below steps known (known_element known after name attributes children)) children
+      else outermost steps (known_below steps known (known_element known after name attributes children) children)
+      children

@@ -17,12 +17,12 @@ condition_of (Class class) = spec.has_class class.items
 condition_of (Id id) = spec.has_id id.items
 condition_of (Attribute name) = spec.has_attribute name.items
 condition_of (Value name comparison value) = spec.has_value name.items comparison value.items
-condition_of First = spec.is_first
-condition_of Last = spec.is_last
-condition_of Only = spec.is_only
+condition_of (First peers) = spec.is_first peers
+condition_of (Last peers) = spec.is_last peers
+condition_of (Only peers) = spec.is_only peers
 condition_of Empty = spec.is_empty
 condition_of Root = spec.is_root
-condition_of (Nth side series) = spec.is_nth side series
+condition_of (Nth row series) = spec.is_nth row series
 
 abbrev pub compound_of : Compound → List spec.Condition
 compound_of compound = map condition_of compound.conditions.items

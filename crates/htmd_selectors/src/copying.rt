@@ -1,5 +1,5 @@
 //! A copy of a page, without some elements and with other attributes.
-ghost use Rattle.std.specs.Prelude.{◌≡◌, ◌+◌, ◌-◌, ◌^◌, ◌<◌, ◌≤◌, ◌==◌, ◌++◌, ◌∷◌, [], length, vec_len};
+ghost use Rattle.std.specs.Prelude.{◌≡◌, ◌+◌, ◌-◌, ◌^◌, ◌<◌, ◌≤◌, ◌==◌, ◌++◌, ◌∷◌, [], length, drop, vec_len};
 ghost use Rattle.std.specs.Prelude.{if◌then◌else◌, IsTrue, Ok, IfOk, OnOk, IsErrOf};
 ghost use Rattle.htmd_lexical.specs.Attributes.{pairs_of};
 ghost use Rattle.htmd_nodes.specs.Items.{children_of, data_at, depth_at, document_item, holds_children};
@@ -16,9 +16,10 @@ ghost use Rattle.htmd_selectors.specs.SelectorStates as states;
 ghost use Rattle.htmd_selectors.specs.Views.{steps_of};
 
 use crate::matching::{
-    Element, Known, NO_MARK, Place, StepState, is_named, named_steps, with_element,
+    Counts, Element, Known, NO_MARK, Place, StepState, is_named, named_steps, with_element,
 };
 use crate::selectors::Step;
+use crate::types::{asks_types, element_names, type_at, type_counts};
 use htmd_nodes::{Attribute, NodeData, NodeId, Tree, TreeError};
 use std::alloc::{AllocError, Global};
 
@@ -138,6 +139,19 @@ fn holds_nothing(tree: &Tree, node: NodeId) -> bool
     true
 }
 
+/// How many elements of its name each element among the children of a node has beside it, where a step asks for that.
+fn types_below<R: Rewrite>(page: &Page<'_, R>, node: NodeId) -> Result<Vec<Counts>, AllocError>
+    requires { node < length page.now.tree.now }
+    ensures { IfOk result (λ types. types.items ≡ states.types_in (steps_of page.now.steps.now)
+        (value_forest (forest_of (tree_of page.now.tree.now) (children_of page.now.tree.now node)))) }
+{
+    if !asks_types(page.steps) {
+        return Ok(Vec::new(page.alloc));
+    }
+    let names = element_names(page.alloc, page.tree, node)?;
+    type_counts(page.alloc, names.as_slice())
+}
+
 /// What is known before the first child of a node, by the states of the elements around that.
 pub(crate) fn known_below<'a, R: Rewrite>(
     page: &Page<'_, R>,
@@ -146,7 +160,8 @@ pub(crate) fn known_below<'a, R: Rewrite>(
 ) -> Result<Known<'a>, AllocError>
     requires { node < length page.now.tree.now }
     ensures known { IfOk result (λ known. known_of known ≡ states.first_known (steps_of page.now.steps.now)
-        parent.now (depth_at page.now.tree.now node == 0)) }
+        parent.now (depth_at page.now.tree.now node == 0)
+        (value_forest (forest_of (tree_of page.now.tree.now) (children_of page.now.tree.now node)))) }
     ensures left { IfOk result (λ known. known.left ≡ parts.elements_in
         (value_forest (forest_of (tree_of page.now.tree.now) (children_of page.now.tree.now node)))) }
 {
@@ -155,6 +170,7 @@ pub(crate) fn known_below<'a, R: Rewrite>(
         beside: vec![in page.alloc; NO_MARK; page.steps.len()]?,
         before: 0,
         left: elements_in(page.tree, node),
+        types: types_below(page, node)?,
         has_no_parent: page.tree.depth(node) == 0,
     })
 }
@@ -178,14 +194,18 @@ pub(crate) fn name_element<R: Rewrite>(
     ensures known { IfOk result (λ named. known_of known.new ≡ record (known_of known.old) {
       beside = states.with_element named.items known.old.beside.items;
       before = known.old.before + 1;
+      types = drop 1 (known_of known.old).types;
     }) }
     ensures left { OnOk result (known.new.left ≡ known.old.left - 1) }
     ensures count { IfOk result (λ named. vec_len named ≡ length page.now.steps.now) }
 {
     known.left = known.left.saturating_sub(1);
     let place = Place {
-        before: known.before,
-        after: known.left,
+        among_all: Counts {
+            before: known.before,
+            after: known.left,
+        },
+        of_type: type_at(known.types.as_slice(), known.before),
         holds_nothing: holds_nothing(page.tree, node),
         has_no_parent: known.has_no_parent,
     };
@@ -212,7 +232,8 @@ pub(crate) fn push_kept<R: Rewrite>(
     requires parent { length parent.now ≡ length page.now.steps.now }
     ensures { OnOk result (out.new ≡ out.old ++ forest_items (depth_at out.old under + 1) under (length out.old)
         (kept (R.rule page.now.rewrite.now) (steps_of page.now.steps.now)
-        (states.first_known (steps_of page.now.steps.now) parent.now (depth_at page.now.tree.now node == 0))
+        (states.first_known (steps_of page.now.steps.now) parent.now (depth_at page.now.tree.now node == 0)
+        (value_forest (forest_of (tree_of page.now.tree.now) (children_of page.now.tree.now node))))
         (value_forest (forest_of (tree_of page.now.tree.now) (children_of page.now.tree.now node))))) }
 {
     let mut known = known_below(page, node, parent)?;

@@ -11,6 +11,7 @@ mod selection;
 mod selectors;
 mod series;
 mod signs;
+mod types;
 
 pub use copying::{Rewrite, rewritten};
 pub use reader::parse_selectors;

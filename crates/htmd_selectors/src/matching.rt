@@ -7,7 +7,9 @@ ghost use Rattle.htmd_selectors.specs.declared.selectors.Operator.TheVariants as
 ghost use Rattle.htmd_selectors.specs.SelectorStates as spec_states;
 ghost use Rattle.htmd_selectors.specs.Views.{condition_of, compounds_of, test_of, steps_of};
 
-use crate::selectors::{Comparison, Compound, Condition, Operator, Relation, Side, Step, Test};
+use crate::selectors::{
+    Comparison, Compound, Condition, Operator, Peers, Relation, Row, Side, Step, Test,
+};
 use htmd_nodes::Attribute;
 use std::alloc::{AllocError, Global};
 
@@ -126,13 +128,20 @@ fn has_value(attrs: &[Attribute], name: &[u8], comparison: Comparison, wanted: &
     false
 }
 
+/// How many elements of a parent are before an element, and how many are after it.
+#[derive(Clone, Copy, Drop)]
+pub(crate) struct Counts {
+    pub(crate) before: usize,
+    pub(crate) after: usize,
+}
+
 /// Where an element is.
 #[derive(Clone, Copy)]
 pub(crate) struct Place {
-    /// How many elements of its parent are before it.
-    pub(crate) before: usize,
-    /// How many are after it.
-    pub(crate) after: usize,
+    /// Among all elements of its parent.
+    pub(crate) among_all: Counts,
+    /// Among those with its name, where a step asks for that.
+    pub(crate) of_type: Counts,
     /// It holds neither an element nor a text.
     pub(crate) holds_nothing: bool,
     /// No element is around it.
@@ -147,14 +156,38 @@ pub(crate) struct Element<'a> {
     pub(crate) place: Place,
 }
 
-/// How many elements are before a place, counted from this side.
-fn count_from(side: Side, place: Place) -> usize
-    ensures { result ≡ spec.count_from side (place_of place) }
+fn counts_among(peers: Peers, place: Place) -> Counts
+    ensures { result ≡ spec.counts_among peers (place_of place) }
 {
-    match side {
-        Side::First => place.before,
-        Side::Last => place.after,
+    match peers {
+        Peers::All => place.among_all,
+        Peers::SameName => place.of_type,
     }
+}
+
+/// How many elements are before a place in a row.
+fn count_in(row: Row, place: Place) -> usize
+    ensures { result ≡ spec.count_in row (place_of place) }
+{
+    let counts = counts_among(row.peers, place);
+    match row.side {
+        Side::First => counts.before,
+        Side::Last => counts.after,
+    }
+}
+
+/// Whether none of these elements of its parent is before an element.
+fn is_first(peers: Peers, place: Place) -> bool
+    ensures { result ≡ spec.is_first_among peers (place_of place) }
+{
+    counts_among(peers, place).before == 0
+}
+
+/// Whether none is after it.
+fn is_last(peers: Peers, place: Place) -> bool
+    ensures { result ≡ spec.is_last_among peers (place_of place) }
+{
+    counts_among(peers, place).after == 0
 }
 
 /// Whether an element meets a condition.
@@ -179,12 +212,12 @@ fn meets(e: &Element<'_>, condition: &Condition) -> bool
             comparison,
             value,
         } => has_value(e.attrs, name.as_slice(), *comparison, value.as_slice()),
-        Condition::First => e.place.before == 0,
-        Condition::Last => e.place.after == 0,
-        Condition::Only => e.place.before == 0 && e.place.after == 0,
+        Condition::First(peers) => is_first(*peers, e.place),
+        Condition::Last(peers) => is_last(*peers, e.place),
+        Condition::Only(peers) => is_first(*peers, e.place) && is_last(*peers, e.place),
         Condition::Empty => e.place.holds_nothing,
         Condition::Root => e.place.has_no_parent,
-        Condition::Nth { side, series } => series.has(count_from(*side, e.place)),
+        Condition::Nth { row, series } => series.has(count_in(*row, e.place)),
     }
 }
 
@@ -239,13 +272,15 @@ pub(crate) const NO_MARK: StepState = StepState {
 };
 
 /// What is known before a node: the states of the elements around it, and of those of its parent before it; how many
-/// these are, and how many are still to come; and whether no element is around it.
+/// these are, and how many are still to come; how many of its name are before and after each element of its parent,
+/// where a step asks for that; and whether no element is around it.
 #[derive(Drop)]
 pub(crate) struct Known<'a> {
     pub(crate) parent: &'a [StepState],
     pub(crate) beside: Vec<StepState>,
     pub(crate) before: usize,
     pub(crate) left: usize,
+    pub(crate) types: Vec<Counts>,
     pub(crate) has_no_parent: bool,
 }
 

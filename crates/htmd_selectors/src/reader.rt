@@ -6,12 +6,12 @@ ghost use Rattle.htmd_selectors.specs.Views.{condition_of, test_of, steps_in, st
 
 use crate::caseless_names::is_caseless_name;
 use crate::selectors::{
-    Comparison, Compound, Condition, Operator, Relation, SelectorError, Selectors, Side, Step, Test,
+    Comparison, Compound, Condition, Operator, Relation, Row, SelectorError, Selectors, Step, Test,
 };
 use crate::series::series_of;
 use crate::signs::{
     begins_relation, ends_part, escaped_character, extends_name, group_named, is_line_end,
-    is_no_name, operator_of, pseudo_class, side_named,
+    is_no_name, operator_of, pseudo_class, row_named,
 };
 use std::alloc::Global;
 use std::mem;
@@ -30,7 +30,7 @@ pub(crate) enum Position {
     BeforeCompound,
     InWord(WordKind),
     InPseudo,
-    InSeries(Side),
+    InSeries(Row),
     AfterSimple,
     AfterCompound,
     BeforeName,
@@ -371,13 +371,13 @@ impl Reader {
     }
 
     fn open_parentheses(&mut self, start: usize) -> Result<(), SelectorError>
-        ensures ok { OnOk result (spec.open_by (spec.side_named self.old.word.items) start (reading_of self.old)
+        ensures ok { OnOk result (spec.open_by (spec.row_named self.old.word.items) start (reading_of self.old)
             ≡ Ok (reading_of self.new)) }
         ensures err { IfErr result
-            (IsFault (spec.open_by (spec.side_named self.old.word.items) start (reading_of self.old))) }
+            (IsFault (spec.open_by (spec.row_named self.old.word.items) start (reading_of self.old))) }
     {
-        if let Some(side) = side_named(self.word.as_slice()) {
-            self.begin(Position::InSeries(side));
+        if let Some(row) = row_named(self.word.as_slice()) {
+            self.begin(Position::InSeries(row));
             return Ok(());
         }
         let inner = group_named(self.word.as_slice());
@@ -385,9 +385,9 @@ impl Reader {
     }
 
     /// All up to `)` says which places.
-    fn in_series(&mut self, side: Side, place: usize, b: u8) -> Result<(), SelectorError>
-        ensures ok { OnOk result (spec.in_series side place b (reading_of self.old) ≡ Ok (reading_of self.new)) }
-        ensures err { IfErr result (IsFault (spec.in_series side place b (reading_of self.old))) }
+    fn in_series(&mut self, row: Row, place: usize, b: u8) -> Result<(), SelectorError>
+        ensures ok { OnOk result (spec.in_series row place b (reading_of self.old) ≡ Ok (reading_of self.new)) }
+        ensures err { IfErr result (IsFault (spec.in_series row place b (reading_of self.old))) }
     {
         if b != b')' {
             return self.push(b);
@@ -396,7 +396,7 @@ impl Reader {
             let place = place.saturating_sub(self.word.len());
             return Err(SelectorError::Unsupported { place });
         };
-        self.add(Condition::Nth { side, series })
+        self.add(Condition::Nth { row, series })
     }
 
     /// After the name of a pseudo-class.
@@ -625,7 +625,7 @@ impl Reader {
             Position::BeforeCompound => self.before_compound(place, b),
             Position::InWord(part) => self.in_word(part, place, b),
             Position::InPseudo => self.in_pseudo(place, b),
-            Position::InSeries(side) => self.in_series(side, place, b),
+            Position::InSeries(row) => self.in_series(row, place, b),
             Position::AfterSimple => self.after_simple(place, b),
             Position::AfterCompound => self.after_compound(place, b),
             Position::BeforeName => self.before_name(place, b),

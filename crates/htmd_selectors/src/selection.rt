@@ -32,7 +32,8 @@ fn push_outermost(
     requires parent { length parent.now ≡ length page.now.steps.now }
     ensures { OnOk result (out.new ≡ out.old ++ forest_items 1 0 (length out.old)
         (outermost (steps_of page.now.steps.now)
-        (states.first_known (steps_of page.now.steps.now) parent.now (depth_at page.now.tree.now node == 0))
+        (states.first_known (steps_of page.now.steps.now) parent.now (depth_at page.now.tree.now node == 0)
+        (value_forest (forest_of (tree_of page.now.tree.now) (children_of page.now.tree.now node))))
         (value_forest (forest_of (tree_of page.now.tree.now) (children_of page.now.tree.now node))))) }
 {
     let mut known = known_below(page, node, parent)?;
@@ -92,6 +93,7 @@ fn push_whole(out: &mut Tree, page: &Page<'_, Unchanged>, node: NodeId) -> Resul
         beside: Vec::new(page.alloc),
         before: 0,
         left: 1,
+        types: Vec::new(page.alloc),
         has_no_parent: true,
     };
     push_kept_child(out, out.root(), &whole, node, &mut known)

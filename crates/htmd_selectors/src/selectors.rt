@@ -25,21 +25,30 @@ pub(crate) enum Condition {
         comparison: Comparison,
         value: Vec<u8>,
     },
-    /// `:first-child`: no element of its parent is before it.
-    First,
-    /// `:last-child`: none is after it.
-    Last,
-    /// `:only-child`: its parent has no other element.
-    Only,
+    /// `:first-child`, `:first-of-type`: none of these elements of its parent is before it.
+    First(Peers),
+    /// `:last-child`, `:last-of-type`: none is after it.
+    Last(Peers),
+    /// `:only-child`, `:only-of-type`: its parent has no other of them.
+    Only(Peers),
     /// `:empty`: it holds neither an element nor a text.
     Empty,
     /// `:root`: no element is around it.
     Root,
-    /// `:nth-child(2n+1)`: its place among the elements of its parent is one of these.
+    /// `:nth-child(2n+1)`: its place in the row is one of these.
     Nth {
-        side: Side,
+        row: Row,
         series: Series,
     },
+}
+
+/// Which elements of its parent count for an element.
+#[derive(Clone, Copy)]
+pub(crate) enum Peers {
+    /// All, as for `:nth-child()`.
+    All,
+    /// Those with its name, as for `:nth-of-type()`.
+    SameName,
 }
 
 /// From which side places are counted.
@@ -49,6 +58,13 @@ pub(crate) enum Side {
     First,
     /// As by `:nth-last-child()`.
     Last,
+}
+
+/// Elements of a parent, counted from one side.
+#[derive(Clone, Copy)]
+pub(crate) struct Row {
+    pub(crate) peers: Peers,
+    pub(crate) side: Side,
 }
 
 /// What a value is to the one that is written.

@@ -6,7 +6,7 @@ ghost use Rattle.htmd_selectors.specs.Views.{condition_of};
 
 use crate::matching::is_same_name;
 use crate::reader::Group;
-use crate::selectors::{Condition, Operator, Side};
+use crate::selectors::{Condition, Operator, Peers, Row, Side};
 use htmd_scanning::number;
 
 /// Whether a name may hold this byte; all bytes of a character that isn't ASCII are.
@@ -67,15 +67,27 @@ pub(crate) fn group_named(name: &[u8]) -> Group
     Group::Outside
 }
 
-/// From which side the pseudo-class of this name counts the places in its parentheses.
-pub(crate) fn side_named(name: &[u8]) -> Option<Side>
-    ensures { result ≡ spec.side_named name.now }
+fn row_by(peers: Peers, side: Side) -> Row
+    ensures { result ≡ spec.row_by peers side }
+{
+    Row { peers, side }
+}
+
+/// The elements of which the pseudo-class of this name counts the places in its parentheses.
+pub(crate) fn row_named(name: &[u8]) -> Option<Row>
+    ensures { result ≡ spec.row_named name.now }
 {
     if is_same_name(name, b"nth-child") {
-        return Some(Side::First);
+        return Some(row_by(Peers::All, Side::First));
     }
     if is_same_name(name, b"nth-last-child") {
-        return Some(Side::Last);
+        return Some(row_by(Peers::All, Side::Last));
+    }
+    if is_same_name(name, b"nth-of-type") {
+        return Some(row_by(Peers::SameName, Side::First));
+    }
+    if is_same_name(name, b"nth-last-of-type") {
+        return Some(row_by(Peers::SameName, Side::Last));
     }
     None
 }
@@ -87,26 +99,42 @@ pub(crate) fn begins_relation(b: u8) -> bool
     b == b'>' || b == b'+' || b == b'~'
 }
 
+/// The condition on its peers that a pseudo-class without parentheses stands for.
+fn peer_class(name: &[u8]) -> Option<Condition>
+    ensures { option_map condition_of result ≡ spec.peer_class name.now }
+{
+    if is_same_name(name, b"first-child") {
+        return Some(Condition::First(Peers::All));
+    }
+    if is_same_name(name, b"last-child") {
+        return Some(Condition::Last(Peers::All));
+    }
+    if is_same_name(name, b"only-child") {
+        return Some(Condition::Only(Peers::All));
+    }
+    if is_same_name(name, b"first-of-type") {
+        return Some(Condition::First(Peers::SameName));
+    }
+    if is_same_name(name, b"last-of-type") {
+        return Some(Condition::Last(Peers::SameName));
+    }
+    if is_same_name(name, b"only-of-type") {
+        return Some(Condition::Only(Peers::SameName));
+    }
+    None
+}
+
 /// The condition that a pseudo-class without parentheses stands for.
 pub(crate) fn pseudo_class(name: &[u8]) -> Option<Condition>
     ensures { option_map condition_of result ≡ spec.pseudo_class name.now }
 {
-    if is_same_name(name, b"first-child") {
-        return Some(Condition::First);
-    }
-    if is_same_name(name, b"last-child") {
-        return Some(Condition::Last);
-    }
-    if is_same_name(name, b"only-child") {
-        return Some(Condition::Only);
-    }
     if is_same_name(name, b"empty") {
         return Some(Condition::Empty);
     }
     if is_same_name(name, b"root") {
         return Some(Condition::Root);
     }
-    None
+    peer_class(name)
 }
 
 /// Whether a compound in parentheses ends before this byte.

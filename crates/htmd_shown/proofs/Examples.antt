@@ -6,7 +6,7 @@ use Rattle.htmd_lexical.specs.AttributePairs.{AttributePair}
 use Rattle.htmd_nodes.specs.NumberedTrees as page
 use Rattle.htmd_document.specs.declared.document.InlineElement.TheVariants.{Keyboard}
 use Rattle.htmd_shown.specs.declared.role.Role.TheVariants as role
-use Rattle.htmd_shown.specs.AllTexts.{with_line_end}
+use Rattle.htmd_shown.specs.AllTexts.{text_in, with_line_end}
 use Rattle.htmd_shown.specs.ClassWords.{has_class, number_words}
 use Rattle.htmd_shown.specs.Embeds.{place_of}
 use Rattle.htmd_shown.specs.Facts.{facts_of, made}
@@ -78,6 +78,19 @@ place-page = refl
 
 pub row-line : with_line_end (codes "a") ≡ codes "a\n"
 row-line = refl
+
+-- in code, each block that says something is a line
+pub division-line : text_in role.Division (codes "a") ≡ codes "a\n"
+division-line = refl
+
+pub division-empty : text_in role.Division [] ≡ []
+division-empty = refl
+
+pub cell-line : text_in role.Cell (codes "a") ≡ codes "a"
+cell-line = refl
+
+pub table-line : text_in role.Table (codes " ") ≡ codes " "
+table-line = refl
 
 pub sign-pilcrow : is_usual_sign 0xB6 ≡ true
 sign-pilcrow = refl

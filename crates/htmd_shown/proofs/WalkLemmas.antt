@@ -1,12 +1,16 @@
 -- One step of the walk over nodes beside each other.
 use Rattle.std.proofs.Common.{◌≡◌, ℕ, Bool, true, false, cond, ◌||◌, ◌&&◌, List, [], Option, Some, None, refl, sym, ap}
-use Rattle.std.proofs.Common.{◌∙◌, zero, suc, ◌∷◌, not, codes, is_some, drop}
+use Rattle.std.proofs.Common.{◌∙◌, zero, suc, ◌∷◌, not, codes, is_some, drop, length, map, Bor, arith}
+use Rattle.std.proofs.lemmas.Bool.Decides.{nat_tests}
+use Rattle.std.specs.Prelude.{◌==◌}
 use Rattle.htmd_lexical.specs.AttributePairs.{AttributePair}
+use Rattle.htmd_lexical.specs.Attributes.{pairs_of}
+use Rattle.htmd_lexical.specs.declared.attribute.Attribute.{Attribute}
 use Rattle.htmd_document.specs.declared.document.InlineElement.{InlineElement}
 use Rattle.htmd_nodes.specs.Items.{Item, IsTree, children_of, document_node}
 use Rattle.htmd_nodes.specs.NumberedTrees.{NumberedTree, NumberedForest, tree_of, forest_of}
 use Rattle.htmd_nodes.specs.NumberedTrees as page
-use Rattle.htmd_shown.specs.Repeats.{is_copy, is_element, is_passed, is_tex_script, last_element}
+use Rattle.htmd_shown.specs.Repeats.{is_copy, is_copy_of, is_element, is_passed, is_tex_script, last_element}
 use Rattle.htmd_shown.specs.Repeats.{leads_to_script, has_script, is_script_element}
 use Rattle.htmd_shown.specs.Formulas.{tex_of_script}
 use Rattle.htmd_shown.specs.Roles.{is_among}
@@ -136,6 +140,19 @@ page_shown sight items t ids nodes id e f =
     f ∙ none_after (raised [] id all) ∙ not_raised id all
     ∙ ap (λ x. shown_all sight nowhere None None (forest_of (tree_of items) x)) e
     ∙ sym (by_data items t 0 t.not_empty (shown_in sight) document_node (ap (λ (i : Item). i.node_data) t.first))
+
+-- ---- names that are skipped
+
+pub none_skipped : (skip : List (Bor (List ℕ))) (name : List ℕ) → (length skip == 0) ≡ true
+    → false ≡ is_among (map (λ n. n.now) skip) name
+none_skipped [] name e = refl
+none_skipped (n ∷ skip) name e = absurd (grind (arith, nat_tests, e))
+
+-- an element without attributes shows nothing again
+pub none_copied : (before attrs : List Attribute) → (length attrs == 0) ≡ true
+    → false ≡ is_copy_of (pairs_of before) (pairs_of attrs)
+none_copied before [] e = refl
+none_copied before (a ∷ attrs) e = absurd (grind (arith, nat_tests, e))
 
 -- ---- scripts beside nodes
 

@@ -1,5 +1,5 @@
 -- All text of nodes, as a code block shows it.
-use Rattle.std.specs.Prelude.{ℕ, Bool, false, ◌==◌, if◌then◌else◌, List, [], ◌∷◌, ◌++◌, codes, ◌&&◌}
+use Rattle.std.specs.Prelude.{ℕ, Bool, true, false, not, ◌==◌, if◌then◌else◌, List, [], ◌∷◌, ◌++◌, codes, ◌&&◌, ◌||◌}
 use Rattle.std.specs.Prelude.{encode_utf8_all, fold}
 use Rattle.std.specs.List.{slice_split}
 use Rattle.std.specs.Str.{chars}
@@ -8,7 +8,7 @@ use Rattle.htmd_lexical.specs.AttributePairs.{AttributePair}
 use Rattle.htmd_text.specs.Trims.{trimmed_text, is_line_feed}
 use Rattle.htmd_shown.specs.declared.role.Role.{Role}
 use Rattle.htmd_shown.specs.Attributes.{text_of, in_line}
-use Rattle.htmd_shown.specs.Roles.{is_line_break, is_row}
+use Rattle.htmd_shown.specs.Roles.{is_cell, is_edged, is_line_break, is_part, is_row, is_table}
 use Rattle.htmd_shown.specs.ShownTexts.{shown_text}
 use Rattle.htmd_shown.specs.SimpleTrees.{Simple, text, image, formula, embedded, anchor, element, Simples, none, more}
 
@@ -28,15 +28,27 @@ ends_line [] = false
 ends_line (b ∷ []) = b == line_feed
 ends_line (b ∷ c ∷ s) = ends_line (c ∷ s)
 
--- a line ends where its row does
+abbrev pub is_nothing : List ℕ → Bool
+is_nothing [] = true
+is_nothing (b ∷ s) = false
+
+-- a block that can be a line of code: not a table, its parts and cells, but its rows
+abbrev pub can_be_line : Role → Bool
+can_be_line role = is_edged role && (not (is_table role) && (not (is_part role) && not (is_cell role)))
+
+-- an element that says this is a line: such a block, if it says something, and any row
+abbrev pub is_line : Role → List ℕ → Bool
+is_line role inner = can_be_line role && (is_row role || not (is_nothing inner))
+
+-- a line ends where its element does
 abbrev pub with_line_end : List ℕ → List ℕ
 with_line_end s = if ends_line s then s else s ++ line_feed ∷ []
 
--- what an element says, by what is in it: a `br` is a line feed, and a row is a line
+-- what an element says, by what is in it: a `br` is a line feed, and rows and blocks are lines
 abbrev pub text_in : Role → List ℕ → List ℕ
 text_in role inner =
     if is_line_break role then line_feed ∷ []
-    else (if is_row role then with_line_end inner else inner)
+    else (if is_line role inner then with_line_end inner else inner)
 
 abbrev mutual
   pub all_text : Simple → List ℕ

@@ -193,11 +193,23 @@ pub fn is_in_address(c: char) -> bool
 fn holds_space_or_control(bytes: &[u8]) -> bool
     ensures { result ≡ list_any spec.is_space_or_control bytes.now }
 {
-    let mut found = false;
+    // A number, since of a bool LLVM makes branches where this is inlined.
+    let mut found = 0;
     for b in bytes {
-        found |= is_space_or_control(*b);
+        found = found.max(is_space_or_control(*b) as u8);
     }
-    found
+    found == 1
+}
+
+/// An address as browsers take it, if it is a part of the text: no space and no control is in it.
+pub fn whole_address(text: &str) -> Option<&str>
+    ensures { IfSome result (λ a. a.now ≡ spec.address text.now) }
+{
+    let text = without_controls_around(text);
+    if holds_space_or_control(text.as_bytes()) {
+        return None;
+    }
+    Some(text)
 }
 
 /// An address as browsers take it: no white space or controls at the ends, no tabs and line ends in it, and no U+0000.

@@ -113,6 +113,9 @@ pub fn is_of_wiki(attrs: &[Attribute]) -> bool
 pub(crate) fn is_copy(before: &[Attribute], attrs: &[Attribute]) -> bool
     ensures { result ≡ repeats.is_copy_of (pairs_of before.now) (pairs_of attrs.now) }
 {
+    if attrs.is_empty() {
+        return false;
+    }
     has_class(attrs, KATEX) && has_class(before, KATEX_SOURCE)
         || has_class(attrs, WIKI) && has_class(before, WIKI_SOURCE)
 }

@@ -1,7 +1,8 @@
 //! Elements of the page, and numbers of lines among them.
 ghost use Rattle.std.specs.Prelude.{◌≡◌, ◌<◌, All, IfSome, MatchOption, false, length};
 ghost use Rattle.htmd_lexical.specs.Attributes.{pairs_of};
-ghost use Rattle.htmd_nodes.specs.NumberedTrees.{text, tree_of, forest_of};
+ghost use Rattle.htmd_nodes.specs.Items.{children_of};
+ghost use Rattle.htmd_nodes.specs.NumberedTrees.{element, text, tree_of, forest_of};
 ghost use Rattle.htmd_shown.specs.LineNumbers as spec;
 ghost use Rattle.htmd_shown.specs.Roles as roles;
 ghost use Rattle.htmd_shown.specs.Shown.{is_img};
@@ -33,6 +34,22 @@ pub(crate) fn element_at<'t>(tree: &'t Tree, node: NodeId) -> Option<Element<'t>
             attrs: attrs.as_slice(),
             children: tree.children(node),
         }),
+        NodeData::Document => None,
+        NodeData::Doctype => None,
+        NodeData::Text(_) => None,
+        NodeData::Comment(_) => None,
+    }
+}
+
+/// The name and the attributes of a node, if it is an element.
+pub(crate) fn tag_at<'t>(tree: &'t Tree, node: NodeId) -> Option<(&'t Name, &'t [Attribute])>
+    requires { node < length tree.now }
+    ensures { MatchOption result (is_element (tree_of tree.now node) ≡ false)
+        (λ t. tree_of tree.now node ≡ element node t.0.now (pairs_of t.1.now)
+        (forest_of (tree_of tree.now) (children_of tree.now node))) }
+{
+    match tree.data(node) {
+        NodeData::Element { name, attrs } => Some((name, attrs.as_slice())),
         NodeData::Document => None,
         NodeData::Doctype => None,
         NodeData::Text(_) => None,

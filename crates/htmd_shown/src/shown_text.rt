@@ -31,11 +31,12 @@ pub fn is_all_shown(text: &str) -> bool
 fn holds_unshown_byte(bytes: &[u8]) -> bool
     ensures { result ≡ list_any views.is_unshown_byte bytes.now }
 {
-    let mut found = false;
+    // A number, since of a bool LLVM makes branches where this is inlined.
+    let mut found = 0;
     for b in bytes {
-        found |= is_unshown_byte(*b);
+        found = found.max(is_unshown_byte(*b) as u8);
     }
-    found
+    found == 1
 }
 
 /// Whether the byte is U+0000, or the first of U+FEFF.

@@ -1,5 +1,6 @@
 //! What shows of a page, by one walk over its tree.
-ghost use Rattle.std.specs.Prelude.{◌≡◌, ◌<◌, false, All, IfOk, IfSome, [], None, length, string_bytes};
+ghost use Rattle.std.specs.Prelude.{◌≡◌, ◌<◌, false, All, IfOk, IfSome, OnOk, [], None, Some, length};
+ghost use Rattle.std.specs.Prelude.{string_bytes};
 ghost use Rattle.std.specs.Option.{option_copied, option_map};
 ghost use Rattle.htmd_lexical.specs.Attributes.{pairs_of};
 ghost use Rattle.htmd_nodes.specs.NumberedTrees.{tree_of, forest_of};
@@ -9,6 +10,7 @@ ghost use Rattle.htmd_shown.specs.Facts as facts;
 ghost use Rattle.htmd_shown.specs.PageViews.{element_in};
 ghost use Rattle.htmd_shown.specs.Permalinks as permalinks;
 ghost use Rattle.htmd_shown.specs.Repeats as repeats;
+ghost use Rattle.htmd_shown.specs.Roles as roles;
 ghost use Rattle.htmd_shown.specs.Shown as spec;
 ghost use Rattle.htmd_shown.specs.ShownTexts.{shown_text};
 ghost use Rattle.htmd_shown.specs.SightViews as views;
@@ -22,7 +24,8 @@ use crate::embedded::{Embedding, embedding_of, is_embedding};
 use crate::formula::{is_display, tex_of};
 use crate::image_source::{image_address, is_image, picture_source};
 use crate::page::{
-    Element, element_at, is_img, is_number_cell, is_number_in_code, is_numbered_row, text_at,
+    Element, element_at, is_img, is_number_cell, is_number_in_code, is_numbered_row, tag_at,
+    text_at,
 };
 use crate::repeats::{has_script, is_passed, leads_to_script};
 use crate::role::{Role, is_among, is_never_shown, role_of};
@@ -241,54 +244,71 @@ impl<'t> Content<'t> {
         })
     }
 
-    /// With one more node.
+    /// Adds one more node.
     #[tactic(auto, using(crate::proofs::BelowsLemmas::below_one, crate::proofs::NodesLemmas::nodes_push))]
-    fn with(self, seen: Seen<'t>) -> Result<Content<'t>, AllocError>
-        requires nodes { views.AreSummed self }
+    fn push(&mut self, seen: Seen<'t>) -> Result<(), AllocError>
+        requires nodes { views.AreSummed self.old }
         requires node { views.IsSummed seen }
-        ensures value { IfOk result (λ content. views.nodes_of content
-            ≡ spec.followed_by (views.nodes_of self.entry) (trees.more (views.node_of seen.entry) trees.none)) }
-        ensures summed { IfOk result (λ content. views.AreSummed content) }
+        ensures value { OnOk result (views.nodes_of self.new
+            ≡ spec.followed_by (views.nodes_of self.old) (trees.more (views.node_of seen.entry) trees.none)) }
+        ensures summed { OnOk result (views.AreSummed self.new) }
     {
-        let mut nodes = self.nodes;
-        nodes.push(seen.node)?;
-        Ok(Content {
-            nodes,
-            below: self.below.and(seen.below),
-        })
+        self.below = self.below.and(seen.below);
+        self.nodes.push(seen.node)?;
+        Ok(())
     }
 
-    /// With one more node in a format, if one shows.
-    fn with_next(
-        self,
+    /// Adds one more node in a format, if one shows.
+    fn push_next(
+        &mut self,
         alloc: Global,
         seen: Option<Seen<'t>>,
         format: Option<InlineElement>,
         parent: NodeId,
-    ) -> Result<Content<'t>, AllocError>
-        requires nodes { views.AreSummed self }
+    ) -> Result<(), AllocError>
+        requires nodes { views.AreSummed self.old }
         requires node { IfSome seen (λ s. views.IsSummed s) }
-        ensures value { IfOk result (λ content. views.nodes_of content ≡ spec.followed_by (views.nodes_of self.entry)
+        ensures value { OnOk result (views.nodes_of self.new ≡ spec.followed_by (views.nodes_of self.old)
             (views.raised_next format parent (option_map views.node_of seen.entry))) }
-        ensures summed { IfOk result (λ content. views.AreSummed content) }
+        ensures summed { OnOk result (views.AreSummed self.new) }
     {
         match seen {
-            Some(seen) => self.with(raised(alloc, format, parent, seen)?),
-            None => Ok(self),
+            Some(seen) => self.push_raised(alloc, seen, format, parent),
+            None => Ok(()),
         }
     }
 
-    /// With one more mark of a quotation, where it is one.
-    fn marked(self, is_quoted: bool) -> Result<Content<'t>, AllocError>
-        requires { views.AreSummed self }
-        ensures value { IfOk result (λ content. views.nodes_of content
-            ≡ spec.followed_by (views.nodes_of self.entry) (spec.marks is_quoted)) }
-        ensures summed { IfOk result (λ content. views.AreSummed content) }
+    /// Adds one more node in a format, if there is one.
+    fn push_raised(
+        &mut self,
+        alloc: Global,
+        seen: Seen<'t>,
+        format: Option<InlineElement>,
+        parent: NodeId,
+    ) -> Result<(), AllocError>
+        requires nodes { views.AreSummed self.old }
+        requires node { views.IsSummed seen }
+        ensures value { OnOk result (views.nodes_of self.new ≡ spec.followed_by (views.nodes_of self.old)
+            (trees.more (spec.raised_one format parent (views.node_of seen.entry)) trees.none)) }
+        ensures summed { OnOk result (views.AreSummed self.new) }
+    {
+        match format {
+            Some(format) => self.push(raised(alloc, format, parent, seen)?),
+            None => self.push(seen),
+        }
+    }
+
+    /// Adds one more mark of a quotation, where it is one.
+    fn mark(&mut self, is_quoted: bool) -> Result<(), AllocError>
+        requires { views.AreSummed self.old }
+        ensures value { OnOk result (views.nodes_of self.new
+            ≡ spec.followed_by (views.nodes_of self.old) (spec.marks is_quoted)) }
+        ensures summed { OnOk result (views.AreSummed self.new) }
     {
         if is_quoted {
-            self.with(Seen::of_text("\""))
+            self.push(Seen::of_text("\""))
         } else {
-            Ok(self)
+            Ok(())
         }
     }
 }
@@ -350,25 +370,24 @@ fn formats_after<'a>(
     }
 }
 
-/// A node in a format, if there is one and it is an element.
+/// A node in a format, if it is an element.
+#[cold]
 fn raised<'t>(
     alloc: Global,
-    format: Option<InlineElement>,
+    format: InlineElement,
     parent: NodeId,
     seen: Seen<'t>,
 ) -> Result<Seen<'t>, AllocError>
     requires { views.IsSummed seen }
     ensures value { IfOk result (λ made. views.node_of made
-        ≡ spec.raised_one format parent (views.node_of seen.entry)) }
+        ≡ spec.raised_one (Some format) parent (views.node_of seen.entry)) }
     ensures summed { IfOk result (λ made. views.IsSummed made) }
 {
-    let Some(format) = format else {
-        return Ok(seen);
-    };
     if is_text(&seen.node) {
         return Ok(seen);
     }
-    let content = Content::with_capacity(alloc, 1)?.with(seen)?;
+    let mut content = Content::with_capacity(alloc, 1)?;
+    content.push(seen)?;
     Ok(Seen::of_element(parent, Role::Element(format), &[], content))
 }
 
@@ -448,8 +467,8 @@ impl<'t> Before<'t> {
         ensures { result
             ≡ repeats.is_repeat (views.attributes_of self.entry.element) (tree_of tree.now node) follows }
     {
-        match element_at(tree, node) {
-            Some(found) => { self.is_copied(found.attrs) || follows && is_passed(tree, node) }
+        match tag_at(tree, node) {
+            Some((_, attrs)) => self.is_copied(attrs) || follows && is_passed(tree, node),
             None => false,
         }
     }
@@ -472,14 +491,14 @@ impl<'t> Before<'t> {
         ensures element { views.attributes_of result.element
             ≡ repeats.last_element (views.attributes_of self.entry.element) (tree_of tree.now node) }
     {
-        match element_at(tree, node) {
-            Some(found) => Before {
-                source: if self.source.is_some() && found.name.is(Tag::Img) {
+        match tag_at(tree, node) {
+            Some((name, attrs)) => Before {
+                source: if self.source.is_some() && name.is(Tag::Img) {
                     None
                 } else {
                     self.source
                 },
-                element: Some(found.attrs),
+                element: Some(attrs),
             },
             None => self,
         }
@@ -489,11 +508,21 @@ impl<'t> Before<'t> {
 // ---- the walk
 
 impl<'t> Sight<'t> {
+    /// Whether this is one of the names that are skipped, of which there are seldom any.
+    fn is_named_to_skip(&self, name: &Name) -> bool
+        ensures { result ≡ roles.is_among (views.sight_of self.now).skip name.now }
+    {
+        if self.skip.is_empty() {
+            return false;
+        }
+        is_among(name.as_str(), self.skip)
+    }
+
     /// Whether elements with this name are skipped with all in them.
     fn is_skipped(&self, name: &Name) -> bool
         ensures { result ≡ spec.is_skipped (views.sight_of self.now) name.now }
     {
-        is_among(name.as_str(), self.skip) || name.is(Tag::Noscript) && self.scripting
+        self.is_named_to_skip(name) || name.is(Tag::Noscript) && self.scripting
     }
 
     /// What shows of a node, if something does.
@@ -678,9 +707,8 @@ impl<'t> Sight<'t> {
             (option_copied inside.now.source) None (forest_of (tree_of self.now.tree.now) nodes.now)))) }
         ensures summed { IfOk result (λ content. views.AreSummed content) }
     {
-        let mut content = Content::with_capacity(self.alloc, nodes.len())?.marked(
-            inside.is_quoted,
-        )?;
+        let mut content = Content::with_capacity(self.alloc, nodes.len())?;
+        content.mark(inside.is_quoted)?;
         let mut before = Before {
             source: inside.source,
             element: None,
@@ -692,11 +720,12 @@ impl<'t> Sight<'t> {
             let seen = self.next(*node, inside.around, before, follows)?;
             let format = format_of(formats);
             formats = formats_past(formats, &seen);
-            content = content.with_next(self.alloc, seen, format, inside.parent)?;
+            content.push_next(self.alloc, seen, format, inside.parent)?;
             before = before.and(self.tree, *node);
             follows = self.follows_after(*node, &nodes[place + 1..], follows, scripts)?;
         }
-        content.marked(inside.is_quoted)
+        content.mark(inside.is_quoted)?;
+        Ok(content)
     }
 
     /// Whether a script with TeX comes first of these nodes; scripts: whether one of any kind can be among them.
@@ -730,11 +759,13 @@ impl<'t> Sight<'t> {
         ensures { IfOk result (λ b. b ≡ repeats.leads_to_script (views.sight_of self.now).skip
             (forest_of (tree_of self.now.tree.now) rest.now)) }
     {
-        if scripts && is_passed(self.tree, node) {
-            Ok(follows)
-        } else {
-            self.script_follows(rest, scripts)
+        if !scripts {
+            return Ok(false);
         }
+        if is_passed(self.tree, node) {
+            return Ok(follows);
+        }
+        leads_to_script(self.alloc, self.tree, self.skip, rest)
     }
 
     /// What shows of a node after others, if something does; follows: whether a script with TeX follows it.

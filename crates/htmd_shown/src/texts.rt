@@ -72,7 +72,7 @@ fn push_text(alloc: Global, out: &mut String, node: &Simple) -> Result<(), Alloc
     }
 }
 
-/// Appends the text of an element: a `br` is a line feed, and a row is a line.
+/// Appends the text of an element: a `br` is a line feed, and rows and blocks are lines.
 #[cycle(push_text)]
 fn push_element(
     alloc: Global,
@@ -88,10 +88,25 @@ fn push_element(
     }
     let len = out.len();
     push_texts(alloc, out, content)?;
-    if role.is_row() && !ends_line(&out.as_bytes()[len..]) {
+    let said = &out.as_bytes()[len..];
+    if is_line(role, said) && !ends_line(said) {
         return out.push('\n');
     }
     Ok(())
+}
+
+/// Whether an element that says this is a line: a block that can be one, if it says something, and any row.
+fn is_line(role: Role, said: &[u8]) -> bool
+    ensures { result ≡ spec.is_line role said.now }
+{
+    can_be_line(role) && (role.is_row() || !said.is_empty())
+}
+
+/// Whether a block can be a line: not a table, its parts and cells, but its rows.
+fn can_be_line(role: Role) -> bool
+    ensures { result ≡ spec.can_be_line role }
+{
+    role.is_edged() && !role.is_table() && !role.is_part() && !role.is_cell()
 }
 
 /// Whether the last byte is a line feed.

@@ -1,6 +1,5 @@
 //! Cases, one on each line.
-use crate::json::push_pieces;
-use htmd_chunks::chunks;
+use htmd_chunks::{chunks, to_json_lines};
 use htmd_commonmark::DocumentOptions;
 use htmd_document::Document;
 use htmd_document_of_tree::{Anchors, OfTree};
@@ -29,16 +28,47 @@ pub(crate) fn push_answers(
         let Some((settings, page)) = line.split_once('\t') else {
             return Ok(false);
         };
-        let (rich, most) = match settings.strip_prefix("rich ") {
-            Some(most) => (true, most),
-            None => (false, settings),
-        };
-        let Ok(most) = most.parse::<usize>() else {
+        let Some(settings) = settings_of(settings) else {
             return Ok(false);
         };
-        push_answer(alloc, answers, &decoded(alloc, page)?, most, rich)?;
+        push_answer(alloc, answers, &decoded(alloc, page)?, &settings)?;
     }
     Ok(true)
+}
+
+/// What stands before a page.
+#[derive(Drop)]
+struct Settings<'a> {
+    /// Whether the document keeps elements that Markdown has no form for.
+    rich: bool,
+    name: Option<&'a str>,
+    front: Option<&'a str>,
+    /// How many bytes a piece may have.
+    most: usize,
+}
+
+/// The settings in a text: words, of which the last is a number.
+fn settings_of(text: &str) -> Option<Settings<'_>> {
+    let mut settings = Settings {
+        rich: false,
+        name: None,
+        front: None,
+        most: 0,
+    };
+    for word in text.split(' ') {
+        if word == "rich" {
+            settings.rich = true;
+        } else if let Some(name) = word.strip_prefix("page=") {
+            settings.name = Some(name);
+        } else if let Some(front) = word.strip_prefix("front=") {
+            settings.front = Some(front);
+        } else if let Ok(most) = word.parse::<usize>() {
+            settings.most = most;
+        } else {
+            return None;
+        }
+    }
+    Some(settings)
 }
 
 /// Appends the pieces of a page.
@@ -46,13 +76,13 @@ fn push_answer(
     alloc: Global,
     answers: &mut String,
     page: &str,
-    most: usize,
-    rich: bool,
+    settings: &Settings<'_>,
 ) -> Result<(), AllocError> {
     let tree = parse_html5(alloc, page, true)?;
-    let document = Document::of_tree(alloc, &tree, true, &[], Anchors::Linked, rich)?;
-    let pieces = chunks(alloc, document, most, &OPTIONS)?;
-    push_pieces(alloc, answers, &pieces, &OPTIONS)?;
+    let document = Document::of_tree(alloc, &tree, true, &[], Anchors::Linked, settings.rich)?;
+    let pieces = chunks(alloc, document, settings.most, &OPTIONS)?;
+    let lines = to_json_lines(alloc, &pieces, &OPTIONS, settings.name, settings.front)?;
+    answers.push_str(&lines)?;
     answers.push('\n')
 }
 

@@ -1,10 +1,8 @@
-//! Pages in pieces. It reads a case from each line of standard input: how many bytes a piece may have, after `rich` if
-//! the document keeps elements that Markdown has no form for, a tab and a page. It writes a line for each case: the
-//! pieces as JSON.
+//! Pages in pieces. It reads a case from each line of standard input: settings, a tab and a page. It writes the pieces
+//! of each case as lines of JSON, and an empty line.
 #![tactic(auto)]
 
 mod cases;
-mod json;
 
 use crate::cases::push_answers;
 use std::io::{self, Write};

@@ -4,7 +4,8 @@ ghost use Rattle.std.specs.Io.KnownBytes.{Appends};
 
 use htmd_files::Page;
 use htmd_folders::{
-    Conversion, Lines, Listing, MemoryStore, MemoryWriter, ShownName, Store, StoreFault,
+    Conversion, Lines, Listing, MemoryStore, MemoryWriter, Progress, RunOptions, ShownName, Store,
+    StoreFault,
 };
 use htmd_streams::{Failed, Input, Sink, Source, write_all};
 use std::alloc::Global;
@@ -175,8 +176,12 @@ impl Store for FailingStore {
         self.inner.is_folder(path)
     }
 
-    fn list(&mut self, alloc: Global, folder: &str) -> Result<Listing, StoreFault> {
-        self.inner.list(alloc, folder)
+    fn is_newer(&mut self, path: &str, other: &str) -> bool {
+        self.inner.is_newer(path, other)
+    }
+
+    fn list(&mut self, alloc: Global, folder: &str, all: bool) -> Result<Listing, StoreFault> {
+        self.inner.list(alloc, folder, all)
     }
 }
 
@@ -213,6 +218,14 @@ impl Conversion for Twice {
     fn report<E: Sink>(&self, page: &str, fault: &&'static str, errors: &mut E) {
         let page = ShownName(page);
         let _ = writeln!(Lines { sink: errors }, "htmd: {page}: {fault}");
+    }
+}
+
+/// How a run goes that keeps no newer outputs.
+pub fn options(progress: Progress) -> RunOptions {
+    RunOptions {
+        keeps_newer: false,
+        progress,
     }
 }
 

@@ -1,5 +1,5 @@
 //! Each call of a store fails in turn: the run goes on, and no output holds a part of a page.
-use super::doubles::{Call, FailingStore, Twice};
+use super::doubles::{Call, FailingStore, Twice, options};
 use htmd_files::Page;
 use htmd_folders::{MemoryStore, MemoryWriter, Progress, run_pages};
 use htmd_test_expected::{expect_text, expect_that};
@@ -29,6 +29,7 @@ fn pages(alloc: Global) -> Result<Vec<Page>, AllocError> {
             input: String::from_str(alloc, input)?,
             output: output_of(alloc, input)?,
             path_in_folder: None,
+            is_copy: false,
         })?;
     }
     Ok(pages)
@@ -112,7 +113,7 @@ fn expect_failure(alloc: Global, call: Call, failed: usize, keeps: bool) -> Resu
         &Twice { alloc },
         &pages,
         &mut errors,
-        Progress::Total,
+        options(Progress::Total),
     );
     expect_that("converted", tally.converted == 2)?;
     expect_that("failed", tally.failed == 1)?;

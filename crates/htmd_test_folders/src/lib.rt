@@ -2,6 +2,8 @@
 #![tactic(auto)]
 
 #[cfg(test)]
+mod copies;
+#[cfg(test)]
 mod doubles;
 #[cfg(test)]
 mod failures;
@@ -9,3 +11,5 @@ mod failures;
 mod lines;
 #[cfg(test)]
 mod names;
+#[cfg(test)]
+mod newer;

@@ -1,5 +1,5 @@
 //! The lines that a run prints.
-use super::doubles::Twice;
+use super::doubles::{Twice, options};
 use htmd_files::Page;
 use htmd_folders::{MemoryStore, MemoryWriter, Progress, ShownName, Tally, run_pages, write_total};
 use htmd_test_expected::expect_text;
@@ -11,6 +11,7 @@ fn page(alloc: Global, number: usize) -> Result<Page, AllocError> {
         input: format!(in alloc; "{number}.html")?,
         output: format!(in alloc; "{number}.md")?,
         path_in_folder: None,
+        is_copy: false,
     })
 }
 
@@ -37,7 +38,7 @@ fn expect_said(
         &Twice { alloc },
         &pages,
         &mut errors,
-        progress,
+        options(progress),
     );
     let said = errors.into_bytes();
     expect_text(wanted, str::from_utf8(&said)?, wanted)
@@ -60,21 +61,35 @@ fn counts(rt: HostRuntime) -> Result<(), Fail> {
 
 #[test]
 fn writes_the_total(rt: HostRuntime) -> Result<(), Fail> {
-    const ROWS: &[(u64, u64, &str)] = &[
-        (0, 2, "htmd: 0 pages converted, 2 failed\n"),
-        (1, 1, "htmd: 1 page converted, 1 failed\n"),
-        (999, 0, "htmd: 999 pages converted, 0 failed\n"),
-        (1_962, 3, "htmd: 1,962 pages converted, 3 failed\n"),
+    const ROWS: &[(u64, u64, u64, u64, &str)] = &[
+        (0, 0, 0, 2, "htmd: 0 pages converted, 2 failed\n"),
+        (1, 0, 0, 1, "htmd: 1 page converted, 1 failed\n"),
+        (999, 0, 0, 0, "htmd: 999 pages converted, 0 failed\n"),
+        (
+            1_962,
+            1,
+            1_000,
+            3,
+            "htmd: 1,962 pages converted, 3 failed, 1 file copied, 1,000 up to date\n",
+        ),
         (
             1_002_003,
+            2_000,
+            0,
             40_000,
-            "htmd: 1,002,003 pages converted, 40,000 failed\n",
+            "htmd: 1,002,003 pages converted, 40,000 failed, 2,000 files copied\n",
         ),
     ];
-    for &(converted, failed, wanted) in ROWS {
+    for &(converted, copied, up_to_date, failed, wanted) in ROWS {
         let mut errors = MemoryWriter::new(rt.alloc());
-        write_total(&mut errors, Progress::Total, Tally { converted, failed });
-        write_total(&mut errors, Progress::Quiet, Tally { converted, failed });
+        let tally = Tally {
+            converted,
+            copied,
+            up_to_date,
+            failed,
+        };
+        write_total(&mut errors, Progress::Total, tally);
+        write_total(&mut errors, Progress::Quiet, tally);
         let said = errors.into_bytes();
         expect_text(wanted, str::from_utf8(&said)?, wanted)?;
     }

@@ -1,5 +1,5 @@
 //! What is under the names that a page is written to stays, unless it is a file in the output's place.
-use super::doubles::Twice;
+use super::doubles::{Twice, options};
 use htmd_files::Page;
 use htmd_folders::{MemoryStore, MemoryWriter, Progress, Store, StoreFault, run_pages};
 use htmd_test_expected::{expect_text, expect_that};
@@ -20,6 +20,7 @@ fn expect_said(alloc: Global, store: &mut MemoryStore, wanted: &str) -> Result<(
         input: String::from_str(alloc, "a.html")?,
         output: String::from_str(alloc, "a.md")?,
         path_in_folder: None,
+        is_copy: false,
     })?;
     let mut errors = MemoryWriter::new(alloc);
     run_pages(
@@ -28,7 +29,7 @@ fn expect_said(alloc: Global, store: &mut MemoryStore, wanted: &str) -> Result<(
         &Twice { alloc },
         &pages,
         &mut errors,
-        Progress::Quiet,
+        options(Progress::Quiet),
     );
     let said = errors.into_bytes();
     expect_text("what is said", str::from_utf8(&said)?, wanted)

@@ -1,7 +1,7 @@
 //! What concerns files: the words of the command line, a small plan, paths, and what the faults write.
 use htmd_files::{
-    Destination, FilePlan, Operand, PlanFault, is_page, job_of, md_name, normal_path, plan_of,
-    relative,
+    Destination, FilePlan, Operand, PlanFault, is_page, job_of, normal_path, plan_of, relative,
+    with_extension,
 };
 use htmd_test_expected::{expect_text, expect_that};
 use std::alloc::{AllocError, Global};
@@ -110,6 +110,8 @@ fn planned(
 const OUT: Option<Destination<'static>> = Some(Destination {
     path: "out",
     is_folder: false,
+    extension: "md",
+    copies: false,
 });
 
 #[test]
@@ -190,7 +192,7 @@ fn faults_of_folders_name_them(rt: HostRuntime) -> Result<(), Fail> {
 fn paths_are_compared_and_related(rt: HostRuntime) -> Result<(), Fail> {
     let path = normal_path(rt.alloc(), "/a//b/./../c")?;
     expect_text("normal", path.as_str(), "/a/c")?;
-    let name = md_name(rt.alloc(), "a.XHTML")?;
+    let name = with_extension(rt.alloc(), "a.XHTML", "md")?;
     expect_text("name", name.as_str(), "a.md")?;
     expect_that("page", is_page("a.htm") && !is_page("a.htm.txt"))?;
     let way = relative(rt.alloc(), "a/b/c.md", "a/d.md")?;

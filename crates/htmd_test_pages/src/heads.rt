@@ -1,6 +1,6 @@
 //! Absolute addresses of a small page, and what it says of itself.
 use htmd_addresses::{base_of, make_absolute, page_url};
-use htmd_front_matter::front_matter;
+use htmd_front_matter::{front_matter, front_object};
 use htmd_test_expected::expect_text;
 use htmd_tree::{read_html, serialize};
 use std::alloc::Global;
@@ -94,4 +94,17 @@ fn a_page_says_something(rt: HostRuntime) -> Result<(), Fail> {
         lines.as_str(),
         "title: \"A \\\"b\\\" c\"\ndescription: \"d\"\ncanonical: \"/x\"\n",
     )
+}
+
+#[test]
+fn a_page_says_something_in_json(rt: HostRuntime) -> Result<(), Fail> {
+    let alloc = rt.alloc();
+    let page = read_html(alloc, HEAD, false)?;
+    expect_text(
+        "object",
+        front_object(alloc, &page)?.as_str(),
+        "{\"title\":\"A \\\"b\\\" c\",\"description\":\"d\",\"canonical\":\"/x\"}",
+    )?;
+    let silent = read_html(alloc, "<p>a</p>", false)?;
+    expect_text("nothing", front_object(alloc, &silent)?.as_str(), "{}")
 }

@@ -11,13 +11,20 @@ const PAGE: &str =
 
 const P: &str = "<div class=\"aa  x\" lang=\"\">P<a class=\"headerlink\" href=\"#\">#</a></div>";
 
-fn selected(alloc: Global, selectors: &str) -> Result<String, Fail> {
-    let page = read_html(alloc, PAGE, false)?;
+/// A page with several elements of one name below a parent.
+const ROW: &str = "<h2>A</h2>-<p>1</p><p>2</p><ul>L<p>3</p></ul><p>4</p><h2>B</h2>";
+
+fn selected_of(alloc: Global, page: &str, selectors: &str) -> Result<String, Fail> {
+    let page = read_html(alloc, page, false)?;
     let selectors = parse_selectors(alloc, selectors)?;
     match select_elements(alloc, &page, &selectors)? {
         Some(part) => Ok(serialize(alloc, &part, part.root())?),
         None => Ok(String::from_str(alloc, "none")?),
     }
+}
+
+fn selected(alloc: Global, selectors: &str) -> Result<String, Fail> {
+    selected_of(alloc, PAGE, selectors)
 }
 
 fn dropped(alloc: Global, selectors: &str) -> Result<String, Fail> {
@@ -122,6 +129,41 @@ fn elements_are_dropped(rt: HostRuntime) -> Result<(), Fail> {
     )
 }
 
+/// Selectors by places among elements of one name, and what they select of `ROW`.
+const OF_TYPE: &[(&str, &str)] = &[
+    (
+        "body > :first-of-type",
+        "<h2>A</h2><p>1</p><ul>L<p>3</p></ul>",
+    ),
+    (
+        "body > :last-of-type",
+        "<ul>L<p>3</p></ul><p>4</p><h2>B</h2>",
+    ),
+    ("body > :Only-Of-Type", "<ul>L<p>3</p></ul>"),
+    ("p:nth-of-type(2)", "<p>2</p>"),
+    ("p:nth-of-type(odd)", "<p>1</p><p>3</p><p>4</p>"),
+    ("p:nth-last-of-type(-n+2)", "<p>2</p><p>3</p><p>4</p>"),
+    ("h2:nth-last-of-type(2)", "<h2>A</h2>"),
+    ("p:only-of-type, h2 + p:first-of-type", "<p>1</p><p>3</p>"),
+    ("p:nth-of-type(4)", "none"),
+    ("p:not(:first-of-type):not(:last-of-type)", "<p>2</p>"),
+    (
+        "body > :is(:first-child, p:last-of-type)",
+        "<h2>A</h2><p>4</p>",
+    ),
+    ("p:first-of-type ~ p:last-of-type", "<p>4</p>"),
+    ("body:first-of-type > h2:last-of-type", "<h2>B</h2>"),
+];
+
+#[test]
+fn elements_are_selected_by_type(rt: HostRuntime) -> Result<(), Fail> {
+    for (selectors, want) in OF_TYPE {
+        let part = selected_of(rt.alloc(), ROW, selectors)?;
+        expect_text(selectors, part.as_str(), want)?;
+    }
+    Ok(())
+}
+
 /// Texts that are no selectors, and what is written of them.
 const FAULTS: &[(&str, &str)] = &[
     ("", "a selector is missing at byte 0"),
@@ -135,6 +177,12 @@ const FAULTS: &[(&str, &str)] = &[
     ("a:not(b ~ c)", "the sign at byte 8 isn't supported"),
     ("a:first-child(2)", "the sign at byte 1 isn't supported"),
     ("a:nth-child", "the sign at byte 1 isn't supported"),
+    ("a:nth-of-type", "the sign at byte 1 isn't supported"),
+    ("a:first-of-type(2)", "the sign at byte 1 isn't supported"),
+    (
+        "a:nth-last-of-type(2 of b)",
+        "the sign at byte 19 isn't supported",
+    ),
     ("a:nth-child()", "the sign at byte 12 isn't supported"),
     ("a:nth-child(2 of b)", "the sign at byte 12 isn't supported"),
     (

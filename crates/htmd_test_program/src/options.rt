@@ -59,6 +59,11 @@ fn refuses_options(rt: HostRuntime) -> Result<(), Fail> {
         "--ul-bullet-spacing= 1",
         "--ol-number-spacing=1000000000000000000000000",
         "--ol-number-spacing=x",
+        "--chunks=",
+        "--chunks=0",
+        "--chunks=+1",
+        "--chunks=2,000",
+        "--chunks=18446744073709551616",
         "--preformatted-code=yes",
         "--explained",
         "--help=all",
@@ -74,6 +79,8 @@ fn refuses_options(rt: HostRuntime) -> Result<(), Fail> {
         "--output=out",
         "-o",
         "--links=md",
+        "--copy",
+        "--newer",
         "--progress",
         "--quiet",
     ];
@@ -121,10 +128,11 @@ fn options_in(help: &str) -> Result<usize, Fail> {
 
 // Fails unless the help has a line for each option.
 fn expect_help(help: &str) -> Result<(), Fail> {
-    expect_number("options", options_in(help)?, 43)?;
+    expect_number("options", options_in(help)?, 46)?;
     let usage = "Usage: htmd [OPTION..] [FILE..]\n";
     expect_that(usage, help.starts_with(usage))?;
     for line in [
+        "--chunks[=BYTES]         writes pieces as lines of JSON (default 2000 bytes)\n",
         "--skip=TAG[,TAG..]       leaves out elements by name, in lower case\n",
         "--link-style=            inlined (default), inlined-prefer-autolinks, referenced\n",
         "\nInput:\n--web",

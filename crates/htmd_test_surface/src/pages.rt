@@ -73,3 +73,51 @@ fn skips_elements(rt: HostRuntime) -> Result<(), Fail> {
     let markdown = convert_page(alloc, PAGE, &settings)?;
     expect_text("skipped", markdown.as_str(), "n\n\na")
 }
+
+const TEA: &[u8] = b"<html lang=en><title>Tea</title><h1>Tea</h1><p>One two three";
+
+const TEA_IN_PIECES: &str = "\
+{\"page\":\"a/tea.html\",\"front\":{\"title\":\"Tea\",\"lang\":\"en\"},\"n\":0,\"path\":[],\"start\":0,\
+\"continues\":[],\"markdown\":\"# Tea\\n\\nOne\"}\n\
+{\"page\":\"a/tea.html\",\"front\":{\"title\":\"Tea\",\"lang\":\"en\"},\"n\":1,\"path\":[\"Tea\"],\"start\":1,\
+\"continues\":[\"paragraph\"],\"markdown\":\"two three\"}\n";
+
+#[test]
+fn writes_pieces(rt: HostRuntime) -> Result<(), Fail> {
+    let alloc = rt.alloc();
+    let mut settings = any_page(alloc);
+    settings.chunks = Some(12);
+    settings.front_matter = true;
+    let converter = PageConverter::new(HtmlToMarkdown::builder(alloc)?, &settings)?;
+    let in_run = PageInRun {
+        url: None,
+        name: Some("a/tea.html"),
+        run_page: None,
+    };
+    let lines = converter.convert(alloc, TEA, &in_run)?;
+    expect_text("pieces", lines.as_str(), TEA_IN_PIECES)?;
+
+    let silent = converter.convert_alone(alloc, b"<p>a")?;
+    let line =
+        "{\"front\":{},\"n\":0,\"path\":[],\"start\":0,\"continues\":[],\"markdown\":\"a\"}\n";
+    expect_text("nothing said", silent.as_str(), line)?;
+    let empty = converter.convert_alone(alloc, b"<title>T</title>")?;
+    expect_text("no piece", empty.as_str(), "")
+}
+
+#[test]
+fn writes_pieces_of_a_text(rt: HostRuntime) -> Result<(), Fail> {
+    let alloc = rt.alloc();
+    let mut settings = any_page(alloc);
+    settings.text = true;
+    settings.mdast = true;
+    settings.front_matter = true;
+    settings.chunks = Some(7);
+    let lines = convert_page(alloc, b"One two three", &settings)?;
+    expect_text(
+        "text",
+        lines.as_str(),
+        "{\"n\":0,\"path\":[],\"start\":0,\"continues\":[],\"markdown\":\"One two\"}\n\
+        {\"n\":1,\"path\":[],\"start\":0,\"continues\":[\"paragraph\"],\"markdown\":\"three\"}\n",
+    )
+}

@@ -50,14 +50,15 @@ pub fn is_squeezed(text: &str) -> bool
 fn has_single_spaces(bytes: &[u8]) -> bool
     ensures { result ≡ is_squeezed false bytes.now }
 {
-    let mut is_squeezed = true;
+    // A number, since of a bool LLVM makes branches where this is inlined.
+    let mut other = 0;
     let mut after_white = false;
     for b in bytes {
         let white = b.is_ascii_whitespace();
-        is_squeezed &= !white | (!after_white & (*b == b' '));
+        other = other.max((white & (after_white | (*b != b' '))) as u8);
         after_white = white;
     }
-    is_squeezed
+    other == 0
 }
 
 /// What the squeezed text has in place of the first byte, if that is not the byte itself: nothing for white space

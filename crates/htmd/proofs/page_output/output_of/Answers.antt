@@ -3,7 +3,7 @@ use Rattle.std.proofs.Common.{◌∙◌, ap, sym, string_bytes}
 use Rattle.std.specs.Cow.{cow_str_bytes}
 use Rattle.htmd.specs.PageOutputs.{tree_output}
 use Rattle.htmd.specs.PageSettings.{page_in, settings_for, settings_in}
-use Rattle.htmd.proofs.PageOutputsLemmas.{of_readable, of_unselected, same_output}
+use Rattle.htmd.proofs.PageOutputsLemmas.{of_readable, of_unselected}
 use Rattle.htmd.proofs.PageSightsLemmas.{seen_of}
 use Rattle.htmd.proofs.page_output.output_of.Goals as goal
 
@@ -17,9 +17,8 @@ returns-clause-ok g c =
       c.in_ok-page.ensures.ok,
       part,
       sym c.in_ok-part.ensures ∙ c.in-Some.is,
-      c.in_ok-tree_output.ensures.ok ∙ ap (λ head. tree_output (settings_in c.args.settings.now) head part)
-          (c.deref-2.ensures ∙ c.in_ok-head.ensures.value)
-          ∙ same_output (page_in c.args.in_run.now) (settings_in c.args.settings.now) _ part,
+      c.in_ok-tree_output.ensures.ok ∙ ap (λ head. tree_output settings head part)
+          (c.deref-2.ensures ∙ c.in_ok-head.ensures.value),
     )
 
 pub returns-clause-seen : goal.returns-clause-seen

@@ -1,10 +1,9 @@
 -- A reader sees the tree in the Markdown of its document.
-use Rattle.std.proofs.Common.{◌≡◌, ◌<◌, ◌^◌, ◌∙◌, ap, length, rules, string_bytes}
+use Rattle.std.proofs.Common.{◌<◌, ◌^◌, ◌∙◌, ap, length, rules, string_bytes}
 use Rattle.htmd.specs.Converters.{anchors_of, rich_of, skipped_of}
 use Rattle.htmd_commonmark.specs.DocumentMarkdown.{markdown_of}
 use Rattle.htmd_document.specs.DocumentViews.{document_of}
 use Rattle.htmd.specs.PageDocuments.{document_of_items, document_options}
-use Rattle.htmd.specs.PageOutputs.{document_in}
 use Rattle.htmd.specs.PageSettings.{settings_in}
 use Rattle.htmd.proofs.PageSightsLemmas.{seen_in}
 use Rattle.htmd.proofs.page_output.tree_markdown.Goals as goal

@@ -16,12 +16,12 @@ returns-in_err-output-clause-ends g c =
 pub returns-in-Ok-clause-ends : goal.returns-in-Ok-clause-ends
 returns-in-Ok-clause-ends g c =
     let settings = settings_for (page_in c.args.page.now) (settings_of c.args.converter.now) in
-    ends_well (Unit {0}) settings g.W.Sink.contents c.args.sink.now c.write_line.new.sink tt c.args.input.now
-    (string_bytes c.in_ok-output.output) c.as_str.result.now c.in_ok-output.ensures.ok c.as_str.ensures.value
-    c.in-Ok.ensures.bytes
+    ends_well (Unit {0}) settings g.W.Sink.contents c.args.sink.now c.write_text.new.sink tt c.args.input.now
+    (string_bytes c.in_ok-output.output) c.as_str.result.now c.ending.result.now c.in_ok-output.ensures.ok
+    c.as_str.ensures.value c.ending.ensures c.in-Ok.ensures.bytes
 
 pub returns-clause-ends : goal.returns-clause-ends
 returns-clause-ends g c =
     let settings = settings_for (page_in c.args.page.now) (settings_of c.args.converter.now) in
-    ends_at_sink (Unit {0}) settings g.W.Sink.contents c.args.sink.now c.write_line.new.sink c.args.input.now
+    ends_at_sink (Unit {0}) settings g.W.Sink.contents c.args.sink.now c.write_text.new.sink c.args.input.now
     (string_bytes c.in_ok-output.output) c.in_ok-output.ensures.ok

@@ -4,7 +4,7 @@ use Rattle.std.specs.Prelude.{option_map}
 use Rattle.htmd_files.specs.declared.planning.Destination.{Destination}
 use Rattle.htmd_files.specs.FilePlans as spec
 use Rattle.htmd_files.specs.PlanViews.{operand_of, destination_of, pages_of}
-use Rattle.htmd_files.specs.Promises.{AreBelow}
+use Rattle.htmd_files.specs.Promises.{AreBelow, AreNamed}
 use Rattle.htmd_files.proofs.PromisesLemmas.{plan_keeps}
 use Rattle.htmd_files.proofs.NamedLemmas.{plan_named}
 use Rattle.htmd_files.proofs.planning.plan_of.Goals as goal
@@ -28,5 +28,7 @@ returns-in_ok-files-in-Some-clause-below c =
 
 pub returns-in_ok-files-in-Some-clause-named : goal.returns-in_ok-files-in-Some-clause-named
 returns-in_ok-files-in-Some-clause-named c =
-    plan_named (map operand_of c.args.operands.now) (Some (destination_of c.in-Some.out))
-    (spec.files (pages_of c.in_ok-files-in-Some.field-0.items)) c.in_ok-files-in-Some.ensures.ok
+    let operands : List spec.Operand = map operand_of c.args.operands.now in
+    let pages : List spec.Page = pages_of c.in_ok-files-in-Some.field-0.items in
+    subst (λ (o : Option Destination). AreNamed (option_map destination_of o) pages) (sym c.in-Some.is)
+    (plan_named operands (Some (destination_of c.in-Some.out)) (spec.files pages) c.in_ok-files-in-Some.ensures.ok)

@@ -1,5 +1,5 @@
 -- What is left to prove of `join_code`.
-use Rattle.std.proofs.Common.{◌∙◌, sym, ap}
+use Rattle.std.proofs.Common.{◌≡◌, ◌∙◌, false, rules, sym, ap}
 use Rattle.std.proofs.lemmas.Result.{IfOk-equal}
 use Rattle.htmd_document.specs.DocumentViews.{inline_of}
 use Rattle.htmd_document.specs.Documents as value
@@ -21,3 +21,9 @@ returns-in_ok-push-in_default-last c =
     IfOk-equal c.push_code-in_default-last.result _ _ _ c.push_code-in_default-last.ensures
     (joined-beside _ _ _ _ (value.code c.args.text.now) c.in-Some.ensures.items
     c.in_ok-push-in_default-last.ensures.items (met-no_code _ c.args.text.now c.in_default-last.not-Code))
+
+pub returns-then-not-ends_in_code : goal.returns-then-not-ends_in_code
+returns-then-not-ends_in_code c =
+    let other : c.ends_in_code.result ≡ false = search rules in
+    IfOk-equal c.push_code.result _ _ _ c.push_code.ensures
+    (rw c.deref.ensures.value at (c.ends_in_code.ensures other c.args.text.now))

@@ -1,5 +1,5 @@
 -- What is left to prove of `join_text`.
-use Rattle.std.proofs.Common.{◌∙◌, sym, ap}
+use Rattle.std.proofs.Common.{◌≡◌, ◌∙◌, false, rules, sym, ap}
 use Rattle.std.proofs.lemmas.Result.{IfOk-equal}
 use Rattle.htmd_document.specs.DocumentViews.{inline_of}
 use Rattle.htmd_document.specs.Documents as value
@@ -20,3 +20,9 @@ returns-in_ok-push-in_default-last c =
     IfOk-equal c.push_text-in_default-last.result _ _ _ c.push_text-in_default-last.ensures
     (joined-beside _ _ _ _ (value.text c.args.text.now) c.in-Some.ensures.items
     c.in_ok-push-in_default-last.ensures.items (met-no_text _ c.args.text.now c.in_default-last.not-Text))
+
+pub returns-then-not-ends_in_text : goal.returns-then-not-ends_in_text
+returns-then-not-ends_in_text c =
+    let other : c.ends_in_text.result ≡ false = search rules in
+    IfOk-equal c.push_text.result _ _ _ c.push_text.ensures
+    (rw c.deref.ensures.value at (c.ends_in_text.ensures other c.args.text.now))

@@ -1,26 +1,12 @@
--- What `max` answers over the lengths of the runs.
-use Rattle.std.proofs.Common.{rules, length, map, sym, ap, ◌∙◌, arith}
-use Rattle.std.specs.Prelude.{not, ◌==◌}
-use Rattle.std.specs.Option.{unwrap_or}
-use Rattle.std.proofs.lemmas.Iterator.{YieldsList-from_map}
-use Rattle.std.proofs.lemmas.Iterator.Adapters.{option_map_id}
-use Rattle.std.proofs.lemmas.Iterator.Consumers.{YieldsList-at, max_from_yields_List}
-use Rattle.std.proofs.lemmas.Iterator.Splits.{YieldsList-from_slice_split}
-use Rattle.htmd_markdown.specs.Runs.{runs}
-use Rattle.htmd_markdown.proofs.RunsLemmas.{greatest, longest_run-le-length}
+-- A text without the character has no run of it.
+use Rattle.std.proofs.Common.{◌≡◌, false, rules, sym, ap, ◌∙◌}
+use Rattle.std.specs.Prelude.{◌==◌}
+use Rattle.std.specs.List.{list_any}
+use Rattle.htmd_markdown.proofs.RunsLemmas.{no_run_without}
 use Rattle.htmd_markdown.proofs.runs.longest_run.Goals as goal
 
-pub returns-clause-value : goal.returns-clause-value
-returns-clause-value c =
-    let made =
-    max_from_yields_List c.map.result _ c.max.ensures.ran
-    (YieldsList-from_map _ (λ run. length run)
-    (YieldsList-at c.map.ensures.source
-    (YieldsList-from_slice_split _ (λ b. not (b == c.args.character)) c.args.text.now
-    (cc) c.split-runs.ensures.done c.split-runs.ensures.closure (λ x b q k. search rules))) c.map.ensures.closure
-    (λ x r q k. search rules)) in
-    c.unwrap_or.ensures ∙ ap (λ m. unwrap_or m 0) (sym (option_map_id _) ∙ made)
-    ∙ greatest (map (λ run. length run) (runs c.args.character c.args.text.now))
-
-pub returns-clause-bound : goal.returns-clause-bound
-returns-clause-bound c = omega (arith, returns-clause-value c, longest_run-le-length c.args.character c.args.text.now)
+pub returns-then-not-holds-clause-value : goal.returns-then-not-holds-clause-value
+returns-then-not-holds-clause-value c =
+    let none : c.holds.result ≡ false = search rules in
+    sym (no_run_without c.args.character c.args.text.now
+    (ap (list_any (λ b. b == c.args.character)) (sym c.as_bytes.ensures.value) ∙ (sym c.holds.ensures ∙ none)))

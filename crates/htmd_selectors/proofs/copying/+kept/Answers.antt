@@ -1,6 +1,6 @@
 -- What is left to prove of the functions of the cycle `kept`.
 use Rattle.std.proofs.Common.{rules, ◌≡◌, ◌+◌, ◌-◌, ◌<◌, ◌≤◌, ◌++◌, length, sym, ap, ◌∙◌, arith, ℕ, List, false, true}
-use Rattle.std.proofs.Common.{refl, string_bytes, eqb}
+use Rattle.std.proofs.Common.{refl, string_bytes, eqb, drop}
 use Rattle.std.proofs.lemmas.List.{append-nil}
 use Rattle.htmd_lexical.specs.Attributes.{pairs_of}
 use Rattle.htmd_lexical.specs.AttributePairs.{AttributePair}
@@ -141,9 +141,14 @@ push_kept_child-returns-then-is_named g t c =
     let next : known_of c.name_element.new.known ≡ record known {
       beside = with_element (named_at steps known e) known.beside;
       before = known.before + 1;
+      types = drop 1 known.types;
     } =
     c.in_ok-named-in-Element.ensures.known
-    ∙ ap (λ x. record known { beside = with_element x known.beside; before = known.before + 1 }) value in
+    ∙ ap (λ x. record known {
+      beside = with_element x known.beside;
+      before = known.before + 1;
+      types = drop 1 known.types;
+    }) value in
     rw w (record {
       items = rw named (sym (append-nil c.args.out.now));
       known = next;
@@ -168,9 +173,14 @@ push_kept_child-returns-in_ok-push_kept-in-Element g t c =
     let next : known_of c.name_element.new.known ≡ record known {
       beside = with_element (named_at steps known e) known.beside;
       before = known.before + 1;
+      types = drop 1 known.types;
     } =
     c.in_ok-named-in-Element.ensures.known
-    ∙ ap (λ x. record known { beside = with_element x known.beside; before = known.before + 1 }) value in
+    ∙ ap (λ x. record known {
+      beside = with_element x known.beside;
+      before = known.before + 1;
+      types = drop 1 known.types;
+    }) value in
     let parent : c.name_element.new.known.parent.now ≡ known.parent = ap (λ (k : Known). k.parent) next in
     let outside : eqb (depth_at tree c.args.node) 0 ≡ false =
     not_root (depth_at c.args.out.now c.args.under) (depth_at tree c.args.node) c.requires.depth in
@@ -180,15 +190,15 @@ push_kept_child-returns-in_ok-push_kept-in-Element g t c =
     let new = c.push_kept.new.out in
     let id = c.in_ok-id-in-Element.id in
     let laid : new ≡ mid ++ forest_items (depth_at mid id + 1) id (length mid)
-    (kept rule steps (known_below steps known e) children) =
+    (kept rule steps (known_below steps known e children) children) =
     c.in_ok-push_kept-in-Element.ensures
     ∙ (ap (λ b. mid ++ forest_items (depth_at mid id + 1) id (length mid) (kept rule steps
-    (first_known steps c.as_slice-in-Element-2.result.now b) children)) outside
+    (first_known steps c.as_slice-in-Element-2.result.now b children) children)) outside
     ∙ ap (λ x. mid ++ forest_items (depth_at mid id + 1) id (length mid) (kept rule steps
-    (first_known steps x false) children)) states) in
+    (first_known steps x false children) children)) states) in
     rw w (record {
       items = rw named (laid-element c.args.out.now mid new c.args.under id name (rule name attributes)
-          (kept rule steps (known_below steps known e) children) (search rules) (search rules) laid);
+          (kept rule steps (known_below steps known e children) children) (search rules) (search rules) laid);
       known = next;
       left = c.in_ok-named-in-Element.ensures.left;
     })

@@ -31,6 +31,7 @@ invariant-push_kept-loop-child g l = record {
       (value_forest (forest_of (tree_of l.page.tree.now) (drop l.child-index l.child-items))))
       ≡ l.fn.out ++ forest_items (depth_at l.fn.out l.under + 1) l.under (length l.fn.out)
       (kept (g.R.Rewrite.rule l.page.rewrite.now) (steps_of l.page.steps.now)
-      (first_known (steps_of l.page.steps.now) l.parent (eqb (depth_at l.page.tree.now l.fn.node) 0))
+      (first_known (steps_of l.page.steps.now) l.parent (eqb (depth_at l.page.tree.now l.fn.node) 0)
+      (value_forest (forest_of (tree_of l.page.tree.now) l.child-items)))
       (value_forest (forest_of (tree_of l.page.tree.now) l.child-items)));
 }

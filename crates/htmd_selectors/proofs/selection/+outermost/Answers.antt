@@ -1,6 +1,6 @@
 -- What is left to prove of the functions of the cycle `outermost`.
 use Rattle.std.proofs.Common.{rules, ◌≡◌, ◌+◌, ◌-◌, ◌<◌, ◌≤◌, ◌++◌, length, sym, ap, ◌∙◌, arith, ℕ, List, [], false}
-use Rattle.std.proofs.Common.{true, refl, eqb}
+use Rattle.std.proofs.Common.{true, refl, eqb, drop}
 use Rattle.std.proofs.lemmas.List.{append-nil}
 use Rattle.std.proofs.lemmas.Result.{on_ok_weaker}
 use Rattle.htmd_lexical.specs.Attributes.{pairs_of}
@@ -110,7 +110,11 @@ push_outermost_child-returns-then-is_named t c =
     let named : is_named_by false steps (named_at steps known e) ≡ true = search rules in
     let next : known_of c.name_element.new.known ≡ next_known steps known (left - count this) this =
     c.in_ok-named.ensures.known
-    ∙ ap (λ x. record known { beside = with_element x known.beside; before = known.before + 1 }) value in
+    ∙ ap (λ x. record known {
+      beside = with_element x known.beside;
+      before = known.before + 1;
+      types = drop 1 known.types;
+    }) value in
     let next_here : known_of c.name_element.new.known ≡ next_known steps known (left - count here) here =
     rw w next in
     let left_here : c.name_element.new.known.left ≡ left - count here = rw w c.in_ok-named.ensures.left in
@@ -143,7 +147,11 @@ push_outermost_child-returns t c =
     let named : is_named_by false steps (named_at steps known e) ≡ false = search rules in
     let next : known_of c.name_element.new.known ≡ next_known steps known (left - count this) this =
     c.in_ok-named.ensures.known
-    ∙ ap (λ x. record known { beside = with_element x known.beside; before = known.before + 1 }) value in
+    ∙ ap (λ x. record known {
+      beside = with_element x known.beside;
+      before = known.before + 1;
+      types = drop 1 known.types;
+    }) value in
     let next_here : known_of c.name_element.new.known ≡ next_known steps known (left - count here) here =
     rw w next in
     let left_here : c.name_element.new.known.left ≡ left - count here = rw w c.in_ok-named.ensures.left in
@@ -152,13 +160,13 @@ push_outermost_child-returns t c =
     not_root 0 (depth_at tree c.args.node) c.requires.below in
     let states : c.as_slice-3.result.now ≡ with_element (named_at steps known e) known.parent = search rules in
     let chosen : outermost_tree steps known (left - count this) this
-    ≡ outermost steps (known_below steps known e) children = rw named refl in
-    let below : outermost steps (known_below steps known e) children ≡ outermost steps
-    (first_known steps c.as_slice-3.result.now (eqb (depth_at tree c.args.node) 0)) children =
-    ap (λ x. outermost steps (first_known steps x false) children) (sym states)
-    ∙ ap (λ b. outermost steps (first_known steps c.as_slice-3.result.now b) children) (sym outside) in
+    ≡ outermost steps (known_below steps known e children) children = rw named refl in
+    let below : outermost steps (known_below steps known e children) children ≡ outermost steps
+    (first_known steps c.as_slice-3.result.now (eqb (depth_at tree c.args.node) 0) children) children =
+    ap (λ x. outermost steps (first_known steps x false children) children) (sym states)
+    ∙ ap (λ b. outermost steps (first_known steps c.as_slice-3.result.now b children) children) (sym outside) in
     let whole : outermost_tree steps known (left - count here) here ≡ outermost steps
-    (first_known steps c.as_slice-3.result.now (eqb (depth_at tree c.args.node) 0)) children =
+    (first_known steps c.as_slice-3.result.now (eqb (depth_at tree c.args.node) 0) children) children =
     rw w (chosen ∙ below) in
     record {
       items = rw whole c.push_outermost.ensures;

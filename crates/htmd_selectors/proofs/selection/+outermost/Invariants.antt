@@ -27,6 +27,7 @@ invariant-push_outermost-loop-child l = record {
   rest : l.out ++ forest_items 1 0 (length l.out) (outermost (steps_of l.page.steps.now) (known_of l.known)
       (value_forest (forest_of (tree_of l.page.tree.now) (drop l.child-index l.child-items))))
       ≡ l.fn.out ++ forest_items 1 0 (length l.fn.out) (outermost (steps_of l.page.steps.now)
-      (first_known (steps_of l.page.steps.now) l.parent (eqb (depth_at l.page.tree.now l.fn.node) 0))
+      (first_known (steps_of l.page.steps.now) l.parent (eqb (depth_at l.page.tree.now l.fn.node) 0)
+      (value_forest (forest_of (tree_of l.page.tree.now) l.child-items)))
       (value_forest (forest_of (tree_of l.page.tree.now) l.child-items)));
 }

@@ -1,5 +1,5 @@
 -- The line has its prefix, and then the text.
-use Rattle.std.proofs.Common.{◌≡◌, ◌++◌, List, ℕ, length, drop, replicate, sym, ap, ◌∙◌, append_assoc, rules}
+use Rattle.std.proofs.Common.{◌≡◌, ◌++◌, List, ℕ, length, drop, replicate, sym, ap, ◌∙◌, rules}
 use Rattle.std.proofs.Common.{string_bytes, string_len}
 use Rattle.htmd_lexical.specs.Characters.{space}
 use Rattle.htmd_commonmark.specs.Pages.{Page, wrote}
@@ -16,14 +16,10 @@ returns c =
       written = inside.written;
       gap = inside.gap;
     } in
-    let gap = replicate inside.gap space in
-    let prefix : c.range_from.result.now ≡ drop inside.written (string_bytes inside.prefix) =
-    c.range_from.ensures.value ∙ ap (drop inside.written) c.deref.ensures in
-    let text : string_bytes c.push_str.new.self
-    ≡ string_bytes inside.out ++ (gap ++ drop inside.written (string_bytes inside.prefix)) =
-    c.in_ok-push_str.ensures.bytes ∙ ap (λ l. l ++ c.range_from.result.now) c.in_ok-push_repeated.ensures.ok
-    ∙ ap (λ l. (string_bytes inside.out ++ gap) ++ l) prefix
-    ∙ append_assoc (string_bytes inside.out) gap (drop inside.written (string_bytes inside.prefix)) in
+    let text : string_bytes c.push_due.new.out ≡ string_bytes inside.out
+    ++ (replicate inside.gap space ++ drop inside.written (string_bytes inside.prefix)) =
+    c.in_ok-push_due.ensures
+    ∙ ap (λ l. string_bytes inside.out ++ (replicate inside.gap space ++ drop inside.written l)) c.deref.ensures in
     let size : string_len inside.prefix ≡ length (string_bytes inside.prefix) = search rules in
     let as_page : List ℕ → Page = λ l. record {
       out = l;
@@ -31,12 +27,13 @@ returns c =
       written = c.len-self-inside.result;
       gap = 0;
     } in
-    pushed_page c.push_str-2.result as_page (string_bytes c.push_str-2.new.self)
-    (string_bytes c.push_str.new.self ++ s) (string_bytes c.push_str.new.self) (wrote c.args.self.now s)
-    c.push_str-2.ensures.bytes
+    pushed_page c.push_str.result as_page (string_bytes c.push_str.new.self)
+    (string_bytes c.push_due.new.out ++ s) (string_bytes c.push_due.new.out) (wrote c.args.self.now s)
+    c.push_str.ensures.bytes
     (ap (λ l. as_page (l ++ s)) text
     ∙ ap (λ n. record {
-      out = (string_bytes inside.out ++ (gap ++ drop inside.written (string_bytes inside.prefix))) ++ s;
+      out = (string_bytes inside.out
+          ++ (replicate inside.gap space ++ drop inside.written (string_bytes inside.prefix))) ++ s;
       prefix = string_bytes inside.prefix;
       written = n;
       gap = 0;

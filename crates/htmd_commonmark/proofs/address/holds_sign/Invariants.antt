@@ -1,0 +1,12 @@
+-- What the loop of `holds_sign` keeps.
+use Rattle.std.proofs.Common.{◌≡◌, ◌≤◌, take}
+use Rattle.std.specs.Prelude.{◌==◌}
+use Rattle.std.specs.List.{list_any}
+use Rattle.htmd_commonmark.specs.PlainTexts.{may_be_escaped}
+use Rattle.htmd_commonmark.proofs.address.holds_sign.Given as goal
+
+abbrev pub invariant-loop-b : goal.invariant-loop-b
+invariant-loop-b l = record {
+  bound : l.found ≤ 1;
+  value : (l.found == 1) ≡ list_any may_be_escaped (take l.b-index l.bytes);
+}

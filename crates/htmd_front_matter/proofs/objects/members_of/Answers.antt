@@ -1,0 +1,14 @@
+use Rattle.std.proofs.Common.{arith, map, string_bytes}
+use Rattle.htmd_nodes.specs.NumberedTrees.{value_at}
+use Rattle.htmd_front_matter.specs.Values.{value_in}
+use Rattle.htmd_front_matter.specs.Lines.{keys}
+use Rattle.htmd_front_matter.specs.Objects.{member_if}
+use Rattle.htmd_front_matter.specs.declared.values.Key.TheVariants.{Title}
+use Rattle.htmd_front_matter.proofs.ValuesLemmas.{keys-turn}
+use Rattle.htmd_front_matter.proofs.objects.members_of.Goals as goal
+
+pub loop-key-preserved : goal.loop-key-preserved
+loop-key-preserved c =
+    keys-turn (λ key. member_if key (value_in key (value_at c.args.tree.now 0))) keys Title c.loop-key.key-index
+    (map string_bytes c.loop-key.members.items) (map string_bytes c.push_member.new.members.items) _ (omega arith)
+    c.loop-key.invariant c.in_ok-push_member.ensures
