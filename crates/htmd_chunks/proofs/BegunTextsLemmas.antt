@@ -144,7 +144,7 @@ escaped-begins marked [] well = absurd (cc)
 escaped-begins marked (b ∷ s) well =
     elim (marked 0)
     as (λ e. begins_well (cond e (92 ∷ b ∷ with_backslashes marked 1 s) (b ∷ with_backslashes marked 1 s))
-        ≡ true) [
+    ≡ true) [
       | true ↦ refl
       | false ↦ well
     ]

@@ -188,7 +188,7 @@ encode-clean c s h =
                 as (λ e. ltb c 65536 ≡ e
                 → IsClean (cond e ((224 + c / 4096) ∷ (128 + (c / 64) % 64) ∷ (128 + c % 64) ∷ [])
                 ((240 + c / 262144) ∷ (128 + (c / 4096) % 64) ∷ (128 + (c / 64) % 64) ∷ (128 + c % 64) ∷ [])
-                    ++ s)) [
+                ++ s)) [
                   | true ↦ λ lt.
                       ap (λ n. clean n ((128 + (c / 64) % 64) ∷ (128 + c % 64) ∷ s))
                       (three-bytes c (grind (arith, nat_tests, lt)))
@@ -298,8 +298,8 @@ signs-clean ss are zero (b ∷ s) h =
       | true ↦ λ is. more
       | false ↦ λ is.
           elim ((b == ampersand) && is_reference s)
-          as (λ e. ((b == ampersand) && is_reference s) ≡ e → IsClean (cond e (codes "&amp;") (b ∷ []) ++ rest))
-              [
+          as (λ e. ((b == ampersand) && is_reference s) ≡ e
+          → IsClean (cond e (codes "&amp;") (b ∷ []) ++ rest)) [
             | true ↦ λ at.
                 (let none : continuation_len b ≡ 0 =
                 one-byte b (let low = reference-ascii b (is_reference s) at in grind (arith, nat_tests, low)) in

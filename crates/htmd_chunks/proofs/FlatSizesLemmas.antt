@@ -500,7 +500,7 @@ mutual
       most-plus (block_size o (list start is_tight (flat_items items))) (block_size o (list start is_tight items))
       (further_size o t rest) (further_size o t rest)
       (subst (λ n. AtMost (items_size o (record { start = start; is_tight = is_tight; count = n }) 0
-          (flat_items items))
+      (flat_items items))
       (items_size o l 0 items)) (sym (flat-count items)) (most-items options l 0 items p.1))
       (most-same _ _ refl)
   most-before options in_item t (table alignments header rows) rest normal = most-same _ _ refl

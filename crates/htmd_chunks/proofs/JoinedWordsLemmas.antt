@@ -133,7 +133,7 @@ near-trans a b c p q = record {
   fit = λ sign after l first last is. p.fit sign after l first last is ∙ q.fit sign after l first last is;
   more =
       λ d u none bits. same-trans (a ++ d ∷ u) (b ++ d ∷ u) (c ++ d ∷ u) (p.more d u none bits)
-          (q.more d u none bits);
+      (q.more d u none bits);
 }
 
 near-sym : (a b : List ℕ) → Near a b → Near b a
@@ -232,7 +232,7 @@ after-space style front rt (b ∷ f) after bw is clean s_clean good sparse apart
     let e = emit-near style (x ++ s) whole (inlines_of bw) apart near in
     let left : (written l (at (x ++ s) []) None (inlines_of bw)).text ≡ front ++ space ∷ (s ++ e.put) =
     ap (λ (w : Written). w.text) e.left ∙ append_assoc x s e.put
-        ∙ append_assoc front (space ∷ []) (s ++ e.put) in
+    ∙ append_assoc front (space ∷ []) (s ++ e.put) in
     subst (λ a. Sparser a (rt ++ space ∷ written_of style (text (b ∷ f) ∷ bw))) (sym left)
     (subst (λ t. Sparser (front ++ space ∷ (s ++ e.put)) (rt ++ space ∷ t))
     (sym (ap (λ (w : Written). w.text) e.right))
@@ -268,7 +268,7 @@ joined-text style p t f bw clean good_t good_f apart =
     let s_clean = clean-back 0 m.front space s refl refl whole in
     let state : p ++ escaped place (t ++ space ∷ f) ≡ (front ++ space ∷ []) ++ s =
     ap (λ e. p ++ e) m.is ∙ sym (append_assoc p m.front (space ∷ s))
-        ∙ sym (append_assoc front (space ∷ []) s) in
+    ∙ sym (append_assoc front (space ∷ []) s) in
     let rt = p ++ escaped (place_of l p None) t in
     subst (λ x. Sparser (written l (at x []) None (inlines_of bw)).text
     (rt ++ space ∷ written_of style (with_first f bw)))
@@ -322,7 +322,7 @@ after-other (task is_checked) s other = refl
 upto-snoc : (style : BrStyle) (w : Written) (ys : List Inline) (y : Inline) (zs : List Inline)
     → upto style w (ys ++ y ∷ []) zs
     ≡ with_inline (line_in Paragraph style false) (upto style w ys (y ∷ zs))
-        (follows Paragraph None (inlines_of zs)) y
+    (follows Paragraph None (inlines_of zs)) y
 upto-snoc style w [] y zs = refl
 upto-snoc style w (x ∷ ys) y zs =
     let l = line_in Paragraph style false in
@@ -338,7 +338,7 @@ text-first : (b : ℕ) (t x : List ℕ) → IsClean (b ∷ t)
 text-first b t x clean =
     ap escaped_first
     (ap (λ cs. slice_get cs 0) (chars-behind (b ∷ t) x clean)
-        ∙ front (chars (b ∷ t)) (chars x) (clean-some b t clean))
+    ∙ front (chars (b ∷ t)) (chars x) (clean-some b t clean))
   where
     front : (xs ys : List ℕ) → IsSomething xs → slice_get (xs ++ ys) 0 ≡ slice_get xs 0
     front xs ys (something c rest) = refl
@@ -430,7 +430,7 @@ join-other style ys y w each ok other =
     ap (λ f. with_text_behind xs (space ∷ f) ++ behind_text w) ok.first
     ∙ ap (λ bw. with_text_behind xs (space ∷ ok.f) ++ bw) ok.behind
     ∙ ap (λ l. l ++ ok.bw) (text-at_end ys y [] (space ∷ ok.f)
-        ∙ ap (λ l. ys ++ l) (after-other y (space ∷ ok.f) other))
+    ∙ ap (λ l. ys ++ l) (after-other y (space ∷ ok.f) other))
     ∙ append_assoc ys (y ∷ next ∷ []) ok.bw ∙ sym (append_assoc ys (y ∷ []) (next ∷ ok.bw)) in
     record {
       sparse =
@@ -485,7 +485,7 @@ pub words-cost : (options : DocumentOptions) (m : Margin) (xs : List Inline) (ws
     → Each GoodInline xs → Each (WordOk options.br_style) ws
     → cost m (text_size (written_of options.br_style (further_words xs ws)))
     ≤ cost m (text_size (written_of options.br_style xs)) + sum_by (word_cost (piece_options options) m) ws + length
-        ws
+    ws
 words-cost options m xs ws some each of_none = omega arith
 words-cost options m xs ws some each (of_more w rest ok others) =
     let style = options.br_style in

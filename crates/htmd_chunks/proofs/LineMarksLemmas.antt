@@ -41,7 +41,7 @@ block-plain : (b : ℕ) (x y z w : Bool)
     → (is_one_of (codes "=>|") b || (is_one_of (codes "-+") b && x) || ((b == hyphen) && y) || ((b == colon) && z)
     || ((b == number_sign) && w)) ≡ true
     → ((b == 92) ≡ false) × ((b == 10) ≡ false) × ((b == 42) ≡ false) × ((b == 95) ≡ false)
-        × ((b == 126) ≡ false)
+    × ((b == 126) ≡ false)
 block-plain b x y z w e = (
   grind (arith, nat_tests),
   grind (arith, nat_tests),
@@ -52,7 +52,7 @@ block-plain b x y z w e = (
 
 number-plain : (b : ℕ) → is_one_of (codes ".)") b ≡ true
     → ((b == 92) ≡ false) × ((b == 10) ≡ false) × ((b == 42) ≡ false) × ((b == 95) ≡ false)
-        × ((b == 126) ≡ false)
+    × ((b == 126) ≡ false)
 number-plain b e = (
   grind (arith, nat_tests),
   grind (arith, nat_tests),
@@ -64,7 +64,7 @@ number-plain b e = (
 abbrev Others : ℕ → Type 0
 Others b =
     ((b == 92) ≡ false) × ((b == 10) ≡ false) × ((b == 42) ≡ false) × ((b == 95) ≡ false)
-        × ((b == 126) ≡ false)
+    × ((b == 126) ≡ false)
 
 heading-sign : (b : ℕ) (s : List ℕ) (after : Option ℕ) → is_heading_marker (b ∷ s) after ≡ true
     → ((b == number_sign) && true) ≡ true
@@ -90,7 +90,7 @@ line-others : (h : List ℕ) (b : ℕ) (z : List ℕ) (after : Option ℕ)
 line-others [] b z after is =
     elim (begins_block b z after)
     as (λ e. begins_block b z after ≡ e → is_place (cond e (Some 0) (number_mark (b ∷ z) after)) 0 ≡ true
-        → Others b) [
+    → Others b) [
       | true ↦ λ block k. block-others b z after block
       | false ↦ λ block k.
           (let n = numbered (prefix_len is_ascii_digit (b ∷ z)) 0 (b ∷ z) after k in
@@ -104,7 +104,7 @@ line-others (c ∷ h) b z after is =
       | false ↦ λ k.
           (let n = numbered (prefix_len is_ascii_digit (c ∷ s)) (suc (length h)) (c ∷ s) after k in
           number-plain b (ap (is_one_of (codes ".)"))
-              (sym (index-at (c ∷ h) b z) ∙ ap (slice_index (c ∷ s)) n.place)
+          (sym (index-at (c ∷ h) b z) ∙ ap (slice_index (c ∷ s)) n.place)
           ∙ n.sign))
     ] is
 
@@ -176,7 +176,7 @@ differ after h (b ∷ z) =
         let g = (h ++ b ∷ []) ++ x in
         let whole : g ++ c ∷ y ≡ h ++ b ∷ z =
         append_assoc (h ++ b ∷ []) x (c ∷ y) ∙ append_assoc h (b ∷ []) (x ++ c ∷ y)
-            ∙ ap (λ l. h ++ b ∷ l) split in
+        ∙ ap (λ l. h ++ b ∷ l) split in
         let longer : length h < length g =
         omega (arith, length-append (h ++ b ∷ []) x, length-append h (b ∷ [])) in
         ap (λ s. inline_alone after g c y || is_place (line_mark s after) (length g)) whole

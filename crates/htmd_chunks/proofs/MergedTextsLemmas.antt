@@ -113,7 +113,7 @@ marked-is place h b z =
     (may_be_in_tag (next_byte place s k)) (is_reference (drop (k + 1) s)) (k + 1 == length s) (is_bracket place.after)
     (k == 0) (is_bracket place.before) || line_at place h b z) (index-at h b z)
     ∙ ap (λ o. inline_with b place.in_brackets (may_be_escaped (option_or o place.after))
-        (not (is_in_word place s k))
+    (not (is_in_word place s k))
     (may_be_in_tag (option_or o place.after)) (is_reference (drop (k + 1) s)) (k + 1 == length s)
     (is_bracket place.after) (k == 0) (is_bracket place.before) || line_at place h b z) (get-next h b z)
     ∙ ap (λ l. inline_with b place.in_brackets (may_be_escaped (beside place z))
@@ -163,7 +163,7 @@ escaped-is place s = marks-are place [] s
 
 pub fewer-marks : (m n : Marks) (h g z : List ℕ) → list_any is_line_feed z ≡ false
     → ((x : List ℕ) (b : ℕ) (y : List ℕ) → x ++ b ∷ y ≡ z → m (h ++ x) b y ≡ true
-        → n (g ++ x) b y ≡ true)
+    → n (g ++ x) b y ≡ true)
     → Sparser (put_marks m h z) (put_marks n g z)
 fewer-marks m n h g [] plain less = at_end
 fewer-marks m n h g (b ∷ z) plain less =
@@ -215,7 +215,7 @@ marks-append m h (b ∷ y) z =
     ap (λ l. cond (m h b (y ++ z)) (backslash ∷ b ∷ l) (b ∷ l)) rest
     ∙ elim (m h b (y ++ z))
     as (λ e. cond e (backslash ∷ b ∷ (first ++ put_marks m (h ++ b ∷ y) z))
-        (b ∷ (first ++ put_marks m (h ++ b ∷ y) z))
+    (b ∷ (first ++ put_marks m (h ++ b ∷ y) z))
     ≡ cond e (backslash ∷ b ∷ first) (b ∷ first) ++ put_marks m (h ++ b ∷ y) z) [
       | true ↦ refl
       | false ↦ refl
@@ -394,7 +394,7 @@ number-before [] f h = run-before is_ascii_digit [] f refl h
 number-before (b ∷ z) f h =
     elim (is_one_of (codes "xX") b)
     as (λ e. cond e (is_run is_ascii_hexdigit (z ++ space ∷ f)) (is_run is_ascii_digit (b ∷ (z ++ space ∷ f)))
-        ≡ true
+    ≡ true
     → cond e (is_run is_ascii_hexdigit z) (is_run is_ascii_digit (b ∷ z)) ≡ true) [
       | true ↦ λ k. run-before is_ascii_hexdigit z f refl k
       | false ↦ λ k. run-before is_ascii_digit (b ∷ z) f refl k
@@ -451,7 +451,7 @@ heading-mono s f after h =
     mono-and (nat_le 1 n && nat_le n 6) (ends_marker (drop n (s ++ space ∷ f)) after) (ends_marker (drop n s) None)
     (λ k. marker-mono (drop n s) f after
     (ap (λ l. ends_marker l after) (sym (drop-within n s (space ∷ f) (prefix-within (λ b. b == number_sign) s)))
-        ∙ k))
+    ∙ k))
     all
 
 block-mono : (b : ℕ) (z f : List ℕ) (after : Option ℕ) → begins_block b (z ++ space ∷ f) after ≡ true
@@ -491,7 +491,7 @@ numbered d k s after h =
   where
     told : (e : Bool) → (nat_le 1 d && nat_le d 9 && is_one_of (codes ".)") (slice_index s d)
         && ends_marker (drop (d + 1) s) after) ≡ e → is_place (cond e (Some d) None) k ≡ true
-            → Numbered d k s after
+        → Numbered d k s after
     told true is at =
         let a = and_parts (nat_le 1 d && nat_le d 9 && is_one_of (codes ".)") (slice_index s d))
         (ends_marker (drop (d + 1) s) after) is in
@@ -557,7 +557,7 @@ line-front [] b z f after h =
           ap (λ e. is_place (cond e (Some 0) (number_mark (b ∷ z) None)) 0) (block-mono b z f after is)
       | false ↦ λ is k.
           (let n = numbered (prefix_len is_ascii_digit (b ∷ (z ++ space ∷ f))) 0 (b ∷ (z ++ space ∷ f)) after
-              k in
+          k in
           let bad : false ≡ true = ap (nat_le 1) n.place ∙ n.least in absurd (cc))
     ] refl h
 line-front (c ∷ h) b z f after is_there =
@@ -624,7 +624,7 @@ line-space (c ∷ h) f after =
     none n =
         let bad : false ≡ true =
         ap (is_one_of (codes ".)")) (sym (index-at (c ∷ h) space f)
-            ∙ ap (slice_index (c ∷ (h ++ space ∷ f))) n.place)
+        ∙ ap (slice_index (c ∷ (h ++ space ∷ f))) n.place)
         ∙ n.sign in
         cc
 
@@ -640,7 +640,7 @@ line-behind (c ∷ t) h b z after =
       | false ↦
           not-true-is (is_place (number_mark (c ∷ (x ++ b ∷ z)) after) (suc (length x)))
           (λ k. none (numbered (prefix_len is_ascii_digit (c ∷ (x ++ b ∷ z))) (suc (length x))
-              (c ∷ (x ++ b ∷ z))
+          (c ∷ (x ++ b ∷ z))
           after k))
     ]
   where
@@ -649,7 +649,7 @@ line-behind (c ∷ t) h b z after =
         (c ∷ ((t ++ space ∷ h) ++ b ∷ z)) after → ⊥
     none n =
         let same : prefix_len is_ascii_digit (c ∷ ((t ++ space ∷ h) ++ b ∷ z))
-            ≡ prefix_len is_ascii_digit (c ∷ t) =
+        ≡ prefix_len is_ascii_digit (c ∷ t) =
         ap (λ l. prefix_len is_ascii_digit (c ∷ l)) (append_assoc t (space ∷ h) (b ∷ z))
         ∙ prefix-behind is_ascii_digit space (c ∷ t) (h ++ b ∷ z) refl in
         let within : prefix_len is_ascii_digit (c ∷ t) ≤ suc (length t) = prefix-within is_ascii_digit (c ∷ t) in
@@ -787,7 +787,7 @@ merged begins before after t f clean plain =
     let all : escaped a (t ++ space ∷ f) ≡ front ++ space ∷ put_marks (inline_alone after) [] f =
     escaped-is a (t ++ space ∷ f) ∙ marks-append m [] t (space ∷ f)
     ∙ ap (λ e. front ++ cond e (backslash ∷ space ∷ back) (space ∷ back))
-        (space-unmarked begins before after t f)
+    (space-unmarked begins before after t f)
     ∙ ap (λ l. front ++ space ∷ l)
     (same-marks m (inline_alone after) (t ++ space ∷ []) [] f
     (λ x b y is. back-same begins before after t x b y clean)) in

@@ -52,7 +52,7 @@ level-some level begun (b ∷ bs) some =
     at : (x y : Bool) → (y ≡ true → is_none begun ≡ false) → AllSome (level_parts level (b ∷ []) bs)
         → AllSome (level_parts level (begun ++ b ∷ []) bs)
         → AllSome (cond (x && y) (begun ∷ level_parts level (b ∷ []) bs)
-            (level_parts level (begun ++ b ∷ []) bs))
+        (level_parts level (begun ++ b ∷ []) bs))
     at true true here apart on = (here refl, apart)
     at true false here apart on = on
     at false y here apart on = on

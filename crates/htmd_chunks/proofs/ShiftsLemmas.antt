@@ -215,7 +215,7 @@ pub suffix-behind-any : (p : ℕ → Bool) (a v : List ℕ) → p space ≡ fals
     → suffix_len p ((a ++ space ∷ []) ++ v) ≡ suffix_len p v
 suffix-behind-any p a v none =
     ap (prefix_len p) (reverse-append (a ++ space ∷ []) v
-        ∙ ap (λ l. reverse v ++ l) (reverse-append a (space ∷ [])))
+    ∙ ap (λ l. reverse v ++ l) (reverse-append a (space ∷ [])))
     ∙ prefix-behind p space (reverse v) (reverse a) none
 
 suffix-behind : (a v : List ℕ) → suffix_len is_backslash ((a ++ space ∷ []) ++ v) ≡ suffix_len is_backslash v
@@ -257,7 +257,7 @@ ascii-characters : (b : ℕ) (v : List ℕ) → continuation_len b ≡ 0 → lea
     → HasCharacters (b ∷ v)
 ascii-characters b v none bits =
     λ u. subst (λ (l : List ℕ). IsSomething l) (sym (chars-ascii b (v ++ u) none bits))
-        (something b (chars (v ++ u)))
+    (something b (chars (v ++ u)))
 
 -- ---- a first inline that is no text
 
@@ -576,7 +576,7 @@ space-near a clean = record {
   fit =
       λ sign after l first last is.
       fits-before sign (character_before (a ++ space ∷ [])) after (is_last_escaped (a ++ space ∷ [])) l first last
-          is
+      is
       (calm-before a clean)
       ∙ sym (fits-before sign (character_before []) after (is_last_escaped []) l first last is calm-nothing);
   more =
@@ -602,7 +602,7 @@ plain-same q c d v clean plain = record {
       λ u. ap in_line
       (ap last_character (append_assoc (q ++ 92 ∷ []) (c ∷ d ∷ v) u)
       ∙ last-behind (q ++ 92 ∷ []) (c ∷ d ∷ (v ++ u)) (in-append q (92 ∷ []) clean refl)
-          (some (d ∷ (v ++ u)))
+      (some (d ∷ (v ++ u)))
       ∙ sym (last-behind q (c ∷ d ∷ (v ++ u)) clean (some (d ∷ (v ++ u))))
       ∙ ap last_character (sym (append_assoc q (c ∷ d ∷ v) u)));
   escaped =

@@ -193,7 +193,7 @@ units-some u us [] = something (u ∷ us) []
 units-some u us (line ∷ rest) =
     elim (not (is_blank line) && not (list_all is_blank (u ∷ us)))
     as (λ e. IsSomething (cond e ((u ∷ us) ∷ units_from (line ∷ []) rest)
-        (units_from (u ∷ (us ++ line ∷ [])) rest))) [
+    (units_from (u ∷ (us ++ line ∷ [])) rest))) [
       | true ↦ something (u ∷ us) (units_from (line ∷ []) rest)
       | false ↦ units-some u (us ++ line ∷ []) rest
     ]
@@ -313,7 +313,7 @@ fences-apart f info s =
 code-cost : (options : DocumentOptions) (m : Margin) (language : Option (List ℕ)) (s : List ℕ) (l : Line)
     (ls : List Line) → has_language language ≡ true
     → Each (LineOk (symbol_of options.code_block_fence) (longest_run (symbol_of options.code_block_fence) s))
-        (l ∷ ls)
+    (l ∷ ls)
     → block_cost (piece_options options) m (code_block language (joined_lines (l ∷ ls)))
     ≤ cost m (fences_size (piece_options options) language s) + sum_by (line_cost m) (l ∷ ls)
 code-cost options m language s l ls normal each =

@@ -252,7 +252,7 @@ mutual
       → AreHeadings heads → (is_filled blocks || not (is_none heads)) ≡ true
       → are_normal_blocks in_item blocks ≡ true
       → Fresh options m t most (FirstPart options m t most limit bound) (lead options m t most heads blocks) b done
-          free
+      free
       → IsGood options m t most (FirstPart options m t most limit bound)
       (filled (bounds options most) m t (fresh done free continues) heads blocks)
   fill-first options most m t limit bound in_item b done free continues [] no_blocks all some normal was = absurd (cc)
@@ -364,7 +364,7 @@ mutual
 
   fill-items-first : (options : DocumentOptions) (most : ℕ) (m : Margin) (l : ListShape) (limit bound : ℕ)
       (b : Bool) (done : List BlockPart) (free : ℕ) (continues : List Joint) (k before : ℕ) (items : Items)
-          (heads : ℕ)
+      (heads : ℕ)
       → before ≡ k + empties_before items → k + item_count items ≤ l.count → are_normal_items items ≡ true
       → has_filled_item items ≡ true → heads ≡ empties_cost m l 0 k
       → FreshList options m most (FirstBlock options m most limit bound) (least_item (bounds options most) m l k heads

@@ -515,7 +515,7 @@ cut-list-fresh options m l most p b done free continues place k before least par
         → FirstPart options (inside options m l k) l.is_tight most (free - (0 + 0 + empties_cost m l place before))
         least x.blocks
         → free ≡ most → BlockFit options m most
-            (list_of l place (replicate n no_blocks ++ blocks_of x.blocks ∷ []))
+        (list_of l place (replicate n no_blocks ++ blocks_of x.blocks ∷ []))
     here x some zero at is first all_free =
         let none : empties_cost m l place before ≡ 0 = ap (empties_cost m l place) (sym is) in
         let same : k ≡ place = omega (arith, at) in
@@ -639,7 +639,7 @@ group-good options m l most p b f place k before content after parts up within w
 pub group-first : (options : DocumentOptions) (m : Margin) (l : ListShape) (most : ℕ) (p : Block → Type 0)
     (b : Bool)
     (done : List BlockPart) (free : ℕ) (continues : List Joint) (place k before : ℕ) (content : Blocks)
-        (after : ℕ)
+    (after : ℕ)
     (parts : ℕ → List Part) → place + before ≡ k → suc k + after ≤ l.count
     → ((room : ℕ) → SplitWell options (inside options m l k) l.is_tight most room
     (least_among (bounds options most) (inside options m l k) l.is_tight 0 content) (parts room))

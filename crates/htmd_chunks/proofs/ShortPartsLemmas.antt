@@ -461,7 +461,7 @@ cut-good options m t most p b f heads least parts all well good =
     grown hs =
         blocks-cost (piece_options options) m t (f.now ++ hs) ∙ heads-append (piece_options options) m t f.now hs
         ∙ ap (λ n. n + heads_cost (piece_options options) m t hs)
-            (sym (blocks-cost (piece_options options) m t f.now))
+        (sym (blocks-cost (piece_options options) m t f.now))
 
     here : has_room (gap m t) f (heads_cost (piece_options options) m t heads + least) ≡ true
         → IsGood options m t most p

@@ -87,7 +87,7 @@ runs-fit taken most first ok p q begins fits one xs (of_more x rest now others) 
 pub runs-well : {X : Type 0} (options : DocumentOptions) (m : Margin) (most first : ℕ) (taken : List X → ℕ)
     (ok : X → Type 0) (f : List X → Block)
     → ((x : X) (xs : List X) → Each ok (x ∷ xs)
-        → block_cost (piece_options options) m (f (x ∷ xs)) ≤ taken (x ∷ xs))
+    → block_cost (piece_options options) m (f (x ∷ xs)) ≤ taken (x ∷ xs))
     → ((x : X) → ok x → (taken (x ∷ []) ≤ most) ⊎ (is_least (f (x ∷ [])) ≡ true))
     → (xs : List X) → Each ok xs
     → (xs ≡ [] → (block_cost (piece_options options) m (f []) ≤ taken []) × (is_least (f []) ≡ true))

@@ -149,7 +149,7 @@ sections-fine options most (level ∷ levels) bs =
     subst (Fine options most (sections (bounds options most) (level ∷ levels) bs)) (levels-together level [] bs)
     (gathered-fine options most (λ part. sections (bounds options most) levels part)
     (λ part. sections-fine options most levels part) [] 0 (level_parts level [] bs) (λ some. absurd (cc))
-        (omega arith))
+    (omega arith))
 
 -- ---- parts
 

@@ -59,7 +59,7 @@ lines-behind [] t = refl
 lines-behind (b ∷ s) t =
     ap (λ ls. cond (b == line_feed) ([] ∷ ls) (onto_first b ls)) (lines-behind s t)
     ∙ ap (λ ls. cond (b == line_feed) ([] ∷ (lines s ++ lines t)) ls)
-        (onto-append b (lines s) (lines t) (some-lines s))
+    (onto-append b (lines s) (lines t) (some-lines s))
     ∙ elim (b == line_feed)
     as (λ e. cond e ([] ∷ (lines s ++ lines t)) (onto_first b (lines s) ++ lines t)
     ≡ cond e ([] ∷ lines s) (onto_first b (lines s)) ++ lines t) [
@@ -285,7 +285,7 @@ pub item-empty : (marker : Line) (spaces : ℕ) → IsMarker marker
 item-empty marker spaces is =
     let alone_is : lines marker ≡ marker ∷ [] =
     ap lines (sym (append-nil marker)) ∙ behind-marker marker [] is.line refl
-        ∙ ap (λ t. t ∷ []) (append-nil marker) in
+    ∙ ap (λ t. t ∷ []) (append-nil marker) in
     ap text_size (append-nil (marker ++ []) ∙ append-nil marker)
     ∙ full-text marker alone_is (filled-text marker is.some)
   where

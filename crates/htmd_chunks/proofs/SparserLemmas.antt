@@ -196,7 +196,7 @@ one-before c s t was false is =
     -- by whether the first lines have something
     counts-kept : (x y : Bool) → first_full (lines s) ≡ x → first_full (lines (s ++ space ∷ t)) ≡ y
         → (full-of (lines (s ++ space ∷ t)) + one_if (not y) ≤ full-of (lines s) + one_if (not x) + full-of
-            (lines t))
+        (lines t))
         × (empty-of (lines (s ++ space ∷ t)) + one_if (not x) ≤ empty-of (lines s) + empty-of (lines t) + one_if
         (not y))
     counts-kept true true p q = (omega (arith, was.full), omega (arith, was.empty))

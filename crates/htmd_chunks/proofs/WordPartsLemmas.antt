@@ -367,7 +367,7 @@ texted w b s rest before good apart alone state = record {
     shaped w (longer x xs r e good_x shown each second) =
         longer x (xs ++ text (b ∷ s) ∷ []) rest true good_x shown
         (each-behind GoodInline xs (text (b ∷ s) ∷ []) each
-            (of_more (text (b ∷ s)) [] (good_text b s good) of_none))
+        (of_more (text (b ∷ s)) [] (good_text b s good) of_none))
         (second-more x xs (text (b ∷ s)) second)
 
 started : (rest : Inlines) → begins_shown rest ≡ true → State [] rest false
@@ -481,7 +481,7 @@ later-words (p ∷ fuel) style rest v parts same (link_more y w others split alo
 -- all parts of a text, behind the word so far
 text-words : (style : BrStyle) (w : Word) (b : ℕ) (s : List ℕ) (rest : Inlines) (before : Bool)
     (parts : List (List ℕ)) → GoodText (b ∷ s) → StartsApart rest
-        → State w (inline (text (b ∷ s)) rest) before
+    → State w (inline (text (b ∷ s)) rest) before
     → Later style rest → Links before (begins_shown rest) (b ∷ s) parts
     → Each (WordDone style) (ended w parts ++ words_from true (begun w parts) rest)
 text-words style w b s rest before parts good apart state later (link_end alone) =

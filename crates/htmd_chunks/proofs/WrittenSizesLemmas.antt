@@ -354,7 +354,7 @@ one-more : (is_tight : Bool) (s t others : List ℕ) (b f : Size) → text_size 
     → text_size (((s ++ separator is_tight) ++ t) ++ others)
     ≡ plus (text_size ((s ++ separator is_tight) ++ t)) f
     → text_size (s ++ ((separator is_tight ++ t) ++ others))
-        ≡ plus (text_size s) (plus (plus (gap_size is_tight) b) f)
+    ≡ plus (text_size s) (plus (plus (gap_size is_tight) b) f)
 one-more is_tight s t others b f is behind_it =
     ap text_size
     (sym (append_assoc s (separator is_tight ++ t) others)
