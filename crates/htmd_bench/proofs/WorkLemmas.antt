@@ -28,9 +28,11 @@ markdown_of_tree config scripting page text tree node built on is_tree root is_m
 )
 
 -- what is written of the page's document, by the options of the built-in handlers, has the length of its Markdown
-pub document_of_page : (config : Config) (scripting : Bool) (skipped : List (List ℕ)) (anchors : Anchors) (rich : Bool)
+pub document_of_page : (config : Config) (scripting : Bool) (skipped : List (List ℕ)) (anchors : Anchors)
+    (rich : Bool)
     (page text : List ℕ) (tree : List Item) (document : Blocks)
-    → config ≡ built_in default_options → scripting ≡ true → skipped ≡ [] → anchors ≡ Linked → rich ≡ false
+    → config ≡ built_in default_options → scripting ≡ true → skipped ≡ [] → anchors ≡ Linked
+    → rich ≡ false
     → IsTreeOf scripting page tree → document ≡ document_of_items scripting skipped anchors rich tree
     → text ≡ markdown_of (document_options config.options) document → HasDocumentLength page (length text)
 document_of_page c s skipped anchors rich page text tree document built on none linked plain read seen told = (

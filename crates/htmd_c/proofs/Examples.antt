@@ -40,7 +40,8 @@ one_is_faithful : options_of (record default_struct { mode = 1 })
     ≡ record default_options { translation_mode = Faithful }
 one_is_faithful = refl
 
-two_thousand_bytes : (settings_of (record default_struct { chunk_bytes = 208 ∷ 7 ∷ 0 ∷ 0 ∷ [] })).chunks ≡ Some 2000
+two_thousand_bytes : (settings_of (record default_struct { chunk_bytes = 208 ∷ 7 ∷ 0 ∷ 0 ∷ [] })).chunks
+    ≡ Some 2000
 two_thousand_bytes = refl
 
 -- and numbers that are not

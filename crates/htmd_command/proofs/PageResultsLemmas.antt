@@ -137,7 +137,8 @@ file_rows name request input before after rows done =
     (Converts s input before after) in
     subst P (named_rows name request rows) done
 
-pub file_answers : (name : List ℕ) (request : Request) (input before after : Option (List ℕ)) → request.rows ≡ true
+pub file_answers : (name : List ℕ) (request : Request) (input before after : Option (List ℕ))
+    → request.rows ≡ true
     → AnswersSome request input before after → AnswersSome (request_for_file name request) input before after
 file_answers name request input before after rows some =
     let P : Settings → Type 0 = λ s. AnswersFirst s input before after in

@@ -127,7 +127,8 @@ finished_as false false stem (other, e) =
     let first : 100 ≡ 108 = ap (λ s. get_or s 0 0) (ends stem (codes "md") other (codes ".htmd-partial") e) in
     absurd (omega (arith, first))
 
-pub are_finished : (name : List ℕ) (options : List (String Global)) → name ≡ extension_by options → AreFinished name
+pub are_finished : (name : List ℕ) (options : List (String Global)) → name ≡ extension_by options
+    → AreFinished name
 are_finished name options e =
     let settings = (request_by options).settings in
     subst AreFinished (sym e) (finished_as (is_some settings.chunks) settings.mdast)

@@ -16,7 +16,8 @@ use Rattle.htmd_commonmark.specs.TextEscapes.{Place, escaped, is_inline_mark, is
 
 -- ---- texts
 
-unmarked : (marked : ℕ → Bool) (k : ℕ) (s : List ℕ) → ((i : ℕ) → marked i ≡ false) → with_backslashes marked k s ≡ s
+unmarked : (marked : ℕ → Bool) (k : ℕ) (s : List ℕ) → ((i : ℕ) → marked i ≡ false)
+    → with_backslashes marked k s ≡ s
 unmarked marked k [] none = refl
 unmarked marked k (b ∷ s) none = rw (none k) (ap (λ t. b ∷ t) (unmarked marked (suc k) s none))
 
@@ -64,5 +65,6 @@ plain_address (b ∷ s) none =
     let told = kept b (may_escape (slice_get s 0)) (is_reference s) parts.0 in
     rw (told.0, told.1) (ap (λ t. b ∷ t) (plain_address s parts.1))
 
-pub plain_destination : (s : List ℕ) → needs_brackets s ≡ false → list_any may_be_escaped s ≡ false → destination s ≡ s
+pub plain_destination : (s : List ℕ) → needs_brackets s ≡ false → list_any may_be_escaped s ≡ false
+    → destination s ≡ s
 plain_destination s bare none = rw bare (plain_address s none)

@@ -20,7 +20,8 @@ abbrev NoSlash : ℕ → Type 0
 NoSlash b = nat_eq b slash ≡ false
 
 -- what comes before a slash begins with all of this, if there is no slash in it
-begins : (path folder begin stem : List ℕ) → path ++ slash ∷ folder ≡ begin ++ stem → AllByRecursion NoSlash begin
+begins : (path folder begin stem : List ℕ) → path ++ slash ∷ folder ≡ begin ++ stem
+    → AllByRecursion NoSlash begin
     → (rest : List ℕ) × (path ≡ begin ++ rest)
 begins path folder [] stem e a = (path, refl)
 begins [] folder (b ∷ begin) stem e (n, a) =
@@ -73,7 +74,8 @@ slash_last folder =
     ))
     (λ t. (reverse folder, rw t (reverse-append folder (codes "/"))))
 
-pub finished_below : (folder path : List ℕ) → is_unfinished path ≡ false → HasUnfinishedName (below folder path) → ⊥
+pub finished_below : (folder path : List ℕ) → is_unfinished path ≡ false → HasUnfinishedName (below folder path)
+    → ⊥
 finished_below folder path unlike (stem, e) =
     let last = slash_last folder in
     let back : reverse path ++ slash ∷ last.0 ≡ reverse (codes ".htmd-partial") ++ reverse stem =

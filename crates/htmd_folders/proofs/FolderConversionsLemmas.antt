@@ -21,7 +21,8 @@ takes_more becomes keeps (first ∷ pages) page a b c l f m n p q (between, i, j
 -- ---- pages that were not converted
 
 -- one page was converted or not, and so many weren't, by how many of the others weren't
-abbrev pub ConvertsOne : Conversion → Page → Option (List Change) → Option (List Change) → ℕ → ℕ → Type 0
+abbrev pub ConvertsOne : Conversion → Page → Option (List Change) → Option (List Change) → ℕ → ℕ
+    → Type 0
 ConvertsOne becomes page before after missed others =
     (Converts becomes page before after × (missed ≡ others)) ⊎ (Fails page before after × (missed ≡ suc others))
 
@@ -33,7 +34,8 @@ ConvertsAll becomes (page ∷ more) before after missed =
     × ConvertsOne becomes page before between missed others
 
 -- what changes no file changes no more than a page that fails
-nothing_fails : (page : Page) (before after : Option (List Change)) → Makes before after [] → Fails page before after
+nothing_fails : (page : Page) (before after : Option (List Change)) → Makes before after []
+    → Fails page before after
 nothing_fails page None after m = tt
 nothing_fails page (Some past) after m = inl m
 

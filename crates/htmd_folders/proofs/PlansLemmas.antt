@@ -20,8 +20,10 @@ use Rattle.htmd_folders.proofs.OperandsLemmas.{still_known}
 
 -- ---- the pages of a plan
 
-pub plan_apart : (asked : Job) (extension : List ℕ) (is_folder : Bool) (output : Option (List ℕ)) (planned : FilePlan)
-    → AreFinished extension → promise.AreApart (pages_in (plan_in planned)) → KeepInputs (pages_in (plan_in planned))
+pub plan_apart : (asked : Job) (extension : List ℕ) (is_folder : Bool) (output : Option (List ℕ))
+    (planned : FilePlan)
+    → AreFinished extension → promise.AreApart (pages_in (plan_in planned))
+    → KeepInputs (pages_in (plan_in planned))
     → AreNamed (option_map (destination asked extension is_folder) output) (pages_in (plan_in planned))
     → HasPagesApart planned
 plan_apart asked extension is_folder output (held.StandardOutput input) finished outputs inputs names = tt

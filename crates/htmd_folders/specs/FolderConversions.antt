@@ -8,7 +8,8 @@ use Rattle.htmd_folders.specs.Pages.{Conversion, Converts, Fails, input_name, ou
 
 -- A page was taken: it was converted; or if newer outputs are kept, it was left alone, and no file was changed; or it
 -- failed. So many were left alone before and since, and so many failed.
-abbrev pub TakesOne : Conversion → Bool → Page → Option (List Change) → Option (List Change) → (left failed : ℕ)
+abbrev pub TakesOne : Conversion → Bool → Page → Option (List Change) → Option (List Change)
+    → (left failed : ℕ)
     → (left_now failed_now : ℕ) → Type 0
 TakesOne becomes keeps page before after left failed left_now failed_now =
     (Converts becomes page before after × (left_now ≡ left) × (failed_now ≡ failed))
@@ -21,7 +22,8 @@ abbrev pub TakesAfter : Conversion → Bool → List Page → Option (List Chang
 TakesAfter becomes keeps [] before after left failed left_now failed_now =
     (after ≡ before) × (left_now ≡ left) × (failed_now ≡ failed)
 TakesAfter becomes keeps (page ∷ more) before after left failed left_now failed_now =
-    (between : Option (List Change)) × (l : ℕ) × (f : ℕ) × TakesOne becomes keeps page before between left failed l f
+    (between : Option (List Change)) × (l : ℕ) × (f : ℕ)
+    × TakesOne becomes keeps page before between left failed l f
     × TakesAfter becomes keeps more between after l f left_now failed_now
 
 -- the pages were taken in order, of which so many were left alone, and so many failed

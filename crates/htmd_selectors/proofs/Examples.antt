@@ -127,7 +127,8 @@ reads-places_in_group = refl
 
 -- `:nth-child(2n + 1)`, which `odd` stands for, and `:nth-last-child(-n+3)`
 reads-series : steps_of_text (codes ":nth-child( 2N + 1 ):Nth-last-child(-n+3)") ≡ Ok (step Start
-    (is_nth (row_by All First) (series 2 false 1 false)) ∷ step Same (is_nth (row_by All Last) (series 1 true 3 false))
+    (is_nth (row_by All First) (series 2 false 1 false))
+    ∷ step Same (is_nth (row_by All Last) (series 1 true 3 false))
     ∷ [])
 unfolding read
 reads-series = refl
@@ -369,7 +370,8 @@ outermost-first_of_type : outermost (step Start (is_first SameName) ∷ []) [] [
     ≡ more (element (codes "p") [] (more (text (codes "a")) none)) (more (element (codes "b") [] none) none)
 outermost-first_of_type = refl
 
-outermost-last_of_type : outermost (step Start (is_type (codes "p")) ∷ step Same (is_last SameName) ∷ []) [] [] mixed
+outermost-last_of_type : outermost (step Start (is_type (codes "p")) ∷ step Same (is_last SameName) ∷ [])
+    [] [] mixed
     ≡ last
 outermost-last_of_type = refl
 

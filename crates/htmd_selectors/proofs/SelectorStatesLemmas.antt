@@ -211,7 +211,8 @@ first-kept : (b : Bool) (counts : Counts) (rest : List Counts) → b ≡ true
 first-kept true counts rest h = refl
 first-kept false counts rest h = absurd (false≢true h)
 
-rest-kept : (b : Bool) (counts : Counts) (rest : List Counts) → drop 1 (cond b (counts ∷ rest) []) ≡ cond b rest []
+rest-kept : (b : Bool) (counts : Counts) (rest : List Counts)
+    → drop 1 (cond b (counts ∷ rest) []) ≡ cond b rest []
 rest-kept true counts rest = refl
 rest-kept false counts rest = refl
 

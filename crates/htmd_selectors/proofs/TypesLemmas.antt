@@ -80,7 +80,8 @@ pub names-turn : (names : List Key) (i : ℕ) (d : Key) → i < length names
 names-turn names i d l = ap names_of (drop_more names i d l)
 
 -- a name more of those that are seen
-pub seen-turn : (names : List Key) (i : ℕ) (d : Key) (old new : BTreeMap Key ℕ) (name : List ℕ) → i < length names
+pub seen-turn : (names : List Key) (i : ℕ) (d : Key) (old new : BTreeMap Key ℕ) (name : List ℕ)
+    → i < length names
     → seen_of new name ≡ cond (bytes_eq (get_or names i d).now name) 1 0 + seen_of old name
     → occurrences name (names_of (drop i names)) + seen_of old name ≡ occurrences name (names_of names)
     → occurrences name (names_of (drop (i + 1) names)) + seen_of new name ≡ occurrences name (names_of names)

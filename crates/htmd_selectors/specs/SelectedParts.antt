@@ -56,7 +56,8 @@ is_outside [] = true
 is_outside (level ∷ around) = false
 
 -- an element, with the elements of its parent before it, nearest first, and the trees after it
-abbrev pub this_element : List Level → List Element → ValueForest → List ℕ → List AttributePair → ValueForest
+abbrev pub this_element : List Level → List Element → ValueForest → List ℕ → List AttributePair
+    → ValueForest
     → Element
 this_element around earlier later name attributes children = record {
   name = name;

@@ -25,7 +25,8 @@ loop-name-preserved c =
     let more : (n : List ℕ) → seen_of new n ≡ cond (bytes_eq name n) 1 0 + seen_of old n =
     λ n. c.in_ok-before.ensures.seen n in
     let turn = names-turn names i none (omega arith) in
-    let total : c.times.result ≡ occurrences name (names_of names) = c.times.ensures ∙ c.in_ok-totals.ensures name in
+    let total : c.times.result ≡ occurrences name (names_of names)
+    = c.times.ensures ∙ c.in_ok-totals.ensures name in
     let seen : c.in_ok-before.before ≡ occurrences name state.0 = c.in_ok-before.ensures.count ∙ state.1 name in
     let after : c.saturating_sub-after.result ≡ c.times.result - c.in_ok-before.before - 1 = search rules in
     let pushed : c.push.new.self.items ≡ c.loop-name.counts.items

@@ -11,7 +11,8 @@ pub returns : goal.returns
 returns c =
     let w = writing_in c.args.self.now in
     if_ok c.push_paragraph.result _ _ c.push_paragraph.ensures (λ _ e.
-    e ∙ ap (λ v. with_blocks v (paragraph_of (inlines_of c.in_ok-content.content.items))) c.in_ok-content.ensures.rest
+    e ∙ ap (λ v. with_blocks v (paragraph_of (inlines_of c.in_ok-content.content.items)))
+    c.in_ok-content.ensures.rest
     ∙ ap (λ xs. with_blocks (emptied w) (paragraph_of xs)) c.in_ok-content.ensures.content)
 
 pub returns-then-is_idle : goal.returns-then-is_idle
