@@ -68,7 +68,7 @@ pub struct PageInRun<'a> {
     pub url: Option<Url>,
     /// What the page is called where it is written in pieces, which name it.
     pub name: Option<&'a str>,
-    /// Addresses of `a` and `area` that lead to pages of the run lead to their outputs, and aren't made absolute.
+    /// Addresses that lead to pages of the run lead to their outputs, and aren't made absolute.
     pub run_page: Option<RunPage<'a>>,
 }
 

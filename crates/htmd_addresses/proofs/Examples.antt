@@ -1,8 +1,11 @@
--- Worked rows: paths in their one form, addresses that lead to pages of a run, and those of pages in a folder.
-use Rattle.std.proofs.Common.{◌≡◌, List, [], ◌∷◌, None, Some, codes, refl}
+-- Worked rows: paths in their one form, addresses that lead to pages of a run, those of pages in a folder, and the
+-- addresses in attributes and sets.
+use Rattle.std.proofs.Common.{◌≡◌, ℕ, List, [], ◌∷◌, ◌++◌, None, Some, codes, refl}
 use Rattle.percent_encoding.specs.AsciiSet.{should_percent_encode}
 use Rattle.percent_encoding.specs.Percent.{percent_decode, percent_encode, percent_encode_byte}
 use Rattle.url.specs.Parts.{Parts}
+use Rattle.htmd_addresses.specs.AddressAttributes.{value_with}
+use Rattle.htmd_addresses.specs.AddressSets.{set_with}
 use Rattle.htmd_addresses.specs.Addresses.{resolved}
 use Rattle.htmd_addresses.specs.Leads.{Folders, PageValue, folders_of, lead, relative}
 use Rattle.htmd_addresses.specs.Paths.{plain_path}
@@ -34,16 +37,16 @@ pages = first ∷ second ∷ []
 abbrev alone : PageValue → Folders
 alone page = folders_of page None
 
-down : lead pages (alone first) (codes "b/c%20d.html?x=1#y") ≡ codes "b/c%20d.md?x=1#y"
+down : lead pages (alone first) None (codes "b/c%20d.html?x=1#y") ≡ codes "b/c%20d.md?x=1#y"
 unfolding percent_decode percent_encode percent_encode_byte should_percent_encode
 down = refl
 
-up : lead pages (alone second) (codes " ../a.html ") ≡ codes "../a.md"
+up : lead pages (alone second) None (codes " ../a.html ") ≡ codes "../a.md"
 unfolding percent_decode percent_encode percent_encode_byte should_percent_encode
 up = refl
 
 -- `\` is a slash in addresses
-backslash : lead pages (alone first) (codes "b\\c d.html") ≡ codes "b/c%20d.md"
+backslash : lead pages (alone first) None (codes "b\\c d.html") ≡ codes "b/c%20d.md"
 unfolding percent_decode percent_encode percent_encode_byte should_percent_encode
 backslash = refl
 
@@ -54,49 +57,49 @@ index = record { input = codes "site/b/index.html"; output = codes "out/b/index.
 abbrev with_index : List PageValue
 with_index = index ∷ pages
 
-down_to_index : lead with_index (alone first) (codes "b/#y") ≡ codes "b/index.md#y"
+down_to_index : lead with_index (alone first) None (codes "b/#y") ≡ codes "b/index.md#y"
 unfolding percent_decode percent_encode percent_encode_byte should_percent_encode
 down_to_index = refl
 
-folder_to_index : lead with_index (alone first) (codes "b?x=1#y") ≡ codes "b/index.md?x=1#y"
+folder_to_index : lead with_index (alone first) None (codes "b?x=1#y") ≡ codes "b/index.md?x=1#y"
 unfolding percent_decode percent_encode percent_encode_byte should_percent_encode
 folder_to_index = refl
 
 -- a page counts before an index
-page_before_index : lead (record { input = codes "site/b"; output = codes "out/b.md" } ∷ with_index) (alone first)
+page_before_index : lead (record { input = codes "site/b"; output = codes "out/b.md" } ∷ with_index) (alone first) None
     (codes "b") ≡ codes "b.md"
 unfolding percent_decode percent_encode percent_encode_byte should_percent_encode
 page_before_index = refl
 
-up_to_index : lead with_index (alone (record { input = codes "site/b/e/f.html"; output = codes "out/b/e/f.md" }))
+up_to_index : lead with_index (alone (record { input = codes "site/b/e/f.html"; output = codes "out/b/e/f.md" })) None
     (codes "..") ≡ codes "../index.md"
 unfolding percent_decode percent_encode percent_encode_byte should_percent_encode
 up_to_index = refl
 
-without_index : lead pages (alone first) (codes "b/") ≡ codes "b/"
+without_index : lead pages (alone first) None (codes "b/") ≡ codes "b/"
 unfolding percent_decode
 without_index = refl
 
 -- no page, another host, a scheme, a part of the same page
-others : lead pages (alone first) (codes "c.html") ≡ codes "c.html"
+others : lead pages (alone first) None (codes "c.html") ≡ codes "c.html"
 unfolding percent_decode
 others = refl
 
-host : lead pages (alone first) (codes "/a.html") ≡ codes "/a.html"
+host : lead pages (alone first) None (codes "/a.html") ≡ codes "/a.html"
 host = refl
 
-scheme : lead pages (alone first) (codes "x:a.html") ≡ codes "x:a.html"
+scheme : lead pages (alone first) None (codes "x:a.html") ≡ codes "x:a.html"
 scheme = refl
 
-fragment : lead pages (alone first) (codes "#y") ≡ codes "#y"
+fragment : lead pages (alone first) None (codes "#y") ≡ codes "#y"
 fragment = refl
 
 -- by a base in a folder, and above one
-by_base : lead pages (folders_of first (Some (codes " b/x?y "))) (codes "c%20d.html#z") ≡ codes "b/c%20d.md#z"
+by_base : lead pages (folders_of first (Some (codes " b/x?y "))) None (codes "c%20d.html#z") ≡ codes "b/c%20d.md#z"
 unfolding percent_decode percent_encode percent_encode_byte should_percent_encode
 by_base = refl
 
-by_base_above : lead pages (folders_of second (Some (codes ".."))) (codes "a.html") ≡ codes "../a.md"
+by_base_above : lead pages (folders_of second (Some (codes ".."))) None (codes "a.html") ≡ codes "../a.md"
 unfolding percent_decode percent_encode percent_encode_byte should_percent_encode
 by_base_above = refl
 
@@ -119,3 +122,45 @@ in_folder = refl
 -- it stays with a base too
 absolute-fragment : (base : Parts) → resolved base (codes "#y") ≡ codes "#y"
 absolute-fragment base = refl
+
+-- ---- attributes and sets, with addresses in brackets
+
+abbrev marked : List ℕ → List ℕ
+marked address = codes "<" ++ (address ++ codes ">")
+
+-- the value of an attribute of an element
+abbrev held : (element name address : List ℕ) → List ℕ
+held element name address = value_with marked element (record { name = name; value = address })
+
+of_link : held (codes "area") (codes "href") [] ≡ codes "<>"
+of_link = refl
+
+of_base : held (codes "base") (codes "href") (codes "a") ≡ codes "a"
+of_base = refl
+
+of_late : held (codes "img") (codes "data-src") (codes "a") ≡ codes "<a>"
+of_late = refl
+
+-- an empty address is that of no file
+of_nothing : held (codes "img") (codes "src") [] ≡ []
+of_nothing = refl
+
+of_object : held (codes "object") (codes "data") (codes "a") ≡ codes "<a>"
+of_object = refl
+
+of_other : held (codes "p") (codes "data") (codes "a") ≡ codes "a"
+of_other = refl
+
+of_source : held (codes "source") (codes "srcset") (codes "a, b 2x") ≡ codes "<a>, <b> 2x"
+of_source = refl
+
+-- a comma in parentheses ends no candidate, nor does one in an address
+candidates : set_with marked (codes " ,a,b 1x (,) ,c,, d") ≡ codes " ,<a,b> 1x (,) ,<c>,, <d>"
+candidates = refl
+
+no_candidate : set_with marked (codes " , ") ≡ codes " , "
+no_candidate = refl
+
+-- a parenthesis that stays open
+open_candidate : set_with marked (codes "a (1x, b") ≡ codes "<a> (1x, b"
+open_candidate = refl

@@ -1,17 +1,14 @@
 -- Ways between folders, as addresses.
 use Rattle.std.proofs.Common.{◌≡◌, ℕ, ◌+◌, ◌<◌, List, [], ◌∷◌, ◌++◌, length, drop, map, sym, ap, ◌∙◌, Bor, Option}
-use Rattle.std.proofs.Common.{append_assoc, get_or, string_bytes, Bool, Global, String}
+use Rattle.std.proofs.Common.{append_assoc}
 use Rattle.std.specs.List.{common_prefix_len}
 use Rattle.std.specs.Str.{bytes_eq}
 use Rattle.std.proofs.lemmas.Grind.{flat_map-append}
-use Rattle.std.proofs.lemmas.List.{drop_more, drop-map, map_push}
+use Rattle.std.proofs.lemmas.List.{drop_more, drop-map}
 use Rattle.percent_encoding.specs.Percent.{percent_encode}
-use Rattle.htmd_lexical.specs.AttributePairs.{AttributePair}
-use Rattle.htmd_lexical.specs.Attributes.{pair_of, pairs_of}
 use Rattle.htmd_lexical.specs.Characters.{slash}
-use Rattle.htmd_lexical.specs.declared.attribute.Attribute.{Attribute}
-use Rattle.htmd_addresses.specs.Leads.{Folders, PageValue, attribute_of, escaped, lead, lead_to, output_for}
-use Rattle.htmd_addresses.specs.Leads.{path_len, relative, trimmed, value_of}
+use Rattle.htmd_addresses.specs.Leads.{Folders, PageValue, escaped, lead, lead_to, output_for}
+use Rattle.htmd_addresses.specs.Leads.{path_len, relative, trimmed}
 use Rattle.htmd_addresses.specs.PageViews.{names_of}
 use Rattle.htmd_addresses.specs.Paths.{Folder, folder_of, name_of, parent, way}
 use Rattle.htmd_addresses.specs.declared.leads.TheConstants.{SEGMENT}
@@ -63,34 +60,10 @@ relative-at from folder to start up down address same at count none first second
     (first ∙ ap (λ x. x ++ escaped (parents (drop same from))) none)
     ∙ (way-escaped from folder same count ∙ ap (λ x. escaped (way (names_of from) x)) at)))
 
--- what an address leads to, by the output that was found
-pub lead-at : (pages : List PageValue) (own : Folders) (address inner : List ℕ) → inner ≡ trimmed address
-    → (output : Option (List ℕ)) → output ≡ output_for pages own.input inner
-    → lead_to own.output address output (drop (path_len inner) inner) ≡ lead pages own address
-lead-at pages own address inner e output found =
-    ap (λ o. lead_to own.output address o (drop (path_len inner) inner)) found
-    ∙ ap (λ x. lead_to own.output address (output_for pages own.input x) (drop (path_len x) x)) e
-
--- the attributes of an element, with one new value more
-pub attribute-more : (pages : List PageValue) (own : Folders) (base : Option Parts) (hyperlink : Bool)
-    (attributes copies more : List Attribute) (i : ℕ) (a : Attribute) (name value : String Global)
-    (whole : List AttributePair) → i < length attributes → a ≡ get_or attributes i a
-    → string_bytes name ≡ string_bytes a.name
-    → string_bytes value ≡ value_of pages own base hyperlink (pair_of a)
-    → more ≡ copies ++ record { name = name; value = value } ∷ []
-    → pairs_of copies ++ map (attribute_of pages own base hyperlink) (pairs_of (drop i attributes)) ≡ whole
-    → pairs_of more ++ map (attribute_of pages own base hyperlink) (pairs_of (drop (i + 1) attributes)) ≡ whole
-attribute-more pages own base hyperlink attributes copies more i a name value whole l is same new e h =
-    let f : AttributePair → AttributePair = attribute_of pages own base hyperlink in
-    let rest : List AttributePair = map f (pairs_of (drop (i + 1) attributes)) in
-    let copy : Attribute = record { name = name; value = value } in
-    let pair : pair_of copy ≡ f (pair_of a) =
-    ap (λ (s : List ℕ). record { name = s; value = string_bytes value }) same
-    ∙ ap (λ (s : List ℕ). record { name = string_bytes a.name; value = s }) new in
-    ap (λ (x : List Attribute). pairs_of x ++ rest) e
-    ∙ (ap (λ x. x ++ rest) (map_push pair_of copies copy)
-    ∙ (append_assoc (pairs_of copies) (pair_of copy ∷ []) rest
-    ∙ (ap (λ p. pairs_of copies ++ p ∷ rest) pair
-    ∙ (ap (λ (x : List Attribute). pairs_of copies ++ map f (pairs_of x))
-    (ap (λ x. x ∷ drop (i + 1) attributes) is ∙ sym (drop_more attributes i a l))
-    ∙ h))))
+-- what an address becomes, by the output that was found
+pub lead-at : (pages : List PageValue) (own : Folders) (base : Option Parts) (address inner : List ℕ)
+    → inner ≡ trimmed address → (output : Option (List ℕ)) → output ≡ output_for pages own.input inner
+    → lead_to own.output base address output (drop (path_len inner) inner) ≡ lead pages own base address
+lead-at pages own base address inner e output found =
+    ap (λ o. lead_to own.output base address o (drop (path_len inner) inner)) found
+    ∙ ap (λ x. lead_to own.output base address (output_for pages own.input x) (drop (path_len x) x)) e

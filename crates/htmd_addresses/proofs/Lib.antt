@@ -4,3 +4,4 @@ pub mod BasesLemmas
 pub mod PathsLemmas
 pub mod PagesLemmas
 pub mod LeadsLemmas
+pub mod SetsLemmas

@@ -1,17 +1,16 @@
 -- Addresses that lead to pages of a run, as addresses of the outputs of these pages.
 use Rattle.std.specs.Prelude.{ℕ, ◌-◌, Bool, false, not, ◌&&◌, ◌||◌, ◌==◌, if◌then◌else◌, List, [], ◌∷◌, ◌++◌}
-use Rattle.std.specs.Prelude.{map, length, take, drop, Option, Some, None, is_some, option_map, codes}
+use Rattle.std.specs.Prelude.{map, length, take, drop, Option, Some, None, option_map, codes}
 use Rattle.std.specs.Char.{is_ascii_alphabetic, is_ascii_alphanumeric, is_ascii_whitespace}
 use Rattle.std.specs.List.{flat_map, prefix_len, suffix_len}
 use Rattle.std.specs.Option.{option_or, unwrap_or}
 use Rattle.std.specs.Str.{bytes_eq}
 use Rattle.htmd_lexical.specs.Characters.{backslash, colon, full_stop, hyphen, number_sign, plus_sign, question_mark}
 use Rattle.htmd_lexical.specs.Characters.{slash}
-use Rattle.htmd_lexical.specs.AttributePairs.{AttributePair}
 use Rattle.htmd_nodes.specs.Items.{Item}
-use Rattle.htmd_addresses.specs.Addresses as addresses
+use Rattle.htmd_addresses.specs.AddressAttributes.{page_with}
+use Rattle.htmd_addresses.specs.Addresses.{resolved_by}
 use Rattle.htmd_addresses.specs.Paths.{Folder, folder_of, name_of, page_folder, page_in, plain_path, way}
-use Rattle.htmd_selectors.specs.Rewriting.{rewritten_page}
 use Rattle.htmd_addresses.specs.declared.leads.TheConstants.{SEGMENT}
 use Rattle.url.specs.Parts.{Parts}
 use Rattle.percent_encoding.specs.Percent.{percent_decode, percent_encode}
@@ -104,16 +103,17 @@ escaped names = flat_map (λ name. percent_encode SEGMENT name ++ slash ∷ []) 
 abbrev pub relative : Folder → List ℕ → List ℕ
 relative from to = escaped (way from (folder_of to)) ++ percent_encode SEGMENT (name_of to)
 
--- the address of an output, with the query and the fragment of the address that led to its page
-abbrev pub lead_to : Folder → List ℕ → Option (List ℕ) → List ℕ → List ℕ
-lead_to folder address None ending = address
-lead_to folder address (Some output) ending = relative folder output ++ ending
+-- the address of an output, with the query and the fragment of the address that led to its page; any other address is
+-- absolute, if there is a base
+abbrev pub lead_to : Folder → Option Parts → List ℕ → Option (List ℕ) → List ℕ → List ℕ
+lead_to folder base address None ending = resolved_by base address
+lead_to folder base address (Some output) ending = relative folder output ++ ending
 
--- an address that leads to no page of the run stays
-abbrev pub lead : List PageValue → Folders → List ℕ → List ℕ
-lead pages own address =
+-- what an address becomes
+abbrev pub lead : List PageValue → Folders → Option Parts → List ℕ → List ℕ
+lead pages own base address =
     let inner = trimmed address in
-    lead_to own.output address (output_for pages own.input inner) (drop (path_len inner) inner)
+    lead_to own.output base address (output_for pages own.input inner) (drop (path_len inner) inner)
 
 -- ---- bases
 
@@ -136,34 +136,6 @@ folders_of own named = folders_by own (named_path named)
 
 -- ---- pages
 
--- the elements whose addresses a reader follows
-abbrev pub is_hyperlink : List ℕ → Bool
-is_hyperlink name = bytes_eq name (codes "a") || bytes_eq name (codes "area")
-
--- the attribute is an address that leads to a page of the run
-abbrev pub leads : List PageValue → Folders → Bool → AttributePair → Bool
-leads pages own hyperlink a =
-    hyperlink && bytes_eq a.name (codes "href") && is_some (output_for pages own.input (trimmed a.value))
-
--- any other value: absolute, where there is a base
-abbrev pub other_value : Option Parts → AttributePair → List ℕ
-other_value None a = a.value
-other_value (Some base) a = addresses.value_of base a
-
--- the value of an attribute, of a hyperlink or another element
-abbrev pub value_of : List PageValue → Folders → Option Parts → Bool → AttributePair → List ℕ
-value_of pages own base hyperlink a =
-    if leads pages own hyperlink a then lead pages own a.value else other_value base a
-
--- an attribute with its new value
-abbrev pub attribute_of : List PageValue → Folders → Option Parts → Bool → AttributePair → AttributePair
-attribute_of pages own base hyperlink a = record { name = a.name; value = value_of pages own base hyperlink a }
-
--- the attributes of an element with this name
-abbrev pub attributes_of : List PageValue → Folders → Option Parts → List ℕ → List AttributePair
-    → List AttributePair
-attributes_of pages own base name attributes = map (attribute_of pages own base (is_hyperlink name)) attributes
-
--- the page that names this base, with addresses that lead to outputs, and others that are absolute where there is a URL
+-- the page that names this base, with addresses that lead to outputs, and others that are absolute if there is a URL
 abbrev pub led_page : List PageValue → PageValue → Option Parts → Option (List ℕ) → List Item → List Item
-led_page pages own base named items = rewritten_page (attributes_of pages (folders_of own named) base) items
+led_page pages own base named items = page_with (lead pages (folders_of own named) base) items

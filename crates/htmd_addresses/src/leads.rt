@@ -1,17 +1,17 @@
 //! Addresses that lead to pages of a run, as addresses of the outputs of these pages.
-ghost use Rattle.std.specs.Prelude.{◌≡◌, ◌++◌, map, is_some, option_map, IfOk, OnOk, string_bytes};
+ghost use Rattle.std.specs.Prelude.{◌≡◌, ◌++◌, map, option_map, IfOk, OnOk, string_bytes};
 ghost use Rattle.std.specs.Option.{option_copied};
 ghost use Rattle.std.specs.Str.{IsCharBoundary};
-ghost use Rattle.htmd_lexical.specs.Attributes.{pair_of, pairs_of};
 ghost use Rattle.htmd_addresses.specs.Leads as spec;
 ghost use Rattle.htmd_addresses.specs.PageViews.{names_of};
 ghost use Rattle.htmd_addresses.specs.Paths as paths;
 ghost use Rattle.htmd_addresses.specs.RunViews.{folders_in, own_of, pages_in};
 ghost use Rattle.percent_encoding.specs.Percent.{percent_encode};
 
+use crate::attributes::{Resolve, attributes_of};
 use crate::pages::Pages;
 use crate::paths::{enter_page_folder, folder_of, name_of, page_in, same_names};
-use crate::resolving::value_of as absolute_value;
+use crate::resolving::resolved_by;
 use htmd_nodes::{Attribute, Tree};
 use htmd_selectors::{Rewrite, rewritten};
 use percent_encoding::{AsciiSet, CONTROLS, ascii_set, percent_decode, percent_encode};
@@ -260,70 +260,42 @@ impl<'a, 'b> Leads<'a, 'b> {
         self.pages.output_or_index(page)
     }
 
-    /// The address of the output that an address leads to; one that leads to no page of the run stays.
+    /// The address of the output that an address leads to; one that leads to no page of the run is resolved against
+    /// the base, if there is one.
     fn lead(&self, alloc: Global, address: &str) -> Result<String, AllocError>
-        ensures { IfOk result (λ s. string_bytes s
-            ≡ spec.lead (pages_in self.now.pages.now) (folders_in self.now) address.now) }
+        ensures { IfOk result (λ s. string_bytes s ≡ spec.lead (pages_in self.now.pages.now)
+            (folders_in self.now) (option_copied self.now.base) address.now) }
     {
         let inner = address.trim_ascii();
         let Some(output) = self.output_for(alloc, inner)? else {
-            return String::from_str(alloc, address);
+            return resolved_by(alloc, self.base, address);
         };
         let (_, ending) = inner.split_at(path_len(inner));
         let mut lead = relative(alloc, self.output_folder.as_slice(), output)?;
         lead.push_str(ending)?;
         Ok(lead)
     }
-
-    /// Whether an address leads to a page of the run.
-    fn are_to(&self, alloc: Global, address: &str) -> Result<bool, AllocError>
-        ensures { IfOk result (λ b. b ≡ is_some (spec.output_for (pages_in self.now.pages.now)
-            (folders_in self.now).input (spec.trimmed address.now))) }
-    {
-        Ok(self.output_for(alloc, address.trim_ascii())?.is_some())
-    }
-
-    /// The value of an attribute that leads to no page of the run.
-    fn other_value(&self, alloc: Global, attribute: &Attribute) -> Result<String, AllocError>
-        ensures { IfOk result
-            (λ s. string_bytes s ≡ spec.other_value (option_copied self.now.base) (pair_of attribute.now)) }
-    {
-        match self.base {
-            Some(base) => absolute_value(alloc, base, attribute),
-            None => String::from_str(alloc, attribute.value.as_str()),
-        }
-    }
-
-    fn value_of(
-        &self,
-        alloc: Global,
-        attribute: &Attribute,
-        is_hyperlink: bool,
-    ) -> Result<String, AllocError>
-        ensures { IfOk result (λ s. string_bytes s ≡ spec.value_of (pages_in self.now.pages.now)
-            (folders_in self.now) (option_copied self.now.base) is_hyperlink (pair_of attribute.now)) }
-    {
-        let address = attribute.value.as_str();
-        if is_hyperlink && attribute.name.as_str() == "href" && self.are_to(alloc, address)? {
-            return self.lead(alloc, address);
-        }
-        self.other_value(alloc, attribute)
-    }
 }
 
-/// Whether a reader follows the addresses of an element.
-fn is_hyperlink(name: &str) -> bool
-    ensures { result ≡ spec.is_hyperlink name.now }
-{
-    name == "a" || name == "area"
+impl Resolve for Leads<'_, '_> {
+    ghost use Rattle.htmd_addresses.specs.Leads as spec;
+    ghost use Rattle.std.specs.Option.{option_copied};
+
+    ghost to = { λ leads.
+        spec.lead (pages_in leads.pages.now) (folders_in leads) (option_copied leads.base) };
+
+    fn resolved(&self, alloc: Global, address: &str) -> Result<String, AllocError> {
+        self.lead(alloc, address)
+    }
 }
 
 impl Rewrite for Leads<'_, '_> {
-    ghost use Rattle.htmd_addresses.specs.Leads.{attributes_of};
+    ghost use Rattle.htmd_addresses.specs.AddressAttributes.{attributes_with};
+    ghost use Rattle.htmd_addresses.specs.Leads as spec;
     ghost use Rattle.std.specs.Option.{option_copied};
 
-    ghost rule = { λ leads.
-        attributes_of (pages_in leads.pages.now) (folders_in leads) (option_copied leads.base) };
+    ghost rule = { λ leads. attributes_with
+        (spec.lead (pages_in leads.pages.now) (folders_in leads) (option_copied leads.base)) };
 
     fn attributes(
         &self,
@@ -331,21 +303,14 @@ impl Rewrite for Leads<'_, '_> {
         name: &str,
         attrs: &[Attribute],
     ) -> Result<Vec<Attribute>, AllocError> {
-        let is_hyperlink = is_hyperlink(name);
-        let mut copies = Vec::with_capacity(alloc, attrs.len())?;
-        for attribute in attrs {
-            let name = String::from_str(alloc, attribute.name.as_str())?;
-            let value = self.value_of(alloc, attribute, is_hyperlink)?;
-            copies.push(Attribute { name, value })?;
-        }
-        Ok(copies)
+        attributes_of(alloc, self, name, attrs)
     }
 }
 
-/// The page of a run in which the addresses of `a` and `area` that lead to a page of the run lead to its output. Where
-/// a base is given, all other addresses in `href` and `src` are resolved against it. `named` is the address of the base
-/// that the whole page names: relative addresses are read in its folder; none of them leads to a page of the run if it
-/// has a scheme or begins at the root. `Err` means out of memory, or a URL of 4 GB.
+/// The page of a run in which the addresses that lead to a page of the run lead to its output: those of links, and of
+/// what is shown in it. Where a base is given, all others are resolved against it, as `make_absolute` does. `named` is
+/// the address of the base that the whole page names: relative addresses are read in its folder; none of them leads to
+/// a page of the run if it has a scheme or begins at the root. `Err` means out of memory, or a URL of 4 GB.
 pub fn lead_to_pages(
     alloc: Global,
     tree: &Tree,

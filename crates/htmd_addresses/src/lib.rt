@@ -3,12 +3,14 @@
 #![tactic(auto)]
 
 mod absolute;
+mod attributes;
 mod bases;
 mod leads;
 mod page_urls;
 mod pages;
 mod paths;
 mod resolving;
+mod sets;
 
 pub use absolute::make_absolute;
 pub use bases::{base_address, base_of};

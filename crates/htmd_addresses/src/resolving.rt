@@ -1,11 +1,10 @@
 //! Addresses against a base, by the URL Standard.
-ghost use Rattle.std.specs.Prelude.{◌≡◌, ◌||◌, Ok, Err, IfOk, string_bytes};
+ghost use Rattle.std.specs.Prelude.{◌≡◌, Ok, Err, IfOk, string_bytes};
+ghost use Rattle.std.specs.Option.{option_copied};
 ghost use Rattle.url.specs.Parser.{parse_url};
-ghost use Rattle.htmd_lexical.specs.Attributes.{pair_of, pairs_of};
 ghost use Rattle.htmd_addresses.specs.Addresses as spec;
 ghost use Rattle.htmd_addresses.specs.Views.{GivesUrl};
 
-use htmd_nodes::Attribute;
 use std::alloc::{AllocError, Global};
 use url::{ParseError, ParseResult, Url};
 
@@ -42,7 +41,7 @@ fn joined(alloc: Global, base: &Url, address: &str) -> Result<String, AllocError
 }
 
 /// The address against the base; one that leads into the page itself or can't be resolved stays.
-fn resolved(alloc: Global, base: &Url, address: &str) -> Result<String, AllocError>
+pub(crate) fn resolved(alloc: Global, base: &Url, address: &str) -> Result<String, AllocError>
     ensures { IfOk result (λ s. string_bytes s ≡ spec.resolved base.now address.now) }
 {
     if is_fragment(address.as_bytes()) {
@@ -51,40 +50,16 @@ fn resolved(alloc: Global, base: &Url, address: &str) -> Result<String, AllocErr
     joined(alloc, base, address)
 }
 
-/// Whether an attribute holds an address.
-fn is_address(name: &str) -> bool
-    ensures { result ≡ spec.is_address name.now }
-{
-    name == "href" || name == "src"
-}
-
-/// The value of an attribute, absolute where it is an address.
-pub(crate) fn value_of(
+/// The same against a base, if there is one.
+pub(crate) fn resolved_by(
     alloc: Global,
-    base: &Url,
-    attribute: &Attribute,
+    base: Option<&Url>,
+    address: &str,
 ) -> Result<String, AllocError>
-    ensures { IfOk result (λ s. string_bytes s ≡ spec.value_of base.now (pair_of attribute.now)) }
+    ensures { IfOk result (λ s. string_bytes s ≡ spec.resolved_by (option_copied base.entry) address.now) }
 {
-    if is_address(attribute.name.as_str()) {
-        return resolved(alloc, base, attribute.value.as_str());
-    }
-    String::from_str(alloc, attribute.value.as_str())
-}
-
-/// A copy of attributes, with absolute addresses.
-pub(crate) fn attributes_of(
-    alloc: Global,
-    base: &Url,
-    attrs: &[Attribute],
-) -> Result<Vec<Attribute>, AllocError>
-    ensures { IfOk result (λ copies. pairs_of copies.items ≡ spec.attributes_of base.now (pairs_of attrs.now)) }
-{
-    let mut copies = Vec::with_capacity(alloc, attrs.len())?;
-    for attribute in attrs {
-        let name = String::from_str(alloc, attribute.name.as_str())?;
-        let value = value_of(alloc, base, attribute)?;
-        copies.push(Attribute { name, value })?;
-    }
-    Ok(copies)
+    let Some(base) = base else {
+        return String::from_str(alloc, address);
+    };
+    resolved(alloc, base, address)
 }

@@ -33,6 +33,86 @@ fn addresses_are_absolute(rt: HostRuntime) -> Result<(), Fail> {
     )
 }
 
+/// Elements, and what they become.
+const ELEMENTS: &[(&str, &str)] = &[
+    (
+        "<img src=\"\" data-src=\"d\">",
+        "<img src=\"\" data-src=\"https://a.example/b/d\">",
+    ),
+    (
+        "<input data-original=\"/d\" data-lazy-src=\"?e\">",
+        "<input data-original=\"https://a.example/d\" data-lazy-src=\"https://a.example/b/c?e\">",
+    ),
+    (
+        "<object data=\"d\"></object>",
+        "<object data=\"https://a.example/b/d\"></object>",
+    ),
+    (
+        "<video src=\"d\" poster=\"e\"></video>",
+        "<video src=\"https://a.example/b/d\" poster=\"e\"></video>",
+    ),
+    (
+        "<p data-src=\"d\" data=\"d\" srcset=\"d\"></p>",
+        "<p data-src=\"d\" data=\"d\" srcset=\"d\"></p>",
+    ),
+    (
+        "<a href=\"\"></a>",
+        "<a href=\"https://a.example/b/c\"></a>",
+    ),
+];
+
+/// Sets of addresses, as they stand in `srcset`, and what they become.
+const SETS: &[(&str, &str)] = &[
+    ("", ""),
+    (" ,\n", " ,\n"),
+    ("d", "https://a.example/b/d"),
+    (
+        "d 1x, e 2x",
+        "https://a.example/b/d 1x, https://a.example/b/e 2x",
+    ),
+    (
+        " ,d,e 1x (,) ,f,, g\t",
+        " ,https://a.example/b/d,e 1x (,) ,https://a.example/b/f,, https://a.example/b/g\t",
+    ),
+    ("d (1x, e", "https://a.example/b/d (1x, e"),
+    (
+        "d )(,)(,),e",
+        "https://a.example/b/d )(,)(,),https://a.example/b/e",
+    ),
+    (
+        "é (ü), http://[ 1x, #f",
+        "https://a.example/b/%C3%A9 (ü), http://[ 1x, #f",
+    ),
+    (
+        "data:image/gif;base64,R0 1x,d",
+        "data:image/gif;base64,R0 1x,https://a.example/b/d",
+    ),
+];
+
+#[test]
+fn addresses_of_what_is_shown_are_absolute(rt: HostRuntime) -> Result<(), Fail> {
+    for (element, want) in ELEMENTS {
+        let want = format!(in rt.alloc(); "<html><head></head><body>{want}</body></html>")?;
+        let html = absolute(rt.alloc(), element)?;
+        expect_text(element, html.as_str(), want.as_str())?;
+    }
+    Ok(())
+}
+
+#[test]
+fn addresses_of_sets_are_absolute(rt: HostRuntime) -> Result<(), Fail> {
+    for (set, want) in SETS {
+        let html = format!(in rt.alloc(); "<img srcset=\"{set}\"><source data-srcset=\"{set}\">")?;
+        let want = format!(in rt.alloc();
+            "<html><head></head><body>\
+            <img srcset=\"{want}\"><source data-srcset=\"{want}\"></body></html>"
+        )?;
+        let html = absolute(rt.alloc(), html.as_str())?;
+        expect_text(set, html.as_str(), want.as_str())?;
+    }
+    Ok(())
+}
+
 #[test]
 fn a_page_names_its_base(rt: HostRuntime) -> Result<(), Fail> {
     let html = absolute(
@@ -42,7 +122,7 @@ fn a_page_names_its_base(rt: HostRuntime) -> Result<(), Fail> {
     expect_text(
         "base",
         html.as_str(),
-        "<html><head></head><body><base><base href=\"https://a.example/d/\"><base href=\"https://a.example/e/\">\
+        "<html><head></head><body><base><base href=\"/d/\"><base href=\"/e/\">\
         <a href=\"https://a.example/d/x\">a</a></body></html>",
     )
 }

@@ -113,16 +113,31 @@ fn addresses_are_read_by_the_base(rt: HostRuntime) -> Result<(), Fail> {
 }
 
 #[test]
+fn addresses_of_what_is_shown_lead_to_outputs(rt: HostRuntime) -> Result<(), Fail> {
+    let html = led(
+        rt.alloc(),
+        PAGES[1],
+        "<iframe src=\"../a.html\"></iframe><img data-src=\"../a.html\" srcset=\"../100%25.html, b 2x\">",
+    )?;
+    expect_text(
+        "what is shown",
+        html.as_str(),
+        "<html><head></head><body><iframe src=\"../a.md\"></iframe>\
+        <img data-src=\"../a.md\" srcset=\"../100%25.md, b 2x\"></body></html>",
+    )
+}
+
+#[test]
 fn other_attributes_stay(rt: HostRuntime) -> Result<(), Fail> {
     let html = led(
         rt.alloc(),
         PAGES[1],
-        "<p href=\"../a.html\"><a name=\"../a.html\" href=\"../a.html\">t</a></p><img src=\"../a.html\">",
+        "<p data-src=\"../a.html\"><a name=\"../a.html\" href=\"../a.html\">t</a></p><img alt=\"../a.html\">",
     )?;
     expect_text(
         "other attributes",
         html.as_str(),
-        "<html><head></head><body><p href=\"../a.html\"><a name=\"../a.html\" href=\"../a.md\">t</a></p>\
-        <img src=\"../a.html\"></body></html>",
+        "<html><head></head><body><p data-src=\"../a.html\"><a name=\"../a.html\" href=\"../a.md\">t</a></p>\
+        <img alt=\"../a.html\"></body></html>",
     )
 }

@@ -12,12 +12,13 @@ pub returns-in_default : goal.returns-in_default
 returns-in_default c =
     let address = c.args.address.now in
     let inner = c.trim_ascii-inner.result.now in
-    let P : List ℕ → Type 0 = λ x. IfOk c.from_str.result (λ s. string_bytes s ≡ x) in
+    let self = c.args.self.now in
+    let P : List ℕ → Type 0 = λ x. IfOk c.resolved_by.result (λ s. string_bytes s ≡ x) in
     subst P
-    (lead-at (pages_in c.args.self.now.pages.now) (folders_in c.args.self.now) address inner
+    (lead-at (pages_in self.pages.now) (folders_in self) (option_copied self.base) address inner
     (trim_ascii_is address inner (without_start address) refl c.trim_ascii-inner.ensures.value)
     None (sym (ap option_copied c.in_default.is) ∙ c.in_ok-output.ensures))
-    c.from_str.ensures.ok
+    c.resolved_by.ensures
 
 pub returns : goal.returns
 returns c =
@@ -30,6 +31,6 @@ returns c =
     (c.in_ok-lead.ensures ∙ ap (λ x. relative (names_of x) c.in-Some.output.now) c.as_slice.ensures.value)
     ∙ (ap (λ x. relative (names_of self.output_folder.items) c.in-Some.output.now ++ x)
     (c.split_at.ensures.back ∙ ap (λ n. drop n inner) c.path_len.ensures.value)
-    ∙ lead-at (pages_in self.pages.now) (folders_in self) address inner
+    ∙ lead-at (pages_in self.pages.now) (folders_in self) (option_copied self.base) address inner
     (trim_ascii_is address inner (without_start address) refl c.trim_ascii-inner.ensures.value)
     (Some c.in-Some.output.now) (sym (ap option_copied c.in-Some.is) ∙ c.in_ok-output.ensures)))
