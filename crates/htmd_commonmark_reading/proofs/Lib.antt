@@ -9,3 +9,4 @@ mod EmphasisExamples
 mod LinkExamples
 mod InlineExamples
 mod ViewExamples
+mod RenderingExamples

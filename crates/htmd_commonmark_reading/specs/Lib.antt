@@ -1,4 +1,4 @@
--- What a text says to a reader of CommonMark 0.31.2: characters, lines, blocks, inlines, lists, and the whole.
+-- What a text says to a reader of CommonMark 0.31.2: characters, lines, blocks, inlines, lists, the whole, and its HTML.
 pub mod Characters
 pub mod Lines
 pub mod LinkDefinitions
@@ -17,3 +17,4 @@ pub mod Anchors
 pub mod SeenMarkup
 pub mod Elements
 pub mod Reading
+pub mod Rendering
