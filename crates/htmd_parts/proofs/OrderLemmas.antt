@@ -2,24 +2,16 @@
 use Rattle.std.proofs.Common.{◌≡◌, ℕ, ◌+◌, ◌<◌, ◌≤◌, List, [], ◌∷◌, ◌++◌, length, drop, get_or, sym, ap, ◌∙◌}
 use Rattle.std.proofs.lemmas.List.{append_assoc, append-nil, drop_more, drop_all}
 
--- A list is written by `f`, and its first element by `g`. One more element, which was copied:
-pub copy-turn : {A : Type 0} (f : List A → List ℕ) (g : A → List ℕ)
+-- A list is written by `f`, and its first element by `g`. One more element:
+pub turn : {A : Type 0} (f : List A → List ℕ) (g : A → List ℕ)
     (first : (x : A) (xs : List A) → f (x ∷ xs) ≡ g x ++ f xs) (xs : List A) (i : ℕ) (d : A)
     (out new total : List ℕ) → i < length xs → new ≡ out ++ g (get_or xs i d)
     → out ++ f (drop i xs) ≡ total → new ++ f (drop (i + 1) xs) ≡ total
-copy-turn f g first xs i d out new total within e h =
+turn f g first xs i d out new total within e h =
     let x = get_or xs i d in
     let rest = drop (i + 1) xs in
     ap (λ s. s ++ f rest) e ∙ append_assoc out (g x) (f rest) ∙ ap (λ s. out ++ s) (sym (first x rest))
     ∙ ap (λ ys. out ++ f ys) (sym (drop_more xs i d within)) ∙ h
-
--- one more element
-pub turn : {A : Type 0} (f : List A → List ℕ) (g : A → List ℕ)
-    (first : (x : A) (xs : List A) → f (x ∷ xs) ≡ g x ++ f xs) (xs : List A) (i : ℕ) (x : A)
-    (out new total : List ℕ) → i < length xs → x ≡ get_or xs i x → new ≡ out ++ g x
-    → out ++ f (drop i xs) ≡ total → new ++ f (drop (i + 1) xs) ≡ total
-turn f g first xs i x out new total within is e h =
-    copy-turn f g first xs i x out new total within (e ∙ ap (λ y. out ++ g y) is) h
 
 -- the end of the list
 pub end : {A : Type 0} (f : List A → List ℕ) (none : f [] ≡ []) (xs : List A) (i : ℕ) (out total : List ℕ)
