@@ -66,8 +66,8 @@ unfolding percent_decode percent_encode percent_encode_byte should_percent_encod
 folder_to_index = refl
 
 -- a page counts before an index
-page_before_index : lead (record { input = codes "site/b"; output = codes "out/b.md" } ∷ with_index) (alone first) None
-    (codes "b") ≡ codes "b.md"
+page_before_index : lead (record { input = codes "site/b"; output = codes "out/b.md" } ∷ with_index)
+    (alone first) None (codes "b") ≡ codes "b.md"
 unfolding percent_decode percent_encode percent_encode_byte should_percent_encode
 page_before_index = refl
 

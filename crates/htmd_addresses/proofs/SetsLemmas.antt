@@ -61,7 +61,8 @@ shorter s c h =
     )
 
 set_from-same : (to : Resolution) (f g : List ℕ → List ℕ) (s : List ℕ) (found : Option Candidate)
-    → ((c : Candidate) → found ≡ Some c → f c.after ≡ g c.after) → set_from to f s found ≡ set_from to g s found
+    → ((c : Candidate) → found ≡ Some c → f c.after ≡ g c.after)
+    → set_from to f s found ≡ set_from to g s found
 set_from-same to f g s None h = refl
 set_from-same to f g s (Some c) h = ap (λ x. c.before ++ (to c.address ++ (c.description ++ x))) (h c refl)
 
@@ -70,7 +71,8 @@ nothing to n [] l = refl
 nothing to n (b ∷ s) l = absurd (omega arith)
 
 -- as many candidates as bytes are all
-enough : (to : Resolution) (n m : ℕ) (s : List ℕ) → length s ≤ n → length s ≤ m → set_by n to s ≡ set_by m to s
+enough : (to : Resolution) (n m : ℕ) (s : List ℕ) → length s ≤ n → length s ≤ m
+    → set_by n to s ≡ set_by m to s
 enough to zero zero s l k = refl
 enough to zero (suc m) s l k = sym (nothing to m s l)
 enough to (suc n) zero s l k = nothing to n s k

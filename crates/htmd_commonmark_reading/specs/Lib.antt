@@ -1,4 +1,5 @@
--- What a text says to a reader of CommonMark 0.31.2: characters, lines, blocks, inlines, lists, the whole, and its HTML.
+-- What a text says to a reader of CommonMark 0.31.2: characters, lines, blocks, inlines, lists, the whole, and its
+-- HTML.
 pub mod Characters
 pub mod Lines
 pub mod LinkDefinitions
