@@ -35,13 +35,12 @@ A
 .I FILE
 may be a folder.
 It stands for all files below it whose names end in .html, .htm or .xhtml, in either case.
-What they become gets the same paths, with the ending .md, with
-.B \-\-mdast
-.json and with
-.B \-\-chunks
-.jsonl, below the folder that
+What they become gets the same paths below the folder that
 .B \-o
-names:
+names, with the ending .md (.json with
+.B \-\-mdast
+and .jsonl with
+.BR \-\-chunks ):
 .PP
 .RS 4
 .EX
