@@ -11,8 +11,8 @@ use Rattle.htmd_nodes.specs.Items.{Item, IsTree, children_of, document_node}
 use Rattle.htmd_nodes.specs.NumberedTrees.{NumberedTree, NumberedForest, tree_of, forest_of}
 use Rattle.htmd_nodes.specs.NumberedTrees as page
 use Rattle.htmd_shown.specs.Repeats.{is_copy, is_copy_of, is_element, is_passed, is_tex_script, last_element}
-use Rattle.htmd_shown.specs.Repeats.{leads_to_script, has_script, is_script_element}
-use Rattle.htmd_shown.specs.Formulas.{tex_of_script}
+use Rattle.htmd_shown.specs.Repeats.{leads_to_script, has_script, is_script, is_script_element}
+use Rattle.htmd_shown.specs.Formulas.{is_tex_type, raw_text_among, text_if_shown}
 use Rattle.htmd_shown.specs.Roles.{is_among}
 use Rattle.htmd_shown.specs.Shown.{Sight, Surroundings, followed_by, formats_after, format_of, marked, marks, nowhere}
 use Rattle.htmd_shown.specs.Shown.{raised, raised_one, shown_in}
@@ -156,11 +156,19 @@ none_copied before (a ∷ attrs) e = absurd (grind (arith, nat_tests, e))
 
 -- ---- scripts beside nodes
 
+no_type : (named counts is_tex : Bool) (found : Option (List ℕ)) → (named && is_tex) ≡ false
+    → (named && counts && is_some (cond is_tex found None)) ≡ false
+no_type false counts is_tex found e = refl
+no_type true counts true found e = cc
+no_type true true false found e = refl
+no_type true false false found e = refl
+
 no_tex : (skip : List (List ℕ)) (tree : NumberedTree) → is_script_element tree ≡ false
     → is_tex_script skip tree ≡ false
 no_tex skip (page.text id s) e = refl
 no_tex skip (page.element id name attributes children) e =
-    ap (λ b. b && not (is_among skip (codes "script")) && is_some (tex_of_script attributes children)) e
+    no_type (is_script name) (not (is_among skip (codes "script"))) (is_tex_type attributes)
+    (text_if_shown (raw_text_among children)) e
 no_tex skip _ e = refl
 
 neither : (a b : Bool) → (a || b) ≡ false → (a ≡ false) × (b ≡ false)

@@ -75,10 +75,14 @@ squeezed s = lower (filter (λ b. not (is_ascii_white_space b)) s)
 abbrev pub is_semicolon : ℕ → Bool
 is_semicolon b = b == semicolon
 
+-- the type of a script says that it has TeX
+abbrev pub is_tex_type : List AttributePair → Bool
+is_tex_type attributes =
+    bytes_eq (squeezed (before_first is_semicolon (text_of (codes "type") attributes))) (codes "math/tex")
+
 abbrev pub tex_of_script : List AttributePair → NumberedForest → Option (List ℕ)
 tex_of_script attributes children =
-    if bytes_eq (squeezed (before_first is_semicolon (text_of (codes "type") attributes))) (codes "math/tex")
-    then text_if_shown (raw_text_among children) else None
+    if is_tex_type attributes then text_if_shown (raw_text_among children) else None
 
 abbrev pub says_display : List ℕ → Bool
 says_display part = bytes_eq (squeezed part) (codes "mode=display")

@@ -7,7 +7,7 @@ use Rattle.htmd_nodes.specs.NumberedTrees.{none, more}
 use Rattle.htmd_shown.specs.Spaces.{is_blank_text}
 use Rattle.htmd_shown.specs.ClassWords.{has_class, mathjax_words, katex_words, katex_source_words}
 use Rattle.htmd_shown.specs.ClassWords.{wiki_words, wiki_source_words}
-use Rattle.htmd_shown.specs.Formulas.{tex_of_script}
+use Rattle.htmd_shown.specs.Formulas.{is_tex_type, tex_of_script}
 use Rattle.htmd_shown.specs.Roles.{is_among}
 
 abbrev pub is_script : List ℕ → Bool
@@ -25,9 +25,9 @@ is_tex_script skip (element id name attributes children) =
     is_script name && not (is_among skip (codes "script")) && is_some (tex_of_script attributes children)
 is_tex_script skip _ = false
 
--- a script of any kind
+-- a script whose type says that it has TeX
 abbrev pub is_script_element : NumberedTree → Bool
-is_script_element (element id name attributes children) = is_script name
+is_script_element (element id name attributes children) = is_script name && is_tex_type attributes
 is_script_element _ = false
 
 -- one of these is such

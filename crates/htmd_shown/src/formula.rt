@@ -217,6 +217,13 @@ fn later_parts(text: &str) -> &str
     }
 }
 
+/// Whether the type of a script says that it has TeX.
+pub(crate) fn is_tex_type(attrs: &[Attribute]) -> bool
+    ensures { result ≡ spec.is_tex_type (pairs_of attrs.now) }
+{
+    is_squeezed(first_part(text_of(attrs, "type")).as_bytes(), b"math/tex")
+}
+
 /// The TeX of a script whose type says that it has some.
 pub(crate) fn tex_of_script(
     alloc: Global,
@@ -228,7 +235,7 @@ pub(crate) fn tex_of_script(
     ensures { IfOk result (λ found. option_map string_bytes found
         ≡ spec.tex_of_script (pairs_of attrs.now) (forest_of (tree_of tree.now) children.now)) }
 {
-    if is_squeezed(first_part(text_of(attrs, "type")).as_bytes(), b"math/tex") {
+    if is_tex_type(attrs) {
         text_among(alloc, tree, children)
     } else {
         Ok(None)

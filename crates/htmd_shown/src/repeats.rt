@@ -4,8 +4,8 @@ ghost use Rattle.htmd_nodes.specs.NumberedTrees.{tree_of, forest_of};
 ghost use Rattle.htmd_shown.specs.Repeats as spec;
 
 use crate::classes::is_of_mathjax;
-use crate::formula::tex_of_script;
-use crate::page::{element_at, text_at};
+use crate::formula::{is_tex_type, tex_of_script};
+use crate::page::{element_at, tag_at, text_at};
 use crate::role::is_among;
 use crate::spaces::is_blank_text;
 use htmd_nodes::{NodeId, Tag, Tree};
@@ -46,18 +46,19 @@ fn is_tex_script(
     Ok(tex.is_some())
 }
 
-/// Whether a node is a script of any kind.
+/// Whether a node is a script whose type says that it has TeX.
 fn is_script(tree: &Tree, node: NodeId) -> bool
     requires { node < length tree.now }
     ensures { result ≡ spec.is_script_element (tree_of tree.now node) }
 {
-    match element_at(tree, node) {
-        Some(found) => found.name.is(Tag::Script),
+    match tag_at(tree, node) {
+        Some((name, attrs)) => name.is(Tag::Script) && is_tex_type(attrs),
         None => false,
     }
 }
 
-/// Whether a script of any kind is among nodes: few nodes have one beside them, and only there it counts what follows.
+/// Whether a script whose type says that it has TeX is among nodes: few nodes have one beside them, and only there it
+/// counts what follows.
 pub(crate) fn has_script(tree: &Tree, nodes: &[NodeId]) -> bool
     requires { All (λ node. node < length tree.now) nodes.now }
     ensures { result ≡ spec.has_script (forest_of (tree_of tree.now) nodes.now) }

@@ -728,7 +728,7 @@ impl<'t> Sight<'t> {
         Ok(content)
     }
 
-    /// Whether a script with TeX comes first of these nodes; scripts: whether one of any kind can be among them.
+    /// Whether a script with TeX comes first of these nodes; scripts: whether one can be among them.
     fn script_follows(&self, nodes: &[NodeId], scripts: bool) -> Result<bool, AllocError>
         requires nodes { All (λ n. n < length self.now.tree.now) nodes.now }
         requires scripts { scripts ≡ false
