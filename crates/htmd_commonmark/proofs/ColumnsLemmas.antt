@@ -1,6 +1,6 @@
 -- The columns of a text, character by character.
-use Rattle.std.proofs.Common.{◌≡◌, ℕ, ◌+◌, ◌*◌, ◌<◌, ◌≤◌, ◌==◌, Bool, true, false, List, [], ◌∷◌, ◌++◌, length, cond}
-use Rattle.std.proofs.Common.{refl, ap, ◌∙◌, arith}
+use Rattle.std.proofs.Common.{◌≡◌, ℕ, suc, ◌+◌, ◌*◌, ◌<◌, ◌≤◌, ◌==◌, Bool, true, false, List, [], ◌∷◌, ◌++◌, length}
+use Rattle.std.proofs.Common.{cond, refl, sym, ap, ◌∙◌, arith}
 use Rattle.std.specs.Prelude.{◌&&◌, nat_le}
 use Rattle.std.proofs.lemmas.Bool.{and_parts}
 use Rattle.std.proofs.lemmas.Bool.Decides.{nat_tests}
@@ -8,14 +8,15 @@ use Rattle.ucd_table.specs.Rows.{Row, value_in}
 use Rattle.ucd_normal.specs.CanonicalCombiningClassRows.{canonical_combining_class_rows}
 use Rattle.ucd_east_asian.specs.EastAsianWidthRows.{east_asian_width_rows}
 use Rattle.std.specs.List.{sum_by}
-use Rattle.std.specs.Str.{IsUtf8, chars}
+use Rattle.std.specs.Str.{IsAscii, IsUtf8, chars}
 use Rattle.std.proofs.lemmas.List.Sums.{sum_by-cons}
-use Rattle.std.proofs.lemmas.Str.{chars_past_char, encodes-chars, length-le-encodes}
+use Rattle.std.proofs.lemmas.Str.{chars-nil, chars_past_char, encodes-chars, length-le-encodes}
 use Rattle.unicode.specs.CanonicalCombiningClass.{canonical_combining_class}
 use Rattle.unicode.specs.EastAsianWidth.{east_asian_width}
 use Rattle.unicode.specs.declared.properties.EastAsianWidth.{EastAsianWidth}
 use Rattle.unicode.specs.declared.properties.EastAsianWidth.TheVariants.{Ambiguous, Fullwidth, Halfwidth, Neutral}
 use Rattle.unicode.specs.declared.properties.EastAsianWidth.TheVariants.{Narrow, Wide}
+use Rattle.htmd_text.proofs.PlainTextLemmas.{chars_ascii}
 use Rattle.htmd_commonmark.specs.Columns.{columns_by, columns_of, width_of}
 use lib.Utf8.{encode}
 
@@ -72,6 +73,14 @@ narrow c lt = by_first (nat_le 0x20 c && nat_le c 0x7E)
 pub of-ascii : (c : ℕ) → c < 128 → columns_of c ≡ 1
 of-ascii c lt =
     ap (λ n. cond (n == 0) (columns_by (east_asian_width c)) 0) (not_combining c lt) ∙ narrow c lt
+
+-- ASCII takes one column a byte
+pub ascii_width : (s : List ℕ) → IsAscii s → length s ≡ width_of s
+ascii_width [] ascii = sym (ap (sum_by columns_of) chars-nil)
+ascii_width (b ∷ s) ascii =
+    let rest = ascii_width s (λ i. ascii (suc i)) in
+    let whole = ap (sum_by columns_of) (chars_ascii b s (ascii 0)) in
+    omega (arith, whole, rest, sum_by-cons columns_of b (chars s), of-ascii b (ascii 0))
 
 sum-le : (cs : List ℕ) → sum_by columns_of cs ≤ length cs * 2
 sum-le [] = omega arith

@@ -21,8 +21,19 @@ fn columns_of(c: char) -> usize
     }
 }
 
-/// How many columns the text takes.
+/// How many columns the text takes. One of ASCII takes as many as it has bytes.
+#[tactic(auto, using(crate::proofs::ColumnsLemmas::ascii_width))]
 pub fn width_of(text: &str) -> usize
+    ensures { result ≡ spec.width_of text.now }
+{
+    if text.is_ascii() {
+        return text.len();
+    }
+    width_of_characters(text)
+}
+
+/// The same of any text, by its characters.
+fn width_of_characters(text: &str) -> usize
     ensures { result ≡ spec.width_of text.now }
 {
     let mut width = 0;

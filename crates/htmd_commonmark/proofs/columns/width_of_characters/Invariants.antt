@@ -4,7 +4,7 @@ use Rattle.std.specs.List.{sum_by}
 use Rattle.std.specs.Str.{IsUtf8, chars}
 use Rattle.std.specs.Str.Iter.{chars_rest}
 use Rattle.htmd_commonmark.specs.Columns.{columns_of, width_of}
-use Rattle.htmd_commonmark.proofs.columns.width_of.Given as goal
+use Rattle.htmd_commonmark.proofs.columns.width_of_characters.Given as goal
 
 abbrev pub invariant-loop-c : goal.invariant-loop-c
 invariant-loop-c l = record {

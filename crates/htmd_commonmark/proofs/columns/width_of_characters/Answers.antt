@@ -7,7 +7,7 @@ use Rattle.std.proofs.lemmas.List.{nil_from_length}
 use Rattle.std.proofs.lemmas.Str.{IsUtf8-past_char, chars-nil}
 use Rattle.htmd_commonmark.specs.Columns.{columns_of}
 use Rattle.htmd_commonmark.proofs.ColumnsLemmas.{width-turn, width-le}
-use Rattle.htmd_commonmark.proofs.columns.width_of.Goals as goal
+use Rattle.htmd_commonmark.proofs.columns.width_of_characters.Goals as goal
 
 pub overflow_add-width : goal.overflow_add-width
 overflow_add-width c =
