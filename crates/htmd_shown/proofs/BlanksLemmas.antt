@@ -1,16 +1,17 @@
 -- Texts of which nothing shows.
 use Rattle.std.proofs.Common.{◌≡◌, ℕ, Bool, true, false, cond, not, ◌&&◌, ◌||◌, List, [], ◌∷◌, filter, refl, sym, ap}
-use Rattle.std.proofs.Common.{◌∙◌, ◌≤◌, nat_le, arith}
+use Rattle.std.proofs.Common.{◌∙◌, ◌≤◌, drop, nat_le, arith}
 use Rattle.std.proofs.Math.Utf8.{scalars, scalar}
 use Rattle.std.specs.List.{list_all}
 use Rattle.std.specs.Str.{chars, IsUtf8}
-use Rattle.std.proofs.lemmas.Bool.{and_parts}
+use Rattle.std.proofs.lemmas.Bool.{and_parts, false≢true}
 use Rattle.std.proofs.lemmas.Bool.Decides.{nat_tests}
 use Rattle.std.proofs.lemmas.Str.{chars-encodes, scalars-chars}
 use Rattle.htmd_lexical.proofs.Cases.{test}
 use Rattle.htmd_shown.specs.Spaces.{is_blank_text}
 use Rattle.htmd_shown.specs.ShownTexts.{is_shown, shown_text, is_blank_character}
 use Rattle.htmd_shown.specs.Belows.{is_nothing, sign_of}
+use Rattle.htmd_shown.specs.declared.sign.Sign.TheVariants.{More}
 use Rattle.htmd_shown.specs.Marks.{is_seen, letters}
 use Rattle.htmd_shown.specs.Spaces.{is_white}
 use Rattle.htmd_shown.specs.TextViews.{begins_visibly}
@@ -68,6 +69,26 @@ visible_shows (b ∷ s) visible =
   where
     not_blank : (c : ℕ) → 33 ≤ c → c ≤ 126 → is_blank_character c ≡ false
     not_blank c from until = grind (arith, nat_tests, from, until)
+
+-- a text that begins with two visible ASCII characters shows more than one
+pub two_visible : (s : List ℕ) → (begins_visibly s && begins_visibly (drop 1 s)) ≡ true
+    → sign_of (letters s) ≡ More
+two_visible [] visible = cc
+two_visible (b ∷ []) visible = absurd (false≢true (and_parts (begins_visibly (b ∷ [])) false visible).1)
+two_visible (b ∷ c ∷ s) visible =
+    let both = and_parts (begins_visibly (b ∷ c ∷ s)) (begins_visibly (c ∷ s)) visible in
+    ap sign_of (one_seen b (c ∷ s) both.0 ∙ ap (λ cs. b ∷ cs) (one_seen c s both.1))
+  where
+    seen : (b : ℕ) → 33 ≤ b → b ≤ 126 → is_seen b ≡ true
+    seen b from until = grind (arith, nat_tests, from, until)
+
+    one_seen : (b : ℕ) (s : List ℕ) → begins_visibly (b ∷ s) ≡ true → letters (b ∷ s) ≡ b ∷ letters s
+    one_seen b s visible =
+        let parts = and_parts (nat_le 33 b) (nat_le b 126) visible in
+        let from : 33 ≤ b = grind (arith, nat_tests, parts.0) in
+        let until : b ≤ 126 = grind (arith, nat_tests, parts.1) in
+        ap (filter is_seen) (chars_ascii b s (omega (arith, until)))
+        ∙ ap (λ t. cond t (b ∷ letters s) (letters s)) (seen b from until)
 
 pub chars_shown : (s : List ℕ) → IsUtf8 s → chars (shown_text s) ≡ filter is_shown (chars s)
 chars_shown s u = chars-encodes (filter is_shown (chars s)) (scalars-filter is_shown (chars s) (scalars-chars s u))

@@ -1,7 +1,8 @@
 //! Signs that links to their own place show.
-ghost use Rattle.std.specs.Prelude.{◌≡◌};
+ghost use Rattle.std.specs.Prelude.{◌≡◌, ◌&&◌, drop};
 ghost use Rattle.htmd_shown.specs.Belows as views;
 ghost use Rattle.htmd_shown.specs.Marks as spec;
+ghost use Rattle.htmd_shown.specs.TextViews.{begins_visibly};
 
 use crate::shown_text::is_blank_character;
 use unicode::properties::{GeneralCategory, GeneralCategoryGroup};
@@ -26,8 +27,18 @@ impl Sign {
         }
     }
 
-    /// What a text of the page shows.
+    /// What a text of the page shows. Most begin with two visible characters.
     pub(crate) fn of_text(text: &str) -> Sign
+        ensures { result ≡ views.sign_of (spec.letters text.now) }
+    {
+        if shows_two(text.as_bytes()) {
+            return Sign::More;
+        }
+        Sign::of_characters(text)
+    }
+
+    /// The same of any text, by its characters.
+    fn of_characters(text: &str) -> Sign
         ensures { result ≡ views.sign_of (spec.letters text.now) }
     {
         let mut sign = Sign::Nothing;
@@ -70,6 +81,13 @@ impl Sign {
             Sign::More => false,
         }
     }
+}
+
+/// Whether the first two bytes are visible ASCII characters.
+fn shows_two(bytes: &[u8]) -> bool
+    ensures { result ≡ (begins_visibly bytes.now && begins_visibly (drop 1 bytes.now)) }
+{
+    matches!(bytes, [b'!'..=b'~', b'!'..=b'~', ..])
 }
 
 /// Whether a character means a link to its own place: not `+`, `-` and such, which can be terms of their own.
