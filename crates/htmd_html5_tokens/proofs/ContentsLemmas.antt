@@ -1,6 +1,6 @@
 -- How the characters of a text are read piece by piece.
-use Rattle.std.proofs.Common.{◌≡◌, ℕ, zero, suc, ◌<◌, Bool, true, false, not, ◌&&◌, List, [], ◌∷◌, ◌++◌, length}
-use Rattle.std.proofs.Common.{take, drop, get_or, refl, ap, sym, ◌∙◌, arith, append_assoc, subst, codes}
+use Rattle.std.proofs.Common.{◌≡◌, ℕ, zero, suc, ◌+◌, ◌<◌, ◌≤◌, Bool, true, false, not, ◌&&◌, List, [], ◌∷◌, ◌++◌}
+use Rattle.std.proofs.Common.{length, take, drop, get_or, refl, ap, sym, ◌∙◌, arith, append_assoc, subst, codes}
 use Rattle.std.proofs.lemmas.Bool.{and_parts}
 use Rattle.std.proofs.lemmas.Bool.Decides.{nat_tests}
 use Rattle.std.proofs.lemmas.List.{drop_more}
@@ -66,6 +66,25 @@ decoded_plain : (r : Reading) (s : List ℕ)
 decoded_plain r [] = refl
 decoded_plain r (b ∷ s) =
     test (is_literal r b) (λ e. let p = plain_piece r b s e in rw (p, e, decoded_plain r s) refl) (λ e. rw e refl)
+
+same_test : (x : Bool) → (x && x) ≡ x
+same_test true = refl
+same_test false = refl
+
+-- of two that are the same, one test is enough
+pub neither_twice : (s : List ℕ) → list_all (λ b. not (b == 0) && not (b == 0)) s ≡ list_all (is_literal RawText) s
+neither_twice [] = refl
+neither_twice (b ∷ s) = rw (same_test (not (b == 0)), neither_twice s) refl
+
+-- past literal characters
+pub run_past : (p : ℕ → Bool) (s : List ℕ) (n : ℕ) → n ≤ length s → list_all p (take n s) ≡ true
+    → n + length (leading_run p (drop n s)) ≡ length (leading_run p s)
+run_past p s zero le e = omega arith
+run_past p [] (suc n) le e = absurd (omega arith)
+run_past p (b ∷ s) (suc n) le e =
+    let both = and_parts (p b) (list_all p (take n s)) e in
+    let rest = run_past p s n (omega arith) both.1 in
+    rw both.0 (omega (arith, rest))
 
 -- a text of literal characters
 pub decoded_itself : (r : Reading) (s : List ℕ) → list_all (is_literal r) s ≡ true → decoded r 0 s ≡ s

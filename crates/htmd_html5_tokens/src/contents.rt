@@ -1,6 +1,6 @@
 //! What characters stand for: texts, raw texts, values and names.
 ghost use Rattle.std.specs.Prelude.{◌≡◌, ◌<◌, ◌≤◌, ◌++◌, false, length, slice_index, string_bytes, IfOk, OnOk, ◌∷◌};
-ghost use Rattle.std.specs.Prelude.{true};
+ghost use Rattle.std.specs.Prelude.{◌+◌, ◌==◌, ◌&&◌, drop, not, true};
 ghost use Rattle.std.specs.Cow.{cow_str_bytes};
 ghost use Rattle.std.specs.List.{list_all};
 ghost use Rattle.std.specs.Str.{IsUtf8};
@@ -39,15 +39,27 @@ fn is_literal(byte: u8, reading: Reading) -> bool
     }
 }
 
-/// Whether all bytes are literal. All are looked at, so that a processor can compare many at once.
+/// Whether no byte is one of two. All are looked at, so that a processor can compare many at once.
+fn have_neither(bytes: &[u8], first: u8, second: u8) -> bool
+    ensures { result ≡ list_all (λ b. not (b == first) && not (b == second)) bytes.now }
+{
+    let mut have_neither = true;
+    for byte in bytes {
+        have_neither &= (*byte != first) & (*byte != second);
+    }
+    have_neither
+}
+
+/// Whether all bytes are literal.
+#[tactic(auto, using(crate::proofs::ContentsLemmas::neither_twice))]
 fn are_literal(bytes: &[u8], reading: Reading) -> bool
     ensures { result ≡ list_all (is_literal reading) bytes.now }
 {
-    let mut are_literal = true;
-    for byte in bytes {
-        are_literal &= is_literal(*byte, reading);
+    match reading {
+        Reading::Text => have_neither(bytes, b'&', b'<'),
+        Reading::RawText => have_neither(bytes, 0, 0),
+        Reading::EscapableRawText | Reading::AttributeValue => have_neither(bytes, b'&', 0),
     }
-    are_literal
 }
 
 /// How many bytes at the beginning are literal.
@@ -64,12 +76,37 @@ fn literal_len(bytes: &[u8], reading: Reading) -> usize
     bytes.len()
 }
 
+/// So many bytes of a text are passed at once where all are literal.
+const BLOCK: usize = 16;
+
+/// How many bytes at the beginning are in blocks of bytes that are literal in a text.
+fn literal_blocks_len(bytes: &[u8]) -> usize
+    ensures bound { result ≤ length bytes.now }
+    ensures value { result + length (leading_run (is_literal Text) (drop result bytes.now))
+        ≡ length (leading_run (is_literal Text) bytes.now) }
+{
+    let mut len = 0;
+    while bytes.len() - len >= BLOCK && are_literal(&bytes[len..len + BLOCK], Reading::Text) {
+        len += BLOCK;
+    }
+    len
+}
+
+/// How many bytes at the beginning are literal in a text.
+fn text_len(bytes: &[u8]) -> usize
+    ensures bound { result ≤ length bytes.now }
+    ensures value { result ≡ length (leading_run (is_literal Text) bytes.now) }
+{
+    let len = literal_blocks_len(bytes);
+    len + literal_len(&bytes[len..], Reading::Text)
+}
+
 /// The literal characters with which a text begins, and what follows them.
 pub(crate) fn split_literals(text: &str) -> (&str, &str)
     ensures front { result.0.now ≡ leading_run (is_literal Text) text.now }
     ensures rest { result.1.now ≡ behind_run (is_literal Text) text.now }
 {
-    text.split_at(literal_len(text.as_bytes(), Reading::Text))
+    text.split_at(text_len(text.as_bytes()))
 }
 
 /// Appends the literal characters with which the text begins, and returns the rest.
