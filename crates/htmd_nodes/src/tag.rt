@@ -299,7 +299,8 @@ impl Tag {
         }
     }
 
-    /// The tag with this text, if there is one. The text is only compared with names that begin like it.
+    /// The tag with this text, if there is one. The text is only compared with names that begin like it, and first with
+    /// those that are most frequent.
     #[tactic(auto, unfolding(crate::specs::TagLookup::tag_of))]
     pub fn with_text(text: &str) -> Option<Tag>
         ensures some { IfSome result (λ tag. text.now ≡ tag_text tag) }
@@ -374,6 +375,7 @@ fn of_b(text: &str) -> Option<Tag>
 {
     let tag = match text {
         "b" => Tag::B,
+        "br" => Tag::Br,
         "base" => Tag::Base,
         "basefont" => Tag::Basefont,
         "bdi" => Tag::Bdi,
@@ -381,7 +383,6 @@ fn of_b(text: &str) -> Option<Tag>
         "bgsound" => Tag::Bgsound,
         "blockquote" => Tag::Blockquote,
         "body" => Tag::Body,
-        "br" => Tag::Br,
         "button" => Tag::Button,
         _ => return None,
     };
@@ -395,11 +396,11 @@ fn of_c(text: &str) -> Option<Tag>
     ensures some { IfSome result (λ tag. text.now ≡ tag_text tag) }
 {
     let tag = match text {
+        "code" => Tag::Code,
         "canvas" => Tag::Canvas,
         "caption" => Tag::Caption,
         "center" => Tag::Center,
         "cite" => Tag::Cite,
-        "code" => Tag::Code,
         "col" => Tag::Col,
         "colgroup" => Tag::Colgroup,
         _ => return None,
@@ -414,6 +415,7 @@ fn of_d(text: &str) -> Option<Tag>
     ensures some { IfSome result (λ tag. text.now ≡ tag_text tag) }
 {
     let tag = match text {
+        "div" => Tag::Div,
         "datalist" => Tag::Datalist,
         "dd" => Tag::Dd,
         "del" => Tag::Del,
@@ -421,7 +423,6 @@ fn of_d(text: &str) -> Option<Tag>
         "dfn" => Tag::Dfn,
         "dialog" => Tag::Dialog,
         "dir" => Tag::Dir,
-        "div" => Tag::Div,
         "dl" => Tag::Dl,
         "dt" => Tag::Dt,
         _ => return None,
@@ -494,9 +495,9 @@ fn of_i(text: &str) -> Option<Tag>
 {
     let tag = match text {
         "i" => Tag::I,
+        "img" => Tag::Img,
         "iframe" => Tag::Iframe,
         "image" => Tag::Image,
-        "img" => Tag::Img,
         "input" => Tag::Input,
         "ins" => Tag::Ins,
         _ => return None,
@@ -525,9 +526,9 @@ fn of_l(text: &str) -> Option<Tag>
     ensures some { IfSome result (λ tag. text.now ≡ tag_text tag) }
 {
     let tag = match text {
+        "li" => Tag::Li,
         "label" => Tag::Label,
         "legend" => Tag::Legend,
-        "li" => Tag::Li,
         "link" => Tag::Link,
         "listing" => Tag::Listing,
         _ => return None,
@@ -587,8 +588,8 @@ fn of_o(text: &str) -> Option<Tag>
     ensures some { IfSome result (λ tag. text.now ≡ tag_text tag) }
 {
     let tag = match text {
-        "object" => Tag::Object,
         "ol" => Tag::Ol,
+        "object" => Tag::Object,
         "optgroup" => Tag::Optgroup,
         "option" => Tag::Option,
         _ => return None,
@@ -604,11 +605,11 @@ fn of_p(text: &str) -> Option<Tag>
 {
     let tag = match text {
         "p" => Tag::P,
+        "pre" => Tag::Pre,
         "param" => Tag::Param,
         "path" => Tag::Path,
         "picture" => Tag::Picture,
         "plaintext" => Tag::Plaintext,
-        "pre" => Tag::Pre,
         _ => return None,
     };
     Some(tag)
@@ -645,6 +646,8 @@ fn of_s(text: &str) -> Option<Tag>
     ensures some { IfSome result (λ tag. text.now ≡ tag_text tag) }
 {
     let tag = match text {
+        "span" => Tag::Span,
+        "strong" => Tag::Strong,
         "s" => Tag::S,
         "samp" => Tag::Samp,
         "script" => Tag::Script,
@@ -654,9 +657,7 @@ fn of_s(text: &str) -> Option<Tag>
         "semantics" => Tag::Semantics,
         "small" => Tag::Small,
         "source" => Tag::Source,
-        "span" => Tag::Span,
         "strike" => Tag::Strike,
-        "strong" => Tag::Strong,
         "style" => Tag::Style,
         "sub" => Tag::Sub,
         "summary" => Tag::Summary,
@@ -674,17 +675,17 @@ fn of_t(text: &str) -> Option<Tag>
     ensures some { IfSome result (λ tag. text.now ≡ tag_text tag) }
 {
     let tag = match text {
+        "td" => Tag::Td,
+        "tr" => Tag::Tr,
+        "th" => Tag::Th,
         "table" => Tag::Table,
         "tbody" => Tag::Tbody,
-        "td" => Tag::Td,
         "template" => Tag::Template,
         "textarea" => Tag::Textarea,
         "tfoot" => Tag::Tfoot,
-        "th" => Tag::Th,
         "thead" => Tag::Thead,
         "time" => Tag::Time,
         "title" => Tag::Title,
-        "tr" => Tag::Tr,
         "track" => Tag::Track,
         "tt" => Tag::Tt,
         _ => return None,
@@ -699,8 +700,8 @@ fn of_u(text: &str) -> Option<Tag>
     ensures some { IfSome result (λ tag. text.now ≡ tag_text tag) }
 {
     let tag = match text {
-        "u" => Tag::U,
         "ul" => Tag::Ul,
+        "u" => Tag::U,
         _ => return None,
     };
     Some(tag)
