@@ -85,10 +85,9 @@ impl Lines {
     fn push_lines(&mut self, text: &str) -> Result<(), AllocError>
         ensures { OnOk result (self.new ≡ page.wrote self.old text.now) }
     {
-        let bytes = text.as_bytes();
         let mut from = 0;
-        for i in 0..bytes.len() {
-            if bytes[i] == b'\n' {
+        for (i, byte) in text.as_bytes().iter().enumerate() {
+            if *byte == b'\n' {
                 self.push_in_line(&text[from..i])?;
                 self.end_line()?;
                 from = i + 1;

@@ -12,8 +12,8 @@ use Rattle.htmd_commonmark.specs.Pages.{wrote, with_byte}
 use Rattle.htmd_commonmark.proofs.BlocksLemmas.{on_ok}
 use Rattle.htmd_commonmark.proofs.PagesLemmas.{line_wrote, line_grown}
 use Rattle.htmd_commonmark.proofs.lines.Lines.push_lines.Goals as goal
-use Rattle.htmd_commonmark.proofs.lines.Lines.push_lines.Goals.{then-bytes-i-eq10+in_ok-push_in_line+in_ok-end_line}
-use Rattle.htmd_commonmark.proofs.lines.Lines.push_lines.Goals.{else-bytes-i-eq10}
+use Rattle.htmd_commonmark.proofs.lines.Lines.push_lines.Goals.{then-byte-eq10+in_ok-push_in_line+in_ok-end_line}
+use Rattle.htmd_commonmark.proofs.lines.Lines.push_lines.Goals.{else-byte-eq10}
 
 pub loop-i-init : goal.loop-i-init
 loop-i-init c = record {
@@ -28,15 +28,15 @@ loop-i-preserved c =
     let s = c.args.text.now in
     let i = c.loop-i.i in
     let from = c.loop-i.from in
-    let same = c.as_bytes-bytes.ensures.value in
+    let same = c.as_bytes-byte-items.ensures.value in
     let lt : i < length s = omega (arith, ap length same) in
     let was = c.loop-i.invariant in
-    elim c.if-bytes-i-eq10.branch [
-      | then-bytes-i-eq10+in_ok-push_in_line+in_ok-end_line w ↦
+    elim c.if-byte-eq10.branch [
+      | then-byte-eq10+in_ok-push_in_line+in_ok-end_line w ↦
           let here : get_or s i 0 ≡ line_feed =
-          ap (λ l. get_or l i 0) (sym same) ∙ w.if-bytes-i-eq10.true in
+          ap (λ l. get_or l i 0) (sym same) ∙ w.if-byte-eq10.true in
           let line : w.range.result.now ≡ between from i s = w.range.ensures.value in
-          let at : c.if-bytes-i-eq10.self ≡ with_byte (wrote c.loop-i.self (between from i s)) line_feed =
+          let at : c.if-byte-eq10.self ≡ with_byte (wrote c.loop-i.self (between from i s)) line_feed =
           w.self-is ∙ w.in_ok-end_line.ensures
           ∙ ap (λ p. with_byte p line_feed) (w.in_ok-push_in_line.ensures ∙ ap (wrote c.loop-i.self) line) in
           let ended = ap (λ p. wrote p (drop (i + 1) s)) at
@@ -47,7 +47,7 @@ loop-i-preserved c =
             line = ap (list_any is_line_feed) (between_none s (i + 1));
             written = ended;
           })
-      | else-bytes-i-eq10 w ↦
+      | else-byte-eq10 w ↦
           let other : (get_or s i 0 == line_feed) ≡ false =
           ap (λ l. get_or l i 0 == line_feed) (sym same) ∙ grind (arith, nat_tests) in
           rw (w.self-is, w.from-is) (record {
@@ -61,7 +61,7 @@ loop-i-preserved c =
 pub push_in_line-requires-2 : goal.push_in_line-requires-2
 push_in_line-requires-2 c =
     let s = c.args.text.now in
-    let past : length s ≤ c.loop-i.i = omega (arith, ap length c.as_bytes-bytes.ensures.value) in
+    let past : length s ≤ c.loop-i.i = omega (arith, ap length c.as_bytes-byte-items.ensures.value) in
     ap (list_any is_line_feed) (c.range_from.ensures.value ∙ sym (between_to_end s c.loop-i.from c.loop-i.i past))
     ∙ c.loop-i.invariant.line
 
