@@ -24,24 +24,17 @@ pub(crate) fn begins_markup(bytes: &[u8]) -> bool
     }
 }
 
-/// Whether markup begins at this place.
-fn is_markup_at(bytes: &[u8], place: usize) -> bool
-    requires { place < length bytes.now }
-    ensures { result ≡ spec.begins_markup (drop place bytes.now) }
-{
-    bytes[place] == b'<' && begins_markup(&bytes[place..])
-}
-
 /// How many bytes are before markup.
 fn text_len(bytes: &[u8]) -> usize
     ensures bound { result ≤ length bytes.now }
     ensures value { result ≡ length (up_to spec.begins_markup bytes.now) }
 {
-    let mut len = 0;
-    while len < bytes.len() && !is_markup_at(bytes, len) {
-        len += 1;
+    for (len, byte) in bytes.iter().enumerate() {
+        if *byte == b'<' && begins_markup(&bytes[len..]) {
+            return len;
+        }
     }
-    len
+    bytes.len()
 }
 
 /// What comes before markup, and the markup with what follows.
