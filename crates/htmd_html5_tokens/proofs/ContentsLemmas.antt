@@ -72,7 +72,8 @@ same_test true = refl
 same_test false = refl
 
 -- of two that are the same, one test is enough
-pub neither_twice : (s : List ℕ) → list_all (λ b. not (b == 0) && not (b == 0)) s ≡ list_all (is_literal RawText) s
+pub neither_twice : (s : List ℕ)
+    → list_all (λ b. not (b == 0) && not (b == 0)) s ≡ list_all (is_literal RawText) s
 neither_twice [] = refl
 neither_twice (b ∷ s) = rw (same_test (not (b == 0)), neither_twice s) refl
 
