@@ -50,6 +50,7 @@ pub mod ShortTablesLemmas
 pub mod SparserLemmas
 pub mod CleanTextsLemmas
 pub mod ShiftsLemmas
+pub mod ReferencesBeforeLemmas
 pub mod MergedTextsLemmas
 pub mod LineMarksLemmas
 pub mod JoinedWordsLemmas

@@ -3,8 +3,8 @@ use Rattle.std.proofs.Common.{◌≡◌, ℕ, zero, suc, ◌+◌, ◌-◌, ◌*�
 use Rattle.std.proofs.Common.{◌++◌}
 use Rattle.std.proofs.Common.{length, take, drop, reverse, refl, sym, ap, ◌∙◌, subst, append_assoc, append-nil, arith}
 use Rattle.std.proofs.Common.{Option, Some, None, codes, length-append, eqb-true}
-use Rattle.std.specs.Prelude.{◌==◌, ◌&&◌, ◌||◌, nat_le, slice_get, slice_index, find}
-use Rattle.std.specs.Char.{is_ascii_digit, is_ascii_hexdigit, is_ascii_alphanumeric, is_ascii_alphabetic}
+use Rattle.std.specs.Prelude.{◌==◌, ◌&&◌, ◌||◌, nat_le, slice_get, slice_index}
+use Rattle.std.specs.Char.{is_ascii_digit}
 use Rattle.std.specs.List.{list_all, list_any, prefix_len, suffix_len}
 use Rattle.std.specs.Option.{option_or}
 use Rattle.std.specs.Str.{chars, chars_after, continuation_len, lead_bits}
@@ -13,7 +13,7 @@ use Rattle.std.proofs.lemmas.Bool.Decides.{nat_tests}
 use Rattle.std.proofs.lemmas.List.Sums.{suffix_len-le-length}
 use Rattle.std.proofs.lemmas.Str.{chars-nil}
 use Rattle.htmd_lexical.specs.Characters.{line_feed, space, exclamation_mark, ampersand, less_than_sign, backslash}
-use Rattle.htmd_lexical.specs.Characters.{right_square_bracket, underscore, hyphen, colon, number_sign, semicolon}
+use Rattle.htmd_lexical.specs.Characters.{right_square_bracket, underscore, hyphen, colon, number_sign}
 use Rattle.htmd_lexical.specs.Characters.{is_one_of}
 use Rattle.htmd_lexical.specs.CharacterClasses.{first_is}
 use Rattle.htmd_text.specs.EscapedPlaces.{with_backslashes, is_place}
@@ -23,11 +23,12 @@ use Rattle.htmd_commonmark.specs.declared.text_escape.Place.{Place}
 use Rattle.htmd_commonmark.specs.CharacterKinds.{first_character, last_character}
 use Rattle.htmd_commonmark.specs.LineMarks.{ends_marker, is_bullet, is_dashes, is_heading_marker, begins_block}
 use Rattle.htmd_commonmark.specs.LineMarks.{number_mark, line_mark}
-use Rattle.htmd_commonmark.specs.References.{is_semicolon, ends_behind, is_run, is_number, is_reference}
+use Rattle.htmd_commonmark.specs.References.{is_reference}
 use Rattle.htmd_commonmark.specs.TextEscapes.{next_byte, is_underscore, character_before, character_after, is_of_word}
 use Rattle.htmd_commonmark.specs.TextEscapes.{is_in_word, may_be_escaped, may_be_in_tag, is_bracket}
 use Rattle.htmd_commonmark.specs.TextEscapes.{is_marked, escaped}
 use Rattle.htmd_chunks.proofs.CleanTextsLemmas.{IsClean, chars-behind, in-append, clean-front, escaped-clean}
+use Rattle.htmd_chunks.proofs.ReferencesBeforeLemmas.{mono-and, reference-before}
 use Rattle.htmd_chunks.proofs.RunsLemmas.{IsSomething, something}
 use Rattle.htmd_chunks.proofs.ShiftsLemmas.{last-behind, suffix-behind-any, prefix-behind, reverse-some, space-before}
 use Rattle.htmd_chunks.proofs.SparserLemmas.{Sparser, at_end, alike, fewer}
@@ -229,10 +230,6 @@ mono-or true b c d f g e = ap (λ x. x || d) (f refl)
 mono-or false b true d f g e = refl
 mono-or false b false d f g e = g e
 
-mono-and : (a b d : Bool) → (b ≡ true → d ≡ true) → (a && b) ≡ true → (a && d) ≡ true
-mono-and true b d g e = g e
-mono-and false b d g e = absurd (cc)
-
 mono-not : (a b : Bool) → (b ≡ true → a ≡ true) → not a ≡ true → not b ≡ true
 mono-not true b g e = absurd (cc)
 mono-not false true g e = absurd (let x : false ≡ true = g refl in cc)
@@ -366,52 +363,6 @@ word-before t h before clean =
         let told_last : last_character y ≡ Some first.0 = ap (λ l. slice_get (reverse l) 0) is ∙ first.1 in
         ap (λ o. is_of_word (option_or o before)) (last-behind (t ++ space ∷ []) y both some ∙ told_last)
         ∙ ap (λ o. is_of_word (option_or o None)) (sym told_last)
-
--- ---- references
-
-ends-before : (p : ℕ → Bool) (z f : List ℕ) → p space ≡ false → ends_behind p (z ++ space ∷ f) ≡ true
-    → ends_behind p z ≡ true
-ends-before p [] f none h =
-    absurd (let bad : false ≡ true =
-    ap (λ e. is_semicolon (cond (not e) (Some space) (find (λ b. not (p b)) f))) (sym none) ∙ h in cc)
-ends-before p (b ∷ z) f none h =
-    elim (p b)
-    as (λ e. is_semicolon (cond (not e) (Some b) (find (λ c. not (p c)) (z ++ space ∷ f))) ≡ true
-    → is_semicolon (cond (not e) (Some b) (find (λ c. not (p c)) z)) ≡ true) [
-      | true ↦ λ k. ends-before p z f none k
-      | false ↦ λ k. k
-    ] h
-
-run-before : (p : ℕ → Bool) (z f : List ℕ) → p space ≡ false → is_run p (z ++ space ∷ f) ≡ true
-    → is_run p z ≡ true
-run-before p [] f none h = ends-before p [] f none h
-run-before p (b ∷ z) f none h =
-    mono-and (not (first_is semicolon (b ∷ z))) (ends_behind p ((b ∷ z) ++ space ∷ f)) (ends_behind p (b ∷ z))
-    (ends-before p (b ∷ z) f none) h
-
-number-before : (z f : List ℕ) → is_number (z ++ space ∷ f) ≡ true → is_number z ≡ true
-number-before [] f h = run-before is_ascii_digit [] f refl h
-number-before (b ∷ z) f h =
-    elim (is_one_of (codes "xX") b)
-    as (λ e. cond e (is_run is_ascii_hexdigit (z ++ space ∷ f)) (is_run is_ascii_digit (b ∷ (z ++ space ∷ f)))
-    ≡ true
-    → cond e (is_run is_ascii_hexdigit z) (is_run is_ascii_digit (b ∷ z)) ≡ true) [
-      | true ↦ λ k. run-before is_ascii_hexdigit z f refl k
-      | false ↦ λ k. run-before is_ascii_digit (b ∷ z) f refl k
-    ] h
-
-reference-before : (z f : List ℕ) → is_reference (z ++ space ∷ f) ≡ true → is_reference z ≡ true
-reference-before [] f h = absurd (cc)
-reference-before (b ∷ z) f h =
-    elim (b == number_sign)
-    as (λ e. cond e (is_number (z ++ space ∷ f)) (is_ascii_alphabetic b && ends_behind is_ascii_alphanumeric
-    (z ++ space ∷ f))
-    ≡ true → cond e (is_number z) (is_ascii_alphabetic b && ends_behind is_ascii_alphanumeric z) ≡ true) [
-      | true ↦ λ k. number-before z f k
-      | false ↦ λ k.
-          mono-and (is_ascii_alphabetic b) (ends_behind is_ascii_alphanumeric (z ++ space ∷ f))
-          (ends_behind is_ascii_alphanumeric z) (ends-before is_ascii_alphanumeric z f refl) k
-    ] h
 
 -- ---- lines
 

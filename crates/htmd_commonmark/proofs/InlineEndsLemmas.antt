@@ -80,3 +80,9 @@ abbreviation_first kind title xs = ap (first_of kind) (inline-abbreviation title
 pub abbreviation_last : (title : String Global) (xs : Vec Inline Global)
     → last_of (inline_of (Abbreviation title xs)) ≡ Some greater_than_sign
 abbreviation_last title xs = ap last_of (inline-abbreviation title xs)
+
+-- what inlines that stand for more than text begin with
+pub ruleset first_steps = (format_first, element_first, abbreviation_first)
+
+-- what they end with
+pub ruleset last_steps = (format_last, element_last, abbreviation_last)

@@ -53,7 +53,7 @@ fn first_of_break(kind: LineKind) -> char
 }
 
 /// The first character that is written of the inline; of a format it is mostly a mark.
-#[tactic(auto, using(crate::proofs::InlineEndsLemmas::format_first, crate::proofs::InlineEndsLemmas::element_first, crate::proofs::InlineEndsLemmas::abbreviation_first))]
+#[tactic(auto, using(crate::proofs::InlineEndsLemmas::first_steps))]
 fn first_of(x: &Inline, kind: LineKind) -> Option<char>
     ensures { result ≡ spec.first_of kind (inline_of x.now) }
 {
@@ -69,7 +69,7 @@ fn first_of(x: &Inline, kind: LineKind) -> Option<char>
 }
 
 /// The last character that is written of the inline.
-#[tactic(auto, using(crate::proofs::InlineEndsLemmas::format_last, crate::proofs::InlineEndsLemmas::element_last, crate::proofs::InlineEndsLemmas::abbreviation_last))]
+#[tactic(auto, using(crate::proofs::InlineEndsLemmas::last_steps))]
 fn last_of(x: &Inline) -> Option<char>
     ensures { result ≡ spec.last_of (inline_of x.now) }
 {

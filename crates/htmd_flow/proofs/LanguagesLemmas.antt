@@ -456,3 +456,6 @@ after_passed bs i d w r b whole l e h t all =
     ∙ ap first_name (next_beginning (get_or bs i d).now (map (λ x. x.now) (drop (i + 1) bs)) w r e
     (empty_if r b h t)))
     ∙ all
+
+-- what one, two or three elements say
+pub ruleset near_steps = (near_one, near_two, near_three)

@@ -401,7 +401,7 @@ fn is_known(word: &str) -> bool
 // ---- of what is around
 
 /// The name of a language that an element near to the code says, the innermost first.
-#[tactic(auto, using(crate::proofs::LanguagesLemmas::near_one, crate::proofs::LanguagesLemmas::near_two, crate::proofs::LanguagesLemmas::near_three))]
+#[tactic(auto, using(crate::proofs::LanguagesLemmas::near_steps))]
 fn near_language<'t>(near: Near<'t>) -> Option<&'t str>
     ensures { option_copied result ≡ spec.first_name (flat_map spec.near_languages (views.near_in near.entry)) }
 {

@@ -22,8 +22,9 @@ const RICH_MARKDOWN: &str =
 
 const RICH_JSON: &str =
     "{\"children\":[{\"type\":\"html\",\"value\":\"<details open=\\\"\\\">\\n<summary>a</summary>\"},\
-     {\"children\":[{\"type\":\"html\",\"value\":\"<abbr title=\\\"b &quot;c&quot;\\\">\"},{\"type\":\"text\",\"value\":\"d\"},\
-     {\"type\":\"html\",\"value\":\"</abbr>\"},{\"type\":\"text\",\"value\":\" \"},{\"type\":\"html\",\"value\":\"<kbd>\"},\
+     {\"children\":[{\"type\":\"html\",\"value\":\"<abbr title=\\\"b &quot;c&quot;\\\">\"},\
+     {\"type\":\"text\",\"value\":\"d\"},{\"type\":\"html\",\"value\":\"</abbr>\"},\
+     {\"type\":\"text\",\"value\":\" \"},{\"type\":\"html\",\"value\":\"<kbd>\"},\
      {\"type\":\"text\",\"value\":\"e\"},{\"type\":\"html\",\"value\":\"</kbd>\"}],\"type\":\"paragraph\"},\
      {\"type\":\"html\",\"value\":\"</details>\"}],\"type\":\"root\"}";
 
