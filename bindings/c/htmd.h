@@ -119,7 +119,7 @@ typedef struct htmd_options {
     uint8_t visible;           /* 1: what the page hides by its attributes is left out; 0: it is not */
     uint8_t images;
     uint8_t links_as_text;     /* 1: links are written as their text; 0: with their addresses */
-    uint8_t title;             /* 1: the page's title comes first, as a heading, if there is no h1; 0: it doesn't */
+    uint8_t title;             /* 1: the page's title comes first, as a heading, if no h1 shows anything; 0: no */
     uint32_t chunk_bytes;      /* not 0: pieces of at most so many bytes of Markdown are written; 0: all in one */
     uint8_t reserved[4];       /* 0 */
 } htmd_options;

@@ -118,7 +118,7 @@ def convert(
     skip: names of elements that give nothing, with commas between them
     images: "keep", or "linked": images whose data stands in the page are their text, or "alt": all are, or "drop"
     links_as_text: whether links are written as their text, without addresses
-    title: whether the page's title comes first, as a heading, if nothing that is converted is an `h1`
+    title: whether the page's title comes first, as a heading, if no `h1` that is converted shows anything
     base: the URL of the page: addresses are made absolute
     front_matter: whether what the head of the page says about it is written first
     encoding: the label of the encoding of bytes without a byte order mark, if it is known; without it, "html5" takes

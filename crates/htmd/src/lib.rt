@@ -22,6 +22,12 @@ pub mod page_values;
 mod paragraph;
 mod skipped_tags;
 
+/// Markdown that is read as a list of parts, and the HTML of such a list.
+pub mod parts {
+    pub use htmd_commonmark_reader::read_markdown;
+    pub use htmd_parts::{Part, Tag, TagEnd, to_html};
+}
+
 /// The writers of pieces that read back: what they promise of a piece holds for what a handler writes.
 pub mod laws {
     pub use htmd_markdown::{write_fence, write_row, write_span, write_table};
@@ -35,6 +41,7 @@ pub use documents::document_options;
 pub use htmd_addresses::{Page, Pages, RunPage};
 pub use htmd_article::{Article, Chosen};
 pub use htmd_commonmark::{DocumentOptions, to_markdown};
+pub use htmd_commonmark_reader::markdown_to_html;
 pub use htmd_document::{
     Alignment, AttributeName, Block, BlockAttribute, BlockElement, CellContent, Document, Format,
     Inline, InlineElement, ItemContent, RowContent,

@@ -3,6 +3,7 @@ use crate::explanations::write_mark;
 use crate::options::{OPTIONS, OptionRow, Setting, Valued};
 use crate::reports::Lines;
 use crate::requests::{OptionFault, Request};
+use htmd::PageSettings;
 use htmd_selectors::SelectorError;
 use htmd_streams::Sink;
 use std::fmt;
@@ -71,11 +72,12 @@ fn write_values<W: Write>(out: &mut W, name: &str) -> fmt::Result {
 
 /// Writes that an option isn't known, or not with its value, and in a second line what is wrong with it.
 fn write_unknown<W: Write>(out: &mut W, given: &str) -> fmt::Result {
-    out.write_str("htmd: unknown word\n")?;
     let name = name_part(given);
     let Some(row) = row_named(name) else {
+        out.write_str("htmd: unknown option\n")?;
         return writeln!(out, "'{given}' is not an option: see --help");
     };
+    out.write_str("htmd: unknown value\n")?;
     match row.setting {
         Setting::Valued(_) if given == name => {
             writeln!(out, "'{given}': write {}{}", row.name, row.value)
@@ -143,11 +145,16 @@ pub fn say_fault<E: Sink>(errors: &mut E, fault: &OptionFault<'_>) {
     };
 }
 
+/// Whether an encoding is given, and the input is read as UTF-8 all the same.
+fn has_useless_encoding(settings: &PageSettings<'_>) -> bool {
+    settings.encoding.is_some() && (settings.text || !settings.html5)
+}
+
 fn has_upper_case(name: &str) -> bool {
     name.as_bytes().iter().any(|byte| byte.is_ascii_uppercase())
 }
 
-/// Says which names of `--skip` have an upper-case letter, a line for each.
+/// Says, a line for each, which names of `--skip` have an upper-case letter, and that `--encoding` counts for nothing.
 pub fn say_warnings<E: Sink>(errors: &mut E, request: &Request<'_>) {
     let mut lines = Lines { sink: errors };
     for name in &request.settings.skipped {
@@ -157,5 +164,8 @@ pub fn say_warnings<E: Sink>(errors: &mut E, request: &Request<'_>) {
                 "htmd: --skip: '{name}' has an upper-case letter, and elements of HTML are named in lower case"
             );
         }
+    }
+    if has_useless_encoding(&request.settings) {
+        let _ = lines.write_str("htmd: --encoding has no effect without --html5 or --web\n");
     }
 }

@@ -10,7 +10,7 @@ use crate::faults::RunError;
 use crate::help::show;
 use crate::option_faults::{say_fault, say_warnings};
 use crate::pipeline::run_over;
-use crate::reports::{Lines, explain_article, explain_stream};
+use crate::reports::{Lines, explain_article, report_input};
 use crate::requests::{OptionFault, Request, read_options};
 use crate::rows::run_rows;
 use htmd_streams::{Failed, Sink, Source};
@@ -120,11 +120,8 @@ fn run_request<R: Source, W: Sink, E: Sink>(
             0
         }
         (Err(error), input) => {
-            let status = failed(errors, &error);
-            if explains {
-                explain_stream(&mut Lines { sink: errors }, &error, input.as_slice());
-            }
-            status
+            report_input(errors, &error, input.as_slice(), explains);
+            1
         }
     }
 }

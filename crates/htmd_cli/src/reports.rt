@@ -45,7 +45,7 @@ pub(crate) fn report<E: Sink>(
 }
 
 /// Says where and why a page is refused, if it is.
-pub(crate) fn explain_stream<E: Sink>(lines: &mut Lines<'_, E>, error: &StreamError, input: &[u8]) {
+fn explain_stream<E: Sink>(lines: &mut Lines<'_, E>, error: &StreamError, input: &[u8]) {
     if let StreamError::Page(error) = error {
         let _ = explain(lines, error, input);
     }
@@ -90,6 +90,33 @@ fn hint(error: &StreamError) -> &'static str {
     }
 }
 
+/// Says why a page isn't converted, and if requested, where and why; `input` is what was read of it. Without the
+/// request, a hint follows if the strict reader refused the page.
+fn write_fault<E: Sink>(
+    lines: &mut Lines<'_, E>,
+    error: &StreamError,
+    input: &[u8],
+    explains: bool,
+) {
+    let hint = if explains { "" } else { hint(error) };
+    let _ = writeln!(lines, "{error}{hint}");
+    if explains {
+        explain_stream(lines, error, input);
+    }
+}
+
+/// Says why the only input isn't converted, as for one page of several.
+pub(crate) fn report_input<E: Sink>(
+    errors: &mut E,
+    error: &StreamError,
+    input: &[u8],
+    explains: bool,
+) {
+    let mut lines = Lines { sink: errors };
+    let _ = lines.write_str("htmd: ");
+    write_fault(&mut lines, error, input, explains);
+}
+
 /// Says which page of several isn't converted, and if requested, where and why; `input` is what was read of it.
 /// Without the request, a hint follows if the strict reader refused the page.
 pub fn report_page<E: Sink, P: Display>(
@@ -100,9 +127,6 @@ pub fn report_page<E: Sink, P: Display>(
     explains: bool,
 ) {
     let mut lines = Lines { sink: errors };
-    let hint = if explains { "" } else { hint(error) };
-    let _ = writeln!(lines, "htmd: {path}: {error}{hint}");
-    if explains {
-        explain_stream(&mut lines, error, input);
-    }
+    let _ = write!(lines, "htmd: {path}: ");
+    write_fault(&mut lines, error, input, explains);
 }

@@ -1,8 +1,10 @@
 -- Lemmas on the budget of links.
-use Rattle.std.proofs.Common.{◌≡◌, ℕ, ◌+◌, ◌-◌, ◌≤◌, ◌<◌, Bool, true, false, not, cond, nat_le, length, filter, encode_utf8_all, List, [], ◌∷◌, Option, Some, None, is_some}
+use Rattle.std.proofs.Common.{◌≡◌, ℕ, ◌+◌, ◌-◌, ◌≤◌, ◌<◌, Bool, true, false, not, cond}
+use Rattle.std.proofs.Common.{nat_le, nat_lt, length, filter, encode_utf8_all, List, [], ◌∷◌, Option, Some, None, is_some}
 use Rattle.std.proofs.Common.{refl, sym, ◌∙◌, ap, arith}
 use Rattle.std.proofs.lemmas.Bool.Decides.{nat_tests}
 use Rattle.std.proofs.lemmas.Str.{chars-encodes, scalars-chars}
+use Rattle.std.specs.List.{list_any}
 use Rattle.std.specs.Str.{chars, IsUtf8}
 use Rattle.htmd_lexical.proofs.Cases.{test}
 use Rattle.htmd_shown.proofs.BlanksLemmas.{scalars-filter}
@@ -160,6 +162,19 @@ address-len s t e u =
     sym (ap length (chars-encodes (filter is_in_address (chars t))
     (scalars-filter is_in_address (chars t) (scalars-chars t u))))
     ∙ ap (λ x. characters (encode_utf8_all (filter is_in_address (chars x)))) e
+
+any-more : (b : Bool) (x : ℕ) (ys : List ℕ) (r : Bool) → r ≡ nat_lt 0 (length ys)
+    → (b || r) ≡ nat_lt 0 (length (cond b (x ∷ ys) ys))
+any-more true x ys r e = grind (arith, nat_tests)
+any-more false x ys r e = e
+
+any-counted : (p : ℕ → Bool) (xs : List ℕ) → list_any p xs ≡ nat_lt 0 (length (filter p xs))
+any-counted p [] = refl
+any-counted p (x ∷ xs) = any-more (p x) x (filter p xs) (list_any p xs) (any-counted p xs)
+
+pub has-address : (s t : List ℕ) → t ≡ trimmed_text is_space_or_control s → IsUtf8 t
+    → list_any is_in_address (chars t) ≡ nat_lt 0 (characters (address s))
+has-address s t e u = any-counted is_in_address (chars t) ∙ ap (nat_lt 0) (address-len s t e u)
 
 -- ---- a node, and what is in it
 

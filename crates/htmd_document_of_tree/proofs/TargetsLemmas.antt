@@ -3,6 +3,7 @@ use Rattle.std.proofs.Common.{◌≡◌, ℕ, suc, ◌+◌, ◌<◌, ◌≤◌, 
 use Rattle.std.proofs.Common.{length, map, filter, take, drop, get_or, Option, refl, ap, sym, ◌∙◌, add-one, append_assoc}
 use Rattle.std.proofs.Common.{arith}
 use Rattle.std.proofs.lemmas.List.{append-nil}
+use Rattle.std.proofs.lemmas.List.Folds.{list_any_at}
 use Rattle.std.specs.Str.{bytes_eq, chars}
 use lib.Utf8.{encode}
 use Rattle.htmd_lexical.proofs.Cases.{test}
@@ -11,7 +12,7 @@ use Rattle.std.specs.Borrow.{Bor}
 use Rattle.std.specs.HashSet.{HashSet, UpdatesBy}
 use Rattle.std.specs.List.{list_any}
 use Rattle.htmd_document_of_tree.specs.declared.targets.Target as held
-use Rattle.htmd_document_of_tree.specs.TargetViews.{chosen, firsts_of, holds, target_of, turned}
+use Rattle.htmd_document_of_tree.specs.TargetViews.{chosen, firsts_of, holds, is_name, target_of, turned}
 use Rattle.htmd_document_of_tree.specs.Targets.{firsts_after, ids_among, is_first, target_by}
 use Rattle.htmd_document_of_tree.proofs.WalksLemmas.{gone}
 use Rattle.std.specs.Option.{unwrap_or}
@@ -56,6 +57,16 @@ targets-turn counts whole n zs i x before one two all h is own inside e =
     ap (λ x. x ++ rest) (inside ∙ ap (λ x. x ++ targets_inside counts whole n v) own)
     ∙ targets-more before (own_targets counts (unwrap_or whole n) v) (targets_inside counts whole n v) rest all
     (ap (λ x. before ++ x) (sym (targets-drop counts whole n zs i x h is)) ∙ e)
+
+-- ---- names
+
+-- what is known where a name is among targets counts for each name
+pub if_named : (zs : List held.Target) (i : ℕ) (x : held.Target) (a b : Bool) → i < length zs
+    → x ≡ get_or zs i x → (list_any is_name zs ≡ true → a ≡ b) → (x.is_name && a) ≡ (x.is_name && b)
+if_named zs i x a b h is same = test x.is_name
+    (λ named. ap (λ n. n && a) named
+    ∙ (same (list_any_at is_name zs i x h (ap is_name (sym is) ∙ named)) ∙ sym (ap (λ n. n && b) named)))
+    (λ other. ap (λ n. n && a) other ∙ sym (ap (λ n. n && b) other))
 
 -- ---- the first of each value
 

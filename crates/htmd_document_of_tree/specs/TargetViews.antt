@@ -17,6 +17,9 @@ use Rattle.htmd_document_of_tree.specs.Targets as value
 abbrev pub target_of : Target → value.Target
 target_of t = record { value = string_bytes t.value; is_name = t.is_name; seen = t.seen }
 
+abbrev pub is_name : Target → Bool
+is_name t = t.is_name
+
 abbrev pub placing_of : Placing → anchors.Placing
 placing_of p = record { seen = p.seen; targets = map target_of p.targets.items }
 

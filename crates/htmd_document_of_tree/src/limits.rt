@@ -1,5 +1,6 @@
 //! Bounds of what is written for links and abbreviations: a parser may copy an `a` into every block that follows it.
 ghost use Rattle.std.specs.Prelude.{◌≡◌, ◌≤◌, ◌+◌, ◌*◌, if◌then◌else◌, true, IfOk, IfSome, OnOk, Some, string_bytes};
+ghost use Rattle.std.specs.Prelude.{nat_lt};
 ghost use Rattle.htmd_lexical.specs.Attributes.{pairs_of};
 ghost use Rattle.htmd_shown.specs.Attributes.{address};
 ghost use Rattle.htmd_shown.specs.Kinds as kinds;
@@ -56,6 +57,15 @@ fn address_len(text: &str) -> usize
         .count()
 }
 
+/// Whether an address has a character. It takes no longer for a long one.
+fn has_address(text: &str) -> bool
+    ensures { result ≡ nat_lt 0 (spec.characters (address text.now)) }
+{
+    without_controls_around(text)
+        .chars()
+        .any(|c| is_in_address(c))
+}
+
 /// How many characters the title of an element has.
 fn title_len(alloc: Global, attrs: &[Attribute]) -> Result<usize, AllocError>
     ensures { IfOk result (λ n. n ≡ spec.characters (spec.title_text (pairs_of attrs.now))) }
@@ -72,6 +82,16 @@ fn size(alloc: Global, role: Role, attrs: &[Attribute]) -> Result<usize, AllocEr
 {
     let title = title_len(alloc, attrs)?;
     sum(address_len(address_in(role, attrs)), title)
+}
+
+/// Whether something is written with each piece of a link or an abbreviation.
+fn has_size(alloc: Global, role: Role, attrs: &[Attribute]) -> Result<bool, AllocError>
+    ensures { IfOk result (λ b. b ≡ nat_lt 0 (spec.size role (pairs_of attrs.now))) }
+{
+    if has_address(address_in(role, attrs)) {
+        return Ok(true);
+    }
+    Ok(title_len(alloc, attrs)? > 0)
 }
 
 /// The address of a link, as the page has it; an abbreviation has none.
@@ -167,7 +187,7 @@ fn is_too_dear(alloc: Global, left: Option<usize>, tree: &Simple) -> Result<bool
 {
     match tree {
         Simple::Element { role, attrs, .. } => {
-            Ok(left.is_none() && is_carrying(*role) && size(alloc, *role, attrs)? > 0)
+            Ok(left.is_none() && is_carrying(*role) && has_size(alloc, *role, attrs)?)
         },
         Simple::Text(_) => Ok(false),
         Simple::Image { .. } => Ok(false),

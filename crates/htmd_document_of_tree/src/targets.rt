@@ -1,6 +1,7 @@
 //! What links can lead to: ids of elements, and names of `a`.
 ghost use Rattle.std.specs.Prelude.{◌≡◌, ℕ, ◌+◌, ◌++◌, ◌&&◌, ◌||◌, not, if◌then◌else◌, List, [], IfOk, OnOk, filter};
 ghost use Rattle.std.specs.Prelude.{length, map, true, codes, string_bytes};
+ghost use Rattle.std.specs.List.{list_any};
 ghost use Rattle.std.specs.Str.{bytes_eq};
 ghost use Rattle.htmd_lexical.specs.Attributes.{pairs_of};
 ghost use Rattle.htmd_shown.specs.Attributes.{text_of as text_at};
@@ -8,8 +9,8 @@ ghost use Rattle.htmd_shown.specs.Kinds.{content_of};
 ghost use Rattle.htmd_shown.specs.Roles.{is_among};
 ghost use Rattle.htmd_shown.specs.SimpleViews.{simple_of, simples_of};
 ghost use Rattle.htmd_document_of_tree.specs.Seen.{all_seen};
-ghost use Rattle.htmd_document_of_tree.specs.TargetViews.{chosen, counts_of, firsts_of, holds, seen_in, stays};
-ghost use Rattle.htmd_document_of_tree.specs.TargetViews.{target_of, targets_in, turned};
+ghost use Rattle.htmd_document_of_tree.specs.TargetViews.{chosen, counts_of, firsts_of, holds, is_name, seen_in};
+ghost use Rattle.htmd_document_of_tree.specs.TargetViews.{stays, target_of, targets_in, turned};
 ghost use Rattle.htmd_document_of_tree.specs.Targets as spec;
 
 use crate::leadings::Leadings;
@@ -275,7 +276,7 @@ fn firsts(alloc: Global, found: &[Target]) -> Result<Vec<bool>, AllocError>
     ensures { IfOk result (λ firsts. firsts.items
         ≡ firsts_of (spec.ids_among (map target_of found.now)) [] (map target_of found.now)) }
 {
-    let ids = ids_of(alloc, found)?;
+    let ids = ids_beside_names(alloc, found)?;
     let mut known = HashSet::new(alloc);
     let mut firsts = Vec::with_capacity(alloc, found.len())?;
     for target in found {
@@ -308,6 +309,29 @@ fn is_name_of(ids: &HashSet<&str>, target: &Target) -> bool
     ensures { result ≡ (target.now.is_name && holds ids.now (string_bytes target.now.value)) }
 {
     target.is_name && ids.contains(target.value.as_str())
+}
+
+/// The ids among targets, if a name is among them, since names alone are looked for there.
+fn ids_beside_names<'t>(alloc: Global, found: &'t [Target]) -> Result<HashSet<&'t str>, AllocError>
+    ensures { IfOk result (λ ids. list_any is_name found.now ≡ true → (s : List ℕ)
+        → holds ids s ≡ is_among (spec.ids_among (map target_of found.now)) s) }
+{
+    if !has_name(found) {
+        return Ok(HashSet::new(alloc));
+    }
+    ids_of(alloc, found)
+}
+
+/// Whether a name is among targets.
+fn has_name(found: &[Target]) -> bool
+    ensures { result ≡ list_any is_name found.now }
+{
+    for target in found {
+        if target.is_name {
+            return true;
+        }
+    }
+    false
 }
 
 /// The ids among targets.

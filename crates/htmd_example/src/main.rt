@@ -6,6 +6,7 @@ mod clauses;
 mod closures;
 mod documents;
 mod either;
+mod markdown;
 mod pages;
 mod parts;
 mod settings;
@@ -17,6 +18,7 @@ use closures::shouted;
 use documents::{what_shows, with_note};
 use either::site_heading;
 use htmd::{ConvertError, HtmlToMarkdown, Tree, TreeError, convert, parse_selectors};
+use markdown::{answered, without_raw_html};
 use pages::three_pages;
 use parts::selected_parts;
 use settings::{faithful, underlined};
@@ -74,6 +76,8 @@ fn main(rt: HostRuntime) -> io::Result<()> {
     for answer in [
         what_shows(alloc, "<ul><li>one</ul><ul><li>x<sup>2</sup></ul>"),
         with_note(alloc, "<hr><h2>Two</h2>", "1. From *htmd*"),
+        answered(alloc, "- **42**"),
+        without_raw_html(alloc, "*one* <b>two\n\n<hr>"),
     ] {
         match answer {
             Ok(markdown) => println!(rt; "{markdown}")?,

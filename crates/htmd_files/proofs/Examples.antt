@@ -107,9 +107,14 @@ words-twice : words.job (codes "-o" ∷ codes "a" ∷ codes "--output=b" ∷ [])
     ≡ Err (words.twice (codes "a") (codes "b"))
 words-twice = refl
 
-words-links : words.job (codes "--links=md" ∷ codes "a.html" ∷ [])
-    ≡ Ok (record words.no_job { operands = codes "a.html" ∷ []; links_to_markdown = true })
+words-links : words.job (codes "--links=md" ∷ codes "-oout" ∷ codes "a.html" ∷ [])
+    ≡ Ok (record (asked (codes "a.html" ∷ []) (Some (codes "out")) []) { links_to_markdown = true })
 words-links = refl
+
+-- what counts only for outputs needs `-o`, with another name than `-`
+words-useless : words.job (codes "--copy" ∷ codes "-o-" ∷ codes "a.html" ∷ [])
+    ≡ Err (words.needs_output (codes "--copy"))
+words-useless = refl
 
 words-newer : words.job (codes "-oout" ∷ codes "--newer" ∷ codes "site" ∷ [])
     ≡ Ok (record (asked (codes "site" ∷ []) (Some (codes "out")) []) { keeps_newer = true })

@@ -3,7 +3,7 @@ use Rattle.std.proofs.Common.{◌≡◌, ℕ, ◌+◌, ◌<◌, List, [], ◌∷
 use Rattle.std.proofs.Common.{String, Global, string_bytes}
 use Rattle.std.proofs.lemmas.List.{drop_more}
 use Rattle.htmd_files.specs.declared.faults.WordFault.{WordFault}
-use Rattle.htmd_files.specs.declared.faults.WordFault.TheVariants.{Memory, NoValue, Twice, Links}
+use Rattle.htmd_files.specs.declared.faults.WordFault.TheVariants.{Memory, NoValue, Twice, Links, NeedsOutput}
 use Rattle.htmd_files.specs.Words.{Fault, Reading, take_all, take_next, finished}
 use Rattle.htmd_files.specs.WordViews.{texts_of, IsWordFault}
 
@@ -33,3 +33,4 @@ fault_of_all words r whole Memory so_far h = h
 fault_of_all words r whole (NoValue word) so_far h = ends_at words r _ whole h so_far
 fault_of_all words r whole (Twice first second) so_far h = ends_at words r _ whole h so_far
 fault_of_all words r whole (Links word) so_far h = ends_at words r _ whole h so_far
+fault_of_all words r whole (NeedsOutput option) so_far h = ends_at words r _ whole h so_far

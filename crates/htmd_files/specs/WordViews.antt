@@ -8,7 +8,7 @@ use Rattle.htmd_files.specs.declared.faults.WordFault.TheVariants as fault
 use Rattle.htmd_files.specs.declared.words.Job as held_job
 use Rattle.htmd_files.specs.declared.words.Expected as held_expected
 use Rattle.htmd_files.specs.declared.words.Expected.TheVariants as expected
-use Rattle.htmd_files.specs.Words.{Job, Fault, no_value, twice, links, Expected, any, value, operand}
+use Rattle.htmd_files.specs.Words.{Job, Fault, no_value, twice, links, needs_output, Expected, any, value, operand}
 
 abbrev pub text_of : Bor (List ℕ) → List ℕ
 text_of text = text.now
@@ -39,3 +39,4 @@ IsWordFault r fault.Memory = Unit {0}
 IsWordFault r (fault.NoValue word) = r ≡ Err (no_value word.now)
 IsWordFault r (fault.Twice first second) = r ≡ Err (twice first.now second.now)
 IsWordFault r (fault.Links word) = r ≡ Err (links word.now)
+IsWordFault r (fault.NeedsOutput option) = r ≡ Err (needs_output option.now)

@@ -1,7 +1,7 @@
 -- The words of the command line: which concern files, which are files, and which are other options.
 use Rattle.std.specs.Prelude.{ℕ, Bool, true, false, ◌||◌, nat_eq, if◌then◌else◌, List, [], ◌∷◌, ◌++◌, length, drop}
 use Rattle.std.specs.Prelude.{codes}
-use Rattle.std.specs.Prelude.{Option, Some, None, Result, Ok, Err}
+use Rattle.std.specs.Prelude.{Option, Some, None, is_some, Result, Ok, Err}
 use Rattle.std.specs.List.{starts_with}
 use Rattle.std.specs.Str.{bytes_eq}
 
@@ -17,11 +17,13 @@ pub record Job : Type 0 where
   pub copies : Bool
   pub options : List (List ℕ)
 
--- why nothing is: the option has no value, there are two outputs, or links are to lead to something else than Markdown
+-- why nothing is: the option has no value, there are two outputs, links are to lead to something else than Markdown, or
+-- the option counts only for outputs, and none is named
 pub data Fault : Type 0 where
   no_value : List ℕ → Fault
   twice : List ℕ → List ℕ → Fault
   links : List ℕ → Fault
+  needs_output : List ℕ → Fault
 
 -- what the next word is: an option or a file, the value of this option, or a file
 pub data Expected : Type 0 where
@@ -148,11 +150,27 @@ completed job = record job {
   output = named_output job.output;
 }
 
+-- an option of outputs, where none is named
+abbrev pub useless_option : Job → Option (List ℕ)
+useless_option job =
+    if is_some job.output then None
+    else if job.links_to_markdown then Some (codes "--links=md")
+    else if job.keeps_newer then Some (codes "--newer")
+    else if job.copies then Some (codes "--copy") else None
+
+abbrev pub job_unless : Option (List ℕ) → Job → Result Job Fault
+job_unless None job = Ok job
+job_unless (Some option) job = Err (needs_output option)
+
+-- no option counts for nothing
+abbrev pub useful : Job → Result Job Fault
+useful job = job_unless (useless_option job) job
+
 -- after the last word
 abbrev pub finished_as : Expected → Job → Result Job Fault
-finished_as any job = Ok (completed job)
+finished_as any job = useful (completed job)
 finished_as (value option) job = Err (no_value option)
-finished_as operand job = Ok (completed job)
+finished_as operand job = useful (completed job)
 
 abbrev pub finished : Result Reading Fault → Result Job Fault
 finished (Ok r) = finished_as r.expected r.job

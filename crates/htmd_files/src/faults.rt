@@ -20,6 +20,9 @@ pub enum WordFault<'a> {
     /// Where addresses of pages lead is told by another value, or none.
     #[error("'{word}': the values of --links are md and text")]
     Links { word: &'a str },
+    /// The option counts only for outputs, and none is named.
+    #[error("{option} needs -o")]
+    NeedsOutput { option: &'a str },
 }
 
 /// Why operands and a listing of them are no plan.

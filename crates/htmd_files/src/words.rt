@@ -1,5 +1,6 @@
 //! The words of the command line: what concerns files, and the other options.
 ghost use Rattle.std.specs.Prelude.{◌≡◌, IfOk, IfErr, OnOk, Some, Ok, string_bytes};
+ghost use Rattle.std.specs.Option.{option_copied};
 ghost use Rattle.htmd_files.specs.Words as spec;
 ghost use Rattle.htmd_files.specs.WordViews.{job_in, expected_in, texts_of, IsWordFault};
 
@@ -211,6 +212,23 @@ impl<'a> Job<'a> {
         }
     }
 
+    /// An option of outputs, where none is named.
+    fn useless_option(&self) -> Option<&'static str>
+        ensures { option_copied result ≡ spec.useless_option (job_in self.now) }
+    {
+        if self.output.is_some() {
+            None
+        } else if self.links_to_markdown {
+            Some("--links=md")
+        } else if self.keeps_newer {
+            Some("--newer")
+        } else if self.copies {
+            Some("--copy")
+        } else {
+            None
+        }
+    }
+
     /// After the last word: `-` after `-o` is standard output, and if an output is named and nothing to read, standard
     /// input is read.
     fn complete(&mut self) -> Result<(), WordFault<'a>>
@@ -247,5 +265,8 @@ pub fn job_of<'a>(alloc: Global, words: &'a [String]) -> Result<Job<'a>, WordFau
         return Err(WordFault::NoValue { word: option });
     }
     job.complete()?;
-    Ok(job)
+    match job.useless_option() {
+        Some(option) => Err(WordFault::NeedsOutput { option }),
+        None => Ok(job),
+    }
 }

@@ -2,7 +2,7 @@
 use Rattle.std.proofs.Common.{◌≡◌, ℕ, zero, suc, ◌+◌, ◌-◌, ◌≤◌, ◌<◌, true, false, List, [], ◌∷◌, ◌++◌, map, length}
 use Rattle.std.proofs.Common.{take, drop, get_or, String, Global, string_bytes, Option}
 use Rattle.std.proofs.Common.{refl, sym, ◌∙◌, ap, arith, append_assoc, add-one, not, cond}
-use Rattle.std.specs.Prelude.{slice_get, Some}
+use Rattle.std.specs.Prelude.{slice_index_or, slice_set, Result, Ok, Err, IfOk, is_ok}
 use Rattle.std.specs.List.{prefix_len}
 use Rattle.std.proofs.lemmas.List.{length-map, length-drop, length-take, drop-map, take-map}
 use Rattle.std.proofs.Math.ListN.{get_or-map}
@@ -21,7 +21,7 @@ use Rattle.htmd_flow.specs.Nesting.{one_inline, joined, behind, of_format, befor
 use Rattle.htmd_flow.specs.NestViews.{Frame, frame_of, frame_after, followed, within, wrappers_of, is_format_frame}
 use Rattle.htmd_flow.specs.Parts.{Around, formatted, linked}
 use Rattle.htmd_flow.specs.PartViews.{around_of}
-use Rattle.htmd_flow.proofs.NestingLemmas.{within-push, within-open, behind-within, followed-assoc}
+use Rattle.htmd_flow.proofs.NestingLemmas.{within-push, within-open, behind-within}
 use Rattle.htmd_document.proofs.ValuesLemmas.{map-append, take-step}
 
 pub inlines-append : (xs ys : List Inline) → value.inlines_of (xs ++ ys) ≡ followed (value.inlines_of xs)
@@ -106,49 +106,32 @@ shared-end-other (m ∷ ms) (n ∷ ns) (suc i) h = shared-end-other (m ∷ ms) n
 
 -- ---- texts that meet
 
-pub joined-last : (xs : Inlines) (x y : Inline) → joined (followed xs (one_inline x)) y ≡ followed xs (met x y)
-joined-last no_inlines x y = refl
-joined-last (inline z no_inlines) x y = refl
-joined-last (inline z (inline z' xs)) x y = ap (inline z) (joined-last (inline z' xs) x y)
+-- the last one is made longer
+pub joined-set : (old : List declared_inline.Inline) (k : ℕ) (x x' : declared_inline.Inline) (y : Inline)
+    → k + 1 ≡ length old → x ≡ slice_index_or old k x → met (inline_of x) y ≡ one_inline (inline_of x')
+    → inlines_of (slice_set old k x') ≡ joined (inlines_of old) y
+joined-set [] k x x' y e h m = absurd (omega (arith, e))
+joined-set (a ∷ []) zero x x' y e h m = sym m ∙ ap (λ z. met (inline_of z) y) h
+joined-set (a ∷ []) (suc k) x x' y e h m = absurd (omega (arith, e))
+joined-set (a ∷ b ∷ xs) zero x x' y e h m = absurd (omega (arith, e))
+joined-set (a ∷ b ∷ xs) (suc k) x x' y e h m =
+    ap (inline (inline_of a)) (joined-set (b ∷ xs) k x x' y (omega (arith, e)) h m)
 
--- the last is made longer
-pub joined-longer : (new old xs : List declared_inline.Inline) (x x' : declared_inline.Inline) (y : Inline)
-    → new ≡ xs ++ x' ∷ [] → old ≡ xs ++ x ∷ [] → met (inline_of x) y ≡ one_inline (inline_of x')
-    → inlines_of new ≡ joined (inlines_of old) y
-joined-longer new old xs x x' y p q e = ap inlines_of p ∙ (inlines-push xs x'
-    ∙ (ap (followed (inlines_of xs)) (sym e)
-    ∙ (sym (joined-last (inlines_of xs) (inline_of x) y)
-    ∙ ap (λ zs. joined zs y) (sym (inlines-push xs x) ∙ sym (ap inlines_of q)))))
-
--- one more after the last
-pub joined-beside : (old now xs : List declared_inline.Inline) (x : declared_inline.Inline) (y : Inline)
-    → old ≡ xs ++ x ∷ [] → now ≡ xs ++ x ∷ []
+-- one more after the last one, which stays
+pub beside-set : (old : List declared_inline.Inline) (k : ℕ) (x : declared_inline.Inline) (y : Inline)
+    → k + 1 ≡ length old → x ≡ slice_index_or old k x
     → met (inline_of x) y ≡ inline (inline_of x) (one_inline y)
-    → followed (inlines_of now) (one_inline y) ≡ joined (inlines_of old) y
-joined-beside old now xs x y q r e =
-    ap (λ zs. followed (inlines_of zs) (one_inline y)) r
-    ∙ (ap (λ zs. followed zs (one_inline y)) (inlines-push xs x)
-    ∙ (followed-assoc (inlines_of xs) (one_inline (inline_of x)) (one_inline y)
-    ∙ (ap (followed (inlines_of xs)) (sym e)
-    ∙ (sym (joined-last (inlines_of xs) (inline_of x) y)
-    ∙ ap (λ zs. joined zs y) (sym (inlines-push xs x) ∙ sym (ap inlines_of q))))))
+    → followed (inlines_of (slice_set old k x)) (one_inline y) ≡ joined (inlines_of old) y
+beside-set [] k x y e h m = absurd (omega (arith, e))
+beside-set (a ∷ []) zero x y e h m = sym m ∙ ap (λ z. met (inline_of z) y) h
+beside-set (a ∷ []) (suc k) x y e h m = absurd (omega (arith, e))
+beside-set (a ∷ b ∷ xs) zero x y e h m = absurd (omega (arith, e))
+beside-set (a ∷ b ∷ xs) (suc k) x y e h m =
+    ap (inline (inline_of a)) (beside-set (b ∷ xs) k x y (omega (arith, e)) h m)
 
--- the last one, by its place
-last-split : (xs : List declared_inline.Inline) (k : ℕ) (x : declared_inline.Inline) → k + 1 ≡ length xs
-    → Some x ≡ slice_get xs k → xs ≡ take k xs ++ x ∷ []
-last-split [] k x e h = absurd (omega (arith, e))
-last-split (a ∷ []) zero x e h = cc
-last-split (a ∷ b ∷ xs) zero x e h = absurd (omega (arith, e))
-last-split (a ∷ xs) (suc k) x e h = ap (λ l. a ∷ l) (last-split xs k x (omega (arith, e)) h)
-
--- an inline that isn't one with the last one comes after it
-pub beside-last : (xs : List declared_inline.Inline) (x : declared_inline.Inline) (y : Inline)
-    → Some x ≡ slice_get xs (length xs - 1) → met (inline_of x) y ≡ inline (inline_of x) (one_inline y)
-    → followed (inlines_of xs) (one_inline y) ≡ joined (inlines_of xs) y
-beside-last [] x y h m = cc
-beside-last (a ∷ xs) x y h m =
-    let split = last-split (a ∷ xs) (length (a ∷ xs) - 1) x (omega arith) h in
-    joined-beside (a ∷ xs) (a ∷ xs) (take (length (a ∷ xs) - 1) (a ∷ xs)) x y split split m
+pub where_ok : {T E : Type 0} (r : Result T E) (P : Type 0) → (is_ok r ≡ true → P) → IfOk r (λ _. P)
+where_ok (Ok x) P f = f refl
+where_ok (Err e) P f = tt
 
 pub inline-text : (s : String Global) → inline_of (Text s) ≡ value.text (string_bytes s)
 unfolding declared_inline.out-Inline denote.Hole.Carrier.out

@@ -1,6 +1,5 @@
 //! Leaves with what is around them, as inlines in each other.
-ghost use Rattle.std.specs.Prelude.{◌≡◌, ◌≤◌, ◌-◌, ◌++◌, ◌∷◌, ℕ, [], List, true, false, IfOk, length, take};
-ghost use Rattle.std.specs.Prelude.{drop, map};
+ghost use Rattle.std.specs.Prelude.{◌≡◌, ◌≤◌, ◌-◌, ◌++◌, ◌∷◌, [], true, IfOk, length, take, drop, map};
 ghost use Rattle.std.specs.List.{prefix_len};
 ghost use Rattle.htmd_document.specs.DocumentViews.{inline_of, inlines_of};
 ghost use Rattle.htmd_document.specs.Documents as value;
@@ -113,7 +112,10 @@ impl Nest {
         ensures wrappers { IfOk result (λ _. view.wrappers_in self.new ≡ []) }
     {
         self.close(0)?;
-        Ok(mem::replace(&mut self.content, Vec::new(self.alloc)))
+        // Most have one inline in them, and a list that grows by itself has room for four.
+        let mut content = Vec::with_capacity(self.alloc, self.content.len())?;
+        content.append(&mut self.content)?;
+        Ok(content)
     }
 
     /// Closes what isn't shared, and opens the rest.
@@ -215,22 +217,12 @@ fn join_text(alloc: Global, content: &mut Vec<Inline>, text: &str) -> Result<(),
     ensures { IfOk result (λ _. inlines_of content.new.items
         ≡ spec.joined (inlines_of content.old.items) (value.text text.now)) }
 {
-    if !ends_in_text(content) {
-        return push_text(alloc, content, text);
-    }
-    let Some(last) = content.pop() else {
+    let Some(last) = content.len().checked_sub(1) else {
         return push_text(alloc, content, text);
     };
-    match last {
-        Inline::Text(mut last) => {
-            last.push_str(text)?;
-            content.push(Inline::Text(last))?;
-            Ok(())
-        }
-        _ => {
-            content.push(last)?;
-            push_text(alloc, content, text)
-        }
+    match &mut content[last] {
+        Inline::Text(last) => last.push_str(text),
+        _ => push_text(alloc, content, text),
     }
 }
 
@@ -238,22 +230,12 @@ fn join_code(alloc: Global, content: &mut Vec<Inline>, text: &str) -> Result<(),
     ensures { IfOk result (λ _. inlines_of content.new.items
         ≡ spec.joined (inlines_of content.old.items) (value.code text.now)) }
 {
-    if !ends_in_code(content) {
-        return push_code(alloc, content, text);
-    }
-    let Some(last) = content.pop() else {
+    let Some(last) = content.len().checked_sub(1) else {
         return push_code(alloc, content, text);
     };
-    match last {
-        Inline::Code(mut last) => {
-            last.push_str(text)?;
-            content.push(Inline::Code(last))?;
-            Ok(())
-        }
-        _ => {
-            content.push(last)?;
-            push_code(alloc, content, text)
-        }
+    match &mut content[last] {
+        Inline::Code(last) => last.push_str(text),
+        _ => push_code(alloc, content, text),
     }
 }
 
@@ -276,50 +258,4 @@ fn push_code(alloc: Global, content: &mut Vec<Inline>, text: &str) -> Result<(),
 {
     content.push(Inline::Code(String::from_str(alloc, text)?))?;
     Ok(())
-}
-
-/// Whether the last of these inlines is a text, which is one with what follows of that kind.
-fn ends_in_text(content: &[Inline]) -> bool
-    ensures { result ≡ false → (s : List ℕ)
-        → view.followed (inlines_of content.now) (spec.one_inline (value.text s))
-        ≡ spec.joined (inlines_of content.now) (value.text s) }
-{
-    match content.last() {
-        Some(last) => is_text(last),
-        None => false,
-    }
-}
-
-/// Whether an inline is a text.
-fn is_text(inline: &Inline) -> bool
-    ensures { result ≡ false → (s : List ℕ) → spec.met (inline_of inline.now) (value.text s)
-        ≡ value.inline (inline_of inline.now) (spec.one_inline (value.text s)) }
-{
-    match inline {
-        Inline::Text(_) => true,
-        _ => false,
-    }
-}
-
-/// Whether the last of these inlines is code, which is one with what follows of that kind.
-fn ends_in_code(content: &[Inline]) -> bool
-    ensures { result ≡ false → (s : List ℕ)
-        → view.followed (inlines_of content.now) (spec.one_inline (value.code s))
-        ≡ spec.joined (inlines_of content.now) (value.code s) }
-{
-    match content.last() {
-        Some(last) => is_code(last),
-        None => false,
-    }
-}
-
-/// Whether an inline is code.
-fn is_code(inline: &Inline) -> bool
-    ensures { result ≡ false → (s : List ℕ) → spec.met (inline_of inline.now) (value.code s)
-        ≡ value.inline (inline_of inline.now) (spec.one_inline (value.code s)) }
-{
-    match inline {
-        Inline::Code(_) => true,
-        _ => false,
-    }
 }

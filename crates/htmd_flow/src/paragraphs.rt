@@ -254,6 +254,7 @@ impl Paragraphs {
         ensures { IfOk result (λ bs. blocks_of bs.items ≡ spec.blocks_in (writing_in self)) }
     {
         self.end()?;
+        self.done.shrink_to_fit();
         Ok(self.done)
     }
 
@@ -388,6 +389,18 @@ impl Paragraphs {
         if self.anchors.is_empty() {
             return Ok(());
         }
+        self.push_all_anchors(around)
+    }
+
+    /// The same where some are due.
+    fn push_all_anchors(&mut self, around: &[Around]) -> Result<(), AllocError>
+        requires { length around.now ≤ length (writing_in self.old).around }
+        ensures put { IfOk result (λ _. IsPut (writing_in self.old) (writing_in self.new) (length around.now)
+            (spec.anchored (length around.now) (writing_in self.old).content (map around_of around.now)
+            (writing_in self.old).anchors)) }
+        ensures anchors { IfOk result (λ _. (writing_in self.new).anchors ≡ []) }
+        ensures rest { IfOk result (λ _. IsLike (writing_in self.old) (writing_in self.new)) }
+    {
         let anchors = mem::replace(&mut self.anchors, Vec::new(self.alloc));
         for id in anchors {
             self.nest

@@ -31,6 +31,12 @@ impl fmt::Display for StoreFault {
             StoreFault::Failed(ErrorKind::InvalidFilename) => {
                 f.write_str("a name that can't be used")
             }
+            StoreFault::Failed(ErrorKind::AlreadyExists) => {
+                f.write_str("a file is where a folder should come")
+            }
+            StoreFault::Failed(ErrorKind::NotADirectory) => {
+                f.write_str("not a folder (the name of a link to one needs / behind it)")
+            }
             StoreFault::Failed(kind) => write!(f, "{kind}"),
             StoreFault::Taken => f.write_str("too many unfinished outputs are beside it"),
             StoreFault::Link => f.write_str("it is a link"),

@@ -2,14 +2,17 @@
 use Rattle.std.proofs.Common.{◌≡◌, ℕ, suc, ◌+◌, ◌<◌, ◌≤◌, true, false, List, [], ◌∷◌, ◌++◌, length}
 use Rattle.std.proofs.Common.{Some, ◌-◌, get_or, set, take, refl, sym, ap, ◌∙◌, arith, string_bytes}
 use Rattle.std.proofs.lemmas.Bool.{eq-eqb, true≢false}
+use Rattle.std.proofs.Math.Seq.{set-append_seam}
 use Rattle.std.proofs.lemmas.List.{map-set, get_or-map, set_past, length-map, append_assoc, append-nil}
+use Rattle.std.proofs.lemmas.List.{get_or_append_left, get_or_push, length-set, set-append_left}
 use Rattle.std.proofs.lemmas.List.{take_all, take_more, drop_all}
 use Rattle.std.specs.List.{list_any}
 use Rattle.std.specs.Prelude.{◌==◌, slice_set, insert, remove, String}
 use Rattle.std.specs.Global.{Global}
 use Rattle.htmd_lexical.proofs.Cases.{test}
 use Rattle.htmd_html5_state.specs.Nodes.{NodeValue, KindValue, text, node_at, kind_at, new_node, document, is_number}
-use Rattle.htmd_html5_state.specs.Nodes.{index_of}
+use Rattle.htmd_html5_state.specs.Nodes.{add, index_of, place_index, put_child, with_parent}
+use Rattle.htmd_html5_state.specs.declared.document.Place.{Place}
 use Rattle.htmd_html5_state.specs.Nodes.{joined, joined_with, text_of}
 use Rattle.htmd_html5_state.specs.Views.{node_of, nodes_of, kind_of}
 use Rattle.htmd_html5_state.specs.declared.document.Node.{Node}
@@ -106,3 +109,32 @@ text-joined ns nodes n old before after s is l read kind bytes =
     held =
         ap (λ (x : List NodeValue). kind_at x n) (sym is)
         ∙ (ap (λ (x : NodeValue). x.kind) (node_at-read ns n old l read) ∙ ap kind_of kind)
+
+-- ---- a new node
+
+pub put_child_length : (n : ℕ) (place : Place) (nodes : List NodeValue)
+    → length (put_child n place nodes) ≡ length nodes
+put_child_length n place nodes = length-set nodes place.parent _
+
+-- it is added with its parent, which then has it as a child
+pub added_under : (nodes : List NodeValue) (kind : KindValue) (place : Place) → place.parent < length nodes
+    → put_child (length nodes) place nodes ++ record (new_node kind) { parent = Some place.parent } ∷ []
+    ≡ add kind place nodes
+added_under nodes kind place l =
+    let n = length nodes in
+    let p = place.parent in
+    let x = new_node kind in
+    let ys = put_child n place nodes in
+    let with_child : NodeValue → NodeValue =
+    λ y. record y { children = insert y.children (place_index place.next y.children) n } in
+    let under : NodeValue → NodeValue = λ y. record y { parent = Some p } in
+    let read : node_at (nodes ++ x ∷ []) p ≡ node_at nodes p =
+    get_or_append_left nodes (x ∷ []) (new_node document) p l in
+    let child : put_child n place (nodes ++ x ∷ []) ≡ ys ++ x ∷ [] =
+    ap (λ (y : NodeValue). set (nodes ++ x ∷ []) p (with_child y)) read
+    ∙ set-append_left nodes (x ∷ []) p (with_child (node_at nodes p)) l in
+    let size : length ys ≡ n = put_child_length n place nodes in
+    let last : node_at (ys ++ x ∷ []) n ≡ x = get_or_push ys x (new_node document) n size in
+    sym (ap (with_parent n (Some p)) child
+    ∙ (ap (λ (y : NodeValue). set (ys ++ x ∷ []) n (under y)) last
+    ∙ (ap (λ k. set (ys ++ x ∷ []) k (under x)) (sym size) ∙ set-append_seam ys x [] (under x))))

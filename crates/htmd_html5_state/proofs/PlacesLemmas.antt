@@ -22,9 +22,11 @@ use Rattle.htmd_html5_state.specs.Places.{innermost, bounds_in, is_from, bound_o
 use Rattle.htmd_html5_state.specs.Places.{innermost_named}
 use Rattle.htmd_html5_state.specs.Places.{place_of_name, IsAround, IsLinked, HasRoom, AllHaveRoom, IsPlaced}
 use Rattle.htmd_html5_state.specs.Sets.{bounds, bounds_known, bounds_list_item, bounds_scope, is_table_context}
-use Rattle.htmd_html5_state.specs.Sets.{is_template}
+use Rattle.htmd_html5_state.specs.Sets.{bounds_button, is_special, is_template, stops_items}
 use Rattle.htmd_html5_state.specs.declared.names.TagName.{TagName}
-use Rattle.htmd_html5_state.specs.declared.names.TagName.TheVariants.{Html, Ol, Table, Template, Ul}
+use Rattle.htmd_html5_state.specs.declared.names.TagName.TheVariants.{Address, Applet, Button, Caption, Div, Html}
+use Rattle.htmd_html5_state.specs.declared.names.TagName.TheVariants.{Marquee, Object, Ol, P, Table, Td, Template, Th}
+use Rattle.htmd_html5_state.specs.declared.names.TagName.TheVariants.{Ul}
 use Rattle.htmd_html5_state.specs.declared.open_elements.OpenElement.{OpenElement}
 use Rattle.htmd_html5_state.specs.declared.places.Around.{Around}
 use Rattle.htmd_html5_state.specs.declared.places.Bounds.{Bounds}
@@ -240,6 +242,47 @@ few_bounds b t place s p i l u es ep ei Select = es
 few_bounds b t place s p i l u es ep ei TemplateScope = rw (no_template t (no_scope t l)) refl
 few_bounds b t place s p i l u es ep ei Special = ep
 few_bounds b t place s p i l u es ep ei Items = ei
+
+-- a name that isn't special bounds at most what is in a `select`
+plain_scope : (t : TagName) → is_special t ≡ false → bounds_scope t ≡ false
+plain_scope Applet l = absurd (true≢false l)
+plain_scope Caption l = absurd (true≢false l)
+plain_scope Html l = absurd (true≢false l)
+plain_scope Marquee l = absurd (true≢false l)
+plain_scope Object l = absurd (true≢false l)
+plain_scope Table l = absurd (true≢false l)
+plain_scope Td l = absurd (true≢false l)
+plain_scope Template l = absurd (true≢false l)
+plain_scope Th l = absurd (true≢false l)
+plain_scope _ l = refl
+
+plain_list_item : (t : TagName) → is_special t ≡ false → bounds_list_item t ≡ false
+plain_list_item Ol l = absurd (true≢false l)
+plain_list_item Ul l = absurd (true≢false l)
+plain_list_item t l = plain_scope t l
+
+plain_button : (t : TagName) → is_special t ≡ false → bounds_button t ≡ false
+plain_button Button l = absurd (true≢false l)
+plain_button t l = plain_scope t l
+
+plain_items : (t : TagName) → is_special t ≡ false → stops_items t ≡ false
+plain_items Address l = refl
+plain_items Div l = refl
+plain_items P l = refl
+plain_items t l = l
+
+pub plain_bounds : (b : Bounds) (t : TagName) (place select : ℕ) → bounds_known Special t ≡ false
+    → select ≡ cond (bounds_known Select t) place b.select → (scope : Scope)
+    → bound_of (record b { select = select }) scope
+    ≡ cond (bounds scope (html (known t))) place (bound_of b scope)
+plain_bounds b t place s l es Default = rw (plain_scope t l) refl
+plain_bounds b t place s l es ListItem = rw (plain_list_item t l) refl
+plain_bounds b t place s l es ButtonScope = rw (plain_button t l) refl
+plain_bounds b t place s l es TableScope = rw (no_table t (plain_scope t l)) refl
+plain_bounds b t place s l es Select = es
+plain_bounds b t place s l es TemplateScope = rw (no_template t (plain_scope t l)) refl
+plain_bounds b t place s l es Special = rw l refl
+plain_bounds b t place s l es Items = rw (plain_items t l) refl
 
 -- the bounds among this many elements
 pub no-bounds : (b : Bounds) → ((scope : Scope) → bound_of b scope ≡ 0) → (depth : ℕ) → depth ≡ 0

@@ -358,6 +358,23 @@ impl Document {
         self.put(node, place)
     }
 
+    /// A new node with this parent, which doesn't have it as a child. Gives its number.
+    #[inline(always)]
+    fn push_under(&mut self, kind: NodeKind, parent: u32) -> Result<usize, AllocError>
+        ensures number { IfOk result (λ n. n ≡ length self.old) }
+        ensures ok { OnOk result (self.new
+            ≡ self.old ++ record (spec.new_node (kind_of kind)) { parent = Some parent } ∷ []) }
+    {
+        let number = self.nodes.len();
+        self.nodes.reserve(1)?;
+        self.nodes.push_reserved(Node {
+            kind,
+            parent: Some(parent),
+            children: Children::None,
+        });
+        Ok(number)
+    }
+
     /// A new node that is at no place yet. Gives its number.
     #[inline(always)]
     pub(crate) fn push(&mut self, kind: NodeKind) -> Result<usize, AllocError>
@@ -365,11 +382,12 @@ impl Document {
         ensures ok { OnOk result (self.new ≡ self.old ++ spec.new_node (kind_of kind) ∷ []) }
     {
         let number = self.nodes.len();
-        self.nodes.push(Node {
+        self.nodes.reserve(1)?;
+        self.nodes.push_reserved(Node {
             kind,
             parent: None,
             children: Children::None,
-        })?;
+        });
         Ok(number)
     }
 
@@ -387,14 +405,21 @@ impl Document {
     }
 
     /// A new node at a place. Gives its number.
+    #[tactic(auto, using(crate::proofs::DocumentLemmas::put_child_length))]
     #[inline(always)]
     pub(crate) fn add(&mut self, kind: NodeKind, place: Place) -> Result<usize, AllocError>
         ensures number { IfOk result (λ n. n ≡ length self.old) }
         ensures ok { OnOk result (self.new ≡ spec.add (kind_of kind) place self.old) }
     {
-        let number = self.push(kind)?;
-        self.put(number, place)?;
-        Ok(number)
+        let number = self.nodes.len();
+        if place.parent >= number {
+            let number = self.push(kind)?;
+            self.put(number, place)?;
+            return Ok(number);
+        }
+        let parent = kept(place.parent)?;
+        self.put_child(number, place)?;
+        self.push_under(kind, parent)
     }
 
     /// Makes a node the parent of all children of another one.

@@ -3,7 +3,7 @@ ghost use Rattle.std.specs.Prelude.{◌≡◌, IfOk, OnOk, length, string_bytes}
 ghost use Rattle.htmd_html5_state.specs.Nodes.{parent_at};
 ghost use Rattle.htmd_html5_state.specs.Foreign as foreign;
 ghost use Rattle.htmd_html5_state.specs.Insertion as spec;
-ghost use Rattle.htmd_html5_state.specs.Names.{name_of, element_name_of};
+ghost use Rattle.htmd_html5_state.specs.Names.{name_of, element_name_of, html, known};
 ghost use Rattle.htmd_html5_state.specs.OpenViews.{stack_of};
 ghost use Rattle.htmd_lexical.specs.Attributes.{pairs_of};
 
@@ -101,6 +101,27 @@ impl HtmlState {
         Ok(())
     }
 
+    /// Inserts an element with a name of HTML that a rule mentions, which is then open. Gives its node.
+    fn insert_known(
+        &mut self,
+        place: Place,
+        tag: TagName,
+        attributes: Vec<Attribute>,
+    ) -> Result<usize, AllocError>
+        ensures number { IfOk result (λ n. n ≡ length self.old.nodes) }
+        ensures ok { OnOk result (self.new
+            ≡ spec.insert_at place (html (known tag)) (pairs_of attributes.items) self.old) }
+    {
+        let kind = NodeKind::Known {
+            name: tag,
+            attributes,
+        };
+        let node = self.document.add(kind, place)?;
+        self.stack
+            .push(node, ElementName::Html(HtmlName::Known(tag)))?;
+        Ok(node)
+    }
+
     /// Inserts an element at a place, which is then open. Gives its node.
     #[inline(always)]
     fn insert_at(
@@ -113,6 +134,9 @@ impl HtmlState {
         ensures ok { OnOk result (self.new
             ≡ spec.insert_at place (element_name_of name) (pairs_of attributes.items) self.old) }
     {
+        if let ElementName::Html(HtmlName::Known(tag)) = name {
+            return self.insert_known(place, tag, attributes);
+        }
         let open_name = name.copy()?;
         let kind = NodeKind::element(self.alloc, name, attributes)?;
         let node = self.document.add(kind, place)?;

@@ -633,6 +633,7 @@ impl HtmlName {
         }
     }
 
+    #[inline(always)]
     pub(crate) fn copy(&self) -> Result<HtmlName, AllocError>
         ensures { IfOk result (λ copy. name_of copy ≡ name_of self.now) }
     {
@@ -682,6 +683,7 @@ impl ElementName {
         }
     }
 
+    #[inline(always)]
     pub(crate) fn copy(&self) -> Result<ElementName, AllocError>
         ensures { IfOk result (λ copy. element_name_of copy ≡ element_name_of self.now) }
     {

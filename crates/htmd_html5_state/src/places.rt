@@ -125,12 +125,19 @@ impl Bounds {
         }
     }
 
-    /// The bounds with one more element, whose name a rule mentions. Most names bound at most three scopes.
-    #[tactic(auto, using(crate::proofs::PlacesLemmas::few_bounds))]
+    /// The bounds with one more element, whose name a rule mentions. Most names bound at most three scopes, and those
+    /// that aren't special at most one.
+    #[tactic(auto, using(crate::proofs::PlacesLemmas::few_bounds, crate::proofs::PlacesLemmas::plain_bounds))]
     fn with_tag(self, tag: TagName, place: usize) -> Bounds
         ensures { (scope : Scope) → places.bound_of result scope
             ≡ cond (bounds scope (html (known tag))) place (places.bound_of self scope) }
     {
+        if !Scope::Special.bounds_known(tag) {
+            return Bounds {
+                select: self.of_tag(Scope::Select, tag, place),
+                ..self
+            };
+        }
         if Scope::ListItem.bounds_known(tag) || Scope::Button.bounds_known(tag) {
             return self.with_any_tag(tag, place);
         }
@@ -301,7 +308,8 @@ fn make_room_for_node(nodes: &mut Vec<usize>, node: usize) -> Result<(), AllocEr
     ensures room { OnOk result (node < vec_len nodes.new) }
 {
     while nodes.len() <= node {
-        nodes.push(0)?;
+        nodes.reserve(1)?;
+        nodes.push_reserved(0);
     }
     Ok(())
 }

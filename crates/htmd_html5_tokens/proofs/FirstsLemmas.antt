@@ -1,6 +1,6 @@
 -- Attributes that are the first of their name.
-use Rattle.std.proofs.Common.{◌≡◌, ℕ, ◌+◌, ◌<◌, Bool, true, false, not, List, [], ◌∷◌, ◌++◌, length, drop, get_or, map}
-use Rattle.std.proofs.Common.{refl, sym, ◌∙◌, ap, append_assoc, string_bytes, arith, Some, None}
+use Rattle.std.proofs.Common.{◌≡◌, ℕ, ◌+◌, ◌<◌, Bool, true, false, not, List, [], ◌∷◌, ◌++◌, length, drop, get_or}
+use Rattle.std.proofs.Common.{refl, sym, ◌∙◌, ap, append_assoc, string_bytes, arith}
 use Rattle.std.proofs.lemmas.Bool.{and_parts}
 use Rattle.std.proofs.lemmas.Bool.Decides.{nat_tests}
 use Rattle.std.proofs.lemmas.List.{drop_more}
@@ -17,10 +17,8 @@ use Rattle.htmd_lexical.specs.Attributes.{attribute_names}
 use Rattle.htmd_lexical.specs.declared.attribute.Attribute.{Attribute}
 use Rattle.htmd_lexical.specs.Attributes.{pairs_of}
 use Rattle.htmd_lexical.proofs.NamesLemmas.{HasNames, name_added}
-use Rattle.htmd_html5_tokens.specs.Tags.{attribute_of, firsts}
-use Rattle.htmd_html5_tokens.specs.Firsts.{are_first, split_mark, if_marked, those_marked}
-use Rattle.htmd_html5_tokens.specs.TagViews.{spelled_of, all_spelled_of}
-use Rattle.htmd_scanning.specs.declared.tag_parts.SpelledAttribute.{SpelledAttribute}
+use Rattle.htmd_html5_tokens.specs.Tags.{firsts}
+use Rattle.htmd_html5_tokens.specs.Firsts.{are_first, those_marked}
 use denote.Ref.{Bor}
 
 pub marked_firsts : (before : List (List ℕ)) (xs : List AttributePair)
@@ -98,29 +96,3 @@ marks_more xs i x d marks is_new seen set new key l e k n u h w =
       name_added set new key seen u h,
       append_assoc marks (is_new ∷ []) _ ∙ ap (λ y. marks ++ y) (sym step) ∙ w,
     )
-
--- ---- those that are marked
-
--- without marks there are none
-pub no_marks : (xs : List AttributePair) (marks : List Bool) → None ≡ split_mark marks
-    → those_marked xs marks ≡ []
-no_marks [] marks l = refl
-no_marks (a ∷ xs) [] l = refl
-no_marks (a ∷ xs) (mark ∷ marks) l = absurd (cc)
-
-pub marked_more : (xs : List SpelledAttribute) (i : ℕ) (x d : SpelledAttribute) (marks rest : List Bool) (mark : Bool)
-    (before after whole : List AttributePair)
-    → i < length xs → x ≡ get_or xs i d → Some (mark, rest) ≡ split_mark marks
-    → after ≡ before ++ if_marked mark (attribute_of (spelled_of x))
-    → before ++ those_marked (map attribute_of (all_spelled_of (drop i xs))) marks ≡ whole
-    → after ++ those_marked (map attribute_of (all_spelled_of (drop (i + 1) xs))) rest ≡ whole
-marked_more xs i x d [] rest mark before after whole l e f k w = absurd (cc)
-marked_more xs i x d (m ∷ marks) rest mark before after whole l e f k w =
-    let step : those_marked (map attribute_of (all_spelled_of (drop i xs))) (m ∷ marks)
-    ≡ if_marked m (attribute_of (spelled_of (get_or xs i d)))
-    ++ those_marked (map attribute_of (all_spelled_of (drop (i + 1) xs))) marks =
-    rw (drop_more xs i d l) refl in
-    let p : ◌≡◌ {A = Bool × List Bool} (mark, rest) (m, marks) = cc in
-    let q : mark ≡ m = ap (λ (x : Bool × List Bool). x.0) p in
-    let r : rest ≡ marks = ap (λ (x : Bool × List Bool). x.1) p in
-    rw (k, r, e, q, append_assoc, sym step) w

@@ -2,6 +2,7 @@
 use Rattle.std.proofs.Common.{◌≡◌, ℕ, zero, suc, ◌+◌, ◌-◌, ◌<◌, ◌≤◌, Bool, true, false, List, [], ◌∷◌, ◌++◌, length}
 use Rattle.std.proofs.Common.{take}
 use Rattle.std.proofs.Common.{drop, get_or, refl, sym, ◌∙◌, ap, subst, arith, append_assoc}
+use Rattle.std.proofs.lemmas.Bool.{eqb-true}
 use Rattle.std.proofs.lemmas.List.{drop_more}
 use Rattle.std.proofs.lemmas.Slice.{between_to_end}
 use Rattle.std.proofs.lemmas.Str.{IsCharBoundary-from_rest}
@@ -9,14 +10,18 @@ use Rattle.std.specs.Prelude.{◌==◌}
 use Rattle.std.specs.Str.{IsCharBoundary}
 use Rattle.htmd_lexical.proofs.Cases.{test}
 use Rattle.htmd_lexical.specs.AttributePairs.{AttributePair}
+use Rattle.htmd_lexical.specs.Characters.{greater_than_sign}
 use Rattle.htmd_lexical.specs.CharacterClasses.{first_is, leading_run, behind_run}
 use Rattle.htmd_lexical.specs.TagReading.{TagPart, malformed, tag_end, attribute}
 use Rattle.htmd_lexical.proofs.CharacterClassesLemmas.{take_leading_run, drop_leading_run}
 use Rattle.htmd_lexical.proofs.RunsLemmas.{behind_within}
 use Rattle.htmd_html5_tokens.specs.Tags.{is_attribute_name_byte, is_unquoted_byte, is_gap_byte, ends_in_slash}
 use Rattle.htmd_html5_tokens.specs.Tags.{value_part, after_attribute_name, after_gap, next_part}
-use Rattle.htmd_html5_tokens.specs.Tags.{TagForm, unended, ended, with_attribute, form_after, form_within}
-use Rattle.htmd_html5_tokens.specs.TagViews.{with_attributes, attribute_part}
+use Rattle.htmd_html5_tokens.specs.Contents.{name_of}
+use Rattle.htmd_html5_tokens.specs.Tags.{TagForm, unended, ended, with_attribute, form_after, form_within, tag_form}
+use Rattle.htmd_html5_tokens.specs.Tags.{attribute_of, firsts, tag_token}
+use Rattle.htmd_html5_tokens.specs.Tokens.{TagValue, TokenValue, end_of_file, Read}
+use Rattle.htmd_html5_tokens.specs.TagViews.{with_attributes, attribute_part, denoted}
 use Rattle.htmd_scanning.proofs.RunCuts.{cut_before_ascii}
 use Rattle.htmd_scanning.proofs.PartSizesLemmas as parts
 use Rattle.htmd_scanning.proofs.PartSizesLemmas.{size_of, rest_shorter}
@@ -126,26 +131,67 @@ form_same (suc j) (suc k) s a b =
     by_part (attribute name value t) e go =
         ap (with_attribute (pair name value)) (go t (part_shorter s name value t e))
 
-with_one_more : (spelled : List AttributePair) (a : AttributePair) (f : TagForm)
-    → with_attributes (spelled ++ (a ∷ [])) f ≡ with_attributes spelled (with_attribute a f)
-with_one_more spelled a unended = refl
-with_one_more spelled a (ended more slash s) =
-    ap (λ (x : List AttributePair). ended x slash s) (append_assoc spelled (a ∷ []) more)
+with_one_more : (pairs : List AttributePair) (a : AttributePair) (f : TagForm)
+    → with_attributes (pairs ++ (a ∷ [])) f ≡ with_attributes pairs (with_attribute a f)
+with_one_more pairs a unended = refl
+with_one_more pairs a (ended more slash s) =
+    ap (λ (x : List AttributePair). ended x slash s) (append_assoc pairs (a ∷ []) more)
 
--- one more attribute
-pub form_more : (s name value rest : List ℕ) (spelled : List AttributePair) (whole : TagForm)
+denoted_with : (a : AttributePair) (f : TagForm)
+    → denoted (with_attribute a f) ≡ with_attribute (attribute_of a) (denoted f)
+denoted_with a unended = refl
+denoted_with a (ended more slash s) = refl
+
+-- what one more attribute denotes
+pub denoted_more : (s name value rest : List ℕ) (pairs : List AttributePair) (whole : TagForm)
     → attribute name value rest ≡ next_part s
-    → with_attributes spelled (form_within (suc (length s)) s) ≡ whole
-    → with_attributes (spelled ++ (pair name value ∷ [])) (form_within (suc (length rest)) rest) ≡ whole
-form_more s name value rest spelled whole e h =
+    → with_attributes pairs (denoted (form_within (suc (length s)) s)) ≡ whole
+    → with_attributes (pairs ++ (attribute_of (pair name value) ∷ []))
+    (denoted (form_within (suc (length rest)) rest))
+    ≡ whole
+denoted_more s name value rest pairs whole e h =
     let l = part_shorter s name value rest e in
     let g : form_within (suc (length s)) s ≡ with_attribute (pair name value) (form_within (length s) rest) =
     sym (ap (λ (p : TagPart). form_after p (form_within (length s))) e) in
     let f : form_within (suc (length rest)) rest ≡ form_within (length s) rest =
     form_same (suc (length rest)) (length s) rest (omega arith) l in
-    with_one_more spelled (pair name value) _
-    ∙ (ap (λ (x : TagForm). with_attributes spelled (with_attribute (pair name value) x)) f
-    ∙ (ap (with_attributes spelled) (sym g) ∙ h))
+    with_one_more pairs (attribute_of (pair name value)) _
+    ∙ (ap (λ (x : TagForm). with_attributes pairs (with_attribute (attribute_of (pair name value)) (denoted x))) f
+    ∙ (ap (with_attributes pairs) (sym (denoted_with (pair name value) (form_within (length s) rest)))
+    ∙ (ap (λ (x : TagForm). with_attributes pairs (denoted x)) (sym g) ∙ h)))
+
+-- the token of a tag, by what its attributes denote
+pub token_denoted : (kind : TagValue → TokenValue) (name rest : List ℕ) (f : TagForm) (pairs : List AttributePair)
+    (slash : Bool) → denoted f ≡ ended pairs slash rest
+    → tag_token kind name f
+    ≡ record {
+      token = kind (record { name = name_of name; attributes = firsts [] pairs; self_closing = slash });
+      rest = rest;
+    }
+token_denoted kind name rest unended pairs slash e = absurd (cc)
+token_denoted kind name rest (ended spelled closing s) pairs slash e =
+    ap (λ (x : TagForm). tag_with kind name x) e
+  where
+    tag_with : (TagValue → TokenValue) → List ℕ → TagForm → Read
+    tag_with kind name unended = record { token = end_of_file; rest = [] }
+    tag_with kind name (ended pairs slash s) = record {
+      token = kind (record { name = name_of name; attributes = firsts [] pairs; self_closing = slash });
+      rest = s;
+    }
+
+pub unended_denoted : (kind : TagValue → TokenValue) (name : List ℕ) (f : TagForm) → denoted f ≡ unended
+    → tag_token kind name f ≡ record { token = end_of_file; rest = [] }
+unended_denoted kind name unended e = refl
+unended_denoted kind name (ended spelled closing s) e = absurd (cc)
+
+-- a tag with nothing but a name
+pub plain_form : (s rest : List ℕ) → first_is greater_than_sign s ≡ true → rest ≡ drop 1 s
+    → ended [] false rest ≡ tag_form s
+plain_form [] rest e f = absurd (cc)
+plain_form (b ∷ s) rest e f = by_byte b (eqb-true b 62 e)
+  where
+    by_byte : (b : ℕ) → b ≡ 62 → ended [] false rest ≡ tag_form (b ∷ s)
+    by_byte b at = rw (at, f) refl
 
 -- what follows a tag
 abbrev pub size_of_rest : TagForm → ℕ

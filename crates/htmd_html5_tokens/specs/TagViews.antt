@@ -3,14 +3,17 @@ use Rattle.std.specs.Prelude.{ℕ, List, [], ◌∷◌, ◌++◌, map}
 use Rattle.htmd_lexical.specs.AttributePairs.{AttributePair}
 use Rattle.htmd_lexical.specs.CharacterClasses.{leading_run, behind_run}
 use Rattle.htmd_lexical.specs.TagReading.{TagPart, malformed}
-use Rattle.htmd_html5_tokens.specs.Tags.{after_attribute_name, is_attribute_name_byte, TagForm, unended, ended}
+use Rattle.htmd_html5_tokens.specs.Tags.{after_attribute_name, attribute_of, is_attribute_name_byte}
+use Rattle.htmd_html5_tokens.specs.Tags.{TagForm, unended, ended}
 use Rattle.htmd_scanning.specs.declared.tag_parts.SpelledAttribute.{SpelledAttribute}
 
 abbrev pub spelled_of : SpelledAttribute → AttributePair
 spelled_of a = record { name = a.name.now; value = a.value.now }
 
-abbrev pub all_spelled_of : List SpelledAttribute → List AttributePair
-all_spelled_of spelled = map spelled_of spelled
+-- a form, with what each attribute denotes
+abbrev pub denoted : TagForm → TagForm
+denoted unended = unended
+denoted (ended spelled slash s) = ended (map attribute_of spelled) slash s
 
 -- attributes, and then a form
 abbrev pub with_attributes : List AttributePair → TagForm → TagForm

@@ -1,13 +1,12 @@
 //! What is in a tag after its name: attributes, its `/` and its `>`.
-ghost use Rattle.std.specs.Prelude.{◌≡◌, ◌<◌, false, length, IfOk, MatchOption};
+ghost use Rattle.std.specs.Prelude.{◌≡◌, ◌<◌, false, length};
 ghost use Rattle.htmd_lexical.specs.CharacterClasses.{is_empty};
 ghost use Rattle.htmd_html5_tokens.specs.Tags as spec;
-ghost use Rattle.htmd_html5_tokens.specs.TagViews.{all_spelled_of, attribute_part};
+ghost use Rattle.htmd_html5_tokens.specs.TagViews.{attribute_part};
 ghost use Rattle.htmd_scanning.specs.TagParts.{part_of};
 
 use crate::classes::{Class, split_run};
-use htmd_scanning::{Part, SpelledAttribute, TagForm, quoted_value, run_len, strip_byte};
-use std::alloc::{AllocError, Global};
+use htmd_scanning::{Part, SpelledAttribute, quoted_value, run_len, strip_byte};
 
 /// An attribute from its value on, after `=` and white space.
 fn value_part<'a>(name: &'a str, text: &'a str) -> Part<'a>
@@ -77,31 +76,5 @@ pub(crate) fn next_part(text: &str) -> Part<'_>
             rest,
         },
         None => attribute(after),
-    }
-}
-
-/// The form of a tag from just after its name. None if the text ends in the tag; `Err` means out of memory.
-#[inline(always)]
-pub(crate) fn tag_form<'a>(alloc: Global, text: &'a str) -> Result<Option<TagForm<'a>>, AllocError>
-    ensures { IfOk result (λ o. MatchOption o (spec.tag_form text.now ≡ spec.unended)
-        (λ f. spec.tag_form text.now ≡ spec.ended (all_spelled_of f.attributes.items) f.slash f.rest.now)) }
-{
-    let mut attributes = Vec::new(alloc);
-    let mut after = text;
-    loop {
-        match next_part(after) {
-            Part::Malformed => return Ok(None),
-            Part::End { slash, rest } => {
-                return Ok(Some(TagForm {
-                    attributes,
-                    slash,
-                    rest,
-                }));
-            }
-            Part::Attribute { spelled, rest } => {
-                attributes.push(spelled)?;
-                after = rest;
-            }
-        }
     }
 }

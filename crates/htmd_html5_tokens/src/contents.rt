@@ -101,6 +101,17 @@ fn text_len(bytes: &[u8]) -> usize
     len + literal_len(&bytes[len..], Reading::Text)
 }
 
+/// How many bytes at the beginning are literal: in a text many are passed at once.
+fn front_len(bytes: &[u8], reading: Reading) -> usize
+    ensures bound { result ≤ length bytes.now }
+    ensures value { result ≡ length (leading_run (is_literal reading) bytes.now) }
+{
+    match reading {
+        Reading::Text => text_len(bytes),
+        _ => literal_len(bytes, reading),
+    }
+}
+
 /// The literal characters with which a text begins, and what follows them.
 pub(crate) fn split_literals(text: &str) -> (&str, &str)
     ensures front { result.0.now ≡ leading_run (is_literal Text) text.now }
@@ -208,7 +219,7 @@ fn push_next<'a>(held: &mut String, text: &'a str, reading: Reading) -> Result<&
     ensures text { IfOk result (λ rest. IsUtf8 rest.now) }
     ensures shorter { IfOk result (λ rest. length rest.now < length text.now) }
 {
-    let len = literal_len(text.as_bytes(), reading);
+    let len = front_len(text.as_bytes(), reading);
     if len == 0 {
         push_special(held, text, reading)
     } else {

@@ -19,6 +19,7 @@ mod tokenizer;
 mod tokens;
 
 pub use htmd_lexical::{ContentModel, RawElement};
+pub use names::named;
 pub use preprocessing::preprocess;
 pub use tokenizer::Tokenizer;
 pub use tokens::{Tag, Token};

@@ -126,7 +126,7 @@ fn named_in(rows: &[&'static str], name: &[u8]) -> Option<&'static str>
 }
 
 /// What the reference with this name stands for, if a `;` follows it.
-pub(crate) fn named(name: &[u8]) -> Option<&'static str>
+pub fn named(name: &[u8]) -> Option<&'static str>
     ensures { option_map (λ t. t.now) result ≡ spec.named name.now }
 {
     match name {

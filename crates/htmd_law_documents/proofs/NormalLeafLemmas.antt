@@ -24,7 +24,6 @@ use Rattle.htmd_law_documents.proofs.NormalTextLemmas.{and-true, and-false, or-f
 use Rattle.htmd_law_documents.proofs.NormalTextLemmas.{ends-same, ends-more, first-append}
 use Rattle.htmd_law_documents.proofs.NormalTextLemmas.{from-text, text-append, trimmed-text, from-trimmed}
 use Rattle.htmd_law_documents.proofs.NormalLineLemmas.{is_clash, may-meet, Ends, ends-other, ends-as}
-use Rattle.htmd_flow.proofs.NestLemmas.{joined-last}
 use Rattle.htmd_law_documents.proofs.NormalLineLemmas.{ends-more as ends-beside, text-like, in_link}
 use Rattle.htmd_law_documents.proofs.NormalLineLemmas.{formats_in, FitAll, Apart, is_leaf, IsLast, Held}
 use Rattle.htmd_law_documents.proofs.NormalLineLemmas.{IsStop, held-stop, IsShut, wrapped-begins, wrapped-no_break}
@@ -33,6 +32,11 @@ use Rattle.htmd_law_documents.proofs.NormalStandLemmas.{IsSolid, StandsOne, Stan
 use Rattle.htmd_law_documents.proofs.NormalStandLemmas.{wrapped-plain, wrapped-solid, wrapped-one}
 
 -- ---- leaves
+
+joined-last : (xs : Inlines) (x y : Inline) → joined (followed xs (one_inline x)) y ≡ followed xs (met x y)
+joined-last no_inlines x y = refl
+joined-last (inline z no_inlines) x y = refl
+joined-last (inline z (inline z' xs)) x y = ap (inline z) (joined-last (inline z' xs) x y)
 
 -- a text without a space at its ends
 pub record IsWord (s : List ℕ) : Type 0 where

@@ -1,9 +1,8 @@
 -- How long runs are.
-use Rattle.std.proofs.Common.{◌≡◌, ℕ, zero, suc, ◌<◌, ◌≤◌, Bool, true, false, List, [], ◌∷◌, length, drop, map, max}
-use Rattle.std.proofs.Common.{refl, ap, ◌∙◌, arith}
-use Rattle.std.specs.Prelude.{not, ◌==◌}
-use Rattle.std.specs.List.{fold, list_any, onto_first, prefix_len, reduce}
-use Rattle.std.specs.Option.{unwrap_or}
+use Rattle.std.proofs.Common.{◌≡◌, ℕ, zero, suc, ◌+◌, ◌<◌, ◌≤◌, Bool, true, false, List, [], ◌∷◌, length, drop, map, max}
+use Rattle.std.proofs.Common.{refl, ap, ◌∙◌, arith, add-one, get_or}
+use Rattle.std.specs.Prelude.{not, ◌==◌, cond}
+use Rattle.std.specs.List.{fold, list_any, onto_first, prefix_len}
 use Rattle.std.proofs.lemmas.Bool.{or_parts}
 use Rattle.std.proofs.lemmas.Bool.Decides.{nat_tests}
 use Rattle.std.proofs.lemmas.List.Splits.{slice_split-cons_yes, slice_split-cons_no}
@@ -73,6 +72,66 @@ longest-cons_yes c b s same =
 longest-cons_no : (c b : ℕ) (s : List ℕ) → (b == c) ≡ false → longest_run c (b ∷ s) ≡ longest_run c s
 longest-cons_no c b s other = ap longest (runs-cons_no c b s other)
 
+-- the longest run, where the first one began before the text and has n characters there
+abbrev pub longest_with : ℕ → ℕ → List ℕ → ℕ
+longest_with c n [] = n
+longest_with c n (b ∷ s) = cond (b == c) (longest_with c (n + 1) s) (max n (longest_with c 0 s))
+
+longest_with-le_by : (c n b : ℕ) (s : List ℕ) (t : Bool) → (b == c) ≡ t → n + 1 ≤ longest_with c (n + 1) s
+    → n ≤ longest_with c n (b ∷ s)
+longest_with-le_by c n b s true same more = rw same (omega (arith, more))
+longest_with-le_by c n b s false other more = rw other (omega arith)
+
+pub longest_with-le : (c n : ℕ) (s : List ℕ) → n ≤ longest_with c n s
+longest_with-le c n [] = omega arith
+longest_with-le c n (b ∷ s) = longest_with-le_by c n b s (b == c) refl (longest_with-le c (n + 1) s)
+
+-- the same by all runs
+abbrev longest_by : ℕ → List (List ℕ) → ℕ
+longest_by n rs = max (n + length (first_run rs)) (longest (other_runs rs))
+
+longest_with-by : (c n b : ℕ) (s : List ℕ) (t : Bool) → (b == c) ≡ t
+    → longest_with c (n + 1) s ≡ longest_by (n + 1) (runs c s) → longest_with c 0 s ≡ longest_by 0 (runs c s)
+    → longest_with c n (b ∷ s) ≡ longest_by n (runs c (b ∷ s))
+longest_with-by c n b s true same more rest =
+    let step : longest_with c n (b ∷ s) ≡ longest_with c (n + 1) s = rw same refl in
+    let first : length (first_run (runs c (b ∷ s))) ≡ suc (length (first_run (runs c s))) =
+    ap (λ rs. length (first_run rs)) (runs-cons_yes c b s same) ∙ ap length (first_run-onto_first b (runs c s)) in
+    let others : longest (other_runs (runs c (b ∷ s))) ≡ longest (other_runs (runs c s)) =
+    ap longest (other_runs-cons_yes c b s same) in
+    omega (arith, step, more, first, others)
+longest_with-by c n b s false other more rest =
+    let step : longest_with c n (b ∷ s) ≡ max n (longest_with c 0 s) = rw other refl in
+    let first : length (first_run (runs c (b ∷ s))) ≡ 0 =
+    ap (λ rs. length (first_run rs)) (runs-cons_no c b s other) in
+    let others : longest (other_runs (runs c (b ∷ s))) ≡ longest (runs c s) =
+    ap (λ rs. longest (other_runs rs)) (runs-cons_no c b s other) in
+    omega (arith, step, rest, first, others, longest_parts (runs c s))
+
+longest_with-runs : (c n : ℕ) (s : List ℕ) → longest_with c n s ≡ longest_by n (runs c s)
+longest_with-runs c n [] = omega arith
+longest_with-runs c n (b ∷ s) =
+    longest_with-by c n b s (b == c) refl (longest_with-runs c (n + 1) s) (longest_with-runs c 0 s)
+
+from_here : (s : List ℕ) (i : ℕ) → i < length s → drop i s ≡ get_or s i 0 ∷ drop (i + 1) s
+from_here [] i h = absurd (omega arith)
+from_here (b ∷ s) zero h = refl
+from_here (b ∷ s) (suc i) h = rw add-one (rw add-one at (from_here s i (omega arith)))
+
+pub longest_with-step : (c n : ℕ) (s : List ℕ) (i : ℕ) → i < length s
+    → longest_with c n (drop i s)
+    ≡ cond (get_or s i 0 == c) (longest_with c (n + 1) (drop (i + 1) s)) (max n (longest_with c 0 (drop (i + 1) s)))
+longest_with-step c n s i h = ap (longest_with c n) (from_here s i h)
+
+pub longest_with-end : (c n : ℕ) (s : List ℕ) (i : ℕ) → length s ≤ i → longest_with c n (drop i s) ≡ n
+longest_with-end c n [] zero h = refl
+longest_with-end c n [] (suc i) h = refl
+longest_with-end c n (b ∷ s) zero h = absurd (omega arith)
+longest_with-end c n (b ∷ s) (suc i) h = longest_with-end c n s i (omega arith)
+
+pub longest_with-none : (c : ℕ) (s : List ℕ) → longest_with c 0 s ≡ longest_run c s
+longest_with-none c s = omega (arith, longest_with-runs c 0 s, longest_parts (runs c s))
+
 -- a text without the character has no run of it
 pub no_run_without : (c : ℕ) (s : List ℕ) → list_any (λ b. b == c) s ≡ false → longest_run c s ≡ 0
 no_run_without c [] none = refl
@@ -103,11 +162,6 @@ run_at-le-longest c [] (suc k) = omega arith
 run_at-le-longest c (b ∷ s) zero = omega (arith, longest_parts (runs c (b ∷ s)), first_run-prefix_len c (b ∷ s))
 run_at-le-longest c (b ∷ s) (suc k) = let more =
     longest_grows c b s (b == c) refl in omega (arith, more.0, run_at-le-longest c s k)
-
--- what `max().unwrap_or(0)` gives
-pub greatest : (ns : List ℕ) → unwrap_or (reduce max ns) 0 ≡ fold max 0 ns
-greatest [] = refl
-greatest (n ∷ ns) = ap (λ m. fold max m ns) (omega arith)
 
 -- no run has a length above the longest run's
 none_so_long : (rs : List (List ℕ)) (n : ℕ) → longest rs < n → list_any (λ run. length run == n) rs ≡ false

@@ -31,9 +31,17 @@ fn longest_of(text: &str, character: u8) -> usize
     ensures bound { result ≤ length text.now }
     ensures value { result ≡ spec.longest_run character text.now }
 {
-    let bytes = text.as_bytes();
-    let runs = bytes.split(|b| *b != character);
-    runs.map(|run| run.len()).max().unwrap_or(0)
+    let mut longest: usize = 0;
+    let mut run: usize = 0;
+    for b in text.as_bytes() {
+        if *b == character {
+            run += 1;
+            longest = longest.max(run);
+        } else {
+            run = 0;
+        }
+    }
+    longest
 }
 
 /// Whether some run of the character has exactly this length.

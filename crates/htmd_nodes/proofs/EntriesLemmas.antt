@@ -5,7 +5,7 @@ use Rattle.std.proofs.Common.{refl, sym, ap, ◌∙◌, subst, arith, inl, inr, 
 use Rattle.std.proofs.Math.Seq.{map-set_same}
 use Rattle.std.proofs.lemmas.Bool.{cases_eq, cases_lt}
 use Rattle.std.proofs.lemmas.Bool.Decides.{nat_tests}
-use Rattle.std.proofs.lemmas.List.{get_or_default, get_or_append_left, get_or_push, length_push, length-map, get_or-map}
+use Rattle.std.proofs.lemmas.List.{get_or_default, get_or_append_left, get_or_push, length_push, length-map}
 use Rattle.std.proofs.lemmas.List.{map_push, append-nil}
 use Rattle.std.proofs.lemmas.Str.{IsUtf8-string_bytes}
 use Rattle.std.specs.Str.{IsUtf8}
@@ -14,7 +14,7 @@ use Rattle.htmd_lexical.specs.declared.attribute.Attribute.{Attribute}
 use Rattle.htmd_nodes.specs.declared.tree.Entry.{Entry}
 use Rattle.htmd_nodes.specs.declared.tree.NodeData.{NodeData}
 use Rattle.htmd_nodes.specs.declared.tree.NodeData.TheVariants.{Document, Doctype, Text, Comment, Element}
-use Rattle.htmd_nodes.specs.Items.{Item, document_item, is_child, children_of, holds_children, data_at, depth_at}
+use Rattle.htmd_nodes.specs.Items.{Item, is_child, children_of, holds_children, data_at, depth_at}
 use Rattle.htmd_nodes.specs.Items.{new_item, greatest_depth, IsTree, HoldsText, HoldTexts}
 use Rattle.htmd_lexical.specs.Attributes.{pairs_of}
 use Rattle.htmd_nodes.specs.Views.{data_of}
@@ -156,19 +156,17 @@ IsStored-added entries p old new last l here same kids this no_kids holds shallo
       ]
     ]
 
--- the item of the entry that is added, from a read of its parent's entry
-pub last_item : (entries : List Entry) (i : ℕ) (read last : Entry) → i < length entries
-    → read ≡ get_or entries i read → last.level.parent ≡ i → last.level.depth ≡ read.level.depth + 1
+-- the item of the entry that is added
+pub last_item : (entries : List Entry) (i : ℕ) (last : Entry) → last.level.parent ≡ i
+    → last.level.depth ≡ depth_at (items_of entries) i + 1
     → item_of last ≡ new_item (items_of entries) i (data_of last.data)
-last_item entries i read last l here parent deeper =
-    let depth : read.level.depth ≡ depth_at (items_of entries) i = ap (λ (x : Entry). x.level.depth) here
-    ∙ ap (λ (x : Item). x.depth) (sym (get_or-map item_of entries i read document_item l)) in
+last_item entries i last parent deeper =
     let inner : eqb last.level.depth 0 ≡ false = grind (arith, nat_tests, deeper) in
     let named : parent_of last ≡ Some i = rw inner (ap Some parent) in
     let by_parent : Option ℕ → Item =
     λ o. record { parent = o; depth = last.level.depth; node_data = data_of last.data } in
     let by_depth : ℕ → Item = λ n. record { parent = Some i; depth = n; node_data = data_of last.data } in
-    ap by_parent named ∙ ap by_depth (deeper ∙ ap (λ n. n + 1) depth)
+    ap by_parent named ∙ ap by_depth deeper
 
 -- ---- strings are text
 

@@ -119,6 +119,20 @@ impl Kept {
         ensures full { result ≡ false → level_of self.new ≡ level_of self.old }
     {
         match self {
+            Kept::None { depth, parent } => {
+                let (depth, parent) = (*depth, *parent);
+                match u32::try_from(parent) {
+                    Ok(parent) => {
+                        *self = Kept::One {
+                            depth,
+                            parent,
+                            ids: [id],
+                        };
+                        true
+                    }
+                    Err(_) => false,
+                }
+            }
             Kept::Three { len, ids, .. } if *len < 3 => {
                 ids[*len as usize] = id;
                 *len += 1;
@@ -157,14 +171,6 @@ impl Kept {
         ensures { IfOk result (λ more. level_of more ≡ with_last id (level_of self.now)) }
     {
         match self {
-            Kept::None { depth, parent } => match u32::try_from(*parent) {
-                Ok(parent) => Ok(Kept::One {
-                    depth: *depth,
-                    parent,
-                    ids: [id],
-                }),
-                Err(_) => self.spread(alloc, id),
-            },
             Kept::One { depth, parent, ids } => Ok(Kept::Three {
                 len: 2,
                 depth: *depth,

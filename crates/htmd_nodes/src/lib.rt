@@ -4,6 +4,7 @@
 #![tactic(auto, using(std::proofs::lemmas::Grind::common_steps))]
 
 mod attributes;
+mod frequent_tags;
 pub mod laws;
 mod levels;
 mod names;

@@ -3,6 +3,8 @@ ghost use Rattle.std.specs.Prelude.{◌≡◌, IfNone, IfSome};
 ghost use Rattle.htmd_nodes.specs.Tags.{tag_text, HasNoTag};
 ghost use Rattle.htmd_nodes.specs.TagLookup.{tag_beginning, tag_of, one_of, a_tags, b_tags, c_tags, d_tags, e_tags, f_tags, h_tags, i_tags, k_tags, l_tags, m_tags, n_tags, o_tags, p_tags, q_tags, r_tags, s_tags, t_tags, u_tags, v_tags, w_tags, x_tags};
 
+use crate::frequent_tags::frequent;
+
 /// A frequent name of elements: each that a rule about trees, documents or Markdown tells from others, and more.
 #[derive(Debug, Clone, Copy, PartialEq, Eq, Drop)]
 pub enum Tag {
@@ -306,6 +308,9 @@ impl Tag {
         ensures some { IfSome result (λ tag. text.now ≡ tag_text tag) }
         ensures none { IfNone result (HasNoTag text.now) }
     {
+        if let Some(tag) = frequent(text.as_bytes()) {
+            return Some(tag);
+        }
         match text.as_bytes() {
             [first, ..] => beginning(*first, text),
             [] => None,

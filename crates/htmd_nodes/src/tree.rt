@@ -203,23 +203,27 @@ impl Tree {
         self.entries[id.index].level.depth() as usize
     }
 
-    /// Whether a child of this parent is within the greatest depth.
-    fn ask_depth(&self, parent: NodeId) -> Result<(), TreeError>
+    /// The depth of a child of this parent, if it is within the greatest depth.
+    #[inline(always)]
+    fn child_depth(&self, parent: NodeId) -> Result<u16, TreeError>
         requires { parent < length self.now }
-        ensures { MatchResult result (λ _. depth_at self.now parent < greatest_depth)
+        ensures depth { IfOk result (λ depth. depth ≡ depth_at self.now parent + 1) }
+        ensures within { MatchResult result (λ _. depth_at self.now parent < greatest_depth)
             (λ e. (e ≡ TreeError.TooDeep) × (greatest_depth ≤ depth_at self.now parent)) }
     {
-        if self.entries[parent.index].level.depth() as usize >= MAX_DEPTH {
+        let depth = self.entries[parent.index].level.depth();
+        if depth as usize >= MAX_DEPTH {
             return Err(TreeError::TooDeep);
         }
-        Ok(())
+        Ok(depth + 1)
     }
 
     /// A new last child. All growths come before the change.
     #[inline(always)]
-    fn add(&mut self, parent: NodeId, node_data: NodeData) -> Result<NodeId, TreeError>
+    fn add(&mut self, parent: NodeId, depth: u16, node_data: NodeData) -> Result<NodeId, TreeError>
         requires within { parent < length self.old }
         requires holds { IsTrue (holds_children (data_at self.old parent)) }
+        requires depth { depth ≡ depth_at self.old parent + 1 }
         requires shallow { depth_at self.old parent < greatest_depth }
         ensures id { IfOk result (λ id. id ≡ length self.old) }
         ensures ok { OnOk result (self.new ≡ self.old ++ new_item self.old parent (data_of node_data) ∷ []) }
@@ -229,14 +233,13 @@ impl Tree {
         let id = NodeId {
             index: self.entries.len(),
         };
-        let depth = self.entries[parent.index].level.depth() + 1;
         let entry = Entry {
             data: node_data,
             level: Level::new(depth, parent.index),
         };
         self.entries.reserve(1)?;
         self.entries[parent.index].level.push_child(self.alloc, id)?;
-        self.entries.push(entry)?;
+        self.entries.push_reserved(entry);
         Ok(id)
     }
 
@@ -259,9 +262,9 @@ impl Tree {
             ↔ (greatest_depth ≤ depth_at self.old parent) }
         ensures err { OnErr result (self.new ≡ self.old) }
     {
-        self.ask_depth(parent)?;
+        let depth = self.child_depth(parent)?;
         let name = Name::new(self.alloc, name)?;
-        self.add(parent, NodeData::Element { name, attrs })
+        self.add(parent, depth, NodeData::Element { name, attrs })
     }
 
     /// A new last child of a node: a text. The tree must contain the parent, a Document or an element. `TooDeep` if the
@@ -276,9 +279,9 @@ impl Tree {
             ↔ (greatest_depth ≤ depth_at self.old parent) }
         ensures err { OnErr result (self.new ≡ self.old) }
     {
-        self.ask_depth(parent)?;
+        let depth = self.child_depth(parent)?;
         let text = String::from_str(self.alloc, text)?;
-        self.add(parent, NodeData::Text(text))
+        self.add(parent, depth, NodeData::Text(text))
     }
 
     /// A new last child of a node: a text that is handed over. The tree must contain the parent, a Document or an
@@ -294,8 +297,8 @@ impl Tree {
             ↔ (greatest_depth ≤ depth_at self.old parent) }
         ensures err { OnErr result (self.new ≡ self.old) }
     {
-        self.ask_depth(parent)?;
-        self.add(parent, NodeData::Text(text))
+        let depth = self.child_depth(parent)?;
+        self.add(parent, depth, NodeData::Text(text))
     }
 
     /// A new last child of a node: a comment. The tree must contain the parent, a Document or an element. `TooDeep` if
@@ -310,9 +313,9 @@ impl Tree {
             ↔ (greatest_depth ≤ depth_at self.old parent) }
         ensures err { OnErr result (self.new ≡ self.old) }
     {
-        self.ask_depth(parent)?;
+        let depth = self.child_depth(parent)?;
         let text = String::from_str(self.alloc, text)?;
-        self.add(parent, NodeData::Comment(text))
+        self.add(parent, depth, NodeData::Comment(text))
     }
 
     /// A new last child of a node: a Doctype. The tree must contain the parent, a Document or an element. `TooDeep` if
@@ -327,7 +330,7 @@ impl Tree {
             ↔ (greatest_depth ≤ depth_at self.old parent) }
         ensures err { OnErr result (self.new ≡ self.old) }
     {
-        self.ask_depth(parent)?;
-        self.add(parent, NodeData::Doctype)
+        let depth = self.child_depth(parent)?;
+        self.add(parent, depth, NodeData::Doctype)
     }
 }

@@ -336,26 +336,32 @@ paragraphs = step Start (is_type (codes "p")) ∷ []
 without-paragraphs : without paragraphs [] [] page ≡ more (element (codes "main") [] none) none
 without-paragraphs = refl
 
+-- trees of which each has an empty paragraph after it
+abbrev apart : ValueForest → ValueForest
+apart none = none
+apart (more tree trees) = more tree (more (element (codes "p") [] none) (apart trees))
+
 outermost-paragraphs : outermost paragraphs [] [] page
-    ≡ more (element (codes "p") [] (more (text (codes "a")) inner)) last
+    ≡ apart (more (element (codes "p") [] (more (text (codes "a")) inner)) last)
 outermost-paragraphs = refl
 
 outermost-inner : outermost (step Start (is_type (codes "p")) ∷ step Child (is_type (codes "p")) ∷ []) [] [] page
-    ≡ inner
+    ≡ apart inner
 outermost-inner = refl
 
-outermost-next : outermost (relations Next) [] [] page ≡ last
+outermost-next : outermost (relations Next) [] [] page ≡ apart last
 outermost-next = refl
 
 -- `:root`: a page has one such element; of several each is one
-outermost-root : outermost (step Start is_root ∷ []) [] [] page ≡ page
+outermost-root : outermost (step Start is_root ∷ []) [] [] page ≡ apart page
 outermost-root = refl
 
-outermost-first : outermost (step Start (is_type (codes "p")) ∷ step Same (is_first All) ∷ []) [] [] page ≡ outer
+outermost-first : outermost (step Start (is_type (codes "p")) ∷ step Same (is_first All) ∷ []) [] [] page
+    ≡ apart outer
 outermost-first = refl
 
 outermost-last : outermost (step Start (is_last All) ∷ []) [] [] page
-    ≡ more (element (codes "p") [] (more (text (codes "a")) inner)) last
+    ≡ apart (more (element (codes "p") [] (more (text (codes "a")) inner)) last)
 outermost-last = refl
 
 -- ---- places among elements with the same name, of `<p>a</p><b></b><p>c</p><b></b>`
@@ -367,12 +373,12 @@ mixed = more (element (codes "p") [] (more (text (codes "a")) none))
     (more (element (codes "b") [] none) none)))
 
 outermost-first_of_type : outermost (step Start (is_first SameName) ∷ []) [] [] mixed
-    ≡ more (element (codes "p") [] (more (text (codes "a")) none)) (more (element (codes "b") [] none) none)
+    ≡ apart (more (element (codes "p") [] (more (text (codes "a")) none)) (more (element (codes "b") [] none) none))
 outermost-first_of_type = refl
 
 outermost-last_of_type : outermost (step Start (is_type (codes "p")) ∷ step Same (is_last SameName) ∷ [])
     [] [] mixed
-    ≡ last
+    ≡ apart last
 outermost-last_of_type = refl
 
 outermost-only_of_type : outermost (step Start (is_only SameName) ∷ []) [] [] mixed ≡ none
@@ -387,5 +393,20 @@ abbrev space : ValueForest
 space = more (element (codes "p") [] (more (text (codes " ")) none)) none
 
 outermost-empty : outermost (step Start is_empty ∷ []) [] []
-    (more (element (codes "p") [] (more (comment (codes "a")) none)) space) ≡ no_text
+    (more (element (codes "p") [] (more (comment (codes "a")) none)) space) ≡ apart no_text
 outermost-empty = refl
+
+-- ---- a match in a `pre`, and items
+
+outermost-in_pre : outermost (step Start (is_type (codes "b")) ∷ []) [] []
+    (more (element (codes "pre") [] (more (element (codes "i") []
+    (more (element (codes "b") [] (more (text (codes "a")) none)) none)) none)) none)
+    ≡ apart (more (element (codes "pre") [] (more (element (codes "b") [] (more (text (codes "a")) none)) none)) none)
+outermost-in_pre = refl
+
+abbrev items : ValueForest
+items = more (element (codes "li") [] none) (more (element (codes "li") [] none) none)
+
+outermost-items : outermost (step Start (is_type (codes "li")) ∷ []) [] [] (more (element (codes "ul") [] items) none)
+    ≡ items
+outermost-items = refl

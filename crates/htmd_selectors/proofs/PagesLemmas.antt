@@ -79,15 +79,16 @@ module _ (items : List Item) (steps : List Step) (outside : List StepState) (t :
       ∙ ap document_items (kept-page (steps_of steps) items t outside none_outside unchanged)
 
   pub outermost-laid : new ≡ out ++ forest_items 1 0 (length out)
-      (outermost (steps_of steps) (known_before (steps_of steps) outside items root) (trees_below items root))
+      (outermost (steps_of steps) None (known_before (steps_of steps) outside items root) (trees_below items root))
       → new ≡ document_items (one_document (spec.outermost (steps_of steps) [] []
       (children_of_document (value_at items 0))))
   outermost-laid e =
       e ∙ (ap (λ (x : List Item). x ++ forest_items 1 0 (length x)
-      (outermost (steps_of steps) (known_before (steps_of steps) outside items root) (trees_below items root))) only
+      (outermost (steps_of steps) None (known_before (steps_of steps) outside items root) (trees_below items root)))
+      only
       ∙ (ap (λ n. document_items
-      (outermost (steps_of steps) (known_before (steps_of steps) outside items n) (trees_below items n))) first
-      ∙ (ap (λ k. document_items (outermost (steps_of steps) k (trees_below items 0)))
+      (outermost (steps_of steps) None (known_before (steps_of steps) outside items n) (trees_below items n))) first
+      ∙ (ap (λ k. document_items (outermost (steps_of steps) None k (trees_below items 0)))
       (known_at_root (steps_of steps) outside items 0 t refl)
       ∙ ap document_items (outermost-page (steps_of steps) items t outside none_outside))))
 

@@ -1,6 +1,6 @@
 -- Parts of a page that are laid out one after the other.
 use Rattle.std.proofs.Common.{◌≡◌, ℕ, suc, ◌+◌, ◌-◌, ◌<◌, List, [], ◌∷◌, ◌++◌, length, get_or, drop, refl, sym, ap, ◌∙◌}
-use Rattle.std.proofs.Common.{arith, add-zero, append_assoc, Vec, String, Global, true}
+use Rattle.std.proofs.Common.{arith, add-zero, append_assoc, Vec, String, Global, true, Option}
 use Rattle.std.proofs.lemmas.List.{drop_more, append-nil, length-append, length_push, get_or_push, get_or_append_left}
 use Rattle.htmd_lexical.specs.declared.attribute.Attribute.{Attribute}
 use Rattle.htmd_lexical.specs.AttributePairs.{AttributePair}
@@ -33,7 +33,7 @@ forest_items-joined d p b (more tree f) g =
     ∙ ap (λ n. (tree_items d p b tree ++ forest_items d p (b + size tree) f) ++ forest_items d p n g) count)
 
 -- trees after others
-laid-next : (out new : List Item) (d p : ℕ) (f g : ValueForest) → new ≡ out ++ forest_items d p (length out) f
+pub laid-next : (out new : List Item) (d p : ℕ) (f g : ValueForest) → new ≡ out ++ forest_items d p (length out) f
     → new ++ forest_items d p (length new) g ≡ out ++ forest_items d p (length out) (joined f g)
 laid-next out new d p f g e =
     let count : length new ≡ length out + sizes f =
@@ -125,14 +125,15 @@ part-node part items node node_data t l e =
     ∙ ap (λ (x : Data). with_children node x (forest_of (tree_of items) (children_of items node))) (sym e))
 
 -- only an element is named, or has elements below it, or is one more
-pub outermost-other : (steps : List Step) (known : Known) (after id : ℕ) (d : NodeData) (f : NumberedForest)
+pub outermost-other : (steps : List Step) (pre : Option (List AttributePair)) (known : Known) (after id : ℕ)
+    (d : NodeData) (f : NumberedForest)
     → ((name : List ℕ) (attributes : Vec Attribute Global) → d ≡ Element name attributes → ⊥)
-    → outermost_tree steps known after (value_tree (with_children id (data_of d) f)) ≡ none
-outermost-other steps known after id Document f h = refl
-outermost-other steps known after id Doctype f h = refl
-outermost-other steps known after id (Text s) f h = refl
-outermost-other steps known after id (Comment s) f h = refl
-outermost-other steps known after id (Element name attributes) f h = absurd (h name attributes refl)
+    → outermost_tree steps pre known after (value_tree (with_children id (data_of d) f)) ≡ none
+outermost-other steps pre known after id Document f h = refl
+outermost-other steps pre known after id Doctype f h = refl
+outermost-other steps pre known after id (Text s) f h = refl
+outermost-other steps pre known after id (Comment s) f h = refl
+outermost-other steps pre known after id (Element name attributes) f h = absurd (h name attributes refl)
 
 pub next_known-other : (steps : List Step) (known : Known) (after id : ℕ) (d : NodeData) (f : NumberedForest)
     → ((name : List ℕ) (attributes : Vec Attribute Global) → d ≡ Element name attributes → ⊥)

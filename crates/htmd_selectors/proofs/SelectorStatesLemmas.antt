@@ -1,5 +1,7 @@
 -- The states of the elements around and before a place say what the steps name.
 use Rattle.std.proofs.Common.{◌≡◌, ℕ, ◌+◌, Bool, true, false, ◌&&◌, ◌||◌, cond, List, [], ◌∷◌, refl, sym, ap, ◌∙◌}
+use Rattle.std.proofs.Common.{Option, Some, None, codes}
+use Rattle.std.specs.Str.{bytes_eq}
 use Rattle.std.proofs.Common.{length, replicate, add-one, suc, ◌<◌, ◌≤◌, arith, eqb, eqb-true, vec_len, drop, map, not}
 use Rattle.htmd_lexical.specs.AttributePairs.{AttributePair}
 use Rattle.std.proofs.lemmas.Bool.{false≢true}
@@ -39,6 +41,7 @@ use Rattle.htmd_selectors.specs.Rewriting.{Rule, unchanged, joined, rewritten, c
 use Rattle.htmd_selectors.specs.SelectedParts.{element_names, elements_in}
 use Rattle.htmd_selectors.specs.SelectedParts.{this_element, inside, passed, is_outside, names, without}
 use Rattle.htmd_selectors.specs.SelectedParts.{without_below, one_document}
+use Rattle.htmd_selectors.specs.SelectedParts.{pre_below, pre_around, in_pre, end_of, match_of}
 use Rattle.htmd_selectors.specs.SelectedParts as spec
 
 reached : (r : Relation) (before : List Step) (e : Element) (earlier : List Element) (around : List Level)
@@ -431,22 +434,36 @@ rewritten-joined rule (more (comment s) f) g = ap (more (comment s)) (rewritten-
 rewritten-joined rule (more (element name attributes children) f) g =
     ap (more (element name (rule name attributes) (rewritten rule children))) (rewritten-joined rule f g)
 
+rewritten-in_pre : (pre : Option (List AttributePair)) (f : ValueForest)
+    → rewritten unchanged (in_pre pre f) ≡ in_pre pre (rewritten unchanged f)
+rewritten-in_pre None f = refl
+rewritten-in_pre (Some attributes) f = refl
+
+rewritten-end_of : (name : List ℕ) → rewritten unchanged (end_of name) ≡ end_of name
+rewritten-end_of name = test (bytes_eq name (codes "li")) (λ y. rw y refl) (λ n. rw n refl)
+
+joined-none : (f : ValueForest) → joined f none ≡ f
+joined-none none = refl
+joined-none (more tree f) = ap (more tree) (joined-none f)
+
 mutual
   pub outermost-is : (steps : List Step) (around : List Level) (earlier : List Element) (f : ValueForest)
-      → outermost steps (known_at steps around earlier f) f ≡ one_document (spec.outermost steps around earlier f)
+      → outermost steps (pre_around around) (known_at steps around earlier f) f
+      ≡ one_document (spec.outermost steps around earlier f)
   outermost-is steps around earlier none = refl
   outermost-is steps around earlier (more tree trees) =
       outermost_tree-is steps around earlier trees tree
-      (outermost steps (next_known steps (known_at steps around earlier (more tree trees)) (elements_in trees) tree)
-      trees)
+      (outermost steps (pre_around around)
+      (next_known steps (known_at steps around earlier (more tree trees)) (elements_in trees) tree) trees)
       (spec.outermost steps around (passed around earlier trees tree) trees)
-      (ap (λ k. outermost steps k trees) (next_known-is steps around earlier trees tree)
+      (ap (λ k. outermost steps (pre_around around) k trees) (next_known-is steps around earlier trees tree)
       ∙ outermost-is steps around (passed around earlier trees tree) trees)
 
   outermost_tree-is : (steps : List Step) (around : List Level) (earlier : List Element) (trees : ValueForest)
       (t : ValueTree) (g f : ValueForest) → g ≡ one_document f
-      → joined (outermost_tree steps (known_at steps around earlier (more t trees)) (elements_in trees) t) g
-      ≡ one_document (cond (names steps around earlier trees t) (more t f)
+      → joined (outermost_tree steps (pre_around around) (known_at steps around earlier (more t trees))
+      (elements_in trees) t) g
+      ≡ one_document (cond (names steps around earlier trees t) (joined (match_of (pre_around around) t) f)
       (joined (spec.outermost_below steps around earlier trees t) f))
   outermost_tree-is steps around earlier trees (document children) g f e = e
   outermost_tree-is steps around earlier trees doctype g f e = e
@@ -458,14 +475,29 @@ mutual
       attributes children in
       let known : Known = known_at steps around earlier (more this trees) in
       let after = elements_in trees in
+      let pre = pre_around around in
       let same = names_by-is steps around earlier trees this in
-      let whole : joined (kept_tree unchanged [] nothing_known 0 this) g ≡ one_document (more this f) =
-      kept_tree-is unchanged [] [] [] none this g f e
-      ∙ ap (λ x. one_document (more (element name attributes x) f))
-      (without-none (inside [] [] none name attributes children) [] children) in
-      let inner : joined (outermost steps (known_below steps known at children) children) g ≡ one_document
+      let kept : kept_tree unchanged [] nothing_known 0 this ≡ one_document (more this none) =
+      sym (joined-none (kept_tree unchanged [] nothing_known 0 this))
+      ∙ (kept_tree-is unchanged [] [] [] none this none none refl
+      ∙ ap (λ x. one_document (more (element name attributes x) none))
+      (without-none (inside [] [] none name attributes children) [] children)) in
+      let one : ValueForest = more this none in
+      let found : joined (in_pre pre (kept_tree unchanged [] nothing_known 0 this)) (end_of name)
+      ≡ one_document (match_of pre this) =
+      ap (λ x. joined (in_pre pre x) (end_of name)) kept
+      ∙ (ap (λ x. joined x (end_of name)) (sym (rewritten-in_pre pre one))
+      ∙ (ap (λ x. joined (rewritten unchanged (in_pre pre one)) x) (sym (rewritten-end_of name))
+      ∙ sym (rewritten-joined unchanged (in_pre pre one) (end_of name)))) in
+      let whole : joined (joined (in_pre pre (kept_tree unchanged [] nothing_known 0 this)) (end_of name)) g
+      ≡ one_document (joined (match_of pre this) f) =
+      ap (λ x. joined x g) found
+      ∙ (ap (λ x. joined (one_document (match_of pre this)) x) e
+      ∙ sym (rewritten-joined unchanged (match_of pre this) f)) in
+      let inner : joined (outermost steps (pre_below name attributes pre) (known_below steps known at children)
+      children) g ≡ one_document
       (joined (spec.outermost steps (inside around earlier trees name attributes children) [] children) f) =
-      ap (λ k. joined (outermost steps k children) g)
+      ap (λ k. joined (outermost steps (pre_below name attributes pre) k children) g)
       (known_below-is steps around earlier trees name attributes children)
       ∙ (rw (outermost-is steps (inside around earlier trees name attributes children) [] children, e) refl
       ∙ sym (rewritten-joined unchanged
@@ -496,12 +528,12 @@ module _ (steps : List Step) (items : List Item) (t : IsTree items) (outside : L
       ∙ (kept-is rule steps [] [] (value_forest (forest_of (tree_of items) (children_of items 0)))
       ∙ ap (λ f. rewritten rule (without steps [] [] f)) (sym (children_of_document-at items t)))
 
-  pub outermost-page : outermost steps (first_known steps outside true
+  pub outermost-page : outermost steps None (first_known steps outside true
       (value_forest (forest_of (tree_of items) (children_of items 0))))
       (value_forest (forest_of (tree_of items) (children_of items 0)))
       ≡ one_document (spec.outermost steps [] [] (children_of_document (value_at items 0)))
   outermost-page =
-      ap (λ k. outermost steps k (value_forest (forest_of (tree_of items) (children_of items 0))))
+      ap (λ k. outermost steps None k (value_forest (forest_of (tree_of items) (children_of items 0))))
       (known (value_forest (forest_of (tree_of items) (children_of items 0))))
       ∙ (outermost-is steps [] [] (value_forest (forest_of (tree_of items) (children_of items 0)))
       ∙ ap (λ f. one_document (spec.outermost steps [] [] f)) (sym (children_of_document-at items t)))

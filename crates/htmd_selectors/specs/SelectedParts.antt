@@ -1,6 +1,7 @@
 -- Parts of a page: the outermost elements that are named, and the page without all elements that are.
 use Rattle.std.specs.Prelude.{ℕ, ◌+◌, Bool, true, false, ◌&&◌, if◌then◌else◌, List, [], ◌∷◌, length, map}
-use Rattle.std.specs.Prelude.{Option, Some, None}
+use Rattle.std.specs.Prelude.{Option, Some, None, codes}
+use Rattle.std.specs.Str.{bytes_eq}
 use Rattle.htmd_lexical.specs.AttributePairs.{AttributePair}
 use Rattle.htmd_lexical.specs.CharacterClasses as characters
 use Rattle.htmd_values.specs.ValueTrees.{ValueTree, document, doctype, text, comment, element, ValueForest, none, more}
@@ -112,13 +113,42 @@ abbrev mutual
   without_below steps around earlier later (element name attributes children) =
       element name attributes (without steps (inside around earlier later name attributes children) [] children)
 
+-- ---- a match, as it stands in the new page
+
+-- the attributes of the nearest `pre`, after an element more
+abbrev pub pre_below : List ℕ → List AttributePair → Option (List AttributePair) → Option (List AttributePair)
+pre_below name attributes pre = if bytes_eq name (codes "pre") then Some attributes else pre
+
+-- the attributes of the nearest `pre` of these elements, nearest first
+abbrev pub pre_around : List Level → Option (List AttributePair)
+pre_around [] = None
+pre_around (level ∷ around) = pre_below level.here.name level.here.attributes (pre_around around)
+
+-- what is in a `pre` comes with it, so that its lines stay
+abbrev pub in_pre : Option (List AttributePair) → ValueForest → ValueForest
+in_pre None trees = trees
+in_pre (Some attributes) trees = more (element (codes "pre") attributes trees) none
+
+-- an empty paragraph keeps what follows apart; but items one after the other are a list
+abbrev pub end_of : List ℕ → ValueForest
+end_of name = if bytes_eq name (codes "li") then none else more (element (codes "p") [] none) none
+
+-- an element that is named, where this `pre` is around it
+abbrev pub match_of : Option (List AttributePair) → ValueTree → ValueForest
+match_of pre (document children) = none
+match_of pre doctype = none
+match_of pre (text s) = none
+match_of pre (comment s) = none
+match_of pre (element name attributes children) =
+    joined (in_pre pre (more (element name attributes children) none)) (end_of name)
+
 abbrev mutual
   -- the elements that are named and not below one that is, in document order
   pub outermost : List Step → List Level → List Element → ValueForest → ValueForest
   outermost steps around earlier none = none
   outermost steps around earlier (more tree trees) =
       if names steps around earlier trees tree
-      then more tree (outermost steps around (passed around earlier trees tree) trees)
+      then joined (match_of (pre_around around) tree) (outermost steps around (passed around earlier trees tree) trees)
       else joined (outermost_below steps around earlier trees tree)
       (outermost steps around (passed around earlier trees tree) trees)
 

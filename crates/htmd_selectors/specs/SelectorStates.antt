@@ -1,6 +1,6 @@
 -- What is kept of the open elements and of the elements before the next one, step by step of the selectors.
 use Rattle.std.specs.Prelude.{ℕ, ◌+◌, Bool, true, false, ◌&&◌, ◌||◌, if◌then◌else◌, List, []}
-use Rattle.std.specs.Prelude.{◌∷◌, length, drop, replicate}
+use Rattle.std.specs.Prelude.{◌∷◌, length, drop, replicate, Option}
 use Rattle.htmd_lexical.specs.AttributePairs.{AttributePair}
 use Rattle.htmd_values.specs.ValueTrees.{ValueTree, document, doctype, text, comment, element, ValueForest, none, more}
 use Rattle.htmd_selectors.specs.declared.selectors.Relation.{Relation}
@@ -10,7 +10,7 @@ use Rattle.htmd_selectors.specs.declared.matching.StepState.{StepState}
 use Rattle.htmd_selectors.specs.SelectorSteps.{Step}
 use Rattle.htmd_selectors.specs.Matching.{Element, Level, passes, matches, starts, parent_passes, some_passes}
 use Rattle.htmd_selectors.specs.Matching.{nearest_passes, earlier_passes}
-use Rattle.htmd_selectors.specs.SelectedParts.{elements_in, element_names, are_nothing}
+use Rattle.htmd_selectors.specs.SelectedParts.{elements_in, element_names, are_nothing, pre_below, in_pre, end_of}
 use Rattle.htmd_selectors.specs.Rewriting.{Rule, unchanged, joined}
 use Rattle.htmd_selectors.specs.Types.{asks_types, first_counts, type_counts}
 
@@ -165,19 +165,20 @@ abbrev pub nothing_known : Known
 nothing_known = record { parent = []; beside = []; before = 0; types = []; has_no_parent = true }
 
 abbrev mutual
-  -- the outermost elements that are named, without Documents
-  pub outermost : List Step → Known → ValueForest → ValueForest
-  outermost steps known none = none
-  outermost steps known (more tree trees) = joined (outermost_tree steps known (elements_in trees) tree)
-      (outermost steps (next_known steps known (elements_in trees) tree) trees)
+  -- the outermost elements that are named, without Documents, where this `pre` is around them
+  pub outermost : List Step → Option (List AttributePair) → Known → ValueForest → ValueForest
+  outermost steps pre known none = none
+  outermost steps pre known (more tree trees) = joined (outermost_tree steps pre known (elements_in trees) tree)
+      (outermost steps pre (next_known steps known (elements_in trees) tree) trees)
 
-  pub outermost_tree : List Step → Known → ℕ → ValueTree → ValueForest
-  outermost_tree steps known after (document children) = none
-  outermost_tree steps known after doctype = none
-  outermost_tree steps known after (text s) = none
-  outermost_tree steps known after (comment s) = none
-  outermost_tree steps known after (element name attributes children) =
+  pub outermost_tree : List Step → Option (List AttributePair) → Known → ℕ → ValueTree → ValueForest
+  outermost_tree steps pre known after (document children) = none
+  outermost_tree steps pre known after doctype = none
+  outermost_tree steps pre known after (text s) = none
+  outermost_tree steps pre known after (comment s) = none
+  outermost_tree steps pre known after (element name attributes children) =
       if names_by steps known after (element name attributes children)
-      then kept_tree unchanged [] nothing_known 0 (element name attributes children)
-      else outermost steps (known_below steps known (known_element known after name attributes children) children)
-      children
+      then joined (in_pre pre (kept_tree unchanged [] nothing_known 0 (element name attributes children)))
+      (end_of name)
+      else outermost steps (pre_below name attributes pre)
+      (known_below steps known (known_element known after name attributes children) children) children

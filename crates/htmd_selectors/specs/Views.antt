@@ -1,5 +1,8 @@
 -- What selectors that are kept stand for.
-use Rattle.std.specs.Prelude.{List, map}
+use Rattle.std.specs.Prelude.{List, map, Option, option_map}
+use Rattle.htmd_lexical.specs.declared.attribute.Attribute as lexical
+use Rattle.htmd_lexical.specs.AttributePairs.{AttributePair}
+use Rattle.htmd_lexical.specs.Attributes.{pairs_of}
 use Rattle.htmd_selectors.specs.declared.selectors.Condition.{Condition}
 use Rattle.htmd_selectors.specs.declared.selectors.Condition.TheVariants.{Any, Tag, Class, Id, Attribute}
 use Rattle.htmd_selectors.specs.declared.selectors.Condition.TheVariants.{Value, First, Last, Only, Empty, Root, Nth}
@@ -43,3 +46,7 @@ steps_of steps = map step_of steps
 -- the simple selectors that are kept
 abbrev pub steps_in : Selectors → List spec.Step
 steps_in selectors = steps_of selectors.steps.items
+
+-- the attributes of a `pre`, if there is one
+abbrev pub pre_of : Option (List lexical.Attribute) → Option (List AttributePair)
+pre_of pre = option_map pairs_of pre

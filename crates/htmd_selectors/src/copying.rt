@@ -82,7 +82,7 @@ pub(crate) fn new_tree(alloc: Global) -> Result<Tree, AllocError>
 }
 
 /// The node that was added, unless it is too deep.
-fn added(outcome: Result<NodeId, TreeError>) -> Result<NodeId, AllocError>
+pub(crate) fn added(outcome: Result<NodeId, TreeError>) -> Result<NodeId, AllocError>
     requires { IsErrOf outcome TooDeep → ⊥ }
     ensures { IfOk result (λ id. outcome ≡ Ok id) }
 {

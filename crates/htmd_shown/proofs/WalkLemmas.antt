@@ -18,7 +18,8 @@ use Rattle.htmd_shown.specs.Shown.{Sight, Surroundings, followed_by, formats_aft
 use Rattle.htmd_shown.specs.Shown.{raised, raised_one, shown_in}
 use Rattle.htmd_shown.specs.Shown.{shown, shown_all, source_after, source_for, with_one}
 use Rattle.htmd_shown.specs.SightViews.{next_shown, formats_past, raised_next}
-use Rattle.htmd_shown.specs.SimpleTrees.{Simple, Simples, none, more}
+use Rattle.htmd_shown.specs.ShownTexts.{shown_text}
+use Rattle.htmd_shown.specs.SimpleTrees.{Simple, Simples, none, more, text}
 use Rattle.htmd_shown.proofs.PageLemmas.{by_data}
 
 pub none_after : (ts : Simples) → followed_by ts none ≡ ts
@@ -33,6 +34,14 @@ one_after (more x ts) t rest = ap (more x) (one_after ts t rest)
 pub not_raised : (id : ℕ) (ts : Simples) → raised [] id ts ≡ ts
 not_raised id none = refl
 not_raised id (more t ts) = ap (more t) (not_raised id ts)
+
+text_formats : (formats : List (Option InlineElement)) (s : List ℕ) → formats_after formats (text s) ≡ formats
+text_formats [] s = refl
+text_formats (format ∷ formats) s = refl
+
+text_raised : (format : Option InlineElement) (id : ℕ) (s : List ℕ) → raised_one format id (text s) ≡ text s
+text_raised None id s = refl
+text_raised (Some format) id s = refl
 
 -- what follows a node that is passed follows what is before it
 repeat_parts : (copied element passed follows is_tex : Bool)
@@ -122,6 +131,25 @@ module _ (sight : Sight) (around : Surroundings) (id : ℕ) where
       (j ∙ ap (λ x. followed_by done (raised_next x id found)) h)
       ∙ ap (λ x. followed_by done (raised formats id (shown_all sight around source before x))) (sym e)
       ∙ m
+
+  -- a text shows as it is, and nothing else depends on it
+  pub text_turn : (done after : Simples) (formats : List (Option InlineElement)) (source : Option (List ℕ))
+      (before : Option (List AttributePair)) (nodes : NumberedForest) (tree : NumberedTree)
+      (trees : NumberedForest) (n : ℕ) (s : List ℕ) (follows : Bool) (all : Simples)
+      → nodes ≡ page.more tree trees
+      → follows ≡ leads_to_script sight.skip nodes
+      → tree ≡ page.text n s
+      → after ≡ followed_by done (more (text (shown_text s)) none)
+      → followed_by done (raised formats id (shown_all sight around source before nodes)) ≡ all
+      → followed_by after (raised formats id (shown_all sight around source before trees)) ≡ all
+  unfolding shown
+  text_turn done after formats source before nodes tree trees n s follows all e f t j m =
+      turn done after formats formats (format_of formats) source source before before nodes tree trees
+      (Some (text (shown_text s))) follows all e f
+      (ap (λ x. next_shown sight around source before x follows) (sym t)) refl
+      (sym (text_formats formats (shown_text s)))
+      (j ∙ ap (λ x. followed_by done (more x none)) (sym (text_raised (format_of formats) id (shown_text s))))
+      (ap (source_after source) (sym t)) (ap (last_element before) (sym t)) m
 
 -- what follows is known at the next node
 pub passed_on : (skip : List (List ℕ)) (tree : NumberedTree) (trees : NumberedForest) (follows : Bool)

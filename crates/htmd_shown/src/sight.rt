@@ -717,6 +717,11 @@ impl<'t> Sight<'t> {
         let scripts = has_script(self.tree, nodes);
         let mut follows = self.script_follows(nodes, scripts)?;
         for (place, node) in nodes.iter().enumerate() {
+            if let Some(text) = text_at(self.tree, *node) {
+                content.push(Seen::of_text(text))?;
+                follows = self.follows_after(*node, &nodes[place + 1..], follows, scripts)?;
+                continue;
+            }
             let seen = self.next(*node, inside.around, before, follows)?;
             let format = format_of(formats);
             formats = formats_past(formats, &seen);

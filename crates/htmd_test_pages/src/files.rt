@@ -49,6 +49,9 @@ const WORD_FAULTS: &[(&str, &str)] = &[
         "a --links",
         "'--links': the values of --links are md and text",
     ),
+    ("--links=md a", "--links=md needs -o"),
+    ("--newer", "--newer needs -o"),
+    ("a --copy -o-", "--copy needs -o"),
     ("a", "none"),
 ];
 

@@ -14,13 +14,19 @@ const P: &str = "<div class=\"aa  x\" lang=\"\">P<a class=\"headerlink\" href=\"
 /// A page with several elements of one name below a parent.
 const ROW: &str = "<h2>A</h2>-<p>1</p><p>2</p><ul>L<p>3</p></ul><p>4</p><h2>B</h2>";
 
-fn selected_of(alloc: Global, page: &str, selectors: &str) -> Result<String, Fail> {
+fn matches_of(alloc: Global, page: &str, selectors: &str) -> Result<String, Fail> {
     let page = read_html(alloc, page, false)?;
     let selectors = parse_selectors(alloc, selectors)?;
     match select_elements(alloc, &page, &selectors)? {
         Some(part) => Ok(serialize(alloc, &part, part.root())?),
         None => Ok(String::from_str(alloc, "none")?),
     }
+}
+
+/// The matches, without the empty paragraphs after them.
+fn selected_of(alloc: Global, page: &str, selectors: &str) -> Result<String, Fail> {
+    let html = matches_of(alloc, page, selectors)?;
+    Ok(html.replace(alloc, "<p></p>", "")?)
 }
 
 fn selected(alloc: Global, selectors: &str) -> Result<String, Fail> {
@@ -116,6 +122,17 @@ fn elements_are_selected(rt: HostRuntime) -> Result<(), Fail> {
         expect_text(selectors, html.as_str(), want)?;
     }
     Ok(())
+}
+
+#[test]
+fn matches_stand_by_themselves(rt: HostRuntime) -> Result<(), Fail> {
+    let page = "<ul><li>a</li></ul><pre class=x><b>b</b></pre><i>c</i>";
+    let html = matches_of(rt.alloc(), page, "li, b, i")?;
+    expect_text(
+        "matches",
+        html.as_str(),
+        "<li>a</li><pre class=\"x\"><b>b</b></pre><p></p><i>c</i><p></p>",
+    )
 }
 
 #[test]

@@ -78,15 +78,16 @@ fn images_are_kept_or_not(rt: HostRuntime) -> Result<(), Fail> {
 fn links_are_text(rt: HostRuntime) -> Result<(), Fail> {
     let html = plainer(
         rt.alloc(),
-        "<a href=x id=y>a</a><video src=v></video><object data=o></object><img src=i><q cite=z>b</q>",
+        "<a href=x id=y>a</a><video src=v title=V></video><iframe src=w title=W hidden></iframe>\
+        <object data=o></object><img src=i><q cite=z>b</q><a href=#c class=d>#</a><a href=#c>+</a>",
         Images::Keep,
         true,
     )?;
     expect_text(
         "links",
         html.as_str(),
-        "<html><head></head><body><a id=\"y\">a</a><video></video><object></object><img src=\"i\">\
-        <q cite=\"z\">b</q></body></html>",
+        "<html><head></head><body><a id=\"y\">a</a>V<object></object><img src=\"i\"><q cite=\"z\">b</q>\
+        <a class=\"headerlink\">#</a><a>+</a></body></html>",
     )
 }
 
@@ -109,6 +110,10 @@ const TITLES: &[(&str, &str)] = &[
     (
         "<title>A</title><div><h1>B</h1></div>",
         "<html><head></head><body><title>A</title><div><h1>B</h1></div></body></html>",
+    ),
+    (
+        "<title>A</title><h1><a>\n</a></h1>",
+        "<h1>A</h1><html><head></head><body><h1><a>\n</a></h1></body></html>",
     ),
     (
         "<title> </title><p>c</p>",

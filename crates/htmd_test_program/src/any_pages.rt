@@ -58,7 +58,15 @@ fn finds_the_encoding(rt: HostRuntime) -> Result<(), Fail> {
             b"\xEF\xBB\xBF<p>\xD0\xB0",
             (0, "\u{430}\n", ""),
         ),
-        (&["--encoding=koi8-r"], b"<p>a</p>", (0, "a\n", "")),
+        (
+            &["--encoding=koi8-r"],
+            b"<p>a</p>",
+            (
+                0,
+                "a\n",
+                "htmd: --encoding has no effect without --html5 or --web\n",
+            ),
+        ),
     ];
     for (options, page, wanted) in rows {
         expect_called(rt.alloc(), options, page, wanted)?;

@@ -18,7 +18,7 @@ const MARKDOWN: &[u8] = b"a **b**\n";
 
 #[test]
 fn answers_options(rt: HostRuntime) -> Result<(), Fail> {
-    const REFUSED: &str = "htmd: refused at byte 3: NotAllowedHere\n";
+    const REFUSED: &str = "htmd: refused at byte 3: NotAllowedHere (--web reads any page)\n";
     const ROWS: &[(&[&str], &[u8], &str, &str, u8)] = &[
         (&[], HTML, "a **b**\n", "", 0),
         (&[], b"<p><div>", "", REFUSED, 1),
@@ -132,7 +132,7 @@ fn expect_body(alloc: Global, front: &str, body: &str, behind: &str) -> Result<(
 
 // Fails unless a page with `--body` is refused at this place.
 fn expect_refused(alloc: Global, page: &str, place: usize, kind: FaultKind) -> Result<(), Fail> {
-    let said = format!(in alloc; "htmd: refused at byte {place}: {kind}\n")?;
+    let said = format!(in alloc; "htmd: refused at byte {place}: {kind} (--web reads any page)\n")?;
     let wants = (1, "", said.as_str());
     expect_called(alloc, &["--body"], page.as_bytes(), wants)
 }

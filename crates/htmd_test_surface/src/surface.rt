@@ -32,12 +32,20 @@ fn has_types(rt: HostRuntime) -> Result<(), Fail> {
     let _: Option<htmd::ConvertError> = None;
     let _: Option<htmd::Element> = None;
     let _: Option<htmd::Tree> = None;
+    let _: Option<htmd::parts::Part> = None;
+    let _: Option<htmd::parts::Tag> = None;
+    let _: Option<htmd::parts::TagEnd> = None;
     let _: Option<htmd::TreeError> = None;
     let _: Option<htmd::ReadError> = None;
     let _: Option<htmd::FaultKind> = None;
     let _: Option<htmd::NodeData> = None;
     let _: Option<htmd::NodeId> = None;
     let _: Option<htmd::Attribute> = None;
+    let html = htmd::markdown_to_html(rt.alloc(), "*a*")?;
+    expect_text("HTML", html.as_str(), "<p><em>a</em></p>\n")?;
+    let parts = htmd::parts::read_markdown(rt.alloc(), "*a*")?;
+    let html = htmd::parts::to_html(rt.alloc(), &parts)?;
+    expect_text("HTML of parts", html.as_str(), "<p><em>a</em></p>\n")?;
     let markdown = htmd::convert(rt.alloc(), "<b>a</b>")?;
     expect_text("markdown", markdown.as_str(), "**a**")
 }

@@ -1,9 +1,10 @@
 //! White space of a text.
-ghost use Rattle.std.specs.Prelude.{◌≡◌, ◌++◌, true, false, IfOk, OnOk, IsOkAnd, MatchOption, take, drop, string_bytes};
+ghost use Rattle.std.specs.Prelude.{◌≡◌, ◌++◌, ℕ, List, true, false, IfOk, OnOk, IsOkAnd, MatchOption, take, drop};
+ghost use Rattle.std.specs.Prelude.{string_bytes};
 ghost use Rattle.std.specs.Cow.{cow_str_bytes, IsBorrowedStr};
 ghost use Rattle.htmd_lexical.specs.WhiteSpace as white;
 ghost use Rattle.htmd_text.specs.SqueezedTexts as spec;
-ghost use Rattle.htmd_text.specs.Replacement.{IsReplaced, is_squeezed};
+ghost use Rattle.htmd_text.specs.Replacement.{IsReplaced, is_squeezed, is_squeezed_after};
 
 use std::alloc::{AllocError, Global};
 use std::borrow::CowStr;
@@ -46,9 +47,42 @@ pub fn is_squeezed(text: &str) -> bool
     has_single_spaces(text.as_bytes())
 }
 
-/// Whether each white space is a single space. All bytes are looked at, so that a processor can compare many at once.
+/// So many bytes are compared at once; the last ones, and those of a shorter text, each by itself.
+const AT_ONCE: usize = 32;
+
+/// Whether each white space is a single space.
 fn has_single_spaces(bytes: &[u8]) -> bool
     ensures { result ≡ is_squeezed false bytes.now }
+{
+    let (front, rest) = bytes.split_at(bytes.len() - bytes.len() % AT_ONCE);
+    match white_after(front) {
+        Some(after_white) => few_are_single(after_white, rest),
+        None => false,
+    }
+}
+
+/// The same of a few bytes, after white space or not.
+fn few_are_single(is_behind_white: bool, bytes: &[u8]) -> bool
+    ensures { result ≡ is_squeezed is_behind_white bytes.now }
+{
+    let mut after_white = is_behind_white;
+    for b in bytes {
+        if !b.is_ascii_whitespace() {
+            after_white = false;
+            continue;
+        }
+        if after_white || *b != b' ' {
+            return false;
+        }
+        after_white = true;
+    }
+    true
+}
+
+/// Whether the last byte is white space, if each white space is a single space. All bytes are looked at, so that a
+/// processor can compare many at once.
+fn white_after(bytes: &[u8]) -> Option<bool>
+    ensures { (rest : List ℕ) → is_squeezed false (bytes.now ++ rest) ≡ is_squeezed_after result rest }
 {
     // A number, since of a bool LLVM makes branches where this is inlined.
     let mut other = 0;
@@ -58,7 +92,7 @@ fn has_single_spaces(bytes: &[u8]) -> bool
         other = other.max((white & (after_white | (*b != b' '))) as u8);
         after_white = white;
     }
-    other == 0
+    if other == 0 { Some(after_white) } else { None }
 }
 
 /// What the squeezed text has in place of the first byte, if that is not the byte itself: nothing for white space

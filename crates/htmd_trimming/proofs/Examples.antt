@@ -4,7 +4,7 @@ use Rattle.std.specs.Prelude.{codes}
 use Rattle.std.specs.Str.{chars}
 use Rattle.htmd_lexical.specs.AttributePairs.{AttributePair}
 use Rattle.htmd_values.specs.ValueTrees.{text, element, none, more}
-use Rattle.htmd_nodes.specs.NumberedTrees.{NumberedForest}
+use Rattle.htmd_nodes.specs.NumberedTrees.{NumberedTree, NumberedForest}
 use Rattle.htmd_nodes.specs.NumberedTrees as page
 use Rattle.htmd_trimming.specs.declared.asked.Asked.{Asked}
 use Rattle.htmd_trimming.specs.declared.asked.Images.TheVariants.{Keep, Linked, Alt, Drop}
@@ -115,8 +115,20 @@ link-text : fate_for links_as_text None (codes "a")
     ≡ kept (one (codes "id") (codes "y"))
 link-text = refl
 
-video-text : fate_for links_as_text None (codes "video") (one (codes "src") (codes "x")) page.none ≡ kept []
+video-text : fate_for links_as_text None (codes "video")
+    (pair (codes "src") (codes "x") ∷ pair (codes "title") (codes "A") ∷ []) page.none ≡ said (codes "A")
+unfolding chars
 video-text = refl
+
+video-unseen : fate_for links_as_text None (codes "video")
+    (pair (codes "hidden") [] ∷ pair (codes "title") (codes "A") ∷ []) page.none ≡ said []
+video-unseen = refl
+
+-- what links a heading to itself says so without its address
+link-sign : fate_for links_as_text None (codes "a") (one (codes "href") (codes "#x"))
+    (page.more (page.text 1 (codes "#")) page.none) ≡ kept (one (codes "class") (codes "headerlink"))
+unfolding chars
+link-sign = refl
 
 -- an image stays an image
 image-no_link : fate_for links_as_text None (codes "img") (one (codes "src") (codes "x")) page.none
@@ -144,6 +156,17 @@ page-texts = refl
 page-untitled : holds_h1 (page.document 0 a_page) ≡ false
 page-untitled = refl
 
-page-titled : holds_h1 (page.document 0 (page.more (page.element 1 (codes "div") []
-    (page.more (page.element 2 (codes "h1") [] page.none) page.none)) page.none)) ≡ true
+-- a `div` with an `h1` of these trees
+abbrev under_heading : NumberedForest → NumberedTree
+under_heading trees = page.document 0 (page.more (page.element 1 (codes "div") []
+    (page.more (page.element 2 (codes "h1") [] trees) page.none)) page.none)
+
+page-titled : holds_h1 (under_heading (page.more (page.text 3 (codes "a")) page.none)) ≡ true
 page-titled = refl
+
+page-with_logo : holds_h1 (under_heading (page.more (page.element 3 (codes "img") [] page.none) page.none)) ≡ true
+page-with_logo = refl
+
+-- an `h1` that shows nothing is no title
+page-without_logo : holds_h1 (under_heading (page.more (page.element 3 (codes "a") [] page.none) page.none)) ≡ false
+page-without_logo = refl

@@ -1,7 +1,8 @@
 -- What becomes of nodes, as the source keeps it.
 use Rattle.std.specs.Prelude.{ℕ, Bool, true, false, if◌then◌else◌, List, Option, Some, None, codes}
 use Rattle.std.specs.Option.{option_copied}
-use Rattle.std.specs.Str.{bytes_eq}
+use Rattle.std.specs.List.{list_all}
+use Rattle.std.specs.Str.{bytes_eq, chars}
 use Rattle.htmd_lexical.specs.AttributePairs.{AttributePair}
 use Rattle.htmd_values.specs.ValueTrees.{ValueTree, doctype, text, comment, ValueForest}
 use Rattle.htmd_nodes.specs.Items.{Data, document_node, doctype_node, text_node, comment_node, element_node}
@@ -11,7 +12,7 @@ use Rattle.htmd_shown.specs.Spaces.{is_blank_text}
 use Rattle.htmd_trimming.specs.declared.asked.Asked.{Asked}
 use Rattle.htmd_trimming.specs.declared.fates.Fate.{Fate}
 use Rattle.htmd_trimming.specs.declared.fates.Fate.TheVariants as fates
-use Rattle.htmd_trimming.specs.Fates.{gone, said, kept, fate_for, without}
+use Rattle.htmd_trimming.specs.Fates.{gone, said, kept, fate_for, is_sign_or_blank, sign_attributes, without}
 use Rattle.htmd_trimming.specs.Fates as spec
 use Rattle.htmd_trimming.specs.Trimming.{over}
 
@@ -20,6 +21,7 @@ abbrev pub fate_of : List AttributePair → Fate → spec.Fate
 fate_of attributes fates.Gone = gone
 fate_of attributes (fates.Text s) = said s.now
 fate_of attributes (fates.Kept lost) = kept (without (option_copied lost) attributes)
+fate_of attributes fates.Sign = kept (sign_attributes attributes)
 
 -- what is left of a node with these children, over what is left of them
 abbrev pub node_over : Asked → Option (List ℕ) → Data → NumberedForest → ValueForest → Option ValueTree
@@ -44,6 +46,15 @@ number_below asked source (text_node s) children n = None
 number_below asked source (comment_node s) children n = None
 number_below asked source (element_node name attributes) children n =
     number_of_kept (fate_for asked source name attributes children) n
+
+-- ---- signs
+
+abbrev pub is_sign : Data → Bool
+is_sign document_node = false
+is_sign doctype_node = false
+is_sign (text_node s) = list_all is_sign_or_blank (chars s)
+is_sign (comment_node s) = false
+is_sign (element_node name attributes) = false
 
 -- ---- formulas
 

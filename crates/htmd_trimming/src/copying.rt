@@ -56,3 +56,19 @@ pub(crate) fn attributes_without(
     }
     Ok(copies)
 }
+
+/// The attributes of a link of signs, whose class says in place of its address that it is a permalink.
+#[tactic(auto, using(crate::proofs::FatesLemmas::pairs_push))]
+pub(crate) fn sign_attributes(
+    alloc: Global,
+    attrs: &[Attribute],
+) -> Result<Vec<Attribute>, AllocError>
+    ensures { IfOk result (λ copies. pairs_of copies.items ≡ spec.sign_attributes (pairs_of attrs.now)) }
+{
+    let others = attributes_without(alloc, Some("href"), attrs)?;
+    let mut copies = attributes_without(alloc, Some("class"), others.as_slice())?;
+    let name = String::from_str(alloc, "class")?;
+    let value = String::from_str(alloc, "headerlink")?;
+    copies.push(Attribute { name, value })?;
+    Ok(copies)
+}

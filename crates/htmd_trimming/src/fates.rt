@@ -1,18 +1,27 @@
 //! What becomes of an element, by what is asked.
 ghost use Rattle.std.specs.Prelude.{◌≡◌, ◌<◌, All, IfOk, length};
+ghost use Rattle.std.specs.List.{list_all};
 ghost use Rattle.std.specs.Option.{option_copied};
+ghost use Rattle.std.specs.Str.{chars};
 ghost use Rattle.htmd_lexical.specs.Attributes.{pairs_of};
 ghost use Rattle.htmd_nodes.specs.NumberedTrees.{tree_of, forest_of};
+ghost use Rattle.htmd_nodes.specs.Views.{data_of};
+ghost use Rattle.htmd_shown.specs.Embeds.{embedding_names};
+ghost use Rattle.htmd_shown.specs.Embeds as embeds;
+ghost use Rattle.htmd_shown.specs.Roles.{is_among};
 ghost use Rattle.htmd_trimming.specs.FateViews.{fate_of};
+ghost use Rattle.htmd_trimming.specs.FateViews as views;
 ghost use Rattle.htmd_trimming.specs.Fates as spec;
 
 use crate::asked::{Images, Page};
 use crate::formulas::is_formula;
 use crate::hidden::is_hidden;
-use htmd_nodes::{Attribute, Name, NodeId, Tag};
-use htmd_shown::attributes::{address, text_of};
+use htmd_nodes::{Attribute, Name, NodeData, NodeId, Tag, Tree, value_of};
+use htmd_shown::attributes::{address, leads_to_part, number_at, text_of};
 use htmd_shown::image_source::{image_address, is_data, is_image};
-use htmd_shown::is_of_wiki;
+use htmd_shown::shown_text::is_blank_character;
+use htmd_shown::spaces::is_blank_text;
+use htmd_shown::{is_of_wiki, is_usual_sign};
 use std::alloc::{AllocError, Global};
 
 /// What becomes of an element.
@@ -23,6 +32,8 @@ pub(crate) enum Fate<'t> {
     Text(&'t str),
     /// It stays, without the attributes of this name.
     Kept(Option<&'static str>),
+    /// It stays, and its class says that it is a permalink.
+    Sign,
 }
 
 /// Whether an address has a file in itself.
@@ -63,15 +74,82 @@ fn image_fate<'t>(
     }
 }
 
-/// Whether an element with this name leads to its `src`.
-fn has_src(name: &Name) -> bool
-    ensures { result ≡ spec.has_src name.now }
+/// Whether an element with this name embeds, and has no content of its own.
+fn is_embedding(name: &Name) -> bool
+    ensures { result ≡ is_among embedding_names name.now }
 {
-    name.is(Tag::Iframe)
-        || name.is(Tag::Embed)
-        || name.is(Tag::Video)
-        || name.is(Tag::Audio)
-        || name.is(Tag::Source)
+    name.is(Tag::Iframe) || name.is(Tag::Video) || name.is(Tag::Audio) || name.is(Tag::Embed)
+}
+
+fn is_tiny(number: Option<i64>) -> bool
+    ensures { result ≡ embeds.is_tiny number }
+{
+    matches!(number, Some(0 | 1))
+}
+
+/// Whether something is embedded without being seen: hidden, or as wide or high as nothing.
+fn is_unseen(attrs: &[Attribute]) -> bool
+    ensures { result ≡ embeds.is_unseen (pairs_of attrs.now) }
+{
+    value_of(attrs, "hidden").is_some()
+        || is_tiny(number_at(attrs, "width"))
+        || is_tiny(number_at(attrs, "height"))
+}
+
+/// The title of what is embedded, else its label; nothing if it isn't seen.
+fn embedded_text(attrs: &[Attribute]) -> &str
+    ensures { result.now ≡ spec.embedded_text (pairs_of attrs.now) }
+{
+    let title = text_of(attrs, "title");
+    if is_unseen(attrs) {
+        ""
+    } else if is_blank_text(title) {
+        text_of(attrs, "aria-label")
+    } else {
+        title
+    }
+}
+
+fn is_sign_or_blank(c: char) -> bool
+    ensures { result ≡ spec.is_sign_or_blank c }
+{
+    is_usual_sign(c) || is_blank_character(c)
+}
+
+fn are_signs(text: &str) -> bool
+    ensures { result ≡ list_all spec.is_sign_or_blank (chars text.now) }
+{
+    text.chars().all(is_sign_or_blank)
+}
+
+/// Whether a node is a text of signs that usually link to their own place.
+fn is_sign(node: &NodeData) -> bool
+    ensures { result ≡ views.is_sign (data_of node.now) }
+{
+    match node {
+        NodeData::Text(text) => are_signs(text.as_str()),
+        NodeData::Document | NodeData::Doctype | NodeData::Comment(_) | NodeData::Element { .. } =>
+            false,
+    }
+}
+
+/// Whether nodes beside each other are one text of such signs.
+fn is_sign_alone(tree: &Tree, nodes: &[NodeId]) -> bool
+    requires { All (λ node. node < length tree.now) nodes.now }
+    ensures { result ≡ spec.is_sign_alone (forest_of (tree_of tree.now) nodes.now) }
+{
+    match nodes {
+        [node] => is_sign(tree.data(*node)),
+        _ => false,
+    }
+}
+
+/// Whether an element is a link of such signs to a part of the page.
+fn is_sign_link(tree: &Tree, name: &Name, attrs: &[Attribute], children: &[NodeId]) -> bool
+    requires { All (λ node. node < length tree.now) children.now }
+    ensures { result ≡ spec.is_sign_link name.now (pairs_of attrs.now) (forest_of (tree_of tree.now) children.now) }
+{
+    name.is(Tag::A) && leads_to_part(value_of(attrs, "href")) && is_sign_alone(tree, children)
 }
 
 /// The attribute that says where an element leads.
@@ -80,8 +158,6 @@ fn leading_attribute(name: &Name) -> Option<&'static str>
 {
     if name.is(Tag::A) || name.is(Tag::Area) {
         Some("href")
-    } else if has_src(name) {
-        Some("src")
     } else if name.is(Tag::Object) {
         Some("data")
     } else {
@@ -89,14 +165,23 @@ fn leading_attribute(name: &Name) -> Option<&'static str>
     }
 }
 
-/// The attribute that an element loses where links are asked for as text.
-fn lost_attribute(links_as_text: bool, name: &Name) -> Option<&'static str>
-    ensures { option_copied result ≡ spec.lost_attribute links_as_text name.now }
+/// What becomes of an element where links are asked for as text.
+fn leading_fate<'t>(
+    tree: &Tree,
+    name: &Name,
+    attrs: &'t [Attribute],
+    children: &[NodeId],
+) -> Fate<'t>
+    requires { All (λ node. node < length tree.now) children.now }
+    ensures { fate_of (pairs_of attrs.now) result
+        ≡ spec.leading_fate name.now (pairs_of attrs.now) (forest_of (tree_of tree.now) children.now) }
 {
-    if links_as_text {
-        leading_attribute(name)
+    if is_embedding(name) {
+        Fate::Text(embedded_text(attrs))
+    } else if is_sign_link(tree, name, attrs, children) {
+        Fate::Sign
     } else {
-        None
+        Fate::Kept(leading_attribute(name))
     }
 }
 
@@ -119,6 +204,7 @@ fn is_shown_image(name: &Name, attrs: &[Attribute]) -> bool
 }
 
 /// What becomes of an element, to which a picture may give a source.
+#[tactic(auto, using(crate::proofs::FatesLemmas::without_none))]
 pub(crate) fn fate_for<'t>(
     page: &Page<'t>,
     source: Option<&'t str>,
@@ -137,5 +223,8 @@ pub(crate) fn fate_for<'t>(
     if is_shown_image(name, attrs) {
         return image_fate(page.alloc, page.asked.images, source, attrs);
     }
-    Ok(Fate::Kept(lost_attribute(page.asked.links_as_text, name)))
+    if page.asked.links_as_text {
+        return Ok(leading_fate(page.tree, name, attrs, children));
+    }
+    Ok(Fate::Kept(None))
 }

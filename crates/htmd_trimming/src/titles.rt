@@ -10,9 +10,40 @@ use crate::asked::{Asked, Page};
 use crate::copying::{added, new_tree};
 use crate::trimming::push_below;
 use htmd_nodes::{NodeData, NodeId, Tag, Tree};
+use htmd_shown::image_source::is_image;
+use htmd_shown::spaces::is_blank_text;
 use std::alloc::{AllocError, Global};
 
-/// Whether a node is an `h1`, or has one below it.
+/// Whether a node shows something, as a heading may: a text that isn't blank, or an image.
+#[cycle(shows)]
+fn shows(tree: &Tree, node: NodeId) -> bool
+    requires { node < length tree.now }
+    ensures { result ≡ spec.shows (tree_of tree.now node) }
+{
+    match tree.data(node) {
+        NodeData::Text(text) => !is_blank_text(text.as_str()),
+        NodeData::Element { name, attrs } => {
+            is_image(name, attrs.as_slice()) || some_shows(tree, node)
+        }
+        _ => false,
+    }
+}
+
+/// Whether something shows below a node.
+#[cycle(shows)]
+fn some_shows(tree: &Tree, node: NodeId) -> bool
+    requires { node < length tree.now }
+    ensures { result ≡ spec.some_shows (forest_of (tree_of tree.now) (children_of tree.now node)) }
+{
+    for child in tree.children(node) {
+        if shows(tree, *child) {
+            return true;
+        }
+    }
+    false
+}
+
+/// Whether a node is an `h1` that shows something, or has one below it.
 #[cycle(titles)]
 fn holds_h1(tree: &Tree, node: NodeId) -> bool
     requires { node < length tree.now }
@@ -20,12 +51,18 @@ fn holds_h1(tree: &Tree, node: NodeId) -> bool
 {
     match tree.data(node) {
         NodeData::Document => hold_h1(tree, node),
-        NodeData::Element { name, .. } => name.is(Tag::H1) || hold_h1(tree, node),
+        NodeData::Element { name, .. } => {
+            if name.is(Tag::H1) {
+                some_shows(tree, node)
+            } else {
+                hold_h1(tree, node)
+            }
+        }
         _ => false,
     }
 }
 
-/// Whether an `h1` is below a node.
+/// Whether an `h1` that shows something is below a node.
 #[cycle(titles)]
 fn hold_h1(tree: &Tree, node: NodeId) -> bool
     requires { node < length tree.now }
@@ -51,8 +88,8 @@ fn push_heading(alloc: Global, out: &mut Tree, under: NodeId, title: &str) -> Re
     Ok(())
 }
 
-/// The page; where it has no `h1`, after a heading with its title, and then without elements `title`. `Err` means out
-/// of memory.
+/// The page; where it has no `h1` that shows something, after a heading with its title, and then without elements
+/// `title`. `Err` means out of memory.
 pub fn titled_page(alloc: Global, page: Tree, title: &str) -> Result<Tree, AllocError>
     ensures { IfOk result (λ tree. tree ≡ spec.titled_page title.now page) }
 {

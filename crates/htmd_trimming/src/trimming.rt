@@ -11,7 +11,7 @@ ghost use Rattle.htmd_trimming.specs.FateViews as views;
 ghost use Rattle.htmd_trimming.specs.Trimming as spec;
 
 use crate::asked::{Asked, Images, Page};
-use crate::copying::{added, attributes_without, new_tree};
+use crate::copying::{added, attributes_without, new_tree, sign_attributes};
 use crate::fates::{Fate, fate_for};
 use htmd_nodes::{Attribute, Name, NodeData, NodeId, Tag, Tree};
 use htmd_shown::image_source::picture_source;
@@ -87,6 +87,10 @@ fn add_element(
         }
         Fate::Kept(lost) => {
             let attrs = attributes_without(alloc, lost, attrs)?;
+            Ok(Some(added(out.add_element(under, name.as_str(), attrs))?))
+        }
+        Fate::Sign => {
+            let attrs = sign_attributes(alloc, attrs)?;
             Ok(Some(added(out.add_element(under, name.as_str(), attrs))?))
         }
     }

@@ -1,14 +1,20 @@
 -- What `max` answers over the lengths of the runs.
-use Rattle.std.proofs.Common.{rules, length, map, sym, ap, ◌∙◌, arith}
+use Rattle.std.proofs.Common.{◌≡◌, ℕ, List, [], ◌∷◌, rules, length, map, max, refl, sym, ap, ◌∙◌, arith}
 use Rattle.std.specs.Prelude.{not, ◌==◌}
+use Rattle.std.specs.List.{fold, reduce}
 use Rattle.std.specs.Option.{unwrap_or}
 use Rattle.std.proofs.lemmas.Iterator.{YieldsList-from_map}
 use Rattle.std.proofs.lemmas.Iterator.Adapters.{option_map_id}
 use Rattle.std.proofs.lemmas.Iterator.Consumers.{YieldsList-at, max_from_yields_List}
 use Rattle.std.proofs.lemmas.Iterator.Splits.{YieldsList-from_slice_split}
 use Rattle.htmd_markdown.specs.Runs.{runs}
-use Rattle.htmd_markdown.proofs.RunsLemmas.{greatest, longest_run-le-length}
+use Rattle.htmd_markdown.proofs.RunsLemmas.{longest_run-le-length}
 use Rattle.htmd_chunks.proofs.code_lines.longest_run.Goals as goal
+
+-- what `max().unwrap_or(0)` gives
+greatest : (ns : List ℕ) → unwrap_or (reduce max ns) 0 ≡ fold max 0 ns
+greatest [] = refl
+greatest (n ∷ ns) = ap (λ m. fold max m ns) (omega arith)
 
 pub returns-clause-value : goal.returns-clause-value
 returns-clause-value c =

@@ -2,7 +2,7 @@ use Rattle.std.proofs.Common.{◌≡◌, ◌+◌, ◌<◌, ◌≤◌, ◌&&◌, 
 use Rattle.htmd_shown.specs.Roles.{is_among}
 use Rattle.htmd_document_of_tree.specs.TargetViews.{firsts_of, holds, target_of}
 use Rattle.htmd_document_of_tree.specs.Targets.{ids_among, is_first}
-use Rattle.htmd_document_of_tree.proofs.TargetsLemmas.{firsts-end, firsts-turn, holds-none, known-turn, known_after}
+use Rattle.htmd_document_of_tree.proofs.TargetsLemmas.{firsts-end, firsts-turn, holds-none, if_named, known-turn, known_after}
 use Rattle.htmd_document_of_tree.proofs.targets.firsts.Goals as goal
 
 pub loop-target-init : goal.loop-target-init
@@ -21,7 +21,10 @@ loop-target-preserved c =
     let v = target_of c.target-item.result in
     let is : c.in_ok-is_first.field-0 ≡ is_first ids known v = c.in_ok-is_first.ensures.first
     ∙ (ap (λ a. not a && not (v.is_name && holds c.in_ok-ids.ids v.value)) (c.loop-target.invariant.known v.value)
-    ∙ ap (λ a. not (is_among known v.value) && not (v.is_name && a)) (c.in_ok-ids.ensures v.value)) in
+    ∙ ap (λ a. not (is_among known v.value) && not a)
+    (if_named c.args.found.now c.loop-target.target-index c.target-item.result
+    (holds c.in_ok-ids.ids v.value) (is_among ids v.value) h c.target-item.is
+    (λ named. c.in_ok-ids.ensures named v.value))) in
     record {
       firsts = ap (λ xs. xs ++ firsts_of ids (known_after ids [] (take (c.loop-target.target-index + 1) all))
           (drop (c.loop-target.target-index + 1) all)) c.in_ok-push.ensures.items

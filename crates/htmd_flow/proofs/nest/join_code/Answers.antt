@@ -1,29 +1,29 @@
 -- What is left to prove of `join_code`.
-use Rattle.std.proofs.Common.{◌≡◌, ◌∙◌, false, rules, sym, ap}
+use Rattle.std.proofs.Common.{◌≡◌, ◌+◌, ◌++◌, ◌∙◌, rules, sym, ap, string_bytes}
 use Rattle.std.proofs.lemmas.Result.{IfOk-equal}
 use Rattle.htmd_document.specs.DocumentViews.{inline_of}
 use Rattle.htmd_document.specs.Documents as value
+use Rattle.htmd_document.specs.declared.document.Inline as declared_inline
 use Rattle.htmd_flow.specs.Nesting.{met, one_inline}
-use Rattle.htmd_flow.proofs.NestLemmas.{joined-longer, joined-beside, met-no_code}
+use Rattle.htmd_flow.proofs.NestLemmas.{joined-set, beside-set, where_ok, met-no_code}
 use Rattle.htmd_document.proofs.ValuesLemmas.{inline-code}
 use Rattle.htmd_flow.proofs.nest.join_code.Goals as goal
 
-pub returns-in_ok-push-in-Code : goal.returns-in_ok-push-in-Code
-returns-in_ok-push-in-Code c = joined-longer _ _ _ _ _ (value.code c.args.text.now)
-    c.in_ok-push-in-Code.ensures.items c.in-Some.ensures.items
+pub returns-in-Code : goal.returns-in-Code
+unfolding declared_inline.out-Inline denote.Hole.Carrier.out
+returns-in-Code c = where_ok c.push_str.result _ (λ ok.
+    let bytes : string_bytes c.push_str.new.self ≡ string_bytes c.in-Code.last ++ c.args.text.now =
+    (rw ok at c.push_str.ensures.bytes) ∙ ap (λ s. string_bytes s ++ c.args.text.now) c.in-Code.last-is in
+    joined-set c.args.content.now.items c.in-Some.last c.index_mut.result.now _ (value.code c.args.text.now)
+    (search rules) c.index_mut.ensures.value
     (ap (λ x. met (inline_of x) (value.code c.args.text.now)) c.in-Code.is
     ∙ (ap (λ x. met x (value.code c.args.text.now)) (inline-code c.in-Code.last)
-    ∙ (ap (λ s. one_inline (value.code s)) (sym c.in_ok-push_str-in-Code.ensures.bytes)
-    ∙ ap one_inline (sym (inline-code c.push_str.new.self)))))
+    ∙ (ap (λ s. one_inline (value.code s)) (sym bytes)
+    ∙ ap one_inline (sym (rw c.in-Code.is (inline-code c.push_str.new.self)))))))
 
-pub returns-in_ok-push-in_default-last : goal.returns-in_ok-push-in_default-last
-returns-in_ok-push-in_default-last c =
-    IfOk-equal c.push_code-in_default-last.result _ _ _ c.push_code-in_default-last.ensures
-    (joined-beside _ _ _ _ (value.code c.args.text.now) c.in-Some.ensures.items
-    c.in_ok-push-in_default-last.ensures.items (met-no_code _ c.args.text.now c.in_default-last.not-Code))
-
-pub returns-then-not-ends_in_code : goal.returns-then-not-ends_in_code
-returns-then-not-ends_in_code c =
-    let other : c.ends_in_code.result ≡ false = search rules in
-    IfOk-equal c.push_code.result _ _ _ c.push_code.ensures
-    (rw c.deref.ensures.value at (c.ends_in_code.ensures other c.args.text.now))
+pub returns-in_default-index_mut : goal.returns-in_default-index_mut
+returns-in_default-index_mut c = IfOk-equal c.push_code-in_default-index_mut.result _ _ _
+    c.push_code-in_default-index_mut.ensures
+    (beside-set c.args.content.now.items c.in-Some.last c.index_mut.result.now (value.code c.args.text.now)
+    (search rules) c.index_mut.ensures.value
+    (met-no_code c.index_mut.result.now c.args.text.now c.in_default-index_mut.not-Code))

@@ -1,6 +1,8 @@
 -- What is left to prove of the functions of the cycle `outermost`.
 use Rattle.std.proofs.Common.{rules, ◌≡◌, ◌+◌, ◌-◌, ◌<◌, ◌≤◌, ◌++◌, length, sym, ap, ◌∙◌, arith, ℕ, List, [], false}
 use Rattle.std.proofs.Common.{true, refl, eqb, drop}
+use Rattle.std.specs.Option.{is_some, option_copied}
+use Rattle.std.specs.Bool.{IsTrue}
 use Rattle.std.proofs.lemmas.List.{append-nil}
 use Rattle.std.proofs.lemmas.Result.{on_ok_weaker}
 use Rattle.htmd_lexical.specs.Attributes.{pairs_of}
@@ -13,13 +15,13 @@ use Rattle.htmd_nodes.specs.NumberedTrees.{value_at}
 use Rattle.htmd_nodes.specs.Views.{data_of}
 use Rattle.htmd_nodes.proofs.ItemsLemmas.{child_read}
 use Rattle.htmd_selectors.specs.ElementViews.{known_of}
-use Rattle.htmd_selectors.specs.Rewriting.{unchanged}
-use Rattle.htmd_selectors.specs.SelectedParts.{count, elements_in}
+use Rattle.htmd_selectors.specs.Rewriting.{joined, unchanged}
+use Rattle.htmd_selectors.specs.SelectedParts.{count, elements_in, pre_below, in_pre, end_of}
 use Rattle.htmd_selectors.specs.SelectorStates.{Known, kept_tree, outermost, outermost_tree, next_known, known_below}
 use Rattle.htmd_selectors.specs.SelectorStates.{known_element, named_at, first_known, with_element, is_named_by}
 use Rattle.htmd_selectors.specs.SelectorStates.{nothing_known}
 use Rattle.htmd_selectors.specs.Matching.{Element}
-use Rattle.htmd_selectors.specs.Views.{steps_of}
+use Rattle.htmd_selectors.specs.Views.{pre_of, steps_of}
 use Rattle.htmd_selectors.proofs.SelectorStatesLemmas.{known-turn, not_root}
 use Rattle.htmd_selectors.proofs.SelectedPartsLemmas.{laid-turn, elements-turn, trees_from, part-node}
 use Rattle.htmd_selectors.proofs.SelectedPartsLemmas.{count-other, next_known-other, outermost-other}
@@ -34,9 +36,11 @@ push_outermost-push_outermost_child-requires t c =
     let after : c.args.node < c.child-item.result = below.0 in
     let within : c.child-item.result < length tree = below.1 in
     let deeper : depth_at tree c.child-item.result ≡ depth_at tree c.args.node + 1 =
-    (c.children-child-items.ensures.tree.under c.child-item.result c.args.node below.1 below.2).deeper in (
+    (c.children-child-items.ensures.tree.under c.child-item.result c.args.node below.1 below.2).deeper in
+    let deep : IsTrue (is_some c.args.pre) → 1 < depth_at tree c.child-item.result =
+    λ some. let around = c.requires.pre some in omega (arith, deeper, around) in (
       search rules,
-      (within, (omega arith, (c.loop-child.invariant.parent, (c.loop-child.invariant.beside, search rules)))),
+      (within, (omega arith, (deep, (c.loop-child.invariant.parent, (c.loop-child.invariant.beside, search rules))))),
     )
 
 pub push_outermost-loop-child-preserved : goal.push_outermost-loop-child-preserved
@@ -50,6 +54,7 @@ push_outermost-loop-child-preserved t c =
     let out = c.loop-child.out in
     let new = c.push_outermost_child.new.out in
     let known : Known = known_of c.loop-child.known in
+    let pre = pre_of (option_copied c.args.pre) in
     let pushed = c.in_ok-push_outermost_child.ensures in
     let turn = elements-turn tree ids i c.child-item.result c.loop-child.known.left (omega arith) c.child-item.is
     c.loop-child.invariant.left in
@@ -64,12 +69,13 @@ push_outermost-loop-child-preserved t c =
       beside = counts.1;
       before = omega (arith, fewer, c.loop-child.invariant.before);
       left = pushed.left ∙ turn;
-      rest = ap (λ k. new ++ forest_items 1 0 (length new) (outermost steps k trees)) next
-          ∙ laid-turn (outermost_tree steps known (elements_in trees)) (outermost steps known)
-          (outermost steps (next_known steps known (elements_in trees) child)) tree ids i c.child-item.result out new _
+      rest = ap (λ k. new ++ forest_items 1 0 (length new) (outermost steps pre k trees)) next
+          ∙ laid-turn (outermost_tree steps pre known (elements_in trees)) (outermost steps pre known)
+          (outermost steps pre (next_known steps known (elements_in trees) child)) tree ids i c.child-item.result out
+          new _
           1 0 (omega arith) c.child-item.is refl c.loop-child.invariant.rest
           (pushed.items
-          ∙ ap (λ n. out ++ forest_items 1 0 (length out) (outermost_tree steps known n child)) turn);
+          ∙ ap (λ n. out ++ forest_items 1 0 (length out) (outermost_tree steps pre known n child)) turn);
     }
 
 pub push_outermost_child-returns-in_default : goal.push_outermost_child-returns-in_default
@@ -85,7 +91,8 @@ push_outermost_child-returns-in_default t c =
     children)) in
     let no_more = count-other c.args.node c.data.result.now children other in
     rw w (record {
-      items = rw (outermost-other steps known after c.args.node c.data.result.now children other)
+      items = rw (outermost-other steps (pre_of (option_copied c.args.pre)) known after c.args.node c.data.result.now
+          children other)
           (sym (append-nil c.args.out.now));
       known = sym (next_known-other steps known after c.args.node c.data.result.now children other);
       left = omega (arith, no_more);
@@ -118,14 +125,15 @@ push_outermost_child-returns-then-is_named t c =
     let next_here : known_of c.name_element.new.known ≡ next_known steps known (left - count here) here =
     rw w next in
     let left_here : c.name_element.new.known.left ≡ left - count here = rw w c.in_ok-named.ensures.left in
-    let chosen : outermost_tree steps known (left - count this) this ≡ kept_tree unchanged [] nothing_known 0 this =
-    rw named refl in
-    let whole : outermost_tree steps known (left - count here) here ≡ kept_tree unchanged [] nothing_known 0 here =
-    rw w chosen in
+    let pre = pre_of (option_copied c.args.pre) in
+    let chosen : outermost_tree steps pre known (left - count this) this
+    ≡ joined (in_pre pre (kept_tree unchanged [] nothing_known 0 this)) (end_of name) = rw named refl in
+    let whole : outermost_tree steps pre known (left - count here) here
+    ≡ joined (in_pre pre (kept_tree unchanged [] nothing_known 0 here)) (end_of name) = rw w chosen in
     record {
-      items = rw whole c.push_whole.ensures;
-      known = on_ok_weaker c.push_whole.result (λ _. next_here) c.push_whole.ensures;
-      left = on_ok_weaker c.push_whole.result (λ _. left_here) c.push_whole.ensures;
+      items = rw whole c.push_match.ensures;
+      known = on_ok_weaker c.push_match.result (λ _. next_here) c.push_match.ensures;
+      left = on_ok_weaker c.push_match.result (λ _. left_here) c.push_match.ensures;
     }
 
 pub push_outermost_child-returns : goal.push_outermost_child-returns
@@ -159,13 +167,17 @@ push_outermost_child-returns t c =
     let outside : eqb (depth_at tree c.args.node) 0 ≡ false =
     not_root 0 (depth_at tree c.args.node) c.requires.below in
     let states : c.as_slice-3.result.now ≡ with_element (named_at steps known e) known.parent = search rules in
-    let chosen : outermost_tree steps known (left - count this) this
-    ≡ outermost steps (known_below steps known e children) children = rw named refl in
-    let below : outermost steps (known_below steps known e children) children ≡ outermost steps
+    let pre = pre_of (option_copied c.args.pre) in
+    let inner = pre_of (option_copied c.pre_below.result) in
+    let nearest : inner ≡ pre_below name attributes pre = search rules in
+    let chosen : outermost_tree steps pre known (left - count this) this
+    ≡ outermost steps inner (known_below steps known e children) children = rw (named, nearest) refl in
+    let below : outermost steps inner (known_below steps known e children) children ≡ outermost steps inner
     (first_known steps c.as_slice-3.result.now (eqb (depth_at tree c.args.node) 0) children) children =
-    ap (λ x. outermost steps (first_known steps x false children) children) (sym states)
-    ∙ ap (λ b. outermost steps (first_known steps c.as_slice-3.result.now b children) children) (sym outside) in
-    let whole : outermost_tree steps known (left - count here) here ≡ outermost steps
+    ap (λ x. outermost steps inner (first_known steps x false children) children) (sym states)
+    ∙ ap (λ b. outermost steps inner (first_known steps c.as_slice-3.result.now b children) children)
+    (sym outside) in
+    let whole : outermost_tree steps pre known (left - count here) here ≡ outermost steps inner
     (first_known steps c.as_slice-3.result.now (eqb (depth_at tree c.args.node) 0) children) children =
     rw w (chosen ∙ below) in
     record {

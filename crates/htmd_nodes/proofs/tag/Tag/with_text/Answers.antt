@@ -10,7 +10,7 @@ by_first (first ∷ rest) h = refl
 
 pub returns-in-len1-up-clause-none : goal.returns-in-len1-up-clause-none
 returns-in-len1-up-clause-none c =
-    let h : 1 ≤ length c.args.text.now = rw c.as_bytes.ensures.value at c.in-len1-up.len_at_least in
+    let h : 1 ≤ length c.args.text.now = rw c.as_bytes-2.ensures.value at c.in-len1-up.len_at_least in
     no_tag c.args.text.now c.beginning.result (c.beginning.ensures.value
-    ∙ ap (λ read. tag_beginning (get_or read 0 0) c.args.text.now) c.as_bytes.ensures.value
+    ∙ ap (λ read. tag_beginning (get_or read 0 0) c.args.text.now) c.as_bytes-2.ensures.value
     ∙ by_first c.args.text.now h)

@@ -1,5 +1,5 @@
 -- What is left to prove of `add`.
-use Rattle.std.proofs.Common.{◌≡◌, ◌<◌, ◌∷◌, [], ◌++◌, List, length, get_or, set, arith, rules, refl, sym, ap, ◌∙◌}
+use Rattle.std.proofs.Common.{◌≡◌, ◌<◌, ◌∷◌, [], ◌++◌, List, length, set, arith, rules, refl, sym, ap, ◌∙◌}
 use Rattle.std.proofs.Common.{subst, ◌+◌, ℕ}
 use Rattle.std.proofs.lemmas.List.{length-map}
 use Rattle.htmd_nodes.specs.declared.tree.Entry.{Entry}
@@ -58,14 +58,11 @@ invariant_of-self-2 c =
     item_of-level old new refl (ap (λ (l : LevelValue). l.parent) c.in_ok-push_child.ensures.ok)
     (ap (λ (l : LevelValue). l.depth) c.in_ok-push_child.ensures.ok) in
     let last : Entry = record { «data» = c.args.node_data; level = c.new.result } in
-    let read : c.index.result.now ≡ get_or entries i c.index.result.now = c.index.ensures
-    ∙ (ap (λ (x : List Entry). get_or x c.parent.inside.index c.index.result.now) (sym c.reserve.ensures.items)
-    ∙ ap (λ n. get_or entries n c.index.result.now) (c.parent.view_is ∙ sym at)) in
     let this : item_of last ≡ new_item (items_of entries) i (data_of c.args.node_data) =
-    last_item entries i c.index.result.now last within read (ap (λ (l : LevelValue). l.parent) c.new.ensures)
-    (ap (λ (l : LevelValue). l.depth) c.new.ensures ∙ ap (λ n. n + 1) c.depth-depth.ensures) in
+    last_item entries i last (ap (λ (l : LevelValue). l.parent) c.new.ensures)
+    (ap (λ (l : LevelValue). l.depth) c.new.ensures ∙ rw (items, at) c.requires.depth) in
     let number : c.len.result ≡ length entries = c.len.ensures ∙ search rules in
-    subst IsStored (sym c.in_ok-push.ensures.items)
+    subst IsStored (sym c.push_reserved.ensures.items)
     (IsStored-added entries i old new last within c.index_mut.ensures.value same
     (ap (λ (l : LevelValue). l.children) c.in_ok-push_child.ensures.ok
     ∙ ap (λ n. old.level.children ++ n ∷ []) number)
@@ -86,12 +83,9 @@ returns-clause-ok c =
     item_of-level old new refl (ap (λ (l : LevelValue). l.parent) c.in_ok-push_child.ensures.ok)
     (ap (λ (l : LevelValue). l.depth) c.in_ok-push_child.ensures.ok) in
     let last : Entry = record { «data» = c.args.node_data; level = c.new.result } in
-    let read : c.index.result.now ≡ get_or entries i c.index.result.now = c.index.ensures
-    ∙ (ap (λ (x : List Entry). get_or x c.parent.inside.index c.index.result.now) (sym c.reserve.ensures.items)
-    ∙ ap (λ n. get_or entries n c.index.result.now) (c.parent.view_is ∙ sym at)) in
     let this : item_of last ≡ new_item (items_of entries) i (data_of c.args.node_data) =
-    last_item entries i c.index.result.now last within read (ap (λ (l : LevelValue). l.parent) c.new.ensures)
-    (ap (λ (l : LevelValue). l.depth) c.new.ensures ∙ ap (λ n. n + 1) c.depth-depth.ensures) in
-    ap items_of c.in_ok-push.ensures.items
+    last_item entries i last (ap (λ (l : LevelValue). l.parent) c.new.ensures)
+    (ap (λ (l : LevelValue). l.depth) c.new.ensures ∙ rw (items, at) c.requires.depth) in
+    ap items_of c.push_reserved.ensures.items
     ∙ (items_of-added entries i old new last c.index_mut.ensures.value same
     ∙ (ap (λ (x : Item). items_of entries ++ x ∷ []) this ∙ rw (items, at) refl))

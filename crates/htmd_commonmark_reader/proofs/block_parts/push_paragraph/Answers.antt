@@ -1,0 +1,18 @@
+-- What begins, the inlines and what ends.
+use Rattle.std.proofs.lemmas.Result.{on_ok_weaker}
+use Rattle.htmd_commonmark_reader.specs.Places.{text_of}
+use Rattle.htmd_commonmark_reader.specs.References.{references_of}
+use Rattle.htmd_commonmark_reader.proofs.TablePartsLemmas.{enclosing}
+use Rattle.htmd_commonmark_reader.proofs.block_parts.push_paragraph.Goals as goal
+use Rattle.htmd_parts.specs.PartViews.{all_parts_of}
+use Rattle.htmd_parts.specs.Parts.{begun, ended, paragraph, paragraph_end}
+
+pub returns : goal.returns
+returns c =
+    on_ok_weaker c.push_part-2.result
+    (enclosing (all_parts_of c.args.parts.now.items) (all_parts_of c.push_part.new.parts.items)
+    (all_parts_of c.push_text.new.parts.items) (all_parts_of c.push_part-2.new.parts.items)
+    (begun (paragraph c.args.is_tight))
+    (text_of c.args.is_first (references_of c.args.references.now) c.args.text.now)
+    (ended (paragraph_end c.args.is_tight)) c.in_ok-push_part.ensures c.in_ok-push_text.ensures)
+    c.push_part-2.ensures

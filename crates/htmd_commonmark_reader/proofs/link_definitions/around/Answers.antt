@@ -1,0 +1,7 @@
+-- Before an ASCII character and after it a text may be cut.
+use Rattle.std.proofs.lemmas.Str.{IsCharBoundary-after_ascii}
+use Rattle.htmd_commonmark_reader.proofs.link_definitions.around.Goals as goal
+
+pub range_from-requires : goal.range_from-requires
+range_from-requires c = λ _.
+    IsCharBoundary-after_ascii c.args.text.now c.args.at c.utf8.text c.requires.within c.requires.ascii
