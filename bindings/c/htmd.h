@@ -208,6 +208,14 @@ uint32_t htmd_convert_page(const uint8_t *page, size_t page_len, const htmd_page
                            size_t out_len, size_t *needed, size_t *place, uint8_t *kind);
 
 /*
+ * Writes the HTML of Markdown, as CommonMark 0.31.2 and GitHub (tables, strikethrough, tasks) say it, to the front of
+ * out, and returns the status: HTMD_DONE, HTMD_TOO_SMALL, HTMD_NOT_UTF8 or HTMD_NO_MEMORY. needed and place are as
+ * above, and out too. HTML that stands in the Markdown stays as it is, also what isn't safe to show.
+ */
+uint32_t htmd_markdown_to_html(const uint8_t *markdown, size_t markdown_len, uint8_t *out, size_t out_len,
+                               size_t *needed, size_t *place);
+
+/*
  * The line and the column of a place in a text, both from 1. A line ends with a line feed, a carriage return and a line
  * feed, or a carriage return; columns are characters. The status is HTMD_DONE, or HTMD_NOT_UTF8 and both are 0.
  */

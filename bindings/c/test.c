@@ -501,6 +501,20 @@ static void test_memory(void) {
 static void test_memory(void) {}
 #endif
 
+/* Markdown with room, with a byte too few, and with a byte that is no UTF-8. */
+static void test_markdown(void) {
+    const char *html = "<p>a <em>b</em></p>\n";
+    size_t len = strlen(html), needed = SIZE_MAX, place = SIZE_MAX;
+    uint8_t out[32];
+    memset(out, UNTOUCHED, sizeof out);
+    CHECK(htmd_markdown_to_html((const uint8_t *)"a *b*", 5, out, len - 1, &needed, &place) == HTMD_TOO_SMALL);
+    CHECK(needed == len && place == 0 && is_untouched(out, 0, sizeof out));
+    CHECK(htmd_markdown_to_html((const uint8_t *)"a *b*", 5, out, len, &needed, &place) == HTMD_DONE);
+    CHECK(needed == len && place == 0 && memcmp(out, html, len) == 0 && is_untouched(out, len, sizeof out));
+    CHECK(htmd_markdown_to_html((const uint8_t *)"a\xff", 2, out, len, &needed, &place) == HTMD_NOT_UTF8);
+    CHECK(needed == 0 && place == 1);
+}
+
 int main(void) {
     test_struct();
     test_sizes();
@@ -515,6 +529,7 @@ int main(void) {
     test_pieces();
     test_numbers();
     test_utf8();
+    test_markdown();
     test_places();
     test_stack();
     test_memory();

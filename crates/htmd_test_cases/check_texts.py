@@ -149,7 +149,7 @@ def rows():
 def answer_by_rules(settings, text):
     """What the rules answer to a case; `...` if it asks for something else, nothing if its settings aren't known."""
     words = settings.split(" ")
-    if {"--guarded", "--web", "--mdast", "--chunks"}.intersection(words):
+    if {"--guarded", "--web", "--from-markdown", "--mdast", "--chunks"}.intersection(words):
         return ...
     if "text" in words or "--text" in words:
         end = question(settings)

@@ -212,6 +212,30 @@ def document(
     return json.loads(_written(html, options, _texts(select, drop, skip, base, encoding)))
 
 
+def markdown_to_html(markdown: str) -> str:
+    """The HTML of Markdown, as CommonMark 0.31.2 and GitHub (tables, strikethrough, tasks) say it.
+
+    HTML that stands in the Markdown stays as it is, also what isn't safe to show. Only `MemoryError` is raised, but
+    `TypeError` if it isn't a `str`.
+    """
+    if not isinstance(markdown, str):
+        raise TypeError(f"markdown is of type {type(markdown).__name__}, and not str")
+    text = markdown.encode("utf-8")
+    size = 2 * len(text) + _SPARE
+    needed = ctypes.c_size_t()
+    place = ctypes.c_size_t()
+    while True:
+        out = bytearray(size)
+        buffer = ctypes.c_uint8.from_buffer(out)
+        status = _library.markdown_to_html(text, len(text), buffer, size, needed, place)
+        if status != _library.TOO_SMALL:
+            break
+        size = needed.value
+    if status == _library.DONE:
+        return str(memoryview(out)[: needed.value], "utf-8")
+    raise _error(status, text, {}, place.value, 0)
+
+
 #: The names of the texts that a page's struct holds, in order.
 _TEXTS = ("select", "drop", "skip", "base", "encoding")
 

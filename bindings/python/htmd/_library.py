@@ -131,6 +131,10 @@ convert_page.argtypes = [
     ctypes.POINTER(ctypes.c_uint8),
 ]
 
+markdown_to_html = _loaded.htmd_markdown_to_html
+markdown_to_html.restype = ctypes.c_uint32
+markdown_to_html.argtypes = [ctypes.c_char_p, _size, ctypes.POINTER(ctypes.c_uint8), _size, _size_out, _size_out]
+
 line_and_column = _loaded.htmd_line_and_column
 line_and_column.restype = ctypes.c_uint32
 line_and_column.argtypes = [ctypes.c_char_p, _size, _size, _size_out, _size_out]

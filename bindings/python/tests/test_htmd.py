@@ -68,6 +68,14 @@ class Conversions(unittest.TestCase):
         self.assertEqual(htmd.convert(PAGE.encode()), "# Hi")
         self.assertEqual(htmd.convert(""), "")
 
+    def test_markdown(self):
+        html = '<p>a <em>b</em></p>\n<ul>\n<li><input disabled="" type="checkbox"> \xe9</li>\n</ul>\n'
+        self.assertEqual(htmd.markdown_to_html("a *b*\n\n- [ ] \xe9"), html)
+        self.assertEqual(htmd.markdown_to_html(""), "")
+        self.assertEqual(htmd.markdown_to_html(">" * 5000).count("<blockquote>"), 5000)
+        with self.assertRaises(TypeError):
+            htmd.markdown_to_html(b"a")
+
     def test_readers(self):
         self.assertEqual(htmd.convert("<ul><li>a<li>b</ul><p>x<b>y<p>z"), "*   a\n*   b\n\nx**y**\n\n**z**")
         self.assertEqual(htmd.convert(PAGE, reader="html5"), "# Hi")

@@ -1,5 +1,5 @@
 -- What the bytes of an input become, and why they become nothing.
-use Rattle.std.proofs.Common.{◌≡◌, ◌∙◌, ap, sym, subst, ℕ, Bool, true, false, List, [], ◌∷◌, ◌++◌, length, map, eqb}
+use Rattle.std.proofs.Common.{◌≡◌, ◌∙◌, ◌||◌, ap, sym, subst, ℕ, Bool, true, false, List, [], ◌∷◌, ◌++◌, length, map, eqb}
 use Rattle.std.proofs.Common.{MatchBool, Option, Some, None, arith, codes, refl}
 use Rattle.std.specs.Option.{option_or}
 use Rattle.std.proofs.lemmas.Bool.Decides.{nat_tests}
@@ -9,11 +9,11 @@ use Rattle.htmd_walk.specs.Choice.{Config, no_handler, with_handler}
 use Rattle.htmd_nodes.specs.Items.{Item, document_item, new_item, element_node, text_node}
 use Rattle.htmd_lexical.specs.AttributePairs.{AttributePair}
 use Rattle.htmd_encodings.specs.Decoding.{page_text}
-use Rattle.htmd.specs.PageSettings.{PageInRun, Settings, alone, settings_for}
+use Rattle.htmd.specs.PageSettings.{PageInRun, Settings, alone, is_any_page, is_markdown, settings_for, writes_html}
 use Rattle.htmd.specs.declared.page_error.PageError.{PageError}
 use Rattle.htmd.specs.declared.page_error.PageError.TheVariants.{Memory}
 use Rattle.htmd.specs.PageOutputs.{skipping, IsFaultOf, IsOutputBy, IsOutputOf, IsReadable, IsUnselected}
-use Rattle.htmd.specs.PageOutputs.{SelectsNothing, reads_any, text_in, empty_paragraph, paragraph}
+use Rattle.htmd.specs.PageOutputs.{SelectsNothing, html_of_markdown, reads_any, text_in, empty_paragraph, paragraph}
 
 -- one equation after the other
 pub then_same : (x y z : Config) → x ≡ y → y ≡ z → x ≡ z
@@ -79,26 +79,58 @@ readable_page settings any input text a t e =
     (match_true _ _ (reads_any settings) reads tt, rw (reads, e) refl)
 
 -- of UTF-8 alone
-pub readable_utf8 : (settings : Settings) (any : Bool) (input text : List ℕ) → any ≡ reads_any settings
+pub readable_utf8 : (settings : Settings) (any markdown : Bool) (input text : List ℕ) → any ≡ reads_any settings
     → any ≡ false
-    → IsUtf8 input → text ≡ input
+    → IsUtf8 input → markdown ≡ is_markdown settings → markdown ≡ false → text ≡ input
     → IsReadable settings input × (text ≡ text_in settings input)
-readable_utf8 settings any input text a f u e =
+readable_utf8 settings any markdown input text a f u m n e =
     let strict : reads_any settings ≡ false = sym a ∙ f in
-    (match_false _ _ (reads_any settings) strict u, rw strict e)
+    let html : is_markdown settings ≡ false = sym m ∙ n in
+    (match_false _ _ (reads_any settings) strict u, rw (strict, html) e)
+
+-- of Markdown
+pub readable_markdown : (settings : Settings) (any markdown : Bool) (input given text : List ℕ)
+    → any ≡ reads_any settings → any ≡ false
+    → IsUtf8 input → markdown ≡ is_markdown settings → markdown ≡ true → given ≡ input → text ≡ html_of_markdown given
+    → IsReadable settings input × (text ≡ text_in settings input)
+readable_markdown settings any markdown input given text a f u m n g e =
+    let strict : reads_any settings ≡ false = sym a ∙ f in
+    let html : is_markdown settings ≡ true = sym m ∙ n in
+    (match_false _ _ (reads_any settings) strict u, rw (strict, html) (e ∙ ap html_of_markdown g))
 
 -- or there is no memory for it
 pub out_of_memory : (settings : Settings) (input : List ℕ) (e : PageError) → e ≡ Memory
     → IsFaultOf settings input e
 out_of_memory settings input e m = subst (IsFaultOf settings input) (sym m) tt
 
+-- ---- the strict reader reads it
+
+neither : (a b : Bool) → (a || b) ≡ false → (a ≡ false) × (b ≡ false)
+neither true b e = absurd (cc)
+neither false b e = (refl, e)
+
+pub no_markdown : (settings : Settings) (any : Bool) → any ≡ is_any_page settings → any ≡ false
+    → settings.from_markdown ≡ false
+no_markdown settings any a f = (neither settings.from_markdown settings.html5 (sym a ∙ f)).0
+
+pub no_html5 : (settings : Settings) (any : Bool) → any ≡ is_any_page settings → any ≡ false
+    → settings.html5 ≡ false
+no_html5 settings any a f = (neither settings.from_markdown settings.html5 (sym a ∙ f)).1
+
 -- ---- what the text becomes
 
 -- its tree, and what is written of it
 pub of_readable : (settings : Settings) (input text found output : List ℕ)
-    → IsReadable settings input × (text ≡ text_in settings input) → found ≡ text
+    → IsReadable settings input × (text ≡ text_in settings input) → writes_html settings ≡ false → found ≡ text
     → IsOutputBy settings found output → IsOutputOf settings input output
-of_readable settings input text found output (r, t) f m = (r, subst (λ x. IsOutputBy settings x output) (f ∙ t) m)
+of_readable settings input text found output (r, t) h f m =
+    (r, match_false _ _ (writes_html settings) h (subst (λ x. IsOutputBy settings x output) (f ∙ t) m))
+
+-- the text itself, as HTML of Markdown
+pub of_html : (settings : Settings) (input text output : List ℕ)
+    → IsReadable settings input × (text ≡ text_in settings input) → writes_html settings ≡ true → output ≡ text
+    → IsOutputOf settings input output
+of_html settings input text output (r, t) h o = (r, match_true _ _ (writes_html settings) h (o ∙ t))
 
 -- nothing of it is selected
 pub of_unselected : (settings : Settings) (input text found : List ℕ)

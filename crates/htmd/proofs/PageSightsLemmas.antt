@@ -1,5 +1,5 @@
 -- What a reader of CommonMark sees of what a page becomes.
-use Rattle.std.proofs.Common.{◌≡◌, ◌<◌, ◌^◌, ◌∙◌, ℕ, List, length, sym, subst, Some}
+use Rattle.std.proofs.Common.{◌≡◌, ◌<◌, ◌^◌, ◌∙◌, ℕ, List, length, sym, subst, Some, true, false}
 use Rattle.htmd_commonmark.specs.DocumentMarkdown.{markdown_of}
 use Rattle.htmd_nodes.specs.Items.{Item}
 use Rattle.htmd.specs.PageDocuments.{document_options}
@@ -18,7 +18,8 @@ use Rattle.htmd_law_reading.proofs.PieceLaws.{page_pieces_read_back}
 use Rattle.htmd.specs.PageChanges.{head_of, part_of}
 use Rattle.htmd.specs.PageOutputs.{IsTreeBy, document_in, pieces_output, text_in}
 use Rattle.htmd.specs.PageSights.{sight_in, AreSeenPieces, IsSeenBy, IsSeen}
-use Rattle.htmd.specs.PageSettings.{Settings}
+use Rattle.htmd.specs.PageSettings.{Settings, writes_html}
+use Rattle.htmd.proofs.PageOutputsLemmas.{match_false, match_true}
 
 -- the Markdown of the document of a tree
 pub seen_in : (settings : Settings) (tree : List Item) (markdown : List ℕ) → HoldTexts tree
@@ -53,14 +54,19 @@ pieces_seen settings most head items output texts e =
 
 -- what is written of the part of the tree that the bytes' text has, after what its head says
 pub seen_of : (settings : Settings) (bytes text found : List ℕ) (page part : List Item) (head output : List ℕ)
-    → text ≡ text_in settings bytes → found ≡ text → IsTreeBy settings found page
+    → text ≡ text_in settings bytes → writes_html settings ≡ false → found ≡ text → IsTreeBy settings found page
     → part_of settings page ≡ Some part
     → head ≡ head_of settings page → IsSeenBy settings.chunks settings head part output
     → IsSeen settings bytes output
-seen_of settings bytes text found page part head output t f by p h s = (
+seen_of settings bytes text found page part head output t w f by p h s = match_false _ _ (writes_html settings) w (
   page,
   subst (λ (x : List ℕ). IsTreeBy settings x page) (f ∙ t) by,
   part,
   p,
   subst (λ (x : List ℕ). IsSeenBy settings.chunks settings x part output) h s,
 )
+
+-- or its HTML is written
+pub html_written : (settings : Settings) (bytes output : List ℕ) → writes_html settings ≡ true
+    → IsSeen settings bytes output
+html_written settings bytes output w = match_true _ _ (writes_html settings) w tt

@@ -26,8 +26,10 @@ use Rattle.htmd_encodings.specs.Decoding.{page_text}
 use Rattle.htmd_html5.specs.Html5Documents.{html5_document}
 use Rattle.htmd.specs.declared.page_error.PageError.{PageError}
 use Rattle.htmd.specs.declared.page_error.PageError.TheVariants.{NotUtf8, Refused, NothingSelected, Memory}
-use Rattle.htmd.specs.PageSettings.{Settings}
+use Rattle.htmd.specs.PageSettings.{Settings, is_any_page, is_markdown, writes_html}
 use Rattle.htmd.specs.PageChanges.{head_of, part_of, visible_part}
+use Rattle.htmd_commonmark_reading.specs.Reading.{read}
+use Rattle.htmd_commonmark_reading.specs.Rendering.{html_of}
 
 -- the Document, and under it a `p`
 abbrev pub empty_paragraph : List Item
@@ -57,15 +59,21 @@ paragraph_output config text = paragraph_markdown config text ++ line_feed ∷ [
 
 -- the bytes of an input are read as browsers read them, in any encoding
 abbrev pub reads_any : Settings → Bool
-reads_any settings = settings.html5 && not settings.text
+reads_any settings = not settings.from_markdown && settings.html5 && not settings.text
+
+-- the HTML of a text of Markdown
+unfoldable pub html_of_markdown : List ℕ → List ℕ
+html_of_markdown text = html_of (read text)
 
 -- the bytes hold a text: in their encoding, whatever they are, if all are read, else only in UTF-8
 abbrev pub IsReadable : Settings → List ℕ → Type 0
 IsReadable settings bytes = MatchBool (reads_any settings) ⊤ (IsUtf8 bytes)
 
--- the text that they hold
+-- the text of the page that they hold: the HTML of Markdown
 abbrev pub text_in : Settings → List ℕ → List ℕ
-text_in settings bytes = if reads_any settings then page_text settings.encoding bytes else bytes
+text_in settings bytes =
+    if reads_any settings then page_text settings.encoding bytes
+    else if is_markdown settings then html_of_markdown bytes else bytes
 
 -- what a reader sees of a tree
 abbrev pub document_in : Settings → List Item → Blocks
@@ -87,7 +95,7 @@ pub record IsHtml5Tree (scripting : Bool) (html : List ℕ) (page : List Item) :
 abbrev pub IsTreeBy : Settings → List ℕ → List Item → Type 0
 IsTreeBy settings input page =
     MatchBool settings.text (page ≡ paragraph input)
-    (MatchBool settings.html5 (IsHtml5Tree settings.scripting input page)
+    (MatchBool (is_any_page settings) (IsHtml5Tree settings.scripting input page)
     (IsTreeOf settings.scripting (strict_part settings input) page))
 
 -- the main content of the page that an input is, without what it hides if that isn't converted, and the rule by which
@@ -162,7 +170,10 @@ IsRefusedBy settings input place kind =
 
 -- the bytes hold a text, and this is what it becomes
 abbrev pub IsOutputOf : Settings → List ℕ → List ℕ → Type 0
-IsOutputOf settings bytes output = IsReadable settings bytes × IsOutputBy settings (text_in settings bytes) output
+IsOutputOf settings bytes output =
+    IsReadable settings bytes
+    × MatchBool (writes_html settings) (output ≡ text_in settings bytes)
+    (IsOutputBy settings (text_in settings bytes) output)
 
 -- the bytes hold the text of a page, of which no element is selected
 abbrev pub IsUnselected : Settings → List ℕ → Type 0

@@ -1,5 +1,5 @@
 -- How a page is read, and how it is converted; and what a run over several pages adds to that.
-use Rattle.std.specs.Prelude.{Bool, true, false, List, [], ℕ, map, Option, None, option_copied, option_map}
+use Rattle.std.specs.Prelude.{◌&&◌, ◌||◌, not, Bool, true, false, List, [], ℕ, map, Option, None, option_copied, option_map}
 use Rattle.std.specs.Option.{option_or}
 use Rattle.htmd_document_of_tree.specs.declared.anchors.Anchors.{Anchors}
 use Rattle.htmd_document_of_tree.specs.declared.anchors.Anchors.TheVariants as which
@@ -23,8 +23,12 @@ pub record Settings : Type 0 where
   pub body : Bool
   -- the input is any page, as browsers read it
   pub html5 : Bool
+  -- the input is Markdown, whose HTML is read as any page, unless it is one paragraph
+  pub from_markdown : Bool
   -- the encoding of bytes without a mark, if it is given
   pub encoding : Option Encoding
+  -- that HTML is written as it is
+  pub as_html : Bool
   -- what a reader sees of the page is written
   pub guarded : Bool
   -- that is written as JSON, in the form of mdast
@@ -62,13 +66,27 @@ pub record Settings : Type 0 where
   -- what the head of the page says of it is written first, or in each piece
   pub front_matter : Bool
 
+-- a page is read as browsers read it
+abbrev pub is_any_page : Settings → Bool
+is_any_page settings = settings.from_markdown || settings.html5
+
+-- the bytes of an input are Markdown
+abbrev pub is_markdown : Settings → Bool
+is_markdown settings = settings.from_markdown && not settings.text
+
+-- their HTML is written as it is
+abbrev pub writes_html : Settings → Bool
+writes_html settings = settings.as_html && is_markdown settings
+
 -- the settings that are held
 abbrev pub settings_in : held.PageSettings → Settings
 settings_in settings = record {
   text = settings.text;
   body = settings.body;
   html5 = settings.html5;
+  from_markdown = settings.from_markdown;
   encoding = settings.encoding;
+  as_html = settings.as_html;
   guarded = settings.guarded;
   mdast = settings.mdast;
   chunks = settings.chunks;
@@ -96,7 +114,9 @@ default_settings = record {
   text = false;
   body = false;
   html5 = false;
+  from_markdown = false;
   encoding = None;
+  as_html = false;
   guarded = false;
   mdast = false;
   chunks = None;

@@ -1,5 +1,5 @@
 -- What a reader of CommonMark sees of what a page becomes.
-use Rattle.std.specs.Prelude.{◌≡◌, ℕ, true, false, All, List, Option, Some, None}
+use Rattle.std.specs.Prelude.{◌≡◌, ℕ, true, false, All, List, MatchBool, Option, Some, None, ⊤}
 use Rattle.htmd_nodes.specs.Items.{Item}
 use Rattle.htmd_nodes.specs.NumberedTrees.{tree_of}
 use Rattle.htmd_shown.specs.Shown.{Sight}
@@ -11,7 +11,7 @@ use Rattle.htmd_law_reading.specs.ReadingLaws.{IsSeenIn, Shows}
 use Rattle.htmd.specs.PageChanges.{head_of, part_of}
 use Rattle.htmd.specs.PageDocuments.{document_options}
 use Rattle.htmd.specs.PageOutputs.{IsTreeBy, after_head, document_in, front_in, text_in}
-use Rattle.htmd.specs.PageSettings.{Settings}
+use Rattle.htmd.specs.PageSettings.{Settings, writes_html}
 
 -- whether scripts run, what is skipped, and whether the document is rich
 abbrev pub sight_in : Settings → Sight
@@ -40,9 +40,13 @@ abbrev pub IsSeenBy : Option ℕ → Settings → List ℕ → List Item → Lis
 IsSeenBy None settings head tree output = IsSeenAfter settings head tree output
 IsSeenBy (Some most) settings head tree output = AreSeenPieces settings head tree output
 
--- So a reader sees the part of a page that is converted, in what the bytes of the page become.
-abbrev pub IsSeen : Settings → List ℕ → List ℕ → Type 0
-IsSeen settings bytes output =
+-- the part of a page that is converted is seen in what the bytes of the page become
+abbrev pub IsPartSeen : Settings → List ℕ → List ℕ → Type 0
+IsPartSeen settings bytes output =
     (page : List Item) × IsTreeBy settings (text_in settings bytes) page
     × (part : List Item) × (part_of settings page ≡ Some part)
     × IsSeenBy settings.chunks settings (head_of settings page) part output
+
+-- So a reader sees the part of a page that is converted, unless its HTML is written.
+abbrev pub IsSeen : Settings → List ℕ → List ℕ → Type 0
+IsSeen settings bytes output = MatchBool (writes_html settings) ⊤ (IsPartSeen settings bytes output)

@@ -5,7 +5,7 @@ ghost use Rattle.htmd_walk.specs.BuiltIn.{built_in};
 ghost use Rattle.htmd_walk.specs.Defaults.{default_options};
 ghost use Rattle.htmd.specs.Converters.{handlers_built, skipped_built};
 ghost use Rattle.htmd.specs.PageOutputs.{IsFaultOf, IsMainContent, IsOutputOf, text_in};
-ghost use Rattle.htmd.specs.PageSettings.{page_in, settings_for, settings_in};
+ghost use Rattle.htmd.specs.PageSettings.{page_in, settings_for, settings_in, writes_html};
 ghost use Rattle.htmd.specs.PageSights.{IsSeen};
 
 use crate::converter::{HtmlToMarkdown, HtmlToMarkdownBuilder};
@@ -87,6 +87,13 @@ impl<R: Registry> PageConverter<'_, '_, R> {
         ensures { result ≡ is_some (settings_of self.now).chunks }
     {
         self.settings.chunks.is_some()
+    }
+
+    /// Whether pages of Markdown become their HTML.
+    pub fn writes_html(&self) -> bool
+        ensures { result ≡ writes_html (settings_of self.now) }
+    {
+        self.settings.writes_html()
     }
 
     /// What the bytes of a page become by itself, as `convert_page` gives it.

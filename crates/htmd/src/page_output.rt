@@ -26,6 +26,7 @@ use crate::paragraph::paragraph_of;
 use htmd_article::{Article, article_of};
 use htmd_chunks::{chunks, to_json_lines};
 use htmd_commonmark::to_markdown;
+use htmd_commonmark_reader::markdown_to_html;
 use htmd_document::Document;
 use htmd_encodings::page_text;
 use htmd_html5::parse_html5;
@@ -66,11 +67,20 @@ pub(crate) fn converter_by<H: Registrar + Drop>(
 fn reads_any(settings: &PageSettings<'_>) -> bool
     ensures { result ≡ spec.reads_any (settings_in settings.now) }
 {
-    settings.html5 && !settings.text
+    !settings.from_markdown && settings.html5 && !settings.text
 }
 
-/// The text that the bytes of an input hold: in their encoding if any page is read, else only in UTF-8.
-#[tactic(auto, using(crate::proofs::PageOutputsLemmas::readable_page, crate::proofs::PageOutputsLemmas::readable_utf8, crate::proofs::PageOutputsLemmas::out_of_memory))]
+/// The HTML of Markdown.
+#[tactic(auto, unfolding(crate::specs::PageOutputs::html_of_markdown))]
+fn html_of(alloc: Global, markdown: &str) -> Result<String, AllocError>
+    ensures { IfOk result (λ html. string_bytes html ≡ spec.html_of_markdown markdown.now) }
+{
+    markdown_to_html(alloc, markdown)
+}
+
+/// The text of the page that the bytes of an input hold: in their encoding if any page is read, else only in UTF-8; of
+/// Markdown its HTML.
+#[tactic(auto, using(crate::proofs::PageOutputsLemmas::readable_page, crate::proofs::PageOutputsLemmas::readable_markdown, crate::proofs::PageOutputsLemmas::readable_utf8, crate::proofs::PageOutputsLemmas::out_of_memory))]
 fn text_of<'a>(
     alloc: Global,
     settings: &PageSettings<'_>,
@@ -83,13 +93,17 @@ fn text_of<'a>(
     if reads_any(settings) {
         return Ok(page_text(alloc, settings.encoding, input)?);
     }
-    match str::from_utf8(input) {
-        Ok(text) => Ok(CowStr::Borrowed(text)),
-        Err(_) => Err(PageError::NotUtf8),
+    let Ok(text) = str::from_utf8(input) else {
+        return Err(PageError::NotUtf8);
+    };
+    if settings.is_markdown() {
+        return Ok(CowStr::Owned(html_of(alloc, text)?));
     }
+    Ok(CowStr::Borrowed(text))
 }
 
 /// The tree of an input, by the reader that the settings name.
+#[tactic(auto, using(crate::proofs::PageOutputsLemmas::no_markdown, crate::proofs::PageOutputsLemmas::no_html5))]
 fn tree_by<H: Registry>(
     alloc: Global,
     converter: &HtmlToMarkdown<H>,
@@ -102,13 +116,15 @@ fn tree_by<H: Registry>(
         → settings.now.text ≡ false }
     ensures refused_strict { (place : ℕ) (kind : FaultKind) → result ≡ Err (ConvertError.Refused place kind)
         → settings.now.html5 ≡ false }
+    ensures refused_page { (place : ℕ) (kind : FaultKind) → result ≡ Err (ConvertError.Refused place kind)
+        → settings.now.from_markdown ≡ false }
     ensures refused { (place : ℕ) (kind : FaultKind) → result ≡ Err (ConvertError.Refused place kind)
         → IsRefusedBy (settings_in settings.now) input.now place kind }
 {
     if settings.text {
         return Ok(paragraph_of(alloc, input)?);
     }
-    if settings.html5 {
+    if settings.is_any_page() {
         let page = parse_html5(alloc, input, settings.scripting)?;
         // Its contract says that the page is a tree, and that its texts are UTF-8.
         let _root = page.root();
@@ -288,6 +304,9 @@ pub(crate) fn output_of<H: Registry>(
         (settings_for (page_in in_run.now) (settings_in settings.now)) input.now) }
 {
     let text = text_of(alloc, settings, input)?;
+    if settings.writes_html() {
+        return Ok(text.into_owned(alloc)?);
+    }
     let page = tree_by(alloc, converter, settings, &text)?;
     let head = head_of(alloc, settings, &page)?;
     let Some(part) = part_of(alloc, settings, in_run, page)? else {

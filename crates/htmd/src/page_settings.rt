@@ -1,7 +1,7 @@
 //! How a page is read, and how it is converted.
 
 ghost use Rattle.std.specs.Prelude.{◌≡◌};
-ghost use Rattle.htmd.specs.PageSettings.{alone, default_settings, page_in, settings_in};
+ghost use Rattle.htmd.specs.PageSettings.{alone, default_settings, is_any_page, is_markdown, page_in, settings_in, writes_html};
 
 use htmd_addresses::RunPage;
 use htmd_document_of_tree::Anchors;
@@ -23,8 +23,14 @@ pub struct PageSettings<'a> {
     /// The input is any page, as browsers read it: bytes that aren't UTF-8 are decoded, and nothing is refused. Then
     /// `body` has no effect.
     pub html5: bool,
+    /// The input is Markdown in UTF-8, and the page is its HTML, which is read as browsers read it. Then `body`, `html5`
+    /// and `encoding` have no effect.
+    pub from_markdown: bool,
     /// The encoding of any page whose bytes have no mark, if it is known. Otherwise the page's own declaration counts.
     pub encoding: Option<Encoding>,
+    /// With `from_markdown`: the HTML of the Markdown is written as it is. Then all that says what is converted and how
+    /// has no effect.
+    pub as_html: bool,
     /// What a reader sees of the page is written, so that a reader of CommonMark reads it back.
     pub guarded: bool,
     /// What a reader sees of the page is written as JSON, in the form of mdast. Then `guarded` has no effect.
@@ -82,7 +88,9 @@ impl<'a> PageSettings<'a> {
             text: false,
             body: false,
             html5: false,
+            from_markdown: false,
             encoding: None,
+            as_html: false,
             guarded: false,
             mdast: false,
             chunks: None,
@@ -101,6 +109,27 @@ impl<'a> PageSettings<'a> {
             base: None,
             front_matter: false,
         }
+    }
+
+    /// Whether a page is read as browsers read it.
+    pub fn is_any_page(&self) -> bool
+        ensures { result ≡ is_any_page (settings_in self.now) }
+    {
+        self.from_markdown || self.html5
+    }
+
+    /// Whether an input is Markdown: a text that is one paragraph isn't.
+    pub fn is_markdown(&self) -> bool
+        ensures { result ≡ is_markdown (settings_in self.now) }
+    {
+        self.from_markdown && !self.text
+    }
+
+    /// Whether the HTML of Markdown is written as it is.
+    pub fn writes_html(&self) -> bool
+        ensures { result ≡ writes_html (settings_in self.now) }
+    {
+        self.as_html && self.is_markdown()
     }
 }
 

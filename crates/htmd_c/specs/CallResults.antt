@@ -30,6 +30,17 @@ pub record IsTooLong (settings : Settings) (html before : List ℕ) (needed : �
   pub is_length : needed ≡ length output
   pub has_no_room : length before < length output
 
+-- this text stands at the front of the buffer; what follows it is as it was
+pub record IsFront (text before after : List ℕ) (needed : ℕ) : Type 0 where
+  pub is_length : needed ≡ length text
+  pub has_room : length text ≤ length before
+  pub is_written : after ≡ text ++ drop (length text) before
+
+-- this text is longer than the buffer
+pub record HasNoRoom (text before : List ℕ) (needed : ℕ) : Type 0 where
+  pub is_length : needed ≡ length text
+  pub has_no_room : length before < length text
+
 -- the text is refused at this place, with the kind of this number
 pub record IsRefusedAt (settings : Settings) (html : List ℕ) (place number : ℕ) : Type 0 where
   pub kind : FaultKind

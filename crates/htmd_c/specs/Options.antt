@@ -180,7 +180,9 @@ settings_of given = record {
   text = false;
   body = given.reader == page;
   html5 = given.reader == html5;
+  from_markdown = false;
   encoding = Some Utf8;
+  as_html = false;
   guarded = given.mode == guarded;
   mdast = given.output == mdast;
   chunks = chunks given.chunk_bytes;

@@ -8,7 +8,9 @@ ghost use Rattle.std.specs.Str.{IsValidUpTo};
 ghost use Rattle.htmd.specs.Lines.{characters, line_front, lines_ended};
 ghost use Rattle.htmd_c.specs.Options as spec;
 ghost use Rattle.htmd_c.specs.CallResults.{BySettings, HasNoneSelected, IsRefusedAt, IsTooLong};
-ghost use Rattle.htmd_c.specs.CallResults.{IsWritten};
+ghost use Rattle.htmd_c.specs.CallResults.{HasNoRoom, IsFront, IsWritten};
+ghost use Rattle.htmd_commonmark_reading.specs.Reading.{read};
+ghost use Rattle.htmd_commonmark_reading.specs.Rendering.{html_of};
 ghost use Rattle.htmd_c.specs.CallResults.{status_of};
 ghost use Rattle.htmd_c.specs.PageOptions.{AreNoNames, AreNoSelectors, IsNoBase, IsNoEncoding};
 ghost use Rattle.htmd_grammar.specs.declared.fault.FaultKind.{FaultKind};
@@ -20,7 +22,7 @@ mod output;
 mod page_options;
 
 use failures::Failure;
-use htmd::{PageError, line_and_column};
+use htmd::{PageError, line_and_column, markdown_to_html};
 pub use options::HtmdOptions;
 use options::default_struct;
 use output::{output_of, page_output_of};
@@ -210,6 +212,42 @@ pub extern "C" fn htmd_convert_page(
         }
         Err(failure) => report(page, &failure, place, kind),
     }
+}
+
+/// Writes the HTML of Markdown in UTF-8 to the front of the buffer, as `markdown_to_html` of `htmd` makes it. The status
+/// says what was done; only `DONE` writes to the buffer, and `needed` and `place` are 0 where they say nothing.
+#[unsafe(no_mangle)]
+pub extern "C" fn htmd_markdown_to_html(
+    alloc: Global,
+    markdown: &[u8],
+    out: &mut [u8],
+    needed: &mut usize,
+    place: &mut usize,
+) -> u32
+    ensures done { result ≡ DONE → IsFront (html_of (read markdown.now)) out.old out.new needed.new }
+    ensures too_small { result ≡ TOO_SMALL → HasNoRoom (html_of (read markdown.now)) out.old needed.new }
+    ensures utf8 { result ≤ TOO_SMALL → IsUtf8 markdown.now }
+    ensures not_utf8 { result ≡ NOT_UTF8 → (¬ IsUtf8 markdown.now) × IsValidUpTo markdown.now place.new }
+    ensures statuses { result ≤ NO_MEMORY }
+    ensures not_refused { result ≢ REFUSED }
+    ensures untouched { result ≢ DONE → out.new ≡ out.old }
+    ensures needs_nothing { result ≢ DONE → result ≢ TOO_SMALL → needed.new ≡ 0 }
+    ensures no_place { result ≢ NOT_UTF8 → place.new ≡ 0 }
+{
+    *needed = 0;
+    *place = 0;
+    let text = match str::from_utf8(markdown) {
+        Ok(text) => text,
+        Err(fault) => {
+            *place = fault.valid_up_to();
+            return NOT_UTF8;
+        }
+    };
+    let Ok(html) = markdown_to_html(alloc, text) else {
+        return NO_MEMORY;
+    };
+    *needed = html.len();
+    write_front(html.as_bytes(), out)
 }
 
 /// The line and the column of a byte place in a text, both from 1, as `line_and_column` gives them; both 0 if the bytes

@@ -17,7 +17,7 @@ use Rattle.htmd_encodings.specs.Labels.{encoding_named}
 use Rattle.htmd.specs.PageSettings.{settings_in}
 use Rattle.htmd_cli.specs.Options.{Request, KnownOption, sets, sets_option, skips, takes_rows, shows_instead, number}
 use Rattle.htmd.specs.PageValues.{parts, is_filled, selectors, url}
-use Rattle.htmd_cli.specs.Options.{cuts, size, selects, drops, is_based_on, takes_any_page_guarded, takes_faithful}
+use Rattle.htmd_cli.specs.Options.{cuts, size, selects, drops, is_based_on, takes_any_page_guarded, takes_faithful, takes_markdown}
 
 -- the setting is told by a value
 abbrev pub takes_value : Setting → Bool
@@ -66,8 +66,10 @@ effect_of setting.Text value = Some (sets (λ settings. record settings { text =
 effect_of setting.Body value = Some (sets (λ settings. record settings { body = true }))
 effect_of setting.Html5 value = Some (sets (λ settings. record settings { html5 = true }))
 effect_of setting.Web value = Some takes_any_page_guarded
+effect_of setting.FromMarkdown value = Some takes_markdown
 effect_of setting.Rows value = Some takes_rows
 effect_of setting.Faithful value = Some takes_faithful
+effect_of setting.Html value = Some (sets (λ settings. record settings { as_html = true }))
 effect_of setting.Guarded value = Some (sets (λ settings. record settings { guarded = true }))
 effect_of setting.Mdast value = Some (sets (λ settings. record settings { mdast = true }))
 effect_of (setting.Chunks most) value = Some (cuts most)

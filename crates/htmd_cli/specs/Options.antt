@@ -26,7 +26,7 @@ use Rattle.htmd_encodings.specs.Labels.{encoding_named}
 use Rattle.htmd_selectors.specs.SelectorSteps.{Step}
 use Rattle.htmd_addresses.specs.PageUrls.{page_url}
 use Rattle.url.specs.Parts.{Parts}
-use Rattle.htmd.specs.PageSettings.{Settings, default_settings}
+use Rattle.htmd.specs.PageSettings.{Settings, default_settings, writes_html}
 use Rattle.htmd.specs.PageValues.{is_filled, parts, selectors, url}
 
 -- what the options ask for: the settings, whether the source is rows with a page each, and whether the help or the
@@ -94,10 +94,10 @@ is_based_on url = sets (λ settings. record settings { base = Some url })
 abbrev pub url_in_folder : Option Parts → List ℕ → Option Parts
 url_in_folder base path = option_and_then (λ url. page_url url path) base
 
--- what the names of outputs end with, behind a full stop: lines of JSON, one JSON, or Markdown
+-- what the names of outputs end with, behind a full stop: HTML, lines of JSON, one JSON, or Markdown
 abbrev pub extension : Settings → List ℕ
 extension settings =
-    if is_some settings.chunks then codes "jsonl" else if settings.mdast then codes "json" else codes "md"
+    if writes_html settings then codes "html" else if is_some settings.chunks then codes "jsonl" else if settings.mdast then codes "json" else codes "md"
 
 -- what a reader sees is written in pieces of at most so many bytes
 abbrev pub cuts : ℕ → Request → Request
@@ -106,6 +106,10 @@ cuts most = sets (λ settings. record settings { chunks = Some most })
 -- any page, and what a reader sees of it is written
 abbrev pub takes_any_page_guarded : Request → Request
 takes_any_page_guarded = sets (λ settings. record settings { html5 = true; guarded = true })
+
+-- Markdown, and what a reader sees of its HTML is written
+abbrev pub takes_markdown : Request → Request
+takes_markdown = sets (λ settings. record settings { from_markdown = true; html5 = true; guarded = true })
 
 -- Faithful, in place of what a reader sees
 abbrev pub takes_faithful : Request → Request
@@ -186,6 +190,7 @@ abbrev pub known_options : List KnownOption
 known_options =
     plain (codes "--web") takes_any_page_guarded
     ∷ plain (codes "--html5") (sets (λ settings. record settings { html5 = true }))
+    ∷ plain (codes "--from-markdown") takes_markdown
     ∷ plain (codes "--body") (sets (λ settings. record settings { body = true }))
     ∷ plain (codes "--text") (sets (λ settings. record settings { text = true }))
     ∷ labelled (codes "--encoding=") (λ e. sets (λ settings. record settings { encoding = Some e }))
@@ -194,6 +199,7 @@ known_options =
     ∷ plain (codes "--explain") (λ request. request)
     ∷ plain (codes "--guarded") (sets (λ settings. record settings { guarded = true }))
     ∷ plain (codes "--faithful") takes_faithful
+    ∷ plain (codes "--html") (sets (λ settings. record settings { as_html = true }))
     ∷ plain (codes "--mdast") (sets (λ settings. record settings { mdast = true }))
     ∷ sized (codes "--chunks=") cuts
     ∷ plain (codes "--chunks") (cuts 2000)

@@ -1,17 +1,17 @@
 -- What a run reads and writes, if the bytes of its source and sink are known, and how it ends.
-use Rattle.std.specs.Prelude.{◌≡◌, ℕ, if◌then◌else◌, List, [], ◌∷◌, ◌++◌, false, Option, is_some, IfSome}
+use Rattle.std.specs.Prelude.{◌≡◌, ◌||◌, ℕ, if◌then◌else◌, List, [], ◌∷◌, ◌++◌, false, Option, is_some, IfSome}
 use Rattle.std.specs.Prelude.{Result, Ok, Err, IsUtf8}
 use Rattle.std.specs.Io.KnownBytes.{Appends, IsAtEnd}
 use Rattle.htmd.specs.Characters.{line_feed}
 use Rattle.htmd.specs.declared.page_error.PageError.TheVariants.{NotUtf8, Refused, NothingSelected, Memory}
 use Rattle.htmd_cli.specs.declared.faults.StreamError.{StreamError}
 use Rattle.htmd_cli.specs.declared.faults.StreamError.TheVariants.{Page, Read, Write}
-use Rattle.htmd.specs.PageSettings.{Settings}
+use Rattle.htmd.specs.PageSettings.{Settings, writes_html}
 use Rattle.htmd.specs.PageOutputs.{IsOutputOf, IsRefusedBy, IsUnselected, reads_any}
 
--- what is written behind what a page becomes: a line feed, unless that is lines
+-- what is written behind what a page becomes: a line feed, unless that is lines or HTML
 abbrev pub ending : Settings → List ℕ
-ending settings = if is_some settings.chunks then [] else line_feed ∷ []
+ending settings = if writes_html settings || is_some settings.chunks then [] else line_feed ∷ []
 
 -- what the bytes become, with its ending, was written
 abbrev pub Writes : Settings → Option (List ℕ) → Option (List ℕ) → List ℕ → Type 0

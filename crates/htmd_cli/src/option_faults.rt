@@ -154,9 +154,30 @@ fn has_upper_case(name: &str) -> bool {
     name.as_bytes().iter().any(|byte| byte.is_ascii_uppercase())
 }
 
-/// Says, a line for each, which names of `--skip` have an upper-case letter, and that `--encoding` counts for nothing.
+/// Says which options have no effect beside the others, or none without another, a line for each.
+fn warn_of_options<W: Write>(out: &mut W, settings: &PageSettings<'_>) -> fmt::Result {
+    if settings.as_html && !settings.from_markdown {
+        out.write_str("htmd: --html has no effect without --from-markdown\n")?;
+    }
+    if !settings.from_markdown {
+        return Ok(());
+    }
+    if settings.text {
+        return out.write_str("htmd: --from-markdown has no effect with --text\n");
+    }
+    if settings.body {
+        out.write_str("htmd: --body has no effect with --from-markdown\n")?;
+    }
+    if settings.encoding.is_some() {
+        out.write_str("htmd: --encoding has no effect with --from-markdown, which reads UTF-8\n")?;
+    }
+    Ok(())
+}
+
+/// Says, a line for each, which names of `--skip` have an upper-case letter, and which options count for nothing.
 pub fn say_warnings<E: Sink>(errors: &mut E, request: &Request<'_>) {
     let mut lines = Lines { sink: errors };
+    let _ = warn_of_options(&mut lines, &request.settings);
     for name in &request.settings.skipped {
         if has_upper_case(name) {
             let _ = writeln!(

@@ -65,8 +65,10 @@ pub(crate) enum Setting {
     Body,
     Html5,
     Web,
+    FromMarkdown,
     Rows,
     Faithful,
+    Html,
     Guarded,
     Mdast,
     /// Pieces of at most so many bytes.
@@ -102,7 +104,7 @@ pub(crate) struct OptionRow {
 }
 
 /// The options that are known, by their groups.
-pub(crate) const OPTIONS: [OptionRow; 60] = [
+pub(crate) const OPTIONS: [OptionRow; 62] = [
     OptionRow {
         group: Group::Input,
         name: "--web",
@@ -118,6 +120,14 @@ pub(crate) const OPTIONS: [OptionRow; 60] = [
         setting: Setting::Html5,
         line: "reads any page, or a part of one, as browsers do",
         help: "reads any page, or a part of one, as browsers do, in the encoding that it declares",
+    },
+    OptionRow {
+        group: Group::Input,
+        name: "--from-markdown",
+        value: "",
+        setting: Setting::FromMarkdown,
+        line: "reads Markdown, and converts its HTML; has --web",
+        help: "reads Markdown, and converts its HTML as a page, by --html5 --guarded: so Markdown in one form",
     },
     OptionRow {
         group: Group::Input,
@@ -182,6 +192,14 @@ pub(crate) const OPTIONS: [OptionRow; 60] = [
         setting: Setting::Faithful,
         line: "keeps as HTML what Markdown cannot express",
         help: "keeps as HTML what Markdown cannot express",
+    },
+    OptionRow {
+        group: Group::Written,
+        name: "--html",
+        value: "",
+        setting: Setting::Html,
+        line: "with --from-markdown: writes the HTML of the Markdown",
+        help: "with --from-markdown: writes the HTML of the Markdown as it is, whatever else is asked for",
     },
     OptionRow {
         group: Group::Written,

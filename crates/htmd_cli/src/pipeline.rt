@@ -57,7 +57,8 @@ pub fn run<R: Source, W: Sink>(
     write_markdown(alloc, input.as_slice(), sink, mode)
 }
 
-/// Reads the whole source, and writes what it becomes by settings, and one line feed unless that is lines, to the sink;
+/// Reads the whole source, and writes what it becomes by settings, and one line feed unless that is lines or HTML, to the
+/// sink;
 /// also returns what was read, as `convert_stream` does it with a converter by these settings.
 pub fn run_over<R: Source, W: Sink>(
     alloc: Global,
@@ -82,7 +83,7 @@ pub fn run_over<R: Source, W: Sink>(
 }
 
 /// Reads the whole source, and writes what `PageConverter::convert` makes of it, and one line feed unless that is
-/// lines, to the sink; also returns what was read, which is nothing if the source or the memory failed while it was
+/// lines or HTML, to the sink; also returns what was read, which is nothing if the source or the memory failed while it was
 /// read. The source and the sink must not have failed before. The sink is not touched before the conversion has
 /// succeeded; after `Write` it isn't known how much was written.
 pub fn convert_stream<R: Source, W: Sink, H: Registry>(
@@ -184,11 +185,15 @@ fn write_output<W: Sink, H: Registry>(
     }
 }
 
-/// What is written behind what a page becomes: a line feed, unless that is lines.
+/// What is written behind what a page becomes: a line feed, unless that is lines or HTML.
 fn ending<H: Registry>(converter: &PageConverter<'_, '_, H>) -> &'static str
     ensures { result.now ≡ ending (settings_of converter.now) }
 {
-    if converter.writes_lines() { "" } else { "\n" }
+    if converter.writes_html() || converter.writes_lines() {
+        ""
+    } else {
+        "\n"
+    }
 }
 
 // Writes a text and its ending, and flushes.

@@ -168,7 +168,9 @@ impl<'a> Request<'a> {
     pub fn extension(&self) -> &'static str
         ensures { result.now ≡ spec.extension (request_in self.now).settings }
     {
-        if self.settings.chunks.is_some() {
+        if self.settings.writes_html() {
+            "html"
+        } else if self.settings.chunks.is_some() {
             "jsonl"
         } else if self.settings.mdast {
             "json"
@@ -256,11 +258,17 @@ impl<'a> Request<'a> {
                 settings.html5 = true;
                 settings.guarded = true;
             }
+            Setting::FromMarkdown => {
+                settings.from_markdown = true;
+                settings.html5 = true;
+                settings.guarded = true;
+            }
             Setting::Rows => self.rows = true,
             Setting::Faithful => {
                 settings.options.translation_mode = TranslationMode::Faithful;
                 settings.guarded = false;
             }
+            Setting::Html => settings.as_html = true,
             Setting::Guarded => settings.guarded = true,
             Setting::Mdast => settings.mdast = true,
             Setting::Chunks(most) => settings.chunks = Some(most),

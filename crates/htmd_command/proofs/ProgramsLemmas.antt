@@ -13,6 +13,7 @@ use Rattle.htmd_cli.specs.declared.requests.OptionFault.TheVariants as option_fa
 use Rattle.htmd_cli.specs.OptionRows.{IsOptionFault}
 use Rattle.htmd_cli.specs.Options.{Request, are_known, request_by}
 use Rattle.htmd_cli.specs.Rows.{AnswersSome, Succeeds}
+use Rattle.htmd.specs.PageSettings.{writes_html}
 use Rattle.htmd_files.specs.declared.faults.WordFault.{WordFault}
 use Rattle.htmd_files.specs.declared.faults.WordFault.TheVariants as word_fault
 use Rattle.htmd_files.specs.declared.planning.Page.{Page}
@@ -115,15 +116,18 @@ ends stem ending other last e =
     sym (reverse-append (stem ++ codes ".") ending) ∙ ap reverse e ∙ reverse-append other last
 
 -- no extension of outputs makes a name of unfinished ones
-finished_as : (lines json : Bool)
-    → AreFinished (if lines then codes "jsonl" else if json then codes "json" else codes "md")
-finished_as true json stem (other, e) =
+finished_as : (html lines json : Bool) → AreFinished (if html then codes "html"
+    else if lines then codes "jsonl" else if json then codes "json" else codes "md")
+finished_as true lines json stem (other, e) =
+    let second : 109 ≡ 97 = ap (λ s. get_or s 1 0) (ends stem (codes "html") other (codes ".htmd-partial") e) in
+    absurd (omega (arith, second))
+finished_as false true json stem (other, e) =
     let second : 110 ≡ 97 = ap (λ s. get_or s 1 0) (ends stem (codes "jsonl") other (codes ".htmd-partial") e) in
     absurd (omega (arith, second))
-finished_as false true stem (other, e) =
+finished_as false false true stem (other, e) =
     let first : 110 ≡ 108 = ap (λ s. get_or s 0 0) (ends stem (codes "json") other (codes ".htmd-partial") e) in
     absurd (omega (arith, first))
-finished_as false false stem (other, e) =
+finished_as false false false stem (other, e) =
     let first : 100 ≡ 108 = ap (λ s. get_or s 0 0) (ends stem (codes "md") other (codes ".htmd-partial") e) in
     absurd (omega (arith, first))
 
@@ -131,7 +135,7 @@ pub are_finished : (name : List ℕ) (options : List (String Global)) → name �
     → AreFinished name
 are_finished name options e =
     let settings = (request_by options).settings in
-    subst AreFinished (sym e) (finished_as (is_some settings.chunks) settings.mdast)
+    subst AreFinished (sym e) (finished_as (writes_html settings) (is_some settings.chunks) settings.mdast)
 
 -- ---- runs of jobs
 

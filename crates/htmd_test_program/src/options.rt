@@ -29,7 +29,8 @@ fn refuses_options(rt: HostRuntime) -> Result<(), Fail> {
         "--text=",
         "--body=1",
         "--html5=1",
-        "--html",
+        "--html=1",
+        "--from-markdown=1",
         "--encoding",
         "--encoding=",
         "--encoding=utf-7",
@@ -115,6 +116,33 @@ fn refuses_selectors(rt: HostRuntime) -> Result<(), Fail> {
     Ok(())
 }
 
+// An option that has no effect with the others, or none without another, is named, and the page is converted.
+#[test]
+fn tells_of_options_without_effect(rt: HostRuntime) -> Result<(), Fail> {
+    const ROWS: &[(&[&str], &str)] = &[
+        (
+            &["--html"],
+            "htmd: --html has no effect without --from-markdown\n",
+        ),
+        (
+            &["--text", "--from-markdown"],
+            "htmd: --from-markdown has no effect with --text\n",
+        ),
+        (
+            &["--encoding=utf-8", "--body", "--from-markdown"],
+            "htmd: --body has no effect with --from-markdown\n\
+            htmd: --encoding has no effect with --from-markdown, which reads UTF-8\n",
+        ),
+    ];
+    for (options, said) in ROWS {
+        let answer = called(rt.alloc(), options, b"a")?;
+        expect_that(said, answer.status == 0)?;
+        expect_text("stderr", answer.stderr.as_str(), said)?;
+        expect_text("stdout", answer.stdout.as_str(), "a\n")?;
+    }
+    Ok(())
+}
+
 // How many lines describe an option, each with what it is for. No line is longer than a terminal is wide.
 fn options_in(help: &str) -> Result<usize, Fail> {
     let mut count: usize = 0;
@@ -130,7 +158,7 @@ fn options_in(help: &str) -> Result<usize, Fail> {
 
 // Fails unless the help has a line for each option.
 fn expect_help(help: &str) -> Result<(), Fail> {
-    expect_number("options", options_in(help)?, 46)?;
+    expect_number("options", options_in(help)?, 48)?;
     let usage = "Usage: htmd [OPTION..] [FILE..]\n";
     expect_that(usage, help.starts_with(usage))?;
     for line in [

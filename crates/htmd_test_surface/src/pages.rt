@@ -121,3 +121,24 @@ fn writes_pieces_of_a_text(rt: HostRuntime) -> Result<(), Fail> {
         {\"n\":1,\"path\":[],\"start\":0,\"continues\":[\"paragraph\"],\"markdown\":\"three\"}\n",
     )
 }
+
+#[test]
+fn converts_markdown(rt: HostRuntime) -> Result<(), Fail> {
+    let alloc = rt.alloc();
+    let mut settings = any_page(alloc);
+    settings.from_markdown = true;
+    settings.guarded = true;
+    let markdown = convert_page(alloc, b"a\n=\n\n+ *b*", &settings)?;
+    expect_text("Markdown", markdown.as_str(), "# a\n\n*   *b*")?;
+    settings.as_html = true;
+    let html = convert_page(alloc, b"a\n=\n\n+ *b*", &settings)?;
+    expect_text(
+        "HTML",
+        html.as_str(),
+        "<h1>a</h1>\n<ul>\n<li><em>b</em></li>\n</ul>\n",
+    )?;
+    expect_that(
+        "not UTF-8",
+        convert_page(alloc, b"a\xff", &settings) == Err(PageError::NotUtf8),
+    )
+}
