@@ -113,6 +113,7 @@ links_as_text = record nothing { links_as_text = true }
 link-text : fate_for links_as_text None (codes "a")
     (pair (codes "href") (codes "x") ∷ pair (codes "id") (codes "y") ∷ []) page.none
     ≡ kept (one (codes "id") (codes "y"))
+unfolding chars encode
 link-text = refl
 
 video-text : fate_for links_as_text None (codes "video")
@@ -127,7 +128,7 @@ video-unseen = refl
 -- what links a heading to itself says so without its address
 link-sign : fate_for links_as_text None (codes "a") (one (codes "href") (codes "#x"))
     (page.more (page.text 1 (codes "#")) page.none) ≡ kept (one (codes "class") (codes "headerlink"))
-unfolding chars
+unfolding chars encode
 link-sign = refl
 
 -- an image stays an image
@@ -162,6 +163,7 @@ under_heading trees = page.document 0 (page.more (page.element 1 (codes "div") [
     (page.more (page.element 2 (codes "h1") [] trees) page.none)) page.none)
 
 page-titled : holds_h1 (under_heading (page.more (page.text 3 (codes "a")) page.none)) ≡ true
+unfolding chars
 page-titled = refl
 
 page-with_logo : holds_h1 (under_heading (page.more (page.element 3 (codes "img") [] page.none) page.none)) ≡ true
