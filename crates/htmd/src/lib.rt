@@ -13,6 +13,7 @@
 mod convert_error;
 mod converter;
 mod documents;
+mod markdown_documents;
 mod page_changes;
 mod page_converter;
 mod page_error;
@@ -54,6 +55,7 @@ pub use htmd_tree::{FaultKind, ReadError, body_of, line_and_column};
 pub use htmd_trimming::Images;
 pub use htmd_walk::element_handler::Element;
 pub use htmd_walk::{element_handler, options};
+pub use markdown_documents::OfMarkdown;
 pub use page_converter::{PageConverter, convert_page, main_content};
 pub use page_error::PageError;
 pub use page_settings::{PageInRun, PageSettings};

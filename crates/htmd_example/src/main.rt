@@ -18,7 +18,7 @@ use closures::shouted;
 use documents::{what_shows, with_note};
 use either::site_heading;
 use htmd::{ConvertError, HtmlToMarkdown, Tree, TreeError, convert, parse_selectors};
-use markdown::{answered, without_raw_html};
+use markdown::{answered, in_one_form, without_raw_html};
 use pages::three_pages;
 use parts::selected_parts;
 use settings::{faithful, underlined};
@@ -78,6 +78,7 @@ fn main(rt: HostRuntime) -> io::Result<()> {
         with_note(alloc, "<hr><h2>Two</h2>", "1. From *htmd*"),
         answered(alloc, "- **42**"),
         without_raw_html(alloc, "*one* <b>two\n\n<hr>"),
+        in_one_form(alloc, "One\n===\n+ _two_"),
     ] {
         match answer {
             Ok(markdown) => println!(rt; "{markdown}")?,

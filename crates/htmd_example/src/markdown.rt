@@ -1,10 +1,14 @@
-//! Markdown is read: its HTML, and that without the HTML that stands in the Markdown.
+//! Markdown is read: its HTML, that without the HTML that stands in the Markdown, and its document.
 ghost use Rattle.std.specs.Prelude.{◌≡◌, ◌++◌, IfOk, codes, string_bytes};
 ghost use Rattle.htmd_commonmark_reading.specs.Reading.{read};
 ghost use Rattle.htmd_commonmark_reading.specs.Rendering.{html_of};
+ghost use Rattle.htmd.specs.Defaults.{default_options};
+ghost use Rattle.htmd.specs.DocumentMarkdown.{markdown_of};
+ghost use Rattle.htmd.specs.PageDocuments as spec;
 
-use htmd::markdown_to_html;
+use htmd::options::Options;
 use htmd::parts::{Part, read_markdown, to_html};
+use htmd::{Document, OfMarkdown, document_options, markdown_to_html, to_markdown};
 use std::alloc::{AllocError, Global};
 
 /// The HTML of Markdown, after a heading.
@@ -27,4 +31,14 @@ pub(crate) fn without_raw_html(alloc: Global, markdown: &str) -> Result<String, 
     let mut parts = read_markdown(alloc, markdown)?;
     parts.retain(|part| !is_raw(part));
     to_html(alloc, &parts)
+}
+
+/// Markdown in the form that htmd writes.
+pub(crate) fn in_one_form(alloc: Global, markdown: &str) -> Result<String, AllocError>
+    ensures { IfOk result (λ text. string_bytes text
+        ≡ markdown_of (spec.document_options default_options)
+        (spec.document_of_markdown markdown.now)) }
+{
+    let document = Document::of_markdown(alloc, markdown)?;
+    to_markdown(alloc, &document, &document_options(&Options::default()))
 }

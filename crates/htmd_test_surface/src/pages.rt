@@ -1,6 +1,10 @@
 //! Pages by settings, in one call.
+use htmd::options::Options;
 use htmd::page_values::{are_names, parse_url, push_names, push_selectors};
-use htmd::{HtmlToMarkdown, PageConverter, PageError, PageInRun, PageSettings, convert_page};
+use htmd::{
+    Document, HtmlToMarkdown, OfMarkdown, PageConverter, PageError, PageInRun, PageSettings,
+    convert_page, document_options, to_markdown,
+};
 use htmd_test_expected::{expect_text, expect_that};
 use std::alloc::Global;
 use std::test::Fail;
@@ -141,4 +145,28 @@ fn converts_markdown(rt: HostRuntime) -> Result<(), Fail> {
         "not UTF-8",
         convert_page(alloc, b"a\xff", &settings) == Err(PageError::NotUtf8),
     )
+}
+
+#[test]
+fn makes_documents_of_markdown(rt: HostRuntime) -> Result<(), Fail> {
+    let alloc = rt.alloc();
+    let options = document_options(&Options::default());
+    for (markdown, written) in [
+        ("", ""),
+        ("One\n===\n+ _two_", "# One\n\n*   *two*"),
+        ("a <b>c\n\nd", "a **c**\n\n**d**"),
+        (
+            "<a name=x></a>x<sub>2</sub> <kbd>y</kbd>\n\n[z](#x)",
+            "<a id=\"x\"></a>x<sub>2</sub> <kbd>y</kbd>\n\n[z](#x)",
+        ),
+        ("|a|\n|-|\n|`b`|", "| a   |\n| --- |\n| `b` |"),
+    ] {
+        let document = Document::of_markdown(alloc, markdown)?;
+        expect_text(
+            markdown,
+            to_markdown(alloc, &document, &options)?.as_str(),
+            written,
+        )?;
+    }
+    Ok(())
 }
