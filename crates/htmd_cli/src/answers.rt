@@ -51,7 +51,7 @@ fn answer_field<H: Registry>(
 }
 
 // The same for a page.
-#[tactic(auto, using(crate::proofs::RowsLemmas::page_answer, crate::proofs::RowsLemmas::refused_answer))]
+#[tactic(auto, using(crate::proofs::RowsLemmas::refused_answer))]
 fn answer_page<H: Registry>(
     alloc: Global,
     converter: &PageConverter<'_, '_, H>,
