@@ -91,7 +91,8 @@ readable_utf8 settings any markdown input text a f u m n e =
 -- of Markdown
 pub readable_markdown : (settings : Settings) (any markdown : Bool) (input given text : List ℕ)
     → any ≡ reads_any settings → any ≡ false
-    → IsUtf8 input → markdown ≡ is_markdown settings → markdown ≡ true → given ≡ input → text ≡ html_of_markdown given
+    → IsUtf8 input → markdown ≡ is_markdown settings → markdown ≡ true → given ≡ input
+    → text ≡ html_of_markdown given
     → IsReadable settings input × (text ≡ text_in settings input)
 readable_markdown settings any markdown input given text a f u m n g e =
     let strict : reads_any settings ≡ false = sym a ∙ f in
@@ -121,14 +122,16 @@ no_html5 settings any a f = (neither settings.from_markdown settings.html5 (sym 
 
 -- its tree, and what is written of it
 pub of_readable : (settings : Settings) (input text found output : List ℕ)
-    → IsReadable settings input × (text ≡ text_in settings input) → writes_html settings ≡ false → found ≡ text
+    → IsReadable settings input × (text ≡ text_in settings input)
+    → writes_html settings ≡ false → found ≡ text
     → IsOutputBy settings found output → IsOutputOf settings input output
 of_readable settings input text found output (r, t) h f m =
     (r, match_false _ _ (writes_html settings) h (subst (λ x. IsOutputBy settings x output) (f ∙ t) m))
 
 -- the text itself, as HTML of Markdown
 pub of_html : (settings : Settings) (input text output : List ℕ)
-    → IsReadable settings input × (text ≡ text_in settings input) → writes_html settings ≡ true → output ≡ text
+    → IsReadable settings input × (text ≡ text_in settings input)
+    → writes_html settings ≡ true → output ≡ text
     → IsOutputOf settings input output
 of_html settings input text output (r, t) h o = (r, match_true _ _ (writes_html settings) h (o ∙ t))
 

@@ -54,7 +54,8 @@ pieces_seen settings most head items output texts e =
 
 -- what is written of the part of the tree that the bytes' text has, after what its head says
 pub seen_of : (settings : Settings) (bytes text found : List ℕ) (page part : List Item) (head output : List ℕ)
-    → text ≡ text_in settings bytes → writes_html settings ≡ false → found ≡ text → IsTreeBy settings found page
+    → text ≡ text_in settings bytes → writes_html settings ≡ false → found ≡ text
+    → IsTreeBy settings found page
     → part_of settings page ≡ Some part
     → head ≡ head_of settings page → IsSeenBy settings.chunks settings head part output
     → IsSeen settings bytes output

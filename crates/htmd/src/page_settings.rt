@@ -23,8 +23,8 @@ pub struct PageSettings<'a> {
     /// The input is any page, as browsers read it: bytes that aren't UTF-8 are decoded, and nothing is refused. Then
     /// `body` has no effect.
     pub html5: bool,
-    /// The input is Markdown in UTF-8, and the page is its HTML, which is read as browsers read it. Then `body`, `html5`
-    /// and `encoding` have no effect.
+    /// The input is Markdown in UTF-8, and the page is its HTML, which is read as browsers read it. Then `body`,
+    /// `html5` and `encoding` have no effect.
     pub from_markdown: bool,
     /// The encoding of any page whose bytes have no mark, if it is known. Otherwise the page's own declaration counts.
     pub encoding: Option<Encoding>,

@@ -214,8 +214,8 @@ pub extern "C" fn htmd_convert_page(
     }
 }
 
-/// Writes the HTML of Markdown in UTF-8 to the front of the buffer, as `markdown_to_html` of `htmd` makes it. The status
-/// says what was done; only `DONE` writes to the buffer, and `needed` and `place` are 0 where they say nothing.
+/// Writes the HTML of Markdown in UTF-8 to the front of the buffer, as `markdown_to_html` of `htmd` makes it. The
+/// status says what was done; only `DONE` writes to the buffer, and `needed` and `place` are 0 where they say nothing.
 #[unsafe(no_mangle)]
 pub extern "C" fn htmd_markdown_to_html(
     alloc: Global,

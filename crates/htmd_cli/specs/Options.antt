@@ -97,7 +97,8 @@ url_in_folder base path = option_and_then (λ url. page_url url path) base
 -- what the names of outputs end with, behind a full stop: HTML, lines of JSON, one JSON, or Markdown
 abbrev pub extension : Settings → List ℕ
 extension settings =
-    if writes_html settings then codes "html" else if is_some settings.chunks then codes "jsonl" else if settings.mdast then codes "json" else codes "md"
+    if writes_html settings then codes "html" else if is_some settings.chunks then codes "jsonl"
+    else if settings.mdast then codes "json" else codes "md"
 
 -- what a reader sees is written in pieces of at most so many bytes
 abbrev pub cuts : ℕ → Request → Request

@@ -57,9 +57,8 @@ pub fn run<R: Source, W: Sink>(
     write_markdown(alloc, input.as_slice(), sink, mode)
 }
 
-/// Reads the whole source, and writes what it becomes by settings, and one line feed unless that is lines or HTML, to the
-/// sink;
-/// also returns what was read, as `convert_stream` does it with a converter by these settings.
+/// Reads the whole source, and writes what it becomes by settings, and one line feed unless that is lines or HTML, to
+/// the sink; also returns what was read, as `convert_stream` does it with a converter by these settings.
 pub fn run_over<R: Source, W: Sink>(
     alloc: Global,
     source: &mut R,
@@ -83,8 +82,8 @@ pub fn run_over<R: Source, W: Sink>(
 }
 
 /// Reads the whole source, and writes what `PageConverter::convert` makes of it, and one line feed unless that is
-/// lines or HTML, to the sink; also returns what was read, which is nothing if the source or the memory failed while it was
-/// read. The source and the sink must not have failed before. The sink is not touched before the conversion has
+/// lines or HTML, to the sink; also returns what was read, which is nothing if the source or the memory failed while it
+/// was read. The source and the sink must not have failed before. The sink is not touched before the conversion has
 /// succeeded; after `Write` it isn't known how much was written.
 pub fn convert_stream<R: Source, W: Sink, H: Registry>(
     alloc: Global,

@@ -12,7 +12,8 @@ returns-clause-ok g c =
     let settings = settings_for (page_in c.args.in_run.now) (settings_in c.args.settings.now) in
     let part = c.in-Some.part in
     of_readable settings c.args.input.now (cow_str_bytes c.in_ok-text.text) c.deref.result.now
-    (string_bytes c.in_ok-tree_output.field-0) c.in_ok-text.ensures.ok (sym c.writes_html.ensures ∙ c.if-writes_html.false)
+    (string_bytes c.in_ok-tree_output.field-0) c.in_ok-text.ensures.ok
+    (sym c.writes_html.ensures ∙ c.if-writes_html.false)
     c.deref.ensures.value (
       c.in_ok-page.page,
       c.in_ok-page.ensures.ok,
