@@ -1,0 +1,67 @@
+-- Worked rows: the trees of what is read, and what they are spelled as. Each holds by computing.
+use Rattle.std.proofs.Common.{◌≡◌, true, false, List, [], ◌∷◌, ℕ, refl, codes}
+use Rattle.std.specs.Fmt.{digits}
+use Rattle.std.specs.Str.{chars}
+use Rattle.htmd_values.specs.Serialisation.{is_void}
+use Rattle.htmd_values.specs.ValueTrees.{ValueForest, none, more, text, element}
+use Rattle.htmd_commonmark_reading.specs.Reading.{read}
+use Rattle.htmd_law_rendering.specs.RenderedTrees.{trees_of, pair}
+use Rattle.htmd_law_rendering.specs.SpelledTrees.{all_spelled}
+use Rattle.htmd_law_rendering.specs.PlainReadings.{blocks_have_no_raw}
+
+abbrev holding : List ℕ → ValueForest → ValueForest → ValueForest
+holding name content rest = more (element name [] content) rest
+
+abbrev words : List ℕ → ValueForest
+words s = more (text s) none
+
+abbrev line : ValueForest
+line = words (codes "\n")
+
+-- text after a break is one with its line's end
+pub in_lines : trees_of (read (codes "# *a*b\n\n\"c\"  \n`d`"))
+    ≡ holding (codes "h1") (holding (codes "em") (words (codes "a")) (words (codes "b")))
+    (more (text (codes "\n")) (holding (codes "p")
+    (more (text (codes "\"c\"")) (holding (codes "br") none
+    (more (text (codes "\n")) (holding (codes "code") (words (codes "d")) none)))) line))
+unfolding digits chars
+in_lines = refl
+
+-- in a tight item the text before a list has the end of its line
+pub tight_items : trees_of (read (codes "- a\n  - [x] b"))
+    ≡ holding (codes "ul") (more (text (codes "\n")) (holding (codes "li")
+    (more (text (codes "a\n")) (holding (codes "ul") (more (text (codes "\n")) (holding (codes "li")
+    (more (element (codes "input") (pair (codes "checked") [] ∷ pair (codes "disabled") []
+    ∷ pair (codes "type") (codes "checkbox") ∷ []) none) (words (codes " b"))) line)) line)) line)) line
+unfolding chars
+tight_items = refl
+
+pub links : trees_of (read (codes "[a](/b\"c&d 'e\"f')"))
+    ≡ holding (codes "p")
+    (more (element (codes "a") (pair (codes "href") (codes "/b%22c&d") ∷ pair (codes "title") (codes "e\"f") ∷ [])
+    (words (codes "a"))) none) line
+unfolding chars
+links = refl
+
+pub links_are_spelled : all_spelled (trees_of (read (codes "[a](/b\"c&d 'e\"f')")))
+    ≡ codes "<p><a href=\"/b%22c&amp;d\" title=\"e&quot;f\">a</a></p>\n"
+unfolding chars is_void
+links_are_spelled = refl
+
+pub breaks_are_spelled : all_spelled (trees_of (read (codes "1. [ ] a\\\nb\n\n---")))
+    ≡ codes "<ol>\n<li><input disabled=\"\" type=\"checkbox\"> a<br />\nb</li>\n</ol>\n<hr />\n"
+unfolding chars is_void
+breaks_are_spelled = refl
+
+-- a raw tag has no tree, so the HTML is another one
+pub a_tag_is_raw : blocks_have_no_raw (read (codes "a<b>")) ≡ false
+a_tag_is_raw = refl
+
+pub a_tag_is_lost : all_spelled (trees_of (read (codes "a<b>"))) ≡ codes "<p>a</p>\n"
+unfolding is_void
+a_tag_is_lost = refl
+
+-- in a description it is text
+pub described : blocks_have_no_raw (read (codes "![a<b>](c)")) ≡ true
+unfolding chars
+described = refl

@@ -1,0 +1,5 @@
+-- The trees that what is read of Markdown stands for, how its HTML spells them, and the laws.
+pub mod RenderedTrees
+pub mod SpelledTrees
+pub mod PlainReadings
+pub mod RenderingLaws

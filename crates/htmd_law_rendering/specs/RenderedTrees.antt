@@ -1,0 +1,195 @@
+-- The trees that what is read of Markdown stands for: each block and inline as the element that its HTML has for it.
+-- Each definition gives trees before others, so that a text and one that follows it are one text.
+use Rattle.std.specs.Prelude.{ℕ, Bool, true, false, ◌/◌, ◌%◌, if◌then◌else◌, ◌==◌, List, [], ◌∷◌, ◌++◌, drop, codes}
+use Rattle.std.specs.Prelude.{Option, Some, None}
+use Rattle.std.specs.Fmt.{decimal}
+use Rattle.std.specs.List.{flat_map}
+use Rattle.htmd_lexical.specs.Characters.{line_feed, space}
+use Rattle.htmd_lexical.specs.AttributePairs.{AttributePair}
+use Rattle.htmd_values.specs.ValueTrees.{ValueForest, none, more, text, element}
+use Rattle.htmd_document.specs.declared.document.Alignment.{Alignment}
+use Rattle.htmd_document.specs.declared.document.Alignment.TheVariants as aligned
+use Rattle.htmd_document.specs.Formats.{Format, Emphasis, Strong, Deleted, Superscript, Subscript, Inserted, Underlined}
+use Rattle.htmd_document.specs.Formats.{Marked, Small, Keyboard, Abbreviation}
+use Rattle.htmd_commonmark_reading.specs.Markup.{Inlines, no_inlines, letter, code, formatted, link, image, line_break}
+use Rattle.htmd_commonmark_reading.specs.Markup.{task, raw, Block, paragraph, heading, code_block, quote}
+use Rattle.htmd_commonmark_reading.specs.Markup.{thematic_break, list, table, html_block, Blocks, no_blocks, block}
+use Rattle.htmd_commonmark_reading.specs.Markup.{Items, no_items, item, plain_text}
+use Rattle.htmd_commonmark_reading.specs.Rendering.{stays_in_address, hexadecimal_digit, first_alignment, is_bare}
+
+-- ---- texts, elements and attributes
+
+-- a text before trees: one with the text that they begin with, and none if it is empty
+abbrev pub text_before : List ℕ → ValueForest → ValueForest
+text_before [] ts = ts
+text_before (b ∷ s) (more (text u) ts) = more (text (b ∷ (s ++ u))) ts
+text_before (b ∷ s) ts = more (text (b ∷ s)) ts
+
+abbrev pub line_end : ValueForest → ValueForest
+line_end ts = text_before (line_feed ∷ []) ts
+
+abbrev pub pair : List ℕ → List ℕ → AttributePair
+pair name value = record { name = name; value = value }
+
+abbrev pub pairs_of_title : Option (List ℕ) → List AttributePair
+pairs_of_title None = []
+pairs_of_title (Some s) = pair (codes "title") s ∷ []
+
+-- a byte of an address
+abbrev pub encoded_byte : ℕ → List ℕ
+encoded_byte b =
+    if stays_in_address b
+    then b ∷ []
+    else codes "%" ++ hexadecimal_digit (b / 16) ∷ hexadecimal_digit (b % 16) ∷ []
+
+abbrev pub encoded_address : List ℕ → List ℕ
+encoded_address s = flat_map encoded_byte s
+
+-- ---- inlines (CommonMark 0.31.2, 6)
+
+abbrev pub format_name : Format → List ℕ
+format_name Emphasis = codes "em"
+format_name Strong = codes "strong"
+format_name Deleted = codes "del"
+format_name Superscript = codes "sup"
+format_name Subscript = codes "sub"
+format_name Inserted = codes "ins"
+format_name Underlined = codes "u"
+format_name Marked = codes "mark"
+format_name Small = codes "small"
+format_name Keyboard = codes "kbd"
+format_name (Abbreviation title) = codes "abbr"
+
+abbrev pub pairs_of_format : Format → List AttributePair
+pairs_of_format (Abbreviation title) = pair (codes "title") title ∷ []
+pairs_of_format f = []
+
+abbrev pub pairs_of_link : List ℕ → Option (List ℕ) → List AttributePair
+pairs_of_link address title = pair (codes "href") (encoded_address address) ∷ pairs_of_title title
+
+abbrev pub pairs_of_image : List ℕ → Option (List ℕ) → List ℕ → List AttributePair
+pairs_of_image address title description =
+    pair (codes "src") (encoded_address address) ∷ pair (codes "alt") description ∷ pairs_of_title title
+
+-- the box of a task (GFM 0.29, 5.3)
+abbrev pub pairs_of_box : Bool → List AttributePair
+pairs_of_box true =
+    pair (codes "checked") [] ∷ pair (codes "disabled") [] ∷ pair (codes "type") (codes "checkbox") ∷ []
+pairs_of_box false = pair (codes "disabled") [] ∷ pair (codes "type") (codes "checkbox") ∷ []
+
+-- raw tags stand for nothing here
+abbrev pub inlines_trees : Inlines → ValueForest → ValueForest
+inlines_trees no_inlines rest = rest
+inlines_trees (letter c xs) rest = text_before (c ∷ []) (inlines_trees xs rest)
+inlines_trees (code s xs) rest = more (element (codes "code") [] (text_before s none)) (inlines_trees xs rest)
+inlines_trees (formatted f content xs) rest =
+    more (element (format_name f) (pairs_of_format f) (inlines_trees content none)) (inlines_trees xs rest)
+inlines_trees (link a t content xs) rest =
+    more (element (codes "a") (pairs_of_link a t) (inlines_trees content none)) (inlines_trees xs rest)
+inlines_trees (image a t content xs) rest =
+    more (element (codes "img") (pairs_of_image a t (plain_text content)) none) (inlines_trees xs rest)
+inlines_trees (line_break xs) rest = more (element (codes "br") [] none) (line_end (inlines_trees xs rest))
+inlines_trees (task d xs) rest =
+    more (element (codes "input") (pairs_of_box d) none) (text_before (space ∷ []) (inlines_trees xs rest))
+inlines_trees (raw tag xs) rest = inlines_trees xs rest
+
+-- ---- tables (GFM 4.10)
+
+abbrev pub pairs_of_alignment : Alignment → List AttributePair
+pairs_of_alignment aligned.None = []
+pairs_of_alignment aligned.Left = pair (codes "align") (codes "left") ∷ []
+pairs_of_alignment aligned.Center = pair (codes "align") (codes "center") ∷ []
+pairs_of_alignment aligned.Right = pair (codes "align") (codes "right") ∷ []
+
+-- cells of columns with these alignments
+abbrev pub cells_trees : List ℕ → List Alignment → List Inlines → ValueForest
+cells_trees name alignments [] = none
+cells_trees name alignments (c ∷ cs) =
+    more (element name (pairs_of_alignment (first_alignment alignments)) (inlines_trees c none))
+    (line_end (cells_trees name (drop 1 alignments) cs))
+
+-- an element that begins a line and ends one, with trees in lines of their own
+abbrev pub lines_before : List ℕ → List AttributePair → ValueForest → ValueForest → ValueForest
+lines_before name attributes content rest = more (element name attributes (line_end content)) (line_end rest)
+
+abbrev pub row_trees : List ℕ → List Alignment → List Inlines → ValueForest → ValueForest
+row_trees name alignments cs rest = lines_before (codes "tr") [] (cells_trees name alignments cs) rest
+
+abbrev pub rows_trees : List Alignment → List (List Inlines) → ValueForest
+rows_trees alignments [] = none
+rows_trees alignments (r ∷ rs) = row_trees (codes "td") alignments r (rows_trees alignments rs)
+
+abbrev pub body_trees : List Alignment → List (List Inlines) → ValueForest
+body_trees alignments [] = none
+body_trees alignments (r ∷ rs) = lines_before (codes "tbody") [] (rows_trees alignments (r ∷ rs)) none
+
+abbrev pub table_trees : List Alignment → List Inlines → List (List Inlines) → ValueForest → ValueForest
+table_trees alignments header rows rest =
+    lines_before (codes "table") []
+    (lines_before (codes "thead") [] (row_trees (codes "th") alignments header none) (body_trees alignments rows))
+    rest
+
+-- ---- blocks (4 and 5)
+
+abbrev pub heading_name : ℕ → List ℕ
+heading_name level = codes "h" ++ decimal level
+
+abbrev pub pairs_of_language : Option (List ℕ) → List AttributePair
+pairs_of_language None = []
+pairs_of_language (Some s) = pair (codes "class") (codes "language-" ++ s) ∷ []
+
+-- code has a line's end at its end, unless it is empty
+abbrev pub code_trees : List ℕ → ValueForest
+code_trees [] = none
+code_trees (b ∷ s) = text_before (b ∷ s) (line_end none)
+
+abbrev pub code_block_tree : Option (List ℕ) → List ℕ → ValueForest
+code_block_tree language s = more (element (codes "code") (pairs_of_language language) (code_trees s)) none
+
+abbrev pub list_name : Option ℕ → List ℕ
+list_name None = codes "ul"
+list_name (Some n) = codes "ol"
+
+abbrev pub pairs_of_start : Option ℕ → List AttributePair
+pairs_of_start None = []
+pairs_of_start (Some n) = if n == 1 then [] else pair (codes "start") (decimal n) ∷ []
+
+-- in a tight list a paragraph has no element
+abbrev pub paragraph_trees : Bool → Inlines → ValueForest → ValueForest
+paragraph_trees true xs rest = inlines_trees xs rest
+paragraph_trees false xs rest = more (element (codes "p") [] (inlines_trees xs none)) (line_end rest)
+
+-- an element begins a line
+abbrev pub begun_line : Bool → Bool → ValueForest → ValueForest
+begun_line true false ts = line_end ts
+begun_line is_in_line bare ts = ts
+
+abbrev mutual
+  pub block_trees : Bool → Block → ValueForest → ValueForest
+  block_trees is_tight (paragraph xs) rest = paragraph_trees is_tight xs rest
+  block_trees is_tight (heading level xs) rest =
+      more (element (heading_name level) [] (inlines_trees xs none)) (line_end rest)
+  block_trees is_tight (code_block language s) rest =
+      more (element (codes "pre") [] (code_block_tree language s)) (line_end rest)
+  block_trees is_tight (quote bs) rest = lines_before (codes "blockquote") [] (blocks_trees false false bs) rest
+  block_trees is_tight thematic_break rest = more (element (codes "hr") [] none) (line_end rest)
+  block_trees is_tight (list start tight items) rest =
+      lines_before (list_name start) (pairs_of_start start) (items_trees tight items) rest
+  block_trees is_tight (table alignments header rows) rest = table_trees alignments header rows rest
+  block_trees is_tight (html_block s) rest = rest
+
+  -- blocks of a tight list or not, with something before them in their line or not
+  pub blocks_trees : Bool → Bool → Blocks → ValueForest
+  blocks_trees is_tight is_in_line no_blocks = none
+  blocks_trees is_tight is_in_line (block b bs) =
+      begun_line is_in_line (is_bare is_tight b)
+      (block_trees is_tight b (blocks_trees is_tight (is_bare is_tight b) bs))
+
+  pub items_trees : Bool → Items → ValueForest
+  items_trees is_tight no_items = none
+  items_trees is_tight (item bs rest) =
+      more (element (codes "li") [] (blocks_trees is_tight true bs)) (line_end (items_trees is_tight rest))
+
+-- the trees of what is read
+abbrev pub trees_of : Blocks → ValueForest
+trees_of bs = blocks_trees false false bs

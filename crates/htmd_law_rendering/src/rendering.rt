@@ -1,0 +1,7 @@
+//! The HTML of what is read, and its trees.
+ghost use Rattle.htmd_law_rendering.specs.RenderingLaws.{RenderedIsSpelled};
+
+/// The HTML of what is read without raw tags is what its trees are spelled as.
+pub fn rendered_is_spelled()
+    ensures { RenderedIsSpelled }
+{}
