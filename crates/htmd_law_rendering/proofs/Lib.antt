@@ -2,4 +2,10 @@
 pub mod ByteLemmas
 pub mod SpellingLemmas
 pub mod RenderedLemmas
+pub mod DecodeLemmas
+pub mod TagLemmas
+pub mod FittingLemmas
+pub mod PlaceLemmas
+pub mod StrictLemmas
+pub mod StrictBlocks
 mod Examples

@@ -48,6 +48,10 @@ pub element-spelled : (name : List ℕ) (attributes : List AttributePair) (ks : 
     → spelled (element name attributes ks) ≡ tag name attributes ++ all_spelled ks ++ end_tag name
 element-spelled name attributes ks v = rw v refl
 
+pub void-spelled : (name : List ℕ) (attributes : List AttributePair) (ks : ValueForest) → is_void name ≡ true
+    → spelled (element name attributes ks) ≡ tag name attributes
+void-spelled name attributes ks v = rw v refl
+
 apart : (a x b y : List ℕ)
     → (a ++ (10 ∷ x) ++ b) ++ (10 ∷ y) ≡ ((a ++ 10 ∷ []) ++ x ++ (b ++ 10 ∷ [])) ++ y
 apart a x b y = simp append_assoc

@@ -1,7 +1,12 @@
 //! The HTML of what is read, and its trees.
-ghost use Rattle.htmd_law_rendering.specs.RenderingLaws.{RenderedIsSpelled};
+ghost use Rattle.htmd_law_rendering.specs.RenderingLaws.{RenderedIsSpelled, RenderedIsRead};
 
 /// The HTML of what is read without raw tags is what its trees are spelled as.
 pub fn rendered_is_spelled()
     ensures { RenderedIsSpelled }
+{}
+
+/// The HTML of what is read without raw tags is read by the strict grammar as its trees, and as nothing else.
+pub fn rendered_is_read()
+    ensures { RenderedIsRead }
 {}
