@@ -15,8 +15,8 @@ use Rattle.htmd_commonmark_reading.specs.Rendering.{address_byte, escaped_addres
 use Rattle.htmd_law_rendering.specs.RenderedTrees.{encoded_byte, encoded_address}
 
 -- what isn't one of the four signs
-pub stays : (b : ℕ) → eqb b 0x26 ≡ false → eqb b 0x3C ≡ false → eqb b 0x3E ≡ false → eqb b 0x22 ≡ false
-    → escaped_byte b ≡ b ∷ []
+pub stays : (b : ℕ) → eqb b 0x26 ≡ false → eqb b 0x3C ≡ false → eqb b 0x3E ≡ false
+    → eqb b 0x22 ≡ false → escaped_byte b ≡ b ∷ []
 stays b e f g h = rw (e, f, g, h) refl
 
 -- ---- addresses

@@ -7,7 +7,8 @@ use Rattle.htmd_values.specs.ValueTrees.{ValueForest, none, more, text, element}
 use Rattle.htmd_commonmark_reading.specs.Reading.{read}
 use Rattle.htmd_law_rendering.specs.RenderedTrees.{trees_of, pair}
 use Rattle.htmd_law_rendering.specs.SpelledTrees.{all_spelled}
-use Rattle.htmd_law_rendering.specs.PlainReadings.{blocks_have_no_raw}
+use Rattle.htmd_law_rendering.specs.PlainReadings.{blocks_have_no_raw, blocks_are_strict, levels_of_blocks}
+use lib.Utf8.{encode}
 
 abbrev holding : List ℕ → ValueForest → ValueForest → ValueForest
 holding name content rest = more (element name [] content) rest
@@ -65,3 +66,22 @@ a_tag_is_lost = refl
 pub described : blocks_have_no_raw (read (codes "![a<b>](c)")) ≡ true
 unfolding chars
 described = refl
+
+-- ---- what is plain
+
+-- a table's cell is the fourth element from outside, and its text the fifth
+pub a_table : levels_of_blocks (read (codes "|a|\n|-|\n")) ≡ 5
+a_table = refl
+
+pub a_table_is_strict : blocks_are_strict (read (codes "|a|\n|-|\n")) ≡ true
+a_table_is_strict = refl
+
+-- an address in a link is one in it, which HTML doesn't allow
+pub a_link_in_a_link : blocks_are_strict (read (codes "[<aa:b>](c)")) ≡ false
+unfolding chars
+a_link_in_a_link = refl
+
+-- by its number a carriage return is a character of Markdown, and its HTML has it as it is
+pub a_carriage_return : blocks_are_strict (read (codes "&#13;")) ≡ false
+unfolding chars encode
+a_carriage_return = refl

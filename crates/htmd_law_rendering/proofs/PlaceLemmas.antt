@@ -38,8 +38,8 @@ pub not-alone : (z : Bool) (n : List ℕ) → holds_text_alone true n ≡ false 
 not-alone true n e = e
 not-alone false n e =
     let p = or_parts (is_among (codes "title" ∷ codes "textarea" ∷ []) n) (holds_raw_text true n) e in
-    let q = or_parts (is_among (codes "script" ∷ codes "style" ∷ codes "iframe" ∷ codes "noembed" ∷ codes "noframes"
-    ∷ codes "xmp" ∷ []) n) (is_among (codes "noscript" ∷ []) n) p.1 in
+    let q = or_parts (is_among (codes "script" ∷ codes "style" ∷ codes "iframe" ∷ codes "noembed"
+    ∷ codes "noframes" ∷ codes "xmp" ∷ []) n) (is_among (codes "noscript" ∷ []) n) p.1 in
     rw (p.0, q.0) refl
 
 -- names of elements that hold no parts, options or raw text

@@ -79,7 +79,8 @@ inlines (task d xs) rest h =
 inlines (raw tag xs) rest h = absurd (cc)
 
 -- inlines alone
-pub inlines-alone : (xs : Inlines) → has_no_raw xs ≡ true → all_spelled (inlines_trees xs none) ≡ inlines_html xs
+pub inlines-alone : (xs : Inlines) → has_no_raw xs ≡ true
+    → all_spelled (inlines_trees xs none) ≡ inlines_html xs
 inlines-alone xs h = inlines xs none h ∙ append-nil (inlines_html xs)
 
 -- ---- tables

@@ -75,7 +75,8 @@ joined-end a x b y = simp append_assoc
 
 -- an element that ends a line
 pub line-spelled : (name : List ℕ) (attributes : List AttributePair) (content rest : ValueForest)
-    (html end : List ℕ) → is_void name ≡ false → end ≡ end_tag name ++ codes "\n" → all_spelled content ≡ html
+    (html end : List ℕ) → is_void name ≡ false → end ≡ end_tag name ++ codes "\n"
+    → all_spelled content ≡ html
     → all_spelled (more (element name attributes content) (line_end rest))
     ≡ (tag name attributes ++ html ++ end) ++ all_spelled rest
 line-spelled name attributes content rest html end v e h =

@@ -132,8 +132,9 @@ module _ (z : Bool) where
   unfolding is_void
   body-fit alignments [] c h s l o = tt
   body-fit alignments (r ∷ rs) c h s l o =
-      lines-fit (codes "tbody") [] (rows_trees alignments (r ∷ rs)) none (codes "table" ∷ c) (tbody-allowed z c) refl
-      (refl, refl) (tt, refl) refl (not-alone z (codes "tbody") refl) (not-alone z (codes "table") refl)
+      lines-fit (codes "tbody") [] (rows_trees alignments (r ∷ rs)) none (codes "table" ∷ c)
+      (tbody-allowed z c) refl (refl, refl) (tt, refl) refl (not-alone z (codes "tbody") refl)
+      (not-alone z (codes "table") refl)
       (omega arith) (rows-fit alignments (r ∷ rs) (codes "table" ∷ c) h s l o) tt
 
   table-fits : (alignments : List Alignment) (header : List Inlines) (rs : List (List Inlines)) (rest : ValueForest)
@@ -152,8 +153,8 @@ module _ (z : Bool) where
       (lines-fit (codes "thead") [] row (body_trees alignments rs) (codes "table" ∷ c) (thead-allowed z c) refl
       (refl, refl) (tt, refl) refl (not-alone z (codes "thead") refl) (not-alone z (codes "table") refl)
       (omega arith)
-      (head_row-fit alignments header none (codes "thead" ∷ codes "table" ∷ c) (head_row-allowed z (codes "table" ∷ c))
-      (not-alone z (codes "thead") refl) h s
+      (head_row-fit alignments header none (codes "thead" ∷ codes "table" ∷ c)
+      (head_row-allowed z (codes "table" ∷ c)) (not-alone z (codes "thead") refl) h s
       (first z (levels_of_cells header) (levels_of_rows rs) n 1025 l) b.no_link tt)
       (body-fit alignments rs c k e (second z (levels_of_cells header) (levels_of_rows rs) n 1025 l) b.no_link))
       f
@@ -172,8 +173,9 @@ module _ (z : Bool) where
       text-fits z (b ∷ s) (line_end none) c (inline-text z (b ∷ s) c t h l) (line-fits z none c t.not_alone l tt)
 
   code_block-fits : (language : Option (List ℕ)) (s : List ℕ) (rest : ValueForest) (c : Context)
-      → title_has_no_return language ≡ true → has_no_return s ≡ true → length c + 3 ≤ 1025 → TakesBlocks z c
-      → Fits z c rest → Fits z c (more (element (codes "pre") [] (code_block_tree language s)) (line_end rest))
+      → title_has_no_return language ≡ true → has_no_return s ≡ true → length c + 3 ≤ 1025
+      → TakesBlocks z c → Fits z c rest
+      → Fits z c (more (element (codes "pre") [] (code_block_tree language s)) (line_end rest))
   unfolding is_void
   code_block-fits language s rest c h k l b f =
       let inner = takes z (codes "pre") c refl in
@@ -202,7 +204,8 @@ module _ (z : Bool) where
     holds : holds_inlines n ≡ true
     no_link : (c : Context) → HasNoLink c → HasNoLink (n ∷ c)
 
-  heading-facts : (level : ℕ) → nat_le 1 level ≡ true → nat_le level 6 ≡ true → IsHeading (heading_name level)
+  heading-facts : (level : ℕ) → nat_le 1 level ≡ true → nat_le level 6 ≡ true
+      → IsHeading (heading_name level)
   unfolding is_void
   heading-facts level l m =
       by_level IsHeading level l m
@@ -248,8 +251,8 @@ module _ (z : Bool) where
   list-not-alone None = not-alone z (codes "ul") refl
   list-not-alone (Some n) = not-alone z (codes "ol") refl
 
-  begun-fits : (l bare : Bool) (ts : ValueForest) (c : Context) → TakesBlocks z c → length c ≤ 1024 → Fits z c ts
-      → Fits z c (begun_line l bare ts)
+  begun-fits : (l bare : Bool) (ts : ValueForest) (c : Context) → TakesBlocks z c → length c ≤ 1024
+      → Fits z c ts → Fits z c (begun_line l bare ts)
   begun-fits true true ts c b l f = f
   begun-fits true false ts c b l f = line-fits z ts c (b.takes_inlines).not_alone l f
   begun-fits false true ts c b l f = f

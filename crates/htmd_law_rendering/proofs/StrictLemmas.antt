@@ -112,8 +112,8 @@ format-tree_name (Abbreviation title) = (refl, refl)
 
 -- ---- texts
 
-white-append : (s t : List ℕ) → list_all is_ascii_white_space s ≡ true → list_all is_ascii_white_space t ≡ true
-    → list_all is_ascii_white_space (s ++ t) ≡ true
+white-append : (s t : List ℕ) → list_all is_ascii_white_space s ≡ true
+    → list_all is_ascii_white_space t ≡ true → list_all is_ascii_white_space (s ++ t) ≡ true
 white-append [] t e f = f
 white-append (b ∷ s) t e f =
     let p = and_parts (is_ascii_white_space b) (list_all is_ascii_white_space s) e in
@@ -144,8 +144,8 @@ module _ (z : Bool) where
   text-fits (b ∷ s) (more (element n attributes ks) ts) c f h = (((λ e. let w = e in cc), f), tt, h)
 
   -- a line's end may stand wherever texts may
-  pub line-fits : (ts : ValueForest) (c : Context) → holds_text_alone z (parent_name c) ≡ false → length c ≤ 1024
-      → Fits z c ts → Fits z c (line_end ts)
+  pub line-fits : (ts : ValueForest) (c : Context) → holds_text_alone z (parent_name c) ≡ false
+      → length c ≤ 1024 → Fits z c ts → Fits z c (line_end ts)
   line-fits ts c a l h = text-fits (codes "\n") ts c (refl, a, (λ p. refl), l) h
 
   -- among inlines any text may
@@ -203,8 +203,8 @@ module _ (z : Bool) where
   format-content (Abbreviation title) s = refl
 
   pub inlines-fit : (xs : Inlines) (in_link : Bool) (c : Context) (rest : ValueForest) → has_no_raw xs ≡ true
-      → are_strict in_link xs ≡ true → length c + levels xs ≤ 1025 → TakesInlines z c → NoLinkUnless in_link c
-      → Fits z c rest → Fits z c (inlines_trees xs rest)
+      → are_strict in_link xs ≡ true → length c + levels xs ≤ 1025 → TakesInlines z c
+      → NoLinkUnless in_link c → Fits z c rest → Fits z c (inlines_trees xs rest)
   unfolding is_void
   inlines-fit no_inlines k c rest h s l t o f = f
   inlines-fit (letter b xs) k c rest h s l t o f =

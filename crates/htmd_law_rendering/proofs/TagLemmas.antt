@@ -75,7 +75,8 @@ slash-is-void : (n : List ℕ) → has_slash n ≡ true → is_void n ≡ true
 slash-is-void n e = (and_parts (is_void n) _ e).0
 
 pub start-tag : (n : List ℕ) (attributes : List AttributePair) → IsTreeName n → AreTreePairs attributes
-    → are_distinct (attribute_names attributes) ≡ true → IsStartTag named_characters (tag n attributes) n attributes
+    → are_distinct (attribute_names attributes) ≡ true
+    → IsStartTag named_characters (tag n attributes) n attributes
 start-tag n attributes t k d = (
   spelled_pairs n attributes,
   has_slash n,
