@@ -45,3 +45,4 @@ pub mod BlockStepsLemmas
 pub mod ReadingLemmas
 pub mod LineSizesLemmas
 pub mod BulletRunsLemmas
+pub mod DestinationsLemmas

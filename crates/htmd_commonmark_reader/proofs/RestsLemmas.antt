@@ -65,7 +65,7 @@ until_end stop refused false (c ∷ s) =
 closed_end : (depth : ℕ) (s : List ℕ) → IsAtEnd s (closed_bare depth s)
 closed_end depth s = test (depth == 0) (λ q. rw q (found s _ (same s))) (λ q. rw q (missing s))
 
-bare_end : (depth : ℕ) (e : Bool) (s : List ℕ) → IsAtEnd s (bare depth e s)
+pub bare_end : (depth : ℕ) (e : Bool) (s : List ℕ) → IsAtEnd s (bare depth e s)
 bare_end depth e [] = closed_end depth []
 bare_end depth true (c ∷ s) = one_before c s _ (bare_end depth false s)
 bare_end depth false (c ∷ s) =

@@ -31,3 +31,4 @@ pub mod Steps
 pub mod BulletRuns
 pub mod OpenLeaves
 pub mod OpenBlocks
+pub mod Destinations

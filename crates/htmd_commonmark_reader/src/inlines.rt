@@ -32,9 +32,10 @@ fn scanned<'a>(
         brackets: Vec::new(alloc),
         active: 0,
     };
+    let mut known = Vec::new(alloc);
     let mut here = text;
     while !here.is_empty() {
-        here = step(alloc, references, &mut scan, text, here)?;
+        here = step(alloc, references, &mut scan, &mut known, text, here)?;
     }
     Ok(scan)
 }

@@ -13,6 +13,7 @@ mod closed;
 mod containers;
 mod definitions;
 mod delimiter_runs;
+mod destinations;
 mod emphasis;
 mod html;
 mod html_blocks;

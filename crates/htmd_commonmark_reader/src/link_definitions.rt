@@ -114,14 +114,14 @@ fn depth_after(depth: usize, is_escaped: bool, byte: u8) -> usize
 }
 
 /// Whether a bare destination ends before the byte.
-fn ends_bare(depth: usize, is_escaped: bool, byte: u8) -> bool
+pub(crate) fn ends_bare(depth: usize, is_escaped: bool, byte: u8) -> bool
     ensures { result ≡ (not is_escaped && spec.ends_bare depth byte) }
 {
     !is_escaped && (byte <= b' ' || byte == 0x7F || (byte == b')' && depth == 0))
 }
 
 /// Whether a byte escapes the first of those that follow.
-fn escapes(byte: u8, is_escaped: bool, after: &[u8]) -> bool
+pub(crate) fn escapes(byte: u8, is_escaped: bool, after: &[u8]) -> bool
     ensures { result ≡ (not is_escaped && ((byte == backslash) && begins_with_punctuation after.now)) }
 {
     !is_escaped && byte == b'\\' && begins_with_punctuation(after)

@@ -2,6 +2,7 @@
 ghost use Rattle.std.specs.Prelude.{◌≡◌, IfOk, option_map};
 ghost use Rattle.htmd_commonmark_reading.specs.Brackets as spec;
 ghost use Rattle.htmd_commonmark_reading.specs.LinkDefinitions.{label, label_key};
+ghost use Rattle.htmd_commonmark_reader.specs.Destinations.{AreKnown};
 ghost use Rattle.htmd_commonmark_reader.specs.References.{references_of, found_of};
 
 use crate::labels::label_key;
@@ -55,11 +56,13 @@ pub(crate) fn target<'a>(
     references: &'a References,
     content: &str,
     after: &'a str,
+    known: &[Option<usize>],
 ) -> Result<Option<Found<'a>>, AllocError>
+    requires { AreKnown known.now after.now }
     ensures { IfOk result (λ found. option_map found_of found
         ≡ spec.target (references_of references.now) content.now after.now) }
 {
-    match inline_target(after) {
+    match inline_target(after, known) {
         Some(raw) => Ok(Some(Found {
             target: Target::Written {
                 address: raw.address,

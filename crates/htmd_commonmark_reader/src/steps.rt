@@ -7,6 +7,7 @@ ghost use Rattle.htmd_commonmark_reading.specs.Brackets as spec;
 ghost use Rattle.htmd_commonmark_reading.specs.Brackets.{Brackets};
 ghost use Rattle.htmd_commonmark_reading.specs.Characters.{is_space_or_tab, referenced};
 ghost use Rattle.htmd_commonmark_reading.specs.InlineTokens as token;
+ghost use Rattle.htmd_commonmark_reader.specs.Destinations.{AreKnown};
 ghost use Rattle.htmd_commonmark_reader.specs.Openers.{is_sign};
 ghost use Rattle.htmd_commonmark_reader.specs.References.{references_of};
 ghost use Rattle.htmd_commonmark_reader.specs.Scans.{IsScan};
@@ -20,6 +21,7 @@ use crate::characters::{
     SpaceOrTab, begins_with_punctuation, is_space_or_tab, past_blanks, reference,
 };
 use crate::delimiter_runs::run_of;
+use crate::destinations::note_lefts;
 use crate::inline_tokens::{AngleToken, angle, before_graves};
 use crate::link_targets::target;
 use crate::references::References;
@@ -283,12 +285,15 @@ fn closing_step<'a>(
     alloc: Global,
     references: &'a References,
     scan: &mut Scan<'a>,
+    known: &mut Vec<Option<usize>>,
     here: &'a str,
     after: &'a str,
 ) -> Result<&'a str, AllocError>
     requires first { here.now ≡ right_square_bracket ∷ after.now }
     requires state { (b : Brackets) × IsScan b scan.old × EndIn here.now b }
-    ensures { IfOk result (λ rest. (b : Brackets) → IsScan b scan.old → EndIn here.now b
+    requires known { AreKnown known.old.items after.now }
+    ensures known { AreKnown known.new.items after.now }
+    ensures step { IfOk result (λ rest. (b : Brackets) → IsScan b scan.old → EndIn here.now b
         → IsStep (spec.closing_step (references_of references.now) b after.now) after.now rest.now scan.new) }
 {
     let Some(bracket) = last_bracket(&scan.brackets) else {
@@ -300,34 +305,29 @@ fn closing_step<'a>(
         return Ok(after);
     }
     let content = before_end(bracket.text, here);
-    let found = target(alloc, references, content, after)?;
+    let found = target(alloc, references, content, after, known)?;
     match found {
         Some(link) => {
             close_link(alloc, scan, link.target)?;
             Ok(link.rest)
         }
         None => {
+            note_lefts(alloc, after.as_bytes(), known)?;
             close_as_text(scan)?;
             Ok(after)
         }
     }
 }
 
-/// What a character begins that isn't blank.
-fn one_step<'a>(
-    alloc: Global,
-    references: &'a References,
-    scan: &mut Scan<'a>,
-    before: &str,
-    here: &'a str,
-) -> Result<&'a str, AllocError>
+/// What a character begins that isn't blank or a closing bracket.
+fn one_step<'a>(scan: &mut Scan<'a>, before: &str, here: &'a str) -> Result<&'a str, AllocError>
     requires some { 0 < length here.now }
     requires other { is_other (slice_index here.now 0) ≡ false }
     requires blank { is_space_or_tab (slice_index here.now 0) ≡ false }
-    requires state { (b : Brackets) × IsScan b scan.old × EndIn here.now b }
-    ensures { IfOk result (λ rest. (b : Brackets) → IsScan b scan.old → EndIn here.now b
-        → let c = slice_index here.now 0 in
-        IsStep (spec.step_of (spec.kind c) (references_of references.now) b (reverse before.now) c (drop 1 here.now))
+    requires closing { (slice_index here.now 0 == right_square_bracket) ≡ false }
+    ensures { IfOk result (λ rest. (b : Brackets) → IsScan b scan.old
+        → (refs : spec.References) → let c = slice_index here.now 0 in
+        IsStep (spec.step_of (spec.kind c) refs b (reverse before.now) c (drop 1 here.now))
         (drop 1 here.now) rest.now scan.new) }
 {
     let sign = here.as_bytes()[0];
@@ -340,23 +340,26 @@ fn one_step<'a>(
         b'&' => reference_step(scan, after),
         b'!' => exclamation_step(scan, after),
         b'[' => opening_step(scan, after),
-        b']' => closing_step(alloc, references, scan, here, after),
         _ => run_step(scan, sign, before, here),
     }
 }
 
-/// Reads what begins at a place of a text, and returns what follows that.
+/// Reads what begins at a place of a text, and returns what follows that. What becomes known of bare destinations is
+/// kept.
 pub(crate) fn step<'a>(
     alloc: Global,
     references: &'a References,
     scan: &mut Scan<'a>,
+    known: &mut Vec<Option<usize>>,
     text: &'a str,
     here: &'a str,
 ) -> Result<&'a str, AllocError>
     requires some { 0 < length here.now }
     requires end { IsEnd text.now here.now }
     requires state { (b : Brackets) × IsScan b scan.old × EndIn here.now b }
-    ensures { IfOk result (λ rest. (b : Brackets) → IsScan b scan.old → EndIn here.now b
+    requires known { AreKnown known.old.items here.now }
+    ensures known { AreKnown known.new.items (drop 1 here.now) }
+    ensures goes { IfOk result (λ rest. (b : Brackets) → IsScan b scan.old → EndIn here.now b
         → GoesOn (references_of references.now) text.now here.now b rest.now scan.new) }
 {
     let sign = here.as_bytes()[0];
@@ -364,7 +367,9 @@ pub(crate) fn step<'a>(
         letter_steps(scan, here)
     } else if is_space_or_tab(sign) {
         blank_steps(scan, here)
+    } else if sign == b']' {
+        closing_step(alloc, references, scan, known, here, &here[1..])
     } else {
-        one_step(alloc, references, scan, before_end(text, here), here)
+        one_step(scan, before_end(text, here), here)
     }
 }

@@ -3,9 +3,11 @@ ghost use Rattle.std.specs.Prelude.{◌≡◌, option_map};
 ghost use Rattle.htmd_commonmark_reading.specs.Brackets as spec;
 ghost use Rattle.htmd_commonmark_reading.specs.Characters.{unescaped};
 ghost use Rattle.htmd_commonmark_reading.specs.LinkDefinitions.{title_after};
+ghost use Rattle.htmd_commonmark_reader.specs.Destinations.{AreKnown};
 ghost use Rattle.htmd_commonmark_reader.specs.Targets.{target_of};
 
 use crate::definitions::Definition;
+use crate::destinations::lacks_destination;
 use crate::link_definitions::{destination, past_white, title_after};
 use htmd_scanning::{first_is, strip_byte};
 
@@ -63,12 +65,16 @@ fn target_title<'a>(address: &'a str, text: &'a str) -> Option<RawTarget<'a>>
 }
 
 /// Behind `(`: a destination and a title, each of which may be left out, and `)`.
-fn resource(text: &str) -> Option<RawTarget<'_>>
+fn resource<'a>(text: &'a str, known: &[Option<usize>]) -> Option<RawTarget<'a>>
+    requires { AreKnown known.now text.now }
     ensures { option_map target_of result ≡ spec.resource text.now }
 {
     let inside = past_white(text);
     if first_is(inside.as_bytes(), b')') {
         return closed_target("", None, inside);
+    }
+    if lacks_destination(inside.as_bytes(), known) {
+        return None;
     }
     match destination(inside) {
         Some(address) => target_title(address.front, address.rest),
@@ -76,11 +82,13 @@ fn resource(text: &str) -> Option<RawTarget<'_>>
     }
 }
 
-pub(crate) fn inline_target(text: &str) -> Option<RawTarget<'_>>
+/// What is known of bare destinations is looked up.
+pub(crate) fn inline_target<'a>(text: &'a str, known: &[Option<usize>]) -> Option<RawTarget<'a>>
+    requires { AreKnown known.now text.now }
     ensures { option_map target_of result ≡ spec.inline_target text.now }
 {
     match strip_byte(text, b'(') {
-        Some(inside) => resource(inside),
+        Some(inside) => resource(inside, known),
         None => None,
     }
 }

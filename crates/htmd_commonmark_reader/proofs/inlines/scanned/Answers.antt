@@ -1,10 +1,11 @@
 -- One step further.
-use Rattle.std.proofs.Common.{◌≡◌, ◌∙◌, ◌-◌, ℕ, List, [], ◌∷◌, length, take, refl, ap, sym, subst, arith, rules}
+use Rattle.std.proofs.Common.{◌≡◌, ◌∙◌, ◌-◌, ℕ, List, [], ◌∷◌, length, take, refl, ap, sym, subst, arith, rules, inl}
 use Rattle.std.specs.Prelude.{reverse}
 use Rattle.htmd_commonmark_reading.specs.Brackets.{outermost, before_end}
 use Rattle.htmd_commonmark_reading.specs.Brackets as spec
 use Rattle.htmd_commonmark_reader.specs.References.{references_of}
 use Rattle.htmd_commonmark_reader.specs.Scans.{IsScan}
+use Rattle.htmd_commonmark_reader.proofs.DestinationsLemmas.{known_next}
 use Rattle.htmd_commonmark_reader.proofs.RestsLemmas.{then}
 use Rattle.htmd_commonmark_reader.proofs.ScansLemmas.{empty_scan}
 use Rattle.htmd_commonmark_reader.proofs.inlines.scanned.Goals as goal
@@ -33,6 +34,7 @@ loop-here-init c =
         (0, refl),
         ap (λ t. spec.scanned refs text 0 (reverse t) (outermost [])) (none_before text),
       );
+      known = inl c.new-known.ensures.items;
     }
 
 pub step-requires-clause-end : goal.step-requires-clause-end
@@ -46,16 +48,17 @@ step-requires-clause-state c =
 pub loop-here-preserved : goal.loop-here-preserved
 loop-here-preserved c =
     let i = c.loop-here.invariant.state in
-    let g = c.in_ok-here.ensures i.0 i.1 i.2 in
+    let g = c.in_ok-here.ensures.goes i.0 i.1 i.2 in
     record {
       text = search rules;
       state = (g.brackets, g.stack, g.ends, then c.args.text.now c.loop-here.here.now _ i.3 g.rest, sym g.same ∙ i.4);
+      known = known_next c.step.new.known.items c.loop-here.here.now _ c.step.ensures.known g.rest g.shorter;
     }
 
 pub loop-here-smaller : goal.loop-here-smaller
 loop-here-smaller c =
     let i = c.loop-here.invariant.state in
-    let g = c.in_ok-here.ensures i.0 i.1 i.2 in
+    let g = c.in_ok-here.ensures.goes i.0 i.1 i.2 in
     g.shorter
 
 pub returns : goal.returns

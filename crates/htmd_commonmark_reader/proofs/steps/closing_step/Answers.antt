@@ -10,15 +10,15 @@ use Rattle.htmd_commonmark_reader.proofs.ClosingLemmas.{last_of, last_ends, oute
 use Rattle.htmd_commonmark_reader.proofs.ClosingLemmas.{link_step}
 use Rattle.htmd_commonmark_reader.proofs.steps.closing_step.Goals as goal
 
-pub returns-in_default : goal.returns-in_default
-returns-in_default c = λ b h k.
+pub returns-in_default-clause-step : goal.returns-in_default-clause-step
+returns-in_default-clause-step c = λ b h k.
     let x = letter 93 no_inlines in
     let none : c.args.scan.now.brackets.items ≡ [] = search rules in
     outer_closed (references_of c.args.references.now) b c.args.after.now c.args.scan.now c.push_slot.new.scan h none
     (c.in_ok-push_slot.ensures b (finished x ∷ []) x h (λ t. refl) refl)
 
-pub returns-then-not-is_active : goal.returns-then-not-is_active
-returns-then-not-is_active c = λ b h k.
+pub returns-then-not-is_active-clause-step : goal.returns-then-not-is_active-clause-step
+returns-then-not-is_active-clause-step c = λ b h k.
     let o = c.args.scan.now in
     let last : IsLastOf o.brackets.items c.in-Some.bracket = search rules in
     let l = last_of b o c.in-Some.bracket c.is_active.result h last c.is_active.ensures in
@@ -49,8 +49,8 @@ close_link-requires c =
       subst (λ x. IsScan x o) l.is s.1,
     )
 
-pub returns-in_ok-close_link-in-Some-found : goal.returns-in_ok-close_link-in-Some-found
-returns-in_ok-close_link-in-Some-found c = λ b h k.
+pub returns-in_ok-close_link-in-Some-found-clause-step : goal.returns-in_ok-close_link-in-Some-found-clause-step
+returns-in_ok-close_link-in-Some-found-clause-step c = λ b h k.
     let o = c.args.scan.now in
     let refs = references_of c.args.references.now in
     let after = c.args.after.now in
@@ -65,8 +65,8 @@ returns-in_ok-close_link-in-Some-found c = λ b h k.
     (c.in_ok-close_link-in-Some-found.ensures c.in-Some.bracket.is_image c.is_active.result c.in-Some.bracket.text.now
     l.tokens l.below (subst (λ x. IsScan x o) l.is h))
 
-pub returns-in_ok-close_as_text-in-None : goal.returns-in_ok-close_as_text-in-None
-returns-in_ok-close_as_text-in-None c = λ b h k.
+pub returns-in_ok-close_as_text-in-None-clause-step : goal.returns-in_ok-close_as_text-in-None-clause-step
+returns-in_ok-close_as_text-in-None-clause-step c = λ b h k.
     let o = c.args.scan.now in
     let refs = references_of c.args.references.now in
     let after = c.args.after.now in
