@@ -46,3 +46,4 @@ pub mod ReadingLemmas
 pub mod LineSizesLemmas
 pub mod BulletRunsLemmas
 pub mod DestinationsLemmas
+pub mod MissingLemmas

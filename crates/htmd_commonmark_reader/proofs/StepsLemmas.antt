@@ -341,11 +341,12 @@ pub at_first : (refs : References) (source here next : List ℕ) (b : Brackets) 
 at_first refs source [] next b scan l h k st = absurd (omega arith)
 at_first refs source (c ∷ s) next b scan l h k st = one_goes refs source c s next b scan h k st
 
-pub at_closing : (refs : References) (source here next : List ℕ) (b : Brackets) (scan : Scan) → 0 < length here
-    → get_or here 0 0 ≡ 93 → IsEnd source here → EndIn here b
-    → IsStep (spec.closing_step refs b (drop 1 here)) (drop 1 here) next scan
+-- by the sign that it is
+pub at_sign : (refs : References) (source here next : List ℕ) (b : Brackets) (scan : Scan) (c : ℕ) → 0 < length here
+    → get_or here 0 0 ≡ c → IsEnd source here → EndIn here b
+    → IsStep (step_of (kind c) refs b (reverse (before_end source here)) c (drop 1 here)) (drop 1 here) next scan
     → GoesOn refs source here b next scan
-at_closing refs source here next b scan l z h k st =
+at_sign refs source here next b scan c l z h k st =
     at_first refs source here next b scan l h k
     (subst (λ c. IsStep (step_of (kind c) refs b (reverse (before_end source here)) c (drop 1 here))
     (drop 1 here) next scan)

@@ -32,3 +32,4 @@ pub mod BulletRuns
 pub mod OpenLeaves
 pub mod OpenBlocks
 pub mod Destinations
+pub mod Missing

@@ -5,10 +5,11 @@ ghost use Rattle.htmd_lexical.specs.CharacterClasses.{first_is};
 ghost use Rattle.std.specs.List.{list_all};
 ghost use Rattle.htmd_commonmark_reading.specs.InlineTokens as spec;
 ghost use Rattle.htmd_commonmark_reader.specs.Beginnings.{beginning_of};
+ghost use Rattle.htmd_commonmark_reader.specs.Missing.{AreMissing};
 ghost use Rattle.htmd_commonmark_reader.specs.Angles.{angle_of, IsWithin, IsFound};
 
 use crate::byte_runs::{split_bytes, strip};
-use crate::raw_tags::{begins_with_letter, raw_tag};
+use crate::raw_tags::{Missing, begins_with_letter, raw_tag};
 use htmd_scanning::{ByteClass, first_is};
 use std::alloc::{AllocError, Global};
 
@@ -242,7 +243,9 @@ pub(crate) enum AngleToken {
 }
 
 /// What `<` before this text begins.
-pub(crate) fn angle(text: &[u8]) -> AngleToken
+pub(crate) fn angle(text: &[u8], missing: &mut Missing) -> AngleToken
+    requires { AreMissing text.now missing.old }
+    ensures missing { AreMissing text.now missing.new }
     ensures bound { IsWithin text.now result }
     ensures found { IsFound text.now result }
     ensures value { angle_of text.now result ≡ spec.angle text.now }
@@ -253,7 +256,7 @@ pub(crate) fn angle(text: &[u8]) -> AngleToken
     if let Some(len) = email(text) {
         return AngleToken::Email(len);
     }
-    match raw_tag(text) {
+    match raw_tag(text, missing) {
         Some(len) => AngleToken::Tag(len),
         None => AngleToken::Sign,
     }

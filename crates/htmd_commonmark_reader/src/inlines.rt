@@ -11,6 +11,7 @@ ghost use Rattle.htmd_parts.specs.Parts.{inlines_parts};
 
 use crate::brackets::Scan;
 use crate::emphasis::{Delimiter, process};
+use crate::raw_tags::Missing;
 use crate::references::References;
 use crate::slot_parts::push_slots;
 use crate::slots::Slot;
@@ -33,9 +34,23 @@ fn scanned<'a>(
         active: 0,
     };
     let mut known = Vec::new(alloc);
+    let mut missing = Missing {
+        comment: 0,
+        instruction: 0,
+        declaration: 0,
+        section: 0,
+    };
     let mut here = text;
     while !here.is_empty() {
-        here = step(alloc, references, &mut scan, &mut known, text, here)?;
+        here = step(
+            alloc,
+            references,
+            &mut scan,
+            &mut known,
+            &mut missing,
+            text,
+            here,
+        )?;
     }
     Ok(scan)
 }

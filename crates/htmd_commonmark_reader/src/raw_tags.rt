@@ -1,8 +1,9 @@
 //! Raw HTML (CommonMark 0.31.2, 6.6): how long what a `<` begins is, without that sign.
-ghost use Rattle.std.specs.Prelude.{◌≡◌, ◌≤◌, IfSome, length};
+ghost use Rattle.std.specs.Prelude.{◌≡◌, ◌≤◌, IfSome, None, codes, length};
 ghost use Rattle.std.specs.Option.{option_or};
 ghost use Rattle.htmd_commonmark_reading.specs.RawTags as spec;
 ghost use Rattle.htmd_commonmark_reader.specs.Beginnings.{beginning_of};
+ghost use Rattle.htmd_commonmark_reader.specs.Missing.{IsMissing, IsNoted, AreMissing};
 ghost use Rattle.htmd_commonmark_reader.specs.Tags.{place_of, enclosed};
 
 use crate::byte_runs::{split_bytes, strip};
@@ -255,15 +256,45 @@ fn through(text: &[u8], signs: &[u8]) -> Option<usize>
     None
 }
 
+/// How many bytes at the end of a text are known to have no end of these: they aren't looked at again.
+#[derive(Clone, Copy, Drop)]
+pub(crate) struct Missing {
+    pub(crate) comment: usize,
+    pub(crate) instruction: usize,
+    pub(crate) declaration: usize,
+    pub(crate) section: usize,
+}
+
+/// The text through the first of these signs, unless they are known to be missing.
+fn through_unless(text: &[u8], signs: &[u8], missing: &mut usize) -> Option<usize>
+    requires { length text.now ≤ missing.old → spec.through signs.now text.now ≡ None }
+    ensures bound { IfSome result (λ len. len ≤ length text.now) }
+    ensures value { beginning_of text.now result ≡ spec.through signs.now text.now }
+    ensures noted { IsNoted signs.now text.now missing.old missing.new }
+{
+    if text.len() <= *missing {
+        return None;
+    }
+    match through(text, signs) {
+        Some(len) => Some(len),
+        None => {
+            *missing = text.len();
+            None
+        }
+    }
+}
+
 /// What begins with these signs, and goes through the first of those after them.
-fn enclosed(text: &[u8], begin: &[u8], end: &[u8]) -> Option<usize>
+fn enclosed(text: &[u8], begin: &[u8], end: &[u8], missing: &mut usize) -> Option<usize>
+    requires { IsMissing end.now text.now missing.old }
+    ensures missing { IsMissing end.now text.now missing.new }
     ensures bound { IfSome result (λ len. len ≤ length text.now) }
     ensures value { beginning_of text.now result ≡ enclosed begin.now end.now text.now }
 {
     if !begins_with(text, begin) {
         return None;
     }
-    let len = through(&text[begin.len()..], end)?;
+    let len = through_unless(&text[begin.len()..], end, missing)?;
     Some(begin.len() + len)
 }
 
@@ -286,7 +317,9 @@ pub(crate) fn closing_tag(text: &[u8]) -> Option<usize>
     }
 }
 
-fn comment(text: &[u8]) -> Option<usize>
+fn comment(text: &[u8], missing: &mut usize) -> Option<usize>
+    requires { IsMissing (codes "-->") text.now missing.old }
+    ensures missing { IsMissing (codes "-->") text.now missing.new }
     ensures bound { IfSome result (λ len. len ≤ length text.now) }
     ensures value { beginning_of text.now result ≡ spec.comment text.now }
 {
@@ -296,40 +329,46 @@ fn comment(text: &[u8]) -> Option<usize>
     if begins_with(text, b"!--->") {
         return Some(5);
     }
-    enclosed(text, b"!--", b"-->")
+    enclosed(text, b"!--", b"-->", missing)
 }
 
-fn declaration(text: &[u8]) -> Option<usize>
+fn declaration(text: &[u8], missing: &mut usize) -> Option<usize>
+    requires { IsMissing (codes ">") text.now missing.old }
+    ensures missing { IsMissing (codes ">") text.now missing.new }
     ensures bound { IfSome result (λ len. len ≤ length text.now) }
     ensures value { beginning_of text.now result ≡ spec.declaration text.now }
 {
     match text {
-        [b'!', after @ ..] if begins_with_letter(after) => through(text, b">"),
+        [b'!', after @ ..] if begins_with_letter(after) => through_unless(text, b">", missing),
         _ => None,
     }
 }
 
 /// What begins with `!` or `?`: a comment, an instruction, a declaration or a CDATA section.
-fn other_tag(text: &[u8]) -> Option<usize>
+fn other_tag(text: &[u8], missing: &mut Missing) -> Option<usize>
+    requires { AreMissing text.now missing.old }
+    ensures missing { AreMissing text.now missing.new }
     ensures bound { IfSome result (λ len. len ≤ length text.now) }
     ensures value { beginning_of text.now result
         ≡ option_or (spec.comment text.now) (option_or (spec.instruction text.now)
         (option_or (spec.declaration text.now) (spec.cdata_section text.now))) }
 {
-    if let Some(len) = comment(text) {
+    if let Some(len) = comment(text, &mut missing.comment) {
         return Some(len);
     }
-    if let Some(len) = enclosed(text, b"?", b"?>") {
+    if let Some(len) = enclosed(text, b"?", b"?>", &mut missing.instruction) {
         return Some(len);
     }
-    if let Some(len) = declaration(text) {
+    if let Some(len) = declaration(text, &mut missing.declaration) {
         return Some(len);
     }
-    enclosed(text, b"![CDATA[", b"]]>")
+    enclosed(text, b"![CDATA[", b"]]>", &mut missing.section)
 }
 
 /// What a `<` begins, without that.
-pub(crate) fn raw_tag(text: &[u8]) -> Option<usize>
+pub(crate) fn raw_tag(text: &[u8], missing: &mut Missing) -> Option<usize>
+    requires { AreMissing text.now missing.old }
+    ensures missing { AreMissing text.now missing.new }
     ensures bound { IfSome result (λ len. len ≤ length text.now) }
     ensures value { beginning_of text.now result ≡ spec.raw_tag text.now }
 {
@@ -339,5 +378,5 @@ pub(crate) fn raw_tag(text: &[u8]) -> Option<usize>
     if let Some(len) = closing_tag(text) {
         return Some(len);
     }
-    other_tag(text)
+    other_tag(text, missing)
 }

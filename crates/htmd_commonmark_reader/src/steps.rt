@@ -8,6 +8,7 @@ ghost use Rattle.htmd_commonmark_reading.specs.Brackets.{Brackets};
 ghost use Rattle.htmd_commonmark_reading.specs.Characters.{is_space_or_tab, referenced};
 ghost use Rattle.htmd_commonmark_reading.specs.InlineTokens as token;
 ghost use Rattle.htmd_commonmark_reader.specs.Destinations.{AreKnown};
+ghost use Rattle.htmd_commonmark_reader.specs.Missing.{AreMissing};
 ghost use Rattle.htmd_commonmark_reader.specs.Openers.{is_sign};
 ghost use Rattle.htmd_commonmark_reader.specs.References.{references_of};
 ghost use Rattle.htmd_commonmark_reader.specs.Scans.{IsScan};
@@ -24,6 +25,7 @@ use crate::delimiter_runs::run_of;
 use crate::destinations::note_lefts;
 use crate::inline_tokens::{AngleToken, angle, before_graves};
 use crate::link_targets::target;
+use crate::raw_tags::Missing;
 use crate::references::References;
 use crate::slots::Slot;
 use htmd_scanning::{ByteClass, first_is, split_run, strip_byte};
@@ -197,12 +199,19 @@ fn run_step<'a>(
 }
 
 /// What `<` begins.
-fn angle_step<'a>(scan: &mut Scan<'a>, here: &'a str, after: &'a str) -> Result<&'a str, AllocError>
-    requires { here.now ≡ less_than_sign ∷ after.now }
-    ensures { IfOk result (λ rest. (b : Brackets) → IsScan b scan.old
+fn angle_step<'a>(
+    scan: &mut Scan<'a>,
+    missing: &mut Missing,
+    here: &'a str,
+    after: &'a str,
+) -> Result<&'a str, AllocError>
+    requires first { here.now ≡ less_than_sign ∷ after.now }
+    requires missing { AreMissing after.now missing.old }
+    ensures missing { AreMissing after.now missing.new }
+    ensures step { IfOk result (λ rest. (b : Brackets) → IsScan b scan.old
         → IsStep (spec.angle_step b (token.angle after.now)) after.now rest.now scan.new) }
 {
-    match angle(after.as_bytes()) {
+    match angle(after.as_bytes(), missing) {
         AngleToken::Uri(len) => {
             push_slot(scan, Slot::Uri(&after[..len]))?;
             Ok(&after[len + 1..])
@@ -319,11 +328,12 @@ fn closing_step<'a>(
     }
 }
 
-/// What a character begins that isn't blank or a closing bracket.
+/// What a character begins that isn't blank, `<` or a closing bracket.
 fn one_step<'a>(scan: &mut Scan<'a>, before: &str, here: &'a str) -> Result<&'a str, AllocError>
     requires some { 0 < length here.now }
     requires other { is_other (slice_index here.now 0) ≡ false }
     requires blank { is_space_or_tab (slice_index here.now 0) ≡ false }
+    requires angle { (slice_index here.now 0 == less_than_sign) ≡ false }
     requires closing { (slice_index here.now 0 == right_square_bracket) ≡ false }
     ensures { IfOk result (λ rest. (b : Brackets) → IsScan b scan.old
         → (refs : spec.References) → let c = slice_index here.now 0 in
@@ -336,7 +346,6 @@ fn one_step<'a>(scan: &mut Scan<'a>, before: &str, here: &'a str) -> Result<&'a 
         b'\n' => break_step(scan, before, after),
         b'\\' => backslash_step(scan, after),
         b'`' => code_step(scan, here),
-        b'<' => angle_step(scan, here, after),
         b'&' => reference_step(scan, after),
         b'!' => exclamation_step(scan, after),
         b'[' => opening_step(scan, after),
@@ -344,13 +353,14 @@ fn one_step<'a>(scan: &mut Scan<'a>, before: &str, here: &'a str) -> Result<&'a 
     }
 }
 
-/// Reads what begins at a place of a text, and returns what follows that. What becomes known of bare destinations is
-/// kept.
+/// Reads what begins at a place of a text, and returns what follows that. What becomes known of bare destinations, and
+/// of what is missing, is kept.
 pub(crate) fn step<'a>(
     alloc: Global,
     references: &'a References,
     scan: &mut Scan<'a>,
     known: &mut Vec<Option<usize>>,
+    missing: &mut Missing,
     text: &'a str,
     here: &'a str,
 ) -> Result<&'a str, AllocError>
@@ -358,7 +368,9 @@ pub(crate) fn step<'a>(
     requires end { IsEnd text.now here.now }
     requires state { (b : Brackets) × IsScan b scan.old × EndIn here.now b }
     requires known { AreKnown known.old.items here.now }
+    requires missing { AreMissing here.now missing.old }
     ensures known { AreKnown known.new.items (drop 1 here.now) }
+    ensures missing { AreMissing (drop 1 here.now) missing.new }
     ensures goes { IfOk result (λ rest. (b : Brackets) → IsScan b scan.old → EndIn here.now b
         → GoesOn (references_of references.now) text.now here.now b rest.now scan.new) }
 {
@@ -367,6 +379,8 @@ pub(crate) fn step<'a>(
         letter_steps(scan, here)
     } else if is_space_or_tab(sign) {
         blank_steps(scan, here)
+    } else if sign == b'<' {
+        angle_step(scan, missing, here, &here[1..])
     } else if sign == b']' {
         closing_step(alloc, references, scan, known, here, &here[1..])
     } else {

@@ -1,11 +1,12 @@
 -- One step further.
 use Rattle.std.proofs.Common.{◌≡◌, ◌∙◌, ◌-◌, ℕ, List, [], ◌∷◌, length, take, refl, ap, sym, subst, arith, rules, inl}
-use Rattle.std.specs.Prelude.{reverse}
+use Rattle.std.specs.Prelude.{codes, reverse}
 use Rattle.htmd_commonmark_reading.specs.Brackets.{outermost, before_end}
 use Rattle.htmd_commonmark_reading.specs.Brackets as spec
 use Rattle.htmd_commonmark_reader.specs.References.{references_of}
 use Rattle.htmd_commonmark_reader.specs.Scans.{IsScan}
 use Rattle.htmd_commonmark_reader.proofs.DestinationsLemmas.{known_next}
+use Rattle.htmd_commonmark_reader.proofs.MissingLemmas.{missing_next, nothing_missing}
 use Rattle.htmd_commonmark_reader.proofs.RestsLemmas.{then}
 use Rattle.htmd_commonmark_reader.proofs.ScansLemmas.{empty_scan}
 use Rattle.htmd_commonmark_reader.proofs.inlines.scanned.Goals as goal
@@ -35,6 +36,12 @@ loop-here-init c =
         ap (λ t. spec.scanned refs text 0 (reverse t) (outermost [])) (none_before text),
       );
       known = inl c.new-known.ensures.items;
+      missing = record {
+        comment = nothing_missing (codes "-->") text;
+        instruction = nothing_missing (codes "?>") text;
+        declaration = nothing_missing (codes ">") text;
+        section = nothing_missing (codes "]]>") text;
+      };
     }
 
 pub step-requires-clause-end : goal.step-requires-clause-end
@@ -53,6 +60,7 @@ loop-here-preserved c =
       text = search rules;
       state = (g.brackets, g.stack, g.ends, then c.args.text.now c.loop-here.here.now _ i.3 g.rest, sym g.same ∙ i.4);
       known = known_next c.step.new.known.items c.loop-here.here.now _ c.step.ensures.known g.rest g.shorter;
+      missing = missing_next c.step.new.missing c.loop-here.here.now _ c.step.ensures.missing g.rest g.shorter;
     }
 
 pub loop-here-smaller : goal.loop-here-smaller

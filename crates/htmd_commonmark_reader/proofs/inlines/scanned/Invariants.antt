@@ -4,6 +4,7 @@ use Rattle.std.specs.Prelude.{reverse}
 use Rattle.htmd_commonmark_reading.specs.Brackets.{Brackets, outermost, before_end}
 use Rattle.htmd_commonmark_reading.specs.Brackets as spec
 use Rattle.htmd_commonmark_reader.specs.Destinations.{AreKnown}
+use Rattle.htmd_commonmark_reader.specs.Missing.{AreMissing}
 use Rattle.htmd_commonmark_reader.specs.References.{references_of}
 use Rattle.htmd_commonmark_reader.specs.Scans.{IsScan}
 use Rattle.htmd_commonmark_reader.specs.Steps.{IsEnd, EndIn}
@@ -20,6 +21,7 @@ invariant-loop-here l =
           × (spec.scanned refs l.here 0 (reverse (before_end l.text l.here)) b
           ≡ spec.scanned refs l.text 0 [] (outermost []));
       known : AreKnown l.known.items l.here;
+      missing : AreMissing l.here l.missing;
     }
 
 abbrev pub decreases-loop-here : goal.decreases-loop-here

@@ -26,7 +26,7 @@ pub range-requires-in-Tag-clause-end_boundary : goal.range-requires-in-Tag-claus
 range-requires-in-Tag-clause-end_boundary c =
     let within = rw c.as_bytes.ensures.value at c.in-Tag.ensures.bound in
     let found = rw c.as_bytes.ensures.value at c.in-Tag.ensures.found in
-    tag_cut c.args.here.now c.args.after.now c.in-Tag.len c.utf8.after c.requires within found
+    tag_cut c.args.here.now c.args.after.now c.in-Tag.len c.utf8.after c.requires.first within found
 
 pub range_from-requires-in-Tag : goal.range_from-requires-in-Tag
 range_from-requires-in-Tag c = λ _.
@@ -34,8 +34,8 @@ range_from-requires-in-Tag c = λ _.
     let found = rw c.as_bytes.ensures.value at c.in-Tag.ensures.found in
     raw_cut c.args.after.now c.in-Tag.len c.utf8.after within found
 
-pub returns-in_ok-push_slot-in-Uri : goal.returns-in_ok-push_slot-in-Uri
-returns-in_ok-push_slot-in-Uri c = λ b h.
+pub returns-in_ok-push_slot-in-Uri-clause-step : goal.returns-in_ok-push_slot-in-Uri-clause-step
+returns-in_ok-push_slot-in-Uri-clause-step c = λ b h.
     let t = c.range.result.now in
     let x = link_to (dereferenced t) (dereferenced t) in
     let within = rw c.as_bytes.ensures.value at c.in-Uri.ensures.bound in
@@ -45,8 +45,8 @@ returns-in_ok-push_slot-in-Uri c = λ b h.
     (c.in_ok-push_slot-in-Uri.ensures b (finished x ∷ []) x h (λ s. refl)
     (autolink_parts (dereferenced t) (dereferenced t)))
 
-pub returns-in_ok-push_slot-in-Email : goal.returns-in_ok-push_slot-in-Email
-returns-in_ok-push_slot-in-Email c = λ b h.
+pub returns-in_ok-push_slot-in-Email-clause-step : goal.returns-in_ok-push_slot-in-Email-clause-step
+returns-in_ok-push_slot-in-Email-clause-step c = λ b h.
     let t = c.range-in-Email.result.now in
     let x = link_to (codes "mailto:" ++ t) t in
     let within = rw c.as_bytes.ensures.value at c.in-Email.ensures.bound in
@@ -57,20 +57,20 @@ returns-in_ok-push_slot-in-Email c = λ b h.
     (c.in_ok-push_slot-in-Email.ensures b (finished x ∷ []) x h (λ s. refl)
     (autolink_parts (codes "mailto:" ++ t) t))
 
-pub returns-in_ok-push_slot-in-Tag : goal.returns-in_ok-push_slot-in-Tag
-returns-in_ok-push_slot-in-Tag c = λ b h.
+pub returns-in_ok-push_slot-in-Tag-clause-step : goal.returns-in_ok-push_slot-in-Tag-clause-step
+returns-in_ok-push_slot-in-Tag-clause-step c = λ b h.
     let t = c.range-in-Tag.result.now in
     let x = raw t no_inlines in
     let within = rw c.as_bytes.ensures.value at c.in-Tag.ensures.bound in
     let value = rw c.as_bytes.ensures.value at c.in-Tag.ensures.value in
     tag_step b c.args.here.now c.args.after.now t c.range_from-in-Tag.result.now c.in-Tag.len
-    c.push_slot-in-Tag.new.scan c.requires value
+    c.push_slot-in-Tag.new.scan c.requires.first value
     (c.range-in-Tag.ensures.value ∙ from_first c.args.here.now (c.in-Tag.len + 1)) within
     c.range_from-in-Tag.ensures.value
     (c.in_ok-push_slot-in-Tag.ensures b (finished x ∷ []) x h (λ s. refl) refl)
 
-pub returns-in_ok-push_slot-in-Sign : goal.returns-in_ok-push_slot-in-Sign
-returns-in_ok-push_slot-in-Sign c = λ b h.
+pub returns-in_ok-push_slot-in-Sign-clause-step : goal.returns-in_ok-push_slot-in-Sign-clause-step
+returns-in_ok-push_slot-in-Sign-clause-step c = λ b h.
     let x = letters (60 ∷ []) no_inlines in
     let value = rw c.as_bytes.ensures.value at c.in-Sign.ensures.value in
     less_step b c.args.after.now c.push_slot-in-Sign.new.scan value
