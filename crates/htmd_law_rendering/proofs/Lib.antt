@@ -8,4 +8,7 @@ pub mod FittingLemmas
 pub mod PlaceLemmas
 pub mod StrictLemmas
 pub mod StrictBlocks
+pub mod CleanLemmas
+pub mod PlainTreeLemmas
+pub mod ParsedLemmas
 mod Examples

@@ -164,7 +164,7 @@ module _ (z : Bool) where
   language-pairs : (language : Option (List ℕ)) → title_has_no_return language ≡ true
       → FitPairs (pairs_of_language language)
   language-pairs None h = (tt, refl)
-  language-pairs (Some s) h = ((refl, refl, h, tt), refl)
+  language-pairs (Some s) h = ((refl, refl, refl, h, tt), refl)
 
   code-text : (s : List ℕ) (c : Context) → has_no_return s ≡ true → length c ≤ 1024 → TakesInlines z c
       → Fits z c (code_trees s)
@@ -232,7 +232,7 @@ module _ (z : Bool) where
   start-pairs : (start : Option ℕ) → FitPairs (pairs_of_start start)
   start-pairs None = (tt, refl)
   start-pairs (Some n) = test (n == 1) (λ e. rw e (tt, refl))
-      (λ e. rw e ((refl, refl, decimal-lacks n, tt), refl))
+      (λ e. rw e ((refl, refl, refl, decimal-lacks n, tt), refl))
 
   list-named : (start : Option ℕ) → IsTreeName (list_name start)
   list-named None = (refl, refl)
@@ -350,12 +350,14 @@ module _ (z : Bool) where
     no_heading = refl;
   }
 
+  pub plain-fits : (bs : Blocks) → IsPlain bs → Fits z below_body (trees_of bs)
+  plain-fits bs p =
+      let l = p.shallow in blocks-fit false false bs below_body p.no_raw p.strict (omega arith) body-takes
+
   pub rendered-reads : (bs : Blocks) → IsPlain bs → reads (project z) below_body (html_of bs) (trees_of bs)
   rendered-reads bs p =
-      let l = p.shallow in
       subst (λ s. reads (project z) below_body s (trees_of bs)) (sym (rendered bs p.no_raw))
-      (trees-read z (trees_of bs) below_body true
-      (blocks-fit false false bs below_body p.no_raw p.strict (omega arith) body-takes))
+      (trees-read z (trees_of bs) below_body true (plain-fits bs p))
 
 pub read : RenderedIsRead
 read z bs p = record {

@@ -73,29 +73,29 @@ format-pairs Underlined h = (tt, refl)
 format-pairs Marked h = (tt, refl)
 format-pairs Small h = (tt, refl)
 format-pairs Keyboard h = (tt, refl)
-format-pairs (Abbreviation title) h = ((refl, refl, h, tt), refl)
+format-pairs (Abbreviation title) h = ((refl, refl, refl, h, tt), refl)
 
 pub link-pairs : (address : List ℕ) (title : Option (List ℕ)) → title_has_no_return title ≡ true
     → FitPairs (pairs_of_link address title)
-link-pairs address None h = ((refl, refl, encoded address, tt), refl)
-link-pairs address (Some s) h = ((refl, refl, encoded address, (refl, refl, h, tt)), refl)
+link-pairs address None h = ((refl, refl, refl, encoded address, tt), refl)
+link-pairs address (Some s) h = ((refl, refl, refl, encoded address, (refl, refl, refl, h, tt)), refl)
 
 pub image-pairs : (address : List ℕ) (title : Option (List ℕ)) (description : List ℕ)
     → has_no_return description ≡ true → title_has_no_return title ≡ true
     → FitPairs (pairs_of_image address title description)
-image-pairs address None description d h = ((refl, refl, encoded address, (refl, refl, d, tt)), refl)
+image-pairs address None description d h = ((refl, refl, refl, encoded address, (refl, refl, refl, d, tt)), refl)
 image-pairs address (Some s) description d h =
-    ((refl, refl, encoded address, (refl, refl, d, (refl, refl, h, tt))), refl)
+    ((refl, refl, refl, encoded address, (refl, refl, refl, d, (refl, refl, refl, h, tt))), refl)
 
 pub box-pairs : (d : Bool) → FitPairs (pairs_of_box d)
-box-pairs true = ((refl, refl, refl, (refl, refl, refl, (refl, refl, refl, tt))), refl)
-box-pairs false = ((refl, refl, refl, (refl, refl, refl, tt)), refl)
+box-pairs true = ((refl, refl, refl, refl, (refl, refl, refl, refl, (refl, refl, refl, refl, tt))), refl)
+box-pairs false = ((refl, refl, refl, refl, (refl, refl, refl, refl, tt)), refl)
 
 pub alignment-pairs : (a : Alignment) → FitPairs (pairs_of_alignment a)
 alignment-pairs aligned.None = (tt, refl)
-alignment-pairs aligned.Left = ((refl, refl, refl, tt), refl)
-alignment-pairs aligned.Center = ((refl, refl, refl, tt), refl)
-alignment-pairs aligned.Right = ((refl, refl, refl, tt), refl)
+alignment-pairs aligned.Left = ((refl, refl, refl, refl, tt), refl)
+alignment-pairs aligned.Center = ((refl, refl, refl, refl, tt), refl)
+alignment-pairs aligned.Right = ((refl, refl, refl, refl, tt), refl)
 
 format-tree_name : (f : Format) → IsTreeName (format_name f)
 format-tree_name Emphasis = (refl, refl)

@@ -21,12 +21,12 @@ use Rattle.htmd_law_rendering.proofs.DecodeLemmas.{value-denotes}
 abbrev pub IsTreeName : List ℕ → Type 0
 IsTreeName n = (is_tag_name n ≡ true) × (map to_ascii_lowercase n ≡ n)
 
--- attributes as they stand in a tree, without carriage returns
+-- attributes as they stand in a tree, without carriage returns, and without ampersands in their names
 abbrev pub AreTreePairs : List AttributePair → Type 0
 AreTreePairs [] = ⊤
 AreTreePairs (a ∷ attributes) =
-    (is_attribute_name a.name ≡ true) × (map to_ascii_lowercase a.name ≡ a.name) × (lacks 13 a.value ≡ true)
-    × AreTreePairs attributes
+    (is_attribute_name a.name ≡ true) × (map to_ascii_lowercase a.name ≡ a.name) × (lacks 38 a.name ≡ true)
+    × (lacks 13 a.value ≡ true) × AreTreePairs attributes
 
 -- attributes with their values as they are spelled
 abbrev spelled_pairs : List ℕ → List AttributePair → List AttributePair
@@ -61,15 +61,15 @@ rest n (a ∷ attributes) k =
       refl,
       k.0,
       k.1,
-      inr (inl (61 ∷ [], 34, refl, ([], [], refl, refl, refl), inl refl, (value-denotes n a.value k.2).2)),
-      rest n attributes k.3,
+      inr (inl (61 ∷ [], 34, refl, ([], [], refl, refl, refl), inl refl, (value-denotes n a.value k.3).2)),
+      rest n attributes k.4,
     )
 
 values : (n : List ℕ) (attributes : List AttributePair) → AreTreePairs attributes
     → decode_values named_characters (spelled_pairs n attributes) ≡ Some attributes
 values n [] k = refl
 values n (a ∷ attributes) k =
-    let d = (value-denotes n a.value k.2).0 in rw (d, values n attributes k.3) refl
+    let d = (value-denotes n a.value k.3).0 in rw (d, values n attributes k.4) refl
 
 slash-is-void : (n : List ℕ) → has_slash n ≡ true → is_void n ≡ true
 slash-is-void n e = (and_parts (is_void n) _ e).0

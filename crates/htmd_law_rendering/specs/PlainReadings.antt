@@ -144,7 +144,25 @@ abbrev mutual
   levels_of_items no_items = 0
   levels_of_items (item bs rest) = max (suc (levels_of_blocks bs)) (levels_of_items rest)
 
--- all of these
+-- ---- tables
+
+abbrev mutual
+  pub block_has_no_table : Block → Bool
+  block_has_no_table (quote bs) = blocks_have_no_table bs
+  block_has_no_table (list start tight items) = items_have_no_table items
+  block_has_no_table (table alignments header rows) = false
+  block_has_no_table b = true
+
+  pub blocks_have_no_table : Blocks → Bool
+  blocks_have_no_table no_blocks = true
+  blocks_have_no_table (block b bs) = block_has_no_table b && blocks_have_no_table bs
+
+  pub items_have_no_table : Items → Bool
+  items_have_no_table no_items = true
+  items_have_no_table (item bs rest) = blocks_have_no_table bs && items_have_no_table rest
+
+-- ---- all of these but the last
+
 pub record IsPlain (bs : Blocks) : Type 0 where
   pub no_raw : blocks_have_no_raw bs ≡ true
   pub strict : blocks_are_strict bs ≡ true

@@ -1,13 +1,17 @@
 -- The HTML of what is read of Markdown, and the trees that it is of.
-use Rattle.std.specs.Prelude.{◌≡◌, Bool, true}
+use Rattle.std.specs.Prelude.{◌≡◌, Bool, true, ◌++◌, codes}
+use Rattle.htmd_lexical.specs.Characters.{null}
+use Rattle.htmd_lexical.specs.CharacterClasses.{lacks}
 use Rattle.htmd_grammar.specs.Rules.{project}
-use Rattle.htmd_grammar.specs.HtmlDocuments.{below_body}
+use Rattle.htmd_grammar.specs.HtmlDocuments.{below_body, skeleton}
 use Rattle.htmd_grammar.specs.ReadBack.{DenotesAlone}
+use Rattle.htmd_nodes.specs.Layout.{document_items}
+use Rattle.htmd_html5.specs.Html5Documents.{html5_document}
 use Rattle.htmd_commonmark_reading.specs.Markup.{Blocks}
 use Rattle.htmd_commonmark_reading.specs.Rendering.{html_of}
 use Rattle.htmd_law_rendering.specs.RenderedTrees.{trees_of}
 use Rattle.htmd_law_rendering.specs.SpelledTrees.{all_spelled}
-use Rattle.htmd_law_rendering.specs.PlainReadings.{blocks_have_no_raw, IsPlain}
+use Rattle.htmd_law_rendering.specs.PlainReadings.{blocks_have_no_raw, blocks_have_no_table, IsPlain}
 
 -- Without raw tags the HTML of what is read is that of its trees.
 abbrev pub RenderedIsSpelled : Type 0
@@ -17,3 +21,10 @@ RenderedIsSpelled = (bs : Blocks) → blocks_have_no_raw bs ≡ true → html_of
 abbrev pub RenderedIsRead : Type 0
 RenderedIsRead = (scripting : Bool) (bs : Blocks) → IsPlain bs
     → DenotesAlone (project scripting) below_body (html_of bs) (trees_of bs)
+
+-- And if it has no table and no U+0000, the reader of any page makes that document of it, also behind `<body>`.
+abbrev pub RenderedIsParsed : Type 0
+RenderedIsParsed = (scripting : Bool) (bs : Blocks) → IsPlain bs → blocks_have_no_table bs ≡ true
+    → lacks null (html_of bs) ≡ true
+    → (html5_document scripting (html_of bs) ≡ document_items (skeleton (trees_of bs)))
+    × (html5_document scripting (codes "<body>" ++ html_of bs) ≡ document_items (skeleton (trees_of bs)))
