@@ -16,7 +16,8 @@ none_more : (c : ℕ) (o : Option (List ℕ)) → one_more c o ≡ None → o �
 none_more c None e = refl
 none_more c (Some s) e = absurd (cc)
 
-through_drop : (signs : List ℕ) (n : ℕ) (s : List ℕ) → through signs s ≡ None → through signs (drop n s) ≡ None
+through_drop : (signs : List ℕ) (n : ℕ) (s : List ℕ) → through signs s ≡ None
+    → through signs (drop n s) ≡ None
 through_drop signs zero [] e = refl
 through_drop signs (suc n) [] e = refl
 through_drop signs zero (c ∷ s) e = e
@@ -45,8 +46,8 @@ all_behind s e m k h = record {
   section = missing_behind (codes "]]>") s e m.section k.section h;
 }
 
-pub noted_more : (signs s e : List ℕ) (old new : ℕ) → IsMissing signs s old → IsEnd s e → IsNoted signs e old new
-    → IsMissing signs s new
+pub noted_more : (signs s e : List ℕ) (old new : ℕ) → IsMissing signs s old → IsEnd s e
+    → IsNoted signs e old new → IsMissing signs s new
 noted_more signs s e old new k h (inl q) = subst (IsMissing signs s) (sym q) k
 noted_more signs s e old new k h (inr (q, z)) = λ f g l.
     let i = shorter_end s e f h g (omega (arith, q, l)) in

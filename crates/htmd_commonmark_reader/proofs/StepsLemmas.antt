@@ -342,7 +342,8 @@ at_first refs source [] next b scan l h k st = absurd (omega arith)
 at_first refs source (c ∷ s) next b scan l h k st = one_goes refs source c s next b scan h k st
 
 -- by the sign that it is
-pub at_sign : (refs : References) (source here next : List ℕ) (b : Brackets) (scan : Scan) (c : ℕ) → 0 < length here
+pub at_sign : (refs : References) (source here next : List ℕ) (b : Brackets) (scan : Scan) (c : ℕ)
+    → 0 < length here
     → get_or here 0 0 ≡ c → IsEnd source here → EndIn here b
     → IsStep (step_of (kind c) refs b (reverse (before_end source here)) c (drop 1 here)) (drop 1 here) next scan
     → GoesOn refs source here b next scan
