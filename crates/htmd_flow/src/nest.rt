@@ -43,6 +43,15 @@ impl Nest {
         }
     }
 
+    /// Nothing any more; the room that there is stays.
+    pub(crate) fn clear(&mut self)
+        ensures inlines { view.inlines_in self.new ≡ no_inlines }
+        ensures wrappers { view.wrappers_in self.new ≡ [] }
+    {
+        self.frames.clear();
+        self.content.clear();
+    }
+
     /// How many wrappers the place where it is open shares with these, from the outermost in.
     pub(crate) fn shared(&self, around: &[Around]) -> usize
         ensures value { result ≡ spec.shared (view.wrappers_in self.now) (view.wrappers_of around.now) }

@@ -280,7 +280,7 @@ impl Paragraphs {
         ensures { writing_in self.new ≡ untasked (writing_in self.old) }
     {
         if !self.latest.is_leaf() {
-            self.nest = Nest::new(self.alloc);
+            self.nest.clear();
         }
     }
 
@@ -496,7 +496,7 @@ impl Paragraphs {
             ≡ emptied (with_blocks (writing_in self.old) (spec.open_paragraph (writing_in self.old)))) }
     {
         if self.is_idle() {
-            self.nest = Nest::new(self.alloc);
+            self.nest.clear();
             return Ok(());
         }
         let content = self.take()?;

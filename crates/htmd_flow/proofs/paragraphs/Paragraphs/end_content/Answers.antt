@@ -18,4 +18,4 @@ returns c =
 pub returns-then-is_idle : goal.returns-then-is_idle
 returns-then-is_idle c =
     let idle = c.is_idle.ensures c.if-is_idle.true in
-    idle_ended (writing_in c.args.self.now) _ _ idle.0 idle.1 c.new.ensures.inlines c.new.ensures.wrappers
+    idle_ended (writing_in c.args.self.now) _ _ idle.0 idle.1 c.clear.ensures.inlines c.clear.ensures.wrappers
