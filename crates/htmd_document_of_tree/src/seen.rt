@@ -9,8 +9,20 @@ use htmd_shown::showing::{code_shows, image_shows};
 use htmd_shown::shown_text::is_blank_when_shown;
 use std::alloc::AllocError;
 
-/// Whether there is something to see of a leaf; none of what has its leaves in it.
+/// Whether there is something to see of a leaf; none of what has its leaves in it. Most nodes are texts, or elements
+/// that have theirs in them.
 pub(crate) fn leaf_shows(tree: &Simple) -> Option<bool>
+    ensures { result ≡ spec.leaf_shows (simple_of tree.now) }
+{
+    match tree {
+        Simple::Text(text) => Some(!is_blank_when_shown(text)),
+        Simple::Element { role, .. } if !role.is_verbatim() => None,
+        _ => any_leaf_shows(tree),
+    }
+}
+
+/// The same of any node.
+fn any_leaf_shows(tree: &Simple) -> Option<bool>
     ensures { result ≡ spec.leaf_shows (simple_of tree.now) }
 {
     match tree {
@@ -46,7 +58,7 @@ pub(crate) fn one_more(seen: usize, shows: bool) -> Result<usize, AllocError>
 fn seen_after(seen: usize, tree: &Simple) -> Result<usize, AllocError>
     ensures { IfOk result (λ n. n ≡ seen + spec.seen (simple_of tree.now)) }
 {
-    match leaf_shows(tree) {
+    match any_leaf_shows(tree) {
         Some(shows) => one_more(seen, shows),
         None => seen_inside(seen, tree),
     }
