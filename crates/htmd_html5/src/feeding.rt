@@ -4,7 +4,7 @@ ghost use Rattle.htmd_lexical.specs.Characters.{line_feed};
 ghost use Rattle.htmd_lexical.specs.CharacterClasses.{first_is};
 ghost use Rattle.htmd_html5_state.specs.Names.{name_of};
 ghost use Rattle.htmd_html5.specs.Feeding as spec;
-ghost use Rattle.htmd_html5_tokens.specs.Tokens.{value_of};
+ghost use Rattle.htmd_html5_tokens.specs.Tokens.{end_of_file, value_of};
 
 use crate::processing::{
     process_comment, process_doctype, process_end, process_end_of_file, process_start,
@@ -83,6 +83,15 @@ fn feed_end_tag(state: &mut HtmlState, name: &HtmlName) -> Result<(), AllocError
     process_end(state, name)
 }
 
+/// The end of the page.
+pub(crate) fn feed_end_of_file(state: &mut HtmlState) -> Result<(), AllocError>
+    ensures { OnOk result (state.new ≡ spec.feed end_of_file state.old) }
+{
+    state.set_skips_line_feed(false);
+    leave_text_mode(state);
+    process_end_of_file(state)
+}
+
 /// A token.
 #[inline(always)]
 pub(crate) fn feed(state: &mut HtmlState, token: Token<'_>) -> Result<(), AllocError>
@@ -112,9 +121,6 @@ pub(crate) fn feed(state: &mut HtmlState, token: Token<'_>) -> Result<(), AllocE
             leave_text_mode(state);
             process_doctype(state, quirks)
         }
-        Token::EndOfFile => {
-            leave_text_mode(state);
-            process_end_of_file(state)
-        }
+        Token::EndOfFile => feed_end_of_file(state),
     }
 }

@@ -6,7 +6,7 @@ ghost use Rattle.htmd_html5_state.specs.State.{initial_state};
 ghost use Rattle.htmd_html5_tokens.specs.Tokens.{value_of};
 ghost use Rattle.htmd_html5_state.specs.Views.{nodes_of};
 
-use crate::feeding::feed;
+use crate::feeding::{feed, feed_end_of_file};
 use crate::layout::lay_out;
 use htmd_html5_state::{HtmlState, Node};
 use htmd_html5_tokens::{Token, Tokenizer, preprocess};
@@ -37,7 +37,7 @@ fn read_all(alloc: Global, state: &mut HtmlState, text: &str) -> Result<(), Allo
             return Ok(());
         }
     }
-    feed(state, Token::EndOfFile)
+    feed_end_of_file(state)
 }
 
 fn read_text(alloc: Global, text: &str, scripting: bool) -> Result<Vec<Node>, AllocError>

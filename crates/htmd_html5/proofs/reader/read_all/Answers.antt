@@ -40,4 +40,5 @@ pub returns : goal.returns
 returns c =
     let over = reads_over c.args.text.now c.args.state.now c.loop-token.tokenizer c.loop-token.state
     c.loop-token._token (length c.args.text.now) c.loop-token.invariant (omega arith) in
-    subst (λ (s : StateValue). OnOk c.feed-2.result (c.feed-2.new.state ≡ s)) over c.feed-2.ensures
+    subst (λ (s : StateValue). OnOk c.feed_end_of_file.result (c.feed_end_of_file.new.state ≡ s)) over
+    c.feed_end_of_file.ensures
