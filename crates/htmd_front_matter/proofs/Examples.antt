@@ -2,9 +2,10 @@
 use Rattle.std.proofs.Common.{◌≡◌, ℕ, List, [], ◌∷◌, Some, None, refl}
 use Rattle.std.specs.Prelude.{codes}
 use Rattle.htmd_lexical.specs.AttributePairs.{AttributePair}
-use Rattle.htmd_values.specs.ValueTrees.{ValueForest, text, element, none, more}
-use Rattle.htmd_front_matter.specs.declared.values.Key.TheVariants.{Title, Lang, Description, Canonical}
-use Rattle.htmd_front_matter.specs.Values.{first_value}
+use Rattle.htmd_values.specs.ValueTrees.{ValueForest, document, text, element, none, more}
+use Rattle.htmd_front_matter.specs.declared.values.Key.TheVariants.{Title, Date}
+use Rattle.htmd_front_matter.specs.Sources.{title_text, language, canonical_link, named}
+use Rattle.htmd_front_matter.specs.Values.{first_found, value_in}
 use Rattle.htmd_front_matter.specs.Lines.{tidied}
 use Rattle.htmd_front_matter.specs.Objects.{member, front_object}
 use Rattle.htmd_nodes.specs.Items.{document_item}
@@ -21,23 +22,40 @@ page = more (element (codes "html") (pair (codes "lang") (codes "en") ∷ [])
     (more (element (codes "meta") (pair (codes "name") (codes "DESCRIPTION") ∷ pair (codes "content") (codes "c")
     ∷ []) none) none))) none
 
-value-title : first_value Title page ≡ Some (codes " A  b ")
+value-title : first_found title_text page ≡ Some (codes " A  b ")
 value-title = refl
 
 -- `<svg><title>Menu</title></svg><title>T</title>`
-value-not_of_icon : first_value Title
+value-not_of_icon : first_found title_text
     (more (element (codes "svg") [] (more (element (codes "title") [] (more (text (codes "Menu")) none)) none))
     (more (element (codes "title") [] (more (text (codes "T")) none)) none)) ≡ Some (codes "T")
 value-not_of_icon = refl
 
-value-lang : first_value Lang page ≡ Some (codes "en")
+value-lang : first_found language page ≡ Some (codes "en")
 value-lang = refl
 
-value-description : first_value Description page ≡ Some (codes "c")
+value-description : first_found (named (codes "description")) page ≡ Some (codes "c")
 value-description = refl
 
-value-canonical : first_value Canonical page ≡ None
+value-canonical : first_found canonical_link page ≡ None
 value-canonical = refl
+
+-- `<meta itemprop=datePublished content=2><meta property=article:published_time content=1>`
+abbrev published : ValueForest
+published = more (element (codes "meta") (pair (codes "itemprop") (codes "datePublished")
+    ∷ pair (codes "content") (codes "2") ∷ []) none)
+    (more (element (codes "meta") (pair (codes "property") (codes "article:published_time")
+    ∷ pair (codes "content") (codes "1") ∷ []) none) none)
+
+-- the first source counts, wherever it stands
+value-date : value_in Date (document published) ≡ Some (codes "1")
+value-date = refl
+
+-- `name=date` before all others
+value-date_by_name : value_in Date (document (more (element (codes "div") [] published)
+    (more (element (codes "meta") (pair (codes "name") (codes "date") ∷ pair (codes "content") (codes "3") ∷ []) none)
+    none))) ≡ Some (codes "3")
+value-date_by_name = refl
 
 tidied-title : tidied (codes " A \n b ") ≡ codes "A b"
 tidied-title = refl

@@ -12,17 +12,18 @@ use Rattle.htmd_nodes.specs.declared.tree.NodeData.{NodeData}
 use Rattle.htmd_text.specs.Joins.{joined_texts}
 use Rattle.htmd_nodes.specs.declared.tree.NodeData.TheVariants.{Document, Doctype, Text, Comment, Element}
 use Rattle.htmd_front_matter.specs.declared.values.Key.{Key}
-use Rattle.htmd_front_matter.specs.Values.{value_in, text_of}
+use Rattle.htmd_front_matter.specs.Sources.{Source}
+use Rattle.htmd_front_matter.specs.Values.{found_in, text_of}
 
 -- only the Document and elements say something
-pub value-other : (key : Key) (id : ℕ) (d : NodeData) (f : NumberedForest) → (d ≡ Document → ⊥)
+pub value-other : (source : Source) (id : ℕ) (d : NodeData) (f : NumberedForest) → (d ≡ Document → ⊥)
     → ((name : List ℕ) (attributes : Vec Attribute Global) → d ≡ Element name attributes → ⊥)
-    → value_in key (value_tree (with_children id (data_of d) f)) ≡ None
-value-other key id Document f g h = absurd (g refl)
-value-other key id Doctype f g h = refl
-value-other key id (Text s) f g h = refl
-value-other key id (Comment s) f g h = refl
-value-other key id (Element name attributes) f g h = absurd (h name attributes refl)
+    → found_in source (value_tree (with_children id (data_of d) f)) ≡ None
+value-other source id Document f g h = absurd (g refl)
+value-other source id Doctype f g h = refl
+value-other source id (Text s) f g h = refl
+value-other source id (Comment s) f g h = refl
+value-other source id (Element name attributes) f g h = absurd (h name attributes refl)
 
 -- only a text has one
 pub text-other : (id : ℕ) (d : NodeData) (f : NumberedForest) → ((s : String Global) → d ≡ Text s → ⊥)

@@ -1,5 +1,5 @@
--- What the head of a page says of it: the first element in document order that says it.
-use Rattle.std.specs.Prelude.{ℕ, Bool, false, if◌then◌else◌, List, map, Option, Some, None, codes}
+-- What the head of a page says of it: of each source, the first element in document order that says it.
+use Rattle.std.specs.Prelude.{ℕ, Bool, false, if◌then◌else◌, List, [], ◌∷◌, map, Option, Some, None, codes}
 use Rattle.std.specs.Char.{to_ascii_lowercase}
 use Rattle.std.specs.Option.{option_or}
 use Rattle.std.specs.Str.{bytes_eq}
@@ -10,6 +10,7 @@ use Rattle.htmd_nodes.specs.AttributeValues.{value_of}
 use Rattle.htmd_front_matter.specs.declared.values.Key.{Key}
 use Rattle.htmd_front_matter.specs.declared.values.Key.TheVariants.{Title, Lang, Description, Author, Date, Canonical}
 use Rattle.htmd_front_matter.specs.declared.values.Key.TheVariants.{Keywords}
+use Rattle.htmd_front_matter.specs.Sources.{Source, title_text, language, canonical_link, meta, sources}
 
 -- the key as it is written
 abbrev pub name_of : Key → List ℕ
@@ -36,20 +37,13 @@ if_same wanted (Some given) value = when (is_same given wanted) value
 abbrev pub value_if : List ℕ → List ℕ → List ℕ → List AttributePair → Option (List ℕ)
 value_if given wanted name attributes = if_same wanted (value_of given attributes) (value_of name attributes)
 
--- `<meta name=.. content=..>` (HTML, 4.2.5)
-abbrev pub meta_value : Key → List ℕ → List AttributePair → Option (List ℕ)
-meta_value key name attributes = when (bytes_eq name (codes "meta"))
-    (value_if (codes "name") (name_of key) (codes "content") attributes)
-
-abbrev pub attribute_value : Key → List ℕ → List AttributePair → Option (List ℕ)
-attribute_value Title name attributes = None
-attribute_value Lang name attributes = when (bytes_eq name (codes "html")) (value_of (codes "lang") attributes)
-attribute_value Description name attributes = meta_value Description name attributes
-attribute_value Author name attributes = meta_value Author name attributes
-attribute_value Date name attributes = meta_value Date name attributes
-attribute_value Canonical name attributes = when (bytes_eq name (codes "link"))
+abbrev pub attribute_value : Source → List ℕ → List AttributePair → Option (List ℕ)
+attribute_value title_text name attributes = None
+attribute_value language name attributes = when (bytes_eq name (codes "html")) (value_of (codes "lang") attributes)
+attribute_value canonical_link name attributes = when (bytes_eq name (codes "link"))
     (value_if (codes "rel") (codes "canonical") (codes "href") attributes)
-attribute_value Keywords name attributes = meta_value Keywords name attributes
+attribute_value (meta attribute word) name attributes = when (bytes_eq name (codes "meta"))
+    (value_if attribute word (codes "content") attributes)
 
 abbrev pub text_of : ValueTree → Option (List ℕ)
 text_of (document children) = None
@@ -63,36 +57,39 @@ first_text none = None
 first_text (more tree trees) = text_of tree
 
 -- what an element says: a `title` by its text, another by its attributes
-abbrev pub own_value : Key → List ℕ → List AttributePair → ValueForest → Option (List ℕ)
-own_value Title name attributes children = when (bytes_eq name (codes "title")) (first_text children)
-own_value Lang name attributes children = attribute_value Lang name attributes
-own_value Description name attributes children = attribute_value Description name attributes
-own_value Author name attributes children = attribute_value Author name attributes
-own_value Date name attributes children = attribute_value Date name attributes
-own_value Canonical name attributes children = attribute_value Canonical name attributes
-own_value Keywords name attributes children = attribute_value Keywords name attributes
+abbrev pub own_value : Source → List ℕ → List AttributePair → ValueForest → Option (List ℕ)
+own_value title_text name attributes children = when (bytes_eq name (codes "title")) (first_text children)
+own_value language name attributes children = attribute_value language name attributes
+own_value canonical_link name attributes children = attribute_value canonical_link name attributes
+own_value (meta attribute word) name attributes children = attribute_value (meta attribute word) name attributes
 
 -- what an element has in it says nothing: in an `svg` a `title` is that of a picture
-abbrev pub is_passed : Key → List ℕ → Bool
-is_passed Title name = bytes_eq name (codes "svg")
-is_passed Lang name = false
-is_passed Description name = false
-is_passed Author name = false
-is_passed Date name = false
-is_passed Canonical name = false
-is_passed Keywords name = false
+abbrev pub is_passed : Source → List ℕ → Bool
+is_passed title_text name = bytes_eq name (codes "svg")
+is_passed language name = false
+is_passed canonical_link name = false
+is_passed (meta attribute word) name = false
 
 abbrev mutual
   -- what the first element says that says it, in document order
-  pub first_value : Key → ValueForest → Option (List ℕ)
-  first_value key none = None
-  first_value key (more tree trees) = option_or (value_in key tree) (first_value key trees)
+  pub first_found : Source → ValueForest → Option (List ℕ)
+  first_found source none = None
+  first_found source (more tree trees) = option_or (found_in source tree) (first_found source trees)
 
-  pub value_in : Key → ValueTree → Option (List ℕ)
-  value_in key (document children) = first_value key children
-  value_in key doctype = None
-  value_in key (text s) = None
-  value_in key (comment s) = None
-  value_in key (element name attributes children) =
-      if is_passed key name then None
-      else option_or (own_value key name attributes children) (first_value key children)
+  pub found_in : Source → ValueTree → Option (List ℕ)
+  found_in source (document children) = first_found source children
+  found_in source doctype = None
+  found_in source (text s) = None
+  found_in source (comment s) = None
+  found_in source (element name attributes children) =
+      if is_passed source name then None
+      else option_or (own_value source name attributes children) (first_found source children)
+
+-- what the first source says that says something
+abbrev pub first_said : List Source → ValueTree → Option (List ℕ)
+first_said [] page = None
+first_said (source ∷ sources) page = option_or (found_in source page) (first_said sources page)
+
+-- what a page says under a key
+abbrev pub value_in : Key → ValueTree → Option (List ℕ)
+value_in key page = first_said (sources key) page

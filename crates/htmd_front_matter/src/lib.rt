@@ -3,6 +3,7 @@
 
 mod lines;
 mod objects;
+mod sources;
 mod titles;
 mod values;
 

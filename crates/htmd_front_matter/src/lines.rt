@@ -61,7 +61,7 @@ fn push_value(alloc: Global, lines: &mut String, tree: &Tree, key: Key) -> Resul
     ensures { OnOk result (string_bytes lines.new
         ≡ string_bytes lines.old ++ spec.line_if key (value_in key (value_at tree.now 0))) }
 {
-    match value_in(key, tree, tree.root()) {
+    match value_in(key, tree) {
         Some(value) => push_line(alloc, lines, key, value),
         None => Ok(()),
     }

@@ -31,7 +31,7 @@ fn push_member(
     ensures { OnOk result (map string_bytes members.new.items
         ≡ map string_bytes members.old.items ++ spec.member_if key (value_in key (value_at tree.now 0))) }
 {
-    if let Some(value) = value_in(key, tree, tree.root()) {
+    if let Some(value) = value_in(key, tree) {
         members.push(member(alloc, key, value)?)?;
     }
     Ok(())

@@ -12,7 +12,7 @@ use std::alloc::{AllocError, Global};
 pub fn title_of(alloc: Global, page: &Tree) -> Result<Option<String>, AllocError>
     ensures { IfOk result (λ title. option_map string_bytes title ≡ spec.title_of page.now) }
 {
-    let Some(value) = value_in(Key::Title, page, page.root()) else {
+    let Some(value) = value_in(Key::Title, page) else {
         return Ok(None);
     };
     let title = tidied(alloc, value)?;

@@ -4,8 +4,10 @@ ghost use Rattle.htmd_lexical.specs.Attributes.{pairs_of};
 ghost use Rattle.htmd_nodes.specs.Items.{children_of};
 ghost use Rattle.htmd_nodes.specs.NumberedTrees.{tree_of, forest_of, value_forest};
 ghost use Rattle.htmd_nodes.specs.NumberedTrees.{value_at};
+ghost use Rattle.htmd_front_matter.specs.Sources.{source_of};
 ghost use Rattle.htmd_front_matter.specs.Values as spec;
 
+use crate::sources::{Source, sources};
 use htmd_nodes::{Attribute, NodeData, NodeId, Tree, value_of};
 
 /// What is said.
@@ -20,7 +22,7 @@ pub(crate) enum Key {
     Keywords,
 }
 
-/// The key as it is written, which is also the name of its `meta`.
+/// The key as it is written.
 pub(crate) fn name_of(key: Key) -> &'static str
     ensures { result.now ≡ spec.name_of key }
 {
@@ -58,28 +60,28 @@ fn is_same(a: &str, b: &str) -> bool
 }
 
 /// What the attributes of an element say.
-fn attribute_value<'a>(key: Key, name: &str, attrs: &'a [Attribute]) -> Option<&'a str>
-    ensures { option_copied result ≡ spec.attribute_value key name.now (pairs_of attrs.now) }
+fn attribute_value<'a>(source: Source, name: &str, attrs: &'a [Attribute]) -> Option<&'a str>
+    ensures { option_copied result ≡ spec.attribute_value (source_of source) name.now (pairs_of attrs.now) }
 {
-    match key {
-        Key::Title => None,
-        Key::Lang => {
+    match source {
+        Source::Title => None,
+        Source::Language => {
             if name == "html" {
                 value_of(attrs, "lang")
             } else {
                 None
             }
         }
-        Key::Canonical => {
+        Source::CanonicalLink => {
             if name == "link" {
                 value_if(attrs, "rel", "canonical", "href")
             } else {
                 None
             }
         }
-        _ => {
+        Source::Meta(attribute, word) => {
             if name == "meta" {
-                value_if(attrs, "name", name_of(key), "content")
+                value_if(attrs, attribute, word, "content")
             } else {
                 None
             }
@@ -113,68 +115,81 @@ fn first_text(tree: &Tree, node: NodeId) -> Option<&str>
 
 /// What an element says.
 fn own_value<'a>(
-    key: Key,
+    source: Source,
     tree: &'a Tree,
     node: NodeId,
     name: &str,
     attrs: &'a [Attribute],
 ) -> Option<&'a str>
     requires { node < length tree.now }
-    ensures { option_copied result ≡ spec.own_value key name.now (pairs_of attrs.now)
+    ensures { option_copied result ≡ spec.own_value (source_of source) name.now (pairs_of attrs.now)
         (value_forest (forest_of (tree_of tree.now) (children_of tree.now node))) }
 {
-    match key {
-        Key::Title => {
+    match source {
+        Source::Title => {
             if name == "title" {
                 first_text(tree, node)
             } else {
                 None
             }
         }
-        _ => attribute_value(key, name, attrs),
+        _ => attribute_value(source, name, attrs),
     }
 }
 
 /// Whether what an element has in it says nothing.
-fn is_passed(key: Key, name: &str) -> bool
-    ensures { result ≡ spec.is_passed key name.now }
+fn is_passed(source: Source, name: &str) -> bool
+    ensures { result ≡ spec.is_passed (source_of source) name.now }
 {
-    match key {
-        Key::Title => name == "svg",
+    match source {
+        Source::Title => name == "svg",
         _ => false,
     }
 }
 
 /// What the first element that says it says, among a node and what is below it.
 #[cycle(values)]
-pub(crate) fn value_in(key: Key, tree: &Tree, node: NodeId) -> Option<&str>
+fn found_in(source: Source, tree: &Tree, node: NodeId) -> Option<&str>
     requires { node < length tree.now }
-    ensures { option_copied result ≡ spec.value_in key (value_at tree.now node) }
+    ensures { option_copied result ≡ spec.found_in (source_of source) (value_at tree.now node) }
 {
     match tree.data(node) {
-        NodeData::Document => first_value(key, tree, node),
+        NodeData::Document => first_found(source, tree, node),
         NodeData::Element { name, attrs } => {
-            if is_passed(key, name.as_str()) {
+            if is_passed(source, name.as_str()) {
                 return None;
             }
-            let own = own_value(key, tree, node, name.as_str(), attrs.as_slice());
+            let own = own_value(source, tree, node, name.as_str(), attrs.as_slice());
             if own.is_some() {
                 return own;
             }
-            first_value(key, tree, node)
+            first_found(source, tree, node)
         }
         _ => None,
     }
 }
 
 #[cycle(values)]
-fn first_value(key: Key, tree: &Tree, node: NodeId) -> Option<&str>
+fn first_found(source: Source, tree: &Tree, node: NodeId) -> Option<&str>
     requires { node < length tree.now }
-    ensures { option_copied result ≡ spec.first_value key
+    ensures { option_copied result ≡ spec.first_found (source_of source)
         (value_forest (forest_of (tree_of tree.now) (children_of tree.now node))) }
 {
     for child in tree.children(node) {
-        let found = value_in(key, tree, *child);
+        let found = found_in(source, tree, *child);
+        if found.is_some() {
+            return found;
+        }
+    }
+    None
+}
+
+/// What a page says under a key.
+pub(crate) fn value_in(key: Key, tree: &Tree) -> Option<&str>
+    ensures { option_copied result ≡ spec.value_in key (value_at tree.now 0) }
+{
+    for source in sources(key) {
+        let found = found_in(*source, tree, tree.root());
         if found.is_some() {
             return found;
         }

@@ -176,6 +176,44 @@ fn a_page_says_something(rt: HostRuntime) -> Result<(), Fail> {
     )
 }
 
+/// Heads, and what they say is the date.
+const DATES: &[(&str, &str)] = &[
+    (
+        "<meta property=article:published_time content=2024-05-06T07:08:09Z>",
+        "date: \"2024-05-06T07:08:09Z\"\n",
+    ),
+    (
+        "<meta name=dc.date content=1><meta name=DCTERMS.date content=2>",
+        "date: \"2\"\n",
+    ),
+    (
+        "<meta name=dcterms.date content=1><meta itemprop=datePublished content=2>",
+        "date: \"2\"\n",
+    ),
+    (
+        "<meta itemprop=datePublished content=1><meta property=article:published_time content=2>",
+        "date: \"2\"\n",
+    ),
+    (
+        "<meta property=article:published_time content=1><meta name=date content=2>",
+        "date: \"2\"\n",
+    ),
+    ("<meta name=dc.date content=1>", "date: \"1\"\n"),
+    (
+        "<meta name=article:published_time content=1><meta property=date content=2>",
+        "",
+    ),
+];
+
+#[test]
+fn a_page_says_its_date(rt: HostRuntime) -> Result<(), Fail> {
+    for (head, want) in DATES {
+        let page = read_html(rt.alloc(), head, false)?;
+        expect_text(head, front_matter(rt.alloc(), &page)?.as_str(), want)?;
+    }
+    Ok(())
+}
+
 #[test]
 fn a_page_says_something_in_json(rt: HostRuntime) -> Result<(), Fail> {
     let alloc = rt.alloc();
