@@ -145,9 +145,19 @@ pub fn say_fault<E: Sink>(errors: &mut E, fault: &OptionFault<'_>) {
     };
 }
 
-/// Whether an encoding is given, and the input is read as UTF-8 all the same.
-fn has_useless_encoding(settings: &PageSettings<'_>) -> bool {
-    settings.encoding.is_some() && (settings.text || !settings.html5)
+/// With or without which other option a given encoding has no effect, since the input is read as UTF-8 all the same.
+fn useless_encoding(settings: &PageSettings<'_>) -> Option<&'static str> {
+    if settings.encoding.is_none() {
+        None
+    } else if settings.text {
+        Some("with --text, which reads UTF-8")
+    } else if settings.from_markdown {
+        Some("with --from-markdown, which reads UTF-8")
+    } else if settings.html5 {
+        None
+    } else {
+        Some("without --html5 or --web")
+    }
 }
 
 fn has_upper_case(name: &str) -> bool {
@@ -168,9 +178,6 @@ fn warn_of_options<W: Write>(out: &mut W, settings: &PageSettings<'_>) -> fmt::R
     if settings.body {
         out.write_str("htmd: --body has no effect with --from-markdown\n")?;
     }
-    if settings.encoding.is_some() {
-        out.write_str("htmd: --encoding has no effect with --from-markdown, which reads UTF-8\n")?;
-    }
     Ok(())
 }
 
@@ -186,7 +193,7 @@ pub fn say_warnings<E: Sink>(errors: &mut E, request: &Request<'_>) {
             );
         }
     }
-    if has_useless_encoding(&request.settings) {
-        let _ = lines.write_str("htmd: --encoding has no effect without --html5 or --web\n");
+    if let Some(why) = useless_encoding(&request.settings) {
+        let _ = writeln!(lines, "htmd: --encoding has no effect {why}");
     }
 }

@@ -129,6 +129,10 @@ fn tells_of_options_without_effect(rt: HostRuntime) -> Result<(), Fail> {
             "htmd: --from-markdown has no effect with --text\n",
         ),
         (
+            &["--web", "--text", "--encoding=utf-8"],
+            "htmd: --encoding has no effect with --text, which reads UTF-8\n",
+        ),
+        (
             &["--encoding=utf-8", "--body", "--from-markdown"],
             "htmd: --body has no effect with --from-markdown\n\
             htmd: --encoding has no effect with --from-markdown, which reads UTF-8\n",
