@@ -19,7 +19,7 @@ use htmd_cli::{
 };
 use htmd_files::{FilePlan, Job, Page, PlanFault, WordFault, job_of};
 use htmd_folders::{
-    Conversion, Lines, Missed, Progress, RunOptions, ShownName, Store, StoreFault, Tally,
+    Conversion, Lines, Missed, Progress, RunOptions, ShownName, Store, StoreFault, Tally, Unopened,
     find_plan, run_pages, write_total,
 };
 use htmd_streams::write_all;
@@ -126,7 +126,7 @@ fn run_job<S: Store, R: Source, W: Sink, E: Sink>(
 {
     let (plan, missed) = match find_plan(of.alloc, store, of.job, of.request.extension()) {
         Ok(found) => found,
-        Err(fault) => return fail_plan(errors, &fault),
+        Err(fault) => return fail_plan(store, errors, &fault),
     };
     match plan {
         FilePlan::StandardOutput { input } => {
@@ -346,8 +346,24 @@ fn fail_options<E: Sink>(errors: &mut E, fault: &OptionFault<'_>) -> u8
     }
 }
 
-// Says why there is no plan, and answers the status.
-fn fail_plan<E: Sink>(errors: &mut E, fault: &PlanFault) -> u8
+// Says of an input under whose name there is nothing that this is so.
+#[tactic(auto, using(crate::proofs::ProgramsLemmas::nothing_made, crate::proofs::ProgramsLemmas::made_then))]
+fn say_missing<S: Store, E: Sink>(store: &mut S, errors: &mut E, input: &str)
+    ensures { Makes (S.changes store.old) (S.changes store.new) [] }
+{
+    if input == "-" {
+        return;
+    }
+    if let Err(fault) = store.is_folder(input) {
+        let input = Unopened { input, fault };
+        let _ = writeln!(Lines { sink: errors }, "htmd: {input}");
+    }
+}
+
+// Says why there is no plan, and answers the status. Of several inputs, one may have been meant as a value.
+#[tactic(auto, using(crate::proofs::ProgramsLemmas::nothing_made, crate::proofs::ProgramsLemmas::made_then))]
+fn fail_plan<S: Store, E: Sink>(store: &mut S, errors: &mut E, fault: &PlanFault) -> u8
+    ensures same { Makes (S.changes store.old) (S.changes store.new) [] }
     ensures memory { fault.now ≡ PlanFault.Memory
         → SaysMemory (stream E.contents E.has_failed errors.old errors.new) × (result ≡ 1) }
     ensures other { fault.now ≢ PlanFault.Memory → result ≡ 2 }
@@ -355,6 +371,11 @@ fn fail_plan<E: Sink>(errors: &mut E, fault: &PlanFault) -> u8
 {
     match fault {
         PlanFault::Memory => fail_memory(errors),
+        PlanFault::Several { first, second } => {
+            say_missing(store, errors, first);
+            say_missing(store, errors, second);
+            fail(errors, fault, 2)
+        }
         _ => fail(errors, fault, 2),
     }
 }
@@ -368,9 +389,11 @@ fn fail_open<E: Sink>(errors: &mut E, input: &str, fault: &StoreFault) -> u8
     match fault {
         StoreFault::Failed(ErrorKind::OutOfMemory) => fail_memory(errors),
         _ => {
-            let input = ShownName(input);
-            let _ = writeln!(Lines { sink: errors }, "htmd: {input}: {fault}");
-            1
+            let input = Unopened {
+                input,
+                fault: *fault,
+            };
+            fail(errors, &input, 1)
         }
     }
 }

@@ -6,3 +6,4 @@ pub mod FolderConversions
 pub mod MemoryViews
 pub mod Plans
 pub mod PlanViews
+pub mod Hints

@@ -1,4 +1,10 @@
 //! Why a call of a store or the conversion of a page did not succeed.
+ghost use Rattle.std.specs.Prelude.{◌≡◌};
+ghost use Rattle.std.specs.Char.{is_ascii_digit};
+ghost use Rattle.std.specs.List.{list_all};
+ghost use Rattle.htmd_folders.specs.Hints as spec;
+
+use crate::lines::ShownName;
 use std::alloc::AllocError;
 use std::fmt;
 use std::io::ErrorKind;
@@ -45,6 +51,52 @@ impl fmt::Display for StoreFault {
                 "the run reads or writes this file under another name",
             ),
         }
+    }
+}
+
+fn is_address(name: &str) -> bool
+    ensures { result ≡ spec.is_address name.now }
+{
+    name.starts_with("http://") || name.starts_with("https://")
+}
+
+fn are_digits(bytes: &[u8]) -> bool
+    ensures { result ≡ list_all is_ascii_digit bytes.now }
+{
+    bytes.iter().all(|byte| byte.is_ascii_digit())
+}
+
+fn is_number(name: &str) -> bool
+    ensures { result ≡ spec.is_number name.now }
+{
+    !name.is_empty() && are_digits(name.as_bytes())
+}
+
+/// An input that can't be opened, and why. Where nothing has its name, and that is an address or a number, what was
+/// probably meant is said too.
+#[derive(Clone, Copy, Drop)]
+pub struct Unopened<'a> {
+    pub input: &'a str,
+    pub fault: StoreFault,
+}
+
+impl fmt::Display for Unopened<'_> {
+    fn fmt<W: fmt::Write>(&self, f: &mut fmt::Formatter<W>) -> fmt::Result {
+        let input = ShownName(self.input);
+        write!(f, "{input}: {}", self.fault)?;
+        if self.fault != StoreFault::Failed(ErrorKind::NotFound) {
+            return Ok(());
+        }
+        if is_address(self.input) {
+            return f.write_str(" (addresses aren't fetched: curl -sL URL | htmd --web --base=URL)");
+        }
+        if is_number(self.input) {
+            return write!(
+                f,
+                " (values of options come after =, as in --chunks={input})"
+            );
+        }
+        Ok(())
     }
 }
 

@@ -23,7 +23,7 @@ mod streams;
 mod walk;
 
 pub use conversion::Conversion;
-pub use faults::{CopyFault, PageFault, StoreFault};
+pub use faults::{CopyFault, PageFault, StoreFault, Unopened};
 pub use host::HostStore;
 pub use lines::{Lines, ShownName};
 pub use listing::{Listing, Unread};

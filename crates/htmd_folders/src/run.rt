@@ -7,7 +7,7 @@ ghost use Rattle.htmd_folders.specs.FolderConversions.{Takes, TakesOne, AreApart
 ghost use Rattle.htmd_folders.specs.FolderConversions.{IsConvertedOrKept, IsNeverHalf, IsSpared};
 
 use crate::conversion::Conversion;
-use crate::faults::PageFault;
+use crate::faults::{PageFault, Unopened};
 use crate::lines::{Lines, ShownName};
 use crate::page::convert_to_file;
 use crate::progress::{Progress, clear_count, write_count};
@@ -195,7 +195,13 @@ fn report<C: Conversion, E: Sink>(
             Ok(())
         }
         PageFault::Copy(fault) => writeln!(Lines { sink: errors }, "htmd: {input}: {fault}"),
-        PageFault::Input(fault) => writeln!(Lines { sink: errors }, "htmd: {input}: {fault}"),
+        PageFault::Input(fault) => {
+            let input = Unopened {
+                input: &page.input,
+                fault: *fault,
+            };
+            writeln!(Lines { sink: errors }, "htmd: {input}")
+        }
         PageFault::Output(fault) => writeln!(
             Lines { sink: errors },
             "htmd: {input}: {output} can't be written: {fault}"

@@ -9,7 +9,7 @@ use Rattle.htmd_folders.specs.PlanViews.{missed_in, HasPagesApart, IsNoPlan}
 use Rattle.htmd_folders.specs.Plans.{IsPlanOf}
 use Rattle.htmd_command.specs.Programs.{extension_by}
 use Rattle.htmd_command.specs.Streams.{stream}
-use Rattle.htmd_command.proofs.ProgramsLemmas.{are_finished, run_refused, run_shown, run_written}
+use Rattle.htmd_command.proofs.ProgramsLemmas.{are_finished, made_then, run_refused, run_shown, run_written}
 use Rattle.htmd_command.proofs.program.run_job.Goals as goal
 
 pub returns-in-Err-clause-run : goal.returns-in-Err-clause-run
@@ -18,10 +18,11 @@ returns-in-Err-clause-run g c =
     let N : List ℕ → Type 0 =
     λ e. IsNoPlan (g.S.Store.changes c.args.store.now) (job_in c.args.of.now.job.now) e c.in-Err.fault in
     run_refused (job_in c.args.of.now.job.now) c.args.of.now.job.now.options.items (g.S.Store.changes c.args.store.now)
-    (g.S.Store.changes c.find_plan.new.store) (g.R.Source.remaining c.args.source.now)
+    (g.S.Store.changes c.fail_plan.new.store) (g.R.Source.remaining c.args.source.now)
     (stream g.W.Sink.contents g.W.Sink.has_failed c.args.sink.now c.args.sink.now)
     (stream g.E.Sink.contents g.E.Sink.has_failed c.args.errors.now c.fail_plan.new.errors) c.fail_plan.result
-    c.in-Err.fault c.requires.asked (subst N named c.in-Err.ensures.err) c.find_plan.ensures.same refl
+    c.in-Err.fault c.requires.asked (subst N named c.in-Err.ensures.err)
+    (made_then _ _ _ c.find_plan.ensures.same c.fail_plan.ensures.same) refl
     c.fail_plan.ensures.memory c.fail_plan.ensures.other
 
 pub returns-in-StandardOutput-clause-run : goal.returns-in-StandardOutput-clause-run
