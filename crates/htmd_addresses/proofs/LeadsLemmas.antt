@@ -61,9 +61,10 @@ relative-at from folder to start up down address same at count none first second
     ∙ (way-escaped from folder same count ∙ ap (λ x. escaped (way (names_of from) x)) at)))
 
 -- what an address becomes, by the output that was found
-pub lead-at : (pages : List PageValue) (own : Folders) (base : Option Parts) (address inner : List ℕ)
-    → inner ≡ trimmed address → (output : Option (List ℕ)) → output ≡ output_for pages own.input inner
-    → lead_to own.output base address output (drop (path_len inner) inner) ≡ lead pages own base address
-lead-at pages own base address inner e output found =
-    ap (λ o. lead_to own.output base address o (drop (path_len inner) inner)) found
-    ∙ ap (λ x. lead_to own.output base address (output_for pages own.input x) (drop (path_len x) x)) e
+pub lead-at : (pages : List PageValue) (folders : Folders) (own : Folder) (base : Option Parts)
+    (address inner : List ℕ) → inner ≡ trimmed address
+    → (output : Option (List ℕ)) → output ≡ output_for pages folders inner
+    → lead_to own base address output (drop (path_len inner) inner) ≡ lead pages folders own base address
+lead-at pages folders own base address inner e output found =
+    ap (λ o. lead_to own base address o (drop (path_len inner) inner)) found
+    ∙ ap (λ x. lead_to own base address (output_for pages folders x) (drop (path_len x) x)) e

@@ -9,7 +9,7 @@ use Rattle.std.proofs.lemmas.Bool.{cond-true, cond-false}
 use Rattle.std.proofs.lemmas.List.{length-map, take-map, drop_all, drop_more}
 use Rattle.std.proofs.lemmas.Option.{slice_get-map}
 use Rattle.htmd_addresses.specs.PageViews.{names_of}
-use Rattle.htmd_addresses.specs.Paths.{Folder, parent, up, up_from, enter, enter_all}
+use Rattle.htmd_addresses.specs.Paths.{Folder, above, parent, up, up_from, enter, enter_all}
 
 module _ (names all : List (Bor (List ℕ))) (last : Option (Bor (Bor (List ℕ)))) (same : names ≡ all)
     (read : option_copied last ≡ slice_get names (length names - 1)) where
@@ -61,3 +61,12 @@ same-at_end from to same past =
     ap (λ (l : List (Bor (List ℕ))). same + common_prefix_len bytes_eq (names_of (drop same from)) (names_of l))
     (drop_all same to past)
     ∙ (ap (λ n. same + n) (none-same (names_of (drop same from))) ∙ add-zero same)
+
+-- a folder that loses as many names as another one has
+pub above_taken : (below folder : List (Bor (List ℕ))) (n : ℕ) → n ≡ length folder - length below
+    → names_of (take n folder) ≡ above (names_of below) (names_of folder)
+above_taken below folder n e =
+    sym (take-map (λ (name : Bor (List ℕ)). name.now) n folder)
+    ∙ ap (λ k. take k (names_of folder))
+    (e ∙ (ap (λ k. k - length below) (sym (length-map folder (λ name. name.now)))
+    ∙ ap (λ k. length (names_of folder) - k) (sym (length-map below (λ name. name.now)))))

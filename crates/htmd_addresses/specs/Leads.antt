@@ -1,6 +1,6 @@
 -- Addresses that lead to pages of a run, as addresses of the outputs of these pages.
 use Rattle.std.specs.Prelude.{ℕ, ◌-◌, Bool, false, not, ◌&&◌, ◌||◌, ◌==◌, if◌then◌else◌, List, [], ◌∷◌, ◌++◌}
-use Rattle.std.specs.Prelude.{map, length, take, drop, Option, Some, None, option_map, codes}
+use Rattle.std.specs.Prelude.{map, length, take, drop, Option, Some, None, option_and_then, option_map, codes}
 use Rattle.std.specs.Char.{is_ascii_alphabetic, is_ascii_alphanumeric, is_ascii_whitespace}
 use Rattle.std.specs.List.{flat_map, prefix_len, suffix_len}
 use Rattle.std.specs.Option.{option_or, unwrap_or}
@@ -10,7 +10,10 @@ use Rattle.htmd_lexical.specs.Characters.{slash}
 use Rattle.htmd_nodes.specs.Items.{Item}
 use Rattle.htmd_addresses.specs.AddressAttributes.{page_with}
 use Rattle.htmd_addresses.specs.Addresses.{resolved_by}
-use Rattle.htmd_addresses.specs.Paths.{Folder, folder_of, name_of, page_folder, page_in, plain_path, way}
+use Rattle.htmd_addresses.specs.Paths.{Folder, above, folder_of, name_of, page_at, page_folder, page_folder_below}
+use Rattle.htmd_addresses.specs.Paths.{plain_path, way}
+use Rattle.htmd_addresses.specs.declared.leads.Start.{Start}
+use Rattle.htmd_addresses.specs.declared.leads.Start.TheVariants as start
 use Rattle.htmd_addresses.specs.declared.leads.TheConstants.{SEGMENT}
 use Rattle.url.specs.Parts.{Parts}
 use Rattle.percent_encoding.specs.Percent.{percent_decode, percent_encode}
@@ -20,15 +23,21 @@ pub record PageValue : Type 0 where
   pub input : List ℕ
   pub output : List ℕ
 
+-- a page by itself: the paths of its input and of its output, and its path in the folder that it was found below
+pub record OwnPage : Type 0 where
+  pub input : List ℕ
+  pub output : List ℕ
+  pub path_in_folder : Option (List ℕ)
+
 -- a page of a run: the pages of that run, and the page by itself
 pub record RunPage : Type 0 where
   pub pages : List PageValue
-  pub own : PageValue
+  pub own : OwnPage
 
--- the folders of a page: that in which its addresses are read, if they are read in one, and that of its output
+-- the folders of a page: that in which its addresses are read and that of the root of its site, if they are known
 pub record Folders : Type 0 where
   pub input : Option Folder
-  pub output : Folder
+  pub root : Option Folder
 
 -- the output of the first page whose input has this path
 abbrev pub output_at : List PageValue → List ℕ → Option (List ℕ)
@@ -68,32 +77,45 @@ abbrev pub has_scheme : List ℕ → Bool
 has_scheme [] = false
 has_scheme (b ∷ s) = is_ascii_alphabetic b && ends_scheme s
 
--- a path that isn't empty and doesn't begin at the root or with a host
-abbrev pub is_path_of_folder : List ℕ → Bool
-is_path_of_folder [] = false
-is_path_of_folder (b ∷ s) = not ((b == slash) || (b == backslash))
+-- a backslash is a slash in addresses of files and of the Web
+abbrev pub with_slash : ℕ → ℕ
+with_slash b = if b == backslash then slash else b
+
+abbrev pub begins_with_slash : List ℕ → Bool
+begins_with_slash [] = false
+begins_with_slash (b ∷ s) = with_slash b == slash
+
+-- where a path begins that isn't empty: in its folder, at the root, or with a host
+abbrev pub start_of_path : List ℕ → Start
+start_of_path path =
+    if length path == 0 then start.Elsewhere
+    else if not (begins_with_slash path) then start.Folder
+    else if begins_with_slash (drop 1 path) then start.Elsewhere else start.Root
 
 -- the path of an address
 abbrev pub path_part : List ℕ → List ℕ
 path_part address = take (path_len address) address
 
--- an address that begins with a path, which is read in a folder
-abbrev pub is_relative : List ℕ → Bool
-is_relative address = not (has_scheme address) && is_path_of_folder (path_part address)
-
--- a backslash is a slash in addresses of files and of the Web
-abbrev pub with_slash : ℕ → ℕ
-with_slash b = if b == backslash then slash else b
+-- where the path of an address begins
+abbrev pub start_of : List ℕ → Start
+start_of address = if has_scheme address then start.Elsewhere else start_of_path (path_part address)
 
 -- the path of a file, in an address
 abbrev pub file_path : List ℕ → List ℕ
 file_path address = map with_slash (percent_decode (path_part address))
 
--- the output of the page that an address leads to which is read in this folder; none if it is read in none
-abbrev pub output_for : List PageValue → Option Folder → List ℕ → Option (List ℕ)
-output_for pages None address = None
-output_for pages (Some folder) address =
-    if is_relative address then output_or_index pages (page_in folder (file_path address)) else None
+-- the folder of the page that a path leads to which begins there
+abbrev pub folder_from : Start → Folders → List ℕ → Option Folder
+folder_from start.Folder folders path = option_map (λ folder. page_folder folder path) folders.input
+folder_from start.Root folders path = option_map (λ root. page_folder_below root path) folders.root
+folder_from start.Elsewhere folders path = None
+
+-- the output of the page that an address leads to, by where its path begins; none if that is in no known folder
+abbrev pub output_for : List PageValue → Folders → List ℕ → Option (List ℕ)
+output_for pages folders address =
+    let path = file_path address in
+    option_and_then (λ folder. output_or_index pages (page_at path folder))
+    (folder_from (start_of address) folders path)
 
 -- names as an address has them, each with a slash after it
 abbrev pub escaped : Folder → List ℕ
@@ -109,33 +131,43 @@ abbrev pub lead_to : Folder → Option Parts → List ℕ → Option (List ℕ) 
 lead_to folder base address None ending = resolved_by base address
 lead_to folder base address (Some output) ending = relative folder output ++ ending
 
--- what an address becomes
-abbrev pub lead : List PageValue → Folders → Option Parts → List ℕ → List ℕ
-lead pages own base address =
+-- what an address becomes in a page whose output is in this folder
+abbrev pub lead : List PageValue → Folders → (output : Folder) → Option Parts → List ℕ → List ℕ
+lead pages folders output base address =
     let inner = trimmed address in
-    lead_to own.output base address (output_for pages own.input inner) (drop (path_len inner) inner)
+    lead_to output base address (output_for pages folders inner) (drop (path_len inner) inner)
 
 -- ---- bases
 
--- the path of a base, from the folder of its page; none for one with a scheme or from the root
-abbrev pub base_path : List ℕ → Option (List ℕ)
-base_path base = if (path_len base == 0) || is_relative base then Some (file_path base) else None
+-- the root of a site is the folder that its page was found below, unless a URL says where the site is
+abbrev pub root_of : OwnPage → Option Parts → Option Folder
+root_of own None = option_map (λ path. above (folder_of path) (folder_of own.input)) own.path_in_folder
+root_of own (Some url) = None
 
--- the path of the base that a page names; a page that names none is as one with an empty base
-abbrev pub named_path : Option (List ℕ) → Option (List ℕ)
-named_path named = base_path (trimmed (unwrap_or named []))
+-- where the path of a base begins; an empty one is that of its page's folder
+abbrev pub base_start : List ℕ → Start
+base_start base = if path_len base == 0 then start.Folder else start_of base
 
--- the folders of a page whose base has this path
-abbrev pub folders_by : PageValue → Option (List ℕ) → Folders
-folders_by own path =
-    record { input = option_map (page_folder (folder_of own.input)) path; output = folder_of own.output }
+-- the folders by the one in which addresses are read: no root is known if that isn't
+abbrev pub folders_with : Option Folder → Option Folder → Folders
+folders_with root None = record { input = None; root = None }
+folders_with root (Some input) = record { input = Some input; root = root }
 
--- the folders of a page that names this base
-abbrev pub folders_of : PageValue → Option (List ℕ) → Folders
-folders_of own named = folders_by own (named_path named)
+-- the folders of a page with this base, which is read in the first ones
+abbrev pub folders_by : Folders → List ℕ → Folders
+folders_by first base = folders_with first.root (folder_from (base_start base) first (file_path base))
+
+-- the folders of a page that names no base
+abbrev pub first_folders : OwnPage → Option Parts → Folders
+first_folders own base = record { input = Some (folder_of own.input); root = root_of own base }
+
+-- the folders of a page that names this base; one that names none is as one with an empty base
+abbrev pub folders_of : OwnPage → Option Parts → Option (List ℕ) → Folders
+folders_of own base named = folders_by (first_folders own base) (trimmed (unwrap_or named []))
 
 -- ---- pages
 
 -- the page that names this base, with addresses that lead to outputs, and others that are absolute if there is a URL
-abbrev pub led_page : List PageValue → PageValue → Option Parts → Option (List ℕ) → List Item → List Item
-led_page pages own base named items = page_with (lead pages (folders_of own named) base) items
+abbrev pub led_page : List PageValue → OwnPage → Option Parts → Option (List ℕ) → List Item → List Item
+led_page pages own base named items =
+    page_with (lead pages (folders_of own base named) (folder_of own.output) base) items

@@ -85,9 +85,17 @@ page_name name = if is_of_folder name then codes "index.html" else name
 abbrev pub page_folder : Folder → List ℕ → Folder
 page_folder folder path = folder_named (folder_in folder path) (name_of path)
 
--- the page that a path leads to which is read in a folder
-abbrev pub page_in : Folder → List ℕ → List ℕ
-page_in folder path = path_of (page_folder folder path) (page_name (name_of path))
+-- the folder of the page that a path leads to which is read at the root of a site, above which there is nothing
+abbrev pub page_folder_below : Folder → List ℕ → Folder
+page_folder_below root path = root ++ drop 1 (page_folder ([] ∷ []) path)
+
+-- the page that a path leads to, whose folder this is
+abbrev pub page_at : List ℕ → Folder → List ℕ
+page_at path folder = path_of folder (page_name (name_of path))
+
+-- the folder above another one, by as many names as a folder below it has
+abbrev pub above : Folder → Folder → Folder
+above below folder = take (length folder - length below) folder
 
 -- a path in its one form
 abbrev pub plain_path : List ℕ → List ℕ

@@ -1,16 +1,18 @@
 //! Addresses that lead to pages of a run, as addresses of the outputs of these pages.
-ghost use Rattle.std.specs.Prelude.{◌≡◌, ◌++◌, map, option_map, IfOk, OnOk, string_bytes};
-ghost use Rattle.std.specs.Option.{option_copied};
+ghost use Rattle.std.specs.Prelude.{◌≡◌, ◌++◌, [], map, IfOk, OnOk, string_bytes};
+ghost use Rattle.std.specs.Option.{option_copied, unwrap_or};
 ghost use Rattle.std.specs.Str.{IsCharBoundary};
 ghost use Rattle.htmd_addresses.specs.Leads as spec;
 ghost use Rattle.htmd_addresses.specs.PageViews.{names_of};
 ghost use Rattle.htmd_addresses.specs.Paths as paths;
-ghost use Rattle.htmd_addresses.specs.RunViews.{folders_in, own_of, pages_in};
+ghost use Rattle.htmd_addresses.specs.RunViews.{folder_in, folders_in, own_of, pages_in};
 ghost use Rattle.percent_encoding.specs.Percent.{percent_encode};
 
 use crate::attributes::{Resolve, attributes_of};
 use crate::pages::Pages;
-use crate::paths::{enter_page_folder, folder_of, name_of, page_in, same_names};
+use crate::paths::{
+    folder_of, go_above, name_of, page_at, page_folder, page_folder_below, same_names,
+};
 use crate::resolving::resolved_by;
 use htmd_nodes::{Attribute, Tree};
 use htmd_selectors::{Rewrite, rewritten};
@@ -75,14 +77,45 @@ fn has_scheme(address: &[u8]) -> bool
     }
 }
 
-/// Whether a path is read in a folder.
-fn is_path_of_folder(path: &[u8]) -> bool
-    ensures { result ≡ spec.is_path_of_folder path.now }
+/// Where the path of an address begins.
+#[derive(Clone, Copy)]
+enum Start {
+    /// In the folder in which addresses are read.
+    Folder,
+    /// At the root of the site.
+    Root,
+    /// It is empty, or of another host or scheme.
+    Elsewhere,
+}
+
+fn with_slash(b: u8) -> u8
+    ensures { result ≡ spec.with_slash b }
+{
+    if b == b'\\' { b'/' } else { b }
+}
+
+fn begins_with_slash(path: &[u8]) -> bool
+    ensures { result ≡ spec.begins_with_slash path.now }
 {
     match path {
         [] => false,
-        [first, ..] => !(*first == b'/' || *first == b'\\'),
+        [first, ..] => with_slash(*first) == b'/',
     }
+}
+
+fn start_of_path(path: &[u8]) -> Start
+    ensures { result ≡ spec.start_of_path path.now }
+{
+    if path.is_empty() {
+        return Start::Elsewhere;
+    }
+    if !begins_with_slash(path) {
+        return Start::Folder;
+    }
+    if begins_with_slash(&path[1..]) {
+        return Start::Elsewhere;
+    }
+    Start::Root
 }
 
 /// The path of an address.
@@ -92,17 +125,14 @@ fn path_part(address: &str) -> &[u8]
     &address.as_bytes()[..path_len(address)]
 }
 
-/// Whether an address begins with a path that is read in a folder.
-fn is_relative(address: &str) -> bool
-    ensures { result ≡ spec.is_relative address.now }
+/// Where the path of an address begins.
+fn start_of(address: &str) -> Start
+    ensures { result ≡ spec.start_of address.now }
 {
-    !has_scheme(address.as_bytes()) && is_path_of_folder(path_part(address))
-}
-
-fn with_slash(b: u8) -> u8
-    ensures { result ≡ spec.with_slash b }
-{
-    if b == b'\\' { b'/' } else { b }
+    if has_scheme(address.as_bytes()) {
+        return Start::Elsewhere;
+    }
+    start_of_path(path_part(address))
 }
 
 /// Puts slashes in the place of backslashes.
@@ -169,39 +199,14 @@ pub(crate) fn relative(alloc: Global, from: &[&[u8]], to: &str) -> Result<String
     Ok(address)
 }
 
-/// The path of a base, from the folder of its page; none for one with a scheme or from the root.
-fn base_path(alloc: Global, base: &str) -> Result<Option<Vec<u8>>, AllocError>
-    ensures { IfOk result (λ path. option_map (λ v. v.items) path ≡ spec.base_path base.now) }
+/// Where the path of a base begins; an empty one is that of its page's folder.
+fn base_start(base: &str) -> Start
+    ensures { result ≡ spec.base_start base.now }
 {
-    if path_len(base) == 0 || is_relative(base) {
-        return Ok(Some(file_path(alloc, base)?));
+    if path_len(base) == 0 {
+        return Start::Folder;
     }
-    Ok(None)
-}
-
-/// The path of the base that a page names.
-fn named_path(alloc: Global, named: Option<&str>) -> Result<Option<Vec<u8>>, AllocError>
-    ensures { IfOk result (λ path. option_map (λ v. v.items) path
-        ≡ spec.named_path (option_copied named.entry)) }
-{
-    base_path(alloc, named.unwrap_or("").trim_ascii())
-}
-
-/// The folder in which the addresses of an input are read, by the path of its base.
-fn folder_by<'x>(
-    alloc: Global,
-    input: &'x str,
-    path: Option<&'x [u8]>,
-) -> Result<Option<Vec<&'x [u8]>>, AllocError>
-    ensures { IfOk result (λ folder. option_map (λ names. names_of names.items) folder
-        ≡ option_map (paths.page_folder (paths.folder_of input.now)) (option_copied path.entry)) }
-{
-    let Some(path) = path else {
-        return Ok(None);
-    };
-    let mut folder = folder_of(alloc, input.as_bytes())?;
-    enter_page_folder(&mut folder, path)?;
-    Ok(Some(folder))
+    start_of(base)
 }
 
 /// A page of a run: the pages of that run, and the paths of its own input and output.
@@ -210,6 +215,97 @@ pub struct RunPage<'a> {
     pub pages: &'a Pages,
     pub input: &'a str,
     pub output: &'a str,
+    /// The path of the input in the folder that it was found below, which is taken for the root of the site.
+    pub path_in_folder: Option<&'a str>,
+}
+
+/// The folders of a page, as far as they are known.
+#[derive(Drop)]
+struct Folders<'a> {
+    /// The folder in which addresses are read.
+    input: Option<Vec<&'a [u8]>>,
+    /// The root of the site.
+    root: Option<Vec<&'a [u8]>>,
+}
+
+/// The root of the site of a page, unless a URL says where the site is.
+fn root_of<'a>(
+    alloc: Global,
+    page: RunPage<'a>,
+    base: Option<&Url>,
+) -> Result<Option<Vec<&'a [u8]>>, AllocError>
+    ensures { IfOk result (λ root. folder_in root ≡ spec.root_of (own_of page.entry) (option_copied base.entry)) }
+{
+    if base.is_some() {
+        return Ok(None);
+    }
+    let Some(path) = page.path_in_folder else {
+        return Ok(None);
+    };
+    let below = folder_of(alloc, path.as_bytes())?;
+    let mut folder = folder_of(alloc, page.input.as_bytes())?;
+    go_above(below.as_slice(), &mut folder);
+    Ok(Some(folder))
+}
+
+impl<'a> Folders<'a> {
+    /// The folders of a page that names no base.
+    fn first(
+        alloc: Global,
+        page: RunPage<'a>,
+        base: Option<&Url>,
+    ) -> Result<Folders<'a>, AllocError>
+        ensures { IfOk result (λ folders. folders_in folders
+            ≡ spec.first_folders (own_of page.entry) (option_copied base.entry)) }
+    {
+        Ok(Folders {
+            input: Some(folder_of(alloc, page.input.as_bytes())?),
+            root: root_of(alloc, page, base)?,
+        })
+    }
+
+    /// The folder of the page that a path leads to which begins there.
+    fn folder_from(
+        &self,
+        alloc: Global,
+        start: Start,
+        path: &'a [u8],
+    ) -> Result<Option<Vec<&'a [u8]>>, AllocError>
+        ensures { IfOk result (λ folder. folder_in folder
+            ≡ spec.folder_from start (folders_in self.now) path.now) }
+    {
+        match (start, &self.input, &self.root) {
+            (Start::Folder, Some(folder), _) => {
+                Ok(Some(page_folder(alloc, folder.as_slice(), path)?))
+            }
+            (Start::Root, _, Some(root)) => {
+                Ok(Some(page_folder_below(alloc, root.as_slice(), path)?))
+            }
+            _ => Ok(None),
+        }
+    }
+
+    /// The folders by the base of the page, whose path begins there.
+    fn with_base(
+        self,
+        alloc: Global,
+        start: Start,
+        path: &'a [u8],
+    ) -> Result<Folders<'a>, AllocError>
+        ensures { IfOk result (λ folders. folders_in folders ≡ spec.folders_with (folders_in self.entry).root
+            (spec.folder_from start (folders_in self.entry) path.now)) }
+    {
+        match self.folder_from(alloc, start, path)? {
+            Some(input) => Ok(Folders {
+                input: Some(input),
+                root: self.root,
+            }),
+            None => Ok(Folders {
+                input: None,
+                root: None,
+            }),
+        }
+    }
 }
 
 /// The addresses of a page are to lead to the outputs of other pages.
@@ -217,29 +313,34 @@ pub struct RunPage<'a> {
 struct Leads<'a, 'b> {
     pages: &'a Pages,
     base: Option<&'b Url>,
-    /// The folder in which addresses are read.
-    input_folder: Option<Vec<&'b [u8]>>,
+    folders: Folders<'b>,
     output_folder: Vec<&'a [u8]>,
 }
 
 impl<'a, 'b> Leads<'a, 'b> {
+    /// By the path of the base of a page, which begins there.
     fn new(
         alloc: Global,
         page: RunPage<'a>,
         base: Option<&'b Url>,
-        path: Option<&'b [u8]>,
+        start: Start,
+        path: &'b [u8],
     ) -> Result<Leads<'a, 'b>, AllocError>
     where
         'a: 'b,
         ensures pages { IfOk result (λ leads. leads.pages ≡ page.entry.pages) }
         ensures base { IfOk result (λ leads. leads.base ≡ base.entry) }
-        ensures folders { IfOk result (λ leads. folders_in leads
-            ≡ spec.folders_by (own_of page.entry) (option_copied path.entry)) }
+        ensures output { IfOk result (λ leads. names_of leads.output_folder.items
+            ≡ paths.folder_of (own_of page.entry).output) }
+        ensures folders { IfOk result (λ leads. folders_in leads.folders ≡ spec.folders_with
+            (spec.first_folders (own_of page.entry) (option_copied base.entry)).root
+            (spec.folder_from start (spec.first_folders (own_of page.entry) (option_copied base.entry)) path.now)) }
     {
+        let first = Folders::first(alloc, page, base)?;
         Ok(Leads {
             pages: page.pages,
             base,
-            input_folder: folder_by(alloc, page.input, path)?,
+            folders: first.with_base(alloc, start, path)?,
             output_folder: folder_of(alloc, page.output.as_bytes())?,
         })
     }
@@ -247,16 +348,16 @@ impl<'a, 'b> Leads<'a, 'b> {
     /// The output of the page that an address leads to.
     fn output_for(&self, alloc: Global, address: &str) -> Result<Option<&'a str>, AllocError>
         ensures { IfOk result (λ output. option_copied output
-            ≡ spec.output_for (pages_in self.now.pages.now) (folders_in self.now).input address.now) }
+            ≡ spec.output_for (pages_in self.now.pages.now) (folders_in self.now.folders) address.now) }
     {
-        let Some(folder) = &self.input_folder else {
+        let path = file_path(alloc, address)?;
+        let folder = self
+            .folders
+            .folder_from(alloc, start_of(address), path.as_slice())?;
+        let Some(folder) = folder else {
             return Ok(None);
         };
-        if !is_relative(address) {
-            return Ok(None);
-        }
-        let file = file_path(alloc, address)?;
-        let page = page_in(alloc, folder.as_slice(), file.as_slice())?;
+        let page = page_at(alloc, path.as_slice(), folder.as_slice())?;
         self.pages.output_or_index(page)
     }
 
@@ -264,7 +365,8 @@ impl<'a, 'b> Leads<'a, 'b> {
     /// the base, if there is one.
     fn lead(&self, alloc: Global, address: &str) -> Result<String, AllocError>
         ensures { IfOk result (λ s. string_bytes s ≡ spec.lead (pages_in self.now.pages.now)
-            (folders_in self.now) (option_copied self.now.base) address.now) }
+            (folders_in self.now.folders) (names_of self.now.output_folder.items)
+            (option_copied self.now.base) address.now) }
     {
         let inner = address.trim_ascii();
         let Some(output) = self.output_for(alloc, inner)? else {
@@ -282,7 +384,8 @@ impl Resolve for Leads<'_, '_> {
     ghost use Rattle.std.specs.Option.{option_copied};
 
     ghost to = { λ leads.
-        spec.lead (pages_in leads.pages.now) (folders_in leads) (option_copied leads.base) };
+        spec.lead (pages_in leads.pages.now) (folders_in leads.folders) (names_of leads.output_folder.items)
+        (option_copied leads.base) };
 
     fn resolved(&self, alloc: Global, address: &str) -> Result<String, AllocError> {
         self.lead(alloc, address)
@@ -295,7 +398,8 @@ impl Rewrite for Leads<'_, '_> {
     ghost use Rattle.std.specs.Option.{option_copied};
 
     ghost rule = { λ leads. attributes_with
-        (spec.lead (pages_in leads.pages.now) (folders_in leads) (option_copied leads.base)) };
+        (spec.lead (pages_in leads.pages.now) (folders_in leads.folders) (names_of leads.output_folder.items)
+        (option_copied leads.base)) };
 
     fn attributes(
         &self,
@@ -307,10 +411,18 @@ impl Rewrite for Leads<'_, '_> {
     }
 }
 
+/// The address of the base that a page names; a page that names none is as one with an empty base.
+fn base_address(named: Option<&str>) -> &str
+    ensures { result.now ≡ spec.trimmed (unwrap_or (option_copied named.entry) []) }
+{
+    named.unwrap_or("").trim_ascii()
+}
+
 /// The page of a run in which the addresses that lead to a page of the run lead to its output: those of links, and of
-/// what is shown in it. Where a base is given, all others are resolved against it, as `make_absolute` does. `named` is
-/// the address of the base that the whole page names: relative addresses are read in its folder; none of them leads to
-/// a page of the run if it has a scheme or begins at the root. `Err` means out of memory, or a URL of 4 GB.
+/// what is shown in it. Where a base is given, all others are resolved against it, as `make_absolute` does; else paths
+/// from the root lead from the folder that the page was found below. `named` is the address of the base that the whole
+/// page names: relative addresses are read in its folder, and none leads to a page of the run if that isn't known.
+/// `Err` means out of memory, or a URL of 4 GB.
 pub fn lead_to_pages(
     alloc: Global,
     tree: &Tree,
@@ -322,7 +434,8 @@ pub fn lead_to_pages(
         ≡ spec.led_page (pages_in page.entry.pages.now) (own_of page.entry)
         (option_copied base.entry) (option_copied named.entry) tree.now) }
 {
-    let path = named_path(alloc, named)?;
-    let leads = Leads::new(alloc, page, base, path.as_deref())?;
+    let address = base_address(named);
+    let path = file_path(alloc, address)?;
+    let leads = Leads::new(alloc, page, base, base_start(address), path.as_slice())?;
     rewritten(alloc, tree, &leads)
 }

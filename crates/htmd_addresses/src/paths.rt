@@ -124,27 +124,58 @@ fn page_name(name: &[u8]) -> &[u8]
 }
 
 /// Goes from a folder to that of the page that a path leads to.
-pub(crate) fn enter_page_folder<'a>(
-    folder: &mut Vec<&'a [u8]>,
-    path: &'a [u8],
-) -> Result<(), AllocError>
+fn enter_page_folder<'a>(folder: &mut Vec<&'a [u8]>, path: &'a [u8]) -> Result<(), AllocError>
     ensures { OnOk result (names_of folder.new.items ≡ spec.page_folder (names_of folder.old.items) path.now) }
 {
     enter_folder(folder, path)?;
     enter_named(folder, name_of(path))
 }
 
-/// The path of the page that a path leads to which is read in a folder.
-pub(crate) fn page_in<'x>(
+/// The folder of the page that a path leads to which is read in a folder.
+pub(crate) fn page_folder<'x>(
     alloc: Global,
-    folder: &'x [&'x [u8]],
+    folder: &[&'x [u8]],
     path: &'x [u8],
-) -> Result<Vec<u8>, AllocError>
-    ensures { IfOk result (λ page. page.items ≡ spec.page_in (names_of folder.now) path.now) }
+) -> Result<Vec<&'x [u8]>, AllocError>
+    ensures { IfOk result (λ found. names_of found.items ≡ spec.page_folder (names_of folder.now) path.now) }
 {
     let mut names = Vec::from_slice(alloc, folder)?;
     enter_page_folder(&mut names, path)?;
-    path_of(alloc, names.as_slice(), page_name(name_of(path)))
+    Ok(names)
+}
+
+/// The folder of the page that a path leads to which is read at the root of a site; nothing is above that.
+pub(crate) fn page_folder_below<'x>(
+    alloc: Global,
+    root: &[&'x [u8]],
+    path: &'x [u8],
+) -> Result<Vec<&'x [u8]>, AllocError>
+    ensures { IfOk result (λ found. names_of found.items
+        ≡ spec.page_folder_below (names_of root.now) path.now) }
+{
+    let mut below = Vec::new(alloc);
+    below.push(&path[..0])?;
+    enter_page_folder(&mut below, path)?;
+    let mut names = Vec::from_slice(alloc, root)?;
+    if let [_, below @ ..] = below.as_slice() {
+        names.extend_from_slice(below)?;
+    }
+    Ok(names)
+}
+
+/// The path of the page that a path leads to, whose folder this is.
+pub(crate) fn page_at(alloc: Global, path: &[u8], folder: &[&[u8]]) -> Result<Vec<u8>, AllocError>
+    ensures { IfOk result (λ page. page.items ≡ spec.page_at path.now (names_of folder.now)) }
+{
+    path_of(alloc, folder, page_name(name_of(path)))
+}
+
+/// Goes up from a folder by as many names as a folder below it has.
+#[tactic(auto, using(crate::proofs::PathsLemmas::above_taken))]
+pub(crate) fn go_above(below: &[&[u8]], folder: &mut Vec<&[u8]>)
+    ensures { names_of folder.new.items ≡ spec.above (names_of below.now) (names_of folder.old.items) }
+{
+    folder.truncate(folder.len().saturating_sub(below.len()));
 }
 
 /// How many names two folders begin with alike.

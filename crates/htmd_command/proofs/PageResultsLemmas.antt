@@ -5,7 +5,7 @@ use Rattle.std.proofs.Common.{Option, Some, None, option_map, Result, Ok, Err, I
 use Rattle.std.proofs.Common.{Bor, string_bytes}
 use Rattle.std.specs.Option.{option_copied}
 use Rattle.std.proofs.lemmas.Bool.{cond-true, cond-false, false≢true}
-use Rattle.htmd_addresses.specs.Leads.{PageValue, RunPage}
+use Rattle.htmd_addresses.specs.Leads.{OwnPage, PageValue, RunPage}
 use Rattle.htmd_addresses.specs.RunViews.{pages_in}
 use Rattle.htmd_addresses.specs.declared.pages.Pages.{Pages}
 use Rattle.htmd.specs.declared.page_error.PageError.TheVariants.{NotUtf8, Refused, NothingSelected, Memory}
@@ -18,7 +18,7 @@ use Rattle.htmd.specs.PageSettings.{PageInRun, Settings, settings_for}
 use Rattle.htmd_files.specs.declared.planning.Page.{Page}
 use Rattle.htmd_folders.specs.Pages.{Becomes}
 use Rattle.htmd_command.specs.PageResults.{IsResultOf, IsPageResult, in_run, own_url, page_request, pages_led}
-use Rattle.htmd_command.specs.PageResults.{named, request_for, request_for_file, run_page_in, value_of}
+use Rattle.htmd_command.specs.PageResults.{named, own_page, path_in_folder, request_for, request_for_file, run_page_in}
 use Rattle.url.specs.Parts.{Parts}
 use Rattle.std.specs.declared.alloc.Global.{Global}
 use Rattle.std.specs.declared.string.String.{String}
@@ -161,21 +161,25 @@ no_url page base p =
     (sym p)
 
 -- the run is told, or there is none
-abbrev value_by : List ℕ → List ℕ → PageValue
-value_by input output = record { input = input; output = output }
+abbrev own_by : List ℕ → List ℕ → Option (List ℕ) → OwnPage
+own_by input output path = record { input = input; output = output; path_in_folder = path }
 
-by_paths : (page : Page) (input output : List ℕ) → input ≡ string_bytes page.input
-    → output ≡ string_bytes page.output → value_by input output ≡ value_of page
-by_paths page input output e f = ap (λ i. value_by i output) e ∙ ap (value_by (string_bytes page.input)) f
+by_paths : (page : Page) (input output : List ℕ) (path : Option (List ℕ)) → input ≡ string_bytes page.input
+    → output ≡ string_bytes page.output → path ≡ path_in_folder page → own_by input output path ≡ own_page page
+by_paths page input output path e f g =
+    ap (λ i. own_by i output path) e
+    ∙ (ap (λ o. own_by (string_bytes page.input) o path) f
+    ∙ ap (own_by (string_bytes page.input) (string_bytes page.output)) g)
 
-abbrev run_by : List PageValue → PageValue → RunPage
+abbrev run_by : List PageValue → OwnPage → RunPage
 run_by pages own = record { pages = pages; own = own }
 
 pub run_told : (pages : Option (Bor Pages)) (led : Bor Pages) (page : Page) (input output : List ℕ)
-    → pages ≡ Some led → input ≡ string_bytes page.input → output ≡ string_bytes page.output
-    → Some (run_by (pages_in led.now) (value_by input output)) ≡ run_page_in (pages_led pages) page
-run_told pages led page input output p e f =
-    ap (λ (own : PageValue). Some (run_by (pages_in led.now) own)) (by_paths page input output e f)
+    (path : Option (List ℕ)) → pages ≡ Some led → input ≡ string_bytes page.input
+    → output ≡ string_bytes page.output → path ≡ path_in_folder page
+    → Some (run_by (pages_in led.now) (own_by input output path)) ≡ run_page_in (pages_led pages) page
+run_told pages led page input output path p e f g =
+    ap (λ (own : OwnPage). Some (run_by (pages_in led.now) own)) (by_paths page input output path e f g)
     ∙ ap (λ (o : Option (Bor Pages)). run_page_in (pages_led o) page) (sym p)
 
 pub run_untold : (pages : Option (Bor Pages)) (page : Page) → pages ≡ None

@@ -5,7 +5,7 @@ use Rattle.std.specs.Borrow.{Bor}
 use Rattle.std.specs.Option.{option_or}
 use Rattle.std.specs.Str.{bytes_eq}
 use Rattle.htmd.specs.PageOutputs.{IsOutputOf}
-use Rattle.htmd_addresses.specs.Leads.{PageValue, RunPage}
+use Rattle.htmd_addresses.specs.Leads.{OwnPage, PageValue, RunPage}
 use Rattle.htmd_addresses.specs.RunViews.{pages_in}
 use Rattle.htmd_addresses.specs.declared.pages.Pages.{Pages}
 use Rattle.htmd_cli.specs.Options.{Request, sets, url_in_folder}
@@ -54,9 +54,17 @@ given_name path = if bytes_eq path (codes "-") then None else Some path
 abbrev pub name_of : Page → Option (List ℕ)
 name_of page = option_or (path_in_folder page) (given_name (string_bytes page.input))
 
+-- a page by itself, as addresses are read in it
+abbrev pub own_page : Page → OwnPage
+own_page page = record {
+  input = string_bytes page.input;
+  output = string_bytes page.output;
+  path_in_folder = path_in_folder page;
+}
+
 -- a page as one of a run, if addresses lead to its pages
 abbrev pub run_page_in : Option (List PageValue) → Page → Option RunPage
-run_page_in pages page = option_map (λ pages. record { pages = pages; own = value_of page }) pages
+run_page_in pages page = option_map (λ pages. record { pages = pages; own = own_page page }) pages
 
 -- what a run adds for one of its pages
 abbrev pub in_run : Option (List PageValue) → Page → Settings → PageInRun

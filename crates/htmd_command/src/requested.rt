@@ -93,6 +93,7 @@ fn run_page<'a>(pages: Option<&'a Pages>, page: &'a Page) -> Option<RunPage<'a>>
             pages,
             input: &page.input,
             output: &page.output,
+            path_in_folder: page.path_in_folder.as_deref(),
         }),
         None => None,
     }

@@ -4,6 +4,7 @@ use htmd_test_expected::expect_text;
 use htmd_tree::{read_html, serialize};
 use std::alloc::{AllocError, Global};
 use std::test::Fail;
+use url::Url;
 
 /// The inputs of a run and their outputs.
 const PAGES: &[(&str, &str)] = &[
@@ -33,6 +34,7 @@ fn led(alloc: Global, own: (&str, &str), html: &str) -> Result<String, Fail> {
         pages: &pages,
         input: own.0,
         output: own.1,
+        path_in_folder: own.0.strip_prefix("site/"),
     };
     let led = lead_to_pages(alloc, &page, own, None, base_address(&page))?;
     Ok(serialize(alloc, &led, led.root())?)
@@ -59,7 +61,13 @@ const ADDRESSES: &[(&str, &str)] = &[
     ("./", "./"),
     ("a.htm", "a.htm"),
     ("../a.html", "../a.html"),
+    ("/a.html", "a.md"),
+    ("\\sub\\b c.html?x", "sub/b%20c.md?x"),
+    ("/sub#y", "sub/index.md#y"),
+    ("/../sub/../a.html", "a.md"),
+    ("/", "/"),
     ("/site/a.html", "/site/a.html"),
+    ("//a.html", "//a.html"),
     ("//site/a.html", "//site/a.html"),
     ("file:a.html", "file:a.html"),
     ("#a.html", "#a.html"),
@@ -93,9 +101,13 @@ const BASES: &[(&str, &str, &str)] = &[
     ("", "a.html", "a.md"),
     ("#x", "a.html", "a.md"),
     ("?x", "sub/", "sub/index.md"),
-    ("/", "a.html", "a.html"),
+    ("/", "a.html", "a.md"),
+    ("/sub/x", "b c.html", "sub/b%20c.md"),
+    ("sub/", "/a.html", "a.md"),
     ("//a.example", "a.html", "a.html"),
+    ("//a.example", "/a.html", "/a.html"),
     ("http://a.example/", "a.html", "a.html"),
+    ("http://a.example/", "/a.html", "/a.html"),
 ];
 
 #[test]
@@ -110,6 +122,34 @@ fn addresses_are_read_by_the_base(rt: HostRuntime) -> Result<(), Fail> {
         expect_text(base, html.as_str(), want.as_str())?;
     }
     Ok(())
+}
+
+// A page that wasn't found below a folder has no root, and where a URL is known it isn't a folder of the run.
+#[test]
+fn addresses_from_the_root_stay(rt: HostRuntime) -> Result<(), Fail> {
+    let alloc = rt.alloc();
+    let html = "<a href=\"/a.html\">t</a>";
+    let named = led(alloc, PAGES[1], html)?;
+    expect_text(
+        "no root",
+        named.as_str(),
+        "<html><head></head><body><a href=\"/a.html\">t</a></body></html>",
+    )?;
+    let page = read_html(alloc, html, false)?;
+    let pages = pages(alloc)?;
+    let own = RunPage {
+        pages: &pages,
+        input: "site/a.html",
+        output: "out/a.md",
+        path_in_folder: Some("a.html"),
+    };
+    let url = Url::parse(alloc, "https://a.example/b/")?;
+    let led = lead_to_pages(alloc, &page, own, Some(&url), None)?;
+    expect_text(
+        "a URL",
+        serialize(alloc, &led, led.root())?.as_str(),
+        "<html><head></head><body><a href=\"https://a.example/a.html\">t</a></body></html>",
+    )
 }
 
 #[test]

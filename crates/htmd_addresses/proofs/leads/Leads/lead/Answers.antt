@@ -15,7 +15,8 @@ returns-in_default c =
     let self = c.args.self.now in
     let P : List ℕ → Type 0 = λ x. IfOk c.resolved_by.result (λ s. string_bytes s ≡ x) in
     subst P
-    (lead-at (pages_in self.pages.now) (folders_in self) (option_copied self.base) address inner
+    (lead-at (pages_in self.pages.now) (folders_in self.folders) (names_of self.output_folder.items)
+    (option_copied self.base) address inner
     (trim_ascii_is address inner (without_start address) refl c.trim_ascii-inner.ensures.value)
     None (sym (ap option_copied c.in_default.is) ∙ c.in_ok-output.ensures))
     c.resolved_by.ensures
@@ -31,6 +32,7 @@ returns c =
     (c.in_ok-lead.ensures ∙ ap (λ x. relative (names_of x) c.in-Some.output.now) c.as_slice.ensures.value)
     ∙ (ap (λ x. relative (names_of self.output_folder.items) c.in-Some.output.now ++ x)
     (c.split_at.ensures.back ∙ ap (λ n. drop n inner) c.path_len.ensures.value)
-    ∙ lead-at (pages_in self.pages.now) (folders_in self) (option_copied self.base) address inner
+    ∙ lead-at (pages_in self.pages.now) (folders_in self.folders) (names_of self.output_folder.items)
+    (option_copied self.base) address inner
     (trim_ascii_is address inner (without_start address) refl c.trim_ascii-inner.ensures.value)
     (Some c.in-Some.output.now) (sym (ap option_copied c.in-Some.is) ∙ c.in_ok-output.ensures)))
