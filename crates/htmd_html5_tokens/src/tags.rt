@@ -188,3 +188,22 @@ pub(crate) fn read_tag(alloc: Global, text: &str) -> Result<(Token<'_>, &str), A
     };
     tag_from_name(alloc, name, ends)
 }
+
+/// A tag from its name on, and what follows it, whatever is in the tag; if the text ends within the tag, the end of the
+/// file.
+fn any_tag_from_name(alloc: Global, text: &str, ends: bool) -> Result<(Token<'_>, &str), AllocError>
+    ensures { IfOk result (λ r. read_of r ≡ spec.tag_from_name (if ends then end_tag else start_tag) text.now) }
+{
+    let (name, after) = split_run(text, Class::Name);
+    tag_with_attributes(alloc, name, after, ends)
+}
+
+/// The same as `read_tag`, for the tags that end raw texts, of which there are few.
+pub(crate) fn read_tag_of_raw(alloc: Global, text: &str) -> Result<(Token<'_>, &str), AllocError>
+    ensures { IfOk result (λ r. read_of r ≡ spec.read_tag text.now) }
+{
+    match strip_byte(text, b'/') {
+        Some(name) => any_tag_from_name(alloc, name, true),
+        None => any_tag_from_name(alloc, text, false),
+    }
+}

@@ -9,7 +9,7 @@ use crate::contents::decoded;
 use crate::markup::{begins_markup, read_markup, read_text};
 use crate::raw_texts::{raw_text_len, reading_of};
 use crate::sections::{after_empty_pieces, read_section};
-use crate::tags::read_tag;
+use crate::tags::read_tag_of_raw;
 use crate::tokens::Token;
 use htmd_lexical::{ContentModel, RawElement};
 use htmd_scanning::{strip, strip_byte};
@@ -62,7 +62,7 @@ fn read_raw(alloc: Global, text: &str, element: RawElement) -> Result<(Token<'_>
         return Ok((Token::Text(read), rest));
     }
     match strip_byte(rest, b'<') {
-        Some(tag) => read_tag(alloc, tag),
+        Some(tag) => read_tag_of_raw(alloc, tag),
         None => Ok((Token::EndOfFile, "")),
     }
 }
