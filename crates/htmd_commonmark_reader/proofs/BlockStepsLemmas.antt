@@ -158,7 +158,7 @@ pub set_leaf : (p : Before) (done : ClosedBlocks) (g : Bool) (f : Leaf) (old new
 set_leaf p done g f old new h k i = record {
   parts = ap (λ v. parts_of v.items) k.closed_is ∙ h.parts;
   found = ap (λ v. map held_of v.items) k.definitions_are ∙ h.found;
-  kinds = ap (λ v. map kind_of v.items) k.boxes_are ∙ h.kinds;
+  kinds = ap (λ v. map kind_of v.kinds.items) k.boxes_are ∙ h.kinds;
   none = k.none ∙ h.none;
   gap = k.gap_is ∙ h.gap;
   inner = i;

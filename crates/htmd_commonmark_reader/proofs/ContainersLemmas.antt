@@ -18,7 +18,7 @@ pub last_box : (ks : List declared.Container) → (length ks == 0) ≡ is_last (
 last_box [] = refl
 last_box (k ∷ ks) = grind (arith, nat_tests)
 
-passed_some : (k : Container) (ks : List Container) (e flag : Bool) (l r : Line) → flag ≡ (is_last ks && e)
+pub passed_some : (k : Container) (ks : List Container) (e flag : Bool) (l r : Line) → flag ≡ (is_last ks && e)
     → Some r ≡ taken k flag l → passed (k ∷ ks) e l ≡ passed_one_more (passed ks e r)
 passed_some k ks e flag l r f g =
     let found : taken k (is_last ks && e) l ≡ Some r = ap (λ b. taken k b l) (sym f)

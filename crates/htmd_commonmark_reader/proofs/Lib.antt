@@ -47,3 +47,4 @@ pub mod LineSizesLemmas
 pub mod BulletRunsLemmas
 pub mod DestinationsLemmas
 pub mod MissingLemmas
+pub mod QuotesLemmas

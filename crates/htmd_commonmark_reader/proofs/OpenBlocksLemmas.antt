@@ -46,7 +46,7 @@ added p done qs g h old new x c = record {
   found = c.found ∙ ap (λ l. l ++ map encoded (collected qs)) x.found
       ∙ encoded_behind p.found (collected done) (collected qs)
       ∙ ap (λ l. map encoded (p.found ++ l)) (sym (joined_found done qs));
-  kinds = ap (λ v. map kind_of v.items) c.boxes ∙ x.kinds;
+  kinds = ap (λ v. map kind_of v.kinds.items) c.boxes ∙ x.kinds;
   none = c.none ∙ ap (λ b. b && is_none qs) x.none ∙ sym (joined_none done qs);
   gap = c.gap;
   inner = subst (λ l. IsLeaf l nothing) (sym c.inner) x.inner;
@@ -57,7 +57,7 @@ added p done qs g h old new x c = record {
 pub record Begins (g : Bool) (k : declared_kind.Container) (old new : Blocks) : Type 0 where
   pub closed : new.closed.items ≡ old.closed.items ++ (part.Begin g k ∷ [])
   pub definitions : new.definitions ≡ old.definitions
-  pub boxes : new.boxes.items ≡ old.boxes.items ++ (k ∷ [])
+  pub boxes : new.boxes.kinds.items ≡ old.boxes.kinds.items ++ (k ∷ [])
   pub none : new.is_empty ≡ true
   pub gap : new.gap ≡ false
   pub inner : new.leaf ≡ old.leaf
@@ -73,7 +73,7 @@ begun_box p done g k old new x b = record {
       ∙ sym (append-nil (p.parts ++ closed_parts done (begin g (kind_of k) ∷ [])));
   found = ap (λ v. map held_of v.items) b.definitions ∙ x.found
       ∙ ap (map encoded) (sym (append-nil (p.found ++ collected done)));
-  kinds = ap (map kind_of) b.boxes ∙ map-append kind_of old.boxes.items (k ∷ [])
+  kinds = ap (map kind_of) b.boxes ∙ map-append kind_of old.boxes.kinds.items (k ∷ [])
       ∙ ap (λ l. l ++ (kind_of k ∷ [])) (x.kinds ∙ append-nil p.kinds)
       ∙ sym (append-nil (p.kinds ++ (kind_of k ∷ [])));
   none = b.none;
@@ -205,9 +205,9 @@ emptied b = refilled b variant.Nothing
 
 -- how many containers are open
 pub held_count : (p : Before) (done : ClosedBlocks) (g : Bool) (o : Open) (b : Blocks) → Holds p done g o b
-    → length b.boxes.items ≡ length p.kinds + length (open_kinds o)
+    → length b.boxes.kinds.items ≡ length p.kinds + length (open_kinds o)
 held_count p done g o b h =
-    sym (length-map b.boxes.items kind_of) ∙ ap length h.kinds ∙ length-append p.kinds (open_kinds o)
+    sym (length-map b.boxes.kinds.items kind_of) ∙ ap length h.kinds ∙ length-append p.kinds (open_kinds o)
 
 pub shut : (p : Before) (done : ClosedBlocks) (g : Bool) (o : Open) (depth : ℕ) (old mid new : Blocks)
     → length p.kinds ≡ depth → 0 < length (open_kinds o) → Holds p done g o old
@@ -218,11 +218,11 @@ shut p done g o depth old mid new size some x c e =
     let i = inner_leaf o in
     let gap = inner_gap g o in
     let inner = closed_parts (closed gap i) [] in
-    let boxes : map kind_of mid.boxes.items ≡ p.kinds ++ open_kinds o =
-    ap (λ v. map kind_of v.items) c.boxes ∙ x.kinds in
-    let all : length mid.boxes.items ≡ length p.kinds + length (open_kinds o) =
-    ap (λ v. length v.items) c.boxes ∙ held_count p done g o old x in
-    let count : length mid.boxes.items - depth ≡ length (open_kinds o) = omega (arith, all, size) in
+    let boxes : map kind_of mid.boxes.kinds.items ≡ p.kinds ++ open_kinds o =
+    ap (λ v. map kind_of v.kinds.items) c.boxes ∙ x.kinds in
+    let all : length mid.boxes.kinds.items ≡ length p.kinds + length (open_kinds o) =
+    ap (λ v. length v.kinds.items) c.boxes ∙ held_count p done g o old x in
+    let count : length mid.boxes.kinds.items - depth ≡ length (open_kinds o) = omega (arith, all, size) in
     let parts : parts_of mid.closed.items ≡ (p.parts ++ open_parts done g o) ++ inner =
     c.parts ∙ ap₂ (λ l b. l ++ closed_parts (closed b i) []) x.parts x.gap in
     let found : map held_of mid.definitions.items
@@ -236,11 +236,11 @@ shut p done g o depth old mid new size some x c e =
       found = ap (λ v. map held_of v.items) e.definitions ∙ found
           ∙ encoded_behind p.found (open_found done o) (collected (closed gap i))
           ∙ ap (λ l. map encoded (p.found ++ l)) (shut_found done g o);
-      kinds = ap (map kind_of) e.boxes ∙ map_take kind_of depth mid.boxes.items ∙ ap (take depth) boxes
+      kinds = ap (map kind_of) e.boxes ∙ map_take kind_of depth mid.boxes.kinds.items ∙ ap (take depth) boxes
           ∙ take_at p.kinds (open_kinds o) depth size ∙ sym (append-nil p.kinds);
       none = e.none ∙ shut_none done g o some;
       gap = e.gap ∙ ap₂ (λ b l. b && no_quote l) (c.gap ∙ ap (λ b. was_blank b i) x.gap)
-          (map_drop kind_of depth mid.boxes.items ∙ ap (drop depth) boxes
+          (map_drop kind_of depth mid.boxes.kinds.items ∙ ap (drop depth) boxes
           ∙ drop_at p.kinds (open_kinds o) depth size)
           ∙ shut_blank g o;
       inner = subst (λ l. IsLeaf l nothing) (sym (e.inner ∙ c.inner)) refl;

@@ -30,6 +30,7 @@ pub mod TableCells
 pub mod Steps
 pub mod BulletRuns
 pub mod OpenLeaves
+pub mod Quotes
 pub mod OpenBlocks
 pub mod Destinations
 pub mod Missing

@@ -80,7 +80,7 @@ deeper p done g k = record {
 pub record Holds (p : Before) (done : ClosedBlocks) (g : Bool) (o : Open) (b : Blocks) : Type 0 where
   pub parts : parts_of b.closed.items ≡ p.parts ++ open_parts done g o
   pub found : map held_of b.definitions.items ≡ map encoded (p.found ++ open_found done o)
-  pub kinds : map kind_of b.boxes.items ≡ p.kinds ++ open_kinds o
+  pub kinds : map kind_of b.boxes.kinds.items ≡ p.kinds ++ open_kinds o
   pub none : b.is_empty ≡ inner_none done o
   pub gap : b.gap ≡ inner_gap g o
   pub inner : IsLeaf b.leaf (inner_leaf o)
@@ -136,11 +136,11 @@ table_row header (Some alignments) = if is_header header alignments then Some al
 -- containers are ended until so many are left
 pub record Ends (depth : ℕ) (old new : Blocks) : Type 0 where
   pub parts : parts_of new.closed.items
-      ≡ parts_of old.closed.items ++ replicate (length old.boxes.items - depth) end
+      ≡ parts_of old.closed.items ++ replicate (length old.boxes.kinds.items - depth) end
   pub definitions : new.definitions ≡ old.definitions
-  pub boxes : new.boxes.items ≡ take depth old.boxes.items
+  pub boxes : new.boxes.kinds.items ≡ take depth old.boxes.kinds.items
   pub none : new.is_empty ≡ false
-  pub gap : new.gap ≡ (old.gap && no_quote (map kind_of (drop depth old.boxes.items)))
+  pub gap : new.gap ≡ (old.gap && no_quote (map kind_of (drop depth old.boxes.kinds.items)))
   pub inner : new.leaf ≡ old.leaf
 
 -- ---- what containers take

@@ -35,6 +35,7 @@ use crate::leaf_blocks::{delimiter_row_of, underline_of};
 use crate::leaf_rows::Rows;
 use crate::leaves::{FencedCode, HtmlBlock, IndentedCode, Leaf, Paragraph, Table};
 use crate::lines::{Line, split_line};
+use crate::open_containers::OpenContainers;
 use crate::starts::{LineStart, line_start};
 use crate::tables::{cell_count, cells};
 use htmd_document::Alignment;
@@ -46,8 +47,7 @@ use std::mem;
 pub(crate) struct Blocks<'a> {
     closed: Vec<Closed>,
     definitions: Vec<Definition>,
-    /// The containers that are open, from the outermost on.
-    boxes: Vec<Container>,
+    boxes: OpenContainers,
     /// Nothing is closed in the innermost container.
     is_empty: bool,
     /// A blank line stands before what is open in the innermost container, or comes next there.
@@ -62,7 +62,7 @@ impl<'a> Blocks<'a> {
         Blocks {
             closed: Vec::new(alloc),
             definitions: Vec::new(alloc),
-            boxes: Vec::new(alloc),
+            boxes: OpenContainers::new(alloc),
             is_empty: true,
             gap: false,
             leaf: Leaf::Nothing,
@@ -161,10 +161,10 @@ impl<'a> Blocks<'a> {
 
     /// Ends containers until so many are left.
     fn end_boxes(&mut self, depth: usize) -> Result<(), AllocError>
-        requires { depth ≤ length self.now.boxes.items }
+        requires { depth ≤ length self.now.boxes.kinds.items }
         ensures { OnOk result (Ends depth self.old self.new) }
     {
-        self.gap = end_all(&mut self.closed, &self.boxes[depth..], self.gap)?;
+        self.gap = end_all(&mut self.closed, &self.boxes.kinds[depth..], self.gap)?;
         self.boxes.truncate(depth);
         self.is_empty = false;
         Ok(())
@@ -178,7 +178,7 @@ impl<'a> Blocks<'a> {
     {
         let leaf = mem::replace(&mut self.leaf, Leaf::Nothing);
         self.close(alloc, leaf)?;
-        if depth < self.boxes.len() {
+        if depth < self.boxes.kinds.len() {
             return self.end_boxes(depth);
         }
         Ok(())
@@ -588,8 +588,9 @@ impl<'a> Blocks<'a> {
         ensures { OnOk result ((b : Box) → HoldsBox nothing_before b self.old
             → HoldsBox nothing_before (containers.fed b.done b.gap b.inner (line_of line.entry)) self.new) }
     {
-        let found = take_line(&self.boxes, self.holds_nothing(), line);
-        if found.depth == self.boxes.len() {
+        let boxes = &self.boxes;
+        let found = take_line(&boxes.kinds, boxes.quotes, self.holds_nothing(), line);
+        if found.depth == self.boxes.kinds.len() {
             self.push_here(alloc, found.line)
         } else {
             self.push_left(alloc, found.depth, found.line)

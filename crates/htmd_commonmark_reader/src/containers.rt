@@ -1,9 +1,11 @@
 //! What containers take of a line (CommonMark 0.31.2, 5.1 and 5.2).
-ghost use Rattle.std.specs.Prelude.{◌≡◌, ◌≤◌, ◌∷◌, ◌&&◌, [], not, map, length, option_map, IfSome};
+ghost use Rattle.std.specs.Prelude.{◌≡◌, ◌≤◌, ◌==◌, ◌∷◌, ◌&&◌, [], not, map, length, option_map, IfSome};
+ghost use Rattle.htmd_lexical.specs.CharacterClasses as classes;
 ghost use Rattle.htmd_commonmark_reading.specs.Containers as spec;
 ghost use Rattle.htmd_commonmark_reader.specs.ClosedParts.{kind_of};
 ghost use Rattle.htmd_commonmark_reader.specs.LineViews.{line_of, IsLine};
 ghost use Rattle.htmd_commonmark_reader.specs.OpenBlocks.{passed, is_last, no_quote};
+ghost use Rattle.htmd_commonmark_reader.specs.Quotes.{quote_count};
 
 use crate::closed::Container;
 use crate::lines::Line;
@@ -40,6 +42,16 @@ impl Container {
         matches!(self, Container::Quote)
     }
 
+    /// How many quotes it is.
+    pub(crate) fn quotes(self) -> usize
+        ensures { result ≡ quote_count (kind_of self ∷ []) }
+    {
+        match self {
+            Container::Quote => 1,
+            Container::Item { .. } => 0,
+        }
+    }
+
     /// What is left of a line that goes on with a container, which may hold nothing.
     fn rest_of<'a>(self, is_empty: bool, line: Line<'a>) -> Option<Line<'a>>
         requires { IsLine line }
@@ -74,21 +86,43 @@ pub(crate) struct Taken<'a> {
     pub(crate) line: Line<'a>,
 }
 
-/// What containers take of a line; the flag: the innermost one holds nothing.
-pub(crate) fn take_line<'a>(boxes: &[Container], is_empty: bool, line: Line<'a>) -> Taken<'a>
-    requires { IsLine line }
+/// Whether so many quotes and any items take what is left of a line, if the innermost one holds something.
+fn all_take(quotes: usize, is_empty: bool, line: Line<'_>) -> bool
+    ensures { result ≡ (quotes == 0 && not is_empty && classes.is_empty (line_of line.entry).text) }
+{
+    quotes == 0 && !is_empty && line.is_used_up()
+}
+
+/// What containers take of a line; the flag: the innermost one holds nothing. So many of them are quotes: behind the
+/// last of these, items that an empty line goes on with aren't looked at.
+pub(crate) fn take_line<'a>(
+    boxes: &[Container],
+    quotes: usize,
+    is_empty: bool,
+    line: Line<'a>,
+) -> Taken<'a>
+    requires line { IsLine line }
+    requires quotes { quotes ≡ quote_count (map kind_of boxes.now) }
     ensures depth { result.depth ≡ (passed (map kind_of boxes.now) is_empty (line_of line.entry)).count }
     ensures rest { line_of result.line ≡ (passed (map kind_of boxes.now) is_empty (line_of line.entry)).rest }
     ensures held { IsLine result.line }
     ensures bound { result.depth ≤ length boxes.now }
 {
     let mut rest = line;
+    let mut left = quotes;
     for depth in 0..boxes.len() {
+        if all_take(left, is_empty, rest) {
+            return Taken {
+                depth: boxes.len(),
+                line: rest,
+            };
+        }
         let holds_nothing = holds_nothing(&boxes[depth + 1..], is_empty);
         match boxes[depth].rest_of(holds_nothing, rest) {
             Some(next) => rest = next,
             None => return Taken { depth, line: rest },
         }
+        left -= boxes[depth].quotes();
     }
     Taken {
         depth: boxes.len(),

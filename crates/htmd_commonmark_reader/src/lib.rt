@@ -29,6 +29,7 @@ mod link_definitions;
 mod link_targets;
 mod lists;
 mod markers;
+mod open_containers;
 mod parts;
 mod raw_tags;
 mod reading;

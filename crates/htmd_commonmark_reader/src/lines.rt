@@ -1,6 +1,7 @@
 //! Lines (CommonMark 0.31.2, 2.1), columns and tabs (2.2).
 ghost use Rattle.std.specs.Prelude.{◌≡◌, ◌<◌, ◌≤◌, ◌+◌, ◌*◌, ◌∷◌, length, IfOk, string_bytes};
 ghost use Rattle.std.specs.Str.{IsCharBoundary};
+ghost use Rattle.htmd_lexical.specs.CharacterClasses.{is_empty};
 ghost use Rattle.htmd_commonmark_reading.specs.Characters.{past_blanks};
 ghost use Rattle.htmd_commonmark_reading.specs.Lines as spec;
 ghost use Rattle.htmd_commonmark_reader.specs.LineViews.{line_of, IsLine, columns_at, past_line_end, widest, cut_of};
@@ -175,6 +176,13 @@ impl<'a> Line<'a> {
         ensures { result ≡ spec.is_blank (line_of self.entry) }
     {
         self.content.is_empty()
+    }
+
+    /// Whether nothing is left of the line, not even white space.
+    pub(crate) fn is_used_up(self) -> bool
+        ensures { result ≡ is_empty (line_of self.entry).text }
+    {
+        self.spaces == 0 && self.text.is_empty()
     }
 
     /// The line without so many columns of its white space, or all that it has.

@@ -18,7 +18,7 @@ returns c = λ p done g h.
     begun_box p done g c.args.kind o n h (record {
       closed = c.in_ok-push.ensures.items;
       definitions = refl;
-      boxes = c.in_ok-push-2.ensures.items;
+      boxes = c.in_ok-push-2.ensures;
       none = refl;
       gap = refl;
       inner = refl;

@@ -15,8 +15,8 @@ returns-then-found-len c =
     let l = line_of c.args.line in
     let old = c.args.self.now in
     let n = c.push_here.new.self in
-    let count : c.len.result ≡ length old.boxes.items = search rules in
-    let kinds : map kind_of c.deref.result.now ≡ map kind_of old.boxes.items = search rules in
+    let count : c.len.result ≡ length old.boxes.kinds.items = search rules in
+    let kinds : map kind_of c.deref.result.now ≡ map kind_of old.boxes.kinds.items = search rules in
     on_ok_weaker c.push_here.result (λ e b h.
     let o = b.inner in
     let w = walk nothing_before b.done b.gap o l in
@@ -37,8 +37,8 @@ returns-else-found-len c =
     let l = line_of c.args.line in
     let old = c.args.self.now in
     let n = c.push_left.new.self in
-    let count : c.len.result ≡ length old.boxes.items = search rules in
-    let kinds : map kind_of c.deref.result.now ≡ map kind_of old.boxes.items = search rules in
+    let count : c.len.result ≡ length old.boxes.kinds.items = search rules in
+    let kinds : map kind_of c.deref.result.now ≡ map kind_of old.boxes.kinds.items = search rules in
     on_ok_weaker c.push_left.result (λ e b h.
     let o = b.inner in
     let w = walk nothing_before b.done b.gap o l in
@@ -50,7 +50,7 @@ returns-else-found-len c =
     let rest = c.take_line-found.ensures.rest ∙ ap (λ (x : Passed). x.rest) same in
     let all = held_count nothing_before b.done b.gap o old h in
     let bound = c.take_line-found.ensures.bound in
-    let size : length c.deref.result.now ≡ length old.boxes.items = search rules in
+    let size : length c.deref.result.now ≡ length old.boxes.kinds.items = search rules in
     let none : length nothing_before.kinds ≡ 0 = refl in
     w.back n (subst (λ x. HoldsBox w.before x n)
     (sym (w.stops (omega (arith, w.size, depth, all, count, bound, size, c.if-found-len.false))))
