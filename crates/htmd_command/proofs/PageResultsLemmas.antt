@@ -165,7 +165,8 @@ abbrev own_by : List ℕ → List ℕ → Option (List ℕ) → OwnPage
 own_by input output path = record { input = input; output = output; path_in_folder = path }
 
 by_paths : (page : Page) (input output : List ℕ) (path : Option (List ℕ)) → input ≡ string_bytes page.input
-    → output ≡ string_bytes page.output → path ≡ path_in_folder page → own_by input output path ≡ own_page page
+    → output ≡ string_bytes page.output → path ≡ path_in_folder page
+    → own_by input output path ≡ own_page page
 by_paths page input output path e f g =
     ap (λ i. own_by i output path) e
     ∙ (ap (λ o. own_by (string_bytes page.input) o path) f

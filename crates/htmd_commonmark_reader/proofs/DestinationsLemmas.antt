@@ -94,7 +94,8 @@ shifted k false (c ∷ s) =
     (λ q. at_parenthesis k c s q)
     (λ q.
     let f = (c == 92) && begins_with_punctuation s in
-    let none : ((c == 41) && (suc k == 0)) ≡ false = ap (λ b. (c == 41) && b) (never_zero k) ∙ and_false (c == 41) in
+    let none : ((c == 41) && (suc k == 0)) ≡ false =
+    ap (λ b. (c == 41) && b) (never_zero k) ∙ and_false (c == 41) in
     rw (w, q, none)
     (left_before_in c (bare (open_after (suc k) c) f s) ∙ ap (λ j. left_in (bare j f s)) (opens_more k c q)
     ∙ shifted (open_after k c) f s ∙ sym (closed_before c (bare (open_after k c) f s)))))
@@ -135,7 +136,8 @@ never_closed s e = sym (left_parentheses s ∙ go (bare 0 false s) e)
     go (Some f) e = absurd (cc)
 
 pub left_closed : (s : List ℕ) (n : ℕ) → left_of s ≡ Some n
-    → cond (first_is 41 (drop (length s - n) s)) (left_of (drop 1 (drop (length s - n) s))) None ≡ left_of (40 ∷ s)
+    → cond (first_is 41 (drop (length s - n) s)) (left_of (drop 1 (drop (length s - n) s))) None
+    ≡ left_of (40 ∷ s)
 left_closed s n e = sym (left_parentheses s ∙ go (bare 0 false s) (bare_end 0 false s) e)
   where
     go : (o : Option Front) → IsAtEnd s o → left_in o ≡ Some n
@@ -153,7 +155,8 @@ pub lefts_size : (s : List ℕ) → length (lefts_of s) ≡ suc (length s)
 lefts_size [] = refl
 lefts_size (c ∷ s) = omega (arith, lefts_size s, length-append (lefts_of s) (left_of (c ∷ s) ∷ []))
 
-pub left_at : (s : List ℕ) (n : ℕ) (d : Option ℕ) → get_or (lefts_of s) (length (drop n s)) d ≡ left_of (drop n s)
+pub left_at : (s : List ℕ) (n : ℕ) (d : Option ℕ)
+    → get_or (lefts_of s) (length (drop n s)) d ≡ left_of (drop n s)
 left_at [] zero d = refl
 left_at [] (suc n) d = refl
 left_at (c ∷ s) zero d =
@@ -167,13 +170,14 @@ pub left_at_end : (s e : List ℕ) (d : Option ℕ) → IsEnd s e → get_or (le
 left_at_end s e d h =
     ap (λ x. get_or (lefts_of s) (length x) d) h.1 ∙ left_at s h.0 d ∙ ap left_of (sym h.1)
 
-pub left_when : (s : List ℕ) (ls : List (Option ℕ)) (n : ℕ) (d : Option ℕ) → ls ≡ lefts_of s → n ≤ length s
-    → get_or ls n d ≡ left_of (drop (length s - n) s)
+pub left_when : (s : List ℕ) (ls : List (Option ℕ)) (n : ℕ) (d : Option ℕ) → ls ≡ lefts_of s
+    → n ≤ length s → get_or ls n d ≡ left_of (drop (length s - n) s)
 left_when s ls n d e l =
     let size : length (drop (length s - n) s) ≡ n = omega (arith, length-drop (length s - n) s) in
     ap (λ x. get_or x n d) e ∙ ap (λ k. get_or (lefts_of s) k d) (sym size) ∙ left_at s (length s - n) d
 
-pub bounded : (s : List ℕ) (ls : List (Option ℕ)) (n : ℕ) → ls ≡ lefts_of s → n ≤ length s → n < length ls
+pub bounded : (s : List ℕ) (ls : List (Option ℕ)) (n : ℕ) → ls ≡ lefts_of s → n ≤ length s
+    → n < length ls
 bounded s ls n e l = omega (arith, ap length e, lefts_size s)
 
 pub all_left : (s : List ℕ) → left_of (drop (length s - length s) s) ≡ left_of s

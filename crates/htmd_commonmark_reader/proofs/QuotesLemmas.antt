@@ -58,7 +58,8 @@ module _ (ks : List declared.Container) (d : declared.Container) (i q : ℕ) (wi
   quotes_left left e = (omega (arith, e, quotes_here), omega (arith, e, quotes_here))
 
   pub quotes_counted : (n : ℕ) → n + quote_count (map kind_of (drop i ks)) ≡ quote_count (map kind_of ks)
-      → (n + q ≤ length ks) × (n + q + quote_count (map kind_of (drop (i + 1) ks)) ≡ quote_count (map kind_of ks))
+      → (n + q ≤ length ks)
+      × (n + q + quote_count (map kind_of (drop (i + 1) ks)) ≡ quote_count (map kind_of ks))
   quotes_counted n e = (omega (arith, e, quotes_here, few_quotes ks), omega (arith, e, quotes_here))
 
 -- ---- an empty line

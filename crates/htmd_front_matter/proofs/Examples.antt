@@ -53,8 +53,8 @@ value-date = refl
 
 -- `name=date` before all others
 value-date_by_name : value_in Date (document (more (element (codes "div") [] published)
-    (more (element (codes "meta") (pair (codes "name") (codes "date") ∷ pair (codes "content") (codes "3") ∷ []) none)
-    none))) ≡ Some (codes "3")
+    (more (element (codes "meta") (pair (codes "name") (codes "date") ∷ pair (codes "content") (codes "3") ∷ [])
+    none) none))) ≡ Some (codes "3")
 value-date_by_name = refl
 
 tidied-title : tidied (codes " A \n b ") ≡ codes "A b"

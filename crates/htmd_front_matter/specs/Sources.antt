@@ -20,7 +20,8 @@ named word = meta (codes "name") word
 -- a date: as HTML, Open Graph and schema.org say it, and Dublin Core in HTML
 abbrev pub dates : List Source
 dates = named (codes "date") ∷ meta (codes "property") (codes "article:published_time")
-    ∷ meta (codes "itemprop") (codes "datePublished") ∷ named (codes "dcterms.date") ∷ named (codes "dc.date") ∷ []
+    ∷ meta (codes "itemprop") (codes "datePublished") ∷ named (codes "dcterms.date")
+    ∷ named (codes "dc.date") ∷ []
 
 -- the sources of a key; the first one that says something counts
 abbrev pub sources : Key → List Source

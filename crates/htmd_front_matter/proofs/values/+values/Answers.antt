@@ -25,7 +25,8 @@ first_found-found_in-found-requires t c =
 pub found_in-returns-in-Document : goal.found_in-returns-in-Document
 found_in-returns-in-Document t c =
     let w =
-    ap (found_in (source_of c.args.source)) (value-node c.args.tree.now c.args.node document_node c.data.ensures.tree c.requires
+    ap (found_in (source_of c.args.source))
+    (value-node c.args.tree.now c.args.node document_node c.data.ensures.tree c.requires
     (sym (ap data_of c.in-Document.is) ∙ c.data.ensures.value)) in
     c.first_found.ensures ∙ sym w
 
@@ -46,8 +47,9 @@ found_in-returns-then-is_some t c =
     let children : ValueForest =
     value_forest (forest_of (tree_of c.args.tree.now) (children_of c.args.tree.now c.args.node)) in
     let w =
-    ap (found_in (source_of c.args.source)) (value-node c.args.tree.now c.args.node (element_node name attributes) c.data.ensures.tree
-    c.requires (sym (ap data_of c.in-Element.is) ∙ c.data.ensures.value)) in
+    ap (found_in (source_of c.args.source))
+    (value-node c.args.tree.now c.args.node (element_node name attributes) c.data.ensures.tree c.requires
+    (sym (ap data_of c.in-Element.is) ∙ c.data.ensures.value)) in
     let inside : is_passed (source_of c.args.source) name ≡ false = search rules in
     let said = own-some c.own_value-own.result (own_value (source_of c.args.source) name attributes children)
     (first_found (source_of c.args.source) children)
@@ -61,8 +63,9 @@ found_in-returns-else-is_some t c =
     let children : ValueForest =
     value_forest (forest_of (tree_of c.args.tree.now) (children_of c.args.tree.now c.args.node)) in
     let w =
-    ap (found_in (source_of c.args.source)) (value-node c.args.tree.now c.args.node (element_node name attributes) c.data.ensures.tree
-    c.requires (sym (ap data_of c.in-Element.is) ∙ c.data.ensures.value)) in
+    ap (found_in (source_of c.args.source))
+    (value-node c.args.tree.now c.args.node (element_node name attributes) c.data.ensures.tree c.requires
+    (sym (ap data_of c.in-Element.is) ∙ c.data.ensures.value)) in
     let inside : is_passed (source_of c.args.source) name ≡ false = search rules in
     c.first_found-in-Element.ensures
     ∙ (own-none c.own_value-own.result (own_value (source_of c.args.source) name attributes children)
@@ -73,8 +76,9 @@ found_in-returns-else-is_some t c =
 pub found_in-returns-in_default : goal.found_in-returns-in_default
 found_in-returns-in_default t c =
     let w =
-    ap (found_in (source_of c.args.source)) (value-node c.args.tree.now c.args.node (data_of c.data.result.now) c.data.ensures.tree
-    c.requires c.data.ensures.value) in
+    ap (found_in (source_of c.args.source))
+    (value-node c.args.tree.now c.args.node (data_of c.data.result.now) c.data.ensures.tree c.requires
+    c.data.ensures.value) in
     sym (w ∙ value-other (source_of c.args.source) c.args.node c.data.result.now
     (forest_of (tree_of c.args.tree.now) (children_of c.args.tree.now c.args.node))
     c.in_default.not-Document c.in_default.not-Element)
