@@ -1,12 +1,12 @@
 -- What slots stand for: parts, and the stack of openers.
-use Rattle.std.proofs.Common.{◌≡◌, ◌∙◌, ℕ, zero, suc, ◌+◌, ◌-◌, ◌<◌, ◌≤◌, Bool, true, false, List, [], ◌∷◌, ◌++◌}
+use Rattle.std.proofs.Common.{◌≡◌, ◌∙◌, ℕ, zero, suc, ◌-◌, ◌<◌, ◌≤◌, Bool, true, false, List, [], ◌∷◌, ◌++◌}
 use Rattle.std.proofs.Common.{length, replicate, Some, None, refl, ap, sym, subst, append_assoc, arith}
 use Rattle.std.specs.Prelude.{nat_lt, if◌then◌else◌, map}
 use Rattle.std.proofs.lemmas.Bool.{ltb-true, ltb-false}
 use Rattle.std.proofs.lemmas.List.{append-nil}
 use Rattle.std.proofs.lemmas.Bool.Decides.{nat_tests}
 use Rattle.std.proofs.lemmas.Str.{encode_ascii}
-use Rattle.htmd_document.specs.Formats.{Format, of_format}
+use Rattle.htmd_document.specs.Formats.{of_format}
 use Rattle.htmd_document.specs.declared.document.Format as declared_format
 use Rattle.htmd_commonmark_reading.specs.Markup as markup
 use Rattle.htmd_commonmark_reading.specs.Markup.{Inlines, no_inlines, formatted, joined, signs}

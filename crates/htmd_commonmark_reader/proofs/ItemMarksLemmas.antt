@@ -1,5 +1,5 @@
 -- What is known of some blocks is that of the definitions, by what follows each.
-use Rattle.std.proofs.Common.{◌≡◌, ℕ, suc, ◌-◌, ◌<◌, Bool, true, false, List, [], ◌∷◌, drop, length, get_or, refl}
+use Rattle.std.proofs.Common.{◌≡◌, ℕ, suc, ◌<◌, Bool, true, false, List, [], ◌∷◌, drop, length, get_or, refl}
 use Rattle.std.proofs.Common.{sym, ap}
 use Rattle.std.proofs.Common.{◌∙◌, drop-cons}
 use Rattle.std.specs.Prelude.{Option, Some, not, ◌&&◌, ◌||◌, ◌==◌, if◌then◌else◌}

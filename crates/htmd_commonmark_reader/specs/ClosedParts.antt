@@ -1,5 +1,5 @@
 -- Closed blocks as a flat list, and as the reader holds them.
-use Rattle.std.specs.Prelude.{Bool, List, [], ◌∷◌, map, option_map, string_bytes}
+use Rattle.std.specs.Prelude.{Bool, List, ◌∷◌, map, option_map, string_bytes}
 use Rattle.htmd_commonmark_reading.specs.Boxes as spec
 use Rattle.htmd_commonmark_reading.specs.Boxes.{ClosedBlock, ClosedBlocks}
 use Rattle.htmd_commonmark_reader.specs.Rows.{strings}

@@ -2,7 +2,7 @@
 use Rattle.std.proofs.Common.{◌∙◌, ◌∷◌, ◌++◌, [], ap, append_assoc}
 use Rattle.std.proofs.lemmas.List.{map-append}
 use Rattle.htmd_commonmark_reader.specs.ClosedParts.{definition, part_of, parts_of}
-use Rattle.htmd_commonmark_reader.specs.OpenBlocks.{before_first, definition_marks}
+use Rattle.htmd_commonmark_reader.specs.OpenBlocks.{definition_marks}
 use Rattle.htmd_commonmark_reader.specs.declared.closed.Closed.TheVariants.{Definition}
 use Rattle.htmd_commonmark_reader.proofs.ClosedTextsLemmas.{marks_push}
 use Rattle.htmd_commonmark_reader.proofs.blocks.push_marks.Goals as goal

@@ -1,5 +1,5 @@
 -- The parenthesis is closed, or not.
-use Rattle.std.proofs.Common.{◌≡◌, ◌∙◌, ◌-◌, true, false, Some, None, length, drop, sym, ap, arith, rules}
+use Rattle.std.proofs.Common.{◌≡◌, ◌∙◌, ◌-◌, Some, None, length, drop, sym, ap, arith, rules}
 use Rattle.std.proofs.lemmas.Slice.{between_to_end}
 use Rattle.htmd_lexical.specs.CharacterClasses.{first_is}
 use Rattle.htmd_commonmark_reader.specs.Destinations.{left_of}

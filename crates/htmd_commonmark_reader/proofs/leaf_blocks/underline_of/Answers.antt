@@ -1,6 +1,5 @@
 -- A line that is too deep, or one that may underline.
 use Rattle.std.proofs.Common.{◌∙◌}
-use Rattle.htmd_commonmark_reading.specs.LeafBlocks.{underline}
 use Rattle.htmd_commonmark_reader.proofs.LeafBlocksLemmas.{no_underline, some_underline}
 use Rattle.htmd_commonmark_reader.proofs.leaf_blocks.underline_of.Goals as goal
 

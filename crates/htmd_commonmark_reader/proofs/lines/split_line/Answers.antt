@@ -1,5 +1,5 @@
 -- The first line ends where a line end stands.
-use Rattle.htmd_commonmark_reader.specs.LineViews.{past_line_end, is_in_line}
+use Rattle.htmd_commonmark_reader.specs.LineViews.{is_in_line}
 use Rattle.htmd_commonmark_reader.proofs.LineSizesLemmas.{run_within}
 use Rattle.htmd_commonmark_reader.proofs.LinesLemmas.{first_line, first_shorter}
 use Rattle.htmd_commonmark_reader.proofs.lines.split_line.Goals as goal

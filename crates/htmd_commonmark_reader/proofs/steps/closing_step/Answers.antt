@@ -1,6 +1,6 @@
 -- Nothing closes, or the last bracket.
 use Rattle.std.proofs.Common.{◌≡◌, ◌∙◌, [], ◌∷◌, Some, None, refl, ap, subst, rules}
-use Rattle.htmd_commonmark_reading.specs.Brackets.{bracket, target, before_end}
+use Rattle.htmd_commonmark_reading.specs.Brackets.{target, before_end}
 use Rattle.htmd_commonmark_reading.specs.DelimiterRuns.{finished}
 use Rattle.htmd_commonmark_reading.specs.Markup.{no_inlines, letter}
 use Rattle.htmd_commonmark_reader.specs.References.{references_of, found_of}

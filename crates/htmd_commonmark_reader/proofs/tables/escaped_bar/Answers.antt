@@ -1,5 +1,5 @@
 -- A backslash before a bar, or none here.
-use Rattle.std.proofs.Common.{◌∙◌, ◌++◌, ◌+◌, take, length, sym, ap, arith}
+use Rattle.std.proofs.Common.{◌∙◌, ◌++◌, take, length, sym, ap, arith}
 use Rattle.std.proofs.lemmas.Slice.{between_to_end}
 use Rattle.htmd_commonmark_reader.specs.Rows.{escapes_bar}
 use Rattle.htmd_commonmark_reader.proofs.RowsLemmas.{unescaped_more, escaped_here}

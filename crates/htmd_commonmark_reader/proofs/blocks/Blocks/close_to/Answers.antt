@@ -1,5 +1,5 @@
 -- The leaf, and the containers behind it, if any end.
-use Rattle.std.proofs.Common.{◌≡◌, [], length, ap, sym, subst, arith, rules}
+use Rattle.std.proofs.Common.{◌≡◌, length, ap, sym, subst, arith, rules}
 use Rattle.std.proofs.lemmas.Result.{on_ok_weaker}
 use Rattle.htmd_commonmark_reading.specs.Boxes.{closed, was_blank}
 use Rattle.htmd_commonmark_reader.specs.OpenBlocks.{Closes, open_kinds, inner_leaf}
