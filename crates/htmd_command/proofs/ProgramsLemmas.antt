@@ -292,6 +292,8 @@ words_refused given before input output errors status (word_fault.Twice first se
     inl ((_, h), (nothing_made before, u), other (λ e. absurd (cc)))
 words_refused given before input output errors status (word_fault.Links word) h u memory other =
     inl ((_, h), (nothing_made before, u), other (λ e. absurd (cc)))
+words_refused given before input output errors status (word_fault.NeedsOutput option) h u memory other =
+    inl ((_, h), (nothing_made before, u), other (λ e. absurd (cc)))
 
 -- a job without files
 pub run_stream : {W E : Type 0} (given : List (List ℕ)) (asked : Job) (options : List (String Global))
