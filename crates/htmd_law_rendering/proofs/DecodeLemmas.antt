@@ -1,7 +1,7 @@
 -- What is written of a text denotes the text, and has no sign in it that would end it.
 use Rattle.std.proofs.Common.{◌≡◌, ℕ, true, false, List, [], ◌∷◌, ◌++◌, refl, sym, codes, Some, not, subst}
 use Rattle.std.specs.List.{flat_map}
-use Rattle.std.specs.Prelude.{◌==◌}
+use Rattle.std.specs.Prelude.{◌==◌, ◌||◌}
 use Rattle.std.specs.Str.{bytes_eq}
 use Rattle.std.proofs.lemmas.Bool.{and_parts, eqb-true, not-true}
 use Rattle.htmd_lexical.proofs.Cases.{test}
@@ -92,8 +92,36 @@ module _ (byte : ℕ → List ℕ) (good : (b : ℕ) → (b == 13) ≡ false →
 pub text-denotes : (s : List ℕ) → lacks 13 s ≡ true → Denotes (escaped s) s
 text-denotes s l = denotes escaped_byte byte-good s l
 
-pub value-denotes : (name s : List ℕ) → lacks 13 s ≡ true → Denotes (value_in name s) s
-value-denotes name s l =
-    test (bytes_eq name (codes "abbr"))
+pub value-denotes : (n k s : List ℕ) → lacks 13 s ≡ true → Denotes (value_in n k s) s
+value-denotes n k s l =
+    test (bytes_eq n (codes "abbr") || bytes_eq k (codes "id"))
     (λ e. rw e (denotes in_value value-good s l))
     (λ e. rw e (text-denotes s l))
+
+-- ---- carriage returns
+
+pub lacks-parts : (b : ℕ) (s t : List ℕ) → lacks b (s ++ t) ≡ true
+    → (lacks b s ≡ true) × (lacks b t ≡ true)
+lacks-parts b [] t l = (refl, l)
+lacks-parts b (c ∷ s) t l =
+    let p = and_parts (not (c == b)) (lacks b (s ++ t)) l in
+    let q = lacks-parts b s t p.1 in
+    (rw (p.0, q.0) refl, q.1)
+
+module _ (byte : ℕ → List ℕ) (stays : lacks 13 (byte 13) ≡ false) where
+  bytes-lack : (s : List ℕ) → lacks 13 (flat_map byte s) ≡ true → lacks 13 s ≡ true
+  bytes-lack [] l = refl
+  bytes-lack (b ∷ s) l =
+      let p = lacks-parts 13 (byte b) (flat_map byte s) l in
+      test (b == 13)
+      (λ e. let w = subst (λ n. lacks 13 (byte n) ≡ true) (eqb-true b 13 e) p.0 in absurd (cc))
+      (λ e. rw (e, bytes-lack s p.1) refl)
+
+pub text-lacks : (s : List ℕ) → lacks 13 (escaped s) ≡ true → lacks 13 s ≡ true
+text-lacks s l = bytes-lack escaped_byte refl s l
+
+pub value-lacks : (n k s : List ℕ) → lacks 13 (value_in n k s) ≡ true → lacks 13 s ≡ true
+value-lacks n k s l =
+    test (bytes_eq n (codes "abbr") || bytes_eq k (codes "id"))
+    (λ e. let w = rw e at l in bytes-lack in_value refl s w)
+    (λ e. let w = rw e at l in text-lacks s w)

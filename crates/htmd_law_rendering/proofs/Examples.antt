@@ -5,9 +5,10 @@ use Rattle.std.specs.Str.{chars}
 use Rattle.htmd_values.specs.Serialisation.{is_void}
 use Rattle.htmd_values.specs.ValueTrees.{ValueForest, none, more, text, element}
 use Rattle.htmd_commonmark_reading.specs.Reading.{read}
-use Rattle.htmd_law_rendering.specs.RenderedTrees.{trees_of, pair}
-use Rattle.htmd_law_rendering.specs.SpelledTrees.{all_spelled}
-use Rattle.htmd_law_rendering.specs.PlainReadings.{blocks_have_no_raw, blocks_are_strict, levels_of_blocks}
+use Rattle.htmd_commonmark_reading.specs.Rendering.{html_of}
+use Rattle.htmd_law_rendering.specs.RenderedTrees.{spelled_of, trees_of, pair}
+use Rattle.htmd_law_rendering.specs.SpelledTrees.{all_spelled, levels}
+use Rattle.htmd_law_rendering.specs.PlainReadings.{blocks_are_paired, blocks_are_strict}
 use lib.Utf8.{encode}
 
 abbrev holding : List ℕ → ValueForest → ValueForest → ValueForest
@@ -44,44 +45,72 @@ pub links : trees_of (read (codes "[a](/b\"c&d 'e\"f')"))
 unfolding chars
 links = refl
 
-pub links_are_spelled : all_spelled (trees_of (read (codes "[a](/b\"c&d 'e\"f')")))
+pub links_are_spelled : all_spelled (spelled_of (read (codes "[a](/b\"c&d 'e\"f')")))
     ≡ codes "<p><a href=\"/b%22c&amp;d\" title=\"e&quot;f\">a</a></p>\n"
 unfolding chars is_void
 links_are_spelled = refl
 
-pub breaks_are_spelled : all_spelled (trees_of (read (codes "1. [ ] a\\\nb\n\n---")))
+pub breaks_are_spelled : all_spelled (spelled_of (read (codes "1. [ ] a\\\nb\n\n---")))
     ≡ codes "<ol>\n<li><input disabled=\"\" type=\"checkbox\"> a<br />\nb</li>\n</ol>\n<hr />\n"
 unfolding chars is_void
 breaks_are_spelled = refl
 
--- a raw tag has no tree, so the HTML is another one
-pub a_tag_is_raw : blocks_have_no_raw (read (codes "a<b>")) ≡ false
-a_tag_is_raw = refl
+-- ---- raw tags
 
-pub a_tag_is_lost : all_spelled (trees_of (read (codes "a<b>"))) ≡ codes "<p>a</p>\n"
-unfolding is_void
-a_tag_is_lost = refl
+-- tags pair in one list of inlines; a break by a tag has no line's end behind it
+pub raw_tags : trees_of (read (codes "<u>a*b*</u><br>c"))
+    ≡ holding (codes "p")
+    (holding (codes "u") (more (text (codes "a")) (holding (codes "em") (words (codes "b")) none))
+    (holding (codes "br") none (words (codes "c")))) line
+unfolding chars
+raw_tags = refl
+
+pub raw_tags_are_spelled : all_spelled (spelled_of (read (codes "<u>a*b*</u><br>c")))
+    ≡ codes "<p><u>a<em>b</em></u><br>c</p>\n"
+unfolding is_void chars
+raw_tags_are_spelled = refl
+
+-- an anchor, as documents write it
+pub an_anchor : trees_of (read (codes "<a id=\"b&#124;\"></a>c"))
+    ≡ holding (codes "p")
+    (more (element (codes "a") (pair (codes "id") (codes "b|") ∷ []) none) (words (codes "c"))) line
+an_anchor = refl
+
+pub a_tag_alone : blocks_are_paired (read (codes "a<b>")) ≡ false
+a_tag_alone = refl
+
+pub tags_across : blocks_are_paired (read (codes "*a<u>b*</u>")) ≡ false
+unfolding chars
+tags_across = refl
 
 -- in a description it is text
-pub described : blocks_have_no_raw (read (codes "![a<b>](c)")) ≡ true
+pub described : blocks_are_paired (read (codes "![a<b>](c)")) ≡ true
 unfolding chars
 described = refl
 
 -- ---- what is plain
 
 -- a table's cell is the fourth element from outside, and its text the fifth
-pub a_table : levels_of_blocks (read (codes "|a|\n|-|\n")) ≡ 5
+pub a_table : levels (spelled_of (read (codes "|a|\n|-|\n"))) ≡ 5
 a_table = refl
 
 pub a_table_is_strict : blocks_are_strict (read (codes "|a|\n|-|\n")) ≡ true
 a_table_is_strict = refl
 
--- an address in a link is one in it, which HTML doesn't allow
+-- an address in a link is one in it, which HTML doesn't allow; nor an anchor
 pub a_link_in_a_link : blocks_are_strict (read (codes "[<aa:b>](c)")) ≡ false
 unfolding chars
 a_link_in_a_link = refl
 
+pub an_anchor_in_a_link : blocks_are_strict (read (codes "[<a id=\"b\"></a>](c)")) ≡ false
+unfolding chars
+an_anchor_in_a_link = refl
+
+pub an_anchor_in_a_format : blocks_are_strict (read (codes "*<a id=\"b\"></a>c*[d](e)")) ≡ true
+unfolding chars
+an_anchor_in_a_format = refl
+
 -- by its number a carriage return is a character of Markdown, and its HTML has it as it is
-pub a_carriage_return : blocks_are_strict (read (codes "&#13;")) ≡ false
+pub a_carriage_return : html_of (read (codes "&#13;")) ≡ codes "<p>\r</p>\n"
 unfolding chars encode
 a_carriage_return = refl

@@ -1,8 +1,9 @@
 -- Trees that stand where the strict grammar allows them are read in what they are spelled as.
-use Rattle.std.proofs.Common.{◌≡◌, ◌≢◌, ℕ, ◌≤◌, Bool, true, false, List, [], ◌∷◌, refl, sym, ◌∙◌, codes, inl}
-use Rattle.std.proofs.Common.{length, subst}
+use Rattle.std.proofs.Common.{◌≡◌, ◌≢◌, ℕ, ◌≤◌, Bool, true, false, List, [], ◌∷◌, refl, sym, ap, ◌∙◌, codes, inl}
+use Rattle.std.proofs.Common.{length, subst, ◌+◌, max, ◌++◌, arith}
 use Rattle.std.specs.Bool.{MatchBool}
-use Rattle.std.specs.List.{list_all}
+use Rattle.std.specs.List.{list_all, flat_map}
+use Rattle.std.proofs.Math.Nat.{le-max_left, le-max_right}
 use Rattle.std.specs.Prelude.{⊤}
 use Rattle.std.proofs.lemmas.Bool.{or_parts}
 use Rattle.std.proofs.lemmas.List.{append_assoc, append-nil}
@@ -11,7 +12,6 @@ use Rattle.htmd_lexical.specs.AttributePairs.{AttributePair}
 use Rattle.htmd_lexical.specs.Attributes.{attribute_names}
 use Rattle.htmd_lexical.specs.CharacterClasses.{are_distinct, lacks, is_among}
 use Rattle.htmd_lexical.specs.WhiteSpace.{is_ascii_white_space}
-use Rattle.htmd_values.specs.ValueTrees.{ValueTree, document, doctype, text, comment, element, ValueForest, none, more}
 use Rattle.htmd_values.specs.Serialisation.{is_void, end_tag}
 use Rattle.htmd_grammar.specs.Grammar.{Apart, ReadsForest, ReadsTree, may_end_rows}
 use Rattle.htmd_grammar.specs.Nesting.{Context, parent_name, holds_parts, is_allowed}
@@ -19,85 +19,115 @@ use Rattle.htmd_grammar.specs.RawContent.{content_of, holds_raw_text, holds_text
 use Rattle.htmd_grammar.specs.Rules.{project}
 use Rattle.htmd_grammar.proofs.ReadBackLemmas.{lacking_run}
 use Rattle.htmd_commonmark_reading.specs.Rendering.{escaped}
-use Rattle.htmd_law_rendering.specs.SpelledTrees.{tag, spelled, all_spelled}
-use Rattle.htmd_law_rendering.proofs.DecodeLemmas.{text-denotes}
+use Rattle.htmd_law_rendering.specs.SpelledTrees.{Spelled, SpelledForest, text, element, none, more, value_tree}
+use Rattle.htmd_law_rendering.specs.SpelledTrees.{value_forest, attribute_in, tag_end, tag, spelled, all_spelled}
+use Rattle.htmd_law_rendering.specs.SpelledTrees.{levels_of, levels}
+use Rattle.htmd_law_rendering.proofs.DecodeLemmas.{lacks-parts, text-lacks, text-denotes}
 use Rattle.htmd_law_rendering.proofs.SpellingLemmas.{element-spelled, void-spelled}
-use Rattle.htmd_law_rendering.proofs.TagLemmas.{IsTreeName, AreTreePairs, start-tag, end-tag}
+use Rattle.htmd_law_rendering.proofs.TagLemmas.{IsTreeName, AreTreeKeys, AreTreePairs, with-values, start-tag}
+use Rattle.htmd_law_rendering.proofs.TagLemmas.{end-tag}
 
 -- attributes that a tag may have
 abbrev pub FitPairs : List AttributePair → Type 0
-FitPairs attributes = AreTreePairs attributes × (are_distinct (attribute_names attributes) ≡ true)
+FitPairs attributes = AreTreeKeys attributes × (are_distinct (attribute_names attributes) ≡ true)
+
+-- no two texts are neighbours
+abbrev pub AreApart : Spelled → SpelledForest → Type 0
+AreApart (text u) (more (text v) ts) = ⊥
+AreApart t ts = ⊤
+
+same-apart : (t : Spelled) (ts : SpelledForest) → AreApart t ts → Apart (value_tree t) (value_forest ts)
+same-apart (text u) none a = tt
+same-apart (text u) (more (text v) ts) a = a
+same-apart (text u) (more (element k n attributes ks) ts) a = tt
+same-apart (element k n attributes ks) ts a = tt
+
+-- no more than both are
+pub first : (a b d n : ℕ) → d + max a b ≤ n → d + a ≤ n
+first a b d n l = let x = le-max_left a b in omega arith
+
+pub second : (a b d n : ℕ) → d + max a b ≤ n → d + b ≤ n
+second a b d n l = let x = le-max_right a b in omega arith
 
 module _ (scripting : Bool) where
   -- where a text may stand
   abbrev pub FitsText : Context → List ℕ → Type 0
   FitsText c u =
-      (lacks 13 u ≡ true) × (holds_text_alone scripting (parent_name c) ≡ false)
-      × (holds_parts (parent_name c) ≡ true → list_all is_ascii_white_space u ≡ true) × (length c ≤ 1024)
+      (holds_text_alone scripting (parent_name c) ≡ false)
+      × (holds_parts (parent_name c) ≡ true → list_all is_ascii_white_space u ≡ true)
 
   abbrev mutual
     -- trees that may stand below elements of these names
-    pub FitsTree : Context → ValueTree → Type 0
-    FitsTree c (document ks) = ⊥
-    FitsTree c doctype = ⊥
+    pub FitsTree : Context → Spelled → Type 0
     FitsTree c (text u) = (u ≢ []) × FitsText c u
-    FitsTree c (comment u) = ⊥
-    FitsTree c (element n attributes ks) =
-        (is_allowed scripting c n ≡ true) × (length c ≤ 1024) × IsTreeName n × FitPairs attributes
+    FitsTree c (element k n attributes ks) =
+        (is_allowed scripting c n ≡ true) × IsTreeName n × FitPairs attributes
         × MatchBool (is_void n) (ks ≡ none)
         ((content_of n (all_spelled ks) ≡ all_spelled ks) × Fits (n ∷ c) ks)
 
-    pub Fits : Context → ValueForest → Type 0
+    pub Fits : Context → SpelledForest → Type 0
     Fits c none = ⊤
-    Fits c (more t ts) = FitsTree c t × Apart t ts × Fits c ts
+    Fits c (more t ts) = FitsTree c t × AreApart t ts × Fits c ts
+
+  tag-pairs : (k : Bool) (n : List ℕ) (attributes : List AttributePair) → AreTreeKeys attributes
+      → lacks 13 (tag k n attributes) ≡ true → AreTreePairs attributes
+  tag-pairs k n attributes h l =
+      let p = lacks-parts 13 (codes "<" ++ n ++ flat_map (attribute_in n) attributes) (tag_end k n) l in
+      with-values n attributes h (lacks-parts 13 (codes "<" ++ n) (flat_map (attribute_in n) attributes) p.0).1
 
   mutual
-    tree-read : (t : ValueTree) (c : Context) (last : Bool) → FitsTree c t
-        → ReadsTree (project scripting) c last t (spelled t)
-    tree-read (document ks) c last h = absurd h
-    tree-read doctype c last h = absurd h
-    tree-read (text u) c last h =
-        let d = text-denotes u h.1.0 in
+    tree-read : (t : Spelled) (c : Context) (last : Bool) → FitsTree c t → lacks 13 (spelled t) ≡ true
+        → length c + levels_of t ≤ 1025 → ReadsTree (project scripting) c last (value_tree t) (spelled t)
+    tree-read (text u) c last h l m =
+        let d = text-denotes u (text-lacks u l) in
         let raw : holds_raw_text scripting (parent_name c) ≡ false =
         (or_parts (is_among (codes "title" ∷ codes "textarea" ∷ []) (parent_name c))
-        (holds_raw_text scripting (parent_name c)) h.1.1).1 in
-        (h.0, lacking_run scripting (parent_name c) (escaped u) d.1, rw raw d.0, h.1.2, h.1.3)
-    tree-read (comment u) c last h = absurd h
-    tree-read (element n attributes ks) c last h = (
+        (holds_raw_text scripting (parent_name c)) h.1.0).1 in
+        (h.0, lacking_run scripting (parent_name c) (escaped u) d.1, rw raw d.0, h.1.1, omega arith)
+    tree-read (element k n attributes ks) c last h l m = (
       h.0,
-      h.1,
+      omega arith,
       inl (test (is_void n)
-          (λ v. let e : ks ≡ none = rw v at h.4 in (
-            tag n attributes,
+          (λ v. let e : ks ≡ none = rw v at h.3 in
+          let r : lacks 13 (tag k n attributes) ≡ true =
+          subst (λ s. lacks 13 s ≡ true) (void-spelled k n attributes ks v) l in (
+            tag k n attributes,
             [],
             [],
-            void-spelled n attributes ks v ∙ sym (append-nil (tag n attributes)),
-            start-tag n attributes h.2 h.3.0 h.3.1,
-            rw v (refl, refl, e),
+            void-spelled k n attributes ks v ∙ sym (append-nil (tag k n attributes)),
+            start-tag k n attributes h.1 (tag-pairs k n attributes h.2.0 r) h.2.1,
+            rw v (refl, refl, ap value_forest e),
           ))
-          (λ v. let e : (content_of n (all_spelled ks) ≡ all_spelled ks) × Fits (n ∷ c) ks = rw v at h.4 in (
-            tag n attributes,
+          (λ v. let e : (content_of n (all_spelled ks) ≡ all_spelled ks) × Fits (n ∷ c) ks = rw v at h.3 in
+          let r : lacks 13 (tag k n attributes ++ all_spelled ks ++ end_tag n) ≡ true =
+          subst (λ s. lacks 13 s ≡ true) (element-spelled k n attributes ks v) l in
+          let q = lacks-parts 13 (tag k n attributes ++ all_spelled ks) (end_tag n) r in
+          let p = lacks-parts 13 (tag k n attributes) (all_spelled ks) q.0 in (
+            tag k n attributes,
             all_spelled ks,
             end_tag n,
-            element-spelled n attributes ks v ∙ append_assoc (tag n attributes) (all_spelled ks) (end_tag n),
-            start-tag n attributes h.2 h.3.0 h.3.1,
+            element-spelled k n attributes ks v ∙ append_assoc (tag k n attributes) (all_spelled ks) (end_tag n),
+            start-tag k n attributes h.1 (tag-pairs k n attributes h.2.0 p.0) h.2.1,
             rw v (
-              subst (λ s. ReadsForest (project scripting) (n ∷ c) true ks s) (sym e.0)
-                  (trees-read ks (n ∷ c) true e.1),
-              end-tag n h.2,
+              subst (λ s. ReadsForest (project scripting) (n ∷ c) true (value_forest ks) s) (sym e.0)
+                  (trees-read ks (n ∷ c) true e.1 p.1 (omega arith)),
+              end-tag n h.1,
             ),
           ))),
     )
 
     -- what is spelled denotes the trees
-    pub trees-read : (ts : ValueForest) (c : Context) (last : Bool) → Fits c ts
-        → ReadsForest (project scripting) c last ts (all_spelled ts)
-    trees-read none c last h = refl
-    trees-read (more t ts) c last h = (
-      spelled t,
-      all_spelled ts,
-      refl,
-      h.1,
-      tree-read t c (may_end_rows last ts (all_spelled ts)) h.0,
-      trees-read ts c last h.2,
-    )
+    pub trees-read : (ts : SpelledForest) (c : Context) (last : Bool) → Fits c ts
+        → lacks 13 (all_spelled ts) ≡ true → length c + levels ts ≤ 1025
+        → ReadsForest (project scripting) c last (value_forest ts) (all_spelled ts)
+    trees-read none c last h l m = refl
+    trees-read (more t ts) c last h l m =
+        let p = lacks-parts 13 (spelled t) (all_spelled ts) l in (
+          spelled t,
+          all_spelled ts,
+          refl,
+          same-apart t ts h.1,
+          tree-read t c (may_end_rows last (value_forest ts) (all_spelled ts)) h.0 p.0
+              (first (levels_of t) (levels ts) (length c) 1025 m),
+          trees-read ts c last h.2 p.1 (second (levels_of t) (levels ts) (length c) 1025 m),
+        )

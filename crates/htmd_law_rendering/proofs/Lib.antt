@@ -1,6 +1,7 @@
 -- The lemmas of the laws.
 pub mod ByteLemmas
 pub mod SpellingLemmas
+pub mod RawLemmas
 pub mod RenderedLemmas
 pub mod DecodeLemmas
 pub mod TagLemmas

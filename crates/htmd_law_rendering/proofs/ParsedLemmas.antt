@@ -4,7 +4,6 @@ use Rattle.std.proofs.lemmas.Bool.{and_parts}
 use Rattle.htmd_lexical.specs.ByteOrderMarks.{behind_mark}
 use Rattle.htmd_lexical.specs.Characters.{null}
 use Rattle.htmd_lexical.specs.CharacterClasses.{lacks}
-use Rattle.htmd_values.specs.ValueTrees.{more, element}
 use Rattle.htmd_grammar.specs.HtmlDocuments.{below_body, skeleton}
 use Rattle.htmd_nodes.specs.Layout.{document_items}
 use Rattle.htmd_html5.specs.Html5Documents.{html5_document}
@@ -12,9 +11,9 @@ use Rattle.htmd_law_html5.specs.StrictReferences.{outside, IsUnambiguous}
 use Rattle.htmd_law_html5.specs.StrictTrees.{PlainPagesAgree, PlainTextsAgree, begins_body}
 use Rattle.htmd_commonmark_reading.specs.Markup.{Blocks, no_blocks, block}
 use Rattle.htmd_commonmark_reading.specs.Rendering.{html_of, is_bare}
-use Rattle.htmd_law_rendering.specs.RenderedTrees.{trees_of, blocks_trees}
-use Rattle.htmd_law_rendering.specs.SpelledTrees.{all_spelled}
-use Rattle.htmd_law_rendering.specs.PlainReadings.{IsPlain, block_has_no_raw, blocks_have_no_raw, block_is_strict}
+use Rattle.htmd_law_rendering.specs.RenderedTrees.{element_before, spelled_of, trees_of, blocks_trees}
+use Rattle.htmd_law_rendering.specs.SpelledTrees.{all_spelled, value_forest}
+use Rattle.htmd_law_rendering.specs.PlainReadings.{IsPlain, block_is_paired, blocks_are_paired, block_is_strict}
 use Rattle.htmd_law_rendering.specs.PlainReadings.{blocks_are_strict, block_has_no_table, blocks_have_no_table}
 use Rattle.htmd_law_rendering.specs.RenderingLaws.{RenderedIsParsed}
 use Rattle.htmd_law_rendering.proofs.RenderedLemmas.{rendered}
@@ -26,8 +25,8 @@ module _ (pages : PlainPagesAgree) (texts : PlainTextsAgree) (z : Bool) where
   unambiguous : (bs : Blocks) → IsPlain bs → lacks null (html_of bs) ≡ true → IsUnambiguous (html_of bs)
   unambiguous bs p n =
       let fits = plain-fits z bs p in
-      let c = subst IsClean (sym (rendered bs p.no_raw)) (spelled-clean z (trees_of bs) below_body fits) in
-      record { line_feeds = c.0; no_null = n; references_end = c.1 outside }
+      let c = subst IsClean (sym (rendered bs p.paired)) (spelled-clean z (spelled_of bs) below_body fits) in
+      record { line_feeds = p.no_returns; no_null = n; references_end = c outside }
 
   behind_body : (bs : Blocks) → IsPlain bs → blocks_have_no_table bs ≡ true → lacks null (html_of bs) ≡ true
       → html5_document z (codes "<body>" ++ html_of bs) ≡ document_items (skeleton (trees_of bs))
@@ -35,13 +34,13 @@ module _ (pages : PlainPagesAgree) (texts : PlainTextsAgree) (z : Bool) where
       pages z (html_of bs) (trees_of bs) (unambiguous bs p n) (trees-plain bs p.strict t) (rendered-reads z bs p)
 
   -- what a first block begins
-  first_begins : (bs : Blocks) → BeginsBody (trees_of bs) → IsPlain bs
+  first_begins : (bs : Blocks) → BeginsBody (spelled_of bs) → IsPlain bs
       → (behind_mark (html_of bs) ≡ html_of bs) × (begins_body (trees_of bs) ≡ true)
   first_begins bs b p =
-      let e : html_of bs ≡ all_spelled (more (element b.name b.attributes b.children) b.behind) =
-      rendered bs p.no_raw ∙ ap all_spelled b.is_first in (
+      let e : html_of bs ≡ all_spelled (element_before b.name b.attributes b.children b.behind) =
+      rendered bs p.paired ∙ ap all_spelled b.is_first in (
         ap behind_mark e ∙ (no_mark b.name b.attributes b.children b.behind ∙ sym e),
-        ap begins_body b.is_first ∙ b.belongs,
+        ap (λ ts. begins_body (value_forest ts)) b.is_first ∙ b.belongs,
       )
 
   alone : (bs : Blocks) → IsPlain bs → blocks_have_no_table bs ≡ true → lacks null (html_of bs) ≡ true
@@ -49,7 +48,7 @@ module _ (pages : PlainPagesAgree) (texts : PlainTextsAgree) (z : Bool) where
   unfolding html5_document
   alone no_blocks p t n = refl
   alone (block b bs) p t n =
-      let r = and_parts (block_has_no_raw b) (blocks_have_no_raw bs) p.no_raw in
+      let r = and_parts (block_is_paired b) (blocks_are_paired bs) p.paired in
       let s = and_parts (block_is_strict b) (blocks_are_strict bs) p.strict in
       let q = and_parts (block_has_no_table b) (blocks_have_no_table bs) t in
       let f = first_begins (block b bs)

@@ -11,6 +11,9 @@ use Rattle.htmd_document.specs.Formats.{Marked, Small, Keyboard, Abbreviation}
 use Rattle.htmd_grammar.specs.Nesting.{Context, parent_name, holds_parts, is_allowed, is_optgroup, is_option, is_open}
 use Rattle.htmd_grammar.specs.Nesting.{is_heading}
 use Rattle.htmd_grammar.specs.RawContent.{holds_raw_text, holds_text_alone}
+use Rattle.std.specs.List.{list_all}
+use Rattle.std.specs.Str.{bytes_eq}
+use Rattle.htmd_law_rendering.specs.RawTags.{raw_names}
 use Rattle.htmd_law_rendering.specs.RenderedTrees.{format_name, heading_name, list_name}
 
 -- the innermost element takes texts and elements of lines
@@ -142,6 +145,11 @@ module _ (z : Bool) (c : Context) (t : TakesInlines z c) where
   pub input-allowed : is_allowed z c (codes "input") ≡ true
   unfolding is_allowed
   input-allowed = rw (t.not_alone, t.no_parts, t.no_select, t.no_optgroup, t.no_option) refl
+
+  -- those that raw tags open, but for an `a`
+  pub raw-places : list_all (λ m. bytes_eq m (codes "a") || is_allowed z c m) raw_names ≡ true
+  unfolding is_allowed
+  raw-places = rw (t.not_alone, t.no_parts, t.no_select, t.no_optgroup, t.no_option) refl
 
   pub a-allowed : HasNoLink c → is_allowed z c (codes "a") ≡ true
   unfolding is_allowed

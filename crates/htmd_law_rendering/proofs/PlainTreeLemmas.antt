@@ -1,6 +1,6 @@
 -- The trees of what is read without tables are plain, and begin a body.
 use Rattle.std.proofs.Common.{◌≡◌, ℕ, Bool, true, false, not, ◌&&◌, List, [], ◌∷◌, refl, codes, Option, Some, None}
-use Rattle.std.specs.Prelude.{nat_le}
+use Rattle.std.specs.Prelude.{nat_le, ⊤}
 use Rattle.std.proofs.lemmas.Bool.{and_parts}
 use Rattle.htmd_lexical.proofs.Cases.{test}
 use Rattle.htmd_lexical.specs.AttributePairs.{AttributePair}
@@ -8,40 +8,44 @@ use Rattle.htmd_lexical.specs.ByteOrderMarks.{behind_mark}
 use Rattle.htmd_lexical.specs.CharacterClasses.{is_among}
 use Rattle.htmd_document.specs.Formats.{Format, Emphasis, Strong, Deleted, Superscript, Subscript, Inserted, Underlined}
 use Rattle.htmd_document.specs.Formats.{Marked, Small, Keyboard, Abbreviation}
-use Rattle.htmd_values.specs.ValueTrees.{document, doctype, text, comment, element, ValueForest, none, more}
+use Rattle.htmd_law_rendering.specs.SpelledTrees.{SpelledForest, text, element, none, more, value_forest}
 use Rattle.htmd_values.specs.Serialisation.{is_void}
+use Rattle.htmd_grammar.proofs.NestingLemmas.{among_passes}
 use Rattle.htmd_law_html5.specs.StrictTrees.{is_plain_element, are_plain, head_names}
 use Rattle.htmd_commonmark_reading.specs.Markup.{Inlines, no_inlines, letter, code, formatted, link, image, line_break}
 use Rattle.htmd_commonmark_reading.specs.Markup.{task, raw, Block, paragraph, heading, code_block, quote}
 use Rattle.htmd_commonmark_reading.specs.Markup.{thematic_break, list, table, html_block, Blocks, no_blocks, block}
 use Rattle.htmd_commonmark_reading.specs.Markup.{Items, no_items, item, plain_text}
 use Rattle.htmd_commonmark_reading.specs.Rendering.{is_bare}
-use Rattle.htmd_law_rendering.specs.RenderedTrees.{text_before, line_end, format_name, pairs_of_format, pairs_of_link}
-use Rattle.htmd_law_rendering.specs.RenderedTrees.{pairs_of_image, pairs_of_box, inlines_trees, heading_name}
+use Rattle.htmd_law_rendering.specs.SpelledTrees.{all_spelled}
+use Rattle.htmd_law_rendering.specs.RawTags.{RawTag, opening, closing, breaking, unknown, raw_names, raw_tag}
+use Rattle.htmd_law_rendering.specs.RenderedTrees.{text_before, element_before, line_end, format_name, pairs_of_format}
+use Rattle.htmd_law_rendering.specs.RenderedTrees.{pairs_of_link, pairs_of_image, pairs_of_box, Behind, Open, opened}
+use Rattle.htmd_law_rendering.specs.RenderedTrees.{with_raw, inlines_open, inlines_trees, heading_name}
 use Rattle.htmd_law_rendering.specs.RenderedTrees.{pairs_of_language, code_trees, code_block_tree, list_name}
 use Rattle.htmd_law_rendering.specs.RenderedTrees.{pairs_of_start, begun_line, block_trees, blocks_trees, items_trees}
-use Rattle.htmd_law_rendering.specs.RenderedTrees.{trees_of}
-use Rattle.htmd_law_rendering.specs.SpelledTrees.{all_spelled}
+use Rattle.htmd_law_rendering.specs.RenderedTrees.{spelled_of}
 use Rattle.htmd_law_rendering.specs.PlainReadings.{are_strict, block_is_strict, blocks_are_strict, items_are_strict}
-use Rattle.htmd_law_rendering.specs.PlainReadings.{block_has_no_raw, block_has_no_table}
-use Rattle.htmd_law_rendering.specs.PlainReadings.{blocks_have_no_table, items_have_no_table}
+use Rattle.htmd_law_rendering.specs.PlainReadings.{block_is_paired, block_has_no_table, blocks_have_no_table}
+use Rattle.htmd_law_rendering.specs.PlainReadings.{items_have_no_table}
+use Rattle.htmd_law_rendering.proofs.RawLemmas.{IsRaw, raw-is}
 use Rattle.htmd_law_rendering.proofs.PlaceLemmas.{by_level}
 
-text-plain : (s : List ℕ) (ts : ValueForest) → are_plain ts ≡ true → are_plain (text_before s ts) ≡ true
+abbrev ArePlain : SpelledForest → Type 0
+ArePlain ts = are_plain (value_forest ts) ≡ true
+
+text-plain : (s : List ℕ) (ts : SpelledForest) → ArePlain ts → ArePlain (text_before s ts)
 text-plain [] ts h = h
 text-plain (b ∷ s) none h = refl
-text-plain (b ∷ s) (more (document ks) ts) h = h
-text-plain (b ∷ s) (more doctype ts) h = h
 text-plain (b ∷ s) (more (text u) ts) h = h
-text-plain (b ∷ s) (more (comment u) ts) h = h
-text-plain (b ∷ s) (more (element n attributes ks) ts) h = h
+text-plain (b ∷ s) (more (element k n attributes ks) ts) h = h
 
-line-plain : (ts : ValueForest) → are_plain ts ≡ true → are_plain (line_end ts) ≡ true
+line-plain : (ts : SpelledForest) → ArePlain ts → ArePlain (line_end ts)
 line-plain ts h = text-plain (codes "\n") ts h
 
-element-plain : (n : List ℕ) (attributes : List AttributePair) (ks ts : ValueForest) → is_plain_element n ≡ true
-    → are_plain ks ≡ true → are_plain ts ≡ true → are_plain (more (element n attributes ks) ts) ≡ true
-element-plain n attributes ks ts e h k = rw (e, h, k) refl
+element-plain : (k : Bool) (n : List ℕ) (attributes : List AttributePair) (ks ts : SpelledForest)
+    → is_plain_element n ≡ true → ArePlain ks → ArePlain ts → ArePlain (more (element k n attributes ks) ts)
+element-plain k n attributes ks ts e h f = rw (e, h, f) refl
 
 -- ---- names
 
@@ -109,72 +113,117 @@ heading-plain : (level : ℕ) → nat_le 1 level ≡ true → nat_le level 6 ≡
 unfolding is_void
 heading-plain level l m = by_level (λ n. is_plain_element n ≡ true) level l m refl refl refl refl refl refl
 
+raw-plain : (n : List ℕ) → is_among raw_names n ≡ true → is_plain_element n ≡ true
+unfolding is_void
+raw-plain n e = among_passes is_plain_element raw_names n e refl
+
 -- ---- what is read
 
-inlines-plain : (xs : Inlines) (rest : ValueForest) → are_plain rest ≡ true
-    → are_plain (inlines_trees xs rest) ≡ true
-inlines-plain no_inlines rest h = h
-inlines-plain (letter c xs) rest h = text-plain (c ∷ []) (inlines_trees xs rest) (inlines-plain xs rest h)
-inlines-plain (code s xs) rest h =
-    element-plain (codes "code") [] (text_before s none) (inlines_trees xs rest) code-plain (text-plain s none refl)
-    (inlines-plain xs rest h)
-inlines-plain (formatted f content xs) rest h =
-    element-plain (format_name f) (pairs_of_format f) (inlines_trees content none) (inlines_trees xs rest)
-    (format-plain f) (inlines-plain content none refl) (inlines-plain xs rest h)
-inlines-plain (link a t content xs) rest h =
-    element-plain (codes "a") (pairs_of_link a t) (inlines_trees content none) (inlines_trees xs rest) a-plain
-    (inlines-plain content none refl) (inlines-plain xs rest h)
-inlines-plain (image a t content xs) rest h =
-    element-plain (codes "img") (pairs_of_image a t (plain_text content)) none (inlines_trees xs rest) img-plain refl
-    (inlines-plain xs rest h)
-inlines-plain (line_break xs) rest h =
-    element-plain (codes "br") [] none (line_end (inlines_trees xs rest)) br-plain refl
-    (line-plain (inlines_trees xs rest) (inlines-plain xs rest h))
-inlines-plain (task d xs) rest h =
-    element-plain (codes "input") (pairs_of_box d) none (text_before (codes " ") (inlines_trees xs rest)) input-plain
-    refl (text-plain (codes " ") (inlines_trees xs rest) (inlines-plain xs rest h))
-inlines-plain (raw tag xs) rest h = inlines-plain xs rest h
+abbrev PlainBehind : List Behind → Type 0
+PlainBehind [] = ⊤
+PlainBehind (b ∷ bs) = ArePlain b.trees × PlainBehind bs
 
-code_text-plain : (s : List ℕ) → are_plain (code_trees s) ≡ true
+abbrev PlainOpen : Open → Type 0
+PlainOpen o = ArePlain o.first × PlainBehind o.behind
+
+opened-plain : (n : List ℕ) (attributes : List AttributePair) (first : SpelledForest) (behind : List Behind)
+    → is_among raw_names n ≡ true → ArePlain first → PlainBehind behind
+    → PlainOpen (opened n attributes first behind)
+opened-plain n attributes first [] e h f = (h, tt)
+opened-plain n attributes first (b ∷ bs) e h f =
+    (element-plain false n attributes first b.trees (raw-plain n e) h f.0, f.1)
+
+with_raw-plain : (r : RawTag) (s : List ℕ) (o : Open) → IsRaw s r → PlainOpen o → PlainOpen (with_raw r o)
+with_raw-plain (opening n attributes) s o w h = opened-plain n attributes o.first o.behind w.2 h.0 h.1
+with_raw-plain (closing n) s o w h = (refl, h)
+with_raw-plain breaking s o w h = (element-plain true (codes "br") [] none o.first br-plain refl h.0, h.1)
+with_raw-plain unknown s o w h = h
+
+open-plain : (xs : Inlines) (rest : SpelledForest) → ArePlain rest → PlainOpen (inlines_open xs rest)
+open-plain no_inlines rest h = (h, tt)
+open-plain (letter c xs) rest h =
+    let i = open-plain xs rest h in (text-plain (c ∷ []) (inlines_open xs rest).first i.0, i.1)
+open-plain (code s xs) rest h =
+    let i = open-plain xs rest h in (
+      element-plain false (codes "code") [] (text_before s none) (inlines_open xs rest).first code-plain
+          (text-plain s none refl) i.0,
+      i.1,
+    )
+open-plain (formatted f content xs) rest h =
+    let i = open-plain xs rest h in (
+      element-plain false (format_name f) (pairs_of_format f) (inlines_open content none).first
+          (inlines_open xs rest).first (format-plain f) (open-plain content none refl).0 i.0,
+      i.1,
+    )
+open-plain (link a t content xs) rest h =
+    let i = open-plain xs rest h in (
+      element-plain false (codes "a") (pairs_of_link a t) (inlines_open content none).first
+          (inlines_open xs rest).first a-plain (open-plain content none refl).0 i.0,
+      i.1,
+    )
+open-plain (image a t content xs) rest h =
+    let i = open-plain xs rest h in (
+      element-plain false (codes "img") (pairs_of_image a t (plain_text content)) none (inlines_open xs rest).first
+          img-plain refl i.0,
+      i.1,
+    )
+open-plain (line_break xs) rest h =
+    let i = open-plain xs rest h in
+    let o = inlines_open xs rest in
+    (element-plain false (codes "br") [] none (line_end o.first) br-plain refl (line-plain o.first i.0), i.1)
+open-plain (task d xs) rest h =
+    let i = open-plain xs rest h in
+    let o = inlines_open xs rest in (
+      element-plain true (codes "input") (pairs_of_box d) none (text_before (codes " ") o.first) input-plain refl
+          (text-plain (codes " ") o.first i.0),
+      i.1,
+    )
+open-plain (raw s xs) rest h =
+    with_raw-plain (raw_tag s) s (inlines_open xs rest) (raw-is s) (open-plain xs rest h)
+
+inlines-plain : (xs : Inlines) (rest : SpelledForest) → ArePlain rest → ArePlain (inlines_trees xs rest)
+inlines-plain xs rest h = (open-plain xs rest h).0
+
+code_text-plain : (s : List ℕ) → ArePlain (code_trees s)
 code_text-plain [] = refl
 code_text-plain (b ∷ s) = text-plain (b ∷ s) (line_end none) refl
 
-begun-plain : (l bare : Bool) (ts : ValueForest) → are_plain ts ≡ true → are_plain (begun_line l bare ts) ≡ true
+begun-plain : (l bare : Bool) (ts : SpelledForest) → ArePlain ts → ArePlain (begun_line l bare ts)
 begun-plain true true ts h = h
 begun-plain true false ts h = line-plain ts h
 begun-plain false true ts h = h
 begun-plain false false ts h = h
 
 mutual
-  block-plain : (tight : Bool) (b : Block) (rest : ValueForest) → block_is_strict b ≡ true
-      → block_has_no_table b ≡ true → are_plain rest ≡ true → are_plain (block_trees tight b rest) ≡ true
+  block-plain : (tight : Bool) (b : Block) (rest : SpelledForest) → block_is_strict b ≡ true
+      → block_has_no_table b ≡ true → ArePlain rest → ArePlain (block_trees tight b rest)
   block-plain true (paragraph xs) rest s t h = inlines-plain xs rest h
   block-plain false (paragraph xs) rest s t h =
-      element-plain (codes "p") [] (inlines_trees xs none) (line_end rest) p-plain (inlines-plain xs none refl)
+      element-plain false (codes "p") [] (inlines_trees xs none) (line_end rest) p-plain (inlines-plain xs none refl)
       (line-plain rest h)
   block-plain tight (heading level xs) rest s t h =
       let p = and_parts (nat_le 1 level && nat_le level 6) (are_strict false xs) s in
       let q = and_parts (nat_le 1 level) (nat_le level 6) p.0 in
-      element-plain (heading_name level) [] (inlines_trees xs none) (line_end rest) (heading-plain level q.0 q.1)
+      element-plain false (heading_name level) [] (inlines_trees xs none) (line_end rest) (heading-plain level q.0 q.1)
       (inlines-plain xs none refl) (line-plain rest h)
   block-plain tight (code_block language u) rest s t h =
-      element-plain (codes "pre") [] (code_block_tree language u) (line_end rest) pre-plain
-      (element-plain (codes "code") (pairs_of_language language) (code_trees u) none code-plain (code_text-plain u)
-      refl) (line-plain rest h)
+      element-plain false (codes "pre") [] (code_block_tree language u) (line_end rest) pre-plain
+      (element-plain false (codes "code") (pairs_of_language language) (code_trees u) none code-plain
+      (code_text-plain u) refl) (line-plain rest h)
   block-plain tight (quote bs) rest s t h =
-      element-plain (codes "blockquote") [] (line_end (blocks_trees false false bs)) (line_end rest) quote-plain
+      element-plain false (codes "blockquote") [] (line_end (blocks_trees false false bs)) (line_end rest) quote-plain
       (line-plain (blocks_trees false false bs) (blocks-plain false false bs s t)) (line-plain rest h)
   block-plain tight thematic_break rest s t h =
-      element-plain (codes "hr") [] none (line_end rest) hr-plain refl (line-plain rest h)
+      element-plain false (codes "hr") [] none (line_end rest) hr-plain refl (line-plain rest h)
   block-plain tight (list start is_tight items) rest s t h =
-      element-plain (list_name start) (pairs_of_start start) (line_end (items_trees is_tight items)) (line_end rest)
-      (list-plain start) (line-plain (items_trees is_tight items) (items-plain is_tight items s t))
+      element-plain false (list_name start) (pairs_of_start start) (line_end (items_trees is_tight items))
+      (line_end rest) (list-plain start) (line-plain (items_trees is_tight items) (items-plain is_tight items s t))
       (line-plain rest h)
   block-plain tight (table alignments header rs) rest s t h = absurd (cc)
   block-plain tight (html_block u) rest s t h = h
 
   blocks-plain : (tight l : Bool) (bs : Blocks) → blocks_are_strict bs ≡ true → blocks_have_no_table bs ≡ true
-      → are_plain (blocks_trees tight l bs) ≡ true
+      → ArePlain (blocks_trees tight l bs)
   blocks-plain tight l no_blocks s t = refl
   blocks-plain tight l (block b bs) s t =
       let p = and_parts (block_is_strict b) (blocks_are_strict bs) s in
@@ -184,31 +233,31 @@ mutual
       (block-plain tight b behind p.0 q.0 (blocks-plain tight (is_bare tight b) bs p.1 q.1))
 
   items-plain : (tight : Bool) (items : Items) → items_are_strict items ≡ true
-      → items_have_no_table items ≡ true → are_plain (items_trees tight items) ≡ true
+      → items_have_no_table items ≡ true → ArePlain (items_trees tight items)
   items-plain tight no_items s t = refl
   items-plain tight (item bs rest) s t =
       let p = and_parts (blocks_are_strict bs) (items_are_strict rest) s in
       let q = and_parts (blocks_have_no_table bs) (items_have_no_table rest) t in
-      element-plain (codes "li") [] (blocks_trees tight true bs) (line_end (items_trees tight rest)) li-plain
+      element-plain false (codes "li") [] (blocks_trees tight true bs) (line_end (items_trees tight rest)) li-plain
       (blocks-plain tight true bs p.0 q.0) (line-plain (items_trees tight rest) (items-plain tight rest p.1 q.1))
 
 pub trees-plain : (bs : Blocks) → blocks_are_strict bs ≡ true → blocks_have_no_table bs ≡ true
-    → are_plain (trees_of bs) ≡ true
+    → ArePlain (spelled_of bs)
 trees-plain bs s t = blocks-plain false false bs s t
 
 -- ---- beginnings
 
 -- an element that belongs in no head comes first
-pub record BeginsBody (ts : ValueForest) : Type 0 where
+pub record BeginsBody (ts : SpelledForest) : Type 0 where
   pub name : List ℕ
   pub attributes : List AttributePair
-  pub children : ValueForest
-  pub behind : ValueForest
-  pub is_first : ts ≡ more (element name attributes children) behind
+  pub children : SpelledForest
+  pub behind : SpelledForest
+  pub is_first : ts ≡ element_before name attributes children behind
   pub belongs : not (is_among head_names name) ≡ true
 
-begins : (n : List ℕ) (attributes : List AttributePair) (ks ts : ValueForest)
-    → not (is_among head_names n) ≡ true → BeginsBody (more (element n attributes ks) ts)
+begins : (n : List ℕ) (attributes : List AttributePair) (ks ts : SpelledForest)
+    → not (is_among head_names n) ≡ true → BeginsBody (element_before n attributes ks ts)
 begins n attributes ks ts e = record {
   name = n;
   attributes = attributes;
@@ -227,7 +276,7 @@ list-belongs : (start : Option ℕ) → not (is_among head_names (list_name star
 list-belongs None = refl
 list-belongs (Some n) = refl
 
-pub block-begins : (b : Block) (rest : ValueForest) → block_has_no_raw b ≡ true → block_is_strict b ≡ true
+pub block-begins : (b : Block) (rest : SpelledForest) → block_is_paired b ≡ true → block_is_strict b ≡ true
     → block_has_no_table b ≡ true → BeginsBody (block_trees false b rest)
 block-begins (paragraph xs) rest r s t = begins (codes "p") [] (inlines_trees xs none) (line_end rest) refl
 block-begins (heading level xs) rest r s t =
@@ -246,7 +295,7 @@ block-begins (table alignments header rs) rest r s t = absurd (cc)
 block-begins (html_block u) rest r s t = absurd (cc)
 
 -- so no byte order mark does
-pub no_mark : (n : List ℕ) (attributes : List AttributePair) (ks ts : ValueForest)
-    → behind_mark (all_spelled (more (element n attributes ks) ts))
-    ≡ all_spelled (more (element n attributes ks) ts)
+pub no_mark : (n : List ℕ) (attributes : List AttributePair) (ks ts : SpelledForest)
+    → behind_mark (all_spelled (element_before n attributes ks ts))
+    ≡ all_spelled (element_before n attributes ks ts)
 no_mark n attributes ks ts = test (is_void n) (λ v. rw v refl) (λ v. rw v refl)

@@ -7,7 +7,6 @@ use Rattle.std.specs.Prelude.{◌==◌}
 use Rattle.std.proofs.lemmas.Bool.{and_parts}
 use Rattle.std.proofs.lemmas.List.{append_assoc, append-nil}
 use Rattle.htmd_lexical.proofs.Cases.{test}
-use Rattle.htmd_values.specs.ValueTrees.{ValueForest, none, more, element}
 use Rattle.htmd_values.specs.Serialisation.{is_void, end_tag}
 use Rattle.htmd_document.specs.declared.document.Alignment.{Alignment}
 use Rattle.htmd_document.specs.declared.document.Alignment.TheVariants as aligned
@@ -28,71 +27,146 @@ use Rattle.htmd_law_rendering.specs.RenderedTrees.{row_trees, rows_trees, body_t
 use Rattle.htmd_law_rendering.specs.RenderedTrees.{heading_name, pairs_of_language, code_trees, code_block_tree}
 use Rattle.htmd_law_rendering.specs.RenderedTrees.{list_name, pairs_of_start, begun_line, block_trees, blocks_trees}
 use Rattle.htmd_law_rendering.specs.RenderedTrees.{items_trees}
-use Rattle.htmd_law_rendering.specs.SpelledTrees.{attribute_in, tag, spelled, all_spelled}
-use Rattle.htmd_law_rendering.specs.PlainReadings.{has_no_raw, cells_have_no_raw, rows_have_no_raw, block_has_no_raw}
-use Rattle.htmd_law_rendering.specs.PlainReadings.{blocks_have_no_raw, items_have_no_raw}
+use Rattle.htmd_law_rendering.specs.SpelledTrees.{SpelledForest, none, more, element, attribute_in, tag, spelled}
+use Rattle.htmd_law_rendering.specs.SpelledTrees.{all_spelled}
+use Rattle.htmd_law_rendering.specs.PlainReadings.{if_all_opened, unopened, is_nothing_left, are_paired}
+use Rattle.htmd_law_rendering.specs.PlainReadings.{cells_are_paired, rows_are_paired, block_is_paired}
+use Rattle.htmd_law_rendering.specs.PlainReadings.{blocks_are_paired, items_are_paired}
+use Rattle.htmd_law_rendering.specs.RawTags.{raw_tag}
+use Rattle.htmd_law_rendering.specs.RenderedTrees.{Open, Behind, inlines_open}
 use Rattle.htmd_law_rendering.specs.RenderingLaws.{RenderedIsSpelled}
 use Rattle.htmd_law_rendering.proofs.ByteLemmas.{decimal-stays}
-use Rattle.htmd_law_rendering.proofs.SpellingLemmas.{text-spelled, and-then, lines-spelled, line-spelled}
+use Rattle.htmd_law_rendering.proofs.RawLemmas.{raw-is, behind_spelled, names_of, IsOpen, raw-ok}
+use Rattle.htmd_law_rendering.proofs.SpellingLemmas.{text-spelled, lines-spelled, line-spelled}
 use Rattle.htmd_law_rendering.proofs.SpellingLemmas.{code-spelled, format-spelled, link-spelled, image-spelled}
 use Rattle.htmd_law_rendering.proofs.SpellingLemmas.{box-spelled, heading-not-void}
 
 -- ---- inlines
 
-pub inlines : (xs : Inlines) (rest : ValueForest) → has_no_raw xs ≡ true
-    → all_spelled (inlines_trees xs rest) ≡ inlines_html xs ++ all_spelled rest
+-- before what is open
+front : (a b f behind html rest : List ℕ) → a ≡ b → f ++ behind ≡ html ++ rest
+    → (a ++ f) ++ behind ≡ (b ++ html) ++ rest
+front a b f behind html rest e h =
+    append_assoc a f behind
+    ∙ (ap (λ s. s ++ (f ++ behind)) e ∙ (ap (λ s. b ++ s) h ∙ sym (append_assoc b html rest)))
+
+pub nothing-left : (ns : Option (List (List ℕ))) → is_nothing_left ns ≡ true → ns ≡ Some []
+nothing-left None h = absurd (cc)
+nothing-left (Some []) h = refl
+nothing-left (Some (n ∷ ns)) h = absurd (cc)
+
+pub all-opened : (content ns : Option (List (List ℕ))) (ms : List (List ℕ)) → if_all_opened content ns ≡ Some ms
+    → (content ≡ Some []) × (ns ≡ Some ms)
+all-opened None ns ms h = absurd (cc)
+all-opened (Some []) ns ms h = (refl, h)
+all-opened (Some (n ∷ rest)) ns ms h = absurd (cc)
+
+-- nothing is open at the end
+closed-with : (o : Open) (s : List ℕ) → IsOpen o [] s → all_spelled o.first ≡ s
+closed-with o s h =
+    sym (append-nil (all_spelled o.first))
+    ∙ (ap (λ bs. all_spelled o.first ++ bs) (sym (no-names o.behind h.0)) ∙ h.1)
+  where
+    no-names : (bs : List Behind) → names_of bs ≡ [] → behind_spelled bs ≡ []
+    no-names [] e = refl
+    no-names (b ∷ bs) e = absurd (cc)
+
+closed-all : (o : Open) (html : List ℕ) → IsOpen o [] (html ++ []) → all_spelled o.first ≡ html
+closed-all o html h = closed-with o (html ++ []) h ∙ append-nil html
+
+pub inlines-open : (xs : Inlines) (rest : SpelledForest) (ns : List (List ℕ)) → unopened xs ≡ Some ns
+    → IsOpen (inlines_open xs rest) ns (inlines_html xs ++ all_spelled rest)
 unfolding is_void
-inlines no_inlines rest h = refl
-inlines (letter c xs) rest h =
-    text-spelled (c ∷ []) (inlines_trees xs rest)
-    ∙ and-then (escaped (c ∷ [])) (escaped_byte c) (all_spelled (inlines_trees xs rest)) (inlines_html xs)
-    (all_spelled rest) (append-nil (escaped_byte c)) (inlines xs rest h)
-inlines (code s xs) rest h =
-    and-then (spelled (element (codes "code") [] (text_before s none))) (code_html s)
-    (all_spelled (inlines_trees xs rest)) (inlines_html xs) (all_spelled rest) (code-spelled s) (inlines xs rest h)
-inlines (formatted f content xs) rest h =
-    let p = and_parts (has_no_raw content) (has_no_raw xs) h in
-    and-then (spelled (element (format_name f) (pairs_of_format f) (inlines_trees content none)))
-    (formatted_html f (inlines_html content)) (all_spelled (inlines_trees xs rest)) (inlines_html xs)
-    (all_spelled rest)
-    (format-spelled f (inlines_trees content none)
-    ∙ ap (formatted_html f) (inlines content none p.0 ∙ append-nil (inlines_html content)))
-    (inlines xs rest p.1)
-inlines (link a t content xs) rest h =
-    let p = and_parts (has_no_raw content) (has_no_raw xs) h in
-    and-then (spelled (element (codes "a") (pairs_of_link a t) (inlines_trees content none)))
-    (link_html a t (inlines_html content)) (all_spelled (inlines_trees xs rest)) (inlines_html xs)
-    (all_spelled rest)
-    (link-spelled a t (inlines_trees content none)
-    ∙ ap (link_html a t) (inlines content none p.0 ∙ append-nil (inlines_html content)))
-    (inlines xs rest p.1)
-inlines (image a t content xs) rest h =
-    and-then (spelled (element (codes "img") (pairs_of_image a t (plain_text content)) none))
-    (image_html a t (plain_text content)) (all_spelled (inlines_trees xs rest)) (inlines_html xs)
-    (all_spelled rest) (image-spelled a t (plain_text content)) (inlines xs rest h)
-inlines (line_break xs) rest h =
-    ap (λ s. codes "<br />" ++ s)
-    (text-spelled (codes "\n") (inlines_trees xs rest) ∙ ap (λ s. 10 ∷ s) (inlines xs rest h))
-inlines (task d xs) rest h =
-    box-spelled d (inlines_trees xs rest) (inlines_html xs ++ all_spelled rest) (inlines xs rest h)
-    ∙ sym (append_assoc (box_html d) (inlines_html xs) (all_spelled rest))
-inlines (raw tag xs) rest h = absurd (cc)
+inlines-open no_inlines rest ns h = (let x : [] ≡ ns = cc in x, append-nil (all_spelled rest))
+inlines-open (letter c xs) rest ns h =
+    let i = inlines-open xs rest ns h in
+    let o = inlines_open xs rest in (
+      i.0,
+      ap (λ s. s ++ behind_spelled o.behind) (text-spelled (c ∷ []) o.first)
+          ∙ front (escaped (c ∷ [])) (escaped_byte c) (all_spelled o.first) (behind_spelled o.behind)
+          (inlines_html xs) (all_spelled rest) (append-nil (escaped_byte c)) i.1,
+    )
+inlines-open (code s xs) rest ns h =
+    let i = inlines-open xs rest ns h in
+    let o = inlines_open xs rest in (
+      i.0,
+      front (spelled (element false (codes "code") [] (text_before s none))) (code_html s) (all_spelled o.first)
+          (behind_spelled o.behind) (inlines_html xs) (all_spelled rest) (code-spelled s) i.1,
+    )
+inlines-open (formatted f content xs) rest ns h =
+    let p = all-opened (unopened content) (unopened xs) ns h in
+    let i = inlines-open xs rest ns p.1 in
+    let o = inlines_open xs rest in
+    let inner = inlines_open content none in (
+      i.0,
+      front (spelled (element false (format_name f) (pairs_of_format f) inner.first))
+          (formatted_html f (inlines_html content)) (all_spelled o.first) (behind_spelled o.behind)
+          (inlines_html xs) (all_spelled rest)
+          (format-spelled f inner.first
+          ∙ ap (formatted_html f) (closed-all inner (inlines_html content) (inlines-open content none [] p.0)))
+          i.1,
+    )
+inlines-open (link a t content xs) rest ns h =
+    let p = all-opened (unopened content) (unopened xs) ns h in
+    let i = inlines-open xs rest ns p.1 in
+    let o = inlines_open xs rest in
+    let inner = inlines_open content none in (
+      i.0,
+      front (spelled (element false (codes "a") (pairs_of_link a t) inner.first))
+          (link_html a t (inlines_html content)) (all_spelled o.first) (behind_spelled o.behind)
+          (inlines_html xs) (all_spelled rest)
+          (link-spelled a t inner.first
+          ∙ ap (link_html a t) (closed-all inner (inlines_html content) (inlines-open content none [] p.0)))
+          i.1,
+    )
+inlines-open (image a t content xs) rest ns h =
+    let i = inlines-open xs rest ns h in
+    let o = inlines_open xs rest in (
+      i.0,
+      front (spelled (element false (codes "img") (pairs_of_image a t (plain_text content)) none))
+          (image_html a t (plain_text content)) (all_spelled o.first) (behind_spelled o.behind) (inlines_html xs)
+          (all_spelled rest) (image-spelled a t (plain_text content)) i.1,
+    )
+inlines-open (line_break xs) rest ns h =
+    let i = inlines-open xs rest ns h in
+    let o = inlines_open xs rest in (
+      i.0,
+      ap (λ s. (codes "<br />" ++ s) ++ behind_spelled o.behind) (text-spelled (codes "\n") o.first)
+          ∙ ap (λ s. codes "<br />\n" ++ s) i.1,
+    )
+inlines-open (task d xs) rest ns h =
+    let i = inlines-open xs rest ns h in
+    let o = inlines_open xs rest in (
+      i.0,
+      ap (λ s. s ++ behind_spelled o.behind) (box-spelled d o.first (all_spelled o.first) refl)
+          ∙ front (box_html d) (box_html d) (all_spelled o.first) (behind_spelled o.behind) (inlines_html xs)
+          (all_spelled rest) refl i.1,
+    )
+inlines-open (raw s xs) rest ns h =
+    raw-ok (raw_tag s) s (inlines_html xs) (all_spelled rest) (inlines_open xs rest) (unopened xs) ns (raw-is s) h
+    (λ ms e. inlines-open xs rest ms e)
+
+pub inlines : (xs : Inlines) (rest : SpelledForest) → are_paired xs ≡ true
+    → all_spelled (inlines_trees xs rest) ≡ inlines_html xs ++ all_spelled rest
+inlines xs rest h =
+    closed-with (inlines_open xs rest) (inlines_html xs ++ all_spelled rest)
+    (inlines-open xs rest [] (nothing-left (unopened xs) h))
 
 -- inlines alone
-pub inlines-alone : (xs : Inlines) → has_no_raw xs ≡ true
+pub inlines-alone : (xs : Inlines) → are_paired xs ≡ true
     → all_spelled (inlines_trees xs none) ≡ inlines_html xs
 inlines-alone xs h = inlines xs none h ∙ append-nil (inlines_html xs)
 
 -- ---- tables
 
 module _ (name : List ℕ) (void : is_void name ≡ false)
-    (begins : (a : Alignment) → tag name (pairs_of_alignment a) ≡ cell_tag name a)
+    (begins : (a : Alignment) → tag false name (pairs_of_alignment a) ≡ cell_tag name a)
     (ends : end_tag name ++ codes "\n" ≡ end_of_cell name) where
-  cells : (alignments : List Alignment) (cs : List Inlines) → cells_have_no_raw cs ≡ true
+  cells : (alignments : List Alignment) (cs : List Inlines) → cells_are_paired cs ≡ true
       → all_spelled (cells_trees name alignments cs) ≡ cells_html name alignments cs
   cells alignments [] h = refl
   cells alignments (c ∷ cs) h =
-      let p = and_parts (has_no_raw c) (cells_have_no_raw cs) h in
+      let p = and_parts (are_paired c) (cells_are_paired cs) h in
       let a = first_alignment alignments in
       let behind = cells_trees name (drop 1 alignments) cs in
       line-spelled name (pairs_of_alignment a) (inlines_trees c none) behind (inlines_html c) (end_of_cell name)
@@ -100,48 +174,48 @@ module _ (name : List ℕ) (void : is_void name ≡ false)
       ∙ (ap (λ s. (s ++ inlines_html c ++ end_of_cell name) ++ all_spelled behind) (begins a)
       ∙ ap (λ s. cell_html name a c ++ s) (cells (drop 1 alignments) cs p.1))
 
-  row : (alignments : List Alignment) (cs : List Inlines) (rest : ValueForest) → cells_have_no_raw cs ≡ true
+  row : (alignments : List Alignment) (cs : List Inlines) (rest : SpelledForest) → cells_are_paired cs ≡ true
       → all_spelled (row_trees name alignments cs rest) ≡ row_html name alignments cs ++ all_spelled rest
   unfolding is_void
   row alignments cs rest h =
       lines-spelled (codes "tr") [] (cells_trees name alignments cs) rest (codes "<tr>\n")
       (cells_html name alignments cs) (codes "</tr>\n") refl refl refl (cells alignments cs h)
 
-cell_tags : (a : Alignment) → tag (codes "td") (pairs_of_alignment a) ≡ cell_tag (codes "td") a
+cell_tags : (a : Alignment) → tag false (codes "td") (pairs_of_alignment a) ≡ cell_tag (codes "td") a
 unfolding is_void
 cell_tags aligned.None = refl
 cell_tags aligned.Left = refl
 cell_tags aligned.Center = refl
 cell_tags aligned.Right = refl
 
-header_tags : (a : Alignment) → tag (codes "th") (pairs_of_alignment a) ≡ cell_tag (codes "th") a
+header_tags : (a : Alignment) → tag false (codes "th") (pairs_of_alignment a) ≡ cell_tag (codes "th") a
 unfolding is_void
 header_tags aligned.None = refl
 header_tags aligned.Left = refl
 header_tags aligned.Center = refl
 header_tags aligned.Right = refl
 
-body_row : (alignments : List Alignment) (cs : List Inlines) (rest : ValueForest) → cells_have_no_raw cs ≡ true
+body_row : (alignments : List Alignment) (cs : List Inlines) (rest : SpelledForest) → cells_are_paired cs ≡ true
     → all_spelled (row_trees (codes "td") alignments cs rest)
     ≡ row_html (codes "td") alignments cs ++ all_spelled rest
 unfolding is_void
 body_row = row (codes "td") refl cell_tags refl
 
-header_row : (alignments : List Alignment) (cs : List Inlines) (rest : ValueForest) → cells_have_no_raw cs ≡ true
+header_row : (alignments : List Alignment) (cs : List Inlines) (rest : SpelledForest) → cells_are_paired cs ≡ true
     → all_spelled (row_trees (codes "th") alignments cs rest)
     ≡ row_html (codes "th") alignments cs ++ all_spelled rest
 unfolding is_void
 header_row = row (codes "th") refl header_tags refl
 
-rows : (alignments : List Alignment) (rs : List (List Inlines)) → rows_have_no_raw rs ≡ true
+rows : (alignments : List Alignment) (rs : List (List Inlines)) → rows_are_paired rs ≡ true
     → all_spelled (rows_trees alignments rs) ≡ rows_html alignments rs
 rows alignments [] h = refl
 rows alignments (r ∷ rs) h =
-    let p = and_parts (cells_have_no_raw r) (rows_have_no_raw rs) h in
+    let p = and_parts (cells_are_paired r) (rows_are_paired rs) h in
     body_row alignments r (rows_trees alignments rs) p.0
     ∙ ap (λ s. row_html (codes "td") alignments r ++ s) (rows alignments rs p.1)
 
-body : (alignments : List Alignment) (rs : List (List Inlines)) → rows_have_no_raw rs ≡ true
+body : (alignments : List Alignment) (rs : List (List Inlines)) → rows_are_paired rs ≡ true
     → all_spelled (body_trees alignments rs) ≡ body_html alignments rs
 unfolding is_void
 body alignments [] h = refl
@@ -150,8 +224,8 @@ body alignments (r ∷ rs) h =
     (rows_html alignments (r ∷ rs)) (codes "</tbody>\n") refl refl refl (rows alignments (r ∷ rs) h)
     ∙ append-nil (body_html alignments (r ∷ rs))
 
-a_table : (alignments : List Alignment) (header : List Inlines) (rs : List (List Inlines)) (rest : ValueForest)
-    → cells_have_no_raw header ≡ true → rows_have_no_raw rs ≡ true
+a_table : (alignments : List Alignment) (header : List Inlines) (rs : List (List Inlines)) (rest : SpelledForest)
+    → cells_are_paired header ≡ true → rows_are_paired rs ≡ true
     → all_spelled (table_trees alignments header rs rest)
     ≡ table_html alignments header rs ++ all_spelled rest
 unfolding is_void
@@ -198,7 +272,8 @@ numbered : (v : List ℕ) → (codes "<ol start=\"" ++ (((v ++ codes "\"") ++ []
     ≡ codes "<ol start=\"" ++ v ++ codes "\">\n"
 numbered v = simp (append_assoc, append-nil)
 
-list-begins : (start : Option ℕ) → list_tag start ≡ tag (list_name start) (pairs_of_start start) ++ codes "\n"
+list-begins : (start : Option ℕ)
+    → list_tag start ≡ tag false (list_name start) (pairs_of_start start) ++ codes "\n"
 unfolding is_void
 list-begins None = refl
 list-begins (Some n) =
@@ -208,15 +283,15 @@ list-ends : (start : Option ℕ) → end_of_list start ≡ end_tag (list_name st
 list-ends None = refl
 list-ends (Some n) = refl
 
-begun : (l bare : Bool) (ts : ValueForest)
+begun : (l bare : Bool) (ts : SpelledForest)
     → all_spelled (begun_line l bare ts) ≡ line_end_before l bare ++ all_spelled ts
 begun true true ts = refl
 begun true false ts = text-spelled (codes "\n") ts
 begun false true ts = refl
 begun false false ts = refl
 
-a_heading : (level : ℕ) (xs : Inlines) (rest : ValueForest) → has_no_raw xs ≡ true
-    → all_spelled (more (element (heading_name level) [] (inlines_trees xs none)) (line_end rest))
+a_heading : (level : ℕ) (xs : Inlines) (rest : SpelledForest) → are_paired xs ≡ true
+    → all_spelled (more (element false (heading_name level) [] (inlines_trees xs none)) (line_end rest))
     ≡ heading_html level (inlines_html xs) ++ all_spelled rest
 a_heading level xs rest h =
     line-spelled (heading_name level) [] (inlines_trees xs none) rest (inlines_html xs) (end_of_heading level)
@@ -226,14 +301,14 @@ a_heading level xs rest h =
     heading-end : (d : List ℕ) → (codes "</h" ++ d ++ codes ">") ++ codes "\n" ≡ codes "</h" ++ d ++ codes ">\n"
     heading-end d = simp append_assoc
 
-    tags : tag (heading_name level) [] ≡ heading_tag level
+    tags : tag false (heading_name level) [] ≡ heading_tag level
     tags =
         rw (heading-not-void level) (ap (λ s. s ++ codes ">") (append-nil (codes "<h" ++ decimal level)))
 
 mutual
   unfolding is_void
 
-  one_block : (tight : Bool) (b : Block) (rest : ValueForest) → block_has_no_raw b ≡ true
+  one_block : (tight : Bool) (b : Block) (rest : SpelledForest) → block_is_paired b ≡ true
       → all_spelled (block_trees tight b rest) ≡ block_html tight b ++ all_spelled rest
   one_block true (paragraph xs) rest h = inlines xs rest h
   one_block false (paragraph xs) rest h =
@@ -254,15 +329,15 @@ mutual
       (items_html is_tight items) (end_of_list start) (list-not-void start) (list-begins start) (list-ends start)
       (all_items is_tight items h)
   one_block tight (table alignments header rs) rest h =
-      let p = and_parts (cells_have_no_raw header) (rows_have_no_raw rs) h in
+      let p = and_parts (cells_are_paired header) (rows_are_paired rs) h in
       a_table alignments header rs rest p.0 p.1
   one_block tight (html_block s) rest h = absurd (cc)
 
-  all_blocks : (tight l : Bool) (bs : Blocks) → blocks_have_no_raw bs ≡ true
+  all_blocks : (tight l : Bool) (bs : Blocks) → blocks_are_paired bs ≡ true
       → all_spelled (blocks_trees tight l bs) ≡ blocks_html tight l bs
   all_blocks tight l no_blocks h = refl
   all_blocks tight l (block b bs) h =
-      let p = and_parts (block_has_no_raw b) (blocks_have_no_raw bs) h in
+      let p = and_parts (block_is_paired b) (blocks_are_paired bs) h in
       let behind = blocks_trees tight (is_bare tight b) bs in
       begun l (is_bare tight b) (block_trees tight b behind)
       ∙ (ap (λ s. line_end_before l (is_bare tight b) ++ s)
@@ -270,11 +345,11 @@ mutual
       ∙ sym (append_assoc (line_end_before l (is_bare tight b)) (block_html tight b)
       (blocks_html tight (is_bare tight b) bs)))
 
-  all_items : (tight : Bool) (items : Items) → items_have_no_raw items ≡ true
+  all_items : (tight : Bool) (items : Items) → items_are_paired items ≡ true
       → all_spelled (items_trees tight items) ≡ items_html tight items
   all_items tight no_items h = refl
   all_items tight (item bs rest) h =
-      let p = and_parts (blocks_have_no_raw bs) (items_have_no_raw rest) h in
+      let p = and_parts (blocks_are_paired bs) (items_are_paired rest) h in
       line-spelled (codes "li") [] (blocks_trees tight true bs) (items_trees tight rest) (blocks_html tight true bs)
       (codes "</li>\n") refl refl (all_blocks tight true bs p.0)
       ∙ ap (λ s. item_html (blocks_html tight true bs) ++ s) (all_items tight rest p.1)

@@ -9,7 +9,6 @@ use Rattle.std.proofs.lemmas.Bool.{and_parts}
 use Rattle.std.proofs.lemmas.Grind.{flat_map-append}
 use Rattle.std.proofs.lemmas.List.{append_assoc, append-nil}
 use Rattle.htmd_lexical.specs.AttributePairs.{AttributePair}
-use Rattle.htmd_values.specs.ValueTrees.{document, doctype, text, comment, element, ValueForest, none, more}
 use Rattle.htmd_values.specs.Serialisation.{is_void, end_tag}
 use Rattle.htmd_document.specs.Tags.{escaped_value}
 use Rattle.htmd_document.specs.Formats.{Format, Emphasis, Strong, Deleted, Superscript, Subscript, Inserted, Underlined}
@@ -19,21 +18,20 @@ use Rattle.htmd_commonmark_reading.specs.Rendering.{code_html, formatted_html, l
 use Rattle.htmd_law_rendering.specs.RenderedTrees.{text_before, line_end, encoded_address, pairs_of_title, format_name}
 use Rattle.htmd_law_rendering.specs.RenderedTrees.{pairs_of_format, pairs_of_link, pairs_of_image, pairs_of_box}
 use Rattle.htmd_law_rendering.specs.RenderedTrees.{lines_before, heading_name}
-use Rattle.htmd_law_rendering.specs.SpelledTrees.{attribute_in, tag, spelled, all_spelled}
+use Rattle.htmd_law_rendering.specs.SpelledTrees.{SpelledForest, none, more, text, element, attribute_in, tag}
+use Rattle.htmd_law_rendering.specs.SpelledTrees.{spelled, all_spelled}
 use Rattle.htmd_law_rendering.proofs.ByteLemmas.{escaped-encoded, decimal-digits, no-digit}
 
 -- ---- texts
 
-pub text-spelled : (s : List ℕ) (ts : ValueForest) → all_spelled (text_before s ts) ≡ escaped s ++ all_spelled ts
+pub text-spelled : (s : List ℕ) (ts : SpelledForest)
+    → all_spelled (text_before s ts) ≡ escaped s ++ all_spelled ts
 text-spelled [] ts = refl
 text-spelled (b ∷ s) none = refl
 text-spelled (b ∷ s) (more (text u) ts) =
     ap (λ x. x ++ all_spelled ts) (flat_map-append escaped_byte (b ∷ s) u)
     ∙ append_assoc (escaped (b ∷ s)) (escaped u) (all_spelled ts)
-text-spelled (b ∷ s) (more (document ks) ts) = refl
-text-spelled (b ∷ s) (more doctype ts) = refl
-text-spelled (b ∷ s) (more (comment u) ts) = refl
-text-spelled (b ∷ s) (more (element n attributes ks) ts) = refl
+text-spelled (b ∷ s) (more (element k n attributes ks) ts) = refl
 
 pub text-alone : (s : List ℕ) → all_spelled (text_before s none) ≡ escaped s
 text-alone s = text-spelled s none ∙ append-nil (escaped s)
@@ -44,29 +42,30 @@ text-alone s = text-spelled s none ∙ append-nil (escaped s)
 pub and-then : (a b x y rest : List ℕ) → a ≡ b → x ≡ y ++ rest → a ++ x ≡ (b ++ y) ++ rest
 and-then a b x y rest e f = ap (λ s. s ++ x) e ∙ (ap (λ s. b ++ s) f ∙ sym (append_assoc b y rest))
 
-pub element-spelled : (name : List ℕ) (attributes : List AttributePair) (ks : ValueForest) → is_void name ≡ false
-    → spelled (element name attributes ks) ≡ tag name attributes ++ all_spelled ks ++ end_tag name
-element-spelled name attributes ks v = rw v refl
+pub element-spelled : (k : Bool) (name : List ℕ) (attributes : List AttributePair) (ks : SpelledForest)
+    → is_void name ≡ false
+    → spelled (element k name attributes ks) ≡ tag k name attributes ++ all_spelled ks ++ end_tag name
+element-spelled k name attributes ks v = rw v refl
 
-pub void-spelled : (name : List ℕ) (attributes : List AttributePair) (ks : ValueForest) → is_void name ≡ true
-    → spelled (element name attributes ks) ≡ tag name attributes
-void-spelled name attributes ks v = rw v refl
+pub void-spelled : (k : Bool) (name : List ℕ) (attributes : List AttributePair) (ks : SpelledForest)
+    → is_void name ≡ true → spelled (element k name attributes ks) ≡ tag k name attributes
+void-spelled k name attributes ks v = rw v refl
 
 apart : (a x b y : List ℕ)
     → (a ++ (10 ∷ x) ++ b) ++ (10 ∷ y) ≡ ((a ++ 10 ∷ []) ++ x ++ (b ++ 10 ∷ [])) ++ y
 apart a x b y = simp append_assoc
 
 -- an element whose content stands in lines of its own
-pub lines-spelled : (name : List ℕ) (attributes : List AttributePair) (content rest : ValueForest)
-    (begin html end : List ℕ) → is_void name ≡ false → begin ≡ tag name attributes ++ codes "\n"
+pub lines-spelled : (name : List ℕ) (attributes : List AttributePair) (content rest : SpelledForest)
+    (begin html end : List ℕ) → is_void name ≡ false → begin ≡ tag false name attributes ++ codes "\n"
     → end ≡ end_tag name ++ codes "\n" → all_spelled content ≡ html
     → all_spelled (lines_before name attributes content rest) ≡ (begin ++ html ++ end) ++ all_spelled rest
 lines-spelled name attributes content rest begin html end v b e h =
-    ap (λ s. s ++ all_spelled (line_end rest)) (element-spelled name attributes (line_end content) v)
-    ∙ (ap (λ s. (tag name attributes ++ s ++ end_tag name) ++ all_spelled (line_end rest))
+    ap (λ s. s ++ all_spelled (line_end rest)) (element-spelled false name attributes (line_end content) v)
+    ∙ (ap (λ s. (tag false name attributes ++ s ++ end_tag name) ++ all_spelled (line_end rest))
     (text-spelled (codes "\n") content ∙ ap (λ s. 10 ∷ s) h)
-    ∙ (ap (λ s. (tag name attributes ++ (10 ∷ html) ++ end_tag name) ++ s) (text-spelled (codes "\n") rest)
-    ∙ (apart (tag name attributes) html (end_tag name) (all_spelled rest)
+    ∙ (ap (λ s. (tag false name attributes ++ (10 ∷ html) ++ end_tag name) ++ s) (text-spelled (codes "\n") rest)
+    ∙ (apart (tag false name attributes) html (end_tag name) (all_spelled rest)
     ∙ (ap (λ s. (s ++ html ++ (end_tag name ++ codes "\n")) ++ all_spelled rest) (sym b)
     ∙ ap (λ s. (begin ++ html ++ s) ++ all_spelled rest) (sym e)))))
 
@@ -74,29 +73,29 @@ joined-end : (a x b y : List ℕ) → (a ++ x ++ b) ++ (10 ∷ y) ≡ (a ++ x ++
 joined-end a x b y = simp append_assoc
 
 -- an element that ends a line
-pub line-spelled : (name : List ℕ) (attributes : List AttributePair) (content rest : ValueForest)
+pub line-spelled : (name : List ℕ) (attributes : List AttributePair) (content rest : SpelledForest)
     (html end : List ℕ) → is_void name ≡ false → end ≡ end_tag name ++ codes "\n"
     → all_spelled content ≡ html
-    → all_spelled (more (element name attributes content) (line_end rest))
-    ≡ (tag name attributes ++ html ++ end) ++ all_spelled rest
+    → all_spelled (more (element false name attributes content) (line_end rest))
+    ≡ (tag false name attributes ++ html ++ end) ++ all_spelled rest
 line-spelled name attributes content rest html end v e h =
-    ap (λ s. s ++ all_spelled (line_end rest)) (element-spelled name attributes content v)
-    ∙ (ap (λ s. (tag name attributes ++ s ++ end_tag name) ++ all_spelled (line_end rest)) h
-    ∙ (ap (λ s. (tag name attributes ++ html ++ end_tag name) ++ s) (text-spelled (codes "\n") rest)
-    ∙ (joined-end (tag name attributes) html (end_tag name) (all_spelled rest)
-    ∙ ap (λ s. (tag name attributes ++ html ++ s) ++ all_spelled rest) (sym e))))
+    ap (λ s. s ++ all_spelled (line_end rest)) (element-spelled false name attributes content v)
+    ∙ (ap (λ s. (tag false name attributes ++ s ++ end_tag name) ++ all_spelled (line_end rest)) h
+    ∙ (ap (λ s. (tag false name attributes ++ html ++ end_tag name) ++ s) (text-spelled (codes "\n") rest)
+    ∙ (joined-end (tag false name attributes) html (end_tag name) (all_spelled rest)
+    ∙ ap (λ s. (tag false name attributes ++ html ++ s) ++ all_spelled rest) (sym e))))
 
 -- ---- inlines
 
-pub code-spelled : (s : List ℕ) → spelled (element (codes "code") [] (text_before s none)) ≡ code_html s
+pub code-spelled : (s : List ℕ) → spelled (element false (codes "code") [] (text_before s none)) ≡ code_html s
 unfolding is_void
 code-spelled s = ap (λ x. codes "<code>" ++ x ++ codes "</code>") (text-alone s)
 
-titled : (v : List ℕ) → ((v ++ 34 ∷ []) ++ []) ++ 62 ∷ [] ≡ v ++ 34 ∷ 62 ∷ []
+pub titled : (v : List ℕ) → ((v ++ 34 ∷ []) ++ []) ++ 62 ∷ [] ≡ v ++ 34 ∷ 62 ∷ []
 titled v = simp (append_assoc, append-nil)
 
-pub format-spelled : (f : Format) (ks : ValueForest)
-    → spelled (element (format_name f) (pairs_of_format f) ks) ≡ formatted_html f (all_spelled ks)
+pub format-spelled : (f : Format) (ks : SpelledForest)
+    → spelled (element false (format_name f) (pairs_of_format f) ks) ≡ formatted_html f (all_spelled ks)
 unfolding is_void
 format-spelled Emphasis ks = refl
 format-spelled Strong ks = refl
@@ -116,8 +115,9 @@ titles : (name : List ℕ) (title : Option (List ℕ)) → bytes_eq name (codes 
 titles name None e = refl
 titles name (Some s) e = rw e (append-nil (attribute (codes "title") (escaped s)))
 
-pub link-spelled : (address : List ℕ) (title : Option (List ℕ)) (ks : ValueForest)
-    → spelled (element (codes "a") (pairs_of_link address title) ks) ≡ link_html address title (all_spelled ks)
+pub link-spelled : (address : List ℕ) (title : Option (List ℕ)) (ks : SpelledForest)
+    → spelled (element false (codes "a") (pairs_of_link address title) ks)
+    ≡ link_html address title (all_spelled ks)
 unfolding is_void
 link-spelled address title ks =
     ap (λ s. s ++ all_spelled ks ++ codes "</a>") (ap (λ s. codes "<a" ++ s) tags)
@@ -134,7 +134,7 @@ pictured : (src alt title : List ℕ)
 pictured src alt title = simp append_assoc
 
 pub image-spelled : (address : List ℕ) (title : Option (List ℕ)) (description : List ℕ)
-    → spelled (element (codes "img") (pairs_of_image address title description) none)
+    → spelled (element false (codes "img") (pairs_of_image address title description) none)
     ≡ image_html address title description
 unfolding is_void
 image-spelled address title description =
@@ -149,8 +149,8 @@ image-spelled address title description =
         rw (escaped-encoded address, titles (codes "img") title refl)
         (pictured (escaped_address address) (escaped description) (title_attribute title))
 
-pub box-spelled : (d : Bool) (ts : ValueForest) (html : List ℕ) → all_spelled ts ≡ html
-    → all_spelled (more (element (codes "input") (pairs_of_box d) none) (text_before (codes " ") ts))
+pub box-spelled : (d : Bool) (ts : SpelledForest) (html : List ℕ) → all_spelled ts ≡ html
+    → all_spelled (more (element true (codes "input") (pairs_of_box d) none) (text_before (codes " ") ts))
     ≡ box_html d ++ html
 unfolding is_void
 box-spelled true ts html h =

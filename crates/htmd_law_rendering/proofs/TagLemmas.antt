@@ -1,6 +1,6 @@
 -- The tags of trees are tags of the strict grammar.
 use Rattle.std.proofs.Common.{◌≡◌, ℕ, true, List, [], ◌∷◌, ◌++◌, refl, ap, ◌∙◌, codes, Some, inl}
-use Rattle.std.proofs.Common.{inr, map}
+use Rattle.std.proofs.Common.{Bool, inr, map}
 use Rattle.std.specs.Char.{to_ascii_lowercase}
 use Rattle.std.specs.List.{flat_map}
 use Rattle.std.specs.Prelude.{⊤}
@@ -15,23 +15,40 @@ use Rattle.htmd_grammar.specs.Rules.{named_characters}
 use Rattle.htmd_grammar.specs.Tags.{IsEndTag, IsStartTag, IsTagRest, decode_values}
 use Rattle.htmd_law_rendering.specs.RenderedTrees.{pair}
 use Rattle.htmd_law_rendering.specs.SpelledTrees.{value_in, attribute_in, has_slash, tag_end, tag}
-use Rattle.htmd_law_rendering.proofs.DecodeLemmas.{value-denotes}
+use Rattle.htmd_law_rendering.proofs.DecodeLemmas.{lacks-parts, value-lacks, value-denotes}
 
 -- a name as it stands in a tree
 abbrev pub IsTreeName : List ℕ → Type 0
 IsTreeName n = (is_tag_name n ≡ true) × (map to_ascii_lowercase n ≡ n)
 
--- attributes as they stand in a tree, without carriage returns, and without ampersands in their names
+-- attributes as they stand in a tree, without ampersands in their names
+abbrev pub AreTreeKeys : List AttributePair → Type 0
+AreTreeKeys [] = ⊤
+AreTreeKeys (a ∷ attributes) =
+    (is_attribute_name a.name ≡ true) × (map to_ascii_lowercase a.name ≡ a.name) × (lacks 38 a.name ≡ true)
+    × AreTreeKeys attributes
+
+-- and without carriage returns
 abbrev pub AreTreePairs : List AttributePair → Type 0
 AreTreePairs [] = ⊤
 AreTreePairs (a ∷ attributes) =
     (is_attribute_name a.name ≡ true) × (map to_ascii_lowercase a.name ≡ a.name) × (lacks 38 a.name ≡ true)
     × (lacks 13 a.value ≡ true) × AreTreePairs attributes
 
+-- where none is in the tag, none is in a value
+pub with-values : (n : List ℕ) (attributes : List AttributePair) → AreTreeKeys attributes
+    → lacks 13 (flat_map (attribute_in n) attributes) ≡ true → AreTreePairs attributes
+with-values n [] k l = tt
+with-values n (a ∷ attributes) k l =
+    let p = lacks-parts 13 (attribute_in n a) (flat_map (attribute_in n) attributes) l in
+    let q = lacks-parts 13 (codes " " ++ a.name ++ codes "=\"" ++ value_in n a.name a.value) (codes "\"") p.0 in
+    let r = lacks-parts 13 (codes " " ++ a.name ++ codes "=\"") (value_in n a.name a.value) q.0 in
+    (k.0, k.1, k.2, value-lacks n a.name a.value r.1, with-values n attributes k.3 p.1)
+
 -- attributes with their values as they are spelled
 abbrev spelled_pairs : List ℕ → List AttributePair → List AttributePair
 spelled_pairs n [] = []
-spelled_pairs n (a ∷ attributes) = pair a.name (value_in n a.value) ∷ spelled_pairs n attributes
+spelled_pairs n (a ∷ attributes) = pair a.name (value_in n a.name a.value) ∷ spelled_pairs n attributes
 
 same-names : (n : List ℕ) (attributes : List AttributePair)
     → attribute_names (spelled_pairs n attributes) ≡ attribute_names attributes
@@ -43,54 +60,54 @@ around : (k v r e : List ℕ)
     ≡ (32 ∷ []) ++ (k ++ ((61 ∷ (34 ∷ (v ++ 34 ∷ []))) ++ (r ++ e)))
 around k v r e = simp append_assoc
 
-tag-ends : (n : List ℕ) → IsTagRest [] (has_slash n) (tag_end n)
-tag-ends n = test (has_slash n) (λ e. rw e (codes " ", refl, refl)) (λ e. rw e ([], refl, refl))
+tag-ends : (s : Bool) (n : List ℕ) → IsTagRest [] (has_slash s n) (tag_end s n)
+tag-ends s n = test (has_slash s n) (λ e. rw e (codes " ", refl, refl)) (λ e. rw e ([], refl, refl))
 
-rest : (n : List ℕ) (attributes : List AttributePair) → AreTreePairs attributes
-    → IsTagRest (spelled_pairs n attributes) (has_slash n) (flat_map (attribute_in n) attributes ++ tag_end n)
-rest n [] k = tag-ends n
-rest n (a ∷ attributes) k =
-    let v = value_in n a.value in
+rest : (s : Bool) (n : List ℕ) (attributes : List AttributePair) → AreTreePairs attributes
+    → IsTagRest (spelled_pairs n attributes) (has_slash s n) (flat_map (attribute_in n) attributes ++ tag_end s n)
+rest s n [] k = tag-ends s n
+rest s n (a ∷ attributes) k =
+    let v = value_in n a.name a.value in
     let behind = flat_map (attribute_in n) attributes in (
       32 ∷ [],
       a.name,
       61 ∷ (34 ∷ (v ++ 34 ∷ [])),
-      behind ++ tag_end n,
-      around a.name v behind (tag_end n),
+      behind ++ tag_end s n,
+      around a.name v behind (tag_end s n),
       (λ z. let w = z in cc),
       refl,
       k.0,
       k.1,
-      inr (inl (61 ∷ [], 34, refl, ([], [], refl, refl, refl), inl refl, (value-denotes n a.value k.3).2)),
-      rest n attributes k.4,
+      inr (inl (61 ∷ [], 34, refl, ([], [], refl, refl, refl), inl refl, (value-denotes n a.name a.value k.3).2)),
+      rest s n attributes k.4,
     )
 
 values : (n : List ℕ) (attributes : List AttributePair) → AreTreePairs attributes
     → decode_values named_characters (spelled_pairs n attributes) ≡ Some attributes
 values n [] k = refl
 values n (a ∷ attributes) k =
-    let d = (value-denotes n a.value k.3).0 in rw (d, values n attributes k.4) refl
+    let d = (value-denotes n a.name a.value k.3).0 in rw (d, values n attributes k.4) refl
 
-slash-is-void : (n : List ℕ) → has_slash n ≡ true → is_void n ≡ true
-slash-is-void n e = (and_parts (is_void n) _ e).0
+slash-is-void : (s : Bool) (n : List ℕ) → has_slash s n ≡ true → is_void n ≡ true
+slash-is-void s n e = (and_parts (is_void n) _ e).0
 
-pub start-tag : (n : List ℕ) (attributes : List AttributePair) → IsTreeName n → AreTreePairs attributes
+pub start-tag : (s : Bool) (n : List ℕ) (attributes : List AttributePair) → IsTreeName n → AreTreePairs attributes
     → are_distinct (attribute_names attributes) ≡ true
-    → IsStartTag named_characters (tag n attributes) n attributes
-start-tag n attributes t k d = (
+    → IsStartTag named_characters (tag s n attributes) n attributes
+start-tag s n attributes t k d = (
   spelled_pairs n attributes,
-  has_slash n,
+  has_slash s n,
   (
     n,
-    flat_map (attribute_in n) attributes ++ tag_end n,
-    append_assoc (60 ∷ n) (flat_map (attribute_in n) attributes) (tag_end n),
+    flat_map (attribute_in n) attributes ++ tag_end s n,
+    append_assoc (60 ∷ n) (flat_map (attribute_in n) attributes) (tag_end s n),
     t.0,
     t.1,
-    rest n attributes k,
+    rest s n attributes k,
   ),
   values n attributes k,
   ap are_distinct (same-names n attributes) ∙ d,
-  slash-is-void n,
+  slash-is-void s n,
 )
 
 pub end-tag : (n : List ℕ) → IsTreeName n → IsEndTag (end_tag n) n

@@ -1,80 +1,117 @@
--- What is read whose HTML is strict: without raw tags, with headings of six levels, without links in links and carriage
--- returns, and nested only so deep.
-use Rattle.std.specs.Prelude.{◌≡◌, ◌≤◌, ℕ, suc, ◌+◌, max, Bool, true, false, not, ◌&&◌, ◌==◌}
-use Rattle.std.specs.Prelude.{nat_le, List, [], ◌∷◌, Option, Some, None}
+-- What is read whose HTML is strict: raw tags pair, headings have six levels, no link stands in another, there are no
+-- carriage returns, and elements are nested only so deep.
+use Rattle.std.specs.Prelude.{◌≡◌, ◌≤◌, ℕ, Bool, true, false, not, ◌&&◌, ◌||◌, if◌then◌else◌, nat_le, List, [], ◌∷◌}
+use Rattle.std.specs.Prelude.{drop, codes, Option, Some, None}
+use Rattle.std.specs.Str.{bytes_eq}
 use Rattle.htmd_lexical.specs.Characters.{carriage_return}
 use Rattle.htmd_lexical.specs.CharacterClasses.{lacks}
-use Rattle.htmd_document.specs.Formats.{title_of}
+use Rattle.htmd_grammar.specs.Nesting.{is_open}
 use Rattle.htmd_commonmark_reading.specs.Markup.{Inlines, no_inlines, letter, code, formatted, link, image, line_break}
 use Rattle.htmd_commonmark_reading.specs.Markup.{task, raw, Block, paragraph, heading, code_block, quote}
 use Rattle.htmd_commonmark_reading.specs.Markup.{thematic_break, list, table, html_block, Blocks, no_blocks, block}
-use Rattle.htmd_commonmark_reading.specs.Markup.{Items, no_items, item, plain_text}
+use Rattle.htmd_commonmark_reading.specs.Markup.{Items, no_items, item}
+use Rattle.htmd_commonmark_reading.specs.Rendering.{html_of}
+use Rattle.htmd_law_rendering.specs.RawTags.{RawTag, opening, closing, breaking, unknown, raw_tag}
+use Rattle.htmd_law_rendering.specs.RenderedTrees.{spelled_of}
+use Rattle.htmd_law_rendering.specs.SpelledTrees.{levels}
 
--- ---- raw HTML
+-- ---- raw tags in pairs
 
--- no raw tag stands outside descriptions of images, where a tag is text
-abbrev pub has_no_raw : Inlines → Bool
-has_no_raw no_inlines = true
-has_no_raw (letter c xs) = has_no_raw xs
-has_no_raw (code s xs) = has_no_raw xs
-has_no_raw (formatted f content xs) = has_no_raw content && has_no_raw xs
-has_no_raw (link a t content xs) = has_no_raw content && has_no_raw xs
-has_no_raw (image a t content xs) = has_no_raw xs
-has_no_raw (line_break xs) = has_no_raw xs
-has_no_raw (task d xs) = has_no_raw xs
-has_no_raw (raw tag xs) = false
+-- the names of end tags that no tag before them has opened so far; none if a tag is unknown or not in its place
+abbrev pub opened_names : List ℕ → List (List ℕ) → Option (List (List ℕ))
+opened_names name [] = None
+opened_names name (n ∷ ns) = if bytes_eq n name then Some ns else None
 
-abbrev pub cells_have_no_raw : List Inlines → Bool
-cells_have_no_raw [] = true
-cells_have_no_raw (c ∷ cs) = has_no_raw c && cells_have_no_raw cs
+abbrev pub names_with : RawTag → Option (List (List ℕ)) → Option (List (List ℕ))
+names_with tag None = None
+names_with (opening name attributes) (Some ns) = opened_names name ns
+names_with (closing name) (Some ns) = Some (name ∷ ns)
+names_with breaking (Some ns) = Some ns
+names_with unknown (Some ns) = None
 
-abbrev pub rows_have_no_raw : List (List Inlines) → Bool
-rows_have_no_raw [] = true
-rows_have_no_raw (r ∷ rs) = cells_have_no_raw r && rows_have_no_raw rs
+-- if all are opened in an element
+abbrev pub if_all_opened : Option (List (List ℕ)) → Option (List (List ℕ)) → Option (List (List ℕ))
+if_all_opened (Some []) ns = ns
+if_all_opened content ns = None
+
+abbrev pub unopened : Inlines → Option (List (List ℕ))
+unopened no_inlines = Some []
+unopened (letter c xs) = unopened xs
+unopened (code s xs) = unopened xs
+unopened (formatted f content xs) = if_all_opened (unopened content) (unopened xs)
+unopened (link a t content xs) = if_all_opened (unopened content) (unopened xs)
+unopened (image a t content xs) = unopened xs
+unopened (line_break xs) = unopened xs
+unopened (task d xs) = unopened xs
+unopened (raw tag xs) = names_with (raw_tag tag) (unopened xs)
+
+abbrev pub is_nothing_left : Option (List (List ℕ)) → Bool
+is_nothing_left (Some []) = true
+is_nothing_left ns = false
+
+-- each raw tag is known, and in one list of inlines they pair
+abbrev pub are_paired : Inlines → Bool
+are_paired xs = is_nothing_left (unopened xs)
+
+abbrev pub cells_are_paired : List Inlines → Bool
+cells_are_paired [] = true
+cells_are_paired (c ∷ cs) = are_paired c && cells_are_paired cs
+
+abbrev pub rows_are_paired : List (List Inlines) → Bool
+rows_are_paired [] = true
+rows_are_paired (r ∷ rs) = cells_are_paired r && rows_are_paired rs
 
 abbrev mutual
-  pub block_has_no_raw : Block → Bool
-  block_has_no_raw (paragraph xs) = has_no_raw xs
-  block_has_no_raw (heading level xs) = has_no_raw xs
-  block_has_no_raw (code_block language s) = true
-  block_has_no_raw (quote bs) = blocks_have_no_raw bs
-  block_has_no_raw thematic_break = true
-  block_has_no_raw (list start tight items) = items_have_no_raw items
-  block_has_no_raw (table alignments header rows) = cells_have_no_raw header && rows_have_no_raw rows
-  block_has_no_raw (html_block s) = false
+  -- and there is no HTML block
+  pub block_is_paired : Block → Bool
+  block_is_paired (paragraph xs) = are_paired xs
+  block_is_paired (heading level xs) = are_paired xs
+  block_is_paired (code_block language s) = true
+  block_is_paired (quote bs) = blocks_are_paired bs
+  block_is_paired thematic_break = true
+  block_is_paired (list start tight items) = items_are_paired items
+  block_is_paired (table alignments header rows) = cells_are_paired header && rows_are_paired rows
+  block_is_paired (html_block s) = false
 
-  pub blocks_have_no_raw : Blocks → Bool
-  blocks_have_no_raw no_blocks = true
-  blocks_have_no_raw (block b bs) = block_has_no_raw b && blocks_have_no_raw bs
+  pub blocks_are_paired : Blocks → Bool
+  blocks_are_paired no_blocks = true
+  blocks_are_paired (block b bs) = block_is_paired b && blocks_are_paired bs
 
-  pub items_have_no_raw : Items → Bool
-  items_have_no_raw no_items = true
-  items_have_no_raw (item bs rest) = blocks_have_no_raw bs && items_have_no_raw rest
+  pub items_are_paired : Items → Bool
+  items_are_paired no_items = true
+  items_are_paired (item bs rest) = blocks_are_paired bs && items_are_paired rest
 
--- ---- what HTML takes
+-- ---- where HTML allows elements
 
--- A reader of HTML takes a carriage return for a line feed. In an address it is written by its number.
-abbrev pub has_no_return : List ℕ → Bool
-has_no_return s = lacks carriage_return s
+-- an `a` is opened further left, or none is
+abbrev pub in_anchor : Option (List (List ℕ)) → Bool
+in_anchor None = false
+in_anchor (Some ns) = is_open (codes "a" ∷ []) ns
 
-abbrev pub title_has_no_return : Option (List ℕ) → Bool
-title_has_no_return None = true
-title_has_no_return (Some s) = has_no_return s
+-- without the first name
+abbrev pub behind_first : Option (List (List ℕ)) → Option (List (List ℕ))
+behind_first None = None
+behind_first (Some ns) = Some (drop 1 ns)
 
--- inlines in a link or outside links
+-- an `a` opens in no other
+abbrev pub raw_is_strict : Bool → RawTag → Option (List (List ℕ)) → Bool
+raw_is_strict in_link (opening name attributes) ns =
+    not (bytes_eq name (codes "a")) || not (in_link || in_anchor (behind_first ns))
+raw_is_strict in_link tag ns = true
+
+-- inlines in a link or an anchor, or outside
 abbrev pub are_strict : Bool → Inlines → Bool
 are_strict in_link no_inlines = true
-are_strict in_link (letter c xs) = not (c == carriage_return) && are_strict in_link xs
-are_strict in_link (code s xs) = has_no_return s && are_strict in_link xs
+are_strict in_link (letter c xs) = are_strict in_link xs
+are_strict in_link (code s xs) = are_strict in_link xs
 are_strict in_link (formatted f content xs) =
-    has_no_return (title_of f) && are_strict in_link content && are_strict in_link xs
+    are_strict (in_link || in_anchor (unopened xs)) content && are_strict in_link xs
 are_strict in_link (link a t content xs) =
-    not in_link && title_has_no_return t && are_strict true content && are_strict in_link xs
-are_strict in_link (image a t content xs) =
-    has_no_return (plain_text content) && title_has_no_return t && are_strict in_link xs
+    not (in_link || in_anchor (unopened xs)) && are_strict true content && are_strict in_link xs
+are_strict in_link (image a t content xs) = are_strict in_link xs
 are_strict in_link (line_break xs) = are_strict in_link xs
 are_strict in_link (task d xs) = are_strict in_link xs
-are_strict in_link (raw tag xs) = are_strict in_link xs
+are_strict in_link (raw tag xs) = raw_is_strict in_link (raw_tag tag) (unopened xs) && are_strict in_link xs
 
 abbrev pub cells_are_strict : List Inlines → Bool
 cells_are_strict [] = true
@@ -88,7 +125,7 @@ abbrev mutual
   pub block_is_strict : Block → Bool
   block_is_strict (paragraph xs) = are_strict false xs
   block_is_strict (heading level xs) = nat_le 1 level && nat_le level 6 && are_strict false xs
-  block_is_strict (code_block language s) = title_has_no_return language && has_no_return s
+  block_is_strict (code_block language s) = true
   block_is_strict (quote bs) = blocks_are_strict bs
   block_is_strict thematic_break = true
   block_is_strict (list start tight items) = items_are_strict items
@@ -102,47 +139,6 @@ abbrev mutual
   pub items_are_strict : Items → Bool
   items_are_strict no_items = true
   items_are_strict (item bs rest) = blocks_are_strict bs && items_are_strict rest
-
--- ---- levels: of how many elements and texts one can be in another
-
-abbrev pub levels : Inlines → ℕ
-levels no_inlines = 0
-levels (letter c xs) = max 1 (levels xs)
-levels (code s xs) = max 2 (levels xs)
-levels (formatted f content xs) = max (suc (levels content)) (levels xs)
-levels (link a t content xs) = max (suc (levels content)) (levels xs)
-levels (image a t content xs) = max 1 (levels xs)
-levels (line_break xs) = max 1 (levels xs)
-levels (task d xs) = max 1 (levels xs)
-levels (raw tag xs) = levels xs
-
-abbrev pub levels_of_cells : List Inlines → ℕ
-levels_of_cells [] = 0
-levels_of_cells (c ∷ cs) = max (levels c) (levels_of_cells cs)
-
-abbrev pub levels_of_rows : List (List Inlines) → ℕ
-levels_of_rows [] = 0
-levels_of_rows (r ∷ rs) = max (levels_of_cells r) (levels_of_rows rs)
-
-abbrev mutual
-  -- a paragraph is one level in tight lists too
-  pub levels_of_block : Block → ℕ
-  levels_of_block (paragraph xs) = suc (levels xs)
-  levels_of_block (heading level xs) = suc (levels xs)
-  levels_of_block (code_block language s) = 3
-  levels_of_block (quote bs) = suc (max 1 (levels_of_blocks bs))
-  levels_of_block thematic_break = 1
-  levels_of_block (list start tight items) = suc (max 1 (levels_of_items items))
-  levels_of_block (table alignments header rows) = 4 + max (levels_of_cells header) (levels_of_rows rows)
-  levels_of_block (html_block s) = 1
-
-  pub levels_of_blocks : Blocks → ℕ
-  levels_of_blocks no_blocks = 0
-  levels_of_blocks (block b bs) = max (levels_of_block b) (levels_of_blocks bs)
-
-  pub levels_of_items : Items → ℕ
-  levels_of_items no_items = 0
-  levels_of_items (item bs rest) = max (suc (levels_of_blocks bs)) (levels_of_items rest)
 
 -- ---- tables
 
@@ -161,9 +157,11 @@ abbrev mutual
   items_have_no_table no_items = true
   items_have_no_table (item bs rest) = blocks_have_no_table bs && items_have_no_table rest
 
--- ---- all of these but the last
+-- ---- what is plain
 
+-- A reader of HTML takes a carriage return for a line feed, and no tree has more than 1,024 levels: three are above.
 pub record IsPlain (bs : Blocks) : Type 0 where
-  pub no_raw : blocks_have_no_raw bs ≡ true
+  pub paired : blocks_are_paired bs ≡ true
   pub strict : blocks_are_strict bs ≡ true
-  pub shallow : levels_of_blocks bs ≤ 1022
+  pub no_returns : lacks carriage_return (html_of bs) ≡ true
+  pub shallow : levels (spelled_of bs) ≤ 1022

@@ -1,12 +1,13 @@
 -- The trees that what is read of Markdown stands for: each block and inline as the element that its HTML has for it.
--- Each definition gives trees before others, so that a text and one that follows it are one text.
+-- Each definition gives trees before others, so that a text and one that follows it are one text. Raw tags in lines
+-- are paired from the right.
 use Rattle.std.specs.Prelude.{ℕ, Bool, true, false, ◌/◌, ◌%◌, if◌then◌else◌, ◌==◌, List, [], ◌∷◌, ◌++◌, drop, codes}
 use Rattle.std.specs.Prelude.{Option, Some, None}
 use Rattle.std.specs.Fmt.{decimal}
 use Rattle.std.specs.List.{flat_map}
 use Rattle.htmd_lexical.specs.Characters.{line_feed, space}
 use Rattle.htmd_lexical.specs.AttributePairs.{AttributePair}
-use Rattle.htmd_values.specs.ValueTrees.{ValueForest, none, more, text, element}
+use Rattle.htmd_values.specs.ValueTrees.{ValueForest}
 use Rattle.htmd_document.specs.declared.document.Alignment.{Alignment}
 use Rattle.htmd_document.specs.declared.document.Alignment.TheVariants as aligned
 use Rattle.htmd_document.specs.Formats.{Format, Emphasis, Strong, Deleted, Superscript, Subscript, Inserted, Underlined}
@@ -16,20 +17,24 @@ use Rattle.htmd_commonmark_reading.specs.Markup.{task, raw, Block, paragraph, he
 use Rattle.htmd_commonmark_reading.specs.Markup.{thematic_break, list, table, html_block, Blocks, no_blocks, block}
 use Rattle.htmd_commonmark_reading.specs.Markup.{Items, no_items, item, plain_text}
 use Rattle.htmd_commonmark_reading.specs.Rendering.{stays_in_address, hexadecimal_digit, first_alignment, is_bare}
+use Rattle.htmd_law_rendering.specs.RawTags.{RawTag, opening, closing, breaking, unknown, raw_tag}
+pub use Rattle.htmd_law_rendering.specs.RawTags.{pair}
+use Rattle.htmd_law_rendering.specs.SpelledTrees.{SpelledForest, none, more, text, element, value_forest}
 
 -- ---- texts, elements and attributes
 
 -- a text before trees: one with the text that they begin with, and none if it is empty
-abbrev pub text_before : List ℕ → ValueForest → ValueForest
+abbrev pub text_before : List ℕ → SpelledForest → SpelledForest
 text_before [] ts = ts
 text_before (b ∷ s) (more (text u) ts) = more (text (b ∷ (s ++ u))) ts
 text_before (b ∷ s) ts = more (text (b ∷ s)) ts
 
-abbrev pub line_end : ValueForest → ValueForest
-line_end ts = text_before (line_feed ∷ []) ts
+-- an element before trees; if it is void its tag has a slash
+abbrev pub element_before : List ℕ → List AttributePair → SpelledForest → SpelledForest → SpelledForest
+element_before name attributes content ts = more (element false name attributes content) ts
 
-abbrev pub pair : List ℕ → List ℕ → AttributePair
-pair name value = record { name = name; value = value }
+abbrev pub line_end : SpelledForest → SpelledForest
+line_end ts = text_before (line_feed ∷ []) ts
 
 abbrev pub pairs_of_title : Option (List ℕ) → List AttributePair
 pairs_of_title None = []
@@ -77,21 +82,50 @@ pairs_of_box true =
     pair (codes "checked") [] ∷ pair (codes "disabled") [] ∷ pair (codes "type") (codes "checkbox") ∷ []
 pairs_of_box false = pair (codes "disabled") [] ∷ pair (codes "type") (codes "checkbox") ∷ []
 
--- raw tags stand for nothing here
-abbrev pub inlines_trees : Inlines → ValueForest → ValueForest
-inlines_trees no_inlines rest = rest
-inlines_trees (letter c xs) rest = text_before (c ∷ []) (inlines_trees xs rest)
-inlines_trees (code s xs) rest = more (element (codes "code") [] (text_before s none)) (inlines_trees xs rest)
-inlines_trees (formatted f content xs) rest =
-    more (element (format_name f) (pairs_of_format f) (inlines_trees content none)) (inlines_trees xs rest)
-inlines_trees (link a t content xs) rest =
-    more (element (codes "a") (pairs_of_link a t) (inlines_trees content none)) (inlines_trees xs rest)
-inlines_trees (image a t content xs) rest =
-    more (element (codes "img") (pairs_of_image a t (plain_text content)) none) (inlines_trees xs rest)
-inlines_trees (line_break xs) rest = more (element (codes "br") [] none) (line_end (inlines_trees xs rest))
-inlines_trees (task d xs) rest =
-    more (element (codes "input") (pairs_of_box d) none) (text_before (space ∷ []) (inlines_trees xs rest))
-inlines_trees (raw tag xs) rest = inlines_trees xs rest
+-- trees behind an end tag that no tag before it has opened so far
+pub record Behind : Type 0 where
+  pub name : List ℕ
+  pub trees : SpelledForest
+
+-- trees, and behind them such end tags with what follows each
+pub record Open : Type 0 where
+  pub first : SpelledForest
+  pub behind : List Behind
+
+abbrev pub onto : (SpelledForest → SpelledForest) → Open → Open
+onto f o = record o { first = f o.first }
+
+-- an opening tag is of the first end tag behind it; without one it stands for nothing
+abbrev pub opened : List ℕ → List AttributePair → SpelledForest → List Behind → Open
+opened name attributes content [] = record { first = content; behind = [] }
+opened name attributes content (b ∷ behind) =
+    record { first = element_before name attributes content b.trees; behind = behind }
+
+abbrev pub with_raw : RawTag → Open → Open
+with_raw (opening name attributes) o = opened name attributes o.first o.behind
+with_raw (closing name) o = record { first = none; behind = record { name = name; trees = o.first } ∷ o.behind }
+with_raw breaking o = onto (more (element true (codes "br") [] none)) o
+with_raw unknown o = o
+
+abbrev pub inlines_open : Inlines → SpelledForest → Open
+inlines_open no_inlines rest = record { first = rest; behind = [] }
+inlines_open (letter c xs) rest = onto (text_before (c ∷ [])) (inlines_open xs rest)
+inlines_open (code s xs) rest = onto (element_before (codes "code") [] (text_before s none)) (inlines_open xs rest)
+inlines_open (formatted f content xs) rest =
+    onto (element_before (format_name f) (pairs_of_format f) (inlines_open content none).first) (inlines_open xs rest)
+inlines_open (link a t content xs) rest =
+    onto (element_before (codes "a") (pairs_of_link a t) (inlines_open content none).first) (inlines_open xs rest)
+inlines_open (image a t content xs) rest =
+    onto (element_before (codes "img") (pairs_of_image a t (plain_text content)) none) (inlines_open xs rest)
+inlines_open (line_break xs) rest =
+    onto (λ ts. element_before (codes "br") [] none (line_end ts)) (inlines_open xs rest)
+inlines_open (task d xs) rest =
+    onto (λ ts. more (element true (codes "input") (pairs_of_box d) none) (text_before (space ∷ []) ts))
+    (inlines_open xs rest)
+inlines_open (raw tag xs) rest = with_raw (raw_tag tag) (inlines_open xs rest)
+
+abbrev pub inlines_trees : Inlines → SpelledForest → SpelledForest
+inlines_trees xs rest = (inlines_open xs rest).first
 
 -- ---- tables (GFM 4.10)
 
@@ -102,28 +136,28 @@ pairs_of_alignment aligned.Center = pair (codes "align") (codes "center") ∷ []
 pairs_of_alignment aligned.Right = pair (codes "align") (codes "right") ∷ []
 
 -- cells of columns with these alignments
-abbrev pub cells_trees : List ℕ → List Alignment → List Inlines → ValueForest
+abbrev pub cells_trees : List ℕ → List Alignment → List Inlines → SpelledForest
 cells_trees name alignments [] = none
 cells_trees name alignments (c ∷ cs) =
-    more (element name (pairs_of_alignment (first_alignment alignments)) (inlines_trees c none))
+    element_before name (pairs_of_alignment (first_alignment alignments)) (inlines_trees c none)
     (line_end (cells_trees name (drop 1 alignments) cs))
 
 -- an element that begins a line and ends one, with trees in lines of their own
-abbrev pub lines_before : List ℕ → List AttributePair → ValueForest → ValueForest → ValueForest
-lines_before name attributes content rest = more (element name attributes (line_end content)) (line_end rest)
+abbrev pub lines_before : List ℕ → List AttributePair → SpelledForest → SpelledForest → SpelledForest
+lines_before name attributes content rest = element_before name attributes (line_end content) (line_end rest)
 
-abbrev pub row_trees : List ℕ → List Alignment → List Inlines → ValueForest → ValueForest
+abbrev pub row_trees : List ℕ → List Alignment → List Inlines → SpelledForest → SpelledForest
 row_trees name alignments cs rest = lines_before (codes "tr") [] (cells_trees name alignments cs) rest
 
-abbrev pub rows_trees : List Alignment → List (List Inlines) → ValueForest
+abbrev pub rows_trees : List Alignment → List (List Inlines) → SpelledForest
 rows_trees alignments [] = none
 rows_trees alignments (r ∷ rs) = row_trees (codes "td") alignments r (rows_trees alignments rs)
 
-abbrev pub body_trees : List Alignment → List (List Inlines) → ValueForest
+abbrev pub body_trees : List Alignment → List (List Inlines) → SpelledForest
 body_trees alignments [] = none
 body_trees alignments (r ∷ rs) = lines_before (codes "tbody") [] (rows_trees alignments (r ∷ rs)) none
 
-abbrev pub table_trees : List Alignment → List Inlines → List (List Inlines) → ValueForest → ValueForest
+abbrev pub table_trees : List Alignment → List Inlines → List (List Inlines) → SpelledForest → SpelledForest
 table_trees alignments header rows rest =
     lines_before (codes "table") []
     (lines_before (codes "thead") [] (row_trees (codes "th") alignments header none) (body_trees alignments rows))
@@ -139,12 +173,12 @@ pairs_of_language None = []
 pairs_of_language (Some s) = pair (codes "class") (codes "language-" ++ s) ∷ []
 
 -- code has a line's end at its end, unless it is empty
-abbrev pub code_trees : List ℕ → ValueForest
+abbrev pub code_trees : List ℕ → SpelledForest
 code_trees [] = none
 code_trees (b ∷ s) = text_before (b ∷ s) (line_end none)
 
-abbrev pub code_block_tree : Option (List ℕ) → List ℕ → ValueForest
-code_block_tree language s = more (element (codes "code") (pairs_of_language language) (code_trees s)) none
+abbrev pub code_block_tree : Option (List ℕ) → List ℕ → SpelledForest
+code_block_tree language s = element_before (codes "code") (pairs_of_language language) (code_trees s) none
 
 abbrev pub list_name : Option ℕ → List ℕ
 list_name None = codes "ul"
@@ -155,41 +189,45 @@ pairs_of_start None = []
 pairs_of_start (Some n) = if n == 1 then [] else pair (codes "start") (decimal n) ∷ []
 
 -- in a tight list a paragraph has no element
-abbrev pub paragraph_trees : Bool → Inlines → ValueForest → ValueForest
+abbrev pub paragraph_trees : Bool → Inlines → SpelledForest → SpelledForest
 paragraph_trees true xs rest = inlines_trees xs rest
-paragraph_trees false xs rest = more (element (codes "p") [] (inlines_trees xs none)) (line_end rest)
+paragraph_trees false xs rest = element_before (codes "p") [] (inlines_trees xs none) (line_end rest)
 
 -- an element begins a line
-abbrev pub begun_line : Bool → Bool → ValueForest → ValueForest
+abbrev pub begun_line : Bool → Bool → SpelledForest → SpelledForest
 begun_line true false ts = line_end ts
 begun_line is_in_line bare ts = ts
 
 abbrev mutual
-  pub block_trees : Bool → Block → ValueForest → ValueForest
+  pub block_trees : Bool → Block → SpelledForest → SpelledForest
   block_trees is_tight (paragraph xs) rest = paragraph_trees is_tight xs rest
   block_trees is_tight (heading level xs) rest =
-      more (element (heading_name level) [] (inlines_trees xs none)) (line_end rest)
+      element_before (heading_name level) [] (inlines_trees xs none) (line_end rest)
   block_trees is_tight (code_block language s) rest =
-      more (element (codes "pre") [] (code_block_tree language s)) (line_end rest)
+      element_before (codes "pre") [] (code_block_tree language s) (line_end rest)
   block_trees is_tight (quote bs) rest = lines_before (codes "blockquote") [] (blocks_trees false false bs) rest
-  block_trees is_tight thematic_break rest = more (element (codes "hr") [] none) (line_end rest)
+  block_trees is_tight thematic_break rest = element_before (codes "hr") [] none (line_end rest)
   block_trees is_tight (list start tight items) rest =
       lines_before (list_name start) (pairs_of_start start) (items_trees tight items) rest
   block_trees is_tight (table alignments header rows) rest = table_trees alignments header rows rest
   block_trees is_tight (html_block s) rest = rest
 
   -- blocks of a tight list or not, with something before them in their line or not
-  pub blocks_trees : Bool → Bool → Blocks → ValueForest
+  pub blocks_trees : Bool → Bool → Blocks → SpelledForest
   blocks_trees is_tight is_in_line no_blocks = none
   blocks_trees is_tight is_in_line (block b bs) =
       begun_line is_in_line (is_bare is_tight b)
       (block_trees is_tight b (blocks_trees is_tight (is_bare is_tight b) bs))
 
-  pub items_trees : Bool → Items → ValueForest
+  pub items_trees : Bool → Items → SpelledForest
   items_trees is_tight no_items = none
   items_trees is_tight (item bs rest) =
-      more (element (codes "li") [] (blocks_trees is_tight true bs)) (line_end (items_trees is_tight rest))
+      element_before (codes "li") [] (blocks_trees is_tight true bs) (line_end (items_trees is_tight rest))
+
+-- the HTML of what is read, as trees that are spelled
+abbrev pub spelled_of : Blocks → SpelledForest
+spelled_of bs = blocks_trees false false bs
 
 -- the trees of what is read
 abbrev pub trees_of : Blocks → ValueForest
-trees_of bs = blocks_trees false false bs
+trees_of bs = value_forest (spelled_of bs)

@@ -9,15 +9,15 @@ use Rattle.htmd_nodes.specs.Layout.{document_items}
 use Rattle.htmd_html5.specs.Html5Documents.{html5_document}
 use Rattle.htmd_commonmark_reading.specs.Markup.{Blocks}
 use Rattle.htmd_commonmark_reading.specs.Rendering.{html_of}
-use Rattle.htmd_law_rendering.specs.RenderedTrees.{trees_of}
+use Rattle.htmd_law_rendering.specs.RenderedTrees.{spelled_of, trees_of}
 use Rattle.htmd_law_rendering.specs.SpelledTrees.{all_spelled}
-use Rattle.htmd_law_rendering.specs.PlainReadings.{blocks_have_no_raw, blocks_have_no_table, IsPlain}
+use Rattle.htmd_law_rendering.specs.PlainReadings.{blocks_are_paired, blocks_have_no_table, IsPlain}
 
--- Without raw tags the HTML of what is read is that of its trees.
+-- If raw tags pair, the HTML of what is read is that of its trees.
 abbrev pub RenderedIsSpelled : Type 0
-RenderedIsSpelled = (bs : Blocks) → blocks_have_no_raw bs ≡ true → html_of bs ≡ all_spelled (trees_of bs)
+RenderedIsSpelled = (bs : Blocks) → blocks_are_paired bs ≡ true → html_of bs ≡ all_spelled (spelled_of bs)
 
--- By the strict grammar the HTML of what is read denotes its trees, and nothing else, as the content of a body.
+-- If it is plain, by the strict grammar its HTML denotes its trees, and nothing else, as the content of a body.
 abbrev pub RenderedIsRead : Type 0
 RenderedIsRead = (scripting : Bool) (bs : Blocks) → IsPlain bs
     → DenotesAlone (project scripting) below_body (html_of bs) (trees_of bs)

@@ -1,41 +1,73 @@
--- Trees as HTML, spelled as the examples of CommonMark do it: quotation marks and greater-than signs are references
--- everywhere, and the tags of void elements end in a slash, except GitHub's `input`.
-use Rattle.std.specs.Prelude.{ℕ, Bool, not, ◌&&◌, if◌then◌else◌, List, [], ◌++◌, codes}
+-- HTML as it is spelled: the trees that it is of, and with them what their tags look like. As in the examples of
+-- CommonMark, quotation marks and greater-than signs are references everywhere, and the tags of void elements end in a
+-- slash, but for GitHub's `input` and for breaks that are written as raw HTML.
+use Rattle.std.specs.Prelude.{ℕ, suc, max, Bool, not, ◌&&◌, ◌||◌, if◌then◌else◌, List, [], ◌++◌, codes}
 use Rattle.std.specs.Str.{bytes_eq}
 use Rattle.std.specs.List.{flat_map}
 use Rattle.htmd_lexical.specs.AttributePairs.{AttributePair}
 use Rattle.htmd_document.specs.Tags.{escaped_value}
-use Rattle.htmd_values.specs.ValueTrees.{ValueTree, document, doctype, text, comment, element, ValueForest, none, more}
-use Rattle.htmd_values.specs.Serialisation.{is_void, end_tag, comment_of}
+use Rattle.htmd_values.specs.ValueTrees as value
+use Rattle.htmd_values.specs.ValueTrees.{ValueTree, ValueForest}
+use Rattle.htmd_values.specs.Serialisation.{is_void, end_tag}
 use Rattle.htmd_commonmark_reading.specs.Rendering.{escaped, attribute}
 
--- the title of an abbreviation is spelled as documents spell it
-abbrev pub value_in : List ℕ → List ℕ → List ℕ
-value_in name value = if bytes_eq name (codes "abbr") then escaped_value value else escaped value
+mutual
+  -- a text, or an element; the tag of a void one may be short, without a slash
+  pub data Spelled : Type 0 where
+    text : (s : List ℕ) → Spelled
+    element : (is_short : Bool) (name : List ℕ) (attributes : List AttributePair) (content : SpelledForest)
+        → Spelled
 
-abbrev pub attribute_in : List ℕ → AttributePair → List ℕ
-attribute_in name a = attribute a.name (value_in name a.value)
-
-abbrev pub has_slash : List ℕ → Bool
-has_slash name = is_void name && not (bytes_eq name (codes "input"))
-
-abbrev pub tag_end : List ℕ → List ℕ
-tag_end name = if has_slash name then codes " />" else codes ">"
-
-abbrev pub tag : List ℕ → List AttributePair → List ℕ
-tag name attributes = codes "<" ++ name ++ flat_map (attribute_in name) attributes ++ tag_end name
+  pub data SpelledForest : Type 0 where
+    none : SpelledForest
+    more : (tree : Spelled) (trees : SpelledForest) → SpelledForest
 
 abbrev mutual
-  pub spelled : ValueTree → List ℕ
-  spelled (document children) = all_spelled children
-  spelled doctype = codes "<!DOCTYPE html>"
-  spelled (text s) = escaped s
-  spelled (comment s) = comment_of s
-  spelled (element name attributes children) =
-      if is_void name
-      then tag name attributes
-      else tag name attributes ++ all_spelled children ++ end_tag name
+  -- a tree without the forms of its tags
+  pub value_tree : Spelled → ValueTree
+  value_tree (text s) = value.text s
+  value_tree (element is_short name attributes content) = value.element name attributes (value_forest content)
 
-  pub all_spelled : ValueForest → List ℕ
+  pub value_forest : SpelledForest → ValueForest
+  value_forest none = value.none
+  value_forest (more t ts) = value.more (value_tree t) (value_forest ts)
+
+-- ids, and the titles of abbreviations, are spelled as documents spell them
+abbrev pub value_in : List ℕ → List ℕ → List ℕ → List ℕ
+value_in name key v =
+    if bytes_eq name (codes "abbr") || bytes_eq key (codes "id") then escaped_value v else escaped v
+
+abbrev pub attribute_in : List ℕ → AttributePair → List ℕ
+attribute_in name a = attribute a.name (value_in name a.name a.value)
+
+abbrev pub has_slash : Bool → List ℕ → Bool
+has_slash is_short name = is_void name && not is_short
+
+abbrev pub tag_end : Bool → List ℕ → List ℕ
+tag_end is_short name = if has_slash is_short name then codes " />" else codes ">"
+
+abbrev pub tag : Bool → List ℕ → List AttributePair → List ℕ
+tag is_short name attributes =
+    codes "<" ++ name ++ flat_map (attribute_in name) attributes ++ tag_end is_short name
+
+abbrev mutual
+  pub spelled : Spelled → List ℕ
+  spelled (text s) = escaped s
+  spelled (element is_short name attributes content) =
+      if is_void name
+      then tag is_short name attributes
+      else tag is_short name attributes ++ all_spelled content ++ end_tag name
+
+  pub all_spelled : SpelledForest → List ℕ
   all_spelled none = []
   all_spelled (more t ts) = spelled t ++ all_spelled ts
+
+abbrev mutual
+  -- how many elements and texts can be in each other
+  pub levels_of : Spelled → ℕ
+  levels_of (text s) = 1
+  levels_of (element is_short name attributes content) = suc (levels content)
+
+  pub levels : SpelledForest → ℕ
+  levels none = 0
+  levels (more t ts) = max (levels_of t) (levels ts)

@@ -1,0 +1,162 @@
+-- What raw tags are spelled as, and how they pair.
+use Rattle.std.proofs.Common.{◌≡◌, ℕ, Bool, true, false, List, [], ◌∷◌, ◌++◌, refl, sym, ap, ◌∙◌, codes, Option, Some}
+use Rattle.std.proofs.Common.{None, drop, subst}
+use Rattle.std.specs.List.{list_all}
+use Rattle.std.specs.Prelude.{⊤, not, ◌&&◌}
+use Rattle.std.specs.Str.{bytes_eq}
+use Rattle.std.proofs.lemmas.Bool.{and_parts, not-true}
+use Rattle.std.proofs.lemmas.List.{append_assoc}
+use Rattle.htmd_lexical.proofs.BytesLemmas.{same_bytes}
+use Rattle.htmd_lexical.proofs.Cases.{test}
+use Rattle.htmd_lexical.specs.AttributePairs.{AttributePair}
+use Rattle.htmd_lexical.specs.Attributes.{attribute_names}
+use Rattle.htmd_lexical.specs.CharacterClasses.{are_distinct, is_among}
+use Rattle.htmd_values.specs.Serialisation.{is_void, start_tag, end_tag}
+use Rattle.htmd_document.specs.Tags.{anchor_tag, abbreviation_tag, escaped_value}
+use Rattle.htmd_commonmark_reading.specs.Anchors.{value, anchor_id, abbreviation_title}
+use Rattle.htmd_law_rendering.specs.SpelledTrees.{SpelledForest, tag, all_spelled}
+use Rattle.htmd_law_rendering.specs.RawTags.{RawTag, opening, closing, breaking, unknown, raw_names, tag_among}
+use Rattle.htmd_law_rendering.specs.RawTags.{tag_by_title, tag_by_id, raw_tag}
+use Rattle.htmd_law_rendering.specs.RenderedTrees.{Behind, Open, opened, with_raw}
+use Rattle.htmd_law_rendering.specs.PlainReadings.{opened_names, names_with}
+use Rattle.htmd_law_rendering.proofs.TagLemmas.{AreTreeKeys}
+use Rattle.htmd_law_rendering.proofs.SpellingLemmas.{element-spelled, titled}
+
+-- ---- tags
+
+-- what a raw tag is spelled as, and that its element may stand in lines
+abbrev pub IsRaw : List ℕ → RawTag → Type 0
+IsRaw s (opening n attributes) =
+    (s ≡ tag false n attributes) × (is_void n ≡ false) × (is_among raw_names n ≡ true)
+    × AreTreeKeys attributes × (are_distinct (attribute_names attributes) ≡ true)
+IsRaw s (closing n) = (s ≡ end_tag n) × (is_among raw_names n ≡ true)
+IsRaw s breaking = s ≡ codes "<br>"
+IsRaw s unknown = ⊤
+
+bare_tag : (n : List ℕ) → is_void n ≡ false → start_tag n [] ≡ tag false n []
+bare_tag n v = rw v refl
+
+abbrev is_raw_name : List ℕ → Bool
+is_raw_name n = not (is_void n) && is_among raw_names n
+
+among : (ns : List (List ℕ)) (s : List ℕ) → list_all is_raw_name ns ≡ true → IsRaw s (tag_among ns s)
+among [] s h = test (bytes_eq s (codes "<br>")) (λ e. rw e (same_bytes s (codes "<br>") e)) (λ e. rw e tt)
+among (n ∷ ns) s h =
+    let p = and_parts (is_raw_name n) (list_all is_raw_name ns) h in
+    let q = and_parts (not (is_void n)) (is_among raw_names n) p.0 in
+    let v = not-true (is_void n) q.0 in
+    test (bytes_eq s (start_tag n []))
+    (λ e. rw e (same_bytes s (start_tag n []) e ∙ bare_tag n v, v, q.1, tt, refl))
+    (λ e. test (bytes_eq s (end_tag n)) (λ f. rw (e, f) (same_bytes s (end_tag n) f, q.1))
+    (λ f. rw (e, f) (among ns s p.1)))
+
+by_title : (o : Option (List ℕ)) (s : List ℕ) → abbreviation_title s ≡ o → IsRaw s (tag_by_title o s)
+unfolding is_void
+by_title None s e = among raw_names s refl
+by_title (Some title) s e = (
+  sym found ∙ ap (λ x. codes "<abbr title=\"" ++ x) (sym (titled (escaped_value title))),
+  refl,
+  refl,
+  (refl, refl, refl, tt),
+  refl,
+)
+  where
+    found : abbreviation_tag title ≡ s
+    found = test (bytes_eq (abbreviation_tag (value (drop 13 s))) s)
+        (λ t. let w = rw t at e in let x : value (drop 13 s) ≡ title = cc in
+        subst (λ v. abbreviation_tag v ≡ s) x (same_bytes (abbreviation_tag (value (drop 13 s))) s t))
+        (λ t. let w = rw t at e in absurd (cc))
+
+by_id : (o : Option (List ℕ)) (s : List ℕ) → anchor_id s ≡ o → IsRaw s (tag_by_id o s)
+unfolding is_void
+by_id None s e = by_title (abbreviation_title s) s refl
+by_id (Some id) s e = (
+  sym found ∙ ap (λ x. codes "<a id=\"" ++ x) (sym (titled (escaped_value id))),
+  refl,
+  refl,
+  (refl, refl, refl, tt),
+  refl,
+)
+  where
+    found : anchor_tag id ≡ s
+    found = test (bytes_eq (anchor_tag (value (drop 7 s))) s)
+        (λ t. let w = rw t at e in let x : value (drop 7 s) ≡ id = cc in
+        subst (λ v. anchor_tag v ≡ s) x (same_bytes (anchor_tag (value (drop 7 s))) s t))
+        (λ t. let w = rw t at e in absurd (cc))
+
+pub raw-is : (s : List ℕ) → IsRaw s (raw_tag s)
+raw-is s = by_id (anchor_id s) s refl
+
+-- ---- what stands behind end tags
+
+abbrev pub behind_spelled : List Behind → List ℕ
+behind_spelled [] = []
+behind_spelled (b ∷ bs) = end_tag b.name ++ all_spelled b.trees ++ behind_spelled bs
+
+abbrev pub open_spelled : Open → List ℕ
+open_spelled o = all_spelled o.first ++ behind_spelled o.behind
+
+abbrev pub names_of : List Behind → List (List ℕ)
+names_of [] = []
+names_of (b ∷ bs) = b.name ∷ names_of bs
+
+-- so many end tags are left, and this is what is spelled
+abbrev pub IsOpen : Open → List (List ℕ) → List ℕ → Type 0
+IsOpen o ns s = (names_of o.behind ≡ ns) × (open_spelled o ≡ s)
+
+closed : (t f e x b html rest : List ℕ) → f ++ ((e ++ x) ++ b) ≡ html ++ rest
+    → ((t ++ f ++ e) ++ x) ++ b ≡ (t ++ html) ++ rest
+closed t f e x b html rest h = simp append_assoc (ap (λ s. t ++ s) (flat ∙ h ∙ refl))
+  where
+    flat : f ++ (e ++ (x ++ b)) ≡ f ++ ((e ++ x) ++ b)
+    flat = simp append_assoc
+
+opened-ok : (n : List ℕ) (attributes : List AttributePair) (s html rest : List ℕ) (first : SpelledForest)
+    (behind : List Behind) (ms ns : List (List ℕ)) → IsRaw s (opening n attributes)
+    → names_of behind ≡ ms → opened_names n ms ≡ Some ns
+    → all_spelled first ++ behind_spelled behind ≡ html ++ rest
+    → IsOpen (opened n attributes first behind) ns ((s ++ html) ++ rest)
+opened-ok n attributes s html rest first [] [] ns r e f h = absurd (cc)
+opened-ok n attributes s html rest first [] (m ∷ ms) ns r e f h = absurd (cc)
+opened-ok n attributes s html rest first (b ∷ bs) [] ns r e f h = absurd (cc)
+opened-ok n attributes s html rest first (b ∷ bs) (m ∷ ms) ns r e f h =
+    test (bytes_eq m n)
+    (λ t. let w = rw t at f in
+    let left : ms ≡ ns = cc in
+    let same : names_of bs ≡ ms = cc in
+    let name : b.name ≡ n = (let x : b.name ≡ m = cc in x ∙ same_bytes m n t) in
+    let k : all_spelled first ++ ((end_tag n ++ all_spelled b.trees) ++ behind_spelled bs) ≡ html ++ rest =
+    subst (λ x. all_spelled first ++ ((end_tag x ++ all_spelled b.trees) ++ behind_spelled bs) ≡ html ++ rest)
+    name h in (
+      same ∙ left,
+      ap (λ x. (x ++ all_spelled b.trees) ++ behind_spelled bs) (element-spelled false n attributes first r.1)
+          ∙ (closed (tag false n attributes) (all_spelled first) (end_tag n) (all_spelled b.trees) (behind_spelled bs)
+          html rest k
+          ∙ ap (λ x. (x ++ html) ++ rest) (sym r.0)),
+    ))
+    (λ t. let w = rw t at f in absurd (cc))
+
+-- a raw tag before what is open
+pub raw-ok : (r : RawTag) (s html rest : List ℕ) (o : Open) (left : Option (List (List ℕ))) (ns : List (List ℕ))
+    → IsRaw s r → names_with r left ≡ Some ns
+    → ((ms : List (List ℕ)) → left ≡ Some ms → IsOpen o ms (html ++ rest))
+    → IsOpen (with_raw r o) ns ((s ++ html) ++ rest)
+unfolding is_void
+raw-ok r s html rest o None ns k e h = absurd (cc)
+raw-ok (opening n attributes) s html rest o (Some ms) ns k e h =
+    let i = h ms refl in opened-ok n attributes s html rest o.first o.behind ms ns k i.0 e i.1
+raw-ok (closing n) s html rest o (Some ms) ns k e h =
+    let i = h ms refl in
+    let x : n ∷ ms ≡ ns = cc in (
+      ap (λ y. n ∷ y) i.0 ∙ x,
+      append_assoc (end_tag n) (all_spelled o.first) (behind_spelled o.behind)
+          ∙ (ap (λ y. end_tag n ++ y) i.1
+          ∙ (sym (append_assoc (end_tag n) html rest) ∙ ap (λ y. (y ++ html) ++ rest) (sym k.0))),
+    )
+raw-ok breaking s html rest o (Some ms) ns k e h =
+    let i = h ms refl in
+    let x : ms ≡ ns = cc in (
+      i.0 ∙ x,
+      ap (λ y. codes "<br>" ++ y) i.1 ∙ ap (λ y. (y ++ html) ++ rest) (sym k),
+    )
+raw-ok unknown s html rest o (Some ms) ns k e h = absurd (cc)
