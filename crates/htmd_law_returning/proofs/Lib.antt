@@ -1,0 +1,4 @@
+-- The lemmas of the law.
+pub mod WordsLemmas
+pub mod ReturnedLemmas
+mod Examples

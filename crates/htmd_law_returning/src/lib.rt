@@ -1,0 +1,4 @@
+//! The document of the page of what is read of Markdown is what was read.
+#![tactic(auto)]
+
+pub mod returning;
