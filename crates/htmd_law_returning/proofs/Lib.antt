@@ -1,4 +1,5 @@
 -- The lemmas of the law.
 pub mod WordsLemmas
+pub mod BareLemmas
 pub mod ReturnedLemmas
 mod Examples

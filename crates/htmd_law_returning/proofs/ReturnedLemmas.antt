@@ -1,7 +1,7 @@
 -- What is read comes back.
 use Rattle.htmd_law_returning.specs.ReturningLaws.{SimpleReturns}
 use Rattle.htmd_law_returning.proofs.WordsLemmas.{words-end}
-use Rattle.htmd_law_returning.proofs.Examples.{a_paragraph}
+use Rattle.htmd_law_returning.proofs.BareLemmas.{bare-stay}
 
 pub returned : SimpleReturns
 returned which scripting is_rich bs d simple seen normal = ?
