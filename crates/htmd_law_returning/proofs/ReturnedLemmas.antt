@@ -1,6 +1,8 @@
 -- What is read comes back.
 use Rattle.htmd_law_returning.specs.ReturningLaws.{SimpleReturns}
 use Rattle.htmd_law_returning.proofs.WordsLemmas.{words-end}
+use Rattle.htmd_law_returning.proofs.FlowLemmas.{frame-blocks}
+use Rattle.htmd_law_returning.proofs.PageLemmas.{framed}
 use Rattle.htmd_law_returning.proofs.BareLemmas.{bare-stay}
 
 pub returned : SimpleReturns

@@ -1,0 +1,141 @@
+-- What blocks give one after another: each one begins where another one ends.
+use Rattle.std.proofs.Common.{◌≡◌, ℕ, suc, Bool, true, false, ◌&&◌, cond, List, [], ◌∷◌, ◌++◌, fold, length, refl, sym}
+use Rattle.std.proofs.Common.{ap, ◌∙◌, encode_utf8_all}
+use Rattle.std.specs.Prelude.{nat_le}
+use Rattle.std.specs.Str.{chars, IsUtf8}
+use Rattle.std.proofs.lemmas.List.{append_assoc, append-nil}
+use Rattle.std.proofs.lemmas.List.Sums.{fold-append}
+use Rattle.std.proofs.lemmas.Str.{encodes-chars}
+use Rattle.htmd_lexical.specs.Characters.{line_feed}
+use Rattle.htmd_document.specs.DocumentLimits.{most_nested}
+use Rattle.htmd_document.specs.Documents as documents
+use Rattle.htmd_document.specs.Documents.{Block, Blocks, no_blocks, block, paragraph, quote, thematic_break, blocks_of}
+use Rattle.htmd_flow.specs.Contexts.{Context, bare_in}
+use Rattle.htmd_flow.specs.declared.paragraphs.Met.TheVariants as met
+use Rattle.htmd_flow.specs.Flows.{node_of, nodes_of, flow_all}
+use Rattle.htmd_flow.specs.Flows as flow
+use Rattle.htmd_flow.specs.Nesting.{one_inline}
+use Rattle.htmd_flow.specs.Paragraphs.{Writing, broken_off, ended, fed, fed_all, blocks_in, is_boxed_item}
+use Rattle.htmd_flow.specs.Parts.{Part, run, edge, whole}
+use Rattle.htmd_shown.specs.declared.role.Role.TheVariants as role
+use Rattle.htmd_shown.specs.Facts.{made}
+use Rattle.htmd_shown.specs.SimpleTrees.{Simples, text, none, more}
+use Rattle.htmd_law_returning.proofs.PageLemmas.{frame}
+use Rattle.htmd_law_returning.proofs.WordsLemmas.{clean, in_words, are_words, words-first, words-end}
+use lib.Utf8.{encode}
+
+-- so many quotes around
+abbrev pub here : Bool → ℕ → Context
+here is_rich n = record (bare_in is_rich) { nested = n }
+
+abbrev pub parts_of : Bool → ℕ → Simples → List Part
+parts_of is_rich n ts = flow_all (nodes_of ts) (here is_rich n)
+
+-- ---- between blocks
+
+-- after these blocks, where the next one may begin
+pub record IsReady (w : Writing) (done : List Block) : Type 0 where
+  pub flat : w.is_flat ≡ false
+  pub boxed : is_boxed_item w ≡ false
+  pub end : record (ended w) { met = met.Nothing } ≡ clean false done
+
+pub clean-ready : (done : List Block) → IsReady (clean false done) done
+clean-ready done = record {
+  flat = refl;
+  boxed = refl;
+  end = ap (clean false) (append-nil done);
+}
+
+-- white space between blocks is none
+pub line-ready : (done : List Block) → IsReady (fed (clean false done) (run (line_feed ∷ []) [] false)) done
+unfolding chars encode
+line-ready done = record {
+  flat = refl;
+  boxed = refl;
+  end = ap (clean false) (append-nil done);
+}
+
+module _ (w : Writing) (done : List Block) (h : IsReady w done) where
+  pub edge-fed : fed w edge ≡ clean false done
+  edge-fed =
+      ap (λ b. cond b (broken_off w) (cond (is_boxed_item w) w (record (ended w) { met = met.Nothing }))) h.flat
+      ∙ (ap (λ b. cond b w (record (ended w) { met = met.Nothing })) h.boxed ∙ h.end)
+
+  pub whole-fed : (b : Block) → fed w (whole b) ≡ clean false (done ++ b ∷ [])
+  whole-fed b =
+      ap (λ x. cond x (broken_off w) (record (ended w) { done = (ended w).done ++ b ∷ []; met = met.Nothing })) h.flat
+      ∙ ap (λ (v : Writing). record v { done = v.done ++ b ∷ [] }) h.end
+
+  pub all-done : (ended w).done ≡ done
+  all-done = ap (λ v. v.done) h.end
+
+-- ---- blocks
+
+module _ (w : Writing) (done : List Block) (h : IsReady w done) where
+  -- a paragraph
+  pub words-fed : (s : List ℕ) → IsUtf8 s → are_words false (chars s) ≡ true
+      → fed (fed (fed w edge) (run s [] false)) edge ≡ clean false (done ++ paragraph (one_inline (documents.text s)) ∷ [])
+  words-fed s u e =
+      ap (λ v. fed (fed v (run s [] false)) edge) (edge-fed w done h)
+      ∙ (ap (λ v. fed v edge) (words-first done false (chars s) e
+      ∙ ap (in_words false done) (encodes-chars s u))
+      ∙ words-end done s)
+
+  -- a block between edges
+  pub apart-fed : (b : Block) → fed (fed (fed w edge) (whole b)) edge ≡ clean false (done ++ b ∷ [])
+  apart-fed b =
+      ap (λ v. fed (fed v (whole b)) edge) (edge-fed w done h)
+      ∙ (ap (λ v. fed v edge) (whole-fed (clean false done) done (clean-ready done) b)
+      ∙ edge-fed (clean false (done ++ b ∷ [])) (done ++ b ∷ []) (clean-ready (done ++ b ∷ [])))
+
+-- ---- what elements give
+
+module _ (is_rich : Bool) (n id : ℕ) where
+  pub text-parts : (s : List ℕ) (ts : Simples)
+      → parts_of is_rich n (more (text s) ts) ≡ run s [] false ∷ parts_of is_rich n ts
+  unfolding node_of
+  text-parts s ts = refl
+
+  pub paragraph-parts : (s : List ℕ) (ts : Simples)
+      → parts_of is_rich n (more (made id role.Paragraph [] (more (text s) none)) ts)
+      ≡ edge ∷ run s [] false ∷ edge ∷ parts_of is_rich n ts
+  unfolding node_of
+  paragraph-parts s ts = refl
+
+  pub break-parts : (ts : Simples)
+      → parts_of is_rich n (more (made id role.ThematicBreak [] none) ts)
+      ≡ whole thematic_break ∷ parts_of is_rich n ts
+  unfolding node_of
+  break-parts ts = refl
+
+  pub quote-parts : (content ts : Simples) (b : Block) (bs : Blocks) → nat_le most_nested n ≡ false
+      → flow.blocks_of false (parts_of is_rich (suc n) content) ≡ block b bs
+      → parts_of is_rich n (more (made id role.BlockQuote [] content) ts)
+      ≡ edge ∷ whole (quote (block b bs)) ∷ edge ∷ parts_of is_rich n ts
+  unfolding node_of
+  quote-parts content ts b bs h e = rw h (rw e refl)
+
+-- ---- the page
+
+between-edges : (w : Writing) (ps : List Part)
+    → fed_all w ((edge ∷ ((edge ∷ ps ++ edge ∷ []) ++ []) ++ edge ∷ []) ++ [])
+    ≡ fed (fed (fed_all (fed (fed w edge) edge) ps) edge) edge
+between-edges w ps =
+    let v : Writing = fed (fed w edge) edge in
+    ap (fed_all v) (append-nil (((ps ++ edge ∷ []) ++ []) ++ edge ∷ []))
+    ∙ (ap (λ qs. fed_all v (qs ++ edge ∷ [])) (append-nil (ps ++ edge ∷ []))
+    ∙ (fold-append fed v (ps ++ edge ∷ []) (edge ∷ [])
+    ∙ ap (λ x. fed x edge) (fold-append fed v ps (edge ∷ []))))
+
+pub frame-blocks : (is_rich : Bool) (html head body : ℕ) (ts : Simples) (done : List Block)
+    → ((w : Writing) → IsReady w [] → IsReady (fed_all w (parts_of is_rich 0 ts)) done)
+    → flow.document_of is_rich (frame html head body ts) ≡ blocks_of done
+unfolding node_of
+frame-blocks is_rich html head body ts done h =
+    let start : Writing = fed (fed (clean false []) edge) edge in
+    let ready : IsReady (fed_all start (parts_of is_rich 0 ts)) done = h start (clean-ready []) in
+    let last : fed (fed (fed_all start (parts_of is_rich 0 ts)) edge) edge ≡ clean false done =
+    ap (λ v. fed v edge) (edge-fed (fed_all start (parts_of is_rich 0 ts)) done ready)
+    ∙ edge-fed (clean false done) done (clean-ready done) in
+    ap (λ v. blocks_in v) (between-edges (clean false []) (parts_of is_rich 0 ts) ∙ last)
+    ∙ ap blocks_of (append-nil done)

@@ -1,0 +1,193 @@
+-- What shows of the page of what is read: the elements of its blocks, and line ends between them.
+use Rattle.std.proofs.Common.{◌≡◌, ℕ, Bool, true, false, ◌&&◌, List, [], ◌∷◌, refl, sym, ap, ◌∙◌, subst, codes}
+use Rattle.std.proofs.Common.{Option, Some, None}
+use Rattle.std.specs.Str.{chars}
+use Rattle.htmd_lexical.specs.Characters.{line_feed}
+use Rattle.htmd_lexical.specs.AttributePairs.{AttributePair}
+use Rattle.htmd_values.specs.ValueTrees.{ValueTree, ValueForest}
+use Rattle.htmd_values.specs.ValueTrees as value
+use Rattle.htmd_nodes.specs.NumberedTrees.{NumberedTree, NumberedForest, value_tree, value_forest}
+use Rattle.htmd_nodes.specs.NumberedTrees as page
+use Rattle.htmd_grammar.specs.HtmlDocuments.{skeleton}
+use Rattle.htmd_shown.specs.declared.role.Role.TheVariants as role
+use Rattle.htmd_shown.specs.Facts.{made}
+use Rattle.htmd_shown.specs.Repeats.{is_copied}
+use Rattle.htmd_shown.specs.Roles.{role_of, table_role, heading_or_block, block_role, inline_role, element_role}
+use Rattle.htmd_shown.specs.Shown.{Sight, nowhere, raised, followed_by, shown, shown_all, shown_in}
+use Rattle.htmd_shown.specs.ShownTexts.{shown_text}
+use Rattle.htmd_shown.specs.SimpleTrees.{Simple, Simples, text, none, more}
+use Rattle.htmd_law_returning.specs.ReturningLaws.{whole_sight}
+use Rattle.htmd_law_returning.proofs.BareLemmas.{followed-none}
+use lib.Utf8.{encode}
+
+-- ---- from the trees to those with numbers
+
+-- a forest that is one text and others
+pub record IsText (f : NumberedForest) (s : List ℕ) (ts : ValueForest) : Type 0 where
+  pub id : ℕ
+  pub rest : NumberedForest
+  pub is : f ≡ page.more (page.text id s) rest
+  pub others : value_forest rest ≡ ts
+
+-- or one element without attributes and others
+pub record IsElement (f : NumberedForest) (name : List ℕ) (content ts : ValueForest) : Type 0 where
+  pub id : ℕ
+  pub inside : NumberedForest
+  pub rest : NumberedForest
+  pub is : f ≡ page.more (page.element id name [] inside) rest
+  pub within : value_forest inside ≡ content
+  pub others : value_forest rest ≡ ts
+
+pub from-none : (f : NumberedForest) → value_forest f ≡ value.none → f ≡ page.none
+from-none page.none e = refl
+from-none (page.more t f) e = (cc)
+
+pub from-text : (f : NumberedForest) (s : List ℕ) (ts : ValueForest)
+    → value_forest f ≡ value.more (value.text s) ts → IsText f s ts
+from-text page.none s ts e = (cc)
+from-text (page.more (page.document id children) f) s ts e = (cc)
+from-text (page.more (page.doctype id) f) s ts e = (cc)
+from-text (page.more (page.text id u) f) s ts e = record {
+  id = id;
+  rest = f;
+  is = cc;
+  others = cc;
+}
+from-text (page.more (page.comment id u) f) s ts e = (cc)
+from-text (page.more (page.element id name attributes children) f) s ts e = (cc)
+
+pub from-element : (f : NumberedForest) (name : List ℕ) (content ts : ValueForest)
+    → value_forest f ≡ value.more (value.element name [] content) ts → IsElement f name content ts
+from-element page.none name content ts e = (cc)
+from-element (page.more (page.document id children) f) name content ts e = (cc)
+from-element (page.more (page.doctype id) f) name content ts e = (cc)
+from-element (page.more (page.text id u) f) name content ts e = (cc)
+from-element (page.more (page.comment id u) f) name content ts e = (cc)
+from-element (page.more (page.element id known attributes children) f) name content ts e = record {
+  id = id;
+  inside = children;
+  rest = f;
+  is = cc;
+  within = cc;
+  others = cc;
+}
+
+-- ---- what shows
+
+raised-none : (id : ℕ) (trees : Simples) → raised [] id trees ≡ trees
+raised-none id none = refl
+raised-none id (more t ts) = ap (more t) (raised-none id ts)
+
+pub plain-content : (id : ℕ) (trees : Simples) → followed_by (followed_by none (raised [] id trees)) none ≡ trees
+plain-content id trees = followed-none (raised [] id trees) ∙ raised-none id trees
+
+-- no element before has what a formula is shown by again
+abbrev pub IsFresh : Option (List AttributePair) → Type 0
+IsFresh before = is_copied before [] ≡ false
+
+pub fresh-first : IsFresh None
+fresh-first = refl
+
+pub fresh-next : IsFresh (Some [])
+fresh-next = refl
+
+abbrev pub frame : (html head body : ℕ) → Simples → Simples
+frame html head body ts =
+    more (made html role.Block []
+    (more (made head role.Plain [] none) (more (made body role.Block [] ts) none))) none
+
+module _ (scripting is_rich : Bool) where
+  -- nodes beside each other
+  abbrev pub shown_of : Option (List AttributePair) → NumberedForest → Simples
+  shown_of before f = shown_all (whole_sight scripting is_rich) nowhere None before f
+
+  pub text-shown : (before : Option (List AttributePair)) (id : ℕ) (s : List ℕ) (f : NumberedForest)
+      → shown_of before (page.more (page.text id s) f) ≡ more (text (shown_text s)) (shown_of before f)
+  unfolding shown
+  text-shown before id s f = refl
+
+  pub line-shown : (before : Option (List AttributePair)) (id : ℕ) (f : NumberedForest)
+      → shown_of before (page.more (page.text id (line_feed ∷ [])) f)
+      ≡ more (text (line_feed ∷ [])) (shown_of before f)
+  unfolding shown chars encode
+  line-shown before id f = refl
+
+  pub paragraph-shown : (before : Option (List AttributePair)) (id : ℕ) (inside f : NumberedForest) → IsFresh before
+      → shown_of before (page.more (page.element id (codes "p") [] inside) f)
+      ≡ more (made id role.Paragraph [] (shown_of None inside)) (shown_of (Some []) f)
+  unfolding shown role_of
+  paragraph-shown before id inside f h =
+      rw h (ap (λ ts. more (made id role.Paragraph [] ts) (shown_of (Some []) f)) (plain-content id (shown_of None inside)))
+
+  pub quote-shown : (before : Option (List AttributePair)) (id : ℕ) (inside f : NumberedForest) → IsFresh before
+      → shown_of before (page.more (page.element id (codes "blockquote") [] inside) f)
+      ≡ more (made id role.BlockQuote [] (shown_of None inside)) (shown_of (Some []) f)
+  unfolding shown role_of
+  quote-shown before id inside f h =
+      rw h (ap (λ ts. more (made id role.BlockQuote [] ts) (shown_of (Some []) f)) (plain-content id (shown_of None inside)))
+
+  pub break-shown : (before : Option (List AttributePair)) (id : ℕ) (inside f : NumberedForest) → IsFresh before
+      → shown_of before (page.more (page.element id (codes "hr") [] inside) f)
+      ≡ more (made id role.ThematicBreak [] none) (shown_of (Some []) f)
+  unfolding shown role_of
+  break-shown before id inside f h = rw h refl
+
+  -- ---- the page
+
+  html-shown : (id html head body : ℕ) (f : NumberedForest)
+      → shown_in (whole_sight scripting is_rich) (page.document id
+      (page.more (page.element html (codes "html") []
+      (page.more (page.element head (codes "head") [] page.none)
+      (page.more (page.element body (codes "body") [] f) page.none))) page.none))
+      ≡ frame html head body (shown_of None f)
+  unfolding shown role_of table_role heading_or_block block_role inline_role element_role
+  html-shown id html head body f =
+      ap (λ ts. more (made html role.Block [] (more (made head role.Plain [] none)
+      (more (made body role.Block [] ts) none))) none) (plain-content body (shown_of None f))
+
+  pub record IsFramed (t : NumberedTree) (trees : ValueForest) : Type 0 where
+    pub html : ℕ
+    pub head : ℕ
+    pub body : ℕ
+    pub inside : NumberedForest
+    pub is : shown_in (whole_sight scripting is_rich) t ≡ frame html head body (shown_of None inside)
+    pub within : value_forest inside ≡ trees
+
+  pub framed : (t : NumberedTree) (trees : ValueForest) → value_tree t ≡ value.document (skeleton trees)
+      → IsFramed t trees
+  framed (page.doctype id) trees e = (cc)
+  framed (page.text id s) trees e = (cc)
+  framed (page.comment id s) trees e = (cc)
+  framed (page.element id name attributes children) trees e = (cc)
+  framed (page.document id children) trees e =
+      let content : ValueForest = value.more (value.element (codes "head") [] value.none)
+      (value.more (value.element (codes "body") [] trees) value.none) in
+      let same : value_forest children ≡ value.more (value.element (codes "html") [] content) value.none = cc in
+      let html = from-element children (codes "html") content value.none same in
+      let head = from-element html.inside (codes "head") value.none
+      (value.more (value.element (codes "body") [] trees) value.none) html.within in
+      let body = from-element head.rest (codes "body") trees value.none head.others in
+      let in_body : NumberedForest = page.more (page.element body.id (codes "body") [] body.inside) page.none in
+      let at_body : head.rest ≡ in_body =
+      body.is ∙ ap (λ g. page.more (page.element body.id (codes "body") [] body.inside) g)
+      (from-none body.rest body.others) in
+      let in_html : NumberedForest = page.more (page.element head.id (codes "head") [] page.none) in_body in
+      let at_head : html.inside ≡ in_html =
+      head.is
+      ∙ (ap (λ g. page.more (page.element head.id (codes "head") [] g) head.rest)
+      (from-none head.inside head.within)
+      ∙ ap (λ g. page.more (page.element head.id (codes "head") [] page.none) g) at_body) in
+      let at_html : children ≡ page.more (page.element html.id (codes "html") [] in_html) page.none =
+      html.is
+      ∙ (ap (λ g. page.more (page.element html.id (codes "html") [] g) html.rest) at_head
+      ∙ ap (λ g. page.more (page.element html.id (codes "html") [] in_html) g)
+      (from-none html.rest html.others)) in
+      record {
+        html = html.id;
+        head = head.id;
+        body = body.id;
+        inside = body.inside;
+        is = ap (λ g. shown_in (whole_sight scripting is_rich) (page.document id g)) at_html
+            ∙ html-shown id html.id head.id body.id body.inside;
+        within = body.within;
+      }
