@@ -3,5 +3,7 @@ pub mod WordsLemmas
 pub mod BareLemmas
 pub mod PageLemmas
 pub mod FlowLemmas
+pub mod TextLemmas
+pub mod SeenLemmas
 pub mod ReturnedLemmas
 mod Examples

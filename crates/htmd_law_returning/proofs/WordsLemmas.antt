@@ -56,7 +56,7 @@ pub from-not : (a : Bool) → not a ≡ true → a ≡ false
 from-not true e = false-true e
 from-not false e = refl
 
-space-bytes : space ∷ [] ≡ encode_utf8 space
+pub space-bytes : space ∷ [] ≡ encode_utf8 space
 unfolding encode
 space-bytes = refl
 
