@@ -10,6 +10,7 @@ use Rattle.htmd_lexical.specs.Characters.{line_feed}
 use Rattle.htmd_document.specs.DocumentLimits.{most_nested}
 use Rattle.htmd_document.specs.Documents as documents
 use Rattle.htmd_document.specs.Documents.{Block, Blocks, no_blocks, block, paragraph, quote, thematic_break, blocks_of}
+use Rattle.htmd_document.specs.TightItems.{is_filled}
 use Rattle.htmd_flow.specs.Contexts.{Context, bare_in}
 use Rattle.htmd_flow.specs.declared.paragraphs.Met.TheVariants as met
 use Rattle.htmd_flow.specs.Flows.{node_of, nodes_of, flow_all}
@@ -21,7 +22,7 @@ use Rattle.htmd_shown.specs.declared.role.Role.TheVariants as role
 use Rattle.htmd_shown.specs.Facts.{made}
 use Rattle.htmd_shown.specs.SimpleTrees.{Simples, text, none, more}
 use Rattle.htmd_law_returning.proofs.PageLemmas.{frame}
-use Rattle.htmd_law_returning.proofs.WordsLemmas.{clean, in_words, are_words, words-first, words-end}
+use Rattle.htmd_law_returning.proofs.WordsLemmas.{clean, in_words, are_words, false-true, words-first, words-end}
 use lib.Utf8.{encode}
 
 -- so many quotes around
@@ -91,6 +92,10 @@ module _ (w : Writing) (done : List Block) (h : IsReady w done) where
 -- ---- what elements give
 
 module _ (is_rich : Bool) (n id : ℕ) where
+  pub none-parts : parts_of is_rich n none ≡ []
+  unfolding node_of
+  none-parts = refl
+
   pub text-parts : (s : List ℕ) (ts : Simples)
       → parts_of is_rich n (more (text s) ts) ≡ run s [] false ∷ parts_of is_rich n ts
   unfolding node_of
@@ -108,12 +113,13 @@ module _ (is_rich : Bool) (n id : ℕ) where
   unfolding node_of
   break-parts ts = refl
 
-  pub quote-parts : (content ts : Simples) (b : Block) (bs : Blocks) → nat_le most_nested n ≡ false
-      → flow.blocks_of false (parts_of is_rich (suc n) content) ≡ block b bs
+  pub quote-parts : (content ts : Simples) (d : Blocks) → nat_le most_nested n ≡ false → is_filled d ≡ true
+      → flow.blocks_of false (parts_of is_rich (suc n) content) ≡ d
       → parts_of is_rich n (more (made id role.BlockQuote [] content) ts)
-      ≡ edge ∷ whole (quote (block b bs)) ∷ edge ∷ parts_of is_rich n ts
+      ≡ edge ∷ whole (quote d) ∷ edge ∷ parts_of is_rich n ts
   unfolding node_of
-  quote-parts content ts b bs h e = rw h (rw e refl)
+  quote-parts content ts no_blocks h filled e = false-true filled
+  quote-parts content ts (block b bs) h filled e = rw h (rw e refl)
 
 -- ---- the page
 

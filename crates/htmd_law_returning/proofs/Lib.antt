@@ -5,5 +5,6 @@ pub mod PageLemmas
 pub mod FlowLemmas
 pub mod TextLemmas
 pub mod SeenLemmas
+pub mod BlockLemmas
 pub mod ReturnedLemmas
 mod Examples

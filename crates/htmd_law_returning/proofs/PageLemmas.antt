@@ -101,6 +101,10 @@ module _ (scripting is_rich : Bool) where
   abbrev pub shown_of : Option (List AttributePair) → NumberedForest → Simples
   shown_of before f = shown_all (whole_sight scripting is_rich) nowhere None before f
 
+  pub none-shown : (before : Option (List AttributePair)) → shown_of before page.none ≡ none
+  unfolding shown
+  none-shown before = refl
+
   pub text-shown : (before : Option (List AttributePair)) (id : ℕ) (s : List ℕ) (f : NumberedForest)
       → shown_of before (page.more (page.text id s) f) ≡ more (text (shown_text s)) (shown_of before f)
   unfolding shown
