@@ -159,8 +159,11 @@ mutual
   none-among counts whole n none h = refl
   none-among counts whole n (more t ts) h =
       let parts = and_parts (is_bare t) (are_bare ts) h in
-      rw (none-own counts (unwrap_or whole n) t parts.0, none-inside counts whole n t parts.0,
-      none-among counts whole (n + seen t) ts parts.1) refl
+      rw (
+        none-own counts (unwrap_or whole n) t parts.0,
+        none-inside counts whole n t parts.0,
+        none-among counts whole (n + seen t) ts parts.1,
+      ) refl
 
 no-targets : (counts : List ℕ → Bool) (ts : Simples) → are_bare ts ≡ true → all_targets counts ts ≡ []
 no-targets counts ts h = ap firsts (none-among counts None 0 ts h)

@@ -27,17 +27,18 @@ use Rattle.htmd_shown.specs.SimpleTrees.{Simple, Simples, text, none, more}
 use Rattle.htmd_commonmark_reading.specs.Markup.{Inlines, Block, paragraph, heading, code_block, quote, thematic_break}
 use Rattle.htmd_commonmark_reading.specs.Markup.{list, table, html_block, Blocks, no_blocks, block, plain_text}
 use Rattle.htmd_commonmark_reading.specs.SeenMarkup.{is_text_alone}
-use Rattle.htmd_law_rendering.specs.RenderedTrees.{line_end, inlines_trees, blocks_trees}
+use Rattle.htmd_law_rendering.specs.RenderedTrees.{line_end, heading_name, inlines_trees, blocks_trees}
 use Rattle.htmd_law_returning.specs.SimpleReadings.{is_simple, are_simple, is_simple_line}
 use Rattle.htmd_law_returning.proofs.BareLemmas.{is_bare, are_bare}
 use Rattle.htmd_law_returning.proofs.FlowLemmas.{parts_of, IsReady, line-ready, clean-ready, whole-fed, all-done}
 use Rattle.htmd_law_returning.proofs.FlowLemmas.{words-fed, apart-fed, text-parts, paragraph-parts, break-parts}
-use Rattle.htmd_law_returning.proofs.FlowLemmas.{quote-parts, none-parts}
+use Rattle.htmd_law_returning.proofs.FlowLemmas.{none-parts, GivesBlock, paragraph-gives, heading-gives, break-gives}
+use Rattle.htmd_law_returning.proofs.FlowLemmas.{quote-gives}
 use Rattle.htmd_law_returning.proofs.PageLemmas.{from-none, from-text, from-element, IsFresh, fresh-first, fresh-next}
 use Rattle.htmd_law_returning.proofs.PageLemmas.{shown_of, text-shown, line-shown, paragraph-shown, quote-shown}
-use Rattle.htmd_law_returning.proofs.PageLemmas.{break-shown, none-shown}
+use Rattle.htmd_law_returning.proofs.PageLemmas.{break-shown, none-shown, shown_in_heading, words-in-heading, heading-shown}
 use Rattle.htmd_law_returning.proofs.SeenLemmas.{line_of, letters-tree, document_of, documents_of}
-use Rattle.htmd_law_returning.proofs.TextLemmas.{IsWords, paragraph-words}
+use Rattle.htmd_law_returning.proofs.TextLemmas.{IsWords, heading-words, paragraph-words}
 use Rattle.htmd_law_returning.proofs.WordsLemmas.{clean, false-true}
 
 abbrev pub list_in : documents.Blocks → List documents.Block
@@ -104,33 +105,36 @@ module _ (scripting is_rich : Bool) where
     pub ready : (w : Writing) (done : List documents.Block) → IsReady w done
         → IsReady (fed_all w (parts_of is_rich n (shown_of scripting is_rich before f))) (done ++ list_in d)
 
-  -- by a tree that is bare, and what that gives
-  module _ (before : Option (List AttributePair)) (f rest : NumberedForest) (n line : ℕ) (tree : Simple)
+  -- what follows a block
+  abbrev behind : (line : ℕ) → NumberedForest → NumberedForest
+  behind line rest = page.more (page.text line (line_feed ∷ [])) rest
+
+  -- one block, and those after it
+  one-more : (before : Option (List AttributePair)) (f rest : NumberedForest) (n line : ℕ) (tree : Simple)
       (b : documents.Block) (d : documents.Blocks)
-      (is : shown_of scripting is_rich before f
-      ≡ more tree (more (text (line_feed ∷ [])) (shown_of scripting is_rich (Some []) rest)))
-      (later : AreReturned (Some []) rest n d) where
-    one-more : are_bare (more tree none) ≡ true
-        → ((w : Writing) (done : List documents.Block) → IsReady w done
-        → fed_all w (parts_of is_rich n (more tree (more (text (line_feed ∷ [])) (shown_of scripting is_rich (Some []) rest))))
-        ≡ fed_all (fed (clean false (done ++ b ∷ [])) (run (line_feed ∷ []) [] false))
-        (parts_of is_rich n (shown_of scripting is_rich (Some []) rest)))
-        → AreReturned before f n (documents.block b d)
-    one-more bare gives = record {
-      bare = ap are_bare is ∙ (ap (λ x. x && are_bare (shown_of scripting is_rich (Some []) rest))
-          (and_parts (is_bare tree) true bare).0 ∙ later.bare);
-      ready = λ w done h. subst (λ (v : Writing). IsReady v (done ++ b ∷ list_in d))
-          (sym (ap (λ ts. fed_all w (parts_of is_rich n ts)) is ∙ gives w done h))
-          (subst (λ (bs : List documents.Block). IsReady (fed_all (fed (clean false (done ++ b ∷ []))
-          (run (line_feed ∷ []) [] false)) (parts_of is_rich n (shown_of scripting is_rich (Some []) rest))) bs)
-          (append_assoc done (b ∷ []) (list_in d))
-          (later.ready (fed (clean false (done ++ b ∷ [])) (run (line_feed ∷ []) [] false)) (done ++ b ∷ [])
-          (line-ready (done ++ b ∷ []))));
-    }
+      → shown_of scripting is_rich before f ≡ more tree (shown_of scripting is_rich (Some []) (behind line rest))
+      → GivesBlock is_rich n tree b → AreReturned (Some []) rest n d
+      → AreReturned before f n (documents.block b d)
+  one-more before f rest n line tree b d shows own later =
+      let ts : Simples = shown_of scripting is_rich (Some []) rest in
+      let is : shown_of scripting is_rich before f ≡ more tree (more (text (line_feed ∷ [])) ts) =
+      shows ∙ ap (more tree) (line-shown scripting is_rich (Some []) line rest) in
+      let v : List documents.Block → Writing = λ done. fed (clean false done) (run (line_feed ∷ []) [] false) in
+      record {
+        bare = ap are_bare is ∙ (ap (λ x. x && are_bare ts) own.bare ∙ later.bare);
+        ready = λ w done h.
+            subst (λ (u : Writing). IsReady u (done ++ b ∷ list_in d))
+            (sym (ap (λ us. fed_all w (parts_of is_rich n us)) is
+            ∙ (own.gives w done h (more (text (line_feed ∷ [])) ts)
+            ∙ ap (fed_all (clean false (done ++ b ∷ []))) (text-parts is_rich n 0 (line_feed ∷ []) ts))))
+            (subst (λ (bs : List documents.Block). IsReady (fed_all (v (done ++ b ∷ [])) (parts_of is_rich n ts)) bs)
+            (append_assoc done (b ∷ []) (list_in d))
+            (later.ready (v (done ++ b ∷ [])) (done ++ b ∷ []) (line-ready (done ++ b ∷ []))));
+      }
 
   mutual
-    pub returned : (bs : Blocks) (before : Option (List AttributePair)) (f : NumberedForest) (n : ℕ) → IsFresh before
-        → value_forest f ≡ blocks_trees false false bs → are_simple bs ≡ true
+    pub returned : (bs : Blocks) (before : Option (List AttributePair)) (f : NumberedForest) (n : ℕ)
+        → IsFresh before → value_forest f ≡ blocks_trees false false bs → are_simple bs ≡ true
         → are_normal_blocks false (documents_of bs) ≡ true
         → depth_among (documents_of bs) + n ≤ most_nested → AreReturned before f n (documents_of bs)
     returned no_blocks before f n fresh e simple normal fits =
@@ -145,15 +149,16 @@ module _ (scripting is_rich : Bool) where
         }
     returned (block b bs) before f n fresh e simple normal fits =
         let parts = and_parts (is_simple b) (are_simple bs) simple in
-        let good = and_parts (is_normal_block false (document_of b)) (are_normal_blocks false (documents_of bs)) normal in
+        let good = and_parts (is_normal_block false (document_of b)) (are_normal_blocks false (documents_of bs))
+        normal in
         one-returned b bs before f n fresh e parts.0 parts.1 good.0
         (left-fits (depth_of (document_of b)) (depth_among (documents_of bs)) n most_nested fits)
         (λ g h. returned bs (Some []) g n fresh-next h parts.1 good.1
         (right-fits (depth_of (document_of b)) (depth_among (documents_of bs)) n most_nested fits))
 
     one-returned : (b : Block) (bs : Blocks) (before : Option (List AttributePair)) (f : NumberedForest) (n : ℕ)
-        → IsFresh before
-        → value_forest f ≡ blocks_trees false false (block b bs) → is_simple b ≡ true → are_simple bs ≡ true
+        → IsFresh before → value_forest f ≡ blocks_trees false false (block b bs)
+        → is_simple b ≡ true → are_simple bs ≡ true
         → is_normal_block false (document_of b) ≡ true → depth_of (document_of b) + n ≤ most_nested
         → ((g : NumberedForest) → value_forest g ≡ blocks_trees false false bs
         → AreReturned (Some []) g n (documents_of bs))
@@ -164,68 +169,73 @@ module _ (scripting is_rich : Bool) where
         let words : IsWords s = paragraph-words s lines.1 normal in
         let own = from-block f (codes "p") (inlines_trees xs value.none) bs others e in
         let inner = from-text own.inside s value.none (own.within ∙ letters-tree xs lines.0) in
-        let tree : Simple = made own.id role.Paragraph [] (more (text s) none) in
         let content : shown_of scripting is_rich None own.inside ≡ more (text s) none =
-        ap (shown_of scripting is_rich None) (inner.is ∙ ap (page.more (page.text inner.id s)) (from-none inner.rest inner.others))
+        ap (shown_of scripting is_rich None)
+        (inner.is ∙ ap (page.more (page.text inner.id s)) (from-none inner.rest inner.others))
         ∙ (text-shown scripting is_rich None inner.id s page.none
         ∙ (ap (more (text (shown_text s))) (none-shown scripting is_rich None)
         ∙ ap (λ t. more (text t) none) words.shown)) in
-        one-more before f own.rest n own.line tree (document_of (paragraph xs)) (documents_of bs)
+        let after : Simples = shown_of scripting is_rich (Some []) (behind own.line own.rest) in
+        one-more before f own.rest n own.line (made own.id role.Paragraph [] (more (text s) none))
+        (document_of (paragraph xs)) (documents_of bs)
         (ap (shown_of scripting is_rich before) own.is
-        ∙ (paragraph-shown scripting is_rich before own.id own.inside (page.more (page.text own.line (line_feed ∷ [])) own.rest) fresh
-        ∙ (ap (λ ts. more (made own.id role.Paragraph [] ts) (shown_of scripting is_rich (Some []) (page.more (page.text own.line (line_feed ∷ [])) own.rest))) content
-        ∙ ap (more tree) (line-shown scripting is_rich (Some []) own.line own.rest))))
-        (later own.rest own.others) refl
-        (λ w done h.
-        ap (fed_all w) (paragraph-parts is_rich n own.id s (more (text (line_feed ∷ [])) (shown_of scripting is_rich (Some []) own.rest)))
-        ∙ (ap (λ ps. fed_all (fed (fed (fed w edge) (run s [] false)) edge) ps)
-        (text-parts is_rich n own.id (line_feed ∷ []) (shown_of scripting is_rich (Some []) own.rest))
-        ∙ ap (λ v. fed_all (fed v (run (line_feed ∷ []) [] false)) (parts_of is_rich n (shown_of scripting is_rich (Some []) own.rest)))
-        (words-fed w done h s words.utf8 words.words)))
+        ∙ (paragraph-shown scripting is_rich before own.id own.inside (behind own.line own.rest) fresh
+        ∙ ap (λ ts. more (made own.id role.Paragraph [] ts) after) content))
+        (paragraph-gives is_rich n own.id s words.utf8 words.words) (later own.rest own.others)
+    one-returned (heading level xs) bs before f n fresh e simple others normal fits later =
+        let lines = and_parts (is_text_alone xs) _ simple in
+        let s : List ℕ = plain_text xs in
+        let found = heading-words level s lines.1 normal in
+        let words : IsWords s = found.1 in
+        let own = from-block f (heading_name level) (inlines_trees xs value.none) bs others e in
+        let inner = from-text own.inside s value.none (own.within ∙ letters-tree xs lines.0) in
+        let content : shown_in_heading scripting is_rich own.inside ≡ more (text s) none =
+        ap (shown_in_heading scripting is_rich)
+        (inner.is ∙ ap (page.more (page.text inner.id s)) (from-none inner.rest inner.others))
+        ∙ (words-in-heading scripting is_rich inner.id s ∙ ap (λ t. more (text t) none) words.shown) in
+        let after : Simples = shown_of scripting is_rich (Some []) (behind own.line own.rest) in
+        one-more before f own.rest n own.line (made own.id (role.Heading level) [] (more (text s) none))
+        (document_of (heading level xs)) (documents_of bs)
+        (ap (shown_of scripting is_rich before) own.is
+        ∙ (heading-shown scripting is_rich before own.id own.inside (behind own.line own.rest) level found.0 fresh
+        ∙ ap (λ ts. more (made own.id (role.Heading level) [] ts) after) content))
+        (heading-gives is_rich n own.id level s words.utf8 words.words) (later own.rest own.others)
     one-returned thematic_break bs before f n fresh e simple others normal fits later =
         let own = from-block f (codes "hr") value.none bs others e in
-        let tree : Simple = made own.id role.ThematicBreak [] none in
-        one-more before f own.rest n own.line tree documents.thematic_break (documents_of bs)
+        one-more before f own.rest n own.line (made own.id role.ThematicBreak [] none)
+        documents.thematic_break (documents_of bs)
         (ap (shown_of scripting is_rich before) own.is
-        ∙ (break-shown scripting is_rich before own.id own.inside (page.more (page.text own.line (line_feed ∷ [])) own.rest) fresh
-        ∙ ap (more tree) (line-shown scripting is_rich (Some []) own.line own.rest)))
-        (later own.rest own.others) refl
-        (λ w done h.
-        ap (fed_all w) (break-parts is_rich n own.id (more (text (line_feed ∷ [])) (shown_of scripting is_rich (Some []) own.rest)))
-        ∙ (ap (λ ps. fed_all (fed w (whole documents.thematic_break)) ps)
-        (text-parts is_rich n own.id (line_feed ∷ []) (shown_of scripting is_rich (Some []) own.rest))
-        ∙ ap (λ v. fed_all (fed v (run (line_feed ∷ []) [] false)) (parts_of is_rich n (shown_of scripting is_rich (Some []) own.rest)))
-        (whole-fed w done h documents.thematic_break)))
+        ∙ break-shown scripting is_rich before own.id own.inside (behind own.line own.rest) fresh)
+        (break-gives is_rich n own.id) (later own.rest own.others)
     one-returned (quote all) bs before f n fresh e simple others normal fits later =
         let good = and_parts (is_filled (documents_of all)) (are_normal_blocks false (documents_of all)) normal in
         let own = from-block f (codes "blockquote") (line_end (blocks_trees false false all)) bs others e in
-        let inner = from-text own.inside (line_feed ∷ []) (blocks_trees false false all) (own.within ∙ line-apart all simple) in
+        let inner = from-text own.inside (line_feed ∷ []) (blocks_trees false false all)
+        (own.within ∙ line-apart all simple) in
         let within : AreReturned None inner.rest (suc n) (documents_of all) =
         returned all None inner.rest (suc n) fresh-first inner.others simple good.1 (omega arith) in
         let ts : Simples = shown_of scripting is_rich None inner.rest in
         let content : shown_of scripting is_rich None own.inside ≡ more (text (line_feed ∷ [])) ts =
         ap (shown_of scripting is_rich None) inner.is ∙ line-shown scripting is_rich None inner.id inner.rest in
-        let tree : Simple = made own.id role.BlockQuote [] (more (text (line_feed ∷ [])) ts) in
         let start : Writing = fed (clean false []) (run (line_feed ∷ []) [] false) in
-        let made_of : flow.blocks_of false (parts_of is_rich (suc n) (more (text (line_feed ∷ [])) ts)) ≡ documents_of all =
-        ap (λ ps. flow.blocks_of false ps) (text-parts is_rich (suc n) own.id (line_feed ∷ []) ts)
-        ∙ (ap documents.blocks_of (all-done (fed_all start (parts_of is_rich (suc n) ts)) (list_in (documents_of all))
-        (within.ready start [] (line-ready []))) ∙ list-in (documents_of all)) in
-        let free : nat_le most_nested n ≡ false = grind (arith, nat_tests, fits) in
-        one-more before f own.rest n own.line tree (document_of (quote all)) (documents_of bs)
+        let blocks : flow.blocks_of false (parts_of is_rich (suc n) (more (text (line_feed ∷ [])) ts))
+        ≡ documents_of all =
+        ap (λ ps. flow.blocks_of false ps) (text-parts is_rich (suc n) 0 (line_feed ∷ []) ts)
+        ∙ (ap documents.blocks_of (all-done (fed_all start (parts_of is_rich (suc n) ts))
+        (list_in (documents_of all)) (within.ready start [] (line-ready [])))
+        ∙ list-in (documents_of all)) in
+        let after : Simples = shown_of scripting is_rich (Some []) (behind own.line own.rest) in
+        one-more before f own.rest n own.line (made own.id role.BlockQuote [] (more (text (line_feed ∷ [])) ts))
+        (document_of (quote all)) (documents_of bs)
         (ap (shown_of scripting is_rich before) own.is
-        ∙ (quote-shown scripting is_rich before own.id own.inside (page.more (page.text own.line (line_feed ∷ [])) own.rest) fresh
-        ∙ (ap (λ us. more (made own.id role.BlockQuote [] us) (shown_of scripting is_rich (Some []) (page.more (page.text own.line (line_feed ∷ [])) own.rest))) content
-        ∙ ap (more tree) (line-shown scripting is_rich (Some []) own.line own.rest))))
-        (later own.rest own.others) (ap (λ x. x && true) within.bare)
-        (λ w done h.
-        ap (fed_all w) (quote-parts is_rich n own.id (more (text (line_feed ∷ [])) ts) (more (text (line_feed ∷ [])) (shown_of scripting is_rich (Some []) own.rest)) (documents_of all) free good.0 made_of)
-        ∙ (ap (λ ps. fed_all (fed (fed (fed w edge) (whole (document_of (quote all)))) edge) ps)
-        (text-parts is_rich n own.id (line_feed ∷ []) (shown_of scripting is_rich (Some []) own.rest))
-        ∙ ap (λ v. fed_all (fed v (run (line_feed ∷ []) [] false)) (parts_of is_rich n (shown_of scripting is_rich (Some []) own.rest)))
-        (apart-fed w done h (document_of (quote all)))))
-    one-returned (heading level xs) bs before f n fresh e simple others normal fits later = false-true simple
+        ∙ (quote-shown scripting is_rich before own.id own.inside (behind own.line own.rest) fresh
+        ∙ ap (λ us. more (made own.id role.BlockQuote [] us) after) content))
+        (quote-gives is_rich n own.id (more (text (line_feed ∷ [])) ts) (documents_of all)
+        (grind (arith, nat_tests, fits)) good.0 within.bare blocks)
+        (later own.rest own.others)
     one-returned (code_block language s) bs before f n fresh e simple others normal fits later = false-true simple
-    one-returned (list start is_tight items) bs before f n fresh e simple others normal fits later = false-true simple
-    one-returned (table alignments header rows) bs before f n fresh e simple others normal fits later = false-true simple
+    one-returned (list start is_tight items) bs before f n fresh e simple others normal fits later =
+        false-true simple
+    one-returned (table alignments header rows) bs before f n fresh e simple others normal fits later =
+        false-true simple
     one-returned (html_block s) bs before f n fresh e simple others normal fits later = false-true simple

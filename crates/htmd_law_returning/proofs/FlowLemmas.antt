@@ -9,18 +9,20 @@ use Rattle.std.proofs.lemmas.Str.{encodes-chars}
 use Rattle.htmd_lexical.specs.Characters.{line_feed}
 use Rattle.htmd_document.specs.DocumentLimits.{most_nested}
 use Rattle.htmd_document.specs.Documents as documents
-use Rattle.htmd_document.specs.Documents.{Block, Blocks, no_blocks, block, paragraph, quote, thematic_break, blocks_of}
+use Rattle.htmd_document.specs.Documents.{Block, Blocks, no_blocks, block, paragraph, heading, quote, thematic_break, blocks_of}
 use Rattle.htmd_document.specs.TightItems.{is_filled}
-use Rattle.htmd_flow.specs.Contexts.{Context, bare_in}
+use Rattle.htmd_flow.specs.Contexts.{Context, bare_in, in_one_line, apart}
 use Rattle.htmd_flow.specs.declared.paragraphs.Met.TheVariants as met
 use Rattle.htmd_flow.specs.Flows.{node_of, nodes_of, flow_all}
 use Rattle.htmd_flow.specs.Flows as flow
 use Rattle.htmd_flow.specs.Nesting.{one_inline}
-use Rattle.htmd_flow.specs.Paragraphs.{Writing, broken_off, ended, fed, fed_all, blocks_in, is_boxed_item}
+use Rattle.htmd_flow.specs.Paragraphs.{Writing, broken_off, ended, fed, fed_all, blocks_in, line_in, is_boxed_item}
 use Rattle.htmd_flow.specs.Parts.{Part, run, edge, whole}
 use Rattle.htmd_shown.specs.declared.role.Role.TheVariants as role
-use Rattle.htmd_shown.specs.Facts.{made}
-use Rattle.htmd_shown.specs.SimpleTrees.{Simples, text, none, more}
+use Rattle.htmd_shown.specs.declared.facts.Facts.{Facts}
+use Rattle.htmd_shown.specs.Facts.{made, facts_of}
+use Rattle.htmd_shown.specs.SimpleTrees.{Simple, Simples, text, none, more}
+use Rattle.htmd_law_returning.proofs.BareLemmas.{is_bare, are_bare}
 use Rattle.htmd_law_returning.proofs.PageLemmas.{frame}
 use Rattle.htmd_law_returning.proofs.WordsLemmas.{clean, in_words, are_words, false-true, words-first, words-end}
 use lib.Utf8.{encode}
@@ -107,6 +109,23 @@ module _ (is_rich : Bool) (n id : ℕ) where
   unfolding node_of
   paragraph-parts s ts = refl
 
+  pub heading-parts : (level : ℕ) (s : List ℕ) (ts : Simples) → IsUtf8 s → are_words false (chars s) ≡ true
+      → parts_of is_rich n (more (made id (role.Heading level) [] (more (text s) none)) ts)
+      ≡ edge ∷ whole (heading level (one_inline (documents.text s))) ∷ edge ∷ parts_of is_rich n ts
+  unfolding node_of
+  heading-parts level s ts u e =
+      let known : Facts = facts_of (more (text s) none) in
+      let line : fed_all (clean true []) (run s [] false ∷ []) ≡ in_words true [] s =
+      words-first [] true (chars s) e ∙ ap (in_words true []) (encodes-chars s u) in
+      ap (λ c. apart (flow.heading_of level (flow.line_of (flow_all (nodes_of (more (text s) none)) (in_one_line c))))
+      ++ parts_of is_rich n ts)
+      (same-context (known.shows_sign && false))
+      ∙ ap (λ w. apart (flow.heading_of level (line_in w)) ++ parts_of is_rich n ts) line
+    where
+      same-context : (b : Bool) → cond b (here is_rich n) (here is_rich n) ≡ here is_rich n
+      same-context true = refl
+      same-context false = refl
+
   pub break-parts : (ts : Simples)
       → parts_of is_rich n (more (made id role.ThematicBreak [] none) ts)
       ≡ whole thematic_break ∷ parts_of is_rich n ts
@@ -120,6 +139,53 @@ module _ (is_rich : Bool) (n id : ℕ) where
   unfolding node_of
   quote-parts content ts no_blocks h filled e = false-true filled
   quote-parts content ts (block b bs) h filled e = rw h (rw e refl)
+
+-- the block that an element gives
+pub record GivesBlock (is_rich : Bool) (n : ℕ) (tree : Simple) (b : Block) : Type 0 where
+  pub bare : is_bare tree ≡ true
+  pub gives : (w : Writing) (done : List Block) → IsReady w done → (ts : Simples)
+      → fed_all w (parts_of is_rich n (more tree ts))
+      ≡ fed_all (clean false (done ++ b ∷ [])) (parts_of is_rich n ts)
+
+module _ (is_rich : Bool) (n id : ℕ) where
+  pub paragraph-gives : (s : List ℕ) → IsUtf8 s → are_words false (chars s) ≡ true
+      → GivesBlock is_rich n (made id role.Paragraph [] (more (text s) none))
+      (paragraph (one_inline (documents.text s)))
+  paragraph-gives s u e = record {
+    bare = refl;
+    gives = λ w done h ts.
+        ap (fed_all w) (paragraph-parts is_rich n id s ts)
+        ∙ ap (λ v. fed_all v (parts_of is_rich n ts)) (words-fed w done h s u e);
+  }
+
+  pub heading-gives : (level : ℕ) (s : List ℕ) → IsUtf8 s → are_words false (chars s) ≡ true
+      → GivesBlock is_rich n (made id (role.Heading level) [] (more (text s) none))
+      (heading level (one_inline (documents.text s)))
+  heading-gives level s u e = record {
+    bare = refl;
+    gives = λ w done h ts.
+        ap (fed_all w) (heading-parts is_rich n id level s ts u e)
+        ∙ ap (λ v. fed_all v (parts_of is_rich n ts))
+        (apart-fed w done h (heading level (one_inline (documents.text s))));
+  }
+
+  pub break-gives : GivesBlock is_rich n (made id role.ThematicBreak [] none) thematic_break
+  break-gives = record {
+    bare = refl;
+    gives = λ w done h ts.
+        ap (fed_all w) (break-parts is_rich n id ts)
+        ∙ ap (λ v. fed_all v (parts_of is_rich n ts)) (whole-fed w done h thematic_break);
+  }
+
+  pub quote-gives : (content : Simples) (d : Blocks) → nat_le most_nested n ≡ false → is_filled d ≡ true
+      → are_bare content ≡ true → flow.blocks_of false (parts_of is_rich (suc n) content) ≡ d
+      → GivesBlock is_rich n (made id role.BlockQuote [] content) (quote d)
+  quote-gives content d free filled bare e = record {
+    bare = bare;
+    gives = λ w done h ts.
+        ap (fed_all w) (quote-parts is_rich n id content ts d free filled e)
+        ∙ ap (λ v. fed_all v (parts_of is_rich n ts)) (apart-fed w done h (quote d));
+  }
 
 -- ---- the page
 

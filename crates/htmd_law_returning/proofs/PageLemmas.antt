@@ -1,6 +1,11 @@
 -- What shows of the page of what is read: the elements of its blocks, and line ends between them.
-use Rattle.std.proofs.Common.{◌≡◌, ℕ, Bool, true, false, ◌&&◌, List, [], ◌∷◌, refl, sym, ap, ◌∙◌, subst, codes}
+use Rattle.std.proofs.Common.{◌≡◌, ℕ, zero, suc, Bool, true, false, ◌&&◌, List, [], ◌∷◌, refl, sym, ap, ◌∙◌, subst, codes}
 use Rattle.std.proofs.Common.{Option, Some, None}
+use Rattle.std.proofs.Common.{arith}
+use Rattle.std.proofs.lemmas.Bool.{and_parts}
+use Rattle.std.proofs.lemmas.Bool.Decides.{nat_tests}
+use Rattle.std.specs.Prelude.{nat_le}
+use Rattle.std.specs.Fmt.{digits}
 use Rattle.std.specs.Str.{chars}
 use Rattle.htmd_lexical.specs.Characters.{line_feed}
 use Rattle.htmd_lexical.specs.AttributePairs.{AttributePair}
@@ -16,8 +21,11 @@ use Rattle.htmd_shown.specs.Roles.{role_of, table_role, heading_or_block, block_
 use Rattle.htmd_shown.specs.Shown.{Sight, nowhere, raised, followed_by, shown, shown_all, shown_in}
 use Rattle.htmd_shown.specs.ShownTexts.{shown_text}
 use Rattle.htmd_shown.specs.SimpleTrees.{Simple, Simples, text, none, more}
+use Rattle.htmd_document.specs.NormalDocuments.{is_level}
+use Rattle.htmd_law_rendering.specs.RenderedTrees.{heading_name}
 use Rattle.htmd_law_returning.specs.ReturningLaws.{whole_sight}
 use Rattle.htmd_law_returning.proofs.BareLemmas.{followed-none}
+use Rattle.htmd_law_returning.proofs.WordsLemmas.{false-true}
 use lib.Utf8.{encode}
 
 -- ---- from the trees to those with numbers
@@ -96,6 +104,19 @@ frame html head body ts =
     more (made html role.Block []
     (more (made head role.Plain [] none) (more (made body role.Block [] ts) none))) none
 
+-- what holds of each level of a heading
+pub by-level : (P : ℕ → Type 0) → P 1 → P 2 → P 3 → P 4 → P 5 → P 6 → (level : ℕ) → is_level level ≡ true → P level
+by-level P a b c d e f zero h = false-true h
+by-level P a b c d e f (suc zero) h = a
+by-level P a b c d e f (suc (suc zero)) h = b
+by-level P a b c d e f (suc (suc (suc zero))) h = c
+by-level P a b c d e f (suc (suc (suc (suc zero)))) h = d
+by-level P a b c d e f (suc (suc (suc (suc (suc zero))))) h = e
+by-level P a b c d e f (suc (suc (suc (suc (suc (suc zero)))))) h = f
+by-level P a b c d e f (suc (suc (suc (suc (suc (suc (suc n))))))) h =
+    let past : nat_le (suc (suc (suc (suc (suc (suc (suc n))))))) 6 ≡ false = grind (arith, nat_tests) in
+    false-true (sym past ∙ (and_parts (nat_le 1 (suc (suc (suc (suc (suc (suc (suc n)))))))) _ h).1)
+
 module _ (scripting is_rich : Bool) where
   -- nodes beside each other
   abbrev pub shown_of : Option (List AttributePair) → NumberedForest → Simples
@@ -135,6 +156,41 @@ module _ (scripting is_rich : Bool) where
       ≡ more (made id role.ThematicBreak [] none) (shown_of (Some []) f)
   unfolding shown role_of
   break-shown before id inside f h = rw h refl
+
+  -- nodes in a heading
+  abbrev pub shown_in_heading : NumberedForest → Simples
+  shown_in_heading f = shown_all (whole_sight scripting is_rich) (record nowhere { in_head = true }) None None f
+
+  pub words-in-heading : (id : ℕ) (s : List ℕ)
+      → shown_in_heading (page.more (page.text id s) page.none) ≡ more (text (shown_text s)) none
+  unfolding shown
+  words-in-heading id s = refl
+
+  abbrev IsHeading : Option (List AttributePair) → ℕ → NumberedForest → NumberedForest → ℕ → Type 0
+  IsHeading before id inside f level =
+      shown_of before (page.more (page.element id (heading_name level) [] inside) f)
+      ≡ more (made id (role.Heading level) [] (shown_in_heading inside)) (shown_of (Some []) f)
+
+  pub heading-shown : (before : Option (List AttributePair)) (id : ℕ) (inside f : NumberedForest) (level : ℕ)
+      → is_level level ≡ true → IsFresh before
+      → shown_of before (page.more (page.element id (heading_name level) [] inside) f)
+      ≡ more (made id (role.Heading level) [] (shown_in_heading inside)) (shown_of (Some []) f)
+  unfolding shown role_of table_role heading_or_block digits
+  heading-shown before id inside f level l h =
+      by-level (IsHeading before id inside f)
+      (rw h (ap (λ ts. more (made id (role.Heading 1) [] ts) (shown_of (Some []) f))
+      (plain-content id (shown_in_heading inside))))
+      (rw h (ap (λ ts. more (made id (role.Heading 2) [] ts) (shown_of (Some []) f))
+      (plain-content id (shown_in_heading inside))))
+      (rw h (ap (λ ts. more (made id (role.Heading 3) [] ts) (shown_of (Some []) f))
+      (plain-content id (shown_in_heading inside))))
+      (rw h (ap (λ ts. more (made id (role.Heading 4) [] ts) (shown_of (Some []) f))
+      (plain-content id (shown_in_heading inside))))
+      (rw h (ap (λ ts. more (made id (role.Heading 5) [] ts) (shown_of (Some []) f))
+      (plain-content id (shown_in_heading inside))))
+      (rw h (ap (λ ts. more (made id (role.Heading 6) [] ts) (shown_of (Some []) f))
+      (plain-content id (shown_in_heading inside))))
+      level l
 
   -- ---- the page
 

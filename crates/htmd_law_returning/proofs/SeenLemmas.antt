@@ -105,6 +105,7 @@ letters-tree =
 abbrev mutual
   pub document_of : Block → documents.Block
   document_of (paragraph xs) = documents.paragraph (line_of xs)
+  document_of (heading level xs) = documents.heading level (line_of xs)
   document_of (quote bs) = documents.quote (documents_of bs)
   document_of b = documents.thematic_break
 
@@ -122,9 +123,9 @@ line-seen xs h =
 mutual
   pub block-seen : (b : Block) → is_simple b ≡ true → document_block (seen_block b) ≡ Some (document_of b)
   block-seen (paragraph xs) h = ap (option_of documents.paragraph) (line-seen xs h)
+  block-seen (heading level xs) h = ap (option_of (documents.heading level)) (line-seen xs h)
   block-seen (quote bs) h = ap (option_of documents.quote) (blocks-seen bs h)
   block-seen thematic_break h = refl
-  block-seen (heading level xs) h = false-true h
   block-seen (code_block language s) h = false-true h
   block-seen (list start is_tight items) h = false-true h
   block-seen (table alignments header rows) h = false-true h

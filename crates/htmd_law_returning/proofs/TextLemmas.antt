@@ -12,7 +12,7 @@ use Rattle.htmd_lexical.specs.Characters.{space}
 use Rattle.htmd_lexical.specs.CharacterClasses.{first_is, is_empty}
 use Rattle.htmd_lexical.proofs.Cases.{test}
 use Rattle.htmd_document.specs.Documents.{text}
-use Rattle.htmd_document.specs.NormalDocuments.{is_normal_paragraph}
+use Rattle.htmd_document.specs.NormalDocuments.{is_level, is_normal_heading, is_normal_paragraph}
 use Rattle.htmd_document.specs.NormalInlines.{is_line, is_line_byte, is_text, has_double_space, ends_in_space}
 use Rattle.htmd_document.specs.NormalInlines.{are_anchors, anchors_stand_well, is_normal_line}
 use Rattle.htmd_flow.specs.Nesting.{one_inline}
@@ -149,3 +149,11 @@ pub paragraph-words : (s : List ℕ) → list_all is_plain (chars s) ≡ true
 paragraph-words s p h =
     line-words s p (and_parts (is_normal_line (one_inline (text s)))
     (are_anchors (one_inline (text s)) || anchors_stand_well (one_inline (text s))) h).0
+
+pub heading-words : (level : ℕ) (s : List ℕ) → list_all is_plain (chars s) ≡ true
+    → is_normal_heading level (one_inline (text s)) ≡ true → (is_level level ≡ true) × IsWords s
+heading-words level s p h =
+    let line : Bool = is_normal_line (one_inline (text s)) in
+    let parts = and_parts ((is_level level && true) && line) (anchors_stand_well (one_inline (text s))) h in
+    let own = and_parts (is_level level && true) line parts.0 in
+    ((and_parts (is_level level) true own.0).0, line-words s p own.1)

@@ -1,4 +1,5 @@
--- What is read that comes back as it was so far: lines of text in paragraphs, thematic breaks, and quotes of these.
+-- What is read that comes back as it was so far: lines of text in paragraphs and
+-- headings, thematic breaks, and quotes of these.
 use Rattle.std.specs.Prelude.{ℕ, Bool, true, false, not, ◌&&◌, ◌||◌, ◌==◌}
 use Rattle.std.specs.List.{list_all}
 use Rattle.std.specs.Str.{chars}
@@ -20,6 +21,7 @@ is_simple_line xs = is_text_alone xs && list_all is_plain (chars (plain_text xs)
 abbrev mutual
   pub is_simple : Block → Bool
   is_simple (paragraph xs) = is_simple_line xs
+  is_simple (heading level xs) = is_simple_line xs
   is_simple (quote bs) = are_simple bs
   is_simple thematic_break = true
   is_simple b = false
